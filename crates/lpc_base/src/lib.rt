@@ -1,0 +1,17 @@
+//! What every layer shares: status numbers, limits, the name of an object, the errors that stand alone, and the
+//! traits of what a script is read from and a transcript is written to.
+#![tactic(auto)]
+
+mod birth;
+mod error;
+pub mod limits;
+mod memory;
+pub mod status;
+mod streams;
+
+pub use birth::Birth;
+pub use error::{Failed, OutOfMemory};
+pub use memory::{HonestSource, MemSink, MemSource};
+pub use status::Status;
+pub use streams::{Sink, Source};
+
