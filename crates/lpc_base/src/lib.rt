@@ -8,10 +8,11 @@ pub mod limits;
 mod memory;
 pub mod status;
 mod streams;
+#[cfg(test)]
+mod tests;
 
 pub use birth::Birth;
 pub use error::{Failed, OutOfMemory};
 pub use memory::{HonestSource, MemSink, MemSource};
 pub use status::Status;
 pub use streams::{Sink, Source};
-

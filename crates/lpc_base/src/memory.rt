@@ -38,7 +38,15 @@ impl Source for HonestSource {
 
     ghost faults = { λ _. 0 };
 
-    fn read(&mut self, into: &mut [u8]) -> Result<usize, Failed> {
+    fn read(&mut self, into: &mut [u8]) -> Result<usize, Failed>
+        requires { 0 < length into.old }
+        ensures bound { IfOk result (λ n. n ≤ length into.new) }
+        ensures bytes { IfOk result (λ n. Told (Some self.old) (Some self.new) (Gives n into.new)) }
+        ensures failed { OnErr result (self.new ≡ self.old) }
+        ensures cause { HasCause 0 0 result }
+        ensures honest { IsOk result }
+        ensures count { IfOk result (λ n. n ≡ min (length into.new) (length self.old)) }
+    {
         let count = into.len().min(self.bytes.len() - self.at);
         into[..count].copy_from_slice(&self.bytes[self.at..self.at + count]);
         self.at += count;
