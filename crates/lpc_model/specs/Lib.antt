@@ -1,0 +1,4 @@
+pub mod Rows
+pub mod Message
+pub mod Listed
+pub mod Lines

@@ -1,0 +1,31 @@
+-- What a line of a script says, whatever buffer its messages lie in.
+use Rattle.std.specs.Prelude.{ℕ, List}
+use Rattle.lpc_model.specs.declared.line.Call.{Call}
+use Rattle.lpc_model.specs.declared.line.Call.TheVariants as call
+use Rattle.lpc_model.specs.declared.line.Line.{Line}
+use Rattle.lpc_model.specs.declared.line.Line.TheVariants as line
+
+-- a system call with its arguments; a message is its bytes
+pub data ScriptCall : Type 0 where
+  create_port : ScriptCall
+  request_wait_reply_port : ℕ → List ℕ → ScriptCall
+  reply_port : ℕ → List ℕ → ScriptCall
+  reply_wait_receive_port : ℕ → ScriptCall
+
+-- a directive, or a call of a thread
+pub data ScriptLine : Type 0 where
+  boot : ℕ → ℕ → ScriptLine
+  thread : ℕ → ℕ → ScriptLine
+  run : ℕ → ScriptCall → ScriptLine
+
+-- a call without the buffer that it is lent
+abbrev pub call_of : Call → ScriptCall
+call_of call.CreatePort = create_port
+call_of (call.RequestWaitReplyPort handle message) = request_wait_reply_port handle message.now
+call_of (call.ReplyPort handle message) = reply_port handle message.now
+call_of (call.ReplyWaitReceivePort handle) = reply_wait_receive_port handle
+
+abbrev pub line_of : Line → ScriptLine
+line_of (line.Boot pid tid) = boot pid tid
+line_of (line.Thread tid pid) = thread tid pid
+line_of (line.Run tid c) = run tid (call_of c)

@@ -1,0 +1,34 @@
+// Why a line of a script is no line.
+use thiserror::Error;
+
+/// The first fault of a script's line. The kinds are this project's own; `stop` prints their numbers.
+#[derive(Clone, Copy, Debug, PartialEq, Eq, Error)]
+pub enum LineFault {
+    /// Kind 1: a byte is outside 32 to 126.
+    #[error("a byte is no printable character")]
+    Byte,
+    /// Kind 2: the first word begins with no digit and is no directive, or a fixed word or form is none that stands here.
+    #[error("a word is none of the words that may stand here")]
+    Word,
+    /// Kind 3: the second word is no call.
+    #[error("no call has this name")]
+    Call,
+    /// Kind 4: there are too few or too many words.
+    #[error("there are too few or too many words")]
+    Count,
+    /// Kind 5: a number is out of form or range.
+    #[error("a number is out of form or range")]
+    Number,
+    /// Kind 6: digits are no pairs of hexadecimal digits.
+    #[error("digits are no hexadecimal bytes")]
+    Hex,
+    /// Kind 7: a message has none of its forms.
+    #[error("a message has none of its forms")]
+    Message,
+    /// Kind 9: the line has a byte 16,385.
+    #[error("the line is too long")]
+    Long,
+    /// Kind 10: the script has a line 1,000,001.
+    #[error("the script has too many lines")]
+    Lines,
+}
