@@ -1,9 +1,11 @@
 // An entry of a transcript, and the list of a step's entries.
-ghost use Rattle.std.specs.Prelude.{◌≡◌, ◌+◌, ◌<◌, ◌≤◌, ◌++◌, [], ◌∷◌, length, IfOk, OnOk, OnErr, slice_get};
+ghost use Rattle.std.specs.Prelude.{◌≡◌, ◌+◌, ◌<◌, ◌≤◌, ◌++◌, [], ◌∷◌, length, map, false, true, IfOk, OnOk, OnErr, slice_get};
 ghost use Rattle.std.specs.Option.{option_map, option_copied};
+ghost use Rattle.lpc_base.specs.declared.status.TheConstants.{SUCCESS};
+ghost use Rattle.lpc_model.specs.Listed.{shown_entry, has_read};
 
 use arrayvec::ArrayVec;
-use lpc_base::{OutOfMemory, Status};
+use lpc_base::{OutOfMemory, Status, status};
 use std::alloc::Global;
 use std::marker::Model;
 
@@ -55,6 +57,8 @@ pub enum FieldName {
     Ctx,
     /// A message, header and data.
     Msg,
+    /// The bytes that a call read.
+    Data,
 }
 
 /// The value of a field.
@@ -64,8 +68,12 @@ pub enum Value {
     Number(u64),
     /// Printed as 8 hexadecimal digits.
     Hex(u32),
+    /// Printed as the name of the kind.
+    Kind(ObjectKind),
     /// Bytes, printed as pairs of hexadecimal digits.
     Bytes(ArrayVec<u8, 256>),
+    /// The bytes of a memory read, which lie in the list of entries; printed as those bytes.
+    Read,
 }
 
 /// A field of an entry.
@@ -85,18 +93,22 @@ impl Default for Field {
 }
 
 /// The fields of an entry in order, up to six.
-#[derive(Drop)]
+#[derive(Clone, Debug, Drop, PartialEq, Eq)]
 pub struct Fields {
     list: ArrayVec<Field, 6>,
 }
 
 impl Model for Fields {
-    ghost use Rattle.std.specs.Prelude.{List};
+    ghost use Rattle.std.specs.Prelude.{List, ◌≤◌, length};
     ghost use Rattle.lpc_model.specs.declared.entry.Field.{Field};
 
     ghost Value = { List Field };
 
     ghost view = { λ f. f.list.items };
+
+    ghost invariant = { λ f. length f.list.items ≤ 6 };
+
+    ghost inverse = { λ v. record { list = record { items = v } } };
 }
 
 impl Fields {
@@ -146,7 +158,7 @@ impl Fields {
 }
 
 /// An entry of a transcript, without its line number.
-#[derive(Drop)]
+#[derive(Clone, Debug, Drop, PartialEq, Eq)]
 pub enum Entry {
     /// The thread's call was answered.
     Answer {
@@ -169,45 +181,80 @@ pub enum Entry {
         fields: Fields,
     },
     /// The thread waits, so it made no call.
-    Busy { tid: u32 },
+    Busy {
+        tid: u32,
+    },
     /// No live thread has the number.
-    NoThread { tid: u32 },
+    NoThread {
+        tid: u32,
+    },
     /// The thread ended.
-    Died { tid: u32, status: Status },
+    Died {
+        tid: u32,
+        status: Status,
+    },
     /// A directive was carried out or refused.
-    Directive { word: Word, status: Status },
+    Directive {
+        word: Word,
+        status: Status,
+    },
 }
 
+/// The most bytes that one memory read gives. This project's own.
+const READ_LIMIT: usize = 4096;
+
 /// The entries of a step in order, and spare room for more.
+///
+/// The bytes of a memory read are too many for a field, so they lie in one buffer here and the field has a mark in
+/// their place. Contracts see the list with the bytes where they stand.
 #[derive(Drop)]
 pub struct Entries {
     list: Vec<Entry>,
+    read: Vec<u8>,
 }
 
 impl Model for Entries {
-    ghost use Rattle.std.specs.Prelude.{◌-◌, vec_len, vec_capacity};
-    ghost use Rattle.lpc_model.specs.Listed.{Listed};
+    ghost use Rattle.std.specs.Prelude.{◌≡◌, ◌≤◌, ◌-◌, [], false, map, length, vec_len, vec_capacity};
+    ghost use Rattle.std.specs.List.{list_any};
+    ghost use Rattle.lpc_model.specs.Listed.{Listed, shown_entry, has_read};
 
     ghost Value = { Listed };
 
-    ghost view = { λ e. record { list = e.list.items; spare = vec_capacity e.list - vec_len e.list } };
+    ghost view = { λ e. record {
+      list = map (shown_entry e.read.items) e.list.items;
+      read = e.read.items;
+      reads = list_any has_read e.list.items;
+      spare = vec_capacity e.list - vec_len e.list;
+    } };
+
+    ghost invariant = { λ e.
+        (4096 ≤ vec_capacity e.read)
+        × (length e.read.items ≤ 4096)
+        × (list_any has_read e.list.items ≡ false → e.read.items ≡ []) };
 }
 
 impl Entries {
-    /// No entries.
+    /// No entries, and the buffer for the bytes of a memory read.
     pub fn new(alloc: Global) -> Result<Entries, OutOfMemory>
-        ensures { IfOk result (λ e. e.list ≡ []) }
+        ensures list { IfOk result (λ e. e.list ≡ []) }
+        ensures read { IfOk result (λ e. e.read ≡ []) }
+        ensures reads { IfOk result (λ e. e.reads ≡ false) }
     {
-        Ok(Entries {
-            list: Vec::new(alloc),
-        })
+        let list = Vec::new(alloc);
+        let Ok(read) = Vec::with_capacity(alloc, READ_LIMIT) else {
+            return Err(OutOfMemory);
+        };
+        Ok(Entries { list, read })
     }
 
-    /// Makes spare room for so many more entries.
+    /// Makes spare room for so many more entries. After want of memory nothing has changed.
     pub fn reserve(&mut self, more: usize) -> Result<(), OutOfMemory>
         ensures list { self.new.list ≡ self.old.list }
+        ensures read { self.new.read ≡ self.old.read }
+        ensures reads { self.new.reads ≡ self.old.reads }
         ensures room { OnOk result (more ≤ self.new.spare) }
         ensures least { self.old.spare ≤ self.new.spare }
+        ensures err { OnErr result (self.new ≡ self.old) }
     {
         if self.list.reserve(more).is_err() {
             return Err(OutOfMemory);
@@ -222,27 +269,66 @@ impl Entries {
         self.list.capacity() - self.list.len()
     }
 
-    /// Adds an entry behind the others. There is spare room.
+    /// Adds an entry behind the others. There is spare room, and no field of the entry has the mark for the bytes of a
+    /// memory read.
     pub fn push(&mut self, entry: Entry)
-        requires { 0 < self.old.spare }
+        requires room { 0 < self.old.spare }
+        requires plain { has_read entry ≡ false }
         ensures list { self.new.list ≡ self.old.list ++ entry ∷ [] }
+        ensures read { self.new.read ≡ self.old.read }
+        ensures reads { self.new.reads ≡ self.old.reads }
         ensures spare { self.new.spare + 1 ≡ self.old.spare }
     {
         self.list.push_reserved(entry);
     }
 
-    /// The entries in order.
+    /// Adds the answer of a call that read these bytes: success, with the bytes as its one field. There is spare room,
+    /// there are at most 4096 bytes, and no entry of the list has a memory read.
+    pub fn push_read(&mut self, tid: u32, call: CallName, bytes: &[u8])
+        requires room { 0 < self.old.spare }
+        requires few { length bytes.now ≤ 4096 }
+        requires first { self.old.reads ≡ false }
+        ensures list { self.new.list ≡ self.old.list ++ Entry.Answer tid call SUCCESS ((record { name = FieldName.Data; value = Value.Bytes (record { items = bytes.now }) }) ∷ []) ∷ [] }
+        ensures read { self.new.read ≡ bytes.now }
+        ensures reads { self.new.reads ≡ true }
+        ensures spare { self.new.spare + 1 ≡ self.old.spare }
+    {
+        self.read.clear();
+        self.read.extend_from_slice(bytes).unwrap();
+        let mut fields = Fields::none();
+        fields.add(FieldName::Data, Value::Read);
+        self.list.push_reserved(Entry::Answer {
+            tid,
+            call,
+            status: status::SUCCESS,
+            fields,
+        });
+    }
+
+    /// The entries in order, with a mark where the bytes of a memory read stand.
     pub fn list(&self) -> &[Entry]
-        ensures { result.now ≡ self.now.list }
+        ensures { map (shown_entry self.now.read) result.now ≡ self.now.list }
     {
         &self.list
+    }
+
+    /// The bytes of the memory read, none where no entry has one.
+    pub fn read_bytes(&self) -> &[u8]
+        ensures bytes { result.now ≡ self.now.read }
+        ensures none { self.now.reads ≡ false → result.now ≡ [] }
+        ensures few { length result.now ≤ 4096 }
+    {
+        &self.read
     }
 
     /// Empties the list; its room becomes spare.
     pub fn clear(&mut self)
         ensures list { self.new.list ≡ [] }
+        ensures read { self.new.read ≡ [] }
+        ensures reads { self.new.reads ≡ false }
         ensures spare { self.new.spare ≡ self.old.spare + length self.old.list }
     {
         self.list.clear();
+        self.read.clear();
     }
 }
