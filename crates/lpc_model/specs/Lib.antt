@@ -2,3 +2,13 @@ pub mod Rows
 pub mod Message
 pub mod Listed
 pub mod Lines
+pub mod World
+pub mod Refusal
+pub mod Found
+pub mod Basics
+pub mod Fields
+pub mod Entering
+pub mod Tests
+pub mod Connect
+pub mod Request
+pub mod Machine

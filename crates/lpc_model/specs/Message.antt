@@ -1,13 +1,44 @@
 -- Messages as they are kept, and what is written over when one is sent.
-use Rattle.std.specs.Prelude.{ℕ, Bool, List, ◌++◌, ◌+◌, ◌==◌, ◌||◌, drop, length}
-use Rattle.lpc_message.specs.Layout.{header_of, header_bytes}
+use Rattle.std.specs.Prelude.{ℕ, Bool, List, Option, Some, None, Result, Ok, nat_lt, is_some, length, drop, ◌++◌, ◌==◌}
+use Rattle.lpc_base.specs.declared.limits.TheConstants.{MESSAGE_LIMIT}
+use Rattle.lpc_base.specs.declared.status.Status.{Status}
+use Rattle.lpc_base.specs.declared.status.TheConstants.{INVALID_PARAMETER, PORT_MESSAGE_TOO_LONG}
+use Rattle.lpc_message.specs.Layout.{header_of, header_bytes, fault_of}
 use Rattle.lpc_message.specs.declared.message.ClientId.{ClientId}
+use Rattle.lpc_model.specs.Refusal.{◌>>=◌, refuse_if}
 use Rattle.lpc_model.specs.declared.message.Message.{Message}
 
--- the bytes of a message
+-- the types that the first calls send
+abbrev pub REQUEST : ℕ
+REQUEST = 1
+
+abbrev pub REPLY : ℕ
+REPLY = 2
+
+-- the bytes of a message: its header and the data behind it
 abbrev pub bytes_of : Message → List ℕ
 bytes_of m = header_bytes m.header ++ m.body
 
 -- the message that bytes are
 abbrev pub message_of : List ℕ → Message
 message_of bytes = record { header = header_of bytes; body = drop 24 bytes }
+
+-- The bytes that a call is given are a message of lawful shape, and its MessageSize isn't above the limit.
+abbrev pub message_test : List ℕ → Result Message Status
+message_test bytes = do
+  _ ← refuse_if (is_some (fault_of bytes)) INVALID_PARAMETER
+  _ ← refuse_if (nat_lt MESSAGE_LIMIT (header_of bytes).message_size) PORT_MESSAGE_TOO_LONG
+  Ok (message_of bytes)
+
+-- a message as it is sent: the machine writes its type, its sender, the identifier that the sender drew, and no section
+abbrev pub sent_as : ℕ → ClientId → ℕ → Message → Message
+sent_as kind client identifier m =
+    record m { header = record m.header { kind = kind; client = client; message_id = identifier; section_size = 0 } }
+
+-- a message as a reply returns it: type 2 and no section, all else as it is
+abbrev pub as_reply : Message → Message
+as_reply m = record m { header = record m.header { kind = REPLY; section_size = 0 } }
+
+-- its sender waits until it is answered
+abbrev pub asks : Message → Bool
+asks m = m.header.kind == REQUEST

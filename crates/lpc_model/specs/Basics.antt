@@ -1,0 +1,107 @@
+-- The basic steps that each line's step is a list of, and what one does.
+use Rattle.std.specs.Prelude.{ℕ, ◌+◌, true, List, [], ◌∷◌, ◌++◌}
+use Rattle.lpc_base.specs.declared.status.Status.{Status}
+use Rattle.lpc_model.specs.declared.entry.Entry.{Entry}
+use Rattle.lpc_model.specs.declared.entry.Entry.TheVariants as entry
+use Rattle.lpc_model.specs.declared.entry.Field.{Field}
+use Rattle.lpc_model.specs.declared.entry.Outcome.{Outcome}
+use Rattle.lpc_model.specs.declared.entry.Outcome.TheVariants as outcome
+use Rattle.lpc_model.specs.Rows.{change, each, without, without_first}
+use Rattle.lpc_model.specs.World.{World, Birth, CallName, ProcessRow, ThreadRow, UsedThread, HandleRow, PortRow, MessageRow, WaitRow}
+use Rattle.lpc_model.specs.Found.{is_queued, is_thread, waits_as}
+
+-- One change of one row each, or one entry.
+pub data Basic : Type 0 where
+  -- an entry of the line's own thread or directive
+  Tells : Entry → Basic
+  -- a thread's wait ends, and it is told so
+  Wakes : ℕ → CallName → Status → List Field → Basic
+  -- a thread begins to wait
+  Awaits : WaitRow → Basic
+  -- a thread's request is received
+  Receives : ℕ → Basic
+  -- a message enters its queue, and the oldest message of a queue is taken
+  Enters : MessageRow → Basic
+  Takes : Birth → Basic
+  -- a thread draws its next message identifier, and its next ordinal
+  DrawsIdentifier : ℕ → Basic
+  DrawsOrdinal : ℕ → Basic
+  -- a row is made; the number of a process or thread is used from then on
+  AddsProcess : ProcessRow → Basic
+  AddsThread : ThreadRow → Basic
+  Makes : PortRow → Basic
+  AddsHandle : HandleRow → Basic
+
+abbrev pub received : WaitRow → WaitRow
+received x = record x { received = true }
+
+abbrev pub past_identifier : ThreadRow → ThreadRow
+past_identifier t = record t { next_identifier = t.next_identifier + 1 }
+
+abbrev pub past_ordinal : ThreadRow → ThreadRow
+past_ordinal t = record t { next_ordinal = t.next_ordinal + 1 }
+
+abbrev pub used : ThreadRow → UsedThread
+used t = record { number = t.number; process = t.process }
+
+-- the world after a basic step
+abbrev pub basic : World → Basic → World
+basic w (Tells e) = w
+basic w (Wakes who call status fields) = record w { waits = without (waits_as who) w.waits }
+basic w (Awaits x) = record w { waits = w.waits ++ x ∷ [] }
+basic w (Receives who) = record w { waits = change (waits_as who) received w.waits }
+basic w (Enters m) = record w { messages = w.messages ++ m ∷ [] }
+basic w (Takes q) = record w { messages = without_first (is_queued q) w.messages }
+basic w (DrawsIdentifier who) = record w { threads = change (is_thread who) past_identifier w.threads }
+basic w (DrawsOrdinal who) = record w { threads = change (is_thread who) past_ordinal w.threads }
+basic w (AddsProcess p) =
+    record w { processes = w.processes ++ p ∷ []; used_processes = w.used_processes ++ p.number ∷ [] }
+basic w (AddsThread t) =
+    record w { threads = w.threads ++ t ∷ []; used_threads = w.used_threads ++ used t ∷ [] }
+basic w (Makes p) = record w { ports = w.ports ++ p ∷ [] }
+basic w (AddsHandle h) = record w { handles = w.handles ++ h ∷ [] }
+
+-- the entries that a basic step makes, and the messages that it posts: those that enter a queue
+abbrev pub told : Basic → List Entry
+told (Tells e) = e ∷ []
+told (Wakes who call status fields) = entry.Wakes who call status fields ∷ []
+told b = []
+
+abbrev pub posted : Basic → List MessageRow
+posted (Enters m) = m ∷ []
+posted b = []
+
+-- what a list of basic steps leaves and makes
+abbrev pub world_after : World → List Basic → World
+world_after w [] = w
+world_after w (b ∷ bs) = world_after (basic w b) bs
+
+abbrev pub entries_of : List Basic → List Entry
+entries_of [] = []
+entries_of (b ∷ bs) = told b ++ entries_of bs
+
+abbrev pub posts_of : List Basic → List MessageRow
+posts_of [] = []
+posts_of (b ∷ bs) = posted b ++ posts_of bs
+
+-- how a call ended for its thread, by the first entry of its own
+abbrev pub outcome_of : List Basic → Outcome
+outcome_of [] = outcome.Gone
+outcome_of (Tells (entry.Answer who call status fields) ∷ bs) = outcome.Answered status
+outcome_of (Tells (entry.Waits who call fields) ∷ bs) = outcome.Waits
+outcome_of (b ∷ bs) = outcome_of bs
+
+-- Steps that depend on the world before them, and one after the other: the second in the world that the first left
+abbrev pub Steps : Type 0
+Steps = World → List Basic
+
+abbrev pub going_on : World → List Basic → Steps → List Basic
+going_on w bs g = bs ++ g (world_after w bs)
+
+infixr 8 ◌▹◌
+abbrev pub ◌▹◌ : Steps → Steps → Steps
+◌▹◌ f g = λ w. going_on w (f w) g
+
+-- steps whatever the world
+abbrev pub doing : List Basic → Steps
+doing bs = λ w. bs

@@ -1,0 +1,27 @@
+-- The fields of entries, by what they show.
+use Rattle.std.specs.Prelude.{ℕ, List, [], ◌∷◌}
+use Rattle.lpc_model.specs.declared.entry.Field.{Field}
+use Rattle.lpc_model.specs.declared.entry.FieldName.TheVariants as name
+use Rattle.lpc_model.specs.declared.entry.Value.TheVariants.{Number, Hex, Bytes}
+use Rattle.lpc_model.specs.Message.{bytes_of}
+use Rattle.lpc_model.specs.World.{Message, MessageRow}
+
+-- a new handle
+abbrev pub h : ℕ → Field
+h value = record { name = name.H; value = Number value }
+
+-- the identifier of what was sent
+abbrev pub id : ℕ → Field
+id n = record { name = name.Id; value = Number n }
+
+-- the context of a message
+abbrev pub ctx : ℕ → Field
+ctx n = record { name = name.Ctx; value = Hex n }
+
+-- a message, header and data
+abbrev pub msg : Message → Field
+msg m = record { name = name.Msg; value = Bytes (record { items = bytes_of m }) }
+
+-- what a receive shows of the message that it took
+abbrev pub receipt : MessageRow → List Field
+receipt m = ctx m.context ∷ msg m.message ∷ []

@@ -1,0 +1,168 @@
+-- What is found in the world: filters and counts of its rows.
+use Rattle.std.specs.Prelude.{ℕ, ◌==◌, ◌&&◌, ◌||◌, ◌+◌, Bool, true, false, List, length, map, Option, Some, None, is_some, is_none, option_and_then, if◌then◌else◌}
+use Rattle.lpc_base.specs.Places.{least_handle}
+use Rattle.lpc_model.specs.declared.entry.ObjectKind.TheVariants as kind
+use Rattle.lpc_model.specs.declared.rows.PortKind.TheVariants.{Unnamed, Connection, Client, Server}
+use Rattle.lpc_model.specs.declared.rows.WaitKind.TheVariants.{Request, Receive}
+use Rattle.lpc_model.specs.Rows.{first, has, which, count, passes}
+use Rattle.lpc_model.specs.World.{World, Birth, ObjectKind, ObjectName, Message, ProcessRow, ThreadRow, UsedThread, HandleRow, PortRow, MessageRow, WaitRow}
+
+-- Names
+abbrev pub same_birth : Birth → Birth → Bool
+same_birth a b = (a.maker == b.maker) && ((a.ordinal == b.ordinal) && (a.process == b.process))
+
+abbrev pub is_the : Birth → Option Birth → Bool
+is_the b o = passes o (same_birth b)
+
+abbrev pub is_port_kind : ObjectKind → Bool
+is_port_kind kind.Port = true
+is_port_kind other = false
+
+-- the name of a port
+abbrev pub port_name : Birth → ObjectName
+port_name b = record { kind = kind.Port; birth = b }
+
+abbrev pub names_port : Birth → ObjectName → Bool
+names_port b o = is_port_kind o.kind && same_birth o.birth b
+
+-- Processes and threads
+abbrev pub is_process : ℕ → ProcessRow → Bool
+is_process pid p = p.number == pid
+
+abbrev pub is_thread : ℕ → ThreadRow → Bool
+is_thread tid t = t.number == tid
+
+abbrev pub is_live_thread : ℕ → ThreadRow → Bool
+is_live_thread tid t = (t.number == tid) && t.live
+
+-- a live thread of a process
+abbrev pub lives_in : ℕ → ThreadRow → Bool
+lives_in pid t = (t.process == pid) && t.live
+
+abbrev pub live_thread : World → ℕ → Option ThreadRow
+live_thread w tid = first (is_live_thread tid) w.threads
+
+-- a process is live where it has a live thread
+abbrev pub is_live : World → ℕ → Bool
+is_live w pid = has (lives_in pid) w.threads
+
+abbrev pub live_count : World → ℕ → ℕ
+live_count w pid = count (lives_in pid) w.threads
+
+-- the number was ever used for a process, or for a thread
+abbrev pub was_process : World → ℕ → Bool
+was_process w pid = has (λ n. n == pid) w.used_processes
+
+abbrev pub was_thread : World → ℕ → Bool
+was_thread w tid = has (λ u. u.number == tid) w.used_threads
+
+-- Handles
+abbrev pub is_handle : ℕ → ℕ → HandleRow → Bool
+is_handle pid value h = (h.process == pid) && (h.value == value)
+
+abbrev pub handle_at : World → ℕ → ℕ → Option HandleRow
+handle_at w pid value = first (is_handle pid value) w.handles
+
+abbrev pub is_owned : ℕ → HandleRow → Bool
+is_owned pid h = h.process == pid
+
+abbrev pub handles_of : World → ℕ → List HandleRow
+handles_of w pid = which (is_owned pid) w.handles
+
+-- the least multiple of 4, from 4, that no handle of the process has
+abbrev pub free_handle : World → ℕ → ℕ
+free_handle w pid = least_handle (map (λ h. h.value) (handles_of w pid))
+
+-- Ports
+abbrev pub is_port : Birth → PortRow → Bool
+is_port b p = same_birth p.birth b
+
+abbrev pub port_row : World → Birth → Option PortRow
+port_row w b = first (is_port b) w.ports
+
+-- a port is open where a handle names it
+abbrev pub is_open : World → Birth → Bool
+is_open w b = has (λ h. names_port b h.object) w.handles
+
+abbrev pub if_open : World → Option Birth → Option Birth
+if_open w None = None
+if_open w (Some b) = if is_open w b then Some b else None
+
+-- the queue of a port's own: itself, or for a server port its connection port; none where that port isn't open
+abbrev pub queue_of : World → PortRow → Option Birth
+queue_of w p = elim p.kind [
+    Server ↦ if_open w p.connection
+  | _ ↦ if_open w (Some p.birth) ]
+
+abbrev pub is_cut : PortRow → Bool
+is_cut p = is_none p.pair
+
+-- the queue that a message sent on an open port enters
+abbrev pub way : World → PortRow → Option Birth
+way w p = elim p.kind [
+    Client ↦ if_open w (if is_cut p then None else p.connection)
+  | Server ↦ if_open w p.pair
+  | _ ↦ Some p.birth ]
+
+-- the queue that a message sent on a port enters; none where the port isn't open, or has no way
+abbrev pub route : World → PortRow → Option Birth
+route w p = if is_open w p.birth then way w p else None
+
+-- the context that a message sent on a port keeps
+abbrev pub context_of : PortRow → ℕ
+context_of p = elim p.kind [
+    Client ↦ if is_cut p then 0 else p.context
+  | _ ↦ 0 ]
+
+-- the other end of the connection that a port is of
+abbrev pub pair_of : World → Birth → Option Birth
+pair_of w b = option_and_then (λ p. p.pair) (port_row w b)
+
+-- Queues and waits
+abbrev pub is_queued : Birth → MessageRow → Bool
+is_queued q m = same_birth m.queue q
+
+-- the queue of a port: the messages that stand in it, the oldest first
+abbrev pub queued : World → Birth → List MessageRow
+queued w q = which (is_queued q) w.messages
+
+abbrev pub is_receive : WaitRow → Bool
+is_receive x = elim x.kind [
+    Receive ↦ true
+  | _ ↦ false ]
+
+abbrev pub is_request : WaitRow → Bool
+is_request x = elim x.kind [
+    Request m ↦ true
+  | _ ↦ false ]
+
+abbrev pub waits_as : ℕ → WaitRow → Bool
+waits_as tid x = x.thread == tid
+
+abbrev pub wait_of : World → ℕ → Option WaitRow
+wait_of w tid = first (waits_as tid) w.waits
+
+-- a receive that waits on a queue
+abbrev pub receives_on : Birth → WaitRow → Bool
+receives_on q x = is_receive x && same_birth x.queue q
+
+-- the waiters on a queue, in order of waiting
+abbrev pub waiters_on : World → Birth → List WaitRow
+waiters_on w q = which (receives_on q) w.waits
+
+-- A message fits a wait through a port: it names the wait's thread, process and identifier, the wait is a request that
+-- was received, and the port is the wait's queue or the pair of its sender port.
+abbrev pub fits : World → Birth → Message → WaitRow → Bool
+fits w port m x =
+    (x.thread == m.header.client.thread) && ((x.process == m.header.client.process)
+    && ((x.identifier == m.header.message_id) && (is_request x && (x.received
+    && (same_birth x.queue port || is_the port (pair_of w x.port))))))
+
+-- the wait that a message fits through a port; a thread has one wait at most
+abbrev pub fitted : World → Birth → Message → Option WaitRow
+fitted w port m = first (fits w port m) w.waits
+
+-- Objects
+-- how many object rows there are: a process, a thread and a port are objects
+abbrev pub objects : World → ℕ
+objects w = length w.processes + length w.threads + length w.ports

@@ -1,0 +1,112 @@
+-- One line's step: a directive, or a call of a thread that can make one.
+use Rattle.std.specs.Prelude.{ℕ, ◌||◌, not, nat_le, true, List, [], ◌∷◌, Option, Some, None, Result, Ok, Err}
+use Rattle.lpc_base.specs.declared.limits.TheConstants.{THREAD_LIMIT}
+use Rattle.lpc_base.specs.declared.status.Status.{Status}
+use Rattle.lpc_base.specs.declared.status.TheConstants.{INVALID_CID, OBJECT_NAME_COLLISION, QUOTA_EXCEEDED, SUCCESS}
+use Rattle.lpc_model.specs.declared.entry.Entry.{Entry}
+use Rattle.lpc_model.specs.declared.entry.Entry.TheVariants.{Answer, Busy, Directive, NoThread}
+use Rattle.lpc_model.specs.declared.entry.Word.{Word}
+use Rattle.lpc_model.specs.declared.entry.Word.TheVariants as word
+use Rattle.lpc_model.specs.declared.entry.CallName.TheVariants.{NtCreatePort, NtReplyPort, NtReplyWaitReceivePort, NtRequestWaitReplyPort}
+use Rattle.lpc_model.specs.Refusal.{◌>>=◌, refuse_if}
+use Rattle.lpc_model.specs.World.{World, Birth, CallName, ProcessRow, ThreadRow, WaitRow}
+use Rattle.lpc_model.specs.Found.{is_live, live_count, live_thread, wait_of, was_process, was_thread}
+use Rattle.lpc_model.specs.Basics.{AddsProcess, AddsThread, Basic, Steps, Tells, entries_of, world_after}
+use Rattle.lpc_model.specs.Connect.{nt_create_port}
+use Rattle.lpc_model.specs.Request.{nt_reply_port, nt_reply_wait_receive_port, nt_request_wait_reply_port}
+use Rattle.lpc_model.specs.Lines.{ScriptCall, create_port, request_wait_reply_port, reply_port, reply_wait_receive_port, ScriptLine, boot, thread, run}
+
+-- the name of a call, and the service that serves it
+abbrev pub name_of : ScriptCall → CallName
+name_of create_port = NtCreatePort
+name_of (request_wait_reply_port handle message) = NtRequestWaitReplyPort
+name_of (reply_port handle message) = NtReplyPort
+name_of (reply_wait_receive_port handle) = NtReplyWaitReceivePort
+
+abbrev pub service_of : World → ThreadRow → ScriptCall → Result (List Basic) Status
+service_of w by create_port = nt_create_port w by
+service_of w by (request_wait_reply_port handle message) = nt_request_wait_reply_port w by handle message
+service_of w by (reply_port handle message) = nt_reply_port w by handle message
+service_of w by (reply_wait_receive_port handle) = nt_reply_wait_receive_port w by handle
+
+-- a refusal is one answer, and changes nothing
+abbrev pub settled : ThreadRow → CallName → Result (List Basic) Status → List Basic
+settled by call (Ok bs) = bs
+settled by call (Err s) = Tells (Answer by.number call s []) ∷ []
+
+-- a call of a thread
+abbrev pub call_steps : ThreadRow → ScriptCall → Steps
+call_steps by call w = settled by (name_of call) (service_of w by call)
+
+-- a call of a thread that doesn't wait
+abbrev pub ready_steps : ThreadRow → ScriptCall → Option WaitRow → Steps
+ready_steps by call (Some x) w = Tells (Busy by.number) ∷ []
+ready_steps by call None w = call_steps by call w
+
+-- a call of a live thread; no other thread makes one
+abbrev pub thread_steps : ℕ → ScriptCall → Option ThreadRow → Steps
+thread_steps tid call None w = Tells (NoThread tid) ∷ []
+thread_steps tid call (Some by) w = ready_steps by call (wait_of w tid) w
+
+-- Directives. A directive tells its status.
+abbrev pub directed : Word → Result (List Basic) Status → List Basic
+directed word (Ok bs) = Tells (Directive word SUCCESS) ∷ bs
+directed word (Err s) = Tells (Directive word s) ∷ []
+
+-- what a directive makes has maker 0 and its own number as ordinal
+abbrev pub directive_birth : ℕ → Birth
+directive_birth n = record { maker = 0; ordinal = n; process = 0 }
+
+abbrev pub new_process : ℕ → ProcessRow
+new_process pid = record { number = pid; maker = None; birth = directive_birth pid }
+
+abbrev pub new_thread : ℕ → ℕ → ThreadRow
+new_thread tid pid = record {
+  number = tid; process = pid; birth = directive_birth tid;
+  live = true; next_identifier = 1; next_ordinal = 1;
+}
+
+-- neither number was ever used
+abbrev pub unused_test : World → ℕ → ℕ → Result Unit Status
+unused_test w pid tid = refuse_if (was_process w pid || was_thread w tid) OBJECT_NAME_COLLISION
+
+-- `boot`: a number was ever used
+unfoldable pub boot_line : World → ℕ → ℕ → Result (List Basic) Status
+boot_line w pid tid = do
+  _ ← unused_test w pid tid
+  Ok (AddsProcess (new_process pid) ∷ AddsThread (new_thread tid pid) ∷ [])
+
+-- a live process gets a thread: no such process, a thread number that was ever used, 64 live threads
+abbrev pub live_test : World → ℕ → Result Unit Status
+live_test w pid = refuse_if (not (is_live w pid)) INVALID_CID
+
+abbrev pub unused_thread_test : World → ℕ → Result Unit Status
+unused_thread_test w tid = refuse_if (was_thread w tid) OBJECT_NAME_COLLISION
+
+abbrev pub thread_count_test : World → ℕ → Result Unit Status
+thread_count_test w pid = refuse_if (nat_le THREAD_LIMIT (live_count w pid)) QUOTA_EXCEEDED
+
+-- `thread`
+unfoldable pub thread_line : World → ℕ → ℕ → Result (List Basic) Status
+thread_line w tid pid = do
+  _ ← live_test w pid
+  _ ← unused_thread_test w tid
+  _ ← thread_count_test w pid
+  Ok (AddsThread (new_thread tid pid) ∷ [])
+
+-- what a line does in a world
+unfoldable pub steps : ScriptLine → Steps
+steps (boot pid tid) w = directed word.Boot (boot_line w pid tid)
+steps (thread tid pid) w = directed word.Thread (thread_line w tid pid)
+steps (run tid call) w = thread_steps tid call (live_thread w tid) w
+
+-- the world that a step leaves, and the entries that it makes
+pub record Stepped : Type 0 where
+  pub world : World
+  pub entries : List Entry
+
+abbrev pub landed : World → List Basic → Stepped
+landed w bs = record { world = world_after w bs; entries = entries_of bs }
+
+abbrev pub step : World → ScriptLine → Stepped
+step w line = landed w (steps line w)
