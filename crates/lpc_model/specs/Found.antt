@@ -91,8 +91,9 @@ if_open w (Some b) = if is_open w b then Some b else None
 -- the queue of a port's own: itself, or for a server port its connection port; none where that port isn't open
 abbrev pub queue_of : World → PortRow → Option Birth
 queue_of w p = elim p.kind [
-    Server ↦ if_open w p.connection
-  | _ ↦ if_open w (Some p.birth) ]
+  | Server ↦ if_open w p.connection
+  | _ ↦ if_open w (Some p.birth)
+]
 
 abbrev pub is_cut : PortRow → Bool
 is_cut p = is_none p.pair
@@ -100,9 +101,10 @@ is_cut p = is_none p.pair
 -- the queue that a message sent on an open port enters
 abbrev pub way : World → PortRow → Option Birth
 way w p = elim p.kind [
-    Client ↦ if_open w (if is_cut p then None else p.connection)
+  | Client ↦ if_open w (if is_cut p then None else p.connection)
   | Server ↦ if_open w p.pair
-  | _ ↦ Some p.birth ]
+  | _ ↦ Some p.birth
+]
 
 -- the queue that a message sent on a port enters; none where the port isn't open, or has no way
 abbrev pub route : World → PortRow → Option Birth
@@ -111,8 +113,9 @@ route w p = if is_open w p.birth then way w p else None
 -- the context that a message sent on a port keeps
 abbrev pub context_of : PortRow → ℕ
 context_of p = elim p.kind [
-    Client ↦ if is_cut p then 0 else p.context
-  | _ ↦ 0 ]
+  | Client ↦ if is_cut p then 0 else p.context
+  | _ ↦ 0
+]
 
 -- the other end of the connection that a port is of
 abbrev pub pair_of : World → Birth → Option Birth
@@ -128,13 +131,15 @@ queued w q = which (is_queued q) w.messages
 
 abbrev pub is_receive : WaitRow → Bool
 is_receive x = elim x.kind [
-    Receive ↦ true
-  | _ ↦ false ]
+  | Receive ↦ true
+  | _ ↦ false
+]
 
 abbrev pub is_request : WaitRow → Bool
 is_request x = elim x.kind [
-    Request m ↦ true
-  | _ ↦ false ]
+  | Request m ↦ true
+  | _ ↦ false
+]
 
 abbrev pub waits_as : ℕ → WaitRow → Bool
 waits_as tid x = x.thread == tid

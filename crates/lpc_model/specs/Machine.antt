@@ -62,8 +62,12 @@ new_process pid = record { number = pid; maker = None; birth = directive_birth p
 
 abbrev pub new_thread : ℕ → ℕ → ThreadRow
 new_thread tid pid = record {
-  number = tid; process = pid; birth = directive_birth tid;
-  live = true; next_identifier = 1; next_ordinal = 1;
+  number = tid;
+  process = pid;
+  birth = directive_birth tid;
+  live = true;
+  next_identifier = 1;
+  next_ordinal = 1;
 }
 
 -- neither number was ever used
@@ -86,12 +90,17 @@ unused_thread_test w tid = refuse_if (was_thread w tid) OBJECT_NAME_COLLISION
 abbrev pub thread_count_test : World → ℕ → Result Unit Status
 thread_count_test w pid = refuse_if (nat_le THREAD_LIMIT (live_count w pid)) QUOTA_EXCEEDED
 
+-- the tests of a further thread
+abbrev pub thread_test : World → ℕ → ℕ → Result Unit Status
+thread_test w tid pid = do
+  _ ← live_test w pid
+  _ ← unused_thread_test w tid
+  thread_count_test w pid
+
 -- `thread`
 unfoldable pub thread_line : World → ℕ → ℕ → Result (List Basic) Status
 thread_line w tid pid = do
-  _ ← live_test w pid
-  _ ← unused_thread_test w tid
-  _ ← thread_count_test w pid
+  _ ← thread_test w tid pid
   Ok (AddsThread (new_thread tid pid) ∷ [])
 
 -- what a line does in a world

@@ -16,7 +16,7 @@ abbrev pub REPLY : ℕ
 REPLY = 2
 
 -- the bytes of a message: its header and the data behind it
-abbrev pub bytes_of : Message → List ℕ
+unfoldable pub bytes_of : Message → List ℕ
 bytes_of m = header_bytes m.header ++ m.body
 
 -- the message that bytes are
@@ -24,7 +24,7 @@ abbrev pub message_of : List ℕ → Message
 message_of bytes = record { header = header_of bytes; body = drop 24 bytes }
 
 -- The bytes that a call is given are a message of lawful shape, and its MessageSize isn't above the limit.
-abbrev pub message_test : List ℕ → Result Message Status
+unfoldable pub message_test : List ℕ → Result Message Status
 message_test bytes = do
   _ ← refuse_if (is_some (fault_of bytes)) INVALID_PARAMETER
   _ ← refuse_if (nat_lt MESSAGE_LIMIT (header_of bytes).message_size) PORT_MESSAGE_TOO_LONG

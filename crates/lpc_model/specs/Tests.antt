@@ -61,6 +61,12 @@ handle_row by value object access = record { process = by.process; value = value
 -- a wait of the caller's
 abbrev pub own_wait : ThreadRow → CallName → WaitKind → Birth → Birth → ℕ → WaitRow
 own_wait by call kind port queue identifier = record {
-  call = call; thread = by.number; process = by.process; kind = kind;
-  port = port; queue = queue; identifier = identifier; received = false;
+  call = call;
+  thread = by.number;
+  process = by.process;
+  kind = kind;
+  port = port;
+  queue = queue;
+  identifier = identifier;
+  received = false;
 }

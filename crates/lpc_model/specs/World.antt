@@ -29,6 +29,12 @@ pub record World : Type 0 where
 -- the world before the first line
 abbrev pub no_rows : World
 no_rows = record {
-  processes = []; threads = []; used_processes = []; used_threads = [];
-  handles = []; ports = []; messages = []; waits = [];
+  processes = [];
+  threads = [];
+  used_processes = [];
+  used_threads = [];
+  handles = [];
+  ports = [];
+  messages = [];
+  waits = [];
 }

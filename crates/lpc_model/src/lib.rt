@@ -8,8 +8,13 @@ mod line;
 mod message;
 mod rows;
 
-pub use entry::{CallName, Entries, Entry, Field, FieldName, Fields, ObjectKind, Outcome, Value, Word};
+pub use entry::{
+    CallName, Entries, Entry, Field, FieldName, Fields, ObjectKind, Outcome, Value, Word,
+};
 pub use fault::LineFault;
 pub use line::{Call, Line};
 pub use message::{Body, Message};
-pub use rows::{HandleRow, MessageRow, ObjectName, PortKind, PortRow, ProcessRow, ThreadRow, UsedThread, WaitKind, WaitRow};
+pub use rows::{
+    HandleRow, MessageRow, ObjectName, PortKind, PortRow, ProcessRow, ThreadRow, UsedThread,
+    WaitKind, WaitRow,
+};

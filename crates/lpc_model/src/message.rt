@@ -66,6 +66,7 @@ impl Message {
     }
 
     /// The bytes: the header and the data behind it.
+    #[tactic(auto, unfolding(crate::specs::Message::bytes_of))]
     pub fn bytes(&self) -> ArrayVec<u8, 256>
         ensures { result.items ≡ bytes_of self.now }
     {

@@ -1,0 +1,11 @@
+//! The machine: one step a line, over the world's rows. The rows stand in plain lists.
+#![tactic(auto)]
+
+mod machine;
+mod services;
+mod shared;
+mod stop;
+mod tables;
+mod world;
+
+pub use machine::Machine;
