@@ -12,3 +12,4 @@ pub mod Tests
 pub mod Connect
 pub mod Request
 pub mod Machine
+pub mod Text

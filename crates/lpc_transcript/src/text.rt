@@ -1,0 +1,196 @@
+// The text of entries, and the last line of a transcript.
+ghost use Rattle.std.specs.Prelude.{◌≡◌, ◌++◌, map, take, OnOk, OnErr};
+ghost use Rattle.lpc_model.specs.Listed.{shown_entry};
+ghost use Rattle.lpc_model.specs.Text.{rest_text, entry_text, entries_text, end_text, stop_text};
+ghost use Rattle.lpc_transcript.specs.Printing.{BeginsWith};
+
+use crate::fields::put_fields;
+use crate::words::{directive_name, put, put_by, put_long_number, put_number, put_status};
+use lpc_base::{OutOfMemory, Status};
+use lpc_model::{CallName, Entries, Entry, Fields};
+use std::alloc::Global;
+
+// What stands behind the line's number, with these bytes where a memory read stands.
+#[tactic(auto, using(std::proofs::Common::append_assoc, crate::proofs::Begins::begins_before))]
+fn put_rest(
+    alloc: Global,
+    into: &mut Vec<u8>,
+    entry: &Entry,
+    read: &[u8],
+) -> Result<(), OutOfMemory>
+    ensures ok { OnOk result (into.new.items ≡ into.old.items ++ rest_text (shown_entry read.now entry.now)) }
+    ensures err { OnErr result (BeginsWith into.new.items into.old.items) }
+{
+    match entry {
+        Entry::Answer {
+            tid,
+            call,
+            status,
+            fields,
+        } => {
+            put_by(into, *tid, *call)?;
+            put_status(into, *status)?;
+            put_fields(alloc, into, fields, read)
+        }
+        Entry::Waits { tid, call, fields } => {
+            put_by(into, *tid, *call)?;
+            put(into, b" wait")?;
+            put_fields(alloc, into, fields, read)
+        }
+        Entry::Wakes {
+            tid,
+            call,
+            status,
+            fields,
+        } => {
+            put(into, b"*")?;
+            put_by(into, *tid, *call)?;
+            put_status(into, *status)?;
+            put_fields(alloc, into, fields, read)
+        }
+        Entry::Busy { tid } => {
+            put_number(into, u64::from(*tid))?;
+            put(into, b" busy")
+        }
+        Entry::NoThread { tid } => {
+            put_number(into, u64::from(*tid))?;
+            put(into, b" nothread")
+        }
+        Entry::Died { tid, status } => {
+            put(into, b"~")?;
+            put_number(into, u64::from(*tid))?;
+            put(into, b" died")?;
+            put_status(into, *status)
+        }
+        Entry::Directive { word, status } => {
+            put(into, b"- ")?;
+            put(into, directive_name(*word))?;
+            put_status(into, *status)
+        }
+    }
+}
+
+#[tactic(auto, using(std::proofs::Common::append_assoc, crate::proofs::Begins::begins_before), unfolding(lpc_model::specs::Text::entry_text))]
+fn put_entry(
+    alloc: Global,
+    into: &mut Vec<u8>,
+    line: u32,
+    entry: &Entry,
+    read: &[u8],
+) -> Result<(), OutOfMemory>
+    ensures ok { OnOk result (into.new.items ≡ into.old.items ++ entry_text line (shown_entry read.now entry.now)) }
+    ensures err { OnErr result (BeginsWith into.new.items into.old.items) }
+{
+    put_number(into, u64::from(line))?;
+    put(into, b" ")?;
+    put_rest(alloc, into, entry, read)?;
+    put(into, b"\n")
+}
+
+#[tactic(auto, using(std::proofs::Common::append_assoc, crate::proofs::Begins::begins_before), unfolding(lpc_model::specs::Text::entries_text))]
+fn put_entries(
+    alloc: Global,
+    into: &mut Vec<u8>,
+    line: u32,
+    entries: &[Entry],
+    read: &[u8],
+) -> Result<(), OutOfMemory>
+    ensures ok { OnOk result (into.new.items ≡ into.old.items ++ entries_text line (map (shown_entry read.now) entries.now)) }
+    ensures err { OnErr result (BeginsWith into.new.items into.old.items) }
+{
+    for entry in entries {
+        put_entry(alloc, into, line, entry, read)?;
+    }
+    Ok(())
+}
+
+// After want of memory takes away what was printed since the text was so long.
+fn all_or_none(
+    into: &mut Vec<u8>,
+    before: usize,
+    printed: Result<(), OutOfMemory>,
+) -> Result<(), OutOfMemory>
+    ensures result { result ≡ printed }
+    ensures ok { OnOk printed (into.new.items ≡ into.old.items) }
+    ensures err { OnErr printed (into.new.items ≡ take before into.old.items) }
+{
+    if printed.is_err() {
+        into.truncate(before);
+    }
+    printed
+}
+
+/// Appends the text of a line's entries: for each entry in order the number of the line, who is spoken of, the call,
+/// how it ended and its fields, ended by byte 10. The form is this project's own.
+///
+/// After want of memory the text is as it was.
+pub fn print(
+    alloc: Global,
+    line: u32,
+    entries: &Entries,
+    into: &mut Vec<u8>,
+) -> Result<(), OutOfMemory>
+    ensures ok { OnOk result (into.new.items ≡ into.old.items ++ entries_text line entries.now.list) }
+    ensures err { OnErr result (into.new.items ≡ into.old.items) }
+{
+    let before = into.len();
+    let printed = put_entries(alloc, into, line, entries.list(), entries.read_bytes());
+    all_or_none(into, before, printed)
+}
+
+#[tactic(auto, using(std::proofs::Common::append_assoc, crate::proofs::Begins::begins_before))]
+fn put_end(into: &mut Vec<u8>, lines: u32, entries: u128, objects: usize) -> Result<(), OutOfMemory>
+    ensures ok { OnOk result (into.new.items ≡ into.old.items ++ end_text lines entries objects) }
+    ensures err { OnErr result (BeginsWith into.new.items into.old.items) }
+{
+    put(into, b"end ")?;
+    put_number(into, u64::from(lines))?;
+    put(into, b" ")?;
+    put_long_number(into, entries)?;
+    put(into, b" ")?;
+    put_number(into, objects as u64)?;
+    put(into, b"\n")
+}
+
+/// Appends the last line of a script that was read to its end: `end`, the lines read, the entries printed and the
+/// objects left. The form is this project's own.
+///
+/// After want of memory the text is as it was.
+pub fn print_end(
+    into: &mut Vec<u8>,
+    lines: u32,
+    entries: u128,
+    objects: usize,
+) -> Result<(), OutOfMemory>
+    ensures ok { OnOk result (into.new.items ≡ into.old.items ++ end_text lines entries objects) }
+    ensures err { OnErr result (into.new.items ≡ into.old.items) }
+{
+    let before = into.len();
+    let printed = put_end(into, lines, entries, objects);
+    all_or_none(into, before, printed)
+}
+
+#[tactic(auto, using(std::proofs::Common::append_assoc, crate::proofs::Begins::begins_before))]
+fn put_stop(into: &mut Vec<u8>, line: u32, kind: u8) -> Result<(), OutOfMemory>
+    ensures ok { OnOk result (into.new.items ≡ into.old.items ++ stop_text line kind) }
+    ensures err { OnErr result (BeginsWith into.new.items into.old.items) }
+{
+    put(into, b"stop ")?;
+    put_number(into, u64::from(line))?;
+    put(into, b" ")?;
+    put_number(into, u64::from(kind))?;
+    put(into, b"\n")
+}
+
+/// Appends the last line of a script that has a faulty line: `stop`, the number of that line and the kind of its
+/// fault. The form is this project's own.
+///
+/// After want of memory the text is as it was.
+pub fn print_stop(into: &mut Vec<u8>, line: u32, kind: u8) -> Result<(), OutOfMemory>
+    ensures ok { OnOk result (into.new.items ≡ into.old.items ++ stop_text line kind) }
+    ensures err { OnErr result (into.new.items ≡ into.old.items) }
+{
+    let before = into.len();
+    let printed = put_stop(into, line, kind);
+    all_or_none(into, before, printed)
+}

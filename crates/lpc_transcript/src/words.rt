@@ -1,0 +1,130 @@
+// The words of a transcript's line, each put behind the text so far.
+ghost use Rattle.std.specs.Prelude.{◌≡◌, ◌≤◌, ◌++◌, length, decimal, OnOk, OnErr};
+ghost use Rattle.hex.specs.Hex.{encode_lower};
+ghost use Rattle.lpc_model.specs.Text.{hex_word, call_text, word_text, kind_text, name_text, by_text, status_text};
+ghost use Rattle.lpc_transcript.specs.Printing.{BeginsWith};
+
+use lpc_base::{OutOfMemory, Status};
+use lpc_model::{CallName, FieldName, ObjectKind, Word};
+use std::alloc::Global;
+
+pub(crate) fn put(into: &mut Vec<u8>, bytes: &[u8]) -> Result<(), OutOfMemory>
+    ensures ok { OnOk result (into.new.items ≡ into.old.items ++ bytes.now) }
+    ensures err { OnErr result (BeginsWith into.new.items into.old.items) }
+{
+    if into.extend_from_slice(bytes).is_err() {
+        return Err(OutOfMemory);
+    }
+    Ok(())
+}
+
+pub(crate) fn put_number(into: &mut Vec<u8>, number: u64) -> Result<(), OutOfMemory>
+    ensures ok { OnOk result (into.new.items ≡ into.old.items ++ decimal number) }
+    ensures err { OnErr result (BeginsWith into.new.items into.old.items) }
+{
+    put(into, itoa::Buffer::new().format(number).as_bytes())
+}
+
+pub(crate) fn put_long_number(into: &mut Vec<u8>, number: u128) -> Result<(), OutOfMemory>
+    ensures ok { OnOk result (into.new.items ≡ into.old.items ++ decimal number) }
+    ensures err { OnErr result (BeginsWith into.new.items into.old.items) }
+{
+    put(into, itoa::Buffer::new().format(number).as_bytes())
+}
+
+// Eight hexadecimal digits.
+pub(crate) fn put_digits(into: &mut Vec<u8>, number: u32) -> Result<(), OutOfMemory>
+    ensures ok { OnOk result (into.new.items ≡ into.old.items ++ hex_word number) }
+    ensures err { OnErr result (BeginsWith into.new.items into.old.items) }
+{
+    let mut digits = [0u8; 8];
+    hex::encode_to_slice(number.to_be_bytes().as_slice(), &mut digits).unwrap();
+    put(into, &digits)
+}
+
+// The bytes of a field, which has room for this many.
+pub(crate) fn put_bytes(into: &mut Vec<u8>, bytes: &[u8]) -> Result<(), OutOfMemory>
+    requires { length bytes.now ≤ 256 }
+    ensures ok { OnOk result (into.new.items ≡ into.old.items ++ encode_lower bytes.now) }
+    ensures err { OnErr result (BeginsWith into.new.items into.old.items) }
+{
+    let mut buffer = [0u8; 512];
+    let digits = &mut buffer[..2 * bytes.len()];
+    hex::encode_to_slice(bytes, digits).unwrap();
+    put(into, digits)
+}
+
+// The bytes of a memory read, of which there may be too many for a buffer on the stack.
+pub(crate) fn put_read(alloc: Global, into: &mut Vec<u8>, bytes: &[u8]) -> Result<(), OutOfMemory>
+    ensures ok { OnOk result (into.new.items ≡ into.old.items ++ encode_lower bytes.now) }
+    ensures err { OnErr result (BeginsWith into.new.items into.old.items) }
+{
+    let Ok(digits) = hex::encode(alloc, bytes) else {
+        return Err(OutOfMemory);
+    };
+    put(into, digits.as_bytes())
+}
+
+fn call_name(call: CallName) -> &'static [u8]
+    ensures { result.now ≡ call_text call }
+{
+    match call {
+        CallName::NtCreatePort => b"NtCreatePort",
+        CallName::NtRequestWaitReplyPort => b"NtRequestWaitReplyPort",
+        CallName::NtReplyPort => b"NtReplyPort",
+        CallName::NtReplyWaitReceivePort => b"NtReplyWaitReceivePort",
+    }
+}
+
+pub(crate) fn directive_name(word: Word) -> &'static [u8]
+    ensures { result.now ≡ word_text word }
+{
+    match word {
+        Word::Boot => b"boot",
+        Word::Thread => b"thread",
+    }
+}
+
+pub(crate) fn kind_name(kind: ObjectKind) -> &'static [u8]
+    ensures { result.now ≡ kind_text kind }
+{
+    match kind {
+        ObjectKind::Port => b"port",
+        ObjectKind::Section => b"section",
+        ObjectKind::Token => b"token",
+        ObjectKind::Process => b"process",
+        ObjectKind::Thread => b"thread",
+    }
+}
+
+pub(crate) fn field_name(name: FieldName) -> &'static [u8]
+    ensures { result.now ≡ name_text name }
+{
+    match name {
+        FieldName::H => b"h",
+        FieldName::Id => b"id",
+        FieldName::Ctx => b"ctx",
+        FieldName::Msg => b"msg",
+        FieldName::Data => b"data",
+    }
+}
+
+// A thread and its call.
+#[tactic(auto, using(std::proofs::Common::append_assoc, crate::proofs::Begins::begins_before))]
+pub(crate) fn put_by(into: &mut Vec<u8>, tid: u32, call: CallName) -> Result<(), OutOfMemory>
+    ensures ok { OnOk result (into.new.items ≡ into.old.items ++ by_text tid call) }
+    ensures err { OnErr result (BeginsWith into.new.items into.old.items) }
+{
+    put_number(into, u64::from(tid))?;
+    put(into, b" ")?;
+    put(into, call_name(call))
+}
+
+#[tactic(auto, using(std::proofs::Common::append_assoc, crate::proofs::Begins::begins_before))]
+pub(crate) fn put_status(into: &mut Vec<u8>, status: Status) -> Result<(), OutOfMemory>
+    ensures ok { OnOk result (into.new.items ≡ into.old.items ++ status_text status) }
+    ensures err { OnErr result (BeginsWith into.new.items into.old.items) }
+{
+    put(into, b" ")?;
+    put_digits(into, status.0)
+}
