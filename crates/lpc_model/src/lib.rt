@@ -18,3 +18,6 @@ pub use rows::{
     HandleRow, MessageRow, ObjectName, PortKind, PortRow, ProcessRow, ThreadRow, UsedThread,
     WaitKind, WaitRow,
 };
+
+#[cfg(test)]
+mod tests;

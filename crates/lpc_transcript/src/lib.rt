@@ -6,3 +6,6 @@ mod text;
 mod words;
 
 pub use text::{print, print_end, print_stop};
+
+#[cfg(test)]
+mod tests;
