@@ -13,3 +13,4 @@ pub mod Connect
 pub mod Request
 pub mod Machine
 pub mod Text
+pub mod TextLaws

@@ -1,1 +1,5 @@
 pub mod Begins
+pub mod Parts
+pub mod Figures
+pub mod Spelled
+pub mod Unique

@@ -2,9 +2,11 @@
 #![tactic(auto)]
 
 mod fields;
+mod laws;
 mod text;
 mod words;
 
+pub use laws::law_text_is_unique;
 pub use text::{print, print_end, print_stop};
 
 #[cfg(test)]

@@ -1,0 +1,153 @@
+-- The words of an entry's line.
+use Rattle.std.proofs.Common.{◌≡◌, refl, sym, ap, ◌∙◌, ℕ, ◌==◌, ◌<◌, ◌^◌, Bool, true, false, cond, not, ◌&&◌, List, [], ◌∷◌, ◌++◌, append_assoc, append-nil, arith, w32}
+use Rattle.std.specs.Prelude.{codes, decimal, if◌then◌else◌, nat_lt}
+use Rattle.std.specs.Str.{bytes_eq}
+use Rattle.std.proofs.lemmas.Bool.{and_parts}
+use Rattle.std.proofs.lemmas.Fmt.{decimal_injective}
+use Rattle.hex.specs.Hex.{encode_lower}
+use Rattle.lpc_model.specs.Rows.{every}
+use Rattle.lpc_model.specs.Text.{hex_word, call_text, word_text, name_text, value_text, field_text, fields_text, by_text, status_text, rest_text}
+use Rattle.lpc_model.specs.TextLaws.{Sort, in_decimal, in_hexadecimal, as_bytes, sort_of, is_word, is_of_sort, is_sorted_field, is_regular}
+use Rattle.lpc_model.specs.declared.entry.CallName.{CallName}
+use Rattle.lpc_model.specs.declared.entry.CallName.TheVariants.{NtCreatePort, NtRequestWaitReplyPort, NtReplyPort, NtReplyWaitReceivePort}
+use Rattle.lpc_model.specs.declared.entry.Entry.{Entry}
+use Rattle.lpc_model.specs.declared.entry.Entry.TheVariants.{Answer, Waits, Wakes, Busy, NoThread, Died, Directive}
+use Rattle.lpc_model.specs.declared.entry.Field.{Field}
+use Rattle.lpc_model.specs.declared.entry.FieldName.{FieldName}
+use Rattle.lpc_model.specs.declared.entry.FieldName.TheVariants.{H, Id, Ctx, Msg, Data}
+use Rattle.lpc_model.specs.declared.entry.Value.{Value}
+use Rattle.lpc_model.specs.declared.entry.Value.TheVariants.{Number, Hex, Kind, Bytes, Read}
+use Rattle.lpc_model.specs.declared.entry.Word.{Word}
+use Rattle.lpc_model.specs.declared.entry.Word.TheVariants as word
+use Rattle.lpc_transcript.proofs.Parts.{is_stop, is_plain, Part, joined, are_plain}
+use Rattle.lpc_transcript.proofs.Figures.{both_true, are_figures, figures_plain, decimal_figures, encode_figures, encode_unique, bytes_from_every, word_figures, word_unique}
+use borrow.Author.Tests.{ltb-true}
+
+-- a word behind a space, and one behind `=`
+abbrev pub spaced : List ℕ → Part
+spaced text = record { equals = false; word = text }
+
+abbrev pub equated : List ℕ → Part
+equated text = record { equals = true; word = text }
+
+-- the words of fields: a name and a value for each
+abbrev pub field_parts : List Field → List Part
+field_parts [] = []
+field_parts (field ∷ fields) = spaced (name_text field.name) ∷ equated (value_text field.value) ∷ field_parts fields
+
+-- the words of an entry
+abbrev pub parts : Entry → List Part
+parts (Answer tid call status fields) = spaced (decimal tid) ∷ spaced (call_text call) ∷ spaced (hex_word status.0) ∷ field_parts fields
+parts (Waits tid call fields) = spaced (decimal tid) ∷ spaced (call_text call) ∷ spaced (codes "wait") ∷ field_parts fields
+parts (Wakes tid call status fields) = spaced (42 ∷ decimal tid) ∷ spaced (call_text call) ∷ spaced (hex_word status.0) ∷ field_parts fields
+parts (Busy tid) = spaced (decimal tid) ∷ spaced (codes "busy") ∷ []
+parts (NoThread tid) = spaced (decimal tid) ∷ spaced (codes "nothread") ∷ []
+parts (Died tid status) = spaced (126 ∷ decimal tid) ∷ spaced (codes "died") ∷ spaced (hex_word status.0) ∷ []
+parts (Directive word status) = spaced (codes "-") ∷ spaced (word_text word) ∷ spaced (hex_word status.0) ∷ []
+
+pub chain : (a b c d e : List ℕ) → (((a ++ b) ++ c) ++ d) ++ e ≡ a ++ (b ++ (c ++ (d ++ e)))
+chain a b c d e = simp append_assoc
+
+fields_joined : (fields : List Field) → fields_text fields ≡ joined (field_parts fields)
+fields_joined [] = refl
+fields_joined (field ∷ fields) =
+    chain (codes " ") (name_text field.name) (codes "=") (value_text field.value) (fields_text fields)
+    ∙ ap (λ text. 32 ∷ (name_text field.name ++ 61 ∷ (value_text field.value ++ text))) (fields_joined fields)
+
+-- who calls what, how it ended, and fields
+call_joined : (tid : ℕ) (call : CallName) (ended : List ℕ) (fields : List Field) → by_text tid call ++ 32 ∷ ended ++ fields_text fields ≡ decimal tid ++ 32 ∷ (call_text call ++ 32 ∷ (ended ++ joined (field_parts fields)))
+call_joined tid call ended fields =
+    chain (decimal tid) (codes " ") (call_text call) (32 ∷ ended) (fields_text fields)
+    ∙ ap (λ text. decimal tid ++ 32 ∷ (call_text call ++ 32 ∷ (ended ++ text))) (fields_joined fields)
+
+-- an entry's text is its words
+pub rest_joined : (entry : Entry) → codes " " ++ rest_text entry ≡ joined (parts entry)
+rest_joined (Answer tid call status fields) = ap (λ text. 32 ∷ text) (call_joined tid call (hex_word status.0) fields)
+rest_joined (Waits tid call fields) = ap (λ text. 32 ∷ text) (call_joined tid call (codes "wait") fields)
+rest_joined (Wakes tid call status fields) = ap (λ text. 32 ∷ 42 ∷ text) (call_joined tid call (hex_word status.0) fields)
+rest_joined (Busy tid) = refl
+rest_joined (NoThread tid) = refl
+rest_joined (Died tid status) =
+    ap (λ text. 32 ∷ 126 ∷ text) (append_assoc (decimal tid) (codes " died") (32 ∷ hex_word status.0))
+    ∙ ap (λ text. 32 ∷ 126 ∷ (decimal tid ++ (codes " died" ++ 32 ∷ text))) (sym (append-nil (hex_word status.0)))
+rest_joined (Directive word status) = ap (λ text. codes " - " ++ word_text word ++ 32 ∷ text) (sym (append-nil (hex_word status.0)))
+
+-- ---- names can be read back
+
+read_call : List ℕ → CallName
+read_call text =
+    if bytes_eq text (codes "NtCreatePort") then NtCreatePort
+    else (if bytes_eq text (codes "NtReplyPort") then NtReplyPort
+    else (if bytes_eq text (codes "NtReplyWaitReceivePort") then NtReplyWaitReceivePort else NtRequestWaitReplyPort))
+
+read_call-text : (call : CallName) → read_call (call_text call) ≡ call
+unfolding read_call
+read_call-text NtCreatePort = refl
+read_call-text NtRequestWaitReplyPort = refl
+read_call-text NtReplyPort = refl
+read_call-text NtReplyWaitReceivePort = refl
+
+pub call_unique : (a b : CallName) → call_text a ≡ call_text b → a ≡ b
+call_unique a b e = sym (read_call-text a) ∙ ap read_call e ∙ read_call-text b
+
+pub call_plain : (call : CallName) → is_plain (call_text call) ≡ true
+call_plain NtCreatePort = refl
+call_plain NtRequestWaitReplyPort = refl
+call_plain NtReplyPort = refl
+call_plain NtReplyWaitReceivePort = refl
+
+read_word : List ℕ → Word
+read_word text = if bytes_eq text (codes "boot") then word.Boot else word.Thread
+
+read_word-text : (w : Word) → read_word (word_text w) ≡ w
+unfolding read_word
+read_word-text word.Boot = refl
+read_word-text word.Thread = refl
+
+pub word_name_unique : (a b : Word) → word_text a ≡ word_text b → a ≡ b
+word_name_unique a b e = sym (read_word-text a) ∙ ap read_word e ∙ read_word-text b
+
+pub word_plain : (w : Word) → is_plain (word_text w) ≡ true
+word_plain word.Boot = refl
+word_plain word.Thread = refl
+
+read_name : List ℕ → FieldName
+read_name text =
+    if bytes_eq text (codes "h") then H
+    else (if bytes_eq text (codes "id") then Id
+    else (if bytes_eq text (codes "ctx") then Ctx
+    else (if bytes_eq text (codes "msg") then Msg else Data)))
+
+read_name-text : (name : FieldName) → read_name (name_text name) ≡ name
+unfolding read_name
+read_name-text H = refl
+read_name-text Id = refl
+read_name-text Ctx = refl
+read_name-text Msg = refl
+read_name-text Data = refl
+
+pub name_unique : (a b : FieldName) → name_text a ≡ name_text b → a ≡ b
+name_unique a b e = sym (read_name-text a) ∙ ap read_name e ∙ read_name-text b
+
+pub name_plain : (name : FieldName) → is_plain (name_text name) ≡ true
+name_plain H = refl
+name_plain Id = refl
+name_plain Ctx = refl
+name_plain Msg = refl
+name_plain Data = refl
+
+-- ---- values can be read back
+
+pub value_plain : (sort : Sort) (value : Value) → is_of_sort sort value ≡ true → is_plain (value_text value) ≡ true
+value_plain in_decimal (Number n) h = figures_plain (decimal n) (decimal_figures n (ltb-true n (2 ^ 64) h))
+value_plain in_hexadecimal (Hex n) h = figures_plain (hex_word n) (word_figures n)
+value_plain as_bytes (Bytes bytes) h = figures_plain (encode_lower bytes.items) (encode_figures bytes.items (bytes_from_every bytes.items h))
+value_plain sort value h = absurd (cc)
+
+pub value_unique : (sort : Sort) (v w : Value) → is_of_sort sort v ≡ true → is_of_sort sort w ≡ true → value_text v ≡ value_text w → v ≡ w
+value_unique in_decimal (Number m) (Number n) p q e = ap Number (decimal_injective m n (ltb-true m (2 ^ 64) p) (ltb-true n (2 ^ 64) q) e)
+value_unique in_hexadecimal (Hex m) (Hex n) p q e = ap Hex (word_unique m n (ltb-true m (2 ^ 32) p) (ltb-true n (2 ^ 32) q) e)
+value_unique as_bytes (Bytes a) (Bytes b) p q e =
+    let items = encode_unique a.items b.items (bytes_from_every a.items p) (bytes_from_every b.items q) e in
+    λ i. Bytes (record { items = items i })
+value_unique sort v w p q e = absurd (cc)
