@@ -1,21 +1,20 @@
 -- Numbers and bytes can be read back from their digits, and no digit ends a word.
-use Rattle.std.proofs.Common.{◌≡◌, refl, sym, ap, ◌∙◌, ℕ, suc, zero, ◌+◌, ◌*◌, ◌/◌, ◌%◌, ◌^◌, ◌<◌, ◌≤◌, ◌==◌, Bool, true, false, cond, nat_lt, nat_le, not, ◌&&◌, ◌||◌, ◌⊎◌, inl, inr, List, [], ◌∷◌, ◌++◌, length, get_or, Some, None, slice_index_or, arith, w32}
-use Rattle.std.specs.Prelude.{decimal, slice_index, is_some, Ok}
+use Rattle.std.proofs.Common.{◌≡◌, refl, sym, ap, ◌∙◌, ℕ, suc, zero, ◌/◌, ◌%◌, ◌^◌, ◌<◌, ◌≤◌, Bool, true, false, nat_lt, not, ◌&&◌, List, [], ◌∷◌, arith, w32}
+use Rattle.std.specs.Prelude.{decimal, slice_index, is_some}
 use Rattle.std.specs.Int.{to_be_bytes, from_be_bytes, byte_at, bytes_high_first}
-use Rattle.std.specs.Result.{result_unwrap_or}
 use Rattle.std.specs.Str.Parse.{AllDigits}
-use Rattle.std.proofs.lemmas.Bool.{and_parts, cases_eq}
+use Rattle.std.proofs.lemmas.Bool.{and_parts}
 use Rattle.std.proofs.lemmas.Bool.Decides.{nat_tests}
 use Rattle.std.specs.Prelude.{◌≢◌}
-use Rattle.std.proofs.lemmas.Fmt.{decimal_is_IsNumeral, decimal_injective}
+use Rattle.std.proofs.lemmas.Fmt.{decimal_is_IsNumeral}
 use Rattle.std.proofs.lemmas.Nat.{from_be_bytes-to_be_bytes_4}
 use Rattle.std.proofs.lemmas.Str.Parse.{digit_from_value}
-use Rattle.hex.specs.Hex.{IsBytes, decode_of, encode_lower, encode_with, hex_digit_value, is_hex_digit, lower_digits}
+use Rattle.hex.specs.Hex.{IsBytes, decode_of, encode_lower, encode_with, is_hex_digit, lower_digits}
 use Rattle.hex.proofs.HexLemmas.{IsDigits-lower_digits, decode_of-encode_lower}
 use Rattle.lpc_model.specs.Rows.{every}
 use Rattle.lpc_model.specs.Text.{hex_word}
 use Rattle.lpc_transcript.proofs.Parts.{is_stop, is_plain}
-use borrow.Author.Tests.{ltb-true, eqb-true}
+use borrow.Author.Tests.{ltb-true}
 
 -- a text of hexadecimal digits
 abbrev pub are_figures : List ℕ → Bool

@@ -1,13 +1,11 @@
 -- The words of an entry's line.
-use Rattle.std.proofs.Common.{◌≡◌, refl, sym, ap, ◌∙◌, ℕ, ◌==◌, ◌<◌, ◌^◌, Bool, true, false, cond, not, ◌&&◌, List, [], ◌∷◌, ◌++◌, append_assoc, append-nil, arith, w32}
-use Rattle.std.specs.Prelude.{codes, decimal, if◌then◌else◌, nat_lt}
+use Rattle.std.proofs.Common.{◌≡◌, refl, sym, ap, ◌∙◌, ℕ, ◌^◌, true, false, List, [], ◌∷◌, ◌++◌, append_assoc, append-nil}
+use Rattle.std.specs.Prelude.{codes, decimal, if◌then◌else◌}
 use Rattle.std.specs.Str.{bytes_eq}
-use Rattle.std.proofs.lemmas.Bool.{and_parts}
 use Rattle.std.proofs.lemmas.Fmt.{decimal_injective}
 use Rattle.hex.specs.Hex.{encode_lower}
-use Rattle.lpc_model.specs.Rows.{every}
-use Rattle.lpc_model.specs.Text.{hex_word, call_text, word_text, name_text, value_text, field_text, fields_text, by_text, status_text, rest_text}
-use Rattle.lpc_model.specs.TextLaws.{Sort, in_decimal, in_hexadecimal, as_bytes, sort_of, is_word, is_of_sort, is_sorted_field, is_regular}
+use Rattle.lpc_model.specs.Text.{hex_word, call_text, word_text, name_text, value_text, fields_text, by_text, rest_text}
+use Rattle.lpc_model.specs.TextLaws.{Sort, in_decimal, in_hexadecimal, as_bytes, is_of_sort}
 use Rattle.lpc_model.specs.declared.entry.CallName.{CallName}
 use Rattle.lpc_model.specs.declared.entry.CallName.TheVariants.{NtCreatePort, NtRequestWaitReplyPort, NtReplyPort, NtReplyWaitReceivePort}
 use Rattle.lpc_model.specs.declared.entry.Entry.{Entry}
@@ -16,11 +14,11 @@ use Rattle.lpc_model.specs.declared.entry.Field.{Field}
 use Rattle.lpc_model.specs.declared.entry.FieldName.{FieldName}
 use Rattle.lpc_model.specs.declared.entry.FieldName.TheVariants.{H, Id, Ctx, Msg, Data}
 use Rattle.lpc_model.specs.declared.entry.Value.{Value}
-use Rattle.lpc_model.specs.declared.entry.Value.TheVariants.{Number, Hex, Kind, Bytes, Read}
+use Rattle.lpc_model.specs.declared.entry.Value.TheVariants.{Number, Hex, Bytes}
 use Rattle.lpc_model.specs.declared.entry.Word.{Word}
 use Rattle.lpc_model.specs.declared.entry.Word.TheVariants as word
-use Rattle.lpc_transcript.proofs.Parts.{is_stop, is_plain, Part, joined, are_plain}
-use Rattle.lpc_transcript.proofs.Figures.{both_true, are_figures, figures_plain, decimal_figures, encode_figures, encode_unique, bytes_from_every, word_figures, word_unique}
+use Rattle.lpc_transcript.proofs.Parts.{is_plain, Part, joined}
+use Rattle.lpc_transcript.proofs.Figures.{figures_plain, decimal_figures, encode_figures, encode_unique, bytes_from_every, word_figures, word_unique}
 use borrow.Author.Tests.{ltb-true}
 
 -- a word behind a space, and one behind `=`

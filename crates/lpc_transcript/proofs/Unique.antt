@@ -1,12 +1,12 @@
 -- Entries of one line with the same text are the same.
-use Rattle.std.proofs.Common.{◌≡◌, refl, sym, ap, ◌∙◌, ℕ, zero, suc, ◌==◌, ◌<◌, ◌^◌, Bool, true, false, cond, ◌&&◌, List, [], ◌∷◌, ◌++◌, append_assoc, drop, arith}
+use Rattle.std.proofs.Common.{◌≡◌, refl, sym, ap, ◌∙◌, ℕ, zero, suc, ◌==◌, ◌<◌, ◌^◌, true, cond, ◌&&◌, List, [], ◌∷◌, ◌++◌, append_assoc, drop, arith}
 use Rattle.std.specs.Prelude.{◌≢◌, codes, decimal}
 use Rattle.std.proofs.lemmas.Bool.{and_parts}
 use Rattle.std.proofs.lemmas.Bool.Decides.{nat_tests}
 use Rattle.std.proofs.lemmas.Fmt.{decimal_injective}
 use Rattle.std.proofs.lemmas.List.{append_cancel_left}
 use Rattle.lpc_model.specs.Rows.{every}
-use Rattle.lpc_model.specs.Text.{hex_word, call_text, word_text, name_text, value_text, rest_text, entry_text, entries_text}
+use Rattle.lpc_model.specs.Text.{hex_word, call_text, name_text, value_text, rest_text, entry_text, entries_text}
 use Rattle.lpc_model.specs.TextLaws.{sort_of, is_word, is_of_sort, is_sorted_field, is_regular, TextIsUnique}
 use Rattle.lpc_base.specs.declared.status.Status.{Status}
 use Rattle.lpc_model.specs.declared.entry.CallName.{CallName}
@@ -16,7 +16,7 @@ use Rattle.lpc_model.specs.declared.entry.Entry.TheVariants.{Answer, Waits, Wake
 use Rattle.lpc_model.specs.declared.entry.Field.{Field}
 use Rattle.lpc_transcript.proofs.Parts.{is_plain, Part, joined, are_plain, joined_unique}
 use Rattle.lpc_transcript.proofs.Figures.{both_true, are_figures, figures_plain, figures_begin, first, decimal_figures, word_figures, word_unique}
-use Rattle.lpc_transcript.proofs.Spelled.{spaced, equated, field_parts, parts, chain, rest_joined, call_unique, call_plain, word_name_unique, word_plain, name_unique, name_plain, value_plain, value_unique}
+use Rattle.lpc_transcript.proofs.Spelled.{field_parts, parts, chain, rest_joined, call_unique, call_plain, word_name_unique, word_plain, name_unique, name_plain, value_plain, value_unique}
 use borrow.Author.Tests.{ltb-true}
 
 fits : (n : ℕ) → is_word n ≡ true → n < 2 ^ 32

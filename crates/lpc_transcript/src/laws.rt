@@ -1,8 +1,12 @@
 // What holds of the text for all entries.
 ghost use Rattle.lpc_model.specs.TextLaws.{TextIsUnique};
 
-/// The text of a line says which entries it had.
+/// A transcript can be read back: two lists of entries of one line that have the same text are the same list.
+///
+/// It holds of regular entries. Their numbers fit their types, no mark for a memory read is left in them, and each
+/// field has a value of the sort that goes with its name: handles and message identifiers are printed in decimal,
+/// contexts in hexadecimal, messages and what was read as bytes. Without that a number of eight digits and a context
+/// could have one text.
 pub fn law_text_is_unique()
     ensures { TextIsUnique }
-{
-}
+{}

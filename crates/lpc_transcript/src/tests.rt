@@ -11,13 +11,7 @@ use std::process::Abort;
 use std::test::Fail;
 
 // The text of one entry of a line.
-fn printed(
-    rt: &impl Abort,
-    alloc: Global,
-    line: u32,
-    entry: Entry,
-    text: &str,
-) -> Result<(), Fail>
+fn printed(rt: &impl Abort, alloc: Global, line: u32, entry: Entry, text: &str) -> Result<(), Fail>
     requires { has_read entry ≡ false }
 {
     let mut entries = Entries::new(alloc)?;
@@ -52,16 +46,34 @@ fn each_kind_of_entry_has_its_form(rt: HostRuntime) -> Result<(), Fail> {
         call: CallName::NtRequestWaitReplyPort,
         fields: one(FieldName::Id, Value::Number(1)),
     };
-    printed(&rt, alloc, 4, waits, "4 24 NtRequestWaitReplyPort wait id=1\n")?;
+    printed(
+        &rt,
+        alloc,
+        4,
+        waits,
+        "4 24 NtRequestWaitReplyPort wait id=1\n",
+    )?;
     let wakes = Entry::Wakes {
         tid: 24,
         call: CallName::NtReplyWaitReceivePort,
         status: status::LPC_REPLY_LOST,
         fields: Fields::none(),
     };
-    printed(&rt, alloc, 13, wakes, "13 *24 NtReplyWaitReceivePort c0000253\n")?;
+    printed(
+        &rt,
+        alloc,
+        13,
+        wakes,
+        "13 *24 NtReplyWaitReceivePort c0000253\n",
+    )?;
     printed(&rt, alloc, 5, Entry::Busy { tid: 24 }, "5 24 busy\n")?;
-    printed(&rt, alloc, 6, Entry::NoThread { tid: 2147483647 }, "6 2147483647 nothread\n")?;
+    printed(
+        &rt,
+        alloc,
+        6,
+        Entry::NoThread { tid: 2147483647 },
+        "6 2147483647 nothread\n",
+    )?;
     let died = Entry::Died {
         tid: 36,
         status: Status(1),
@@ -105,16 +117,76 @@ fn each_kind_of_value_has_its_form(rt: HostRuntime) -> Result<(), Fail> {
     bytes.push(0);
     bytes.push(10);
     bytes.push(255);
-    shown(&rt, alloc, FieldName::Id, Value::Number(0), "9 1 NtReplyPort 00000000 id=0\n")?;
-    shown(&rt, alloc, FieldName::Id, Value::Number(18446744073709551615), "9 1 NtReplyPort 00000000 id=18446744073709551615\n")?;
-    shown(&rt, alloc, FieldName::Ctx, Value::Hex(0x00AB_CDEF), "9 1 NtReplyPort 00000000 ctx=00abcdef\n")?;
-    shown(&rt, alloc, FieldName::Msg, Value::Bytes(bytes), "9 1 NtReplyPort 00000000 msg=000aff\n")?;
-    shown(&rt, alloc, FieldName::Msg, Value::Bytes(ArrayVec::new()), "9 1 NtReplyPort 00000000 msg=\n")?;
-    shown(&rt, alloc, FieldName::H, Value::Kind(ObjectKind::Port), "9 1 NtReplyPort 00000000 h=port\n")?;
-    shown(&rt, alloc, FieldName::H, Value::Kind(ObjectKind::Section), "9 1 NtReplyPort 00000000 h=section\n")?;
-    shown(&rt, alloc, FieldName::H, Value::Kind(ObjectKind::Token), "9 1 NtReplyPort 00000000 h=token\n")?;
-    shown(&rt, alloc, FieldName::H, Value::Kind(ObjectKind::Process), "9 1 NtReplyPort 00000000 h=process\n")?;
-    shown(&rt, alloc, FieldName::H, Value::Kind(ObjectKind::Thread), "9 1 NtReplyPort 00000000 h=thread\n")
+    shown(
+        &rt,
+        alloc,
+        FieldName::Id,
+        Value::Number(0),
+        "9 1 NtReplyPort 00000000 id=0\n",
+    )?;
+    shown(
+        &rt,
+        alloc,
+        FieldName::Id,
+        Value::Number(18446744073709551615),
+        "9 1 NtReplyPort 00000000 id=18446744073709551615\n",
+    )?;
+    shown(
+        &rt,
+        alloc,
+        FieldName::Ctx,
+        Value::Hex(0x00AB_CDEF),
+        "9 1 NtReplyPort 00000000 ctx=00abcdef\n",
+    )?;
+    shown(
+        &rt,
+        alloc,
+        FieldName::Msg,
+        Value::Bytes(bytes),
+        "9 1 NtReplyPort 00000000 msg=000aff\n",
+    )?;
+    shown(
+        &rt,
+        alloc,
+        FieldName::Msg,
+        Value::Bytes(ArrayVec::new()),
+        "9 1 NtReplyPort 00000000 msg=\n",
+    )?;
+    shown(
+        &rt,
+        alloc,
+        FieldName::H,
+        Value::Kind(ObjectKind::Port),
+        "9 1 NtReplyPort 00000000 h=port\n",
+    )?;
+    shown(
+        &rt,
+        alloc,
+        FieldName::H,
+        Value::Kind(ObjectKind::Section),
+        "9 1 NtReplyPort 00000000 h=section\n",
+    )?;
+    shown(
+        &rt,
+        alloc,
+        FieldName::H,
+        Value::Kind(ObjectKind::Token),
+        "9 1 NtReplyPort 00000000 h=token\n",
+    )?;
+    shown(
+        &rt,
+        alloc,
+        FieldName::H,
+        Value::Kind(ObjectKind::Process),
+        "9 1 NtReplyPort 00000000 h=process\n",
+    )?;
+    shown(
+        &rt,
+        alloc,
+        FieldName::H,
+        Value::Kind(ObjectKind::Thread),
+        "9 1 NtReplyPort 00000000 h=thread\n",
+    )
 }
 
 #[test]
@@ -133,7 +205,8 @@ fn entries_follow_in_order_behind_what_stands(rt: HostRuntime) -> Result<(), Fai
     });
     let mut into = Vec::from_slice(alloc, b"4 20 busy\n")?;
     print(alloc, 5, &entries, &mut into)?;
-    let text = b"4 20 busy\n5 20 NtReplyPort 00000000 data=68656c6c6f\n5 24 NtReplyWaitReceivePort wait ctx=00000007 id=2\n";
+    let text =
+        b"4 20 busy\n5 20 NtReplyPort 00000000 data=68656c6c6f\n5 24 NtReplyWaitReceivePort wait ctx=00000007 id=2\n";
     assert_eq!(rt; into.as_slice(), text.as_slice());
     Ok(())
 }

@@ -5,9 +5,11 @@ ghost use Rattle.lpc_model.specs.Text.{rest_text, entry_text, entries_text, end_
 ghost use Rattle.lpc_transcript.specs.Printing.{BeginsWith};
 
 use crate::fields::put_fields;
-use crate::words::{directive_name, put, put_by, put_long_number, put_number, put_status};
-use lpc_base::{OutOfMemory, Status};
-use lpc_model::{CallName, Entries, Entry, Fields};
+use crate::words::{
+    put, put_by, put_death, put_directive, put_ended, put_long_number, put_number, put_state,
+};
+use lpc_base::OutOfMemory;
+use lpc_model::{Entries, Entry};
 use std::alloc::Global;
 
 // What stands behind the line's number, with these bytes where a memory read stands.
@@ -28,8 +30,7 @@ fn put_rest(
             status,
             fields,
         } => {
-            put_by(into, *tid, *call)?;
-            put_status(into, *status)?;
+            put_ended(into, *tid, *call, *status)?;
             put_fields(alloc, into, fields, read)
         }
         Entry::Waits { tid, call, fields } => {
@@ -44,29 +45,13 @@ fn put_rest(
             fields,
         } => {
             put(into, b"*")?;
-            put_by(into, *tid, *call)?;
-            put_status(into, *status)?;
+            put_ended(into, *tid, *call, *status)?;
             put_fields(alloc, into, fields, read)
         }
-        Entry::Busy { tid } => {
-            put_number(into, u64::from(*tid))?;
-            put(into, b" busy")
-        }
-        Entry::NoThread { tid } => {
-            put_number(into, u64::from(*tid))?;
-            put(into, b" nothread")
-        }
-        Entry::Died { tid, status } => {
-            put(into, b"~")?;
-            put_number(into, u64::from(*tid))?;
-            put(into, b" died")?;
-            put_status(into, *status)
-        }
-        Entry::Directive { word, status } => {
-            put(into, b"- ")?;
-            put(into, directive_name(*word))?;
-            put_status(into, *status)
-        }
+        Entry::Busy { tid } => put_state(into, *tid, b" busy"),
+        Entry::NoThread { tid } => put_state(into, *tid, b" nothread"),
+        Entry::Died { tid, status } => put_death(into, *tid, *status),
+        Entry::Directive { word, status } => put_directive(into, *word, *status),
     }
 }
 

@@ -1,5 +1,5 @@
 // The words of a transcript's line, each put behind the text so far.
-ghost use Rattle.std.specs.Prelude.{◌≡◌, ◌≤◌, ◌++◌, length, decimal, OnOk, OnErr};
+ghost use Rattle.std.specs.Prelude.{◌≡◌, ◌≤◌, ◌++◌, length, codes, decimal, OnOk, OnErr};
 ghost use Rattle.hex.specs.Hex.{encode_lower};
 ghost use Rattle.lpc_model.specs.Text.{hex_word, call_text, word_text, kind_text, name_text, by_text, status_text};
 ghost use Rattle.lpc_transcript.specs.Printing.{BeginsWith};
@@ -76,7 +76,7 @@ fn call_name(call: CallName) -> &'static [u8]
     }
 }
 
-pub(crate) fn directive_name(word: Word) -> &'static [u8]
+fn directive_name(word: Word) -> &'static [u8]
     ensures { result.now ≡ word_text word }
 {
     match word {
@@ -121,10 +121,60 @@ pub(crate) fn put_by(into: &mut Vec<u8>, tid: u32, call: CallName) -> Result<(),
 }
 
 #[tactic(auto, using(std::proofs::Common::append_assoc, crate::proofs::Begins::begins_before))]
-pub(crate) fn put_status(into: &mut Vec<u8>, status: Status) -> Result<(), OutOfMemory>
+fn put_status(into: &mut Vec<u8>, status: Status) -> Result<(), OutOfMemory>
     ensures ok { OnOk result (into.new.items ≡ into.old.items ++ status_text status) }
     ensures err { OnErr result (BeginsWith into.new.items into.old.items) }
 {
     put(into, b" ")?;
     put_digits(into, status.0)
+}
+
+// A thread, its call and the status with which the call ended.
+#[tactic(auto, using(std::proofs::Common::append_assoc, crate::proofs::Begins::begins_before))]
+pub(crate) fn put_ended(
+    into: &mut Vec<u8>,
+    tid: u32,
+    call: CallName,
+    status: Status,
+) -> Result<(), OutOfMemory>
+    ensures ok { OnOk result (into.new.items ≡ into.old.items ++ (by_text tid call ++ status_text status)) }
+    ensures err { OnErr result (BeginsWith into.new.items into.old.items) }
+{
+    put_by(into, tid, call)?;
+    put_status(into, status)
+}
+
+// A thread that made no call, and why.
+#[tactic(auto, using(std::proofs::Common::append_assoc, crate::proofs::Begins::begins_before))]
+pub(crate) fn put_state(into: &mut Vec<u8>, tid: u32, state: &[u8]) -> Result<(), OutOfMemory>
+    ensures ok { OnOk result (into.new.items ≡ into.old.items ++ (decimal tid ++ state.now)) }
+    ensures err { OnErr result (BeginsWith into.new.items into.old.items) }
+{
+    put_number(into, u64::from(tid))?;
+    put(into, state)
+}
+
+#[tactic(auto, using(std::proofs::Common::append_assoc, crate::proofs::Begins::begins_before))]
+pub(crate) fn put_death(into: &mut Vec<u8>, tid: u32, status: Status) -> Result<(), OutOfMemory>
+    ensures ok { OnOk result (into.new.items ≡ into.old.items ++ (codes "~" ++ decimal tid ++ codes " died" ++ status_text status)) }
+    ensures err { OnErr result (BeginsWith into.new.items into.old.items) }
+{
+    put(into, b"~")?;
+    put_number(into, u64::from(tid))?;
+    put(into, b" died")?;
+    put_status(into, status)
+}
+
+#[tactic(auto, using(std::proofs::Common::append_assoc, crate::proofs::Begins::begins_before))]
+pub(crate) fn put_directive(
+    into: &mut Vec<u8>,
+    word: Word,
+    status: Status,
+) -> Result<(), OutOfMemory>
+    ensures ok { OnOk result (into.new.items ≡ into.old.items ++ (codes "- " ++ word_text word ++ status_text status)) }
+    ensures err { OnErr result (BeginsWith into.new.items into.old.items) }
+{
+    put(into, b"- ")?;
+    put(into, directive_name(word))?;
+    put_status(into, status)
 }
