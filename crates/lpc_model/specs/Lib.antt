@@ -14,3 +14,6 @@ pub mod Request
 pub mod Machine
 pub mod Text
 pub mod TextLaws
+pub mod Script
+pub mod Words
+pub mod Grammar

@@ -1,0 +1,114 @@
+-- What a line says, or its first fault. A call or directive is an entry of its table of names and a case of its words.
+use Rattle.std.specs.Prelude.{ℕ, ◌&&◌, nat_lt, nat_le, not, Bool, false, List, [], ◌∷◌, length, find, codes, Option, Some, None, Result, Ok, Err, if◌then◌else◌}
+use Rattle.std.specs.Char.{is_ascii_digit}
+use Rattle.std.specs.List.{list_all}
+use Rattle.std.specs.Option.{option_map, ok_or}
+use Rattle.std.specs.Str.{bytes_eq}
+use Rattle.lpc_base.specs.declared.limits.TheConstants.{LINE_LIMIT}
+use Rattle.lpc_model.specs.declared.entry.CallName.{CallName}
+use Rattle.lpc_model.specs.declared.entry.CallName.TheVariants.{NtCreatePort, NtRequestWaitReplyPort, NtReplyPort, NtReplyWaitReceivePort}
+use Rattle.lpc_model.specs.declared.entry.Word.{Word}
+use Rattle.lpc_model.specs.declared.entry.Word.TheVariants.{Boot, Thread}
+use Rattle.lpc_model.specs.declared.fault.LineFault.{LineFault}
+use Rattle.lpc_model.specs.declared.fault.LineFault.TheVariants as fault
+use Rattle.lpc_model.specs.Lines.{ScriptCall, create_port, request_wait_reply_port, reply_port, reply_wait_receive_port, ScriptLine, boot, thread, run}
+use Rattle.lpc_model.specs.Words.{◌>>=◌, fault_if, words, begins, number_word, id_word, is_id, message_word}
+
+-- what stands beside a name in a table
+abbrev pub named : {A : Type 0} → List (List ℕ × A) → List ℕ → Option A
+named table word = option_map (λ entry. entry.1) (find (λ entry. bytes_eq word entry.0) table)
+
+-- the calls by their names
+abbrev pub call_names : List (List ℕ × CallName)
+call_names =
+    (codes "NtCreatePort", NtCreatePort)
+    ∷ (codes "NtRequestWaitReplyPort", NtRequestWaitReplyPort)
+    ∷ (codes "NtReplyPort", NtReplyPort)
+    ∷ (codes "NtReplyWaitReceivePort", NtReplyWaitReceivePort)
+    ∷ []
+
+-- the directives by their words
+abbrev pub directive_names : List (List ℕ × Word)
+directive_names = (codes "boot", Boot) ∷ (codes "thread", Thread) ∷ []
+
+-- the one word that may stand in a place
+abbrev pub fixed_word : List ℕ → List ℕ → Result Unit LineFault
+fixed_word text word = fault_if (not (bytes_eq word text)) fault.Word
+
+-- a call by the words behind its name
+abbrev pub call_words : CallName → List (List ℕ) → Result ScriptCall LineFault
+call_words NtCreatePort (name ∷ []) = do
+  _ ← fixed_word (codes "-") name
+  Ok create_port
+call_words NtRequestWaitReplyPort (handle ∷ message ∷ []) = do
+  h ← number_word handle
+  bytes ← message_word message
+  Ok (request_wait_reply_port h bytes)
+call_words NtReplyPort (handle ∷ message ∷ []) = do
+  h ← number_word handle
+  bytes ← message_word message
+  Ok (reply_port h bytes)
+call_words NtReplyWaitReceivePort (handle ∷ []) = do
+  h ← number_word handle
+  Ok (reply_wait_receive_port h)
+call_words name others = Err fault.Count
+
+-- a directive by the words behind it
+abbrev pub directive_words : Word → List (List ℕ) → Result ScriptLine LineFault
+directive_words Boot (process ∷ first ∷ []) = do
+  pid ← id_word process
+  tid ← id_word first
+  Ok (boot pid tid)
+directive_words Thread (further ∷ process ∷ []) = do
+  tid ← id_word further
+  pid ← id_word process
+  Ok (thread tid pid)
+directive_words word others = Err fault.Count
+
+-- the call of a thread: its name, and the words behind it
+abbrev pub named_call : List (List ℕ) → Result ScriptCall LineFault
+named_call [] = Err fault.Count
+named_call (word ∷ others) = do
+  name ← ok_or (named call_names word) fault.Call
+  call_words name others
+
+-- a first word that begins with a digit is the number of a thread
+abbrev pub starts_call : List ℕ → Bool
+starts_call [] = false
+starts_call (b ∷ bs) = is_ascii_digit b
+
+-- a line by its words
+unfoldable pub line_words : List ℕ → List (List ℕ) → Result ScriptLine LineFault
+line_words front others =
+    if starts_call front
+    then (do
+      tid ← id_word front
+      call ← named_call others
+      Ok (run tid call))
+    else (do
+      word ← ok_or (named directive_names front) fault.Word
+      directive_words word others)
+
+abbrev pub words_line : List (List ℕ) → Result (Option ScriptLine) LineFault
+words_line [] = Ok None
+words_line (front ∷ others) = do
+  line ← line_words front others
+  Ok (Some line)
+
+-- a character that may stand in a line
+abbrev pub is_printable : ℕ → Bool
+is_printable b = nat_le 32 b && nat_le b 126
+
+-- What a line says, none where it is a comment or has no word, or its first fault.
+unfoldable pub read_line : List ℕ → Result (Option ScriptLine) LineFault
+read_line line =
+    if nat_lt LINE_LIMIT (length line) then Err fault.Long
+    else (if begins (codes "#") line then Ok None
+    else (if not (list_all is_printable line) then Err fault.Byte
+    else words_line (words line)))
+
+-- the numbers of processes and threads are from 1 to 2147483647
+abbrev pub has_ids : ScriptLine → Bool
+has_ids (boot pid tid) = is_id pid && is_id tid
+has_ids (thread tid pid) = is_id tid && is_id pid
+has_ids (run tid call) = is_id tid

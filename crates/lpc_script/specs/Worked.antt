@@ -1,0 +1,37 @@
+-- Lines that were worked by hand, beside what they say or their first fault.
+use Rattle.std.specs.Prelude.{◌≡◌, ◌<◌, ℕ, List, length, [], ◌∷◌, ◌++◌, codes, Some, None, Ok, Err}
+use Rattle.lpc_base.specs.declared.limits.TheConstants.{LINE_LIMIT}
+use Rattle.lpc_model.specs.declared.fault.LineFault.TheVariants as fault
+use Rattle.lpc_model.specs.Lines.{boot, thread, run, create_port, request_wait_reply_port, reply_port, reply_wait_receive_port}
+use Rattle.lpc_model.specs.Grammar.{read_line}
+
+pub record WorkedLines : Type 0 where
+  -- a line of each form
+  pub boot_of_a_process : read_line (codes "boot 20 24") ≡ Ok (Some (boot 20 24))
+  pub thread_in_hexadecimal : read_line (codes "  thread   0x1C 0x0014 ") ≡ Ok (Some (thread 28 20))
+  pub unnamed_port : read_line (codes "24 NtCreatePort -") ≡ Ok (Some (run 24 create_port))
+  pub receive : read_line (codes "28 NtReplyWaitReceivePort 4294967295") ≡ Ok (Some (run 28 (reply_wait_receive_port 4294967295)))
+  pub raw_message : read_line (codes "24 NtReplyPort 4 m:41aAFf") ≡ Ok (Some (run 24 (reply_port 4 (65 ∷ 170 ∷ 255 ∷ []))))
+  pub data_message : read_line (codes "24 NtRequestWaitReplyPort 4 d:4142")
+      ≡ Ok (Some (run 24 (request_wait_reply_port 4
+        (2 ∷ 0 ∷ 26 ∷ 0 ∷ 0 ∷ 0 ∷ 0 ∷ 0 ∷ 0 ∷ 0 ∷ 0 ∷ 0 ∷ 0 ∷ 0 ∷ 0 ∷ 0 ∷ 0 ∷ 0 ∷ 0 ∷ 0 ∷ 0 ∷ 0 ∷ 0 ∷ 0 ∷ 65 ∷ 66 ∷ []))))
+  pub reply_message : read_line (codes "28 NtReplyPort 4 r:20.0x18.1:43")
+      ≡ Ok (Some (run 28 (reply_port 4
+        (1 ∷ 0 ∷ 25 ∷ 0 ∷ 0 ∷ 0 ∷ 0 ∷ 0 ∷ 20 ∷ 0 ∷ 0 ∷ 0 ∷ 24 ∷ 0 ∷ 0 ∷ 0 ∷ 1 ∷ 0 ∷ 0 ∷ 0 ∷ 0 ∷ 0 ∷ 0 ∷ 0 ∷ 67 ∷ []))))
+  -- lines that say nothing
+  pub comment : read_line (codes "# reboot 1 2") ≡ Ok None
+  pub comment_with_a_bad_byte : read_line (35 ∷ 200 ∷ []) ≡ Ok None
+  pub blank_line : read_line (codes "   ") ≡ Ok None
+  -- the first fault of each kind
+  pub tabulator_is_no_space : read_line (codes "boot" ++ 9 ∷ codes "20 24") ≡ Err fault.Byte
+  pub blanks_and_a_bad_byte : read_line (32 ∷ 127 ∷ []) ≡ Err fault.Byte
+  pub no_directive : read_line (codes "reboot 1 2") ≡ Err fault.Word
+  pub no_call : read_line (codes "24 NtFoo") ≡ Err fault.Call
+  pub too_few_words : read_line (codes "24 NtReplyPort") ≡ Err fault.Count
+  pub thread_alone : read_line (codes "24") ≡ Err fault.Count
+  pub leading_zero_of_a_handle : read_line (codes "24 NtReplyPort 08 d:") ≡ Err fault.Number
+  pub leading_zero_of_a_process : read_line (codes "boot 020 24") ≡ Err fault.Number
+  pub thread_of_no_range : read_line (codes "2147483648 NtFoo") ≡ Err fault.Number
+  pub odd_number_of_digits : read_line (codes "24 NtReplyPort 4 d:4") ≡ Err fault.Hex
+  pub no_form_of_message : read_line (codes "24 NtReplyPort 4 x:41") ≡ Err fault.Message
+  pub byte_past_the_limit : (line : List ℕ) → LINE_LIMIT < length line → read_line line ≡ Err fault.Long
