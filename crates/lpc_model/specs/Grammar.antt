@@ -35,35 +35,48 @@ directive_names = (codes "boot", Boot) ∷ (codes "thread", Thread) ∷ []
 abbrev pub fixed_word : List ℕ → List ℕ → Result Unit LineFault
 fixed_word text word = fault_if (not (bytes_eq word text)) fault.Word
 
+-- exactly one word, and exactly two
+unfoldable pub one_word : List (List ℕ) → Result (List ℕ) LineFault
+one_word (a ∷ []) = Ok a
+one_word others = Err fault.Count
+
+unfoldable pub two_words : List (List ℕ) → Result (List ℕ × List ℕ) LineFault
+two_words (a ∷ b ∷ []) = Ok (a, b)
+two_words others = Err fault.Count
+
+-- a handle and a message
+abbrev pub message_call : (ℕ → List ℕ → ScriptCall) → List (List ℕ) → Result ScriptCall LineFault
+message_call call others = do
+  two ← two_words others
+  handle ← number_word two.0
+  message ← message_word two.1
+  Ok (call handle message)
+
 -- a call by the words behind its name
 abbrev pub call_words : CallName → List (List ℕ) → Result ScriptCall LineFault
-call_words NtCreatePort (name ∷ []) = do
+call_words NtCreatePort others = do
+  name ← one_word others
   _ ← fixed_word (codes "-") name
   Ok create_port
-call_words NtRequestWaitReplyPort (handle ∷ message ∷ []) = do
-  h ← number_word handle
-  bytes ← message_word message
-  Ok (request_wait_reply_port h bytes)
-call_words NtReplyPort (handle ∷ message ∷ []) = do
-  h ← number_word handle
-  bytes ← message_word message
-  Ok (reply_port h bytes)
-call_words NtReplyWaitReceivePort (handle ∷ []) = do
-  h ← number_word handle
-  Ok (reply_wait_receive_port h)
-call_words name others = Err fault.Count
+call_words NtRequestWaitReplyPort others = message_call request_wait_reply_port others
+call_words NtReplyPort others = message_call reply_port others
+call_words NtReplyWaitReceivePort others = do
+  word ← one_word others
+  handle ← number_word word
+  Ok (reply_wait_receive_port handle)
 
 -- a directive by the words behind it
 abbrev pub directive_words : Word → List (List ℕ) → Result ScriptLine LineFault
-directive_words Boot (process ∷ first ∷ []) = do
-  pid ← id_word process
-  tid ← id_word first
+directive_words Boot others = do
+  two ← two_words others
+  pid ← id_word two.0
+  tid ← id_word two.1
   Ok (boot pid tid)
-directive_words Thread (further ∷ process ∷ []) = do
-  tid ← id_word further
-  pid ← id_word process
+directive_words Thread others = do
+  two ← two_words others
+  tid ← id_word two.0
+  pid ← id_word two.1
   Ok (thread tid pid)
-directive_words word others = Err fault.Count
 
 -- the call of a thread: its name, and the words behind it
 abbrev pub named_call : List (List ℕ) → Result ScriptCall LineFault

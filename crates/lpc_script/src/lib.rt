@@ -2,6 +2,10 @@
 #![tactic(auto)]
 
 mod laws;
+mod lines;
+mod number;
+mod words;
 
 pub use laws::law_worked_lines;
+pub use lines::next_line;
 pub use lpc_model::LineFault;
