@@ -1,7 +1,8 @@
 -- The words of a line, and the forms that one word may have.
-use Rattle.std.specs.Prelude.{ℕ, ◌+◌, ◌==◌, ◌||◌, ◌&&◌, nat_eq, nat_lt, nat_le, not, Bool, List, [], ◌∷◌, ◌++◌, length, drop, filter, codes, Result, Ok, Err, if◌then◌else◌}
+use Rattle.std.specs.Prelude.{ℕ, ◌+◌, ◌==◌, ◌||◌, ◌&&◌, nat_eq, nat_lt, nat_le, not, Bool, List, [], ◌∷◌, ◌++◌, length, drop, filter, codes, Option, Some, None, Result, Ok, Err, if◌then◌else◌}
 use Rattle.std.specs.Char.{is_digit}
 use Rattle.std.specs.List.{slice_split, starts_with, list_all, position_or_len, before_first, after_first}
+use Rattle.std.specs.Option.{ok_or}
 use Rattle.std.specs.Str.Parse.{digits_value}
 use Rattle.hex.specs.Hex.{decode_of}
 use Rattle.hex.specs.declared.error.FromHexError.{FromHexError}
@@ -82,32 +83,37 @@ made_message client identifier bytes =
     header_bytes (record { data_size = length bytes; message_size = 24 + length bytes; kind = 0; ranges_offset = 0; client = client; message_id = identifier; section_size = 0 })
     ++ bytes
 
--- `d:` has the data behind it
-abbrev pub data_message : List ℕ → Result (List ℕ) LineFault
-data_message digits = do
+-- the message whose data the digits stand for
+abbrev pub hex_message : ClientId → ℕ → List ℕ → Result (List ℕ) LineFault
+hex_message client identifier digits = do
   bytes ← hex_word digits
-  Ok (made_message (record { process = 0; thread = 0 }) 0 bytes)
+  Ok (made_message client identifier bytes)
 
--- the three numbers of a reply, and then its data
-abbrev pub reply_parts : List (List ℕ) → List ℕ → Result (List ℕ) LineFault
-reply_parts (p ∷ t ∷ m ∷ []) digits = do
-  process ← number_word p
-  thread ← number_word t
-  identifier ← number_word m
-  bytes ← hex_word digits
-  Ok (made_message (record { process = process; thread = thread }) identifier bytes)
-reply_parts numbers digits = Err fault.Message
+-- what stands before the first byte c of a text and what behind it, none where it has no such byte
+unfoldable pub cut : ℕ → List ℕ → Option (List ℕ × List ℕ)
+cut c text =
+    if position_or_len (λ b. b == c) text == length text then None
+    else Some (before_first (λ b. b == c) text, after_first (λ b. b == c) text)
 
--- `r:` has P.T.M behind it, which ends at the first colon, and then the data
+-- exactly three parts
+unfoldable pub three_parts : List (List ℕ) → Option (List ℕ × List ℕ × List ℕ)
+three_parts (a ∷ b ∷ c ∷ []) = Some (a, b, c)
+three_parts others = None
+
+-- P.T.M, which ends at the first colon, and then the data
 unfoldable pub reply_message : List ℕ → Result (List ℕ) LineFault
 reply_message text = do
-  _ ← fault_if (position_or_len (λ b. b == 58) text == length text) fault.Message
-  reply_parts (parts 46 (before_first (λ b. b == 58) text)) (after_first (λ b. b == 58) text)
+  two ← ok_or (cut 58 text) fault.Message
+  numbers ← ok_or (three_parts (parts 46 two.0)) fault.Message
+  process ← number_word numbers.0
+  thread ← number_word numbers.1
+  identifier ← number_word numbers.2
+  hex_message (record { process = process; thread = thread }) identifier two.1
 
 -- MSG: `m:` and the whole message, or `d:` or `r:`, where the header is made
 unfoldable pub message_word : List ℕ → Result (List ℕ) LineFault
 message_word word =
     if begins (codes "m:") word then hex_word (drop 2 word)
-    else (if begins (codes "d:") word then data_message (drop 2 word)
+    else (if begins (codes "d:") word then hex_message (record { process = 0; thread = 0 }) 0 (drop 2 word)
     else (if begins (codes "r:") word then reply_message (drop 2 word)
     else Err fault.Message))

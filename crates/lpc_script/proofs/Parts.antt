@@ -1,12 +1,13 @@
 -- The first of the parts between bytes, and the first of the words.
-use Rattle.std.proofs.Common.{◌≡◌, ℕ, zero, suc, ◌+◌, ◌-◌, ◌<◌, Bool, true, false, List, [], ◌∷◌, length, take, drop, get_or, refl, ◌∙◌, arith, add-one, length-drop}
-use Rattle.std.specs.Prelude.{filter, not}
-use Rattle.std.specs.List.{onto_first}
-use Rattle.std.proofs.lemmas.Bool.{ne_eqb}
+use Rattle.std.proofs.Common.{◌≡◌, ℕ, zero, suc, ◌+◌, ◌-◌, ◌<◌, ◌≤◌, Bool, true, false, List, [], ◌∷◌, length, take, drop, get_or, cond, eqb, refl, ◌∙◌, arith, add-one, length-drop}
+use Rattle.std.specs.Prelude.{filter, not, Some, None}
+use Rattle.std.specs.List.{onto_first, position_or_len}
+use Rattle.std.proofs.lemmas.Bool.{ne_eqb, eq-eqb}
 use Rattle.std.proofs.lemmas.Bool.Decides.{nat_tests}
 use Rattle.std.proofs.lemmas.List.{take_all}
+use Rattle.std.proofs.lemmas.List.Sums.{position_or_len_is}
 use Rattle.lpc_model.specs.Script.{script_lines}
-use Rattle.lpc_model.specs.Words.{parts, words, is_empty}
+use Rattle.lpc_model.specs.Words.{parts, words, is_empty, cut, three_parts}
 
 lines_at : (bs : List ℕ) (i : ℕ) → i < length bs → get_or bs i 0 ≡ 10 → ((k : ℕ) → k < i → get_or bs k 0 ≡ 10 → ⊥) → script_lines bs ≡ take i bs ∷ script_lines (drop (suc i) bs)
 unfolding script_lines
@@ -91,3 +92,45 @@ word_here bs w rest h front first = word_first bs w (parts 32 rest) h front firs
 pub word_alone : (bs : List ℕ) → 0 < length bs → (get_or bs 0 0 ≡ 32 → ⊥) → parts 32 bs ≡ bs ∷ [] → words bs ≡ bs ∷ words []
 unfolding words
 word_alone bs h front first = word_first bs bs [] h front first
+
+-- there is always a first part
+record FirstPart (ps : List (List ℕ)) : Type 0 where
+  pub first : List ℕ
+  pub others : List (List ℕ)
+  pub is : ps ≡ first ∷ others
+
+first_part : (c : ℕ) (bs : List ℕ) → FirstPart (parts c bs)
+first_part c [] = record { first = []; others = []; is = refl }
+first_part c (b ∷ bs) = first_cond (eqb b c) (parts c bs) b
+  where
+    first_onto : (ps : List (List ℕ)) (b : ℕ) → FirstPart (onto_first b ps)
+    first_onto [] b = record { first = b ∷ []; others = []; is = refl }
+    first_onto (p ∷ ps) b = record { first = b ∷ p; others = ps; is = refl }
+
+    first_cond : (test : Bool) (ps : List (List ℕ)) (b : ℕ) → FirstPart (cond test ([] ∷ ps) (onto_first b ps))
+    first_cond true ps b = record { first = []; others = ps; is = refl }
+    first_cond false ps b = first_onto ps b
+
+-- one part too many
+pub parts_many : (a b d rest : List ℕ) → three_parts (a ∷ b ∷ d ∷ parts 46 rest) ≡ None
+unfolding three_parts
+parts_many a b d rest = rw ((first_part 46 rest).is) refl
+
+position_here : (c : ℕ) (bs : List ℕ) (i : ℕ) → i ≤ length bs → (i < length bs → get_or bs i 0 ≡ c) → ((k : ℕ) → k < i → get_or bs k 0 ≡ c → ⊥) → position_or_len (λ b. eqb b c) bs ≡ i
+position_here c bs i h at none = position_or_len_is (λ b. eqb b c) bs i 0 h (λ k lt. ne_eqb _ _ (none k lt)) (λ lt. eq-eqb _ _ (at lt))
+
+-- the cut before and behind the first byte
+pub cut_here : (c : ℕ) (bs : List ℕ) (i : ℕ) → i < length bs → get_or bs i 0 ≡ c → ((k : ℕ) → k < i → get_or bs k 0 ≡ c → ⊥) → cut c bs ≡ Some (take i bs, take (length bs - (i + 1)) (drop (i + 1) bs))
+unfolding cut
+cut_here c bs i h at none =
+    let is = position_here c bs i (omega arith) (λ lt. at) none in
+    let inside : eqb i (length bs) ≡ false = ne_eqb _ _ (λ e. omega arith) in
+    rw (is, inside, rest_is, add-one) refl
+
+-- no byte, no cut
+pub cut_end : (c : ℕ) (bs : List ℕ) → ((k : ℕ) → k < length bs → get_or bs k 0 ≡ c → ⊥) → cut c bs ≡ None
+unfolding cut
+cut_end c bs none =
+    let is = position_here c bs (length bs) (omega arith) (λ lt. absurd (omega arith)) none in
+    let end : eqb (length bs) (length bs) ≡ true = eq-eqb _ _ refl in
+    rw (is, end) refl

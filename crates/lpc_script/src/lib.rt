@@ -4,8 +4,11 @@
 mod laws;
 mod lines;
 mod number;
+mod read;
+mod scratch;
 mod words;
 
 pub use laws::law_worked_lines;
 pub use lines::next_line;
 pub use lpc_model::LineFault;
+pub use scratch::Scratch;

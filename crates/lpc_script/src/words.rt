@@ -1,6 +1,8 @@
 // The words of a line, one after the other, and the parts of a word.
 ghost use Rattle.std.specs.Prelude.{◌≡◌, ◌≢◌, ◌<◌, ◌≤◌, [], ◌∷◌, length, slice_index, MatchOption, IfSome, IfOk};
+ghost use Rattle.std.specs.Option.{option_map};
 ghost use Rattle.lpc_model.specs.Words.{parts, words};
+ghost use Rattle.lpc_model.specs.Words as spec;
 ghost use Rattle.lpc_model.specs.Grammar as grammar;
 ghost use Rattle.lpc_script.specs.Gives.{Gives};
 
@@ -11,6 +13,7 @@ pub fn cut(text: &[u8], by: u8) -> Option<(&[u8], &[u8])>
     ensures parts { MatchOption result
         (parts by text.now ≡ text.now ∷ [])
         (λ p. parts by text.now ≡ p.0.now ∷ parts by p.1.now) }
+    ensures first { option_map (λ p. (p.0.now, p.1.now)) result ≡ spec.cut by text.now }
     ensures front { IfSome result (λ p. length p.0.now ≤ length text.now) }
     ensures back { IfSome result (λ p. length p.1.now ≤ length text.now) }
 {
@@ -77,4 +80,17 @@ pub fn two_words(text: &[u8]) -> Result<(&[u8], &[u8]), LineFault>
         return Err(LineFault::Count);
     }
     Ok((first, second))
+}
+
+/// The parts between the dots of a text that has exactly two.
+#[tactic(auto, unfolding(lpc_model::specs::Words::three_parts))]
+pub fn three_parts(text: &[u8]) -> Option<(&[u8], &[u8], &[u8])>
+    ensures { option_map (λ three. (three.0.now, three.1.now, three.2.now)) result ≡ spec.three_parts (parts 46 text.now) }
+{
+    let (first, rest) = cut(text, b'.')?;
+    let (second, third) = cut(rest, b'.')?;
+    if let Some((_, _)) = cut(third, b'.') {
+        return None;
+    }
+    Some((first, second, third))
 }

@@ -1,0 +1,46 @@
+-- Bytes that digits stand for, behind a front.
+use Rattle.std.proofs.Common.{◌≡◌, ℕ, ◌+◌, ◌*◌, ◌/◌, ◌%◌, List, ◌++◌, length, take, cond, eqb, refl, sym, ◌∙◌, arith, append_assoc, length-append}
+use Rattle.std.specs.Prelude.{Bool, true, false, Result, Ok, Err}
+use Rattle.std.proofs.Math.Seq.{take-append_seam}
+use Rattle.hex.specs.Hex.{decode_pairs}
+use Rattle.hex.specs.declared.error.FromHexError.{FromHexError}
+use Rattle.hex.specs.declared.error.FromHexError.TheVariants.{OddLength}
+use Rattle.hex.proofs.HexLemmas.{decode_pairs-ok}
+use Rattle.lpc_message.specs.Layout.{header_bytes}
+use Rattle.lpc_message.specs.declared.message.ClientId.{ClientId}
+use Rattle.lpc_model.specs.declared.fault.LineFault.{LineFault}
+use Rattle.lpc_model.specs.Words.{hex_word, hex_or_fault, hex_message, made_message, ◌>>=◌}
+use Rattle.lpc_script.specs.Gives.{behind}
+
+pairs_same : (read : Result (List ℕ) FromHexError) (bytes : List ℕ) → hex_or_fault read ≡ Ok bytes → read ≡ Ok bytes
+pairs_same (Ok found) bytes h = cc h
+pairs_same (Err e) bytes h = cc h
+
+pairs_length : (digits bytes : List ℕ) (odd : Bool) → hex_or_fault (cond odd (Err OddLength) (decode_pairs 0 digits)) ≡ Ok bytes → length digits ≡ 2 * length bytes
+pairs_length digits bytes true h = cc h
+pairs_length digits bytes false h = (decode_pairs-ok 0 digits bytes (pairs_same _ _ h)).1
+
+hex_length : (digits bytes : List ℕ) → hex_word digits ≡ Ok bytes → length bytes ≡ length digits / 2
+unfolding hex_word
+hex_length digits bytes h = let twice = pairs_length digits bytes (eqb (length digits % 2) 1) h in omega arith
+
+-- what lies in the room is the front and the bytes
+pub filled : (front digits head bytes rest : List ℕ) → hex_word digits ≡ Ok bytes → head ≡ front → behind front (hex_word digits) ≡ Ok (take (length front + length digits / 2) (head ++ (bytes ++ rest)))
+filled front digits head bytes rest read is =
+    let long = hex_length digits bytes read in
+    let whole : length front + length digits / 2 ≡ length (front ++ bytes) = rw length-append (omega arith) in
+    rw (read, is, whole, ← append_assoc, take-append_seam) refl
+
+made_at : (client : ClientId) (id : ℕ) (front digits : List ℕ) (n : ℕ) (read : Result (List ℕ) LineFault) → hex_word digits ≡ read → n ≡ length digits / 2
+    → front ≡ header_bytes (record { data_size = n; message_size = 24 + n; kind = 0; ranges_offset = 0; client = client; message_id = id; section_size = 0 })
+    → behind front read ≡ (read >>= λ bytes. Ok (made_message client id bytes))
+made_at client id front digits n (Ok bytes) found size is =
+    let long : n ≡ length bytes = size ∙ sym (hex_length digits bytes found) in
+    rw (is, long) refl
+made_at client id front digits n (Err e) found size is = refl
+
+-- with the header of its size in front it is the message
+pub made_is : (client : ClientId) (id : ℕ) (front digits : List ℕ) (n : ℕ) → n ≡ length digits / 2
+    → front ≡ header_bytes (record { data_size = n; message_size = 24 + n; kind = 0; ranges_offset = 0; client = client; message_id = id; section_size = 0 })
+    → behind front (hex_word digits) ≡ hex_message client id digits
+made_is client id front digits n size is = made_at client id front digits n (hex_word digits) refl size is

@@ -1,0 +1,137 @@
+// The bytes that hexadecimal words stand for, and the messages that they make.
+ghost use Rattle.std.specs.Prelude.{◌≡◌, ◌≤◌, ◌+◌, ◌/◌, length, take, IfOk};
+ghost use Rattle.lpc_base.specs.declared.limits.TheConstants.{LINE_LIMIT};
+ghost use Rattle.lpc_model.specs.Words.{hex_word, hex_message, reply_message, message_word};
+ghost use Rattle.lpc_script.specs.Gives.{Gives, behind};
+
+use crate::number::number;
+use crate::words::{cut, three_parts};
+use hex::decode_to_slice;
+use lpc_base::OutOfMemory;
+use lpc_base::limits::LINE_LIMIT;
+use lpc_message::{ClientId, Header, write_header};
+use lpc_model::LineFault;
+use std::alloc::Global;
+use std::marker::Model;
+
+/// Room for the bytes that the hexadecimal words of a line stand for.
+///
+/// It is made once and lent to each line in turn.
+#[derive(Drop)]
+pub struct Scratch {
+    room: Vec<u8>,
+}
+
+impl Model for Scratch {
+    ghost use Rattle.std.specs.Prelude.{◌≡◌, ℕ, List, length};
+    ghost use Rattle.lpc_base.specs.declared.limits.TheConstants.{LINE_LIMIT};
+
+    ghost Value = { List ℕ };
+
+    ghost view = { λ s. s.room.items };
+
+    ghost invariant = { λ s. length s.room.items ≡ LINE_LIMIT };
+}
+
+impl Scratch {
+    /// Room for 16,384 bytes.
+    pub fn new(alloc: Global) -> Result<Scratch, OutOfMemory> {
+        let Ok(room) = vec![in alloc; 0u8; LINE_LIMIT] else {
+            return Err(OutOfMemory);
+        };
+        Ok(Scratch { room })
+    }
+
+    /// The message that a word spells.
+    #[tactic(auto, unfolding(lpc_model::specs::Words::message_word))]
+    pub fn message(&mut self, word: &[u8]) -> Result<&[u8], LineFault>
+        requires { length word.now ≤ LINE_LIMIT }
+        ensures { Gives (λ bytes. bytes.now) result (message_word word.now) }
+    {
+        if word.starts_with(b"m:") {
+            return self.bytes(&[], &word[2..]);
+        }
+        if word.starts_with(b"d:") {
+            let none = ClientId {
+                process: 0,
+                thread: 0,
+            };
+            return self.made(none, 0, &word[2..]);
+        }
+        if word.starts_with(b"r:") {
+            return self.reply(&word[2..]);
+        }
+        Err(LineFault::Message)
+    }
+
+    /// A front, and behind it the bytes that digits stand for.
+    fn bytes(&mut self, front: &[u8], digits: &[u8]) -> Result<&[u8], LineFault>
+        requires front { length front.now ≤ 24 }
+        requires digits { length digits.now ≤ LINE_LIMIT }
+        ensures { Gives (λ bytes. bytes.now) result (behind front.now (hex_word digits.now)) }
+    {
+        let end = fill(&mut self.room, front, digits)?;
+        Ok(&self.room[..end])
+    }
+
+    /// The message whose data digits stand for, with its header made.
+    fn made(&mut self, client: ClientId, message_id: u32, digits: &[u8]) -> Result<&[u8], LineFault>
+        requires { length digits.now ≤ LINE_LIMIT }
+        ensures { Gives (λ bytes. bytes.now) result (hex_message client message_id digits.now) }
+    {
+        let size = (digits.len() / 2) as u16;
+        let mut front = [0u8; 24];
+        write_header(
+            &mut front,
+            &Header {
+                data_size: size,
+                message_size: 24 + size,
+                kind: 0,
+                ranges_offset: 0,
+                client,
+                message_id,
+                section_size: 0,
+            },
+        );
+        self.bytes(&front, digits)
+    }
+
+    /// The message that replies to the client and the identifier in front of the first colon.
+    #[tactic(auto, unfolding(lpc_model::specs::Words::reply_message))]
+    fn reply(&mut self, text: &[u8]) -> Result<&[u8], LineFault>
+        requires { length text.now ≤ LINE_LIMIT }
+        ensures { Gives (λ bytes. bytes.now) result (reply_message text.now) }
+    {
+        let (numbers, digits) = cut(text, b':').ok_or(LineFault::Message)?;
+        let (process, thread, id) = three_parts(numbers).ok_or(LineFault::Message)?;
+        let process = number(process)?;
+        let thread = number(thread)?;
+        let id = number(id)?;
+        self.made(ClientId { process, thread }, id, digits)
+    }
+}
+
+/// Writes a front over room, and behind it the bytes that digits stand for; how many bytes there are then.
+fn fill(room: &mut [u8], front: &[u8], digits: &[u8]) -> Result<usize, LineFault>
+    requires { length front.now + length digits.now / 2 ≤ length room.old }
+    ensures value { Gives (λ end. take end room.new) result (behind front.now (hex_word digits.now)) }
+    ensures end { IfOk result (λ end. end ≤ length room.old) }
+{
+    let (head, tail) = room.split_at_mut(front.len());
+    let size = digits.len() / 2;
+    decode(digits, &mut tail[..size])?;
+    head.copy_from_slice(front);
+    Ok(front.len() + size)
+}
+
+/// Writes the bytes that digits stand for over room of half their number.
+#[tactic(auto, unfolding(lpc_model::specs::Words::hex_word))]
+fn decode(digits: &[u8], room: &mut [u8]) -> Result<(), LineFault>
+    requires { length room.old ≡ length digits.now / 2 }
+    ensures { Gives (λ _. room.new) result (hex_word digits.now) }
+{
+    match decode_to_slice(digits, room) {
+        Ok(()) => Ok(()),
+        Err(_) => Err(LineFault::Hex),
+    }
+}
