@@ -45,12 +45,12 @@ two_words (a ∷ b ∷ []) = Ok (a, b)
 two_words others = Err fault.Count
 
 -- a handle and a message
-abbrev pub message_call : (ℕ → List ℕ → ScriptCall) → List (List ℕ) → Result ScriptCall LineFault
-message_call call others = do
+abbrev pub handle_and_message : List (List ℕ) → Result (ℕ × List ℕ) LineFault
+handle_and_message others = do
   two ← two_words others
   handle ← number_word two.0
   message ← message_word two.1
-  Ok (call handle message)
+  Ok (handle, message)
 
 -- a call by the words behind its name
 abbrev pub call_words : CallName → List (List ℕ) → Result ScriptCall LineFault
@@ -58,8 +58,12 @@ call_words NtCreatePort others = do
   name ← one_word others
   _ ← fixed_word (codes "-") name
   Ok create_port
-call_words NtRequestWaitReplyPort others = message_call request_wait_reply_port others
-call_words NtReplyPort others = message_call reply_port others
+call_words NtRequestWaitReplyPort others = do
+  request ← handle_and_message others
+  Ok (request_wait_reply_port request.0 request.1)
+call_words NtReplyPort others = do
+  reply ← handle_and_message others
+  Ok (reply_port reply.0 reply.1)
 call_words NtReplyWaitReceivePort others = do
   word ← one_word others
   handle ← number_word word
@@ -85,27 +89,29 @@ named_call (word ∷ others) = do
   name ← ok_or (named call_names word) fault.Call
   call_words name others
 
+-- the number of a thread, and its call
+abbrev pub call_line : List ℕ → List (List ℕ) → Result ScriptLine LineFault
+call_line front others = do
+  tid ← id_word front
+  call ← named_call others
+  Ok (run tid call)
+
+-- a directive's word, and the words behind it
+abbrev pub directive_line : List ℕ → List (List ℕ) → Result ScriptLine LineFault
+directive_line front others = do
+  word ← ok_or (named directive_names front) fault.Word
+  directive_words word others
+
 -- a first word that begins with a digit is the number of a thread
 abbrev pub starts_call : List ℕ → Bool
 starts_call [] = false
 starts_call (b ∷ bs) = is_ascii_digit b
 
--- a line by its words
-unfoldable pub line_words : List ℕ → List (List ℕ) → Result ScriptLine LineFault
-line_words front others =
-    if starts_call front
-    then (do
-      tid ← id_word front
-      call ← named_call others
-      Ok (run tid call))
-    else (do
-      word ← ok_or (named directive_names front) fault.Word
-      directive_words word others)
-
+-- a line by its words, none where it has no word
 abbrev pub words_line : List (List ℕ) → Result (Option ScriptLine) LineFault
 words_line [] = Ok None
 words_line (front ∷ others) = do
-  line ← line_words front others
+  line ← (if starts_call front then call_line front others else directive_line front others)
   Ok (Some line)
 
 -- a character that may stand in a line

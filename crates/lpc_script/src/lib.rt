@@ -11,4 +11,5 @@ mod words;
 pub use laws::law_worked_lines;
 pub use lines::next_line;
 pub use lpc_model::LineFault;
+pub use read::read_line;
 pub use scratch::Scratch;

@@ -1,10 +1,12 @@
 // What a line says. A call or directive is an entry of its names and a case of its words.
-ghost use Rattle.std.specs.Prelude.{◌≡◌, ◌≤◌, ◌&&◌, length, IfOk, IfSome, IsTrue};
+ghost use Rattle.std.specs.Prelude.{◌≡◌, ◌≤◌, length, IfOk, IfSome, IsTrue};
+ghost use Rattle.std.specs.List.{list_all};
 ghost use Rattle.std.specs.Option.{option_map};
 ghost use Rattle.lpc_base.specs.declared.limits.TheConstants.{LINE_LIMIT};
+ghost use Rattle.lpc_model.specs.declared.entry.CallName.TheVariants.{NtCreatePort};
 ghost use Rattle.lpc_model.specs.Lines.{call_of, line_of};
-ghost use Rattle.lpc_model.specs.Words.{words, is_id};
-ghost use Rattle.lpc_model.specs.Grammar.{named, call_names, directive_names, fixed_word, call_words, directive_words, named_call, words_line, line_words, is_printable, has_ids};
+ghost use Rattle.lpc_model.specs.Words.{words};
+ghost use Rattle.lpc_model.specs.Grammar.{named, call_names, directive_names, call_words, directive_words, has_ids};
 ghost use Rattle.lpc_model.specs.Grammar as grammar;
 ghost use Rattle.lpc_script.specs.Gives.{Gives};
 
@@ -17,13 +19,19 @@ use lpc_model::{Call, CallName, Line, LineFault, Word};
 fn call_name(word: &[u8]) -> Option<CallName>
     ensures { result ≡ named call_names word.now }
 {
-    match word {
-        b"NtCreatePort" => Some(CallName::NtCreatePort),
-        b"NtRequestWaitReplyPort" => Some(CallName::NtRequestWaitReplyPort),
-        b"NtReplyPort" => Some(CallName::NtReplyPort),
-        b"NtReplyWaitReceivePort" => Some(CallName::NtReplyWaitReceivePort),
-        _ => None,
+    if word == b"NtCreatePort".as_slice() {
+        return Some(CallName::NtCreatePort);
     }
+    if word == b"NtRequestWaitReplyPort".as_slice() {
+        return Some(CallName::NtRequestWaitReplyPort);
+    }
+    if word == b"NtReplyPort".as_slice() {
+        return Some(CallName::NtReplyPort);
+    }
+    if word == b"NtReplyWaitReceivePort".as_slice() {
+        return Some(CallName::NtReplyWaitReceivePort);
+    }
+    None
 }
 
 fn directive_name(word: &[u8]) -> Option<Word>
@@ -36,4 +44,140 @@ fn directive_name(word: &[u8]) -> Option<Word>
         return Some(Word::Thread);
     }
     None
+}
+
+fn handle_and_message<'a>(text: &[u8], scratch: &'a mut Scratch) -> Result<(u32, &'a [u8]), LineFault>
+    requires { length text.now ≤ LINE_LIMIT }
+    ensures { Gives (λ two. (two.0, two.1.now)) result (grammar.handle_and_message (words text.now)) }
+{
+    let (handle, message) = two_words(text)?;
+    let handle = number(handle)?;
+    let message = scratch.message(message)?;
+    Ok((handle, message))
+}
+
+fn create_port(text: &[u8]) -> Result<Call<'static>, LineFault>
+    ensures { Gives call_of result (call_words NtCreatePort (words text.now)) }
+{
+    if one_word(text)? != b"-".as_slice() {
+        return Err(LineFault::Word);
+    }
+    Ok(Call::CreatePort)
+}
+
+/// A call by the words behind its name.
+fn call<'a>(name: CallName, text: &[u8], scratch: &'a mut Scratch) -> Result<Call<'a>, LineFault>
+    requires { length text.now ≤ LINE_LIMIT }
+    ensures { Gives call_of result (call_words name (words text.now)) }
+{
+    match name {
+        CallName::NtCreatePort => create_port(text),
+        CallName::NtRequestWaitReplyPort => {
+            let (handle, message) = handle_and_message(text, scratch)?;
+            Ok(Call::RequestWaitReplyPort { handle, message })
+        }
+        CallName::NtReplyPort => {
+            let (handle, message) = handle_and_message(text, scratch)?;
+            Ok(Call::ReplyPort { handle, message })
+        }
+        CallName::NtReplyWaitReceivePort => {
+            let handle = number(one_word(text)?)?;
+            Ok(Call::ReplyWaitReceivePort { handle })
+        }
+    }
+}
+
+/// A directive by the words behind it.
+fn directive(word: Word, text: &[u8]) -> Result<Line<'static>, LineFault>
+    ensures value { Gives line_of result (directive_words word (words text.now)) }
+    ensures ids { IfOk result (λ line. IsTrue (has_ids (line_of line))) }
+{
+    let (first, second) = two_words(text)?;
+    match word {
+        Word::Boot => {
+            let pid = id(first)?;
+            let tid = id(second)?;
+            Ok(Line::Boot { pid, tid })
+        }
+        Word::Thread => {
+            let tid = id(first)?;
+            let pid = id(second)?;
+            Ok(Line::Thread { tid, pid })
+        }
+    }
+}
+
+/// The call of the thread whose number the front is.
+fn call_line<'a>(front: &[u8], text: &[u8], scratch: &'a mut Scratch) -> Result<Line<'a>, LineFault>
+    requires { length text.now ≤ LINE_LIMIT }
+    ensures value { Gives line_of result (grammar.call_line front.now (words text.now)) }
+    ensures ids { IfOk result (λ line. IsTrue (has_ids (line_of line))) }
+{
+    let tid = id(front)?;
+    let Some((name, rest)) = next_word(text) else {
+        return Err(LineFault::Count);
+    };
+    let name = call_name(name).ok_or(LineFault::Call)?;
+    let call = call(name, rest, scratch)?;
+    Ok(Line::Run { tid, call })
+}
+
+/// The directive whose word the front is.
+fn directive_line(front: &[u8], text: &[u8]) -> Result<Line<'static>, LineFault>
+    ensures value { Gives line_of result (grammar.directive_line front.now (words text.now)) }
+    ensures ids { IfOk result (λ line. IsTrue (has_ids (line_of line))) }
+{
+    let word = directive_name(front).ok_or(LineFault::Word)?;
+    directive(word, text)
+}
+
+fn starts_call(word: &[u8]) -> bool
+    ensures { result ≡ grammar.starts_call word.now }
+{
+    match word {
+        [] => false,
+        [first, ..] => first.is_ascii_digit(),
+    }
+}
+
+fn is_printable(text: &[u8]) -> bool
+    ensures { result ≡ list_all grammar.is_printable text.now }
+{
+    for byte in text {
+        if *byte < b' ' || *byte > b'~' {
+            return false;
+        }
+    }
+    true
+}
+
+/// What a line says, none where it is a comment or has no word, or its first fault.
+///
+/// The line is given without the byte 10 that ends it. Its messages lie in the scratch. A byte past the 16,384th is
+/// found before all else (`Long`), then a byte outside 32 to 126 (`Byte`), then the faults of the words from left to
+/// right: the first word, the call's name, the count of words and the words themselves. The grammar and the order of
+/// the faults are this project's own.
+#[tactic(auto, unfolding(lpc_model::specs::Grammar::read_line))]
+pub fn read_line<'a>(bytes: &'a [u8], scratch: &'a mut Scratch) -> Result<Option<Line<'a>>, LineFault>
+    ensures value { Gives (option_map line_of) result (grammar.read_line bytes.now) }
+    ensures ids { IfOk result (λ line. IfSome line (λ said. IsTrue (has_ids (line_of said)))) }
+{
+    if bytes.len() > LINE_LIMIT {
+        return Err(LineFault::Long);
+    }
+    if bytes.starts_with(b"#") {
+        return Ok(None);
+    }
+    if !is_printable(bytes) {
+        return Err(LineFault::Byte);
+    }
+    let Some((front, rest)) = next_word(bytes) else {
+        return Ok(None);
+    };
+    if starts_call(front) {
+        let line = call_line(front, rest, scratch)?;
+        return Ok(Some(line));
+    }
+    let line = directive_line(front, rest)?;
+    Ok(Some(line))
 }
