@@ -23,7 +23,7 @@ pub record WorkedLines : Type 0 where
   pub comment_with_a_bad_byte : read_line (35 ∷ 200 ∷ []) ≡ Ok None
   pub blank_line : read_line (codes "   ") ≡ Ok None
   -- the first fault of each kind
-  pub tabulator_is_no_space : read_line (codes "boot" ++ 9 ∷ codes "20 24") ≡ Err fault.Byte
+  pub tabulator_is_no_space : read_line (codes "24" ++ 9 ∷ codes "NtReplyPort") ≡ Err fault.Byte
   pub blanks_and_a_bad_byte : read_line (32 ∷ 127 ∷ []) ≡ Err fault.Byte
   pub no_directive : read_line (codes "reboot 1 2") ≡ Err fault.Word
   pub no_call : read_line (codes "24 NtFoo") ≡ Err fault.Call

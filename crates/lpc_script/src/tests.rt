@@ -1,0 +1,163 @@
+// Lines whose faults and messages were found by hand from the grammar.
+use crate::{LineFault, Scratch, law_worked_lines, next_line, read_line};
+use lpc_model::{Call, Line};
+use std::process::Abort;
+use std::test::Fail;
+
+// Each line has this first fault, or none.
+fn has_faults(rt: &impl Abort, scratch: &mut Scratch, lines: &[(&str, Option<LineFault>)]) {
+    for (line, fault) in lines {
+        let found = read_line(line.as_bytes(), scratch).err();
+        assert_eq!(rt; found, *fault, "{line}");
+    }
+}
+
+#[test]
+fn the_first_fault_of_a_line_is_answered(rt: HostRuntime) -> Result<(), Fail> {
+    let mut scratch = Scratch::new(rt.alloc())?;
+    has_faults(
+        &rt,
+        &mut scratch,
+        &[
+            ("24\tNtReplyPort", Some(LineFault::Byte)),
+            ("reboot 1 2", Some(LineFault::Word)),
+            ("24 NtFoo", Some(LineFault::Call)),
+            ("24 NtReplyPort", Some(LineFault::Count)),
+            ("24 NtReplyPort 08 d:", Some(LineFault::Number)),
+            ("24 NtReplyPort 4 d:4", Some(LineFault::Hex)),
+            ("24 NtReplyPort 4 x:41", Some(LineFault::Message)),
+            ("boot 020 24", Some(LineFault::Number)),
+            // a fault of the whole line comes before those of its words
+            ("reboot \u{7f}", Some(LineFault::Byte)),
+            ("  \t", Some(LineFault::Byte)),
+            // the number of the thread comes before the call's name, the name before the count, the count before the words
+            ("0 NtFoo", Some(LineFault::Number)),
+            ("2x", Some(LineFault::Number)),
+            ("24", Some(LineFault::Count)),
+            ("24 NtFoo 1 2 3", Some(LineFault::Call)),
+            ("24 NtReplyPort 08 x:41 4", Some(LineFault::Count)),
+            ("24 NtCreatePort \\A", Some(LineFault::Word)),
+            ("24 NtCreatePort - -", Some(LineFault::Count)),
+            ("boot 0 024", Some(LineFault::Number)),
+            ("boot 20", Some(LineFault::Count)),
+            // only a line whose first byte is `#` is a comment
+            (" # boot", Some(LineFault::Word)),
+            ("# \t reboot", None),
+            ("", None),
+            ("    ", None),
+        ],
+    );
+    Ok(())
+}
+
+#[test]
+fn numbers_have_two_spellings(rt: HostRuntime) -> Result<(), Fail> {
+    let mut scratch = Scratch::new(rt.alloc())?;
+    has_faults(
+        &rt,
+        &mut scratch,
+        &[
+            ("boot 2147483647 0x7fffffff", None),
+            ("boot 2147483648 24", Some(LineFault::Number)),
+            ("boot 20 0x0", Some(LineFault::Number)),
+            ("24 NtReplyWaitReceivePort 0", None),
+            ("24 NtReplyWaitReceivePort 0x0000000A", None),
+            ("24 NtReplyWaitReceivePort 4294967295", None),
+            ("24 NtReplyWaitReceivePort 4294967296", Some(LineFault::Number)),
+            ("24 NtReplyWaitReceivePort 99999999999999999999", Some(LineFault::Number)),
+            ("24 NtReplyWaitReceivePort 00", Some(LineFault::Number)),
+            ("24 NtReplyWaitReceivePort 0x", Some(LineFault::Number)),
+            ("24 NtReplyWaitReceivePort 0x000000001", Some(LineFault::Number)),
+            ("24 NtReplyWaitReceivePort 0X1", Some(LineFault::Number)),
+            ("24 NtReplyWaitReceivePort +1", Some(LineFault::Number)),
+            ("24 NtReplyWaitReceivePort 1a", Some(LineFault::Number)),
+        ],
+    );
+    Ok(())
+}
+
+#[test]
+fn messages_have_three_forms(rt: HostRuntime) -> Result<(), Fail> {
+    let mut scratch = Scratch::new(rt.alloc())?;
+    has_faults(
+        &rt,
+        &mut scratch,
+        &[
+            ("24 NtReplyPort 4 m:", None),
+            ("24 NtReplyPort 4 d:", None),
+            ("24 NtReplyPort 4 r:0.0.0:", None),
+            ("24 NtReplyPort 4 r:0x14.24.0x1:4a4B", None),
+            ("24 NtReplyPort 4 m:41:42", Some(LineFault::Hex)),
+            ("24 NtReplyPort 4 d:41:42", Some(LineFault::Hex)),
+            ("24 NtReplyPort 4 r:1.2.3:41:42", Some(LineFault::Hex)),
+            ("24 NtReplyPort 4 m:4g", Some(LineFault::Hex)),
+            ("24 NtReplyPort 4 r:1.2.3", Some(LineFault::Message)),
+            ("24 NtReplyPort 4 r:1.2:41", Some(LineFault::Message)),
+            ("24 NtReplyPort 4 r:1.2.3.4:41", Some(LineFault::Message)),
+            ("24 NtReplyPort 4 r:a.b.c:zz", Some(LineFault::Number)),
+            ("24 NtReplyPort 4 r:1..3:41", Some(LineFault::Number)),
+            ("24 NtReplyPort 4 M:41", Some(LineFault::Message)),
+            ("24 NtReplyPort 4 -", Some(LineFault::Message)),
+        ],
+    );
+    Ok(())
+}
+
+#[test]
+fn a_reply_has_its_header_made(rt: HostRuntime) -> Result<(), Fail> {
+    let mut scratch = Scratch::new(rt.alloc())?;
+    let line = read_line(b"28 NtReplyPort 0x4 r:20.24.1:43fF", &mut scratch);
+    let Ok(Some(Line::Run {
+        tid,
+        call: Call::ReplyPort { handle, message },
+    })) = line
+    else {
+        assert!(rt; false, "no reply");
+        return Ok(());
+    };
+    assert_eq!(rt; tid, 28);
+    assert_eq!(rt; handle, 4);
+    let made = [
+        2, 0, 26, 0, 0, 0, 0, 0, 20, 0, 0, 0, 24, 0, 0, 0, 1, 0, 0, 0, 0, 0, 0, 0, 0x43, 0xff,
+    ];
+    assert_eq!(rt; message, made.as_slice());
+    Ok(())
+}
+
+#[test]
+fn a_line_has_at_most_16384_bytes(rt: HostRuntime) -> Result<(), Fail> {
+    let alloc = rt.alloc();
+    let mut scratch = Scratch::new(alloc)?;
+    let mut line = b"24  NtReplyPort 4 m:0".to_vec(alloc)?;
+    for _ in 0..16_362 {
+        line.push(b'0')?;
+    }
+    assert_eq!(rt; read_line(&line, &mut scratch).err(), Some(LineFault::Hex));
+    line.push(b'0')?;
+    let Ok(Some(Line::Run {
+        call: Call::ReplyPort { message, .. },
+        ..
+    })) = read_line(&line, &mut scratch)
+    else {
+        assert!(rt; false, "no reply");
+        return Ok(());
+    };
+    assert_eq!(rt; message.len(), 8182);
+    line.push(b'\t')?;
+    assert_eq!(rt; read_line(&line, &mut scratch).err(), Some(LineFault::Long));
+    Ok(())
+}
+
+#[test]
+fn a_script_falls_into_lines(rt: HostRuntime) {
+    law_worked_lines();
+    let (first, rest) = next_line(b"boot 20 24\n\n# end");
+    assert_eq!(rt; first, b"boot 20 24".as_slice());
+    assert!(rt; !rest.is_empty());
+    let (second, rest) = next_line(rest);
+    assert_eq!(rt; second, b"".as_slice());
+    assert!(rt; !rest.is_empty());
+    let (third, rest) = next_line(rest);
+    assert_eq!(rt; third, b"# end".as_slice());
+    assert!(rt; rest.is_empty());
+}
