@@ -3,6 +3,7 @@
 
 mod laws;
 mod lines;
+mod names;
 mod number;
 mod read;
 mod scratch;

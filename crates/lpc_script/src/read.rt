@@ -6,45 +6,16 @@ ghost use Rattle.lpc_base.specs.declared.limits.TheConstants.{LINE_LIMIT};
 ghost use Rattle.lpc_model.specs.declared.entry.CallName.TheVariants.{NtCreatePort};
 ghost use Rattle.lpc_model.specs.Lines.{call_of, line_of};
 ghost use Rattle.lpc_model.specs.Words.{words};
-ghost use Rattle.lpc_model.specs.Grammar.{named, call_names, directive_names, call_words, directive_words, has_ids};
+ghost use Rattle.lpc_model.specs.Grammar.{call_words, directive_words, has_ids};
 ghost use Rattle.lpc_model.specs.Grammar as grammar;
 ghost use Rattle.lpc_script.specs.Gives.{Gives};
 
+use crate::names::{call_name, directive_name};
 use crate::number::{id, number};
 use crate::scratch::Scratch;
 use crate::words::{next_word, one_word, two_words};
 use lpc_base::limits::LINE_LIMIT;
 use lpc_model::{Call, CallName, Line, LineFault, Word};
-
-fn call_name(word: &[u8]) -> Option<CallName>
-    ensures { result ≡ named call_names word.now }
-{
-    if word == b"NtCreatePort".as_slice() {
-        return Some(CallName::NtCreatePort);
-    }
-    if word == b"NtRequestWaitReplyPort".as_slice() {
-        return Some(CallName::NtRequestWaitReplyPort);
-    }
-    if word == b"NtReplyPort".as_slice() {
-        return Some(CallName::NtReplyPort);
-    }
-    if word == b"NtReplyWaitReceivePort".as_slice() {
-        return Some(CallName::NtReplyWaitReceivePort);
-    }
-    None
-}
-
-fn directive_name(word: &[u8]) -> Option<Word>
-    ensures { result ≡ named directive_names word.now }
-{
-    if word == b"boot".as_slice() {
-        return Some(Word::Boot);
-    }
-    if word == b"thread".as_slice() {
-        return Some(Word::Thread);
-    }
-    None
-}
 
 fn handle_and_message<'a>(text: &[u8], scratch: &'a mut Scratch) -> Result<(u32, &'a [u8]), LineFault>
     requires { length text.now ≤ LINE_LIMIT }

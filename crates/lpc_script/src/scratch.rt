@@ -35,7 +35,9 @@ impl Model for Scratch {
 
 impl Scratch {
     /// Room for 16,384 bytes.
-    pub fn new(alloc: Global) -> Result<Scratch, OutOfMemory> {
+    pub fn new(alloc: Global) -> Result<Scratch, OutOfMemory>
+        ensures { IfOk result (λ s. length s ≡ LINE_LIMIT) }
+    {
         let Ok(room) = vec![in alloc; 0u8; LINE_LIMIT] else {
             return Err(OutOfMemory);
         };
@@ -44,7 +46,7 @@ impl Scratch {
 
     /// The message that a word spells.
     #[tactic(auto, unfolding(lpc_model::specs::Words::message_word))]
-    pub fn message(&mut self, word: &[u8]) -> Result<&[u8], LineFault>
+    pub(crate) fn message(&mut self, word: &[u8]) -> Result<&[u8], LineFault>
         requires { length word.now ≤ LINE_LIMIT }
         ensures { Gives (λ bytes. bytes.now) result (message_word word.now) }
     {

@@ -1,4 +1,4 @@
-use Rattle.std.proofs.Common.{arith, sym, ◌∙◌, ◌≡◌, ◌<◌, length, get_or}
+use Rattle.std.proofs.Common.{arith, sym, ◌∙◌, ◌<◌, length}
 use Rattle.std.proofs.lemmas.Grind.{common_steps}
 use Rattle.lpc_script.proofs.Parts.{words_none, word_here, word_alone}
 use Rattle.lpc_script.proofs.words.next_word.Goals as goal
