@@ -17,3 +17,5 @@ pub mod TextLaws
 pub mod Script
 pub mod Words
 pub mod Grammar
+pub mod Run
+pub mod Replies
