@@ -1,0 +1,4 @@
+pub mod Holding
+pub mod Returning
+pub mod Refusing
+pub mod Removing

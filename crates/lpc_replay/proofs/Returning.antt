@@ -1,0 +1,242 @@
+-- Each request that wakes with success is returned by a reply that fits it.
+use Rattle.std.proofs.Common.{◌≡◌, ℕ, Bool, true, false, cond, List, [], ◌∷◌, ◌++◌, refl, sym, ap}
+use Rattle.std.specs.Prelude.{Option, Some, None, Result, Ok, Err, is_some, nat_lt, not, option_and_then}
+use Rattle.std.specs.List.{AllByRecursion}
+use Rattle.std.proofs.lemmas.Bool.{eqb-true}
+use Rattle.lpc_base.specs.declared.birth.Birth.{Birth}
+use Rattle.lpc_base.specs.declared.limits.TheConstants.{MESSAGE_LIMIT}
+use Rattle.lpc_base.specs.declared.status.Status.{Status}
+use Rattle.lpc_base.specs.declared.status.TheConstants.{ACCESS_DENIED, INVALID_HANDLE, INVALID_PARAMETER, OBJECT_TYPE_MISMATCH, PORT_DISCONNECTED, PORT_MESSAGE_TOO_LONG, SUCCESS}
+use Rattle.lpc_message.specs.Layout.{fault_of, header_of}
+use Rattle.lpc_model.specs.declared.entry.CallName.{CallName}
+use Rattle.lpc_model.specs.declared.entry.CallName.TheVariants as call
+use Rattle.lpc_model.specs.declared.entry.Entry.{Entry}
+use Rattle.lpc_model.specs.declared.entry.Entry.TheVariants as entry
+use Rattle.lpc_model.specs.declared.entry.Field.{Field}
+use Rattle.lpc_model.specs.declared.entry.Word.{Word}
+use Rattle.lpc_model.specs.declared.entry.Word.TheVariants as word
+use Rattle.lpc_model.specs.declared.rows.WaitKind.TheVariants.{Receive, Request}
+use Rattle.lpc_model.specs.Refusal.{◌>>=◌, found_or, refuse_if}
+use Rattle.lpc_model.specs.Rows.{first, given, when}
+use Rattle.lpc_model.specs.World.{World}
+use Rattle.lpc_model.specs.declared.message.Message.{Message}
+use Rattle.lpc_model.specs.declared.rows.HandleRow.{HandleRow}
+use Rattle.lpc_model.specs.declared.rows.MessageRow.{MessageRow}
+use Rattle.lpc_model.specs.declared.rows.PortRow.{PortRow}
+use Rattle.lpc_model.specs.declared.rows.ThreadRow.{ThreadRow}
+use Rattle.lpc_model.specs.declared.rows.WaitKind.{WaitKind}
+use Rattle.lpc_model.specs.declared.rows.WaitRow.{WaitRow}
+use Rattle.lpc_model.specs.Found.{fitted, handle_at, is_port, is_port_kind, is_queued, live_thread, port_row, queue_of, same_birth, wait_of}
+use Rattle.lpc_model.specs.Message.{REQUEST, as_reply, asks, message_of, message_test}
+use Rattle.lpc_model.specs.Basics.{AddsHandle, AddsProcess, AddsThread, Awaits, Basic, DrawsIdentifier, DrawsOrdinal, Enters, Makes, Receives, Takes, Tells, Wakes, basic, entries_of, told, world_after}
+use Rattle.lpc_model.specs.Fields.{msg, receipt}
+use Rattle.lpc_model.specs.Entering.{enter, row_of, take_steps, takes, woken}
+use Rattle.lpc_model.specs.Tests.{PORT_RIGHT, client_test, fit_test, handles_test, includes, own_handle, port_test}
+use Rattle.lpc_model.specs.Connect.{nt_create_port}
+use Rattle.lpc_model.specs.Request.{Sendable, nt_reply_port, nt_reply_wait_receive_port, nt_request_wait_reply_port, receive_steps, request_start, request_steps, send_test, sent_by}
+use Rattle.lpc_model.specs.Lines.{ScriptCall, ScriptLine, boot, create_port, reply_port, reply_wait_receive_port, request_wait_reply_port, run, thread}
+use Rattle.lpc_model.specs.Machine.{boot_line, call_steps, directed, live_test, name_of, ready_steps, service_of, step, steps, thread_count_test, thread_line, thread_steps, unused_test, unused_thread_test}
+use Rattle.lpc_model.specs.Run.{Along}
+use Rattle.lpc_model.specs.Replies.{HasReply, IsReturnedBy, RequestsReturnByReply, message_in, port_of}
+use Rattle.lpc_replay.proofs.Holding.{Holds, all_append, all_filter, all_map, and_first, and_second, bind_holds, find_all, find_passes, found_holds, found_ok, holds_ok, not_false, not_refused, settled_holds}
+
+-- a receive waits in the call that receives
+abbrev pub waits_in : WaitKind → CallName → Type 0
+waits_in Receive call.NtReplyWaitReceivePort = Unit {0}
+waits_in Receive name = ⊥
+waits_in (Request m) name = Unit {0}
+
+abbrev pub HasItsCall : WaitRow → Type 0
+HasItsCall x = waits_in x.kind x.call
+
+abbrev pub HaveTheirCalls : World → Type 0
+HaveTheirCalls w = AllByRecursion HasItsCall w.waits
+
+-- a basic step of a line keeps that, and what it tells has its reply
+abbrev pub IsFair : World → ScriptLine → Basic → Type 0
+IsFair w line (Tells e) = HasReply w line e
+IsFair w line (Wakes who name status fields) = HasReply w line (entry.Wakes who name status fields)
+IsFair w line (Awaits x) = HasItsCall x
+IsFair w line b = Unit {0}
+
+abbrev pub AreFair : World → ScriptLine → List Basic → Type 0
+AreFair w line bs = AllByRecursion (IsFair w line) bs
+
+told_fair : (w : World) (line : ScriptLine) (b : Basic) → IsFair w line b → AllByRecursion (HasReply w line) (told b)
+told_fair w line (Tells e) h = (h, tt)
+told_fair w line (Wakes who name status fields) h = (h, tt)
+told_fair w line b h = tt
+
+pub entries_fair : (w : World) (line : ScriptLine) (bs : List Basic) → AreFair w line bs → AllByRecursion (HasReply w line) (entries_of bs)
+entries_fair w line [] h = tt
+entries_fair w line (b ∷ bs) h = all_append (HasReply w line) (told b) (entries_of bs) (told_fair w line b h.0) (entries_fair w line bs h.1)
+
+changed_call : (b : Bool) (x y : WaitRow) → HasItsCall x → HasItsCall y → HasItsCall (cond b y x)
+changed_call true x y h k = k
+changed_call false x y h k = h
+
+basic_keeps : (w : World) (line : ScriptLine) (v : World) (b : Basic) → IsFair w line b → HaveTheirCalls v → HaveTheirCalls (basic v b)
+basic_keeps w line v (Wakes who name status fields) f h = all_filter HasItsCall _ v.waits h
+basic_keeps w line v (Awaits x) f h = all_append HasItsCall v.waits (x ∷ []) h (f, tt)
+basic_keeps w line v (Receives who) f h = all_map HasItsCall _ v.waits (λ x k. changed_call _ x _ k k) h
+basic_keeps w line v b f h = h
+
+pub steps_keep : (w : World) (line : ScriptLine) (v : World) (bs : List Basic) → AreFair w line bs → HaveTheirCalls v → HaveTheirCalls (world_after v bs)
+steps_keep w line v [] f h = h
+steps_keep w line v (b ∷ bs) f h = steps_keep w line (basic v b) bs f.1 (basic_keeps w line v b f.0 h)
+
+-- a receive that wakes is no request
+receive_wakes : (w : World) (line : ScriptLine) (tid : ℕ) (kind : WaitKind) (name : CallName) (status : Status) (fields : List Field) → elim kind [ Receive ↦ true | _ ↦ false ] ≡ true → waits_in kind name → HasReply w line (entry.Wakes tid name status fields)
+receive_wakes w line tid Receive call.NtReplyWaitReceivePort status fields is h = tt
+receive_wakes w line tid Receive name status fields is h = absurd h
+receive_wakes w line tid (Request m) name status fields is h = absurd (cc)
+
+-- a request that a reply wakes has it
+reply_wakes : (w : World) (line : ScriptLine) (tid : ℕ) (name : CallName) (fields : List Field) → IsReturnedBy w line tid fields → HasReply w line (entry.Wakes tid name SUCCESS fields)
+reply_wakes w line tid call.NtRequestWaitReplyPort fields r = λ _. r
+reply_wakes w line tid name fields r = tt
+
+-- a message that is taken wakes none
+when_fair : (w : World) (line : ScriptLine) (b : Bool) (tid : ℕ) → AreFair w line (when b (Receives tid ∷ []))
+when_fair w line true tid = (tt, tt)
+when_fair w line false tid = tt
+
+take_fair : (w : World) (line : ScriptLine) (m : MessageRow) → AreFair w line (take_steps m)
+take_fair w line m = (tt, when_fair w line (asks m.message) m.message.header.client.thread)
+
+-- a message that enters its queue wakes a receive alone
+given_fair : (w : World) (line : ScriptLine) (m : MessageRow) (o : Option WaitRow) → ((x : WaitRow) → o ≡ Some x → (takes m x ≡ true) × HasItsCall x) → AreFair w line (given o (λ x. take_steps m ++ woken SUCCESS (receipt m) x ∷ []))
+given_fair w line m None h = tt
+given_fair w line m (Some x) h =
+    let known = h x refl in
+    all_append (IsFair w line) (take_steps m) (woken SUCCESS (receipt m) x ∷ []) (take_fair w line m)
+    (receive_wakes w line x.thread x.kind x.call SUCCESS (receipt m) (and_first _ _ known.0) known.1, tt)
+
+enter_fair : (w : World) (line : ScriptLine) (m : MessageRow) (v : World) → HaveTheirCalls v → AreFair w line (enter m v)
+enter_fair w line m v h =
+    (tt, given_fair w line m (first (takes m) v.waits) (λ x is. (find_passes (takes m) v.waits x is, find_all HasItsCall (takes m) v.waits x h is)))
+
+receive_fair : (w : World) (line : ScriptLine) (by : ThreadRow) (port : PortRow) (queue : Birth) (o : Option MessageRow) → AreFair w line (receive_steps by port queue o)
+receive_fair w line by port queue None = (tt, (tt, tt))
+receive_fair w line by port queue (Some m) = (tt, take_fair w line m)
+
+-- the port on which a reply is made is the one that its handle names
+birth_parts : (a b c d e f : ℕ) → a ≡ d → b ≡ e → c ≡ f → let x : Birth = record { maker = a; ordinal = b; process = c } in let y : Birth = record { maker = d; ordinal = e; process = f } in x ≡ y
+birth_parts a b c d e f p q r = rw (p, q, r) refl
+
+birth_same : (a b : Birth) → same_birth a b ≡ true → a ≡ b
+birth_same a b h =
+    let h' = and_second _ _ h in
+    birth_parts _ _ _ _ _ _ (eqb-true _ _ (and_first _ _ h)) (eqb-true _ _ (and_first _ _ h')) (eqb-true _ _ (and_second _ _ h'))
+
+port_named : (h : HandleRow) (port : PortRow) (o : Option HandleRow) → o ≡ Some h → not (is_port_kind h.object.kind) ≡ false → same_birth port.birth h.object.birth ≡ true → option_and_then port_of o ≡ Some port.birth
+port_named h port o at kind same =
+    rw (at, not_false (is_port_kind h.object.kind) kind, birth_same port.birth h.object.birth same) refl
+
+pub port_holds : (w : World) (by : ThreadRow) (handle : ℕ) → Holds (λ (port : PortRow). option_and_then port_of (handle_at w by.process handle) ≡ Some port.birth) (port_test w by handle)
+port_holds w by handle =
+    let P : PortRow → Type 0 = λ port. option_and_then port_of (handle_at w by.process handle) ≡ Some port.birth in
+    bind_holds (own_handle w by handle) _ P (λ h at.
+    bind_holds (refuse_if (not (is_port_kind h.object.kind)) OBJECT_TYPE_MISMATCH) _ P (λ u kind.
+    bind_holds (refuse_if (not (includes h.access PORT_RIGHT)) ACCESS_DENIED) _ P (λ _ _.
+    found_holds P (port_row w h.object.birth) INVALID_HANDLE (λ port row.
+    port_named h port (handle_at w by.process handle) (found_ok _ _ h at) (not_refused _ _ u kind) (find_passes (is_port h.object.birth) w.ports port row)))))
+
+pub message_holds : (tid handle : ℕ) (bytes : List ℕ) → Holds (λ m. message_in (record { by = tid; handle = handle; bytes = bytes }) ≡ Some m) (message_test bytes)
+message_holds tid handle bytes =
+    let P : Message → Type 0 = λ m. message_in (record { by = tid; handle = handle; bytes = bytes }) ≡ Some m in
+    bind_holds (refuse_if (is_some (fault_of bytes)) INVALID_PARAMETER) _ P (λ u whole.
+    bind_holds (refuse_if (nat_lt MESSAGE_LIMIT (header_of bytes).message_size) PORT_MESSAGE_TOO_LONG) _ P (λ _ _.
+    rw (not_refused _ _ u whole) refl))
+
+-- the services
+create_fair : (w : World) (line : ScriptLine) (by : ThreadRow) → Holds (AreFair w line) (nt_create_port w by)
+unfolding nt_create_port
+create_fair w line by = bind_holds (handles_test w by.process 1) _ (AreFair w line) (λ _ _. (tt, (tt, (tt, (tt, tt)))))
+
+request_fair : (w : World) (line : ScriptLine) (by : ThreadRow) (handle : ℕ) (bytes : List ℕ) → HaveTheirCalls w → Holds (AreFair w line) (nt_request_wait_reply_port w by handle bytes)
+unfolding nt_request_wait_reply_port
+request_fair w line by handle bytes h =
+    bind_holds (send_test w by handle bytes) _ (AreFair w line) (λ s _.
+    let m = sent_by by REQUEST s.message in
+    let start = request_start by s.port.birth s.queue m in
+    let fair : AreFair w line start = (tt, (tt, (tt, tt))) in
+    all_append (IsFair w line) start (enter (row_of s.queue s.port m) (world_after w start)) fair
+    (enter_fair w line (row_of s.queue s.port m) (world_after w start) (steps_keep w line w start fair h)))
+
+wait_fair : (w : World) (line : ScriptLine) (by : ThreadRow) (handle : ℕ) → Holds (AreFair w line) (nt_reply_wait_receive_port w by handle)
+unfolding nt_reply_wait_receive_port
+wait_fair w line by handle =
+    bind_holds (port_test w by handle) _ (AreFair w line) (λ port _.
+    bind_holds (found_or (queue_of w port) PORT_DISCONNECTED) _ (AreFair w line) (λ queue _.
+    receive_fair w line by port queue (first (is_queued queue) w.messages)))
+
+reply_fair : (w : World) (tid : ℕ) (by : ThreadRow) (handle : ℕ) (bytes : List ℕ) → live_thread w tid ≡ Some by → Holds (AreFair w (run tid (reply_port handle bytes))) (nt_reply_port w by handle bytes)
+unfolding nt_reply_port
+reply_fair w tid by handle bytes live =
+    let line = run tid (reply_port handle bytes) in
+    let P = AreFair w line in
+    bind_holds (port_test w by handle) _ P (λ port at.
+    bind_holds (message_test bytes) _ P (λ m is.
+    bind_holds (client_test w m.header.client) _ P (λ _ _.
+    bind_holds (fit_test w port.birth m) _ P (λ x fit. (
+      tt,
+      (
+        reply_wakes w line x.thread x.call (msg (as_reply m) ∷ []) (record {
+          reply = record { by = tid; handle = handle; bytes = bytes };
+          port = port.birth;
+          message = m;
+          wait = x;
+          is_reply = refl;
+          names_port = rw live (holds_ok _ _ port (port_holds w by handle) at);
+          is_message = holds_ok _ _ m (message_holds tid handle bytes) is;
+          fitting = found_ok _ _ x fit;
+          its_wait = refl;
+          shows = refl;
+        }),
+        tt,
+      ),
+    )))))
+
+service_fair : (w : World) (tid : ℕ) (by : ThreadRow) (name : ScriptCall) → live_thread w tid ≡ Some by → HaveTheirCalls w → Holds (AreFair w (run tid name)) (service_of w by name)
+service_fair w tid by create_port live h = create_fair w _ by
+service_fair w tid by (request_wait_reply_port handle bytes) live h = request_fair w _ by handle bytes h
+service_fair w tid by (reply_port handle bytes) live h = reply_fair w tid by handle bytes live
+service_fair w tid by (reply_wait_receive_port handle) live h = wait_fair w _ by handle
+
+-- the lines
+ready_fair : (w : World) (tid : ℕ) (by : ThreadRow) (name : ScriptCall) (o : Option WaitRow) → live_thread w tid ≡ Some by → HaveTheirCalls w → AreFair w (run tid name) (ready_steps by name o w)
+ready_fair w tid by name (Some x) live h = (tt, tt)
+ready_fair w tid by name None live h =
+    settled_holds (AreFair w (run tid name)) by (name_of name) (service_of w by name) (service_fair w tid by name live h) (λ s. (tt, tt))
+
+thread_fair : (w : World) (tid : ℕ) (name : ScriptCall) (o : Option ThreadRow) → live_thread w tid ≡ o → HaveTheirCalls w → AreFair w (run tid name) (thread_steps tid name o w)
+thread_fair w tid name None live h = (tt, tt)
+thread_fair w tid name (Some by) live h = ready_fair w tid by name (wait_of w tid) live h
+
+directed_fair : (w : World) (line : ScriptLine) (word : Word) (r : Result (List Basic) Status) → Holds (AreFair w line) r → AreFair w line (directed word r)
+directed_fair w line word (Ok bs) h = (tt, h)
+directed_fair w line word (Err s) h = (tt, tt)
+
+boot_fair : (w : World) (line : ScriptLine) (pid tid : ℕ) → Holds (AreFair w line) (boot_line w pid tid)
+unfolding boot_line
+boot_fair w line pid tid = bind_holds (unused_test w pid tid) _ (AreFair w line) (λ _ _. (tt, (tt, tt)))
+
+further_fair : (w : World) (line : ScriptLine) (tid pid : ℕ) → Holds (AreFair w line) (thread_line w tid pid)
+unfolding thread_line
+further_fair w line tid pid =
+    let P = AreFair w line in
+    bind_holds (live_test w pid) _ P (λ _ _. bind_holds (unused_thread_test w tid) _ P (λ _ _. bind_holds (thread_count_test w pid) _ P (λ _ _. (tt, tt))))
+
+steps_fair : (w : World) (line : ScriptLine) → HaveTheirCalls w → AreFair w line (steps line w)
+unfolding steps
+steps_fair w (boot pid tid) h = directed_fair w _ word.Boot (boot_line w pid tid) (boot_fair w _ pid tid)
+steps_fair w (thread tid pid) h = directed_fair w _ word.Thread (thread_line w tid pid) (further_fair w _ tid pid)
+steps_fair w (run tid name) h = thread_fair w tid name (live_thread w tid) refl h
+
+pub returns_along : (w : World) (lines : List (Option ScriptLine)) → HaveTheirCalls w → Along RequestsReturnByReply w lines
+returns_along w [] h = tt
+returns_along w (None ∷ later) h = returns_along w later h
+returns_along w (Some line ∷ later) h =
+    let fair = steps_fair w line h in
+    (entries_fair w line (steps line w) fair, returns_along (step w line).world later (steps_keep w line w (steps line w) fair h))

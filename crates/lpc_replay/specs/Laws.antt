@@ -1,0 +1,22 @@
+-- What holds of the run of every script.
+use Rattle.std.specs.Prelude.{ℕ, List}
+use Rattle.lpc_model.specs.World.{no_rows}
+use Rattle.lpc_model.specs.Script.{script_lines}
+use Rattle.lpc_model.specs.Run.{Along, said_in}
+use Rattle.lpc_model.specs.Replies.{MisfitsAreRefused, RefusedRepliesAreIdle, RefusedRepliesChangeNothing, RequestsReturnByReply}
+
+-- the lines of a script before its first faulty one: each request returns only by a reply that fits it
+unfoldable pub RequestsReturn : List ℕ → Type 0
+RequestsReturn script = Along RequestsReturnByReply no_rows (said_in script)
+
+-- each reply that fits no wait is refused
+unfoldable pub MisfitsRefused : List ℕ → Type 0
+MisfitsRefused script = Along MisfitsAreRefused no_rows (said_in script)
+
+-- each refused reply changes nothing
+unfoldable pub RefusalsStay : List ℕ → Type 0
+RefusalsStay script = Along RefusedRepliesChangeNothing no_rows (said_in script)
+
+-- without the line of a refused reply, the other lines tell the same
+unfoldable pub RefusalsIdle : List ℕ → Type 0
+RefusalsIdle script = RefusedRepliesAreIdle (script_lines script)

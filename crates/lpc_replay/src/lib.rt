@@ -1,0 +1,6 @@
+//! The replay of scripts: a script is read from a source, run line by line, and its transcript is sent to a sink.
+#![tactic(auto)]
+
+mod laws;
+
+pub use laws::law_completion;
