@@ -2,3 +2,5 @@ pub mod Holding
 pub mod Returning
 pub mod Refusing
 pub mod Removing
+pub mod Tells
+pub mod Limits

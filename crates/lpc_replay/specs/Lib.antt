@@ -1,1 +1,3 @@
 pub mod Laws
+pub mod Sending
+pub mod Reading

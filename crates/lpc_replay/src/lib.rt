@@ -2,5 +2,7 @@
 #![tactic(auto)]
 
 mod laws;
+mod reading;
+mod sending;
 
 pub use laws::law_completion;

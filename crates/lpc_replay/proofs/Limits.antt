@@ -1,0 +1,263 @@
+-- How far a script is read, and that a script which passes a limit has a faulty line.
+use Rattle.std.proofs.Common.{◌≡◌, ℕ, suc, ◌+◌, ◌*◌, ◌<◌, ◌≤◌, Bool, true, false, cond, List, [], ◌∷◌, ◌++◌, length, refl, sym, ap, ◌∙◌, arith, append_assoc, length-append, ◌-◌, take, drop, length-drop}
+use Rattle.std.specs.Prelude.{Option, Some, None, Result, Ok, Err, is_err, is_none, is_ok, is_some, nat_le, nat_lt, ◌==◌, option_and_then}
+use Rattle.std.specs.List.{onto_first, AllByRecursion}
+use Rattle.std.proofs.lemmas.Bool.{eqb-true}
+use Rattle.std.proofs.lemmas.Bool.Decides.{nat_tests}
+use Rattle.std.proofs.lemmas.List.{append-nil, length-take-le}
+use Rattle.lpc_base.specs.declared.limits.TheConstants.{LINE_LIMIT, LINES_LIMIT}
+use Rattle.lpc_model.specs.declared.fault.LineFault.{LineFault}
+use Rattle.lpc_model.specs.declared.fault.LineFault.TheVariants as fault
+use Rattle.lpc_model.specs.Lines.{ScriptLine}
+use Rattle.lpc_model.specs.Script.{script_lines}
+use Rattle.lpc_model.specs.Grammar.{read_line}
+use Rattle.lpc_model.specs.Run.{FaultyLine, faulty_or, first_fault, is_well_formed, numbered_line}
+use Rattle.lpc_replay.specs.declared.reading.Place.{Place}
+use Rattle.lpc_replay.specs.Reading.{IsRead, behind, behind_byte, passes_limit, start}
+
+-- the place behind two parts
+behind_more : (o : Option Place) (xs ys : List ℕ) → ((p : Place) → behind p (xs ++ ys) ≡ option_and_then (λ q. behind q ys) (behind p xs)) → option_and_then (λ q. behind q (xs ++ ys)) o ≡ option_and_then (λ q. behind q ys) (option_and_then (λ q. behind q xs) o)
+behind_more None xs ys h = refl
+behind_more (Some p) xs ys h = h p
+
+pub behind_append : (p : Place) (xs ys : List ℕ) → behind p (xs ++ ys) ≡ option_and_then (λ q. behind q ys) (behind p xs)
+unfolding behind
+behind_append p [] ys = refl
+behind_append p (x ∷ xs) ys = behind_more (behind_byte p x) xs ys (λ q. behind_append q xs ys)
+
+pub behind_start : behind start [] ≡ Some start
+unfolding behind
+behind_start = refl
+
+pub behind_piece : (o : Option Place) (script piece : List ℕ) (here : Place) → o ≡ behind start script → o ≡ Some here → behind here piece ≡ behind start (script ++ piece)
+behind_piece o script piece here is at = let e : behind start script ≡ Some here = cc in sym (behind_append start script piece ∙ rw e refl)
+
+-- within the limits a script is not longer than a place says
+pub record IsWithin (p : Place) : Type 0 where
+  pub lines : p.lines ≤ LINES_LIMIT
+  pub column : p.column ≤ LINE_LIMIT
+
+pub record Grows (p q : Place) (n : ℕ) : Type 0 where
+  pub within : IsWithin q
+  pub size : 16385 * p.lines + p.column + n ≤ 16385 * q.lines + q.column
+
+byte_cases : (p q : Place) (full end long : Bool) → nat_le LINES_LIMIT p.lines ≡ full → nat_le LINE_LIMIT p.column ≡ long → IsWithin p → cond full None (cond end (Some (record { lines = p.lines + 1; column = 0 })) (cond long None (Some (record { lines = p.lines; column = p.column + 1 })))) ≡ Some q → Grows p q 1
+byte_cases p q true end long f l w is = absurd (cc)
+byte_cases p q false true long f l w is =
+    let r : Place = record { lines = p.lines + 1; column = 0 } in
+    let e : r ≡ q = cc in
+    let a : p.lines + 1 ≡ q.lines = ap (λ (z : Place). z.lines) e in
+    let b : 0 ≡ q.column = ap (λ (z : Place). z.column) e in
+    let few : p.lines < LINES_LIMIT = grind (arith, nat_tests) in
+    let short = w.column in
+    record { within = record { lines = omega arith; column = omega arith }; size = omega arith }
+byte_cases p q false false true f l w is = absurd (cc)
+byte_cases p q false false false f l w is =
+    let r : Place = record { lines = p.lines; column = p.column + 1 } in
+    let e : r ≡ q = cc in
+    let a : p.lines ≡ q.lines = ap (λ (z : Place). z.lines) e in
+    let b : p.column + 1 ≡ q.column = ap (λ (z : Place). z.column) e in
+    let few : p.lines < LINES_LIMIT = grind (arith, nat_tests) in
+    let short : p.column < LINE_LIMIT = grind (arith, nat_tests) in
+    record { within = record { lines = omega arith; column = omega arith }; size = omega arith }
+
+byte_grows : (p q : Place) (b : ℕ) → IsWithin p → behind_byte p b ≡ Some q → Grows p q 1
+byte_grows p q b w is = byte_cases p q (nat_le LINES_LIMIT p.lines) (b == 10) (nat_le LINE_LIMIT p.column) refl refl w is
+
+grows_more : (p q : Place) (o : Option Place) (bs : List ℕ) → ((r : Place) → o ≡ Some r → Grows p r 1) → ((r : Place) → IsWithin r → behind r bs ≡ Some q → Grows r q (length bs)) → option_and_then (λ r. behind r bs) o ≡ Some q → Grows p q (length bs + 1)
+grows_more p q None bs h k is = absurd (cc)
+grows_more p q (Some r) bs h k is =
+    let first = h r refl in
+    let others = k r first.within is in
+    let a = first.size in
+    let b = others.size in
+    record { within = others.within; size = omega arith }
+
+pub grows : (p q : Place) (bs : List ℕ) → IsWithin p → behind p bs ≡ Some q → Grows p q (length bs)
+unfolding behind
+grows p q [] w is =
+    let e : p ≡ q = cc in
+    let a : p.lines ≡ q.lines = ap (λ (z : Place). z.lines) e in
+    let b : p.column ≡ q.column = ap (λ (z : Place). z.column) e in
+    let few = w.lines in
+    let short = w.column in
+    record { within = record { lines = omega arith; column = omega arith }; size = omega arith }
+grows p q (b ∷ bs) w is =
+    let all = grows_more p q (behind_byte p b) bs (λ r at. byte_grows p r b w at) (λ r v at. grows r q bs v at) is in
+    let size = all.size in
+    record { within = all.within; size = omega arith }
+
+pub script_size : (o : Option Place) (script : List ℕ) (here : Place) → o ≡ behind start script → o ≡ Some here → length script < 16385 * 1000001
+script_size o script here is at =
+    let e : behind start script ≡ Some here = cc in
+    let g = grows start here script (record { lines = omega arith; column = omega arith }) e in
+    let a = g.size in
+    let b = g.within.lines in
+    let c = g.within.column in
+    omega arith
+
+-- faulty lines
+later_faulty : (n : ℕ) (r : Result (Option ScriptLine) LineFault) (o : Option FaultyLine) → is_some o ≡ true → is_some (faulty_or n r o) ≡ true
+later_faulty n (Ok said) o h = h
+later_faulty n (Err e) o h = refl
+
+next_faulty : (n : ℕ) (line : List ℕ) (lines : List (List ℕ)) → is_some (first_fault (n + 1) lines) ≡ true → is_some (first_fault n (line ∷ lines)) ≡ true
+unfolding first_fault
+next_faulty n line lines h = later_faulty n (numbered_line n line) (first_fault (n + 1) lines) h
+
+too_many : (n : ℕ) (line : List ℕ) (lines : List (List ℕ)) → LINES_LIMIT < n → is_some (first_fault n (line ∷ lines)) ≡ true
+unfolding first_fault
+too_many n line lines many = let past : nat_lt LINES_LIMIT n ≡ true = grind (arith, nat_tests) in rw past refl
+
+long_case : (n : ℕ) (many : Bool) (r : Result (Option ScriptLine) LineFault) (o : Option FaultyLine) → r ≡ Err fault.Long → is_some (faulty_or n (cond many (Err fault.Lines) r) o) ≡ true
+long_case n true r o is = refl
+long_case n false r o is = rw is refl
+
+long_line : (line : List ℕ) → LINE_LIMIT < length line → read_line line ≡ Err fault.Long
+unfolding read_line
+long_line line long = let past : nat_lt LINE_LIMIT (length line) ≡ true = grind (arith, nat_tests) in rw past refl
+
+too_long : (n : ℕ) (line : List ℕ) (lines : List (List ℕ)) → LINE_LIMIT < length line → is_some (first_fault n (line ∷ lines)) ≡ true
+unfolding first_fault
+too_long n line lines long = long_case n (nat_lt LINES_LIMIT n) (read_line line) (first_fault (n + 1) lines) (long_line line long)
+
+-- lines
+abbrev pub HasLine : List ℕ → List ℕ → Type 0
+HasLine bytes front = (more : List ℕ) × (lines : List (List ℕ)) × (script_lines bytes ≡ (front ++ more) ∷ lines)
+
+onto_has : (b : ℕ) (front : List ℕ) (lines : List (List ℕ)) → ((more : List ℕ) × (others : List (List ℕ)) × (lines ≡ (front ++ more) ∷ others)) → (more : List ℕ) × (others : List (List ℕ)) × (onto_first b lines ≡ (b ∷ front ++ more) ∷ others)
+onto_has b front lines h = (h.0, h.1, ap (onto_first b) h.2)
+
+onto_some : (b : ℕ) (lines : List (List ℕ)) → (more : List ℕ) × (others : List (List ℕ)) × (onto_first b lines ≡ (b ∷ more) ∷ others)
+onto_some b [] = ([], [], refl)
+onto_some b (l ∷ ls) = (l, ls, refl)
+
+-- bytes without a byte 10 begin a line
+front_line : (b : ℕ) (front bytes : List ℕ) → (b == 10) ≡ false → AllByRecursion (λ c. (c == 10) ≡ false) front → HasLine (b ∷ front ++ bytes) (b ∷ front)
+unfolding script_lines
+front_line b [] bytes h all = let o = onto_some b (script_lines bytes) in (o.0, o.1, rw h o.2)
+front_line b (c ∷ front) bytes h all =
+    let o = onto_has b (c ∷ front) (script_lines (c ∷ front ++ bytes)) (front_line c front bytes all.0 all.1) in
+    (o.0, o.1, rw h o.2)
+
+ended_line : (front bytes : List ℕ) → AllByRecursion (λ c. (c == 10) ≡ false) front → script_lines (front ++ 10 ∷ bytes) ≡ front ∷ script_lines bytes
+unfolding script_lines
+ended_line [] bytes all = refl
+ended_line (b ∷ front) bytes all = rw (all.0, ended_line front bytes all.1) refl
+
+some_case : (b : ℕ) (end : Bool) (rest : List (List ℕ)) → (line : List ℕ) × (lines : List (List ℕ)) × (cond end ([] ∷ rest) (onto_first b rest) ≡ line ∷ lines)
+some_case b true rest = ([], rest, refl)
+some_case b false [] = (b ∷ [], [], refl)
+some_case b false (l ∷ ls) = (b ∷ l, ls, refl)
+
+some_line : (front : List ℕ) (b : ℕ) (bytes : List ℕ) → (line : List ℕ) × (lines : List (List ℕ)) × (script_lines (front ++ b ∷ bytes) ≡ line ∷ lines)
+unfolding script_lines
+some_line [] b bytes = some_case b (b == 10) (script_lines bytes)
+some_line (c ∷ front) b bytes = some_case c (c == 10) (script_lines (front ++ b ∷ bytes))
+
+pub no_error : {A E : Type 0} (r : Result A E) → is_err r ≡ false → is_ok r ≡ true
+no_error (Ok x) h = refl
+no_error (Err e) h = absurd (cc)
+
+-- where there are lines enough, one more byte is too many
+full_byte : (p : Place) (bytes : List ℕ) → 0 < length bytes → LINES_LIMIT ≤ p.lines → behind p bytes ≡ None
+unfolding behind
+full_byte p [] some full = absurd (omega arith)
+full_byte p (b ∷ bs) some full = let past : nat_le LINES_LIMIT p.lines ≡ true = grind (arith, nat_tests) in rw past refl
+
+pub full_drop : (p : Place) (bytes : List ℕ) (i : ℕ) → i < length bytes → LINES_LIMIT ≤ p.lines → behind p (drop i bytes) ≡ None
+full_drop p bytes i some full = full_byte p (drop i bytes) (omega (arith, length-drop i bytes)) full
+
+-- each piece lowers what may still be read
+pub less_left : (limit n : ℕ) (script into all : List ℕ) → all ≡ script ++ take n into → n ≤ length into → 0 < n → length script < limit → limit - length all < limit - length script
+less_left limit n script into all is few some short =
+    let a : length all ≡ length script + length (take n into) = rw is (length-append script (take n into)) in
+    let b : length (take n into) ≡ n = length-take-le n into few in
+    omega arith
+
+-- a script that passes a limit has a faulty line
+unended : (front : List ℕ) (b : ℕ) → AllByRecursion (λ c. (c == 10) ≡ false) front → (b == 10) ≡ false → AllByRecursion (λ c. (c == 10) ≡ false) (front ++ b ∷ [])
+unended [] b all h = (h, tt)
+unended (c ∷ front) b all h = (all.0, unended front b all.1 h)
+
+begun_line : (front : List ℕ) (b : ℕ) (bytes : List ℕ) → AllByRecursion (λ c. (c == 10) ≡ false) front → (b == 10) ≡ false → HasLine (front ++ b ∷ bytes) (front ++ b ∷ [])
+begun_line [] b bytes all h = front_line b [] bytes h tt
+begun_line (c ∷ front) b bytes all h =
+    let o = front_line c (front ++ b ∷ []) bytes all.0 (unended front b all.1 h) in
+    (o.0, o.1, rw (sym (append_assoc front (b ∷ []) bytes)) o.2)
+
+abbrev pub IsFaulty : ℕ → List ℕ → Type 0
+IsFaulty n bytes = is_some (first_fault n (script_lines bytes)) ≡ true
+
+overrun_cases : (p : Place) (front : List ℕ) (b : ℕ) (bytes : List ℕ) (full end long : Bool) → nat_le LINES_LIMIT p.lines ≡ full → (b == 10) ≡ end → nat_le LINE_LIMIT p.column ≡ long
+    → AllByRecursion (λ c. (c == 10) ≡ false) front → length front ≡ p.column
+    → ((q : Place) (more : List ℕ) → AllByRecursion (λ c. (c == 10) ≡ false) more → length more ≡ q.column → behind q bytes ≡ None → IsFaulty (q.lines + 1) (more ++ bytes))
+    → option_and_then (λ q. behind q bytes) (cond full None (cond end (Some (record { lines = p.lines + 1; column = 0 })) (cond long None (Some (record { lines = p.lines; column = p.column + 1 }))))) ≡ None
+    → IsFaulty (p.lines + 1) (front ++ b ∷ bytes)
+overrun_cases p front b bytes true end long f e l all size h is =
+    let o = some_line front b bytes in
+    rw o.2 (too_many (p.lines + 1) o.0 o.1 (grind (arith, nat_tests)))
+overrun_cases p front b bytes false true long f e l all size h is =
+    let q : Place = record { lines = p.lines + 1; column = 0 } in
+    let ten : b ≡ 10 = eqb-true b 10 e in
+    rw (ten, ended_line front bytes all) (next_faulty (p.lines + 1) front (script_lines bytes) (h q [] tt refl is))
+overrun_cases p front b bytes false false true f e l all size h is =
+    let o = begun_line front b bytes all e in
+    let past : LINE_LIMIT ≤ p.column = grind (arith, nat_tests) in
+    let a = length-append (front ++ b ∷ []) o.0 in
+    let c = length-append front (b ∷ []) in
+    let d : length (b ∷ []) ≡ 1 = refl in
+    rw o.2 (too_long (p.lines + 1) ((front ++ b ∷ []) ++ o.0) o.1 (omega arith))
+overrun_cases p front b bytes false false false f e l all size h is =
+    let q : Place = record { lines = p.lines; column = p.column + 1 } in
+    let c = length-append front (b ∷ []) in
+    let d : length (b ∷ []) ≡ 1 = refl in
+    let faulty = h q (front ++ b ∷ []) (unended front b all e) (omega arith) is in
+    rw (append_assoc front (b ∷ []) bytes) at faulty
+
+overruns : (p : Place) (front bytes : List ℕ) → AllByRecursion (λ c. (c == 10) ≡ false) front → length front ≡ p.column → behind p bytes ≡ None → IsFaulty (p.lines + 1) (front ++ bytes)
+unfolding behind
+overruns p front [] all size is = absurd (cc)
+overruns p front (b ∷ bytes) all size is =
+    overrun_cases p front b bytes (nat_le LINES_LIMIT p.lines) (b == 10) (nat_le LINE_LIMIT p.column) refl refl refl all size (λ q more a s i. overruns q more bytes a s i) is
+
+none_is : (o : Option Place) → is_none o ≡ true → o ≡ None
+none_is None h = refl
+none_is (Some p) h = absurd (cc)
+
+faulty_is : (o : Option FaultyLine) → is_some o ≡ true → is_none o ≡ false
+faulty_is None h = absurd (cc)
+faulty_is (Some f) h = refl
+
+pub limit_faulty : (script new : List ℕ) → passes_limit script ≡ true → is_well_formed (script_lines (script ++ new)) ≡ false
+limit_faulty script new h =
+    let none : behind start (script ++ new) ≡ None = behind_append start script new ∙ rw (none_is (behind start script) h) refl in
+    faulty_is (first_fault 1 (script_lines (script ++ new))) (overruns start [] (script ++ new) tt refl none)
+
+-- what is read of a well-formed script is all of it
+read_case : (limit : Bool) (script old new : List ℕ) → passes_limit script ≡ limit → IsRead script old new → is_well_formed (script_lines old) ≡ true → (new ≡ []) × (script ≡ old)
+read_case true script old new l r h =
+    let faulty = limit_faulty script new l in
+    let whole = rw r.parts at h in
+    absurd (cc)
+read_case false script old new l r h =
+    let none = r.whole l in
+    let all = r.parts in
+    (none, sym (rw (none, append-nil) at all))
+
+pub read_whole : (script old new : List ℕ) → IsRead script old new → is_well_formed (script_lines old) ≡ true → (new ≡ []) × (script ≡ old)
+read_whole script old new r h = read_case (passes_limit script) script old new refl r h
+
+-- what is read without a faulty line is all
+sound_case : (limit : Bool) (script old new : List ℕ) → passes_limit script ≡ limit → IsRead script old new → is_well_formed (script_lines script) ≡ true → (new ≡ []) × (script ≡ old)
+sound_case true script old new l r h =
+    let none : script ++ [] ≡ script = append-nil script in
+    let faulty : is_well_formed (script_lines script) ≡ false = rw none at (limit_faulty script [] l) in
+    absurd (cc)
+sound_case false script old new l r h =
+    let none = r.whole l in
+    let all = r.parts in
+    (none, sym (rw (none, append-nil) at all))
+
+pub read_sound : (script old new : List ℕ) → IsRead script old new → is_well_formed (script_lines script) ≡ true → (new ≡ []) × (script ≡ old)
+read_sound script old new r h = sound_case (passes_limit script) script old new refl r h

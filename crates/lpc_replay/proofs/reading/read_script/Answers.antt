@@ -1,0 +1,30 @@
+use Rattle.std.proofs.Common.{arith, sym, refl, ◌∙◌, ◌≡◌, ◌++◌, ◌-◌, ◌*◌, ◌<◌, length, take}
+use Rattle.lpc_replay.proofs.Limits.{behind_piece, behind_start, less_left, no_error, script_size}
+use Rattle.lpc_replay.proofs.Tells.{read_more, told_same}
+use Rattle.lpc_replay.proofs.reading.read_script.Goals as goal
+
+pub loop-place-init : goal.loop-place-init
+loop-place-init g c =
+    let left = g.S.Source.left in
+    record {
+      told = told_same (left c.args.source.now) (left c.args.source.now) (λ old new. old ≡ c.new-script.result.items ++ new) (λ x. rw c.new-script.ensures.items refl) refl;
+      place = rw c.new-script.ensures.items (sym behind_start);
+      faults = omega arith;
+    }
+
+pub loop-place-smaller : goal.loop-place-smaller
+loop-place-smaller g c =
+    let items = rw (no_error c.extend_from_slice.result (sym c.is_err.ensures.value ∙ c.if-is_err.false)) at c.extend_from_slice.ensures.items in
+    let l = c.loop-place in
+    less_left (16385 * 1000001) c.in-Ok.count l.script.items c.read.new.into c.extend_from_slice.new.self.items items c.in-Ok.ensures.bound (omega arith) (script_size l.place l.script.items c.in-Some.here l.invariant.place c.in-Some.is)
+
+pub loop-place-preserved : goal.loop-place-preserved
+loop-place-preserved g c =
+    let left = g.S.Source.left in
+    let items = rw (no_error c.extend_from_slice.result (sym c.is_err.ensures.value ∙ c.if-is_err.false)) at c.extend_from_slice.ensures.items in
+    let l = c.loop-place in
+    record {
+      told = read_more l.script.items c.read.new.into c.extend_from_slice.new.self.items c.in-Ok.count (left c.args.source.now) (left l.source) (left c.read.new.self) items l.invariant.told c.in-Ok.ensures.bytes;
+      place = rw (c.behind-place.ensures, items) (behind_piece l.place l.script.items (take c.in-Ok.count c.read.new.into) c.in-Some.here l.invariant.place c.in-Some.is);
+      faults = omega arith;
+    }

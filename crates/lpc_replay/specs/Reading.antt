@@ -1,0 +1,30 @@
+-- How much of a script is read.
+use Rattle.std.specs.Prelude.{◌≡◌, ℕ, ◌+◌, ◌==◌, nat_le, Bool, false, List, [], ◌∷◌, ◌++◌, Option, Some, None, is_none, option_and_then, if◌then◌else◌}
+use Rattle.lpc_base.specs.declared.limits.TheConstants.{LINE_LIMIT, LINES_LIMIT}
+use Rattle.lpc_replay.specs.declared.reading.Place.{Place}
+
+-- the place behind one more byte; none where it is a byte of a line too many, or one too many of its line
+abbrev pub behind_byte : Place → ℕ → Option Place
+behind_byte p b =
+    if nat_le LINES_LIMIT p.lines then None
+    else (if b == 10 then Some (record { lines = p.lines + 1; column = 0 })
+    else (if nat_le LINE_LIMIT p.column then None
+    else Some (record { lines = p.lines; column = p.column + 1 })))
+
+-- the place behind more bytes, none where they pass a limit
+unfoldable pub behind : Place → List ℕ → Option Place
+behind p [] = Some p
+behind p (b ∷ bs) = option_and_then (λ q. behind q bs) (behind_byte p b)
+
+-- before the first byte
+abbrev pub start : Place
+start = record { lines = 0; column = 0 }
+
+-- so many bytes of a script pass a limit: a line is too long, or there is one too many
+abbrev pub passes_limit : List ℕ → Bool
+passes_limit script = is_none (behind start script)
+
+-- what is read is the first of what was left; and unless it passes a limit, it is all
+pub record IsRead (script old new : List ℕ) : Type 0 where
+  pub parts : old ≡ script ++ new
+  pub whole : passes_limit script ≡ false → new ≡ []
