@@ -4,3 +4,4 @@ pub mod Refusing
 pub mod Removing
 pub mod Tells
 pub mod Limits
+pub mod Turns

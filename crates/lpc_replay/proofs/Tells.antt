@@ -26,14 +26,19 @@ pub sent_more : (bytes rest : List ℕ) (n : ℕ) (a b c : Option (List ℕ)) �
 sent_more bytes rest n a b c p q = told_then a b c _ _ _
     (λ x y z s t. (s.0 ++ take n rest, s.1 ∙ rw (append_assoc, take-append-drop) refl, t ∙ rw (s.2, append_assoc) refl)) p q
 
+-- what is still to be sent, said in other words
+pub told_as : (a b : Option (List ℕ)) (text same all : List ℕ) → text ≡ same → Told a b (λ old new. new ++ text ≡ old ++ all) → Told a b (λ old new. new ++ same ≡ old ++ all)
+told_as a b text same all e p = subst (λ t. Told a b (λ old new. new ++ t ≡ old ++ all)) e p
+
 -- the text of the rest begins with what is sent next
-pub play_goes : (s0 s1 s2 : Option (List ℕ)) (text rest more all : List ℕ) → Told s0 s1 (λ old new. new ++ rest ≡ old ++ all) → Told s1 s2 (λ old new. new ≡ old ++ text) → rest ≡ text ++ more → Told s0 s2 (λ old new. new ++ more ≡ old ++ all)
-play_goes s0 s1 s2 text rest more all p q e = told_then s0 s1 s2 (λ old new. new ++ rest ≡ old ++ all) (λ old new. new ≡ old ++ text) (λ old new. new ++ more ≡ old ++ all)
+pub told_goes : (s0 s1 s2 : Option (List ℕ)) (text rest more all : List ℕ) → Told s0 s1 (λ old new. new ++ rest ≡ old ++ all) → Told s1 s2 (λ old new. new ≡ old ++ text) → rest ≡ text ++ more → Told s0 s2 (λ old new. new ++ more ≡ old ++ all)
+told_goes s0 s1 s2 text rest more all p q e = told_then s0 s1 s2 (λ old new. new ++ rest ≡ old ++ all) (λ old new. new ≡ old ++ text) (λ old new. new ++ more ≡ old ++ all)
     (λ x y z s t. rw (t, append_assoc, ← e) s) p q
 
-pub play_ends : (s0 s1 s2 : Option (List ℕ)) (text rest all : List ℕ) → Told s0 s1 (λ old new. new ++ rest ≡ old ++ all) → Told s1 s2 (λ old new. new ≡ old ++ text) → rest ≡ text → Told s0 s2 (λ old new. new ≡ old ++ all)
-play_ends s0 s1 s2 text rest all p q e = told_then s0 s1 s2 (λ old new. new ++ rest ≡ old ++ all) (λ old new. new ≡ old ++ text) (λ old new. new ≡ old ++ all)
-    (λ x y z s t. rw (t, ← e) s) p q
+-- the last text is sent
+pub told_ends : (s0 s1 s2 : Option (List ℕ)) (last all : List ℕ) → Told s0 s1 (λ old new. new ++ last ≡ old ++ all) → Told s1 s2 (λ old new. new ≡ old ++ last) → Told s0 s2 (λ old new. new ≡ old ++ all)
+told_ends s0 s1 s2 last all p q = told_then s0 s1 s2 (λ old new. new ++ last ≡ old ++ all) (λ old new. new ≡ old ++ last) (λ old new. new ≡ old ++ all)
+    (λ x y z s t. t ∙ s) p q
 
 -- what was read, and one piece more
 pub read_more : (script into all : List ℕ) (n : ℕ) (a b c : Option (List ℕ)) → all ≡ script ++ take n into → Told a b (λ old new. old ≡ script ++ new) → Told b c (Gives n into) → Told a c (λ old new. old ≡ all ++ new)

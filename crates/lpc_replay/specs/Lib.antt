@@ -1,3 +1,4 @@
 pub mod Laws
 pub mod Sending
 pub mod Reading
+pub mod Playing

@@ -2,6 +2,8 @@
 #![tactic(auto)]
 
 mod laws;
+mod play;
+mod playback;
 mod reading;
 mod sending;
 

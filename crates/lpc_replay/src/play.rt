@@ -1,0 +1,116 @@
+// A whole script is run, and its transcript sent.
+ghost use Rattle.std.specs.Prelude.{◌≡◌, ◌≤◌, ◌+◌, ◌++◌, IfOk, OnOk, IsErrOf, is_none};
+ghost use Rattle.lpc_base.specs.Streams.{Told, Rose};
+ghost use Rattle.lpc_model.specs.Script.{script_lines};
+ghost use Rattle.lpc_model.specs.Run.{first_fault, is_well_formed};
+ghost use Rattle.lpc_model.specs.Transcript.{transcript};
+ghost use Rattle.lpc_replay.specs.Playing.{begin, last_text, text_from};
+
+use crate::playback::Playback;
+use crate::sending::send_all;
+use lpc_base::{Failed, OutOfMemory, Sink};
+use lpc_model::LineFault;
+use lpc_script::{Scratch, next_line};
+use std::alloc::Global;
+
+/// Why a script wasn't run to its end or its first faulty line.
+#[derive(Clone, Copy, Debug, PartialEq, Eq)]
+pub enum PlayError {
+    /// Memory ran out.
+    OutOfMemory,
+    /// The sink failed.
+    SinkFailed,
+}
+
+impl From<OutOfMemory> for PlayError {
+    ghost use Rattle.std.specs.Prelude.{◌≡◌};
+    ghost use Rattle.lpc_replay.specs.declared.play.PlayError.TheVariants.{OutOfMemory};
+
+    ghost from_gives = { λ _ e. e ≡ OutOfMemory };
+
+    fn from(_: OutOfMemory) -> Self {
+        PlayError::OutOfMemory
+    }
+}
+
+impl From<Failed> for PlayError {
+    ghost use Rattle.std.specs.Prelude.{◌≡◌};
+    ghost use Rattle.lpc_replay.specs.declared.play.PlayError.TheVariants.{SinkFailed};
+
+    ghost from_gives = { λ _ e. e ≡ SinkFailed };
+
+    fn from(_: Failed) -> Self {
+        PlayError::SinkFailed
+    }
+}
+
+/// Runs the lines of a script one after the other and sends what each tells. Answers the fault of the first faulty line.
+fn play_lines<K: Sink>(
+    alloc: Global,
+    playback: &mut Playback,
+    scratch: &mut Scratch,
+    script: &[u8],
+    sink: &mut K,
+) -> Result<Option<LineFault>, PlayError>
+    ensures sent { IfOk result (λ fault. Told (K.sent sink.old) (K.sent sink.new) (λ old new. new ++ last_text playback.new.at fault ≡ old ++ text_from playback.old.at (script_lines script.now))) }
+    ensures fault { IfOk result (λ fault. is_none fault ≡ is_none (first_fault (playback.old.at.lines + 1) (script_lines script.now))) }
+    ensures failed { IsErrOf result PlayError.SinkFailed → Rose (K.faults sink.old) (K.faults sink.new) }
+    ensures later { K.faults sink.old ≤ K.faults sink.new }
+{
+    let mut rest = script;
+    while !rest.is_empty() {
+        let (line, more) = next_line(rest);
+        if let Some(fault) = playback.run_line(alloc, scratch, line)? {
+            return Ok(Some(fault));
+        }
+        send_all(sink, playback.text())?;
+        rest = more;
+    }
+    Ok(None)
+}
+
+/// Sends the last line.
+fn end<K: Sink>(
+    playback: &mut Playback,
+    fault: Option<LineFault>,
+    sink: &mut K,
+) -> Result<(), PlayError>
+    ensures sent { OnOk result (Told (K.sent sink.old) (K.sent sink.new) (λ old new. new ≡ old ++ last_text playback.old.at fault)) }
+    ensures failed { IsErrOf result PlayError.SinkFailed → Rose (K.faults sink.old) (K.faults sink.new) }
+    ensures later { K.faults sink.old ≤ K.faults sink.new }
+{
+    playback.end(fault)?;
+    send_all(sink, playback.text())?;
+    Ok(())
+}
+
+/// Runs a script from its first line on, and sends its transcript.
+fn play_all<K: Sink>(
+    alloc: Global,
+    playback: &mut Playback,
+    scratch: &mut Scratch,
+    script: &[u8],
+    sink: &mut K,
+) -> Result<bool, PlayError>
+    requires { playback.old.at ≡ begin }
+    ensures sent { OnOk result (Told (K.sent sink.old) (K.sent sink.new) (λ old new. new ≡ old ++ transcript script.now)) }
+    ensures whole { IfOk result (λ whole. whole ≡ is_well_formed (script_lines script.now)) }
+    ensures failed { IsErrOf result PlayError.SinkFailed → Rose (K.faults sink.old) (K.faults sink.new) }
+    ensures later { K.faults sink.old ≤ K.faults sink.new }
+{
+    let fault = play_lines(alloc, playback, scratch, script, sink)?;
+    end(playback, fault, sink)?;
+    Ok(fault.is_none())
+}
+
+/// Sends the transcript of a script. Answers whether every line was well formed.
+pub fn play<K: Sink>(alloc: Global, script: &[u8], sink: &mut K) -> Result<bool, PlayError>
+    ensures sent { OnOk result (Told (K.sent sink.old) (K.sent sink.new) (λ old new. new ≡ old ++ transcript script.now)) }
+    ensures whole { IfOk result (λ whole. whole ≡ is_well_formed (script_lines script.now)) }
+    ensures failed { IsErrOf result PlayError.SinkFailed → Rose (K.faults sink.old) (K.faults sink.new) }
+    ensures later { K.faults sink.old ≤ K.faults sink.new }
+{
+    let mut scratch = Scratch::new(alloc)?;
+    let mut playback = Playback::new(alloc)?;
+    play_all(alloc, &mut playback, &mut scratch, script, sink)
+}

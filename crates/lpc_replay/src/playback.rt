@@ -1,0 +1,148 @@
+// A script is run and printed line by line.
+ghost use Rattle.std.specs.Prelude.{◌≡◌, ◌<◌, ◌≤◌, ◌+◌, ◌++◌, [], length, IfOk, OnOk};
+ghost use Rattle.lpc_base.specs.declared.limits.TheConstants.{LINES_LIMIT};
+ghost use Rattle.lpc_model.specs.Lines.{line_of};
+ghost use Rattle.lpc_model.specs.Machine as model;
+ghost use Rattle.lpc_model.specs.Script.{kind_number};
+ghost use Rattle.lpc_model.specs.Text.{entries_text};
+ghost use Rattle.lpc_replay.specs.Playing.{RunsLine, begin, last_text};
+
+use lpc_base::OutOfMemory;
+use lpc_base::limits::LINES_LIMIT;
+use lpc_machine::Machine;
+use lpc_model::{Entries, Line, LineFault};
+use lpc_script::{Scratch, read_line};
+use lpc_transcript::{print, print_end, print_stop};
+use std::alloc::Global;
+use std::marker::Model;
+
+/// A script as far as it has run, and the text that is to be sent next.
+#[derive(Drop)]
+pub struct Playback {
+    machine: Machine,
+    out: Entries,
+    text: Vec<u8>,
+    lines: u32,
+    told: u128,
+}
+
+impl Model for Playback {
+    ghost use Rattle.lpc_replay.specs.Playing.{AreCounted, Played};
+
+    ghost Value = { Played };
+
+    ghost view = { λ p. record { at = record { rows = p.machine.rows; lines = p.lines; told = p.told }; text = p.text.items } };
+
+    ghost invariant = { λ p. AreCounted p.machine.calls p.lines p.told };
+}
+
+impl Playback {
+    /// Before the first line.
+    pub fn new(alloc: Global) -> Result<Playback, OutOfMemory>
+        ensures { IfOk result (λ p. p ≡ record { at = begin; text = [] }) }
+    {
+        let out = Entries::new(alloc)?;
+        Ok(Playback {
+            machine: Machine::new(alloc),
+            out,
+            text: Vec::new(alloc),
+            lines: 0,
+            told: 0,
+        })
+    }
+
+    /// What is to be sent next.
+    pub fn text(&self) -> &[u8]
+        ensures { result.now ≡ self.now.text }
+    {
+        &self.text
+    }
+
+    /// Runs the next line, and has the text of what it tells ready. Answers its fault where it is faulty.
+    pub fn run_line(
+        &mut self,
+        alloc: Global,
+        scratch: &mut Scratch,
+        line: &[u8],
+    ) -> Result<Option<LineFault>, OutOfMemory>
+        ensures { IfOk result (λ fault. RunsLine line.now fault self.old.at self.new.at self.new.text) }
+    {
+        self.text.clear();
+        if self.lines >= LINES_LIMIT {
+            return Ok(Some(LineFault::Lines));
+        }
+        let said = match read_line(line, scratch) {
+            Ok(said) => said,
+            Err(fault) => return Ok(Some(fault)),
+        };
+        self.lines += 1;
+        if let Some(said) = said {
+            let told = tell(
+                alloc,
+                &mut self.machine,
+                &mut self.out,
+                self.lines,
+                &said,
+                &mut self.text,
+            )?;
+            self.told += told as u128;
+        }
+        Ok(None)
+    }
+
+    /// Has the last line ready: of a script that was run to its end, or of one whose next line has this fault.
+    #[tactic(auto, unfolding(crate::specs::Playing::last_text))]
+    pub fn end(&mut self, fault: Option<LineFault>) -> Result<(), OutOfMemory>
+        ensures { OnOk result (self.new.text ≡ last_text self.old.at fault) }
+    {
+        self.text.clear();
+        match fault {
+            None => print_end(
+                &mut self.text,
+                self.lines,
+                self.told,
+                self.machine.objects(),
+            ),
+            Some(fault) => print_stop(&mut self.text, self.lines + 1, kind_number(fault)),
+        }
+    }
+}
+
+/// Takes the step of a line of this number and appends its text. Answers how many entries it told.
+fn tell(
+    alloc: Global,
+    machine: &mut Machine,
+    out: &mut Entries,
+    number: u32,
+    said: &Line<'_>,
+    text: &mut Vec<u8>,
+) -> Result<usize, OutOfMemory>
+    requires { machine.old.calls < LINES_LIMIT }
+    ensures rows { OnOk result (machine.new.rows ≡ (model.step machine.old.rows (line_of said.now)).world) }
+    ensures text { OnOk result (text.new.items ≡ text.old.items ++ entries_text number (model.step machine.old.rows (line_of said.now)).entries) }
+    ensures told { IfOk result (λ told. told ≡ length (model.step machine.old.rows (line_of said.now)).entries) }
+    ensures calls { machine.new.calls ≤ machine.old.calls + 1 }
+{
+    out.clear();
+    out.reserve(machine.room_needed())?;
+    machine.step(said, out)?;
+    print(alloc, number, out, text)?;
+    Ok(out.list().len())
+}
+
+/// The number of a fault's kind.
+fn kind_number(fault: LineFault) -> u8
+    ensures { result ≡ kind_number fault }
+{
+    match fault {
+        LineFault::Byte => 1,
+        LineFault::Word => 2,
+        LineFault::Call => 3,
+        LineFault::Count => 4,
+        LineFault::Number => 5,
+        LineFault::Hex => 6,
+        LineFault::Message => 7,
+        LineFault::Long => 9,
+        LineFault::Lines => 10,
+    }
+}
