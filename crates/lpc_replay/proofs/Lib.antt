@@ -2,6 +2,8 @@ pub mod Holding
 pub mod Returning
 pub mod Refusing
 pub mod Removing
+pub mod EveryScript
 pub mod Tells
 pub mod Limits
 pub mod Turns
+pub mod Formed

@@ -2,3 +2,4 @@ pub mod Laws
 pub mod Sending
 pub mod Reading
 pub mod Playing
+pub mod TopCall

@@ -5,6 +5,8 @@ mod laws;
 mod play;
 mod playback;
 mod reading;
+mod replay;
 mod sending;
 
 pub use laws::law_completion;
+pub use replay::run_words;

@@ -1,0 +1,36 @@
+-- A script that is read whole, or to a limit, is formed as what is read of it.
+use Rattle.std.proofs.Common.{◌≡◌, ℕ, Bool, true, false, List, [], ◌++◌, refl, sym, subst, ◌∙◌}
+use Rattle.std.specs.Prelude.{IfSome, None, Option, Some}
+use Rattle.std.proofs.lemmas.List.{append-nil}
+use Rattle.lpc_base.specs.Streams.{Told}
+use Rattle.lpc_model.specs.Script.{script_lines}
+use Rattle.lpc_model.specs.Run.{is_well_formed}
+use Rattle.lpc_model.specs.Transcript.{transcript}
+use Rattle.lpc_replay.specs.Laws.{MisfitsRefused, RefusalsIdle, RefusalsStay, RequestsReturn}
+use Rattle.lpc_replay.specs.Reading.{IsRead, passes_limit}
+use Rattle.lpc_replay.specs.TopCall.{IsFormed, Replays}
+use Rattle.lpc_replay.proofs.Limits.{limit_faulty, read_sound}
+use Rattle.lpc_replay.proofs.Tells.{told_weaker}
+
+form_case : (limit : Bool) (script old new : List ℕ) → passes_limit script ≡ limit → IsRead script old new → is_well_formed (script_lines old) ≡ is_well_formed (script_lines script)
+form_case true script old new l r =
+    rw r.parts (limit_faulty script new l) ∙ sym (rw (append-nil script) at (limit_faulty script [] l))
+form_case false script old new l r = rw (r.parts, r.whole l, append-nil script) refl
+
+same_form : (script old new : List ℕ) → IsRead script old new → is_well_formed (script_lines old) ≡ is_well_formed (script_lines script)
+same_form script old new r = form_case (passes_limit script) script old new refl r
+
+pub formed : (left left' : Option (List ℕ)) (script : List ℕ) (form : Bool) → Told left left' (IsRead script) → is_well_formed (script_lines script) ≡ form → IsFormed form left
+formed None left' script form told is = tt
+formed (Some old) None script form told is = absurd told
+formed (Some old) (Some new) script form told is = same_form script old new told ∙ is
+
+pub replays : (left left' sent sent' : Option (List ℕ)) (script : List ℕ) → Told left left' (IsRead script) → is_well_formed (script_lines script) ≡ true → Told sent sent' (λ before now. now ≡ before ++ transcript script) → Replays left left' sent sent'
+replays left left' sent sent' script told is transcribed =
+    told_weaker left left' (IsRead script) (λ all rest. (rest ≡ []) × Told sent sent' (λ before now. now ≡ before ++ transcript all))
+    (λ old new r. let whole = read_sound script old new r is in (whole.0, subst (λ t. Told sent sent' (λ before now. now ≡ before ++ transcript t)) whole.1 transcribed)) told
+
+-- what holds of every script holds of the one that is told
+pub of_told : (P : List ℕ → Type 0) → ((script : List ℕ) → P script) → (left : Option (List ℕ)) → IfSome left P
+of_told P h None = tt
+of_told P h (Some script) = h script

@@ -1,0 +1,56 @@
+-- What the top call promises.
+use Rattle.std.specs.Prelude.{◌≡◌, ℕ, ◌==◌, Bool, true, false, List, [], ◌∷◌, ◌++◌, Option, IfSome, codes}
+use Rattle.std.specs.List.{list_any}
+use Rattle.std.specs.Str.{bytes_eq}
+use Rattle.lpc_base.specs.Streams.{Rose, Told}
+use Rattle.lpc_model.specs.Script.{script_lines}
+use Rattle.lpc_model.specs.Run.{is_well_formed}
+use Rattle.lpc_model.specs.Transcript.{transcript}
+
+-- the words are `replay` alone
+abbrev pub is_replay : List (List ℕ) → Bool
+is_replay (word ∷ []) = bytes_eq word (codes "replay")
+is_replay words = false
+
+-- what is sent where the words are none of the forms
+abbrev pub usage : List ℕ
+usage = codes "usage: ntlpc COMMAND [WORDS]\n"
+
+-- the status is one of these
+abbrev pub is_one_of : List ℕ → ℕ → Bool
+is_one_of statuses status = list_any (λ s. s == status) statuses
+
+-- how a replay ends that no failure ends: a well-formed script is replayed whole and another one to its first faulty
+-- line, unless memory runs out
+abbrev pub unfailing_statuses : Bool → List ℕ
+unfailing_statuses true = 0 ∷ 5 ∷ []
+unfailing_statuses false = 2 ∷ 5 ∷ []
+
+-- a count didn't rise
+abbrev pub Still : ℕ → ℕ → Type 0
+Still before now = Rose before now → ⊥
+
+-- Of what a source had left and has left, and what a sink was sent by then and by now, where they tell their bytes.
+-- All of the script is read, and its transcript is sent.
+abbrev pub Replays : Option (List ℕ) → Option (List ℕ) → Option (List ℕ) → Option (List ℕ) → Type 0
+Replays left left' sent sent' =
+    Told left left' (λ script rest. (rest ≡ []) × Told sent sent' (λ before now. now ≡ before ++ transcript script))
+
+-- what is read holds a faulty line, and its transcript, which ends with the stop at that line, is sent
+pub record IsStopped (sent sent' : Option (List ℕ)) (script rest : List ℕ) : Type 0 where
+  pub read : List ℕ
+  pub parts : script ≡ read ++ rest
+  pub faulty : is_well_formed (script_lines read) ≡ false
+  pub transcribed : Told sent sent' (λ before now. now ≡ before ++ transcript read)
+
+abbrev pub Stops : Option (List ℕ) → Option (List ℕ) → Option (List ℕ) → Option (List ℕ) → Type 0
+Stops left left' sent sent' = Told left left' (IsStopped sent sent')
+
+-- where the source tells its bytes, the script that it had left is well formed, or isn't
+abbrev pub IsFormed : Bool → Option (List ℕ) → Type 0
+IsFormed formed left = IfSome left (λ script. is_well_formed (script_lines script) ≡ formed)
+
+-- where the source tells its bytes, a replay ends as the script that it had left says
+abbrev pub EndsAsFormed : Option (List ℕ) → ℕ → Type 0
+EndsAsFormed left status =
+    IfSome left (λ script. is_one_of (unfailing_statuses (is_well_formed (script_lines script))) status ≡ true)

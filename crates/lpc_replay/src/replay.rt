@@ -1,0 +1,129 @@
+// The top call.
+ghost use Rattle.std.specs.Prelude.{◌≡◌, ◌⊎◌, ◌≤◌, ◌++◌, [], ◌∷◌, map, true, false, string_bytes, IfSome};
+ghost use Rattle.lpc_base.specs.Streams.{Told, Rose};
+ghost use Rattle.lpc_replay.specs.Laws.{MisfitsRefused, RefusalsIdle, RefusalsStay, RequestsReturn};
+ghost use Rattle.lpc_replay.specs.TopCall.{EndsAsFormed, IsFormed, Replays, Still, Stops, is_one_of, is_replay, usage};
+
+use crate::play::{PlayError, play};
+use crate::reading::{ReadError, read_script};
+use crate::sending::send_all;
+use lpc_base::{Sink, Source};
+use std::alloc::Global;
+
+/// The source answered its end, every line was well formed, and all was written.
+const REPLAYED: u8 = 0;
+
+/// A line was faulty.
+const STOPPED: u8 = 2;
+
+/// The source failed.
+const SOURCE_FAILED: u8 = 3;
+
+/// The sink failed.
+const SINK_FAILED: u8 = 4;
+
+/// Memory ran out.
+const OUT_OF_MEMORY: u8 = 5;
+
+/// The words are none of the forms.
+const NO_FORM: u8 = 64;
+
+fn is_replay(words: &[String]) -> bool
+    ensures { result ≡ is_replay (map (λ w. string_bytes w) words.now) }
+{
+    match words {
+        [word] => word.as_str() == "replay",
+        _ => false,
+    }
+}
+
+/// Says how the program is called.
+fn tell_usage<K: Sink>(sink: &mut K) -> u8
+    ensures statuses { is_one_of (64 ∷ 4 ∷ []) result ≡ true }
+    ensures usage { result ≡ 64 → Told (K.sent sink.old) (K.sent sink.new) (λ old new. new ≡ old ++ usage) }
+    ensures sink_failed { result ≡ 4 → Rose (K.faults sink.old) (K.faults sink.new) }
+    ensures sink_later { K.faults sink.old ≤ K.faults sink.new }
+{
+    match send_all(sink, b"usage: ntlpc COMMAND [WORDS]\n") {
+        Ok(()) => NO_FORM,
+        Err(_) => SINK_FAILED,
+    }
+}
+
+/// Reads a script from the source and sends its transcript.
+fn replay<S: Source, K: Sink>(alloc: Global, source: &mut S, sink: &mut K) -> u8
+    ensures statuses { is_one_of (0 ∷ 2 ∷ 3 ∷ 4 ∷ 5 ∷ []) result ≡ true }
+    ensures transcript { result ≡ 0 → Replays (S.left source.old) (S.left source.new) (K.sent sink.old) (K.sent sink.new) }
+    ensures whole { result ≡ 0 → IsFormed true (S.left source.old) }
+    ensures stopped { result ≡ 2 → Stops (S.left source.old) (S.left source.new) (K.sent sink.old) (K.sent sink.new) }
+    ensures faulty { result ≡ 2 → IsFormed false (S.left source.old) }
+    ensures source_failed { result ≡ 3 → Rose (S.faults source.old) (S.faults source.new) }
+    ensures sink_failed { result ≡ 4 → Rose (K.faults sink.old) (K.faults sink.new) }
+    ensures source_later { S.faults source.old ≤ S.faults source.new }
+    ensures sink_later { K.faults sink.old ≤ K.faults sink.new }
+{
+    let script = match read_script(alloc, source) {
+        Ok(script) => script,
+        Err(ReadError::OutOfMemory) => return OUT_OF_MEMORY,
+        Err(ReadError::SourceFailed) => return SOURCE_FAILED,
+    };
+    match play(alloc, &script, sink) {
+        Ok(true) => REPLAYED,
+        Ok(false) => STOPPED,
+        Err(PlayError::OutOfMemory) => OUT_OF_MEMORY,
+        Err(PlayError::SinkFailed) => SINK_FAILED,
+    }
+}
+
+/// Runs the form that the words name, and answers the program's status. The forms and the statuses are this project's
+/// own.
+///
+/// The words `replay` replay the script that the source gives: each line is run in its turn, and what it tells is sent
+/// to the sink. Status 0: the script was read to its end, every line was well formed, and all was sent. 2: a line was
+/// faulty; the lines before it were run, and `stop` with its number and its fault was sent. 3: the source failed.
+/// 4: the sink failed. 5: memory ran out. Other words answer 64, send the usage line and read nothing.
+pub fn run_words<S: Source, K: Sink>(
+    alloc: Global,
+    words: &[String],
+    source: &mut S,
+    sink: &mut K,
+) -> u8
+    // The status is one of six.
+    ensures statuses { is_one_of (0 ∷ 2 ∷ 3 ∷ 4 ∷ 5 ∷ 64 ∷ []) result ≡ true }
+
+    // The words are none of the forms: the usage line is sent, nothing is read, and no memory is taken.
+    ensures words { result ≡ 64 → is_replay (map (λ w. string_bytes w) words.now) ≡ false }
+    ensures no_form { is_replay (map (λ w. string_bytes w) words.now) ≡ false → is_one_of (64 ∷ 4 ∷ []) result ≡ true }
+    ensures unread { is_replay (map (λ w. string_bytes w) words.now) ≡ false → source.new ≡ source.old }
+    ensures usage { result ≡ 64 → Told (K.sent sink.old) (K.sent sink.new) (λ old new. new ≡ old ++ usage) }
+
+    // The script is read to its end, is well formed, and its transcript is sent.
+    ensures transcript { result ≡ 0 → Replays (S.left source.old) (S.left source.new) (K.sent sink.old) (K.sent sink.new) }
+    ensures whole { result ≡ 0 → IsFormed true (S.left source.old) }
+
+    // The script is read up to a faulty line, and its transcript is sent.
+    ensures stopped { result ≡ 2 → Stops (S.left source.old) (S.left source.new) (K.sent sink.old) (K.sent sink.new) }
+    ensures faulty { result ≡ 2 → IsFormed false (S.left source.old) }
+
+    // A failure is answered only where it was counted, and no count falls.
+    ensures source_failed { result ≡ 3 → Rose (S.faults source.old) (S.faults source.new) }
+    ensures sink_failed { result ≡ 4 → Rose (K.faults sink.old) (K.faults sink.new) }
+    ensures source_later { S.faults source.old ≤ S.faults source.new }
+    ensures sink_later { K.faults sink.old ≤ K.faults sink.new }
+
+    // Without a failure a replay ends at the script's end or at its first faulty line, unless memory runs out.
+    ensures unfailing { is_replay (map (λ w. string_bytes w) words.now) ≡ true → Still (S.faults source.old) (S.faults source.new) → Still (K.faults sink.old) (K.faults sink.new) → is_one_of (0 ∷ 2 ∷ 5 ∷ []) result ≡ true }
+    ensures complete { is_replay (map (λ w. string_bytes w) words.now) ≡ true → Still (S.faults source.old) (S.faults source.new) → Still (K.faults sink.old) (K.faults sink.new) → EndsAsFormed (S.left source.old) result }
+
+    // In the script read a request returns only by a reply that fits it. Every other reply is refused, a refused reply
+    // changes nothing, and without its line the script tells the same otherwise.
+    ensures returns { result ≡ 0 → IfSome (S.left source.old) RequestsReturn }
+    ensures refused { result ≡ 0 → IfSome (S.left source.old) MisfitsRefused }
+    ensures unchanged { result ≡ 0 → IfSome (S.left source.old) RefusalsStay }
+    ensures idle { result ≡ 0 → IfSome (S.left source.old) RefusalsIdle }
+{
+    if !is_replay(words) {
+        return tell_usage(sink);
+    }
+    replay(alloc, source, sink)
+}
