@@ -19,5 +19,4 @@ pub mod Words
 pub mod Grammar
 pub mod Run
 pub mod Replies
-pub mod Text
 pub mod Transcript
