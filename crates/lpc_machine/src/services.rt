@@ -3,7 +3,7 @@ ghost use Rattle.std.specs.Prelude.{◌≡◌, ◌≤◌, ◌<◌, ◌+◌, ◌*
 ghost use Rattle.lpc_model.specs.declared.entry.CallName.TheVariants as name;
 ghost use Rattle.lpc_model.specs.declared.rows.WaitKind.TheVariants.{Request as RequestKind};
 ghost use Rattle.lpc_model.specs.Rows.{first, has, when};
-ghost use Rattle.lpc_model.specs.Message.{REQUEST};
+ghost use Rattle.lpc_message.specs.declared.kind.TheConstants.{REQUEST};
 ghost use Rattle.lpc_model.specs.Message as kept;
 ghost use Rattle.lpc_model.specs.Found as found;
 ghost use Rattle.lpc_model.specs.Found.{free_handle, handles_of, is_queued, is_thread, waits_as};
@@ -408,9 +408,7 @@ fn receive(
     ensures calls { world.new.calls ≡ world.old.calls }
 {
     let port = world.port_test(by, handle)?;
-    let Some(queue) = world.queue_of(&port) else {
-        return Err(PORT_DISCONNECTED);
-    };
+    let queue = world.receive_test(&port)?;
     Ok(receive_from(world, by, &port, queue, out))
 }
 

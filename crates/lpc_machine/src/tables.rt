@@ -1,5 +1,5 @@
 // Searches and changes of plain lists of rows.
-ghost use Rattle.std.specs.Prelude.{◌≡◌, ◌==◌, ◌&&◌, ◌+◌, ◌*◌, ◌<◌, ◌≤◌, ◌^◌, length, map, is_some, All, Some, None, MatchOption, IfNone, vec_len, vec_capacity, if◌then◌else◌};
+ghost use Rattle.std.specs.Prelude.{◌≡◌, ◌==◌, ◌&&◌, ◌+◌, ◌*◌, ◌<◌, ◌≤◌, ◌^◌, length, map, is_none, is_some, All, Some, None, MatchOption, IfNone, vec_len, vec_capacity, if◌then◌else◌};
 ghost use Rattle.lpc_base.specs.Places.{is_in, handle_from, least_handle};
 ghost use Rattle.lpc_model.specs.Rows.{first, has, which, without, without_first, change, count};
 ghost use Rattle.lpc_model.specs.Found.{same_birth, is_the, is_live_thread, lives_in, is_handle, is_owned, is_port, names_port, is_queued, receives_on, waits_as};
@@ -31,7 +31,7 @@ pub fn is_the(birth: Birth, other: Option<Birth>) -> bool
 }
 
 pub fn is_port_kind(kind: ObjectKind) -> bool
-    ensures { result ≡ found.is_port_kind kind }
+    ensures { result ≡ found.same_kind kind ObjectKind.Port }
 {
     matches!(kind, ObjectKind::Port)
 }
@@ -335,6 +335,18 @@ pub fn draw_ordinal(threads: &mut Vec<ThreadRow>, tid: u32)
     for t in threads.iter_mut() {
         draw_ordinal_of(t, tid);
     }
+}
+
+/// No message stands in a queue.
+pub fn is_empty(messages: &[MessageRow], queue: Birth) -> bool
+    ensures { result ≡ is_none (first (is_queued queue) messages.now) }
+{
+    for m in messages {
+        if is_same_birth(m.queue, queue) {
+            return false;
+        }
+    }
+    true
 }
 
 /// Takes the oldest message of a queue.

@@ -1,10 +1,11 @@
 // The world's rows, in plain lists. A changing call is one basic step and takes no memory; a reserving call makes room.
-ghost use Rattle.std.specs.Prelude.{◌≡◌, ◌+◌, ◌*◌, ◌<◌, ◌≤◌, [], Ok, Err, Some, None, true, false, MatchOption, MatchResult, IfSome, IfNone, IfOk, OnOk, OnSome, is_some, length};
+ghost use Rattle.std.specs.Prelude.{◌≡◌, ◌+◌, ◌*◌, ◌<◌, ◌≤◌, [], Ok, Err, Some, None, true, false, MatchOption, MatchResult, IfSome, IfNone, IfOk, OnOk, OnSome, is_none, is_some, length};
 ghost use Rattle.lpc_model.specs.Rows.{count, first, has, without};
 ghost use Rattle.lpc_model.specs.World.{no_rows};
 ghost use Rattle.lpc_model.specs.Found as found;
 ghost use Rattle.lpc_model.specs.Found.{objects, free_handle, is_queued, is_thread, live_count, receives_on, wait_of, was_process, was_thread, waits_as};
 ghost use Rattle.lpc_model.specs.Basics.{basic, Awaits, Enters, Takes, Receives, DrawsIdentifier, DrawsOrdinal, Makes, AddsHandle, AddsProcess, AddsThread};
+ghost use Rattle.lpc_model.specs.Request as request;
 ghost use Rattle.lpc_model.specs.Tests as tests;
 ghost use Rattle.lpc_machine.specs.State.{Same, Roomy, IsIdleAfter, is_alive, is_pending, is_pending_in, room_needed};
 ghost use Rattle.lpc_machine.specs.Lawful.{draws_at_most};
@@ -12,7 +13,7 @@ ghost use Rattle.lpc_machine.specs.Lawful.{draws_at_most};
 use crate::tables;
 use lpc_base::limits::HANDLE_LIMIT;
 use lpc_base::status::{
-    ACCESS_DENIED, INVALID_CID, INVALID_HANDLE, OBJECT_TYPE_MISMATCH, QUOTA_EXCEEDED,
+    ACCESS_DENIED, INVALID_CID, INVALID_HANDLE, OBJECT_TYPE_MISMATCH, PORT_DISCONNECTED, QUOTA_EXCEEDED,
     REPLY_MESSAGE_MISMATCH,
 };
 use lpc_base::{Birth, OutOfMemory, Status};
@@ -187,7 +188,7 @@ impl World {
     }
 
     /// The queue of a port's own.
-    pub fn queue_of(&self, port: &PortRow) -> Option<Birth>
+    fn queue_of(&self, port: &PortRow) -> Option<Birth>
         ensures { result ≡ found.queue_of self.now.rows port.now }
     {
         match port.kind {
@@ -196,6 +197,39 @@ impl World {
             PortKind::Connection => self.if_open(Some(port.birth)),
             PortKind::Client => self.if_open(Some(port.birth)),
         }
+    }
+
+    fn is_empty(&self, queue: Birth) -> bool
+        ensures { result ≡ is_none (first (is_queued queue) self.now.rows.messages) }
+    {
+        tables::is_empty(&self.messages, queue)
+    }
+
+    fn is_spent(&self, port: &PortRow, queue: Birth) -> bool
+        ensures { result ≡ request.is_spent self.now.rows port.now queue }
+    {
+        match port.kind {
+            PortKind::Client => match port.pair {
+                Some(_) => false,
+                None => self.is_empty(queue),
+            },
+            PortKind::Unnamed => false,
+            PortKind::Connection => false,
+            PortKind::Server => false,
+        }
+    }
+
+    /// The queue on which a receive on a port is made.
+    pub fn receive_test(&self, port: &PortRow) -> Result<Birth, Status>
+        ensures { result ≡ request.receive_test self.now.rows port.now }
+    {
+        let Some(queue) = self.queue_of(port) else {
+            return Err(PORT_DISCONNECTED);
+        };
+        if self.is_spent(port, queue) {
+            return Err(PORT_DISCONNECTED);
+        }
+        Ok(queue)
     }
 
     fn way(&self, port: &PortRow) -> Option<Birth>

@@ -32,15 +32,19 @@ pub data Basic : Type 0 where
   Makes : PortRow → Basic
   AddsHandle : HandleRow → Basic
 
+-- a wait whose request is received
 abbrev pub received : WaitRow → WaitRow
 received x = record x { received = true }
 
+-- a thread that drew its identifier
 abbrev pub past_identifier : ThreadRow → ThreadRow
 past_identifier t = record t { next_identifier = t.next_identifier + 1 }
 
+-- a thread that drew its ordinal
 abbrev pub past_ordinal : ThreadRow → ThreadRow
 past_ordinal t = record t { next_ordinal = t.next_ordinal + 1 }
 
+-- the number of a thread, with its process
 abbrev pub used : ThreadRow → UsedThread
 used t = record { number = t.number; process = t.process }
 
@@ -61,25 +65,28 @@ basic w (AddsThread t) =
 basic w (Makes p) = record w { ports = w.ports ++ p ∷ [] }
 basic w (AddsHandle h) = record w { handles = w.handles ++ h ∷ [] }
 
--- the entries that a basic step makes, and the messages that it posts: those that enter a queue
+-- the entries that a basic step makes
 abbrev pub told : Basic → List Entry
 told (Tells e) = e ∷ []
 told (Wakes who call status fields) = entry.Wakes who call status fields ∷ []
 told b = []
 
+-- the messages that a basic step posts: those that enter a queue
 abbrev pub posted : Basic → List MessageRow
 posted (Enters m) = m ∷ []
 posted b = []
 
--- what a list of basic steps leaves and makes
+-- the world after a list of basic steps
 abbrev pub world_after : World → List Basic → World
 world_after w [] = w
 world_after w (b ∷ bs) = world_after (basic w b) bs
 
+-- the entries that a list of steps makes
 abbrev pub entries_of : List Basic → List Entry
 entries_of [] = []
 entries_of (b ∷ bs) = told b ++ entries_of bs
 
+-- the messages that it posts
 abbrev pub posts_of : List Basic → List MessageRow
 posts_of [] = []
 posts_of (b ∷ bs) = posted b ++ posts_of bs
@@ -91,13 +98,15 @@ outcome_of (Tells (entry.Answer who call status fields) ∷ bs) = outcome.Answer
 outcome_of (Tells (entry.Waits who call fields) ∷ bs) = outcome.Waits
 outcome_of (b ∷ bs) = outcome_of bs
 
--- Steps that depend on the world before them, and one after the other: the second in the world that the first left
+-- steps that depend on the world before them
 abbrev pub Steps : Type 0
 Steps = World → List Basic
 
+-- a list of steps, and then what the world that they left says
 abbrev pub going_on : World → List Basic → Steps → List Basic
 going_on w bs g = bs ++ g (world_after w bs)
 
+-- one after the other: the second in the world that the first left
 infixr 8 ◌▹◌
 abbrev pub ◌▹◌ : Steps → Steps → Steps
 ◌▹◌ f g = λ w. going_on w (f w) g

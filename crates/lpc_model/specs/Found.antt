@@ -8,30 +8,43 @@ use Rattle.lpc_model.specs.Rows.{first, has, which, count, passes}
 use Rattle.lpc_model.specs.World.{World, Birth, ObjectKind, ObjectName, Message, ProcessRow, ThreadRow, UsedThread, HandleRow, PortRow, MessageRow, WaitRow}
 
 -- Names
+-- two births are one
 abbrev pub same_birth : Birth → Birth → Bool
 same_birth a b = (a.maker == b.maker) && ((a.ordinal == b.ordinal) && (a.process == b.process))
 
+-- an optional name is this one
 abbrev pub is_the : Birth → Option Birth → Bool
 is_the b o = passes o (same_birth b)
 
-abbrev pub is_port_kind : ObjectKind → Bool
-is_port_kind kind.Port = true
-is_port_kind other = false
+-- the kinds of object, told apart by a number
+abbrev pub kind_rank : ObjectKind → ℕ
+kind_rank kind.Port = 0
+kind_rank kind.Section = 1
+kind_rank kind.Token = 2
+kind_rank kind.Process = 3
+kind_rank kind.Thread = 4
+
+-- two kinds are one
+abbrev pub same_kind : ObjectKind → ObjectKind → Bool
+same_kind a b = kind_rank a == kind_rank b
 
 -- the name of a port
 abbrev pub port_name : Birth → ObjectName
 port_name b = record { kind = kind.Port; birth = b }
 
+-- an object's name is that of the port
 abbrev pub names_port : Birth → ObjectName → Bool
-names_port b o = is_port_kind o.kind && same_birth o.birth b
+names_port b o = same_kind o.kind kind.Port && same_birth o.birth b
 
 -- Processes and threads
+-- the process of a number, and the thread of a number
 abbrev pub is_process : ℕ → ProcessRow → Bool
 is_process pid p = p.number == pid
 
 abbrev pub is_thread : ℕ → ThreadRow → Bool
 is_thread tid t = t.number == tid
 
+-- the live thread of a number
 abbrev pub is_live_thread : ℕ → ThreadRow → Bool
 is_live_thread tid t = (t.number == tid) && t.live
 
@@ -39,6 +52,7 @@ is_live_thread tid t = (t.number == tid) && t.live
 abbrev pub lives_in : ℕ → ThreadRow → Bool
 lives_in pid t = (t.process == pid) && t.live
 
+-- the live thread with a number; its row may stand when it has ended
 abbrev pub live_thread : World → ℕ → Option ThreadRow
 live_thread w tid = first (is_live_thread tid) w.threads
 
@@ -46,26 +60,32 @@ live_thread w tid = first (is_live_thread tid) w.threads
 abbrev pub is_live : World → ℕ → Bool
 is_live w pid = has (lives_in pid) w.threads
 
+-- how many live threads a process has
 abbrev pub live_count : World → ℕ → ℕ
 live_count w pid = count (lives_in pid) w.threads
 
--- the number was ever used for a process, or for a thread
+-- the number was ever used for a process
 abbrev pub was_process : World → ℕ → Bool
 was_process w pid = has (λ n. n == pid) w.used_processes
 
+-- the number was ever used for a thread
 abbrev pub was_thread : World → ℕ → Bool
 was_thread w tid = has (λ u. u.number == tid) w.used_threads
 
 -- Handles
+-- the handle of a process with a value
 abbrev pub is_handle : ℕ → ℕ → HandleRow → Bool
 is_handle pid value h = (h.process == pid) && (h.value == value)
 
+-- the handle that a value is in a process
 abbrev pub handle_at : World → ℕ → ℕ → Option HandleRow
 handle_at w pid value = first (is_handle pid value) w.handles
 
+-- a handle of a process
 abbrev pub is_owned : ℕ → HandleRow → Bool
 is_owned pid h = h.process == pid
 
+-- the handles of a process
 abbrev pub handles_of : World → ℕ → List HandleRow
 handles_of w pid = which (is_owned pid) w.handles
 
@@ -74,9 +94,11 @@ abbrev pub free_handle : World → ℕ → ℕ
 free_handle w pid = least_handle (map (λ h. h.value) (handles_of w pid))
 
 -- Ports
+-- the port of a birth
 abbrev pub is_port : Birth → PortRow → Bool
 is_port b p = same_birth p.birth b
 
+-- the port row with a birth
 abbrev pub port_row : World → Birth → Option PortRow
 port_row w b = first (is_port b) w.ports
 
@@ -84,6 +106,7 @@ port_row w b = first (is_port b) w.ports
 abbrev pub is_open : World → Birth → Bool
 is_open w b = has (λ h. names_port b h.object) w.handles
 
+-- a port where it is open
 abbrev pub if_open : World → Option Birth → Option Birth
 if_open w None = None
 if_open w (Some b) = if is_open w b then Some b else None
@@ -95,6 +118,7 @@ queue_of w p = elim p.kind [
   | _ ↦ if_open w (Some p.birth)
 ]
 
+-- a port has no other end
 abbrev pub is_cut : PortRow → Bool
 is_cut p = is_none p.pair
 
@@ -122,6 +146,7 @@ abbrev pub pair_of : World → Birth → Option Birth
 pair_of w b = option_and_then (λ p. p.pair) (port_row w b)
 
 -- Queues and waits
+-- a message of a queue
 abbrev pub is_queued : Birth → MessageRow → Bool
 is_queued q m = same_birth m.queue q
 
@@ -129,21 +154,25 @@ is_queued q m = same_birth m.queue q
 abbrev pub queued : World → Birth → List MessageRow
 queued w q = which (is_queued q) w.messages
 
+-- a wait for a message
 abbrev pub is_receive : WaitRow → Bool
 is_receive x = elim x.kind [
   | Receive ↦ true
   | _ ↦ false
 ]
 
+-- a wait for the reply to a request
 abbrev pub is_request : WaitRow → Bool
 is_request x = elim x.kind [
   | Request m ↦ true
   | _ ↦ false
 ]
 
+-- the wait of a thread
 abbrev pub waits_as : ℕ → WaitRow → Bool
 waits_as tid x = x.thread == tid
 
+-- the wait that a thread has, if it waits
 abbrev pub wait_of : World → ℕ → Option WaitRow
 wait_of w tid = first (waits_as tid) w.waits
 

@@ -20,3 +20,4 @@ pub mod Grammar
 pub mod Run
 pub mod Replies
 pub mod Transcript
+pub mod Worked

@@ -16,13 +16,14 @@ use Rattle.lpc_model.specs.Connect.{nt_create_port}
 use Rattle.lpc_model.specs.Request.{nt_reply_port, nt_reply_wait_receive_port, nt_request_wait_reply_port}
 use Rattle.lpc_model.specs.Lines.{ScriptCall, create_port, request_wait_reply_port, reply_port, reply_wait_receive_port, ScriptLine, boot, thread, run}
 
--- the name of a call, and the service that serves it
+-- the name of a call
 abbrev pub name_of : ScriptCall → CallName
 name_of create_port = NtCreatePort
 name_of (request_wait_reply_port handle message) = NtRequestWaitReplyPort
 name_of (reply_port handle message) = NtReplyPort
 name_of (reply_wait_receive_port handle) = NtReplyWaitReceivePort
 
+-- the service that serves a call
 abbrev pub service_of : World → ThreadRow → ScriptCall → Result (List Basic) Status
 service_of w by create_port = nt_create_port w by
 service_of w by (request_wait_reply_port handle message) = nt_request_wait_reply_port w by handle message
@@ -48,7 +49,8 @@ abbrev pub thread_steps : ℕ → ScriptCall → Option ThreadRow → Steps
 thread_steps tid call None w = Tells (NoThread tid) ∷ []
 thread_steps tid call (Some by) w = ready_steps by call (wait_of w tid) w
 
--- Directives. A directive tells its status.
+-- Directives
+-- a directive tells its status
 abbrev pub directed : Word → Result (List Basic) Status → List Basic
 directed word (Ok bs) = Tells (Directive word SUCCESS) ∷ bs
 directed word (Err s) = Tells (Directive word s) ∷ []
@@ -57,6 +59,7 @@ directed word (Err s) = Tells (Directive word s) ∷ []
 abbrev pub directive_birth : ℕ → Birth
 directive_birth n = record { maker = 0; ordinal = n; process = 0 }
 
+-- a process, and a thread, that a directive makes
 abbrev pub new_process : ℕ → ProcessRow
 new_process pid = record { number = pid; maker = None; birth = directive_birth pid }
 
@@ -74,19 +77,21 @@ new_thread tid pid = record {
 abbrev pub unused_test : World → ℕ → ℕ → Result Unit Status
 unused_test w pid tid = refuse_if (was_process w pid || was_thread w tid) OBJECT_NAME_COLLISION
 
--- `boot`: a number was ever used
+-- `boot`: a number that was ever used
 unfoldable pub boot_line : World → ℕ → ℕ → Result (List Basic) Status
 boot_line w pid tid = do
   _ ← unused_test w pid tid
   Ok (AddsProcess (new_process pid) ∷ AddsThread (new_thread tid pid) ∷ [])
 
--- a live process gets a thread: no such process, a thread number that was ever used, 64 live threads
+-- the process lives
 abbrev pub live_test : World → ℕ → Result Unit Status
 live_test w pid = refuse_if (not (is_live w pid)) INVALID_CID
 
+-- the thread number was never used
 abbrev pub unused_thread_test : World → ℕ → Result Unit Status
 unused_thread_test w tid = refuse_if (was_thread w tid) OBJECT_NAME_COLLISION
 
+-- the process has fewer than 64 live threads
 abbrev pub thread_count_test : World → ℕ → Result Unit Status
 thread_count_test w pid = refuse_if (nat_le THREAD_LIMIT (live_count w pid)) QUOTA_EXCEEDED
 
@@ -97,7 +102,7 @@ thread_test w tid pid = do
   _ ← unused_thread_test w tid
   thread_count_test w pid
 
--- `thread`
+-- `thread`: no such process, a thread number that was ever used, 64 live threads
 unfoldable pub thread_line : World → ℕ → ℕ → Result (List Basic) Status
 thread_line w tid pid = do
   _ ← thread_test w tid pid
@@ -114,8 +119,10 @@ pub record Stepped : Type 0 where
   pub world : World
   pub entries : List Entry
 
+-- what some steps leave and tell
 abbrev pub landed : World → List Basic → Stepped
 landed w bs = record { world = world_after w bs; entries = entries_of bs }
 
+-- the step of a line
 abbrev pub step : World → ScriptLine → Stepped
 step w line = landed w (steps line w)

@@ -1,19 +1,13 @@
 -- Messages as they are kept, and what is written over when one is sent.
 use Rattle.std.specs.Prelude.{ℕ, Bool, List, Option, Some, None, Result, Ok, nat_lt, is_some, length, drop, ◌++◌, ◌==◌}
-use Rattle.lpc_base.specs.declared.limits.TheConstants.{MESSAGE_LIMIT}
+use Rattle.lpc_base.specs.declared.limits.TheConstants.{HEADER_SIZE, MESSAGE_LIMIT}
 use Rattle.lpc_base.specs.declared.status.Status.{Status}
 use Rattle.lpc_base.specs.declared.status.TheConstants.{INVALID_PARAMETER, PORT_MESSAGE_TOO_LONG}
 use Rattle.lpc_message.specs.Layout.{header_of, header_bytes, fault_of}
 use Rattle.lpc_message.specs.declared.message.ClientId.{ClientId}
+use Rattle.lpc_message.specs.declared.kind.TheConstants.{REPLY, REQUEST}
 use Rattle.lpc_model.specs.Refusal.{◌>>=◌, refuse_if}
 use Rattle.lpc_model.specs.declared.message.Message.{Message}
-
--- the types that the first calls send
-abbrev pub REQUEST : ℕ
-REQUEST = 1
-
-abbrev pub REPLY : ℕ
-REPLY = 2
 
 -- the bytes of a message: its header and the data behind it
 unfoldable pub bytes_of : Message → List ℕ
@@ -21,7 +15,7 @@ bytes_of m = header_bytes m.header ++ m.body
 
 -- the message that bytes are
 abbrev pub message_of : List ℕ → Message
-message_of bytes = record { header = header_of bytes; body = drop 24 bytes }
+message_of bytes = record { header = header_of bytes; body = drop HEADER_SIZE bytes }
 
 -- The bytes that a call is given are a message of lawful shape, and its MessageSize isn't above the limit.
 unfoldable pub message_test : List ℕ → Result Message Status

@@ -1,5 +1,5 @@
 -- Requests return only by replies that fit them, and every other reply is refused and changes nothing.
-use Rattle.std.specs.Prelude.{◌≡◌, ℕ, ◌==◌, ◌&&◌, ◌≤◌, Bool, true, false, not, List, [], ◌∷◌, ◌++◌, length, map, Option, Some, None, is_some, option_and_then, Ok, if◌then◌else◌}
+use Rattle.std.specs.Prelude.{◌≡◌, ℕ, ◌==◌, ◌&&◌, ◌≤◌, Bool, true, false, not, List, [], ◌∷◌, ◌++◌, drop, length, map, take, Option, Some, None, is_some, option_and_then, Ok, if◌then◌else◌}
 use Rattle.std.specs.List.{AllByRecursion}
 use Rattle.lpc_base.specs.declared.birth.Birth.{Birth}
 use Rattle.lpc_base.specs.declared.limits.TheConstants.{LINES_LIMIT}
@@ -9,10 +9,12 @@ use Rattle.lpc_model.specs.declared.entry.CallName.TheVariants.{NtRequestWaitRep
 use Rattle.lpc_model.specs.declared.entry.Entry.{Entry}
 use Rattle.lpc_model.specs.declared.entry.Entry.TheVariants.{Answer, Busy, NoThread, Wakes}
 use Rattle.lpc_model.specs.declared.entry.Field.{Field}
+use Rattle.lpc_model.specs.declared.entry.ObjectKind.TheVariants as kind
+use Rattle.lpc_model.specs.declared.entry.FieldName.TheVariants.{Msg}
+use Rattle.lpc_model.specs.declared.entry.Value.TheVariants.{Bytes}
 use Rattle.lpc_model.specs.World.{HandleRow, Message, WaitRow, World, no_rows}
-use Rattle.lpc_model.specs.Found.{fitted, handle_at, is_port_kind, live_thread}
-use Rattle.lpc_model.specs.Message.{as_reply, message_of}
-use Rattle.lpc_model.specs.Fields.{msg}
+use Rattle.lpc_model.specs.Found.{fitted, handle_at, live_thread, same_kind}
+use Rattle.lpc_model.specs.Message.{bytes_of, message_of}
 use Rattle.lpc_model.specs.Lines.{ScriptLine, reply_port, run}
 use Rattle.lpc_model.specs.Machine.{step}
 use Rattle.lpc_model.specs.Grammar.{read_line}
@@ -36,7 +38,7 @@ message_in r = if is_some (fault_of r.bytes) then None else Some (message_of r.b
 
 -- the port that a handle names, if its object is a port
 abbrev pub port_of : HandleRow → Option Birth
-port_of h = if is_port_kind h.object.kind then Some h.object.birth else None
+port_of h = if same_kind h.object.kind kind.Port then Some h.object.birth else None
 
 -- the port that the call's handle names in the process of its thread
 abbrev pub port_named_by : World → Reply → Option Birth
@@ -47,8 +49,13 @@ abbrev pub fitted_wait : World → Reply → Option WaitRow
 fitted_wait w r = option_and_then (λ port. option_and_then (fitted w port) (message_in r)) (port_named_by w r)
 
 -- Completion
+-- the bytes of a message with type 2 and SectionSize 0, and all other bytes as they are
+abbrev pub as_returned : List ℕ → List ℕ
+as_returned bytes =
+    take 4 bytes ++ (2 ∷ 0 ∷ []) ++ take 14 (drop 6 bytes) ++ (0 ∷ 0 ∷ 0 ∷ 0 ∷ []) ++ drop 24 bytes
+
 -- A thread is told of these fields by a reply call: the call's message fits the thread's wait through the port that
--- the call's handle names, and the fields show that message with type 2 and no section, all else as it is.
+-- the call's handle names, and the fields show that message with type 2 and SectionSize 0, and all its other bytes as they are.
 pub record IsReturnedBy (w : World) (line : ScriptLine) (tid : ℕ) (fields : List Field) : Type 0 where
   pub reply : Reply
   pub port : Birth
@@ -59,7 +66,7 @@ pub record IsReturnedBy (w : World) (line : ScriptLine) (tid : ℕ) (fields : Li
   pub is_message : message_in reply ≡ Some message
   pub fitting : fitted w port message ≡ Some wait
   pub its_wait : wait.thread ≡ tid
-  pub shows : fields ≡ msg (as_reply message) ∷ []
+  pub shows : fields ≡ record { name = Msg; value = Bytes (record { items = as_returned (bytes_of message) }) } ∷ []
 
 -- a request that wakes with success is returned so by its line
 abbrev pub HasReply : World → ScriptLine → Entry → Type 0

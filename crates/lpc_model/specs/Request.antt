@@ -1,15 +1,17 @@
 -- The calls that send, receive and reply: refusals in their order, else the steps.
-use Rattle.std.specs.Prelude.{ℕ, List, [], ◌∷◌, ◌++◌, Option, Some, None, Result, Ok}
+use Rattle.std.specs.Prelude.{ℕ, Bool, false, ◌&&◌, List, [], ◌∷◌, ◌++◌, Option, Some, None, is_none, Result, Ok}
 use Rattle.lpc_base.specs.declared.status.Status.{Status}
 use Rattle.lpc_base.specs.declared.status.TheConstants.{PORT_DISCONNECTED, SUCCESS}
 use Rattle.lpc_model.specs.declared.entry.Entry.TheVariants.{Answer, Waits}
 use Rattle.lpc_model.specs.declared.entry.CallName.TheVariants.{NtReplyPort, NtReplyWaitReceivePort, NtRequestWaitReplyPort}
+use Rattle.lpc_model.specs.declared.rows.PortKind.TheVariants.{Client}
 use Rattle.lpc_model.specs.declared.rows.WaitKind.TheVariants.{Receive, Request}
 use Rattle.lpc_model.specs.Rows.{first}
-use Rattle.lpc_model.specs.Refusal.{◌>>=◌, found_or}
+use Rattle.lpc_model.specs.Refusal.{◌>>=◌, found_or, refuse_if}
 use Rattle.lpc_model.specs.World.{World, Birth, Message, MessageRow, PortRow, ThreadRow, WaitRow}
-use Rattle.lpc_model.specs.Message.{REQUEST, as_reply, message_test, sent_as}
-use Rattle.lpc_model.specs.Found.{is_queued, queue_of, route}
+use Rattle.lpc_message.specs.declared.kind.TheConstants.{REQUEST}
+use Rattle.lpc_model.specs.Message.{as_reply, message_test, sent_as}
+use Rattle.lpc_model.specs.Found.{is_cut, is_queued, queue_of, route}
 use Rattle.lpc_model.specs.Basics.{Awaits, Basic, DrawsIdentifier, Steps, Tells, doing, ◌▹◌}
 use Rattle.lpc_model.specs.Fields.{id, msg, receipt}
 use Rattle.lpc_model.specs.Entering.{enter, row_of, take_steps, woken}
@@ -21,6 +23,7 @@ pub record Sendable : Type 0 where
   pub message : Message
   pub queue : Birth
 
+-- the tests of a message that is sent: the handle, the message, no route
 abbrev pub send_test : World → ThreadRow → ℕ → List ℕ → Result Sendable Status
 send_test w by handle bytes = do
   port ← port_test w by handle
@@ -36,6 +39,7 @@ sent_by by kind m = sent_as kind (client_of by) by.next_identifier m
 abbrev pub request_wait : ThreadRow → Birth → Birth → Message → WaitRow
 request_wait by port queue m = own_wait by NtRequestWaitReplyPort (Request m) port queue by.next_identifier
 
+-- a request is sent: its sender waits, and draws the identifier
 abbrev pub request_start : ThreadRow → Birth → Birth → Message → List Basic
 request_start by port queue m =
     Tells (Waits by.number NtRequestWaitReplyPort (id by.next_identifier ∷ []))
@@ -43,10 +47,11 @@ request_start by port queue m =
     ∷ DrawsIdentifier by.number
     ∷ []
 
+-- and then the message enters the queue
 abbrev pub request_steps : ThreadRow → PortRow → Birth → Message → Steps
 request_steps by port queue m = doing (request_start by port.birth queue m) ▹ enter (row_of queue port m)
 
--- NtRequestWaitReplyPort: the handle, the message, no route
+-- NtRequestWaitReplyPort
 unfoldable pub nt_request_wait_reply_port : World → ThreadRow → ℕ → List ℕ → Result (List Basic) Status
 nt_request_wait_reply_port w by handle bytes = do
   s ← send_test w by handle bytes
@@ -56,6 +61,7 @@ nt_request_wait_reply_port w by handle bytes = do
 abbrev pub reply : WaitRow → Message → Basic
 reply x m = woken SUCCESS (msg (as_reply m) ∷ []) x
 
+-- a reply is answered, and wakes
 abbrev pub reply_steps : ThreadRow → WaitRow → Message → List Basic
 reply_steps by x m = Tells (Answer by.number NtReplyPort SUCCESS []) ∷ reply x m ∷ []
 
@@ -79,9 +85,22 @@ receive_steps by port queue (Some m) =
 receive_steps by port queue None =
     Tells (Waits by.number NtReplyWaitReceivePort []) ∷ Awaits (receive_wait by port.birth queue) ∷ []
 
--- NtReplyWaitReceivePort without a reply: the handle, a queue that isn't open
+-- a client port whose pair is cut and whose queue is empty: nothing will ever come
+abbrev pub is_spent : World → PortRow → Birth → Bool
+is_spent w port queue = elim port.kind [
+    Client ↦ is_cut port && is_none (first (is_queued queue) w.messages)
+  | _ ↦ false ]
+
+-- the queue on which a receive on a port is made: it is open, and something may come
+abbrev pub receive_test : World → PortRow → Result Birth Status
+receive_test w port = do
+  queue ← found_or (queue_of w port) PORT_DISCONNECTED
+  _ ← refuse_if (is_spent w port queue) PORT_DISCONNECTED
+  Ok queue
+
+-- NtReplyWaitReceivePort without a reply: the handle, a queue that isn't open or is spent
 unfoldable pub nt_reply_wait_receive_port : World → ThreadRow → ℕ → Result (List Basic) Status
 nt_reply_wait_receive_port w by handle = do
   port ← port_test w by handle
-  queue ← found_or (queue_of w port) PORT_DISCONNECTED
+  queue ← receive_test w port
   Ok (receive_steps by port queue (first (is_queued queue) w.messages))

@@ -6,13 +6,15 @@ use Rattle.lpc_base.specs.declared.status.TheConstants.{ACCESS_DENIED, INVALID_C
 use Rattle.lpc_message.specs.declared.message.ClientId.{ClientId}
 use Rattle.lpc_model.specs.Rows.{first, passes}
 use Rattle.lpc_model.specs.Refusal.{◌>>=◌, refuse_if, found_or}
-use Rattle.lpc_model.specs.World.{World, Birth, CallName, HandleRow, Message, ObjectName, PortRow, ThreadRow, WaitKind, WaitRow}
-use Rattle.lpc_model.specs.Found.{fitted, handle_at, handles_of, is_port_kind, live_thread, port_row}
+use Rattle.lpc_model.specs.declared.entry.ObjectKind.TheVariants as kind
+use Rattle.lpc_model.specs.World.{World, Birth, CallName, HandleRow, Message, ObjectKind, ObjectName, PortRow, ThreadRow, WaitKind, WaitRow}
+use Rattle.lpc_model.specs.Found.{fitted, handle_at, handles_of, live_thread, port_row, same_kind}
 
--- the rights of a handle that a call makes to a port, and the right that the calls on ports want
+-- the rights of a handle that a call makes to a port
 abbrev pub PORT_ACCESS : ℕ
 PORT_ACCESS = 0x001F0001
 
+-- the right that the calls on ports want
 abbrev pub PORT_RIGHT : ℕ
 PORT_RIGHT = 1
 
@@ -24,19 +26,26 @@ includes access rights = bit_and access rights == rights
 abbrev pub own_handle : World → ThreadRow → ℕ → Result HandleRow Status
 own_handle w by value = found_or (handle_at w by.process value) INVALID_HANDLE
 
--- The port that a handle of the caller's process names: no such handle, a handle to another kind of object, a handle
--- without the right. (A handle's object stands, so the last line finds it.)
+-- The object that a handle of the caller's process names: no such handle, a handle to another kind of object, a handle
+-- without the rights.
+abbrev pub object_test : World → ThreadRow → ObjectKind → ℕ → ℕ → Result Birth Status
+object_test w by kind rights value = do
+  handle ← own_handle w by value
+  _ ← refuse_if (not (same_kind handle.object.kind kind)) OBJECT_TYPE_MISMATCH
+  _ ← refuse_if (not (includes handle.access rights)) ACCESS_DENIED
+  Ok handle.object.birth
+
+-- the port that a handle names; a handle's object stands, so its row is found
 abbrev pub port_test : World → ThreadRow → ℕ → Result PortRow Status
 port_test w by value = do
-  handle ← own_handle w by value
-  _ ← refuse_if (not (is_port_kind handle.object.kind)) OBJECT_TYPE_MISMATCH
-  _ ← refuse_if (not (includes handle.access PORT_RIGHT)) ACCESS_DENIED
-  found_or (port_row w handle.object.birth) INVALID_HANDLE
+  birth ← object_test w by kind.Port PORT_RIGHT value
+  found_or (port_row w birth) INVALID_HANDLE
 
 -- a live thread has the message's process and thread
 abbrev pub is_client : World → ClientId → Bool
 is_client w client = passes (live_thread w client.thread) (λ t. t.process == client.process)
 
+-- the client that a message names
 abbrev pub client_test : World → ClientId → Result Unit Status
 client_test w client = refuse_if (not (is_client w client)) INVALID_CID
 
@@ -48,13 +57,15 @@ fit_test w port m = found_or (fitted w port m) REPLY_MESSAGE_MISMATCH
 abbrev pub handles_test : World → ℕ → ℕ → Result Unit Status
 handles_test w pid more = refuse_if (nat_lt HANDLE_LIMIT (length (handles_of w pid) + more)) QUOTA_EXCEEDED
 
--- what a thread makes next, and who it is in a message
+-- the birth of what a thread makes next
 abbrev pub next_birth : ThreadRow → Birth
 next_birth by = record { maker = by.number; ordinal = by.next_ordinal; process = by.process }
 
+-- a thread as a message names it
 abbrev pub client_of : ThreadRow → ClientId
 client_of by = record { process = by.process; thread = by.number }
 
+-- a handle of the caller's process
 abbrev pub handle_row : ThreadRow → ℕ → ObjectName → ℕ → HandleRow
 handle_row by value object access = record { process = by.process; value = value; object = object; access = access }
 

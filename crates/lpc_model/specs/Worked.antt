@@ -1,0 +1,27 @@
+-- Worked scripts with their transcripts. They were written by hand beside the rules, and follow from the definitions by
+-- computing alone.
+use Rattle.std.specs.Prelude.{◌≡◌, codes}
+use Rattle.lpc_model.specs.Transcript.{transcript}
+
+pub record WorkedTranscripts : Type 0 where
+  -- A request, its receipt and its reply.
+  pub first_request : transcript (codes "boot 20 24\nthread 28 20\n24 NtCreatePort -\n24 NtRequestWaitReplyPort 4 d:4142\n28 NtReplyWaitReceivePort 4\n28 NtReplyPort 4 r:20.24.1:43\n") ≡ codes "1 - boot 00000000\n2 - thread 00000000\n3 24 NtCreatePort 00000000 h=4\n4 24 NtRequestWaitReplyPort wait id=1\n5 28 NtReplyWaitReceivePort 00000000 ctx=00000000 msg=02001a0001000000140000001800000001000000000000004142\n6 28 NtReplyPort 00000000\n6 *24 NtRequestWaitReplyPort 00000000 msg=01001900020000001400000018000000010000000000000043\nend 6 7 4\n"
+  -- A reply with another identifier is refused, and the right one still returns the request.
+  pub mismatched_identifier : transcript (codes "boot 20 24\nthread 28 20\n24 NtCreatePort -\n24 NtRequestWaitReplyPort 4 d:4142\n28 NtReplyWaitReceivePort 4\n28 NtReplyPort 4 r:20.24.2:43\n28 NtReplyPort 4 r:20.24.1:43\n") ≡ codes "1 - boot 00000000\n2 - thread 00000000\n3 24 NtCreatePort 00000000 h=4\n4 24 NtRequestWaitReplyPort wait id=1\n5 28 NtReplyWaitReceivePort 00000000 ctx=00000000 msg=02001a0001000000140000001800000001000000000000004142\n6 28 NtReplyPort c000021f\n7 28 NtReplyPort 00000000\n7 *24 NtRequestWaitReplyPort 00000000 msg=01001900020000001400000018000000010000000000000043\nend 7 8 4\n"
+  -- No reply fits a request that is still queued.
+  pub request_not_yet_received : transcript (codes "boot 20 24\nthread 28 20\n24 NtCreatePort -\n24 NtRequestWaitReplyPort 4 d:4142\n28 NtReplyPort 4 r:20.24.1:43\n") ≡ codes "1 - boot 00000000\n2 - thread 00000000\n3 24 NtCreatePort 00000000 h=4\n4 24 NtRequestWaitReplyPort wait id=1\n5 28 NtReplyPort c000021f\nend 5 5 4\n"
+  -- A reply that names no live thread is refused.
+  pub no_such_client : transcript (codes "boot 20 24\nthread 28 20\n24 NtCreatePort -\n24 NtRequestWaitReplyPort 4 d:4142\n28 NtReplyWaitReceivePort 4\n28 NtReplyPort 4 r:20.99.1:43\n") ≡ codes "1 - boot 00000000\n2 - thread 00000000\n3 24 NtCreatePort 00000000 h=4\n4 24 NtRequestWaitReplyPort wait id=1\n5 28 NtReplyWaitReceivePort 00000000 ctx=00000000 msg=02001a0001000000140000001800000001000000000000004142\n6 28 NtReplyPort c000000b\nend 6 6 4\n"
+  -- No line, no entry, no object.
+  pub empty_script : transcript (codes "") ≡ codes "end 0 0 0\n"
+  -- The last line may end at the end of the input.
+  pub line_without_its_end : transcript (codes "boot 20 24") ≡ codes "1 - boot 00000000\nend 1 1 2\n"
+  -- One faulty line each.
+  pub fault_of_a_byte : transcript (codes "24\tNtReplyPort\n") ≡ codes "stop 1 1\n"
+  pub fault_of_a_number : transcript (codes "24 NtReplyPort 08 d:\n") ≡ codes "stop 1 5\n"
+  pub fault_of_a_directive : transcript (codes "reboot 1 2\n") ≡ codes "stop 1 2\n"
+  pub fault_of_digits : transcript (codes "24 NtReplyPort 4 d:4\n") ≡ codes "stop 1 6\n"
+  pub fault_of_a_call : transcript (codes "24 NtFoo\n") ≡ codes "stop 1 3\n"
+  pub fault_of_a_message : transcript (codes "24 NtReplyPort 4 x:41\n") ≡ codes "stop 1 7\n"
+  pub fault_of_a_count : transcript (codes "24 NtReplyPort\n") ≡ codes "stop 1 4\n"
+  pub fault_of_a_process_number : transcript (codes "boot 020 24\n") ≡ codes "stop 1 5\n"
