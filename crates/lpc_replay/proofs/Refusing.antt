@@ -16,11 +16,12 @@ use Rattle.lpc_model.specs.declared.rows.PortRow.{PortRow}
 use Rattle.lpc_model.specs.declared.rows.ThreadRow.{ThreadRow}
 use Rattle.lpc_model.specs.declared.rows.WaitRow.{WaitRow}
 use Rattle.lpc_model.specs.Refusal.{◌>>=◌, found_or, refuse_if}
+use Rattle.lpc_model.specs.declared.entry.ObjectKind.TheVariants as kind
 use Rattle.lpc_model.specs.World.{World}
-use Rattle.lpc_model.specs.Found.{fitted, handle_at, is_live_thread, is_port_kind, live_thread, port_row, wait_of}
+use Rattle.lpc_model.specs.Found.{fitted, handle_at, is_live_thread, live_thread, port_row, same_kind, wait_of}
 use Rattle.lpc_model.specs.Message.{message_of, message_test}
 use Rattle.lpc_model.specs.Basics.{Basic, Tells, entries_of, world_after}
-use Rattle.lpc_model.specs.Tests.{PORT_RIGHT, client_test, fit_test, includes, is_client, own_handle, port_test}
+use Rattle.lpc_model.specs.Tests.{PORT_RIGHT, client_test, fit_test, includes, is_client, object_test, own_handle, port_test}
 use Rattle.lpc_model.specs.Request.{nt_reply_port, reply_steps}
 use Rattle.lpc_model.specs.Lines.{ScriptLine, boot, create_port, reply_port, reply_wait_receive_port, request_wait_reply_port, run, thread}
 use Rattle.lpc_model.specs.Machine.{ready_steps, settled, step, steps, thread_steps}
@@ -49,15 +50,20 @@ refuse_fails : (b : Bool) (s : Status) → not (s.0 == 0) ≡ true → Fails (re
 refuse_fails true s e = e
 refuse_fails false s e = tt
 
+object_fails : (w : World) (by : ThreadRow) (handle : ℕ) → Fails (object_test w by kind.Port PORT_RIGHT handle)
+object_fails w by handle =
+    let P : Birth → Type 0 = λ _. Unit {0} in
+    bind_ends (own_handle w by handle) _ P (found_fails (handle_at w by.process handle) INVALID_HANDLE refl) (λ h _.
+    bind_ends (refuse_if (not (same_kind h.object.kind kind.Port)) OBJECT_TYPE_MISMATCH) _ P (refuse_fails _ OBJECT_TYPE_MISMATCH refl) (λ _ _.
+    bind_ends (refuse_if (not (includes h.access PORT_RIGHT)) ACCESS_DENIED) _ P (refuse_fails _ ACCESS_DENIED refl) (λ _ _. tt)))
+
 port_fails : (w : World) (by : ThreadRow) (handle : ℕ) → Fails (port_test w by handle)
 port_fails w by handle =
-    let P : PortRow → Type 0 = λ _. Unit {0} in
-    bind_ends (own_handle w by handle) _ P (found_fails (handle_at w by.process handle) INVALID_HANDLE refl) (λ h _.
-    bind_ends (refuse_if (not (is_port_kind h.object.kind)) OBJECT_TYPE_MISMATCH) _ P (refuse_fails _ OBJECT_TYPE_MISMATCH refl) (λ _ _.
-    bind_ends (refuse_if (not (includes h.access PORT_RIGHT)) ACCESS_DENIED) _ P (refuse_fails _ ACCESS_DENIED refl) (λ _ _.
-    found_fails (port_row w h.object.birth) INVALID_HANDLE refl)))
+    bind_ends (object_test w by kind.Port PORT_RIGHT handle) _ (λ (port : PortRow). Unit {0}) (object_fails w by handle) (λ birth _.
+    found_fails (port_row w birth) INVALID_HANDLE refl)
 
 message_fails : (bytes : List ℕ) → Fails (message_test bytes)
+unfolding message_test
 message_fails bytes =
     let P : Message → Type 0 = λ _. Unit {0} in
     bind_ends (refuse_if (is_some (fault_of bytes)) INVALID_PARAMETER) _ P (refuse_fails _ INVALID_PARAMETER refl) (λ _ _.

@@ -18,6 +18,8 @@ use Rattle.lpc_model.specs.declared.entry.Word.TheVariants as word
 use Rattle.lpc_model.specs.declared.rows.WaitKind.TheVariants.{Receive, Request}
 use Rattle.lpc_model.specs.Refusal.{◌>>=◌, found_or, refuse_if}
 use Rattle.lpc_model.specs.Rows.{first, given, when}
+use Rattle.lpc_message.specs.declared.kind.TheConstants.{REQUEST}
+use Rattle.lpc_model.specs.declared.entry.ObjectKind.TheVariants as kind
 use Rattle.lpc_model.specs.World.{World}
 use Rattle.lpc_model.specs.declared.message.Message.{Message}
 use Rattle.lpc_model.specs.declared.rows.HandleRow.{HandleRow}
@@ -26,16 +28,16 @@ use Rattle.lpc_model.specs.declared.rows.PortRow.{PortRow}
 use Rattle.lpc_model.specs.declared.rows.ThreadRow.{ThreadRow}
 use Rattle.lpc_model.specs.declared.rows.WaitKind.{WaitKind}
 use Rattle.lpc_model.specs.declared.rows.WaitRow.{WaitRow}
-use Rattle.lpc_model.specs.Found.{fitted, handle_at, is_port, is_port_kind, is_queued, live_thread, port_row, queue_of, same_birth, wait_of}
-use Rattle.lpc_model.specs.Message.{REQUEST, as_reply, asks, message_of, message_test}
+use Rattle.lpc_model.specs.Found.{fitted, handle_at, is_port, is_queued, live_thread, port_row, same_birth, same_kind, wait_of}
+use Rattle.lpc_model.specs.Message.{as_reply, bytes_of, asks, message_of, message_test}
 use Rattle.lpc_model.specs.Basics.{AddsHandle, AddsProcess, AddsThread, Awaits, Basic, DrawsIdentifier, DrawsOrdinal, Enters, Makes, Receives, Takes, Tells, Wakes, basic, entries_of, told, world_after}
 use Rattle.lpc_model.specs.Fields.{msg, receipt}
 use Rattle.lpc_model.specs.Entering.{enter, row_of, take_steps, takes, woken}
-use Rattle.lpc_model.specs.Tests.{PORT_RIGHT, client_test, fit_test, handles_test, includes, own_handle, port_test}
+use Rattle.lpc_model.specs.Tests.{PORT_RIGHT, client_test, fit_test, handles_test, includes, object_test, own_handle, port_test}
 use Rattle.lpc_model.specs.Connect.{nt_create_port}
-use Rattle.lpc_model.specs.Request.{Sendable, nt_reply_port, nt_reply_wait_receive_port, nt_request_wait_reply_port, receive_steps, request_start, request_steps, send_test, sent_by}
+use Rattle.lpc_model.specs.Request.{Sendable, nt_reply_port, nt_reply_wait_receive_port, nt_request_wait_reply_port, receive_steps, receive_test, request_start, request_steps, send_test, sent_by}
 use Rattle.lpc_model.specs.Lines.{ScriptCall, ScriptLine, boot, create_port, reply_port, reply_wait_receive_port, request_wait_reply_port, run, thread}
-use Rattle.lpc_model.specs.Machine.{boot_line, call_steps, directed, live_test, name_of, ready_steps, service_of, step, steps, thread_count_test, thread_line, thread_steps, unused_test, unused_thread_test}
+use Rattle.lpc_model.specs.Machine.{boot_line, call_steps, directed, name_of, ready_steps, service_of, step, steps, thread_line, thread_test, thread_steps, unused_test}
 use Rattle.lpc_model.specs.Run.{Along}
 use Rattle.lpc_model.specs.Replies.{HasReply, IsReturnedBy, RequestsReturnByReply, message_in, port_of}
 use Rattle.lpc_replay.proofs.Holding.{Holds, all_append, all_filter, all_map, and_first, and_second, bind_holds, find_all, find_passes, found_holds, found_ok, holds_ok, not_false, not_refused, settled_holds}
@@ -129,20 +131,26 @@ birth_same a b h =
     let h' = and_second _ _ h in
     birth_parts _ _ _ _ _ _ (eqb-true _ _ (and_first _ _ h)) (eqb-true _ _ (and_first _ _ h')) (eqb-true _ _ (and_second _ _ h'))
 
-port_named : (h : HandleRow) (port : PortRow) (o : Option HandleRow) → o ≡ Some h → not (is_port_kind h.object.kind) ≡ false → same_birth port.birth h.object.birth ≡ true → option_and_then port_of o ≡ Some port.birth
-port_named h port o at kind same =
-    rw (at, not_false (is_port_kind h.object.kind) kind, birth_same port.birth h.object.birth same) refl
+handle_named : (h : HandleRow) (o : Option HandleRow) → o ≡ Some h → not (same_kind h.object.kind kind.Port) ≡ false → option_and_then port_of o ≡ Some h.object.birth
+handle_named h o at same = rw (at, not_false (same_kind h.object.kind kind.Port) same) refl
+
+object_holds : (w : World) (by : ThreadRow) (handle : ℕ) → Holds (λ (birth : Birth). option_and_then port_of (handle_at w by.process handle) ≡ Some birth) (object_test w by kind.Port PORT_RIGHT handle)
+object_holds w by handle =
+    let P : Birth → Type 0 = λ birth. option_and_then port_of (handle_at w by.process handle) ≡ Some birth in
+    bind_holds (own_handle w by handle) _ P (λ h at.
+    bind_holds (refuse_if (not (same_kind h.object.kind kind.Port)) OBJECT_TYPE_MISMATCH) _ P (λ u same.
+    bind_holds (refuse_if (not (includes h.access PORT_RIGHT)) ACCESS_DENIED) _ P (λ _ _.
+    handle_named h (handle_at w by.process handle) (found_ok _ _ h at) (not_refused _ _ u same))))
 
 pub port_holds : (w : World) (by : ThreadRow) (handle : ℕ) → Holds (λ (port : PortRow). option_and_then port_of (handle_at w by.process handle) ≡ Some port.birth) (port_test w by handle)
 port_holds w by handle =
     let P : PortRow → Type 0 = λ port. option_and_then port_of (handle_at w by.process handle) ≡ Some port.birth in
-    bind_holds (own_handle w by handle) _ P (λ h at.
-    bind_holds (refuse_if (not (is_port_kind h.object.kind)) OBJECT_TYPE_MISMATCH) _ P (λ u kind.
-    bind_holds (refuse_if (not (includes h.access PORT_RIGHT)) ACCESS_DENIED) _ P (λ _ _.
-    found_holds P (port_row w h.object.birth) INVALID_HANDLE (λ port row.
-    port_named h port (handle_at w by.process handle) (found_ok _ _ h at) (not_refused _ _ u kind) (find_passes (is_port h.object.birth) w.ports port row)))))
+    bind_holds (object_test w by kind.Port PORT_RIGHT handle) _ P (λ birth at.
+    found_holds P (port_row w birth) INVALID_HANDLE (λ port row.
+    rw (birth_same port.birth birth (find_passes (is_port birth) w.ports port row)) (holds_ok _ _ birth (object_holds w by handle) at)))
 
 pub message_holds : (tid handle : ℕ) (bytes : List ℕ) → Holds (λ m. message_in (record { by = tid; handle = handle; bytes = bytes }) ≡ Some m) (message_test bytes)
+unfolding message_test
 message_holds tid handle bytes =
     let P : Message → Type 0 = λ m. message_in (record { by = tid; handle = handle; bytes = bytes }) ≡ Some m in
     bind_holds (refuse_if (is_some (fault_of bytes)) INVALID_PARAMETER) _ P (λ u whole.
@@ -168,11 +176,11 @@ wait_fair : (w : World) (line : ScriptLine) (by : ThreadRow) (handle : ℕ) → 
 unfolding nt_reply_wait_receive_port
 wait_fair w line by handle =
     bind_holds (port_test w by handle) _ (AreFair w line) (λ port _.
-    bind_holds (found_or (queue_of w port) PORT_DISCONNECTED) _ (AreFair w line) (λ queue _.
+    bind_holds (receive_test w port) _ (AreFair w line) (λ queue _.
     receive_fair w line by port queue (first (is_queued queue) w.messages)))
 
 reply_fair : (w : World) (tid : ℕ) (by : ThreadRow) (handle : ℕ) (bytes : List ℕ) → live_thread w tid ≡ Some by → Holds (AreFair w (run tid (reply_port handle bytes))) (nt_reply_port w by handle bytes)
-unfolding nt_reply_port
+unfolding nt_reply_port bytes_of
 reply_fair w tid by handle bytes live =
     let line = run tid (reply_port handle bytes) in
     let P = AreFair w line in
@@ -225,8 +233,7 @@ boot_fair w line pid tid = bind_holds (unused_test w pid tid) _ (AreFair w line)
 further_fair : (w : World) (line : ScriptLine) (tid pid : ℕ) → Holds (AreFair w line) (thread_line w tid pid)
 unfolding thread_line
 further_fair w line tid pid =
-    let P = AreFair w line in
-    bind_holds (live_test w pid) _ P (λ _ _. bind_holds (unused_thread_test w tid) _ P (λ _ _. bind_holds (thread_count_test w pid) _ P (λ _ _. (tt, tt))))
+    bind_holds (thread_test w tid pid) _ (AreFair w line) (λ _ _. (tt, tt))
 
 steps_fair : (w : World) (line : ScriptLine) → HaveTheirCalls w → AreFair w line (steps line w)
 unfolding steps

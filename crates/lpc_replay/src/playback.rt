@@ -3,7 +3,6 @@ ghost use Rattle.std.specs.Prelude.{◌≡◌, ◌<◌, ◌≤◌, ◌+◌, ◌+
 ghost use Rattle.lpc_base.specs.declared.limits.TheConstants.{LINES_LIMIT};
 ghost use Rattle.lpc_model.specs.Lines.{line_of};
 ghost use Rattle.lpc_model.specs.Machine as model;
-ghost use Rattle.lpc_model.specs.Script.{kind_number};
 ghost use Rattle.lpc_model.specs.Text.{entries_text};
 ghost use Rattle.lpc_replay.specs.Playing.{RunsLine, begin, last_text};
 
@@ -103,7 +102,7 @@ impl Playback {
                 self.told,
                 self.machine.objects(),
             ),
-            Some(fault) => print_stop(&mut self.text, self.lines + 1, kind_number(fault)),
+            Some(fault) => print_stop(&mut self.text, self.lines + 1, fault),
         }
     }
 }
@@ -128,21 +127,4 @@ fn tell(
     machine.step(said, out)?;
     print(alloc, number, out, text)?;
     Ok(out.list().len())
-}
-
-/// The number of a fault's kind.
-fn kind_number(fault: LineFault) -> u8
-    ensures { result ≡ kind_number fault }
-{
-    match fault {
-        LineFault::Byte => 1,
-        LineFault::Word => 2,
-        LineFault::Call => 3,
-        LineFault::Count => 4,
-        LineFault::Number => 5,
-        LineFault::Hex => 6,
-        LineFault::Message => 7,
-        LineFault::Long => 9,
-        LineFault::Lines => 10,
-    }
 }

@@ -5,7 +5,7 @@ ghost use Rattle.lpc_model.specs.Listed.{has_read};
 use crate::{print, print_end, print_stop};
 use arrayvec::ArrayVec;
 use lpc_base::{Status, status};
-use lpc_model::{CallName, Entries, Entry, FieldName, Fields, ObjectKind, Value, Word};
+use lpc_model::{CallName, Entries, Entry, FieldName, Fields, LineFault, ObjectKind, Value, Word};
 use std::alloc::Global;
 use std::process::Abort;
 use std::test::Fail;
@@ -216,8 +216,20 @@ fn the_last_line_has_one_of_two_forms(rt: HostRuntime) -> Result<(), Fail> {
     let mut into = Vec::new(rt.alloc());
     print_end(&mut into, 6, 7, 4)?;
     assert_eq!(rt; into.as_slice(), b"end 6 7 4\n".as_slice());
-    into.clear();
-    print_stop(&mut into, 1000001, 10)?;
-    assert_eq!(rt; into.as_slice(), b"stop 1000001 10\n".as_slice());
+    for (fault, text) in [
+        (LineFault::Byte, "stop 1000001 1\n"),
+        (LineFault::Word, "stop 1000001 2\n"),
+        (LineFault::Call, "stop 1000001 3\n"),
+        (LineFault::Count, "stop 1000001 4\n"),
+        (LineFault::Number, "stop 1000001 5\n"),
+        (LineFault::Hex, "stop 1000001 6\n"),
+        (LineFault::Message, "stop 1000001 7\n"),
+        (LineFault::Long, "stop 1000001 9\n"),
+        (LineFault::Lines, "stop 1000001 10\n"),
+    ] {
+        into.clear();
+        print_stop(&mut into, 1000001, fault)?;
+        assert_eq!(rt; into.as_slice(), text.as_bytes());
+    }
     Ok(())
 }

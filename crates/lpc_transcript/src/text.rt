@@ -1,6 +1,7 @@
 // The text of entries, and the last line of a transcript.
 ghost use Rattle.std.specs.Prelude.{◌≡◌, ◌++◌, map, take, OnOk, OnErr};
 ghost use Rattle.lpc_model.specs.Listed.{shown_entry};
+ghost use Rattle.lpc_model.specs.Script.{kind_number};
 ghost use Rattle.lpc_model.specs.Text.{rest_text, entry_text, entries_text, end_text, stop_text};
 ghost use Rattle.lpc_transcript.specs.Printing.{BeginsWith};
 
@@ -9,7 +10,7 @@ use crate::words::{
     put, put_by, put_death, put_directive, put_ended, put_long_number, put_number, put_state,
 };
 use lpc_base::OutOfMemory;
-use lpc_model::{Entries, Entry};
+use lpc_model::{Entries, Entry, LineFault};
 use std::alloc::Global;
 
 // What stands behind the line's number, with these bytes where a memory read stands.
@@ -155,27 +156,43 @@ pub fn print_end(
     all_or_none(into, before, printed)
 }
 
+fn kind_of(fault: LineFault) -> u64
+    ensures { result ≡ kind_number fault }
+{
+    match fault {
+        LineFault::Byte => 1,
+        LineFault::Word => 2,
+        LineFault::Call => 3,
+        LineFault::Count => 4,
+        LineFault::Number => 5,
+        LineFault::Hex => 6,
+        LineFault::Message => 7,
+        LineFault::Long => 9,
+        LineFault::Lines => 10,
+    }
+}
+
 #[tactic(auto, using(std::proofs::Common::append_assoc, crate::proofs::Begins::begins_before))]
-fn put_stop(into: &mut Vec<u8>, line: u32, kind: u8) -> Result<(), OutOfMemory>
-    ensures ok { OnOk result (into.new.items ≡ into.old.items ++ stop_text line kind) }
+fn put_stop(into: &mut Vec<u8>, line: u32, fault: LineFault) -> Result<(), OutOfMemory>
+    ensures ok { OnOk result (into.new.items ≡ into.old.items ++ stop_text line (kind_number fault)) }
     ensures err { OnErr result (BeginsWith into.new.items into.old.items) }
 {
     put(into, b"stop ")?;
     put_number(into, u64::from(line))?;
     put(into, b" ")?;
-    put_number(into, u64::from(kind))?;
+    put_number(into, kind_of(fault))?;
     put(into, b"\n")
 }
 
-/// Appends the last line of a script that has a faulty line: `stop`, the number of that line and the kind of its
-/// fault. The form is this project's own.
+/// Appends the last line of a script that has a faulty line: `stop`, the number of that line and the number of its
+/// fault's kind. The form is this project's own.
 ///
 /// After want of memory the text is as it was.
-pub fn print_stop(into: &mut Vec<u8>, line: u32, kind: u8) -> Result<(), OutOfMemory>
-    ensures ok { OnOk result (into.new.items ≡ into.old.items ++ stop_text line kind) }
+pub fn print_stop(into: &mut Vec<u8>, line: u32, fault: LineFault) -> Result<(), OutOfMemory>
+    ensures ok { OnOk result (into.new.items ≡ into.old.items ++ stop_text line (kind_number fault)) }
     ensures err { OnErr result (into.new.items ≡ into.old.items) }
 {
     let before = into.len();
-    let printed = put_stop(into, line, kind);
+    let printed = put_stop(into, line, fault);
     all_or_none(into, before, printed)
 }
