@@ -14,10 +14,10 @@ pub record WorkedLines : Type 0 where
   pub raw_message : read_line (codes "24 NtReplyPort 4 m:41aAFf") ≡ Ok (Some (run 24 (reply_port 4 (65 ∷ 170 ∷ 255 ∷ []))))
   pub data_message : read_line (codes "24 NtRequestWaitReplyPort 4 d:4142")
       ≡ Ok (Some (run 24 (request_wait_reply_port 4
-        (2 ∷ 0 ∷ 26 ∷ 0 ∷ 0 ∷ 0 ∷ 0 ∷ 0 ∷ 0 ∷ 0 ∷ 0 ∷ 0 ∷ 0 ∷ 0 ∷ 0 ∷ 0 ∷ 0 ∷ 0 ∷ 0 ∷ 0 ∷ 0 ∷ 0 ∷ 0 ∷ 0 ∷ 65 ∷ 66 ∷ []))))
+      (2 ∷ 0 ∷ 26 ∷ 0 ∷ 0 ∷ 0 ∷ 0 ∷ 0 ∷ 0 ∷ 0 ∷ 0 ∷ 0 ∷ 0 ∷ 0 ∷ 0 ∷ 0 ∷ 0 ∷ 0 ∷ 0 ∷ 0 ∷ 0 ∷ 0 ∷ 0 ∷ 0 ∷ 65 ∷ 66 ∷ []))))
   pub reply_message : read_line (codes "28 NtReplyPort 4 r:20.0x18.1:43")
       ≡ Ok (Some (run 28 (reply_port 4
-        (1 ∷ 0 ∷ 25 ∷ 0 ∷ 0 ∷ 0 ∷ 0 ∷ 0 ∷ 20 ∷ 0 ∷ 0 ∷ 0 ∷ 24 ∷ 0 ∷ 0 ∷ 0 ∷ 1 ∷ 0 ∷ 0 ∷ 0 ∷ 0 ∷ 0 ∷ 0 ∷ 0 ∷ 67 ∷ []))))
+      (1 ∷ 0 ∷ 25 ∷ 0 ∷ 0 ∷ 0 ∷ 0 ∷ 0 ∷ 20 ∷ 0 ∷ 0 ∷ 0 ∷ 24 ∷ 0 ∷ 0 ∷ 0 ∷ 1 ∷ 0 ∷ 0 ∷ 0 ∷ 0 ∷ 0 ∷ 0 ∷ 0 ∷ 67 ∷ []))))
   -- lines that say nothing
   pub comment : read_line (codes "# reboot 1 2") ≡ Ok None
   pub comment_with_a_bad_byte : read_line (35 ∷ 200 ∷ []) ≡ Ok None
@@ -28,10 +28,21 @@ pub record WorkedLines : Type 0 where
   pub no_directive : read_line (codes "reboot 1 2") ≡ Err fault.Word
   pub no_call : read_line (codes "24 NtFoo") ≡ Err fault.Call
   pub too_few_words : read_line (codes "24 NtReplyPort") ≡ Err fault.Count
+  pub space_before_the_sign : read_line (codes " # boot") ≡ Err fault.Word
+  pub name_before_its_request : read_line (codes "24 NtCreatePort \\A") ≡ Err fault.Word
+  pub name_before_the_count : read_line (codes "24 NtFoo 1 2 3 4") ≡ Err fault.Call
+  pub count_before_the_words : read_line (codes "24 NtReplyPort 08 x: 4") ≡ Err fault.Count
   pub thread_alone : read_line (codes "24") ≡ Err fault.Count
   pub leading_zero_of_a_handle : read_line (codes "24 NtReplyPort 08 d:") ≡ Err fault.Number
   pub leading_zero_of_a_process : read_line (codes "boot 020 24") ≡ Err fault.Number
   pub thread_of_no_range : read_line (codes "2147483648 NtFoo") ≡ Err fault.Number
+  pub nine_hexadecimal_digits : read_line (codes "24 NtReplyWaitReceivePort 0x000000001") ≡ Err fault.Number
+  pub great_number : read_line (codes "24 NtReplyWaitReceivePort 4294967296") ≡ Err fault.Number
+  pub letters_in_a_reply : read_line (codes "24 NtReplyPort 4 r:a.b.c:zz") ≡ Err fault.Number
   pub odd_number_of_digits : read_line (codes "24 NtReplyPort 4 d:4") ≡ Err fault.Hex
+  pub second_colon_of_a_reply : read_line (codes "24 NtReplyPort 4 r:1.2.3:41:42") ≡ Err fault.Hex
+  pub reply_without_a_colon : read_line (codes "24 NtReplyPort 4 r:1.2.3") ≡ Err fault.Message
+  pub reply_of_two_numbers : read_line (codes "24 NtReplyPort 4 r:1.2:41") ≡ Err fault.Message
+  pub reply_of_four_numbers : read_line (codes "24 NtReplyPort 4 r:1.2.3.4:41") ≡ Err fault.Message
   pub no_form_of_message : read_line (codes "24 NtReplyPort 4 x:41") ≡ Err fault.Message
   pub byte_past_the_limit : (line : List ℕ) → LINE_LIMIT < length line → read_line line ≡ Err fault.Long

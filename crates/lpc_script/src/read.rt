@@ -17,7 +17,10 @@ use crate::words::{next_word, one_word, two_words};
 use lpc_base::limits::LINE_LIMIT;
 use lpc_model::{Call, CallName, Line, LineFault, Word};
 
-fn handle_and_message<'a>(text: &[u8], scratch: &'a mut Scratch) -> Result<(u32, &'a [u8]), LineFault>
+fn handle_and_message<'a>(
+    text: &[u8],
+    scratch: &'a mut Scratch,
+) -> Result<(u32, &'a [u8]), LineFault>
     requires { length text.now ≤ LINE_LIMIT }
     ensures { Gives (λ two. (two.0, two.1.now)) result (grammar.handle_and_message (words text.now)) }
 {
@@ -63,16 +66,17 @@ fn directive(word: Word, text: &[u8]) -> Result<Line<'static>, LineFault>
     ensures value { Gives line_of result (directive_words word (words text.now)) }
     ensures ids { IfOk result (λ line. IsTrue (has_ids (line_of line))) }
 {
-    let (first, second) = two_words(text)?;
     match word {
         Word::Boot => {
-            let pid = id(first)?;
-            let tid = id(second)?;
+            let (pid, tid) = two_words(text)?;
+            let pid = id(pid)?;
+            let tid = id(tid)?;
             Ok(Line::Boot { pid, tid })
         }
         Word::Thread => {
-            let tid = id(first)?;
-            let pid = id(second)?;
+            let (tid, pid) = two_words(text)?;
+            let tid = id(tid)?;
+            let pid = id(pid)?;
             Ok(Line::Thread { tid, pid })
         }
     }
@@ -129,7 +133,10 @@ fn is_printable(text: &[u8]) -> bool
 /// right: the first word, the call's name, the count of words and the words themselves. The grammar and the order of
 /// the faults are this project's own.
 #[tactic(auto, unfolding(lpc_model::specs::Grammar::read_line))]
-pub fn read_line<'a>(bytes: &'a [u8], scratch: &'a mut Scratch) -> Result<Option<Line<'a>>, LineFault>
+pub fn read_line<'a>(
+    bytes: &'a [u8],
+    scratch: &'a mut Scratch,
+) -> Result<Option<Line<'a>>, LineFault>
     ensures value { Gives (option_map line_of) result (grammar.read_line bytes.now) }
     ensures ids { IfOk result (λ line. IfSome line (λ said. IsTrue (has_ids (line_of said)))) }
 {

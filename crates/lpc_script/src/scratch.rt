@@ -51,23 +51,23 @@ impl Scratch {
         ensures { Gives (λ bytes. bytes.now) result (message_word word.now) }
     {
         if word.starts_with(b"m:") {
-            return self.bytes(&[], &word[2..]);
+            return self.behind(&[], &word[2..]);
         }
         if word.starts_with(b"d:") {
             let none = ClientId {
                 process: 0,
                 thread: 0,
             };
-            return self.made(none, 0, &word[2..]);
+            return self.hex_message(none, 0, &word[2..]);
         }
         if word.starts_with(b"r:") {
-            return self.reply(&word[2..]);
+            return self.reply_message(&word[2..]);
         }
         Err(LineFault::Message)
     }
 
     /// A front, and behind it the bytes that digits stand for.
-    fn bytes(&mut self, front: &[u8], digits: &[u8]) -> Result<&[u8], LineFault>
+    fn behind(&mut self, front: &[u8], digits: &[u8]) -> Result<&[u8], LineFault>
         requires front { length front.now ≤ 24 }
         requires digits { length digits.now ≤ LINE_LIMIT }
         ensures { Gives (λ bytes. bytes.now) result (behind front.now (hex_word digits.now)) }
@@ -77,7 +77,12 @@ impl Scratch {
     }
 
     /// The message whose data digits stand for, with its header made.
-    fn made(&mut self, client: ClientId, message_id: u32, digits: &[u8]) -> Result<&[u8], LineFault>
+    fn hex_message(
+        &mut self,
+        client: ClientId,
+        message_id: u32,
+        digits: &[u8],
+    ) -> Result<&[u8], LineFault>
         requires { length digits.now ≤ LINE_LIMIT }
         ensures { Gives (λ bytes. bytes.now) result (hex_message client message_id digits.now) }
     {
@@ -95,21 +100,21 @@ impl Scratch {
                 section_size: 0,
             },
         );
-        self.bytes(&front, digits)
+        self.behind(&front, digits)
     }
 
     /// The message that replies to the client and the identifier in front of the first colon.
     #[tactic(auto, unfolding(lpc_model::specs::Words::reply_message))]
-    fn reply(&mut self, text: &[u8]) -> Result<&[u8], LineFault>
+    fn reply_message(&mut self, text: &[u8]) -> Result<&[u8], LineFault>
         requires { length text.now ≤ LINE_LIMIT }
         ensures { Gives (λ bytes. bytes.now) result (reply_message text.now) }
     {
         let (numbers, digits) = cut(text, b':').ok_or(LineFault::Message)?;
-        let (process, thread, id) = three_parts(numbers).ok_or(LineFault::Message)?;
+        let (process, thread, message_id) = three_parts(numbers).ok_or(LineFault::Message)?;
         let process = number(process)?;
         let thread = number(thread)?;
-        let id = number(id)?;
-        self.made(ClientId { process, thread }, id, digits)
+        let message_id = number(message_id)?;
+        self.hex_message(ClientId { process, thread }, message_id, digits)
     }
 }
 

@@ -63,11 +63,20 @@ fn numbers_have_two_spellings(rt: HostRuntime) -> Result<(), Fail> {
             ("24 NtReplyWaitReceivePort 0", None),
             ("24 NtReplyWaitReceivePort 0x0000000A", None),
             ("24 NtReplyWaitReceivePort 4294967295", None),
-            ("24 NtReplyWaitReceivePort 4294967296", Some(LineFault::Number)),
-            ("24 NtReplyWaitReceivePort 99999999999999999999", Some(LineFault::Number)),
+            (
+                "24 NtReplyWaitReceivePort 4294967296",
+                Some(LineFault::Number),
+            ),
+            (
+                "24 NtReplyWaitReceivePort 99999999999999999999",
+                Some(LineFault::Number),
+            ),
             ("24 NtReplyWaitReceivePort 00", Some(LineFault::Number)),
             ("24 NtReplyWaitReceivePort 0x", Some(LineFault::Number)),
-            ("24 NtReplyWaitReceivePort 0x000000001", Some(LineFault::Number)),
+            (
+                "24 NtReplyWaitReceivePort 0x000000001",
+                Some(LineFault::Number),
+            ),
             ("24 NtReplyWaitReceivePort 0X1", Some(LineFault::Number)),
             ("24 NtReplyWaitReceivePort +1", Some(LineFault::Number)),
             ("24 NtReplyWaitReceivePort 1a", Some(LineFault::Number)),
@@ -107,10 +116,14 @@ fn messages_have_three_forms(rt: HostRuntime) -> Result<(), Fail> {
 fn a_reply_has_its_header_made(rt: HostRuntime) -> Result<(), Fail> {
     let mut scratch = Scratch::new(rt.alloc())?;
     let line = read_line(b"28 NtReplyPort 0x4 r:20.24.1:43fF", &mut scratch);
-    let Ok(Some(Line::Run {
-        tid,
-        call: Call::ReplyPort { handle, message },
-    })) = line
+    let Ok(
+        Some(
+            Line::Run {
+                tid,
+                call: Call::ReplyPort { handle, message },
+            },
+        ),
+    ) = line
     else {
         assert!(rt; false, "no reply");
         return Ok(());
@@ -134,10 +147,14 @@ fn a_line_has_at_most_16384_bytes(rt: HostRuntime) -> Result<(), Fail> {
     }
     assert_eq!(rt; read_line(&line, &mut scratch).err(), Some(LineFault::Hex));
     line.push(b'0')?;
-    let Ok(Some(Line::Run {
-        call: Call::ReplyPort { message, .. },
-        ..
-    })) = read_line(&line, &mut scratch)
+    let Ok(
+        Some(
+            Line::Run {
+                call: Call::ReplyPort { message, .. },
+                ..
+            },
+        ),
+    ) = read_line(&line, &mut scratch)
     else {
         assert!(rt; false, "no reply");
         return Ok(());
