@@ -15,7 +15,7 @@ use Rattle.lpc_model.specs.Lines.{ScriptCall, create_port, request_wait_reply_po
 use Rattle.lpc_model.specs.Words.{◌>>=◌, fault_if, words, begins, number_word, id_word, is_id, message_word}
 
 -- what stands beside a name in a table
-abbrev pub named : {A : Type 0} → List (List ℕ × A) → List ℕ → Option A
+unfoldable pub named : {A : Type 0} → List (List ℕ × A) → List ℕ → Option A
 named table word = option_map (λ entry. entry.1) (find (λ entry. bytes_eq word entry.0) table)
 
 -- the calls by their names
@@ -53,7 +53,7 @@ handle_and_message others = do
   Ok (handle, message)
 
 -- a call by the words behind its name
-abbrev pub call_words : CallName → List (List ℕ) → Result ScriptCall LineFault
+unfoldable pub call_words : CallName → List (List ℕ) → Result ScriptCall LineFault
 call_words NtCreatePort others = do
   name ← one_word others
   _ ← fixed_word (codes "-") name
@@ -70,7 +70,7 @@ call_words NtReplyWaitReceivePort others = do
   Ok (reply_wait_receive_port handle)
 
 -- a directive by the words behind it
-abbrev pub directive_words : Word → List (List ℕ) → Result ScriptLine LineFault
+unfoldable pub directive_words : Word → List (List ℕ) → Result ScriptLine LineFault
 directive_words Boot others = do
   two ← two_words others
   pid ← id_word two.0
@@ -90,14 +90,14 @@ named_call (word ∷ others) = do
   call_words name others
 
 -- the number of a thread, and its call
-abbrev pub call_line : List ℕ → List (List ℕ) → Result ScriptLine LineFault
+unfoldable pub call_line : List ℕ → List (List ℕ) → Result ScriptLine LineFault
 call_line front others = do
   tid ← id_word front
   call ← named_call others
   Ok (run tid call)
 
 -- a directive's word, and the words behind it
-abbrev pub directive_line : List ℕ → List (List ℕ) → Result ScriptLine LineFault
+unfoldable pub directive_line : List ℕ → List (List ℕ) → Result ScriptLine LineFault
 directive_line front others = do
   word ← ok_or (named directive_names front) fault.Word
   directive_words word others

@@ -15,6 +15,7 @@ const CALLS: [(&[u8], CallName); 4] = [
 const DIRECTIVES: [(&[u8], Word); 2] = [(b"boot", Word::Boot), (b"thread", Word::Thread)];
 
 /// What stands beside a word in a table.
+#[tactic(auto, unfolding(lpc_model::specs::Grammar::named))]
 fn named<T: Copy>(mut table: &[(&[u8], T)], word: &[u8]) -> Option<T>
     ensures { result ≡ grammar.named (map (λ entry. (entry.0.now, entry.1)) table.entry.now) word.now }
 {
@@ -28,6 +29,7 @@ fn named<T: Copy>(mut table: &[(&[u8], T)], word: &[u8]) -> Option<T>
 }
 
 /// The call of a name.
+#[tactic(auto, unfolding(lpc_model::specs::Grammar::named))]
 pub fn call_name(word: &[u8]) -> Option<CallName>
     ensures { result ≡ grammar.named call_names word.now }
 {
@@ -35,6 +37,7 @@ pub fn call_name(word: &[u8]) -> Option<CallName>
 }
 
 /// The directive of a word.
+#[tactic(auto, unfolding(lpc_model::specs::Grammar::named))]
 pub fn directive_name(word: &[u8]) -> Option<Word>
     ensures { result ≡ grammar.named directive_names word.now }
 {

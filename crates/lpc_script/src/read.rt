@@ -30,6 +30,7 @@ fn handle_and_message<'a>(
     Ok((handle, message))
 }
 
+#[tactic(auto, unfolding(lpc_model::specs::Grammar::call_words))]
 fn create_port(text: &[u8]) -> Result<Call<'static>, LineFault>
     ensures { Gives call_of result (call_words NtCreatePort (words text.now)) }
 {
@@ -40,6 +41,7 @@ fn create_port(text: &[u8]) -> Result<Call<'static>, LineFault>
 }
 
 /// A call by the words behind its name.
+#[tactic(auto, unfolding(lpc_model::specs::Grammar::call_words))]
 fn call<'a>(name: CallName, text: &[u8], scratch: &'a mut Scratch) -> Result<Call<'a>, LineFault>
     requires { length text.now ≤ LINE_LIMIT }
     ensures { Gives call_of result (call_words name (words text.now)) }
@@ -62,6 +64,7 @@ fn call<'a>(name: CallName, text: &[u8], scratch: &'a mut Scratch) -> Result<Cal
 }
 
 /// A directive by the words behind it.
+#[tactic(auto, unfolding(lpc_model::specs::Grammar::directive_words))]
 fn directive(word: Word, text: &[u8]) -> Result<Line<'static>, LineFault>
     ensures value { Gives line_of result (directive_words word (words text.now)) }
     ensures ids { IfOk result (λ line. IsTrue (has_ids (line_of line))) }
@@ -83,6 +86,7 @@ fn directive(word: Word, text: &[u8]) -> Result<Line<'static>, LineFault>
 }
 
 /// The call of the thread whose number the front is.
+#[tactic(auto, unfolding(lpc_model::specs::Grammar::call_line))]
 fn call_line<'a>(front: &[u8], text: &[u8], scratch: &'a mut Scratch) -> Result<Line<'a>, LineFault>
     requires { length text.now ≤ LINE_LIMIT }
     ensures value { Gives line_of result (grammar.call_line front.now (words text.now)) }
@@ -98,6 +102,7 @@ fn call_line<'a>(front: &[u8], text: &[u8], scratch: &'a mut Scratch) -> Result<
 }
 
 /// The directive whose word the front is.
+#[tactic(auto, unfolding(lpc_model::specs::Grammar::directive_line))]
 fn directive_line(front: &[u8], text: &[u8]) -> Result<Line<'static>, LineFault>
     ensures value { Gives line_of result (grammar.directive_line front.now (words text.now)) }
     ensures ids { IfOk result (λ line. IsTrue (has_ids (line_of line))) }
