@@ -6,6 +6,7 @@ use Rattle.std.specs.Option.{ok_or}
 use Rattle.std.specs.Str.Parse.{digits_value}
 use Rattle.hex.specs.Hex.{decode_of}
 use Rattle.hex.specs.declared.error.FromHexError.{FromHexError}
+use Rattle.lpc_base.specs.declared.limits.TheConstants.{HEADER_SIZE}
 use Rattle.lpc_message.specs.Layout.{header_bytes}
 use Rattle.lpc_message.specs.declared.message.ClientId.{ClientId}
 use Rattle.lpc_model.specs.declared.fault.LineFault.{LineFault}
@@ -80,7 +81,7 @@ hex_word digits = hex_or_fault (decode_of digits)
 -- a message with its header made: DataSize, MessageSize, the client and the identifier, and zeros
 abbrev pub made_message : ClientId → ℕ → List ℕ → List ℕ
 made_message client identifier bytes =
-    header_bytes (record { data_size = length bytes; message_size = 24 + length bytes; kind = 0; ranges_offset = 0; client = client; message_id = identifier; section_size = 0 })
+    header_bytes (record { data_size = length bytes; message_size = HEADER_SIZE + length bytes; kind = 0; ranges_offset = 0; client = client; message_id = identifier; section_size = 0 })
     ++ bytes
 
 -- the message whose data the digits stand for

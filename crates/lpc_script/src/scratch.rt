@@ -1,6 +1,6 @@
 // The bytes that hexadecimal words stand for, and the messages that they make.
 ghost use Rattle.std.specs.Prelude.{◌≡◌, ◌≤◌, ◌+◌, ◌/◌, length, take, IfOk};
-ghost use Rattle.lpc_base.specs.declared.limits.TheConstants.{LINE_LIMIT};
+ghost use Rattle.lpc_base.specs.declared.limits.TheConstants.{HEADER_SIZE, LINE_LIMIT};
 ghost use Rattle.lpc_model.specs.Words.{hex_word, hex_message, reply_message, message_word};
 ghost use Rattle.lpc_script.specs.Gives.{Gives, behind};
 
@@ -8,7 +8,7 @@ use crate::number::number;
 use crate::words::{cut, three_parts};
 use hex::decode_to_slice;
 use lpc_base::OutOfMemory;
-use lpc_base::limits::LINE_LIMIT;
+use lpc_base::limits::{HEADER_SIZE, LINE_LIMIT};
 use lpc_message::{ClientId, Header, write_header};
 use lpc_model::LineFault;
 use std::alloc::Global;
@@ -68,7 +68,7 @@ impl Scratch {
 
     /// A front, and behind it the bytes that digits stand for.
     fn behind(&mut self, front: &[u8], digits: &[u8]) -> Result<&[u8], LineFault>
-        requires front { length front.now ≤ 24 }
+        requires front { length front.now ≤ HEADER_SIZE }
         requires digits { length digits.now ≤ LINE_LIMIT }
         ensures { Gives (λ bytes. bytes.now) result (behind front.now (hex_word digits.now)) }
     {
@@ -87,12 +87,12 @@ impl Scratch {
         ensures { Gives (λ bytes. bytes.now) result (hex_message client message_id digits.now) }
     {
         let size = (digits.len() / 2) as u16;
-        let mut front = [0u8; 24];
+        let mut front = [0u8; HEADER_SIZE];
         write_header(
             &mut front,
             &Header {
                 data_size: size,
-                message_size: 24 + size,
+                message_size: HEADER_SIZE as u16 + size,
                 kind: 0,
                 ranges_offset: 0,
                 client,
