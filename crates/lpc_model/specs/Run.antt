@@ -7,7 +7,7 @@ use Rattle.lpc_model.specs.declared.fault.LineFault.TheVariants as fault
 use Rattle.lpc_model.specs.Rows.{each}
 use Rattle.lpc_model.specs.World.{World, no_rows}
 use Rattle.lpc_model.specs.Lines.{ScriptLine}
-use Rattle.lpc_model.specs.Machine.{Stepped, step}
+use Rattle.lpc_model.specs.Machine.{Stepped, landed, step}
 use Rattle.lpc_model.specs.Script.{script_lines}
 use Rattle.lpc_model.specs.Grammar.{read_line}
 
@@ -46,7 +46,7 @@ said_from n (line ∷ lines) = unless_faulty (numbered_line n line) (said_from (
 
 -- what a line leaves and tells in a world; one that says nothing leaves it as it is
 abbrev pub line_step : World → Option ScriptLine → Stepped
-line_step w None = record { world = w; entries = [] }
+line_step w None = landed w []
 line_step w (Some line) = step w line
 
 -- the steps of lines, from a world on

@@ -1,5 +1,6 @@
 // Laws of the definitions alone.
 ghost use Rattle.std.specs.Prelude.{ℕ, List};
+ghost use Rattle.lpc_model.specs.Worked.{WorkedTranscripts};
 ghost use Rattle.lpc_replay.specs.Laws.{MisfitsRefused, RefusalsIdle, RefusalsStay, RequestsReturn};
 
 /// Completion by a fitting reply, in every script.
@@ -13,4 +14,9 @@ pub fn law_completion()
     ensures refused { (script : List ℕ) → MisfitsRefused script }
     ensures unchanged { (script : List ℕ) → RefusalsStay script }
     ensures idle { (script : List ℕ) → RefusalsIdle script }
+{}
+
+/// The definitions compute transcripts that were worked by hand, from the bytes of a script to the bytes sent for it.
+pub fn law_worked_transcripts()
+    ensures { WorkedTranscripts }
 {}

@@ -8,5 +8,5 @@ mod reading;
 mod replay;
 mod sending;
 
-pub use laws::law_completion;
+pub use laws::{law_completion, law_worked_transcripts};
 pub use replay::run_words;
