@@ -13,8 +13,8 @@ ghost use Rattle.lpc_machine.specs.Lawful.{draws_at_most};
 use crate::tables;
 use lpc_base::limits::HANDLE_LIMIT;
 use lpc_base::status::{
-    ACCESS_DENIED, INVALID_CID, INVALID_HANDLE, OBJECT_TYPE_MISMATCH, PORT_DISCONNECTED, QUOTA_EXCEEDED,
-    REPLY_MESSAGE_MISMATCH,
+    ACCESS_DENIED, INVALID_CID, INVALID_HANDLE, OBJECT_TYPE_MISMATCH, PORT_DISCONNECTED,
+    QUOTA_EXCEEDED, REPLY_MESSAGE_MISMATCH,
 };
 use lpc_base::{Birth, OutOfMemory, Status};
 use lpc_message::ClientId;

@@ -88,8 +88,9 @@ receive_steps by port queue None =
 -- a client port whose pair is cut and whose queue is empty: nothing will ever come
 abbrev pub is_spent : World → PortRow → Birth → Bool
 is_spent w port queue = elim port.kind [
-    Client ↦ is_cut port && is_none (first (is_queued queue) w.messages)
-  | _ ↦ false ]
+  | Client ↦ is_cut port && is_none (first (is_queued queue) w.messages)
+  | _ ↦ false
+]
 
 -- the queue on which a receive on a port is made: it is open, and something may come
 abbrev pub receive_test : World → PortRow → Result Birth Status
