@@ -1,5 +1,5 @@
 -- The calls that make ports: refusals in their order, else the steps.
-use Rattle.std.specs.Prelude.{ℕ, List, [], ◌∷◌, Option, None, Result, Ok}
+use Rattle.std.specs.Prelude.{ℕ, List, [], ◌∷◌, None, Result, Ok}
 use Rattle.lpc_base.specs.declared.status.Status.{Status}
 use Rattle.lpc_base.specs.declared.status.TheConstants.{SUCCESS}
 use Rattle.lpc_model.specs.declared.entry.Entry.TheVariants.{Answer}

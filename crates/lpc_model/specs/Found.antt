@@ -1,11 +1,11 @@
 -- What is found in the world: filters and counts of its rows.
-use Rattle.std.specs.Prelude.{ℕ, ◌==◌, ◌&&◌, ◌||◌, ◌+◌, Bool, true, false, List, length, map, Option, Some, None, is_some, is_none, option_and_then, if◌then◌else◌}
+use Rattle.std.specs.Prelude.{ℕ, ◌==◌, ◌&&◌, ◌||◌, ◌+◌, Bool, true, false, List, length, map, Option, Some, None, is_none, option_and_then, if◌then◌else◌}
 use Rattle.lpc_base.specs.Places.{least_handle}
 use Rattle.lpc_model.specs.declared.entry.ObjectKind.TheVariants as kind
-use Rattle.lpc_model.specs.declared.rows.PortKind.TheVariants.{Unnamed, Connection, Client, Server}
+use Rattle.lpc_model.specs.declared.rows.PortKind.TheVariants.{Client, Server}
 use Rattle.lpc_model.specs.declared.rows.WaitKind.TheVariants.{Request, Receive}
 use Rattle.lpc_model.specs.Rows.{first, has, which, count, passes}
-use Rattle.lpc_model.specs.World.{World, Birth, ObjectKind, ObjectName, Message, ProcessRow, ThreadRow, UsedThread, HandleRow, PortRow, MessageRow, WaitRow}
+use Rattle.lpc_model.specs.World.{World, Birth, ObjectKind, ObjectName, Message, ProcessRow, ThreadRow, HandleRow, PortRow, MessageRow, WaitRow}
 
 -- Names
 -- two births are one

@@ -1,5 +1,5 @@
 -- Messages as they are kept, and what is written over when one is sent.
-use Rattle.std.specs.Prelude.{ℕ, Bool, List, Option, Some, None, Result, Ok, nat_lt, is_some, length, drop, ◌++◌, ◌==◌}
+use Rattle.std.specs.Prelude.{ℕ, Bool, List, Result, Ok, nat_lt, is_some, drop, ◌++◌, ◌==◌}
 use Rattle.lpc_base.specs.declared.limits.TheConstants.{HEADER_SIZE, MESSAGE_LIMIT}
 use Rattle.lpc_base.specs.declared.status.Status.{Status}
 use Rattle.lpc_base.specs.declared.status.TheConstants.{INVALID_PARAMETER, PORT_MESSAGE_TOO_LONG}

@@ -1,5 +1,5 @@
 -- The calls that send, receive and reply: refusals in their order, else the steps.
-use Rattle.std.specs.Prelude.{ℕ, Bool, false, ◌&&◌, List, [], ◌∷◌, ◌++◌, Option, Some, None, is_none, Result, Ok}
+use Rattle.std.specs.Prelude.{ℕ, Bool, false, ◌&&◌, List, [], ◌∷◌, Option, Some, None, is_none, Result, Ok}
 use Rattle.lpc_base.specs.declared.status.Status.{Status}
 use Rattle.lpc_base.specs.declared.status.TheConstants.{PORT_DISCONNECTED, SUCCESS}
 use Rattle.lpc_model.specs.declared.entry.Entry.TheVariants.{Answer, Waits}
