@@ -6,6 +6,8 @@ mod services;
 mod shared;
 mod stop;
 mod tables;
+#[cfg(test)]
+mod tests;
 mod world;
 
 pub use machine::Machine;
