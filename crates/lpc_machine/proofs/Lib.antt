@@ -1,3 +1,4 @@
 pub mod Rows
 pub mod Lawful
 pub mod Entered
+pub mod Least

@@ -1,3 +1,4 @@
 pub mod State
 pub mod Lawful
 pub mod Does
+pub mod FreeHandle
