@@ -10,3 +10,6 @@ mod sending;
 
 pub use laws::{law_completion, law_worked_transcripts};
 pub use replay::run_words;
+
+#[cfg(test)]
+mod tests;
