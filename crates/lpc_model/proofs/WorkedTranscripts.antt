@@ -32,4 +32,8 @@ worked_transcripts = record {
   fault_of_a_message = refl;
   fault_of_a_count = refl;
   fault_of_a_process_number = refl;
+  example_of_mismatched_replies = refl;
+  example_of_messages_too_long = refl;
+  example_of_waiting_receivers = refl;
+  example_of_a_faulty_line = refl;
 }

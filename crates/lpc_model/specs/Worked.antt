@@ -25,3 +25,8 @@ pub record WorkedTranscripts : Type 0 where
   pub fault_of_a_message : transcript (codes "24 NtReplyPort 4 x:41\n") ≡ codes "stop 1 7\n"
   pub fault_of_a_count : transcript (codes "24 NtReplyPort\n") ≡ codes "stop 1 4\n"
   pub fault_of_a_process_number : transcript (codes "boot 020 24\n") ≡ codes "stop 1 5\n"
+  -- The scripts in examples/.
+  pub example_of_mismatched_replies : transcript (codes "# A reply must name the identifier of the request, and come through the port that the request waits on.\nboot 20 24\nthread 28 20\n24 NtCreatePort -\n24 NtRequestWaitReplyPort 4 d:4142\n\n# Not received yet: no reply fits.\n28 NtReplyPort 4 r:20.24.1:43\n28 NtReplyWaitReceivePort 4\n# Another identifier, and another client.\n28 NtReplyPort 4 r:20.24.2:43\n28 NtReplyPort 4 r:20.99.1:43\n# The one that fits.\n28 NtReplyPort 4 r:20.24.1:43\n") ≡ codes "2 - boot 00000000\n3 - thread 00000000\n4 24 NtCreatePort 00000000 h=4\n5 24 NtRequestWaitReplyPort wait id=1\n8 28 NtReplyPort c000021f\n9 28 NtReplyWaitReceivePort 00000000 ctx=00000000 msg=02001a0001000000140000001800000001000000000000004142\n11 28 NtReplyPort c000021f\n12 28 NtReplyPort c000000b\n14 28 NtReplyPort 00000000\n14 *24 NtRequestWaitReplyPort 00000000 msg=01001900020000001400000018000000010000000000000043\nend 14 10 4\n"
+  pub example_of_messages_too_long : transcript (codes "# A message has at most 256 bytes with its header; its sizes must be right.\nboot 20 24\n24 NtCreatePort -\n# 233 bytes of data are one too many.\n24 NtRequestWaitReplyPort 4 d:6161616161616161616161616161616161616161616161616161616161616161616161616161616161616161616161616161616161616161616161616161616161616161616161616161616161616161616161616161616161616161616161616161616161616161616161616161616161616161616161616161616161616161616161616161616161616161616161616161616161616161616161616161616161616161616161616161616161616161616161616161616161616161616161616161616161616161616161616161616161616161616161616161616161616161616161616161616161\n# Raw bytes: 5 bytes of data, but MessageSize leaves room for 4.\n24 NtRequestWaitReplyPort 4 m:05001c0000000000000000000000000000000000000000006162636465\n# Fewer bytes than a header.\n24 NtRequestWaitReplyPort 4 m:0000\n# 232 bytes go in.\n24 NtRequestWaitReplyPort 4 d:61616161616161616161616161616161616161616161616161616161616161616161616161616161616161616161616161616161616161616161616161616161616161616161616161616161616161616161616161616161616161616161616161616161616161616161616161616161616161616161616161616161616161616161616161616161616161616161616161616161616161616161616161616161616161616161616161616161616161616161616161616161616161616161616161616161616161616161616161616161616161616161616161616161616161616161616161616161\n") ≡ codes "2 - boot 00000000\n3 24 NtCreatePort 00000000 h=4\n5 24 NtRequestWaitReplyPort c000002f\n7 24 NtRequestWaitReplyPort c000000d\n9 24 NtRequestWaitReplyPort c000000d\n11 24 NtRequestWaitReplyPort wait id=1\nend 11 6 3\n"
+  pub example_of_waiting_receivers : transcript (codes "# A message that enters a queue goes at once to the thread that has waited there longest.\nboot 20 24\nthread 28 20\nthread 32 20\n24 NtCreatePort -\n28 NtReplyWaitReceivePort 4\n32 NtReplyWaitReceivePort 4\n# A waiting thread makes no call, and a number that no thread has makes none.\n28 NtCreatePort -\n36 NtCreatePort -\n24 NtRequestWaitReplyPort 4 d:\n28 NtReplyPort 0x4 r:20.24.1:4F4B\n") ≡ codes "2 - boot 00000000\n3 - thread 00000000\n4 - thread 00000000\n5 24 NtCreatePort 00000000 h=4\n6 28 NtReplyWaitReceivePort wait\n7 32 NtReplyWaitReceivePort wait\n9 28 busy\n10 36 nothread\n11 24 NtRequestWaitReplyPort wait id=1\n11 *28 NtReplyWaitReceivePort 00000000 ctx=00000000 msg=000018000100000014000000180000000100000000000000\n12 28 NtReplyPort 00000000\n12 *24 NtRequestWaitReplyPort 00000000 msg=02001a0002000000140000001800000001000000000000004f4b\nend 12 12 5\n"
+  pub example_of_a_faulty_line : transcript (codes "boot 20 24\n\n# The next line has a leading zero: fault 5, and the script stops there.\n24 NtReplyPort 08 d:\nthread 28 20\n") ≡ codes "1 - boot 00000000\nstop 4 5\n"
