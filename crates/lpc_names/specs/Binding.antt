@@ -1,0 +1,60 @@
+-- What a name space is, and how it changes: one name comes, or one name goes.
+use Rattle.std.specs.Prelude.{◌≡◌, ℕ, Bool, true, false, if◌then◌else◌, List, [], ◌∷◌, ◌++◌, Result, Ok, Err, IsOk}
+use Rattle.lpc_names.specs.declared.fault.NameFault.{NameFault}
+use Rattle.lpc_names.specs.declared.fault.BindFault.{BindFault}
+use Rattle.lpc_names.specs.declared.fault.BindFault.TheVariants.{Name, OutOfMemory}
+use Rattle.lpc_names.specs.declared.names.Found.TheVariants.{Directory, Item}
+use Rattle.lpc_names.specs.Path.{Path, spelled}
+pub use Rattle.lpc_names.specs.Walk.{Bindings, Node, Stands, LinkTo, Found}
+use Rattle.lpc_names.specs.Walk.{free_path}
+
+-- the bindings, and how many more go in without memory
+pub record NameSpace (T : Type 0) : Type 0 where
+  pub bindings : Bindings T
+  pub spare : ℕ
+
+module _ {T : Type 0} where
+  -- the bindings with one more, at the free path where one was found
+  abbrev pub with_node : Bindings T → Node T → Result Path NameFault → Result (Bindings T) NameFault
+  with_node bindings node (Err fault) = Err fault
+  with_node bindings node (Ok path) = Ok (bindings ++ (path, node) ∷ [])
+
+  -- the bindings with one more, where the text leads
+  abbrev pub bound : Bindings T → List ℕ → Node T → Result (Bindings T) NameFault
+  bound bindings text node = with_node bindings node (free_path bindings text)
+
+  -- the same with a link to the path that a text spells; a fault of the target comes before any of the text
+  abbrev pub linked : Bindings T → List ℕ → Result Path NameFault → Result (Bindings T) NameFault
+  linked bindings text (Err fault) = Err fault
+  linked bindings text (Ok target) = bound bindings text (LinkTo target)
+
+  abbrev pub with_link : Bindings T → List ℕ → List ℕ → Result (Bindings T) NameFault
+  with_link bindings text target = linked bindings text (spelled target)
+
+  -- a call that binds is refused by the fault of the names alone, and runs out of memory only where there is none
+  abbrev pub Refuses : BindFault → Result (Bindings T) NameFault → Type 0
+  Refuses (Name fault) answer = answer ≡ Err fault
+  Refuses OutOfMemory answer = IsOk answer
+
+  -- after a refusal nothing is changed; want of memory may change the room
+  abbrev pub Leaves : BindFault → NameSpace T → NameSpace T → Type 0
+  Leaves (Name fault) old new = new ≡ old
+  Leaves OutOfMemory old new = new.bindings ≡ old.bindings
+
+  module _ (same : T → T → Bool) (item : T) where
+    -- a name of the item
+    abbrev pub is_name : Path × Node T → Bool
+    is_name binding = elim binding.1 [
+      | LinkTo target ↦ false
+      | Stands found ↦ elim found [ Directory ↦ false | Item other ↦ same other item ]
+    ]
+
+    -- the item has a name
+    abbrev pub has_name : Bindings T → Bool
+    has_name [] = false
+    has_name (binding ∷ rest) = if is_name binding then true else has_name rest
+
+    -- the bindings without the item's name, the first one that it was given
+    abbrev pub without_name : Bindings T → Bindings T
+    without_name [] = []
+    without_name (binding ∷ rest) = if is_name binding then rest else binding ∷ without_name rest

@@ -1,0 +1,49 @@
+-- How the code keeps paths: as texts without links. No public clause cites this module.
+use Rattle.std.specs.Prelude.{ℕ, suc, Bool, true, ◌==◌, if◌then◌else◌, List, [], ◌∷◌, map, Result, Ok, Err}
+use Rattle.arrayvec.specs.ArrayVec.{ArrayVec}
+use Rattle.lpc_names.specs.declared.names.Node as kept
+use Rattle.lpc_names.specs.declared.names.Node.TheVariants as kept_as
+use Rattle.lpc_names.specs.declared.names.Place as place
+use Rattle.lpc_names.specs.declared.names.Way as way
+use Rattle.lpc_names.specs.declared.names.Way.TheVariants as way_as
+use Rattle.lpc_names.specs.Path.{Path, parts_of}
+use Rattle.lpc_names.specs.Walk.{Node, Stands, LinkTo, Bindings, Place, Way, Ends, Turns}
+
+-- the path of a text in which each component stands behind a backslash
+abbrev pub path_of : List ℕ → Path
+path_of [] = []
+path_of (backslash ∷ names) = parts_of names
+
+-- a text is empty or begins with a backslash
+abbrev pub begins_part : List ℕ → Bool
+begins_part [] = true
+begins_part (byte ∷ bytes) = byte == 92
+
+-- how many bytes stand before the first backslash
+abbrev pub name_length : List ℕ → ℕ
+name_length [] = 0
+name_length (byte ∷ bytes) = if byte == 92 then 0 else suc (name_length bytes)
+
+module _ {T : Type 0} where
+  abbrev pub shown_node : kept.Node T → Node T
+  shown_node (kept_as.Stands found) = Stands found
+  shown_node (kept_as.Link target) = LinkTo (path_of target.items)
+
+  -- a key is a path without its first backslash
+  abbrev pub shown : ArrayVec ℕ × kept.Node T → Path × Node T
+  shown entry = (parts_of entry.0.items, shown_node entry.1)
+
+  abbrev pub shown_all : List (ArrayVec ℕ × kept.Node T) → Bindings T
+  shown_all entries = map shown entries
+
+  abbrev pub shown_place : place.Place T → Place T
+  shown_place p = record { path = path_of p.path.items; found = p.found }
+
+  abbrev pub shown_way : way.Way T → Way T
+  shown_way (way_as.Ends found) = Ends found
+  shown_way (way_as.Turns text) = Turns (path_of text.items)
+
+-- an answer, seen as the definitions have it
+abbrev pub seen : {A B E : Type 0} → (A → B) → Result A E → Result B E
+seen view (Ok value) = Ok (view value)
+seen view (Err fault) = Err fault

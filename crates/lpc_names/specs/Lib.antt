@@ -1,0 +1,5 @@
+pub mod Path
+pub mod Walk
+pub mod Binding
+pub mod Faults
+pub mod Kept

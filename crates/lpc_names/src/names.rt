@@ -1,0 +1,295 @@
+// The name space: a table from paths without links to what stands there, and the walk that finds them.
+ghost use Rattle.std.specs.Prelude.{◌≡◌, ◌≢◌, ◌+◌, ◌<◌, ◌≤◌, length, drop, true, Ok, Err, Some, None, IfErr, IfOk, IsOk, OnOk, OnErr, MatchResult, option_copied, option_map, slice_get, false, [], ◌∷◌, ◌++◌};
+ghost use Rattle.std.specs.Option.{option_map_or};
+ghost use Rattle.lpc_names.specs.Path.{parts_of};
+ghost use Rattle.lpc_names.specs.Walk as names;
+ghost use Rattle.lpc_names.specs.Binding as binding;
+ghost use Rattle.lpc_names.specs.declared.names.Found.TheVariants as found;
+ghost use Rattle.lpc_names.specs.Kept.{path_of, seen, shown_node, shown_place, shown_way};
+
+use crate::text::{Text, join, length_of_name, read};
+use crate::{BindFault, NameFault};
+use indexmap::IndexMap;
+use lpc_base::OutOfMemory;
+use std::alloc::Global;
+use std::marker::Model;
+
+// How many links of one path are replaced.
+const LINK_LIMIT: u32 = 32;
+
+/// What a look-up finds.
+#[derive(Clone, Copy, Debug, PartialEq, Eq)]
+pub enum Found<T> {
+    /// A directory; the root is one.
+    Directory,
+    /// An item that was bound.
+    Item(T),
+}
+
+// What a name stands for.
+#[derive(Drop)]
+pub enum Node<T> {
+    Stands(Found<T>),
+    Link(Text),
+}
+
+// Where a path without links ends, and what stands there.
+#[derive(Drop)]
+pub struct Place<T> {
+    path: Text,
+    found: Option<Found<T>>,
+}
+
+// How a walk goes on: it comes to the end of the path, or turns to another path at a link.
+#[derive(Drop)]
+pub enum Way<T> {
+    Ends(Option<Found<T>>),
+    Turns(Text),
+}
+
+/// A name space: directories, links and items of type `T`, each bound at a path.
+///
+/// A path begins with a backslash, and its components are parted by backslashes; a backslash alone is the root, which
+/// is a directory that always stands. Names compare byte for byte. A component that is a link, the last one too, gives
+/// way to the link's target. Which paths are at fault, and in which order the faults are found, is this project's own
+/// profile.
+///
+/// A clause sees the bindings in the order in which they were made, and the spare room: how many more go in without
+/// memory.
+#[derive(Drop)]
+pub struct Names<T: Copy + Eq> {
+    nodes: IndexMap<Text, Node<T>>,
+}
+
+impl<T: Copy + Eq> Model for Names<T> {
+    ghost use Rattle.indexmap.specs.IndexMap.{spare};
+    ghost use Rattle.lpc_names.specs.Binding.{NameSpace};
+
+    ghost Value = { NameSpace T };
+
+    ghost use Rattle.lpc_names.specs.Kept.{shown_all};
+
+    ghost view = { λ names. record { bindings = shown_all names.nodes.entries; spare = spare names.nodes } };
+}
+
+// The key of a path, which leaves out its first backslash: the root has none.
+fn key_of(path: &[u8]) -> Text
+    requires some { 0 < length path.now }
+    requires fits { length path.now ≤ 256 }
+    ensures { parts_of result.items ≡ path_of path.now }
+{
+    let mut key = Text::new();
+    key.try_extend_from_slice(&path[1..]).unwrap();
+    key
+}
+
+// What a walk comes to where no directory stands: this is the end of the path.
+fn at_end<T: Copy>(found: Option<Found<T>>, rest: &[u8]) -> Result<Way<T>, NameFault>
+    ensures { seen shown_way result ≡ names.at_end found (path_of rest.now) }
+{
+    if rest.is_empty() {
+        Ok(Way::Ends(found))
+    } else {
+        Err(NameFault::PathNotFound)
+    }
+}
+
+impl<T: Copy + Eq> Names<T> {
+    /// A name space in which the root alone stands. What it binds later takes memory from `alloc`.
+    pub fn new(alloc: Global) -> Names<T>
+        ensures { result.bindings ≡ [] }
+    {
+        Names {
+            nodes: IndexMap::new(alloc),
+        }
+    }
+
+    /// What a path leads to.
+    ///
+    /// # Errors
+    ///
+    /// `PathSyntax`: the path does not begin with a backslash. `NameInvalid`: a component is empty, the path has more
+    /// than 256 bytes, at first or after a link gave way, or a 33rd link stands on the way. `PathNotFound`: a component
+    /// before the last is missing, or is an item. `NameNotFound`: the last component is missing.
+    pub fn lookup(&self, path: &[u8]) -> Result<Found<T>, NameFault>
+        ensures { result ≡ names.lookup self.now.bindings path.now }
+    {
+        self.walk(path)?.found.ok_or(NameFault::NameNotFound)
+    }
+
+    /// Makes room for `more` bindings: so many calls that bind then need no memory.
+    ///
+    /// # Errors
+    ///
+    /// `OutOfMemory`: memory ran out. Nothing is bound or unbound in either case.
+    pub fn reserve(&mut self, more: usize) -> Result<(), OutOfMemory>
+        ensures room { OnOk result (more ≤ self.new.spare) }
+        ensures kept { self.new.bindings ≡ self.old.bindings }
+        ensures spare { self.old.spare ≤ self.new.spare }
+    {
+        self.nodes.reserve(more).map_err(|_| OutOfMemory)
+    }
+
+    /// Gives an item a name.
+    ///
+    /// A path whose last component is a link to a path where nothing stands binds there.
+    ///
+    /// # Errors
+    ///
+    /// `Name`: a fault of the path as for `lookup`, or `Collision`: something stands where the path leads, as the root
+    /// does; nothing is changed. `OutOfMemory`: the path is free, there was no spare room, and memory ran out; nothing
+    /// is bound or unbound.
+    pub fn bind(&mut self, path: &[u8], item: T) -> Result<(), BindFault>
+        ensures bound { OnOk result (binding.bound self.old.bindings path.now (names.Stands (found.Item item)) ≡ Ok self.new.bindings) }
+        ensures refused { IfErr result (λ fault. binding.Refuses fault (binding.bound self.old.bindings path.now (names.Stands (found.Item item)))) }
+        ensures left { IfErr result (λ fault. binding.Leaves fault self.old self.new) }
+        ensures room { 0 < self.old.spare → result ≢ Err BindFault.OutOfMemory }
+        ensures spare { OnOk result (self.old.spare ≤ self.new.spare + 1) }
+    {
+        self.bind_node(path, Node::Stands(Found::Item(item)))
+    }
+
+    /// Makes a directory.
+    ///
+    /// # Errors
+    ///
+    /// As for `bind`.
+    pub fn add_directory(&mut self, path: &[u8]) -> Result<(), BindFault>
+        ensures bound { OnOk result (binding.bound self.old.bindings path.now (names.Stands found.Directory) ≡ Ok self.new.bindings) }
+        ensures refused { IfErr result (λ fault. binding.Refuses fault (binding.bound self.old.bindings path.now (names.Stands found.Directory))) }
+        ensures left { IfErr result (λ fault. binding.Leaves fault self.old self.new) }
+        ensures room { 0 < self.old.spare → result ≢ Err BindFault.OutOfMemory }
+        ensures spare { OnOk result (self.old.spare ≤ self.new.spare + 1) }
+    {
+        self.bind_node(path, Node::Stands(Found::Directory))
+    }
+
+    /// Makes a link from one path to another, at which nothing need stand.
+    ///
+    /// # Errors
+    ///
+    /// As for `bind`; but first of all `Name` with `PathSyntax` or `NameInvalid` where the target is no path.
+    pub fn add_link(&mut self, path: &[u8], target: &[u8]) -> Result<(), BindFault>
+        ensures bound { OnOk result (binding.with_link self.old.bindings path.now target.now ≡ Ok self.new.bindings) }
+        ensures refused { IfErr result (λ fault. binding.Refuses fault (binding.with_link self.old.bindings path.now target.now)) }
+        ensures left { IfErr result (λ fault. binding.Leaves fault self.old self.new) }
+        ensures room { 0 < self.old.spare → result ≢ Err BindFault.OutOfMemory }
+        ensures spare { OnOk result (self.old.spare ≤ self.new.spare + 1) }
+    {
+        let target = read(target).map_err(BindFault::Name)?;
+        self.bind_node(path, Node::Link(target))
+    }
+
+    /// Takes away an item's name, the first that it was given, and answers whether it had one.
+    pub fn unbind(&mut self, item: T) -> bool
+        ensures answer { result ≡ binding.has_name T.eq item self.old.bindings }
+        ensures bindings { self.new.bindings ≡ binding.without_name T.eq item self.old.bindings }
+        ensures spare { self.old.spare ≤ self.new.spare }
+    {
+        for index in 0..self.nodes.len() {
+            if self.is_name(index, item) {
+                self.nodes.shift_remove_index(index);
+                return true;
+            }
+        }
+        false
+    }
+
+    // What is bound at a path that isn't the root.
+    fn node(&self, path: &[u8]) -> Option<&Node<T>>
+        requires some { 0 < length path.now }
+        requires fits { length path.now ≤ 256 }
+        ensures { option_map shown_node (option_copied result) ≡ names.node_at self.now.bindings (path_of path.now) }
+    {
+        self.nodes.get(&key_of(path))
+    }
+
+    // Along the path up to its end or to its first link.
+    fn way(&self, path: &Text) -> Result<Way<T>, NameFault>
+        ensures { seen shown_way result ≡ names.way self.now.bindings [] (path_of path.now.items) }
+    {
+        let bytes = path.as_slice();
+        let mut walked = 0;
+        let mut rest = bytes;
+        while let [_, names @ ..] = rest {
+            let (name, more) = names.split_at(length_of_name(names));
+            walked += 1 + name.len();
+            match self.node(&bytes[..walked]) {
+                Some(Node::Stands(Found::Directory)) => rest = more,
+                Some(Node::Stands(Found::Item(item))) => return at_end(
+                    Some(Found::Item(*item)),
+                    more,
+                ),
+                Some(Node::Link(target)) => return Ok(Way::Turns(join(target, more)?)),
+                None => return at_end(None, more),
+            }
+        }
+        Ok(Way::Ends(Some(Found::Directory)))
+    }
+
+    // The walk of what a text spells.
+    fn walk(&self, text: &[u8]) -> Result<Place<T>, NameFault>
+        ensures { seen shown_place result ≡ names.walk self.now.bindings text.now }
+    {
+        let mut path = read(text)?;
+        let mut left = LINK_LIMIT;
+        loop {
+            match self.way(&path)? {
+                Way::Ends(found) => return Ok(Place { path, found }),
+                Way::Turns(_) if left == 0 => return Err(NameFault::NameInvalid),
+                Way::Turns(other) => path = other,
+            }
+            left -= 1;
+        }
+    }
+
+    // The path at which a new name goes.
+    fn free_path(&self, text: &[u8]) -> Result<Text, NameFault>
+        ensures path { seen (λ path. path_of path.items) result ≡ names.free_path self.now.bindings text.now }
+        ensures free { IfOk result (λ path. names.node_at self.now.bindings (path_of path.items) ≡ None) }
+        ensures some { IfOk result (λ path. 0 < length path.items) }
+    {
+        let place = self.walk(text)?;
+        match place.found {
+            None => Ok(place.path),
+            Some(_) => Err(NameFault::Collision),
+        }
+    }
+
+    // One more binding, at a path where nothing is bound.
+    fn put(&mut self, path: &Text, node: Node<T>) -> Result<(), OutOfMemory>
+        requires some { 0 < length path.now.items }
+        requires free { names.node_at self.old.bindings (path_of path.now.items) ≡ None }
+        ensures bound { OnOk result (self.new.bindings ≡ self.old.bindings ++ (path_of path.now.items, shown_node node) ∷ []) }
+        ensures left { OnErr result (self.new.bindings ≡ self.old.bindings) }
+        ensures room { 0 < self.old.spare → IsOk result }
+        ensures spare { self.old.spare ≤ self.new.spare + 1 }
+    {
+        if self.nodes.insert(key_of(path), node).is_err() {
+            return Err(OutOfMemory);
+        }
+        Ok(())
+    }
+
+    // One more binding, where a text leads.
+    fn bind_node(&mut self, text: &[u8], node: Node<T>) -> Result<(), BindFault>
+        ensures bound { OnOk result (binding.bound self.old.bindings text.now (shown_node node) ≡ Ok self.new.bindings) }
+        ensures refused { IfErr result (λ fault. binding.Refuses fault (binding.bound self.old.bindings text.now (shown_node node))) }
+        ensures left { IfErr result (λ fault. binding.Leaves fault self.old self.new) }
+        ensures room { 0 < self.old.spare → result ≢ Err BindFault.OutOfMemory }
+        ensures spare { OnOk result (self.old.spare ≤ self.new.spare + 1) }
+    {
+        let path = self.free_path(text).map_err(BindFault::Name)?;
+        self.put(&path, node).map_err(|_| BindFault::OutOfMemory)
+    }
+
+    // The binding at an index is a name of the item.
+    fn is_name(&self, index: usize, item: T) -> bool
+        ensures { result ≡ option_map_or (binding.is_name T.eq item) (slice_get self.now.bindings index) false }
+    {
+        match self.nodes.get_index(index) {
+            Some((_, Node::Stands(Found::Item(other)))) => *other == item,
+            _ => false,
+        }
+    }
+}
