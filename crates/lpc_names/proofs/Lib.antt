@@ -2,3 +2,4 @@ pub mod Paths
 pub mod Walks
 pub mod Shown
 pub mod Named
+pub mod Bound

@@ -80,7 +80,7 @@ module _ {T : Type 0} (bindings : Bindings T) where
   walk-fault zero path fault h = rw h refl
   walk-fault (suc left) path fault h = rw h refl
 
-  turns : (left : ℕ) (path other : Path) → way bindings [] path ≡ Ok (Turns other) → walk_by (suc left) bindings path ≡ walk_by left bindings other
+  pub turns : (left : ℕ) (path other : Path) → way bindings [] path ≡ Ok (Turns other) → walk_by (suc left) bindings path ≡ walk_by left bindings other
   unfolding walk_by
   turns left path other h = rw h refl
 

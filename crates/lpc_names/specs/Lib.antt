@@ -3,3 +3,4 @@ pub mod Walk
 pub mod Binding
 pub mod Faults
 pub mod Kept
+pub mod Laws

@@ -73,15 +73,23 @@ module _ {T : Type 0} where
   abbrev pub walk : Bindings T → List ℕ → Result (Place T) NameFault
   walk bindings text = walk_if bindings (spelled text)
 
-  -- what stands at the end of a walk, which must not be missing
+  -- what is found, which must not be missing
+  abbrev pub there : Option (Found T) → Result (Found T) NameFault
+  there None = Err NameNotFound
+  there (Some found) = Ok found
+
+  -- the path, where nothing may stand yet
+  abbrev pub unless_taken : Path → Option (Found T) → Result Path NameFault
+  unless_taken path None = Ok path
+  unless_taken path (Some found) = Err Collision
+
   abbrev pub found_at : Result (Place T) NameFault → Result (Found T) NameFault
   found_at (Err fault) = Err fault
-  found_at (Ok place) = elim place.found [ None ↦ Err NameNotFound | Some found ↦ Ok found ]
+  found_at (Ok place) = there place.found
 
-  -- the path at the end of a walk, where nothing may stand yet
   abbrev pub free_at : Result (Place T) NameFault → Result Path NameFault
   free_at (Err fault) = Err fault
-  free_at (Ok place) = elim place.found [ None ↦ Ok place.path | Some found ↦ Err Collision ]
+  free_at (Ok place) = unless_taken place.path place.found
 
   -- a look-up of a text
   abbrev pub lookup : Bindings T → List ℕ → Result (Found T) NameFault
