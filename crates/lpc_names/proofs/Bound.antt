@@ -134,9 +134,13 @@ module _ {T : Type 0} where
       by None e h = absurd (cc)
       by (Some other) e h = (place, refl, e ∙ cc h)
 
-  text-found : (bindings : Bindings T) (read : Result Path NameFault) (place : Place T) (found : Found T) → place.found ≡ None → node_at bindings place.path ≡ None → walk_if bindings read ≡ Ok place → walk_if (bindings ++ (place.path, Stands found) ∷ []) read ≡ Ok (with_found place.path found)
-  text-found bindings (Err fault) place found none free h = absurd (cc)
-  text-found bindings (Ok path) place found none free h = walk-found bindings place found none free 32 path h
+  read-found : (bindings : Bindings T) (read : Result Path NameFault) (place : Place T) (found : Found T) → place.found ≡ None → node_at bindings place.path ≡ None → walk_if bindings read ≡ Ok place → walk_if (bindings ++ (place.path, Stands found) ∷ []) read ≡ Ok (with_found place.path found)
+  read-found bindings (Err fault) place found none free h = absurd (cc)
+  read-found bindings (Ok path) place found none free h = walk-found bindings place found none free 32 path h
+
+  text-found : (bindings : Bindings T) (text : List ℕ) (place : Place T) (found : Found T) → place.found ≡ None → node_at bindings place.path ≡ None → walk bindings text ≡ Ok place → walk (bindings ++ (place.path, Stands found) ∷ []) text ≡ Ok (with_found place.path found)
+  unfolding walk
+  text-found bindings text place found none free h = read-found bindings (spelled text) place found none free h
 
   pub bound-is-found : (bindings after : Bindings T) (text : List ℕ) (found : Found T) → bound bindings text (Stands found) ≡ Ok after → lookup after text ≡ Ok found
   bound-is-found bindings after text found h = by (free_path bindings text) refl h
@@ -145,15 +149,15 @@ module _ {T : Type 0} where
       by (Err fault) e h = absurd (cc)
       by (Ok path) e h =
           let s = free-is (walk bindings text) path e in
-          let free : node_at bindings s.0.path ≡ None = (text-free bindings (spelled text) s.0 s.1 s.2).0 in
+          let free : node_at bindings s.0.path ≡ None = (text-free bindings text s.0 s.1 s.2).0 in
           let is : bindings ++ (s.0.path, Stands found) ∷ [] ≡ after = ap (λ p. bindings ++ (p, Stands found) ∷ []) s.3 ∙ cc h in
-          subst (λ bs. lookup bs text ≡ Ok found) is (ap found_at (text-found bindings (spelled text) s.0 found s.2 free s.1))
+          subst (λ bs. lookup bs text ≡ Ok found) is (ap found_at (text-found bindings text s.0 found s.2 free s.1))
 
   pub binding-changes-one-path : (bindings after : Bindings T) (text : List ℕ) (place : Path) (node : Node T) → free_path bindings text ≡ Ok place → bound bindings text node ≡ Ok after
       → (node_at after place ≡ Some node) × ((path : Path) → same_path path place ≡ false → node_at after path ≡ node_at bindings path)
   binding-changes-one-path bindings after text place node e h =
       let s = free-is (walk bindings text) place e in
-      let free : node_at bindings place ≡ None = subst (λ p. node_at bindings p ≡ None) s.3 ((text-free bindings (spelled text) s.0 s.1 s.2).0) in
+      let free : node_at bindings place ≡ None = subst (λ p. node_at bindings p ≡ None) s.3 ((text-free bindings text s.0 s.1 s.2).0) in
       let made : ◌≡◌ {A = Result (Bindings T) NameFault} (Ok (bindings ++ (place, node) ∷ [])) (Ok after) = ap (with_node bindings node) (sym e) ∙ h in
       let is : bindings ++ (place, node) ∷ [] ≡ after = cc made in (
         subst (λ bs. node_at bs place ≡ Some node) is (node-here bindings place node free),
@@ -189,9 +193,13 @@ module _ {T : Type 0} where
     walk-item zero path place is h = item-onwards path (λ other. Err NameInvalid) place (λ other e. absurd (cc)) is (way bindings [] path) refl h
     walk-item (suc left) path place is h = item-onwards path (walk_by left bindings) place (λ other. walk-item left other place is) is (way bindings [] path) refl h
 
-    text-item : (read : Result Path NameFault) (place : Place T) → place.found ≡ Some (Item item) → walk_if bindings read ≡ Ok place → IsBound bindings item
-    text-item (Err fault) place is h = absurd (cc)
-    text-item (Ok path) place is h = walk-item 32 path place is h
+    read-item : (read : Result Path NameFault) (place : Place T) → place.found ≡ Some (Item item) → walk_if bindings read ≡ Ok place → IsBound bindings item
+    read-item (Err fault) place is h = absurd (cc)
+    read-item (Ok path) place is h = walk-item 32 path place is h
+
+    text-item : (text : List ℕ) (place : Place T) → place.found ≡ Some (Item item) → walk bindings text ≡ Ok place → IsBound bindings item
+    unfolding walk
+    text-item text place is h = read-item (spelled text) place is h
 
   module _ (same : T → T → Bool) (item other : T) where
     no-name : (bindings : Bindings T) (path : Path) → has_name same item bindings ≡ false → node_at bindings path ≡ Some (Stands (Item other)) → same other item ≡ false
@@ -208,7 +216,7 @@ module _ {T : Type 0} where
     pub nameless-is-not-found : (bindings : Bindings T) (text : List ℕ) → has_name same item bindings ≡ false → lookup bindings text ≡ Ok (Item other) → same other item ≡ false
     nameless-is-not-found bindings text none h =
         let s = found-is (walk bindings text) (Item other) h in
-        let b = text-item bindings other (spelled text) s.0 s.2 s.1 in
+        let b = text-item bindings other text s.0 s.2 s.1 in
         no-name bindings b.0 none b.1
 
   -- more replacements lead no other way
@@ -224,6 +232,7 @@ module _ {T : Type 0} where
 
   pub linked-as-direct : (bindings : Bindings T) (text direct : List ℕ) (path other : Path) (place : Place T) → spelled text ≡ Ok path → spelled direct ≡ Ok other → way bindings [] path ≡ Ok (Turns other) → walk_by 31 bindings other ≡ Ok place
       → (walk bindings text ≡ Ok place) × (walk bindings direct ≡ Ok place)
+  unfolding walk
   linked-as-direct bindings text direct path other place reads one turned ends = (
     ap (walk_if bindings) reads ∙ turns bindings 31 path other turned ∙ ends,
     ap (walk_if bindings) one ∙ walk-more bindings 31 other place ends,

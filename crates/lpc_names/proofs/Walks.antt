@@ -3,8 +3,8 @@ use Rattle.std.proofs.Common.{◌≡◌, ◌∙◌, refl, sym, ap, subst, ℕ, z
 use Rattle.lpc_names.specs.declared.fault.NameFault.{NameFault}
 use Rattle.lpc_names.specs.declared.fault.NameFault.TheVariants.{NameInvalid, PathNotFound}
 use Rattle.lpc_names.specs.declared.names.Found.TheVariants.{Directory, Item}
-use Rattle.lpc_names.specs.Path.{Path, size_of, is_too_long}
-use Rattle.lpc_names.specs.Walk.{Node, Stands, LinkTo, Bindings, Found, Place, Way, Ends, Turns, node_at, at_end, turned, past, way, onwards, walk_by, walk_if}
+use Rattle.lpc_names.specs.Path.{Path, size_of, is_too_long, spelled}
+use Rattle.lpc_names.specs.Walk.{Node, Stands, LinkTo, Bindings, Found, Place, Way, Ends, Turns, node_at, at_end, turned, past, way, onwards, walk_by, walk_if, walk}
 use Rattle.lpc_names.specs.Kept.{path_of}
 use Rattle.lpc_names.proofs.Paths.{parts-some, size-append}
 
@@ -55,9 +55,13 @@ module _ {T : Type 0} (bindings : Bindings T) where
   walk-free zero path place h none = free-onwards path (λ other. Err NameInvalid) place (λ other e. absurd (cc)) (way bindings [] path) refl h none
   walk-free (suc left) path place h none = free-onwards path (walk_by left bindings) place (λ other e. walk-free left other place e none) (way bindings [] path) refl h none
 
-  pub text-free : (read : Result Path NameFault) (place : Place T) → walk_if bindings read ≡ Ok place → place.found ≡ None → IsFree place.path
-  text-free (Err fault) place h none = absurd (cc)
-  text-free (Ok path) place h none = walk-free 32 path place h none
+  read-free : (read : Result Path NameFault) (place : Place T) → walk_if bindings read ≡ Ok place → place.found ≡ None → IsFree place.path
+  read-free (Err fault) place h none = absurd (cc)
+  read-free (Ok path) place h none = walk-free 32 path place h none
+
+  pub text-free : (text : List ℕ) (place : Place T) → walk bindings text ≡ Ok place → place.found ≡ None → IsFree place.path
+  unfolding walk
+  text-free text place h none = read-free (spelled text) place h none
 
   pub turned-fits : (path joined : Path) → joined ≡ path → is_too_long path ≡ false → ◌≡◌ {A = Result (Way T) NameFault} (Ok (Turns joined)) (turned path)
   turned-fits path joined is fits = ap (λ p. Ok (Turns p)) is ∙ sym (ap (λ t. if t then Err NameInvalid else Ok (Turns path)) fits)

@@ -70,7 +70,7 @@ module _ {T : Type 0} where
   walk_if bindings (Ok path) = walk_by 32 bindings path
 
   -- the walk of what a text spells
-  abbrev pub walk : Bindings T → List ℕ → Result (Place T) NameFault
+  unfoldable pub walk : Bindings T → List ℕ → Result (Place T) NameFault
   walk bindings text = walk_if bindings (spelled text)
 
   -- what is found, which must not be missing

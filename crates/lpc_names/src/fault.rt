@@ -17,16 +17,16 @@ pub enum NameFault {
     #[error("the path does not begin with a backslash")]
     PathSyntax,
     /// A component is empty, the path has more than 256 bytes, or a 33rd link would be followed.
-    #[error("the path has an empty or too long part, or too many links")]
+    #[error("the path has an empty component, too many bytes or too many links")]
     NameInvalid,
     /// A component before the last is missing, or is no directory.
-    #[error("an inner part of the path is no directory")]
+    #[error("an inner component is no directory")]
     PathNotFound,
     /// The last component is missing.
     #[error("nothing has the name")]
     NameNotFound,
     /// Something has the name already.
-    #[error("the name stands already")]
+    #[error("something has the name already")]
     Collision,
 }
 

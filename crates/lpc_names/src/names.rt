@@ -216,10 +216,9 @@ impl<T: Copy + Eq> Names<T> {
             walked += 1 + name.len();
             match self.node(&bytes[..walked]) {
                 Some(Node::Stands(Found::Directory)) => rest = more,
-                Some(Node::Stands(Found::Item(item))) => return at_end(
-                    Some(Found::Item(*item)),
-                    more,
-                ),
+                Some(Node::Stands(Found::Item(item))) => {
+                    return at_end(Some(Found::Item(*item)), more);
+                }
                 Some(Node::Link(target)) => return Ok(Way::Turns(join(target, more)?)),
                 None => return at_end(None, more),
             }
@@ -228,6 +227,7 @@ impl<T: Copy + Eq> Names<T> {
     }
 
     // The walk of what a text spells.
+    #[tactic(auto, unfolding(crate::specs::Walk::walk))]
     fn walk(&self, text: &[u8]) -> Result<Place<T>, NameFault>
         ensures { seen shown_place result ≡ names.walk self.now.bindings text.now }
     {
