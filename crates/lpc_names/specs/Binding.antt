@@ -28,6 +28,7 @@ module _ {T : Type 0} where
   linked bindings text (Err fault) = Err fault
   linked bindings text (Ok target) = bound bindings text (LinkTo target)
 
+  -- the bindings with a link, from where a text leads to what another spells
   abbrev pub with_link : Bindings T → List ℕ → List ℕ → Result (Bindings T) NameFault
   with_link bindings text target = linked bindings text (spelled target)
 

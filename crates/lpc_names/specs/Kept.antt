@@ -25,20 +25,24 @@ name_length [] = 0
 name_length (byte ∷ bytes) = if byte == 92 then 0 else suc (name_length bytes)
 
 module _ {T : Type 0} where
+  -- what a name stands for
   abbrev pub shown_node : kept.Node T → Node T
   shown_node (kept_as.Stands found) = Stands found
   shown_node (kept_as.Link target) = LinkTo (path_of target.items)
 
-  -- a key is a path without its first backslash
+  -- an entry of the table, whose key is a path without its first backslash
   abbrev pub shown : ArrayVec ℕ × kept.Node T → Path × Node T
   shown entry = (parts_of entry.0.items, shown_node entry.1)
 
+  -- the bindings, in the table's order
   abbrev pub shown_all : List (ArrayVec ℕ × kept.Node T) → Bindings T
   shown_all entries = map shown entries
 
+  -- the end of a walk
   abbrev pub shown_place : place.Place T → Place T
   shown_place p = record { path = path_of p.path.items; found = p.found }
 
+  -- how a walk goes on
   abbrev pub shown_way : way.Way T → Way T
   shown_way (way_as.Ends found) = Ends found
   shown_way (way_as.Turns text) = Turns (path_of text.items)

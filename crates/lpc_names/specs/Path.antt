@@ -23,6 +23,7 @@ abbrev pub parts_of : List ℕ → Path
 parts_of [] = [] ∷ []
 parts_of (byte ∷ bytes) = if byte == 92 then [] ∷ parts_of bytes else onto_first byte (parts_of bytes)
 
+-- a part without a byte
 abbrev pub is_empty : List ℕ → Bool
 is_empty [] = true
 is_empty (byte ∷ bytes) = false

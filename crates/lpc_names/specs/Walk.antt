@@ -13,7 +13,7 @@ pub data Node (T : Type 0) : Type 0 where
   Stands : Found T → Node T
   LinkTo : Path → Node T
 
--- every path that was given a name, in order; the root is never among them
+-- what each path names, in the order of binding; the root, which always stands, is never among them
 abbrev pub Bindings : Type 0 → Type 0
 Bindings T = List (Path × Node T)
 
@@ -83,10 +83,12 @@ module _ {T : Type 0} where
   unless_taken path None = Ok path
   unless_taken path (Some found) = Err Collision
 
+  -- what stands at the end of a walk
   abbrev pub found_at : Result (Place T) NameFault → Result (Found T) NameFault
   found_at (Err fault) = Err fault
   found_at (Ok place) = there place.found
 
+  -- the free path at the end of a walk
   abbrev pub free_at : Result (Place T) NameFault → Result Path NameFault
   free_at (Err fault) = Err fault
   free_at (Ok place) = unless_taken place.path place.found

@@ -26,24 +26,28 @@ pub enum Found<T> {
     Item(T),
 }
 
-// What a name stands for.
+/// What a name stands for.
 #[derive(Drop)]
 pub enum Node<T> {
+    /// What stands there itself.
     Stands(Found<T>),
+    /// Another path, the target of a link.
     Link(Text),
 }
 
-// Where a path without links ends, and what stands there.
+/// Where a path without links ends, and what stands there.
 #[derive(Drop)]
 pub struct Place<T> {
     path: Text,
     found: Option<Found<T>>,
 }
 
-// How a walk goes on: it comes to the end of the path, or turns to another path at a link.
+/// How a walk goes on: it comes to the end of the path, or turns to another path at a link.
 #[derive(Drop)]
 pub enum Way<T> {
+    /// The path ends, at what is found there.
     Ends(Option<Found<T>>),
+    /// A link gives way: this path is to be walked.
     Turns(Text),
 }
 

@@ -10,7 +10,7 @@ use arrayvec::ArrayVec;
 /// The bytes of a path, of which there are 256 at most.
 pub type Text = ArrayVec<u8, 256>;
 
-// How many bytes stand before the first backslash.
+/// How many bytes stand before the first backslash.
 pub fn length_of_name(bytes: &[u8]) -> usize
     ensures length { result ≡ name_length bytes.now }
     ensures within { result ≤ length bytes.now }
@@ -48,7 +48,12 @@ fn behind_root(text: &[u8]) -> Option<&[u8]>
     }
 }
 
-// The path that a text spells, with no link replaced yet.
+/// The path that a text spells, with no link replaced yet.
+///
+/// # Errors
+///
+/// `PathSyntax`: the text does not begin with a backslash. `NameInvalid`: a component is empty, or the text has more
+/// than 256 bytes.
 pub fn read(text: &[u8]) -> Result<Text, NameFault>
     ensures { seen (λ path. path_of path.items) result ≡ spelled text.now }
 {
@@ -68,7 +73,11 @@ pub fn read(text: &[u8]) -> Result<Text, NameFault>
     Ok(path)
 }
 
-// A link's target with what follows the link.
+/// A link's target with what follows the link, which begins with a backslash where it isn't empty.
+///
+/// # Errors
+///
+/// `NameInvalid`: the two have more than 256 bytes together.
 pub fn join(target: &Text, rest: &[u8]) -> Result<Text, NameFault>
     requires { begins_part rest.now ≡ true }
     ensures { MatchResult result
