@@ -1,14 +1,15 @@
 -- A script that is read whole, or to a limit, is formed as what is read of it.
 use Rattle.std.proofs.Common.{◌≡◌, ℕ, Bool, true, false, List, [], ◌++◌, refl, sym, subst, ◌∙◌}
 use Rattle.std.specs.Prelude.{IfSome, None, Option, Some}
-use Rattle.std.proofs.lemmas.List.{append-nil}
+use Rattle.std.proofs.lemmas.List.{append-nil, append_cancel_right}
 use Rattle.lpc_base.specs.Streams.{Told}
 use Rattle.lpc_model.specs.Script.{script_lines}
 use Rattle.lpc_model.specs.Run.{is_well_formed}
 use Rattle.lpc_model.specs.Transcript.{transcript}
 use Rattle.lpc_replay.specs.Laws.{MisfitsRefused, RefusalsIdle, RefusalsStay, RequestsReturn}
-use Rattle.lpc_replay.specs.Reading.{IsRead, passes_limit}
-use Rattle.lpc_replay.specs.TopCall.{IsFormed, Replays}
+use Rattle.lpc_replay.specs.Reading.{IsRead, ended_lines, passes_limit}
+use Rattle.lpc_replay.specs.TopCall.{IsFormed, IsStopped, Replays, Stops, StopsAtFault}
+use Rattle.lpc_replay.proofs.Ended.{ended_faulty}
 use Rattle.lpc_replay.proofs.Limits.{limit_faulty, read_sound}
 use Rattle.lpc_replay.proofs.Tells.{told_weaker}
 
@@ -29,6 +30,32 @@ pub replays : (left left' sent sent' : Option (List ℕ)) (script : List ℕ) �
 replays left left' sent sent' script told is transcribed =
     told_weaker left left' (IsRead script) (λ all rest. (rest ≡ []) × Told sent sent' (λ before now. now ≡ before ++ transcript all))
     (λ old new r. let whole = read_sound script old new r is in (whole.0, subst (λ t. Told sent sent' (λ before now. now ≡ before ++ transcript t)) whole.1 transcribed)) told
+
+-- what was read of a script, where no line of it is faulty that is ended
+pub sound_read : (left left' : Option (List ℕ)) (script : List ℕ) (status : ℕ) → Told left left' (λ old new. old ≡ script ++ new) → is_well_formed (ended_lines script) ≡ true → StopsAtFault left left' status
+sound_read None left' script status told sound = tt
+sound_read (Some old) None script status told sound = tt
+sound_read (Some old) (Some new) script status told sound = λ read parts faulty.
+    let same : script ≡ read = append_cancel_right script read new (sym told ∙ parts) in
+    let wrong = rw same at sound in
+    absurd (cc)
+
+-- and where one is
+pub stops_ended : (left left' sent sent' : Option (List ℕ)) (script : List ℕ) → Told left left' (λ old new. old ≡ script ++ new) → is_well_formed (ended_lines script) ≡ false → Told sent sent' (λ before now. now ≡ before ++ transcript script) → Stops left left' sent sent'
+stops_ended left left' sent sent' script told faulty transcribed =
+    told_weaker left left' (λ old new. old ≡ script ++ new) (IsStopped sent sent')
+    (λ old new parts. record {
+      read = script;
+      parts = parts;
+      faulty = rw (append-nil script) at (ended_faulty script [] faulty);
+      counted = λ sound within. absurd (cc);
+      transcribed = transcribed;
+    }) told
+
+pub formed_ended : (left left' : Option (List ℕ)) (script : List ℕ) → Told left left' (λ old new. old ≡ script ++ new) → is_well_formed (ended_lines script) ≡ false → IsFormed false left
+formed_ended None left' script told faulty = tt
+formed_ended (Some old) None script told faulty = absurd told
+formed_ended (Some old) (Some new) script told faulty = rw told (ended_faulty script new faulty)
 
 -- what holds of every script holds of the one that is told
 pub of_told : (P : List ℕ → Type 0) → ((script : List ℕ) → P script) → (left : Option (List ℕ)) → IfSome left P

@@ -6,4 +6,5 @@ pub mod EveryScript
 pub mod Tells
 pub mod Limits
 pub mod Turns
+pub mod Ended
 pub mod Formed

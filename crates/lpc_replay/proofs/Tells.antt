@@ -1,7 +1,7 @@
 -- Facts on what a source or a sink tells, one after the other.
-use Rattle.std.proofs.Common.{◌≡◌, ℕ, subst, List, ◌++◌, take, drop, refl, ◌∙◌, append_assoc}
+use Rattle.std.proofs.Common.{◌≡◌, ℕ, subst, List, [], ◌++◌, take, drop, refl, ◌∙◌, append_assoc}
 use Rattle.std.specs.Prelude.{Option, Some, None}
-use Rattle.std.proofs.lemmas.List.{take-append-drop}
+use Rattle.std.proofs.lemmas.List.{append-nil, take-append-drop}
 use Rattle.lpc_base.specs.Streams.{Gives, Told}
 use Rattle.lpc_replay.specs.Sending.{SentBut}
 
@@ -29,6 +29,11 @@ sent_more bytes rest n a b c p q = told_then a b c _ _ _
 -- what is still to be sent, said in other words
 pub told_as : (a b : Option (List ℕ)) (text same all : List ℕ) → text ≡ same → Told a b (λ old new. new ++ text ≡ old ++ all) → Told a b (λ old new. new ++ same ≡ old ++ all)
 told_as a b text same all e p = subst (λ t. Told a b (λ old new. new ++ t ≡ old ++ all)) e p
+
+-- nothing is still to be sent
+pub told_all : (a b : Option (List ℕ)) (rest all : List ℕ) → rest ≡ [] → Told a b (λ old new. new ++ rest ≡ old ++ all) → Told a b (λ old new. new ≡ old ++ all)
+told_all a b rest all e p = told_weaker a b (λ old new. new ++ rest ≡ old ++ all) (λ old new. new ≡ old ++ all)
+    (λ x y s. rw (e, append-nil y) at s) p
 
 -- the text of the rest begins with what is sent next
 pub told_goes : (s0 s1 s2 : Option (List ℕ)) (text rest more all : List ℕ) → Told s0 s1 (λ old new. new ++ rest ≡ old ++ all) → Told s1 s2 (λ old new. new ≡ old ++ text) → rest ≡ text ++ more → Told s0 s2 (λ old new. new ++ more ≡ old ++ all)

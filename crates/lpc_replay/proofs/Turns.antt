@@ -13,7 +13,7 @@ use Rattle.lpc_model.specs.Script.{kind_number, script_lines}
 use Rattle.lpc_model.specs.Text.{end_text, entries_text, stop_text}
 use Rattle.lpc_model.specs.Run.{FaultyLine, all_entries, faulty_or, first_fault, line_step, numbered_line, said_from, trace, unless_faulty, world_behind}
 use Rattle.lpc_model.specs.Transcript.{body_from, last_line, transcript}
-use Rattle.lpc_replay.specs.Playing.{Progress, RunsLine, begin, behind_line, last_text, line_text, text_from}
+use Rattle.lpc_replay.specs.Playing.{Progress, RunsLine, begin, behind_line, body_text, last_text, line_text, text_from}
 
 pub text_goes : (p : Progress) (line : List ℕ) (lines : List (List ℕ)) (said : Option ScriptLine) → numbered_line (p.lines + 1) line ≡ Ok said → text_from p (line ∷ lines) ≡ line_text p said ++ text_from (behind_line p said) lines
 unfolding text_from
@@ -27,6 +27,20 @@ pub text_ends : (p : Progress) (rest : List ℕ) → length rest ≡ 0 → text_
 unfolding text_from script_lines
 text_ends p [] none = refl
 text_ends p (b ∷ bs) none = absurd (omega arith)
+
+-- the same without the last line
+pub body_goes : (p : Progress) (line : List ℕ) (lines : List (List ℕ)) (said : Option ScriptLine) → numbered_line (p.lines + 1) line ≡ Ok said → body_text p (line ∷ lines) ≡ line_text p said ++ body_text (behind_line p said) lines
+unfolding said_from trace body_from
+body_goes p line lines said is = rw is refl
+
+pub body_stops : (p : Progress) (line : List ℕ) (lines : List (List ℕ)) (fault : LineFault) → numbered_line (p.lines + 1) line ≡ Err fault → body_text p (line ∷ lines) ≡ []
+unfolding said_from trace body_from
+body_stops p line lines fault is = rw is refl
+
+pub body_ends : (p : Progress) (rest : List ℕ) → length rest ≡ 0 → body_text p (script_lines rest) ≡ []
+unfolding said_from trace body_from script_lines
+body_ends p [] none = refl
+body_ends p (b ∷ bs) none = absurd (omega arith)
 
 pub fault_goes : (n : ℕ) (line : List ℕ) (lines : List (List ℕ)) (said : Option ScriptLine) → numbered_line n line ≡ Ok said → first_fault n (line ∷ lines) ≡ first_fault (n + 1) lines
 unfolding first_fault
@@ -109,6 +123,9 @@ runs_nothing p line text few reads prints =
 -- behind a line that was run
 pub run_goes : (p q : Progress) (lines : List (List ℕ)) (line : List ℕ) (more : List (List ℕ)) (text : List ℕ) → lines ≡ line ∷ more → RunsLine line None p q text → text_from p lines ≡ text ++ text_from q more
 run_goes p q lines line more text is runs = rw (is, runs.2, runs.3) (text_goes p line more runs.0 runs.1)
+
+pub run_tells : (p q : Progress) (lines : List (List ℕ)) (line : List ℕ) (more : List (List ℕ)) (text : List ℕ) → lines ≡ line ∷ more → RunsLine line None p q text → body_text p lines ≡ text ++ body_text q more
+run_tells p q lines line more text is runs = rw (is, runs.2, runs.3) (body_goes p line more runs.0 runs.1)
 
 pub run_sound : (p q : Progress) (lines : List (List ℕ)) (line : List ℕ) (more : List (List ℕ)) (text : List ℕ) → lines ≡ line ∷ more → RunsLine line None p q text → is_none (first_fault (q.lines + 1) more) ≡ is_none (first_fault (p.lines + 1) lines)
 run_sound p q lines line more text is runs = rw (is, runs.2) (sym (ap is_none (fault_goes (p.lines + 1) line more runs.0 runs.1)))

@@ -7,7 +7,8 @@ use Rattle.lpc_model.specs.Found.{objects}
 use Rattle.lpc_model.specs.Lines.{ScriptLine}
 use Rattle.lpc_model.specs.Script.{kind_number}
 use Rattle.lpc_model.specs.Text.{end_text, entries_text, stop_text}
-use Rattle.lpc_model.specs.Run.{line_step, numbered_line}
+use Rattle.lpc_model.specs.Run.{line_step, numbered_line, said_from, trace}
+use Rattle.lpc_model.specs.Transcript.{body_from}
 
 -- how far a script has run: the world that its lines so far left, how many they are, and how many entries they told
 pub record Progress : Type 0 where
@@ -49,6 +50,10 @@ line_and_later p (Ok said) later = line_text p said ++ later (behind_line p said
 unfoldable pub text_from : Progress → List (List ℕ) → List ℕ
 text_from p [] = last_text p None
 text_from p (line ∷ lines) = line_and_later p (numbered_line (p.lines + 1) line) (λ q. text_from q lines)
+
+-- the same without the last line: what these lines tell up to the first faulty one
+abbrev pub body_text : Progress → List (List ℕ) → List ℕ
+body_text p lines = body_from (p.lines + 1) (trace p.rows (said_from (p.lines + 1) lines))
 
 -- A line was run and printed, or nothing was done where it is faulty.
 abbrev pub RunsLine : List ℕ → Option LineFault → Progress → Progress → List ℕ → Type 0

@@ -1,6 +1,8 @@
 -- How much of a script is read.
 use Rattle.std.specs.Prelude.{◌≡◌, ℕ, ◌+◌, ◌==◌, nat_le, Bool, false, List, [], ◌∷◌, ◌++◌, Option, Some, None, is_none, option_and_then, if◌then◌else◌}
+use Rattle.std.specs.List.{list_any}
 use Rattle.lpc_base.specs.declared.limits.TheConstants.{LINE_LIMIT, LINES_LIMIT}
+use Rattle.lpc_model.specs.Script.{script_lines}
 use Rattle.lpc_replay.specs.declared.reading.Place.{Place}
 
 -- the place behind one more byte; none where it is a byte of a line too many, or one too many of its line
@@ -28,3 +30,12 @@ passes_limit script = is_none (behind start script)
 pub record IsRead (script old new : List ℕ) : Type 0 where
   pub parts : old ≡ script ++ new
   pub whole : passes_limit script ≡ false → new ≡ []
+
+-- the bytes up to the last byte 10, that one too: a byte is among them where there is a byte 10 from it on
+unfoldable pub ended_part : List ℕ → List ℕ
+ended_part [] = []
+ended_part (b ∷ bs) = if list_any (λ c. c == 10) (b ∷ bs) then b ∷ ended_part bs else []
+
+-- the lines that are ended by byte 10; a rest behind the last byte 10 is none of them
+abbrev pub ended_lines : List ℕ → List (List ℕ)
+ended_lines bytes = script_lines (ended_part bytes)

@@ -1,12 +1,14 @@
 // A whole script is run, and its transcript sent.
-ghost use Rattle.std.specs.Prelude.{◌≡◌, ◌≤◌, ◌+◌, ◌++◌, IfOk, OnOk, IsErrOf, is_none};
+ghost use Rattle.std.specs.Prelude.{◌≡◌, ◌≤◌, ◌+◌, ◌++◌, true, false, IfOk, OnOk, IsErrOf, is_none};
 ghost use Rattle.lpc_base.specs.Streams.{Told, Rose};
 ghost use Rattle.lpc_model.specs.Script.{script_lines};
 ghost use Rattle.lpc_model.specs.Run.{first_fault, is_well_formed};
-ghost use Rattle.lpc_model.specs.Transcript.{transcript};
-ghost use Rattle.lpc_replay.specs.Playing.{begin, last_text, text_from};
+ghost use Rattle.lpc_model.specs.Transcript.{body, transcript};
+ghost use Rattle.lpc_replay.specs.Playing.{begin, body_text, last_text, text_from};
+ghost use Rattle.lpc_replay.specs.Reading.{ended_lines, ended_part};
 
 use crate::playback::Playback;
+use crate::reading::ended;
 use crate::sending::send_all;
 use lpc_base::{Failed, OutOfMemory, Sink};
 use lpc_model::LineFault;
@@ -53,6 +55,7 @@ fn play_lines<K: Sink>(
     sink: &mut K,
 ) -> Result<Option<LineFault>, PlayError>
     ensures sent { IfOk result (λ fault. Told (K.sent sink.old) (K.sent sink.new) (λ old new. new ++ last_text playback.new.at fault ≡ old ++ text_from playback.old.at (script_lines script.now))) }
+    ensures body { IfOk result (λ fault. Told (K.sent sink.old) (K.sent sink.new) (λ old new. new ≡ old ++ body_text playback.old.at (script_lines script.now))) }
     ensures fault { IfOk result (λ fault. is_none fault ≡ is_none (first_fault (playback.old.at.lines + 1) (script_lines script.now))) }
     ensures failed { IsErrOf result PlayError.SinkFailed → Rose (K.faults sink.old) (K.faults sink.new) }
     ensures later { K.faults sink.old ≤ K.faults sink.new }
@@ -103,6 +106,30 @@ fn play_all<K: Sink>(
     Ok(fault.is_none())
 }
 
+/// Runs the lines of a script that are ended by byte 10, from its first line on, and sends what they tell. The last line
+/// is sent only where one of them is faulty.
+fn play_ended_lines<K: Sink>(
+    alloc: Global,
+    playback: &mut Playback,
+    scratch: &mut Scratch,
+    script: &[u8],
+    sink: &mut K,
+) -> Result<bool, PlayError>
+    requires { playback.old.at ≡ begin }
+    ensures told { IfOk result (λ whole. whole ≡ true → Told (K.sent sink.old) (K.sent sink.new) (λ old new. new ≡ old ++ body (ended_part script.now))) }
+    ensures stopped { IfOk result (λ whole. whole ≡ false → Told (K.sent sink.old) (K.sent sink.new) (λ old new. new ≡ old ++ transcript script.now)) }
+    ensures whole { IfOk result (λ whole. whole ≡ is_well_formed (ended_lines script.now)) }
+    ensures failed { IsErrOf result PlayError.SinkFailed → Rose (K.faults sink.old) (K.faults sink.new) }
+    ensures later { K.faults sink.old ≤ K.faults sink.new }
+{
+    let fault = play_lines(alloc, playback, scratch, ended(script), sink)?;
+    if fault.is_some() {
+        end(playback, fault, sink)?;
+        return Ok(false);
+    }
+    Ok(true)
+}
+
 /// Sends the transcript of a script. Answers whether every line was well formed.
 pub fn play<K: Sink>(alloc: Global, script: &[u8], sink: &mut K) -> Result<bool, PlayError>
     ensures sent { OnOk result (Told (K.sent sink.old) (K.sent sink.new) (λ old new. new ≡ old ++ transcript script.now)) }
@@ -113,4 +140,18 @@ pub fn play<K: Sink>(alloc: Global, script: &[u8], sink: &mut K) -> Result<bool,
     let mut scratch = Scratch::new(alloc)?;
     let mut playback = Playback::new(alloc)?;
     play_all(alloc, &mut playback, &mut scratch, script, sink)
+}
+
+/// Sends what the lines of a script tell that are ended by byte 10: of a script that was broken off. Where one of them is
+/// faulty, what is sent is the transcript. Answers whether each of them was well formed.
+pub fn play_ended<K: Sink>(alloc: Global, script: &[u8], sink: &mut K) -> Result<bool, PlayError>
+    ensures told { IfOk result (λ whole. whole ≡ true → Told (K.sent sink.old) (K.sent sink.new) (λ old new. new ≡ old ++ body (ended_part script.now))) }
+    ensures stopped { IfOk result (λ whole. whole ≡ false → Told (K.sent sink.old) (K.sent sink.new) (λ old new. new ≡ old ++ transcript script.now)) }
+    ensures whole { IfOk result (λ whole. whole ≡ is_well_formed (ended_lines script.now)) }
+    ensures failed { IsErrOf result PlayError.SinkFailed → Rose (K.faults sink.old) (K.faults sink.new) }
+    ensures later { K.faults sink.old ≤ K.faults sink.new }
+{
+    let mut scratch = Scratch::new(alloc)?;
+    let mut playback = Playback::new(alloc)?;
+    play_ended_lines(alloc, &mut playback, &mut scratch, script, sink)
 }

@@ -1,19 +1,29 @@
-// A script is read to its end, or until it passes a limit.
-ghost use Rattle.std.specs.Prelude.{◌≡◌, ◌≤◌, ◌+◌, ◌++◌, [], IfOk, IsErrOf};
+// A script is read to its end, until it passes a limit, or until the source fails.
+ghost use Rattle.std.specs.Prelude.{◌≡◌, ◌≤◌, ◌<◌, ◌+◌, ◌++◌, [], IfOk};
 ghost use Rattle.lpc_base.specs.Streams.{Told, Rose};
-ghost use Rattle.lpc_replay.specs.Reading.{IsRead, behind};
+ghost use Rattle.lpc_replay.specs.declared.reading.ReadEnd.TheVariants.{Finished, SourceFailed};
+ghost use Rattle.lpc_replay.specs.Reading.{IsRead, behind, ended_part};
 
-use lpc_base::Source;
 use lpc_base::limits::{LINE_LIMIT, LINES_LIMIT};
+use lpc_base::{OutOfMemory, Source};
 use std::alloc::Global;
 
-/// Why a script wasn't read.
+/// How the reading of a script ended.
 #[derive(Clone, Copy, Debug, PartialEq, Eq)]
-pub enum ReadError {
-    /// Memory ran out.
-    OutOfMemory,
-    /// The source failed.
+pub enum ReadEnd {
+    /// The source answered its end, or the bytes read pass a limit. A rest without byte 10 is a line too.
+    Finished,
+    /// The source failed. A rest without byte 10 is no line, since more of it may have been left.
     SourceFailed,
+}
+
+/// What was read of a script.
+#[derive(Drop)]
+pub struct ReadScript {
+    /// The bytes.
+    pub bytes: Vec<u8>,
+    /// Why there are no more of them.
+    pub end: ReadEnd,
 }
 
 /// How far a script was read: so many whole lines, and so many bytes of the next one.
@@ -48,16 +58,28 @@ fn behind(place: Place, bytes: &[u8]) -> Option<Place>
     Some(here)
 }
 
-/// Reads a script until the source's end, in pieces of at most 4096 bytes.
+/// The part of a script up to its last byte 10, which is a part of it.
+pub fn ended(script: &[u8]) -> &[u8]
+    ensures { result.now ≡ ended_part script.now }
+{
+    let mut end = script.len();
+    while end > 0 && script[end - 1] != b'\n' {
+        end -= 1;
+    }
+    &script[..end]
+}
+
+/// Reads a script until the source's end or its first failure, in pieces of at most 4096 bytes.
 ///
 /// It ends early where the bytes read pass a limit: a byte is one too many of its line, or is of a line too many. So
 /// a script is at most as long as the limits allow, and one piece.
-pub fn read_script<S: Source>(alloc: Global, source: &mut S) -> Result<Vec<u8>, ReadError>
-    ensures read { IfOk result (λ script. Told (S.left source.old) (S.left source.new) (IsRead script.items)) }
-    ensures failed { IsErrOf result ReadError.SourceFailed → Rose (S.faults source.old) (S.faults source.new) }
+pub fn read_script<S: Source>(alloc: Global, source: &mut S) -> Result<ReadScript, OutOfMemory>
+    ensures read { IfOk result (λ script. Told (S.left source.old) (S.left source.new) (λ old new. old ≡ script.bytes.items ++ new)) }
+    ensures finished { IfOk result (λ script. script.end ≡ Finished → Told (S.left source.old) (S.left source.new) (IsRead script.bytes.items)) }
+    ensures failed { IfOk result (λ script. script.end ≡ SourceFailed → Rose (S.faults source.old) (S.faults source.new)) }
     ensures later { S.faults source.old ≤ S.faults source.new }
 {
-    let mut script = Vec::new(alloc);
+    let mut bytes = Vec::new(alloc);
     let mut buffer = [0u8; 4096];
     let mut place = Some(Place {
         lines: 0,
@@ -65,15 +87,24 @@ pub fn read_script<S: Source>(alloc: Global, source: &mut S) -> Result<Vec<u8>, 
     });
     while let Some(here) = place {
         let Ok(count) = source.read(&mut buffer) else {
-            return Err(ReadError::SourceFailed);
+            return Ok(ReadScript {
+                bytes,
+                end: ReadEnd::SourceFailed,
+            });
         };
         if count == 0 {
-            return Ok(script);
+            return Ok(ReadScript {
+                bytes,
+                end: ReadEnd::Finished,
+            });
         }
-        if script.extend_from_slice(&buffer[..count]).is_err() {
-            return Err(ReadError::OutOfMemory);
+        if bytes.extend_from_slice(&buffer[..count]).is_err() {
+            return Err(OutOfMemory);
         }
         place = behind(here, &buffer[..count]);
     }
-    Ok(script)
+    Ok(ReadScript {
+        bytes,
+        end: ReadEnd::Finished,
+    })
 }

@@ -2,10 +2,10 @@
 ghost use Rattle.std.specs.Prelude.{◌≡◌, ◌⊎◌, ◌≤◌, ◌++◌, [], ◌∷◌, map, true, false, string_bytes, IfSome};
 ghost use Rattle.lpc_base.specs.Streams.{Told, Rose};
 ghost use Rattle.lpc_replay.specs.Laws.{MisfitsRefused, RefusalsIdle, RefusalsStay, RequestsReturn};
-ghost use Rattle.lpc_replay.specs.TopCall.{EndsAsFormed, IsFormed, Replays, Still, Stops, is_one_of, is_replay, usage};
+ghost use Rattle.lpc_replay.specs.TopCall.{BreaksOff, EndsAsFormed, IsFormed, Replays, Still, Stops, StopsAtFault, is_one_of, is_replay, usage};
 
-use crate::play::{PlayError, play};
-use crate::reading::{ReadError, read_script};
+use crate::play::{PlayError, play, play_ended};
+use crate::reading::{ReadEnd, read_script};
 use crate::sending::send_all;
 use lpc_base::{Sink, Source};
 use std::alloc::Global;
@@ -57,21 +57,29 @@ fn replay<S: Source, K: Sink>(alloc: Global, source: &mut S, sink: &mut K) -> u8
     ensures whole { result ≡ 0 → IsFormed true (S.left source.old) }
     ensures stopped { result ≡ 2 → Stops (S.left source.old) (S.left source.new) (K.sent sink.old) (K.sent sink.new) }
     ensures faulty { result ≡ 2 → IsFormed false (S.left source.old) }
+    ensures faulty_read { StopsAtFault (S.left source.old) (S.left source.new) result }
+    ensures failed_text { result ≡ 3 → BreaksOff (S.left source.old) (S.left source.new) (K.sent sink.old) (K.sent sink.new) }
     ensures source_failed { result ≡ 3 → Rose (S.faults source.old) (S.faults source.new) }
     ensures sink_failed { result ≡ 4 → Rose (K.faults sink.old) (K.faults sink.new) }
     ensures source_later { S.faults source.old ≤ S.faults source.new }
     ensures sink_later { K.faults sink.old ≤ K.faults sink.new }
 {
-    let script = match read_script(alloc, source) {
-        Ok(script) => script,
-        Err(ReadError::OutOfMemory) => return OUT_OF_MEMORY,
-        Err(ReadError::SourceFailed) => return SOURCE_FAILED,
+    let Ok(script) = read_script(alloc, source) else {
+        return OUT_OF_MEMORY;
     };
-    match play(alloc, &script, sink) {
-        Ok(true) => REPLAYED,
-        Ok(false) => STOPPED,
-        Err(PlayError::OutOfMemory) => OUT_OF_MEMORY,
-        Err(PlayError::SinkFailed) => SINK_FAILED,
+    match script.end {
+        ReadEnd::Finished => match play(alloc, &script.bytes, sink) {
+            Ok(true) => REPLAYED,
+            Ok(false) => STOPPED,
+            Err(PlayError::OutOfMemory) => OUT_OF_MEMORY,
+            Err(PlayError::SinkFailed) => SINK_FAILED,
+        },
+        ReadEnd::SourceFailed => match play_ended(alloc, &script.bytes, sink) {
+            Ok(true) => SOURCE_FAILED,
+            Ok(false) => STOPPED,
+            Err(PlayError::OutOfMemory) => OUT_OF_MEMORY,
+            Err(PlayError::SinkFailed) => SINK_FAILED,
+        },
     }
 }
 
@@ -80,8 +88,9 @@ fn replay<S: Source, K: Sink>(alloc: Global, source: &mut S, sink: &mut K) -> u8
 ///
 /// The words `replay` replay the script that the source gives: each line is run in its turn, and what it tells is sent
 /// to the sink. Status 0: the script was read to its end, every line was well formed, and all was sent. 2: a line was
-/// faulty; the lines before it were run, and `stop` with its number and its fault was sent. 3: the source failed.
-/// 4: the sink failed. 5: memory ran out. Other words answer 64, send the usage line and read nothing.
+/// faulty; the lines before it were run, and `stop` with its number and its fault was sent. 3: the source failed, and
+/// no line read before was faulty; what the lines tell that are ended by byte 10 was sent, and no last line. 4: the sink
+/// failed. 5: memory ran out. Other words answer 64, send the usage line and read nothing.
 pub fn run_words<S: Source, K: Sink>(
     alloc: Global,
     words: &[String],
@@ -104,6 +113,10 @@ pub fn run_words<S: Source, K: Sink>(
     // The script is read up to a faulty line, and its transcript is sent.
     ensures stopped { result ≡ 2 → Stops (S.left source.old) (S.left source.new) (K.sent sink.old) (K.sent sink.new) }
     ensures faulty { result ≡ 2 → IsFormed false (S.left source.old) }
+    ensures faulty_read { is_replay (map (λ w. string_bytes w) words.now) ≡ true → StopsAtFault (S.left source.old) (S.left source.new) result }
+
+    // The source failed before a faulty line was read: what the lines tell that are ended by byte 10 is sent.
+    ensures failed_text { result ≡ 3 → BreaksOff (S.left source.old) (S.left source.new) (K.sent sink.old) (K.sent sink.new) }
 
     // A failure is answered only where it was counted, and no count falls.
     ensures source_failed { result ≡ 3 → Rose (S.faults source.old) (S.faults source.new) }

@@ -231,27 +231,59 @@ fn other_words_are_told_the_usage(rt: HostRuntime) -> Result<(), Fail> {
     )
 }
 
-// The status of a replay of this script, whose source fails the calls of these numbers and whose sink has this room.
-fn failed(
+// The status and the text of a replay of a script, whose source gives a byte a call and fails the call of this number.
+fn broken_off(
     rt: &impl Abort,
     alloc: Global,
-    fails: Vec<u64>,
-    room: usize,
+    script: &str,
+    fails: u64,
     status: u8,
+    text: &str,
 ) -> Result<(), Fail> {
     let mut words = Vec::new(alloc);
     words.push(String::from_str(alloc, "replay")?)?;
-    let mut source = MemSource::new(b"boot 20 24\n".to_vec(alloc)?, 7, fails);
-    let mut sink = MemSink::new(alloc, room, 5, Vec::new(alloc))?;
+    let mut calls = Vec::new(alloc);
+    calls.push(fails)?;
+    let mut source = MemSource::new(script.as_bytes().to_vec(alloc)?, 1, calls);
+    let mut sink = MemSink::new(alloc, 4096, 5, Vec::new(alloc))?;
     assert_eq!(rt; run_words(alloc, &words, &mut source, &mut sink), status);
+    assert_eq!(rt; sink.sent(), text.as_bytes());
     Ok(())
 }
 
 #[test]
-fn a_failure_of_a_stream_has_its_status(rt: HostRuntime) -> Result<(), Fail> {
+fn whole_lines_read_before_a_failure_of_the_source_are_run(rt: HostRuntime) -> Result<(), Fail> {
     let alloc = rt.alloc();
-    let mut second = Vec::new(alloc);
-    second.push(2)?;
-    failed(&rt, alloc, second, 4096, 3)?;
-    failed(&rt, alloc, Vec::new(alloc), 20, 4)
+    broken_off(&rt, alloc, PORT, 1, 3, "")?;
+    broken_off(&rt, alloc, PORT, 11, 3, "")?;
+    broken_off(&rt, alloc, PORT, 12, 3, "1 - boot 00000000\n")?;
+    broken_off(
+        &rt,
+        alloc,
+        PORT,
+        30,
+        3,
+        "1 - boot 00000000\n2 - thread 00000000\n",
+    )
+}
+
+#[test]
+fn a_faulty_line_read_before_a_failure_of_the_source_stops_the_replay(
+    rt: HostRuntime,
+) -> Result<(), Fail> {
+    let alloc = rt.alloc();
+    broken_off(&rt, alloc, "24 NtFoo\nboot 20 24\n", 15, 2, "stop 1 3\n")?;
+    broken_off(&rt, alloc, "24 NtFoo\n", 9, 3, "")
+}
+
+#[test]
+fn a_full_sink_has_its_status(rt: HostRuntime) -> Result<(), Fail> {
+    let alloc = rt.alloc();
+    let mut words = Vec::new(alloc);
+    words.push(String::from_str(alloc, "replay")?)?;
+    let mut source = MemSource::new(b"boot 20 24\n".to_vec(alloc)?, 7, Vec::new(alloc));
+    let mut sink = MemSink::new(alloc, 20, 5, Vec::new(alloc))?;
+    assert_eq!(rt; run_words(alloc, &words, &mut source, &mut sink), 4);
+    assert_eq!(rt; sink.sent(), b"1 - boot 00000000\nen".as_slice());
+    Ok(())
 }

@@ -2,9 +2,9 @@ use Rattle.std.proofs.Common.{arith, sym, ◌∙◌, ◌+◌, ◌≡◌, length}
 use Rattle.std.specs.Prelude.{None, Some}
 use Rattle.std.proofs.lemmas.Bool.Decides.{nat_tests}
 use Rattle.lpc_model.specs.Script.{script_lines}
-use Rattle.lpc_replay.specs.Playing.{last_text, text_from}
-use Rattle.lpc_replay.proofs.Tells.{told_as, told_goes}
-use Rattle.lpc_replay.proofs.Turns.{fault_ends, fault_stops, run_goes, run_sound, text_ends, text_stops}
+use Rattle.lpc_replay.specs.Playing.{body_text, last_text, text_from}
+use Rattle.lpc_replay.proofs.Tells.{told_all, told_as, told_goes}
+use Rattle.lpc_replay.proofs.Turns.{body_ends, body_stops, fault_ends, fault_stops, run_goes, run_sound, run_tells, text_ends, text_stops}
 use Rattle.lpc_replay.proofs.play.play_lines.Goals as goal
 
 pub returns-in-Some-clause-sent : goal.returns-in-Some-clause-sent
@@ -14,6 +14,14 @@ returns-in-Some-clause-sent g c =
     let runs = rw c.in-Some.is at c.in_ok-fault.ensures in
     told_as (sent c.args.sink.now) (sent l.sink) (text_from l.playback.at (script_lines l.rest.now)) (last_text c.run_line.new.self.at (Some c.in-Some.fault)) (text_from c.args.playback.now.at (script_lines c.args.script.now))
     (rw (c.next_line.ensures.lines, runs.1) (text_stops l.playback.at c.next_line.result.0.now (script_lines c.next_line.result.1.now) c.in-Some.fault runs.0)) l.invariant.told
+
+pub returns-in-Some-clause-body : goal.returns-in-Some-clause-body
+returns-in-Some-clause-body g c =
+    let l = c.loop-rest in
+    let sent = g.K.Sink.sent in
+    let runs = rw c.in-Some.is at c.in_ok-fault.ensures in
+    told_all (sent c.args.sink.now) (sent l.sink) (body_text l.playback.at (script_lines l.rest.now)) (body_text c.args.playback.now.at (script_lines c.args.script.now))
+    (rw c.next_line.ensures.lines (body_stops l.playback.at c.next_line.result.0.now (script_lines c.next_line.result.1.now) c.in-Some.fault runs.0)) l.invariant.body
 
 pub returns-in-Some-clause-fault : goal.returns-in-Some-clause-fault
 returns-in-Some-clause-fault g c =
@@ -31,6 +39,7 @@ loop-rest-preserved g c =
     let now = c.run_line.new.self in
     record {
       told = told_goes (sent c.args.sink.now) (sent l.sink) (sent c.send_all.new.sink) now.text (text_from l.playback.at (script_lines l.rest.now)) (text_from now.at more) (text_from c.args.playback.now.at (script_lines c.args.script.now)) l.invariant.told (rw c.text.ensures at c.in_ok-send_all.ensures.sent) (run_goes l.playback.at now.at (script_lines l.rest.now) line more now.text c.next_line.ensures.lines runs);
+      body = told_goes (sent c.args.sink.now) (sent l.sink) (sent c.send_all.new.sink) now.text (body_text l.playback.at (script_lines l.rest.now)) (body_text now.at more) (body_text c.args.playback.now.at (script_lines c.args.script.now)) l.invariant.body (rw c.text.ensures at c.in_ok-send_all.ensures.sent) (run_tells l.playback.at now.at (script_lines l.rest.now) line more now.text c.next_line.ensures.lines runs);
       fault = run_sound l.playback.at now.at (script_lines l.rest.now) line more now.text c.next_line.ensures.lines runs ∙ l.invariant.fault;
       faults = omega arith;
     }
@@ -41,6 +50,13 @@ returns-clause-sent g c =
     let none : length l.rest.now ≡ 0 = grind (arith, nat_tests) in
     let sent = g.K.Sink.sent in
     told_as (sent c.args.sink.now) (sent l.sink) (text_from l.playback.at (script_lines l.rest.now)) (last_text l.playback.at None) (text_from c.args.playback.now.at (script_lines c.args.script.now)) (text_ends l.playback.at l.rest.now none) l.invariant.told
+
+pub returns-clause-body : goal.returns-clause-body
+returns-clause-body g c =
+    let l = c.loop-rest in
+    let none : length l.rest.now ≡ 0 = grind (arith, nat_tests) in
+    let sent = g.K.Sink.sent in
+    told_all (sent c.args.sink.now) (sent l.sink) (body_text l.playback.at (script_lines l.rest.now)) (body_text c.args.playback.now.at (script_lines c.args.script.now)) (body_ends l.playback.at l.rest.now none) l.invariant.body
 
 pub returns-clause-fault : goal.returns-clause-fault
 returns-clause-fault g c =

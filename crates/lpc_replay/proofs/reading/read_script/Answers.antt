@@ -7,8 +7,8 @@ pub loop-place-init : goal.loop-place-init
 loop-place-init g c =
     let left = g.S.Source.left in
     record {
-      told = told_same (left c.args.source.now) (left c.args.source.now) (λ old new. old ≡ c.new-script.result.items ++ new) (λ x. rw c.new-script.ensures.items refl) refl;
-      place = rw c.new-script.ensures.items (sym behind_start);
+      told = told_same (left c.args.source.now) (left c.args.source.now) (λ old new. old ≡ c.new-bytes.result.items ++ new) (λ x. rw c.new-bytes.ensures.items refl) refl;
+      place = rw c.new-bytes.ensures.items (sym behind_start);
       faults = omega arith;
     }
 
@@ -16,7 +16,7 @@ pub loop-place-smaller : goal.loop-place-smaller
 loop-place-smaller g c =
     let items = rw (no_error c.extend_from_slice.result (sym c.is_err.ensures.value ∙ c.if-is_err.false)) at c.extend_from_slice.ensures.items in
     let l = c.loop-place in
-    less_left (16385 * 1000001) c.in-Ok.count l.script.items c.read.new.into c.extend_from_slice.new.self.items items c.in-Ok.ensures.bound (omega arith) (script_size l.place l.script.items c.in-Some.here l.invariant.place c.in-Some.is)
+    less_left (16385 * 1000001) c.in-Ok.count l.bytes.items c.read.new.into c.extend_from_slice.new.self.items items c.in-Ok.ensures.bound (omega arith) (script_size l.place l.bytes.items c.in-Some.here l.invariant.place c.in-Some.is)
 
 pub loop-place-preserved : goal.loop-place-preserved
 loop-place-preserved g c =
@@ -24,7 +24,7 @@ loop-place-preserved g c =
     let items = rw (no_error c.extend_from_slice.result (sym c.is_err.ensures.value ∙ c.if-is_err.false)) at c.extend_from_slice.ensures.items in
     let l = c.loop-place in
     record {
-      told = read_more l.script.items c.read.new.into c.extend_from_slice.new.self.items c.in-Ok.count (left c.args.source.now) (left l.source) (left c.read.new.self) items l.invariant.told c.in-Ok.ensures.bytes;
-      place = rw (c.behind-place.ensures, items) (behind_piece l.place l.script.items (take c.in-Ok.count c.read.new.into) c.in-Some.here l.invariant.place c.in-Some.is);
+      told = read_more l.bytes.items c.read.new.into c.extend_from_slice.new.self.items c.in-Ok.count (left c.args.source.now) (left l.source) (left c.read.new.self) items l.invariant.told c.in-Ok.ensures.bytes;
+      place = rw (c.behind-place.ensures, items) (behind_piece l.place l.bytes.items (take c.in-Ok.count c.read.new.into) c.in-Some.here l.invariant.place c.in-Some.is);
       faults = omega arith;
     }

@@ -1,5 +1,6 @@
 use Rattle.std.proofs.Common.{sym, ◌∙◌}
-use Rattle.lpc_replay.proofs.Formed.{formed, replays}
+use Rattle.lpc_replay.proofs.Ended.{ended_sound}
+use Rattle.lpc_replay.proofs.Formed.{formed, formed_ended, replays, sound_read, stops_ended}
 use Rattle.lpc_replay.proofs.replay.replay.Goals as goal
 
 pub returns-in-Ok-true-clause-transcript : goal.returns-in-Ok-true-clause-transcript
@@ -7,19 +8,48 @@ returns-in-Ok-true-clause-transcript g c =
     let left = g.S.Source.left in
     let sent = g.K.Sink.sent in
     let ok = c.in-Ok-true in
-    λ _. replays (left c.args.source.now) (left c.read_script.new.source) (sent c.args.sink.now) (sent c.play.new.sink) c.in-Ok.script.items c.in-Ok.ensures.read
+    λ _. replays (left c.args.source.now) (left c.read_script.new.source) (sent c.args.sink.now) (sent c.play.new.sink) c.in-Ok.script.bytes.items (c.in-Ok.ensures.finished c.in-Finished.is)
     (sym (rw c.deref.ensures.value at ok.ensures.whole) ∙ ok.field-0-test) (rw c.deref.ensures.value at ok.ensures.sent)
 
 pub returns-in-Ok-true-clause-whole : goal.returns-in-Ok-true-clause-whole
 returns-in-Ok-true-clause-whole g c =
     let left = g.S.Source.left in
     let ok = c.in-Ok-true in
-    λ _. formed (left c.args.source.now) (left c.read_script.new.source) c.in-Ok.script.items _ c.in-Ok.ensures.read
+    λ _. formed (left c.args.source.now) (left c.read_script.new.source) c.in-Ok.script.bytes.items _ (c.in-Ok.ensures.finished c.in-Finished.is)
     (sym (rw c.deref.ensures.value at ok.ensures.whole) ∙ ok.field-0-test)
+
+pub returns-in-Ok-true-clause-faulty_read : goal.returns-in-Ok-true-clause-faulty_read
+returns-in-Ok-true-clause-faulty_read g c =
+    let left = g.S.Source.left in
+    let ok = c.in-Ok-true in
+    sound_read (left c.args.source.now) (left c.read_script.new.source) c.in-Ok.script.bytes.items 0 c.in-Ok.ensures.read
+    (ended_sound c.in-Ok.script.bytes.items (sym (rw c.deref.ensures.value at ok.ensures.whole) ∙ ok.field-0-test))
 
 pub returns-in-Ok-false-clause-faulty : goal.returns-in-Ok-false-clause-faulty
 returns-in-Ok-false-clause-faulty g c =
     let left = g.S.Source.left in
     let ok = c.in-Ok-false in
-    λ _. formed (left c.args.source.now) (left c.read_script.new.source) c.in-Ok.script.items _ c.in-Ok.ensures.read
+    λ _. formed (left c.args.source.now) (left c.read_script.new.source) c.in-Ok.script.bytes.items _ (c.in-Ok.ensures.finished c.in-Finished.is)
     (sym (rw c.deref.ensures.value at ok.ensures.whole) ∙ ok.field-0-test)
+
+pub returns-in-Ok-true-play_ended-clause-faulty_read : goal.returns-in-Ok-true-play_ended-clause-faulty_read
+returns-in-Ok-true-play_ended-clause-faulty_read g c =
+    let left = g.S.Source.left in
+    let ok = c.in-Ok-true-play_ended in
+    sound_read (left c.args.source.now) (left c.read_script.new.source) c.in-Ok.script.bytes.items 3 c.in-Ok.ensures.read
+    (sym (rw c.deref-in-SourceFailed.ensures.value at ok.ensures.whole) ∙ ok.field-0-test)
+
+pub returns-in-Ok-false-play_ended-clause-stopped : goal.returns-in-Ok-false-play_ended-clause-stopped
+returns-in-Ok-false-play_ended-clause-stopped g c =
+    let left = g.S.Source.left in
+    let sent = g.K.Sink.sent in
+    let ok = c.in-Ok-false-play_ended in
+    λ _. stops_ended (left c.args.source.now) (left c.read_script.new.source) (sent c.args.sink.now) (sent c.play_ended.new.sink) c.in-Ok.script.bytes.items c.in-Ok.ensures.read
+    (sym (rw c.deref-in-SourceFailed.ensures.value at ok.ensures.whole) ∙ ok.field-0-test) (rw c.deref-in-SourceFailed.ensures.value at (ok.ensures.stopped ok.field-0-test))
+
+pub returns-in-Ok-false-play_ended-clause-faulty : goal.returns-in-Ok-false-play_ended-clause-faulty
+returns-in-Ok-false-play_ended-clause-faulty g c =
+    let left = g.S.Source.left in
+    let ok = c.in-Ok-false-play_ended in
+    λ _. formed_ended (left c.args.source.now) (left c.read_script.new.source) c.in-Ok.script.bytes.items c.in-Ok.ensures.read
+    (sym (rw c.deref-in-SourceFailed.ensures.value at ok.ensures.whole) ∙ ok.field-0-test)
