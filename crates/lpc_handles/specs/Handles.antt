@@ -1,0 +1,69 @@
+-- What contracts see of the handles of one process.
+use Rattle.std.specs.Prelude.{ℕ, ◌+◌, ◌*◌, ◌%◌, ◌<◌, ◌≤◌, ◌≡◌, ◌==◌, ◌&&◌, Bool, true, false, not, nat_lt, List, [], ◌∷◌, ◌++◌, map, find, filter, length, Option, Some, None, is_some, option_map, refl}
+use Rattle.std.specs.Coded.{Coded, code_by, coded×, coded_ℕ, coded_list}
+use Rattle.lpc_base.specs.Places.{is_in, least_handle}
+use Rattle.lpc_handles.specs.declared.table.Row.{Row}
+
+-- the handles by rising value, each under its value; how many more go in without memory
+pub record Handles (O : Type 0) : Type 0 where
+  pub rows : List (ℕ × Row O)
+  pub spare : ℕ
+
+abbrev pub row_code : {O : Type 0} → Coded O → Coded (Row O)
+row_code {O} code = code_by (O × ℕ) (coded× code coded_ℕ) (λ r. (r.object, r.access)) (λ p. record { object = p.0; access = p.1 }) (λ _. refl)
+
+abbrev pub handles_code : {O : Type 0} → Coded O → Coded (Handles O)
+handles_code {O} code =
+    code_by (List (ℕ × Row O) × ℕ) (coded× (coded_list (coded× coded_ℕ (row_code code))) coded_ℕ) (λ h. (h.rows, h.spare)) (λ p. record { rows = p.0; spare = p.1 }) (λ _. refl)
+
+module _ {O : Type 0} where
+  -- a handle has the value
+  abbrev pub has_value : ℕ → ℕ × Row O → Bool
+  has_value value row = row.0 == value
+
+  -- a handle's value isn't below this one
+  abbrev pub is_from : ℕ → ℕ × Row O → Bool
+  is_from value row = not (nat_lt row.0 value)
+
+  -- a handle's value is below this one, or above it
+  abbrev pub is_below : ℕ → ℕ × Row O → Bool
+  is_below value row = nat_lt row.0 value
+
+  abbrev pub is_above : ℕ → ℕ × Row O → Bool
+  is_above value row = nat_lt value row.0
+
+  -- the values in use
+  abbrev pub values : List (ℕ × Row O) → List ℕ
+  values rows = map (λ row. row.0) rows
+
+  -- what the handle with a value names and grants
+  abbrev pub at : List (ℕ × Row O) → ℕ → Option (Row O)
+  at rows value = option_map (λ row. row.1) (find (has_value value) rows)
+
+  -- the handles with one more, behind those of lesser values and before those of greater ones
+  abbrev pub with_row : List (ℕ × Row O) → ℕ → Row O → List (ℕ × Row O)
+  with_row rows value row = filter (is_below value) rows ++ (value, row) ∷ filter (is_above value) rows
+
+  -- the handles but the one with a value
+  abbrev pub without : ℕ → List (ℕ × Row O) → List (ℕ × Row O)
+  without value rows = filter (λ row. not (has_value value row)) rows
+
+  -- the values are multiples of 4 that rise, none below `least`
+  abbrev pub are_rising : ℕ → List (ℕ × Row O) → Bool
+  are_rising least [] = true
+  are_rising least (row ∷ rows) = is_from least row && ((row.0 % 4 == 0) && are_rising (row.0 + 4) rows)
+
+  -- the value is in use and not below another one, and each such value is at least it
+  pub record IsLeastFrom (rows : List (ℕ × Row O)) (from value : ℕ) : Type 0 where
+    pub used : is_some (at rows value) ≡ true
+    pub within : from ≤ value
+    pub least : (other : ℕ) → from ≤ other → is_some (at rows other) ≡ true → value ≤ other
+
+-- the value is a multiple of 4 from 4 that isn't taken, and each lesser one is taken
+pub record IsLeastFree (taken : List ℕ) (value : ℕ) : Type 0 where
+  pub free : is_in value taken ≡ false
+  pub place : (k : ℕ) × (value ≡ 4 * (k + 1))
+  pub least : (k : ℕ) → 4 * (k + 1) < value → is_in (4 * (k + 1)) taken ≡ true
+
+abbrev pub NewHandlesAreLeast : Type 0
+NewHandlesAreLeast = (taken : List ℕ) → IsLeastFree taken (least_handle taken)

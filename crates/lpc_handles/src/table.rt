@@ -1,0 +1,167 @@
+// The table of one process's handles, by rising value.
+ghost use Rattle.std.specs.Prelude.{◌≡◌, ℕ, ◌+◌, ◌<◌, ◌≤◌, ◌↔◌, true, [], length, insert, option_map, Some, None, IsErr, IfOk, OnOk, OnErr, OnSome, IfSome, IfNone, find, vec_len, vec_capacity};
+ghost use Rattle.lpc_base.specs.Places.{least_handle};
+ghost use Rattle.lpc_handles.specs.Handles.{at, are_rising, is_from, values, with_row, without, IsLeastFrom};
+
+use lpc_base::OutOfMemory;
+use lpc_base::limits::HANDLE_LIMIT;
+use std::alloc::Global;
+use std::marker::Model;
+
+/// Why a handle is not given.
+#[derive(Clone, Copy, Debug, PartialEq, Eq)]
+pub enum TableFault {
+    /// The process has 256 handles, the limit of this project's profile.
+    Quota,
+}
+
+/// What a handle names, and the rights that it grants.
+#[derive(Clone, Copy, Debug, PartialEq, Eq)]
+pub struct Row<O> {
+    /// The object.
+    pub object: O,
+    /// An access mask.
+    pub access: u32,
+}
+
+/// The handles of one process.
+///
+/// A handle's value is a multiple of 4 from 4, and no two handles have one value. Contracts see the rows by rising
+/// value, and how many more go in without memory.
+#[derive(Drop)]
+pub struct Table<O: Copy> {
+    rows: Vec<(u32, Row<O>)>,
+}
+
+impl<O: Copy> Model for Table<O> {
+    ghost use Rattle.std.specs.Prelude.{◌≡◌, ◌≤◌, ◌-◌, true, length, vec_capacity, vec_len};
+    ghost use Rattle.lpc_handles.specs.Handles.{Handles, handles_code, are_rising};
+
+    ghost Value = { Handles O };
+
+    ghost coded = { handles_code O.code };
+
+    ghost view = { λ t. record { rows = t.rows.items; spare = vec_capacity t.rows - vec_len t.rows } };
+
+    ghost invariant = { λ t. (length t.rows.items ≤ 256) × (are_rising 4 t.rows.items ≡ true) };
+}
+
+impl<O: Copy> Table<O> {
+    /// An empty table without room. It takes no memory, and keeps the allocator for `reserve`.
+    pub fn new(alloc: Global) -> Table<O>
+        ensures { result ≡ record { rows = []; spare = 0 } }
+    {
+        Table {
+            rows: Vec::new(alloc),
+        }
+    }
+
+    /// Makes room for so many further handles. OutOfMemory leaves the handles as they were.
+    pub fn reserve(&mut self, more: usize) -> Result<(), OutOfMemory>
+        ensures room { OnOk result (more ≤ self.new.spare) }
+        ensures rows { self.new.rows ≡ self.old.rows }
+        ensures spare { self.old.spare ≤ self.new.spare }
+    {
+        if self.rows.reserve(more).is_err() {
+            return Err(OutOfMemory);
+        }
+        Ok(())
+    }
+
+    /// Gives a handle the least free value, and answers the value.
+    ///
+    /// Quota comes exactly where 256 handles stand, and then nothing changes. Otherwise there is room that `reserve`
+    /// made.
+    pub fn add(&mut self, object: O, access: u32) -> Result<u32, TableFault>
+        requires { length self.old.rows < 256 → 0 < self.old.spare }
+        ensures quota { IsErr result ↔ (length self.old.rows ≡ 256) }
+        ensures value { IfOk result (λ v. v ≡ least_handle (values self.old.rows)) }
+        ensures rows { IfOk result (λ v. self.new.rows ≡ with_row self.old.rows v (record { object = object; access = access })) }
+        ensures spare { OnOk result (self.new.spare + 1 ≡ self.old.spare) }
+        ensures same { OnErr result (self.new ≡ self.old) }
+    {
+        if self.rows.len() == HANDLE_LIMIT {
+            return Err(TableFault::Quota);
+        }
+        let (index, value) = free_place(&self.rows);
+        self.rows
+            .insert(index, (value, Row { object, access }))
+            .unwrap();
+        Ok(value)
+    }
+
+    /// What the handle with a value names and grants; None exactly where no handle has the value.
+    pub fn get(&self, value: u32) -> Option<Row<O>>
+        ensures { result ≡ at self.now.rows value }
+    {
+        for (other, row) in &self.rows {
+            if *other == value {
+                return Some(*row);
+            }
+        }
+        None
+    }
+
+    /// Takes the handle with a value away, and answers what it named and granted; None exactly where no handle has the
+    /// value, and then nothing changes.
+    pub fn close(&mut self, value: u32) -> Option<Row<O>>
+        ensures row { result ≡ at self.old.rows value }
+        ensures rows { self.new.rows ≡ without value self.old.rows }
+        ensures spare { OnSome result (self.old.spare < self.new.spare) }
+        ensures same { IfNone result (self.new ≡ self.old) }
+    {
+        let row = self.get(value)?;
+        take_out(&mut self.rows, value);
+        Some(row)
+    }
+
+    /// The least value in use that isn't below `value`; None exactly where each value in use is below it.
+    pub fn first_from(&self, value: u32) -> Option<u32>
+        ensures first { result ≡ option_map (λ row. row.0) (find (is_from value) self.now.rows) }
+        ensures least { IfSome result (λ v. IsLeastFrom self.now.rows value v) }
+        ensures none { IfNone result ((other : ℕ) → value ≤ other → at self.now.rows other ≡ None) }
+        ensures rising { are_rising 4 self.now.rows ≡ true }
+    {
+        value_from(&self.rows, value)
+    }
+}
+
+/// The first value that isn't below.
+fn value_from<O: Copy>(rows: &[(u32, Row<O>)], value: u32) -> Option<u32>
+    ensures { result ≡ option_map (λ row. row.0) (find (is_from value) rows.now) }
+{
+    for (other, _) in rows {
+        if *other >= value {
+            return Some(*other);
+        }
+    }
+    None
+}
+
+/// Takes the handle with a value out of the rows.
+fn take_out<O: Copy>(rows: &mut Vec<(u32, Row<O>)>, value: u32)
+    ensures rows { rows.new.items ≡ without value rows.old.items }
+    ensures len { vec_len rows.new ≡ length (without value rows.old.items) }
+    ensures room { vec_capacity rows.new ≡ vec_capacity rows.old }
+{
+    rows.retain(|row| row.0 != value);
+}
+
+/// The least free value among rising values, and the place where it goes in.
+fn free_place<O: Copy>(rows: &[(u32, Row<O>)]) -> (usize, u32)
+    requires few { length rows.now ≤ 256 }
+    requires rising { are_rising 4 rows.now ≡ true }
+    ensures within { result.0 ≤ length rows.now }
+    ensures value { result.1 ≡ least_handle (values rows.now) }
+    ensures place { (row : Row O) → insert rows.now result.0 (result.1, row) ≡ with_row rows.now result.1 row }
+    ensures rises { (row : Row O) → are_rising 4 (insert rows.now result.0 (result.1, row)) ≡ true }
+{
+    let mut value = 4;
+    for (index, row) in rows.iter().enumerate() {
+        if row.0 != value {
+            return (index, value);
+        }
+        value += 4;
+    }
+    (rows.len(), value)
+}
