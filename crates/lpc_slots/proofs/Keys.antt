@@ -1,0 +1,62 @@
+-- The order of keys is total, and only equal keys tie.
+use Rattle.std.proofs.Common.{◌≡◌, ◌≢◌, ◌⊎◌, Bool, true, false, ◌&&◌, refl, sym, ap, ◌∙◌, inl, inr, eqb, eq-eqb, nat_cmp, is_eq, Ordering, Less, Equal, Greater, true≢false}
+use Rattle.std.proofs.lemmas.Bool.{cases_Bool, eqb-true}
+use Rattle.std.specs.Ordering.{eq_by_cmp, ordering_then}
+use Rattle.std.specs.Cmp.{IsTotalOrder, nat_cmp_total, on_total, then_total, tied_itself}
+use Rattle.std.specs.FinMap.{IsAntisymmetric, nat_cmp-IsAntisymmetric}
+use Rattle.lpc_slots.specs.declared.Key.{Key}
+use Rattle.lpc_slots.specs.Table.{key_cmp}
+
+pub key_cmp_total : IsTotalOrder key_cmp
+key_cmp_total = then_total (on_total (λ (k : Key). k.generation) nat_cmp_total) (on_total (λ (k : Key). k.index) nat_cmp_total)
+
+both_equal : (a b : Ordering) → ordering_then a b ≡ Equal → (a ≡ Equal) × (b ≡ Equal)
+both_equal Less b e = cc
+both_equal Equal b e = (refl, e)
+both_equal Greater b e = cc
+
+pub same_key : (x y : Key) → x.index ≡ y.index → x.generation ≡ y.generation → x ≡ y
+same_key x y p q i = record { index = p i; generation = q i }
+
+pub key_cmp-IsAntisymmetric : IsAntisymmetric key_cmp
+key_cmp-IsAntisymmetric x y e =
+    let parts = both_equal (nat_cmp x.generation y.generation) (nat_cmp x.index y.index) e in
+    same_key x y (nat_cmp-IsAntisymmetric _ _ parts.1) (nat_cmp-IsAntisymmetric _ _ parts.0)
+
+equal : (r : Ordering) → is_eq r ≡ true → r ≡ Equal
+equal Less e = cc
+equal Equal e = refl
+equal Greater e = cc
+
+pub tied : (x y : Key) → x ≡ y → eq_by_cmp key_cmp x y ≡ true
+tied x y e = ap is_eq (ap (key_cmp x) (sym e) ∙ tied_itself key_cmp_total x)
+
+pub apart : (x y : Key) → x ≢ y → eq_by_cmp key_cmp x y ≡ false
+apart x y other =
+    elim (cases_Bool (eq_by_cmp key_cmp x y)) [
+      | inl ties ↦ absurd (other (key_cmp-IsAntisymmetric x y (equal _ ties)))
+      | inr differs ↦ differs
+    ]
+
+-- two keys are equal or not
+pub key_cases : (x y : Key) → (x ≡ y) ⊎ (x ≢ y)
+key_cases x y =
+    elim (cases_Bool (eq_by_cmp key_cmp x y)) [
+      | inl ties ↦ inl (key_cmp-IsAntisymmetric x y (equal _ ties))
+      | inr differs ↦ inr (λ same. true≢false (sym (tied x y same) ∙ differs))
+    ]
+
+-- what a comparison of two keys tells
+pub same_by : (x y : Key) → eqb x.index y.index && eqb x.generation y.generation ≡ true → x ≡ y
+same_by x y is =
+    let parts = both_hold (eqb x.index y.index) (eqb x.generation y.generation) is in
+    same_key x y (eqb-true _ _ parts.0) (eqb-true _ _ parts.1)
+  where
+    both_hold : (a b : Bool) → a && b ≡ true → (a ≡ true) × (b ≡ true)
+    both_hold true b e = (refl, e)
+    both_hold false b e = absurd (true≢false (sym e))
+
+pub differ_by : (x y : Key) → eqb x.index y.index && eqb x.generation y.generation ≡ false → x ≢ y
+differ_by x y is same =
+    let ties : eqb x.index y.index && eqb x.generation y.generation ≡ true = λ i. eq-eqb x.index y.index (ap (λ (k : Key). k.index) same) i && eq-eqb x.generation y.generation (ap (λ (k : Key). k.generation) same) i in
+    true≢false (sym ties ∙ is)
