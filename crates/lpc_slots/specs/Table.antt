@@ -1,5 +1,5 @@
 -- What contracts see of a table: the rows by their keys, in the order of making.
-use Rattle.std.specs.Prelude.{ℕ, ◌+◌, ◌-◌, ◌≤◌, Option, IsSome, List, refl, filter, not}
+use Rattle.std.specs.Prelude.{ℕ, ◌+◌, ◌-◌, ◌≤◌, ◌==◌, ◌&&◌, Bool, Option, IsSome, List, refl, filter, not}
 use Rattle.std.specs.Coded.{Coded, code_by, coded×, coded_ℕ}
 use Rattle.std.specs.Ordering.{nat_cmp, on, then_cmp, eq_by_cmp}
 use Rattle.std.specs.declared.cmp.Ordering.{Ordering}
@@ -9,6 +9,10 @@ use Rattle.lpc_slots.specs.declared.Key.{Key}
 -- the order of keys, which is the order of making
 abbrev pub key_cmp : Key → Key → Ordering
 key_cmp = then_cmp (on (λ (k : Key). k.generation) nat_cmp) (on (λ (k : Key). k.index) nat_cmp)
+
+-- one key is the other
+abbrev pub is_key : Key → Key → Bool
+is_key one two = (one.index == two.index) && (one.generation == two.generation)
 
 -- a key as a pair of numbers
 abbrev pub key_code : Coded Key

@@ -1,0 +1,6 @@
+use Rattle.std.proofs.Common.{◌≡◌, drop, find}
+use Rattle.lpc_waits.specs.Table.{is_of}
+use Rattle.lpc_waits.proofs.Waits.of.Given as goal
+
+abbrev pub invariant-loop-row : goal.invariant-loop-row
+invariant-loop-row l = find (is_of l.tid) (drop l.row-index l.row-items) ≡ find (is_of l.tid) l.row-items

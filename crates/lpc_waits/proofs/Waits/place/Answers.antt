@@ -1,0 +1,9 @@
+use Rattle.std.proofs.Common.{◌≡◌, refl, sym, ap, subst, ◌∙◌, true, false, true≢false, is_some, IsSome, None}
+use Rattle.lpc_waits.proofs.Places.{none_first}
+use Rattle.lpc_waits.specs.Table.{is_of}
+use Rattle.lpc_waits.proofs.Waits.place.Goals as goal
+
+pub unreachable-requires : goal.unreachable-requires
+unreachable-requires c =
+    let none = none_first (is_of c.args.tid) c.args.self.now.rows (sym c.position.ensures ∙ c.in-None.is) in
+    true≢false (sym (subst IsSome none c.requires))

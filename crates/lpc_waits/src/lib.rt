@@ -1,0 +1,217 @@
+//! The waits of threads, in the order of waiting.
+#![tactic(auto)]
+
+ghost use Rattle.std.specs.Prelude.{◌≡◌, ◌+◌, ◌<◌, ◌-◌, ◌≤◌, ◌^◌, ◌++◌, ◌∷◌, [], length, OnOk, OnSome, Some, None, IsSome, option_copied, option_map, is_some, if◌then◌else◌, filter, find};
+ghost use Rattle.std.specs.List.{position};
+ghost use Rattle.lpc_waits.specs.Table.{is_of, is_receive_on, row_of, begun, without, change, received, with_message, with_queue};
+
+#[cfg(test)]
+mod tests;
+
+use arrayvec::ArrayVec;
+use lpc_base::OutOfMemory;
+use lpc_slots::Key;
+use std::alloc::Global;
+use std::marker::Model;
+
+/// What a thread waits for.
+#[derive(Clone, Copy, Debug, PartialEq, Eq)]
+pub enum WaitKind {
+    /// The reply to a request.
+    Request,
+    /// A message.
+    Receive,
+}
+
+/// The wait of a thread.
+#[derive(Clone, Copy, Debug, PartialEq, Eq)]
+pub struct Wait {
+    pub kind: WaitKind,
+    /// The port on which the call was made.
+    pub port: Key,
+    /// The port whose queue the request entered, or on whose queue a receive waits.
+    pub queue: Key,
+    /// The identifier of the request; 0 for a receive.
+    pub identifier: u32,
+    /// A thread took the request from its queue.
+    pub received: bool,
+}
+
+/// A row of the table: a thread that waits.
+#[derive(Drop)]
+pub struct WaitRow {
+    pub thread: u32,
+    pub wait: Wait,
+    /// The bytes of the message that was sent, with its header; none until they are set.
+    pub message: ArrayVec<u8, 256>,
+}
+
+/// The waits of all threads, in the order of waiting. A thread has one at most.
+///
+/// No call but `reserve` takes memory. This project's own.
+#[derive(Drop)]
+pub struct Waits {
+    rows: Vec<WaitRow>,
+    made: u64,
+}
+
+impl Model for Waits {
+    ghost use Rattle.std.specs.Prelude.{◌≡◌, ◌-◌, true, vec_len, vec_capacity};
+    ghost use Rattle.lpc_waits.specs.Table.{WaitTable, are_apart};
+
+    ghost Value = { WaitTable };
+
+    ghost view = { λ s. record { rows = s.rows.items; spare = vec_capacity s.rows - vec_len s.rows; made = s.made } };
+
+    ghost invariant = { λ s. are_apart s.rows.items ≡ true };
+}
+
+impl Waits {
+    /// No waits, and no spare room.
+    pub fn new(alloc: Global) -> Waits
+        ensures { result ≡ record { rows = []; spare = 0; made = 0 } }
+    {
+        Waits {
+            rows: Vec::new(alloc),
+            made: 0,
+        }
+    }
+
+    /// Makes room for this many more waits. Room that is there already counts.
+    ///
+    /// OutOfMemory comes where the memory for it is wanting; the waits stay as they are, and the room never shrinks.
+    pub fn reserve(&mut self, more: usize) -> Result<(), OutOfMemory>
+        ensures room { OnOk result (more ≤ self.new.spare) }
+        ensures kept { self.new ≡ record self.old { spare = self.new.spare } }
+        ensures spare { self.old.spare ≤ self.new.spare }
+    {
+        if self.rows.reserve(more).is_err() {
+            return Err(OutOfMemory);
+        }
+        Ok(())
+    }
+
+    /// Adds the wait of a thread behind the others. It has no message yet.
+    ///
+    /// The thread has no wait, there is spare room, and fewer than 2^64 - 1 waits were made.
+    pub fn add(&mut self, tid: u32, wait: Wait)
+        requires alone { row_of self.old tid ≡ None }
+        requires room { 0 < self.old.spare }
+        requires few { self.old.made < 2 ^ 64 - 1 }
+        ensures table { self.new ≡ begun self.old tid wait }
+    {
+        self.made += 1;
+        self.rows.push_reserved(WaitRow {
+            thread: tid,
+            wait,
+            message: ArrayVec::new(),
+        });
+    }
+
+    /// The wait of a thread: None exactly where it has none.
+    pub fn of(&self, tid: u32) -> Option<&Wait>
+        ensures value { option_copied result ≡ option_map (λ row. row.wait) (row_of self.now tid) }
+        ensures one { length (filter (is_of tid) self.now.rows) ≤ 1 }
+    {
+        for row in &self.rows {
+            if row.thread == tid {
+                return Some(&row.wait);
+            }
+        }
+        None
+    }
+
+    /// Ends the wait of a thread, and answers it: None exactly where the thread has none. Its room is spare then.
+    pub fn end(&mut self, tid: u32) -> Option<Wait>
+        ensures value { result ≡ option_map (λ row. row.wait) (row_of self.old tid) }
+        ensures rows { self.new.rows ≡ without (is_of tid) self.old.rows }
+        ensures spare { self.new.spare ≡ (if is_some result then self.old.spare + 1 else self.old.spare) }
+        ensures made { self.new.made ≡ self.old.made }
+    {
+        let index = self.position(tid)?;
+        let row = self.rows.remove(index);
+        Some(row.wait)
+    }
+
+    /// Marks the request of a waiting thread as received.
+    pub fn receive(&mut self, tid: u32)
+        requires waits { IsSome (row_of self.old tid) }
+        ensures table { self.new ≡ record self.old { rows = change (is_of tid) received self.old.rows } }
+    {
+        let index = self.place(tid);
+        self.rows[index].wait.received = true;
+    }
+
+    /// The thread whose receive has waited longest on the queue of a port: None exactly where there is none.
+    ///
+    /// No wait is a listen so far, so that `with_listens` adds none.
+    pub fn first_on(&self, queue: Key, with_listens: bool) -> Option<u32>
+        ensures { result ≡ option_map (λ row. row.thread) (find (is_receive_on queue) self.now.rows) }
+    {
+        let _ = with_listens;
+        for row in &self.rows {
+            if row.wait.kind == WaitKind::Receive && row.wait.queue == queue {
+                return Some(row.thread);
+            }
+        }
+        None
+    }
+
+    /// The bytes of the message with which a waiting thread waits; none until they are set.
+    pub fn message(&self, tid: u32) -> &[u8]
+        requires waits { IsSome (row_of self.now tid) }
+        ensures value { option_map (λ row. row.message.items) (row_of self.now tid) ≡ Some result.now }
+        ensures bound { length result.now ≤ 256 }
+    {
+        self.rows[self.place(tid)].message.as_slice()
+    }
+
+    /// Gives a waiting thread's wait the bytes of a message: no more than a message holds.
+    pub fn set_message(&mut self, tid: u32, bytes: &[u8])
+        requires waits { IsSome (row_of self.old tid) }
+        requires bound { length bytes.now ≤ 256 }
+        ensures table { self.new ≡ record self.old { rows = change (is_of tid) (with_message bytes.now) self.old.rows } }
+    {
+        let index = self.place(tid);
+        self.rows[index].message = held(bytes);
+    }
+
+    /// Gives a waiting thread's wait another queue.
+    pub fn set_queue(&mut self, tid: u32, queue: Key)
+        requires waits { IsSome (row_of self.old tid) }
+        ensures table { self.new ≡ record self.old { rows = change (is_of tid) (with_queue queue) self.old.rows } }
+    {
+        let index = self.place(tid);
+        self.rows[index].wait.queue = queue;
+    }
+
+    // Where the wait of a thread stands.
+    fn position(&self, tid: u32) -> Option<usize>
+        ensures { result ≡ position (is_of tid) self.now.rows }
+    {
+        self.rows.iter().position(|row| row.thread == tid)
+    }
+
+    // Where the wait of a waiting thread stands.
+    fn place(&self, tid: u32) -> usize
+        requires { IsSome (row_of self.now tid) }
+        ensures { Some result ≡ position (is_of tid) self.now.rows }
+    {
+        match self.position(tid) {
+            Some(index) => index,
+            None => unreachable!(),
+        }
+    }
+}
+
+// These bytes, held in place.
+fn held(bytes: &[u8]) -> ArrayVec<u8, 256>
+    requires { length bytes.now ≤ 256 }
+    ensures { result.items ≡ bytes.now }
+{
+    let mut list = ArrayVec::new();
+    for byte in bytes {
+        list.push(*byte);
+    }
+    list
+}
