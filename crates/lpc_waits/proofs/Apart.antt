@@ -98,8 +98,7 @@ one_row tid (row ∷ rows) apart =
 pub row_is : (rows : List WaitRow) (i tid : ℕ) (row : WaitRow) → position (is_of tid) rows ≡ Some i → row ≡ get_or rows i row → (slice_get rows i ≡ Some row) × (row.thread ≡ tid) × (find (is_of tid) rows ≡ Some row)
 row_is rows i tid row is read =
     let found = first_at (is_of tid) rows i is in
-    let same : found.element ≡ row = sym (read ∙ (read_at rows i found.element row found.here).1) in
-    (
+    let same : found.element ≡ row = sym (read ∙ (read_at rows i found.element row found.here).1) in (
       found.here ∙ ap Some same,
       sym (ap (λ (r : WaitRow). r.thread) same) ∙ eqb-true found.element.thread tid (first_passes (is_of tid) rows found.element found.first),
       found.first ∙ ap Some same,
