@@ -1,5 +1,5 @@
 -- Where the first element that passes a test stands.
-use Rattle.std.proofs.Common.{◌≡◌, ◌+◌, ◌<◌, ℕ, zero, suc, Bool, true, false, cond, not, refl, sym, ap, ◌∙◌, subst, inl, inr, arith, zero-add, List, [], ◌∷◌, length, get_or, slice_get, Option, Some, None, is_some, IsSome, find, filter}
+use Rattle.std.proofs.Common.{◌≡◌, ◌+◌, ◌<◌, ℕ, zero, suc, Bool, true, false, cond, not, refl, sym, ap, ◌∙◌, subst, inl, inr, arith, zero-add, List, [], ◌∷◌, length, get_or, slice_get, Some, None, find, filter}
 use Rattle.std.proofs.lemmas.Bool.{cases_Bool}
 use Rattle.std.proofs.lemmas.Iterator.Adapters.{position_from-zero}
 use Rattle.std.specs.List.{position, position_from}

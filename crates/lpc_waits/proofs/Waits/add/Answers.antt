@@ -1,4 +1,3 @@
-use Rattle.std.proofs.Common.{◌≡◌, sym, ap, ◌∙◌, find, None}
 use Rattle.lpc_waits.proofs.Apart.{apart_push}
 use Rattle.lpc_waits.proofs.Waits.add.Goals as goal
 

@@ -1,6 +1,6 @@
-use Rattle.std.proofs.Common.{◌≡◌, refl, sym, ap, subst, ◌∙◌, true, Some, None, option_map}
+use Rattle.std.proofs.Common.{sym, ap, ◌∙◌, option_map}
 use Rattle.lpc_waits.specs.declared.WaitRow.{WaitRow}
-use Rattle.lpc_waits.specs.Table.{is_of, are_apart, without}
+use Rattle.lpc_waits.specs.Table.{is_of}
 use Rattle.lpc_waits.proofs.Places.{none_first, none_without}
 use Rattle.lpc_waits.proofs.Apart.{apart_without, ended_at, row_is}
 use Rattle.lpc_waits.proofs.Waits.end.Goals as goal

@@ -1,4 +1,4 @@
-use Rattle.std.proofs.Common.{◌≡◌, sym, ap, ◌∙◌, Some, option_map}
+use Rattle.std.proofs.Common.{sym, ap, ◌∙◌, Some, option_map}
 use Rattle.lpc_waits.specs.declared.WaitRow.{WaitRow}
 use Rattle.lpc_waits.proofs.Apart.{row_is}
 use Rattle.lpc_waits.proofs.Waits.message.Goals as goal

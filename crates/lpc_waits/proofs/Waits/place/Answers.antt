@@ -1,4 +1,4 @@
-use Rattle.std.proofs.Common.{◌≡◌, refl, sym, ap, subst, ◌∙◌, true, false, true≢false, is_some, IsSome, None}
+use Rattle.std.proofs.Common.{sym, subst, ◌∙◌, true≢false, IsSome}
 use Rattle.lpc_waits.proofs.Places.{none_first}
 use Rattle.lpc_waits.specs.Table.{is_of}
 use Rattle.lpc_waits.proofs.Waits.place.Goals as goal

@@ -1,6 +1,6 @@
-use Rattle.std.proofs.Common.{◌≡◌, refl, sym, ap, subst, ◌∙◌, true, set, List, vec_capacity, vec_len, ◌-◌}
+use Rattle.std.proofs.Common.{refl, sym, ap, List, vec_capacity, vec_len, ◌-◌}
 use Rattle.lpc_waits.specs.declared.WaitRow.{WaitRow}
-use Rattle.lpc_waits.specs.Table.{is_of, are_apart, change, with_queue}
+use Rattle.lpc_waits.specs.Table.{is_of, with_queue}
 use Rattle.lpc_waits.proofs.Apart.{apart_change, changed_at}
 use Rattle.lpc_waits.proofs.Waits.set_queue.Goals as goal
 
