@@ -9,7 +9,7 @@ use Rattle.lpc_model.specs.Lines.{ScriptLine}
 use Rattle.lpc_model.specs.Script.{script_lines}
 use Rattle.lpc_model.specs.Run.{FaultyLine, faulty_or, first_fault, is_well_formed, numbered_line}
 use Rattle.lpc_model.specs.Transcript.{transcript}
-use Rattle.lpc_replay.specs.Playing.{Progress, begin, behind_line, last_text, line_and_later, line_text, text_from}
+use Rattle.lpc_replay.specs.Playing.{Progress, begin, behind_line, line_and_later, line_text, text_from}
 use Rattle.lpc_replay.specs.Reading.{ended_lines, ended_part}
 use Rattle.lpc_replay.proofs.Turns.{transcript_is}
 

@@ -6,7 +6,6 @@ use Rattle.lpc_base.specs.Streams.{Told}
 use Rattle.lpc_model.specs.Script.{script_lines}
 use Rattle.lpc_model.specs.Run.{is_well_formed}
 use Rattle.lpc_model.specs.Transcript.{transcript}
-use Rattle.lpc_replay.specs.Laws.{MisfitsRefused, RefusalsIdle, RefusalsStay, RequestsReturn}
 use Rattle.lpc_replay.specs.Reading.{IsRead, ended_lines, passes_limit}
 use Rattle.lpc_replay.specs.TopCall.{IsFormed, IsStopped, Replays, Stops, StopsAtFault}
 use Rattle.lpc_replay.proofs.Ended.{ended_faulty}

@@ -1,6 +1,6 @@
 -- What holds of the steps of a call that isn't refused, and of lists.
 use Rattle.std.proofs.Common.{◌≡◌, refl, subst, Bool, true, false, cond, List, [], ◌∷◌, ◌++◌}
-use Rattle.std.specs.Prelude.{Option, Some, None, Result, Ok, Err, find, filter, map, if◌then◌else◌, ◌&&◌, not}
+use Rattle.std.specs.Prelude.{Option, Some, None, Result, Ok, Err, find, filter, map, ◌&&◌, not}
 use Rattle.std.specs.List.{AllByRecursion}
 use Rattle.lpc_base.specs.declared.status.Status.{Status}
 use Rattle.lpc_model.specs.declared.entry.CallName.{CallName}

@@ -1,5 +1,5 @@
 -- How far a script is read, and that a script which passes a limit has a faulty line.
-use Rattle.std.proofs.Common.{◌≡◌, ℕ, suc, ◌+◌, ◌*◌, ◌<◌, ◌≤◌, Bool, true, false, cond, List, [], ◌∷◌, ◌++◌, length, refl, sym, ap, ◌∙◌, arith, append_assoc, length-append, ◌-◌, take, drop, length-drop}
+use Rattle.std.proofs.Common.{◌≡◌, ℕ, ◌+◌, ◌*◌, ◌<◌, ◌≤◌, Bool, true, false, cond, List, [], ◌∷◌, ◌++◌, length, refl, sym, ap, ◌∙◌, arith, append_assoc, length-append, ◌-◌, take, drop, length-drop}
 use Rattle.std.specs.Prelude.{Option, Some, None, Result, Ok, Err, is_err, is_none, is_ok, is_some, nat_le, nat_lt, ◌==◌, option_and_then}
 use Rattle.std.specs.List.{onto_first, AllByRecursion}
 use Rattle.std.proofs.lemmas.Bool.{eqb-true}

@@ -1,5 +1,5 @@
 -- Each reply that fits no wait is refused, and a refused reply changes nothing.
-use Rattle.std.proofs.Common.{◌≡◌, ℕ, Bool, true, false, List, [], ◌∷◌, ◌++◌, length, refl, ap, subst}
+use Rattle.std.proofs.Common.{◌≡◌, ℕ, Bool, true, false, List, [], ◌∷◌, length, refl, ap, subst}
 use Rattle.std.specs.Prelude.{Option, Some, None, Result, Ok, Err, is_some, nat_lt, not, ◌==◌, ◌&&◌, option_and_then}
 use Rattle.std.proofs.lemmas.Bool.{eq-eqb}
 use Rattle.lpc_base.specs.declared.birth.Birth.{Birth}
@@ -7,7 +7,6 @@ use Rattle.lpc_base.specs.declared.limits.TheConstants.{MESSAGE_LIMIT}
 use Rattle.lpc_base.specs.declared.status.Status.{Status}
 use Rattle.lpc_base.specs.declared.status.TheConstants.{ACCESS_DENIED, INVALID_HANDLE, INVALID_PARAMETER, OBJECT_TYPE_MISMATCH, PORT_MESSAGE_TOO_LONG, SUCCESS}
 use Rattle.lpc_message.specs.Layout.{fault_of, header_of}
-use Rattle.lpc_model.specs.declared.entry.CallName.{CallName}
 use Rattle.lpc_model.specs.declared.entry.CallName.TheVariants.{NtReplyPort}
 use Rattle.lpc_model.specs.declared.entry.Entry.{Entry}
 use Rattle.lpc_model.specs.declared.entry.Entry.TheVariants.{Answer, Busy, NoThread}
@@ -19,7 +18,7 @@ use Rattle.lpc_model.specs.Refusal.{◌>>=◌, found_or, refuse_if}
 use Rattle.lpc_model.specs.declared.entry.ObjectKind.TheVariants as kind
 use Rattle.lpc_model.specs.World.{World}
 use Rattle.lpc_model.specs.Found.{fitted, handle_at, is_live_thread, live_thread, port_row, same_kind, wait_of}
-use Rattle.lpc_model.specs.Message.{message_of, message_test}
+use Rattle.lpc_model.specs.Message.{message_test}
 use Rattle.lpc_model.specs.Basics.{Basic, Tells, entries_of, world_after}
 use Rattle.lpc_model.specs.Tests.{PORT_RIGHT, client_test, fit_test, includes, is_client, object_test, own_handle, port_test}
 use Rattle.lpc_model.specs.Request.{nt_reply_port, reply_steps}
@@ -27,7 +26,7 @@ use Rattle.lpc_model.specs.Lines.{ScriptLine, boot, create_port, reply_port, rep
 use Rattle.lpc_model.specs.Machine.{ready_steps, settled, step, steps, thread_steps}
 use Rattle.lpc_model.specs.Run.{Along}
 use Rattle.lpc_model.specs.Replies.{ChangesNothing, IsRefused, MisfitsAreRefused, RefusedRepliesChangeNothing, Reply, fitted_wait, is_refusal, message_in, port_of, reply_of}
-use Rattle.lpc_replay.proofs.Holding.{Holds, and_first, and_second, bind_holds, find_passes, found_ok, holds_ok, settled_holds}
+use Rattle.lpc_replay.proofs.Holding.{Holds, and_first, bind_holds, find_passes, found_ok, holds_ok, settled_holds}
 use Rattle.lpc_replay.proofs.Returning.{message_holds, port_holds}
 
 -- a property of what wasn't refused, and a refusal's status is no success

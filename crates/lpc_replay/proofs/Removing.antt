@@ -1,17 +1,16 @@
 -- Without the line of a refused reply, the other lines tell the same.
-use Rattle.std.proofs.Common.{◌≡◌, ℕ, ◌+◌, ◌≤◌, Bool, true, false, List, [], ◌∷◌, ◌++◌, length, map, refl, sym, ap, ◌∙◌, arith, length-append}
+use Rattle.std.proofs.Common.{◌≡◌, ℕ, ◌+◌, ◌≤◌, false, List, [], ◌∷◌, ◌++◌, length, map, refl, ap, ◌∙◌, arith, length-append}
 use Rattle.std.specs.Prelude.{Option, Some, None, Result, Ok, Err, nat_lt}
 use Rattle.std.proofs.lemmas.Bool.Decides.{nat_tests}
 use Rattle.std.proofs.lemmas.List.{length-map, map-append}
 use Rattle.lpc_base.specs.declared.limits.TheConstants.{LINES_LIMIT}
-use Rattle.lpc_model.specs.declared.entry.Entry.{Entry}
 use Rattle.lpc_model.specs.declared.fault.LineFault.{LineFault}
 use Rattle.lpc_model.specs.World.{World, no_rows}
 use Rattle.lpc_model.specs.Lines.{ScriptLine}
 use Rattle.lpc_model.specs.Machine.{Stepped, step}
 use Rattle.lpc_model.specs.Grammar.{read_line}
-use Rattle.lpc_model.specs.Run.{FaultyLine, faulty_or, first_fault, line_step, numbered_line, said_from, trace, unless_faulty, world_behind}
-use Rattle.lpc_model.specs.Replies.{IsIdle, IsRefusedReplyAt, RefusedRepliesAreIdle, told_by}
+use Rattle.lpc_model.specs.Run.{faulty_or, first_fault, line_step, numbered_line, said_from, trace, unless_faulty, world_behind}
+use Rattle.lpc_model.specs.Replies.{IsIdle, IsRefusedReplyAt, RefusedRepliesAreIdle}
 use Rattle.lpc_replay.proofs.Refusing.{refusals_stay}
 
 -- the lines behind lines without a fault

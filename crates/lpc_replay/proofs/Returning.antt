@@ -1,22 +1,21 @@
 -- Each request that wakes with success is returned by a reply that fits it.
-use Rattle.std.proofs.Common.{◌≡◌, ℕ, Bool, true, false, cond, List, [], ◌∷◌, ◌++◌, refl, sym, ap}
+use Rattle.std.proofs.Common.{◌≡◌, ℕ, Bool, true, false, cond, List, [], ◌∷◌, ◌++◌, refl}
 use Rattle.std.specs.Prelude.{Option, Some, None, Result, Ok, Err, is_some, nat_lt, not, option_and_then}
 use Rattle.std.specs.List.{AllByRecursion}
 use Rattle.std.proofs.lemmas.Bool.{eqb-true}
 use Rattle.lpc_base.specs.declared.birth.Birth.{Birth}
 use Rattle.lpc_base.specs.declared.limits.TheConstants.{MESSAGE_LIMIT}
 use Rattle.lpc_base.specs.declared.status.Status.{Status}
-use Rattle.lpc_base.specs.declared.status.TheConstants.{ACCESS_DENIED, INVALID_HANDLE, INVALID_PARAMETER, OBJECT_TYPE_MISMATCH, PORT_DISCONNECTED, PORT_MESSAGE_TOO_LONG, SUCCESS}
+use Rattle.lpc_base.specs.declared.status.TheConstants.{ACCESS_DENIED, INVALID_HANDLE, INVALID_PARAMETER, OBJECT_TYPE_MISMATCH, PORT_MESSAGE_TOO_LONG, SUCCESS}
 use Rattle.lpc_message.specs.Layout.{fault_of, header_of}
 use Rattle.lpc_model.specs.declared.entry.CallName.{CallName}
 use Rattle.lpc_model.specs.declared.entry.CallName.TheVariants as call
-use Rattle.lpc_model.specs.declared.entry.Entry.{Entry}
 use Rattle.lpc_model.specs.declared.entry.Entry.TheVariants as entry
 use Rattle.lpc_model.specs.declared.entry.Field.{Field}
 use Rattle.lpc_model.specs.declared.entry.Word.{Word}
 use Rattle.lpc_model.specs.declared.entry.Word.TheVariants as word
 use Rattle.lpc_model.specs.declared.rows.WaitKind.TheVariants.{Receive, Request}
-use Rattle.lpc_model.specs.Refusal.{◌>>=◌, found_or, refuse_if}
+use Rattle.lpc_model.specs.Refusal.{refuse_if}
 use Rattle.lpc_model.specs.Rows.{first, given, when}
 use Rattle.lpc_message.specs.declared.kind.TheConstants.{REQUEST}
 use Rattle.lpc_model.specs.declared.entry.ObjectKind.TheVariants as kind
@@ -28,16 +27,16 @@ use Rattle.lpc_model.specs.declared.rows.PortRow.{PortRow}
 use Rattle.lpc_model.specs.declared.rows.ThreadRow.{ThreadRow}
 use Rattle.lpc_model.specs.declared.rows.WaitKind.{WaitKind}
 use Rattle.lpc_model.specs.declared.rows.WaitRow.{WaitRow}
-use Rattle.lpc_model.specs.Found.{fitted, handle_at, is_port, is_queued, live_thread, port_row, same_birth, same_kind, wait_of}
-use Rattle.lpc_model.specs.Message.{as_reply, bytes_of, asks, message_of, message_test}
-use Rattle.lpc_model.specs.Basics.{AddsHandle, AddsProcess, AddsThread, Awaits, Basic, DrawsIdentifier, DrawsOrdinal, Enters, Makes, Receives, Takes, Tells, Wakes, basic, entries_of, told, world_after}
+use Rattle.lpc_model.specs.Found.{handle_at, is_port, is_queued, live_thread, port_row, same_birth, same_kind, wait_of}
+use Rattle.lpc_model.specs.Message.{as_reply, bytes_of, asks, message_test}
+use Rattle.lpc_model.specs.Basics.{Awaits, Basic, Receives, Tells, Wakes, basic, entries_of, told, world_after}
 use Rattle.lpc_model.specs.Fields.{msg, receipt}
 use Rattle.lpc_model.specs.Entering.{enter, row_of, take_steps, takes, woken}
 use Rattle.lpc_model.specs.Tests.{PORT_RIGHT, client_test, fit_test, handles_test, includes, object_test, own_handle, port_test}
 use Rattle.lpc_model.specs.Connect.{nt_create_port}
-use Rattle.lpc_model.specs.Request.{Sendable, nt_reply_port, nt_reply_wait_receive_port, nt_request_wait_reply_port, receive_steps, receive_test, request_start, request_steps, send_test, sent_by}
+use Rattle.lpc_model.specs.Request.{nt_reply_port, nt_reply_wait_receive_port, nt_request_wait_reply_port, receive_steps, receive_test, request_start, send_test, sent_by}
 use Rattle.lpc_model.specs.Lines.{ScriptCall, ScriptLine, boot, create_port, reply_port, reply_wait_receive_port, request_wait_reply_port, run, thread}
-use Rattle.lpc_model.specs.Machine.{boot_line, call_steps, directed, name_of, ready_steps, service_of, step, steps, thread_line, thread_test, thread_steps, unused_test}
+use Rattle.lpc_model.specs.Machine.{boot_line, directed, name_of, ready_steps, service_of, step, steps, thread_line, thread_test, thread_steps, unused_test}
 use Rattle.lpc_model.specs.Run.{Along}
 use Rattle.lpc_model.specs.Replies.{HasReply, IsReturnedBy, RequestsReturnByReply, message_in, port_of}
 use Rattle.lpc_replay.proofs.Holding.{Holds, all_append, all_filter, all_map, and_first, and_second, bind_holds, find_all, find_passes, found_holds, found_ok, holds_ok, not_false, not_refused, settled_holds}

@@ -1,8 +1,6 @@
-use Rattle.std.proofs.Common.{◌∙◌, sym}
-use Rattle.lpc_model.specs.Script.{script_lines}
 use Rattle.lpc_model.specs.Transcript.{transcript}
-use Rattle.lpc_replay.specs.Playing.{begin, last_text, text_from}
-use Rattle.lpc_replay.proofs.Tells.{told_as, told_ends}
+use Rattle.lpc_replay.specs.Playing.{last_text}
+use Rattle.lpc_replay.proofs.Tells.{told_ends}
 use Rattle.lpc_replay.proofs.Turns.{transcript_is}
 use Rattle.lpc_replay.proofs.play.play_all.Goals as goal
 

@@ -1,4 +1,4 @@
-use Rattle.std.proofs.Common.{arith, sym, refl, ◌∙◌, ◌≡◌, ◌++◌, ◌-◌, ◌*◌, ◌<◌, length, take}
+use Rattle.std.proofs.Common.{arith, sym, refl, ◌∙◌, ◌≡◌, ◌++◌, ◌*◌, take}
 use Rattle.lpc_replay.proofs.Limits.{behind_piece, behind_start, less_left, no_error, script_size}
 use Rattle.lpc_replay.proofs.Tells.{read_more, told_same}
 use Rattle.lpc_replay.proofs.reading.read_script.Goals as goal
