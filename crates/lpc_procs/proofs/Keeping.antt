@@ -1,0 +1,156 @@
+-- What the changes of rows keep.
+use Rattle.std.proofs.Common.{◌≡◌, ℕ, ◌+◌, List, [], ◌∷◌, ◌++◌, Bool, true, false, not, ◌&&◌, map, refl, ap, sym, ◌∙◌, arith}
+use Rattle.std.specs.Prelude.{Option, Some, None, find, is_some, IfSome, option_map, ◌==◌}
+use Rattle.std.proofs.lemmas.Bool.Decides.{nat_tests}
+use Rattle.lpc_procs.specs.declared.rows.ThreadRow.{ThreadRow}
+use Rattle.lpc_procs.specs.declared.rows.UsedThread.{UsedThread}
+use Rattle.lpc_procs.specs.Kept.{are_single, every, is_noted, is_of, IsKept}
+use Rattle.lpc_procs.specs.Procs.{change, ended, has, is_thread, is_used_thread, past_birth, past_identifier, without}
+
+-- Lists of rows
+every-more : {X : Type 0} (p q : X → Bool) → ((x : X) → p x ≡ true → q x ≡ true) → (xs : List X) → every p xs ≡ true → every q xs ≡ true
+every-more p q more [] all = refl
+every-more p q more (x ∷ xs) all = grind (arith, more x, every-more p q more xs)
+
+every-push : {X : Type 0} (p : X → Bool) (xs : List X) (y : X) → every p xs ≡ true → p y ≡ true → every p (xs ++ y ∷ []) ≡ true
+every-push p [] y all one = grind arith
+every-push p (x ∷ xs) y all one = grind (arith, every-push p xs y)
+
+every-without : {X : Type 0} (p test : X → Bool) (xs : List X) → every p xs ≡ true → every p (without test xs) ≡ true
+every-without p test [] all = refl
+every-without p test (x ∷ xs) all = grind (arith, every-without p test xs)
+
+every-change : {X : Type 0} (p test : X → Bool) (f : X → X) → ((x : X) → p x ≡ true → p (f x) ≡ true) → (xs : List X) → every p xs ≡ true → every p (change test f xs) ≡ true
+every-change p test f same [] all = refl
+every-change p test f same (x ∷ xs) all = grind (arith, same x, every-change p test f same xs)
+
+has_none-push : {X : Type 0} (p : X → Bool) (xs : List X) (y : X) → has p xs ≡ false → p y ≡ false → has p (xs ++ y ∷ []) ≡ false
+has_none-push p [] y none off = grind arith
+has_none-push p (x ∷ xs) y none off = grind (arith, has_none-push p xs y)
+
+has_none-without : {X : Type 0} (p test : X → Bool) (xs : List X) → has p xs ≡ false → has p (without test xs) ≡ false
+has_none-without p test [] none = refl
+has_none-without p test (x ∷ xs) none = grind (arith, has_none-without p test xs)
+
+has-change : {X : Type 0} (p test : X → Bool) (f : X → X) → ((x : X) → p (f x) ≡ p x) → (xs : List X) → has p (change test f xs) ≡ has p xs
+has-change p test f same [] = refl
+has-change p test f same (x ∷ xs) = grind (arith, same x, has-change p test f same xs)
+
+change-none : {X : Type 0} (test : X → Bool) (f : X → X) (xs : List X) → has test xs ≡ false → change test f xs ≡ xs
+change-none test f [] none = refl
+change-none test f (x ∷ xs) none = grind (arith, change-none test f xs)
+
+find-push : {X : Type 0} (p : X → Bool) (xs : List X) (y x : X) → find p xs ≡ Some x → find p (xs ++ y ∷ []) ≡ Some x
+find-push p [] y x is = grind arith
+find-push p (z ∷ xs) y x is = grind (arith, find-push p xs y x)
+
+find-new : {X : Type 0} (p : X → Bool) (xs : List X) (y : X) → has p xs ≡ false → p y ≡ true → find p (xs ++ y ∷ []) ≡ Some y
+find-new p [] y none one = grind arith
+find-new p (x ∷ xs) y none one = grind (arith, find-new p xs y)
+
+-- Threads
+same-number : (a b : ℕ) → (a == b) ≡ true → a ≡ b
+same-number a b is = grind (arith, nat_tests)
+
+single-push : (ts : List ThreadRow) (t : ThreadRow) → are_single ts ≡ true → has (is_thread t.number) ts ≡ false → are_single (ts ++ t ∷ []) ≡ true
+single-push [] t single none = refl
+single-push (x ∷ ts) t single none = grind (arith, nat_tests, single-push ts t, has_none-push (is_thread x.number) ts t)
+
+single-without : (test : ThreadRow → Bool) (ts : List ThreadRow) → are_single ts ≡ true → are_single (without test ts) ≡ true
+single-without test [] single = refl
+single-without test (x ∷ ts) single = grind (arith, single-without test ts, has_none-without (is_thread x.number) test ts)
+
+single-change : (test : ThreadRow → Bool) (f : ThreadRow → ThreadRow) → ((t : ThreadRow) → (f t).number ≡ t.number) → (ts : List ThreadRow) → are_single ts ≡ true → are_single (change test f ts) ≡ true
+single-change test f same [] single = refl
+single-change test f same (x ∷ ts) single = grind (arith, same x, single-change test f same ts, has-change (is_thread x.number) test f (λ t. ap (λ n. n == x.number) (same t)) ts)
+
+noted-push : (used : List UsedThread) (u : UsedThread) (t : ThreadRow) (o : Option UsedThread) → find (is_used_thread t.number) used ≡ o → is_of t.process o ≡ true → is_noted (used ++ u ∷ []) t ≡ true
+noted-push used u t None is of = cc
+noted-push used u t (Some v) is of = rw (find-push (is_used_thread t.number) used u v is) of
+
+unused-absent : (tid : ℕ) (used : List UsedThread) (ts : List ThreadRow) → has (is_used_thread tid) used ≡ false → every (is_noted used) ts ≡ true → has (is_thread tid) ts ≡ false
+unused-absent tid used [] new noted = refl
+unused-absent tid used (t ∷ ts) new noted = step (t.number == tid) t refl (grind arith) (unused-absent tid used ts new (grind arith))
+  where
+    step : (b : Bool) (t : ThreadRow) → (t.number == tid) ≡ b → is_noted used t ≡ true → has (is_thread tid) ts ≡ false → has (is_thread tid) (t ∷ ts) ≡ false
+    step false t off noted rest = rw off rest
+    step true t is noted rest =
+        let e : t.number ≡ tid = same-number t.number tid is in
+        let noted' : is_of t.process (find (is_used_thread tid) used) ≡ true = rw (← e) noted in
+        absurd (absent (find (is_used_thread tid) used) noted' new)
+      where
+        absent : (o : Option UsedThread) → is_of t.process o ≡ true → is_some o ≡ false → ⊥
+        absent None a b = cc
+        absent (Some u) a b = cc
+
+pub kept-none : IsKept [] []
+kept-none = record { noted = refl; single = refl }
+
+pub kept-push : (ts : List ThreadRow) (used : List UsedThread) (t : ThreadRow) → IsKept ts used → has (is_used_thread t.number) used ≡ false → IsKept (ts ++ t ∷ []) (used ++ (record { number = t.number; process = t.process }) ∷ [])
+kept-push ts used t kept new =
+    let u : UsedThread = record { number = t.number; process = t.process } in
+    let here : is_noted (used ++ u ∷ []) t ≡ true = rw (find-new (is_used_thread t.number) used u new (grind (arith, nat_tests))) (grind (arith, nat_tests)) in
+    record {
+      noted = every-push (is_noted (used ++ u ∷ [])) ts t (every-more (is_noted used) (is_noted (used ++ u ∷ [])) (λ x h. noted-push used u x (find (is_used_thread x.number) used) refl h) ts kept.noted) here;
+      single = single-push ts t kept.single (unused-absent t.number used ts new kept.noted);
+    }
+
+pub kept-without : (test : ThreadRow → Bool) (ts : List ThreadRow) (used : List UsedThread) → IsKept ts used → IsKept (without test ts) used
+kept-without test ts used kept = record {
+  noted = every-without (is_noted used) test ts kept.noted;
+  single = single-without test ts kept.single;
+}
+
+-- a change that keeps numbers
+pub record KeepsNumbers (f : ThreadRow → ThreadRow) : Type 0 where
+  pub number : (t : ThreadRow) → (f t).number ≡ t.number
+  pub process : (t : ThreadRow) → (f t).process ≡ t.process
+
+noted-same : (used : List UsedThread) (f : ThreadRow → ThreadRow) → KeepsNumbers f → (t : ThreadRow) → is_noted used t ≡ true → is_noted used (f t) ≡ true
+noted-same used f keeps t noted = rw (keeps.number t, keeps.process t) noted
+
+pub kept-change : (test : ThreadRow → Bool) (f : ThreadRow → ThreadRow) (ts : List ThreadRow) (used : List UsedThread) → KeepsNumbers f → IsKept ts used → IsKept (change test f ts) used
+kept-change test f ts used keeps kept = record {
+  noted = every-change (is_noted used) test f (noted-same used f keeps) ts kept.noted;
+  single = single-change test f keeps.number ts kept.single;
+}
+
+-- a row that is put in the place of the one thread of its number
+put-tail : (tid : ℕ) (x : ThreadRow) (ts : List ThreadRow) → are_single (x ∷ ts) ≡ true → x.number ≡ tid → has (is_thread tid) ts ≡ false
+put-tail tid x ts single is = rw (← is) (grind arith)
+
+pub put-changed : (tid : ℕ) (f : ThreadRow → ThreadRow) (ts : List ThreadRow) (row : ThreadRow) → are_single ts ≡ true → find (is_thread tid) ts ≡ Some row → change (is_thread tid) (λ _. f row) ts ≡ change (is_thread tid) f ts
+put-changed tid f [] row single is = refl
+put-changed tid f (x ∷ ts) row single is = step (x.number == tid) refl (λ is'. put-changed tid f ts row (grind arith) is')
+  where
+    step : (b : Bool) → (x.number == tid) ≡ b → (find (is_thread tid) ts ≡ Some row → change (is_thread tid) (λ _. f row) ts ≡ change (is_thread tid) f ts) → change (is_thread tid) (λ _. f row) (x ∷ ts) ≡ change (is_thread tid) f (x ∷ ts)
+    step false off next = grind (arith, off, next, is)
+    step true on next =
+        let e : x.number ≡ tid = same-number x.number tid on in
+        let none = put-tail tid x ts single e in
+        grind (arith, on, is, change-none (is_thread tid) (λ _. f row) ts, change-none (is_thread tid) f ts)
+
+pub put-kept : (tid : ℕ) (f : ThreadRow → ThreadRow) (ts : List ThreadRow) (used : List UsedThread) (row : ThreadRow) → KeepsNumbers f → IsKept ts used → find (is_thread tid) ts ≡ Some row → IsKept (change (is_thread tid) (λ _. f row) ts) used
+put-kept tid f ts used row keeps kept is = rw (put-changed tid f ts row kept.single is) (kept-change (is_thread tid) f ts used keeps kept)
+
+pub keeps-identifier : KeepsNumbers past_identifier
+keeps-identifier = record { number = λ t. refl; process = λ t. refl }
+
+pub keeps-birth : KeepsNumbers past_birth
+keeps-birth = record { number = λ t. refl; process = λ t. refl }
+
+pub keeps-ended : KeepsNumbers ended
+keeps-ended = record { number = λ t. refl; process = λ t. refl }
+
+-- the process of a thread is the one that is noted
+pub process-noted : (tid : ℕ) (used : List UsedThread) (ts : List ThreadRow) (o : Option ThreadRow) → every (is_noted used) ts ≡ true → find (is_thread tid) ts ≡ o → IfSome o (λ t. option_map (λ u. u.process) (find (is_used_thread tid) used) ≡ Some t.process)
+process-noted tid used ts None noted is = tt
+process-noted tid used ts (Some t) noted is = one (find (is_used_thread tid) used) (found-noted ts noted is)
+  where
+    found-noted : (xs : List ThreadRow) → every (is_noted used) xs ≡ true → find (is_thread tid) xs ≡ Some t → is_of t.process (find (is_used_thread tid) used) ≡ true
+    found-noted [] noted is = cc
+    found-noted (x ∷ xs) noted is = grind (arith, nat_tests, found-noted xs)
+
+    one : (o : Option UsedThread) → is_of t.process o ≡ true → option_map (λ u. u.process) o ≡ Some t.process
+    one None of = cc
+    one (Some u) of = ap Some (same-number u.process t.process of)

@@ -1,0 +1,7 @@
+use Rattle.std.proofs.Common.{◌≡◌, ◌==◌, drop}
+use Rattle.std.specs.Prelude.{find}
+use Rattle.lpc_procs.specs.Procs.{has, is_live_client, is_process, is_thread, is_used_thread}
+use Rattle.lpc_procs.proofs.lists.is_live.Given as goal
+
+abbrev pub invariant-loop-t : goal.invariant-loop-t
+invariant-loop-t l = has (is_live_client l.client) (drop l.t-index l.threads) ≡ has (is_live_client l.client) l.threads

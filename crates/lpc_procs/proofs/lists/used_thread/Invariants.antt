@@ -1,0 +1,7 @@
+use Rattle.std.proofs.Common.{◌≡◌, ◌==◌, drop}
+use Rattle.std.specs.Prelude.{find}
+use Rattle.lpc_procs.specs.Procs.{has, is_live_client, is_process, is_thread, is_used_thread}
+use Rattle.lpc_procs.proofs.lists.used_thread.Given as goal
+
+abbrev pub invariant-loop-u : goal.invariant-loop-u
+invariant-loop-u l = find (is_used_thread l.tid) (drop l.u-index l.used) ≡ find (is_used_thread l.tid) l.used

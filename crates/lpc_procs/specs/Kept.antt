@@ -1,0 +1,29 @@
+-- What the table keeps of its rows and numbers.
+use Rattle.std.specs.Prelude.{ℕ, ◌≡◌, ◌==◌, ◌&&◌, Bool, true, false, not, List, [], ◌∷◌, Option, Some, None, find}
+use Rattle.lpc_procs.specs.declared.rows.ThreadRow.{ThreadRow}
+use Rattle.lpc_procs.specs.declared.rows.UsedThread.{UsedThread}
+use Rattle.lpc_procs.specs.Procs.{has, is_thread, is_used_thread}
+
+-- every row passes
+abbrev pub every : {A : Type 0} → (A → Bool) → List A → Bool
+every test [] = true
+every test (x ∷ xs) = test x && every test xs
+
+-- a used number is of a process
+abbrev pub is_of : ℕ → Option UsedThread → Bool
+is_of pid None = false
+is_of pid (Some u) = u.process == pid
+
+-- a thread's number is noted as used, with its process
+abbrev pub is_noted : List UsedThread → ThreadRow → Bool
+is_noted used t = is_of t.process (find (is_used_thread t.number) used)
+
+-- no two threads have one number
+abbrev pub are_single : List ThreadRow → Bool
+are_single [] = true
+are_single (t ∷ ts) = not (has (is_thread t.number) ts) && are_single ts
+
+-- each thread's number is noted, and no two threads have one
+pub record IsKept (threads : List ThreadRow) (used : List UsedThread) : Type 0 where
+  pub noted : every (is_noted used) threads ≡ true
+  pub single : are_single threads ≡ true

@@ -1,0 +1,88 @@
+-- What contracts see of processes and threads.
+use Rattle.std.specs.Prelude.{◌≡◌, ℕ, ◌+◌, ◌<◌, ◌≤◌, ◌==◌, ◌&&◌, Bool, true, false, not, List, map, find, filter, is_some, option_map, Option, Some, None, if◌then◌else◌}
+use Rattle.lpc_base.specs.declared.birth.Birth.{Birth}
+use Rattle.lpc_message.specs.declared.message.ClientId.{ClientId}
+use Rattle.lpc_procs.specs.declared.rows.Number.{Number}
+use Rattle.lpc_procs.specs.declared.rows.Number.TheVariants as number
+use Rattle.lpc_procs.specs.declared.rows.ProcessRow.{ProcessRow}
+use Rattle.lpc_procs.specs.declared.rows.ThreadRow.{ThreadRow}
+use Rattle.lpc_procs.specs.declared.rows.UsedThread.{UsedThread}
+
+-- the rows in order of making; the numbers ever used, in order of use; how many more processes and threads go in
+-- without memory
+pub record Table : Type 0 where
+  pub processes : List ProcessRow
+  pub threads : List ThreadRow
+  pub used_processes : List ℕ
+  pub used_threads : List UsedThread
+  pub process_room : ℕ
+  pub thread_room : ℕ
+
+-- Rows
+-- a row passes
+abbrev pub has : {A : Type 0} → (A → Bool) → List A → Bool
+has test rows = is_some (find test rows)
+
+-- the rows that don't pass
+abbrev pub without : {A : Type 0} → (A → Bool) → List A → List A
+without test rows = filter (λ x. not (test x)) rows
+
+-- the rows, each that passes changed
+abbrev pub change : {A : Type 0} → (A → Bool) → (A → A) → List A → List A
+change test f rows = map (λ x. if test x then f x else x) rows
+
+-- the process of a number, and the thread of a number
+abbrev pub is_process : ℕ → ProcessRow → Bool
+is_process pid p = p.number == pid
+
+abbrev pub is_thread : ℕ → ThreadRow → Bool
+is_thread tid t = t.number == tid
+
+abbrev pub process_at : Table → ℕ → Option ProcessRow
+process_at s pid = find (is_process pid) s.processes
+
+abbrev pub thread_at : Table → ℕ → Option ThreadRow
+thread_at s tid = find (is_thread tid) s.threads
+
+-- the live thread that a client's numbers name
+abbrev pub is_live_client : ClientId → ThreadRow → Bool
+is_live_client client t = (t.number == client.thread) && ((t.process == client.process) && t.live)
+
+-- Numbers
+-- a number that a process or thread can have
+pub record IsNumber (n : ℕ) : Type 0 where
+  pub above : 1 ≤ n
+  pub below : n < 2147483648
+
+-- a thread number that was used
+abbrev pub is_used_thread : ℕ → UsedThread → Bool
+is_used_thread tid u = u.number == tid
+
+-- the number was ever used, for a process or for a thread
+abbrev pub was_used : Table → Number → Bool
+was_used s (number.Process pid) = has (λ n. n == pid) s.used_processes
+was_used s (number.Thread tid) = has (is_used_thread tid) s.used_threads
+
+-- the birth of the process or thread that has the number
+abbrev pub birth_of : Table → Number → Option Birth
+birth_of s (number.Process pid) = option_map (λ p. p.birth) (process_at s pid)
+birth_of s (number.Thread tid) = option_map (λ t. t.birth) (thread_at s tid)
+
+-- Draws
+-- the name of the object that a thread makes next
+abbrev pub next_birth : ThreadRow → Birth
+next_birth t = record { maker = t.number; ordinal = t.next_ordinal; process = t.process }
+
+-- a thread behind a draw of an identifier, behind a draw of a birth, and when it has ended
+abbrev pub past_identifier : ThreadRow → ThreadRow
+past_identifier t = record t { next_identifier = t.next_identifier + 1 }
+
+abbrev pub past_birth : ThreadRow → ThreadRow
+past_birth t = record t { next_ordinal = t.next_ordinal + 1 }
+
+abbrev pub ended : ThreadRow → ThreadRow
+ended t = record t { live = false }
+
+-- the table with the thread of a number changed
+abbrev pub with_thread : Table → ℕ → (ThreadRow → ThreadRow) → Table
+with_thread s tid f = record s { threads = change (is_thread tid) f s.threads }

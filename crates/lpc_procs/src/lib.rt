@@ -1,0 +1,11 @@
+//! Processes and threads, the numbers that were ever used, and what threads draw.
+#![tactic(auto)]
+
+mod lists;
+mod procs;
+mod rows;
+#[cfg(test)]
+mod tests;
+
+pub use procs::Procs;
+pub use rows::{Number, ProcessRow, ThreadRow, UsedThread};

@@ -1,0 +1,124 @@
+// Searches and changes of plain lists of rows.
+ghost use Rattle.std.specs.Prelude.{◌≡◌, ◌==◌, ◌≤◌, find, is_some, option_map, if◌then◌else◌, vec_len, vec_capacity};
+ghost use Rattle.lpc_procs.specs.Procs as procs;
+ghost use Rattle.lpc_procs.specs.Procs.{change, has, is_live_client, is_process, is_thread, is_used_thread, without};
+
+use crate::{ProcessRow, ThreadRow, UsedThread};
+use lpc_base::Birth;
+use lpc_message::ClientId;
+
+pub fn process_at(rows: &[ProcessRow], pid: u32) -> Option<ProcessRow>
+    ensures { result ≡ find (is_process pid) rows.now }
+{
+    for p in rows {
+        if p.number == pid {
+            return Some(*p);
+        }
+    }
+    None
+}
+
+pub fn thread_at(rows: &[ThreadRow], tid: u32) -> Option<ThreadRow>
+    ensures { result ≡ find (is_thread tid) rows.now }
+{
+    for t in rows {
+        if t.number == tid {
+            return Some(*t);
+        }
+    }
+    None
+}
+
+pub fn used_thread(used: &[UsedThread], tid: u32) -> Option<UsedThread>
+    ensures { result ≡ find (is_used_thread tid) used.now }
+{
+    for u in used {
+        if u.number == tid {
+            return Some(*u);
+        }
+    }
+    None
+}
+
+pub fn process_of(used: &[UsedThread], tid: u32) -> Option<u32>
+    ensures { result ≡ option_map (λ u. u.process) (find (is_used_thread tid) used.now) }
+{
+    match used_thread(used, tid) {
+        Some(u) => Some(u.process),
+        None => None,
+    }
+}
+
+pub fn is_used_by_thread(used: &[UsedThread], tid: u32) -> bool
+    ensures { result ≡ has (is_used_thread tid) used.now }
+{
+    used_thread(used, tid).is_some()
+}
+
+pub fn is_used(numbers: &[u32], number: u32) -> bool
+    ensures { result ≡ has (λ n. n == number) numbers.now }
+{
+    for n in numbers {
+        if *n == number {
+            return true;
+        }
+    }
+    false
+}
+
+pub fn is_live(threads: &[ThreadRow], client: ClientId) -> bool
+    ensures { result ≡ has (is_live_client client) threads.now }
+{
+    for t in threads {
+        if t.number == client.thread && t.process == client.process && t.live {
+            return true;
+        }
+    }
+    false
+}
+
+fn put_one(t: &mut ThreadRow, tid: u32, row: ThreadRow)
+    ensures { t.new ≡ (if is_thread tid t.old then row else t.old) }
+{
+    if t.number == tid {
+        *t = row;
+    }
+}
+
+/// The row takes the place of the one with the number.
+pub fn put_thread(threads: &mut Vec<ThreadRow>, tid: u32, row: ThreadRow)
+    ensures rows { threads.new.items ≡ change (is_thread tid) (λ _. row) threads.old.items }
+    ensures len { vec_len threads.new ≡ vec_len threads.old }
+    ensures room { vec_capacity threads.new ≡ vec_capacity threads.old }
+{
+    for t in threads.iter_mut() {
+        put_one(t, tid, row);
+    }
+}
+
+pub fn remove_process(rows: &mut Vec<ProcessRow>, pid: u32)
+    ensures rows { rows.new.items ≡ without (is_process pid) rows.old.items }
+    ensures fewer { vec_len rows.new ≤ vec_len rows.old }
+    ensures room { vec_capacity rows.new ≡ vec_capacity rows.old }
+{
+    rows.retain(|p| p.number != pid);
+}
+
+pub fn remove_thread(rows: &mut Vec<ThreadRow>, tid: u32)
+    ensures rows { rows.new.items ≡ without (is_thread tid) rows.old.items }
+    ensures fewer { vec_len rows.new ≤ vec_len rows.old }
+    ensures room { vec_capacity rows.new ≡ vec_capacity rows.old }
+{
+    rows.retain(|t| t.number != tid);
+}
+
+/// The name of the object that a thread makes next.
+pub fn next_birth(row: ThreadRow) -> Birth
+    ensures { result ≡ procs.next_birth row }
+{
+    Birth {
+        maker: row.number,
+        ordinal: row.next_ordinal,
+        process: row.process,
+    }
+}

@@ -1,0 +1,266 @@
+// The table of processes and threads.
+ghost use Rattle.std.specs.Prelude.{◌≡◌, ℕ, ◌+◌, ◌-◌, ◌<◌, ◌≤◌, ◌^◌, ◌++◌, ◌∷◌, [], true, false, find, is_some, option_map, Some, None, IsSomeAnd, OnOk, IfSome};
+ghost use Rattle.lpc_procs.specs.Procs as procs;
+ghost use Rattle.lpc_procs.specs.Procs.{Table, IsNumber, birth_of, change, ended, has, is_live_client, is_process, is_thread, is_used_thread, past_birth, past_identifier, process_at, thread_at, with_thread, without};
+
+use crate::{Number, ProcessRow, ThreadRow, UsedThread, lists};
+use lpc_base::{Birth, OutOfMemory};
+use lpc_message::ClientId;
+use std::alloc::Global;
+use std::marker::Model;
+
+/// The processes and threads of a machine, and every number that was ever used for one.
+///
+/// A number is used once. It stays used when the row of its process or thread goes, so no number names two things in
+/// a run. Contracts see the rows in order of making, the used numbers, and the room.
+#[derive(Drop)]
+pub struct Procs {
+    processes: Vec<ProcessRow>,
+    threads: Vec<ThreadRow>,
+    used_processes: Vec<u32>,
+    used_threads: Vec<UsedThread>,
+}
+
+impl Model for Procs {
+    ghost use Rattle.std.specs.Prelude.{◌-◌, min, vec_len, vec_capacity};
+    ghost use Rattle.lpc_procs.specs.Procs.{Table};
+    ghost use Rattle.lpc_procs.specs.Kept.{IsKept};
+
+    ghost Value = { Table };
+
+    ghost view = { λ s. record {
+      processes = s.processes.items;
+      threads = s.threads.items;
+      used_processes = s.used_processes.items;
+      used_threads = s.used_threads.items;
+      process_room = min (vec_capacity s.processes - vec_len s.processes) (vec_capacity s.used_processes - vec_len s.used_processes);
+      thread_room = min (vec_capacity s.threads - vec_len s.threads) (vec_capacity s.used_threads - vec_len s.used_threads);
+    } };
+
+    ghost invariant = { λ s. IsKept s.threads.items s.used_threads.items };
+}
+
+impl Procs {
+    /// No process, no thread, no number used and no room. It takes no memory, and keeps the allocator for `reserve`.
+    pub fn new(alloc: Global) -> Procs
+        ensures empty { result ≡ record { processes = []; threads = []; used_processes = []; used_threads = []; process_room = 0; thread_room = 0 } }
+    {
+        Procs {
+            processes: Vec::new(alloc),
+            threads: Vec::new(alloc),
+            used_processes: Vec::new(alloc),
+            used_threads: Vec::new(alloc),
+        }
+    }
+
+    /// Makes room for so many further processes and threads, and for their numbers. OutOfMemory leaves the rows as they
+    /// were.
+    pub fn reserve(&mut self, processes: usize, threads: usize) -> Result<(), OutOfMemory>
+        ensures processes { OnOk result (processes ≤ self.new.process_room) }
+        ensures threads { OnOk result (threads ≤ self.new.thread_room) }
+        ensures same { self.new ≡ record self.old { process_room = self.new.process_room; thread_room = self.new.thread_room } }
+        ensures process_room { self.old.process_room ≤ self.new.process_room }
+        ensures thread_room { self.old.thread_room ≤ self.new.thread_room }
+    {
+        if self.processes.reserve(processes).is_err()
+            || self.used_processes.reserve(processes).is_err()
+            || self.threads.reserve(threads).is_err()
+            || self.used_threads.reserve(threads).is_err()
+        {
+            return Err(OutOfMemory);
+        }
+        Ok(())
+    }
+
+    /// Adds a process under a number that no process ever had, made by the process `maker` or by a directive.
+    pub fn add_process(&mut self, pid: u32, maker: Option<u32>, birth: Birth)
+        requires room { 0 < self.old.process_room }
+        requires number { IsNumber pid }
+        requires new { procs.was_used self.old (Number.Process pid) ≡ false }
+        ensures table { self.new ≡ record self.old {
+          processes = self.old.processes ++ (record { number = pid; maker = maker; birth = birth }) ∷ [];
+          used_processes = self.old.used_processes ++ pid ∷ [];
+          process_room = self.old.process_room - 1;
+        } }
+    {
+        self.processes.push_reserved(ProcessRow {
+            number: pid,
+            maker,
+            birth,
+        });
+        self.used_processes.push_reserved(pid);
+    }
+
+    /// Adds a live thread to a process, under a number that no thread ever had. Its identifiers and ordinals start
+    /// from 1.
+    pub fn add_thread(&mut self, tid: u32, pid: u32, birth: Birth)
+        requires room { 0 < self.old.thread_room }
+        requires number { IsNumber tid }
+        requires new { procs.was_used self.old (Number.Thread tid) ≡ false }
+        requires process { is_some (process_at self.old pid) ≡ true }
+        ensures table { self.new ≡ record self.old {
+          threads = self.old.threads ++ (record { number = tid; process = pid; birth = birth; live = true; next_identifier = 1; next_ordinal = 1 }) ∷ [];
+          used_threads = self.old.used_threads ++ (record { number = tid; process = pid }) ∷ [];
+          thread_room = self.old.thread_room - 1;
+        } }
+    {
+        self.threads.push_reserved(ThreadRow {
+            number: tid,
+            process: pid,
+            birth,
+            live: true,
+            next_identifier: 1,
+            next_ordinal: 1,
+        });
+        self.used_threads.push_reserved(UsedThread {
+            number: tid,
+            process: pid,
+        });
+    }
+
+    /// The number was ever used for a process, or for a thread; its row may have gone.
+    pub fn was_used(&self, number: Number) -> bool
+        ensures used { result ≡ procs.was_used self.now number }
+    {
+        match number {
+            Number::Process(pid) => lists::is_used(&self.used_processes, pid),
+            Number::Thread(tid) => lists::is_used_by_thread(&self.used_threads, tid),
+        }
+    }
+
+    /// The process of a thread number that was ever used, also where the thread's row has gone; None exactly where the
+    /// number was never used for a thread.
+    pub fn process_of(&self, tid: u32) -> Option<u32>
+        ensures process { result ≡ option_map (λ u. u.process) (find (is_used_thread tid) self.now.used_threads) }
+        ensures row { IfSome (thread_at self.now tid) (λ t. result ≡ Some t.process) }
+    {
+        lists::process_of(&self.used_threads, tid)
+    }
+
+    /// The numbers are those of a live thread and of its process.
+    pub fn live_thread(&self, client: ClientId) -> bool
+        ensures live { result ≡ has (is_live_client client) self.now.threads }
+    {
+        lists::is_live(&self.threads, client)
+    }
+
+    /// The thread's next message identifier, and the thread's next one is greater by one.
+    pub fn draw_identifier(&mut self, tid: u32) -> u32
+        requires { IsSomeAnd (thread_at self.old tid) (λ t. t.next_identifier < 2 ^ 32 - 1) }
+        ensures identifier { option_map (λ t. t.next_identifier) (thread_at self.old tid) ≡ Some result }
+        ensures table { self.new ≡ with_thread self.old tid past_identifier }
+    {
+        let row = self.thread(tid);
+        lists::put_thread(
+            &mut self.threads,
+            tid,
+            ThreadRow {
+                next_identifier: row.next_identifier + 1,
+                ..row
+            },
+        );
+        row.next_identifier
+    }
+
+    /// The name of the object that the thread makes, and the thread's next ordinal is greater by one.
+    pub fn draw_birth(&mut self, tid: u32) -> Birth
+        requires { IsSomeAnd (thread_at self.old tid) (λ t. t.next_ordinal < 2 ^ 32 - 1) }
+        ensures birth { option_map procs.next_birth (thread_at self.old tid) ≡ Some result }
+        ensures table { self.new ≡ with_thread self.old tid past_birth }
+    {
+        let row = self.thread(tid);
+        lists::put_thread(
+            &mut self.threads,
+            tid,
+            ThreadRow {
+                next_ordinal: row.next_ordinal + 1,
+                ..row
+            },
+        );
+        lists::next_birth(row)
+    }
+
+    /// The birth that the thread's next `draw_birth` gives.
+    pub fn next_birth(&self, tid: u32) -> Birth
+        requires { is_some (thread_at self.now tid) ≡ true }
+        ensures birth { option_map procs.next_birth (thread_at self.now tid) ≡ Some result }
+    {
+        lists::next_birth(self.thread(tid))
+    }
+
+    /// The thread is live no more.
+    pub fn end_thread(&mut self, tid: u32)
+        requires { is_some (thread_at self.old tid) ≡ true }
+        ensures table { self.new ≡ with_thread self.old tid ended }
+    {
+        let row = self.thread(tid);
+        lists::put_thread(&mut self.threads, tid, ThreadRow { live: false, ..row });
+    }
+
+    /// The process that made a process, none where a directive did.
+    pub fn maker(&self, pid: u32) -> Option<u32>
+        requires { is_some (process_at self.now pid) ≡ true }
+        ensures maker { option_map (λ p. p.maker) (process_at self.now pid) ≡ Some result }
+    {
+        self.process(pid).maker
+    }
+
+    /// The birth of a process or thread.
+    pub fn birth(&self, number: Number) -> Birth
+        requires { is_some (birth_of self.now number) ≡ true }
+        ensures birth { birth_of self.now number ≡ Some result }
+    {
+        match number {
+            Number::Process(pid) => self.process(pid).birth,
+            Number::Thread(tid) => self.thread(tid).birth,
+        }
+    }
+
+    /// The thread has not ended.
+    pub fn live(&self, tid: u32) -> bool
+        requires { is_some (thread_at self.now tid) ≡ true }
+        ensures live { option_map (λ t. t.live) (thread_at self.now tid) ≡ Some result }
+    {
+        self.thread(tid).live
+    }
+
+    /// Removes the row of a process. Its number stays used, so no room is won for another one.
+    pub fn free_process(&mut self, pid: u32)
+        requires { is_some (process_at self.old pid) ≡ true }
+        ensures table { self.new ≡ record self.old { processes = without (is_process pid) self.old.processes; process_room = self.new.process_room } }
+        ensures room { self.old.process_room ≤ self.new.process_room }
+    {
+        lists::remove_process(&mut self.processes, pid);
+    }
+
+    /// Removes the row of a thread. Its number stays used, so no room is won for another one.
+    pub fn free_thread(&mut self, tid: u32)
+        requires { is_some (thread_at self.old tid) ≡ true }
+        ensures table { self.new ≡ record self.old { threads = without (is_thread tid) self.old.threads; thread_room = self.new.thread_room } }
+        ensures room { self.old.thread_room ≤ self.new.thread_room }
+    {
+        lists::remove_thread(&mut self.threads, tid);
+    }
+
+    // The row of a process that is present.
+    fn process(&self, pid: u32) -> ProcessRow
+        requires { is_some (process_at self.now pid) ≡ true }
+        ensures { process_at self.now pid ≡ Some result }
+    {
+        match lists::process_at(&self.processes, pid) {
+            Some(row) => row,
+            None => unreachable!(),
+        }
+    }
+
+    // The row of a thread that is present.
+    fn thread(&self, tid: u32) -> ThreadRow
+        requires { is_some (thread_at self.now tid) ≡ true }
+        ensures { thread_at self.now tid ≡ Some result }
+    {
+        match lists::thread_at(&self.threads, tid) {
+            Some(row) => row,
+            None => unreachable!(),
+        }
+    }
+}

@@ -1,0 +1,40 @@
+// What the table holds of a process, a thread, and a number that was used.
+use lpc_base::Birth;
+
+/// The number of a process or of a thread. The two are spaces of their own: one number may name a process and a thread.
+#[derive(Clone, Copy, Debug, PartialEq, Eq)]
+pub enum Number {
+    Process(u32),
+    Thread(u32),
+}
+
+/// A process.
+#[derive(Clone, Copy, Debug, PartialEq, Eq)]
+pub struct ProcessRow {
+    pub number: u32,
+    /// The number of the process that made it, none where a directive did.
+    pub maker: Option<u32>,
+    pub birth: Birth,
+}
+
+/// A thread.
+#[derive(Clone, Copy, Debug, PartialEq, Eq)]
+pub struct ThreadRow {
+    pub number: u32,
+    /// The number of its process.
+    pub process: u32,
+    pub birth: Birth,
+    /// Not yet ended.
+    pub live: bool,
+    /// The message identifier that it draws next, from 1.
+    pub next_identifier: u32,
+    /// The ordinal of the object that it makes next, from 1.
+    pub next_ordinal: u32,
+}
+
+/// A thread number that was ever used, and the process of that thread. It stays when the thread's row goes.
+#[derive(Clone, Copy, Debug, PartialEq, Eq)]
+pub struct UsedThread {
+    pub number: u32,
+    pub process: u32,
+}
