@@ -1,5 +1,5 @@
 -- What contracts see of processes and threads.
-use Rattle.std.specs.Prelude.{◌≡◌, ℕ, ◌+◌, ◌<◌, ◌≤◌, ◌==◌, ◌&&◌, Bool, true, false, not, List, map, find, filter, is_some, option_map, Option, Some, None, if◌then◌else◌}
+use Rattle.std.specs.Prelude.{ℕ, ◌+◌, ◌<◌, ◌≤◌, ◌==◌, ◌&&◌, Bool, false, not, List, map, find, filter, is_some, option_map, Option, if◌then◌else◌}
 use Rattle.lpc_base.specs.declared.birth.Birth.{Birth}
 use Rattle.lpc_message.specs.declared.message.ClientId.{ClientId}
 use Rattle.lpc_procs.specs.declared.rows.Number.{Number}
@@ -19,7 +19,7 @@ pub record Table : Type 0 where
   pub thread_room : ℕ
 
 -- Rows
--- a row passes
+-- some row passes
 abbrev pub has : {A : Type 0} → (A → Bool) → List A → Bool
 has test rows = is_some (find test rows)
 
@@ -31,20 +31,21 @@ without test rows = filter (λ x. not (test x)) rows
 abbrev pub change : {A : Type 0} → (A → Bool) → (A → A) → List A → List A
 change test f rows = map (λ x. if test x then f x else x) rows
 
--- the process of a number, and the thread of a number
+-- a process has the number, and a thread has it
 abbrev pub is_process : ℕ → ProcessRow → Bool
 is_process pid p = p.number == pid
 
 abbrev pub is_thread : ℕ → ThreadRow → Bool
 is_thread tid t = t.number == tid
 
+-- the process that has the number, and the thread that has it
 abbrev pub process_at : Table → ℕ → Option ProcessRow
 process_at s pid = find (is_process pid) s.processes
 
 abbrev pub thread_at : Table → ℕ → Option ThreadRow
 thread_at s tid = find (is_thread tid) s.threads
 
--- the live thread that a client's numbers name
+-- a thread is live and has the numbers of a client, its process's and its own
 abbrev pub is_live_client : ClientId → ThreadRow → Bool
 is_live_client client t = (t.number == client.thread) && ((t.process == client.process) && t.live)
 

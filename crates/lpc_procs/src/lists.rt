@@ -1,5 +1,5 @@
 // Searches and changes of plain lists of rows.
-ghost use Rattle.std.specs.Prelude.{◌≡◌, ◌==◌, ◌≤◌, find, is_some, option_map, if◌then◌else◌, vec_len, vec_capacity};
+ghost use Rattle.std.specs.Prelude.{◌≡◌, ◌==◌, ◌≤◌, find, option_map, if◌then◌else◌, vec_len, vec_capacity};
 ghost use Rattle.lpc_procs.specs.Procs as procs;
 ghost use Rattle.lpc_procs.specs.Procs.{change, has, is_live_client, is_process, is_thread, is_used_thread, without};
 

@@ -1,7 +1,7 @@
 // The table of processes and threads.
-ghost use Rattle.std.specs.Prelude.{◌≡◌, ℕ, ◌+◌, ◌-◌, ◌<◌, ◌≤◌, ◌^◌, ◌++◌, ◌∷◌, [], true, false, find, is_some, option_map, Some, None, IsSomeAnd, OnOk, IfSome};
+ghost use Rattle.std.specs.Prelude.{◌≡◌, ◌-◌, ◌<◌, ◌≤◌, ◌^◌, ◌++◌, ◌∷◌, [], true, false, find, is_some, option_map, Some, IsSomeAnd, OnOk, IfSome};
 ghost use Rattle.lpc_procs.specs.Procs as procs;
-ghost use Rattle.lpc_procs.specs.Procs.{Table, IsNumber, birth_of, change, ended, has, is_live_client, is_process, is_thread, is_used_thread, past_birth, past_identifier, process_at, thread_at, with_thread, without};
+ghost use Rattle.lpc_procs.specs.Procs.{IsNumber, birth_of, ended, has, is_live_client, is_process, is_thread, is_used_thread, past_birth, past_identifier, process_at, thread_at, with_thread, without};
 
 use crate::{Number, ProcessRow, ThreadRow, UsedThread, lists};
 use lpc_base::{Birth, OutOfMemory};
@@ -53,8 +53,8 @@ impl Procs {
         }
     }
 
-    /// Makes room for so many further processes and threads, and for their numbers. OutOfMemory leaves the rows as they
-    /// were.
+    /// Makes room for so many further processes and threads, and for their numbers. `OutOfMemory` comes where the memory
+    /// is not to be had, and leaves all but the room as it was.
     pub fn reserve(&mut self, processes: usize, threads: usize) -> Result<(), OutOfMemory>
         ensures processes { OnOk result (processes ≤ self.new.process_room) }
         ensures threads { OnOk result (threads ≤ self.new.thread_room) }
@@ -144,9 +144,9 @@ impl Procs {
         lists::is_live(&self.threads, client)
     }
 
-    /// The thread's next message identifier, and the thread's next one is greater by one.
+    /// The thread's next message identifier. The one that it draws after this is greater by one.
     pub fn draw_identifier(&mut self, tid: u32) -> u32
-        requires { IsSomeAnd (thread_at self.old tid) (λ t. t.next_identifier < 2 ^ 32 - 1) }
+        requires identifier_left { IsSomeAnd (thread_at self.old tid) (λ t. t.next_identifier < 2 ^ 32 - 1) }
         ensures identifier { option_map (λ t. t.next_identifier) (thread_at self.old tid) ≡ Some result }
         ensures table { self.new ≡ with_thread self.old tid past_identifier }
     {
@@ -162,9 +162,9 @@ impl Procs {
         row.next_identifier
     }
 
-    /// The name of the object that the thread makes, and the thread's next ordinal is greater by one.
+    /// The name of the object that the thread makes. The ordinal that it draws after this is greater by one.
     pub fn draw_birth(&mut self, tid: u32) -> Birth
-        requires { IsSomeAnd (thread_at self.old tid) (λ t. t.next_ordinal < 2 ^ 32 - 1) }
+        requires ordinal_left { IsSomeAnd (thread_at self.old tid) (λ t. t.next_ordinal < 2 ^ 32 - 1) }
         ensures birth { option_map procs.next_birth (thread_at self.old tid) ≡ Some result }
         ensures table { self.new ≡ with_thread self.old tid past_birth }
     {
@@ -182,7 +182,7 @@ impl Procs {
 
     /// The birth that the thread's next `draw_birth` gives.
     pub fn next_birth(&self, tid: u32) -> Birth
-        requires { is_some (thread_at self.now tid) ≡ true }
+        requires present { is_some (thread_at self.now tid) ≡ true }
         ensures birth { option_map procs.next_birth (thread_at self.now tid) ≡ Some result }
     {
         lists::next_birth(self.thread(tid))
@@ -190,7 +190,7 @@ impl Procs {
 
     /// The thread is live no more.
     pub fn end_thread(&mut self, tid: u32)
-        requires { is_some (thread_at self.old tid) ≡ true }
+        requires present { is_some (thread_at self.old tid) ≡ true }
         ensures table { self.new ≡ with_thread self.old tid ended }
     {
         let row = self.thread(tid);
@@ -199,7 +199,7 @@ impl Procs {
 
     /// The process that made a process, none where a directive did.
     pub fn maker(&self, pid: u32) -> Option<u32>
-        requires { is_some (process_at self.now pid) ≡ true }
+        requires present { is_some (process_at self.now pid) ≡ true }
         ensures maker { option_map (λ p. p.maker) (process_at self.now pid) ≡ Some result }
     {
         self.process(pid).maker
@@ -207,7 +207,7 @@ impl Procs {
 
     /// The birth of a process or thread.
     pub fn birth(&self, number: Number) -> Birth
-        requires { is_some (birth_of self.now number) ≡ true }
+        requires present { is_some (birth_of self.now number) ≡ true }
         ensures birth { birth_of self.now number ≡ Some result }
     {
         match number {
@@ -218,24 +218,24 @@ impl Procs {
 
     /// The thread has not ended.
     pub fn live(&self, tid: u32) -> bool
-        requires { is_some (thread_at self.now tid) ≡ true }
+        requires present { is_some (thread_at self.now tid) ≡ true }
         ensures live { option_map (λ t. t.live) (thread_at self.now tid) ≡ Some result }
     {
         self.thread(tid).live
     }
 
-    /// Removes the row of a process. Its number stays used, so no room is won for another one.
+    /// Removes the row of a process. Its number stays used, so the room need not grow.
     pub fn free_process(&mut self, pid: u32)
-        requires { is_some (process_at self.old pid) ≡ true }
+        requires present { is_some (process_at self.old pid) ≡ true }
         ensures table { self.new ≡ record self.old { processes = without (is_process pid) self.old.processes; process_room = self.new.process_room } }
         ensures room { self.old.process_room ≤ self.new.process_room }
     {
         lists::remove_process(&mut self.processes, pid);
     }
 
-    /// Removes the row of a thread. Its number stays used, so no room is won for another one.
+    /// Removes the row of a thread. Its number stays used, so the room need not grow.
     pub fn free_thread(&mut self, tid: u32)
-        requires { is_some (thread_at self.old tid) ≡ true }
+        requires present { is_some (thread_at self.old tid) ≡ true }
         ensures table { self.new ≡ record self.old { threads = without (is_thread tid) self.old.threads; thread_room = self.new.thread_room } }
         ensures room { self.old.thread_room ≤ self.new.thread_room }
     {

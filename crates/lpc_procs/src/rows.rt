@@ -4,25 +4,31 @@ use lpc_base::Birth;
 /// The number of a process or of a thread. The two are spaces of their own: one number may name a process and a thread.
 #[derive(Clone, Copy, Debug, PartialEq, Eq)]
 pub enum Number {
+    /// A process has the number.
     Process(u32),
+    /// A thread has the number.
     Thread(u32),
 }
 
 /// A process.
 #[derive(Clone, Copy, Debug, PartialEq, Eq)]
 pub struct ProcessRow {
+    /// From 1 to 2147483647.
     pub number: u32,
     /// The number of the process that made it, none where a directive did.
     pub maker: Option<u32>,
+    /// The name that it was made under.
     pub birth: Birth,
 }
 
 /// A thread.
 #[derive(Clone, Copy, Debug, PartialEq, Eq)]
 pub struct ThreadRow {
+    /// From 1 to 2147483647.
     pub number: u32,
     /// The number of its process.
     pub process: u32,
+    /// The name that it was made under.
     pub birth: Birth,
     /// Not yet ended.
     pub live: bool,
@@ -35,6 +41,8 @@ pub struct ThreadRow {
 /// A thread number that was ever used, and the process of that thread. It stays when the thread's row goes.
 #[derive(Clone, Copy, Debug, PartialEq, Eq)]
 pub struct UsedThread {
+    /// The number of the thread.
     pub number: u32,
+    /// The number of its process.
     pub process: u32,
 }

@@ -1,6 +1,6 @@
-use Rattle.std.proofs.Common.{◌≡◌, ◌==◌, drop}
+use Rattle.std.proofs.Common.{◌≡◌, drop}
 use Rattle.std.specs.Prelude.{find}
-use Rattle.lpc_procs.specs.Procs.{has, is_live_client, is_process, is_thread, is_used_thread}
+use Rattle.lpc_procs.specs.Procs.{is_used_thread}
 use Rattle.lpc_procs.proofs.lists.used_thread.Given as goal
 
 abbrev pub invariant-loop-u : goal.invariant-loop-u

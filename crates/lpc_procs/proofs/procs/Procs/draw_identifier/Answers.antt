@@ -1,4 +1,4 @@
-use Rattle.std.proofs.Common.{arith, refl, ◌≡◌, Some}
+use Rattle.std.proofs.Common.{refl, ◌≡◌, Some}
 use Rattle.std.specs.Prelude.{find}
 use Rattle.lpc_procs.specs.Procs.{is_thread, past_identifier}
 use Rattle.lpc_procs.proofs.Keeping.{put-changed, put-kept, keeps-identifier}

@@ -1,6 +1,6 @@
-use Rattle.std.proofs.Common.{refl, ◌≡◌}
-use Rattle.std.specs.Prelude.{find, option_map}
-use Rattle.lpc_procs.specs.Procs.{is_thread, is_used_thread}
+use Rattle.std.proofs.Common.{refl}
+use Rattle.std.specs.Prelude.{find}
+use Rattle.lpc_procs.specs.Procs.{is_thread}
 use Rattle.lpc_procs.proofs.Keeping.{process-noted}
 use Rattle.lpc_procs.proofs.procs.Procs.process_of.Goals as goal
 

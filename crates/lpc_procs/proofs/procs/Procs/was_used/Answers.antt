@@ -1,4 +1,4 @@
-use Rattle.std.proofs.Common.{refl, ◌∙◌}
+use Rattle.std.proofs.Common.{refl}
 use Rattle.lpc_procs.proofs.procs.Procs.was_used.Goals as goal
 
 pub returns-in-Process : goal.returns-in-Process
