@@ -1,5 +1,5 @@
 // The table of processes and threads.
-ghost use Rattle.std.specs.Prelude.{◌≡◌, ◌-◌, ◌<◌, ◌≤◌, ◌^◌, ◌++◌, ◌∷◌, [], true, false, find, is_some, option_map, Some, IsSomeAnd, OnOk, IfSome};
+ghost use Rattle.std.specs.Prelude.{◌≡◌, ◌-◌, ◌<◌, ◌≤◌, ◌^◌, ◌++◌, ◌∷◌, [], true, false, find, is_some, option_map, Some, IsSomeAnd, OnOk, OnErr, IfSome};
 ghost use Rattle.lpc_procs.specs.Procs as procs;
 ghost use Rattle.lpc_procs.specs.Procs.{IsNumber, birth_of, ended, has, is_live_client, is_process, is_thread, is_used_thread, past_birth, past_identifier, process_at, thread_at, with_thread, without};
 
@@ -53,11 +53,14 @@ impl Procs {
         }
     }
 
-    /// Makes room for so many further processes and threads, and for their numbers. `OutOfMemory` comes where the memory
-    /// is not to be had, and leaves all but the room as it was.
+    /// Makes room for so many further processes and threads, and for their numbers. Room that is there already counts.
+    ///
+    /// `OutOfMemory` comes where the memory for it is wanting; all but the room stays as it was, and the room never
+    /// shrinks.
     pub fn reserve(&mut self, processes: usize, threads: usize) -> Result<(), OutOfMemory>
         ensures processes { OnOk result (processes ≤ self.new.process_room) }
         ensures threads { OnOk result (threads ≤ self.new.thread_room) }
+        ensures wanting { OnErr result (processes ≤ self.old.process_room → self.old.thread_room < threads) }
         ensures same { self.new ≡ record self.old { process_room = self.new.process_room; thread_room = self.new.thread_room } }
         ensures process_room { self.old.process_room ≤ self.new.process_room }
         ensures thread_room { self.old.thread_room ≤ self.new.thread_room }
