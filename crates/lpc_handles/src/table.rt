@@ -59,6 +59,7 @@ impl<O: Copy> Table<O> {
     /// Makes room for so many further handles. OutOfMemory leaves the handles as they were.
     pub fn reserve(&mut self, more: usize) -> Result<(), OutOfMemory>
         ensures room { OnOk result (more ≤ self.new.spare) }
+        ensures wanting { OnErr result (self.old.spare < more) }
         ensures rows { self.new.rows ≡ self.old.rows }
         ensures spare { self.old.spare ≤ self.new.spare }
     {

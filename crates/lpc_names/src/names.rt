@@ -128,6 +128,7 @@ impl<T: Copy + Eq> Names<T> {
     /// `OutOfMemory`: memory ran out. Nothing is bound or unbound in either case.
     pub fn reserve(&mut self, more: usize) -> Result<(), OutOfMemory>
         ensures room { OnOk result (more ≤ self.new.spare) }
+        ensures wanting { OnErr result (self.old.spare < more) }
         ensures kept { self.new.bindings ≡ self.old.bindings }
         ensures spare { self.old.spare ≤ self.new.spare }
     {

@@ -1,7 +1,7 @@
 //! The waits of threads, in the order of waiting.
 #![tactic(auto)]
 
-ghost use Rattle.std.specs.Prelude.{◌≡◌, ◌+◌, ◌<◌, ◌-◌, ◌≤◌, ◌^◌, ◌++◌, ◌∷◌, [], length, OnOk, OnSome, Some, None, IsSome, option_copied, option_map, is_some, if◌then◌else◌, filter, find};
+ghost use Rattle.std.specs.Prelude.{◌≡◌, ◌+◌, ◌<◌, ◌-◌, ◌≤◌, ◌^◌, ◌++◌, ◌∷◌, [], length, OnOk, OnErr, OnSome, Some, None, IsSome, option_copied, option_map, is_some, if◌then◌else◌, filter, find};
 ghost use Rattle.std.specs.List.{position};
 ghost use Rattle.lpc_waits.specs.Table.{is_of, is_receive_on, row_of, begun, without, change, received, with_message, with_queue};
 
@@ -82,6 +82,7 @@ impl Waits {
     /// OutOfMemory comes where the memory for it is wanting; the waits stay as they are, and the room never shrinks.
     pub fn reserve(&mut self, more: usize) -> Result<(), OutOfMemory>
         ensures room { OnOk result (more ≤ self.new.spare) }
+        ensures wanting { OnErr result (self.old.spare < more) }
         ensures kept { self.new ≡ record self.old { spare = self.new.spare } }
         ensures spare { self.old.spare ≤ self.new.spare }
     {
