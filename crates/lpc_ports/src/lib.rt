@@ -1,7 +1,7 @@
 //! Ports, and the messages that stand in their queues.
 #![tactic(auto)]
 
-ghost use Rattle.std.specs.Prelude.{◌≡◌, ◌+◌, ◌<◌, ◌-◌, ◌≤◌, ◌^◌, ◌++◌, ◌∷◌, [], length, OnOk, Some, None, IsSome, option_copied, option_map, if◌then◌else◌};
+ghost use Rattle.std.specs.Prelude.{◌≡◌, ◌+◌, ◌<◌, ◌-◌, ◌≤◌, ◌^◌, ◌++◌, ◌∷◌, [], length, OnOk, OnErr, Some, None, IsSome, option_copied, option_map, if◌then◌else◌};
 ghost use Rattle.std.specs.FinMap as map;
 ghost use Rattle.lpc_slots.specs.Table.{at, listed, without, inserted, removed};
 ghost use Rattle.lpc_ports.specs.Table.{new_port, queued, joined, parted, own_queue, route, first_in, has_none_in, with_row, unpaired, pair_of, if_open};
@@ -82,6 +82,7 @@ impl Ports {
     pub fn reserve(&mut self, ports: usize, blocks: usize) -> Result<(), OutOfMemory>
         ensures port_room { OnOk result (ports ≤ self.new.ports.spare) }
         ensures message_room { OnOk result (blocks ≤ self.new.messages.spare) }
+        ensures wanting { OnErr result (ports ≤ self.old.ports.spare → self.old.messages.spare < blocks) }
         ensures ports { self.new.ports ≡ record self.old.ports { spare = self.new.ports.spare } }
         ensures messages { self.new.messages ≡ record self.old.messages { spare = self.new.messages.spare } }
         ensures port_spare { self.old.ports.spare ≤ self.new.ports.spare }

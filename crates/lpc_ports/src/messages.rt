@@ -1,6 +1,6 @@
 //! The messages that stand in queues, in the order of sending.
 
-ghost use Rattle.std.specs.Prelude.{◌≡◌, ◌+◌, ◌<◌, ◌-◌, ◌≤◌, ◌^◌, ◌++◌, ◌∷◌, [], length, OnOk, OnSome, None, option_copied, option_map, find, is_some, if◌then◌else◌, MatchOption};
+ghost use Rattle.std.specs.Prelude.{◌≡◌, ◌+◌, ◌<◌, ◌-◌, ◌≤◌, ◌^◌, ◌++◌, ◌∷◌, [], length, OnOk, OnErr, OnSome, None, option_copied, option_map, find, is_some, if◌then◌else◌, MatchOption};
 ghost use Rattle.std.specs.FinMap as map;
 ghost use Rattle.lpc_slots.specs.Table.{at, listed, without, inserted, removed};
 ghost use Rattle.lpc_slots.specs.Layout.{StandsAt};
@@ -76,6 +76,7 @@ impl Messages {
     /// OutOfMemory comes where the memory for it is wanting; the messages stay as they are, and the room never shrinks.
     pub fn reserve(&mut self, more: usize) -> Result<(), OutOfMemory>
         ensures room { OnOk result (more ≤ self.new.spare) }
+        ensures wanting { OnErr result (self.old.spare < more) }
         ensures kept { self.new ≡ record self.old { spare = self.new.spare } }
         ensures spare { self.old.spare ≤ self.new.spare }
     {
