@@ -1,3 +1,4 @@
 pub mod Streams
 pub mod Memory
 pub mod Places
+pub mod Rows

@@ -8,7 +8,7 @@ use Rattle.lpc_model.specs.declared.entry.CallName.{CallName}
 use Rattle.lpc_model.specs.declared.entry.Field.{Field}
 use Rattle.lpc_model.specs.declared.rows.MessageRow.{MessageRow}
 use Rattle.lpc_model.specs.declared.rows.WaitRow.{WaitRow}
-use Rattle.lpc_model.specs.Rows.{first, when}
+use Rattle.lpc_base.specs.Rows.{first, when}
 use Rattle.lpc_model.specs.World.{World}
 use Rattle.lpc_model.specs.Message.{asks}
 use Rattle.lpc_model.specs.Found.{receives_on}

@@ -19,14 +19,14 @@ use Rattle.lpc_model.specs.declared.rows.PortRow.{PortRow}
 use Rattle.lpc_model.specs.declared.rows.HandleRow.{HandleRow}
 use Rattle.lpc_model.specs.declared.rows.UsedThread.{UsedThread}
 use Rattle.lpc_base.specs.declared.birth.Birth.{Birth}
-use Rattle.lpc_model.specs.Rows.{first, has, without, without_first, change, count, every}
+use Rattle.lpc_base.specs.Rows.{first, has, without, without_first, change, count, every}
 use Rattle.lpc_model.specs.World.{World}
 use Rattle.lpc_model.specs.Found.{fits, is_live_thread, is_queued, is_receive, is_request, is_thread, receives_on, same_birth, waits_as}
 use Rattle.lpc_model.specs.declared.rows.WaitKind.{WaitKind}
 use Rattle.lpc_model.specs.declared.rows.WaitKind.TheVariants.{Request, Receive}
 use Rattle.lpc_model.specs.declared.message.Message.{Message}
 use Rattle.lpc_model.specs.Basics.{received, past_identifier, past_ordinal}
-use Rattle.lpc_model.proofs.RowWords.{every-push, every-without, every-change, every-more, has-kept, has-push, has_none-push, has_none-without, has-change, has_none-change, has_none-more, first-passes, has-first, change-none, count-push, count-without, count-bound, length-without_first, length-change}
+use Rattle.lpc_base.proofs.RowWords.{every-push, every-without, every-change, every-more, has-kept, has-push, has_none-push, has_none-without, has-change, has_none-change, has_none-more, first-passes, has-first, change-none, count-push, count-without, count-bound, length-without_first, length-change}
 use Rattle.lpc_machine.specs.State.{is_alive, is_pending, pends_as}
 use Rattle.lpc_machine.specs.Lawful.{are_single, is_of, draws_at_most, IsLawful}
 

@@ -4,7 +4,7 @@ use Rattle.std.specs.Prelude.{Bool, Option, Some, is_some, find, ◌&&◌, ◌==
 use Rattle.std.proofs.Math.ListN.{set}
 use Rattle.lpc_base.specs.Places.{is_in, handle_from}
 use Rattle.lpc_model.specs.declared.rows.HandleRow.{HandleRow}
-use Rattle.lpc_model.specs.Rows.{has, which}
+use Rattle.lpc_base.specs.Rows.{has, which}
 use Rattle.lpc_model.specs.Found.{is_handle, is_owned}
 
 -- one more element of a list that is mapped in place

@@ -1,6 +1,6 @@
 -- What the world keeps of its rows, its numbers and its room.
 use Rattle.std.specs.Prelude.{◌≡◌, ℕ, ◌+◌, ◌*◌, ◌&&◌, ◌≤◌, nat_le, Bool, true, not, List, [], ◌∷◌, length}
-use Rattle.lpc_model.specs.Rows.{count, every, has}
+use Rattle.lpc_base.specs.Rows.{count, every, has}
 use Rattle.lpc_model.specs.World.{World}
 use Rattle.lpc_model.specs.Found.{is_thread, waits_as}
 use Rattle.lpc_model.specs.declared.rows.ThreadRow.{ThreadRow}

@@ -1,6 +1,6 @@
 -- What contracts see of the world and of the machine.
 use Rattle.std.specs.Prelude.{◌≡◌, ℕ, ◌+◌, ◌*◌, ◌&&◌, ◌≤◌, Bool, true, false, not, List}
-use Rattle.lpc_model.specs.Rows.{count, has}
+use Rattle.lpc_base.specs.Rows.{count, has}
 use Rattle.lpc_model.specs.World.{World, no_rows}
 use Rattle.lpc_model.specs.declared.rows.PortRow.{PortRow}
 use Rattle.lpc_model.specs.declared.rows.ThreadRow.{ThreadRow}

@@ -2,7 +2,7 @@
 ghost use Rattle.std.specs.Prelude.{◌≡◌, ◌≤◌, ◌<◌, ◌+◌, ◌*◌, [], ◌∷◌, ◌++◌, false, true, IfOk, OnOk, OnErr, length};
 ghost use Rattle.lpc_model.specs.declared.entry.CallName.TheVariants as name;
 ghost use Rattle.lpc_model.specs.declared.rows.WaitKind.TheVariants.{Request as RequestKind};
-ghost use Rattle.lpc_model.specs.Rows.{first, has, when};
+ghost use Rattle.lpc_base.specs.Rows.{first, has, when};
 ghost use Rattle.lpc_message.specs.declared.kind.TheConstants.{REQUEST};
 ghost use Rattle.lpc_model.specs.Message as kept;
 ghost use Rattle.lpc_model.specs.Found as found;

@@ -1,7 +1,7 @@
 // Searches and changes of plain lists of rows.
 ghost use Rattle.std.specs.Prelude.{◌≡◌, ◌==◌, ◌&&◌, ◌+◌, ◌*◌, ◌<◌, ◌≤◌, ◌^◌, length, map, is_none, is_some, All, Some, None, MatchOption, IfNone, vec_len, vec_capacity, if◌then◌else◌};
 ghost use Rattle.lpc_base.specs.Places.{is_in, handle_from, least_handle};
-ghost use Rattle.lpc_model.specs.Rows.{first, has, which, without, without_first, change, count};
+ghost use Rattle.lpc_base.specs.Rows.{first, has, which, without, without_first, change, count};
 ghost use Rattle.lpc_model.specs.Found.{same_birth, is_the, is_live_thread, lives_in, is_handle, is_owned, is_port, names_port, is_queued, receives_on, waits_as};
 ghost use Rattle.lpc_model.specs.Found as found;
 ghost use Rattle.lpc_model.specs.Basics.{received, past_identifier, past_ordinal};

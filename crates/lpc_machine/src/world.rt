@@ -1,6 +1,6 @@
 // The world's rows, in plain lists. A changing call is one basic step and takes no memory; a reserving call makes room.
 ghost use Rattle.std.specs.Prelude.{◌≡◌, ◌+◌, ◌*◌, ◌<◌, ◌≤◌, [], Ok, Err, Some, None, true, false, MatchOption, MatchResult, IfSome, IfNone, IfOk, OnOk, OnSome, is_none, is_some, length};
-ghost use Rattle.lpc_model.specs.Rows.{count, first, has, without};
+ghost use Rattle.lpc_base.specs.Rows.{count, first, has, without};
 ghost use Rattle.lpc_model.specs.World.{no_rows};
 ghost use Rattle.lpc_model.specs.Found as found;
 ghost use Rattle.lpc_model.specs.Found.{objects, free_handle, is_queued, is_thread, live_count, receives_on, wait_of, was_process, was_thread, waits_as};
@@ -40,7 +40,7 @@ pub struct World {
 
 impl Model for World {
     ghost use Rattle.std.specs.Prelude.{◌-◌, vec_len, vec_capacity, min};
-    ghost use Rattle.lpc_model.specs.Rows.{count};
+    ghost use Rattle.lpc_base.specs.Rows.{count};
     ghost use Rattle.lpc_machine.specs.State.{Kept, is_pending};
     ghost use Rattle.lpc_machine.specs.Lawful.{IsLawful};
 

@@ -6,7 +6,7 @@ use Rattle.lpc_model.specs.declared.entry.Entry.TheVariants as entry
 use Rattle.lpc_model.specs.declared.entry.Field.{Field}
 use Rattle.lpc_model.specs.declared.entry.Outcome.{Outcome}
 use Rattle.lpc_model.specs.declared.entry.Outcome.TheVariants as outcome
-use Rattle.lpc_model.specs.Rows.{change, without, without_first}
+use Rattle.lpc_base.specs.Rows.{change, without, without_first}
 use Rattle.lpc_model.specs.World.{World, Birth, CallName, ProcessRow, ThreadRow, UsedThread, HandleRow, PortRow, MessageRow, WaitRow}
 use Rattle.lpc_model.specs.Found.{is_queued, is_thread, waits_as}
 

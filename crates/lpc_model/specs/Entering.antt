@@ -3,7 +3,7 @@ use Rattle.std.specs.Prelude.{Bool, List, [], ◌∷◌, ◌++◌}
 use Rattle.lpc_base.specs.declared.status.Status.{Status}
 use Rattle.lpc_base.specs.declared.status.TheConstants.{SUCCESS}
 use Rattle.lpc_model.specs.declared.entry.Field.{Field}
-use Rattle.lpc_model.specs.Rows.{first, given, when}
+use Rattle.lpc_base.specs.Rows.{first, given, when}
 use Rattle.lpc_model.specs.World.{Birth, Message, MessageRow, PortRow, WaitRow}
 use Rattle.lpc_model.specs.Message.{asks}
 use Rattle.lpc_model.specs.Found.{context_of, receives_on}

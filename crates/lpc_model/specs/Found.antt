@@ -4,7 +4,7 @@ use Rattle.lpc_base.specs.Places.{least_handle}
 use Rattle.lpc_model.specs.declared.entry.ObjectKind.TheVariants as kind
 use Rattle.lpc_model.specs.declared.rows.PortKind.TheVariants.{Client, Server}
 use Rattle.lpc_model.specs.declared.rows.WaitKind.TheVariants.{Request, Receive}
-use Rattle.lpc_model.specs.Rows.{first, has, which, count, passes}
+use Rattle.lpc_base.specs.Rows.{first, has, which, count, passes}
 use Rattle.lpc_model.specs.World.{World, Birth, ObjectKind, ObjectName, Message, ProcessRow, ThreadRow, HandleRow, PortRow, MessageRow, WaitRow}
 
 -- Names

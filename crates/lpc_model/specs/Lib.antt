@@ -1,4 +1,3 @@
-pub mod Rows
 pub mod Message
 pub mod Listed
 pub mod Lines

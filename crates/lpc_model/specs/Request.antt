@@ -6,7 +6,7 @@ use Rattle.lpc_model.specs.declared.entry.Entry.TheVariants.{Answer, Waits}
 use Rattle.lpc_model.specs.declared.entry.CallName.TheVariants.{NtReplyPort, NtReplyWaitReceivePort, NtRequestWaitReplyPort}
 use Rattle.lpc_model.specs.declared.rows.PortKind.TheVariants.{Client}
 use Rattle.lpc_model.specs.declared.rows.WaitKind.TheVariants.{Receive, Request}
-use Rattle.lpc_model.specs.Rows.{first}
+use Rattle.lpc_base.specs.Rows.{first}
 use Rattle.lpc_model.specs.Refusal.{◌>>=◌, found_or, refuse_if}
 use Rattle.lpc_model.specs.World.{World, Birth, Message, MessageRow, PortRow, ThreadRow, WaitRow}
 use Rattle.lpc_message.specs.declared.kind.TheConstants.{REQUEST}

@@ -4,7 +4,7 @@ use Rattle.lpc_base.specs.declared.limits.TheConstants.{HANDLE_LIMIT}
 use Rattle.lpc_base.specs.declared.status.Status.{Status}
 use Rattle.lpc_base.specs.declared.status.TheConstants.{ACCESS_DENIED, INVALID_CID, INVALID_HANDLE, OBJECT_TYPE_MISMATCH, QUOTA_EXCEEDED, REPLY_MESSAGE_MISMATCH}
 use Rattle.lpc_message.specs.declared.message.ClientId.{ClientId}
-use Rattle.lpc_model.specs.Rows.{passes}
+use Rattle.lpc_base.specs.Rows.{passes}
 use Rattle.lpc_model.specs.Refusal.{◌>>=◌, refuse_if, found_or}
 use Rattle.lpc_model.specs.declared.entry.ObjectKind.TheVariants as kind
 use Rattle.lpc_model.specs.World.{World, Birth, CallName, HandleRow, Message, ObjectKind, ObjectName, PortRow, ThreadRow, WaitKind, WaitRow}

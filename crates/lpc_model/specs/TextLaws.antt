@@ -1,6 +1,6 @@
 -- When entries can be read back from their text.
 use Rattle.std.specs.Prelude.{◌≡◌, ℕ, ◌^◌, nat_lt, Bool, true, false, ◌&&◌, List}
-use Rattle.lpc_model.specs.Rows.{every}
+use Rattle.lpc_base.specs.Rows.{every}
 use Rattle.lpc_model.specs.Text.{entries_text}
 use Rattle.lpc_model.specs.declared.entry.Entry.{Entry}
 use Rattle.lpc_model.specs.declared.entry.Entry.TheVariants.{Answer, Waits, Wakes, Busy, NoThread, Died, Directive}

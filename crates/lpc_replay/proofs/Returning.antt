@@ -16,7 +16,7 @@ use Rattle.lpc_model.specs.declared.entry.Word.{Word}
 use Rattle.lpc_model.specs.declared.entry.Word.TheVariants as word
 use Rattle.lpc_model.specs.declared.rows.WaitKind.TheVariants.{Receive, Request}
 use Rattle.lpc_model.specs.Refusal.{refuse_if}
-use Rattle.lpc_model.specs.Rows.{first, given, when}
+use Rattle.lpc_base.specs.Rows.{first, given, when}
 use Rattle.lpc_message.specs.declared.kind.TheConstants.{REQUEST}
 use Rattle.lpc_model.specs.declared.entry.ObjectKind.TheVariants as kind
 use Rattle.lpc_model.specs.World.{World}

@@ -11,7 +11,7 @@ use Rattle.std.proofs.lemmas.Nat.{from_be_bytes-to_be_bytes_4}
 use Rattle.std.proofs.lemmas.Str.Parse.{digit_from_value}
 use Rattle.hex.specs.Hex.{IsBytes, decode_of, encode_lower, encode_with, is_hex_digit, lower_digits}
 use Rattle.hex.proofs.HexLemmas.{IsDigits-lower_digits, decode_of-encode_lower}
-use Rattle.lpc_model.specs.Rows.{every}
+use Rattle.lpc_base.specs.Rows.{every}
 use Rattle.lpc_model.specs.Text.{hex_word}
 use Rattle.lpc_transcript.proofs.Parts.{is_stop, is_plain}
 use borrow.Author.Tests.{ltb-true}

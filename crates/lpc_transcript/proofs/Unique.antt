@@ -5,7 +5,7 @@ use Rattle.std.proofs.lemmas.Bool.{and_parts}
 use Rattle.std.proofs.lemmas.Bool.Decides.{nat_tests}
 use Rattle.std.proofs.lemmas.Fmt.{decimal_injective}
 use Rattle.std.proofs.lemmas.List.{append_cancel_left}
-use Rattle.lpc_model.specs.Rows.{every}
+use Rattle.lpc_base.specs.Rows.{every}
 use Rattle.lpc_model.specs.Text.{hex_word, call_text, name_text, value_text, rest_text, entry_text, entries_text}
 use Rattle.lpc_model.specs.TextLaws.{sort_of, is_word, is_of_sort, is_sorted_field, is_regular, TextIsUnique}
 use Rattle.lpc_base.specs.declared.status.Status.{Status}

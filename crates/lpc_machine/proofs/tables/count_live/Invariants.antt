@@ -1,5 +1,5 @@
 use Rattle.std.proofs.Common.{◌≡◌, ◌+◌, ◌≤◌, drop}
-use Rattle.lpc_model.specs.Rows.{count}
+use Rattle.lpc_base.specs.Rows.{count}
 use Rattle.lpc_model.specs.Found.{lives_in}
 use Rattle.lpc_machine.proofs.tables.count_live.Given as goal
 

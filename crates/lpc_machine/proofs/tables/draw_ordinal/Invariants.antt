@@ -1,5 +1,5 @@
 use Rattle.std.proofs.Common.{◌≡◌, ◌++◌, take, drop}
-use Rattle.lpc_model.specs.Rows.{change}
+use Rattle.lpc_base.specs.Rows.{change}
 use Rattle.lpc_model.specs.Found.{is_thread}
 use Rattle.lpc_model.specs.Basics.{past_ordinal}
 use Rattle.lpc_machine.proofs.tables.draw_ordinal.Given as goal

@@ -1,5 +1,5 @@
 use Rattle.std.proofs.Common.{◌≡◌, drop}
-use Rattle.lpc_model.specs.Rows.{first}
+use Rattle.lpc_base.specs.Rows.{first}
 use Rattle.lpc_model.specs.Found.{fits}
 use Rattle.lpc_machine.specs.State.{with_ports}
 use Rattle.lpc_machine.proofs.tables.fitted.Given as goal

@@ -1,6 +1,6 @@
 use Rattle.std.proofs.Common.{◌≡◌, ◌+◌, ◌-◌, ◌*◌, map}
 use Rattle.lpc_base.specs.Places.{handle_from}
-use Rattle.lpc_model.specs.Rows.{which}
+use Rattle.lpc_base.specs.Rows.{which}
 use Rattle.lpc_model.specs.Found.{is_owned}
 use Rattle.lpc_machine.proofs.tables.free_handle.Given as goal
 

@@ -1,5 +1,5 @@
 use Rattle.std.proofs.Common.{◌≡◌, drop}
-use Rattle.lpc_model.specs.Rows.{first}
+use Rattle.lpc_base.specs.Rows.{first}
 use Rattle.lpc_model.specs.Found.{is_handle}
 use Rattle.lpc_machine.proofs.tables.handle_at.Given as goal
 

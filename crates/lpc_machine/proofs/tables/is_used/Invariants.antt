@@ -1,6 +1,6 @@
 use Rattle.std.proofs.Common.{◌≡◌, drop}
 use Rattle.std.specs.Prelude.{◌==◌}
-use Rattle.lpc_model.specs.Rows.{has}
+use Rattle.lpc_base.specs.Rows.{has}
 use Rattle.lpc_machine.proofs.tables.is_used.Given as goal
 
 abbrev pub invariant-loop-n : goal.invariant-loop-n

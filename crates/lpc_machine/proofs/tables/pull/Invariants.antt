@@ -1,5 +1,5 @@
 use Rattle.std.proofs.Common.{◌≡◌, ◌++◌, take, drop}
-use Rattle.lpc_model.specs.Rows.{first, without_first}
+use Rattle.lpc_base.specs.Rows.{first, without_first}
 use Rattle.lpc_model.specs.Found.{is_queued}
 use Rattle.lpc_machine.proofs.tables.pull.Given as goal
 

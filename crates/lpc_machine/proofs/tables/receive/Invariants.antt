@@ -1,5 +1,5 @@
 use Rattle.std.proofs.Common.{◌≡◌, ◌++◌, take, drop}
-use Rattle.lpc_model.specs.Rows.{change}
+use Rattle.lpc_base.specs.Rows.{change}
 use Rattle.lpc_model.specs.Found.{waits_as}
 use Rattle.lpc_model.specs.Basics.{received}
 use Rattle.lpc_machine.proofs.tables.receive.Given as goal

@@ -1,6 +1,6 @@
 use Rattle.std.proofs.Common.{arith, sym, ap, ◌∙◌, refl, length}
 use Rattle.std.proofs.lemmas.Grind.{common_steps}
-use Rattle.lpc_model.specs.Rows.{count}
+use Rattle.lpc_base.specs.Rows.{count}
 use Rattle.lpc_machine.specs.State.{is_pending}
 use Rattle.lpc_machine.proofs.Lawful.{lawful-take, queue-found, taken-owed, taken-room}
 use Rattle.lpc_machine.proofs.world.World.take.Goals as goal

@@ -1,6 +1,6 @@
 -- What the list words do to one another.
 use Rattle.std.proofs.Common.{◌≡◌, ◌+◌, ◌≤◌, List, [], ◌∷◌, ◌++◌, Bool, true, false, cond, length, Some, refl, arith}
-use Rattle.lpc_model.specs.Rows.{first, has, without, without_first, change, count, every}
+use Rattle.lpc_base.specs.Rows.{first, has, without, without_first, change, count, every}
 
 -- every
 pub every-push : {X : Type 0} (p : X → Bool) (xs : List X) (y : X) → every p xs ≡ true → p y ≡ true → every p (xs ++ y ∷ []) ≡ true
