@@ -5,7 +5,7 @@ use Rattle.std.specs.Ordering.{eq_by_cmp, ordering_then}
 use Rattle.std.specs.Cmp.{IsTotalOrder, nat_cmp_total, on_total, then_total, tied_itself}
 use Rattle.std.specs.FinMap.{IsAntisymmetric, nat_cmp-IsAntisymmetric}
 use Rattle.lpc_slots.specs.declared.Key.{Key}
-use Rattle.lpc_slots.specs.Table.{key_cmp}
+use Rattle.lpc_slots.specs.Table.{is_key, key_cmp}
 
 pub key_cmp_total : IsTotalOrder key_cmp
 key_cmp_total = then_total (on_total (λ (k : Key). k.generation) nat_cmp_total) (on_total (λ (k : Key). k.index) nat_cmp_total)
@@ -60,3 +60,28 @@ pub differ_by : (x y : Key) → eqb x.index y.index && eqb x.generation y.genera
 differ_by x y is same =
     let ties : eqb x.index y.index && eqb x.generation y.generation ≡ true = λ i. eq-eqb x.index y.index (ap (λ (k : Key). k.index) same) i && eq-eqb x.generation y.generation (ap (λ (k : Key). k.generation) same) i in
     true≢false (sym ties ∙ is)
+
+-- the test of keys, and the order's
+pub key_is : (x y : Key) → is_key x y ≡ true → x ≡ y
+key_is = same_by
+
+pub key_itself : (x y : Key) → x ≡ y → is_key x y ≡ true
+key_itself x y same =
+    elim (cases_Bool (is_key x y)) [
+      | inl is ↦ is
+      | inr off ↦ absurd (differ_by x y off same)
+    ]
+
+pub key_apart : (x y : Key) → x ≢ y → is_key x y ≡ false
+key_apart x y differs =
+    elim (cases_Bool (is_key x y)) [
+      | inl is ↦ absurd (differs (same_by x y is))
+      | inr off ↦ off
+    ]
+
+pub same_test : (x y : Key) → eq_by_cmp key_cmp x y ≡ is_key y x
+same_test x y =
+    elim (key_cases x y) [
+      | inl same ↦ tied x y same ∙ sym (key_itself y x (sym same))
+      | inr differs ↦ apart x y differs ∙ sym (key_apart y x (λ same. differs (sym same)))
+    ]

@@ -2,3 +2,4 @@ pub mod Keys
 pub mod Listed
 pub mod Rows
 pub mod Changes
+pub mod Same

@@ -1,7 +1,7 @@
 -- What contracts see of a table: the rows by their keys, in the order of making.
-use Rattle.std.specs.Prelude.{ℕ, ◌+◌, ◌-◌, ◌≤◌, ◌==◌, ◌&&◌, Bool, Option, IsSome, List, refl, filter, not}
+use Rattle.std.specs.Prelude.{ℕ, ◌+◌, ◌-◌, ◌≤◌, ◌==◌, ◌&&◌, Bool, Option, IsSome, List, refl}
 use Rattle.std.specs.Coded.{Coded, code_by, coded×, coded_ℕ}
-use Rattle.std.specs.Ordering.{nat_cmp, on, then_cmp, eq_by_cmp}
+use Rattle.std.specs.Ordering.{nat_cmp, on, then_cmp}
 use Rattle.std.specs.declared.cmp.Ordering.{Ordering}
 use Rattle.std.specs.FinMap as map
 use Rattle.lpc_slots.specs.declared.Key.{Key}
@@ -13,6 +13,10 @@ key_cmp = then_cmp (on (λ (k : Key). k.generation) nat_cmp) (on (λ (k : Key). 
 -- one key is the other
 abbrev pub is_key : Key → Key → Bool
 is_key one two = (one.index == two.index) && (one.generation == two.generation)
+
+-- a row has this key
+abbrev pub at_key : {T : Type 0} → Key → Key × T → Bool
+at_key key row = is_key row.0 key
 
 -- a key as a pair of numbers
 abbrev pub key_code : Coded Key
@@ -42,10 +46,6 @@ module _ {T : Type 0} where
   -- the rows in the order of making
   abbrev pub listed : Table T → List (Key × T)
   listed s = map.entries s.rows
-
-  -- the rows but for one key's
-  abbrev pub without : Key → List (Key × T) → List (Key × T)
-  without key rows = filter (λ row. not (eq_by_cmp key_cmp key row.0)) rows
 
   -- a key that has a value was made
   abbrev pub IsYoung : Table T → Key → Type 0

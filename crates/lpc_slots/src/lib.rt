@@ -1,11 +1,12 @@
 //! Tables whose rows are named by keys, each of which is given once.
 #![tactic(auto)]
 
-ghost use Rattle.std.specs.Prelude.{◌≡◌, ◌+◌, ◌<◌, ◌-◌, ◌≤◌, ◌^◌, ◌++◌, ◌∷◌, [], OnOk, OnErr, OnSome, option_copied, is_some, if◌then◌else◌, MatchOption, None};
+ghost use Rattle.std.specs.Prelude.{◌≡◌, ◌+◌, ◌<◌, ◌-◌, ◌≤◌, ◌^◌, ◌++◌, ◌∷◌, [], OnOk, OnErr, OnSome, length, option_copied, is_some, if◌then◌else◌, slice_get, MatchOption, None, Some};
 ghost use Rattle.std.specs.Option.{option_copied_mut};
 ghost use Rattle.std.specs.Borrow.{sem};
 ghost use Rattle.std.specs.FinMap as map;
-ghost use Rattle.lpc_slots.specs.Table.{at, listed, without, IsYoung, inserted, removed};
+ghost use Rattle.lpc_base.specs.Rows.{without};
+ghost use Rattle.lpc_slots.specs.Table.{at, at_key, listed, IsYoung, inserted, removed};
 ghost use Rattle.lpc_slots.specs.Layout.{StandsAt};
 
 #[cfg(test)]
@@ -128,6 +129,25 @@ impl<T> Slots<T> {
         }
     }
 
+    /// How many rows there are.
+    pub fn count(&self) -> usize
+        ensures { result ≡ length (listed self.now) }
+    {
+        self.rows.len()
+    }
+
+    /// The row at a place: its key and its value. Places go from 0 in the order of making, and a removal moves the rows
+    /// behind it one place forward.
+    ///
+    /// The place is below `count`.
+    pub fn row(&self, place: usize) -> (Key, &T)
+        requires { place < length (listed self.now) }
+        ensures { slice_get (listed self.now) place ≡ Some (result.0, result.1.now) }
+    {
+        let row = &self.rows[place];
+        (row.0, &row.1)
+    }
+
     /// The value of a key, to be changed: None exactly where its row was removed or the key was never given.
     pub fn get_mut(&mut self, key: Key) -> Option<&mut T>
         ensures* writes_back { sem 𝓛 (lends_get T.row self.entry key result) }
@@ -144,7 +164,7 @@ impl<T> Slots<T> {
     pub fn remove(&mut self, key: Key) -> Option<T>
         ensures value { result ≡ at self.old key }
         ensures table { self.new ≡ (if is_some result then removed self.old key else self.old) }
-        ensures listed { OnSome result (listed self.new ≡ without key (listed self.old)) }
+        ensures listed { OnSome result (listed self.new ≡ without (at_key key) (listed self.old)) }
     {
         match self.position(key) {
             Some(index) => {
