@@ -2,15 +2,15 @@
 #![tactic(auto)]
 
 ghost use Rattle.std.specs.Prelude.{◌≡◌, ◌+◌, ◌<◌, ◌-◌, ◌≤◌, ◌^◌, ◌++◌, ◌∷◌, [], length, OnOk, OnErr, Some, None, IsSome, option_copied, option_map, if◌then◌else◌};
-ghost use Rattle.std.specs.FinMap as map;
-ghost use Rattle.lpc_slots.specs.Table.{at, listed, without, inserted, removed};
-ghost use Rattle.lpc_ports.specs.Table.{new_port, queued, joined, parted, own_queue, route, first_in, has_none_in, with_row, unpaired, pair_of, if_open};
+ghost use Rattle.lpc_base.specs.Rows.{count, first, without, without_first};
+ghost use Rattle.lpc_slots.specs.Table.{at_key};
+ghost use Rattle.lpc_ports.specs.Table.{row_at, new_port, queued, joined, paired, parted, own_queue, route, first_in, has_none_in, is_in, is_datagram_of, with_row, unpaired, pair_of, if_open};
 
 mod messages;
 #[cfg(test)]
 mod tests;
 
-use crate::messages::{Messages, held};
+use crate::messages::held;
 use lpc_base::{Birth, OutOfMemory};
 use lpc_slots::{Key, Slots};
 pub use messages::{Message, QueuedMessage};
@@ -49,30 +49,33 @@ pub struct Port {
 #[derive(Drop)]
 pub struct Ports {
     ports: Slots<Port>,
-    messages: Messages,
+    messages: Slots<QueuedMessage>,
 }
 
 impl Model for Ports {
-    ghost use Rattle.lpc_ports.specs.Table.{Tables, tables_code};
-    ghost use Rattle.lpc_ports.specs.contracts.Port as port;
-    ghost use Rattle.lpc_ports.specs.contracts.messages.QueuedMessage as message;
+    ghost use Rattle.lpc_slots.specs.Table.{listed};
+    ghost use Rattle.lpc_ports.specs.Table.{PortTable};
 
-    ghost Value = { Tables };
+    ghost Value = { PortTable };
 
-    ghost coded = { tables_code port.the_row.coded message.the_row.coded };
-
-    ghost view = { λ s. record { ports = s.ports; messages = s.messages } };
+    ghost view = { λ s. record {
+      ports = listed s.ports;
+      messages = listed s.messages;
+      port_room = s.ports.spare;
+      message_room = s.messages.spare;
+      ports_made = s.ports.made;
+      messages_made = s.messages.made;
+    } };
 }
 
 impl Ports {
     /// No ports and no messages, and no spare room.
     pub fn new(alloc: Global) -> Ports
-        ensures ports { result.ports ≡ record { rows = map.empty; spare = 0; made = 0 } }
-        ensures messages { result.messages ≡ record { rows = map.empty; spare = 0; made = 0 } }
+        ensures { result ≡ record { ports = []; messages = []; port_room = 0; message_room = 0; ports_made = 0; messages_made = 0 } }
     {
         Ports {
             ports: Slots::new(alloc),
-            messages: Messages::new(alloc),
+            messages: Slots::new(alloc),
         }
     }
 
@@ -80,13 +83,12 @@ impl Ports {
     ///
     /// OutOfMemory comes where the memory for it is wanting; the rows stay as they are, and the room never shrinks.
     pub fn reserve(&mut self, ports: usize, blocks: usize) -> Result<(), OutOfMemory>
-        ensures port_room { OnOk result (ports ≤ self.new.ports.spare) }
-        ensures message_room { OnOk result (blocks ≤ self.new.messages.spare) }
-        ensures wanting { OnErr result (ports ≤ self.old.ports.spare → self.old.messages.spare < blocks) }
-        ensures ports { self.new.ports ≡ record self.old.ports { spare = self.new.ports.spare } }
-        ensures messages { self.new.messages ≡ record self.old.messages { spare = self.new.messages.spare } }
-        ensures port_spare { self.old.ports.spare ≤ self.new.ports.spare }
-        ensures message_spare { self.old.messages.spare ≤ self.new.messages.spare }
+        ensures ports { OnOk result (ports ≤ self.new.port_room) }
+        ensures messages { OnOk result (blocks ≤ self.new.message_room) }
+        ensures wanting { OnErr result (ports ≤ self.old.port_room → self.old.message_room < blocks) }
+        ensures kept { self.new ≡ record self.old { port_room = self.new.port_room; message_room = self.new.message_room } }
+        ensures port_room { self.old.port_room ≤ self.new.port_room }
+        ensures message_room { self.old.message_room ≤ self.new.message_room }
     {
         self.ports.reserve(ports)?;
         self.messages.reserve(blocks)
@@ -96,12 +98,10 @@ impl Ports {
     ///
     /// There is spare room, and fewer than 2^64 - 1 ports were made.
     pub fn add(&mut self, kind: PortKind, birth: Birth, connection: Option<Key>) -> Key
-        requires room { 0 < self.old.ports.spare }
-        requires few { self.old.ports.made < 2 ^ 64 - 1 }
-        ensures generation { result.generation ≡ self.old.ports.made + 1 }
-        ensures vacant { at self.old.ports result ≡ None }
-        ensures tables { self.new ≡ record self.old { ports = inserted self.old.ports result (new_port kind birth connection) } }
-        ensures listed { listed self.new.ports ≡ listed self.old.ports ++ (result, new_port kind birth connection) ∷ [] }
+        requires room { 0 < self.old.port_room }
+        requires few { self.old.ports_made < 2 ^ 64 - 1 }
+        ensures vacant { first (at_key result) self.old.ports ≡ None }
+        ensures table { self.new ≡ record self.old { ports = self.old.ports ++ (result, new_port kind birth connection) ∷ []; port_room = self.old.port_room - 1; ports_made = self.old.ports_made + 1 } }
     {
         self.ports.insert_reserved(Port {
             birth,
@@ -114,47 +114,47 @@ impl Ports {
 
     /// The port of a key: None exactly where the port isn't open.
     pub fn get(&self, port: Key) -> Option<&Port>
-        ensures { option_copied result ≡ at self.now.ports port }
+        ensures { option_copied result ≡ row_at self.now.ports port }
     {
         self.ports.get(port)
     }
 
     /// The birth of a port.
     pub fn birth(&self, port: Key) -> Birth
-        requires { IsSome (at self.now.ports port) }
-        ensures { option_map (λ row. row.birth) (at self.now.ports port) ≡ Some result }
+        requires { IsSome (row_at self.now.ports port) }
+        ensures { option_map (λ row. row.birth) (row_at self.now.ports port) ≡ Some result }
     {
         self.row(port).birth
     }
 
     /// The kind of a port.
     pub fn kind(&self, port: Key) -> PortKind
-        requires { IsSome (at self.now.ports port) }
-        ensures { option_map (λ row. row.kind) (at self.now.ports port) ≡ Some result }
+        requires { IsSome (row_at self.now.ports port) }
+        ensures { option_map (λ row. row.kind) (row_at self.now.ports port) ≡ Some result }
     {
         self.row(port).kind
     }
 
     /// The other end of a port's connection: None where it was never made or is cut.
     pub fn pair(&self, port: Key) -> Option<Key>
-        requires { IsSome (at self.now.ports port) }
-        ensures { option_map (λ row. row.pair) (at self.now.ports port) ≡ Some result }
+        requires { IsSome (row_at self.now.ports port) }
+        ensures { option_map (λ row. row.pair) (row_at self.now.ports port) ≡ Some result }
     {
         self.row(port).pair
     }
 
     /// The connection port of a client or server port: what the port was added with.
     pub fn connection(&self, port: Key) -> Option<Key>
-        requires { IsSome (at self.now.ports port) }
-        ensures { option_map (λ row. row.connection) (at self.now.ports port) ≡ Some result }
+        requires { IsSome (row_at self.now.ports port) }
+        ensures { option_map (λ row. row.connection) (row_at self.now.ports port) ≡ Some result }
     {
         self.row(port).connection
     }
 
     /// The context of a port: 0 until it is joined.
     pub fn context(&self, port: Key) -> u32
-        requires { IsSome (at self.now.ports port) }
-        ensures { option_map (λ row. row.context) (at self.now.ports port) ≡ Some result }
+        requires { IsSome (row_at self.now.ports port) }
+        ensures { option_map (λ row. row.context) (row_at self.now.ports port) ≡ Some result }
     {
         self.row(port).context
     }
@@ -163,10 +163,9 @@ impl Ports {
     ///
     /// No message stands in its queue.
     pub fn free(&mut self, port: Key)
-        requires open { IsSome (at self.old.ports port) }
+        requires open { IsSome (row_at self.old.ports port) }
         requires empty { has_none_in self.old.messages port }
-        ensures tables { self.new ≡ record self.old { ports = removed self.old.ports port } }
-        ensures listed { listed self.new.ports ≡ without port (listed self.old.ports) }
+        ensures table { self.new ≡ record self.old { ports = without (at_key port) self.old.ports; port_room = self.old.port_room + 1 } }
     {
         if self.ports.remove(port).is_none() {
             unreachable!()
@@ -177,13 +176,11 @@ impl Ports {
     ///
     /// The bytes are no more than a message holds, there is spare room, and fewer than 2^64 - 1 messages were made.
     pub fn send(&mut self, queue: Key, sender: Key, context: u32, bytes: &[u8]) -> Key
-        requires room { 0 < self.old.messages.spare }
-        requires few { self.old.messages.made < 2 ^ 64 - 1 }
+        requires room { 0 < self.old.message_room }
+        requires few { self.old.messages_made < 2 ^ 64 - 1 }
         requires bound { length bytes.now ≤ 256 }
-        ensures generation { result.generation ≡ self.old.messages.made + 1 }
-        ensures vacant { at self.old.messages result ≡ None }
-        ensures tables { self.new ≡ record self.old { messages = inserted self.old.messages result (queued queue sender context bytes.now) } }
-        ensures listed { listed self.new.messages ≡ listed self.old.messages ++ (result, queued queue sender context bytes.now) ∷ [] }
+        ensures vacant { first (at_key result) self.old.messages ≡ None }
+        ensures table { self.new ≡ record self.old { messages = self.old.messages ++ (result, queued queue sender context bytes.now) ∷ []; message_room = self.old.message_room - 1; messages_made = self.old.messages_made + 1 } }
     {
         self.messages.insert_reserved(QueuedMessage {
             queue,
@@ -204,31 +201,51 @@ impl Ports {
         if connects_only {
             return None;
         }
-        self.messages.first(queue)
+        for place in 0..self.messages.count() {
+            let (key, row) = self.messages.row(place);
+            if row.queue == queue {
+                return Some(key);
+            }
+        }
+        None
+    }
+
+    /// How many of the messages that stand in queues were sent on this port and are datagrams.
+    pub fn sent_datagrams(&self, sender: Key) -> usize
+        ensures { result ≡ count (is_datagram_of sender) self.now.messages }
+    {
+        let mut sent = 0;
+        for place in 0..self.messages.count() {
+            let (_, row) = self.messages.row(place);
+            if row.message.is_datagram_of(sender) {
+                sent += 1;
+            }
+        }
+        sent
     }
 
     /// A message that stands in a queue.
     pub fn message(&self, message: Key) -> &Message
-        requires { IsSome (at self.now.messages message) }
-        ensures { option_map (λ row. row.message) (at self.now.messages message) ≡ Some result.now }
+        requires { IsSome (row_at self.now.messages message) }
+        ensures { option_map (λ row. row.message) (row_at self.now.messages message) ≡ Some result.now }
     {
         &self.queued(message).message
     }
 
     /// The port in whose queue a message stands.
     pub fn message_queue(&self, message: Key) -> Key
-        requires { IsSome (at self.now.messages message) }
-        ensures { option_map (λ row. row.queue) (at self.now.messages message) ≡ Some result }
+        requires { IsSome (row_at self.now.messages message) }
+        ensures { option_map (λ row. row.queue) (row_at self.now.messages message) ≡ Some result }
     {
         self.queued(message).queue
     }
 
     /// Takes a message from its queue, and answers it. Its room is spare then.
     pub fn pull(&mut self, message: Key) -> Message
-        requires stands { IsSome (at self.old.messages message) }
-        ensures value { option_map (λ row. row.message) (at self.old.messages message) ≡ Some result }
-        ensures tables { self.new ≡ record self.old { messages = removed self.old.messages message } }
-        ensures listed { listed self.new.messages ≡ without message (listed self.old.messages) }
+        requires stands { IsSome (row_at self.old.messages message) }
+        ensures value { option_map (λ row. row.message) (row_at self.old.messages message) ≡ Some result }
+        ensures table { self.new ≡ record self.old { messages = without (at_key message) self.old.messages; message_room = self.old.message_room + 1 } }
+        ensures oldest { (queue : Key) → first_in self.old.messages queue ≡ Some message → self.new.messages ≡ without_first (is_in queue) self.old.messages }
     {
         match self.messages.remove(message) {
             Some(row) => row.message,
@@ -239,21 +256,15 @@ impl Ports {
     /// Makes a client and a server port the two ends of a connection, and gives both its context. What isn't open
     /// gets no row.
     pub fn join(&mut self, client: Key, server: Key, context: u32)
-        ensures tables { self.new ≡ record self.old { ports = joined self.old.ports client server context } }
+        ensures { self.new ≡ record self.old { ports = joined self.old.ports client server context } }
     {
-        if let Some(row) = self.ports.get_mut(client) {
-            row.pair = Some(server);
-            row.context = context;
-        }
-        if let Some(row) = self.ports.get_mut(server) {
-            row.pair = Some(client);
-            row.context = context;
-        }
+        self.pair_with(client, server, context);
+        self.pair_with(server, client, context);
     }
 
     /// Takes a port and its pair apart. Both keep their contexts. What isn't open gets no row.
     pub fn cut(&mut self, port: Key)
-        ensures tables { self.new ≡ record self.old { ports = parted self.old.ports port } }
+        ensures { self.new ≡ record self.old { ports = parted self.old.ports port } }
     {
         if let Some(other) = self.pair_of(port) {
             self.forget_pair(other);
@@ -269,7 +280,7 @@ impl Ports {
     pub fn route(&self, port: Key) -> Option<Key>
         ensures { result ≡ route self.now.ports port }
     {
-        let row = self.ports.get(port)?;
+        let row = self.get(port)?;
         match row.kind {
             PortKind::Unnamed | PortKind::Connection => Some(port),
             PortKind::Client => {
@@ -284,7 +295,7 @@ impl Ports {
     pub fn queue_of(&self, port: Key) -> Option<Key>
         ensures { result ≡ own_queue self.now.ports port }
     {
-        let row = self.ports.get(port)?;
+        let row = self.get(port)?;
         match row.kind {
             PortKind::Server => self.if_open(row.connection),
             _ => Some(port),
@@ -293,10 +304,10 @@ impl Ports {
 
     // The row of an open port.
     fn row(&self, port: Key) -> &Port
-        requires { IsSome (at self.now.ports port) }
-        ensures { at self.now.ports port ≡ Some result.now }
+        requires { IsSome (row_at self.now.ports port) }
+        ensures { row_at self.now.ports port ≡ Some result.now }
     {
-        match self.ports.get(port) {
+        match self.get(port) {
             Some(row) => row,
             None => unreachable!(),
         }
@@ -304,20 +315,37 @@ impl Ports {
 
     // The row of a message that stands in a queue.
     fn queued(&self, message: Key) -> &QueuedMessage
-        requires { IsSome (at self.now.messages message) }
-        ensures { at self.now.messages message ≡ Some result.now }
+        requires { IsSome (row_at self.now.messages message) }
+        ensures { row_at self.now.messages message ≡ Some result.now }
     {
-        match self.messages.get(message) {
+        match self.get_queued(message) {
             Some(row) => row,
             None => unreachable!(),
         }
+    }
+
+    // The row of a message, where it stands in a queue.
+    fn get_queued(&self, message: Key) -> Option<&QueuedMessage>
+        ensures { option_copied result ≡ row_at self.now.messages message }
+    {
+        self.messages.get(message)
     }
 
     // The other end of a port's connection, where the port is open.
     fn pair_of(&self, port: Key) -> Option<Key>
         ensures { result ≡ pair_of self.now.ports port }
     {
-        self.ports.get(port)?.pair
+        self.get(port)?.pair
+    }
+
+    // Gives a port its other end and its context, where the port is open.
+    fn pair_with(&mut self, port: Key, pair: Key, context: u32)
+        ensures { self.new ≡ record self.old { ports = with_row self.old.ports port (paired pair context) } }
+    {
+        if let Some(row) = self.ports.get_mut(port) {
+            row.pair = Some(pair);
+            row.context = context;
+        }
     }
 
     // Takes the pair from a port, where the port is open.
@@ -334,7 +362,7 @@ impl Ports {
         ensures { result ≡ if_open self.now.ports port }
     {
         let key = port?;
-        match self.ports.get(key) {
+        match self.get(key) {
             Some(_) => Some(key),
             None => None,
         }

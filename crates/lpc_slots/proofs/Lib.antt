@@ -3,3 +3,4 @@ pub mod Listed
 pub mod Rows
 pub mod Changes
 pub mod Same
+pub mod Walk

@@ -63,6 +63,7 @@ impl<T> Slots<T> {
         ensures rows { result.rows ≡ map.empty }
         ensures spare { result.spare ≡ 0 }
         ensures made { result.made ≡ 0 }
+        ensures listed { listed result ≡ [] }
     {
         Slots {
             rows: Vec::new(alloc),

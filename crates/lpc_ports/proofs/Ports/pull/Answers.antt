@@ -1,0 +1,20 @@
+use Rattle.std.proofs.Common.{ap, sym, ◌∙◌, is_some, option_map, true≢false}
+use Rattle.lpc_slots.proofs.Same.{at_first, listed_apart, without_first_same}
+use Rattle.lpc_slots.specs.Table.{listed}
+use Rattle.lpc_ports.specs.Table.{is_in}
+use Rattle.lpc_ports.specs.declared.messages.QueuedMessage.{QueuedMessage}
+use Rattle.lpc_ports.proofs.Ports.pull.Goals as goal
+
+pub unreachable-requires : goal.unreachable-requires
+unreachable-requires c =
+    let stands = rw (← c.self.view_is, ← at_first c.self.inside.messages c.args.message) at c.requires.stands in
+    true≢false (sym stands ∙ ap is_some (sym c.in-None.ensures.value))
+
+pub returns-clause-value : goal.returns-clause-value
+returns-clause-value c =
+    rw (← c.self.view_is) (ap (option_map (λ (row : QueuedMessage). row.message)) (sym (at_first c.self.inside.messages c.args.message) ∙ sym c.in-Some.ensures.value))
+
+pub returns-clause-oldest : goal.returns-clause-oldest
+returns-clause-oldest c =
+    rw (← c.self.view_is)
+    (λ queue oldest. c.in-Some.ensures.listed ∙ without_first_same (is_in queue) (listed c.self.inside.messages) c.args.message (listed_apart c.self.inside.messages) oldest)
