@@ -46,9 +46,9 @@ key_cases x y =
       | inr differs ↦ inr (λ same. true≢false (sym (tied x y same) ∙ differs))
     ]
 
--- what a comparison of two keys tells
-pub same_by : (x y : Key) → eqb x.index y.index && eqb x.generation y.generation ≡ true → x ≡ y
-same_by x y is =
+-- what the test of two keys tells
+pub key_is : (x y : Key) → is_key x y ≡ true → x ≡ y
+key_is x y is =
     let parts = both_hold (eqb x.index y.index) (eqb x.generation y.generation) is in
     same_key x y (eqb-true _ _ parts.0) (eqb-true _ _ parts.1)
   where
@@ -56,29 +56,27 @@ same_by x y is =
     both_hold true b e = (refl, e)
     both_hold false b e = absurd (true≢false (sym e))
 
-pub differ_by : (x y : Key) → eqb x.index y.index && eqb x.generation y.generation ≡ false → x ≢ y
-differ_by x y is same =
-    let ties : eqb x.index y.index && eqb x.generation y.generation ≡ true = λ i. eq-eqb x.index y.index (ap (λ (k : Key). k.index) same) i && eq-eqb x.generation y.generation (ap (λ (k : Key). k.generation) same) i in
-    true≢false (sym ties ∙ is)
-
--- the test of keys, and the order's
-pub key_is : (x y : Key) → is_key x y ≡ true → x ≡ y
-key_is = same_by
-
 pub key_itself : (x y : Key) → x ≡ y → is_key x y ≡ true
-key_itself x y same =
-    elim (cases_Bool (is_key x y)) [
-      | inl is ↦ is
-      | inr off ↦ absurd (differ_by x y off same)
-    ]
+key_itself x y same i = eq-eqb x.index y.index (ap (λ (k : Key). k.index) same) i && eq-eqb x.generation y.generation (ap (λ (k : Key). k.generation) same) i
+
+pub key_differs : (x y : Key) → is_key x y ≡ false → x ≢ y
+key_differs x y off same = true≢false (sym (key_itself x y same) ∙ off)
 
 pub key_apart : (x y : Key) → x ≢ y → is_key x y ≡ false
 key_apart x y differs =
     elim (cases_Bool (is_key x y)) [
-      | inl is ↦ absurd (differs (same_by x y is))
+      | inl is ↦ absurd (differs (key_is x y is))
       | inr off ↦ off
     ]
 
+pub key_turned : (x y : Key) → is_key x y ≡ is_key y x
+key_turned x y =
+    elim (cases_Bool (is_key x y)) [
+      | inl is ↦ is ∙ sym (key_itself y x (sym (key_is x y is)))
+      | inr off ↦ off ∙ sym (key_apart y x (λ same. key_differs x y off (sym same)))
+    ]
+
+-- the order ties the keys of which one is the other
 pub same_test : (x y : Key) → eq_by_cmp key_cmp x y ≡ is_key y x
 same_test x y =
     elim (key_cases x y) [

@@ -1,14 +1,14 @@
 -- The rows of a table by the words on lists of rows: what is found at a key, what a change and a removal leave.
-use Rattle.std.proofs.Common.{◌≡◌, Bool, true, false, cond, ◌&&◌, refl, sym, ap, ◌∙◌, subst, true≢false, inl, inr, T as Holds, List, [], ◌∷◌, not, Option, Some, None, is_some, OnSome, option_map, if◌then◌else◌, arith}
+use Rattle.std.proofs.Common.{◌≡◌, Bool, true, false, cond, ◌&&◌, refl, sym, ap, ◌∙◌, subst, inl, inr, T as Holds, List, [], ◌∷◌, not, Option, Some, None, is_some, OnSome, option_map, if◌then◌else◌, arith}
 use Rattle.std.specs.Cmp.{tied_itself}
 use Rattle.std.specs.Ordering.{eq_by_cmp, is_lt}
 use Rattle.std.specs.FinMap as map
 use Rattle.std.specs.FinMap.{find, is_sorted}
 use Rattle.std.specs.FinMap.Entries.{below_all}
-use Rattle.lpc_base.specs.Rows.{change, every, first, without, without_first}
+use Rattle.lpc_base.specs.Rows.{change, every, first, has, without, without_first}
 use Rattle.lpc_slots.specs.declared.Key.{Key}
 use Rattle.lpc_slots.specs.Table.{Table, at, at_key, is_key, key_cmp, listed, removed, with_value}
-use Rattle.lpc_slots.proofs.Keys.{apart, key_apart, key_cases, key_cmp-IsAntisymmetric, key_cmp_total, key_is, key_itself, same_test, tied}
+use Rattle.lpc_slots.proofs.Keys.{apart, key_apart, key_cases, key_cmp-IsAntisymmetric, key_cmp_total, key_is, key_itself, key_turned, same_test, tied}
 
 first_holds : (a b : Bool) → Holds (a && b) → Holds a
 first_holds true b both = tt
@@ -17,9 +17,6 @@ first_holds false b both = absurd both
 second_holds : (a b : Bool) → Holds (a && b) → Holds b
 second_holds true b both = both
 second_holds false b both = absurd both
-
-turned : (x y : Key) → is_key x y ≡ false → is_key y x ≡ false
-turned x y off = key_apart y x (λ same. true≢false (sym (key_itself x y (sym same)) ∙ off))
 
 module _ {R : Type 0} where
   found : (key : Key) (rows : List (Key × R)) → find key_cmp key rows ≡ option_map (λ row. row.1) (first (at_key key) rows)
@@ -124,9 +121,14 @@ module _ {R : Type 0} where
 
   first_apart : (test : Key × R → Bool) (rows : List (Key × R)) (k key : Key) → every (λ other. not (at_key k other)) rows ≡ true → option_map (λ row. row.0) (first test rows) ≡ Some key → is_key k key ≡ false
   first_apart test [] k key off is = absurd (cc)
-  first_apart test (row ∷ rows) k key off is = grind (arith, turned key k, first_apart test rows k key)
+  first_apart test (row ∷ rows) k key off is = grind (arith, key_turned key k, first_apart test rows k key)
 
   -- the rows without the key of the first that passes a test are the rows but that one
   pub without_first_same : (test : Key × R → Bool) (rows : List (Key × R)) (key : Key) → are_apart rows ≡ true → option_map (λ row. row.0) (first test rows) ≡ Some key → without (at_key key) rows ≡ without_first test rows
   without_first_same test [] key apart is = refl
   without_first_same test (row ∷ rows) key apart is = grind (arith, key_itself row.0 key, without_apart key rows, first_apart test rows row.0 key, without_first_same test rows key)
+
+  -- the first row that passes a test stands under its key
+  pub first_stands : (test : Key × R → Bool) (rows : List (Key × R)) (key : Key) → option_map (λ row. row.0) (first test rows) ≡ Some key → has (at_key key) rows ≡ true
+  first_stands test [] key is = absurd (cc)
+  first_stands test (row ∷ rows) key is = grind (arith, key_itself row.0 key, first_stands test rows key)

@@ -1,4 +1,4 @@
-use Rattle.std.proofs.Common.{◌≡◌, ◌+◌, true, false, sym, ap, ◌∙◌, arith, cond}
+use Rattle.std.proofs.Common.{◌+◌, sym, ap, ◌∙◌, arith, cond}
 use Rattle.lpc_slots.proofs.Walk.{count_fits, count_on}
 use Rattle.lpc_slots.specs.Table.{listed}
 use Rattle.lpc_ports.specs.Table.{is_datagram_of}
