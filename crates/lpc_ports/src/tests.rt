@@ -1,6 +1,7 @@
 // The ports, call by call, with ample memory.
 use crate::{PortKind, Ports};
 use lpc_base::Birth;
+use lpc_message::kind::{DATAGRAM, REQUEST};
 use std::test::Fail;
 
 fn birth(ordinal: u32) -> Birth {
@@ -9,6 +10,14 @@ fn birth(ordinal: u32) -> Birth {
         ordinal,
         process: 4,
     }
+}
+
+// The header of a message without data. Its type is the number at bytes 4 and 5, low byte first.
+fn header(kind: u16) -> [u8; 24] {
+    let mut bytes = [0; 24];
+    bytes[2] = 24;
+    [bytes[4], bytes[5]] = kind.to_le_bytes();
+    bytes
 }
 
 #[test]
@@ -40,16 +49,54 @@ fn ports_are_joined_routed_and_cut(rt: HostRuntime) -> Result<(), Fail> {
 }
 
 #[test]
+#[tactic(auto, using(lpc_slots::proofs::Keys::key_itself))]
+fn port_is_read_and_freed(rt: HostRuntime) -> Result<(), Fail> {
+    let mut ports = Ports::new(rt.alloc());
+    ports.reserve(1, 0)?;
+    let port = ports.add(PortKind::Unnamed, birth(1), None);
+    assert_eq!(rt; ports.birth(port), birth(1));
+    assert_eq!(rt; ports.kind(port), PortKind::Unnamed);
+    assert_eq!(rt; ports.pair(port), None);
+    assert_eq!(rt; ports.connection(port), None);
+    assert_eq!(rt; ports.context(port), 0);
+    ports.free(port);
+    assert_eq!(rt; ports.get(port), None);
+    Ok(())
+}
+
+#[test]
+#[tactic(auto, using(lpc_slots::proofs::Keys::key_itself))]
 fn messages_stand_in_their_queues_in_the_order_of_sending(rt: HostRuntime) -> Result<(), Fail> {
     let mut ports = Ports::new(rt.alloc());
     ports.reserve(2, 3)?;
     let one = ports.add(PortKind::Unnamed, birth(1), None);
     let two = ports.add(PortKind::Unnamed, birth(2), None);
-    let first = ports.send(one, two, 0, b"a");
-    ports.send(one, one, 0, b"d");
+    let first = ports.send(one, two, 7, b"a");
+    let second = ports.send(one, one, 0, b"d");
     let other = ports.send(two, one, 6, b"bc");
     assert_eq!(rt; ports.first(one, true), None);
     assert_eq!(rt; ports.first(one, false), Some(first));
     assert_eq!(rt; ports.first(two, false), Some(other));
+    assert_eq!(rt; ports.message_queue(first), one);
+    assert_eq!(rt; ports.message(first).context, 7);
+    let taken = ports.pull(first);
+    assert_eq!(rt; taken.bytes.as_slice(), b"a".as_slice());
+    assert_eq!(rt; taken.sender, two);
+    assert_eq!(rt; ports.first(one, false), Some(second));
+    Ok(())
+}
+
+#[test]
+fn datagrams_are_counted_by_their_senders(rt: HostRuntime) -> Result<(), Fail> {
+    let mut ports = Ports::new(rt.alloc());
+    ports.reserve(2, 4)?;
+    let one = ports.add(PortKind::Unnamed, birth(1), None);
+    let two = ports.add(PortKind::Unnamed, birth(2), None);
+    ports.send(one, two, 0, &header(DATAGRAM));
+    ports.send(one, two, 0, &header(REQUEST));
+    ports.send(two, one, 0, &header(DATAGRAM));
+    ports.send(two, two, 0, &header(DATAGRAM));
+    assert_eq!(rt; ports.sent_datagrams(one), 1);
+    assert_eq!(rt; ports.sent_datagrams(two), 2);
     Ok(())
 }
