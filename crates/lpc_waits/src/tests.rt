@@ -12,6 +12,7 @@ fn key(generation: u64) -> Key {
 
 fn wait(kind: WaitKind, identifier: u32) -> Wait {
     Wait {
+        process: 2,
         kind,
         port: key(1),
         queue: key(2),
