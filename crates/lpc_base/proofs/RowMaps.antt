@@ -1,5 +1,5 @@
 -- Rows that are shown by a map: what is done to the rows by one test is done to what is shown by another.
-use Rattle.std.proofs.Common.{◌≡◌, List, [], ◌∷◌, ◌++◌, Bool, true, false, length, map, not, Option, Some, None, option_map, refl, arith}
+use Rattle.std.proofs.Common.{◌≡◌, List, [], ◌∷◌, ◌++◌, Bool, true, false, map, not, Option, Some, None, option_map, refl, arith}
 use Rattle.lpc_base.specs.Rows.{change, count, every, first, has, which, without, without_first}
 
 -- every

@@ -53,12 +53,28 @@ pub first-passes : {X : Type 0} (test : X → Bool) (xs : List X) (x : X) → fi
 first-passes test [] y is = grind arith
 first-passes test (x ∷ xs) y is = grind (arith, first-passes test xs y)
 
+pub first-kept : {X : Type 0} (test : X → Bool) (xs : List X) (y x : X) → first test xs ≡ Some x → first test (xs ++ y ∷ []) ≡ Some x
+first-kept test [] y x is = grind arith
+first-kept test (z ∷ xs) y x is = grind (arith, first-kept test xs y x)
+
+pub first-push : {X : Type 0} (test : X → Bool) (xs : List X) (y : X) → has test xs ≡ false → test y ≡ true → first test (xs ++ y ∷ []) ≡ Some y
+first-push test [] y none one = grind arith
+first-push test (x ∷ xs) y none one = grind (arith, first-push test xs y)
+
 -- what passes one test and so another is had by the other
 pub has-first : {X : Type 0} (p q : X → Bool) → ((x : X) → p x ≡ true → q x ≡ true) → (xs : List X) (x : X) → first p xs ≡ Some x → has q xs ≡ true
 has-first p q more [] y is = grind arith
 has-first p q more (x ∷ xs) y is = grind (arith, more x, has-first p q more xs y)
 
--- a change where nothing passes
+-- where nothing passes
+pub without-none : {X : Type 0} (test : X → Bool) (xs : List X) → has test xs ≡ false → without test xs ≡ xs
+without-none test [] none = refl
+without-none test (x ∷ xs) none = grind (arith, without-none test xs)
+
+pub count-none : {X : Type 0} (test : X → Bool) (xs : List X) → has test xs ≡ false → count test xs ≡ 0
+count-none test [] none = refl
+count-none test (x ∷ xs) none = grind (arith, count-none test xs)
+
 pub change-none : {X : Type 0} (test : X → Bool) (f : X → X) (xs : List X) → has test xs ≡ false → change test f xs ≡ xs
 change-none test f [] none = refl
 change-none test f (x ∷ xs) none = grind (arith, change-none test f xs)

@@ -4,6 +4,7 @@
 
 mod birth;
 mod error;
+mod laws;
 pub mod limits;
 mod memory;
 pub mod status;
@@ -13,6 +14,7 @@ mod tests;
 
 pub use birth::Birth;
 pub use error::{Failed, OutOfMemory};
+pub use laws::law_new_handle_is_least;
 pub use memory::{HonestSource, MemSink, MemSource};
 pub use status::Status;
 pub use streams::{Sink, Source};

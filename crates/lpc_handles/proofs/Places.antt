@@ -1,16 +1,22 @@
 -- The search among rising values, and what rising rows become.
-use Rattle.std.proofs.Common.{◌≡◌, ℕ, zero, suc, ◌+◌, ◌%◌, ◌<◌, ◌≤◌, List, [], ◌∷◌, ◌++◌, Bool, true, false, cond, not, length, map, take, drop, get_or, refl, sym, ap, ◌∙◌, arith}
-use Rattle.std.specs.Prelude.{Option, Some, None, IfSome, IfNone, find, filter, is_some, option_map, ◌==◌, nat_lt}
+use Rattle.std.proofs.Common.{◌≡◌, ℕ, zero, suc, ◌+◌, ◌%◌, ◌<◌, ◌≤◌, List, [], ◌∷◌, ◌++◌, Bool, true, false, cond, length, take, drop, get_or, refl, sym, ap, ◌∙◌, arith}
+use Rattle.std.specs.Prelude.{Option, Some, None, IfSome, IfNone, is_some, option_map, ◌==◌}
 use Rattle.std.proofs.lemmas.Bool.Decides.{nat_tests}
 use Rattle.lpc_base.specs.Places.{is_in, handle_from, least_handle}
+use Rattle.lpc_base.specs.Rows.{first, has, which, without}
+use Rattle.lpc_base.proofs.RowWords.{without-none}
 use Rattle.lpc_handles.specs.declared.table.Row.{Row}
-use Rattle.lpc_handles.specs.Handles.{at, are_rising, has_value, is_above, is_below, is_from, values, with_row, without, IsLeastFrom}
+use Rattle.lpc_handles.specs.Handles.{at, are_rising, has_value, is_above, is_below, is_from, values, with_row, IsLeastFrom}
 
 next-place : (v x : ℕ) → v % 4 ≡ 0 → x % 4 ≡ 0 → v < x → v + 4 ≤ x
 next-place v x a b lt = omega arith
 
 next-four : (v : ℕ) → v % 4 ≡ 0 → (v + 4) % 4 ≡ 0
 next-four v four = omega arith
+
+unmapped : {X Y : Type 0} (f : X → Y) (o : Option X) → option_map f o ≡ None → is_some o ≡ false
+unmapped f None is = refl
+unmapped f (Some x) is = cc
 
 module _ {O : Type 0} where
   -- the first of v, v + 4, .. that rising rows leave free, and how many rows come before it
@@ -59,11 +65,11 @@ module _ {O : Type 0} where
   place-within v [] = omega arith
   place-within v (row ∷ rows) = grind (arith, place-within (v + 4) rows)
 
-  below-none : (v least : ℕ) (rows : List (ℕ × Row O)) → v ≤ least → are_rising least rows ≡ true → filter (is_below v) rows ≡ []
+  below-none : (v least : ℕ) (rows : List (ℕ × Row O)) → v ≤ least → are_rising least rows ≡ true → which (is_below v) rows ≡ []
   below-none v least [] le rises = refl
   below-none v least (row ∷ rows) le rises = grind (arith, nat_tests, below-none v (row.0 + 4) rows)
 
-  above-all : (v least : ℕ) (rows : List (ℕ × Row O)) → v < least → are_rising least rows ≡ true → filter (is_above v) rows ≡ rows
+  above-all : (v least : ℕ) (rows : List (ℕ × Row O)) → v < least → are_rising least rows ≡ true → which (is_above v) rows ≡ rows
   above-all v least [] lt rises = refl
   above-all v least (row ∷ rows) lt rises = grind (arith, nat_tests, above-all v (row.0 + 4) rows)
 
@@ -151,32 +157,37 @@ module _ {O : Type 0} where
   rises-from a b [] le rises = refl
   rises-from a b (row ∷ rows) le rises = grind (arith, nat_tests)
 
-  pub without-rises : (value least : ℕ) (rows : List (ℕ × Row O)) → are_rising least rows ≡ true → are_rising least (without value rows) ≡ true
+  pub without-rises : (value least : ℕ) (rows : List (ℕ × Row O)) → are_rising least rows ≡ true → are_rising least (without (has_value value) rows) ≡ true
   without-rises value least [] rises = refl
-  without-rises value least (row ∷ rows) rises = grind (arith, nat_tests, without-rises value (row.0 + 4) rows, rises-from least (row.0 + 4) (without value rows))
+  without-rises value least (row ∷ rows) rises = grind (arith, nat_tests, without-rises value (row.0 + 4) rows, rises-from least (row.0 + 4) (without (has_value value) rows))
 
-  pub without-none : (value : ℕ) (rows : List (ℕ × Row O)) → at rows value ≡ None → without value rows ≡ rows
-  without-none value [] none = refl
-  without-none value (row ∷ rows) none = grind (arith, without-none value rows)
+  pub none-goes : (value : ℕ) (rows : List (ℕ × Row O)) → at rows value ≡ None → without (has_value value) rows ≡ rows
+  none-goes value rows none = without-none (has_value value) rows (unmapped (λ row. row.1) (first (has_value value) rows) none)
 
-  pub without-within : (value : ℕ) (rows : List (ℕ × Row O)) → length (without value rows) ≤ length rows
+  pub without-within : (value : ℕ) (rows : List (ℕ × Row O)) → length (without (has_value value) rows) ≤ length rows
   without-within value [] = omega arith
   without-within value (row ∷ rows) = grind (arith, without-within value rows)
 
-  pub without-fewer : (value : ℕ) (rows : List (ℕ × Row O)) (x : Row O) → at rows value ≡ Some x → length (without value rows) < length rows
-  without-fewer value [] x is = grind arith
-  without-fewer value (row ∷ rows) x is = grind (arith, without-fewer value rows x, without-within value rows)
+  -- rising values pass over those below them
+  absent : (value least : ℕ) (rows : List (ℕ × Row O)) → value < least → are_rising least rows ≡ true → has (has_value value) rows ≡ false
+  absent value least [] lt rises = refl
+  absent value least (row ∷ rows) lt rises = grind (arith, nat_tests, absent value (row.0 + 4) rows)
+
+  pub one-goes : (value least : ℕ) (rows : List (ℕ × Row O)) (x : Row O) → are_rising least rows ≡ true → at rows value ≡ Some x → length (without (has_value value) rows) + 1 ≡ length rows
+  one-goes value least [] x rises is = grind arith
+  one-goes value least (row ∷ rows) x rises is =
+      grind (arith, nat_tests, one-goes value (row.0 + 4) rows x, absent value (row.0 + 4) rows, without-none (has_value value) rows)
 
   -- the first row that isn't below
-  pub first-none : (from other : ℕ) (rows : List (ℕ × Row O)) → find (is_from from) rows ≡ None → from ≤ other → at rows other ≡ None
+  pub first-none : (from other : ℕ) (rows : List (ℕ × Row O)) → first (is_from from) rows ≡ None → from ≤ other → at rows other ≡ None
   first-none from other [] none le = refl
   first-none from other (row ∷ rows) none le = grind (arith, nat_tests, first-none from other rows)
 
-  first-used : (from v : ℕ) (rows : List (ℕ × Row O)) → option_map (λ row. row.0) (find (is_from from) rows) ≡ Some v → is_some (at rows v) ≡ true
+  first-used : (from v : ℕ) (rows : List (ℕ × Row O)) → option_map (λ row. row.0) (first (is_from from) rows) ≡ Some v → is_some (at rows v) ≡ true
   first-used from v [] is = grind arith
   first-used from v (row ∷ rows) is = grind (arith, nat_tests, first-used from v rows)
 
-  first-within : (from v : ℕ) (rows : List (ℕ × Row O)) → option_map (λ row. row.0) (find (is_from from) rows) ≡ Some v → from ≤ v
+  first-within : (from v : ℕ) (rows : List (ℕ × Row O)) → option_map (λ row. row.0) (first (is_from from) rows) ≡ Some v → from ≤ v
   first-within from v [] is = grind arith
   first-within from v (row ∷ rows) is = grind (arith, nat_tests, first-within from v rows)
 
@@ -184,11 +195,11 @@ module _ {O : Type 0} where
   at-above least other [] rises has = grind arith
   at-above least other (row ∷ rows) rises has = grind (arith, nat_tests, at-above (row.0 + 4) other rows)
 
-  first-lowest : (least from v other : ℕ) (rows : List (ℕ × Row O)) → are_rising least rows ≡ true → option_map (λ row. row.0) (find (is_from from) rows) ≡ Some v → from ≤ other → is_some (at rows other) ≡ true → v ≤ other
+  first-lowest : (least from v other : ℕ) (rows : List (ℕ × Row O)) → are_rising least rows ≡ true → option_map (λ row. row.0) (first (is_from from) rows) ≡ Some v → from ≤ other → is_some (at rows other) ≡ true → v ≤ other
   first-lowest least from v other [] rises is le has = grind arith
   first-lowest least from v other (row ∷ rows) rises is le has = grind (arith, nat_tests, first-lowest (row.0 + 4) from v other rows, at-above (row.0 + 4) other rows)
 
-  pub first-least : (from : ℕ) (rows : List (ℕ × Row O)) (o : Option ℕ) → are_rising 4 rows ≡ true → o ≡ option_map (λ row. row.0) (find (is_from from) rows) → IfSome o (λ v. IsLeastFrom rows from v)
+  pub first-least : (from : ℕ) (rows : List (ℕ × Row O)) (o : Option ℕ) → are_rising 4 rows ≡ true → o ≡ option_map (λ row. row.0) (first (is_from from) rows) → IfSome o (λ v. IsLeastFrom rows from v)
   first-least from rows None rises is = tt
   first-least from rows (Some v) rises is = record {
     used = first-used from v rows (sym is);
@@ -200,6 +211,6 @@ module _ {O : Type 0} where
   no-first None is = refl
   no-first (Some x) is = cc
 
-  pub first-missing : (from : ℕ) (rows : List (ℕ × Row O)) (o : Option ℕ) → o ≡ option_map (λ row. row.0) (find (is_from from) rows) → IfNone o ((other : ℕ) → from ≤ other → at rows other ≡ None)
-  first-missing from rows None is = λ other le. first-none from other rows (no-first (find (is_from from) rows) is) le
+  pub first-missing : (from : ℕ) (rows : List (ℕ × Row O)) (o : Option ℕ) → o ≡ option_map (λ row. row.0) (first (is_from from) rows) → IfNone o ((other : ℕ) → from ≤ other → at rows other ≡ None)
+  first-missing from rows None is = λ other le. first-none from other rows (no-first (first (is_from from) rows) is) le
   first-missing from rows (Some v) is = tt

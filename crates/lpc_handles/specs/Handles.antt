@@ -1,7 +1,7 @@
 -- What contracts see of the handles of one process.
-use Rattle.std.specs.Prelude.{ℕ, ◌+◌, ◌*◌, ◌%◌, ◌<◌, ◌≤◌, ◌≡◌, ◌==◌, ◌&&◌, Bool, true, false, not, nat_lt, List, [], ◌∷◌, ◌++◌, map, find, filter, length, Option, Some, None, is_some, option_map, refl}
+use Rattle.std.specs.Prelude.{ℕ, ◌+◌, ◌%◌, ◌≤◌, ◌≡◌, ◌==◌, ◌&&◌, Bool, true, not, nat_lt, List, [], ◌∷◌, ◌++◌, map, Option, is_some, option_map, refl}
 use Rattle.std.specs.Coded.{Coded, code_by, coded×, coded_ℕ, coded_list}
-use Rattle.lpc_base.specs.Places.{is_in, least_handle}
+use Rattle.lpc_base.specs.Rows.{first, which}
 use Rattle.lpc_handles.specs.declared.table.Row.{Row}
 
 -- the handles by rising value, each under its value; how many more go in without memory
@@ -21,6 +21,10 @@ module _ {O : Type 0} where
   abbrev pub has_value : ℕ → ℕ × Row O → Bool
   has_value value row = row.0 == value
 
+  -- a handle names the object, as told by a test of two objects
+  abbrev pub is_named : (O → O → Bool) → O → ℕ × Row O → Bool
+  is_named same object row = same row.1.object object
+
   -- a handle's value isn't below this one
   abbrev pub is_from : ℕ → ℕ × Row O → Bool
   is_from value row = not (nat_lt row.0 value)
@@ -38,15 +42,11 @@ module _ {O : Type 0} where
 
   -- what the handle with a value names and grants
   abbrev pub at : List (ℕ × Row O) → ℕ → Option (Row O)
-  at rows value = option_map (λ row. row.1) (find (has_value value) rows)
+  at rows value = option_map (λ row. row.1) (first (has_value value) rows)
 
   -- the handles with one more, behind those of lesser values and before those of greater ones
   abbrev pub with_row : List (ℕ × Row O) → ℕ → Row O → List (ℕ × Row O)
-  with_row rows value row = filter (is_below value) rows ++ (value, row) ∷ filter (is_above value) rows
-
-  -- the handles but the one with a value
-  abbrev pub without : ℕ → List (ℕ × Row O) → List (ℕ × Row O)
-  without value rows = filter (λ row. not (has_value value row)) rows
+  with_row rows value row = which (is_below value) rows ++ (value, row) ∷ which (is_above value) rows
 
   -- the values are multiples of 4 that rise, none below `least`
   abbrev pub are_rising : ℕ → List (ℕ × Row O) → Bool
@@ -58,12 +58,3 @@ module _ {O : Type 0} where
     pub used : is_some (at rows value) ≡ true
     pub within : from ≤ value
     pub least : (other : ℕ) → from ≤ other → is_some (at rows other) ≡ true → value ≤ other
-
--- the value is a multiple of 4 from 4 that isn't taken, and each lesser one is taken
-pub record IsLeastFree (taken : List ℕ) (value : ℕ) : Type 0 where
-  pub free : is_in value taken ≡ false
-  pub place : (k : ℕ) × (value ≡ 4 * (k + 1))
-  pub least : (k : ℕ) → 4 * (k + 1) < value → is_in (4 * (k + 1)) taken ≡ true
-
-abbrev pub NewHandlesAreLeast : Type 0
-NewHandlesAreLeast = (taken : List ℕ) → IsLeastFree taken (least_handle taken)

@@ -1,7 +1,8 @@
 // The table of one process's handles, by rising value.
-ghost use Rattle.std.specs.Prelude.{◌≡◌, ℕ, ◌+◌, ◌<◌, ◌≤◌, ◌↔◌, true, [], length, insert, option_map, Some, None, IsErr, IfOk, OnOk, OnErr, OnSome, IfSome, IfNone, find, vec_len, vec_capacity};
+ghost use Rattle.std.specs.Prelude.{◌≡◌, ℕ, ◌+◌, ◌<◌, ◌≤◌, ◌↔◌, true, [], length, insert, option_map, None, IsErr, IfOk, OnOk, OnErr, OnSome, IfSome, IfNone, vec_len, vec_capacity};
 ghost use Rattle.lpc_base.specs.Places.{least_handle};
-ghost use Rattle.lpc_handles.specs.Handles.{at, are_rising, is_from, values, with_row, without, IsLeastFrom};
+ghost use Rattle.lpc_base.specs.Rows.{first, has, without};
+ghost use Rattle.lpc_handles.specs.Handles.{IsLeastFrom, are_rising, at, has_value, is_from, is_named, values, with_row};
 
 use lpc_base::OutOfMemory;
 use lpc_base::limits::HANDLE_LIMIT;
@@ -107,8 +108,8 @@ impl<O: Copy> Table<O> {
     /// value, and then nothing changes.
     pub fn close(&mut self, value: u32) -> Option<Row<O>>
         ensures row { result ≡ at self.old.rows value }
-        ensures rows { self.new.rows ≡ without value self.old.rows }
-        ensures spare { OnSome result (self.old.spare < self.new.spare) }
+        ensures rows { self.new.rows ≡ without (has_value value) self.old.rows }
+        ensures spare { OnSome result (self.new.spare ≡ self.old.spare + 1) }
         ensures same { IfNone result (self.new ≡ self.old) }
     {
         let row = self.get(value)?;
@@ -118,7 +119,7 @@ impl<O: Copy> Table<O> {
 
     /// The least value in use that isn't below `value`; None exactly where each value in use is below it.
     pub fn first_from(&self, value: u32) -> Option<u32>
-        ensures first { result ≡ option_map (λ row. row.0) (find (is_from value) self.now.rows) }
+        ensures first { result ≡ option_map (λ row. row.0) (first (is_from value) self.now.rows) }
         ensures least { IfSome result (λ v. IsLeastFrom self.now.rows value v) }
         ensures none { IfNone result ((other : ℕ) → value ≤ other → at self.now.rows other ≡ None) }
         ensures rising { are_rising 4 self.now.rows ≡ true }
@@ -127,9 +128,23 @@ impl<O: Copy> Table<O> {
     }
 }
 
+impl<O: Copy + Eq> Table<O> {
+    /// A handle names the object.
+    pub fn names(&self, object: O) -> bool
+        ensures { result ≡ has (is_named O.eq object) self.now.rows }
+    {
+        for (_, row) in &self.rows {
+            if row.object == object {
+                return true;
+            }
+        }
+        false
+    }
+}
+
 /// The first value that isn't below.
 fn value_from<O: Copy>(rows: &[(u32, Row<O>)], value: u32) -> Option<u32>
-    ensures { result ≡ option_map (λ row. row.0) (find (is_from value) rows.now) }
+    ensures { result ≡ option_map (λ row. row.0) (first (is_from value) rows.now) }
 {
     for (other, _) in rows {
         if *other >= value {
@@ -141,8 +156,8 @@ fn value_from<O: Copy>(rows: &[(u32, Row<O>)], value: u32) -> Option<u32>
 
 /// Takes the handle with a value out of the rows.
 fn take_out<O: Copy>(rows: &mut Vec<(u32, Row<O>)>, value: u32)
-    ensures rows { rows.new.items ≡ without value rows.old.items }
-    ensures len { vec_len rows.new ≡ length (without value rows.old.items) }
+    ensures rows { rows.new.items ≡ without (has_value value) rows.old.items }
+    ensures len { vec_len rows.new ≡ length (without (has_value value) rows.old.items) }
     ensures room { vec_capacity rows.new ≡ vec_capacity rows.old }
 {
     rows.retain(|row| row.0 != value);

@@ -27,5 +27,7 @@ fn handle_takes_the_least_free_multiple_of_four(rt: HostRuntime) -> Result<(), F
         })
     );
     assert_eq!(rt; table.first_from(13), None);
+    assert!(rt; table.names(b'd'));
+    assert!(rt; !table.names(b'b'));
     Ok(())
 }

@@ -1,54 +1,14 @@
 -- What the changes of rows keep.
 use Rattle.std.proofs.Common.{◌≡◌, ℕ, List, [], ◌∷◌, ◌++◌, Bool, true, false, refl, ap, arith}
-use Rattle.std.specs.Prelude.{Option, Some, None, find, is_some, IfSome, option_map, ◌==◌}
+use Rattle.std.specs.Prelude.{Option, Some, None, is_some, IfSome, option_map, ◌==◌}
 use Rattle.std.proofs.lemmas.Bool.Decides.{nat_tests}
+use Rattle.lpc_base.specs.Rows.{change, every, first, has, without}
+use Rattle.lpc_base.proofs.RowWords.{change-none, every-change, every-more, every-push, every-without, first-kept, first-push, has-change, has_none-push, has_none-without}
 use Rattle.lpc_procs.specs.declared.rows.ThreadRow.{ThreadRow}
 use Rattle.lpc_procs.specs.declared.rows.UsedThread.{UsedThread}
-use Rattle.lpc_procs.specs.Kept.{are_single, every, is_noted, is_of, IsKept}
-use Rattle.lpc_procs.specs.Procs.{change, ended, has, is_thread, is_used_thread, past_birth, past_identifier, without}
+use Rattle.lpc_procs.specs.Kept.{are_single, is_noted, is_of, IsKept}
+use Rattle.lpc_procs.specs.Procs.{ended, is_thread, is_used_thread, past_birth, past_identifier}
 
--- Lists of rows
-every-more : {X : Type 0} (p q : X → Bool) → ((x : X) → p x ≡ true → q x ≡ true) → (xs : List X) → every p xs ≡ true → every q xs ≡ true
-every-more p q more [] all = refl
-every-more p q more (x ∷ xs) all = grind (arith, more x, every-more p q more xs)
-
-every-push : {X : Type 0} (p : X → Bool) (xs : List X) (y : X) → every p xs ≡ true → p y ≡ true → every p (xs ++ y ∷ []) ≡ true
-every-push p [] y all one = grind arith
-every-push p (x ∷ xs) y all one = grind (arith, every-push p xs y)
-
-every-without : {X : Type 0} (p test : X → Bool) (xs : List X) → every p xs ≡ true → every p (without test xs) ≡ true
-every-without p test [] all = refl
-every-without p test (x ∷ xs) all = grind (arith, every-without p test xs)
-
-every-change : {X : Type 0} (p test : X → Bool) (f : X → X) → ((x : X) → p x ≡ true → p (f x) ≡ true) → (xs : List X) → every p xs ≡ true → every p (change test f xs) ≡ true
-every-change p test f same [] all = refl
-every-change p test f same (x ∷ xs) all = grind (arith, same x, every-change p test f same xs)
-
-has_none-push : {X : Type 0} (p : X → Bool) (xs : List X) (y : X) → has p xs ≡ false → p y ≡ false → has p (xs ++ y ∷ []) ≡ false
-has_none-push p [] y none off = grind arith
-has_none-push p (x ∷ xs) y none off = grind (arith, has_none-push p xs y)
-
-has_none-without : {X : Type 0} (p test : X → Bool) (xs : List X) → has p xs ≡ false → has p (without test xs) ≡ false
-has_none-without p test [] none = refl
-has_none-without p test (x ∷ xs) none = grind (arith, has_none-without p test xs)
-
-has-change : {X : Type 0} (p test : X → Bool) (f : X → X) → ((x : X) → p (f x) ≡ p x) → (xs : List X) → has p (change test f xs) ≡ has p xs
-has-change p test f same [] = refl
-has-change p test f same (x ∷ xs) = grind (arith, same x, has-change p test f same xs)
-
-change-none : {X : Type 0} (test : X → Bool) (f : X → X) (xs : List X) → has test xs ≡ false → change test f xs ≡ xs
-change-none test f [] none = refl
-change-none test f (x ∷ xs) none = grind (arith, change-none test f xs)
-
-find-push : {X : Type 0} (p : X → Bool) (xs : List X) (y x : X) → find p xs ≡ Some x → find p (xs ++ y ∷ []) ≡ Some x
-find-push p [] y x is = grind arith
-find-push p (z ∷ xs) y x is = grind (arith, find-push p xs y x)
-
-find-new : {X : Type 0} (p : X → Bool) (xs : List X) (y : X) → has p xs ≡ false → p y ≡ true → find p (xs ++ y ∷ []) ≡ Some y
-find-new p [] y none one = grind arith
-find-new p (x ∷ xs) y none one = grind (arith, find-new p xs y)
-
--- Threads
 same-number : (a b : ℕ) → (a == b) ≡ true → a ≡ b
 same-number a b is = grind (arith, nat_tests)
 
@@ -64,9 +24,9 @@ single-change : (test : ThreadRow → Bool) (f : ThreadRow → ThreadRow) → ((
 single-change test f same [] single = refl
 single-change test f same (x ∷ ts) single = grind (arith, same x, single-change test f same ts, has-change (is_thread x.number) test f (λ t. ap (λ n. n == x.number) (same t)) ts)
 
-noted-push : (used : List UsedThread) (u : UsedThread) (t : ThreadRow) (o : Option UsedThread) → find (is_used_thread t.number) used ≡ o → is_of t.process o ≡ true → is_noted (used ++ u ∷ []) t ≡ true
+noted-push : (used : List UsedThread) (u : UsedThread) (t : ThreadRow) (o : Option UsedThread) → first (is_used_thread t.number) used ≡ o → is_of t.process o ≡ true → is_noted (used ++ u ∷ []) t ≡ true
 noted-push used u t None is of = cc
-noted-push used u t (Some v) is of = rw (find-push (is_used_thread t.number) used u v is) of
+noted-push used u t (Some v) is of = rw (first-kept (is_used_thread t.number) used u v is) of
 
 unused-absent : (tid : ℕ) (used : List UsedThread) (ts : List ThreadRow) → has (is_used_thread tid) used ≡ false → every (is_noted used) ts ≡ true → has (is_thread tid) ts ≡ false
 unused-absent tid used [] new noted = refl
@@ -76,8 +36,8 @@ unused-absent tid used (t ∷ ts) new noted = step (t.number == tid) t refl (gri
     step false t off noted rest = rw off rest
     step true t is noted rest =
         let e : t.number ≡ tid = same-number t.number tid is in
-        let noted' : is_of t.process (find (is_used_thread tid) used) ≡ true = rw (← e) noted in
-        absurd (absent (find (is_used_thread tid) used) noted' new)
+        let noted' : is_of t.process (first (is_used_thread tid) used) ≡ true = rw (← e) noted in
+        absurd (absent (first (is_used_thread tid) used) noted' new)
       where
         absent : (o : Option UsedThread) → is_of t.process o ≡ true → is_some o ≡ false → ⊥
         absent None a b = cc
@@ -89,9 +49,9 @@ kept-none = record { noted = refl; single = refl }
 pub kept-push : (ts : List ThreadRow) (used : List UsedThread) (t : ThreadRow) → IsKept ts used → has (is_used_thread t.number) used ≡ false → IsKept (ts ++ t ∷ []) (used ++ (record { number = t.number; process = t.process }) ∷ [])
 kept-push ts used t kept new =
     let u : UsedThread = record { number = t.number; process = t.process } in
-    let here : is_noted (used ++ u ∷ []) t ≡ true = rw (find-new (is_used_thread t.number) used u new (grind (arith, nat_tests))) (grind (arith, nat_tests)) in
+    let here : is_noted (used ++ u ∷ []) t ≡ true = rw (first-push (is_used_thread t.number) used u new (grind (arith, nat_tests))) (grind (arith, nat_tests)) in
     record {
-      noted = every-push (is_noted (used ++ u ∷ [])) ts t (every-more (is_noted used) (is_noted (used ++ u ∷ [])) (λ x h. noted-push used u x (find (is_used_thread x.number) used) refl h) ts kept.noted) here;
+      noted = every-push (is_noted (used ++ u ∷ [])) ts t (every-more (is_noted used) (is_noted (used ++ u ∷ [])) (λ x h. noted-push used u x (first (is_used_thread x.number) used) refl h) ts kept.noted) here;
       single = single-push ts t kept.single (unused-absent t.number used ts new kept.noted);
     }
 
@@ -119,18 +79,18 @@ kept-change test f ts used keeps kept = record {
 put-tail : (tid : ℕ) (x : ThreadRow) (ts : List ThreadRow) → are_single (x ∷ ts) ≡ true → x.number ≡ tid → has (is_thread tid) ts ≡ false
 put-tail tid x ts single is = rw (← is) (grind arith)
 
-pub put-changed : (tid : ℕ) (f : ThreadRow → ThreadRow) (ts : List ThreadRow) (row : ThreadRow) → are_single ts ≡ true → find (is_thread tid) ts ≡ Some row → change (is_thread tid) (λ _. f row) ts ≡ change (is_thread tid) f ts
+pub put-changed : (tid : ℕ) (f : ThreadRow → ThreadRow) (ts : List ThreadRow) (row : ThreadRow) → are_single ts ≡ true → first (is_thread tid) ts ≡ Some row → change (is_thread tid) (λ _. f row) ts ≡ change (is_thread tid) f ts
 put-changed tid f [] row single is = refl
 put-changed tid f (x ∷ ts) row single is = step (x.number == tid) refl (λ is'. put-changed tid f ts row (grind arith) is')
   where
-    step : (b : Bool) → (x.number == tid) ≡ b → (find (is_thread tid) ts ≡ Some row → change (is_thread tid) (λ _. f row) ts ≡ change (is_thread tid) f ts) → change (is_thread tid) (λ _. f row) (x ∷ ts) ≡ change (is_thread tid) f (x ∷ ts)
+    step : (b : Bool) → (x.number == tid) ≡ b → (first (is_thread tid) ts ≡ Some row → change (is_thread tid) (λ _. f row) ts ≡ change (is_thread tid) f ts) → change (is_thread tid) (λ _. f row) (x ∷ ts) ≡ change (is_thread tid) f (x ∷ ts)
     step false off next = grind (arith, off, next, is)
     step true on next =
         let e : x.number ≡ tid = same-number x.number tid on in
         let none = put-tail tid x ts single e in
         grind (arith, on, is, change-none (is_thread tid) (λ _. f row) ts, change-none (is_thread tid) f ts)
 
-pub put-kept : (tid : ℕ) (f : ThreadRow → ThreadRow) (ts : List ThreadRow) (used : List UsedThread) (row : ThreadRow) → KeepsNumbers f → IsKept ts used → find (is_thread tid) ts ≡ Some row → IsKept (change (is_thread tid) (λ _. f row) ts) used
+pub put-kept : (tid : ℕ) (f : ThreadRow → ThreadRow) (ts : List ThreadRow) (used : List UsedThread) (row : ThreadRow) → KeepsNumbers f → IsKept ts used → first (is_thread tid) ts ≡ Some row → IsKept (change (is_thread tid) (λ _. f row) ts) used
 put-kept tid f ts used row keeps kept is = rw (put-changed tid f ts row kept.single is) (kept-change (is_thread tid) f ts used keeps kept)
 
 pub keeps-identifier : KeepsNumbers past_identifier
@@ -143,11 +103,11 @@ pub keeps-ended : KeepsNumbers ended
 keeps-ended = record { number = λ t. refl; process = λ t. refl }
 
 -- the process of a thread is the one that is noted
-pub process-noted : (tid : ℕ) (used : List UsedThread) (ts : List ThreadRow) (o : Option ThreadRow) → every (is_noted used) ts ≡ true → find (is_thread tid) ts ≡ o → IfSome o (λ t. option_map (λ u. u.process) (find (is_used_thread tid) used) ≡ Some t.process)
+pub process-noted : (tid : ℕ) (used : List UsedThread) (ts : List ThreadRow) (o : Option ThreadRow) → every (is_noted used) ts ≡ true → first (is_thread tid) ts ≡ o → IfSome o (λ t. option_map (λ u. u.process) (first (is_used_thread tid) used) ≡ Some t.process)
 process-noted tid used ts None noted is = tt
-process-noted tid used ts (Some t) noted is = one (find (is_used_thread tid) used) (found-noted ts noted is)
+process-noted tid used ts (Some t) noted is = one (first (is_used_thread tid) used) (found-noted ts noted is)
   where
-    found-noted : (xs : List ThreadRow) → every (is_noted used) xs ≡ true → find (is_thread tid) xs ≡ Some t → is_of t.process (find (is_used_thread tid) used) ≡ true
+    found-noted : (xs : List ThreadRow) → every (is_noted used) xs ≡ true → first (is_thread tid) xs ≡ Some t → is_of t.process (first (is_used_thread tid) used) ≡ true
     found-noted [] noted is = cc
     found-noted (x ∷ xs) noted is = grind (arith, nat_tests, found-noted xs)
 

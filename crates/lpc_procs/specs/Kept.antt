@@ -1,13 +1,9 @@
 -- What the table keeps of its rows and numbers.
-use Rattle.std.specs.Prelude.{ℕ, ◌≡◌, ◌==◌, ◌&&◌, Bool, true, false, not, List, [], ◌∷◌, Option, Some, None, find}
+use Rattle.std.specs.Prelude.{ℕ, ◌≡◌, ◌==◌, ◌&&◌, Bool, true, false, not, List, [], ◌∷◌, Option, Some, None}
+use Rattle.lpc_base.specs.Rows.{every, first, has}
 use Rattle.lpc_procs.specs.declared.rows.ThreadRow.{ThreadRow}
 use Rattle.lpc_procs.specs.declared.rows.UsedThread.{UsedThread}
-use Rattle.lpc_procs.specs.Procs.{has, is_thread, is_used_thread}
-
--- every row passes
-abbrev pub every : {A : Type 0} → (A → Bool) → List A → Bool
-every test [] = true
-every test (x ∷ xs) = test x && every test xs
+use Rattle.lpc_procs.specs.Procs.{is_thread, is_used_thread}
 
 -- a used number is of a process
 abbrev pub is_of : ℕ → Option UsedThread → Bool
@@ -16,7 +12,7 @@ is_of pid (Some u) = u.process == pid
 
 -- a thread's number is noted as used, with its process
 abbrev pub is_noted : List UsedThread → ThreadRow → Bool
-is_noted used t = is_of t.process (find (is_used_thread t.number) used)
+is_noted used t = is_of t.process (first (is_used_thread t.number) used)
 
 -- no two threads have one number
 abbrev pub are_single : List ThreadRow → Bool

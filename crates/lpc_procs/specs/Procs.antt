@@ -1,5 +1,6 @@
 -- What contracts see of processes and threads.
-use Rattle.std.specs.Prelude.{ℕ, ◌+◌, ◌<◌, ◌≤◌, ◌==◌, ◌&&◌, Bool, false, not, List, map, find, filter, is_some, option_map, Option, if◌then◌else◌}
+use Rattle.std.specs.Prelude.{ℕ, ◌+◌, ◌<◌, ◌≤◌, ◌==◌, ◌&&◌, Bool, false, List, option_map, Option}
+use Rattle.lpc_base.specs.Rows.{change, first, has}
 use Rattle.lpc_base.specs.declared.birth.Birth.{Birth}
 use Rattle.lpc_message.specs.declared.message.ClientId.{ClientId}
 use Rattle.lpc_procs.specs.declared.rows.Number.{Number}
@@ -19,18 +20,6 @@ pub record Table : Type 0 where
   pub thread_room : ℕ
 
 -- Rows
--- some row passes
-abbrev pub has : {A : Type 0} → (A → Bool) → List A → Bool
-has test rows = is_some (find test rows)
-
--- the rows that don't pass
-abbrev pub without : {A : Type 0} → (A → Bool) → List A → List A
-without test rows = filter (λ x. not (test x)) rows
-
--- the rows, each that passes changed
-abbrev pub change : {A : Type 0} → (A → Bool) → (A → A) → List A → List A
-change test f rows = map (λ x. if test x then f x else x) rows
-
 -- a process has the number, and a thread has it
 abbrev pub is_process : ℕ → ProcessRow → Bool
 is_process pid p = p.number == pid
@@ -40,10 +29,17 @@ is_thread tid t = t.number == tid
 
 -- the process that has the number, and the thread that has it
 abbrev pub process_at : Table → ℕ → Option ProcessRow
-process_at s pid = find (is_process pid) s.processes
+process_at s pid = first (is_process pid) s.processes
 
 abbrev pub thread_at : Table → ℕ → Option ThreadRow
-thread_at s tid = find (is_thread tid) s.threads
+thread_at s tid = first (is_thread tid) s.threads
+
+-- a thread is live and of the process, and a thread is live and has the number
+abbrev pub lives_in : ℕ → ThreadRow → Bool
+lives_in pid t = (t.process == pid) && t.live
+
+abbrev pub is_live_thread : ℕ → ThreadRow → Bool
+is_live_thread tid t = (t.number == tid) && t.live
 
 -- a thread is live and has the numbers of a client, its process's and its own
 abbrev pub is_live_client : ClientId → ThreadRow → Bool

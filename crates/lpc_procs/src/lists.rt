@@ -1,14 +1,15 @@
 // Searches and changes of plain lists of rows.
-ghost use Rattle.std.specs.Prelude.{◌≡◌, ◌==◌, ◌≤◌, find, option_map, if◌then◌else◌, vec_len, vec_capacity};
+ghost use Rattle.std.specs.Prelude.{◌≡◌, ◌==◌, ◌≤◌, option_map, if◌then◌else◌, vec_len, vec_capacity};
+ghost use Rattle.lpc_base.specs.Rows.{change, count, first, has, without};
 ghost use Rattle.lpc_procs.specs.Procs as procs;
-ghost use Rattle.lpc_procs.specs.Procs.{change, has, is_live_client, is_process, is_thread, is_used_thread, without};
+ghost use Rattle.lpc_procs.specs.Procs.{is_live_client, is_live_thread, is_process, is_thread, is_used_thread, lives_in};
 
 use crate::{ProcessRow, ThreadRow, UsedThread};
 use lpc_base::Birth;
 use lpc_message::ClientId;
 
 pub fn process_at(rows: &[ProcessRow], pid: u32) -> Option<ProcessRow>
-    ensures { result ≡ find (is_process pid) rows.now }
+    ensures { result ≡ first (is_process pid) rows.now }
 {
     for p in rows {
         if p.number == pid {
@@ -19,7 +20,7 @@ pub fn process_at(rows: &[ProcessRow], pid: u32) -> Option<ProcessRow>
 }
 
 pub fn thread_at(rows: &[ThreadRow], tid: u32) -> Option<ThreadRow>
-    ensures { result ≡ find (is_thread tid) rows.now }
+    ensures { result ≡ first (is_thread tid) rows.now }
 {
     for t in rows {
         if t.number == tid {
@@ -30,7 +31,7 @@ pub fn thread_at(rows: &[ThreadRow], tid: u32) -> Option<ThreadRow>
 }
 
 pub fn used_thread(used: &[UsedThread], tid: u32) -> Option<UsedThread>
-    ensures { result ≡ find (is_used_thread tid) used.now }
+    ensures { result ≡ first (is_used_thread tid) used.now }
 {
     for u in used {
         if u.number == tid {
@@ -41,7 +42,7 @@ pub fn used_thread(used: &[UsedThread], tid: u32) -> Option<UsedThread>
 }
 
 pub fn process_of(used: &[UsedThread], tid: u32) -> Option<u32>
-    ensures { result ≡ option_map (λ u. u.process) (find (is_used_thread tid) used.now) }
+    ensures { result ≡ option_map (λ u. u.process) (first (is_used_thread tid) used.now) }
 {
     match used_thread(used, tid) {
         Some(u) => Some(u.process),
@@ -75,6 +76,47 @@ pub fn is_live(threads: &[ThreadRow], client: ClientId) -> bool
         }
     }
     false
+}
+
+/// A live thread is of the process.
+pub fn has_live(threads: &[ThreadRow], pid: u32) -> bool
+    ensures { result ≡ has (lives_in pid) threads.now }
+{
+    for t in threads {
+        if t.process == pid && t.live {
+            return true;
+        }
+    }
+    false
+}
+
+/// How many live threads are of the process.
+pub fn live_in(threads: &[ThreadRow], pid: u32) -> usize
+    ensures { result ≡ count (lives_in pid) threads.now }
+{
+    threads
+        .iter()
+        .filter(|t| t.process == pid && t.live)
+        .count()
+}
+
+/// How many threads are live.
+pub fn alive(threads: &[ThreadRow]) -> usize
+    ensures { result ≡ count (λ t. t.live) threads.now }
+{
+    threads.iter().filter(|t| t.live).count()
+}
+
+/// The live thread that has the number.
+pub fn live_at(threads: &[ThreadRow], tid: u32) -> Option<ThreadRow>
+    ensures { result ≡ first (is_live_thread tid) threads.now }
+{
+    for t in threads {
+        if t.number == tid && t.live {
+            return Some(*t);
+        }
+    }
+    None
 }
 
 fn put_one(t: &mut ThreadRow, tid: u32, row: ThreadRow)

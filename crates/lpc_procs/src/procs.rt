@@ -1,7 +1,8 @@
 // The table of processes and threads.
-ghost use Rattle.std.specs.Prelude.{◌≡◌, ◌-◌, ◌<◌, ◌≤◌, ◌^◌, ◌++◌, ◌∷◌, [], true, false, find, is_some, option_map, Some, IsSomeAnd, OnOk, OnErr, IfSome};
+ghost use Rattle.std.specs.Prelude.{◌≡◌, ◌-◌, ◌<◌, ◌≤◌, ◌^◌, ◌++◌, ◌∷◌, [], true, false, length, is_some, option_map, Some, IsSomeAnd, OnOk, OnErr, IfSome};
+ghost use Rattle.lpc_base.specs.Rows.{count, first, has, without};
 ghost use Rattle.lpc_procs.specs.Procs as procs;
-ghost use Rattle.lpc_procs.specs.Procs.{IsNumber, birth_of, ended, has, is_live_client, is_process, is_thread, is_used_thread, past_birth, past_identifier, process_at, thread_at, with_thread, without};
+ghost use Rattle.lpc_procs.specs.Procs.{IsNumber, birth_of, ended, is_live_client, is_live_thread, is_process, is_thread, is_used_thread, lives_in, past_birth, past_identifier, process_at, thread_at, with_thread};
 
 use crate::{Number, ProcessRow, ThreadRow, UsedThread, lists};
 use lpc_base::{Birth, OutOfMemory};
@@ -134,7 +135,7 @@ impl Procs {
     /// The process of a thread number that was ever used, also where the thread's row has gone; None exactly where the
     /// number was never used for a thread.
     pub fn process_of(&self, tid: u32) -> Option<u32>
-        ensures process { result ≡ option_map (λ u. u.process) (find (is_used_thread tid) self.now.used_threads) }
+        ensures process { result ≡ option_map (λ u. u.process) (first (is_used_thread tid) self.now.used_threads) }
         ensures row { IfSome (thread_at self.now tid) (λ t. result ≡ Some t.process) }
     {
         lists::process_of(&self.used_threads, tid)
@@ -145,6 +146,49 @@ impl Procs {
         ensures live { result ≡ has (is_live_client client) self.now.threads }
     {
         lists::is_live(&self.threads, client)
+    }
+
+    /// The live thread that has the number; None exactly where there is none.
+    pub fn live_row(&self, tid: u32) -> Option<ThreadRow>
+        ensures row { result ≡ first (is_live_thread tid) self.now.threads }
+    {
+        lists::live_at(&self.threads, tid)
+    }
+
+    /// The process has a live thread.
+    pub fn is_live(&self, pid: u32) -> bool
+        ensures live { result ≡ has (lives_in pid) self.now.threads }
+    {
+        lists::has_live(&self.threads, pid)
+    }
+
+    /// How many live threads the process has.
+    pub fn live_count(&self, pid: u32) -> usize
+        ensures count { result ≡ count (lives_in pid) self.now.threads }
+    {
+        lists::live_in(&self.threads, pid)
+    }
+
+    /// How many threads are live, of all processes.
+    pub fn alive(&self) -> usize
+        ensures count { result ≡ count (λ t. t.live) self.now.threads }
+        ensures bound { result ≤ length self.now.threads }
+    {
+        lists::alive(&self.threads)
+    }
+
+    /// How many processes have a row.
+    pub fn processes(&self) -> usize
+        ensures count { result ≡ length self.now.processes }
+    {
+        self.processes.len()
+    }
+
+    /// How many threads have a row, the ended ones too.
+    pub fn threads(&self) -> usize
+        ensures count { result ≡ length self.now.threads }
+    {
+        self.threads.len()
     }
 
     /// The thread's next message identifier. The one that it draws after this is greater by one.

@@ -1,5 +1,6 @@
 -- What contracts see of the waits: the rows in the order of waiting.
-use Rattle.std.specs.Prelude.{ℕ, ◌+◌, ◌-◌, ◌==◌, ◌&&◌, ◌++◌, ◌∷◌, Bool, true, false, List, [], Option, filter, find, if◌then◌else◌, is_none, map, not}
+use Rattle.std.specs.Prelude.{ℕ, ◌+◌, ◌-◌, ◌==◌, ◌&&◌, ◌++◌, ◌∷◌, Bool, true, false, List, [], Option, not}
+use Rattle.lpc_base.specs.Rows.{first, has}
 use Rattle.lpc_slots.specs.Table.{is_key}
 use Rattle.lpc_slots.specs.declared.Key.{Key}
 use Rattle.lpc_waits.specs.declared.Wait.{Wait}
@@ -19,12 +20,12 @@ is_of tid row = row.thread == tid
 
 -- the row that a thread has, if it waits
 abbrev pub row_of : WaitTable → ℕ → Option WaitRow
-row_of s tid = find (is_of tid) s.rows
+row_of s tid = first (is_of tid) s.rows
 
 -- no two rows have one thread
 abbrev pub are_apart : List WaitRow → Bool
 are_apart [] = true
-are_apart (row ∷ rows) = is_none (find (is_of row.thread) rows) && are_apart rows
+are_apart (row ∷ rows) = not (has (is_of row.thread) rows) && are_apart rows
 
 -- the wait is a receive
 abbrev pub is_receive : WaitKind → Bool
@@ -34,14 +35,6 @@ is_receive Receive = true
 -- a receive that waits on this queue
 abbrev pub is_receive_on : Key → WaitRow → Bool
 is_receive_on queue row = is_receive row.wait.kind && is_key row.wait.queue queue
-
--- the rows that don't pass
-abbrev pub without : (WaitRow → Bool) → List WaitRow → List WaitRow
-without test rows = filter (λ row. not (test row)) rows
-
--- the rows, each that passes changed
-abbrev pub change : (WaitRow → Bool) → (WaitRow → WaitRow) → List WaitRow → List WaitRow
-change test f rows = map (λ row. if test row then f row else row) rows
 
 -- a thread's wait begins, without a message: it takes one place of the spare room, and counts as made
 abbrev pub begun : WaitTable → ℕ → Wait → WaitTable

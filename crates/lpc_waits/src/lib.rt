@@ -1,9 +1,10 @@
 //! The waits of threads, in the order of waiting.
 #![tactic(auto)]
 
-ghost use Rattle.std.specs.Prelude.{◌≡◌, ◌+◌, ◌<◌, ◌-◌, ◌≤◌, ◌^◌, ◌++◌, ◌∷◌, [], length, OnOk, OnErr, OnSome, Some, None, IsSome, option_copied, option_map, is_some, if◌then◌else◌, filter, find};
+ghost use Rattle.std.specs.Prelude.{◌≡◌, ◌+◌, ◌<◌, ◌-◌, ◌≤◌, ◌^◌, ◌++◌, ◌∷◌, [], length, OnOk, OnErr, Some, None, IsSome, option_copied, option_map, is_some, if◌then◌else◌};
 ghost use Rattle.std.specs.List.{position};
-ghost use Rattle.lpc_waits.specs.Table.{is_of, is_receive_on, row_of, begun, without, change, received, with_message, with_queue};
+ghost use Rattle.lpc_base.specs.Rows.{change, count, first, without};
+ghost use Rattle.lpc_waits.specs.Table.{begun, is_of, is_receive_on, received, row_of, with_message, with_queue};
 
 #[cfg(test)]
 mod tests;
@@ -26,6 +27,8 @@ pub enum WaitKind {
 /// The wait of a thread.
 #[derive(Clone, Copy, Debug, PartialEq, Eq)]
 pub struct Wait {
+    /// The process of the waiting thread.
+    pub process: u32,
     pub kind: WaitKind,
     /// The port on which the call was made.
     pub port: Key,
@@ -112,7 +115,7 @@ impl Waits {
     /// The wait of a thread: None exactly where it has none.
     pub fn of(&self, tid: u32) -> Option<&Wait>
         ensures value { option_copied result ≡ option_map (λ row. row.wait) (row_of self.now tid) }
-        ensures one { length (filter (is_of tid) self.now.rows) ≤ 1 }
+        ensures one { count (is_of tid) self.now.rows ≤ 1 }
     {
         for row in &self.rows {
             if row.thread == tid {
@@ -147,7 +150,7 @@ impl Waits {
     ///
     /// No wait is a listen so far, so that `with_listens` adds none.
     pub fn first_on(&self, queue: Key, with_listens: bool) -> Option<u32>
-        ensures { result ≡ option_map (λ row. row.thread) (find (is_receive_on queue) self.now.rows) }
+        ensures { result ≡ option_map (λ row. row.thread) (first (is_receive_on queue) self.now.rows) }
     {
         let _ = with_listens;
         for row in &self.rows {

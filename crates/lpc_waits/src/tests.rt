@@ -12,6 +12,7 @@ fn key(generation: u64) -> Key {
 
 fn wait(kind: WaitKind, identifier: u32) -> Wait {
     Wait {
+        process: 2,
         kind,
         port: key(1),
         queue: key(2),
@@ -32,7 +33,14 @@ fn waits_begin_change_and_end(rt: HostRuntime) -> Result<(), Fail> {
     waits.set_message(4, b"abc");
     assert_eq!(rt; waits.message(4), b"abc".as_slice());
     waits.receive(4);
-    assert_eq!(rt; waits.of(4).map(|found| found.received), Some(true));
+    assert_eq!(rt;
+        waits.of(4).copied(),
+        Some(Wait {
+            received: true,
+            ..wait(WaitKind::Request, 7)
+        })
+    );
+    assert_eq!(rt; waits.of(7), None);
     waits.set_queue(5, key(3));
     assert_eq!(rt; waits.first_on(key(2), false), Some(6));
     assert_eq!(rt; waits.end(6), Some(wait(WaitKind::Receive, 0)));

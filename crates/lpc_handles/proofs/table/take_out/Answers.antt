@@ -1,4 +1,4 @@
-use Rattle.std.proofs.Common.{rules, arith, sym, ap, ◌∙◌, length}
+use Rattle.std.proofs.Common.{rules, ap, ◌∙◌, length}
 use Rattle.std.proofs.lemmas.Fn.{filter_same}
 use Rattle.lpc_handles.proofs.table.take_out.Goals as goal
 

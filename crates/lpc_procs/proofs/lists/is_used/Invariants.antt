@@ -1,5 +1,5 @@
 use Rattle.std.proofs.Common.{◌≡◌, ◌==◌, drop}
-use Rattle.lpc_procs.specs.Procs.{has}
+use Rattle.lpc_base.specs.Rows.{has}
 use Rattle.lpc_procs.proofs.lists.is_used.Given as goal
 
 abbrev pub invariant-loop-n : goal.invariant-loop-n

@@ -1,5 +1,6 @@
 use Rattle.std.proofs.Common.{◌≡◌, ◌++◌, take, drop}
-use Rattle.lpc_procs.specs.Procs.{change, is_thread}
+use Rattle.lpc_base.specs.Rows.{change}
+use Rattle.lpc_procs.specs.Procs.{is_thread}
 use Rattle.lpc_procs.proofs.lists.put_thread.Given as goal
 
 abbrev pub invariant-loop-t : goal.invariant-loop-t

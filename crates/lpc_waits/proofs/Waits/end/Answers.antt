@@ -1,7 +1,8 @@
-use Rattle.std.proofs.Common.{sym, ap, ◌∙◌, option_map}
+use Rattle.std.proofs.Common.{sym, ap, ◌∙◌, option_map, is_some}
 use Rattle.lpc_waits.specs.declared.WaitRow.{WaitRow}
 use Rattle.lpc_waits.specs.Table.{is_of}
-use Rattle.lpc_waits.proofs.Places.{none_first, none_without}
+use Rattle.lpc_base.proofs.RowWords.{without-none}
+use Rattle.lpc_waits.proofs.Places.{none_first}
 use Rattle.lpc_waits.proofs.Apart.{apart_without, ended_at, row_is}
 use Rattle.lpc_waits.proofs.Waits.end.Goals as goal
 
@@ -13,7 +14,7 @@ returns-in_err-index-clause-value c =
 pub returns-in_err-index-clause-rows : goal.returns-in_err-index-clause-rows
 returns-in_err-index-clause-rows c =
     let none = none_first (is_of c.args.tid) c.self.inside.rows.items (sym (rw (← c.self.view_is) at c.in_err-index.ensures)) in
-    rw (← c.self.view_is) (sym (none_without (is_of c.args.tid) c.self.inside.rows.items none))
+    rw (← c.self.view_is) (sym (without-none (is_of c.args.tid) c.self.inside.rows.items (ap is_some none)))
 
 pub invariant_of-self : goal.invariant_of-self
 invariant_of-self c =

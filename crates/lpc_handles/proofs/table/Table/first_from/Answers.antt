@@ -1,4 +1,3 @@
-use Rattle.std.proofs.Common.{arith}
 use Rattle.lpc_handles.proofs.Places.{first-least, first-missing}
 use Rattle.lpc_handles.proofs.table.Table.first_from.Goals as goal
 

@@ -1,6 +1,6 @@
 -- The search for a free handle finds the least one.
-use Rattle.std.proofs.Common.{◌≡◌, ℕ, zero, suc, ◌+◌, ◌*◌, ◌<◌, ◌≤◌, ◌-◌, List, [], ◌∷◌, Bool, true, false, cond, length, map, refl, sym, ap, subst, ◌∙◌, arith, eqb, inl, inr, add-zero}
-use Rattle.std.specs.Prelude.{Option, Some, None, find, is_some, ◌==◌, ◌⊎◌, nat_lt}
+use Rattle.std.proofs.Common.{◌≡◌, ℕ, zero, suc, ◌+◌, ◌*◌, ◌<◌, List, [], ◌∷◌, Bool, true, false, cond, length, refl, sym, ap, subst, ◌∙◌, arith, eqb, inl, inr, add-zero}
+use Rattle.std.specs.Prelude.{◌==◌, ◌⊎◌, nat_lt}
 use Rattle.std.specs.List.{IsDistinct, AllByRecursion}
 use Rattle.std.specs.Cmp.{nat_eq_equiv}
 use Rattle.std.specs.Set.{is_member}
@@ -8,8 +8,7 @@ use Rattle.std.proofs.lemmas.Bool.Decides.{nat_tests}
 use Rattle.std.proofs.lemmas.Bool.{eqb-true}
 use Rattle.std.proofs.lemmas.Map.Keys.{IsDistinct-cons}
 use Rattle.std.proofs.lemmas.Map.Made.{length-le_from_is_member}
-use Rattle.lpc_base.specs.Places.{is_in, handle_from, least_handle}
-use Rattle.lpc_handles.specs.Handles.{NewHandlesAreLeast}
+use Rattle.lpc_base.specs.Places.{is_in, handle_from, least_handle, NewHandlesAreLeast}
 
 -- n values from v on, by fours
 abbrev places : ℕ → ℕ → List ℕ
