@@ -7,6 +7,7 @@ mod error;
 mod laws;
 pub mod limits;
 mod memory;
+mod port_kind;
 pub mod status;
 mod streams;
 #[cfg(test)]
@@ -16,5 +17,6 @@ pub use birth::Birth;
 pub use error::{Failed, OutOfMemory};
 pub use laws::law_new_handle_is_least;
 pub use memory::{HonestSource, MemSink, MemSource};
+pub use port_kind::PortKind;
 pub use status::Status;
 pub use streams::{Sink, Source};

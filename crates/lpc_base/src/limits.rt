@@ -9,6 +9,9 @@ pub const HEADER_SIZE: usize = 24;
 /// The handles of one process.
 pub const HANDLE_LIMIT: usize = 256;
 
+/// The datagrams that one port sent and that aren't received yet.
+pub const DATAGRAM_LIMIT: usize = 32;
+
 /// The live threads of one process.
 pub const THREAD_LIMIT: usize = 64;
 

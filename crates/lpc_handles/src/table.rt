@@ -104,6 +104,13 @@ impl<O: Copy> Table<O> {
         None
     }
 
+    /// How many handles the process has.
+    pub fn count(&self) -> usize
+        ensures { result ≡ length self.now.rows }
+    {
+        self.rows.len()
+    }
+
     /// Takes the handle with a value away, and answers what it named and granted; None exactly where no handle has the
     /// value, and then nothing changes.
     pub fn close(&mut self, value: u32) -> Option<Row<O>>

@@ -8,8 +8,8 @@ use Rattle.lpc_message.specs.Layout.{half_at}
 use Rattle.lpc_slots.specs.Table.{at_key, is_key}
 use Rattle.lpc_slots.specs.declared.Key.{Key}
 use Rattle.lpc_ports.specs.declared.Port.{Port}
-use Rattle.lpc_ports.specs.declared.PortKind.{PortKind}
-use Rattle.lpc_ports.specs.declared.PortKind.TheVariants.{Client, Server}
+use Rattle.lpc_base.specs.declared.port_kind.PortKind.{PortKind}
+use Rattle.lpc_base.specs.declared.port_kind.PortKind.TheVariants.{Client, Server}
 use Rattle.lpc_ports.specs.declared.messages.QueuedMessage.{QueuedMessage}
 
 -- the ports, and the messages that stand in queues; how many more of each go in without memory, and how many were

@@ -11,24 +11,12 @@ mod messages;
 mod tests;
 
 use crate::messages::held;
+pub use lpc_base::PortKind;
 use lpc_base::{Birth, OutOfMemory};
 use lpc_slots::{Key, Slots};
 pub use messages::{Message, QueuedMessage};
 use std::alloc::Global;
 use std::marker::Model;
-
-/// The four kinds of port.
-#[derive(Clone, Copy, Debug, PartialEq, Eq)]
-pub enum PortKind {
-    /// A port without a name, for the threads of one process.
-    Unnamed,
-    /// A port to which clients connect.
-    Connection,
-    /// The client's end of a connection.
-    Client,
-    /// The server's end of a connection.
-    Server,
-}
 
 /// A row of the table: a port that is open.
 #[derive(Clone, Copy, Debug, PartialEq, Eq)]
@@ -117,6 +105,13 @@ impl Ports {
         ensures { option_copied result ≡ row_at self.now.ports port }
     {
         self.ports.get(port)
+    }
+
+    /// How many ports there are.
+    pub fn count(&self) -> usize
+        ensures { result ≡ length self.now.ports }
+    {
+        self.ports.count()
     }
 
     /// The birth of a port.
@@ -245,6 +240,7 @@ impl Ports {
         requires stands { IsSome (row_at self.old.messages message) }
         ensures value { option_map (λ row. row.message) (row_at self.old.messages message) ≡ Some result }
         ensures table { self.new ≡ record self.old { messages = without (at_key message) self.old.messages; message_room = self.old.message_room + 1 } }
+        ensures first { (queue : Key) → first_in self.old.messages queue ≡ Some message → option_map (λ row. row.1.message) (first (is_in queue) self.old.messages) ≡ Some result }
         ensures oldest { (queue : Key) → first_in self.old.messages queue ≡ Some message → self.new.messages ≡ without_first (is_in queue) self.old.messages }
     {
         match self.messages.remove(message) {
