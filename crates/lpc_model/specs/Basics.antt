@@ -1,14 +1,14 @@
 -- The basic steps that each line's step is a list of, and what one does.
-use Rattle.std.specs.Prelude.{ℕ, ◌+◌, true, List, [], ◌∷◌, ◌++◌}
+use Rattle.std.specs.Prelude.{ℕ, ◌+◌, nat_lt, true, List, [], ◌∷◌, ◌++◌}
 use Rattle.lpc_base.specs.declared.status.Status.{Status}
 use Rattle.lpc_model.specs.declared.entry.Entry.{Entry}
 use Rattle.lpc_model.specs.declared.entry.Entry.TheVariants as entry
 use Rattle.lpc_model.specs.declared.entry.Field.{Field}
 use Rattle.lpc_model.specs.declared.entry.Outcome.{Outcome}
 use Rattle.lpc_model.specs.declared.entry.Outcome.TheVariants as outcome
-use Rattle.lpc_base.specs.Rows.{change, without, without_first}
-use Rattle.lpc_model.specs.World.{World, Birth, CallName, ProcessRow, ThreadRow, UsedThread, HandleRow, PortRow, MessageRow, WaitRow}
-use Rattle.lpc_model.specs.Found.{is_queued, is_thread, waits_as}
+use Rattle.lpc_base.specs.Rows.{change, which, without, without_first}
+use Rattle.lpc_model.specs.World.{World, Birth, CallName, ProcessRow, ThreadRow, UsedThread, HandleRow, HandleTable, PortRow, MessageRow, WaitRow}
+use Rattle.lpc_model.specs.Found.{is_queued, is_table, is_thread, waits_as}
 
 -- One change of one row each, or one entry.
 pub data Basic : Type 0 where
@@ -26,11 +26,12 @@ pub data Basic : Type 0 where
   -- a thread draws its next message identifier, and its next ordinal
   DrawsIdentifier : ℕ → Basic
   DrawsOrdinal : ℕ → Basic
-  -- a row is made; the number of a process or thread is used from then on
+  -- a row is made; the number of a process or thread is used from then on, and a process begins without handles
   AddsProcess : ProcessRow → Basic
   AddsThread : ThreadRow → Basic
   Makes : PortRow → Basic
-  AddsHandle : HandleRow → Basic
+  -- a process gets a handle
+  AddsHandle : ℕ → HandleRow → Basic
 
 -- a wait whose request is received
 abbrev pub received : WaitRow → WaitRow
@@ -48,6 +49,17 @@ past_ordinal t = record t { next_ordinal = t.next_ordinal + 1 }
 abbrev pub used : ThreadRow → UsedThread
 used t = record { number = t.number; process = t.process }
 
+-- handles with one more, by rising value
+abbrev pub put_handle : HandleRow → List HandleRow → List HandleRow
+put_handle h rows = which (λ r. nat_lt r.value h.value) rows ++ h ∷ which (λ r. nat_lt h.value r.value) rows
+
+abbrev pub with_handle : HandleRow → HandleTable → HandleTable
+with_handle h t = record t { rows = put_handle h t.rows }
+
+-- a process without handles
+abbrev pub no_handles : ℕ → HandleTable
+no_handles pid = record { process = pid; rows = [] }
+
 -- the world after a basic step
 abbrev pub basic : World → Basic → World
 basic w (Tells e) = w
@@ -59,11 +71,15 @@ basic w (Takes q) = record w { messages = without_first (is_queued q) w.messages
 basic w (DrawsIdentifier who) = record w { threads = change (is_thread who) past_identifier w.threads }
 basic w (DrawsOrdinal who) = record w { threads = change (is_thread who) past_ordinal w.threads }
 basic w (AddsProcess p) =
-    record w { processes = w.processes ++ p ∷ []; used_processes = w.used_processes ++ p.number ∷ [] }
+    record w {
+      processes = w.processes ++ p ∷ [];
+      used_processes = w.used_processes ++ p.number ∷ [];
+      handles = w.handles ++ no_handles p.number ∷ [];
+    }
 basic w (AddsThread t) =
     record w { threads = w.threads ++ t ∷ []; used_threads = w.used_threads ++ used t ∷ [] }
 basic w (Makes p) = record w { ports = w.ports ++ p ∷ [] }
-basic w (AddsHandle h) = record w { handles = w.handles ++ h ∷ [] }
+basic w (AddsHandle pid h) = record w { handles = change (is_table pid) (with_handle h) w.handles }
 
 -- the entries that a basic step makes
 abbrev pub told : Basic → List Entry

@@ -4,7 +4,7 @@ use Rattle.lpc_base.specs.declared.status.Status.{Status}
 use Rattle.lpc_base.specs.declared.status.TheConstants.{SUCCESS}
 use Rattle.lpc_model.specs.declared.entry.Entry.TheVariants.{Answer}
 use Rattle.lpc_model.specs.declared.entry.CallName.TheVariants.{NtCreatePort}
-use Rattle.lpc_model.specs.declared.rows.PortKind.TheVariants.{Unnamed}
+use Rattle.lpc_base.specs.declared.port_kind.PortKind.TheVariants.{Unnamed}
 use Rattle.lpc_model.specs.Refusal.{◌>>=◌}
 use Rattle.lpc_model.specs.World.{World, Birth, PortKind, PortRow, ThreadRow}
 use Rattle.lpc_model.specs.Found.{free_handle, port_name}
@@ -21,7 +21,7 @@ create_steps by port value =
     Tells (Answer by.number NtCreatePort SUCCESS (h value ∷ []))
     ∷ DrawsOrdinal by.number
     ∷ Makes (new_port port Unnamed)
-    ∷ AddsHandle (handle_row by value (port_name port) PORT_ACCESS)
+    ∷ AddsHandle by.process (handle_row value (port_name port) PORT_ACCESS)
     ∷ []
 
 -- NtCreatePort without a name: the process has 256 handles

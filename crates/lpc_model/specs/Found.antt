@@ -1,11 +1,12 @@
 -- What is found in the world: filters and counts of its rows.
-use Rattle.std.specs.Prelude.{ℕ, ◌==◌, ◌&&◌, ◌||◌, ◌+◌, Bool, true, false, List, length, map, Option, Some, None, is_none, option_and_then, if◌then◌else◌}
+use Rattle.std.specs.Prelude.{ℕ, ◌==◌, ◌&&◌, ◌||◌, ◌+◌, Bool, true, false, List, [], length, map, Option, Some, None, is_none, option_and_then, if◌then◌else◌}
 use Rattle.lpc_base.specs.Places.{least_handle}
 use Rattle.lpc_model.specs.declared.entry.ObjectKind.TheVariants as kind
-use Rattle.lpc_model.specs.declared.rows.PortKind.TheVariants.{Client, Server}
-use Rattle.lpc_model.specs.declared.rows.WaitKind.TheVariants.{Request, Receive}
+use Rattle.lpc_base.specs.declared.port_kind.PortKind.TheVariants.{Client, Server}
 use Rattle.lpc_base.specs.Rows.{first, has, which, count, passes}
-use Rattle.lpc_model.specs.World.{World, Birth, ObjectKind, ObjectName, Message, ProcessRow, ThreadRow, HandleRow, PortRow, MessageRow, WaitRow}
+use Rattle.lpc_message.specs.declared.kind.TheConstants.{DATAGRAM}
+use Rattle.lpc_message.specs.declared.message.ClientId.{ClientId}
+use Rattle.lpc_model.specs.World.{World, Birth, ObjectKind, ObjectName, Message, ProcessRow, ThreadRow, HandleRow, HandleTable, PortRow, MessageRow, WaitRow, Request, Receive}
 
 -- Names
 -- two births are one
@@ -73,21 +74,23 @@ abbrev pub was_thread : World → ℕ → Bool
 was_thread w tid = has (λ u. u.number == tid) w.used_threads
 
 -- Handles
--- the handle of a process with a value
-abbrev pub is_handle : ℕ → ℕ → HandleRow → Bool
-is_handle pid value h = (h.process == pid) && (h.value == value)
+-- the handles of a process
+abbrev pub is_table : ℕ → HandleTable → Bool
+is_table pid t = t.process == pid
+
+abbrev pub rows_in : Option HandleTable → List HandleRow
+rows_in None = []
+rows_in (Some t) = t.rows
+
+abbrev pub handles_of : World → ℕ → List HandleRow
+handles_of w pid = rows_in (first (is_table pid) w.handles)
 
 -- the handle that a value is in a process
+abbrev pub has_value : ℕ → HandleRow → Bool
+has_value value h = h.value == value
+
 abbrev pub handle_at : World → ℕ → ℕ → Option HandleRow
-handle_at w pid value = first (is_handle pid value) w.handles
-
--- a handle of a process
-abbrev pub is_owned : ℕ → HandleRow → Bool
-is_owned pid h = h.process == pid
-
--- the handles of a process
-abbrev pub handles_of : World → ℕ → List HandleRow
-handles_of w pid = which (is_owned pid) w.handles
+handle_at w pid value = first (has_value value) (handles_of w pid)
 
 -- the least multiple of 4, from 4, that no handle of the process has
 abbrev pub free_handle : World → ℕ → ℕ
@@ -103,8 +106,11 @@ abbrev pub port_row : World → Birth → Option PortRow
 port_row w b = first (is_port b) w.ports
 
 -- a port is open where a handle names it
+abbrev pub has_handle_to : Birth → HandleTable → Bool
+has_handle_to b t = has (λ h. names_port b h.object) t.rows
+
 abbrev pub is_open : World → Birth → Bool
-is_open w b = has (λ h. names_port b h.object) w.handles
+is_open w b = has (has_handle_to b) w.handles
 
 -- a port where it is open
 abbrev pub if_open : World → Option Birth → Option Birth
@@ -150,6 +156,14 @@ pair_of w b = option_and_then (λ p. p.pair) (port_row w b)
 abbrev pub is_queued : Birth → MessageRow → Bool
 is_queued q m = same_birth m.queue q
 
+-- a datagram that was sent on a port
+abbrev pub is_datagram_of : Birth → MessageRow → Bool
+is_datagram_of b m = same_birth m.sender b && (m.message.header.kind == DATAGRAM)
+
+-- how many datagrams of a port stand in queues
+abbrev pub datagrams : World → Birth → ℕ
+datagrams w b = count (is_datagram_of b) w.messages
+
 -- the queue of a port: the messages that stand in it, the oldest first
 abbrev pub queued : World → Birth → List MessageRow
 queued w q = which (is_queued q) w.messages
@@ -184,13 +198,17 @@ receives_on q x = is_receive x && same_birth x.queue q
 abbrev pub waiters_on : World → Birth → List WaitRow
 waiters_on w q = which (receives_on q) w.waits
 
--- A message fits a wait through a port: it names the wait's thread, process and identifier, the wait is a request that
--- was received, and the port is the wait's queue or the pair of its sender port.
-abbrev pub fits : World → Birth → Message → WaitRow → Bool
-fits w port m x =
-    (x.thread == m.header.client.thread) && ((x.process == m.header.client.process)
-    && ((x.identifier == m.header.message_id) && (is_request x && (x.received
+-- A client and an identifier fit a wait through a port: they are the wait's thread, process and identifier, the wait is
+-- a request that was received, and the port is the wait's queue or the pair of its sender port.
+abbrev pub fits_as : World → Birth → ClientId → ℕ → WaitRow → Bool
+fits_as w port client identifier x =
+    (x.thread == client.thread) && ((x.process == client.process)
+    && ((x.identifier == identifier) && (is_request x && (x.received
     && (same_birth x.queue port || is_the port (pair_of w x.port))))))
+
+-- a message fits a wait by the client and the identifier that it names
+abbrev pub fits : World → Birth → Message → WaitRow → Bool
+fits w port m x = fits_as w port m.header.client m.header.message_id x
 
 -- the wait that a message fits through a port; a thread has one wait at most
 abbrev pub fitted : World → Birth → Message → Option WaitRow

@@ -6,12 +6,12 @@ use Rattle.std.specs.Option.{option_map, ok_or}
 use Rattle.std.specs.Str.{bytes_eq}
 use Rattle.lpc_base.specs.declared.limits.TheConstants.{LINE_LIMIT}
 use Rattle.lpc_model.specs.declared.entry.CallName.{CallName}
-use Rattle.lpc_model.specs.declared.entry.CallName.TheVariants.{NtCreatePort, NtRequestWaitReplyPort, NtReplyPort, NtReplyWaitReceivePort}
+use Rattle.lpc_model.specs.declared.entry.CallName.TheVariants.{NtCreatePort, NtRequestPort, NtRequestWaitReplyPort, NtReplyPort, NtReplyWaitReceivePort}
 use Rattle.lpc_model.specs.declared.entry.Word.{Word}
 use Rattle.lpc_model.specs.declared.entry.Word.TheVariants.{Boot, Thread}
 use Rattle.lpc_model.specs.declared.fault.LineFault.{LineFault}
 use Rattle.lpc_model.specs.declared.fault.LineFault.TheVariants as fault
-use Rattle.lpc_model.specs.Lines.{ScriptCall, create_port, request_wait_reply_port, reply_port, reply_wait_receive_port, ScriptLine, boot, thread, run}
+use Rattle.lpc_model.specs.Lines.{ScriptCall, create_port, request_port, request_wait_reply_port, reply_port, reply_wait_receive_port, ScriptLine, boot, thread, run}
 use Rattle.lpc_model.specs.Words.{◌>>=◌, fault_if, words, begins, number_word, id_word, is_id, message_word}
 
 -- what stands beside a name in a table
@@ -22,6 +22,7 @@ named table word = option_map (λ entry. entry.1) (find (λ entry. bytes_eq word
 abbrev pub call_names : List (List ℕ × CallName)
 call_names =
     (codes "NtCreatePort", NtCreatePort)
+    ∷ (codes "NtRequestPort", NtRequestPort)
     ∷ (codes "NtRequestWaitReplyPort", NtRequestWaitReplyPort)
     ∷ (codes "NtReplyPort", NtReplyPort)
     ∷ (codes "NtReplyWaitReceivePort", NtReplyWaitReceivePort)
@@ -44,6 +45,19 @@ unfoldable pub two_words : List (List ℕ) → Result (List ℕ × List ℕ) Lin
 two_words (a ∷ b ∷ []) = Ok (a, b)
 two_words others = Err fault.Count
 
+-- one word, and perhaps a second
+unfoldable pub one_or_two_words : List (List ℕ) → Result (List ℕ × Option (List ℕ)) LineFault
+one_or_two_words (a ∷ []) = Ok (a, None)
+one_or_two_words (a ∷ b ∷ []) = Ok (a, Some b)
+one_or_two_words others = Err fault.Count
+
+-- a message, where a word is given for it
+abbrev pub given_message : Option (List ℕ) → Result (Option (List ℕ)) LineFault
+given_message None = Ok None
+given_message (Some word) = do
+  message ← message_word word
+  Ok (Some message)
+
 -- a handle and a message
 abbrev pub handle_and_message : List (List ℕ) → Result (ℕ × List ℕ) LineFault
 handle_and_message others = do
@@ -52,12 +66,23 @@ handle_and_message others = do
   message ← message_word two.1
   Ok (handle, message)
 
+-- a handle, and perhaps a message
+abbrev pub handle_and_reply : List (List ℕ) → Result (ℕ × Option (List ℕ)) LineFault
+handle_and_reply others = do
+  two ← one_or_two_words others
+  handle ← number_word two.0
+  reply ← given_message two.1
+  Ok (handle, reply)
+
 -- a call by the words behind its name
 unfoldable pub call_words : CallName → List (List ℕ) → Result ScriptCall LineFault
 call_words NtCreatePort others = do
   name ← one_word others
   _ ← fixed_word (codes "-") name
   Ok create_port
+call_words NtRequestPort others = do
+  datagram ← handle_and_message others
+  Ok (request_port datagram.0 datagram.1)
 call_words NtRequestWaitReplyPort others = do
   request ← handle_and_message others
   Ok (request_wait_reply_port request.0 request.1)
@@ -65,9 +90,8 @@ call_words NtReplyPort others = do
   reply ← handle_and_message others
   Ok (reply_port reply.0 reply.1)
 call_words NtReplyWaitReceivePort others = do
-  word ← one_word others
-  handle ← number_word word
-  Ok (reply_wait_receive_port handle)
+  receive ← handle_and_reply others
+  Ok (reply_wait_receive_port receive.0 receive.1)
 
 -- a directive by the words behind it
 unfoldable pub directive_words : Word → List (List ℕ) → Result ScriptLine LineFault

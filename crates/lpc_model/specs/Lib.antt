@@ -18,5 +18,6 @@ pub mod Words
 pub mod Grammar
 pub mod Run
 pub mod Replies
+pub mod SoundWaits
 pub mod Transcript
 pub mod Worked

@@ -1,5 +1,6 @@
 -- What a line of a script says, whatever buffer its messages lie in.
-use Rattle.std.specs.Prelude.{ℕ, List}
+use Rattle.std.specs.Prelude.{ℕ, List, Option}
+use Rattle.std.specs.Option.{option_copied}
 use Rattle.lpc_model.specs.declared.line.Call.{Call}
 use Rattle.lpc_model.specs.declared.line.Call.TheVariants as call
 use Rattle.lpc_model.specs.declared.line.Line.{Line}
@@ -8,9 +9,10 @@ use Rattle.lpc_model.specs.declared.line.Line.TheVariants as line
 -- a system call with its arguments; a message is its bytes
 pub data ScriptCall : Type 0 where
   create_port : ScriptCall
+  request_port : ℕ → List ℕ → ScriptCall
   request_wait_reply_port : ℕ → List ℕ → ScriptCall
   reply_port : ℕ → List ℕ → ScriptCall
-  reply_wait_receive_port : ℕ → ScriptCall
+  reply_wait_receive_port : ℕ → Option (List ℕ) → ScriptCall
 
 -- a directive, or a call of a thread
 pub data ScriptLine : Type 0 where
@@ -21,9 +23,10 @@ pub data ScriptLine : Type 0 where
 -- a call without the buffer that it is lent
 abbrev pub call_of : Call → ScriptCall
 call_of call.CreatePort = create_port
+call_of (call.RequestPort handle message) = request_port handle message.now
 call_of (call.RequestWaitReplyPort handle message) = request_wait_reply_port handle message.now
 call_of (call.ReplyPort handle message) = reply_port handle message.now
-call_of (call.ReplyWaitReceivePort handle) = reply_wait_receive_port handle
+call_of (call.ReplyWaitReceivePort handle reply) = reply_wait_receive_port handle (option_copied reply)
 
 abbrev pub line_of : Line → ScriptLine
 line_of (line.Boot pid tid) = boot pid tid

@@ -7,28 +7,30 @@ use Rattle.lpc_model.specs.declared.entry.Entry.{Entry}
 use Rattle.lpc_model.specs.declared.entry.Entry.TheVariants.{Answer, Busy, Directive, NoThread}
 use Rattle.lpc_model.specs.declared.entry.Word.{Word}
 use Rattle.lpc_model.specs.declared.entry.Word.TheVariants as word
-use Rattle.lpc_model.specs.declared.entry.CallName.TheVariants.{NtCreatePort, NtReplyPort, NtReplyWaitReceivePort, NtRequestWaitReplyPort}
+use Rattle.lpc_model.specs.declared.entry.CallName.TheVariants.{NtCreatePort, NtReplyPort, NtReplyWaitReceivePort, NtRequestPort, NtRequestWaitReplyPort}
 use Rattle.lpc_model.specs.Refusal.{◌>>=◌, refuse_if}
 use Rattle.lpc_model.specs.World.{World, Birth, CallName, ProcessRow, ThreadRow, WaitRow}
 use Rattle.lpc_model.specs.Found.{is_live, live_count, live_thread, wait_of, was_process, was_thread}
 use Rattle.lpc_model.specs.Basics.{AddsProcess, AddsThread, Basic, Steps, Tells, entries_of, world_after}
 use Rattle.lpc_model.specs.Connect.{nt_create_port}
-use Rattle.lpc_model.specs.Request.{nt_reply_port, nt_reply_wait_receive_port, nt_request_wait_reply_port}
-use Rattle.lpc_model.specs.Lines.{ScriptCall, create_port, request_wait_reply_port, reply_port, reply_wait_receive_port, ScriptLine, boot, thread, run}
+use Rattle.lpc_model.specs.Request.{nt_reply_port, nt_reply_wait_receive_port, nt_request_port, nt_request_wait_reply_port}
+use Rattle.lpc_model.specs.Lines.{ScriptCall, create_port, request_port, request_wait_reply_port, reply_port, reply_wait_receive_port, ScriptLine, boot, thread, run}
 
 -- the name of a call
 abbrev pub name_of : ScriptCall → CallName
 name_of create_port = NtCreatePort
+name_of (request_port handle message) = NtRequestPort
 name_of (request_wait_reply_port handle message) = NtRequestWaitReplyPort
 name_of (reply_port handle message) = NtReplyPort
-name_of (reply_wait_receive_port handle) = NtReplyWaitReceivePort
+name_of (reply_wait_receive_port handle reply) = NtReplyWaitReceivePort
 
 -- the service that serves a call
 abbrev pub service_of : World → ThreadRow → ScriptCall → Result (List Basic) Status
 service_of w by create_port = nt_create_port w by
+service_of w by (request_port handle message) = nt_request_port w by handle message
 service_of w by (request_wait_reply_port handle message) = nt_request_wait_reply_port w by handle message
 service_of w by (reply_port handle message) = nt_reply_port w by handle message
-service_of w by (reply_wait_receive_port handle) = nt_reply_wait_receive_port w by handle
+service_of w by (reply_wait_receive_port handle reply) = nt_reply_wait_receive_port w by handle reply
 
 -- a refusal is one answer, and changes nothing
 abbrev pub settled : ThreadRow → CallName → Result (List Basic) Status → List Basic
@@ -59,15 +61,15 @@ directed word (Err s) = Tells (Directive word s) ∷ []
 abbrev pub directive_birth : ℕ → Birth
 directive_birth n = record { maker = 0; ordinal = n; process = 0 }
 
--- a process, and a thread, that a directive makes
-abbrev pub new_process : ℕ → ProcessRow
-new_process pid = record { number = pid; maker = None; birth = directive_birth pid }
+-- a process, and a live thread that has drawn nothing yet
+abbrev pub new_process : ℕ → Option ℕ → Birth → ProcessRow
+new_process pid maker birth = record { number = pid; maker = maker; birth = birth }
 
-abbrev pub new_thread : ℕ → ℕ → ThreadRow
-new_thread tid pid = record {
+abbrev pub new_thread : ℕ → ℕ → Birth → ThreadRow
+new_thread tid pid birth = record {
   number = tid;
   process = pid;
-  birth = directive_birth tid;
+  birth = birth;
   live = true;
   next_identifier = 1;
   next_ordinal = 1;
@@ -81,7 +83,7 @@ unused_test w pid tid = refuse_if (was_process w pid || was_thread w tid) OBJECT
 unfoldable pub boot_line : World → ℕ → ℕ → Result (List Basic) Status
 boot_line w pid tid = do
   _ ← unused_test w pid tid
-  Ok (AddsProcess (new_process pid) ∷ AddsThread (new_thread tid pid) ∷ [])
+  Ok (AddsProcess (new_process pid None (directive_birth pid)) ∷ AddsThread (new_thread tid pid (directive_birth tid)) ∷ [])
 
 -- the process lives
 abbrev pub live_test : World → ℕ → Result Unit Status
@@ -106,7 +108,7 @@ thread_test w tid pid = do
 unfoldable pub thread_line : World → ℕ → ℕ → Result (List Basic) Status
 thread_line w tid pid = do
   _ ← thread_test w tid pid
-  Ok (AddsThread (new_thread tid pid) ∷ [])
+  Ok (AddsThread (new_thread tid pid (directive_birth tid)) ∷ [])
 
 -- what a line does in a world
 unfoldable pub steps : ScriptLine → Steps

@@ -15,13 +15,13 @@ use Rattle.lpc_model.specs.declared.entry.Value.TheVariants.{Bytes}
 use Rattle.lpc_model.specs.World.{HandleRow, Message, WaitRow, World, no_rows}
 use Rattle.lpc_model.specs.Found.{fitted, handle_at, live_thread, same_kind}
 use Rattle.lpc_model.specs.Message.{bytes_of, message_of}
-use Rattle.lpc_model.specs.Lines.{ScriptLine, reply_port, run}
+use Rattle.lpc_model.specs.Lines.{ScriptLine, reply_port, reply_wait_receive_port, run}
 use Rattle.lpc_model.specs.Machine.{step}
 use Rattle.lpc_model.specs.Grammar.{read_line}
 use Rattle.lpc_model.specs.Run.{first_fault, said_from, trace, world_behind}
 
 -- Reply calls
--- a reply call: the thread that makes it, the handle on which it is made, and the bytes of its message
+-- a reply call, NtReplyPort or NtReplyWaitReceivePort with a message: the thread that makes it, the handle on which it is made, and the bytes of its message
 pub record Reply : Type 0 where
   pub by : ℕ
   pub handle : ℕ
@@ -30,6 +30,7 @@ pub record Reply : Type 0 where
 -- the reply call that a line is, if it is one
 abbrev pub reply_of : ScriptLine → Option Reply
 reply_of (run by (reply_port handle bytes)) = Some (record { by = by; handle = handle; bytes = bytes })
+reply_of (run by (reply_wait_receive_port handle (Some bytes))) = Some (record { by = by; handle = handle; bytes = bytes })
 reply_of line = None
 
 -- the message that the bytes are, if they are one

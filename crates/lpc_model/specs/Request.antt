@@ -1,17 +1,17 @@
 -- The calls that send, receive and reply: refusals in their order, else the steps.
-use Rattle.std.specs.Prelude.{ℕ, Bool, false, ◌&&◌, List, [], ◌∷◌, Option, Some, None, is_none, Result, Ok}
-use Rattle.lpc_base.specs.declared.status.Status.{Status}
-use Rattle.lpc_base.specs.declared.status.TheConstants.{PORT_DISCONNECTED, SUCCESS}
-use Rattle.lpc_model.specs.declared.entry.Entry.TheVariants.{Answer, Waits}
-use Rattle.lpc_model.specs.declared.entry.CallName.TheVariants.{NtReplyPort, NtReplyWaitReceivePort, NtRequestWaitReplyPort}
-use Rattle.lpc_model.specs.declared.rows.PortKind.TheVariants.{Client}
-use Rattle.lpc_model.specs.declared.rows.WaitKind.TheVariants.{Receive, Request}
+use Rattle.std.specs.Prelude.{ℕ, Bool, false, nat_le, ◌&&◌, ◌++◌, List, [], ◌∷◌, Option, Some, None, is_none, Result, Ok}
 use Rattle.lpc_base.specs.Rows.{first}
+use Rattle.lpc_base.specs.declared.limits.TheConstants.{DATAGRAM_LIMIT}
+use Rattle.lpc_base.specs.declared.port_kind.PortKind.TheVariants.{Client}
+use Rattle.lpc_base.specs.declared.status.Status.{Status}
+use Rattle.lpc_base.specs.declared.status.TheConstants.{PORT_DISCONNECTED, QUOTA_EXCEEDED, SUCCESS}
+use Rattle.lpc_message.specs.declared.kind.TheConstants.{DATAGRAM, REQUEST}
+use Rattle.lpc_model.specs.declared.entry.Entry.TheVariants.{Answer, Waits}
+use Rattle.lpc_model.specs.declared.entry.CallName.TheVariants.{NtReplyPort, NtReplyWaitReceivePort, NtRequestPort, NtRequestWaitReplyPort}
 use Rattle.lpc_model.specs.Refusal.{◌>>=◌, found_or, refuse_if}
-use Rattle.lpc_model.specs.World.{World, Birth, Message, MessageRow, PortRow, ThreadRow, WaitRow}
-use Rattle.lpc_message.specs.declared.kind.TheConstants.{REQUEST}
+use Rattle.lpc_model.specs.World.{World, Birth, Message, MessageRow, PortRow, ThreadRow, WaitRow, Receive, Request}
 use Rattle.lpc_model.specs.Message.{as_reply, message_test, sent_as}
-use Rattle.lpc_model.specs.Found.{is_cut, is_queued, queue_of, route}
+use Rattle.lpc_model.specs.Found.{datagrams, is_cut, is_queued, queue_of, route}
 use Rattle.lpc_model.specs.Basics.{Awaits, Basic, DrawsIdentifier, Steps, Tells, doing, ◌▹◌}
 use Rattle.lpc_model.specs.Fields.{id, msg, receipt}
 use Rattle.lpc_model.specs.Entering.{enter, row_of, take_steps, woken}
@@ -35,28 +35,59 @@ send_test w by handle bytes = do
 abbrev pub sent_by : ThreadRow → ℕ → Message → Message
 sent_by by kind m = sent_as kind (client_of by) by.next_identifier m
 
+-- NtRequestPort
+-- a datagram is sent: its sender draws the identifier, and goes on
+abbrev pub datagram_start : ThreadRow → List Basic
+datagram_start by =
+    Tells (Answer by.number NtRequestPort SUCCESS (id by.next_identifier ∷ []))
+    ∷ DrawsIdentifier by.number
+    ∷ []
+
+-- and then the message enters the queue
+abbrev pub datagram_steps : ThreadRow → PortRow → Birth → Message → Steps
+datagram_steps by port queue m = doing (datagram_start by) ▹ enter (row_of queue port m)
+
+-- 32 datagrams of the port stand in queues
+abbrev pub datagram_test : World → PortRow → Result Unit Status
+datagram_test w port = refuse_if (nat_le DATAGRAM_LIMIT (datagrams w port.birth)) QUOTA_EXCEEDED
+
+-- the tests of a datagram: the handle, the message, no route, 32 datagrams that aren't received
+abbrev pub datagram_send_test : World → ThreadRow → ℕ → List ℕ → Result Sendable Status
+datagram_send_test w by handle bytes = do
+  s ← send_test w by handle bytes
+  _ ← datagram_test w s.port
+  Ok s
+
+-- NtRequestPort
+unfoldable pub nt_request_port : World → ThreadRow → ℕ → List ℕ → Result (List Basic) Status
+nt_request_port w by handle bytes = do
+  s ← datagram_send_test w by handle bytes
+  Ok (datagram_steps by s.port s.queue (sent_by by DATAGRAM s.message) w)
+
+-- NtRequestWaitReplyPort
 -- the wait for the reply to a request
 abbrev pub request_wait : ThreadRow → Birth → Birth → Message → WaitRow
 request_wait by port queue m = own_wait by NtRequestWaitReplyPort (Request m) port queue by.next_identifier
 
--- a request is sent: its sender waits, and draws the identifier
+-- a request is sent: its sender draws the identifier, and waits
 abbrev pub request_start : ThreadRow → Birth → Birth → Message → List Basic
 request_start by port queue m =
     Tells (Waits by.number NtRequestWaitReplyPort (id by.next_identifier ∷ []))
-    ∷ Awaits (request_wait by port queue m)
     ∷ DrawsIdentifier by.number
+    ∷ Awaits (request_wait by port queue m)
     ∷ []
 
 -- and then the message enters the queue
 abbrev pub request_steps : ThreadRow → PortRow → Birth → Message → Steps
 request_steps by port queue m = doing (request_start by port.birth queue m) ▹ enter (row_of queue port m)
 
--- NtRequestWaitReplyPort
+-- NtRequestWaitReplyPort: the handle, the message, no route
 unfoldable pub nt_request_wait_reply_port : World → ThreadRow → ℕ → List ℕ → Result (List Basic) Status
 nt_request_wait_reply_port w by handle bytes = do
   s ← send_test w by handle bytes
   Ok (request_steps by s.port s.queue (sent_by by REQUEST s.message) w)
 
+-- NtReplyPort
 -- a reply wakes the thread that asked, with the reply's message
 abbrev pub reply : WaitRow → Message → Basic
 reply x m = woken SUCCESS (msg (as_reply m) ∷ []) x
@@ -65,25 +96,27 @@ reply x m = woken SUCCESS (msg (as_reply m) ∷ []) x
 abbrev pub reply_steps : ThreadRow → WaitRow → Message → List Basic
 reply_steps by x m = Tells (Answer by.number NtReplyPort SUCCESS []) ∷ reply x m ∷ []
 
+-- the wait that a reply fits through a port: no such client, a message that fits no wait
+abbrev pub answered_test : World → PortRow → Message → Result WaitRow Status
+answered_test w port m = do
+  _ ← client_test w m.header.client
+  fit_test w port.birth m
+
 -- NtReplyPort: the handle, the message, no such client, a message that fits no wait
 unfoldable pub nt_reply_port : World → ThreadRow → ℕ → List ℕ → Result (List Basic) Status
 nt_reply_port w by handle bytes = do
   port ← port_test w by handle
   m ← message_test bytes
-  _ ← client_test w m.header.client
-  x ← fit_test w port.birth m
+  x ← answered_test w port m
   Ok (reply_steps by x m)
 
--- the wait for a message
-abbrev pub receive_wait : ThreadRow → Birth → Birth → WaitRow
-receive_wait by port queue = own_wait by NtReplyWaitReceivePort Receive port queue 0
-
--- the oldest message is taken, or the thread waits for one
-abbrev pub receive_steps : ThreadRow → PortRow → Birth → Option MessageRow → List Basic
-receive_steps by port queue (Some m) =
-    Tells (Answer by.number NtReplyWaitReceivePort SUCCESS (receipt m)) ∷ take_steps m
-receive_steps by port queue None =
-    Tells (Waits by.number NtReplyWaitReceivePort []) ∷ Awaits (receive_wait by port.birth queue) ∷ []
+-- NtReplyWaitReceivePort
+-- a message that is given or not
+abbrev pub optional_message : Option (List ℕ) → Result (Option Message) Status
+optional_message None = Ok None
+optional_message (Some bytes) = do
+  m ← message_test bytes
+  Ok (Some m)
 
 -- a client port whose pair is cut and whose queue is empty: nothing will ever come
 abbrev pub is_spent : World → PortRow → Birth → Bool
@@ -99,9 +132,31 @@ receive_test w port = do
   _ ← refuse_if (is_spent w port queue) PORT_DISCONNECTED
   Ok queue
 
--- NtReplyWaitReceivePort without a reply: the handle, a queue that isn't open or is spent
-unfoldable pub nt_reply_wait_receive_port : World → ThreadRow → ℕ → Result (List Basic) Status
-nt_reply_wait_receive_port w by handle = do
+-- the reply that a receive makes first, where it is given a message
+abbrev pub given_reply : World → PortRow → Option Message → Result (List Basic) Status
+given_reply w port None = Ok []
+given_reply w port (Some m) = do
+  x ← answered_test w port m
+  Ok (reply x m ∷ [])
+
+-- the wait for a message
+abbrev pub receive_wait : ThreadRow → Birth → Birth → WaitRow
+receive_wait by port queue = own_wait by NtReplyWaitReceivePort Receive port queue 0
+
+-- The caller's own entry comes first, then the reply is made; then the oldest message is taken, or the thread waits for
+-- one.
+abbrev pub receive_steps : ThreadRow → PortRow → Birth → List Basic → Option MessageRow → List Basic
+receive_steps by port queue replied (Some m) =
+    Tells (Answer by.number NtReplyWaitReceivePort SUCCESS (receipt m)) ∷ replied ++ take_steps m
+receive_steps by port queue replied None =
+    Tells (Waits by.number NtReplyWaitReceivePort []) ∷ replied ++ Awaits (receive_wait by port.birth queue) ∷ []
+
+-- NtReplyWaitReceivePort: the handle, the message that it may be given, a queue that isn't open or is spent, and for a
+-- message no such client, or that it fits no wait
+unfoldable pub nt_reply_wait_receive_port : World → ThreadRow → ℕ → Option (List ℕ) → Result (List Basic) Status
+nt_reply_wait_receive_port w by handle bytes = do
   port ← port_test w by handle
+  m ← optional_message bytes
   queue ← receive_test w port
-  Ok (receive_steps by port queue (first (is_queued queue) w.messages))
+  replied ← given_reply w port m
+  Ok (receive_steps by port queue replied (first (is_queued queue) w.messages))

@@ -65,9 +65,9 @@ next_birth by = record { maker = by.number; ordinal = by.next_ordinal; process =
 abbrev pub client_of : ThreadRow → ClientId
 client_of by = record { process = by.process; thread = by.number }
 
--- a handle of the caller's process
-abbrev pub handle_row : ThreadRow → ℕ → ObjectName → ℕ → HandleRow
-handle_row by value object access = record { process = by.process; value = value; object = object; access = access }
+-- a handle
+abbrev pub handle_row : ℕ → ObjectName → ℕ → HandleRow
+handle_row value object access = record { value = value; object = object; access = access }
 
 -- a wait of the caller's
 abbrev pub own_wait : ThreadRow → CallName → WaitKind → Birth → Birth → ℕ → WaitRow

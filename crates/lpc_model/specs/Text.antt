@@ -5,7 +5,7 @@ use Rattle.std.specs.Int.{w32, to_be_bytes}
 use Rattle.hex.specs.Hex.{encode_lower}
 use Rattle.lpc_base.specs.declared.status.Status.{Status}
 use Rattle.lpc_model.specs.declared.entry.CallName.{CallName}
-use Rattle.lpc_model.specs.declared.entry.CallName.TheVariants.{NtCreatePort, NtRequestWaitReplyPort, NtReplyPort, NtReplyWaitReceivePort}
+use Rattle.lpc_model.specs.declared.entry.CallName.TheVariants.{NtCreatePort, NtRequestPort, NtRequestWaitReplyPort, NtReplyPort, NtReplyWaitReceivePort}
 use Rattle.lpc_model.specs.declared.entry.Entry.{Entry}
 use Rattle.lpc_model.specs.declared.entry.Entry.TheVariants.{Answer, Waits, Wakes, Busy, NoThread, Died, Directive}
 use Rattle.lpc_model.specs.declared.entry.Field.{Field}
@@ -25,6 +25,7 @@ hex_word n = encode_lower (to_be_bytes w32 n)
 -- the name of a call
 abbrev pub call_text : CallName → List ℕ
 call_text NtCreatePort = codes "NtCreatePort"
+call_text NtRequestPort = codes "NtRequestPort"
 call_text NtRequestWaitReplyPort = codes "NtRequestWaitReplyPort"
 call_text NtReplyPort = codes "NtReplyPort"
 call_text NtReplyWaitReceivePort = codes "NtReplyWaitReceivePort"

@@ -1,27 +1,89 @@
--- The world: lists of rows in order of making. In a row an object is named by its kind and its birth.
-use Rattle.std.specs.Prelude.{ℕ, List, []}
+-- The world: lists of rows. In a row an object is named by its kind and its birth.
+use Rattle.std.specs.Prelude.{ℕ, Bool, List, [], Option}
 pub use Rattle.lpc_base.specs.declared.birth.Birth.{Birth}
+pub use Rattle.lpc_base.specs.declared.port_kind.PortKind.{PortKind}
 pub use Rattle.lpc_model.specs.declared.entry.CallName.{CallName}
 pub use Rattle.lpc_model.specs.declared.entry.ObjectKind.{ObjectKind}
 pub use Rattle.lpc_model.specs.declared.message.Message.{Message}
-pub use Rattle.lpc_model.specs.declared.rows.ObjectName.{ObjectName}
-pub use Rattle.lpc_model.specs.declared.rows.ProcessRow.{ProcessRow}
-pub use Rattle.lpc_model.specs.declared.rows.ThreadRow.{ThreadRow}
-pub use Rattle.lpc_model.specs.declared.rows.UsedThread.{UsedThread}
-pub use Rattle.lpc_model.specs.declared.rows.HandleRow.{HandleRow}
-pub use Rattle.lpc_model.specs.declared.rows.PortKind.{PortKind}
-pub use Rattle.lpc_model.specs.declared.rows.PortRow.{PortRow}
-pub use Rattle.lpc_model.specs.declared.rows.MessageRow.{MessageRow}
-pub use Rattle.lpc_model.specs.declared.rows.WaitKind.{WaitKind}
-pub use Rattle.lpc_model.specs.declared.rows.WaitRow.{WaitRow}
 
--- Every list is in order of making. A number that was used is never removed from the used ones.
+-- the name of an object: its kind, and its birth within the kind
+pub record ObjectName : Type 0 where
+  pub kind : ObjectKind
+  pub birth : Birth
+
+-- a process, with the process that made it, none where a directive did; it is live where it has a live thread
+pub record ProcessRow : Type 0 where
+  pub number : ℕ
+  pub maker : Option ℕ
+  pub birth : Birth
+
+-- a thread of a process, which has not ended while it is live; the message identifier that it draws next and the
+-- ordinal of what it makes next, both from 1
+pub record ThreadRow : Type 0 where
+  pub number : ℕ
+  pub process : ℕ
+  pub birth : Birth
+  pub live : Bool
+  pub next_identifier : ℕ
+  pub next_ordinal : ℕ
+
+-- a thread number that was used, with the process of that thread
+pub record UsedThread : Type 0 where
+  pub number : ℕ
+  pub process : ℕ
+
+-- a handle: a multiple of 4 from 4 that names an object, with the rights that it grants
+pub record HandleRow : Type 0 where
+  pub value : ℕ
+  pub object : ObjectName
+  pub access : ℕ
+
+-- the handles of a process, by rising value
+pub record HandleTable : Type 0 where
+  pub process : ℕ
+  pub rows : List HandleRow
+
+-- a port; the connection port of a client or server port; the other end of a connection, none where it was never made
+-- or is cut; what the server gave the connection when it accepted it
+pub record PortRow : Type 0 where
+  pub birth : Birth
+  pub kind : PortKind
+  pub connection : Option Birth
+  pub pair : Option Birth
+  pub context : ℕ
+
+-- a message that stands in the queue of a port, the port on which it was sent, and the context that a receive shows
+pub record MessageRow : Type 0 where
+  pub queue : Birth
+  pub sender : Birth
+  pub context : ℕ
+  pub message : Message
+
+-- what a thread waits for: the reply to a request, which was sent so, or a message
+pub data WaitKind : Type 0 where
+  Request : Message → WaitKind
+  Receive : WaitKind
+
+-- The wait of a thread, which has one at most: its call, the port on which the call was made, the queue that the request
+-- entered or on which a receive waits, the identifier of the request (0 for a receive), and whether it was received.
+pub record WaitRow : Type 0 where
+  pub call : CallName
+  pub thread : ℕ
+  pub process : ℕ
+  pub kind : WaitKind
+  pub port : Birth
+  pub queue : Birth
+  pub identifier : ℕ
+  pub received : Bool
+
+-- Handles stand by process in order of making, and in each process by value; every other list is in order of making. A
+-- number that was used is never removed from the used ones.
 pub record World : Type 0 where
   pub processes : List ProcessRow
   pub threads : List ThreadRow
   pub used_processes : List ℕ
   pub used_threads : List UsedThread
-  pub handles : List HandleRow
+  pub handles : List HandleTable
   pub ports : List PortRow
   pub messages : List MessageRow
   pub waits : List WaitRow

@@ -13,6 +13,7 @@ use std::marker::Model;
 #[derive(Clone, Copy, Debug, PartialEq, Eq)]
 pub enum CallName {
     NtCreatePort,
+    NtRequestPort,
     NtRequestWaitReplyPort,
     NtReplyPort,
     NtReplyWaitReceivePort,

@@ -7,12 +7,27 @@
 pub enum Call<'a> {
     /// `NtCreatePort -`: makes an unnamed port.
     CreatePort,
+    /// `NtRequestPort H MSG`: sends a datagram on a port and waits for nothing.
+    RequestPort {
+        handle: u32,
+        message: &'a [u8],
+    },
     /// `NtRequestWaitReplyPort H MSG`: sends a request on a port and waits for its reply.
-    RequestWaitReplyPort { handle: u32, message: &'a [u8] },
+    RequestWaitReplyPort {
+        handle: u32,
+        message: &'a [u8],
+    },
     /// `NtReplyPort H MSG`: replies to the request that the message names.
-    ReplyPort { handle: u32, message: &'a [u8] },
-    /// `NtReplyWaitReceivePort H`: takes the oldest message of a port's queue, or waits for one.
-    ReplyWaitReceivePort { handle: u32 },
+    ReplyPort {
+        handle: u32,
+        message: &'a [u8],
+    },
+    /// `NtReplyWaitReceivePort H [MSG]`: replies where a message is given, and then takes the oldest message of a port's
+    /// queue, or waits for one.
+    ReplyWaitReceivePort {
+        handle: u32,
+        reply: Option<&'a [u8]>,
+    },
 }
 
 /// What one line of a script says. Process and thread numbers are from 1 to 2147483647.

@@ -2,7 +2,7 @@
 use Rattle.std.specs.Prelude.{◌≡◌, ◌<◌, ℕ, List, length, [], ◌∷◌, ◌++◌, codes, Some, None, Ok, Err}
 use Rattle.lpc_base.specs.declared.limits.TheConstants.{LINE_LIMIT}
 use Rattle.lpc_model.specs.declared.fault.LineFault.TheVariants as fault
-use Rattle.lpc_model.specs.Lines.{boot, thread, run, create_port, request_wait_reply_port, reply_port, reply_wait_receive_port}
+use Rattle.lpc_model.specs.Lines.{boot, thread, run, create_port, request_port, request_wait_reply_port, reply_port, reply_wait_receive_port}
 use Rattle.lpc_model.specs.Grammar.{read_line}
 
 pub record WorkedLines : Type 0 where
@@ -10,7 +10,9 @@ pub record WorkedLines : Type 0 where
   pub boot_of_a_process : read_line (codes "boot 20 24") ≡ Ok (Some (boot 20 24))
   pub thread_in_hexadecimal : read_line (codes "  thread   0x1C 0x0014 ") ≡ Ok (Some (thread 28 20))
   pub unnamed_port : read_line (codes "24 NtCreatePort -") ≡ Ok (Some (run 24 create_port))
-  pub receive : read_line (codes "28 NtReplyWaitReceivePort 4294967295") ≡ Ok (Some (run 28 (reply_wait_receive_port 4294967295)))
+  pub receive : read_line (codes "28 NtReplyWaitReceivePort 4294967295") ≡ Ok (Some (run 28 (reply_wait_receive_port 4294967295 None)))
+  pub receive_with_a_reply : read_line (codes "28 NtReplyWaitReceivePort 4 m:4142") ≡ Ok (Some (run 28 (reply_wait_receive_port 4 (Some (65 ∷ 66 ∷ [])))))
+  pub datagram : read_line (codes "24 NtRequestPort 4 m:41") ≡ Ok (Some (run 24 (request_port 4 (65 ∷ []))))
   pub raw_message : read_line (codes "24 NtReplyPort 4 m:41aAFf") ≡ Ok (Some (run 24 (reply_port 4 (65 ∷ 170 ∷ 255 ∷ []))))
   pub data_message : read_line (codes "24 NtRequestWaitReplyPort 4 d:4142")
       ≡ Ok (Some (run 24 (request_wait_reply_port 4
@@ -28,6 +30,8 @@ pub record WorkedLines : Type 0 where
   pub no_directive : read_line (codes "reboot 1 2") ≡ Err fault.Word
   pub no_call : read_line (codes "24 NtFoo") ≡ Err fault.Call
   pub too_few_words : read_line (codes "24 NtReplyPort") ≡ Err fault.Count
+  pub receive_of_no_handle : read_line (codes "24 NtReplyWaitReceivePort") ≡ Err fault.Count
+  pub receive_with_two_replies : read_line (codes "24 NtReplyWaitReceivePort 4 d: d:") ≡ Err fault.Count
   pub space_before_the_sign : read_line (codes " # boot") ≡ Err fault.Word
   pub name_before_its_request : read_line (codes "24 NtCreatePort \\A") ≡ Err fault.Word
   pub name_before_the_count : read_line (codes "24 NtFoo 1 2 3 4") ≡ Err fault.Call
@@ -45,4 +49,5 @@ pub record WorkedLines : Type 0 where
   pub reply_of_two_numbers : read_line (codes "24 NtReplyPort 4 r:1.2:41") ≡ Err fault.Message
   pub reply_of_four_numbers : read_line (codes "24 NtReplyPort 4 r:1.2.3.4:41") ≡ Err fault.Message
   pub no_form_of_message : read_line (codes "24 NtReplyPort 4 x:41") ≡ Err fault.Message
+  pub receive_with_no_message : read_line (codes "24 NtReplyWaitReceivePort 4 -") ≡ Err fault.Message
   pub byte_past_the_limit : (line : List ℕ) → LINE_LIMIT < length line → read_line line ≡ Err fault.Long

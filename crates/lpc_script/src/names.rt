@@ -5,8 +5,9 @@ ghost use Rattle.lpc_model.specs.Grammar as grammar;
 
 use lpc_model::{CallName, Word};
 
-const CALLS: [(&[u8], CallName); 4] = [
+const CALLS: [(&[u8], CallName); 5] = [
     (b"NtCreatePort", CallName::NtCreatePort),
+    (b"NtRequestPort", CallName::NtRequestPort),
     (b"NtRequestWaitReplyPort", CallName::NtRequestWaitReplyPort),
     (b"NtReplyPort", CallName::NtReplyPort),
     (b"NtReplyWaitReceivePort", CallName::NtReplyWaitReceivePort),

@@ -1,7 +1,7 @@
 // What a line says. A call or directive is an entry of its names and a case of its words.
 ghost use Rattle.std.specs.Prelude.{◌≡◌, ◌≤◌, length, IfOk, IfSome, IsTrue};
 ghost use Rattle.std.specs.List.{list_all};
-ghost use Rattle.std.specs.Option.{option_map};
+ghost use Rattle.std.specs.Option.{option_copied, option_map};
 ghost use Rattle.lpc_base.specs.declared.limits.TheConstants.{LINE_LIMIT};
 ghost use Rattle.lpc_model.specs.declared.entry.CallName.TheVariants.{NtCreatePort};
 ghost use Rattle.lpc_model.specs.Lines.{call_of, line_of};
@@ -13,7 +13,7 @@ ghost use Rattle.lpc_script.specs.Gives.{Gives};
 use crate::names::{call_name, directive_name};
 use crate::number::{id, number};
 use crate::scratch::Scratch;
-use crate::words::{next_word, one_word, two_words};
+use crate::words::{next_word, one_or_two_words, one_word, two_words};
 use lpc_base::limits::LINE_LIMIT;
 use lpc_model::{Call, CallName, Line, LineFault, Word};
 
@@ -28,6 +28,36 @@ fn handle_and_message<'a>(
     let handle = number(handle)?;
     let message = scratch.message(message)?;
     Ok((handle, message))
+}
+
+/// A message, where a word is given for it.
+fn given_message<'a>(
+    word: Option<&[u8]>,
+    scratch: &'a mut Scratch,
+) -> Result<Option<&'a [u8]>, LineFault>
+    requires { IfSome word (λ w. length w.now ≤ LINE_LIMIT) }
+    ensures { Gives option_copied result (grammar.given_message (option_copied word.entry)) }
+{
+    match word {
+        Some(word) => {
+            let message = scratch.message(word)?;
+            Ok(Some(message))
+        }
+        None => Ok(None),
+    }
+}
+
+fn handle_and_reply<'a>(
+    text: &[u8],
+    scratch: &'a mut Scratch,
+) -> Result<(u32, Option<&'a [u8]>), LineFault>
+    requires { length text.now ≤ LINE_LIMIT }
+    ensures { Gives (λ two. (two.0, option_copied two.1)) result (grammar.handle_and_reply (words text.now)) }
+{
+    let (handle, reply) = one_or_two_words(text)?;
+    let handle = number(handle)?;
+    let reply = given_message(reply, scratch)?;
+    Ok((handle, reply))
 }
 
 #[tactic(auto, unfolding(lpc_model::specs::Grammar::call_words))]
@@ -48,6 +78,10 @@ fn call<'a>(name: CallName, text: &[u8], scratch: &'a mut Scratch) -> Result<Cal
 {
     match name {
         CallName::NtCreatePort => create_port(text),
+        CallName::NtRequestPort => {
+            let (handle, message) = handle_and_message(text, scratch)?;
+            Ok(Call::RequestPort { handle, message })
+        }
         CallName::NtRequestWaitReplyPort => {
             let (handle, message) = handle_and_message(text, scratch)?;
             Ok(Call::RequestWaitReplyPort { handle, message })
@@ -57,8 +91,8 @@ fn call<'a>(name: CallName, text: &[u8], scratch: &'a mut Scratch) -> Result<Cal
             Ok(Call::ReplyPort { handle, message })
         }
         CallName::NtReplyWaitReceivePort => {
-            let handle = number(one_word(text)?)?;
-            Ok(Call::ReplyWaitReceivePort { handle })
+            let (handle, reply) = handle_and_reply(text, scratch)?;
+            Ok(Call::ReplyWaitReceivePort { handle, reply })
         }
     }
 }

@@ -138,6 +138,56 @@ fn a_reply_has_its_header_made(rt: HostRuntime) -> Result<(), Fail> {
 }
 
 #[test]
+fn a_datagram_has_a_message_and_a_receive_may_have_one(rt: HostRuntime) -> Result<(), Fail> {
+    let mut scratch = Scratch::new(rt.alloc())?;
+    has_faults(
+        &rt,
+        &mut scratch,
+        &[
+            ("24 NtRequestPort 4 d:41", None),
+            ("24 NtRequestPort 4", Some(LineFault::Count)),
+            ("24 NtRequestPort 04 x: 1", Some(LineFault::Count)),
+            ("24 NtRequestPort 04 x:", Some(LineFault::Number)),
+            ("24 NtRequestPort 4 -", Some(LineFault::Message)),
+            ("24 NtReplyWaitReceivePort", Some(LineFault::Count)),
+            ("24 NtReplyWaitReceivePort 4 d: d:", Some(LineFault::Count)),
+            ("24 NtReplyWaitReceivePort 04 -", Some(LineFault::Number)),
+            ("24 NtReplyWaitReceivePort 4 -", Some(LineFault::Message)),
+            ("24 NtReplyWaitReceivePort 4 d:4", Some(LineFault::Hex)),
+        ],
+    );
+    let Ok(
+        Some(
+            Line::Run {
+                call: Call::RequestPort { handle, message },
+                ..
+            },
+        ),
+    ) = read_line(b"24 NtRequestPort 8 m:41fF", &mut scratch)
+    else {
+        assert!(rt; false, "no datagram");
+        return Ok(());
+    };
+    assert_eq!(rt; handle, 8);
+    assert_eq!(rt; message, b"\x41\xff".as_slice());
+    let Ok(
+        Some(
+            Line::Run {
+                call: Call::ReplyWaitReceivePort { handle, reply },
+                ..
+            },
+        ),
+    ) = read_line(b"28 NtReplyWaitReceivePort 4 m:42", &mut scratch)
+    else {
+        assert!(rt; false, "no receive");
+        return Ok(());
+    };
+    assert_eq!(rt; handle, 4);
+    assert_eq!(rt; reply, Some(b"B".as_slice()));
+    Ok(())
+}
+
+#[test]
 fn a_line_has_at_most_16384_bytes(rt: HostRuntime) -> Result<(), Fail> {
     let alloc = rt.alloc();
     let mut scratch = Scratch::new(alloc)?;

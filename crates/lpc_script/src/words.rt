@@ -1,6 +1,6 @@
 // The words of a line, one after the other, and the parts of a word.
 ghost use Rattle.std.specs.Prelude.{◌≡◌, ◌≢◌, ◌<◌, ◌≤◌, [], ◌∷◌, length, slice_index, MatchOption, IfSome, IfOk};
-ghost use Rattle.std.specs.Option.{option_map};
+ghost use Rattle.std.specs.Option.{option_copied, option_map};
 ghost use Rattle.lpc_model.specs.Words.{parts, words};
 ghost use Rattle.lpc_model.specs.Words as spec;
 ghost use Rattle.lpc_model.specs.Grammar as grammar;
@@ -80,6 +80,22 @@ pub fn two_words(text: &[u8]) -> Result<(&[u8], &[u8]), LineFault>
         return Err(LineFault::Count);
     }
     Ok((first, second))
+}
+
+/// The words of a text that has one or two.
+#[tactic(auto, unfolding(lpc_model::specs::Grammar::one_or_two_words))]
+pub fn one_or_two_words(text: &[u8]) -> Result<(&[u8], Option<&[u8]>), LineFault>
+    ensures value { Gives (λ two. (two.0.now, option_copied two.1)) result (grammar.one_or_two_words (words text.now)) }
+    ensures length { IfOk result (λ two. IfSome two.1 (λ word. length word.now ≤ length text.now)) }
+{
+    let (first, rest) = next_word(text).ok_or(LineFault::Count)?;
+    let Some((second, rest)) = next_word(rest) else {
+        return Ok((first, None));
+    };
+    if let Some((_, _)) = next_word(rest) {
+        return Err(LineFault::Count);
+    }
+    Ok((first, Some(second)))
 }
 
 /// The parts between the dots of a text that has exactly two.

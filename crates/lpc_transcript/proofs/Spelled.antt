@@ -7,7 +7,7 @@ use Rattle.hex.specs.Hex.{encode_lower}
 use Rattle.lpc_model.specs.Text.{hex_word, call_text, word_text, name_text, value_text, fields_text, by_text, rest_text}
 use Rattle.lpc_model.specs.TextLaws.{Sort, in_decimal, in_hexadecimal, as_bytes, is_of_sort}
 use Rattle.lpc_model.specs.declared.entry.CallName.{CallName}
-use Rattle.lpc_model.specs.declared.entry.CallName.TheVariants.{NtCreatePort, NtRequestWaitReplyPort, NtReplyPort, NtReplyWaitReceivePort}
+use Rattle.lpc_model.specs.declared.entry.CallName.TheVariants.{NtCreatePort, NtRequestPort, NtRequestWaitReplyPort, NtReplyPort, NtReplyWaitReceivePort}
 use Rattle.lpc_model.specs.declared.entry.Entry.{Entry}
 use Rattle.lpc_model.specs.declared.entry.Entry.TheVariants.{Answer, Waits, Wakes, Busy, NoThread, Died, Directive}
 use Rattle.lpc_model.specs.declared.entry.Field.{Field}
@@ -75,12 +75,14 @@ rest_joined (Directive word status) = ap (λ text. codes " - " ++ word_text word
 read_call : List ℕ → CallName
 read_call text =
     if bytes_eq text (codes "NtCreatePort") then NtCreatePort
+    else (if bytes_eq text (codes "NtRequestPort") then NtRequestPort
     else (if bytes_eq text (codes "NtReplyPort") then NtReplyPort
-    else (if bytes_eq text (codes "NtReplyWaitReceivePort") then NtReplyWaitReceivePort else NtRequestWaitReplyPort))
+    else (if bytes_eq text (codes "NtReplyWaitReceivePort") then NtReplyWaitReceivePort else NtRequestWaitReplyPort)))
 
 read_call-text : (call : CallName) → read_call (call_text call) ≡ call
 unfolding read_call
 read_call-text NtCreatePort = refl
+read_call-text NtRequestPort = refl
 read_call-text NtRequestWaitReplyPort = refl
 read_call-text NtReplyPort = refl
 read_call-text NtReplyWaitReceivePort = refl
@@ -90,6 +92,7 @@ call_unique a b e = sym (read_call-text a) ∙ ap read_call e ∙ read_call-text
 
 pub call_plain : (call : CallName) → is_plain (call_text call) ≡ true
 call_plain NtCreatePort = refl
+call_plain NtRequestPort = refl
 call_plain NtRequestWaitReplyPort = refl
 call_plain NtReplyPort = refl
 call_plain NtReplyWaitReceivePort = refl

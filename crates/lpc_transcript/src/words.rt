@@ -70,6 +70,7 @@ fn call_name(call: CallName) -> &'static [u8]
 {
     match call {
         CallName::NtCreatePort => b"NtCreatePort",
+        CallName::NtRequestPort => b"NtRequestPort",
         CallName::NtRequestWaitReplyPort => b"NtRequestWaitReplyPort",
         CallName::NtReplyPort => b"NtReplyPort",
         CallName::NtReplyWaitReceivePort => b"NtReplyWaitReceivePort",

@@ -1,17 +1,19 @@
 use Rattle.std.proofs.Common.{refl, arith}
 use Rattle.std.proofs.lemmas.Bool.Decides.{nat_tests}
 use Rattle.lpc_model.specs.Words.{words, digits_word, decimal_word, hexadecimal_word, number_word, id_word, hex_word, cut, three_parts, reply_message, message_word}
-use Rattle.lpc_model.specs.Grammar.{read_line, named, call_words, directive_words, call_line, directive_line, one_word, two_words}
+use Rattle.lpc_model.specs.Grammar.{read_line, named, call_words, directive_words, call_line, directive_line, one_word, one_or_two_words, two_words}
 use Rattle.hex.specs.Hex.{decode_pairs}
 use Rattle.lpc_script.proofs.laws.law_worked_lines.Goals as goal
 
 pub returns : goal.returns
-unfolding words digits_word decimal_word hexadecimal_word number_word id_word hex_word cut three_parts reply_message message_word read_line named call_words directive_words call_line directive_line one_word two_words decode_pairs
+unfolding words digits_word decimal_word hexadecimal_word number_word id_word hex_word cut three_parts reply_message message_word read_line named call_words directive_words call_line directive_line one_word one_or_two_words two_words decode_pairs
 returns c = record {
   boot_of_a_process = refl;
   thread_in_hexadecimal = refl;
   unnamed_port = refl;
   receive = refl;
+  receive_with_a_reply = refl;
+  datagram = refl;
   raw_message = refl;
   data_message = refl;
   reply_message = refl;
@@ -23,6 +25,8 @@ returns c = record {
   no_directive = refl;
   no_call = refl;
   too_few_words = refl;
+  receive_of_no_handle = refl;
+  receive_with_two_replies = refl;
   space_before_the_sign = refl;
   name_before_its_request = refl;
   name_before_the_count = refl;
@@ -40,5 +44,6 @@ returns c = record {
   reply_of_two_numbers = refl;
   reply_of_four_numbers = refl;
   no_form_of_message = refl;
+  receive_with_no_message = refl;
   byte_past_the_limit = λ line h. grind (arith, nat_tests, h);
 }

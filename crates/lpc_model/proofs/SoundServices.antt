@@ -1,0 +1,173 @@
+-- Each service leaves sound waits behind.
+use Rattle.std.proofs.Common.{◌≡◌, ℕ, List, [], ◌∷◌, ◌++◌, Bool, true, false, not, refl, sym, ap, subst, arith}
+use Rattle.std.specs.Prelude.{◌&&◌, ◌==◌, Option, Some, None}
+use Rattle.std.proofs.lemmas.Bool.Decides.{nat_tests}
+use Rattle.lpc_base.specs.Rows.{first, has, passes, without}
+use Rattle.lpc_base.specs.declared.status.TheConstants.{PORT_DISCONNECTED, SUCCESS}
+use Rattle.lpc_base.proofs.RowWords.{every-more, every-push, first-passes, has-push, has_none-more}
+use Rattle.lpc_message.specs.declared.kind.TheConstants.{DATAGRAM, REQUEST}
+use Rattle.lpc_base.specs.declared.port_kind.PortKind.TheVariants.{Unnamed}
+use Rattle.lpc_model.specs.World.{Birth, Message, MessageRow, PortRow, ThreadRow, WaitRow, World}
+use Rattle.lpc_model.specs.Found.{free_handle, is_live_thread, is_open, port_row, is_queued, is_thread, port_name, queue_of, route, same_birth, waits_as}
+use Rattle.lpc_model.specs.Basics.{Awaits, Basic, DrawsIdentifier, DrawsOrdinal, Makes, basic, past_identifier, world_after}
+use Rattle.lpc_model.specs.Message.{as_reply, message_test}
+use Rattle.lpc_model.specs.Fields.{msg}
+use Rattle.lpc_model.specs.Entering.{enter, row_of, take_steps, takes}
+use Rattle.lpc_model.specs.Tests.{PORT_ACCESS, client_of, handles_test, is_client, next_birth, port_test}
+use Rattle.lpc_model.specs.Connect.{create_steps, new_port, nt_create_port}
+use Rattle.lpc_model.specs.Request.{Sendable, answered_test, datagram_send_test, given_reply, is_spent, nt_reply_port, nt_reply_wait_receive_port, nt_request_port, nt_request_wait_reply_port, optional_message, receive_steps, receive_test, receive_wait, request_steps, request_wait, send_test, sent_by}
+use Rattle.lpc_model.specs.Refusal.{found_or, refuse_if}
+use Rattle.lpc_model.specs.SoundWaits.{IsSoundWorld, is_answerable, is_joined, is_message_of}
+use Rattle.lpc_model.proofs.Rows.{has-none, passes-change}
+use Rattle.lpc_model.proofs.Holding.{Holds, bind_holds, found_ok, holds_ok, not_refused}
+use Rattle.lpc_model.proofs.Usable.{HasRoute, IsUsable, birth-same, birth-self, port-usable, queue-open, routed, unspent}
+use Rattle.lpc_model.proofs.SoundWorlds.{is_sure, sure-waits, tables-of}
+use Rattle.lpc_model.proofs.SoundBasics.{sound-awaits, sound-handle, sound-identifier, sound-makes, sound-ordinal, sound-wakes}
+use Rattle.lpc_model.proofs.SoundQueues.{after-append, is_ready, ready-sure, sound-enter, sound-take}
+
+-- the steps leave a sound world
+abbrev pub LeaveSound : World → List Basic → Type 0
+LeaveSound w bs = IsSoundWorld (world_after w bs)
+
+-- NtCreatePort
+created-sound : (w : World) (by : ThreadRow) → IsSoundWorld w → LeaveSound w (create_steps by (next_birth by) (free_handle w by.process))
+created-sound w by s =
+    let drawn = sound-ordinal w by.number s in
+    let made = sound-makes (basic w (DrawsOrdinal by.number)) (new_port (next_birth by) Unnamed) drawn in
+    sound-handle (basic (basic w (DrawsOrdinal by.number)) (Makes (new_port (next_birth by) Unnamed))) by.process (port_name (next_birth by)) PORT_ACCESS made
+
+pub create-sound : (w : World) (by : ThreadRow) → IsSoundWorld w → Holds (LeaveSound w) (nt_create_port w by)
+unfolding nt_create_port
+create-sound w by s = bind_holds (handles_test w by.process 1) _ (LeaveSound w) (λ _ _. created-sound w by s)
+
+-- Messages that are sent
+-- what the tests of a message that is sent find
+send-routed : (w : World) (by : ThreadRow) (handle : ℕ) (bytes : List ℕ) → Holds (λ (s : Sendable). HasRoute w s.port s.queue) (send_test w by handle bytes)
+send-routed w by handle bytes =
+    let P : Sendable → Type 0 = λ s. HasRoute w s.port s.queue in
+    bind_holds (port_test w by handle) _ P (λ port at.
+    bind_holds (message_test bytes) _ P (λ m _.
+    bind_holds (found_or (route w port) PORT_DISCONNECTED) _ P (λ queue way.
+    routed w port queue (holds_ok (IsUsable w) (port_test w by handle) port (port-usable w by handle) at) (found_ok (route w port) PORT_DISCONNECTED queue way))))
+
+-- a message enters a sound world
+entered-sound : (w : World) (m : MessageRow) → IsSoundWorld w → LeaveSound w (enter m w)
+entered-sound w m s = sound-enter w m (every-more (is_sure w) (is_ready w m) (ready-sure w m) w.waits (sure-waits w s)) (tables-of w s)
+
+-- NtRequestWaitReplyPort
+-- its sender draws an identifier, and lives on
+drawn-client : (w : World) (by : ThreadRow) → is_client w (client_of by) ≡ true → is_client (basic w (DrawsIdentifier by.number)) (client_of by) ≡ true
+drawn-client w by is = rw (passes-change (is_live_thread by.number) (λ t. t.process == by.process) (is_thread by.number) past_identifier (λ t. refl) (λ t. refl) w.threads) is
+
+own-message : (by : ThreadRow) (port : PortRow) (queue : Birth) (m : Message) → is_message_of (request_wait by port.birth queue (sent_by by REQUEST m)) (row_of queue port (sent_by by REQUEST m)) ≡ true
+own-message by port queue m = let self = birth-self queue in grind (arith, nat_tests)
+
+-- its wait is sound once its message has entered
+ready-parts : (c o q h a : Bool) → c ≡ true → o ≡ true → q ≡ true → h ≡ true → a ≡ true → ((c && (o && (h && q))) && a) ≡ true
+ready-parts c o q h a one two three four five = grind arith
+
+request-ready : (w : World) (by : ThreadRow) (port : PortRow) (queue : Birth) (m : Message) → is_client w (client_of by) ≡ true → HasRoute w port queue
+    → is_ready (basic w (DrawsIdentifier by.number)) (row_of queue port (sent_by by REQUEST m)) (request_wait by port.birth queue (sent_by by REQUEST m)) ≡ true
+request-ready w by port queue m client r =
+    let x = request_wait by port.birth queue (sent_by by REQUEST m) in
+    let row = row_of queue port (sent_by by REQUEST m) in
+    let stands = has-push (is_message_of x) w.messages row (own-message by port queue m) in
+    ready-parts (is_client (basic w (DrawsIdentifier by.number)) (client_of by)) (is_open w port.birth) (is_open w queue) (has (is_message_of x) (w.messages ++ row ∷ [])) (is_answerable w x)
+    (drawn-client w by client) r.from r.to stands r.answers
+
+requested-sound : (w : World) (by : ThreadRow) (port : PortRow) (queue : Birth) (m : Message) → IsSoundWorld w → is_client w (client_of by) ≡ true → HasRoute w port queue
+    → LeaveSound w (request_steps by port queue (sent_by by REQUEST m) w)
+requested-sound w by port queue m s client r =
+    let row = row_of queue port (sent_by by REQUEST m) in
+    let x = request_wait by port.birth queue (sent_by by REQUEST m) in
+    let drawn = basic w (DrawsIdentifier by.number) in
+    let others = every-more (is_sure drawn) (is_ready drawn row) (ready-sure drawn row) w.waits (sure-waits drawn (sound-identifier w by.number s)) in
+    sound-enter (basic drawn (Awaits x)) row (every-push (is_ready drawn row) w.waits x others (request-ready w by port queue m client r)) (tables-of w s)
+
+pub request-sound : (w : World) (by : ThreadRow) (handle : ℕ) (bytes : List ℕ) → is_client w (client_of by) ≡ true → IsSoundWorld w → Holds (LeaveSound w) (nt_request_wait_reply_port w by handle bytes)
+unfolding nt_request_wait_reply_port
+request-sound w by handle bytes client s =
+    bind_holds (send_test w by handle bytes) _ (LeaveSound w) (λ sendable is.
+    requested-sound w by sendable.port sendable.queue sendable.message s client
+    (holds_ok (λ (s : Sendable). HasRoute w s.port s.queue) (send_test w by handle bytes) sendable (send-routed w by handle bytes) is))
+
+-- NtRequestPort
+pub datagram-sound : (w : World) (by : ThreadRow) (handle : ℕ) (bytes : List ℕ) → IsSoundWorld w → Holds (LeaveSound w) (nt_request_port w by handle bytes)
+unfolding nt_request_port
+datagram-sound w by handle bytes s =
+    bind_holds (datagram_send_test w by handle bytes) _ (LeaveSound w) (λ sendable _.
+    entered-sound (basic w (DrawsIdentifier by.number)) (row_of sendable.queue sendable.port (sent_by by DATAGRAM sendable.message)) (sound-identifier w by.number s))
+
+-- NtReplyPort
+pub reply-sound : (w : World) (by : ThreadRow) (handle : ℕ) (bytes : List ℕ) → IsSoundWorld w → Holds (LeaveSound w) (nt_reply_port w by handle bytes)
+unfolding nt_reply_port
+reply-sound w by handle bytes s =
+    bind_holds (port_test w by handle) _ (LeaveSound w) (λ port _.
+    bind_holds (message_test bytes) _ (LeaveSound w) (λ m _.
+    bind_holds (answered_test w port m) _ (LeaveSound w) (λ x _. sound-wakes w x.thread x.call SUCCESS (msg (as_reply m) ∷ []) s)))
+
+-- NtReplyWaitReceivePort
+-- what a reply that is made first leaves: some waits, and all else as it was
+record IsReplied (w : World) (bs : List Basic) : Type 0 where
+  waits : List WaitRow
+  world : world_after w bs ≡ record w { waits = waits }
+  sound : LeaveSound w bs
+
+replied : (w : World) (port : PortRow) (o : Option Message) → IsSoundWorld w → Holds (IsReplied w) (given_reply w port o)
+replied w port None s = record { waits = w.waits; world = refl; sound = s }
+replied w port (Some m) s =
+    bind_holds (answered_test w port m) _ (IsReplied w) (λ x _.
+    record { waits = without (waits_as x.thread) w.waits; world = refl; sound = sound-wakes w x.thread x.call SUCCESS (msg (as_reply m) ∷ []) s })
+
+-- a receive finds its queue open, and a message can come where none stands in it
+record CanWait (w : World) (port : PortRow) (queue : Birth) : Type 0 where
+  usable : IsUsable w port
+  opens : is_open w queue ≡ true
+  unspent : first (is_queued queue) w.messages ≡ None → is_joined port ≡ true
+
+can-wait : (w : World) (port : PortRow) → IsUsable w port → Holds (CanWait w port) (receive_test w port)
+can-wait w port u =
+    bind_holds (found_or (queue_of w port) PORT_DISCONNECTED) _ (CanWait w port) (λ queue at.
+    bind_holds (refuse_if (is_spent w port queue) PORT_DISCONNECTED) _ (CanWait w port) (λ t off. record {
+      usable = u;
+      opens = queue-open w queue port (found_ok (queue_of w port) PORT_DISCONNECTED queue at);
+      unspent = λ none. unspent w queue port none (not_refused (is_spent w port queue) PORT_DISCONNECTED t off);
+    }))
+
+-- the new wait is sound where nothing stands in its queue
+receive-parts : (c o q h j : Bool) → c ≡ true → o ≡ true → q ≡ true → h ≡ false → j ≡ true → ((c && (o && (q && (not h && j)))) && true) ≡ true
+receive-parts c o q h j one two three four five = grind arith
+
+turned : (a b : Birth) → same_birth a b ≡ false → same_birth b a ≡ false
+turned a b off = grind (arith, nat_tests)
+
+receive-sure : (w : World) (by : ThreadRow) (port : PortRow) (queue : Birth) → is_client w (client_of by) ≡ true → CanWait w port queue → first (is_queued queue) w.messages ≡ None → is_sure w (receive_wait by port.birth queue) ≡ true
+receive-sure w by port queue client c none =
+    let x = receive_wait by port.birth queue in
+    let nothing = has_none-more (is_queued queue) (λ m. takes m x) (λ m off. turned m.queue queue off) w.messages (has-none (is_queued queue) w.messages none) in
+    let joined : passes (port_row w port.birth) is_joined ≡ true = rw c.usable.stands (c.unspent none) in
+    receive-parts (is_client w (client_of by)) (is_open w port.birth) (is_open w queue) (has (λ m. takes m x) w.messages) (passes (port_row w port.birth) is_joined)
+    client c.usable.opens c.opens nothing joined
+
+received-sound : (w : World) (by : ThreadRow) (port : PortRow) (queue : Birth) (bs : List Basic) (o : Option MessageRow) → first (is_queued queue) w.messages ≡ o → is_client w (client_of by) ≡ true → CanWait w port queue → IsReplied w bs → LeaveSound w (receive_steps by port queue bs o)
+received-sound w by port queue bs (Some m) at client c r =
+    let same : queue ≡ m.queue = sym (birth-same m.queue queue (first-passes (is_queued queue) w.messages m at)) in
+    let oldest = subst (λ q. first (is_queued q) w.messages ≡ Some m) same at in
+    let taken = sound-take (world_after w bs) m (rw (ap (λ v. v.messages) r.world) oldest) r.sound in
+    rw (after-append w bs (take_steps m)) taken
+received-sound w by port queue bs None at client c r =
+    let x = receive_wait by port.birth queue in
+    let sure = subst (λ v. is_sure v x ≡ true) (sym r.world) (receive-sure w by port queue client c at) in
+    rw (after-append w bs (Awaits x ∷ [])) (sound-awaits (world_after w bs) x sure r.sound)
+
+pub receive-sound : (w : World) (by : ThreadRow) (handle : ℕ) (bytes : Option (List ℕ)) → is_client w (client_of by) ≡ true → IsSoundWorld w → Holds (LeaveSound w) (nt_reply_wait_receive_port w by handle bytes)
+unfolding nt_reply_wait_receive_port
+receive-sound w by handle bytes client s =
+    bind_holds (port_test w by handle) _ (LeaveSound w) (λ port at.
+    bind_holds (optional_message bytes) _ (LeaveSound w) (λ m _.
+    bind_holds (receive_test w port) _ (LeaveSound w) (λ queue can.
+    bind_holds (given_reply w port m) _ (LeaveSound w) (λ bs made.
+    let u = holds_ok (IsUsable w) (port_test w by handle) port (port-usable w by handle) at in
+    let c = holds_ok (CanWait w port) (receive_test w port) queue (can-wait w port u) can in
+    let r = holds_ok (IsReplied w) (given_reply w port m) bs (replied w port m s) made in
+    received-sound w by port queue bs (first (is_queued queue) w.messages) refl client c r))))
