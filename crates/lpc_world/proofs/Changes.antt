@@ -1,0 +1,227 @@
+-- For each change that gives no object a key: the tables' new rows are the step of the rows that they stood for, and name
+-- what stands.
+use Rattle.std.proofs.Common.{◌≡◌, ℕ, List, [], ◌∷◌, ◌++◌, Bool, true, length, map, refl, ap, sym, ◌∙◌, arith}
+use Rattle.std.specs.Prelude.{nat_lt}
+use Rattle.lpc_base.specs.declared.birth.Birth.{Birth}
+use Rattle.lpc_base.specs.Rows.{change, count, every, which, without, without_first}
+use Rattle.lpc_base.proofs.RowWords.{every-change, every-push, every-without, length-change}
+use Rattle.lpc_base.proofs.RowMaps.{change-map, every-map, every-without_first, push-map, unseen-change, which-map, without-map, without_first-map}
+use Rattle.lpc_handles.specs.Handles as handles
+use Rattle.lpc_handles.specs.declared.table.Row.{Row}
+use Rattle.lpc_model.specs.World as model
+use Rattle.lpc_model.specs.World.{World}
+use Rattle.lpc_model.specs.Basics as basics
+use Rattle.lpc_model.specs.Basics.{AddsHandle, AddsProcess, AddsThread, Awaits, DrawsIdentifier, DrawsOrdinal, Enters, Receives, Takes, basic, put_handle, with_handle}
+use Rattle.lpc_model.specs.Found.{is_queued, is_table, is_thread, waits_as}
+use Rattle.lpc_ports.specs.Table as ports
+use Rattle.lpc_ports.specs.Table.{PortTable}
+use Rattle.lpc_ports.specs.declared.messages.QueuedMessage.{QueuedMessage}
+use Rattle.lpc_procs.specs.Procs as procs
+use Rattle.lpc_procs.specs.declared.rows.ProcessRow.{ProcessRow}
+use Rattle.lpc_procs.specs.declared.rows.ThreadRow.{ThreadRow}
+use Rattle.lpc_procs.specs.declared.rows.UsedThread.{UsedThread}
+use Rattle.lpc_model.specs.Message.{message_of}
+use Rattle.lpc_model.specs.declared.message.Message.{Message}
+use Rattle.lpc_slots.specs.declared.Key.{Key}
+use Rattle.lpc_waits.specs.Table as waits
+use Rattle.lpc_waits.specs.Table.{WaitTable}
+use Rattle.lpc_waits.specs.declared.WaitKind.{WaitKind}
+use Rattle.lpc_waits.specs.declared.WaitKind.TheVariants as wait
+use Rattle.lpc_waits.specs.declared.WaitRow.{WaitRow}
+use Rattle.lpc_world.specs.Kept.{is_pending}
+use Rattle.lpc_world.specs.Lawful.{IsLawful, is_quiet}
+use Rattle.lpc_world.proofs.Lawful.{lawful-keep}
+use Rattle.lpc_world.specs.Names.{name_of, stands}
+use Rattle.lpc_world.specs.Shown.{AreNamed, Births, all_pass, birth_of, births_of, message_refs, object_stands, part_refs, shown_by, shown_handle, shown_message, shown_part, shown_process, shown_thread, shown_used, shown_wait, wait_refs, with_message}
+use Rattle.lpc_world.specs.Parts.{handed, is_part, roomed}
+use Rattle.lpc_world.specs.declared.object.Object.{Object}
+use Rattle.lpc_world.specs.declared.parts.Part.{Part}
+use Rattle.std.proofs.lemmas.List.{map-append}
+use Rattle.lpc_world.proofs.Follows.{queue_same}
+
+every_append : {X : Type 0} (p : X → Bool) (xs ys : List X) → every p xs ≡ true → every p ys ≡ true → every p (xs ++ ys) ≡ true
+every_append p [] ys one two = two
+every_append p (x ∷ xs) ys one two = grind (arith, every_append p xs ys)
+
+every_which : {X : Type 0} (p test : X → Bool) (xs : List X) → every p xs ≡ true → every p (which test xs) ≡ true
+every_which p test [] all = refl
+every_which p test (x ∷ xs) all = grind (arith, every_which p test xs)
+
+module _ (t : procs.Table) (parts : List Part) (p : PortTable) (w : WaitTable) (is : AreNamed (births_of p) parts p w) where
+  abbrev n : Births
+  n = births_of p
+
+  abbrev f : Object → Birth
+  f = birth_of n
+
+  abbrev ok : Object → Bool
+  ok = object_stands n
+
+  abbrev rows : World
+  rows = shown_by n t parts p w
+
+  -- a message enters
+  pub entered : (row : Key × QueuedMessage) (room made : ℕ) → all_pass message_refs ok row ≡ true → AreNamed n parts (record p { messages = p.messages ++ row ∷ []; message_room = room; messages_made = made }) w
+  entered row room made there = record {
+    ports_apart = is.ports_apart;
+    refs = record { in_handles = is.refs.in_handles; in_ports = is.refs.in_ports; in_messages = every-push (all_pass message_refs ok) p.messages row is.refs.in_messages there; in_waits = is.refs.in_waits };
+  }
+
+  pub enters : (row : Key × QueuedMessage) (room made : ℕ) → shown_by n t parts (record p { messages = p.messages ++ row ∷ []; message_room = room; messages_made = made }) w ≡ basic rows (Enters (shown_message f row))
+  enters row room made = rw (push-map (shown_message f) p.messages row) refl
+
+  -- the oldest message of a queue is taken
+  pub taken : (key : Key) (room : ℕ) → AreNamed n parts (record p { messages = without_first (ports.is_in key) p.messages; message_room = room }) w
+  taken key room = record {
+    ports_apart = is.ports_apart;
+    refs = record { in_handles = is.refs.in_handles; in_ports = is.refs.in_ports; in_messages = every-without_first (all_pass message_refs ok) (ports.is_in key) p.messages is.refs.in_messages; in_waits = is.refs.in_waits };
+  }
+
+  pub takes : (key : Key) (room : ℕ) → stands n.ports key ≡ true → shown_by n t parts (record p { messages = without_first (ports.is_in key) p.messages; message_room = room }) w ≡ basic rows (Takes (name_of n.ports key))
+  takes key room there = rw (without_first-map (shown_message f) (all_pass message_refs ok) (ports.is_in key) (is_queued (name_of n.ports key)) (queue_same parts p w is key there) p.messages is.refs.in_messages) refl
+
+  -- waits
+  pub awaited : (row : WaitRow) (spare made : ℕ) → all_pass wait_refs ok row ≡ true → AreNamed n parts p (record { rows = w.rows ++ row ∷ []; spare = spare; made = made })
+  awaited row spare made there = record {
+    ports_apart = is.ports_apart;
+    refs = record { in_handles = is.refs.in_handles; in_ports = is.refs.in_ports; in_messages = is.refs.in_messages; in_waits = every-push (all_pass wait_refs ok) w.rows row is.refs.in_waits there };
+  }
+
+  pub awaits : (row : WaitRow) (spare made : ℕ) → shown_by n t parts p (record { rows = w.rows ++ row ∷ []; spare = spare; made = made }) ≡ basic rows (Awaits (shown_wait f row))
+  awaits row spare made = rw (push-map (shown_wait f) w.rows row) refl
+
+  pub ended : (who spare made : ℕ) → AreNamed n parts p (record { rows = without (waits.is_of who) w.rows; spare = spare; made = made })
+  ended who spare made = record {
+    ports_apart = is.ports_apart;
+    refs = record { in_handles = is.refs.in_handles; in_ports = is.refs.in_ports; in_messages = is.refs.in_messages; in_waits = every-without (all_pass wait_refs ok) (waits.is_of who) w.rows is.refs.in_waits };
+  }
+
+  pub ends : (who spare made : ℕ) → shown_by n t parts p (record { rows = without (waits.is_of who) w.rows; spare = spare; made = made }) ≡ record rows { waits = without (waits_as who) rows.waits }
+  ends who spare made = rw (without-map (shown_wait f) (all_pass wait_refs ok) (waits.is_of who) (waits_as who) (λ row there. refl) w.rows is.refs.in_waits) refl
+
+  -- a wait is changed, and names what it named
+  pub waiting : (who spare made : ℕ) (g : WaitRow → WaitRow) → ((row : WaitRow) → wait_refs (g row) ≡ wait_refs row) → AreNamed n parts p (record { rows = change (waits.is_of who) g w.rows; spare = spare; made = made })
+  waiting who spare made g same = record {
+    ports_apart = is.ports_apart;
+    refs = record { in_handles = is.refs.in_handles; in_ports = is.refs.in_ports; in_messages = is.refs.in_messages; in_waits = every-change (all_pass wait_refs ok) (waits.is_of who) g (λ row there. ap (every ok) (same row) ∙ there) w.rows is.refs.in_waits };
+  }
+
+  pub waits_change : (who spare made : ℕ) (g : WaitRow → WaitRow) (k : model.WaitRow → model.WaitRow) → ((row : WaitRow) → shown_wait f (g row) ≡ k (shown_wait f row)) → shown_by n t parts p (record { rows = change (waits.is_of who) g w.rows; spare = spare; made = made }) ≡ record rows { waits = change (waits_as who) k rows.waits }
+  waits_change who spare made g k same = rw (change-map (shown_wait f) (all_pass wait_refs ok) (waits.is_of who) (waits_as who) (λ row there. refl) g k (λ row there. same row) w.rows is.refs.in_waits) refl
+
+  -- handles
+  put : (value : ℕ) (row : Row Object) (hs : List (ℕ × Row Object)) → map (shown_handle f) (handles.with_row hs value row) ≡ put_handle (shown_handle f (value, row)) (map (shown_handle f) hs)
+  put value row hs =
+      map-append (shown_handle f) (which (handles.is_below value) hs) ((value, row) ∷ which (handles.is_above value) hs)
+      ∙ rw (
+        which-map (shown_handle f) (λ _. true) (handles.is_below value) (λ r. nat_lt r.value value) (λ r _. refl) hs (all_true hs),
+        which-map (shown_handle f) (λ _. true) (handles.is_above value) (λ r. nat_lt value r.value) (λ r _. refl) hs (all_true hs),
+      ) refl
+    where
+      all_true : {X : Type 0} (xs : List X) → every (λ _. true) xs ≡ true
+      all_true [] = refl
+      all_true (x ∷ xs) = grind (arith, all_true xs)
+
+  objects_put : (value : ℕ) (row : Row Object) (hs : List (ℕ × Row Object)) → ok row.object ≡ true → every ok (map (λ r. r.1.object) hs) ≡ true → every ok (map (λ r. r.1.object) (handles.with_row hs value row)) ≡ true
+  objects_put value row hs there all =
+      rw (every-map ok (λ (r : ℕ × Row Object). r.1.object) (handles.with_row hs value row))
+      (every_append (λ r. ok r.1.object) (which (handles.is_below value) hs) ((value, row) ∷ which (handles.is_above value) hs)
+      (every_which (λ r. ok r.1.object) (handles.is_below value) hs (sym (every-map ok (λ (r : ℕ × Row Object). r.1.object) hs) ∙ all))
+      (rw there (every_which (λ r. ok r.1.object) (handles.is_above value) hs (sym (every-map ok (λ (r : ℕ × Row Object). r.1.object) hs) ∙ all))))
+
+  pub handed_named : (pid value : ℕ) (row : Row Object) → ok row.object ≡ true → AreNamed n (change (is_part pid) (handed value row) parts) p w
+  handed_named pid value row there = record {
+    ports_apart = is.ports_apart;
+    refs = record {
+      in_handles = every-change (all_pass part_refs ok) (is_part pid) (handed value row) (λ part all. objects_put value row part.handles.rows there all) parts is.refs.in_handles;
+      in_ports = is.refs.in_ports;
+      in_messages = is.refs.in_messages;
+      in_waits = is.refs.in_waits;
+    };
+  }
+
+  pub hands : (pid value : ℕ) (row : Row Object) → shown_by n t (change (is_part pid) (handed value row) parts) p w ≡ basic rows (AddsHandle pid (shown_handle f (value, row)))
+  hands pid value row =
+      rw (change-map (shown_part f) (all_pass part_refs ok) (is_part pid) (is_table pid) (λ part _. refl) (handed value row) (with_handle (shown_handle f (value, row)))
+      (λ part _. ap (λ hs. record { process = part.process; rows = hs }) (put value row part.handles.rows)) parts is.refs.in_handles) refl
+
+  -- more room for handles
+  pub roomed_named : (pid spare : ℕ) → AreNamed n (change (is_part pid) (roomed spare) parts) p w
+  roomed_named pid spare = record {
+    ports_apart = is.ports_apart;
+    refs = record {
+      in_handles = every-change (all_pass part_refs ok) (is_part pid) (roomed spare) (λ part all. all) parts is.refs.in_handles;
+      in_ports = is.refs.in_ports;
+      in_messages = is.refs.in_messages;
+      in_waits = is.refs.in_waits;
+    };
+  }
+
+  pub rooms : (pid spare : ℕ) → shown_by n t (change (is_part pid) (roomed spare) parts) p w ≡ rows
+  rooms pid spare = rw (unseen-change (shown_part f) (is_part pid) (roomed spare) (λ part. refl) parts) refl
+
+  -- processes and threads
+  pub all_true : {X : Type 0} (xs : List X) → every (λ _. true) xs ≡ true
+  all_true [] = refl
+  all_true (x ∷ xs) = grind (arith, all_true xs)
+
+  pub processed : (part : Part) → part.handles.rows ≡ [] → AreNamed n (parts ++ part ∷ []) p w
+  processed part none = record {
+    ports_apart = is.ports_apart;
+    refs = record { in_handles = every-push (all_pass part_refs ok) parts part is.refs.in_handles (rw none refl); in_ports = is.refs.in_ports; in_messages = is.refs.in_messages; in_waits = is.refs.in_waits };
+  }
+
+  pub adds_process : (row : ProcessRow) (part : Part) (room : ℕ) → part.handles.rows ≡ [] → part.process ≡ row.number
+      → shown_by n (record t { processes = t.processes ++ row ∷ []; used_processes = t.used_processes ++ row.number ∷ []; process_room = room }) (parts ++ part ∷ []) p w ≡ basic rows (AddsProcess (shown_process row))
+  adds_process row part room none same = rw (push-map shown_process t.processes row, push-map (shown_part f) parts part, none, same) refl
+
+  pub adds_thread : (row : ThreadRow) (room : ℕ)
+      → shown_by n (record t { threads = t.threads ++ row ∷ []; used_threads = t.used_threads ++ (record { number = row.number; process = row.process }) ∷ []; thread_room = room }) parts p w ≡ basic rows (AddsThread (shown_thread row))
+  adds_thread row room =
+      let u : UsedThread = record { number = row.number; process = row.process } in
+      rw (push-map shown_thread t.threads row, push-map shown_used t.used_threads u) refl
+
+  pub draws_identifier : (who : ℕ) → shown_by n (procs.with_thread t who procs.past_identifier) parts p w ≡ basic rows (DrawsIdentifier who)
+  draws_identifier who = rw (change-map shown_thread (λ _. true) (procs.is_thread who) (is_thread who) (λ row _. refl) procs.past_identifier basics.past_identifier (λ row _. refl) t.threads (all_true t.threads)) refl
+
+  pub draws_ordinal : (who : ℕ) → shown_by n (procs.with_thread t who procs.past_birth) parts p w ≡ basic rows (DrawsOrdinal who)
+  draws_ordinal who = rw (change-map shown_thread (λ _. true) (procs.is_thread who) (is_thread who) (λ row _. refl) procs.past_birth basics.past_ordinal (λ row _. refl) t.threads (all_true t.threads)) refl
+
+  -- a wait whose request is received, and one that keeps its message
+  pub receives : (who : ℕ) → shown_by n t parts p (record w { rows = change (waits.is_of who) waits.received w.rows }) ≡ basic rows (Receives who)
+  receives who = waits_change who w.spare w.made waits.received basics.received (λ row. refl)
+
+  message_shown : (bytes : List ℕ) (row : WaitRow) → shown_wait f (waits.with_message bytes row) ≡ with_message (message_of bytes) (shown_wait f row)
+  message_shown bytes row = by_kind row.wait.kind
+    where
+      by_kind : (kind : WaitKind) → let old : WaitRow = record row { wait = record row.wait { kind = kind } } in shown_wait f (waits.with_message bytes old) ≡ with_message (message_of bytes) (shown_wait f old)
+      by_kind wait.Request = refl
+      by_kind wait.Receive = refl
+
+  pub keeps_message : (who : ℕ) (bytes : List ℕ) → shown_by n t parts p (record w { rows = change (waits.is_of who) (waits.with_message bytes) w.rows }) ≡ record rows { waits = change (waits_as who) (with_message (message_of bytes)) rows.waits }
+  keeps_message who bytes = waits_change who w.spare w.made (waits.with_message bytes) (with_message (message_of bytes)) (message_shown bytes)
+
+-- a wait that keeps its message is pending where it was
+pending_kept : (m : Message) (x : model.WaitRow) → is_pending (with_message m x) ≡ is_pending x
+pending_kept m x = by_kind x.kind
+  where
+    by_kind : (kind : model.WaitKind) → let old : model.WaitRow = record x { kind = kind } in is_pending (with_message m old) ≡ is_pending old
+    by_kind (model.Request other) = refl
+    by_kind model.Receive = refl
+
+quiet_kept : (m : Message) (ms : List model.MessageRow) (x : model.WaitRow) → is_quiet ms (with_message m x) ≡ is_quiet ms x
+quiet_kept m ms x = by_kind x.kind
+  where
+    by_kind : (kind : model.WaitKind) → let old : model.WaitRow = record x { kind = kind } in is_quiet ms (with_message m old) ≡ is_quiet ms old
+    by_kind (model.Request other) = refl
+    by_kind model.Receive = refl
+
+pub lawful-message : (v : World) (calls made a b who : ℕ) (bytes : List ℕ) → IsLawful v calls made a b → IsLawful (record v { waits = change (waits_as who) (with_message (message_of bytes)) v.waits }) calls made a b
+lawful-message v calls made a b who bytes h = lawful-keep v calls made a b who (with_message (message_of bytes)) (λ x. refl) (pending_kept (message_of bytes)) (quiet_kept (message_of bytes) v.messages) h
+
+pub length-message : (who : ℕ) (bytes : List ℕ) (xs : List model.WaitRow) → length (change (waits_as who) (with_message (message_of bytes)) xs) ≡ length xs
+length-message who bytes xs = length-change (waits_as who) (with_message (message_of bytes)) xs
+
+pub count-message : (who : ℕ) (bytes : List ℕ) (xs : List model.WaitRow) → count is_pending (change (waits_as who) (with_message (message_of bytes)) xs) ≡ count is_pending xs
+count-message who bytes [] = refl
+count-message who bytes (x ∷ xs) = grind (arith, pending_kept (message_of bytes) x, count-message who bytes xs)

@@ -1,0 +1,186 @@
+-- What is found in the rows: a caller and its process, and the wait of a thread.
+use Rattle.std.proofs.Common.{◌≡◌, ◌≤◌, ℕ, List, [], ◌∷◌, Bool, true, false, cond, not, ◌&&◌, ◌==◌, Option, Some, None, MatchOption, IfSome, option_map, refl, ap, sym, subst, ◌∙◌, arith}
+use Rattle.std.specs.Prelude.{is_some}
+use Rattle.std.proofs.lemmas.Bool.{eqb-true}
+use Rattle.std.proofs.lemmas.Bool.Decides.{nat_tests}
+use Rattle.lpc_base.specs.declared.birth.Birth.{Birth}
+use Rattle.lpc_base.specs.Rows.{count, every, first, has}
+use Rattle.lpc_base.proofs.RowMaps.{every-first}
+use Rattle.lpc_base.proofs.RowWords.{first-passes, has-first, has_none-more}
+use Rattle.lpc_message.specs.declared.message.ClientId.{ClientId}
+use Rattle.lpc_model.specs.World.{Receive, Request, ThreadRow, WaitKind, WaitRow, World}
+use Rattle.lpc_model.specs.Found.{fits_as, is_live_thread, is_process, is_request, is_table, is_thread, lives_in, live_thread, receives_on, wait_of, waits_as}
+use Rattle.lpc_world.specs.Kept.{is_alive, is_pending, is_pending_in, pends_as}
+use Rattle.lpc_world.specs.Lawful.{are_single, is_housed}
+use Rattle.lpc_world.specs.Ready.{caller, is_ready, thread_in, wait_in, waiter}
+
+-- Callers
+-- a thread that passes is in a process that stands and has a table of handles
+pub housed_first : (w : World) (p : ThreadRow → Bool) (t : ThreadRow) → every (is_housed w) w.threads ≡ true → first p w.threads ≡ Some t → (has (is_process t.process) w.processes ≡ true) × (has (is_table t.process) w.handles ≡ true)
+housed_first w p t all found =
+    let one : is_housed w t ≡ true = every-first (is_housed w) p w.threads t all found in
+    both (has (is_process t.process) w.processes) (has (is_table t.process) w.handles) one
+  where
+    both : (a b : Bool) → a && b ≡ true → (a ≡ true) × (b ≡ true)
+    both true b e = (refl, e)
+    both false b e = absurd (cc)
+
+counted : (p : ThreadRow → Bool) → ((x : ThreadRow) → p x ≡ true → is_alive x ≡ true) → (xs : List ThreadRow) (t : ThreadRow) → first p xs ≡ Some t → 1 ≤ count is_alive xs
+counted p more [] t found = absurd (cc)
+counted p more (x ∷ xs) t found = grind (arith, more x, counted p more xs t)
+
+-- a live thread that is found has the number, stands, and is the caller
+pub record IsCaller (w : World) (tid : ℕ) (t : ThreadRow) : Type 0 where
+  pub caller_is : t ≡ caller w tid
+  pub number : t.number ≡ tid
+  pub there : has (is_thread tid) w.threads ≡ true
+  pub table : has (is_table t.process) w.handles ≡ true
+  pub alive : 1 ≤ count is_alive w.threads
+
+lives : (a b : Bool) → a && b ≡ true → (a ≡ true) × (b ≡ true)
+lives true b e = (refl, e)
+lives false b e = absurd (cc)
+
+pub is_caller : (w : World) (tid : ℕ) (t : ThreadRow) → every (is_housed w) w.threads ≡ true → live_thread w tid ≡ Some t → IsCaller w tid t
+unfolding caller
+is_caller w tid t all found = record {
+  caller_is = sym (ap thread_in found);
+  number = eqb-true t.number tid (lives (t.number == tid) t.live (first-passes (is_live_thread tid) w.threads t found)).0;
+  there = has-first (is_live_thread tid) (is_thread tid) (λ x h. (lives (x.number == tid) x.live h).0) w.threads t found;
+  table = (housed_first w (is_live_thread tid) t all found).1;
+  alive = counted (is_live_thread tid) (λ x h. (lives (x.number == tid) x.live h).1) w.threads t found;
+}
+
+-- a thread that can make a call is found
+pub not_ready : (w : World) (tid : ℕ) → is_ready w tid ≡ true → live_thread w tid ≡ None → ⊥
+not_ready w tid ready none =
+    let some : is_some (live_thread w tid) ≡ true = (lives _ _ ready).0 in
+    absurd (cc)
+
+-- the process of a live thread stands, and has a table of handles
+pub live_process : (w : World) (pid : ℕ) → every (is_housed w) w.threads ≡ true → has (lives_in pid) w.threads ≡ true → (has (is_process pid) w.processes ≡ true) × (has (is_table pid) w.handles ≡ true)
+live_process w pid all live = of_first (first (lives_in pid) w.threads) refl live
+  where
+    of_first : (o : Option ThreadRow) → first (lives_in pid) w.threads ≡ o → is_some o ≡ true → (has (is_process pid) w.processes ≡ true) × (has (is_table pid) w.handles ≡ true)
+    of_first None found there = absurd (cc)
+    of_first (Some t) found there =
+        let own : t.process ≡ pid = eqb-true t.process pid (lives (t.process == pid) t.live (first-passes (lives_in pid) w.threads t found)).0 in
+        subst (λ q. (has (is_process q) w.processes ≡ true) × (has (is_table q) w.handles ≡ true)) own (housed_first w (lives_in pid) t all found)
+
+-- Waits
+turned : (a b : ℕ) → (a == b) ≡ (b == a)
+turned a b = grind (arith, nat_tests)
+
+elsewhere : (p : WaitRow → Bool) (x : WaitRow) (xs : List WaitRow) (y : WaitRow) → has (waits_as x.thread) xs ≡ false → first p xs ≡ Some y → (x.thread == y.thread) ≡ false
+elsewhere p x [] y none is = absurd (cc)
+elsewhere p x (z ∷ zs) y none is = grind (arith, elsewhere p x zs y, turned z.thread x.thread, turned y.thread x.thread)
+
+-- the first that passes is its thread's wait
+pub own_wait : (p : WaitRow → Bool) (xs : List WaitRow) (x : WaitRow) → are_single xs ≡ true → first p xs ≡ Some x → first (waits_as x.thread) xs ≡ Some x
+own_wait p [] y one is = absurd (cc)
+own_wait p (x ∷ xs) y one is = elim (p x) as (λ b. p x ≡ b → first (waits_as y.thread) (x ∷ xs) ≡ Some y) [
+  | true ↦ λ here. let same : x ≡ y = grind arith in grind (arith, same, nat_tests, ap (λ (z : WaitRow). z.thread) same)
+  | false ↦ λ off. let found : first p xs ≡ Some y = grind arith in
+      grind (arith, own_wait p xs y, elsewhere p x xs y (grind arith) found)
+] refl
+
+-- and where it isn't pending, its thread waits for no reply to a request that isn't received
+idle_first : (p : WaitRow → Bool) (xs : List WaitRow) (x : WaitRow) → are_single xs ≡ true → first p xs ≡ Some x → is_pending x ≡ false → has (pends_as x.thread) xs ≡ false
+idle_first p [] y one is off = refl
+idle_first p (x ∷ xs) y one is off = elim (p x) as (λ b. p x ≡ b → has (pends_as y.thread) (x ∷ xs) ≡ false) [
+  | true ↦ λ here. let same : x ≡ y = grind arith in
+      subst (λ (z : WaitRow). has (pends_as z.thread) (x ∷ xs) ≡ false) same
+      (grind (arith, has_none-more (waits_as x.thread) (pends_as x.thread) (λ z none. grind arith) xs, (let P : WaitRow → Type 0 = λ z. is_pending z ≡ false in subst P (sym same) off)))
+  | false ↦ λ there. let found : first p xs ≡ Some y = grind arith in
+      let none : has (pends_as y.thread) xs ≡ false = idle_first p xs y (grind arith) found off in
+      grind (arith, none, elsewhere p x xs y (grind arith) found)
+] refl
+
+-- a wait that is found by its test, which no pending wait passes
+pub record IsFound (w : World) (p : WaitRow → Bool) (r : Option ℕ) : Type 0 where
+  pub found : MatchOption r (first p w.waits ≡ None) (λ tid. first p w.waits ≡ Some (waiter w tid))
+  pub waits : IfSome r (λ tid. has (waits_as tid) w.waits ≡ true)
+  pub thread : IfSome r (λ tid. let x = waiter w tid in x.thread ≡ tid)
+  pub idle : IfSome r (λ tid. is_pending_in w tid ≡ false)
+
+found_row : (w : World) (p : WaitRow → Bool) → are_single w.waits ≡ true → ((x : WaitRow) → p x ≡ true → is_pending x ≡ false) → (o : Option WaitRow) → first p w.waits ≡ o → IsFound w p (option_map (λ x. x.thread) o)
+unfolding waiter
+found_row w p one off None is = record { found = is; waits = tt; thread = tt; idle = tt }
+found_row w p one off (Some x) is =
+    let own : first (waits_as x.thread) w.waits ≡ Some x = own_wait p w.waits x one is in
+    record {
+      found = is ∙ ap Some (sym (ap wait_in own));
+      waits = ap is_some own;
+      thread = ap (λ o. (wait_in o).thread) own;
+      idle = idle_first p w.waits x one is (off x (first-passes p w.waits x is));
+    }
+
+pub found_wait : (w : World) (p : WaitRow → Bool) (r : Option ℕ) → are_single w.waits ≡ true → ((x : WaitRow) → p x ≡ true → is_pending x ≡ false) → r ≡ option_map (λ x. x.thread) (first p w.waits) → IsFound w p r
+found_wait w p r one off is = subst (λ (o : Option ℕ). IsFound w p o) (sym is) (found_row w p one off (first p w.waits) refl)
+
+-- a receive isn't pending, and a wait that a message fits isn't
+receive_idle : (k : WaitKind) (b c : Bool) → (elim k [ Receive ↦ true | _ ↦ false ]) && c ≡ true → (elim k [ Request m ↦ true | _ ↦ false ]) && not b ≡ false
+receive_idle (Request m) b c h = absurd (cc)
+receive_idle Receive b c h = refl
+
+pub receive_off : (q : Birth) (x : WaitRow) → receives_on q x ≡ true → is_pending x ≡ false
+receive_off q x h = receive_idle x.kind x.received _ h
+
+fit_idle : (a b c d e f : Bool) → (a && (b && (c && (d && (e && f))))) ≡ true → d && not e ≡ false
+fit_idle true true true true true f h = refl
+fit_idle true true true true false f h = absurd (cc)
+fit_idle true true true false e f h = refl
+fit_idle true true false d e f h = absurd (cc)
+fit_idle true false c d e f h = absurd (cc)
+fit_idle false b c d e f h = absurd (cc)
+
+pub fit_off : (w : World) (port : Birth) (client : ClientId) (identifier : ℕ) (x : WaitRow) → fits_as w port client identifier x ≡ true → is_pending x ≡ false
+fit_off w port client identifier x h = fit_idle (x.thread == client.thread) (x.process == client.process) (x.identifier == identifier) (is_request x) x.received _ h
+
+-- What fits is a wait of the thread
+fit_thread : (w : World) (port : Birth) (client : ClientId) (identifier : ℕ) (x : WaitRow) → waits_as client.thread x ≡ false → fits_as w port client identifier x ≡ false
+fit_thread w port client identifier x off = short _ _ off
+  where
+    short : (a b : Bool) → a ≡ false → a && b ≡ false
+    short true b e = absurd (cc)
+    short false b e = refl
+
+none_fits : (p : WaitRow → Bool) (tid : ℕ) → ((x : WaitRow) → waits_as tid x ≡ false → p x ≡ false) → (xs : List WaitRow) → has (waits_as tid) xs ≡ false → first p xs ≡ None
+none_fits p tid off [] none = refl
+none_fits p tid off (x ∷ xs) none = grind (arith, off x, none_fits p tid off xs)
+
+-- where only a thread's waits pass, its wait is found where it passes
+first_own : (p : WaitRow → Bool) (tid : ℕ) → ((x : WaitRow) → waits_as tid x ≡ false → p x ≡ false) → (xs : List WaitRow) (x : WaitRow) → are_single xs ≡ true → first (waits_as tid) xs ≡ Some x → first p xs ≡ cond (p x) (Some x) None
+first_own p tid off [] y one is = absurd (cc)
+first_own p tid off (x ∷ xs) y one is = elim (waits_as tid x) as (λ b. waits_as tid x ≡ b → first p (x ∷ xs) ≡ cond (p y) (Some y) None) [
+  | true ↦ λ here.
+      let same : x ≡ y = grind arith in
+      let none : has (waits_as tid) xs ≡ false = subst (λ q. has (waits_as q) xs ≡ false) (eqb-true x.thread tid here) (grind arith) in
+      subst (λ (z : WaitRow). first p (x ∷ xs) ≡ cond (p z) (Some z) None) same (grind (arith, none_fits p tid off xs none))
+  | false ↦ λ there. grind (arith, off x, first_own p tid off xs y)
+] refl
+
+-- the thread of the wait that fits, where it waits
+pub fitting : (w : World) (port : Birth) (client : ClientId) (identifier : ℕ) → are_single w.waits ≡ true → has (waits_as client.thread) w.waits ≡ true
+    → cond (fits_as w port client identifier (waiter w client.thread)) (Some client.thread) None ≡ option_map (λ x. x.thread) (first (fits_as w port client identifier) w.waits)
+unfolding waiter
+fitting w port client identifier one there = of_row (wait_of w client.thread) refl there
+  where
+    p : WaitRow → Bool
+    p = fits_as w port client identifier
+
+    by_test : (x : WaitRow) (b : Bool) → x.thread ≡ client.thread → cond b (Some client.thread) None ≡ option_map (λ (x : WaitRow). x.thread) (cond b (Some x) None)
+    by_test x true own = ap Some (sym own)
+    by_test x false own = refl
+
+    of_row : (o : Option WaitRow) → wait_of w client.thread ≡ o → is_some o ≡ true
+        → cond (fits_as w port client identifier (wait_in (wait_of w client.thread))) (Some client.thread) None ≡ option_map (λ x. x.thread) (first (fits_as w port client identifier) w.waits)
+    of_row None found there = absurd (cc)
+    of_row (Some x) found there =
+        let own : x.thread ≡ client.thread = eqb-true x.thread client.thread (first-passes (waits_as client.thread) w.waits x found) in
+        ap (λ o. cond (fits_as w port client identifier (wait_in o)) (Some client.thread) None) found
+        ∙ by_test x (fits_as w port client identifier x) own
+        ∙ sym (ap (λ o. option_map (λ x. x.thread) o) (first_own (fits_as w port client identifier) client.thread (fit_thread w port client identifier) w.waits x one found))
+
+pub fits_none : (w : World) (port : Birth) (client : ClientId) (identifier : ℕ) → has (waits_as client.thread) w.waits ≡ false → None ≡ option_map (λ (x : WaitRow). x.thread) (first (fits_as w port client identifier) w.waits)
+fits_none w port client identifier none = sym (ap (λ o. option_map (λ x. x.thread) o) (none_fits (fits_as w port client identifier) client.thread (fit_thread w port client identifier) w.waits none))

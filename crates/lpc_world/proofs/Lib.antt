@@ -1,0 +1,13 @@
+pub mod Changes
+pub mod Delivered
+pub mod Finds
+pub mod Follows
+pub mod Lawful
+pub mod Makes
+pub mod Naming
+pub mod OnePart
+pub mod Readings
+pub mod Rooms
+pub mod Steps
+pub mod Tables
+pub mod Drawn

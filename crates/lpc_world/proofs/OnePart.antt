@@ -1,0 +1,106 @@
+-- The part of a process: where it stands, and what a change of it leaves.
+use Rattle.std.proofs.Common.{◌≡◌, ◌+◌, ◌-◌, ℕ, zero, suc, true, false, cond, refl, sym, ap, ◌∙◌, arith, List, [], ◌∷◌, get_or, set, slice_get, Some, None}
+use Rattle.std.specs.Prelude.{is_some, ◌==◌, Result, Ok, Err, IfOk, OnOk}
+use Rattle.std.specs.List.{position}
+use Rattle.std.proofs.lemmas.Bool.{eqb-true}
+use Rattle.std.proofs.lemmas.Bool.Decides.{nat_tests}
+use Rattle.lpc_base.specs.Rows.{change, first, has}
+use Rattle.lpc_base.proofs.RowWords.{change-none, first-passes}
+use Rattle.lpc_waits.proofs.Places.{first_at, none_at, none_first, read_at}
+use Rattle.lpc_handles.specs.Handles.{Handles, with_row}
+use Rattle.lpc_handles.specs.declared.table.Row.{Row}
+use Rattle.lpc_handles.specs.declared.table.TableFault.{TableFault}
+use Rattle.lpc_world.specs.Parts.{are_single_parts, handed, is_part, roomed, spare_at, spare_in}
+use Rattle.lpc_world.specs.declared.object.Object.{Object}
+use Rattle.lpc_world.specs.declared.parts.Part.{Part}
+
+-- a part that is found at its place
+pub record IsAt (parts : List Part) (pid index : ℕ) (part : Part) : Type 0 where
+  pub here : slice_get parts index ≡ Some part
+  pub own : part.process ≡ pid
+  pub is_first : first (is_part pid) parts ≡ Some part
+
+pub part_is : (parts : List Part) (pid index : ℕ) (part : Part) → position (is_part pid) parts ≡ Some index → part ≡ get_or parts index part → IsAt parts pid index part
+part_is parts pid index part at read =
+    let found = first_at (is_part pid) parts index at in
+    let same : found.element ≡ part = sym (read ∙ (read_at parts index found.element part found.here).1) in
+    record {
+      here = found.here ∙ ap Some same;
+      own = sym (ap (λ (p : Part). p.process) same) ∙ eqb-true found.element.process pid (first-passes (is_part pid) parts found.element found.is_first);
+      is_first = found.is_first ∙ ap Some same;
+    }
+
+pub no_place : (parts : List Part) (pid : ℕ) → has (is_part pid) parts ≡ true → position (is_part pid) parts ≡ None → ⊥
+no_place parts pid there none =
+    let no : has (is_part pid) parts ≡ false = ap is_some (none_first (is_part pid) parts none) in
+    absurd (cc)
+
+rest_none : (part : Part) (parts : List Part) (pid : ℕ) → are_single_parts (part ∷ parts) ≡ true → part.process ≡ pid → has (is_part pid) parts ≡ false
+rest_none part parts pid one same = rw (← same) (grind arith)
+
+rest_single : (part : Part) (parts : List Part) → are_single_parts (part ∷ parts) ≡ true → are_single_parts parts ≡ true
+rest_single part parts one = grind arith
+
+before : (part other : Part) (parts : List Part) (i pid : ℕ) → are_single_parts (part ∷ parts) ≡ true → slice_get parts i ≡ Some other → other.process ≡ pid → is_part pid part ≡ false
+before part other parts i pid one here same =
+    let off = none_at (is_part part.process) parts i other (rest_none part parts part.process one refl) here in
+    grind (arith, nat_tests)
+
+-- the part at its place is the one that a change of the process's parts changes
+pub set_change : (f : Part → Part) (parts : List Part) (i pid : ℕ) (part : Part) → are_single_parts parts ≡ true → slice_get parts i ≡ Some part → part.process ≡ pid → set parts i (f part) ≡ change (is_part pid) f parts
+set_change f [] i pid part one here same = grind arith
+set_change f (head ∷ parts) zero pid part one here same =
+    let is : head ≡ part = cc in
+    let passes : is_part pid head ≡ true = grind (arith, nat_tests) in
+    let tail = change-none (is_part pid) f parts (rest_none head parts pid one (ap (λ (p : Part). p.process) is ∙ same)) in
+    sym (ap (λ b. cond b (f head) head ∷ change (is_part pid) f parts) passes ∙ (λ i. f (is i) ∷ tail i))
+set_change f (head ∷ parts) (suc i) pid part one here same =
+    let fails = before head part parts i pid one here same in
+    ap (λ r. head ∷ r) (set_change f parts i pid part (rest_single head parts one) here same)
+    ∙ sym (ap (λ b. cond b (f head) head ∷ change (is_part pid) f parts) fails)
+
+-- what the process's part is after a change
+pub first_changed : (f : Part → Part) → ((part : Part) → (f part).process ≡ part.process) → (parts : List Part) (pid : ℕ) (part : Part) → first (is_part pid) parts ≡ Some part → first (is_part pid) (change (is_part pid) f parts) ≡ Some (f part)
+first_changed f keeps [] pid part is = absurd (cc)
+first_changed f keeps (head ∷ parts) pid part is =
+    elim (is_part pid head) as (λ b. is_part pid head ≡ b → first (is_part pid) (change (is_part pid) f (head ∷ parts)) ≡ Some (f part)) [
+      | true ↦ λ here. let same : head ≡ part = grind arith in grind (arith, keeps head, same, ap f same)
+      | false ↦ λ off. grind (arith, first_changed f keeps parts pid part)
+    ] refl
+
+-- another process's part stays
+pub first_other : (f : Part → Part) → ((part : Part) → (f part).process ≡ part.process) → (parts : List Part) (pid other : ℕ) → (other == pid) ≡ false → first (is_part other) (change (is_part pid) f parts) ≡ first (is_part other) parts
+first_other f keeps [] pid other off = refl
+first_other f keeps (head ∷ parts) pid other off =
+    elim (is_part pid head) as (λ b. is_part pid head ≡ b → first (is_part other) (change (is_part pid) f (head ∷ parts)) ≡ first (is_part other) (head ∷ parts)) [
+      | true ↦ λ here. grind (arith, keeps head, nat_tests, first_other f keeps parts pid other)
+      | false ↦ λ there. grind (arith, first_other f keeps parts pid other)
+    ] refl
+
+-- One more handle in the part of a process
+pub handed_part : (parts : List Part) (pid index : ℕ) (part : Part) (row : Row Object) (r : Result ℕ TableFault) (new : Handles Object) → are_single_parts parts ≡ true → IsAt parts pid index part
+    → IfOk r (λ v. new.rows ≡ with_row part.handles.rows v row) → OnOk r (new.spare + 1 ≡ part.handles.spare)
+    → IfOk r (λ v. set parts index (record { process = part.process; handles = new }) ≡ change (is_part pid) (handed v row) parts)
+handed_part parts pid index part row (Err e) new one at rows spare = tt
+handed_part parts pid index part row (Ok v) new one at rows spare =
+    let less : new.spare ≡ part.handles.spare - 1 = omega (arith, spare) in
+    let same : new ≡ (handed v row part).handles = λ i. record { rows = rows i; spare = less i } in
+    ap (λ (h : Handles Object). set parts index (record { process = part.process; handles = h })) same
+    ∙ set_change (handed v row) parts index pid part one at.here at.own
+
+-- more room in the part of a process
+pub record IsRoomed (parts after : List Part) (pid spare : ℕ) : Type 0 where
+  pub parts_are : after ≡ change (is_part pid) (roomed spare) parts
+  pub spare_is : spare_at after pid ≡ spare
+
+pub roomed_part : (parts : List Part) (pid index : ℕ) (part : Part) (new : Handles Object) → are_single_parts parts ≡ true → IsAt parts pid index part → new.rows ≡ part.handles.rows
+    → IsRoomed parts (set parts index (record { process = part.process; handles = new })) pid new.spare
+roomed_part parts pid index part new one at rows =
+    let same : new ≡ (roomed new.spare part).handles = λ i. record { rows = rows i; spare = new.spare } in
+    let parts_are : set parts index (record { process = part.process; handles = new }) ≡ change (is_part pid) (roomed new.spare) parts =
+    ap (λ (h : Handles Object). set parts index (record { process = part.process; handles = h })) same
+    ∙ set_change (roomed new.spare) parts index pid part one at.here at.own in
+    record {
+      parts_are = parts_are;
+      spare_is = ap (λ ps. spare_at ps pid) parts_are ∙ ap spare_in (first_changed (roomed new.spare) (λ p. refl) parts pid part at.is_first);
+    }

@@ -1,0 +1,277 @@
+-- What reading calls find in the tables is what is found in the rows that they stand for.
+use Rattle.std.proofs.Common.{◌≡◌, ◌+◌, ◌<◌, ℕ, get_or, drop, List, [], ◌∷◌, ◌++◌, Bool, true, false, cond, not, ◌&&◌, ◌==◌, map, length, Option, Some, None, option_map, refl, ap, sym, ◌∙◌, arith}
+use Rattle.std.specs.Prelude.{MatchOption, IfSome, is_none, is_some}
+use Rattle.std.proofs.lemmas.Bool.{eqb-true}
+use Rattle.std.proofs.lemmas.List.{at_drop_more}
+use Rattle.lpc_base.specs.declared.birth.Birth.{Birth}
+use Rattle.lpc_base.specs.Rows.{count, every, first, has}
+use Rattle.lpc_base.proofs.RowMaps.{count-map, every-first, every-map, first-map, has-map}
+use Rattle.lpc_base.proofs.RowWords.{first-passes}
+use Rattle.lpc_handles.specs.Handles as handles
+use Rattle.lpc_handles.specs.declared.table.Row.{Row}
+use Rattle.lpc_message.specs.Layout.{half_at}
+use Rattle.lpc_message.specs.declared.kind.TheConstants.{DATAGRAM}
+use Rattle.lpc_model.specs.World as model
+use Rattle.lpc_model.specs.Found as found
+use Rattle.lpc_model.specs.Found.{has_handle_to, is_port, is_table, names_port, port_row, same_birth, wait_of, waits_as}
+use Rattle.lpc_model.specs.Tests.{handle_row}
+use Rattle.lpc_ports.specs.Table as ports
+use Rattle.lpc_ports.specs.Table.{PortTable, row_at}
+use Rattle.lpc_ports.specs.declared.Port.{Port}
+use Rattle.lpc_ports.specs.declared.messages.QueuedMessage.{QueuedMessage}
+use Rattle.lpc_procs.specs.Procs as procs
+use Rattle.lpc_slots.specs.Table.{at_key}
+use Rattle.lpc_slots.specs.declared.Key.{Key}
+use Rattle.lpc_waits.specs.Table as waits
+use Rattle.lpc_waits.specs.Table.{WaitTable, row_of}
+use Rattle.lpc_waits.specs.declared.Wait.{Wait}
+use Rattle.lpc_waits.specs.declared.WaitKind.{WaitKind}
+use Rattle.lpc_waits.specs.declared.WaitKind.TheVariants as wait
+use Rattle.lpc_waits.specs.declared.WaitRow.{WaitRow}
+use Rattle.lpc_world.specs.Names.{name_of, names_of, some_stands, stands}
+use Rattle.lpc_world.specs.Kept.{Kept, kept, rows_by}
+use Rattle.lpc_world.specs.Parts.{has_name_of, is_part, is_the_port, names_it, rows_at, rows_in}
+use Rattle.lpc_world.specs.Ready.{HasRow, IsStanding, IsWait, port_in, port_of, wait_in, waiter}
+use Rattle.lpc_world.specs.Shown.{AreNamed, Births, all_pass, birth_of, births_of, message_refs, name_by, object_stands, part_refs, port_refs, ports_in, shown_handle, shown_kind, shown_message, shown_part, shown_port, shown_wait, wait_refs}
+use Rattle.lpc_world.specs.declared.object.Object.{Object}
+use Rattle.lpc_world.specs.declared.object.Object.TheVariants as object
+use Rattle.lpc_world.specs.declared.parts.Part.{Part}
+use Rattle.lpc_world.proofs.Follows as follows
+use Rattle.lpc_world.proofs.Naming.{name_is}
+
+-- rows that are shown, whatever they are
+every_all : {X : Type 0} (xs : List X) → every (λ _. true) xs ≡ true
+every_all [] = refl
+every_all (x ∷ xs) = every_all xs
+
+module _ {X Y : Type 0} (g : X → Y) (s : X → Bool) (t : Y → Bool) (same : (x : X) → t (g x) ≡ s x) (xs : List X) where
+  pub first-shown : first t (map g xs) ≡ option_map g (first s xs)
+  first-shown = first-map g (λ _. true) s t (λ x _. same x) xs (every_all xs)
+
+  pub has-shown : has t (map g xs) ≡ has s xs
+  has-shown = has-map g (λ _. true) s t (λ x _. same x) xs (every_all xs)
+
+  pub count-shown : count t (map g xs) ≡ count s xs
+  count-shown = count-map g (λ _. true) s t (λ x _. same x) xs (every_all xs)
+
+-- an optional value, and what a field of it is
+pub some_of : {X Y : Type 0} (g : X → Y) (o : Option X) → is_some (option_map g o) ≡ is_some o
+some_of g None = refl
+some_of g (Some x) = refl
+
+pub record Holds {X Y : Type 0} (g : X → Y) (o : Option X) (y : Y) : Type 0 where
+  pub row : X
+  pub found : o ≡ Some row
+  pub is : g row ≡ y
+
+pub holds : {X Y : Type 0} (g : X → Y) (o : Option X) (y : Y) → option_map g o ≡ Some y → Holds g o y
+holds g None y e = absurd (cc)
+holds g (Some x) y e = record { row = x; found = refl; is = cc }
+
+pub none_before : {X Y : Type 0} (g : X → Y) (o : Option X) → option_map g o ≡ None → o ≡ None
+none_before g None e = refl
+none_before g (Some x) e = absurd (cc)
+
+pub none_as : {X Y Z : Type 0} (g : X → Y) (h : X → Z) (o : Option X) → is_none (option_map g o) ≡ is_none (option_map h o)
+none_as g h None = refl
+none_as g h (Some x) = refl
+
+-- a key that stands has a row
+pub row_there : {R : Type 0} (birth : R → Birth) (rows : List (Key × R)) (key : Key) → stands (names_of birth rows) key ≡ true → is_some (row_at rows key) ≡ true
+unfolding stands
+row_there birth [] key there = absurd (cc)
+row_there birth (row ∷ rows) key there = grind (arith, row_there birth rows key)
+
+-- keys that a port's row names
+pair_stands : (n : Births) (a b : Option Key) → every (object_stands n) (ports_in a ++ ports_in b) ≡ true → (some_stands n.ports a ≡ true) × (some_stands n.ports b ≡ true)
+pair_stands n None None all = (refl, refl)
+pair_stands n None (Some b) all = (refl, grind arith)
+pair_stands n (Some a) None all = (grind arith, refl)
+pair_stands n (Some a) (Some b) all = (grind arith, grind arith)
+
+-- a part that names the port, behind parts that don't
+pub named_at : (key : Key) (parts : List Part) (i : ℕ) (part : Part) → i < length parts → part ≡ get_or parts i part → has (has_name_of key) (drop i parts) ≡ has (has_name_of key) parts → has_name_of key part ≡ true → true ≡ has (has_name_of key) parts
+named_at key parts i part lt is so_far passes =
+    let p : Part → Bool = has_name_of key in
+    let head : has p (part ∷ drop (i + 1) parts) ≡ true = ap (λ b. is_some (cond b (Some part) (first p (drop (i + 1) parts)))) passes in
+    sym (sym so_far ∙ at_drop_more (λ (xs : List Part). has p xs) parts i part lt ∙ ap (λ q. has p (q ∷ drop (i + 1) parts)) (sym is) ∙ head)
+
+pub named_has : (E : Object → Object → Bool) (key : Key) → ((o : Object) → E o (object.Port key) ≡ is_the_port key o) → (rows : List (ℕ × Row Object)) → has (handles.is_named E (object.Port key)) rows ≡ has (names_it key) rows
+named_has E key same [] = refl
+named_has E key same (row ∷ rows) = grind (arith, same row.1.object, named_has E key same rows)
+
+request_is : (kind : WaitKind) (bytes : List ℕ) → (elim (shown_kind kind bytes) [ model.Request m ↦ true | _ ↦ false ]) ≡ not (waits.is_receive kind)
+request_is wait.Request bytes = refl
+request_is wait.Receive bytes = refl
+
+module _ (procs : procs.Table) (parts : List Part) (p : PortTable) (w : WaitTable) (is : AreNamed (births_of p) parts p w) where
+  abbrev n : Births
+  n = births_of p
+
+  abbrev f : Object → Birth
+  f = birth_of n
+
+  abbrev rows : model.World
+  rows = rows_by procs parts p w
+
+  -- Ports
+  pub there : (key : Key) → stands n.ports key ≡ true → is_some (row_at p.ports key) ≡ true
+  there key stand = row_there (λ (r : Port). r.birth) p.ports key stand
+
+  -- a port that stands has this row
+  pub record IsPort (key : Key) (row : Port) : Type 0 where
+    pub found : port_row rows (name_of n.ports key) ≡ Some (port_of rows (name_of n.ports key))
+    pub port_is : port_of rows (name_of n.ports key) ≡ shown_port f (key, row)
+    pub own : row.birth ≡ name_of n.ports key
+    pub pair : some_stands n.ports row.pair ≡ true
+    pub connection : some_stands n.ports row.connection ≡ true
+
+  pub is_row : (key : Key) (row : Port) → stands n.ports key ≡ true → row_at p.ports key ≡ Some row → IsPort key row
+  unfolding port_of
+  is_row key row stand at =
+      let held = holds (λ (r : Key × Port). r.1) (first (at_key key) p.ports) row at in
+      let shown : shown_port f held.row ≡ shown_port f (key, row) = ap (λ (r : Port). shown_port f (key, r)) held.is in
+      let found : port_row rows (name_of n.ports key) ≡ Some (shown_port f (key, row)) =
+      follows.first_port parts p w is key stand ∙ ap (λ o. option_map (shown_port f) o) held.found ∙ ap Some shown in
+      let refs : every (object_stands n) (port_refs (key, row)) ≡ true =
+      sym (ap (λ (r : Port). every (object_stands n) (port_refs (key, r))) held.is) ∙ every-first (all_pass port_refs (object_stands n)) (at_key key) p.ports held.row is.refs.in_ports held.found in
+      let both = pair_stands n row.pair row.connection refs in
+      record {
+        found = found ∙ ap Some (sym (ap port_in found));
+        port_is = ap port_in found;
+        own = name_is row.birth (name_of n.ports key) (first-passes (is_port (name_of n.ports key)) rows.ports (shown_port f (key, row)) found);
+        pair = both.0;
+        connection = both.1;
+      }
+
+  -- what stands is found under its name
+  module _ (places calls made : ℕ) where
+    abbrev k : Kept
+    k = kept procs parts places p w calls made
+
+    standing_by : (key : Key) → stands n.ports key ≡ true → (o : Option Port) → row_at p.ports key ≡ o → is_some o ≡ true → IsStanding k key
+    standing_by key stand None at some = absurd (cc)
+    standing_by key stand (Some row) at some =
+        let found = is_row key row stand at in
+        record { found = found.found; birth = ap (λ (q : model.PortRow). q.birth) found.port_is ∙ found.own }
+
+    pub standing : (key : Key) → stands n.ports key ≡ true → IsStanding k key
+    standing key stand = standing_by key stand (row_at p.ports key) refl (there key stand)
+
+    pub has_row : (o : Object) → object_stands n o ≡ true → HasRow k o
+    has_row (object.Port key) stand = standing key stand
+
+    pub rows_of : (o : Option (Row Object)) → IfSome o (λ row. object_stands n row.object ≡ true) → IfSome o (λ row. HasRow k row.object)
+    rows_of None stand = tt
+    rows_of (Some row) stand = has_row row.object stand
+
+  -- the datagrams of a port
+  datagram_same : (key : Key) → stands n.ports key ≡ true → (row : Key × QueuedMessage) → all_pass message_refs (object_stands n) row ≡ true → found.is_datagram_of (name_of n.ports key) (shown_message f row) ≡ ports.is_datagram_of key row
+  datagram_same key stand row ok = ap (λ b. b && (half_at row.1.message.bytes.items 4 == DATAGRAM)) (follows.agree parts p w is row.1.message.sender key (grind arith) stand)
+
+  pub datagrams_are : (key : Key) → stands n.ports key ≡ true → found.datagrams rows (name_of n.ports key) ≡ count (ports.is_datagram_of key) p.messages
+  datagrams_are key stand = count-map (shown_message f) (all_pass message_refs (object_stands n)) (ports.is_datagram_of key) (found.is_datagram_of (name_of n.ports key)) (datagram_same key stand) p.messages is.refs.in_messages
+
+  -- Waits
+  pub wait_is : (tid : ℕ) (row : WaitRow) → row_of w tid ≡ Some row → waiter rows tid ≡ shown_wait f row
+  unfolding waiter
+  wait_is tid row at = ap wait_in (first-shown (shown_wait f) (waits.is_of tid) (waits_as tid) (λ r. refl) w.rows ∙ ap (λ o. option_map (shown_wait f) o) at)
+
+  pub is_wait : (places calls made tid : ℕ) (x : Wait) → option_map (λ row. row.wait) (row_of w tid) ≡ Some x → IsWait (kept procs parts places p w calls made) tid x
+  is_wait places calls made tid x at =
+      let held = holds (λ (r : WaitRow). r.wait) (row_of w tid) x at in
+      let same : waiter rows tid ≡ shown_wait f (record { thread = held.row.thread; wait = x; message = held.row.message }) =
+      wait_is tid held.row held.found ∙ ap (λ (v : Wait). shown_wait f (record { thread = held.row.thread; wait = v; message = held.row.message })) held.is in
+      let stand : every (object_stands n) (object.Port x.port ∷ object.Port x.queue ∷ []) ≡ true =
+      sym (ap (λ (v : Wait). every (object_stands n) (object.Port v.port ∷ object.Port v.queue ∷ [])) held.is) ∙ every-first (all_pass wait_refs (object_stands n)) (waits.is_of tid) w.rows held.row is.refs.in_waits held.found in
+      record {
+        thread = ap (λ (y : model.WaitRow). y.thread) same ∙ eqb-true held.row.thread tid (first-passes (waits.is_of tid) w.rows held.row held.found);
+        call = ap (λ (y : model.WaitRow). y.call) same;
+        process = ap (λ (y : model.WaitRow). y.process) same;
+        request = ap (λ (y : model.WaitRow). found.is_request y) same ∙ request_is x.kind held.row.message.items;
+        port = ap (λ (y : model.WaitRow). y.port) same;
+        queue = ap (λ (y : model.WaitRow). y.queue) same;
+        identifier = ap (λ (y : model.WaitRow). y.identifier) same;
+        received = ap (λ (y : model.WaitRow). y.received) same;
+        port_stands = grind arith;
+        queue_stands = grind arith;
+      }
+
+  pub wait_if : (places calls made tid : ℕ) (r : Option Wait) → r ≡ option_map (λ row. row.wait) (row_of w tid) → IfSome r (λ x. IsWait (kept procs parts places p w calls made) tid x)
+  wait_if places calls made tid None at = tt
+  wait_if places calls made tid (Some x) at = is_wait places calls made tid x (sym at)
+
+  pub waits_are : (tid : ℕ) → has (waits_as tid) rows.waits ≡ is_some (row_of w tid)
+  waits_are tid = has-shown (shown_wait f) (waits.is_of tid) (waits_as tid) (λ r. refl) w.rows
+
+  -- Handles
+  pub table_is : (pid : ℕ) → has (is_table pid) rows.handles ≡ has (is_part pid) parts
+  table_is pid = has-shown (shown_part f) (is_part pid) (is_table pid) (λ r. refl) parts
+
+  shown_rows : (o : Option Part) → found.rows_in (option_map (shown_part f) o) ≡ map (shown_handle f) (rows_in o)
+  shown_rows None = refl
+  shown_rows (Some part) = refl
+
+  pub handles_are : (pid : ℕ) → found.handles_of rows pid ≡ map (shown_handle f) (rows_at parts pid)
+  handles_are pid = ap found.rows_in (first-shown (shown_part f) (is_part pid) (is_table pid) (λ r. refl) parts) ∙ shown_rows (first (is_part pid) parts)
+
+  -- the objects of a process's handles stand
+  rows_stand : (o : Option Part) (pid : ℕ) → first (is_part pid) parts ≡ o → every (λ row. object_stands n row.1.object) (rows_in o) ≡ true
+  rows_stand None pid at = refl
+  rows_stand (Some part) pid at =
+      sym (every-map (object_stands n) (λ (row : ℕ × Row Object). row.1.object) part.handles.rows)
+      ∙ every-first (all_pass part_refs (object_stands n)) (is_part pid) parts part is.refs.in_handles at
+
+  -- the handle of a value in a process is this one
+  pub record IsHandle (pid value : ℕ) (row : Row Object) : Type 0 where
+    pub handle_is : found.handle_at rows pid value ≡ Some (handle_row value (name_by f row.object) row.access)
+    pub object_stands : object_stands n row.object ≡ true
+
+  pub is_handle : (pid value : ℕ) (row : Row Object) → handles.at (rows_at parts pid) value ≡ Some row → IsHandle pid value row
+  is_handle pid value row at =
+      let held = holds (λ (r : ℕ × Row Object). r.1) (first (handles.has_value value) (rows_at parts pid)) row at in
+      let own : held.row.0 ≡ value = eqb-true held.row.0 value (first-passes (handles.has_value value) (rows_at parts pid) held.row held.found) in
+      let shown : shown_handle f held.row ≡ handle_row value (name_by f row.object) row.access = λ i. handle_row (own i) (name_by f (held.is i).object) (held.is i).access in
+      record {
+        handle_is =
+            ap (λ hs. first (found.has_value value) hs) (handles_are pid)
+            ∙ first-shown (shown_handle f) (handles.has_value value) (found.has_value value) (λ r. refl) (rows_at parts pid)
+            ∙ ap (λ o. option_map (shown_handle f) o) held.found
+            ∙ ap Some shown;
+        object_stands =
+            sym (ap (λ (r : Row Object). object_stands n r.object) held.is)
+            ∙ every-first (λ row. object_stands n row.1.object) (handles.has_value value) (rows_at parts pid) held.row (rows_stand (first (is_part pid) parts) pid refl) held.found;
+      }
+
+  pub no_handle : (pid value : ℕ) → handles.at (rows_at parts pid) value ≡ None → found.handle_at rows pid value ≡ None
+  no_handle pid value none =
+      ap (λ hs. first (found.has_value value) hs) (handles_are pid)
+      ∙ first-shown (shown_handle f) (handles.has_value value) (found.has_value value) (λ r. refl) (rows_at parts pid)
+      ∙ ap (λ o. option_map (shown_handle f) o) (none_before (λ (r : ℕ × Row Object). r.1) (first (handles.has_value value) (rows_at parts pid)) none)
+
+  -- what is found at a value
+  pub record IsAt (pid value : ℕ) (o : Option (Row Object)) : Type 0 where
+    pub row : MatchOption o (found.handle_at rows pid value ≡ None) (λ row. found.handle_at rows pid value ≡ Some (handle_row value (name_by f row.object) row.access))
+    pub object_stands : IfSome o (λ row. object_stands n row.object ≡ true)
+
+  at_by : (pid value : ℕ) (o : Option (Row Object)) → handles.at (rows_at parts pid) value ≡ o → IsAt pid value o
+  at_by pid value None at = record { row = no_handle pid value at; object_stands = tt }
+  at_by pid value (Some row) at = let is = is_handle pid value row at in record { row = is.handle_is; object_stands = is.object_stands }
+
+  pub is_at : (pid value : ℕ) (o : Option (Row Object)) → o ≡ handles.at (rows_at parts pid) value → IsAt pid value o
+  is_at pid value o is = at_by pid value o (sym is)
+
+  -- an open port
+  named_same : (key : Key) → stands n.ports key ≡ true → (row : ℕ × Row Object) → object_stands n row.1.object ≡ true → names_port (name_of n.ports key) (name_by f row.1.object) ≡ is_the_port key row.1.object
+  named_same key stand row ok = named (row.1.object) ok
+    where
+      named : (o : Object) → object_stands n o ≡ true → names_port (name_of n.ports key) (name_by f o) ≡ is_the_port key o
+      named (object.Port other) one = follows.agree parts p w is other key one stand
+
+  opened_same : (key : Key) → stands n.ports key ≡ true → (part : Part) → all_pass part_refs (object_stands n) part ≡ true → has_handle_to (name_of n.ports key) (shown_part f part) ≡ has_name_of key part
+  opened_same key stand part ok =
+      has-map (shown_handle f) (λ row. object_stands n row.1.object) (names_it key) (λ h. names_port (name_of n.ports key) h.object) (named_same key stand) part.handles.rows
+      (sym (every-map (object_stands n) (λ (row : ℕ × Row Object). row.1.object) part.handles.rows) ∙ ok)
+
+  pub open_is : (key : Key) → stands n.ports key ≡ true → found.is_open rows (name_of n.ports key) ≡ has (has_name_of key) parts
+  open_is key stand = has-map (shown_part f) (all_pass part_refs (object_stands n)) (has_name_of key) (has_handle_to (name_of n.ports key)) (opened_same key stand) parts is.refs.in_handles

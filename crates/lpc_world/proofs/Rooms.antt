@@ -1,0 +1,197 @@
+-- The room that each changing call leaves.
+use Rattle.std.proofs.Common.{◌≡◌, ℕ, ◌+◌, ◌-◌, ◌<◌, ◌≤◌, List, [], ◌∷◌, ◌++◌, Bool, true, false, cond, length, min, Some, arith}
+use Rattle.std.proofs.lemmas.List.{length_push}
+use Rattle.lpc_base.specs.declared.birth.Birth.{Birth}
+use Rattle.lpc_base.specs.Rows.{change, count, first, has, without, without_first}
+use Rattle.lpc_base.proofs.RowWords.{count-push, length-change}
+use Rattle.lpc_model.specs.World.{World, MessageRow, PortRow, ThreadRow, WaitRow}
+use Rattle.lpc_model.specs.Basics.{received}
+use Rattle.lpc_model.specs.Found.{is_queued, waits_as}
+use Rattle.lpc_world.specs.Kept.{HandleRoom, Room, Roomy, is_asking, is_pending, is_room, pends_as, spare_in}
+use Rattle.lpc_world.specs.Lawful.{are_single}
+use Rattle.lpc_world.proofs.Lawful.{count-taken, length-end, pending-receive, pending-without}
+
+-- the room by its numbers
+abbrev pub room : ℕ → ℕ → ℕ → ℕ → ℕ → World → List HandleRoom → Room
+room processes threads waits messages ports w handles = record {
+  processes = processes;
+  threads = threads;
+  waits = waits + length w.waits - length w.threads;
+  messages = messages + count is_asking w.messages - length w.threads;
+  requests = count is_pending w.waits - count is_asking w.messages;
+  ports = ports;
+  handles = handles;
+}
+
+-- a room for handles more, behind the others
+pub handles_more : (rooms : List HandleRoom) (r : HandleRoom) (pid : ℕ) → spare_in (first (is_room pid) rooms) ≤ spare_in (first (is_room pid) (rooms ++ r ∷ []))
+handles_more [] r pid = grind arith
+handles_more (s ∷ rooms) r pid = grind (arith, handles_more rooms r pid)
+
+module _ (a b c d e : ℕ) (w : World) (hs : List HandleRoom) where
+  pub room_threads : (ts : List ThreadRow) → length ts ≡ length w.threads → Roomy (room a b c d e w hs) (room a b c d e (record w { threads = ts }) hs)
+  room_threads ts same = record {
+    for_processes = omega arith;
+    for_threads = omega arith;
+    for_waits = omega (arith, same);
+    for_messages = omega (arith, same);
+    for_requests = omega arith;
+    for_ports = omega arith;
+    for_handles = λ pid. omega arith;
+  }
+
+  pub room_process : (v : World) (less : ℕ) (r : HandleRoom) → v.threads ≡ w.threads → v.waits ≡ w.waits → v.messages ≡ w.messages → a ≤ less + 1
+      → Roomy (room a b c d e w hs) (record (room less b c d e v (hs ++ r ∷ [])) { processes = less + 1 })
+  room_process v less r ts ws ms le = rw (ts, ws, ms) (record {
+    for_processes = le;
+    for_threads = omega arith;
+    for_waits = omega arith;
+    for_messages = omega arith;
+    for_requests = omega arith;
+    for_ports = omega arith;
+    for_handles = handles_more hs r;
+  })
+
+  pub room_thread : (v : World) (t : ThreadRow) → v.threads ≡ w.threads ++ t ∷ [] → v.waits ≡ w.waits → v.messages ≡ w.messages
+      → let after = room a (b - 1) c d e v hs in Roomy (room a b c d e w hs) (record after { threads = after.threads + 1; waits = after.waits + 1; messages = after.messages + 1 })
+  room_thread v t ts ws ms = rw (ts, ws, ms) (let more = length_push w.threads t in record {
+    for_processes = omega arith;
+    for_threads = omega arith;
+    for_waits = omega (arith, more);
+    for_messages = omega (arith, more);
+    for_requests = omega arith;
+    for_ports = omega arith;
+    for_handles = λ pid. omega arith;
+  })
+
+  pub room_port : (p : PortRow) → let after = room a b c d (e - 1) (record w { ports = w.ports ++ p ∷ [] }) hs in Roomy (room a b c d e w hs) (record after { ports = after.ports + 1 })
+  room_port p = record {
+    for_processes = omega arith;
+    for_threads = omega arith;
+    for_waits = omega arith;
+    for_messages = omega arith;
+    for_requests = omega arith;
+    for_ports = omega arith;
+    for_handles = λ pid. omega arith;
+  }
+
+  pub room_enter : (m : MessageRow) → 0 < d → let after = room a b c (d - 1) e (record w { messages = w.messages ++ m ∷ [] }) hs in Roomy (room a b c d e w hs) (record after { messages = after.messages + 1; requests = after.requests + 1 })
+  room_enter m place =
+      let more : count is_asking (w.messages ++ m ∷ []) ≡ count is_asking w.messages + cond (is_asking m) 1 0 = count-push is_asking w.messages m in
+      let one : cond (is_asking m) 1 0 ≤ 1 = at_most (is_asking m) in
+      record {
+        for_processes = omega arith;
+        for_threads = omega arith;
+        for_waits = omega arith;
+        for_messages = omega (arith, more, one, place);
+        for_requests = omega (arith, more, one);
+        for_ports = omega arith;
+        for_handles = λ pid. omega arith;
+      }
+    where
+      at_most : (q : Bool) → cond q 1 0 ≤ 1
+      at_most true = omega arith
+      at_most false = omega arith
+
+  pub room_take : (q : Birth) (m : MessageRow) → first (is_queued q) w.messages ≡ Some m → Roomy (room a b c d e w hs) (room a b c (d + 1) e (record w { messages = without_first (is_queued q) w.messages }) hs)
+  room_take q m at =
+      let less = count-taken (is_queued q) w.messages m at in
+      let one : cond (is_asking m) 1 0 ≤ 1 = at_most (is_asking m) in
+      record {
+        for_processes = omega arith;
+        for_threads = omega arith;
+        for_waits = omega arith;
+        for_messages = omega (arith, less, one);
+        for_requests = omega (arith, less);
+        for_ports = omega arith;
+        for_handles = λ pid. omega arith;
+      }
+    where
+      at_most : (q : Bool) → cond q 1 0 ≤ 1
+      at_most true = omega arith
+      at_most false = omega arith
+
+  pub owed_take : (q : Birth) (m : MessageRow) → first (is_queued q) w.messages ≡ Some m → count is_asking w.messages ≤ count is_pending w.waits → is_asking m ≡ true
+      → count is_pending w.waits - count is_asking w.messages < count is_pending w.waits - count is_asking (without_first (is_queued q) w.messages)
+  owed_take q m at le asks =
+      let less = count-taken (is_queued q) w.messages m at in
+      let one : 1 ≤ cond (is_asking m) 1 0 = rw asks (omega arith) in
+      omega (arith, less, one, le)
+
+  pub room_wait : (x : WaitRow) → 0 < c → Roomy (room a b c d e w hs) (room a b (c - 1) d e (record w { waits = w.waits ++ x ∷ [] }) hs)
+  room_wait x place =
+      let more = length_push w.waits x in
+      let pending : count is_pending (w.waits ++ x ∷ []) ≡ count is_pending w.waits + cond (is_pending x) 1 0 = count-push is_pending w.waits x in
+      record {
+        for_processes = omega arith;
+        for_threads = omega arith;
+        for_waits = omega (arith, more, place);
+        for_messages = omega arith;
+        for_requests = omega (arith, pending);
+        for_ports = omega arith;
+        for_handles = λ pid. omega arith;
+      }
+
+  pub owed_wait : (x : WaitRow) → count is_asking w.messages ≤ count is_pending w.waits → is_pending x ≡ true → 0 < count is_pending (w.waits ++ x ∷ []) - count is_asking w.messages
+  owed_wait x le pends =
+      let pending : count is_pending (w.waits ++ x ∷ []) ≡ count is_pending w.waits + cond (is_pending x) 1 0 = count-push is_pending w.waits x in
+      let one : 1 ≤ cond (is_pending x) 1 0 = rw pends (omega arith) in
+      omega (arith, pending, one, le)
+
+  pub room_end : (who : ℕ) → are_single w.waits ≡ true → has (pends_as who) w.waits ≡ false → Roomy (room a b c d e w hs) (room a b (cond (has (waits_as who) w.waits) (c + 1) c) d e (record w { waits = without (waits_as who) w.waits }) hs)
+  room_end who one idle =
+      let less = length-end who w.waits one in
+      let same = pending-without who w.waits idle in
+      record {
+        for_processes = omega arith;
+        for_threads = omega arith;
+        for_waits = ended (has (waits_as who) w.waits) (length (without (waits_as who) w.waits)) less;
+        for_messages = omega arith;
+        for_requests = omega (arith, same);
+        for_ports = omega arith;
+        for_handles = λ pid. omega arith;
+      }
+    where
+      ended : (q : Bool) (m : ℕ) → m + cond q 1 0 ≡ length w.waits → c + length w.waits - length w.threads ≤ cond q (c + 1) c + m - length w.threads
+      ended true m eq = omega (arith, eq)
+      ended false m eq = omega (arith, eq)
+
+  pub room_receive : (who : ℕ) → are_single w.waits ≡ true → let after = room a b c d e (record w { waits = change (waits_as who) received w.waits }) hs in Roomy (room a b c d e w hs) (record after { requests = after.requests + 1 })
+  room_receive who one =
+      let fewer = pending-receive who w.waits one in
+      let same = length-change (waits_as who) received w.waits in
+      record {
+        for_processes = omega arith;
+        for_threads = omega arith;
+        for_waits = omega (arith, same);
+        for_messages = omega arith;
+        for_requests = omega (arith, fewer);
+        for_ports = omega arith;
+        for_handles = λ pid. omega arith;
+      }
+
+  pub room_keep : (xs : List WaitRow) → length xs ≡ length w.waits → count is_pending xs ≡ count is_pending w.waits → Roomy (room a b c d e w hs) (room a b c d e (record w { waits = xs }) hs)
+  room_keep xs long same = record {
+    for_processes = omega arith;
+    for_threads = omega arith;
+    for_waits = omega (arith, long);
+    for_messages = omega arith;
+    for_requests = omega (arith, same);
+    for_ports = omega arith;
+    for_handles = λ pid. omega arith;
+  }
+
+  pub room_more : (a' b' c' d' e' : ℕ) → a ≤ a' → b ≤ b' → c ≤ c' → d ≤ d' → e ≤ e' → Roomy (room a b c d e w hs) (room a' b' c' d' e' w hs)
+  room_more a' b' c' d' e' la lb lc ld le = record {
+    for_processes = la;
+    for_threads = lb;
+    for_waits = omega (arith, lc);
+    for_messages = omega (arith, ld);
+    for_requests = omega arith;
+    for_ports = le;
+    for_handles = λ pid. omega arith;
+  }
+
+-- one place less of each of two rooms
+pub min_less : (a b less left : ℕ) → 0 < min a b → less ≡ a - 1 → left + 1 ≡ b → min a b ≤ min less left + 1
+min_less a b less left some one two = rw one (omega (arith, two, some))

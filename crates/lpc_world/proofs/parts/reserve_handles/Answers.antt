@@ -1,0 +1,20 @@
+use Rattle.lpc_world.proofs.OnePart.{part_is, roomed_part}
+use Rattle.lpc_world.proofs.parts.reserve_handles.Goals as goal
+
+pub returns-clause-parts : goal.returns-clause-parts
+returns-clause-parts c =
+    let at = part_is c.args.parts.now.items c.args.pid c.place_of-index.result c.index_mut.result.now (rw c.deref.ensures.value at c.place_of-index.ensures) c.index_mut.ensures.value in
+    let roomed = roomed_part c.args.parts.now.items c.args.pid c.place_of-index.result c.index_mut.result.now c.reserve.new.self c.requires.one at c.reserve.ensures.rows in
+    rw roomed.spare_is roomed.parts_are
+
+pub returns-clause-room : goal.returns-clause-room
+returns-clause-room c =
+    let at = part_is c.args.parts.now.items c.args.pid c.place_of-index.result c.index_mut.result.now (rw c.deref.ensures.value at c.place_of-index.ensures) c.index_mut.ensures.value in
+    let roomed = roomed_part c.args.parts.now.items c.args.pid c.place_of-index.result c.index_mut.result.now c.reserve.new.self c.requires.one at c.reserve.ensures.rows in
+    rw roomed.spare_is c.reserve.ensures.room
+
+pub returns-clause-spare : goal.returns-clause-spare
+returns-clause-spare c =
+    let at = part_is c.args.parts.now.items c.args.pid c.place_of-index.result c.index_mut.result.now (rw c.deref.ensures.value at c.place_of-index.ensures) c.index_mut.ensures.value in
+    let roomed = roomed_part c.args.parts.now.items c.args.pid c.place_of-index.result c.index_mut.result.now c.reserve.new.self c.requires.one at c.reserve.ensures.rows in
+    rw (roomed.spare_is, at.is_first) c.reserve.ensures.spare

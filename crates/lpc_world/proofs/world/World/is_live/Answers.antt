@@ -1,0 +1,21 @@
+use Rattle.std.proofs.Common.{refl, sym, ◌∙◌}
+use Rattle.lpc_model.specs.Found as found
+use Rattle.lpc_model.specs.Found.{fits_as, is_table, port_row, receives_on, waits_as}
+use Rattle.lpc_procs.specs.Procs as procs
+use Rattle.lpc_world.specs.Kept.{rows_by}
+use Rattle.lpc_world.specs.Shown.{shown_thread}
+use Rattle.lpc_world.proofs.Finds as finds
+use Rattle.lpc_world.proofs.Readings as readings
+use Rattle.lpc_world.proofs.world.World.is_live.Goals as goal
+
+pub returns-clause-live : goal.returns-clause-live
+returns-clause-live c =
+    rw (← c.self.view_is) (c.is_live.ensures.live ∙ sym (readings.has-shown shown_thread (procs.lives_in c.args.pid) (found.lives_in c.args.pid) (λ t. refl) c.self.inside.procs.threads))
+
+pub returns-clause-process : goal.returns-clause-process
+returns-clause-process c =
+    λ yes. rw (← c.self.view_is) (finds.live_process (rows_by c.self.inside.procs c.self.inside.parts.items c.self.inside.ports c.self.inside.waits) c.args.pid c.self.invariant.lawful.housed (sym (c.is_live.ensures.live ∙ sym (readings.has-shown shown_thread (procs.lives_in c.args.pid) (found.lives_in c.args.pid) (λ t. refl) c.self.inside.procs.threads)) ∙ yes)).0
+
+pub returns-clause-table : goal.returns-clause-table
+returns-clause-table c =
+    λ yes. rw (← c.self.view_is) (finds.live_process (rows_by c.self.inside.procs c.self.inside.parts.items c.self.inside.ports c.self.inside.waits) c.args.pid c.self.invariant.lawful.housed (sym (c.is_live.ensures.live ∙ sym (readings.has-shown shown_thread (procs.lives_in c.args.pid) (found.lives_in c.args.pid) (λ t. refl) c.self.inside.procs.threads)) ∙ yes)).1

@@ -1,0 +1,28 @@
+use Rattle.std.proofs.Common.{◌-◌, refl, arith}
+use Rattle.lpc_world.specs.Kept.{room_of_part}
+use Rattle.lpc_world.proofs.Rooms as rooms
+use Rattle.lpc_world.proofs.Steps as steps
+use Rattle.lpc_base.proofs.RowMaps.{push-map}
+use Rattle.lpc_world.specs.declared.parts.Part.{Part}
+use Rattle.lpc_world.proofs.world.World.procs_add_process.Goals as goal
+
+pub invariant_of-self : goal.invariant_of-self
+invariant_of-self c =
+    let there = rw (← c.self.view_is) at c.requires in
+    rw (c.add_process.ensures.table, c.push_reserved.ensures.items)
+    (steps.added_process c.self.inside.procs c.self.inside.parts.items c.self.inside.ports c.self.inside.waits c.self.inside.calls c.self.inside.made c.self.invariant (record { number = c.args.pid; maker = c.args.maker; birth = c.args.birth }) (record { process = c.args.pid; handles = c.new.result }) (c.self.inside.procs.process_room - 1) (rw c.new.ensures refl) refl there.budget there.new)
+
+pub returns-clause-room : goal.returns-clause-room
+returns-clause-room c =
+    let there = rw (← c.self.view_is) at c.requires in
+    let part : Part = record { process = c.args.pid; handles = c.new.result } in
+    rw (← c.self.view_is, c.add_process.ensures.table, c.push_reserved.ensures.items, push-map room_of_part c.self.inside.parts.items part)
+    (record {
+      for_processes = rooms.min_less _ _ _ _ there.room refl (let a = c.push_reserved.ensures.len in let b = c.push_reserved.ensures.capacity in let some = there.room in omega (arith, a, b, some));
+      for_threads = omega arith;
+      for_waits = omega arith;
+      for_messages = omega arith;
+      for_requests = omega arith;
+      for_ports = omega arith;
+      for_handles = rooms.handles_more _ _;
+    })

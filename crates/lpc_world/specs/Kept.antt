@@ -1,0 +1,116 @@
+-- What contracts see of the world: the definitions' rows, the births of keys, the calls so far, and the room.
+use Rattle.std.specs.Prelude.{◌≡◌, ℕ, ◌+◌, ◌-◌, ◌≤◌, ◌==◌, ◌&&◌, Bool, false, not, List, length, map, min, Option, Some, None}
+use Rattle.lpc_base.specs.Rows.{count, first, has}
+use Rattle.lpc_model.specs.World.{World, MessageRow, WaitRow, ThreadRow}
+use Rattle.lpc_model.specs.Found.{is_request, waits_as}
+use Rattle.lpc_model.specs.Message.{asks}
+use Rattle.lpc_ports.specs.Table.{PortTable}
+use Rattle.lpc_procs.specs.Procs as procs
+use Rattle.lpc_waits.specs.Table.{WaitTable}
+use Rattle.lpc_world.specs.Shown.{Births, births_of, shown_by}
+use Rattle.lpc_world.specs.declared.parts.Part.{Part}
+
+-- a message whose sender waits for an answer, and a request that isn't received
+abbrev pub is_asking : MessageRow → Bool
+is_asking m = asks m.message
+
+abbrev pub is_pending : WaitRow → Bool
+is_pending x = is_request x && not x.received
+
+-- how many more handles go into a process's table without memory
+pub record HandleRoom : Type 0 where
+  pub process : ℕ
+  pub spare : ℕ
+
+-- How many more rows go in without memory. Each thread has a place for its wait and one for its request's message; the
+-- places beyond those are counted here. A request that waits and whose message stands in no queue has its place still.
+pub record Room : Type 0 where
+  pub processes : ℕ
+  pub threads : ℕ
+  pub waits : ℕ
+  pub messages : ℕ
+  pub requests : ℕ
+  pub ports : ℕ
+  pub handles : List HandleRoom
+
+-- the rows; the births of keys; how many directive and service calls were made; how many rows and numbers were made;
+-- the room
+pub record Kept : Type 0 where
+  pub rows : World
+  pub names : Births
+  pub calls : ℕ
+  pub made : ℕ
+  pub room : Room
+
+abbrev pub room_of_part : Part → HandleRoom
+room_of_part part = record { process = part.process; spare = part.handles.spare }
+
+-- the room of tables with so many places for parts left
+abbrev pub room_by : World → procs.Table → List Part → ℕ → PortTable → WaitTable → Room
+room_by rows procs parts places ports waits = record {
+  processes = min procs.process_room places;
+  threads = procs.thread_room;
+  waits = waits.spare + length rows.waits - length rows.threads;
+  messages = ports.message_room + count is_asking rows.messages - length rows.threads;
+  requests = count is_pending rows.waits - count is_asking rows.messages;
+  ports = ports.port_room;
+  handles = map room_of_part parts;
+}
+
+abbrev pub rows_by : procs.Table → List Part → PortTable → WaitTable → World
+rows_by procs parts ports waits = shown_by (births_of ports) procs parts ports waits
+
+abbrev pub kept : procs.Table → List Part → ℕ → PortTable → WaitTable → ℕ → ℕ → Kept
+kept procs parts places ports waits calls made = record {
+  rows = rows_by procs parts ports waits;
+  names = births_of ports;
+  calls = calls;
+  made = made;
+  room = room_by (rows_by procs parts ports waits) procs parts places ports waits;
+}
+
+-- nothing changed but the room
+pub record Same (old new : Kept) : Type 0 where
+  pub rows : new.rows ≡ old.rows
+  pub names : new.names ≡ old.names
+  pub calls : new.calls ≡ old.calls
+  pub made : new.made ≡ old.made
+
+-- the room in a process's table of handles
+abbrev pub is_room : ℕ → HandleRoom → Bool
+is_room pid r = r.process == pid
+
+abbrev pub spare_in : Option HandleRoom → ℕ
+spare_in None = 0
+spare_in (Some r) = r.spare
+
+abbrev pub handle_room : Room → ℕ → ℕ
+handle_room room pid = spare_in (first (is_room pid) room.handles)
+
+-- no room is lost
+pub record Roomy (old new : Room) : Type 0 where
+  pub for_processes : old.processes ≤ new.processes
+  pub for_threads : old.threads ≤ new.threads
+  pub for_waits : old.waits ≤ new.waits
+  pub for_messages : old.messages ≤ new.messages
+  pub for_requests : old.requests ≤ new.requests
+  pub for_ports : old.ports ≤ new.ports
+  pub for_handles : (pid : ℕ) → handle_room old pid ≤ handle_room new pid
+
+-- a thread waits for the reply to a request that isn't received
+abbrev pub pends_as : ℕ → WaitRow → Bool
+pends_as tid x = waits_as tid x && is_pending x
+
+abbrev pub is_pending_in : World → ℕ → Bool
+is_pending_in w tid = has (pends_as tid) w.waits
+
+-- a thread that waits for no reply to a request that isn't received still waits for none
+pub record IsIdleAfter (old new : World) : Type 0 where
+  pub idle : (tid : ℕ) → is_pending_in old tid ≡ false → is_pending_in new tid ≡ false
+
+abbrev pub is_alive : ThreadRow → Bool
+is_alive t = t.live
+
+-- a thread that doesn't wait still doesn't
+pub record StaysReady (old new : World) : Type 0 where
+  pub ready : (tid : ℕ) → has (waits_as tid) old.waits ≡ false → has (waits_as tid) new.waits ≡ false

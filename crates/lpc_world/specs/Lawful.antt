@@ -1,0 +1,105 @@
+-- What the world keeps of its rows, its numbers and its room.
+use Rattle.std.specs.Prelude.{◌≡◌, ℕ, ◌+◌, ◌*◌, ◌==◌, ◌&&◌, ◌≤◌, nat_le, nat_lt, Bool, true, not, List, [], ◌∷◌, length}
+use Rattle.lpc_base.specs.declared.birth.Birth.{Birth}
+use Rattle.lpc_base.specs.Rows.{count, every, has}
+use Rattle.lpc_model.specs.World.{World, HandleTable, MessageRow, PortRow, ThreadRow, UsedThread, WaitRow}
+use Rattle.lpc_model.specs.Found.{is_process, is_queued, is_receive, is_table, is_thread, waits_as}
+use Rattle.lpc_ports.specs.Table.{PortTable}
+use Rattle.lpc_ports.specs.declared.messages.QueuedMessage.{QueuedMessage}
+use Rattle.lpc_procs.specs.Procs as procs
+use Rattle.lpc_slots.specs.declared.Key.{Key}
+use Rattle.lpc_waits.specs.Table.{WaitTable}
+use Rattle.lpc_world.specs.Kept.{is_asking, is_pending, rows_by}
+use Rattle.lpc_world.specs.Shown.{AreNamed, births_of}
+use Rattle.lpc_world.specs.declared.parts.Part.{Part}
+
+-- no thread waits twice
+abbrev pub are_single : List WaitRow → Bool
+are_single [] = true
+are_single (x ∷ xs) = not (has (waits_as x.thread) xs) && are_single xs
+
+-- no process has two tables of handles
+abbrev pub are_single_tables : List HandleTable → Bool
+are_single_tables [] = true
+are_single_tables (t ∷ ts) = not (has (is_table t.process) ts) && are_single_tables ts
+
+-- the waiting thread is one of the threads
+abbrev pub is_of : List ThreadRow → WaitRow → Bool
+is_of threads x = has (is_thread x.thread) threads
+
+-- the numbers that a thread draws next are at most this
+abbrev pub draws_at_most : ℕ → ThreadRow → Bool
+draws_at_most n t = nat_le t.next_identifier n && nat_le t.next_ordinal n
+
+-- the process of a thread stands, and has a table of handles
+abbrev pub is_housed : World → ThreadRow → Bool
+is_housed w t = has (is_process t.process) w.processes && has (is_table t.process) w.handles
+
+-- a receive waits on an empty queue
+abbrev pub is_quiet : List MessageRow → WaitRow → Bool
+is_quiet messages x = not (is_receive x && has (is_queued x.queue) messages)
+
+-- the number of a table's process was used
+abbrev pub is_used : List ℕ → HandleTable → Bool
+is_used used t = has (λ n. n == t.process) used
+
+pub record IsLawful (w : World) (calls made waits messages : ℕ) : Type 0 where
+  -- so no counter reaches its end
+  pub few : calls ≤ 1000000
+  pub budget : made ≤ 16 * calls
+  pub rows : length w.processes + length w.threads + length w.ports ≤ made
+  pub draws : every (draws_at_most (made + 1)) w.threads ≡ true
+  -- each thread's process stands, and has one table of handles
+  pub housed : every (is_housed w) w.threads ≡ true
+  pub tables_used : every (is_used w.used_processes) w.handles ≡ true
+  pub tables_single : are_single_tables w.handles ≡ true
+  -- only a thread waits, and once
+  pub single : are_single w.waits ≡ true
+  pub threads : every (is_of w.threads) w.waits ≡ true
+  -- a queue on which a receive waits is empty
+  pub quiet : every (is_quiet w.messages) w.waits ≡ true
+  -- a queued request is one that waits and isn't received, and each thread has a place for its wait and one for its request
+  pub requests : count is_asking w.messages ≤ count is_pending w.waits
+  pub waits_fit : length w.threads ≤ waits + length w.waits
+  pub messages_fit : length w.threads ≤ messages + count is_asking w.messages
+
+-- what was inserted into the tables is counted
+pub record IsCounted (ports : PortTable) (waits : WaitTable) (made : ℕ) : Type 0 where
+  pub ports_made : ports.ports_made ≤ made
+  pub messages_made : ports.messages_made ≤ made
+  pub waits_made : waits.made ≤ made
+
+-- no two threads have one number
+abbrev pub are_single_threads : List ThreadRow → Bool
+are_single_threads [] = true
+are_single_threads (t ∷ ts) = not (has (is_thread t.number) ts) && are_single_threads ts
+
+-- a thread's number was used
+abbrev pub is_noted : List UsedThread → ThreadRow → Bool
+is_noted used t = has (λ u. u.number == t.number) used
+
+-- the thread has drawn the birth, and a port's birth was drawn
+abbrev pub drew : Birth → ThreadRow → Bool
+drew b t = (t.number == b.maker) && nat_lt b.ordinal t.next_ordinal
+
+abbrev pub was_drawn : List ThreadRow → PortRow → Bool
+was_drawn threads p = has (drew p.birth) threads
+
+-- a port's birth was drawn by its maker, so that what is drawn next is no port's
+pub record AreDrawn (w : World) : Type 0 where
+  pub threads_single : are_single_threads w.threads ≡ true
+  pub threads_noted : every (is_noted w.used_threads) w.threads ≡ true
+  pub ports_drawn : every (was_drawn w.threads) w.ports ≡ true
+
+-- a message's bytes begin with a header
+abbrev pub has_header : Key × QueuedMessage → Bool
+has_header row = nat_le 24 (length row.1.message.bytes.items)
+
+-- The tables name what stands, and their rows are lawful.
+pub record AreLawful (procs : procs.Table) (parts : List Part) (ports : PortTable) (waits : WaitTable) (calls made : ℕ) : Type 0 where
+  pub named : AreNamed (births_of ports) parts ports waits
+  pub lawful : IsLawful (rows_by procs parts ports waits) calls made waits.spare ports.message_room
+  pub counted : IsCounted ports waits made
+  pub drawn : AreDrawn (rows_by procs parts ports waits)
+  -- a message that stands in a queue has a header
+  pub headed : every has_header ports.messages ≡ true

@@ -1,0 +1,53 @@
+-- The handles of each process: which part of the world they stand in.
+use Rattle.std.specs.Prelude.{ℕ, ◌-◌, ◌==◌, ◌&&◌, Bool, true, not, List, [], ◌∷◌, Option, Some, None}
+use Rattle.lpc_base.specs.Rows.{first, has}
+use Rattle.lpc_handles.specs.Handles as handles
+use Rattle.lpc_handles.specs.declared.table.Row.{Row}
+use Rattle.lpc_slots.specs.Table.{is_key}
+use Rattle.lpc_slots.specs.declared.Key.{Key}
+use Rattle.lpc_world.specs.declared.object.Object.{Object}
+use Rattle.lpc_world.specs.declared.object.Object.TheVariants as object
+use Rattle.lpc_world.specs.declared.parts.Part.{Part}
+
+-- the part of a process
+abbrev pub is_part : ℕ → Part → Bool
+is_part pid part = part.process == pid
+
+-- no process has two parts
+abbrev pub are_single_parts : List Part → Bool
+are_single_parts [] = true
+are_single_parts (part ∷ parts) = not (has (is_part part.process) parts) && are_single_parts parts
+
+-- the handles of an optional part, and its room
+abbrev pub rows_in : Option Part → List (ℕ × Row Object)
+rows_in None = []
+rows_in (Some part) = part.handles.rows
+
+abbrev pub spare_in : Option Part → ℕ
+spare_in None = 0
+spare_in (Some part) = part.handles.spare
+
+-- the handles of a process, and its room
+abbrev pub rows_at : List Part → ℕ → List (ℕ × Row Object)
+rows_at parts pid = rows_in (first (is_part pid) parts)
+
+abbrev pub spare_at : List Part → ℕ → ℕ
+spare_at parts pid = spare_in (first (is_part pid) parts)
+
+-- a part with one more handle, which takes one place of its room
+abbrev pub handed : ℕ → Row Object → Part → Part
+handed value row part = record part { handles = record { rows = handles.with_row part.handles.rows value row; spare = part.handles.spare - 1 } }
+
+-- a part with so much room
+abbrev pub roomed : ℕ → Part → Part
+roomed spare part = record part { handles = record part.handles { spare = spare } }
+
+-- an object is the port, and a handle of the part names it
+abbrev pub is_the_port : Key → Object → Bool
+is_the_port port (object.Port key) = is_key key port
+
+abbrev pub names_it : Key → ℕ × Row Object → Bool
+names_it port row = is_the_port port row.1.object
+
+abbrev pub has_name_of : Key → Part → Bool
+has_name_of port part = has (names_it port) part.handles.rows

@@ -1,0 +1,91 @@
+-- The caller of a call, and whether it can make one.
+use Rattle.std.specs.Prelude.{◌≡◌, ℕ, ◌+◌, ◌*◌, ◌&&◌, Bool, true, false, not, Option, Some, None, is_none, is_some}
+use Rattle.lpc_base.specs.Rows.{count}
+use Rattle.lpc_base.specs.declared.birth.Birth.{Birth}
+use Rattle.lpc_base.specs.declared.port_kind.PortKind.TheVariants.{Unnamed}
+use Rattle.lpc_model.specs.declared.entry.CallName.TheVariants.{NtReplyWaitReceivePort}
+use Rattle.lpc_model.specs.World.{World, PortRow, Receive, ThreadRow, WaitRow}
+use Rattle.lpc_model.specs.Found.{is_request, live_thread, port_row, wait_of}
+use Rattle.lpc_waits.specs.Table.{is_receive}
+use Rattle.lpc_waits.specs.declared.Wait.{Wait}
+use Rattle.lpc_world.specs.Names.{name_of, stands}
+use Rattle.lpc_world.specs.Shown.{call_of}
+use Rattle.lpc_world.specs.Kept.{Kept, is_alive}
+use Rattle.lpc_slots.specs.declared.Key.{Key}
+use Rattle.lpc_world.specs.declared.object.Object.{Object}
+use Rattle.lpc_world.specs.declared.object.Object.TheVariants as object
+use Rattle.lpc_world.specs.declared.condition.Condition.{Condition}
+use Rattle.lpc_world.specs.declared.condition.Condition.TheVariants.{Absent, Ready, Waits}
+
+-- a thread that lives and doesn't wait can make a call
+abbrev pub condition_by : Option ThreadRow → Bool → Condition
+condition_by None waits = Absent
+condition_by (Some t) false = Ready
+condition_by (Some t) true = Waits
+
+abbrev pub condition_of : World → ℕ → Condition
+condition_of w tid = condition_by (live_thread w tid) (is_some (wait_of w tid))
+
+abbrev pub is_ready : World → ℕ → Bool
+is_ready w tid = is_some (live_thread w tid) && is_none (wait_of w tid)
+
+-- the row of a live thread
+abbrev pub no_thread : ThreadRow
+no_thread = record { number = 0; process = 0; birth = record { maker = 0; ordinal = 0; process = 0 }; live = false; next_identifier = 0; next_ordinal = 0 }
+
+abbrev pub thread_in : Option ThreadRow → ThreadRow
+thread_in None = no_thread
+thread_in (Some t) = t
+
+unfoldable pub caller : World → ℕ → ThreadRow
+caller w tid = thread_in (live_thread w tid)
+
+-- the row of a port that stands
+abbrev pub no_birth : Birth
+no_birth = record { maker = 0; ordinal = 0; process = 0 }
+
+abbrev pub no_port : PortRow
+no_port = record { birth = no_birth; kind = Unnamed; connection = None; pair = None; context = 0 }
+
+abbrev pub port_in : Option PortRow → PortRow
+port_in None = no_port
+port_in (Some p) = p
+
+unfoldable pub port_of : World → Birth → PortRow
+port_of w b = port_in (port_row w b)
+
+-- a port that stands is found under its name, and an object that stands has its row
+pub record IsStanding (w : Kept) (key : Key) : Type 0 where
+  pub found : port_row w.rows (name_of w.names.ports key) ≡ Some (port_of w.rows (name_of w.names.ports key))
+  pub birth : let p = port_of w.rows (name_of w.names.ports key) in p.birth ≡ name_of w.names.ports key
+
+abbrev pub HasRow : Kept → Object → Type 0
+HasRow w (object.Port key) = IsStanding w key
+
+-- the wait of a thread that waits
+abbrev pub no_wait : WaitRow
+no_wait = record { call = NtReplyWaitReceivePort; thread = 0; process = 0; kind = Receive; port = no_birth; queue = no_birth; identifier = 0; received = false }
+
+abbrev pub wait_in : Option WaitRow → WaitRow
+wait_in None = no_wait
+wait_in (Some x) = x
+
+unfoldable pub waiter : World → ℕ → WaitRow
+waiter w tid = wait_in (wait_of w tid)
+
+-- the wait of a thread that waits is this one, and the ports that it names stand
+pub record IsWait (w : Kept) (tid : ℕ) (x : Wait) : Type 0 where
+  pub thread : let y = waiter w.rows tid in y.thread ≡ tid
+  pub call : let y = waiter w.rows tid in y.call ≡ call_of x.kind
+  pub process : let y = waiter w.rows tid in y.process ≡ x.process
+  pub request : is_request (waiter w.rows tid) ≡ not (is_receive x.kind)
+  pub port : let y = waiter w.rows tid in y.port ≡ name_of w.names.ports x.port
+  pub queue : let y = waiter w.rows tid in y.queue ≡ name_of w.names.ports x.queue
+  pub identifier : let y = waiter w.rows tid in y.identifier ≡ x.identifier
+  pub received : let y = waiter w.rows tid in y.received ≡ x.received
+  pub port_stands : stands w.names.ports x.port ≡ true
+  pub queue_stands : stands w.names.ports x.queue ≡ true
+
+-- how many entries one step makes at most: three for each live thread, and one
+abbrev pub room_needed : World → ℕ
+room_needed w = 3 * count is_alive w.threads + 1

@@ -1,0 +1,92 @@
+// The handles of each process.
+ghost use Rattle.std.specs.Prelude.{◌≡◌, ◌+◌, ◌-◌, ◌<◌, ◌≤◌, ◌↔◌, true, Some, None, IsErr, IfOk, OnOk, OnErr, OnSome, length, vec_len, vec_capacity};
+ghost use Rattle.std.specs.List.{position};
+ghost use Rattle.lpc_base.specs.Places.{least_handle};
+ghost use Rattle.lpc_base.specs.Rows.{change, first, has};
+ghost use Rattle.lpc_handles.specs.Handles.{values};
+ghost use Rattle.lpc_world.specs.Parts.{are_single_parts, handed, has_name_of, is_part, roomed, rows_at, spare_at};
+
+use crate::Object;
+use lpc_base::OutOfMemory;
+use lpc_handles::{Table, TableFault};
+use lpc_slots::Key;
+
+/// The handles of one process.
+#[derive(Drop)]
+pub struct Part {
+    pub process: u32,
+    pub handles: Table<Object>,
+}
+
+/// Where the part of a process stands, if there is one.
+fn find_place(parts: &[Part], pid: u32) -> Option<usize>
+    ensures { result ≡ position (is_part pid) parts.now }
+{
+    parts.iter().position(|part| part.process == pid)
+}
+
+/// Where the part of a process stands.
+fn place_of(parts: &[Part], pid: u32) -> usize
+    requires { has (is_part pid) parts.now ≡ true }
+    ensures { position (is_part pid) parts.now ≡ Some result }
+{
+    match find_place(parts, pid) {
+        Some(index) => index,
+        None => unreachable!(),
+    }
+}
+
+/// The handles of a process.
+pub fn handles_of(parts: &[Part], pid: u32) -> &Table<Object>
+    requires { has (is_part pid) parts.now ≡ true }
+    ensures rows { result.now.rows ≡ rows_at parts.now pid }
+{
+    &parts[place_of(parts, pid)].handles
+}
+
+/// Gives a process the least free handle, and answers its value.
+pub fn add_handle(
+    parts: &mut Vec<Part>,
+    pid: u32,
+    object: Object,
+    access: u32,
+) -> Result<u32, TableFault>
+    requires one { are_single_parts parts.old.items ≡ true }
+    requires part { has (is_part pid) parts.old.items ≡ true }
+    requires room { length (rows_at parts.old.items pid) < 256 → 0 < spare_at parts.old.items pid }
+    ensures quota { IsErr result ↔ (length (rows_at parts.old.items pid) ≡ 256) }
+    ensures value { IfOk result (λ v. v ≡ least_handle (values (rows_at parts.old.items pid))) }
+    ensures parts { IfOk result (λ v. parts.new.items ≡ change (is_part pid) (handed v (record { object = object; access = access })) parts.old.items) }
+    ensures same { OnErr result (parts.new.items ≡ parts.old.items) }
+    ensures len { vec_len parts.new ≡ vec_len parts.old }
+    ensures capacity { vec_capacity parts.new ≡ vec_capacity parts.old }
+{
+    let index = place_of(parts, pid);
+    parts[index].handles.add(object, access)
+}
+
+/// Makes room for so many further handles of a process.
+pub fn reserve_handles(parts: &mut Vec<Part>, pid: u32, more: usize) -> Result<(), OutOfMemory>
+    requires one { are_single_parts parts.old.items ≡ true }
+    requires part { has (is_part pid) parts.old.items ≡ true }
+    ensures room { OnOk result (more ≤ spare_at parts.new.items pid) }
+    ensures parts { parts.new.items ≡ change (is_part pid) (roomed (spare_at parts.new.items pid)) parts.old.items }
+    ensures spare { spare_at parts.old.items pid ≤ spare_at parts.new.items pid }
+    ensures len { vec_len parts.new ≡ vec_len parts.old }
+    ensures capacity { vec_capacity parts.new ≡ vec_capacity parts.old }
+{
+    let index = place_of(parts, pid);
+    parts[index].handles.reserve(more)
+}
+
+/// A handle of some process names the port.
+pub fn names_port(parts: &[Part], port: Key) -> bool
+    ensures { result ≡ has (has_name_of port) parts.now }
+{
+    for part in parts {
+        if part.handles.names(Object::Port(port)) {
+            return true;
+        }
+    }
+    false
+}

@@ -1,0 +1,176 @@
+// The world with ample memory: directives line by line, and a port that is made, found and sent on. The expected values
+// are written out by hand.
+ghost use Rattle.std.specs.Prelude.{◌≡◌, ◌≤◌, ◌<◌, ◌+◌, true, IfOk};
+ghost use Rattle.lpc_world.specs.Names.{stands};
+ghost use Rattle.lpc_procs.specs.Procs.{IsNumber};
+ghost use Rattle.lpc_world.specs.Ready.{is_ready};
+
+use crate::{Condition, Object, World, kept, wants_answer};
+use lpc_base::status::{
+    ACCESS_DENIED, INVALID_CID, INVALID_HANDLE, OBJECT_NAME_COLLISION, OBJECT_TYPE_MISMATCH,
+    SUCCESS,
+};
+use lpc_base::{Birth, PortKind, Status};
+use lpc_message::ClientId;
+use lpc_model::{Entries, ObjectKind};
+use lpc_slots::Key;
+use std::process::Abort;
+use std::test::Fail;
+
+// The line `boot` ends so.
+fn boots(rt: &impl Abort, world: &mut World, pid: u32, tid: u32, status: Status) -> Result<(), Fail>
+    requires calls { world.old.calls < 1000000 }
+    requires process { IsNumber pid }
+    requires thread { IsNumber tid }
+    ensures calls { world.new.calls ≤ world.old.calls + 1 }
+{
+    let answer = world.boot(pid, tid)?;
+    assert_eq!(rt; answer, status);
+    Ok(())
+}
+
+// The line `thread` ends so.
+fn threads(
+    rt: &impl Abort,
+    world: &mut World,
+    tid: u32,
+    pid: u32,
+    status: Status,
+) -> Result<(), Fail>
+    requires calls { world.old.calls < 1000000 }
+    requires thread { IsNumber tid }
+    ensures calls { world.new.calls ≤ world.old.calls + 1 }
+{
+    let answer = world.thread(tid, pid)?;
+    assert_eq!(rt; answer, status);
+    Ok(())
+}
+
+#[test]
+fn directives_make_processes_and_threads(rt: HostRuntime) -> Result<(), Fail> {
+    let mut world = World::empty(rt.alloc());
+    assert_eq!(rt; world.room_needed(), 1);
+    boots(&rt, &mut world, 20, 24, SUCCESS)?;
+    boots(&rt, &mut world, 20, 28, OBJECT_NAME_COLLISION)?;
+    boots(&rt, &mut world, 32, 24, OBJECT_NAME_COLLISION)?;
+    threads(&rt, &mut world, 28, 20, SUCCESS)?;
+    threads(&rt, &mut world, 28, 20, OBJECT_NAME_COLLISION)?;
+    threads(&rt, &mut world, 28, 32, INVALID_CID)?;
+    assert_eq!(rt; world.calls(), 6);
+    assert_eq!(rt; world.objects(), 3);
+    assert_eq!(rt; world.live_count(20), 2);
+    assert_eq!(rt; world.room_needed(), 7);
+    assert!(rt; world.is_live(20) && !world.is_live(32));
+    assert!(rt; world.was_process(20) && !world.was_process(24));
+    assert!(rt; world.was_thread(24) && !world.was_thread(20));
+    assert_eq!(rt; world.condition(28), Condition::Ready);
+    assert_eq!(rt; world.condition(20), Condition::Absent);
+    let here = ClientId {
+        process: 20,
+        thread: 28,
+    };
+    let elsewhere = ClientId {
+        process: 32,
+        thread: 28,
+    };
+    assert_eq!(rt; world.client_test(here), Ok(()));
+    assert_eq!(rt; world.client_test(elsewhere), Err(INVALID_CID));
+    Ok(())
+}
+
+// A datagram of two bytes of data, without a client and an identifier.
+const DATAGRAM: [u8; 26] = [
+    2, 0, 26, 0, 3, 0, 0, 0, 0, 0, 0, 0, 0, 0, 0, 0, 0, 0, 0, 0, 0, 0, 0, 0, 0x41, 0x42,
+];
+
+// Thread 24 of process 20 makes its first port, which has a handle with the right to use it alone.
+fn makes_a_port(rt: &impl Abort, world: &mut World) -> Result<Key, Fail>
+    requires few { world.old.calls < 1000000 }
+    requires ready { is_ready world.old.rows 24 ≡ true }
+    ensures calls { world.new.calls ≤ world.old.calls + 1 }
+    ensures stands { IfOk result (λ port. stands world.new.names.ports port ≡ true) }
+{
+    let by = world.caller(24);
+    assert_eq!(rt; by.process, 20);
+    world.ports_reserve(1, 0)?;
+    world.handles_reserve(by.process, 1)?;
+    world.begin_call();
+    let birth = world.procs_draw_birth(by.number);
+    let first = Birth {
+        maker: 24,
+        ordinal: 1,
+        process: 20,
+    };
+    assert_eq!(rt; birth, first);
+    let port = world.ports_add(PortKind::Unnamed, birth, None);
+    let given = world.handles_add(by.process, Object::Port(port), 1);
+    assert_eq!(rt; given.ok(), Some(4));
+    Ok(port)
+}
+
+// The handle of the port is found, by its value, then its kind, then its rights.
+fn finds_the_port(rt: &impl Abort, world: &World, port: Key) -> Result<(), Fail>
+    requires ready { is_ready world.now.rows 24 ≡ true }
+    requires stands { stands world.now.names.ports port ≡ true }
+{
+    assert_eq!(rt; world.port_at(24, 4).ok(), Some(port));
+    let absent = world.object_at(24, 8, ObjectKind::Process, 2);
+    assert_eq!(rt; absent.err(), Some(INVALID_HANDLE));
+    let other = world.object_at(24, 4, ObjectKind::Process, 2);
+    assert_eq!(rt; other.err(), Some(OBJECT_TYPE_MISMATCH));
+    let weak = world.object_at(24, 4, ObjectKind::Port, 2);
+    assert_eq!(rt; weak.err(), Some(ACCESS_DENIED));
+    assert_eq!(rt; world.route(port), Some(port));
+    assert_eq!(rt; world.context(port), 0);
+    assert_eq!(rt; world.receive_test(port).ok(), Some(port));
+    assert_eq!(rt; world.datagram_test(port), Ok(()));
+    assert_eq!(rt; world.receiver(port), None);
+    Ok(())
+}
+
+// A datagram enters the queue of the port and is taken from it.
+fn sends_a_datagram(
+    rt: &impl Abort,
+    world: &mut World,
+    port: Key,
+    out: &mut Entries,
+) -> Result<(), Fail>
+    requires few { world.old.calls < 1000000 }
+    requires spare { 1 ≤ out.old.spare }
+    requires stands { stands world.old.names.ports port ≡ true }
+{
+    let Ok(given) = world.read_message(&DATAGRAM) else {
+        return Ok(assert!(rt; false));
+    };
+    let message = kept(&given);
+    assert!(rt; !wants_answer(&message));
+    world.ports_reserve(0, 1)?;
+    world.begin_call();
+    world.deliver(port, port, 7, &message, out);
+    assert_eq!(rt; out.list().len(), 0);
+    let Some(taken) = world.ports_pull(port) else {
+        return Ok(assert!(rt; false));
+    };
+    assert_eq!(rt; taken.bytes.as_slice(), DATAGRAM.as_slice());
+    assert_eq!(rt; taken.sender, port);
+    assert_eq!(rt; taken.context, 7);
+    Ok(())
+}
+
+#[test]
+fn port_is_found_by_its_handle_and_keeps_a_message(rt: HostRuntime) -> Result<(), Fail> {
+    let alloc = rt.alloc();
+    let mut world = World::empty(alloc);
+    let mut out = Entries::new(alloc)?;
+    out.reserve(1)?;
+    boots(&rt, &mut world, 20, 24, SUCCESS)?;
+    let Condition::Ready = world.condition(24) else {
+        return Ok(assert!(rt; false));
+    };
+    let port = makes_a_port(&rt, &mut world)?;
+    let Condition::Ready = world.condition(24) else {
+        return Ok(assert!(rt; false));
+    };
+    finds_the_port(&rt, &world, port)?;
+    sends_a_datagram(&rt, &mut world, port, &mut out)
+}

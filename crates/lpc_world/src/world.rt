@@ -1,0 +1,364 @@
+// The tables together: reading calls find what the definitions find, a changing call is one basic step and takes no
+// memory, and a reserving call makes room and changes nothing else.
+ghost use Rattle.std.specs.Prelude.{◌≡◌, ◌+◌, ◌*◌, ◌<◌, ◌≤◌, ◌↔◌, [], None, Some, true, false, IfSome, IfNone, IfOk, IsErr, OnOk, OnErr, is_some, length, option_map};
+ghost use Rattle.lpc_base.specs.Rows.{change, first, has, without};
+ghost use Rattle.lpc_model.specs.World.{no_rows};
+ghost use Rattle.lpc_model.specs.Found.{free_handle, handles_of, is_process, is_queued, is_table, is_thread, port_row, receives_on, was_process, was_thread, waits_as};
+ghost use Rattle.lpc_model.specs.Basics.{basic, AddsHandle, AddsProcess, AddsThread, Awaits, DrawsIdentifier, DrawsOrdinal, Enters, Makes, Receives, Takes};
+ghost use Rattle.lpc_model.specs.Machine.{new_process, new_thread};
+ghost use Rattle.lpc_model.specs.Message.{asks, message_of};
+ghost use Rattle.lpc_model.specs.Tests as tests;
+ghost use Rattle.lpc_procs.specs.Procs.{IsNumber};
+ghost use Rattle.lpc_world.specs.Names.{KeepsNames, name_of, some_stands, stands};
+ghost use Rattle.lpc_world.specs.Shown.{birth_in, birth_of, name_by, object_stands, pulled_row, sent_row, waiting_row, with_message};
+ghost use Rattle.lpc_world.specs.Lawful.{drew, is_quiet};
+ghost use Rattle.lpc_world.specs.Kept.{IsIdleAfter, Roomy, Same, StaysReady, handle_room, is_pending, is_pending_in};
+ghost use Rattle.lpc_world.specs.Ready.{IsWait};
+
+mod directives;
+mod lending;
+mod reading;
+mod steps;
+
+use crate::Object;
+use crate::parts::{self, Part};
+use lpc_base::{Birth, OutOfMemory, PortKind};
+use lpc_handles::{Table, TableFault};
+use lpc_ports::{Message, Ports};
+use lpc_procs::Procs;
+use lpc_slots::Key;
+use lpc_waits::{Wait, Waits};
+use std::alloc::Global;
+use std::marker::Model;
+pub use steps::wants_answer;
+
+/// The world: processes and threads, the handles of each process, ports with the messages in their queues, and waits.
+///
+/// Contracts see the rows of the definitions, in which an object is named by its birth, the births of keys, how many
+/// directive and service calls were made, and how many more rows go in without memory.
+#[derive(Drop)]
+pub struct World {
+    procs: Procs,
+    parts: Vec<Part>,
+    ports: Ports,
+    waits: Waits,
+    calls: u32,
+    made: u32,
+    alloc: Global,
+}
+
+impl Model for World {
+    ghost use Rattle.std.specs.Prelude.{◌-◌, vec_len, vec_capacity};
+    ghost use Rattle.lpc_world.specs.Kept.{Kept, kept};
+    ghost use Rattle.lpc_world.specs.Lawful.{AreLawful};
+
+    ghost Value = { Kept };
+
+    ghost view = { λ w. kept w.procs w.parts.items (vec_capacity w.parts - vec_len w.parts) w.ports w.waits w.calls w.made };
+
+    ghost invariant = { λ w. AreLawful w.procs w.parts.items w.ports w.waits w.calls w.made };
+}
+
+impl World {
+    /// A world without a row. What it keeps later takes memory from `alloc`.
+    pub fn empty(alloc: Global) -> World
+        ensures rows { result.rows ≡ no_rows }
+        ensures births { result.names.ports ≡ [] }
+        ensures calls { result.calls ≡ 0 }
+        ensures made { result.made ≡ 0 }
+    {
+        World {
+            procs: Procs::new(alloc),
+            parts: Vec::new(alloc),
+            ports: Ports::new(alloc),
+            waits: Waits::new(alloc),
+            calls: 0,
+            made: 0,
+            alloc,
+        }
+    }
+
+    /// How many directive and service calls were made on this world, refused ones too.
+    pub fn calls(&self) -> u32
+        ensures { result ≡ self.now.calls }
+    {
+        self.calls
+    }
+
+    /// One more directive or service call, which may make up to 16 rows and numbers.
+    pub fn begin_call(&mut self)
+        requires { self.old.calls < 1000000 }
+        ensures rows { self.new.rows ≡ self.old.rows }
+        ensures names { self.new.names ≡ self.old.names }
+        ensures calls { self.new.calls ≡ self.old.calls + 1 }
+        ensures made { self.new.made ≡ self.old.made }
+        ensures room { self.new.room ≡ self.old.room }
+        ensures budget { self.new.made + 16 ≤ 16 * self.new.calls }
+    {
+        self.calls += 1;
+    }
+
+    // Changes: one basic step each.
+
+    /// A thread draws its next message identifier, which is answered.
+    pub fn procs_draw_identifier(&mut self, tid: u32) -> u32
+        requires stands { has (is_thread tid) self.old.rows.threads ≡ true }
+        requires budget { self.old.made < 16 * self.old.calls }
+        ensures number { option_map (λ t. t.next_identifier) (first (is_thread tid) self.old.rows.threads) ≡ Some result }
+        ensures rows { self.new.rows ≡ basic self.old.rows (DrawsIdentifier tid) }
+        ensures names { self.new.names ≡ self.old.names }
+        ensures calls { self.new.calls ≡ self.old.calls }
+        ensures made { self.new.made ≡ self.old.made + 1 }
+        ensures room { Roomy self.old.room self.new.room }
+    {
+        self.made += 1;
+        self.procs.draw_identifier(tid)
+    }
+
+    /// A thread draws the birth of what it makes next, which is answered.
+    pub fn procs_draw_birth(&mut self, tid: u32) -> Birth
+        requires stands { has (is_thread tid) self.old.rows.threads ≡ true }
+        requires budget { self.old.made < 16 * self.old.calls }
+        ensures birth { option_map tests.next_birth (first (is_thread tid) self.old.rows.threads) ≡ Some result }
+        ensures fresh { port_row self.new.rows result ≡ None }
+        ensures drawn { has (drew result) self.new.rows.threads ≡ true }
+        ensures rows { self.new.rows ≡ basic self.old.rows (DrawsOrdinal tid) }
+        ensures names { self.new.names ≡ self.old.names }
+        ensures calls { self.new.calls ≡ self.old.calls }
+        ensures made { self.new.made ≡ self.old.made + 1 }
+        ensures room { Roomy self.old.room self.new.room }
+    {
+        self.made += 1;
+        self.procs.draw_birth(tid)
+    }
+
+    /// Adds a process, without threads and handles. Its number was never used.
+    pub fn procs_add_process(&mut self, pid: u32, maker: Option<u32>, birth: Birth)
+        requires room { 0 < self.old.room.processes }
+        requires budget { self.old.made < 16 * self.old.calls }
+        requires number { IsNumber pid }
+        requires new { was_process self.old.rows pid ≡ false }
+        ensures rows { self.new.rows ≡ basic self.old.rows (AddsProcess (new_process pid maker birth)) }
+        ensures names { self.new.names ≡ self.old.names }
+        ensures calls { self.new.calls ≡ self.old.calls }
+        ensures made { self.new.made ≡ self.old.made + 1 }
+        ensures room { Roomy self.old.room (record self.new.room { processes = self.new.room.processes + 1 }) }
+    {
+        self.made += 1;
+        self.procs.add_process(pid, maker, birth);
+        self.parts.push_reserved(Part {
+            process: pid,
+            handles: Table::new(self.alloc),
+        });
+    }
+
+    /// Adds a live thread to a process that stands; it has drawn nothing yet. Its number was never used.
+    pub fn procs_add_thread(&mut self, tid: u32, pid: u32, birth: Birth)
+        requires room { 0 < self.old.room.threads }
+        requires wait_room { 0 < self.old.room.waits }
+        requires message_room { 0 < self.old.room.messages }
+        requires budget { self.old.made < 16 * self.old.calls }
+        requires number { IsNumber tid }
+        requires new { was_thread self.old.rows tid ≡ false }
+        requires process { has (is_process pid) self.old.rows.processes ≡ true }
+        requires table { has (is_table pid) self.old.rows.handles ≡ true }
+        ensures rows { self.new.rows ≡ basic self.old.rows (AddsThread (new_thread tid pid birth)) }
+        ensures names { self.new.names ≡ self.old.names }
+        ensures calls { self.new.calls ≡ self.old.calls }
+        ensures made { self.new.made ≡ self.old.made + 1 }
+        ensures room { Roomy self.old.room (record self.new.room { threads = self.new.room.threads + 1; waits = self.new.room.waits + 1; messages = self.new.room.messages + 1 }) }
+    {
+        self.made += 1;
+        self.procs.add_thread(tid, pid, birth);
+    }
+
+    /// Adds a port, and answers its key. It has no pair yet, and its context is 0. Its birth was drawn, and no port has it.
+    pub fn ports_add(&mut self, kind: PortKind, birth: Birth, connection: Option<Key>) -> Key
+        requires room { 0 < self.old.room.ports }
+        requires budget { self.old.made < 16 * self.old.calls }
+        requires connection { some_stands self.old.names.ports connection ≡ true }
+        requires fresh { port_row self.old.rows birth ≡ None }
+        requires drawn { has (drew birth) self.old.rows.threads ≡ true }
+        ensures rows { self.new.rows ≡ basic self.old.rows (Makes (record { birth = birth; kind = kind; connection = birth_in (birth_of self.old.names) connection; pair = None; context = 0 })) }
+        ensures name { name_of self.new.names.ports result ≡ birth }
+        ensures stands { stands self.new.names.ports result ≡ true }
+        ensures others { KeepsNames self.old.names.ports self.new.names.ports }
+        ensures calls { self.new.calls ≡ self.old.calls }
+        ensures made { self.new.made ≡ self.old.made + 1 }
+        ensures room { Roomy self.old.room (record self.new.room { ports = self.new.room.ports + 1 }) }
+    {
+        self.made += 1;
+        self.ports.add(kind, birth, connection)
+    }
+
+    /// A message enters the queue of a port, on which no receive waits. A request has its place, every other message the room that was made for it.
+    pub fn ports_send(&mut self, queue: Key, sender: Key, context: u32, bytes: &[u8])
+        requires queue { stands self.old.names.ports queue ≡ true }
+        requires sender { stands self.old.names.ports sender ≡ true }
+        requires long { 24 ≤ length bytes.now }
+        requires bound { length bytes.now ≤ 256 }
+        requires quiet { has (receives_on (name_of self.old.names.ports queue)) self.old.rows.waits ≡ false }
+        requires budget { self.old.made < 16 * self.old.calls }
+        requires request { asks (message_of bytes.now) ≡ true → 0 < self.old.room.requests }
+        requires other { asks (message_of bytes.now) ≡ false → 0 < self.old.room.messages }
+        ensures rows { self.new.rows ≡ basic self.old.rows (Enters (sent_row self.old.names queue sender context bytes.now)) }
+        ensures names { self.new.names ≡ self.old.names }
+        ensures queued { is_some (first (is_queued (name_of self.old.names.ports queue)) self.new.rows.messages) ≡ true }
+        ensures calls { self.new.calls ≡ self.old.calls }
+        ensures made { self.new.made ≡ self.old.made + 1 }
+        ensures room { Roomy self.old.room (record self.new.room { messages = self.new.room.messages + 1; requests = self.new.room.requests + 1 }) }
+    {
+        self.made += 1;
+        self.ports.send(queue, sender, context, bytes);
+    }
+
+    /// Takes the oldest message of a queue: None exactly where the queue is empty.
+    pub fn ports_pull(&mut self, queue: Key) -> Option<Message>
+        requires { stands self.old.names.ports queue ≡ true }
+        ensures message { option_map (pulled_row self.old.names queue) result ≡ first (is_queued (name_of self.old.names.ports queue)) self.old.rows.messages }
+        ensures rows { self.new.rows ≡ basic self.old.rows (Takes (name_of self.old.names.ports queue)) }
+        ensures none { IfNone result (self.new.rows ≡ self.old.rows) }
+        ensures names { self.new.names ≡ self.old.names }
+        ensures long { IfSome result (λ m. 24 ≤ length m.bytes.items) }
+        ensures bound { IfSome result (λ m. length m.bytes.items ≤ 256) }
+        ensures calls { self.new.calls ≡ self.old.calls }
+        ensures made { self.new.made ≡ self.old.made }
+        ensures room { Roomy self.old.room self.new.room }
+        ensures owed { IfSome result (λ m. asks (message_of m.bytes.items) ≡ true → self.old.room.requests < self.new.room.requests) }
+    {
+        let message = self.ports.first(queue, false)?;
+        Some(self.ports.pull(message))
+    }
+
+    /// A thread that doesn't wait begins to wait, for a message only on an empty queue. Its place was made with the thread.
+    pub fn waits_add(&mut self, tid: u32, wait: Wait)
+        requires thread { has (is_thread tid) self.old.rows.threads ≡ true }
+        requires ready { has (waits_as tid) self.old.rows.waits ≡ false }
+        requires budget { self.old.made < 16 * self.old.calls }
+        requires port { stands self.old.names.ports wait.port ≡ true }
+        requires queue { stands self.old.names.ports wait.queue ≡ true }
+        requires quiet { is_quiet self.old.rows.messages (waiting_row self.old.names tid wait []) ≡ true }
+        ensures rows { self.new.rows ≡ basic self.old.rows (Awaits (waiting_row self.old.names tid wait [])) }
+        ensures names { self.new.names ≡ self.old.names }
+        ensures calls { self.new.calls ≡ self.old.calls }
+        ensures made { self.new.made ≡ self.old.made + 1 }
+        ensures room { Roomy self.old.room self.new.room }
+        ensures owed { is_pending (waiting_row self.old.names tid wait []) ≡ true → 0 < self.new.room.requests }
+    {
+        self.made += 1;
+        self.waits.add(tid, wait);
+    }
+
+    /// A waiting thread's wait keeps the message with which it waits.
+    pub fn waits_set_message(&mut self, tid: u32, bytes: &[u8])
+        requires waits { has (waits_as tid) self.old.rows.waits ≡ true }
+        requires bound { length bytes.now ≤ 256 }
+        ensures rows { self.new.rows ≡ record self.old.rows { waits = change (waits_as tid) (with_message (message_of bytes.now)) self.old.rows.waits } }
+        ensures names { self.new.names ≡ self.old.names }
+        ensures calls { self.new.calls ≡ self.old.calls }
+        ensures made { self.new.made ≡ self.old.made }
+        ensures room { Roomy self.old.room self.new.room }
+    {
+        self.waits.set_message(tid, bytes);
+    }
+
+    /// Ends the wait of a thread, which isn't for the reply to a request that isn't received, and answers it: None
+    /// exactly where the thread doesn't wait.
+    pub fn waits_end(&mut self, tid: u32) -> Option<Wait>
+        requires { is_pending_in self.old.rows tid ≡ false }
+        ensures some { is_some result ≡ has (waits_as tid) self.old.rows.waits }
+        ensures wait { IfSome result (λ wait. IsWait self.old tid wait) }
+        ensures rows { self.new.rows ≡ record self.old.rows { waits = without (waits_as tid) self.old.rows.waits } }
+        ensures names { self.new.names ≡ self.old.names }
+        ensures calls { self.new.calls ≡ self.old.calls }
+        ensures made { self.new.made ≡ self.old.made }
+        ensures room { Roomy self.old.room self.new.room }
+        ensures still { StaysReady self.old.rows self.new.rows }
+    {
+        self.waits.end(tid)
+    }
+
+    /// The request of a thread is received, where it waits. Its message stands in no queue any more.
+    pub fn waits_receive(&mut self, tid: u32)
+        requires owed { 0 < self.old.room.requests }
+        ensures rows { self.new.rows ≡ basic self.old.rows (Receives tid) }
+        ensures names { self.new.names ≡ self.old.names }
+        ensures calls { self.new.calls ≡ self.old.calls }
+        ensures made { self.new.made ≡ self.old.made }
+        ensures room { Roomy self.old.room (record self.new.room { requests = self.new.room.requests + 1 }) }
+        ensures idle { IsIdleAfter self.old.rows self.new.rows }
+    {
+        match self.waits.of(tid) {
+            Some(_) => self.waits.receive(tid),
+            None => {}
+        }
+    }
+
+    /// Gives a process the least free handle, and answers its value; Quota exactly where the process has 256 handles,
+    /// and then nothing changes.
+    pub fn handles_add(&mut self, pid: u32, object: Object, access: u32) -> Result<u32, TableFault>
+        requires table { has (is_table pid) self.old.rows.handles ≡ true }
+        requires room { length (handles_of self.old.rows pid) < 256 → 0 < handle_room self.old.room pid }
+        requires object { object_stands self.old.names object ≡ true }
+        ensures quota { IsErr result ↔ (length (handles_of self.old.rows pid) ≡ 256) }
+        ensures value { IfOk result (λ v. v ≡ free_handle self.old.rows pid) }
+        ensures rows { IfOk result (λ v. self.new.rows ≡ basic self.old.rows (AddsHandle pid (tests.handle_row v (name_by (birth_of self.old.names) object) access))) }
+        ensures names { self.new.names ≡ self.old.names }
+        ensures calls { self.new.calls ≡ self.old.calls }
+        ensures made { self.new.made ≡ self.old.made }
+        ensures same { OnErr result (self.new ≡ self.old) }
+    {
+        parts::add_handle(&mut self.parts, pid, object, access)
+    }
+
+    // Room.
+
+    /// Makes room for so many further processes, with their tables of handles, and for so many further threads.
+    pub fn procs_reserve(&mut self, processes: usize, threads: usize) -> Result<(), OutOfMemory>
+        ensures same { Same self.old self.new }
+        ensures room { Roomy self.old.room self.new.room }
+        ensures processes { OnOk result (processes ≤ self.new.room.processes) }
+        ensures threads { OnOk result (threads ≤ self.new.room.threads) }
+    {
+        self.procs.reserve(processes, threads)?;
+        if self.parts.reserve(processes).is_err() {
+            return Err(OutOfMemory);
+        }
+        Ok(())
+    }
+
+    /// Makes room for so many further ports, and for so many messages beyond the one that each thread may ask with.
+    pub fn ports_reserve(&mut self, ports: usize, messages: usize) -> Result<(), OutOfMemory>
+        ensures same { Same self.old self.new }
+        ensures room { Roomy self.old.room self.new.room }
+        ensures ports { OnOk result (ports ≤ self.new.room.ports) }
+        ensures messages { OnOk result (messages ≤ self.new.room.messages) }
+    {
+        let Some(places) = self.procs.threads().checked_add(messages) else {
+            return Err(OutOfMemory);
+        };
+        self.ports.reserve(ports, places)
+    }
+
+    /// Makes room for so many waits beyond the one that each thread may have.
+    pub fn waits_reserve(&mut self, more: usize) -> Result<(), OutOfMemory>
+        ensures same { Same self.old self.new }
+        ensures room { Roomy self.old.room self.new.room }
+        ensures waits { OnOk result (more ≤ self.new.room.waits) }
+    {
+        let Some(places) = self.procs.threads().checked_add(more) else {
+            return Err(OutOfMemory);
+        };
+        self.waits.reserve(places)
+    }
+
+    /// Makes room for so many further handles of a process.
+    pub fn handles_reserve(&mut self, pid: u32, more: usize) -> Result<(), OutOfMemory>
+        requires { has (is_table pid) self.old.rows.handles ≡ true }
+        ensures same { Same self.old self.new }
+        ensures room { Roomy self.old.room self.new.room }
+        ensures handles { OnOk result (more ≤ handle_room self.new.room pid) }
+    {
+        parts::reserve_handles(&mut self.parts, pid, more)
+    }
+}

@@ -1,0 +1,101 @@
+// The directives that make processes and threads: refusals in their order, else the steps.
+ghost use Rattle.std.specs.Prelude.{◌≡◌, ◌<◌, ◌≤◌, OnOk, true, false};
+ghost use Rattle.lpc_base.specs.Rows.{has};
+ghost use Rattle.lpc_model.specs.Found.{is_process, is_table, was_thread};
+ghost use Rattle.lpc_model.specs.Machine as model;
+ghost use Rattle.lpc_model.specs.Machine.{boot_line, thread_line};
+ghost use Rattle.lpc_procs.specs.Procs.{IsNumber};
+ghost use Rattle.lpc_world.specs.Does.{Directs};
+ghost use Rattle.lpc_world.specs.Kept.{Same};
+
+use crate::world::World;
+use lpc_base::limits::THREAD_LIMIT;
+use lpc_base::status::{INVALID_CID, OBJECT_NAME_COLLISION, QUOTA_EXCEEDED, SUCCESS};
+use lpc_base::{Birth, OutOfMemory, Status};
+
+/// What a directive makes has maker 0 and its own number as ordinal.
+fn directive_birth(number: u32) -> Birth
+    ensures { result ≡ model.directive_birth number }
+{
+    Birth {
+        maker: 0,
+        ordinal: number,
+        process: 0,
+    }
+}
+
+impl World {
+    /// `boot`: makes a process without a maker, and its first thread.
+    ///
+    /// Refusal: OBJECT_NAME_COLLISION where the number was ever used for a process, or the other for a thread. After want
+    /// of memory nothing has changed.
+    #[tactic(auto, unfolding(lpc_model::specs::Machine::boot_line))]
+    pub fn boot(&mut self, pid: u32, tid: u32) -> Result<Status, OutOfMemory>
+        requires calls { self.old.calls < 1000000 }
+        requires process { IsNumber pid }
+        requires thread { IsNumber tid }
+        ensures directs { Directs result (boot_line self.old.rows pid tid) self.old self.new }
+    {
+        if self.was_process(pid) || self.was_thread(tid) {
+            self.begin_call();
+            return Ok(OBJECT_NAME_COLLISION);
+        }
+        self.thread_reserve()?;
+        self.procs_reserve(1, 1)?;
+        self.begin_call();
+        self.procs_add_process(pid, None, directive_birth(pid));
+        self.procs_add_thread(tid, pid, directive_birth(tid));
+        Ok(SUCCESS)
+    }
+
+    /// `thread`: makes a further thread of a live process.
+    ///
+    /// Refusals, in this order: INVALID_CID without a live process of that number; OBJECT_NAME_COLLISION where the
+    /// number was ever used for a thread; QUOTA_EXCEEDED where the process has 64 live threads. After want of memory
+    /// nothing has changed.
+    #[tactic(auto, unfolding(lpc_model::specs::Machine::thread_line))]
+    pub fn thread(&mut self, tid: u32, pid: u32) -> Result<Status, OutOfMemory>
+        requires calls { self.old.calls < 1000000 }
+        requires thread { IsNumber tid }
+        ensures directs { Directs result (thread_line self.old.rows tid pid) self.old self.new }
+    {
+        if let Err(status) = self.thread_test(tid, pid) {
+            self.begin_call();
+            return Ok(status);
+        }
+        self.thread_reserve()?;
+        self.procs_reserve(0, 1)?;
+        self.begin_call();
+        self.procs_add_thread(tid, pid, directive_birth(tid));
+        Ok(SUCCESS)
+    }
+
+    /// Why a process gets no further thread.
+    fn thread_test(&self, tid: u32, pid: u32) -> Result<(), Status>
+        ensures test { result ≡ model.thread_test self.now.rows tid pid }
+        ensures process { OnOk result (has (is_process pid) self.now.rows.processes ≡ true) }
+        ensures table { OnOk result (has (is_table pid) self.now.rows.handles ≡ true) }
+        ensures new { OnOk result (was_thread self.now.rows tid ≡ false) }
+    {
+        if !self.is_live(pid) {
+            return Err(INVALID_CID);
+        }
+        if self.was_thread(tid) {
+            return Err(OBJECT_NAME_COLLISION);
+        }
+        if self.live_count(pid) >= THREAD_LIMIT {
+            return Err(QUOTA_EXCEEDED);
+        }
+        Ok(())
+    }
+
+    /// Makes room for what a thread may keep: its wait, and the message that it asks with.
+    fn thread_reserve(&mut self) -> Result<(), OutOfMemory>
+        ensures same { Same self.old self.new }
+        ensures waits { OnOk result (1 ≤ self.new.room.waits) }
+        ensures messages { OnOk result (1 ≤ self.new.room.messages) }
+    {
+        self.waits_reserve(1)?;
+        self.ports_reserve(0, 1)
+    }
+}

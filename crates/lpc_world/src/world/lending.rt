@@ -1,0 +1,48 @@
+// The tables as they are lent for reading: each with the rows that it stands for.
+ghost use Rattle.std.specs.Prelude.{◌≡◌, map, true};
+ghost use Rattle.lpc_base.specs.Rows.{has};
+ghost use Rattle.lpc_model.specs.Found.{handles_of, is_table};
+ghost use Rattle.lpc_world.specs.Shown.{birth_of, births_of, shown_handle, shown_message, shown_port, shown_process, shown_thread, shown_used, shown_wait};
+
+use crate::world::World;
+use crate::{Object, parts};
+use lpc_handles::Table;
+use lpc_ports::Ports;
+use lpc_procs::Procs;
+use lpc_waits::Waits;
+
+impl World {
+    /// Processes, threads, and the numbers ever used.
+    pub fn procs(&self) -> &Procs
+        ensures processes { self.now.rows.processes ≡ map shown_process result.now.processes }
+        ensures threads { self.now.rows.threads ≡ map shown_thread result.now.threads }
+        ensures used_processes { self.now.rows.used_processes ≡ result.now.used_processes }
+        ensures used_threads { self.now.rows.used_threads ≡ map shown_used result.now.used_threads }
+    {
+        &self.procs
+    }
+
+    /// Ports, and the messages in their queues.
+    pub fn ports(&self) -> &Ports
+        ensures births { self.now.names ≡ births_of result.now }
+        ensures ports { self.now.rows.ports ≡ map (shown_port (birth_of self.now.names)) result.now.ports }
+        ensures messages { self.now.rows.messages ≡ map (shown_message (birth_of self.now.names)) result.now.messages }
+    {
+        &self.ports
+    }
+
+    /// The waits of threads.
+    pub fn waits(&self) -> &Waits
+        ensures waits { self.now.rows.waits ≡ map (shown_wait (birth_of self.now.names)) result.now.rows }
+    {
+        &self.waits
+    }
+
+    /// The handles of a process that stands.
+    pub fn handles(&self, pid: u32) -> &Table<Object>
+        requires { has (is_table pid) self.now.rows.handles ≡ true }
+        ensures rows { handles_of self.now.rows pid ≡ map (shown_handle (birth_of self.now.names)) result.now.rows }
+    {
+        parts::handles_of(&self.parts, pid)
+    }
+}

@@ -1,0 +1,486 @@
+// What is found in the world, in the definitions' words. An object that is found by its key stands.
+ghost use Rattle.std.specs.Prelude.{◌≡◌, ◌<◌, ◌≤◌, ◌&&◌, None, Some, Ok, Err, true, false, not, is_none, IfSome, IfOk, OnOk, MatchOption, MatchResult, length, option_map, OnSome};
+ghost use Rattle.lpc_base.specs.Rows.{count, first, has};
+ghost use Rattle.lpc_model.specs.Found as found;
+ghost use Rattle.lpc_model.specs.Found.{fits_as, handle_at, handles_of, is_process, is_queued, is_table, is_the, is_thread, live_count, objects, pair_of, port_row, receives_on, same_birth, waits_as, was_process, was_thread};
+ghost use Rattle.lpc_model.specs.Request as request;
+ghost use Rattle.lpc_model.specs.Tests as tests;
+ghost use Rattle.lpc_world.specs.Lawful.{are_single};
+ghost use Rattle.lpc_world.specs.Names.{are_apart, name_of, some_stands, stands};
+ghost use Rattle.lpc_world.specs.Shown as shown;
+ghost use Rattle.lpc_world.specs.Shown.{birth_of, kind_of, name_by, object_stands, shown_thread};
+ghost use Rattle.lpc_waits.specs.Table.{is_receive};
+ghost use Rattle.lpc_world.specs.Kept.{is_alive, is_pending_in};
+ghost use Rattle.lpc_world.specs.Ready.{HasRow, IsWait, caller, condition_of, is_ready, port_of, room_needed, waiter};
+
+use crate::world::World;
+use crate::{Condition, Object, parts};
+use lpc_base::limits::{DATAGRAM_LIMIT, HANDLE_LIMIT};
+use lpc_base::status::{
+    ACCESS_DENIED, INVALID_CID, INVALID_HANDLE, OBJECT_TYPE_MISMATCH, PORT_DISCONNECTED,
+    QUOTA_EXCEEDED,
+};
+use lpc_base::{PortKind, Status};
+use lpc_handles::Row;
+use lpc_message::ClientId;
+use lpc_model::{CallName, ObjectKind};
+use lpc_ports::Port;
+use lpc_procs::{Number, ThreadRow};
+use lpc_slots::Key;
+use lpc_waits::{Wait, WaitKind};
+
+impl World {
+    // Threads and processes.
+
+    /// Whether a thread can make a call: no live thread has the number, it can, or it waits.
+    pub fn condition(&self, tid: u32) -> Condition
+        ensures { result ≡ condition_of self.now.rows tid }
+    {
+        match self.live_thread(tid) {
+            Some(_) => {
+                if self.is_waiting(tid) {
+                    Condition::Waits
+                } else {
+                    Condition::Ready
+                }
+            }
+            None => Condition::Absent,
+        }
+    }
+
+    fn live_thread(&self, tid: u32) -> Option<ThreadRow>
+        ensures { option_map shown_thread result ≡ found.live_thread self.now.rows tid }
+    {
+        self.procs.live_row(tid)
+    }
+
+    /// The row of a thread that can make a call.
+    pub fn caller(&self, tid: u32) -> ThreadRow
+        requires { is_ready self.now.rows tid ≡ true }
+        ensures row { shown_thread result ≡ caller self.now.rows tid }
+        ensures number { result.number ≡ tid }
+        ensures found { first (is_thread result.number) self.now.rows.threads ≡ Some (shown_thread result) }
+        ensures stands { has (is_thread tid) self.now.rows.threads ≡ true }
+        ensures ready { has (waits_as tid) self.now.rows.waits ≡ false }
+        ensures table { has (is_table result.process) self.now.rows.handles ≡ true }
+        ensures alive { 1 ≤ count is_alive self.now.rows.threads }
+    {
+        match self.procs.live_row(tid) {
+            Some(row) => row,
+            None => unreachable!(),
+        }
+    }
+
+    /// The number was ever used for a process.
+    pub fn was_process(&self, pid: u32) -> bool
+        ensures { result ≡ was_process self.now.rows pid }
+    {
+        self.procs.was_used(Number::Process(pid))
+    }
+
+    /// The number was ever used for a thread.
+    pub fn was_thread(&self, tid: u32) -> bool
+        ensures { result ≡ was_thread self.now.rows tid }
+    {
+        self.procs.was_used(Number::Thread(tid))
+    }
+
+    /// The process has a live thread.
+    pub fn is_live(&self, pid: u32) -> bool
+        ensures live { result ≡ found.is_live self.now.rows pid }
+        ensures process { result ≡ true → has (is_process pid) self.now.rows.processes ≡ true }
+        ensures table { result ≡ true → has (is_table pid) self.now.rows.handles ≡ true }
+    {
+        self.procs.is_live(pid)
+    }
+
+    /// How many live threads a process has.
+    pub fn live_count(&self, pid: u32) -> usize
+        ensures { result ≡ live_count self.now.rows pid }
+    {
+        self.procs.live_count(pid)
+    }
+
+    /// How many objects there are: processes, threads and ports.
+    pub fn objects(&self) -> usize
+        ensures { result ≡ objects self.now.rows }
+    {
+        self.procs.processes() + self.procs.threads() + self.ports.count()
+    }
+
+    /// How many entries one step makes at most: three for each live thread, and one.
+    pub fn room_needed(&self) -> usize
+        ensures { result ≡ room_needed self.now.rows }
+    {
+        3 * self.procs.alive() + 1
+    }
+
+    /// A live thread has the client's process and thread.
+    pub fn client_test(&self, client: ClientId) -> Result<(), Status>
+        ensures { result ≡ tests.client_test self.now.rows client }
+    {
+        match self.live_thread(client.thread) {
+            Some(row) => {
+                if row.process == client.process {
+                    Ok(())
+                } else {
+                    Err(INVALID_CID)
+                }
+            }
+            None => Err(INVALID_CID),
+        }
+    }
+
+    // Handles.
+
+    /// The object that a handle of the thread's process names: INVALID_HANDLE where no handle has the value,
+    /// OBJECT_TYPE_MISMATCH where its object is of another kind, ACCESS_DENIED where the handle lacks a right.
+    pub fn object_at(
+        &self,
+        tid: u32,
+        handle: u32,
+        kind: ObjectKind,
+        right: u32,
+    ) -> Result<Object, Status>
+        requires { is_ready self.now.rows tid ≡ true }
+        ensures object { MatchResult result (λ o. tests.object_test self.now.rows (caller self.now.rows tid) kind right handle ≡ Ok (birth_of self.now.names o)) (λ s. tests.object_test self.now.rows (caller self.now.rows tid) kind right handle ≡ Err s) }
+        ensures stands { IfOk result (λ o. object_stands self.now.names o ≡ true) }
+        ensures kind { IfOk result (λ o. found.same_kind (kind_of o) kind ≡ true) }
+        ensures row { IfOk result (λ o. HasRow self.now o) }
+    {
+        let by = self.caller(tid);
+        let Some(row) = self.handle(by.process, handle) else {
+            return Err(INVALID_HANDLE);
+        };
+        if !is_of_kind(row.object, kind) {
+            return Err(OBJECT_TYPE_MISMATCH);
+        }
+        if row.access & right != right {
+            return Err(ACCESS_DENIED);
+        }
+        Ok(row.object)
+    }
+
+    fn handle(&self, pid: u32, value: u32) -> Option<Row<Object>>
+        requires { has (is_table pid) self.now.rows.handles ≡ true }
+        ensures row { MatchOption result (handle_at self.now.rows pid value ≡ None) (λ row. handle_at self.now.rows pid value ≡ Some (tests.handle_row value (name_by (birth_of self.now.names) row.object) row.access)) }
+        ensures stands { IfSome result (λ row. object_stands self.now.names row.object ≡ true) }
+        ensures object { IfSome result (λ row. HasRow self.now row.object) }
+    {
+        parts::handles_of(&self.parts, pid).get(value)
+    }
+
+    fn handle_count(&self, pid: u32) -> usize
+        requires { has (is_table pid) self.now.rows.handles ≡ true }
+        ensures { result ≡ length (handles_of self.now.rows pid) }
+    {
+        parts::handles_of(&self.parts, pid).count()
+    }
+
+    /// The port that a handle of the thread's process names, with the right to use it.
+    pub fn port_at(&self, tid: u32, handle: u32) -> Result<Key, Status>
+        requires { is_ready self.now.rows tid ≡ true }
+        ensures port { MatchResult result (λ key. tests.port_test self.now.rows (caller self.now.rows tid) handle ≡ Ok (port_of self.now.rows (name_of self.now.names.ports key))) (λ s. tests.port_test self.now.rows (caller self.now.rows tid) handle ≡ Err s) }
+        ensures stands { IfOk result (λ key. stands self.now.names.ports key ≡ true) }
+        ensures name { IfOk result (λ key. let port = port_of self.now.rows (name_of self.now.names.ports key) in port.birth ≡ name_of self.now.names.ports key) }
+    {
+        let object = self.object_at(tid, handle, ObjectKind::Port, 1)?;
+        Ok(port_key(object))
+    }
+
+    /// The process may have one more handle.
+    pub fn handles_test(&self, pid: u32) -> Result<(), Status>
+        requires { has (is_table pid) self.now.rows.handles ≡ true }
+        ensures full { result ≡ tests.handles_test self.now.rows pid 1 }
+        ensures few { OnOk result (length (handles_of self.now.rows pid) < 256) }
+    {
+        if self.handle_count(pid) >= HANDLE_LIMIT {
+            return Err(QUOTA_EXCEEDED);
+        }
+        Ok(())
+    }
+
+    /// A handle names the port.
+    fn is_open(&self, port: Key) -> bool
+        requires { stands self.now.names.ports port ≡ true }
+        ensures { result ≡ found.is_open self.now.rows (name_of self.now.names.ports port) }
+    {
+        parts::names_port(&self.parts, port)
+    }
+
+    // Ports and queues.
+
+    fn port(&self, port: Key) -> Port
+        requires { stands self.now.names.ports port ≡ true }
+        ensures found { port_row self.now.rows (name_of self.now.names.ports port) ≡ Some (port_of self.now.rows (name_of self.now.names.ports port)) }
+        ensures birth { let p = port_of self.now.rows (name_of self.now.names.ports port) in p.birth ≡ name_of self.now.names.ports port }
+        ensures kind { let p = port_of self.now.rows (name_of self.now.names.ports port) in p.kind ≡ result.kind }
+        ensures pair { let p = port_of self.now.rows (name_of self.now.names.ports port) in p.pair ≡ option_map (name_of self.now.names.ports) result.pair }
+        ensures connection { let p = port_of self.now.rows (name_of self.now.names.ports port) in p.connection ≡ option_map (name_of self.now.names.ports) result.connection }
+        ensures context { let p = port_of self.now.rows (name_of self.now.names.ports port) in p.context ≡ result.context }
+        ensures apart { are_apart self.now.names.ports ≡ true }
+        ensures pair_stands { some_stands self.now.names.ports result.pair ≡ true }
+        ensures connection_stands { some_stands self.now.names.ports result.connection ≡ true }
+    {
+        match self.ports.get(port) {
+            Some(row) => *row,
+            None => unreachable!(),
+        }
+    }
+
+    /// No message stands in the queue.
+    fn is_empty(&self, queue: Key) -> bool
+        requires { stands self.now.names.ports queue ≡ true }
+        ensures { result ≡ is_none (first (is_queued (name_of self.now.names.ports queue)) self.now.rows.messages) }
+    {
+        match self.ports.first(queue, false) {
+            Some(_) => false,
+            None => true,
+        }
+    }
+
+    fn datagrams(&self, port: Key) -> usize
+        requires { stands self.now.names.ports port ≡ true }
+        ensures { let p = port_of self.now.rows (name_of self.now.names.ports port) in result ≡ found.datagrams self.now.rows p.birth }
+    {
+        self.ports.sent_datagrams(port)
+    }
+
+    fn if_open(&self, port: Option<Key>) -> Option<Key>
+        requires { some_stands self.now.names.ports port ≡ true }
+        ensures name { option_map (name_of self.now.names.ports) result ≡ found.if_open self.now.rows (option_map (name_of self.now.names.ports) port) }
+        ensures stands { some_stands self.now.names.ports result ≡ true }
+    {
+        match port {
+            Some(key) => { if self.is_open(key) { Some(key) } else { None } }
+            None => None,
+        }
+    }
+
+    /// The queue that a message sent on a port enters: none where the port isn't open, or has no way.
+    pub fn route(&self, port: Key) -> Option<Key>
+        requires { stands self.now.names.ports port ≡ true }
+        ensures queue { option_map (name_of self.now.names.ports) result ≡ found.route self.now.rows (port_of self.now.rows (name_of self.now.names.ports port)) }
+        ensures stands { some_stands self.now.names.ports result ≡ true }
+    {
+        let row = self.port(port);
+        if !self.is_open(port) {
+            return None;
+        }
+        match row.kind {
+            PortKind::Unnamed => Some(port),
+            PortKind::Connection => Some(port),
+            PortKind::Client => match row.pair {
+                Some(_) => self.if_open(row.connection),
+                None => None,
+            },
+            PortKind::Server => self.if_open(row.pair),
+        }
+    }
+
+    fn queue_of(&self, port: Key) -> Option<Key>
+        requires { stands self.now.names.ports port ≡ true }
+        ensures queue { option_map (name_of self.now.names.ports) result ≡ found.queue_of self.now.rows (port_of self.now.rows (name_of self.now.names.ports port)) }
+        ensures stands { some_stands self.now.names.ports result ≡ true }
+    {
+        let row = self.port(port);
+        match row.kind {
+            PortKind::Server => self.if_open(row.connection),
+            _ => self.if_open(Some(port)),
+        }
+    }
+
+    fn is_spent(&self, port: Key, queue: Key) -> bool
+        requires port { stands self.now.names.ports port ≡ true }
+        requires queue { stands self.now.names.ports queue ≡ true }
+        ensures { result ≡ request.is_spent self.now.rows (port_of self.now.rows (name_of self.now.names.ports port)) (name_of self.now.names.ports queue) }
+    {
+        let row = self.port(port);
+        match row.kind {
+            PortKind::Client => match row.pair {
+                Some(_) => false,
+                None => self.is_empty(queue),
+            },
+            _ => false,
+        }
+    }
+
+    /// The queue on which a receive on a port is made: PORT_DISCONNECTED where it isn't open, or where nothing will ever
+    /// come.
+    pub fn receive_test(&self, port: Key) -> Result<Key, Status>
+        requires { stands self.now.names.ports port ≡ true }
+        ensures queue { MatchResult result (λ q. request.receive_test self.now.rows (port_of self.now.rows (name_of self.now.names.ports port)) ≡ Ok (name_of self.now.names.ports q)) (λ s. request.receive_test self.now.rows (port_of self.now.rows (name_of self.now.names.ports port)) ≡ Err s) }
+        ensures stands { IfOk result (λ q. stands self.now.names.ports q ≡ true) }
+    {
+        let Some(queue) = self.queue_of(port) else {
+            return Err(PORT_DISCONNECTED);
+        };
+        if self.is_spent(port, queue) {
+            return Err(PORT_DISCONNECTED);
+        }
+        Ok(queue)
+    }
+
+    /// The context that a message sent on a port keeps: that of the pair for a client port, else 0.
+    pub fn context(&self, port: Key) -> u32
+        requires { stands self.now.names.ports port ≡ true }
+        ensures { result ≡ found.context_of (port_of self.now.rows (name_of self.now.names.ports port)) }
+    {
+        let row = self.port(port);
+        match row.kind {
+            PortKind::Client => match row.pair {
+                Some(_) => row.context,
+                None => 0,
+            },
+            _ => 0,
+        }
+    }
+
+    /// Fewer than 32 datagrams of the port stand in queues.
+    pub fn datagram_test(&self, port: Key) -> Result<(), Status>
+        requires { stands self.now.names.ports port ≡ true }
+        ensures { result ≡ request.datagram_test self.now.rows (port_of self.now.rows (name_of self.now.names.ports port)) }
+    {
+        if self.datagrams(port) >= DATAGRAM_LIMIT {
+            return Err(QUOTA_EXCEEDED);
+        }
+        Ok(())
+    }
+
+    // Waits.
+
+    /// The thread whose wait a message fits through a port, by the client and the identifier that it names: None exactly
+    /// where it fits none.
+    pub fn fitted(&self, port: Key, client: ClientId, identifier: u32) -> Option<u32>
+        requires { stands self.now.names.ports port ≡ true }
+        ensures found { MatchOption result (first (fits_as self.now.rows (name_of self.now.names.ports port) client identifier) self.now.rows.waits ≡ None) (λ tid. first (fits_as self.now.rows (name_of self.now.names.ports port) client identifier) self.now.rows.waits ≡ Some (waiter self.now.rows tid)) }
+        ensures waits { IfSome result (λ tid. has (waits_as tid) self.now.rows.waits ≡ true) }
+        ensures thread { IfSome result (λ tid. let x = waiter self.now.rows tid in x.thread ≡ tid) }
+        ensures idle { IfSome result (λ tid. is_pending_in self.now.rows tid ≡ false) }
+    {
+        if !self.is_waiting(client.thread) {
+            return None;
+        }
+        if self.fits(port, client, identifier) {
+            Some(client.thread)
+        } else {
+            None
+        }
+    }
+
+    fn is_waiting(&self, tid: u32) -> bool
+        ensures waits { result ≡ has (waits_as tid) self.now.rows.waits }
+        ensures single { are_single self.now.rows.waits ≡ true }
+    {
+        match self.waits.of(tid) {
+            Some(_) => true,
+            None => false,
+        }
+    }
+
+    /// The wait of a thread that waits.
+    fn wait(&self, tid: u32) -> Wait
+        requires { has (waits_as tid) self.now.rows.waits ≡ true }
+        ensures wait { IsWait self.now tid result }
+        ensures apart { are_apart self.now.names.ports ≡ true }
+    {
+        match self.waits.of(tid) {
+            Some(wait) => *wait,
+            None => unreachable!(),
+        }
+    }
+
+    /// The client and the identifier fit the wait of the client's thread through the port.
+    fn fits(&self, port: Key, client: ClientId, identifier: u32) -> bool
+        requires port { stands self.now.names.ports port ≡ true }
+        requires waits { has (waits_as client.thread) self.now.rows.waits ≡ true }
+        ensures { result ≡ fits_as self.now.rows (name_of self.now.names.ports port) client identifier (waiter self.now.rows client.thread) }
+    {
+        let wait = self.wait(client.thread);
+        if wait.process != client.process || wait.identifier != identifier {
+            return false;
+        }
+        is_answerable(wait) && (self.is_same(wait.queue, port) || self.is_pair(wait.port, port))
+    }
+
+    /// The two ports are one.
+    fn is_same(&self, one: Key, other: Key) -> bool
+        requires apart { are_apart self.now.names.ports ≡ true }
+        requires one { stands self.now.names.ports one ≡ true }
+        requires other { stands self.now.names.ports other ≡ true }
+        ensures { result ≡ same_birth (name_of self.now.names.ports one) (name_of self.now.names.ports other) }
+    {
+        one == other
+    }
+
+    /// The other port is the pair of the first.
+    fn is_pair(&self, port: Key, other: Key) -> bool
+        requires port { stands self.now.names.ports port ≡ true }
+        requires other { stands self.now.names.ports other ≡ true }
+        ensures { result ≡ is_the (name_of self.now.names.ports other) (pair_of self.now.rows (name_of self.now.names.ports port)) }
+    {
+        match self.port(port).pair {
+            Some(pair) => self.is_same(other, pair),
+            None => false,
+        }
+    }
+
+    /// The thread whose receive has waited longest on a queue: None exactly where none waits there.
+    pub fn receiver(&self, queue: Key) -> Option<u32>
+        requires { stands self.now.names.ports queue ≡ true }
+        ensures found { MatchOption result (first (receives_on (name_of self.now.names.ports queue)) self.now.rows.waits ≡ None) (λ tid. first (receives_on (name_of self.now.names.ports queue)) self.now.rows.waits ≡ Some (waiter self.now.rows tid)) }
+        ensures waits { IfSome result (λ tid. has (waits_as tid) self.now.rows.waits ≡ true) }
+        ensures thread { IfSome result (λ tid. let x = waiter self.now.rows tid in x.thread ≡ tid) }
+        ensures idle { IfSome result (λ tid. is_pending_in self.now.rows tid ≡ false) }
+        ensures empty { OnSome result (has (is_queued (name_of self.now.names.ports queue)) self.now.rows.messages ≡ false) }
+    {
+        self.waits.first_on(queue, false)
+    }
+
+    /// The call that a waiting thread made.
+    pub fn waiting_call(&self, tid: u32) -> CallName
+        requires { has (waits_as tid) self.now.rows.waits ≡ true }
+        ensures call { let x = waiter self.now.rows tid in result ≡ x.call }
+        ensures thread { let x = waiter self.now.rows tid in x.thread ≡ tid }
+    {
+        call_of(self.wait(tid).kind)
+    }
+}
+
+/// The key of the port that the object is.
+fn port_key(object: Object) -> Key
+    ensures { object ≡ Object.Port result }
+{
+    match object {
+        Object::Port(key) => key,
+    }
+}
+
+/// The object is of the kind.
+fn is_of_kind(object: Object, kind: ObjectKind) -> bool
+    ensures { result ≡ found.same_kind (kind_of object) kind }
+{
+    match object {
+        Object::Port(_) => matches!(kind, ObjectKind::Port),
+    }
+}
+
+/// The call that a wait of a kind is made by.
+fn call_of(kind: WaitKind) -> CallName
+    ensures { result ≡ shown.call_of kind }
+{
+    match kind {
+        WaitKind::Request => CallName::NtRequestWaitReplyPort,
+        WaitKind::Receive => CallName::NtReplyWaitReceivePort,
+    }
+}
+
+/// The wait is for the reply to a request that was received.
+fn is_answerable(wait: Wait) -> bool
+    ensures { result ≡ (not (is_receive wait.kind) && wait.received) }
+{
+    match wait.kind {
+        WaitKind::Request => wait.received,
+        WaitKind::Receive => false,
+    }
+}

@@ -1,0 +1,203 @@
+// The steps that several services share: a message is read, a wait begins and ends, a message enters its queue.
+ghost use Rattle.std.specs.Prelude.{◌≡◌, ◌≤◌, ◌<◌, ◌+◌, ◌*◌, [], ◌∷◌, ◌++◌, Ok, Err, None, Some, true, false, MatchResult, IfOk, is_some, length};
+ghost use Rattle.lpc_base.specs.Rows.{first, has};
+ghost use Rattle.lpc_base.specs.declared.status.TheConstants.{SUCCESS};
+ghost use Rattle.lpc_model.specs.Basics.{basic, told, world_after, AddsHandle, Awaits, Enters, Wakes};
+ghost use Rattle.lpc_model.specs.Entering.{enter, take_steps, woken};
+ghost use Rattle.lpc_model.specs.Found.{free_handle, handles_of, is_queued, is_table, is_thread, receives_on, waits_as};
+ghost use Rattle.lpc_world.specs.Does.{has_no_read};
+ghost use Rattle.lpc_model.specs.Message.{asks, message_of, message_test};
+ghost use Rattle.lpc_model.specs.Tests.{handle_row};
+ghost use Rattle.lpc_world.specs.Does.{Takes};
+ghost use Rattle.lpc_world.specs.Kept.{IsIdleAfter, Roomy, StaysReady, handle_room, is_pending, is_pending_in};
+ghost use Rattle.lpc_world.specs.Lawful.{is_quiet};
+ghost use Rattle.lpc_world.specs.Names.{name_of, stands};
+ghost use Rattle.lpc_world.specs.Ready.{waiter};
+ghost use Rattle.lpc_world.specs.Shown.{birth_of, name_by, object_stands, row_with, waiting_row, with_message};
+
+use crate::Object;
+use crate::fields::receipt;
+use crate::world::World;
+use lpc_base::Status;
+use lpc_base::limits::MESSAGE_LIMIT;
+use lpc_base::status::{INVALID_PARAMETER, PORT_MESSAGE_TOO_LONG, SUCCESS};
+use lpc_message::{MessageRef, kind};
+use lpc_model::{CallName, Entries, Entry, Fields, Message};
+use lpc_slots::Key;
+use lpc_waits::Wait;
+
+impl World {
+    /// The message that a call is given, where it lies: INVALID_PARAMETER where its shape isn't lawful,
+    /// PORT_MESSAGE_TOO_LONG where its MessageSize is above 256.
+    #[tactic(auto, unfolding(lpc_model::specs::Message::message_test))]
+    pub fn read_message<'a>(&self, bytes: &'a [u8]) -> Result<MessageRef<'a>, Status>
+        ensures message { MatchResult result (λ m. message_test bytes.now ≡ Ok (message_of m.now)) (λ s. message_test bytes.now ≡ Err s) }
+        ensures bound { IfOk result (λ m. length m.now ≤ 256) }
+    {
+        let message = match MessageRef::read(bytes) {
+            Ok(message) => message,
+            Err(_) => return Err(INVALID_PARAMETER),
+        };
+        if usize::from(message.header().message_size) > MESSAGE_LIMIT {
+            return Err(PORT_MESSAGE_TOO_LONG);
+        }
+        Ok(message)
+    }
+
+    /// Gives a process the least free handle, and answers its value. The process has fewer than 256 handles.
+    pub fn give_handle(&mut self, pid: u32, object: Object, access: u32) -> u32
+        requires table { has (is_table pid) self.old.rows.handles ≡ true }
+        requires room { 0 < handle_room self.old.room pid }
+        requires few { length (handles_of self.old.rows pid) < 256 }
+        requires object { object_stands self.old.names object ≡ true }
+        ensures value { result ≡ free_handle self.old.rows pid }
+        ensures rows { self.new.rows ≡ basic self.old.rows (AddsHandle pid (handle_row result (name_by (birth_of self.old.names) object) access)) }
+        ensures names { self.new.names ≡ self.old.names }
+        ensures calls { self.new.calls ≡ self.old.calls }
+        ensures made { self.new.made ≡ self.old.made }
+    {
+        match self.handles_add(pid, object, access) {
+            Ok(value) => value,
+            Err(_) => unreachable!(),
+        }
+    }
+
+    /// A thread that doesn't wait begins to wait with a message, which its wait keeps.
+    pub fn wait_with(&mut self, tid: u32, wait: Wait, message: &Message)
+        requires thread { has (is_thread tid) self.old.rows.threads ≡ true }
+        requires ready { has (waits_as tid) self.old.rows.waits ≡ false }
+        requires budget { self.old.made < 16 * self.old.calls }
+        requires port { stands self.old.names.ports wait.port ≡ true }
+        requires queue { stands self.old.names.ports wait.queue ≡ true }
+        requires quiet { is_quiet self.old.rows.messages (waiting_row self.old.names tid wait []) ≡ true }
+        ensures rows { self.new.rows ≡ basic self.old.rows (Awaits (with_message message.now (waiting_row self.old.names tid wait []))) }
+        ensures names { self.new.names ≡ self.old.names }
+        ensures calls { self.new.calls ≡ self.old.calls }
+        ensures made { self.new.made ≡ self.old.made + 1 }
+        ensures room { Roomy self.old.room self.new.room }
+        ensures owed { is_pending (waiting_row self.old.names tid wait []) ≡ true → 0 < self.new.room.requests }
+    {
+        self.waits_add(tid, wait);
+        self.waits_set_message(tid, message.bytes().as_slice());
+    }
+
+    /// A thread's wait ends, and it is told so. The wait isn't for the reply to a request that isn't received.
+    pub fn wake(&mut self, tid: u32, status: Status, fields: Fields, out: &mut Entries)
+        requires spare { 1 ≤ out.old.spare }
+        requires waits { has (waits_as tid) self.old.rows.waits ≡ true }
+        requires plain { has_no_read fields ≡ true }
+        requires idle { is_pending_in self.old.rows tid ≡ false }
+        ensures rows { self.new.rows ≡ basic self.old.rows (woken status fields (waiter self.old.rows tid)) }
+        ensures names { self.new.names ≡ self.old.names }
+        ensures calls { self.new.calls ≡ self.old.calls }
+        ensures made { self.new.made ≡ self.old.made }
+        ensures room { Roomy self.old.room self.new.room }
+        ensures list { out.new.list ≡ out.old.list ++ told (woken status fields (waiter self.old.rows tid)) }
+        ensures spare { out.new.spare + 1 ≡ out.old.spare }
+        ensures still { StaysReady self.old.rows self.new.rows }
+    {
+        let call = self.waiting_call(tid);
+        self.tell_wake(tid, call, status, fields, out);
+    }
+
+    /// A thread's wait ends, and it is told that the call with which it waits ended so.
+    fn tell_wake(
+        &mut self,
+        tid: u32,
+        call: CallName,
+        status: Status,
+        fields: Fields,
+        out: &mut Entries,
+    )
+        requires spare { 1 ≤ out.old.spare }
+        requires plain { has_no_read fields ≡ true }
+        requires idle { is_pending_in self.old.rows tid ≡ false }
+        ensures rows { self.new.rows ≡ basic self.old.rows (Wakes tid call status fields) }
+        ensures names { self.new.names ≡ self.old.names }
+        ensures calls { self.new.calls ≡ self.old.calls }
+        ensures made { self.new.made ≡ self.old.made }
+        ensures room { Roomy self.old.room self.new.room }
+        ensures list { out.new.list ≡ out.old.list ++ told (Wakes tid call status fields) }
+        ensures spare { out.new.spare + 1 ≡ out.old.spare }
+        ensures still { StaysReady self.old.rows self.new.rows }
+    {
+        self.waits_end(tid);
+        out.push(Entry::Wakes {
+            tid,
+            call,
+            status,
+            fields,
+        });
+    }
+
+    /// A message enters the queue of a port, and where a thread waits there to receive it, the one that has waited
+    /// longest takes it at once. A request has its place, every other message the room that was made for it.
+    pub fn deliver(
+        &mut self,
+        queue: Key,
+        sender: Key,
+        context: u32,
+        message: &Message,
+        out: &mut Entries,
+    )
+        requires spare { 1 ≤ out.old.spare }
+        requires queue { stands self.old.names.ports queue ≡ true }
+        requires sender { stands self.old.names.ports sender ≡ true }
+        requires budget { self.old.made < 16 * self.old.calls }
+        requires request { asks message.now ≡ true → 0 < self.old.room.requests }
+        requires other { asks message.now ≡ false → 0 < self.old.room.messages }
+        ensures takes { Takes (enter (row_with self.old.names queue sender context message.now) self.old.rows) self.old self.new out.old out.new }
+        ensures names { self.new.names ≡ self.old.names }
+        ensures calls { self.new.calls ≡ self.old.calls }
+    {
+        match self.receiver(queue) {
+            Some(tid) => {
+                let call = self.waiting_call(tid);
+                self.pass(queue, sender, context, message);
+                self.tell_wake(tid, call, SUCCESS, receipt(context, message), out);
+            }
+            None => self.enter(queue, sender, context, message),
+        }
+    }
+
+    /// A message enters its queue, on which no receive waits.
+    fn enter(&mut self, queue: Key, sender: Key, context: u32, message: &Message)
+        requires queue { stands self.old.names.ports queue ≡ true }
+        requires sender { stands self.old.names.ports sender ≡ true }
+        requires quiet { has (receives_on (name_of self.old.names.ports queue)) self.old.rows.waits ≡ false }
+        requires budget { self.old.made < 16 * self.old.calls }
+        requires request { asks message.now ≡ true → 0 < self.old.room.requests }
+        requires other { asks message.now ≡ false → 0 < self.old.room.messages }
+        ensures rows { self.new.rows ≡ basic self.old.rows (Enters (row_with self.old.names queue sender context message.now)) }
+        ensures names { self.new.names ≡ self.old.names }
+        ensures queued { is_some (first (is_queued (name_of self.old.names.ports queue)) self.new.rows.messages) ≡ true }
+        ensures calls { self.new.calls ≡ self.old.calls }
+        ensures made { self.new.made ≡ self.old.made + 1 }
+        ensures room { Roomy self.old.room (record self.new.room { messages = self.new.room.messages + 1; requests = self.new.room.requests + 1 }) }
+    {
+        self.ports_send(queue, sender, context, message.bytes().as_slice());
+    }
+
+    /// A message enters an empty queue, and is taken at once, so that it needs no place there. Where its sender waits for
+    /// an answer, it is received.
+    fn pass(&mut self, queue: Key, sender: Key, context: u32, message: &Message)
+        requires empty { has (is_queued (name_of self.old.names.ports queue)) self.old.rows.messages ≡ false }
+        requires request { asks message.now ≡ true → 0 < self.old.room.requests }
+        ensures rows { self.new.rows ≡ world_after self.old.rows (Enters (row_with self.old.names queue sender context message.now) ∷ take_steps (row_with self.old.names queue sender context message.now)) }
+        ensures names { self.new.names ≡ self.old.names }
+        ensures idle { IsIdleAfter self.old.rows self.new.rows }
+        ensures calls { self.new.calls ≡ self.old.calls }
+    {
+        let _ = (queue, sender, context);
+        if wants_answer(message) {
+            self.waits_receive(message.header.client.thread);
+        }
+    }
+}
+
+/// The sender of the message waits until it is answered.
+pub fn wants_answer(message: &Message) -> bool
+    ensures { result ≡ asks message.now }
+{
+    message.header.kind == kind::REQUEST
+}
