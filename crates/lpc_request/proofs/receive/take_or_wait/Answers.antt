@@ -1,0 +1,39 @@
+use Rattle.std.proofs.Common.{rules, ◌≡◌, true, false, refl, ap, sym, ◌∙◌}
+use Rattle.lpc_base.specs.declared.status.TheConstants.{SUCCESS}
+use Rattle.lpc_model.specs.declared.entry.CallName.TheVariants.{NtReplyWaitReceivePort}
+use Rattle.lpc_model.specs.declared.entry.Entry.{Entry}
+use Rattle.lpc_model.specs.declared.entry.Entry.TheVariants as entry
+use Rattle.lpc_model.specs.declared.message.Message.{Message}
+use Rattle.lpc_model.specs.World.{World, MessageRow}
+use Rattle.lpc_model.specs.Basics.{Receives, basic}
+use Rattle.lpc_model.specs.Fields.{receipt}
+use Rattle.lpc_model.specs.Message.{asks, message_of}
+use Rattle.lpc_world.specs.Shown.{pulled_row}
+use Rattle.lpc_request.proofs.Received.{taken}
+use Rattle.lpc_request.proofs.receive.take_or_wait.Goals as goal
+
+pub waits_add-requires-clause-ready : goal.waits_add-requires-clause-ready
+waits_add-requires-clause-ready c = c.make_reply-in-None.ensures.still.ready c.args.by.now.number (search rules)
+
+pub returns-then-wants_answer-clause-takes : goal.returns-then-wants_answer-clause-takes
+returns-then-wants_answer-clause-takes c =
+    let w : World = c.args.world.now.rows in
+    let m : MessageRow = pulled_row c.args.world.now.names c.args.queue c.in-Some.taken in
+    let kept : c.from_bytes-message.result ≡ m.message = c.from_bytes-message.ensures ∙ ap message_of c.as_slice.ensures.value in
+    let own : Entry = entry.Answer c.args.by.now.number NtReplyWaitReceivePort SUCCESS (receipt m) in
+    let made = rw (c.push.ensures.list, c.receipt.ensures, kept) at c.make_reply.ensures.takes in
+    rw (← c.in-Some.ensures.message)
+    (taken w c.args.out.now.list own c.args.replied.now m true c.ports_pull.new.self.rows c.make_reply.new.world.rows c.waits_receive.new.self.rows c.make_reply.new.out.list
+    (ap asks (sym kept) ∙ sym c.wants_answer.ensures ∙ c.if-wants_answer.true) c.in-Some.ensures.rows made
+    (c.waits_receive.ensures.rows ∙ ap (λ (x : Message). basic c.make_reply.new.world.rows (Receives x.header.client.thread)) kept))
+
+pub returns-else-wants_answer-clause-takes : goal.returns-else-wants_answer-clause-takes
+returns-else-wants_answer-clause-takes c =
+    let w : World = c.args.world.now.rows in
+    let m : MessageRow = pulled_row c.args.world.now.names c.args.queue c.in-Some.taken in
+    let kept : c.from_bytes-message.result ≡ m.message = c.from_bytes-message.ensures ∙ ap message_of c.as_slice.ensures.value in
+    let own : Entry = entry.Answer c.args.by.now.number NtReplyWaitReceivePort SUCCESS (receipt m) in
+    let made = rw (c.push.ensures.list, c.receipt.ensures, kept) at c.make_reply.ensures.takes in
+    rw (← c.in-Some.ensures.message)
+    (taken w c.args.out.now.list own c.args.replied.now m false c.ports_pull.new.self.rows c.make_reply.new.world.rows c.make_reply.new.world.rows c.make_reply.new.out.list
+    (ap asks (sym kept) ∙ sym c.wants_answer.ensures ∙ c.if-wants_answer.false) c.in-Some.ensures.rows made refl)

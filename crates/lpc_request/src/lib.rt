@@ -1,0 +1,13 @@
+//! The calls that send, receive and reply. Each is its definition's refusals in their order, and then its steps.
+#![tactic(auto)]
+
+mod receive;
+mod reply;
+mod send;
+
+pub use receive::nt_reply_wait_receive_port;
+pub use reply::nt_reply_port;
+pub use send::{nt_request_port, nt_request_wait_reply_port};
+
+#[cfg(test)]
+mod tests;

@@ -1,0 +1,183 @@
+// The receive, which may make a reply first.
+ghost use Rattle.std.specs.Prelude.{◌≡◌, ◌≤◌, ◌<◌, ◌+◌, ◌*◌, [], ◌∷◌, ◌++◌, Ok, Err, Some, None, true, false, IfOk, MatchResult, option_copied};
+ghost use Rattle.lpc_base.specs.Rows.{first, has};
+ghost use Rattle.lpc_model.specs.Basics.{outcome_of};
+ghost use Rattle.lpc_model.specs.declared.entry.CallName.TheVariants as name;
+ghost use Rattle.lpc_model.specs.Found.{is_queued, is_thread, waits_as};
+ghost use Rattle.lpc_model.specs.Machine.{settled};
+ghost use Rattle.lpc_model.specs.Request as request;
+ghost use Rattle.lpc_world.specs.Does.{Does, Takes};
+ghost use Rattle.lpc_world.specs.Kept.{Roomy, StaysReady};
+ghost use Rattle.lpc_world.specs.Names.{name_of, stands};
+ghost use Rattle.lpc_world.specs.Ready.{caller, is_ready, port_of};
+ghost use Rattle.lpc_world.specs.Shown.{shown_thread};
+ghost use Rattle.lpc_request.specs.Replied.{may_be_told, replied_steps};
+
+use crate::reply::{answered_test, as_reply};
+use lpc_base::Status;
+use lpc_base::status::SUCCESS;
+use lpc_model::{CallName, Entries, Entry, Fields, Message, Outcome};
+use lpc_procs::ThreadRow;
+use lpc_slots::Key;
+use lpc_waits::{Wait, WaitKind};
+use lpc_world::{World, kept, message_field, receipt, refuse, wants_answer};
+
+/// A reply that a receive makes first: the thread that asked, and the message.
+#[derive(Drop)]
+pub struct Replied {
+    pub thread: u32,
+    pub message: Message,
+}
+
+/// Makes the reply, where there is one.
+fn make_reply(world: &mut World, replied: &Option<Replied>, out: &mut Entries)
+    requires spare { 1 ≤ out.old.spare }
+    requires told { may_be_told world.old.rows replied.now }
+    ensures takes { Takes (replied_steps world.old.rows replied.now) world.old world.new out.old out.new }
+    ensures names { world.new.names ≡ world.old.names }
+    ensures calls { world.new.calls ≡ world.old.calls }
+    ensures made { world.new.made ≡ world.old.made }
+    ensures room { Roomy world.old.room world.new.room }
+    ensures still { StaysReady world.old.rows world.new.rows }
+    ensures threads { world.new.rows ≡ record world.old.rows { waits = world.new.rows.waits } }
+{
+    if let Some(reply) = replied {
+        world.wake(
+            reply.thread,
+            SUCCESS,
+            message_field(&as_reply(&reply.message)),
+            out,
+        );
+    }
+}
+
+/// The oldest message of the queue is taken, or the thread waits for one; a reply is made before.
+fn take_or_wait(
+    world: &mut World,
+    by: &ThreadRow,
+    port: Key,
+    queue: Key,
+    replied: &Option<Replied>,
+    out: &mut Entries,
+) -> Outcome
+    requires spare { 2 ≤ out.old.spare }
+    requires budget { world.old.made + 16 ≤ 16 * world.old.calls }
+    requires thread { has (is_thread by.now.number) world.old.rows.threads ≡ true }
+    requires ready { has (waits_as by.now.number) world.old.rows.waits ≡ false }
+    requires port { stands world.old.names.ports port ≡ true }
+    requires queue { stands world.old.names.ports queue ≡ true }
+    requires name { let row = port_of world.old.rows (name_of world.old.names.ports port) in row.birth ≡ name_of world.old.names.ports port }
+    requires told { may_be_told world.old.rows replied.now }
+    ensures takes { Takes (request.receive_steps (shown_thread by.now) (port_of world.old.rows (name_of world.old.names.ports port)) (name_of world.old.names.ports queue) (replied_steps world.old.rows replied.now) (first (is_queued (name_of world.old.names.ports queue)) world.old.rows.messages)) world.old world.new out.old out.new }
+    ensures outcome { result ≡ outcome_of (request.receive_steps (shown_thread by.now) (port_of world.old.rows (name_of world.old.names.ports port)) (name_of world.old.names.ports queue) (replied_steps world.old.rows replied.now) (first (is_queued (name_of world.old.names.ports queue)) world.old.rows.messages)) }
+    ensures calls { world.new.calls ≡ world.old.calls }
+{
+    match world.ports_pull(queue) {
+        Some(taken) => {
+            let message = Message::from_bytes(taken.bytes.as_slice());
+            out.push(Entry::Answer {
+                tid: by.number,
+                call: CallName::NtReplyWaitReceivePort,
+                status: SUCCESS,
+                fields: receipt(taken.context, &message),
+            });
+            make_reply(world, replied, out);
+            if wants_answer(&message) {
+                world.waits_receive(message.header.client.thread);
+            }
+            Outcome::Answered(SUCCESS)
+        }
+        None => {
+            out.push(Entry::Waits {
+                tid: by.number,
+                call: CallName::NtReplyWaitReceivePort,
+                fields: Fields::none(),
+            });
+            make_reply(world, replied, out);
+            world.waits_add(
+                by.number,
+                Wait {
+                    process: by.process,
+                    kind: WaitKind::Receive,
+                    port,
+                    queue,
+                    identifier: 0,
+                    received: false,
+                },
+            );
+            Outcome::Waits
+        }
+    }
+}
+
+/// A receive without a message.
+#[tactic(auto, unfolding(lpc_model::specs::Request::nt_reply_wait_receive_port))]
+fn receive(world: &mut World, tid: u32, handle: u32, out: &mut Entries) -> Result<Outcome, Status>
+    requires ready { is_ready world.old.rows tid ≡ true }
+    requires spare { 2 ≤ out.old.spare }
+    requires budget { world.old.made + 16 ≤ 16 * world.old.calls }
+    ensures does { Does result (request.nt_reply_wait_receive_port world.old.rows (caller world.old.rows tid) handle None) world.old world.new out.old out.new }
+    ensures calls { world.new.calls ≡ world.old.calls }
+{
+    let port = world.port_at(tid, handle)?;
+    let queue = world.receive_test(port)?;
+    let by = world.caller(tid);
+    Ok(take_or_wait(world, &by, port, queue, &None, out))
+}
+
+/// A receive with a message, with which it replies first.
+#[tactic(auto, unfolding(lpc_model::specs::Request::nt_reply_wait_receive_port))]
+fn reply_and_receive(
+    world: &mut World,
+    tid: u32,
+    handle: u32,
+    message: &[u8],
+    out: &mut Entries,
+) -> Result<Outcome, Status>
+    requires ready { is_ready world.old.rows tid ≡ true }
+    requires spare { 2 ≤ out.old.spare }
+    requires budget { world.old.made + 16 ≤ 16 * world.old.calls }
+    ensures does { Does result (request.nt_reply_wait_receive_port world.old.rows (caller world.old.rows tid) handle (Some message.now)) world.old world.new out.old out.new }
+    ensures calls { world.new.calls ≡ world.old.calls }
+{
+    let port = world.port_at(tid, handle)?;
+    let message = kept(&world.read_message(message)?);
+    let queue = world.receive_test(port)?;
+    let thread = answered_test(world, port, &message)?;
+    let by = world.caller(tid);
+    let replied = Some(Replied { thread, message });
+    Ok(take_or_wait(world, &by, port, queue, &replied, out))
+}
+
+/// `NtReplyWaitReceivePort`: replies, where it is given a message, and then takes the oldest message of the port's queue
+/// or waits for one.
+///
+/// Refusals in their order: no such handle, no port, no right; a message of wrong shape, one that is too long;
+/// PORT_DISCONNECTED where the queue isn't open, or where nothing will ever come; INVALID_CID where no live thread has the
+/// message's process and thread; REPLY_MESSAGE_MISMATCH where the message fits no wait through the port. The refusals of
+/// the message are those of a message that is given. It takes no memory.
+pub fn nt_reply_wait_receive_port(
+    world: &mut World,
+    by: u32,
+    handle: u32,
+    reply: Option<&[u8]>,
+    out: &mut Entries,
+) -> Outcome
+    requires ready { is_ready world.old.rows by ≡ true }
+    requires spare { 2 ≤ out.old.spare }
+    requires calls { world.old.calls < 1000000 }
+    ensures takes { Takes (settled (caller world.old.rows by) name.NtReplyWaitReceivePort (request.nt_reply_wait_receive_port world.old.rows (caller world.old.rows by) handle (option_copied reply.entry))) world.old world.new out.old out.new }
+    ensures outcome { result ≡ outcome_of (settled (caller world.old.rows by) name.NtReplyWaitReceivePort (request.nt_reply_wait_receive_port world.old.rows (caller world.old.rows by) handle (option_copied reply.entry))) }
+    ensures calls { world.new.calls ≡ world.old.calls + 1 }
+{
+    let caller = world.caller(by);
+    world.begin_call();
+    let ended = match reply {
+        Some(message) => reply_and_receive(world, by, handle, message, out),
+        None => receive(world, by, handle, out),
+    };
+    match ended {
+        Ok(outcome) => outcome,
+        Err(status) => refuse(caller.number, CallName::NtReplyWaitReceivePort, status, out),
+    }
+}

@@ -1,0 +1,113 @@
+// The reply to a request.
+ghost use Rattle.std.specs.Prelude.{◌≡◌, ◌≤◌, ◌<◌, ◌+◌, [], ◌∷◌, Ok, Err, true, false, IfOk, MatchResult};
+ghost use Rattle.lpc_base.specs.Rows.{has};
+ghost use Rattle.lpc_base.specs.declared.status.TheConstants.{SUCCESS as STATUS_SUCCESS};
+ghost use Rattle.lpc_model.specs.Basics.{outcome_of, Tells};
+ghost use Rattle.lpc_model.specs.declared.entry.CallName.TheVariants as name;
+ghost use Rattle.lpc_model.specs.declared.entry.Entry.TheVariants.{Answer};
+ghost use Rattle.lpc_model.specs.Found.{waits_as};
+ghost use Rattle.lpc_model.specs.Machine.{settled};
+ghost use Rattle.lpc_model.specs.Message as kept;
+ghost use Rattle.lpc_model.specs.Request as request;
+ghost use Rattle.lpc_world.specs.Does.{Does, Takes};
+ghost use Rattle.lpc_world.specs.Kept.{is_pending_in};
+ghost use Rattle.lpc_world.specs.Names.{name_of, stands};
+ghost use Rattle.lpc_world.specs.Ready.{caller, is_ready, port_of, waiter};
+
+use lpc_base::Status;
+use lpc_base::status::{REPLY_MESSAGE_MISMATCH, SUCCESS};
+use lpc_message::kind;
+use lpc_model::{CallName, Entries, Entry, Fields, Message, Outcome};
+use lpc_slots::Key;
+use lpc_world::{World, kept, message_field, refuse};
+
+/// A message as a reply returns it: type 2 and no section, all else as it is.
+pub fn as_reply(message: &Message) -> Message
+    ensures { result ≡ kept.as_reply message.now }
+{
+    let mut reply = message.copy();
+    reply.header.kind = kind::REPLY;
+    reply.header.section_size = 0;
+    reply
+}
+
+/// The thread whose wait a reply fits through a port: no such client, a message that fits no wait.
+pub fn answered_test(world: &World, port: Key, message: &Message) -> Result<u32, Status>
+    requires port { stands world.now.names.ports port ≡ true }
+    requires name { let row = port_of world.now.rows (name_of world.now.names.ports port) in row.birth ≡ name_of world.now.names.ports port }
+    ensures found { MatchResult result (λ tid. request.answered_test world.now.rows (port_of world.now.rows (name_of world.now.names.ports port)) message.now ≡ Ok (waiter world.now.rows tid)) (λ s. request.answered_test world.now.rows (port_of world.now.rows (name_of world.now.names.ports port)) message.now ≡ Err s) }
+    ensures waits { IfOk result (λ tid. has (waits_as tid) world.now.rows.waits ≡ true) }
+    ensures idle { IfOk result (λ tid. is_pending_in world.now.rows tid ≡ false) }
+{
+    world.client_test(message.header.client)?;
+    match world.fitted(port, message.header.client, message.header.message_id) {
+        Some(tid) => Ok(tid),
+        None => Err(REPLY_MESSAGE_MISMATCH),
+    }
+}
+
+#[tactic(auto, unfolding(lpc_model::specs::Request::nt_reply_port))]
+fn reply(
+    world: &mut World,
+    tid: u32,
+    handle: u32,
+    message: &[u8],
+    out: &mut Entries,
+) -> Result<Outcome, Status>
+    requires ready { is_ready world.old.rows tid ≡ true }
+    requires spare { 2 ≤ out.old.spare }
+    ensures does { Does result (request.nt_reply_port world.old.rows (caller world.old.rows tid) handle message.now) world.old world.new out.old out.new }
+    ensures calls { world.new.calls ≡ world.old.calls }
+{
+    let port = world.port_at(tid, handle)?;
+    let message = kept(&world.read_message(message)?);
+    let answered = answered_test(world, port, &message)?;
+    send_reply(world, tid, answered, &message, out);
+    Ok(Outcome::Answered(SUCCESS))
+}
+
+/// A reply is answered, and wakes the thread that asked.
+fn send_reply(world: &mut World, tid: u32, answered: u32, message: &Message, out: &mut Entries)
+    requires spare { 2 ≤ out.old.spare }
+    requires ready { is_ready world.old.rows tid ≡ true }
+    requires waits { has (waits_as answered) world.old.rows.waits ≡ true }
+    requires idle { is_pending_in world.old.rows answered ≡ false }
+    ensures takes { Takes (request.reply_steps (caller world.old.rows tid) (waiter world.old.rows answered) message.now) world.old world.new out.old out.new }
+    ensures calls { world.new.calls ≡ world.old.calls }
+{
+    let by = world.caller(tid);
+    out.push(Entry::Answer {
+        tid: by.number,
+        call: CallName::NtReplyPort,
+        status: SUCCESS,
+        fields: Fields::none(),
+    });
+    world.wake(answered, SUCCESS, message_field(&as_reply(message)), out);
+}
+
+/// `NtReplyPort`: replies to a request, and wakes the thread that asked.
+///
+/// Refusals in their order: no such handle, no port, no right; a message of wrong shape, one that is too long;
+/// INVALID_CID where no live thread has the message's process and thread; REPLY_MESSAGE_MISMATCH where the message fits
+/// no wait through the port. It takes no memory.
+pub fn nt_reply_port(
+    world: &mut World,
+    by: u32,
+    handle: u32,
+    message: &[u8],
+    out: &mut Entries,
+) -> Outcome
+    requires ready { is_ready world.old.rows by ≡ true }
+    requires spare { 2 ≤ out.old.spare }
+    requires calls { world.old.calls < 1000000 }
+    ensures takes { Takes (settled (caller world.old.rows by) name.NtReplyPort (request.nt_reply_port world.old.rows (caller world.old.rows by) handle message.now)) world.old world.new out.old out.new }
+    ensures outcome { result ≡ outcome_of (settled (caller world.old.rows by) name.NtReplyPort (request.nt_reply_port world.old.rows (caller world.old.rows by) handle message.now)) }
+    ensures calls { world.new.calls ≡ world.old.calls + 1 }
+{
+    let caller = world.caller(by);
+    world.begin_call();
+    match reply(world, by, handle, message, out) {
+        Ok(outcome) => outcome,
+        Err(status) => refuse(caller.number, CallName::NtReplyPort, status, out),
+    }
+}

@@ -1,0 +1,239 @@
+// The calls that send.
+ghost use Rattle.std.specs.Prelude.{◌≡◌, ◌≤◌, ◌<◌, ◌+◌, ◌*◌, Ok, Err, true, false, IfOk, OnOk, OnErr, MatchResult};
+ghost use Rattle.lpc_base.specs.Rows.{has};
+ghost use Rattle.lpc_message.specs.declared.kind.TheConstants.{DATAGRAM, REQUEST};
+ghost use Rattle.lpc_model.specs.Basics.{outcome_of};
+ghost use Rattle.lpc_model.specs.declared.entry.CallName.TheVariants as name;
+ghost use Rattle.lpc_model.specs.Found.{is_thread, waits_as};
+ghost use Rattle.lpc_model.specs.Machine.{settled};
+ghost use Rattle.lpc_model.specs.Request as request;
+ghost use Rattle.lpc_world.specs.Does.{Does, Takes};
+ghost use Rattle.lpc_world.specs.Kept.{Same};
+ghost use Rattle.lpc_world.specs.Names.{name_of, stands};
+ghost use Rattle.lpc_world.specs.Ready.{caller, is_ready, port_of};
+ghost use Rattle.lpc_world.specs.Shown.{shown_thread};
+
+use lpc_base::status::{PORT_DISCONNECTED, SUCCESS};
+use lpc_base::{OutOfMemory, Status};
+use lpc_message::{ClientId, kind};
+use lpc_model::{CallName, Entries, Entry, Message, Outcome};
+use lpc_procs::ThreadRow;
+use lpc_slots::Key;
+use lpc_waits::{Wait, WaitKind};
+use lpc_world::{World, identifier_field, kept, refuse};
+
+/// A message that may be sent on a port, and the queue that it will enter.
+#[derive(Drop)]
+pub struct Sendable {
+    pub port: Key,
+    pub queue: Key,
+    pub message: Message,
+}
+
+/// The tests of a message that is sent: the handle, the message, no route.
+fn send_test(world: &World, tid: u32, handle: u32, bytes: &[u8]) -> Result<Sendable, Status>
+    requires { is_ready world.now.rows tid ≡ true }
+    ensures found { MatchResult result (λ s. request.send_test world.now.rows (caller world.now.rows tid) handle bytes.now ≡ Ok (record { port = port_of world.now.rows (name_of world.now.names.ports s.port); message = s.message; queue = name_of world.now.names.ports s.queue })) (λ e. request.send_test world.now.rows (caller world.now.rows tid) handle bytes.now ≡ Err e) }
+    ensures port { IfOk result (λ s. stands world.now.names.ports s.port ≡ true) }
+    ensures queue { IfOk result (λ s. stands world.now.names.ports s.queue ≡ true) }
+    ensures name { IfOk result (λ s. let port = port_of world.now.rows (name_of world.now.names.ports s.port) in port.birth ≡ name_of world.now.names.ports s.port) }
+{
+    let port = world.port_at(tid, handle)?;
+    let message = kept(&world.read_message(bytes)?);
+    let Some(queue) = world.route(port) else {
+        return Err(PORT_DISCONNECTED);
+    };
+    Ok(Sendable {
+        port,
+        queue,
+        message,
+    })
+}
+
+/// The message as its sender's call sends it: its type, its sender, the identifier that the sender draws and no section
+/// are written over.
+fn sent_by(by: &ThreadRow, kind: u16, message: &Message) -> Message
+    ensures { result ≡ request.sent_by (shown_thread by.now) kind message.now }
+{
+    let mut sent = message.copy();
+    sent.header.kind = kind;
+    sent.header.client = ClientId {
+        process: by.process,
+        thread: by.number,
+    };
+    sent.header.message_id = by.next_identifier;
+    sent.header.section_size = 0;
+    sent
+}
+
+// NtRequestPort
+
+/// A datagram is sent: its sender draws the identifier, and the message enters the queue.
+fn send_datagram(
+    world: &mut World,
+    by: &ThreadRow,
+    port: Key,
+    queue: Key,
+    message: &Message,
+    out: &mut Entries,
+)
+    requires spare { 2 ≤ out.old.spare }
+    requires budget { world.old.made + 16 ≤ 16 * world.old.calls }
+    requires thread { has (is_thread by.now.number) world.old.rows.threads ≡ true }
+    requires port { stands world.old.names.ports port ≡ true }
+    requires queue { stands world.old.names.ports queue ≡ true }
+    requires name { let row = port_of world.old.rows (name_of world.old.names.ports port) in row.birth ≡ name_of world.old.names.ports port }
+    requires room { 0 < world.old.room.messages }
+    ensures takes { Takes (request.datagram_steps (shown_thread by.now) (port_of world.old.rows (name_of world.old.names.ports port)) (name_of world.old.names.ports queue) (request.sent_by (shown_thread by.now) DATAGRAM message.now) world.old.rows) world.old world.new out.old out.new }
+    ensures calls { world.new.calls ≡ world.old.calls }
+{
+    let context = world.context(port);
+    let sent = sent_by(by, kind::DATAGRAM, message);
+    out.push(Entry::Answer {
+        tid: by.number,
+        call: CallName::NtRequestPort,
+        status: SUCCESS,
+        fields: identifier_field(by.next_identifier),
+    });
+    world.procs_draw_identifier(by.number);
+    world.deliver(queue, port, context, &sent, out);
+}
+
+/// The tests of a datagram: those of a message that is sent, and 32 datagrams that aren't received.
+fn datagram_test(world: &World, tid: u32, handle: u32, bytes: &[u8]) -> Result<Sendable, Status>
+    requires { is_ready world.now.rows tid ≡ true }
+    ensures found { MatchResult result (λ s. request.datagram_send_test world.now.rows (caller world.now.rows tid) handle bytes.now ≡ Ok (record { port = port_of world.now.rows (name_of world.now.names.ports s.port); message = s.message; queue = name_of world.now.names.ports s.queue })) (λ e. request.datagram_send_test world.now.rows (caller world.now.rows tid) handle bytes.now ≡ Err e) }
+    ensures port { IfOk result (λ s. stands world.now.names.ports s.port ≡ true) }
+    ensures queue { IfOk result (λ s. stands world.now.names.ports s.queue ≡ true) }
+    ensures name { IfOk result (λ s. let port = port_of world.now.rows (name_of world.now.names.ports s.port) in port.birth ≡ name_of world.now.names.ports s.port) }
+{
+    let sent = send_test(world, tid, handle, bytes)?;
+    world.datagram_test(sent.port)?;
+    Ok(sent)
+}
+
+/// `NtRequestPort`: sends a datagram on the port of a handle, and goes on.
+///
+/// Refusals in their order: no such handle, no port, no right; a message of wrong shape, one that is too long;
+/// PORT_DISCONNECTED where the port has no route; QUOTA_EXCEEDED where 32 datagrams of it aren't received. After want of
+/// memory nothing has changed.
+#[tactic(auto, unfolding(lpc_model::specs::Request::nt_request_port))]
+pub fn nt_request_port(
+    world: &mut World,
+    by: u32,
+    handle: u32,
+    message: &[u8],
+    out: &mut Entries,
+) -> Result<Outcome, OutOfMemory>
+    requires ready { is_ready world.old.rows by ≡ true }
+    requires spare { 2 ≤ out.old.spare }
+    requires calls { world.old.calls < 1000000 }
+    ensures takes { OnOk result (Takes (settled (caller world.old.rows by) name.NtRequestPort (request.nt_request_port world.old.rows (caller world.old.rows by) handle message.now)) world.old world.new out.old out.new) }
+    ensures outcome { IfOk result (λ o. o ≡ outcome_of (settled (caller world.old.rows by) name.NtRequestPort (request.nt_request_port world.old.rows (caller world.old.rows by) handle message.now))) }
+    ensures calls { OnOk result (world.new.calls ≡ world.old.calls + 1) }
+    ensures memory { OnErr result (Same world.old world.new) }
+    ensures silent { OnErr result (out.new ≡ out.old) }
+{
+    let caller = world.caller(by);
+    let sent = match datagram_test(world, by, handle, message) {
+        Ok(sent) => sent,
+        Err(status) => {
+            world.begin_call();
+            return Ok(refuse(caller.number, CallName::NtRequestPort, status, out));
+        }
+    };
+    world.ports_reserve(0, 1)?;
+    world.begin_call();
+    send_datagram(world, &caller, sent.port, sent.queue, &sent.message, out);
+    Ok(Outcome::Answered(SUCCESS))
+}
+
+// NtRequestWaitReplyPort
+
+/// A request is sent: its sender draws the identifier and waits, and the message enters the queue.
+fn send_request(
+    world: &mut World,
+    by: &ThreadRow,
+    port: Key,
+    queue: Key,
+    message: &Message,
+    out: &mut Entries,
+)
+    requires spare { 2 ≤ out.old.spare }
+    requires budget { world.old.made + 16 ≤ 16 * world.old.calls }
+    requires thread { has (is_thread by.now.number) world.old.rows.threads ≡ true }
+    requires ready { has (waits_as by.now.number) world.old.rows.waits ≡ false }
+    requires port { stands world.old.names.ports port ≡ true }
+    requires queue { stands world.old.names.ports queue ≡ true }
+    requires name { let row = port_of world.old.rows (name_of world.old.names.ports port) in row.birth ≡ name_of world.old.names.ports port }
+    ensures takes { Takes (request.request_steps (shown_thread by.now) (port_of world.old.rows (name_of world.old.names.ports port)) (name_of world.old.names.ports queue) (request.sent_by (shown_thread by.now) REQUEST message.now) world.old.rows) world.old world.new out.old out.new }
+    ensures calls { world.new.calls ≡ world.old.calls }
+{
+    let context = world.context(port);
+    let sent = sent_by(by, kind::REQUEST, message);
+    out.push(Entry::Waits {
+        tid: by.number,
+        call: CallName::NtRequestWaitReplyPort,
+        fields: identifier_field(by.next_identifier),
+    });
+    world.wait_with(
+        by.number,
+        Wait {
+            process: by.process,
+            kind: WaitKind::Request,
+            port,
+            queue,
+            identifier: by.next_identifier,
+            received: false,
+        },
+        &sent,
+    );
+    world.procs_draw_identifier(by.number);
+    world.deliver(queue, port, context, &sent, out);
+}
+
+#[tactic(auto, unfolding(lpc_model::specs::Request::nt_request_wait_reply_port))]
+fn request(
+    world: &mut World,
+    tid: u32,
+    handle: u32,
+    message: &[u8],
+    out: &mut Entries,
+) -> Result<Outcome, Status>
+    requires ready { is_ready world.old.rows tid ≡ true }
+    requires spare { 2 ≤ out.old.spare }
+    requires budget { world.old.made + 16 ≤ 16 * world.old.calls }
+    ensures does { Does result (request.nt_request_wait_reply_port world.old.rows (caller world.old.rows tid) handle message.now) world.old world.new out.old out.new }
+    ensures calls { world.new.calls ≡ world.old.calls }
+{
+    let sent = send_test(world, tid, handle, message)?;
+    let by = world.caller(tid);
+    send_request(world, &by, sent.port, sent.queue, &sent.message, out);
+    Ok(Outcome::Waits)
+}
+
+/// `NtRequestWaitReplyPort`: sends a request on the port of a handle, and waits for the reply.
+///
+/// Refusals in their order: no such handle, no port, no right; a message of wrong shape, one that is too long;
+/// PORT_DISCONNECTED where the port has no route. It takes no memory.
+pub fn nt_request_wait_reply_port(
+    world: &mut World,
+    by: u32,
+    handle: u32,
+    message: &[u8],
+    out: &mut Entries,
+) -> Outcome
+    requires ready { is_ready world.old.rows by ≡ true }
+    requires spare { 2 ≤ out.old.spare }
+    requires calls { world.old.calls < 1000000 }
+    ensures takes { Takes (settled (caller world.old.rows by) name.NtRequestWaitReplyPort (request.nt_request_wait_reply_port world.old.rows (caller world.old.rows by) handle message.now)) world.old world.new out.old out.new }
+    ensures outcome { result ≡ outcome_of (settled (caller world.old.rows by) name.NtRequestWaitReplyPort (request.nt_request_wait_reply_port world.old.rows (caller world.old.rows by) handle message.now)) }
+    ensures calls { world.new.calls ≡ world.old.calls + 1 }
+{
+    let caller = world.caller(by);
+    world.begin_call();
+    match request(world, by, handle, message, out) {
+        Ok(outcome) => outcome,
+        Err(status) => refuse(caller.number, CallName::NtRequestWaitReplyPort, status, out),
+    }
+}
