@@ -1,4 +1,2 @@
-pub mod Rows
-pub mod Lawful
-pub mod Entered
-pub mod Least
+pub mod Called
+pub mod Sound

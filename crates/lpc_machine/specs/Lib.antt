@@ -1,4 +1,1 @@
-pub mod State
-pub mod Lawful
-pub mod Does
-pub mod FreeHandle
+pub mod Memory

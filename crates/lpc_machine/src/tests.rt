@@ -1,5 +1,7 @@
 // A request and its receipt, line by line. The entries are written out by hand.
-ghost use Rattle.std.specs.Prelude.{◌≡◌, ◌≤◌, ◌<◌, ◌+◌, ◌∷◌, []};
+ghost use Rattle.std.specs.Prelude.{◌≡◌, ◌≤◌, ◌<◌, ◌+◌, ◌∷◌, [], true};
+ghost use Rattle.lpc_model.specs.Grammar.{has_ids};
+ghost use Rattle.lpc_model.specs.Lines.{line_of};
 
 use crate::Machine;
 use arrayvec::ArrayVec;
@@ -16,7 +18,8 @@ fn makes(
     line: &Line<'_>,
     entry: Entry,
 ) -> Result<(), Fail>
-    requires { machine.old.calls < 1000000 }
+    requires few { machine.old.calls < 1000000 }
+    requires ids { has_ids (line_of line.now) ≡ true }
     ensures { machine.new.calls ≤ machine.old.calls + 1 }
 {
     out.clear();
@@ -114,7 +117,10 @@ fn a_request_is_received_by_another_thread(rt: HostRuntime) -> Result<(), Fail> 
         &mut out,
         &Line::Run {
             tid: 28,
-            call: Call::ReplyWaitReceivePort { handle: 4 },
+            call: Call::ReplyWaitReceivePort {
+                handle: 4,
+                reply: None,
+            },
         },
         Entry::Answer {
             tid: 28,
@@ -125,5 +131,6 @@ fn a_request_is_received_by_another_thread(rt: HostRuntime) -> Result<(), Fail> 
     )?;
     assert_eq!(rt; machine.room_needed(), 7);
     assert_eq!(rt; machine.objects(), 4);
+    assert_eq!(rt; machine.world().calls(), 5);
     Ok(())
 }

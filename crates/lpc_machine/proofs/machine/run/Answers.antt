@@ -1,0 +1,22 @@
+use Rattle.std.proofs.Common.{ap, sym, ◌∙◌, arith, List}
+use Rattle.lpc_model.specs.Basics.{Basic}
+use Rattle.lpc_model.specs.Lines.{ScriptCall, call_of}
+use Rattle.lpc_model.specs.World.{World}
+use Rattle.lpc_world.specs.Does.{left_by}
+use Rattle.lpc_machine.proofs.Called.{busy, called, has-room}
+use Rattle.lpc_machine.proofs.machine.run.Goals as goal
+
+pub serve-requires-clause-spare : goal.serve-requires-clause-spare
+serve-requires-clause-spare c = grind (arith, has-room c.args.world.now.rows c.args.tid (sym c.condition.ensures ∙ c.in-Ready.is), c.requires.spare)
+
+pub returns-in-Waits-clause-takes : goal.returns-in-Waits-clause-takes
+returns-in-Waits-clause-takes c =
+    let w : World = c.args.world.now.rows in
+    let call : ScriptCall = call_of c.args.call.now in
+    rw (c.push-in-Waits.ensures.list) (ap (λ (bs : List Basic). left_by w c.args.out.now.list bs) (sym (busy w c.args.tid call (sym c.condition.ensures ∙ c.in-Waits.is))))
+
+pub returns-in_ok-serve-in-Ready-clause-takes : goal.returns-in_ok-serve-in-Ready-clause-takes
+returns-in_ok-serve-in-Ready-clause-takes c =
+    let w : World = c.args.world.now.rows in
+    let call : ScriptCall = call_of c.args.call.now in
+    c.in_ok-serve-in-Ready.ensures.takes ∙ ap (λ (bs : List Basic). left_by w c.args.out.now.list bs) (sym (called w c.args.tid call (sym c.condition.ensures ∙ c.in-Ready.is)))

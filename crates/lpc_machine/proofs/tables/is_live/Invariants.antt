@@ -1,8 +1,0 @@
-use Rattle.std.proofs.Common.{◌≡◌, drop}
-use Rattle.std.specs.Prelude.{◌==◌}
-use Rattle.lpc_base.specs.Rows.{has}
-use Rattle.lpc_model.specs.Found.{lives_in}
-use Rattle.lpc_machine.proofs.tables.is_live.Given as goal
-
-abbrev pub invariant-loop-t : goal.invariant-loop-t
-invariant-loop-t l = has (lives_in l.pid) (drop l.t-index l.threads) ≡ has (lives_in l.pid) l.threads

@@ -1,7 +1,0 @@
-use Rattle.std.proofs.Common.{◌≡◌, drop}
-use Rattle.std.specs.Prelude.{◌==◌}
-use Rattle.lpc_base.specs.Rows.{has}
-use Rattle.lpc_machine.proofs.tables.is_used.Given as goal
-
-abbrev pub invariant-loop-n : goal.invariant-loop-n
-invariant-loop-n l = has (λ n. n == l.number) (drop l.n-index l.numbers) ≡ has (λ n. n == l.number) l.numbers

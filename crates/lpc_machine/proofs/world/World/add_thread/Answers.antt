@@ -1,9 +1,0 @@
-use Rattle.std.proofs.Common.{arith, sym, ap, ◌∙◌, refl, length}
-use Rattle.std.proofs.lemmas.Grind.{common_steps}
-use Rattle.lpc_machine.proofs.Lawful.{lawful-thread}
-use Rattle.lpc_machine.proofs.world.World.add_thread.Goals as goal
-
-pub invariant_of-self : goal.invariant_of-self
-invariant_of-self c =
-    let room = rw (← c.self.view_is) at c.requires.room in
-    rw c.push_reserved-2.ensures.items (lawful-thread _ _ _ _ _ c.args.row c.push_reserved.new.self.items c.self.invariant (rw (← c.self.view_is) at c.requires.budget) c.requires.new (grind (arith, room)) (grind (arith, room)))
