@@ -1,52 +1,7 @@
--- What holds of the steps of a call that isn't refused, and of lists.
+-- What holds of each row of a list, and of tests.
 use Rattle.std.proofs.Common.{◌≡◌, refl, subst, Bool, true, false, cond, List, [], ◌∷◌, ◌++◌}
-use Rattle.std.specs.Prelude.{Option, Some, None, Result, Ok, Err, find, filter, map, ◌&&◌, not}
+use Rattle.std.specs.Prelude.{Option, Some, find, filter, map, ◌&&◌, not}
 use Rattle.std.specs.List.{AllByRecursion}
-use Rattle.lpc_base.specs.declared.status.Status.{Status}
-use Rattle.lpc_model.specs.declared.entry.CallName.{CallName}
-use Rattle.lpc_model.specs.declared.entry.Entry.TheVariants.{Answer}
-use Rattle.lpc_model.specs.Refusal.{◌>>=◌, found_or, refuse_if}
-use Rattle.lpc_model.specs.declared.rows.ThreadRow.{ThreadRow}
-use Rattle.lpc_model.specs.Basics.{Basic, Tells}
-use Rattle.lpc_model.specs.Machine.{settled}
-
--- a property of what wasn't refused
-abbrev pub Holds : {A : Type 0} → (A → Type 0) → Result A Status → Type 0
-Holds P (Ok x) = P x
-Holds P (Err s) = Unit {0}
-
-pub bind_holds : {A B : Type 0} (r : Result A Status) (f : A → Result B Status) (P : B → Type 0) → ((x : A) → r ≡ Ok x → Holds P (f x)) → Holds P (r >>= f)
-bind_holds (Ok x) f P h = h x refl
-bind_holds (Err s) f P h = tt
-
-pub settled_holds : (P : List Basic → Type 0) (by : ThreadRow) (call : CallName) (r : Result (List Basic) Status) → Holds P r → ((s : Status) → P (Tells (Answer by.number call s []) ∷ [])) → P (settled by call r)
-settled_holds P by call (Ok bs) h k = h
-settled_holds P by call (Err s) h k = k s
-
-pub found_ok : {A : Type 0} (o : Option A) (s : Status) (x : A) → found_or o s ≡ Ok x → o ≡ Some x
-found_ok None s x h = cc
-found_ok (Some y) s x h = cc
-
-pub found_holds : {A : Type 0} (P : A → Type 0) (o : Option A) (s : Status) → ((x : A) → o ≡ Some x → P x) → Holds P (found_or o s)
-found_holds P None s h = tt
-found_holds P (Some x) s h = h x refl
-
-pub holds_ok : {A : Type 0} (P : A → Type 0) (r : Result A Status) (x : A) → Holds P r → r ≡ Ok x → P x
-holds_ok P (Ok y) x h is = let same : y ≡ x = cc in subst P same h
-holds_ok P (Err s) x h is = absurd (cc)
-
-pub not_refused : (b : Bool) (s : Status) (u : Unit {0}) → refuse_if b s ≡ Ok u → b ≡ false
-not_refused true s u h = cc
-not_refused false s u h = refl
-
--- what is found passes
-found_case : {A : Type 0} (p : A → Bool) (b : Bool) (x y : A) (o : Option A) → p x ≡ b → (o ≡ Some y → p y ≡ true) → cond b (Some x) o ≡ Some y → p y ≡ true
-found_case p true x y o e h is = let same : x ≡ y = cc in subst (λ z. p z ≡ true) same e
-found_case p false x y o e h is = h is
-
-pub find_passes : {A : Type 0} (p : A → Bool) (xs : List A) (y : A) → find p xs ≡ Some y → p y ≡ true
-find_passes p [] y h = cc
-find_passes p (x ∷ xs) y h = found_case p (p x) x y (find p xs) refl (find_passes p xs y) h
 
 -- what holds of each holds of what is found
 found_all : {A : Type 0} (P : A → Type 0) (b : Bool) (x y : A) (o : Option A) → P x → (o ≡ Some y → P y) → cond b (Some x) o ≡ Some y → P y
@@ -76,10 +31,6 @@ all_map P f (x ∷ xs) k h = (k x h.0, all_map P f xs k h.1)
 pub and_first : (a b : Bool) → (a && b) ≡ true → a ≡ true
 and_first true b h = refl
 and_first false b h = cc
-
-pub and_second : (a b : Bool) → (a && b) ≡ true → b ≡ true
-and_second true b h = h
-and_second false b h = absurd (cc)
 
 pub not_false : (b : Bool) → not b ≡ false → b ≡ true
 not_false true h = refl

@@ -2,32 +2,34 @@
 use Rattle.std.proofs.Common.{◌≡◌, ℕ, Bool, true, false, List, [], ◌∷◌, length, refl, ap, subst}
 use Rattle.std.specs.Prelude.{Option, Some, None, Result, Ok, Err, is_some, nat_lt, not, ◌==◌, ◌&&◌, option_and_then}
 use Rattle.std.proofs.lemmas.Bool.{eq-eqb}
+use Rattle.lpc_base.specs.Rows.{first}
 use Rattle.lpc_base.specs.declared.birth.Birth.{Birth}
 use Rattle.lpc_base.specs.declared.limits.TheConstants.{MESSAGE_LIMIT}
 use Rattle.lpc_base.specs.declared.status.Status.{Status}
-use Rattle.lpc_base.specs.declared.status.TheConstants.{ACCESS_DENIED, INVALID_HANDLE, INVALID_PARAMETER, OBJECT_TYPE_MISMATCH, PORT_MESSAGE_TOO_LONG, SUCCESS}
+use Rattle.lpc_base.specs.declared.status.TheConstants.{ACCESS_DENIED, INVALID_CID, INVALID_HANDLE, INVALID_PARAMETER, OBJECT_TYPE_MISMATCH, PORT_DISCONNECTED, PORT_MESSAGE_TOO_LONG, REPLY_MESSAGE_MISMATCH, SUCCESS}
+use Rattle.lpc_base.proofs.RowWords.{first-passes}
 use Rattle.lpc_message.specs.Layout.{fault_of, header_of}
-use Rattle.lpc_model.specs.declared.entry.CallName.TheVariants.{NtReplyPort}
+use Rattle.lpc_model.specs.declared.entry.CallName.{CallName}
+use Rattle.lpc_model.specs.declared.entry.CallName.TheVariants.{NtReplyPort, NtReplyWaitReceivePort}
 use Rattle.lpc_model.specs.declared.entry.Entry.{Entry}
-use Rattle.lpc_model.specs.declared.entry.Entry.TheVariants.{Answer, Busy, NoThread}
-use Rattle.lpc_model.specs.declared.message.Message.{Message}
-use Rattle.lpc_model.specs.declared.rows.PortRow.{PortRow}
-use Rattle.lpc_model.specs.declared.rows.ThreadRow.{ThreadRow}
-use Rattle.lpc_model.specs.declared.rows.WaitRow.{WaitRow}
-use Rattle.lpc_model.specs.Refusal.{◌>>=◌, found_or, refuse_if}
+use Rattle.lpc_model.specs.declared.entry.Entry.TheVariants.{Answer, Busy, NoThread, Waits}
 use Rattle.lpc_model.specs.declared.entry.ObjectKind.TheVariants as kind
-use Rattle.lpc_model.specs.World.{World}
-use Rattle.lpc_model.specs.Found.{fitted, handle_at, is_live_thread, live_thread, port_row, same_kind, wait_of}
+use Rattle.lpc_model.specs.declared.message.Message.{Message}
+use Rattle.lpc_model.specs.Refusal.{◌>>=◌, found_or, refuse_if}
+use Rattle.lpc_model.specs.World.{MessageRow, PortRow, ThreadRow, WaitRow, World}
+use Rattle.lpc_model.specs.Found.{fitted, handle_at, is_live_thread, is_queued, live_thread, port_row, queue_of, same_kind, wait_of}
 use Rattle.lpc_model.specs.Message.{message_test}
 use Rattle.lpc_model.specs.Basics.{Basic, Tells, entries_of, world_after}
-use Rattle.lpc_model.specs.Tests.{PORT_RIGHT, client_test, fit_test, includes, is_client, object_test, own_handle, port_test}
-use Rattle.lpc_model.specs.Request.{nt_reply_port, reply_steps}
-use Rattle.lpc_model.specs.Lines.{ScriptLine, boot, create_port, reply_port, reply_wait_receive_port, request_wait_reply_port, run, thread}
-use Rattle.lpc_model.specs.Machine.{ready_steps, settled, step, steps, thread_steps}
+use Rattle.lpc_model.specs.Fields.{receipt}
+use Rattle.lpc_model.specs.Tests.{PORT_RIGHT, client_test, includes, is_client, object_test, own_handle, port_test}
+use Rattle.lpc_model.specs.Request.{answered_test, given_reply, is_spent, nt_reply_port, nt_reply_wait_receive_port, optional_message, receive_steps, receive_test, reply_steps}
+use Rattle.lpc_model.specs.Lines.{ScriptCall, ScriptLine, boot, create_port, reply_port, reply_wait_receive_port, request_port, request_wait_reply_port, run, thread}
+use Rattle.lpc_model.specs.Machine.{name_of, ready_steps, service_of, settled, step, steps, thread_steps}
 use Rattle.lpc_model.specs.Run.{Along}
 use Rattle.lpc_model.specs.Replies.{ChangesNothing, IsRefused, MisfitsAreRefused, RefusedRepliesChangeNothing, Reply, fitted_wait, is_refusal, message_in, port_of, reply_of}
-use Rattle.lpc_replay.proofs.Holding.{Holds, and_first, bind_holds, find_passes, found_ok, holds_ok, settled_holds}
-use Rattle.lpc_replay.proofs.Returning.{message_holds, port_holds}
+use Rattle.lpc_model.proofs.Holding.{Holds, bind_holds, holds_ok, settled_holds}
+use Rattle.lpc_replay.proofs.Holding.{and_first}
+use Rattle.lpc_replay.proofs.Returning.{answered_holds, message_holds, optional_holds, port_holds}
 
 -- a property of what wasn't refused, and a refusal's status is no success
 abbrev pub Ends : {A : Type 0} → (A → Type 0) → Result A Status → Type 0
@@ -68,9 +70,27 @@ message_fails bytes =
     bind_ends (refuse_if (is_some (fault_of bytes)) INVALID_PARAMETER) _ P (refuse_fails _ INVALID_PARAMETER refl) (λ _ _.
     bind_ends (refuse_if (nat_lt MESSAGE_LIMIT (header_of bytes).message_size) PORT_MESSAGE_TOO_LONG) _ P (refuse_fails _ PORT_MESSAGE_TOO_LONG refl) (λ _ _. tt))
 
+optional_fails : (bytes : List ℕ) → Fails (optional_message (Some bytes))
+optional_fails bytes = bind_ends (message_test bytes) _ (λ (o : Option Message). Unit {0}) (message_fails bytes) (λ _ _. tt)
+
+answered_fails : (w : World) (port : PortRow) (m : Message) → Fails (answered_test w port m)
+answered_fails w port m =
+    bind_ends (client_test w m.header.client) _ (λ (x : WaitRow). Unit {0}) (refuse_fails (not (is_client w m.header.client)) INVALID_CID refl) (λ _ _.
+    found_fails (fitted w port.birth m) REPLY_MESSAGE_MISMATCH refl)
+
+receive_fails : (w : World) (port : PortRow) → Fails (receive_test w port)
+receive_fails w port =
+    let P : Birth → Type 0 = λ _. Unit {0} in
+    bind_ends (found_or (queue_of w port) PORT_DISCONNECTED) _ P (found_fails (queue_of w port) PORT_DISCONNECTED refl) (λ queue _.
+    bind_ends (refuse_if (is_spent w port queue) PORT_DISCONNECTED) _ P (refuse_fails (is_spent w port queue) PORT_DISCONNECTED refl) (λ _ _. tt))
+
+given_fails : (w : World) (port : PortRow) (o : Option Message) → Fails (given_reply w port o)
+given_fails w port None = tt
+given_fails w port (Some m) = bind_ends (answered_test w port m) _ (λ (bs : List Basic). Unit {0}) (answered_fails w port m) (λ _ _. tt)
+
 -- the thread that is found has the number
 live_number : (w : World) (tid : ℕ) (by : ThreadRow) → live_thread w tid ≡ Some by → (by.number == tid) ≡ true
-live_number w tid by live = and_first _ _ (find_passes (is_live_thread tid) w.threads by live)
+live_number w tid by live = and_first _ _ (first-passes (is_live_thread tid) w.threads by live)
 
 own_number : (tid : ℕ) → (tid == tid) ≡ true
 own_number tid = eq-eqb tid tid refl
@@ -84,42 +104,80 @@ OneRefusal tid bs = (e : Entry) × (is_refusal tid e ≡ true) × (bs ≡ Tells 
 no_fit : (w : World) (r : Reply) (by : ThreadRow) (port : Birth) (m : Message) (x : WaitRow) → live_thread w r.by ≡ Some by → option_and_then port_of (handle_at w by.process r.handle) ≡ Some port → message_in r ≡ Some m → fitted_wait w r ≡ None → fitted w port m ≡ Some x → ⊥
 no_fit w r by port m x live at is misfit fit = let none : fitted w port m ≡ None = rw (live, at, is) at misfit in absurd (cc)
 
-misfit_ends : (w : World) (r : Reply) (by : ThreadRow) → live_thread w r.by ≡ Some by → fitted_wait w r ≡ None → Ends (OneRefusal r.by) (nt_reply_port w by r.handle r.bytes)
+reply_misfits : (w : World) (r : Reply) (by : ThreadRow) → live_thread w r.by ≡ Some by → fitted_wait w r ≡ None → Ends (OneRefusal r.by) (nt_reply_port w by r.handle r.bytes)
 unfolding nt_reply_port
-misfit_ends w r by live misfit =
+reply_misfits w r by live misfit =
     let P = OneRefusal r.by in
     bind_ends (port_test w by r.handle) _ P (port_fails w by r.handle) (λ port at.
     bind_ends (message_test r.bytes) _ P (message_fails r.bytes) (λ m is.
-    bind_ends (client_test w m.header.client) _ P (refuse_fails (not (is_client w m.header.client)) _ refl) (λ _ _.
-    bind_ends (fit_test w port.birth m) _ P (found_fails (fitted w port.birth m) _ refl) (λ x fit.
-    absurd (no_fit w r by port.birth m x live (holds_ok _ _ port (port_holds w by r.handle) at) (holds_ok _ _ m (message_holds r.by r.handle r.bytes) is) misfit (found_ok _ _ x fit))))))
+    bind_ends (answered_test w port m) _ P (answered_fails w port m) (λ x fit.
+    absurd (no_fit w r by port.birth m x live (holds_ok _ _ port (port_holds w by r.handle) at) (holds_ok _ _ m (message_holds r.by r.handle r.bytes) is) misfit (holds_ok _ _ x (answered_holds w port m) fit)))))
 
-settled_refusal : (tid : ℕ) (by : ThreadRow) (r : Result (List Basic) Status) → (by.number == tid) ≡ true → Ends (OneRefusal tid) r → OneRefusal tid (settled by NtReplyPort r)
-settled_refusal tid by (Ok bs) own h = h
-settled_refusal tid by (Err s) own h = (Answer by.number NtReplyPort s [], rw (own, h) refl, refl)
+-- the reply that a receive makes first fits, so a misfit makes none
+made_fits : (w : World) (port : PortRow) (m : Message) → Holds (λ (bs : List Basic). (x : WaitRow) × (fitted w port.birth m ≡ Some x)) (given_reply w port (Some m))
+made_fits w port m =
+    bind_holds (answered_test w port m) _ (λ (bs : List Basic). (x : WaitRow) × (fitted w port.birth m ≡ Some x)) (λ x fit.
+    (x, holds_ok _ (answered_test w port m) x (answered_holds w port m) fit))
 
-misfit_ready : (w : World) (r : Reply) (by : ThreadRow) (o : Option WaitRow) → live_thread w r.by ≡ Some by → fitted_wait w r ≡ None → OneRefusal r.by (ready_steps by (reply_port r.handle r.bytes) o w)
-misfit_ready w r by (Some x) live misfit = (Busy by.number, live_number w r.by by live, refl)
-misfit_ready w r by None live misfit =
-    settled_refusal r.by by (nt_reply_port w by r.handle r.bytes) (live_number w r.by by live) (misfit_ends w r by live misfit)
+no_made : (w : World) (r : Reply) (by : ThreadRow) (port : PortRow) (o : Option Message) (bs : List Basic) → live_thread w r.by ≡ Some by → port_test w by r.handle ≡ Ok port → optional_message (Some r.bytes) ≡ Ok o → fitted_wait w r ≡ None → given_reply w port o ≡ Ok bs → ⊥
+no_made w r by port o bs live at is misfit made =
+    let read = holds_ok _ (optional_message (Some r.bytes)) o (optional_holds r.bytes) is in
+    let m = read.0 in
+    let made' = subst (λ o. given_reply w port o ≡ Ok bs) read.1 made in
+    let fit = holds_ok _ (given_reply w port (Some m)) bs (made_fits w port m) made' in
+    no_fit w r by port.birth m fit.0 live (holds_ok _ _ port (port_holds w by r.handle) at) (holds_ok _ _ m (message_holds r.by r.handle r.bytes) read.2) misfit fit.1
 
-misfit_thread : (w : World) (r : Reply) (o : Option ThreadRow) → live_thread w r.by ≡ o → fitted_wait w r ≡ None → OneRefusal r.by (thread_steps r.by (reply_port r.handle r.bytes) o w)
-misfit_thread w r None live misfit = (NoThread r.by, own_number r.by, refl)
-misfit_thread w r (Some by) live misfit = misfit_ready w r by (wait_of w r.by) live misfit
+receive_misfits : (w : World) (r : Reply) (by : ThreadRow) → live_thread w r.by ≡ Some by → fitted_wait w r ≡ None → Ends (OneRefusal r.by) (nt_reply_wait_receive_port w by r.handle (Some r.bytes))
+unfolding nt_reply_wait_receive_port
+receive_misfits w r by live misfit =
+    let P = OneRefusal r.by in
+    bind_ends (port_test w by r.handle) _ P (port_fails w by r.handle) (λ port at.
+    bind_ends (optional_message (Some r.bytes)) _ P (optional_fails r.bytes) (λ o is.
+    bind_ends (receive_test w port) _ P (receive_fails w port) (λ queue _.
+    bind_ends (given_reply w port o) _ P (given_fails w port o) (λ bs made.
+    absurd (no_made w r by port o bs live at is misfit made)))))
 
-misfit_steps : (w : World) (r : Reply) → fitted_wait w r ≡ None → OneRefusal r.by (steps (run r.by (reply_port r.handle r.bytes)) w)
+-- the two calls that are a reply call: one that receives then, and one that doesn't
+abbrev pub replying : Bool → Reply → ScriptCall
+replying true r = reply_wait_receive_port r.handle (Some r.bytes)
+replying false r = reply_port r.handle r.bytes
+
+misfit_ends : (w : World) (r : Reply) (receives : Bool) (by : ThreadRow) → live_thread w r.by ≡ Some by → fitted_wait w r ≡ None → Ends (OneRefusal r.by) (service_of w by (replying receives r))
+misfit_ends w r true by live misfit = receive_misfits w r by live misfit
+misfit_ends w r false by live misfit = reply_misfits w r by live misfit
+
+settled_refusal : (tid : ℕ) (by : ThreadRow) (name : CallName) (r : Result (List Basic) Status) → (by.number == tid) ≡ true → Ends (OneRefusal tid) r → OneRefusal tid (settled by name r)
+settled_refusal tid by name (Ok bs) own h = h
+settled_refusal tid by name (Err s) own h = (Answer by.number name s [], rw (own, h) refl, refl)
+
+misfit_ready : (w : World) (r : Reply) (receives : Bool) (by : ThreadRow) (o : Option WaitRow) → live_thread w r.by ≡ Some by → fitted_wait w r ≡ None → OneRefusal r.by (ready_steps by (replying receives r) o w)
+misfit_ready w r receives by (Some x) live misfit = (Busy by.number, live_number w r.by by live, refl)
+misfit_ready w r receives by None live misfit =
+    let c = replying receives r in
+    settled_refusal r.by by (name_of c) (service_of w by c) (live_number w r.by by live) (misfit_ends w r receives by live misfit)
+
+misfit_thread : (w : World) (r : Reply) (receives : Bool) (o : Option ThreadRow) → live_thread w r.by ≡ o → fitted_wait w r ≡ None → OneRefusal r.by (thread_steps r.by (replying receives r) o w)
+misfit_thread w r receives None live misfit = (NoThread r.by, own_number r.by, refl)
+misfit_thread w r receives (Some by) live misfit = misfit_ready w r receives by (wait_of w r.by) live misfit
+
+misfit_steps : (w : World) (r : Reply) (receives : Bool) → fitted_wait w r ≡ None → OneRefusal r.by (steps (run r.by (replying receives r)) w)
 unfolding steps
-misfit_steps w r misfit = misfit_thread w r (live_thread w r.by) refl misfit
+misfit_steps w r receives misfit = misfit_thread w r receives (live_thread w r.by) refl misfit
 
 -- what holds of each reply call holds of each line that is one
-each_reply : (P : ScriptLine → Reply → Type 0) → ((r : Reply) → P (run r.by (reply_port r.handle r.bytes)) r) → (line : ScriptLine) (r : Reply) → reply_of line ≡ Some r → P line r
+each_reply : (P : ScriptLine → Reply → Type 0) → ((r : Reply) (receives : Bool) → P (run r.by (replying receives r)) r) → (line : ScriptLine) (r : Reply) → reply_of line ≡ Some r → P line r
 each_reply P h (run tid (reply_port handle bytes)) r is =
     let q : Reply = record { by = tid; handle = handle; bytes = bytes } in
     let same : q ≡ r = cc in
-    subst (P (run tid (reply_port handle bytes))) same (h q)
+    subst (P (run tid (reply_port handle bytes))) same (h q false)
+each_reply P h (run tid (reply_wait_receive_port handle (Some bytes))) r is =
+    let q : Reply = record { by = tid; handle = handle; bytes = bytes } in
+    let same : q ≡ r = cc in
+    subst (P (run tid (reply_wait_receive_port handle (Some bytes)))) same (h q true)
+each_reply P h (run tid (reply_wait_receive_port handle None)) r is = absurd (cc)
 each_reply P h (run tid create_port) r is = absurd (cc)
+each_reply P h (run tid (request_port handle bytes)) r is = absurd (cc)
 each_reply P h (run tid (request_wait_reply_port handle bytes)) r is = absurd (cc)
-each_reply P h (run tid (reply_wait_receive_port handle)) r is = absurd (cc)
 each_reply P h (boot pid tid) r is = absurd (cc)
 each_reply P h (thread tid pid) r is = absurd (cc)
 
@@ -129,7 +187,7 @@ one_refused w line tid one = record { own = one.0; others = []; refusal = one.1;
 pub misfits_refused : (w : World) (line : ScriptLine) → MisfitsAreRefused w line
 misfits_refused w line =
     each_reply (λ line r. fitted_wait w r ≡ None → IsRefused r.by (step w line).entries)
-    (λ r misfit. one_refused w (run r.by (reply_port r.handle r.bytes)) r.by (misfit_steps w r misfit)) line
+    (λ r receives misfit. one_refused w (run r.by (replying receives r)) r.by (misfit_steps w r receives misfit)) line
 
 -- a refused reply
 -- where the thread's own entry is a refusal, it is all
@@ -145,27 +203,50 @@ made_reply tid by x m r =
     let same : r.own ≡ Answer by.number NtReplyPort SUCCESS [] = cc in
     absurd (no_success (by.number == tid) (rw same at r.refusal))
 
+-- the caller's own entry of a receive comes first, and it is no refusal
+made_receive : (tid : ℕ) (by : ThreadRow) (port : PortRow) (queue : Birth) (bs : List Basic) (o : Option MessageRow) → StaysWhereRefused tid (receive_steps by port queue bs o)
+made_receive tid by port queue bs (Some m) r =
+    let same : r.own ≡ Answer by.number NtReplyWaitReceivePort SUCCESS (receipt m) = cc in
+    absurd (no_success (by.number == tid) (rw same at r.refusal))
+made_receive tid by port queue bs None r =
+    let same : r.own ≡ Waits by.number NtReplyWaitReceivePort [] = cc in
+    let none = rw same at r.refusal in
+    absurd (cc)
+
 reply_stays : (w : World) (tid : ℕ) (by : ThreadRow) (handle : ℕ) (bytes : List ℕ) → Holds (StaysWhereRefused tid) (nt_reply_port w by handle bytes)
 unfolding nt_reply_port
 reply_stays w tid by handle bytes =
     let P = StaysWhereRefused tid in
     bind_holds (port_test w by handle) _ P (λ port _.
     bind_holds (message_test bytes) _ P (λ m _.
-    bind_holds (client_test w m.header.client) _ P (λ _ _.
-    bind_holds (fit_test w port.birth m) _ P (λ x _. made_reply tid by x m))))
+    bind_holds (answered_test w port m) _ P (λ x _. made_reply tid by x m)))
 
-ready_stays : (w : World) (tid : ℕ) (by : ThreadRow) (handle : ℕ) (bytes : List ℕ) (o : Option WaitRow) → StaysWhereRefused tid (ready_steps by (reply_port handle bytes) o w)
-ready_stays w tid by handle bytes (Some x) = λ _. (Busy by.number, refl)
-ready_stays w tid by handle bytes None =
-    settled_holds (StaysWhereRefused tid) by NtReplyPort (nt_reply_port w by handle bytes) (reply_stays w tid by handle bytes) (λ s _. (Answer by.number NtReplyPort s [], refl))
+receive_stays : (w : World) (tid : ℕ) (by : ThreadRow) (handle : ℕ) (bytes : Option (List ℕ)) → Holds (StaysWhereRefused tid) (nt_reply_wait_receive_port w by handle bytes)
+unfolding nt_reply_wait_receive_port
+receive_stays w tid by handle bytes =
+    let P = StaysWhereRefused tid in
+    bind_holds (port_test w by handle) _ P (λ port _.
+    bind_holds (optional_message bytes) _ P (λ o _.
+    bind_holds (receive_test w port) _ P (λ queue _.
+    bind_holds (given_reply w port o) _ P (λ bs _. made_receive tid by port queue bs (first (is_queued queue) w.messages)))))
 
-thread_stays : (w : World) (tid handle : ℕ) (bytes : List ℕ) (o : Option ThreadRow) → StaysWhereRefused tid (thread_steps tid (reply_port handle bytes) o w)
-thread_stays w tid handle bytes None = λ _. (NoThread tid, refl)
-thread_stays w tid handle bytes (Some by) = ready_stays w tid by handle bytes (wait_of w tid)
+service_stays : (w : World) (r : Reply) (receives : Bool) (by : ThreadRow) → Holds (StaysWhereRefused r.by) (service_of w by (replying receives r))
+service_stays w r true by = receive_stays w r.by by r.handle (Some r.bytes)
+service_stays w r false by = reply_stays w r.by by r.handle r.bytes
 
-steps_stay : (w : World) (r : Reply) → StaysWhereRefused r.by (steps (run r.by (reply_port r.handle r.bytes)) w)
+ready_stays : (w : World) (r : Reply) (receives : Bool) (by : ThreadRow) (o : Option WaitRow) → StaysWhereRefused r.by (ready_steps by (replying receives r) o w)
+ready_stays w r receives by (Some x) = λ _. (Busy by.number, refl)
+ready_stays w r receives by None =
+    let c = replying receives r in
+    settled_holds (StaysWhereRefused r.by) by (name_of c) (service_of w by c) (service_stays w r receives by) (λ s _. (Answer by.number (name_of c) s [], refl))
+
+thread_stays : (w : World) (r : Reply) (receives : Bool) (o : Option ThreadRow) → StaysWhereRefused r.by (thread_steps r.by (replying receives r) o w)
+thread_stays w r receives None = λ _. (NoThread r.by, refl)
+thread_stays w r receives (Some by) = ready_stays w r receives by (wait_of w r.by)
+
+steps_stay : (w : World) (r : Reply) (receives : Bool) → StaysWhereRefused r.by (steps (run r.by (replying receives r)) w)
 unfolding steps
-steps_stay w r = thread_stays w r.by r.handle r.bytes (live_thread w r.by)
+steps_stay w r receives = thread_stays w r receives (live_thread w r.by)
 
 one_changes_nothing : (w : World) (line : ScriptLine) → (e : Entry) × (steps line w ≡ Tells e ∷ []) → ChangesNothing w line
 one_changes_nothing w line one = record {
@@ -176,7 +257,7 @@ one_changes_nothing w line one = record {
 pub refusals_stay : (w : World) (line : ScriptLine) → RefusedRepliesChangeNothing w line
 refusals_stay w line =
     each_reply (λ line r. IsRefused r.by (step w line).entries → ChangesNothing w line)
-    (λ r refused. one_changes_nothing w (run r.by (reply_port r.handle r.bytes)) (steps_stay w r refused)) line
+    (λ r receives refused. one_changes_nothing w (run r.by (replying receives r)) (steps_stay w r receives refused)) line
 
 -- what holds in every world holds along each run
 pub along : (P : World → ScriptLine → Type 0) → ((w : World) (line : ScriptLine) → P w line) → (w : World) (lines : List (Option ScriptLine)) → Along P w lines

@@ -1,45 +1,39 @@
 -- Each request that wakes with success is returned by a reply that fits it.
-use Rattle.std.proofs.Common.{◌≡◌, ℕ, Bool, true, false, cond, List, [], ◌∷◌, ◌++◌, refl}
-use Rattle.std.specs.Prelude.{Option, Some, None, Result, Ok, Err, is_some, nat_lt, not, option_and_then}
+use Rattle.std.proofs.Common.{◌≡◌, ℕ, Bool, true, false, cond, List, [], ◌∷◌, ◌++◌, refl, sym, subst}
+use Rattle.std.specs.Prelude.{Option, Some, None, Ok, is_some, nat_lt, not, option_and_then}
 use Rattle.std.specs.List.{AllByRecursion}
-use Rattle.std.proofs.lemmas.Bool.{eqb-true}
+use Rattle.lpc_base.specs.Rows.{first, given, when}
 use Rattle.lpc_base.specs.declared.birth.Birth.{Birth}
 use Rattle.lpc_base.specs.declared.limits.TheConstants.{MESSAGE_LIMIT}
 use Rattle.lpc_base.specs.declared.status.Status.{Status}
-use Rattle.lpc_base.specs.declared.status.TheConstants.{ACCESS_DENIED, INVALID_HANDLE, INVALID_PARAMETER, OBJECT_TYPE_MISMATCH, PORT_MESSAGE_TOO_LONG, SUCCESS}
+use Rattle.lpc_base.specs.declared.status.TheConstants.{ACCESS_DENIED, INVALID_HANDLE, INVALID_PARAMETER, OBJECT_TYPE_MISMATCH, PORT_MESSAGE_TOO_LONG, REPLY_MESSAGE_MISMATCH, SUCCESS}
+use Rattle.lpc_base.proofs.RowWords.{first-passes}
 use Rattle.lpc_message.specs.Layout.{fault_of, header_of}
+use Rattle.lpc_message.specs.declared.kind.TheConstants.{DATAGRAM, REQUEST}
 use Rattle.lpc_model.specs.declared.entry.CallName.{CallName}
 use Rattle.lpc_model.specs.declared.entry.CallName.TheVariants as call
 use Rattle.lpc_model.specs.declared.entry.Entry.TheVariants as entry
 use Rattle.lpc_model.specs.declared.entry.Field.{Field}
-use Rattle.lpc_model.specs.declared.entry.Word.{Word}
-use Rattle.lpc_model.specs.declared.entry.Word.TheVariants as word
-use Rattle.lpc_model.specs.declared.rows.WaitKind.TheVariants.{Receive, Request}
-use Rattle.lpc_model.specs.Refusal.{refuse_if}
-use Rattle.lpc_base.specs.Rows.{first, given, when}
-use Rattle.lpc_message.specs.declared.kind.TheConstants.{REQUEST}
 use Rattle.lpc_model.specs.declared.entry.ObjectKind.TheVariants as kind
-use Rattle.lpc_model.specs.World.{World}
+use Rattle.lpc_model.specs.declared.entry.Word.TheVariants as word
 use Rattle.lpc_model.specs.declared.message.Message.{Message}
-use Rattle.lpc_model.specs.declared.rows.HandleRow.{HandleRow}
-use Rattle.lpc_model.specs.declared.rows.MessageRow.{MessageRow}
-use Rattle.lpc_model.specs.declared.rows.PortRow.{PortRow}
-use Rattle.lpc_model.specs.declared.rows.ThreadRow.{ThreadRow}
-use Rattle.lpc_model.specs.declared.rows.WaitKind.{WaitKind}
-use Rattle.lpc_model.specs.declared.rows.WaitRow.{WaitRow}
-use Rattle.lpc_model.specs.Found.{handle_at, is_port, is_queued, live_thread, port_row, same_birth, same_kind, wait_of}
-use Rattle.lpc_model.specs.Message.{as_reply, bytes_of, asks, message_test}
+use Rattle.lpc_model.specs.Refusal.{refuse_if}
+use Rattle.lpc_model.specs.World.{HandleRow, MessageRow, PortRow, ThreadRow, WaitKind, Request, Receive, WaitRow, World}
+use Rattle.lpc_model.specs.Found.{fitted, handle_at, is_port, is_queued, live_thread, port_row, same_kind, wait_of}
+use Rattle.lpc_model.specs.Message.{as_reply, asks, bytes_of, message_test}
 use Rattle.lpc_model.specs.Basics.{Awaits, Basic, Receives, Tells, Wakes, basic, entries_of, told, world_after}
 use Rattle.lpc_model.specs.Fields.{msg, receipt}
 use Rattle.lpc_model.specs.Entering.{enter, row_of, take_steps, takes, woken}
-use Rattle.lpc_model.specs.Tests.{PORT_RIGHT, client_test, fit_test, handles_test, includes, object_test, own_handle, port_test}
+use Rattle.lpc_model.specs.Tests.{PORT_RIGHT, client_test, handles_test, includes, object_test, own_handle, port_test}
 use Rattle.lpc_model.specs.Connect.{nt_create_port}
-use Rattle.lpc_model.specs.Request.{nt_reply_port, nt_reply_wait_receive_port, nt_request_wait_reply_port, receive_steps, receive_test, request_start, send_test, sent_by}
-use Rattle.lpc_model.specs.Lines.{ScriptCall, ScriptLine, boot, create_port, reply_port, reply_wait_receive_port, request_wait_reply_port, run, thread}
-use Rattle.lpc_model.specs.Machine.{boot_line, directed, name_of, ready_steps, service_of, step, steps, thread_line, thread_test, thread_steps, unused_test}
+use Rattle.lpc_model.specs.Request.{answered_test, datagram_send_test, datagram_start, given_reply, nt_reply_port, nt_reply_wait_receive_port, nt_request_port, nt_request_wait_reply_port, optional_message, receive_steps, receive_test, receive_wait, reply, request_start, send_test, sent_by}
+use Rattle.lpc_model.specs.Lines.{ScriptCall, ScriptLine, boot, create_port, reply_port, reply_wait_receive_port, request_port, request_wait_reply_port, run, thread}
+use Rattle.lpc_model.specs.Machine.{boot_line, name_of, ready_steps, service_of, step, steps, thread_line, thread_test, thread_steps, unused_test}
 use Rattle.lpc_model.specs.Run.{Along}
-use Rattle.lpc_model.specs.Replies.{HasReply, IsReturnedBy, RequestsReturnByReply, message_in, port_of}
-use Rattle.lpc_replay.proofs.Holding.{Holds, all_append, all_filter, all_map, and_first, and_second, bind_holds, find_all, find_passes, found_holds, found_ok, holds_ok, not_false, not_refused, settled_holds}
+use Rattle.lpc_model.specs.Replies.{HasReply, IsReturnedBy, Reply, RequestsReturnByReply, message_in, port_of, reply_of}
+use Rattle.lpc_model.proofs.Holding.{Holds, bind_holds, directed_holds, found_holds, found_ok, holds_ok, not_refused, settled_holds}
+use Rattle.lpc_model.proofs.Usable.{birth-same}
+use Rattle.lpc_replay.proofs.Holding.{all_append, all_filter, all_map, and_first, find_all, not_false}
 
 -- a receive waits in the call that receives
 abbrev pub waits_in : WaitKind → CallName → Type 0
@@ -115,21 +109,14 @@ given_fair w line m (Some x) h =
 
 enter_fair : (w : World) (line : ScriptLine) (m : MessageRow) (v : World) → HaveTheirCalls v → AreFair w line (enter m v)
 enter_fair w line m v h =
-    (tt, given_fair w line m (first (takes m) v.waits) (λ x is. (find_passes (takes m) v.waits x is, find_all HasItsCall (takes m) v.waits x h is)))
+    (tt, given_fair w line m (first (takes m) v.waits) (λ x is. (first-passes (takes m) v.waits x is, find_all HasItsCall (takes m) v.waits x h is)))
 
-receive_fair : (w : World) (line : ScriptLine) (by : ThreadRow) (port : PortRow) (queue : Birth) (o : Option MessageRow) → AreFair w line (receive_steps by port queue o)
-receive_fair w line by port queue None = (tt, (tt, tt))
-receive_fair w line by port queue (Some m) = (tt, take_fair w line m)
+-- a receive wakes none beyond the reply that it makes first
+receive_fair : (w : World) (line : ScriptLine) (by : ThreadRow) (port : PortRow) (queue : Birth) (bs : List Basic) (o : Option MessageRow) → AreFair w line bs → AreFair w line (receive_steps by port queue bs o)
+receive_fair w line by port queue bs None fair = (tt, all_append (IsFair w line) bs (Awaits (receive_wait by port.birth queue) ∷ []) fair (tt, tt))
+receive_fair w line by port queue bs (Some m) fair = (tt, all_append (IsFair w line) bs (take_steps m) fair (take_fair w line m))
 
 -- the port on which a reply is made is the one that its handle names
-birth_parts : (a b c d e f : ℕ) → a ≡ d → b ≡ e → c ≡ f → let x : Birth = record { maker = a; ordinal = b; process = c } in let y : Birth = record { maker = d; ordinal = e; process = f } in x ≡ y
-birth_parts a b c d e f p q r = rw (p, q, r) refl
-
-birth_same : (a b : Birth) → same_birth a b ≡ true → a ≡ b
-birth_same a b h =
-    let h' = and_second _ _ h in
-    birth_parts _ _ _ _ _ _ (eqb-true _ _ (and_first _ _ h)) (eqb-true _ _ (and_first _ _ h')) (eqb-true _ _ (and_second _ _ h'))
-
 handle_named : (h : HandleRow) (o : Option HandleRow) → o ≡ Some h → not (same_kind h.object.kind kind.Port) ≡ false → option_and_then port_of o ≡ Some h.object.birth
 handle_named h o at same = rw (at, not_false (same_kind h.object.kind kind.Port) same) refl
 
@@ -146,7 +133,7 @@ port_holds w by handle =
     let P : PortRow → Type 0 = λ port. option_and_then port_of (handle_at w by.process handle) ≡ Some port.birth in
     bind_holds (object_test w by kind.Port PORT_RIGHT handle) _ P (λ birth at.
     found_holds P (port_row w birth) INVALID_HANDLE (λ port row.
-    rw (birth_same port.birth birth (find_passes (is_port birth) w.ports port row)) (holds_ok _ _ birth (object_holds w by handle) at)))
+    rw (birth-same port.birth birth (first-passes (is_port birth) w.ports port row)) (holds_ok _ _ birth (object_holds w by handle) at)))
 
 pub message_holds : (tid handle : ℕ) (bytes : List ℕ) → Holds (λ m. message_in (record { by = tid; handle = handle; bytes = bytes }) ≡ Some m) (message_test bytes)
 unfolding message_test
@@ -156,60 +143,104 @@ message_holds tid handle bytes =
     bind_holds (refuse_if (nat_lt MESSAGE_LIMIT (header_of bytes).message_size) PORT_MESSAGE_TOO_LONG) _ P (λ _ _.
     rw (not_refused _ _ u whole) refl))
 
+-- a message that is given is what its test finds
+pub optional_holds : (bytes : List ℕ) → Holds (λ o. (m : Message) × (o ≡ Some m) × (message_test bytes ≡ Ok m)) (optional_message (Some bytes))
+optional_holds bytes = bind_holds (message_test bytes) _ (λ o. (m : Message) × (o ≡ Some m) × (message_test bytes ≡ Ok m)) (λ m is. (m, refl, is))
+
+-- a reply that isn't refused fits a wait
+pub answered_holds : (w : World) (port : PortRow) (m : Message) → Holds (λ x. fitted w port.birth m ≡ Some x) (answered_test w port m)
+answered_holds w port m =
+    let P : WaitRow → Type 0 = λ x. fitted w port.birth m ≡ Some x in
+    bind_holds (client_test w m.header.client) _ P (λ _ _. found_holds P (fitted w port.birth m) REPLY_MESSAGE_MISMATCH (λ x fit. fit))
+
+-- a reply that a line makes is that of its reply call
+returned_fair : (w : World) (line : ScriptLine) (r : Reply) (by : ThreadRow) (port : PortRow) (m : Message) → reply_of line ≡ Some r → live_thread w r.by ≡ Some by → port_test w by r.handle ≡ Ok port → message_test r.bytes ≡ Ok m → Holds (λ x. IsFair w line (reply x m)) (answered_test w port m)
+unfolding bytes_of
+returned_fair w line r by port m is_reply live at is =
+    let P : WaitRow → Type 0 = λ x. IsFair w line (reply x m) in
+    bind_holds (client_test w m.header.client) _ P (λ _ _.
+    found_holds P (fitted w port.birth m) REPLY_MESSAGE_MISMATCH (λ x fit.
+    reply_wakes w line x.thread x.call (msg (as_reply m) ∷ []) (record {
+      reply = r;
+      port = port.birth;
+      message = m;
+      wait = x;
+      is_reply = is_reply;
+      names_port = rw live (holds_ok _ (port_test w by r.handle) port (port_holds w by r.handle) at);
+      is_message = holds_ok _ (message_test r.bytes) m (message_holds r.by r.handle r.bytes) is;
+      fitting = fit;
+      its_wait = refl;
+      shows = refl;
+    })))
+
 -- the services
 create_fair : (w : World) (line : ScriptLine) (by : ThreadRow) → Holds (AreFair w line) (nt_create_port w by)
 unfolding nt_create_port
 create_fair w line by = bind_holds (handles_test w by.process 1) _ (AreFair w line) (λ _ _. (tt, (tt, (tt, (tt, tt)))))
+
+-- some steps, and then a message that enters its queue
+sent_fair : (w : World) (line : ScriptLine) (m : MessageRow) (start : List Basic) → HaveTheirCalls w → AreFair w line start → AreFair w line (start ++ enter m (world_after w start))
+sent_fair w line m start h fair =
+    all_append (IsFair w line) start (enter m (world_after w start)) fair
+    (enter_fair w line m (world_after w start) (steps_keep w line w start fair h))
+
+datagram_fair : (w : World) (line : ScriptLine) (by : ThreadRow) (handle : ℕ) (bytes : List ℕ) → HaveTheirCalls w → Holds (AreFair w line) (nt_request_port w by handle bytes)
+unfolding nt_request_port
+datagram_fair w line by handle bytes h =
+    bind_holds (datagram_send_test w by handle bytes) _ (AreFair w line) (λ s _.
+    sent_fair w line (row_of s.queue s.port (sent_by by DATAGRAM s.message)) (datagram_start by) h (tt, (tt, tt)))
 
 request_fair : (w : World) (line : ScriptLine) (by : ThreadRow) (handle : ℕ) (bytes : List ℕ) → HaveTheirCalls w → Holds (AreFair w line) (nt_request_wait_reply_port w by handle bytes)
 unfolding nt_request_wait_reply_port
 request_fair w line by handle bytes h =
     bind_holds (send_test w by handle bytes) _ (AreFair w line) (λ s _.
     let m = sent_by by REQUEST s.message in
-    let start = request_start by s.port.birth s.queue m in
-    let fair : AreFair w line start = (tt, (tt, (tt, tt))) in
-    all_append (IsFair w line) start (enter (row_of s.queue s.port m) (world_after w start)) fair
-    (enter_fair w line (row_of s.queue s.port m) (world_after w start) (steps_keep w line w start fair h)))
-
-wait_fair : (w : World) (line : ScriptLine) (by : ThreadRow) (handle : ℕ) → Holds (AreFair w line) (nt_reply_wait_receive_port w by handle)
-unfolding nt_reply_wait_receive_port
-wait_fair w line by handle =
-    bind_holds (port_test w by handle) _ (AreFair w line) (λ port _.
-    bind_holds (receive_test w port) _ (AreFair w line) (λ queue _.
-    receive_fair w line by port queue (first (is_queued queue) w.messages)))
+    sent_fair w line (row_of s.queue s.port m) (request_start by s.port.birth s.queue m) h (tt, (tt, (tt, tt))))
 
 reply_fair : (w : World) (tid : ℕ) (by : ThreadRow) (handle : ℕ) (bytes : List ℕ) → live_thread w tid ≡ Some by → Holds (AreFair w (run tid (reply_port handle bytes))) (nt_reply_port w by handle bytes)
-unfolding nt_reply_port bytes_of
+unfolding nt_reply_port
 reply_fair w tid by handle bytes live =
     let line = run tid (reply_port handle bytes) in
+    let r : Reply = record { by = tid; handle = handle; bytes = bytes } in
     let P = AreFair w line in
     bind_holds (port_test w by handle) _ P (λ port at.
     bind_holds (message_test bytes) _ P (λ m is.
-    bind_holds (client_test w m.header.client) _ P (λ _ _.
-    bind_holds (fit_test w port.birth m) _ P (λ x fit. (
-      tt,
-      (
-        reply_wakes w line x.thread x.call (msg (as_reply m) ∷ []) (record {
-          reply = record { by = tid; handle = handle; bytes = bytes };
-          port = port.birth;
-          message = m;
-          wait = x;
-          is_reply = refl;
-          names_port = rw live (holds_ok _ _ port (port_holds w by handle) at);
-          is_message = holds_ok _ _ m (message_holds tid handle bytes) is;
-          fitting = found_ok _ _ x fit;
-          its_wait = refl;
-          shows = refl;
-        }),
-        tt,
-      ),
-    )))))
+    bind_holds (answered_test w port m) _ P (λ x fit.
+    (tt, (holds_ok _ (answered_test w port m) x (returned_fair w line r by port m refl live at is) fit, tt)))))
+
+-- the reply that a receive makes first
+given_message_fair : (w : World) (line : ScriptLine) (r : Reply) (by : ThreadRow) (port : PortRow) (m : Message) → reply_of line ≡ Some r → live_thread w r.by ≡ Some by → port_test w by r.handle ≡ Ok port → message_test r.bytes ≡ Ok m → Holds (AreFair w line) (given_reply w port (Some m))
+given_message_fair w line r by port m is_reply live at is =
+    bind_holds (answered_test w port m) _ (AreFair w line) (λ x fit.
+    (holds_ok _ (answered_test w port m) x (returned_fair w line r by port m is_reply live at is) fit, tt))
+
+given_reply_fair : (w : World) (tid : ℕ) (by : ThreadRow) (handle : ℕ) (bytes : Option (List ℕ)) (port : PortRow) (o : Option Message) → live_thread w tid ≡ Some by → port_test w by handle ≡ Ok port → optional_message bytes ≡ Ok o → Holds (AreFair w (run tid (reply_wait_receive_port handle bytes))) (given_reply w port o)
+given_reply_fair w tid by handle None port None live at is = tt
+given_reply_fair w tid by handle None port (Some m) live at is = absurd (cc)
+given_reply_fair w tid by handle (Some bytes) port o live at is =
+    let line = run tid (reply_wait_receive_port handle (Some bytes)) in
+    let r : Reply = record { by = tid; handle = handle; bytes = bytes } in
+    let read = holds_ok _ (optional_message (Some bytes)) o (optional_holds bytes) is in
+    subst (λ o. Holds (AreFair w line) (given_reply w port o)) (sym read.1) (given_message_fair w line r by port read.0 refl live at read.2)
+
+wait_fair : (w : World) (tid : ℕ) (by : ThreadRow) (handle : ℕ) (bytes : Option (List ℕ)) → live_thread w tid ≡ Some by → Holds (AreFair w (run tid (reply_wait_receive_port handle bytes))) (nt_reply_wait_receive_port w by handle bytes)
+unfolding nt_reply_wait_receive_port
+wait_fair w tid by handle bytes live =
+    let line = run tid (reply_wait_receive_port handle bytes) in
+    let P = AreFair w line in
+    bind_holds (port_test w by handle) _ P (λ port at.
+    bind_holds (optional_message bytes) _ P (λ o is.
+    bind_holds (receive_test w port) _ P (λ queue _.
+    bind_holds (given_reply w port o) _ P (λ bs made.
+    receive_fair w line by port queue bs (first (is_queued queue) w.messages)
+    (holds_ok P (given_reply w port o) bs (given_reply_fair w tid by handle bytes port o live at is) made)))))
 
 service_fair : (w : World) (tid : ℕ) (by : ThreadRow) (name : ScriptCall) → live_thread w tid ≡ Some by → HaveTheirCalls w → Holds (AreFair w (run tid name)) (service_of w by name)
 service_fair w tid by create_port live h = create_fair w _ by
+service_fair w tid by (request_port handle bytes) live h = datagram_fair w _ by handle bytes h
 service_fair w tid by (request_wait_reply_port handle bytes) live h = request_fair w _ by handle bytes h
 service_fair w tid by (reply_port handle bytes) live h = reply_fair w tid by handle bytes live
-service_fair w tid by (reply_wait_receive_port handle) live h = wait_fair w _ by handle
+service_fair w tid by (reply_wait_receive_port handle bytes) live h = wait_fair w tid by handle bytes live
 
 -- the lines
 ready_fair : (w : World) (tid : ℕ) (by : ThreadRow) (name : ScriptCall) (o : Option WaitRow) → live_thread w tid ≡ Some by → HaveTheirCalls w → AreFair w (run tid name) (ready_steps by name o w)
@@ -221,23 +252,20 @@ thread_fair : (w : World) (tid : ℕ) (name : ScriptCall) (o : Option ThreadRow)
 thread_fair w tid name None live h = (tt, tt)
 thread_fair w tid name (Some by) live h = ready_fair w tid by name (wait_of w tid) live h
 
-directed_fair : (w : World) (line : ScriptLine) (word : Word) (r : Result (List Basic) Status) → Holds (AreFair w line) r → AreFair w line (directed word r)
-directed_fair w line word (Ok bs) h = (tt, h)
-directed_fair w line word (Err s) h = (tt, tt)
-
-boot_fair : (w : World) (line : ScriptLine) (pid tid : ℕ) → Holds (AreFair w line) (boot_line w pid tid)
+boot_fair : (w : World) (line : ScriptLine) (pid tid : ℕ) → Holds (λ bs. AreFair w line (Tells (entry.Directive word.Boot SUCCESS) ∷ bs)) (boot_line w pid tid)
 unfolding boot_line
-boot_fair w line pid tid = bind_holds (unused_test w pid tid) _ (AreFair w line) (λ _ _. (tt, (tt, tt)))
+boot_fair w line pid tid =
+    bind_holds (unused_test w pid tid) _ (λ bs. AreFair w line (Tells (entry.Directive word.Boot SUCCESS) ∷ bs)) (λ _ _. (tt, (tt, (tt, tt))))
 
-further_fair : (w : World) (line : ScriptLine) (tid pid : ℕ) → Holds (AreFair w line) (thread_line w tid pid)
+further_fair : (w : World) (line : ScriptLine) (tid pid : ℕ) → Holds (λ bs. AreFair w line (Tells (entry.Directive word.Thread SUCCESS) ∷ bs)) (thread_line w tid pid)
 unfolding thread_line
 further_fair w line tid pid =
-    bind_holds (thread_test w tid pid) _ (AreFair w line) (λ _ _. (tt, tt))
+    bind_holds (thread_test w tid pid) _ (λ bs. AreFair w line (Tells (entry.Directive word.Thread SUCCESS) ∷ bs)) (λ _ _. (tt, (tt, tt)))
 
 steps_fair : (w : World) (line : ScriptLine) → HaveTheirCalls w → AreFair w line (steps line w)
 unfolding steps
-steps_fair w (boot pid tid) h = directed_fair w _ word.Boot (boot_line w pid tid) (boot_fair w _ pid tid)
-steps_fair w (thread tid pid) h = directed_fair w _ word.Thread (thread_line w tid pid) (further_fair w _ tid pid)
+steps_fair w (boot pid tid) h = directed_holds (AreFair w (boot pid tid)) word.Boot (boot_line w pid tid) (boot_fair w _ pid tid) (λ s. (tt, tt))
+steps_fair w (thread tid pid) h = directed_holds (AreFair w (thread tid pid)) word.Thread (thread_line w tid pid) (further_fair w _ tid pid) (λ s. (tt, tt))
 steps_fair w (run tid name) h = thread_fair w tid name (live_thread w tid) refl h
 
 pub returns_along : (w : World) (lines : List (Option ScriptLine)) → HaveTheirCalls w → Along RequestsReturnByReply w lines

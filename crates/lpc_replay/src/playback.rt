@@ -1,6 +1,7 @@
 // A script is run and printed line by line.
-ghost use Rattle.std.specs.Prelude.{◌≡◌, ◌<◌, ◌≤◌, ◌+◌, ◌++◌, [], length, IfOk, OnOk};
+ghost use Rattle.std.specs.Prelude.{◌≡◌, ◌<◌, ◌≤◌, ◌+◌, ◌++◌, [], length, true, IfOk, OnOk};
 ghost use Rattle.lpc_base.specs.declared.limits.TheConstants.{LINES_LIMIT};
+ghost use Rattle.lpc_model.specs.Grammar.{has_ids};
 ghost use Rattle.lpc_model.specs.Lines.{line_of};
 ghost use Rattle.lpc_model.specs.Machine as model;
 ghost use Rattle.lpc_model.specs.Text.{entries_text};
@@ -116,7 +117,8 @@ fn tell(
     said: &Line<'_>,
     text: &mut Vec<u8>,
 ) -> Result<usize, OutOfMemory>
-    requires { machine.old.calls < LINES_LIMIT }
+    requires few { machine.old.calls < LINES_LIMIT }
+    requires ids { has_ids (line_of said.now) ≡ true }
     ensures rows { OnOk result (machine.new.rows ≡ (model.step machine.old.rows (line_of said.now)).world) }
     ensures text { OnOk result (text.new.items ≡ text.old.items ++ entries_text number (model.step machine.old.rows (line_of said.now)).entries) }
     ensures told { IfOk result (λ told. told ≡ length (model.step machine.old.rows (line_of said.now)).entries) }
