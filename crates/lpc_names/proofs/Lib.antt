@@ -3,3 +3,4 @@ pub mod Walks
 pub mod Shown
 pub mod Named
 pub mod Bound
+pub mod Mapped

@@ -13,6 +13,11 @@ pub record NameSpace (T : Type 0) : Type 0 where
   pub bindings : Bindings T
   pub spare : ℕ
 
+-- a call that binds is refused by the fault of the names alone, and runs out of memory only where there is none
+abbrev pub Refuses : {X : Type 0} → BindFault → Result X NameFault → Type 0
+Refuses (Name fault) answer = answer ≡ Err fault
+Refuses OutOfMemory answer = IsOk answer
+
 module _ {T : Type 0} where
   -- the bindings with one more, at the free path where one was found
   abbrev pub with_node : Bindings T → Node T → Result Path NameFault → Result (Bindings T) NameFault
@@ -31,11 +36,6 @@ module _ {T : Type 0} where
   -- the bindings with a link, from where a text leads to what another spells
   abbrev pub with_link : Bindings T → List ℕ → List ℕ → Result (Bindings T) NameFault
   with_link bindings text target = linked bindings text (spelled target)
-
-  -- a call that binds is refused by the fault of the names alone, and runs out of memory only where there is none
-  abbrev pub Refuses : BindFault → Result (Bindings T) NameFault → Type 0
-  Refuses (Name fault) answer = answer ≡ Err fault
-  Refuses OutOfMemory answer = IsOk answer
 
   -- after a refusal nothing is changed; want of memory may change the room
   abbrev pub Leaves : BindFault → NameSpace T → NameSpace T → Type 0

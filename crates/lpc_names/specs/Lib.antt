@@ -4,3 +4,4 @@ pub mod Binding
 pub mod Faults
 pub mod Kept
 pub mod Laws
+pub mod Mapped

@@ -200,6 +200,15 @@ impl<T: Copy + Eq> Names<T> {
         false
     }
 
+    /// Whether a new name can be bound at a path: the fault that `bind` would answer, if there is one.
+    pub fn test_free(&self, path: &[u8]) -> Result<(), NameFault>
+        ensures fault { IfErr result (λ fault. names.free_path self.now.bindings path.now ≡ Err fault) }
+        ensures free { OnOk result (IsOk (names.free_path self.now.bindings path.now)) }
+    {
+        self.free_path(path)?;
+        Ok(())
+    }
+
     // What is bound at a path that isn't the root.
     fn node(&self, path: &[u8]) -> Option<&Node<T>>
         requires some { 0 < length path.now }

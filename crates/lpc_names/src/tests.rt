@@ -32,6 +32,19 @@ fn each_fault_of_a_path_is_found(rt: HostRuntime) {
         names.lookup(b"\\Windows\\P\\X"),
         Err(NameFault::PathNotFound)
     );
+    assert_eq!(rt;
+        names.bind(b"\\Windows\\P\\X", 8),
+        at_fault(NameFault::PathNotFound)
+    );
+}
+
+#[test]
+fn free_name_is_told_before_it_is_bound(rt: HostRuntime) {
+    let mut names: Names<u32> = Names::new(rt.alloc());
+    assert_eq!(rt; names.test_free(b"\\A"), Ok(()));
+    assert_eq!(rt; names.bind(b"\\A", 4), Ok(()));
+    assert_eq!(rt; names.test_free(b"\\A"), Err(NameFault::Collision));
+    assert_eq!(rt; names.test_free(b"A"), Err(NameFault::PathSyntax));
 }
 
 #[test]
@@ -99,6 +112,9 @@ fn path_has_256_bytes_at_most(rt: HostRuntime) {
     assert_eq!(rt; names.lookup(b"\\L\\"), Err(NameFault::NameInvalid));
     assert_eq!(rt; names.lookup(b"\\L\\y"), Err(NameFault::NameInvalid));
     assert_eq!(rt; names.lookup(b"\\L"), Err(NameFault::NameNotFound));
+    assert_eq!(rt; names.add_link(b"\\M", &path[..254]), Ok(()));
+    assert_eq!(rt; names.lookup(b"\\M\\y"), Err(NameFault::PathNotFound));
+    assert_eq!(rt; names.lookup(b"\\M\\yz"), Err(NameFault::NameInvalid));
 }
 
 #[test]
@@ -111,6 +127,7 @@ fn links_are_followed_32_times_at_most(rt: HostRuntime) {
         );
     }
     assert_eq!(rt; names.bind(&[b'\\', b'0' + 33], 4), Ok(()));
+    assert_eq!(rt; names.lookup(b"\\2"), Ok(Found::Item(4)));
     assert_eq!(rt; names.lookup(b"\\1"), Ok(Found::Item(4)));
     assert_eq!(rt; names.lookup(b"\\0"), Err(NameFault::NameInvalid));
 }
