@@ -7,9 +7,9 @@ use Rattle.lpc_base.specs.declared.status.Status.{Status}
 use Rattle.lpc_base.proofs.RowWords.{count-push, every-push, every-without, has-change, has-kept, has_none-push}
 use Rattle.lpc_model.specs.declared.entry.CallName.{CallName}
 use Rattle.lpc_model.specs.declared.entry.Field.{Field}
-use Rattle.lpc_model.specs.World.{HandleTable, ObjectName, PortRow, ProcessRow, ThreadRow, WaitRow, World}
+use Rattle.lpc_model.specs.World.{HandleTable, ObjectName, PortRow, ProcessRow, ThreadRow, WaitRow, World, Birth, Node, Path}
 use Rattle.lpc_model.specs.Found.{free_handle, has_handle_to, is_live_thread, is_port, is_table, is_thread, waits_as, was_process}
-use Rattle.lpc_model.specs.Basics.{AddsHandle, AddsProcess, AddsThread, Awaits, DrawsIdentifier, DrawsOrdinal, Makes, Wakes, basic, no_handles, past_identifier, past_ordinal, with_handle}
+use Rattle.lpc_model.specs.Basics.{AddsHandle, AddsProcess, AddsThread, Awaits, Binds, DrawsIdentifier, DrawsOrdinal, Makes, Wakes, basic, no_handles, past_identifier, past_ordinal, with_handle}
 use Rattle.lpc_model.specs.Tests.{handle_row}
 use Rattle.lpc_model.specs.SoundWaits.{IsSoundWorld}
 use Rattle.lpc_model.proofs.Rows.{count-change, count-none, first-push, has-append, passes-change, passes-push}
@@ -75,6 +75,11 @@ sound-process w p new s =
       tables = λ pid. one-more p.number pid w.used_processes w.handles (tables-of w s) new;
       unused = λ pid. none-before p.number pid w.used_processes w.handles (tables-of w s);
     }) s
+
+-- Names
+-- no wait stands on the name space
+pub sound-binds : (w : World) (path : Path) (node : Node Birth) → IsSoundWorld w → IsSoundWorld (basic w (Binds path node))
+sound-binds w path node s = record { waits = s.waits; requests = s.requests; tables = s.tables; unused = s.unused }
 
 -- Ports and handles
 pub sound-makes : (w : World) (p : PortRow) → IsSoundWorld w → IsSoundWorld (basic w (Makes p))

@@ -8,18 +8,21 @@ use Rattle.lpc_model.specs.World.{ThreadRow, WaitRow, World, no_rows}
 use Rattle.lpc_model.specs.Found.{live_thread, wait_of, was_process, was_thread}
 use Rattle.lpc_model.specs.Basics.{AddsProcess, basic}
 use Rattle.lpc_model.specs.Tests.{client_of, is_client}
-use Rattle.lpc_model.specs.Lines.{ScriptCall, ScriptLine, boot, create_port, reply_port, reply_wait_receive_port, request_port, request_wait_reply_port, run, thread}
-use Rattle.lpc_model.specs.Machine.{Stepped, boot_line, directive_birth, name_of, new_process, new_thread, ready_steps, service_of, steps, thread_line, thread_steps, thread_test, unused_test}
+use Rattle.lpc_model.specs.Lines.{ScriptCall, ScriptLine, boot, create_port, reply_port, reply_wait_receive_port, request_port, request_wait_reply_port, dir, link, run, thread}
+use Rattle.lpc_model.specs.Machine.{Stepped, boot_line, dir_line, directive_birth, link_line, name_of, new_process, new_thread, ready_steps, service_of, steps, thread_line, thread_steps, thread_test, unused_test}
+use Rattle.lpc_model.specs.Named.{free_name, spelled_name}
+use Rattle.lpc_names.specs.Walk.{LinkTo, Stands}
+use Rattle.lpc_names.specs.declared.names.Found.TheVariants.{Directory}
 use Rattle.lpc_model.specs.Run.{line_step, said_in, trace}
 use Rattle.lpc_model.specs.SoundWaits.{HasSoundWaits, IsSoundWorld, RunStaysSound, StepsStaySound}
 use Rattle.lpc_model.proofs.Holding.{Holds, bind_holds, directed_holds, not_refused, settled_holds}
 use Rattle.lpc_model.proofs.Usable.{live-client}
-use Rattle.lpc_model.proofs.SoundBasics.{sound-process, sound-thread}
+use Rattle.lpc_model.proofs.SoundBasics.{sound-binds, sound-process, sound-thread}
 use Rattle.lpc_model.proofs.SoundServices.{LeaveSound, create-sound, datagram-sound, receive-sound, reply-sound, request-sound}
 
 -- Calls
 service-sound : (w : World) (by : ThreadRow) (call : ScriptCall) → is_client w (client_of by) ≡ true → IsSoundWorld w → Holds (LeaveSound w) (service_of w by call)
-service-sound w by create_port client s = create-sound w by s
+service-sound w by (create_port name) client s = create-sound w by name s
 service-sound w by (request_port handle bytes) client s = datagram-sound w by handle bytes s
 service-sound w by (request_wait_reply_port handle bytes) client s = request-sound w by handle bytes client s
 service-sound w by (reply_port handle bytes) client s = reply-sound w by handle bytes s
@@ -51,11 +54,23 @@ unfolding thread_line
 further-sound w tid pid s =
     bind_holds (thread_test w tid pid) _ (LeaveSound w) (λ _ _. sound-thread w (new_thread tid pid (directive_birth tid)) s)
 
+dir-sound : (w : World) (text : List ℕ) → IsSoundWorld w → Holds (LeaveSound w) (dir_line w text)
+unfolding dir_line
+dir-sound w text s = bind_holds (free_name w text) _ (LeaveSound w) (λ path _. sound-binds w path (Stands Directory) s)
+
+link-sound : (w : World) (text target : List ℕ) → IsSoundWorld w → Holds (LeaveSound w) (link_line w text target)
+unfolding link_line
+link-sound w text target s =
+    bind_holds (spelled_name target) _ (LeaveSound w) (λ to _.
+    bind_holds (free_name w text) _ (LeaveSound w) (λ path _. sound-binds w path (LinkTo to) s))
+
 -- Lines
 line-sound : (w : World) (line : ScriptLine) → IsSoundWorld w → LeaveSound w (steps line w)
 unfolding steps
 line-sound w (boot pid tid) s = directed_holds (LeaveSound w) word.Boot (boot_line w pid tid) (boot-sound w pid tid s) (λ _. s)
 line-sound w (thread tid pid) s = directed_holds (LeaveSound w) word.Thread (thread_line w tid pid) (further-sound w tid pid s) (λ _. s)
+line-sound w (dir path) s = directed_holds (LeaveSound w) word.Dir (dir_line w path) (dir-sound w path s) (λ _. s)
+line-sound w (link path target) s = directed_holds (LeaveSound w) word.Link (link_line w path target) (link-sound w path target s) (λ _. s)
 line-sound w (run tid call) s = thread-sound w tid call (live_thread w tid) refl s
 
 -- the world before the first line is sound

@@ -1,28 +1,31 @@
 -- Each service leaves sound waits behind.
 use Rattle.std.proofs.Common.{◌≡◌, ℕ, List, [], ◌∷◌, ◌++◌, Bool, true, false, not, refl, sym, ap, subst, arith}
-use Rattle.std.specs.Prelude.{◌&&◌, ◌==◌, Option, Some, None}
+use Rattle.std.specs.Prelude.{◌&&◌, ◌==◌, Option, Some, None, Result, Ok}
 use Rattle.std.proofs.lemmas.Bool.Decides.{nat_tests}
 use Rattle.lpc_base.specs.Rows.{first, has, passes, without}
 use Rattle.lpc_base.specs.declared.status.TheConstants.{PORT_DISCONNECTED, SUCCESS}
 use Rattle.lpc_base.proofs.RowWords.{every-more, every-push, first-passes, has-push, has_none-more}
 use Rattle.lpc_message.specs.declared.kind.TheConstants.{DATAGRAM, REQUEST}
-use Rattle.lpc_base.specs.declared.port_kind.PortKind.TheVariants.{Unnamed}
-use Rattle.lpc_model.specs.World.{Birth, Message, MessageRow, PortRow, ThreadRow, WaitRow, World}
+use Rattle.lpc_base.specs.declared.port_kind.PortKind.TheVariants.{Connection, Unnamed}
+use Rattle.lpc_model.specs.World.{Birth, Message, MessageRow, PortKind, PortRow, ThreadRow, WaitRow, World}
 use Rattle.lpc_model.specs.Found.{free_handle, is_live_thread, is_open, port_row, is_queued, is_thread, port_name, queue_of, route, same_birth, waits_as}
-use Rattle.lpc_model.specs.Basics.{Awaits, Basic, DrawsIdentifier, DrawsOrdinal, Makes, basic, past_identifier, world_after}
+use Rattle.lpc_model.specs.Basics.{AddsHandle, Awaits, Basic, DrawsIdentifier, DrawsOrdinal, Makes, basic, past_identifier, world_after}
 use Rattle.lpc_model.specs.Message.{as_reply, message_test}
 use Rattle.lpc_model.specs.Fields.{msg}
 use Rattle.lpc_model.specs.Entering.{enter, row_of, take_steps, takes}
-use Rattle.lpc_model.specs.Tests.{PORT_ACCESS, client_of, handles_test, is_client, next_birth, port_test}
-use Rattle.lpc_model.specs.Connect.{create_steps, new_port, nt_create_port}
+use Rattle.lpc_model.specs.Tests.{PORT_ACCESS, client_of, handle_row, handles_test, is_client, next_birth, port_test}
+use Rattle.lpc_model.specs.Connect.{create_steps, making, new_port, nt_create_port}
+use Rattle.lpc_model.specs.Named.{free_name}
+use Rattle.lpc_names.specs.Walk.{Stands}
+use Rattle.lpc_names.specs.declared.names.Found.TheVariants.{Item}
 use Rattle.lpc_model.specs.Request.{Sendable, answered_test, datagram_send_test, given_reply, is_spent, nt_reply_port, nt_reply_wait_receive_port, nt_request_port, nt_request_wait_reply_port, optional_message, receive_steps, receive_test, receive_wait, request_steps, request_wait, send_test, sent_by}
-use Rattle.lpc_model.specs.Refusal.{found_or, refuse_if}
+use Rattle.lpc_model.specs.Refusal.{◌>>=◌, found_or, refuse_if}
 use Rattle.lpc_model.specs.SoundWaits.{IsSoundWorld, is_answerable, is_joined, is_message_of}
 use Rattle.lpc_model.proofs.Rows.{has-none, passes-change}
 use Rattle.lpc_model.proofs.Holding.{Holds, bind_holds, found_ok, holds_ok, not_refused}
 use Rattle.lpc_model.proofs.Usable.{HasRoute, IsUsable, birth-same, birth-self, port-usable, queue-open, routed, unspent}
 use Rattle.lpc_model.proofs.SoundWorlds.{is_sure, sure-waits, tables-of}
-use Rattle.lpc_model.proofs.SoundBasics.{sound-awaits, sound-handle, sound-identifier, sound-makes, sound-ordinal, sound-wakes}
+use Rattle.lpc_model.proofs.SoundBasics.{sound-awaits, sound-binds, sound-handle, sound-identifier, sound-makes, sound-ordinal, sound-wakes}
 use Rattle.lpc_model.proofs.SoundQueues.{after-append, is_ready, ready-sure, sound-enter, sound-take}
 
 -- the steps leave a sound world
@@ -30,15 +33,28 @@ abbrev pub LeaveSound : World → List Basic → Type 0
 LeaveSound w bs = IsSoundWorld (world_after w bs)
 
 -- NtCreatePort
-created-sound : (w : World) (by : ThreadRow) → IsSoundWorld w → LeaveSound w (create_steps by (next_birth by) (free_handle w by.process))
-created-sound w by s =
+-- a port is made by steps that leave a sound world, and then gets a handle
+created-sound : (w : World) (by : ThreadRow) (kind : PortKind) → IsSoundWorld w → LeaveSound w (DrawsOrdinal by.number ∷ Makes (new_port (next_birth by) kind) ∷ AddsHandle by.process (handle_row (free_handle w by.process) (port_name (next_birth by)) PORT_ACCESS) ∷ [])
+created-sound w by kind s =
     let drawn = sound-ordinal w by.number s in
-    let made = sound-makes (basic w (DrawsOrdinal by.number)) (new_port (next_birth by) Unnamed) drawn in
-    sound-handle (basic (basic w (DrawsOrdinal by.number)) (Makes (new_port (next_birth by) Unnamed))) by.process (port_name (next_birth by)) PORT_ACCESS made
+    let made = sound-makes (basic w (DrawsOrdinal by.number)) (new_port (next_birth by) kind) drawn in
+    sound-handle (basic (basic w (DrawsOrdinal by.number)) (Makes (new_port (next_birth by) kind))) by.process (port_name (next_birth by)) PORT_ACCESS made
 
-pub create-sound : (w : World) (by : ThreadRow) → IsSoundWorld w → Holds (LeaveSound w) (nt_create_port w by)
+-- where the steps that make a port leave a sound world with a handle, the call does
+makes-sound : (w : World) (by : ThreadRow) (made : List Basic) → LeaveSound w (create_steps by made (free_handle w by.process)) → Holds (LeaveSound w) (handles_test w by.process 1 >>= (λ _. Ok (create_steps by made (free_handle w by.process))))
+makes-sound w by made s = bind_holds (handles_test w by.process 1) _ (LeaveSound w) (λ _ _. s)
+
+-- so with a name, and without
+making-sound : (w : World) (by : ThreadRow) (name : Option (List ℕ)) → IsSoundWorld w → Holds (λ made. LeaveSound w (create_steps by made (free_handle w by.process))) (making w (next_birth by) name)
+making-sound w by None s = created-sound w by Unnamed s
+making-sound w by (Some name) s =
+    bind_holds (free_name w name) _ (λ made. LeaveSound w (create_steps by made (free_handle w by.process))) (λ path _. sound-binds _ path (Stands (Item (next_birth by))) (created-sound w by Connection s))
+
+pub create-sound : (w : World) (by : ThreadRow) (name : Option (List ℕ)) → IsSoundWorld w → Holds (LeaveSound w) (nt_create_port w by name)
 unfolding nt_create_port
-create-sound w by s = bind_holds (handles_test w by.process 1) _ (LeaveSound w) (λ _ _. created-sound w by s)
+create-sound w by name s =
+    bind_holds (making w (next_birth by) name) _ (LeaveSound w) (λ made at.
+    makes-sound w by made (holds_ok (λ made. LeaveSound w (create_steps by made (free_handle w by.process))) (making w (next_birth by) name) made (making-sound w by name s) at))
 
 -- Messages that are sent
 -- what the tests of a message that is sent find

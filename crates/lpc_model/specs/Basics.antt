@@ -7,7 +7,7 @@ use Rattle.lpc_model.specs.declared.entry.Field.{Field}
 use Rattle.lpc_model.specs.declared.entry.Outcome.{Outcome}
 use Rattle.lpc_model.specs.declared.entry.Outcome.TheVariants as outcome
 use Rattle.lpc_base.specs.Rows.{change, which, without, without_first}
-use Rattle.lpc_model.specs.World.{World, Birth, CallName, ProcessRow, ThreadRow, UsedThread, HandleRow, HandleTable, PortRow, MessageRow, WaitRow}
+use Rattle.lpc_model.specs.World.{World, Birth, CallName, ProcessRow, ThreadRow, UsedThread, HandleRow, HandleTable, PortRow, MessageRow, WaitRow, Node, Path}
 use Rattle.lpc_model.specs.Found.{is_queued, is_table, is_thread, waits_as}
 
 -- One change of one row each, or one entry.
@@ -30,6 +30,8 @@ pub data Basic : Type 0 where
   AddsProcess : ProcessRow → Basic
   AddsThread : ThreadRow → Basic
   Makes : PortRow → Basic
+  -- a path is bound to a directory, to a port, or as a link to another path
+  Binds : Path → Node Birth → Basic
   -- a process gets a handle
   AddsHandle : ℕ → HandleRow → Basic
 
@@ -79,6 +81,7 @@ basic w (AddsProcess p) =
 basic w (AddsThread t) =
     record w { threads = w.threads ++ t ∷ []; used_threads = w.used_threads ++ used t ∷ [] }
 basic w (Makes p) = record w { ports = w.ports ++ p ∷ [] }
+basic w (Binds path node) = record w { bindings = w.bindings ++ (path, node) ∷ [] }
 basic w (AddsHandle pid h) = record w { handles = change (is_table pid) (with_handle h) w.handles }
 
 -- the entries that a basic step makes

@@ -1,5 +1,5 @@
 -- What a line says, or its first fault. A call or directive is an entry of its table of names and a case of its words.
-use Rattle.std.specs.Prelude.{ℕ, ◌&&◌, nat_lt, nat_le, not, Bool, false, List, [], ◌∷◌, length, find, codes, Option, Some, None, Result, Ok, Err, if◌then◌else◌}
+use Rattle.std.specs.Prelude.{ℕ, ◌&&◌, nat_lt, nat_le, not, Bool, true, false, List, [], ◌∷◌, length, find, codes, Option, Some, None, Result, Ok, Err, if◌then◌else◌}
 use Rattle.std.specs.Char.{is_ascii_digit}
 use Rattle.std.specs.List.{list_all}
 use Rattle.std.specs.Option.{option_map, ok_or}
@@ -8,10 +8,10 @@ use Rattle.lpc_base.specs.declared.limits.TheConstants.{LINE_LIMIT}
 use Rattle.lpc_model.specs.declared.entry.CallName.{CallName}
 use Rattle.lpc_model.specs.declared.entry.CallName.TheVariants.{NtCreatePort, NtRequestPort, NtRequestWaitReplyPort, NtReplyPort, NtReplyWaitReceivePort}
 use Rattle.lpc_model.specs.declared.entry.Word.{Word}
-use Rattle.lpc_model.specs.declared.entry.Word.TheVariants.{Boot, Thread}
+use Rattle.lpc_model.specs.declared.entry.Word.TheVariants.{Boot, Thread, Dir, Link}
 use Rattle.lpc_model.specs.declared.fault.LineFault.{LineFault}
 use Rattle.lpc_model.specs.declared.fault.LineFault.TheVariants as fault
-use Rattle.lpc_model.specs.Lines.{ScriptCall, create_port, request_port, request_wait_reply_port, reply_port, reply_wait_receive_port, ScriptLine, boot, thread, run}
+use Rattle.lpc_model.specs.Lines.{ScriptCall, create_port, request_port, request_wait_reply_port, reply_port, reply_wait_receive_port, ScriptLine, boot, thread, dir, link, run}
 use Rattle.lpc_model.specs.Words.{◌>>=◌, fault_if, words, begins, number_word, id_word, is_id, message_word}
 
 -- what stands beside a name in a table
@@ -30,7 +30,7 @@ call_names =
 
 -- the directives by their words
 abbrev pub directive_names : List (List ℕ × Word)
-directive_names = (codes "boot", Boot) ∷ (codes "thread", Thread) ∷ []
+directive_names = (codes "boot", Boot) ∷ (codes "thread", Thread) ∷ (codes "dir", Dir) ∷ (codes "link", Link) ∷ []
 
 -- the one word that may stand in a place
 abbrev pub fixed_word : List ℕ → List ℕ → Result Unit LineFault
@@ -58,6 +58,10 @@ given_message (Some word) = do
   message ← message_word word
   Ok (Some message)
 
+-- the name of a new port, which may be any word; `-` gives it none
+abbrev pub port_name : List ℕ → Option (List ℕ)
+port_name word = if bytes_eq word (codes "-") then None else Some word
+
 -- a handle and a message
 abbrev pub handle_and_message : List (List ℕ) → Result (ℕ × List ℕ) LineFault
 handle_and_message others = do
@@ -77,9 +81,8 @@ handle_and_reply others = do
 -- a call by the words behind its name
 unfoldable pub call_words : CallName → List (List ℕ) → Result ScriptCall LineFault
 call_words NtCreatePort others = do
-  name ← one_word others
-  _ ← fixed_word (codes "-") name
-  Ok create_port
+  word ← one_word others
+  Ok (create_port (port_name word))
 call_words NtRequestPort others = do
   datagram ← handle_and_message others
   Ok (request_port datagram.0 datagram.1)
@@ -93,7 +96,7 @@ call_words NtReplyWaitReceivePort others = do
   receive ← handle_and_reply others
   Ok (reply_wait_receive_port receive.0 receive.1)
 
--- a directive by the words behind it
+-- a directive by the words behind it; a path may be any word
 unfoldable pub directive_words : Word → List (List ℕ) → Result ScriptLine LineFault
 directive_words Boot others = do
   two ← two_words others
@@ -105,6 +108,12 @@ directive_words Thread others = do
   tid ← id_word two.0
   pid ← id_word two.1
   Ok (thread tid pid)
+directive_words Dir others = do
+  path ← one_word others
+  Ok (dir path)
+directive_words Link others = do
+  two ← two_words others
+  Ok (link two.0 two.1)
 
 -- the call of a thread: its name, and the words behind it
 abbrev pub named_call : List (List ℕ) → Result ScriptCall LineFault
@@ -150,8 +159,10 @@ read_line line =
     else (if not (list_all is_printable line) then Err fault.Byte
     else words_line (words line)))
 
--- the numbers of processes and threads are from 1 to 2147483647
+-- the numbers of processes and threads, where a line has them, are from 1 to 2147483647
 abbrev pub has_ids : ScriptLine → Bool
 has_ids (boot pid tid) = is_id pid && is_id tid
 has_ids (thread tid pid) = is_id tid && is_id pid
+has_ids (dir path) = true
+has_ids (link path target) = true
 has_ids (run tid call) = is_id tid

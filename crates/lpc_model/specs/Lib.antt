@@ -8,6 +8,7 @@ pub mod Basics
 pub mod Fields
 pub mod Entering
 pub mod Tests
+pub mod Named
 pub mod Connect
 pub mod Request
 pub mod Machine

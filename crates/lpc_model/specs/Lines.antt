@@ -6,23 +6,25 @@ use Rattle.lpc_model.specs.declared.line.Call.TheVariants as call
 use Rattle.lpc_model.specs.declared.line.Line.{Line}
 use Rattle.lpc_model.specs.declared.line.Line.TheVariants as line
 
--- a system call with its arguments; a message is its bytes
+-- a system call with its arguments; a message and a name are their bytes, and an unnamed port has none
 pub data ScriptCall : Type 0 where
-  create_port : ScriptCall
+  create_port : Option (List ℕ) → ScriptCall
   request_port : ℕ → List ℕ → ScriptCall
   request_wait_reply_port : ℕ → List ℕ → ScriptCall
   reply_port : ℕ → List ℕ → ScriptCall
   reply_wait_receive_port : ℕ → Option (List ℕ) → ScriptCall
 
--- a directive, or a call of a thread
+-- a directive, or a call of a thread; a path is its bytes
 pub data ScriptLine : Type 0 where
   boot : ℕ → ℕ → ScriptLine
   thread : ℕ → ℕ → ScriptLine
+  dir : List ℕ → ScriptLine
+  link : List ℕ → List ℕ → ScriptLine
   run : ℕ → ScriptCall → ScriptLine
 
--- a call without the buffer that it is lent
+-- a call without the bytes that it is lent
 abbrev pub call_of : Call → ScriptCall
-call_of call.CreatePort = create_port
+call_of (call.CreatePort name) = create_port (option_copied name)
 call_of (call.RequestPort handle message) = request_port handle message.now
 call_of (call.RequestWaitReplyPort handle message) = request_wait_reply_port handle message.now
 call_of (call.ReplyPort handle message) = reply_port handle message.now
@@ -31,4 +33,6 @@ call_of (call.ReplyWaitReceivePort handle reply) = reply_wait_receive_port handl
 abbrev pub line_of : Line → ScriptLine
 line_of (line.Boot pid tid) = boot pid tid
 line_of (line.Thread tid pid) = thread tid pid
+line_of (line.Dir path) = dir path.now
+line_of (line.Link path target) = link path.now target.now
 line_of (line.Run tid c) = run tid (call_of c)

@@ -11,14 +11,17 @@ use Rattle.lpc_model.specs.declared.entry.CallName.TheVariants.{NtCreatePort, Nt
 use Rattle.lpc_model.specs.Refusal.{◌>>=◌, refuse_if}
 use Rattle.lpc_model.specs.World.{World, Birth, CallName, ProcessRow, ThreadRow, WaitRow}
 use Rattle.lpc_model.specs.Found.{is_live, live_count, live_thread, wait_of, was_process, was_thread}
-use Rattle.lpc_model.specs.Basics.{AddsProcess, AddsThread, Basic, Steps, Tells, entries_of, world_after}
+use Rattle.lpc_model.specs.Basics.{AddsProcess, AddsThread, Basic, Binds, Steps, Tells, entries_of, world_after}
 use Rattle.lpc_model.specs.Connect.{nt_create_port}
+use Rattle.lpc_model.specs.Named.{free_name, spelled_name}
+use Rattle.lpc_names.specs.Walk.{LinkTo, Stands}
+use Rattle.lpc_names.specs.declared.names.Found.TheVariants.{Directory}
 use Rattle.lpc_model.specs.Request.{nt_reply_port, nt_reply_wait_receive_port, nt_request_port, nt_request_wait_reply_port}
-use Rattle.lpc_model.specs.Lines.{ScriptCall, create_port, request_port, request_wait_reply_port, reply_port, reply_wait_receive_port, ScriptLine, boot, thread, run}
+use Rattle.lpc_model.specs.Lines.{ScriptCall, create_port, request_port, request_wait_reply_port, reply_port, reply_wait_receive_port, ScriptLine, boot, thread, dir, link, run}
 
 -- the name of a call
 abbrev pub name_of : ScriptCall → CallName
-name_of create_port = NtCreatePort
+name_of (create_port name) = NtCreatePort
 name_of (request_port handle message) = NtRequestPort
 name_of (request_wait_reply_port handle message) = NtRequestWaitReplyPort
 name_of (reply_port handle message) = NtReplyPort
@@ -26,7 +29,7 @@ name_of (reply_wait_receive_port handle reply) = NtReplyWaitReceivePort
 
 -- the service that serves a call
 abbrev pub service_of : World → ThreadRow → ScriptCall → Result (List Basic) Status
-service_of w by create_port = nt_create_port w by
+service_of w by (create_port name) = nt_create_port w by name
 service_of w by (request_port handle message) = nt_request_port w by handle message
 service_of w by (request_wait_reply_port handle message) = nt_request_wait_reply_port w by handle message
 service_of w by (reply_port handle message) = nt_reply_port w by handle message
@@ -110,10 +113,25 @@ thread_line w tid pid = do
   _ ← thread_test w tid pid
   Ok (AddsThread (new_thread tid pid (directive_birth tid)) ∷ [])
 
+-- `dir`: a fault of the path, at which nothing may stand
+unfoldable pub dir_line : World → List ℕ → Result (List Basic) Status
+dir_line w text = do
+  path ← free_name w text
+  Ok (Binds path (Stands Directory) ∷ [])
+
+-- `link`: a fault of the target's form, then one of the path; the target need not stand
+unfoldable pub link_line : World → List ℕ → List ℕ → Result (List Basic) Status
+link_line w text target = do
+  to ← spelled_name target
+  path ← free_name w text
+  Ok (Binds path (LinkTo to) ∷ [])
+
 -- what a line does in a world
 unfoldable pub steps : ScriptLine → Steps
 steps (boot pid tid) w = directed word.Boot (boot_line w pid tid)
 steps (thread tid pid) w = directed word.Thread (thread_line w tid pid)
+steps (dir path) w = directed word.Dir (dir_line w path)
+steps (link path target) w = directed word.Link (link_line w path target)
 steps (run tid call) w = thread_steps tid call (live_thread w tid) w
 
 -- the world that a step leaves, and the entries that it makes

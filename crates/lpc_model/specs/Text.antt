@@ -34,6 +34,8 @@ call_text NtReplyWaitReceivePort = codes "NtReplyWaitReceivePort"
 abbrev pub word_text : Word → List ℕ
 word_text word.Boot = codes "boot"
 word_text word.Thread = codes "thread"
+word_text word.Dir = codes "dir"
+word_text word.Link = codes "link"
 
 -- the name of a kind of object
 abbrev pub kind_text : ObjectKind → List ℕ

@@ -2,6 +2,7 @@
 use Rattle.std.specs.Prelude.{ℕ, Bool, List, [], Option}
 pub use Rattle.lpc_base.specs.declared.birth.Birth.{Birth}
 pub use Rattle.lpc_base.specs.declared.port_kind.PortKind.{PortKind}
+pub use Rattle.lpc_names.specs.Walk.{Bindings, Node, Path}
 pub use Rattle.lpc_model.specs.declared.entry.CallName.{CallName}
 pub use Rattle.lpc_model.specs.declared.entry.ObjectKind.{ObjectKind}
 pub use Rattle.lpc_model.specs.declared.message.Message.{Message}
@@ -77,7 +78,8 @@ pub record WaitRow : Type 0 where
   pub received : Bool
 
 -- Handles stand by process in order of making, and in each process by value; every other list is in order of making. A
--- number that was used is never removed from the used ones.
+-- number that was used is never removed from the used ones. The name space binds paths to directories, to links, and to
+-- ports by their births.
 pub record World : Type 0 where
   pub processes : List ProcessRow
   pub threads : List ThreadRow
@@ -87,6 +89,7 @@ pub record World : Type 0 where
   pub ports : List PortRow
   pub messages : List MessageRow
   pub waits : List WaitRow
+  pub bindings : Bindings Birth
 
 -- the world before the first line
 abbrev pub no_rows : World
@@ -99,4 +102,5 @@ no_rows = record {
   ports = [];
   messages = [];
   waits = [];
+  bindings = [];
 }

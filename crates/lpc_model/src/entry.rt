@@ -24,6 +24,8 @@ pub enum CallName {
 pub enum Word {
     Boot,
     Thread,
+    Dir,
+    Link,
 }
 
 /// The kinds of object.

@@ -1,12 +1,15 @@
-// A line of a script. Its messages lie in a buffer that is lent.
+// A line of a script. Its messages lie in a buffer that is lent, its names in the line itself.
 
 /// A system call with its arguments, as a line spells it.
 ///
-/// A message is the whole message, header and data; it is tested by the call, not by the line.
+/// A message is the whole message, header and data, and a name is a word as it stands; both are tested by the call, not by
+/// the line.
 #[derive(Clone, Copy, Debug)]
 pub enum Call<'a> {
-    /// `NtCreatePort -`: makes an unnamed port.
-    CreatePort,
+    /// `NtCreatePort NAME`: makes a connection port of that name, or an unnamed port where the word is `-`.
+    CreatePort {
+        name: Option<&'a [u8]>,
+    },
     /// `NtRequestPort H MSG`: sends a datagram on a port and waits for nothing.
     RequestPort {
         handle: u32,
@@ -30,13 +33,18 @@ pub enum Call<'a> {
     },
 }
 
-/// What one line of a script says. Process and thread numbers are from 1 to 2147483647.
+/// What one line of a script says. Process and thread numbers are from 1 to 2147483647. A path is a word as it stands; it
+/// is tested by the directive, not by the line.
 #[derive(Clone, Copy, Debug)]
 pub enum Line<'a> {
     /// `boot PID TID`: makes a process with its first thread.
     Boot { pid: u32, tid: u32 },
     /// `thread TID PID`: makes a further thread of a process.
     Thread { tid: u32, pid: u32 },
+    /// `dir PATH`: makes a directory of the name space.
+    Dir(&'a [u8]),
+    /// `link PATH TARGET`: makes a link of the name space to another path.
+    Link { path: &'a [u8], target: &'a [u8] },
     /// `TID CALL WORDS`: a thread makes a call.
     Run { tid: u32, call: Call<'a> },
 }

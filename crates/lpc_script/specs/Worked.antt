@@ -2,14 +2,19 @@
 use Rattle.std.specs.Prelude.{◌≡◌, ◌<◌, ℕ, List, length, [], ◌∷◌, ◌++◌, codes, Some, None, Ok, Err}
 use Rattle.lpc_base.specs.declared.limits.TheConstants.{LINE_LIMIT}
 use Rattle.lpc_model.specs.declared.fault.LineFault.TheVariants as fault
-use Rattle.lpc_model.specs.Lines.{boot, thread, run, create_port, request_port, request_wait_reply_port, reply_port, reply_wait_receive_port}
+use Rattle.lpc_model.specs.Lines.{boot, thread, dir, link, run, create_port, request_port, request_wait_reply_port, reply_port, reply_wait_receive_port}
 use Rattle.lpc_model.specs.Grammar.{read_line}
 
 pub record WorkedLines : Type 0 where
   -- a line of each form
   pub boot_of_a_process : read_line (codes "boot 20 24") ≡ Ok (Some (boot 20 24))
   pub thread_in_hexadecimal : read_line (codes "  thread   0x1C 0x0014 ") ≡ Ok (Some (thread 28 20))
-  pub unnamed_port : read_line (codes "24 NtCreatePort -") ≡ Ok (Some (run 24 create_port))
+  pub directory : read_line (codes "dir \\Windows") ≡ Ok (Some (dir (codes "\\Windows")))
+  pub directory_of_any_word : read_line (codes "dir x") ≡ Ok (Some (dir (codes "x")))
+  pub link_to_a_path : read_line (codes "link \\L  -") ≡ Ok (Some (link (codes "\\L") (codes "-")))
+  pub unnamed_port : read_line (codes "24 NtCreatePort -") ≡ Ok (Some (run 24 (create_port None)))
+  pub named_port : read_line (codes "24 NtCreatePort \\Windows\\ApiPort") ≡ Ok (Some (run 24 (create_port (Some (codes "\\Windows\\ApiPort")))))
+  pub port_of_any_name : read_line (codes "24 NtCreatePort --") ≡ Ok (Some (run 24 (create_port (Some (codes "--")))))
   pub receive : read_line (codes "28 NtReplyWaitReceivePort 4294967295") ≡ Ok (Some (run 28 (reply_wait_receive_port 4294967295 None)))
   pub receive_with_a_reply : read_line (codes "28 NtReplyWaitReceivePort 4 m:4142") ≡ Ok (Some (run 28 (reply_wait_receive_port 4 (Some (65 ∷ 66 ∷ [])))))
   pub datagram : read_line (codes "24 NtRequestPort 4 m:41") ≡ Ok (Some (run 24 (request_port 4 (65 ∷ []))))
@@ -29,11 +34,14 @@ pub record WorkedLines : Type 0 where
   pub blanks_and_a_bad_byte : read_line (32 ∷ 127 ∷ []) ≡ Err fault.Byte
   pub no_directive : read_line (codes "reboot 1 2") ≡ Err fault.Word
   pub no_call : read_line (codes "24 NtFoo") ≡ Err fault.Call
+  pub directory_without_a_path : read_line (codes "dir") ≡ Err fault.Count
+  pub directory_of_two_paths : read_line (codes "dir \\A \\B") ≡ Err fault.Count
+  pub link_to_nothing : read_line (codes "link \\A") ≡ Err fault.Count
+  pub port_of_two_names : read_line (codes "24 NtCreatePort - -") ≡ Err fault.Count
   pub too_few_words : read_line (codes "24 NtReplyPort") ≡ Err fault.Count
   pub receive_of_no_handle : read_line (codes "24 NtReplyWaitReceivePort") ≡ Err fault.Count
   pub receive_with_two_replies : read_line (codes "24 NtReplyWaitReceivePort 4 d: d:") ≡ Err fault.Count
   pub space_before_the_sign : read_line (codes " # boot") ≡ Err fault.Word
-  pub name_before_its_request : read_line (codes "24 NtCreatePort \\A") ≡ Err fault.Word
   pub name_before_the_count : read_line (codes "24 NtFoo 1 2 3 4") ≡ Err fault.Call
   pub count_before_the_words : read_line (codes "24 NtReplyPort 08 x: 4") ≡ Err fault.Count
   pub thread_alone : read_line (codes "24") ≡ Err fault.Count

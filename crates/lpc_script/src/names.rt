@@ -13,7 +13,12 @@ const CALLS: [(&[u8], CallName); 5] = [
     (b"NtReplyWaitReceivePort", CallName::NtReplyWaitReceivePort),
 ];
 
-const DIRECTIVES: [(&[u8], Word); 2] = [(b"boot", Word::Boot), (b"thread", Word::Thread)];
+const DIRECTIVES: [(&[u8], Word); 4] = [
+    (b"boot", Word::Boot),
+    (b"thread", Word::Thread),
+    (b"dir", Word::Dir),
+    (b"link", Word::Link),
+];
 
 /// What stands beside a word in a table.
 #[tactic(auto, unfolding(lpc_model::specs::Grammar::named))]

@@ -61,18 +61,19 @@ fn handle_and_reply<'a>(
 }
 
 #[tactic(auto, unfolding(lpc_model::specs::Grammar::call_words))]
-fn create_port(text: &[u8]) -> Result<Call<'static>, LineFault>
+fn create_port(text: &[u8]) -> Result<Call<'_>, LineFault>
     ensures { Gives call_of result (call_words NtCreatePort (words text.now)) }
 {
-    if one_word(text)? != b"-".as_slice() {
-        return Err(LineFault::Word);
+    let word = one_word(text)?;
+    if word == b"-".as_slice() {
+        return Ok(Call::CreatePort { name: None });
     }
-    Ok(Call::CreatePort)
+    Ok(Call::CreatePort { name: Some(word) })
 }
 
 /// A call by the words behind its name.
 #[tactic(auto, unfolding(lpc_model::specs::Grammar::call_words))]
-fn call<'a>(name: CallName, text: &[u8], scratch: &'a mut Scratch) -> Result<Call<'a>, LineFault>
+fn call<'a>(name: CallName, text: &'a [u8], scratch: &'a mut Scratch) -> Result<Call<'a>, LineFault>
     requires { length text.now ≤ LINE_LIMIT }
     ensures { Gives call_of result (call_words name (words text.now)) }
 {
@@ -99,7 +100,7 @@ fn call<'a>(name: CallName, text: &[u8], scratch: &'a mut Scratch) -> Result<Cal
 
 /// A directive by the words behind it.
 #[tactic(auto, unfolding(lpc_model::specs::Grammar::directive_words))]
-fn directive(word: Word, text: &[u8]) -> Result<Line<'static>, LineFault>
+fn directive(word: Word, text: &[u8]) -> Result<Line<'_>, LineFault>
     ensures value { Gives line_of result (directive_words word (words text.now)) }
     ensures ids { IfOk result (λ line. IsTrue (has_ids (line_of line))) }
 {
@@ -116,12 +117,24 @@ fn directive(word: Word, text: &[u8]) -> Result<Line<'static>, LineFault>
             let pid = id(pid)?;
             Ok(Line::Thread { tid, pid })
         }
+        Word::Dir => {
+            let path = one_word(text)?;
+            Ok(Line::Dir(path))
+        }
+        Word::Link => {
+            let (path, target) = two_words(text)?;
+            Ok(Line::Link { path, target })
+        }
     }
 }
 
 /// The call of the thread whose number the front is.
 #[tactic(auto, unfolding(lpc_model::specs::Grammar::call_line))]
-fn call_line<'a>(front: &[u8], text: &[u8], scratch: &'a mut Scratch) -> Result<Line<'a>, LineFault>
+fn call_line<'a>(
+    front: &[u8],
+    text: &'a [u8],
+    scratch: &'a mut Scratch,
+) -> Result<Line<'a>, LineFault>
     requires { length text.now ≤ LINE_LIMIT }
     ensures value { Gives line_of result (grammar.call_line front.now (words text.now)) }
     ensures ids { IfOk result (λ line. IsTrue (has_ids (line_of line))) }
@@ -137,7 +150,7 @@ fn call_line<'a>(front: &[u8], text: &[u8], scratch: &'a mut Scratch) -> Result<
 
 /// The directive whose word the front is.
 #[tactic(auto, unfolding(lpc_model::specs::Grammar::directive_line))]
-fn directive_line(front: &[u8], text: &[u8]) -> Result<Line<'static>, LineFault>
+fn directive_line<'a>(front: &[u8], text: &'a [u8]) -> Result<Line<'a>, LineFault>
     ensures value { Gives line_of result (grammar.directive_line front.now (words text.now)) }
     ensures ids { IfOk result (λ line. IsTrue (has_ids (line_of line))) }
 {
@@ -167,10 +180,10 @@ fn is_printable(text: &[u8]) -> bool
 
 /// What a line says, none where it is a comment or has no word, or its first fault.
 ///
-/// The line is given without the byte 10 that ends it. Its messages lie in the scratch. A byte past the 16,384th is
-/// found before all else (`Long`), then a byte outside 32 to 126 (`Byte`), then the faults of the words from left to
-/// right: the first word, the call's name, the count of words and the words themselves. The grammar and the order of
-/// the faults are this project's own.
+/// The line is given without the byte 10 that ends it. Its messages lie in the scratch, its names and paths in the line
+/// itself. A byte past the 16,384th is found before all else (`Long`), then a byte outside 32 to 126 (`Byte`), then the
+/// faults of the words from left to right: the first word, the call's name, the count of words and the words themselves.
+/// The grammar and the order of the faults are this project's own.
 #[tactic(auto, unfolding(lpc_model::specs::Grammar::read_line))]
 pub fn read_line<'a>(
     bytes: &'a [u8],

@@ -36,7 +36,6 @@ fn the_first_fault_of_a_line_is_answered(rt: HostRuntime) -> Result<(), Fail> {
             ("24", Some(LineFault::Count)),
             ("24 NtFoo 1 2 3", Some(LineFault::Call)),
             ("24 NtReplyPort 08 x:41 4", Some(LineFault::Count)),
-            ("24 NtCreatePort \\A", Some(LineFault::Word)),
             ("24 NtCreatePort - -", Some(LineFault::Count)),
             ("boot 0 024", Some(LineFault::Number)),
             ("boot 20", Some(LineFault::Count)),
@@ -184,6 +183,56 @@ fn a_datagram_has_a_message_and_a_receive_may_have_one(rt: HostRuntime) -> Resul
     };
     assert_eq!(rt; handle, 4);
     assert_eq!(rt; reply, Some(b"B".as_slice()));
+    Ok(())
+}
+
+#[test]
+fn names_and_paths_are_words_as_they_stand(rt: HostRuntime) -> Result<(), Fail> {
+    let mut scratch = Scratch::new(rt.alloc())?;
+    has_faults(
+        &rt,
+        &mut scratch,
+        &[
+            ("24 NtCreatePort", Some(LineFault::Count)),
+            ("24 NtCreatePort \\A \\B", Some(LineFault::Count)),
+            ("dir", Some(LineFault::Count)),
+            ("dir \\A \\B", Some(LineFault::Count)),
+            ("link \\A", Some(LineFault::Count)),
+            ("link \\A \\B \\C", Some(LineFault::Count)),
+            ("dirs \\A", Some(LineFault::Word)),
+            ("24 dir \\A", Some(LineFault::Call)),
+        ],
+    );
+    for (line, named) in [
+        ("24 NtCreatePort -", None),
+        ("24 NtCreatePort  \\A ", Some(b"\\A".as_slice())),
+        ("24 NtCreatePort x", Some(b"x".as_slice())),
+    ] {
+        let Ok(
+            Some(
+                Line::Run {
+                    call: Call::CreatePort { name },
+                    ..
+                },
+            ),
+        ) = read_line(line.as_bytes(), &mut scratch)
+        else {
+            assert!(rt; false, "no port");
+            return Ok(());
+        };
+        assert_eq!(rt; name, named);
+    }
+    let Ok(Some(Line::Dir(path))) = read_line(b"dir -", &mut scratch) else {
+        assert!(rt; false, "no directory");
+        return Ok(());
+    };
+    assert_eq!(rt; path, b"-".as_slice());
+    let Ok(Some(Line::Link { path, target })) = read_line(b"link \\L \\A\\B", &mut scratch) else {
+        assert!(rt; false, "no link");
+        return Ok(());
+    };
+    assert_eq!(rt; path, b"\\L".as_slice());
+    assert_eq!(rt; target, b"\\A\\B".as_slice());
     Ok(())
 }
 

@@ -98,12 +98,17 @@ call_plain NtReplyPort = refl
 call_plain NtReplyWaitReceivePort = refl
 
 read_word : List ℕ → Word
-read_word text = if bytes_eq text (codes "boot") then word.Boot else word.Thread
+read_word text =
+    if bytes_eq text (codes "boot") then word.Boot
+    else (if bytes_eq text (codes "thread") then word.Thread
+    else (if bytes_eq text (codes "dir") then word.Dir else word.Link))
 
 read_word-text : (w : Word) → read_word (word_text w) ≡ w
 unfolding read_word
 read_word-text word.Boot = refl
 read_word-text word.Thread = refl
+read_word-text word.Dir = refl
+read_word-text word.Link = refl
 
 pub word_name_unique : (a b : Word) → word_text a ≡ word_text b → a ≡ b
 word_name_unique a b e = sym (read_word-text a) ∙ ap read_word e ∙ read_word-text b
@@ -111,6 +116,8 @@ word_name_unique a b e = sym (read_word-text a) ∙ ap read_word e ∙ read_word
 pub word_plain : (w : Word) → is_plain (word_text w) ≡ true
 word_plain word.Boot = refl
 word_plain word.Thread = refl
+word_plain word.Dir = refl
+word_plain word.Link = refl
 
 read_name : List ℕ → FieldName
 read_name text =

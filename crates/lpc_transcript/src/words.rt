@@ -83,6 +83,8 @@ fn directive_name(word: Word) -> &'static [u8]
     match word {
         Word::Boot => b"boot",
         Word::Thread => b"thread",
+        Word::Dir => b"dir",
+        Word::Link => b"link",
     }
 }
 
