@@ -32,7 +32,7 @@ use Rattle.lpc_world.specs.Kept.{is_pending}
 use Rattle.lpc_world.specs.Lawful.{IsLawful, is_quiet}
 use Rattle.lpc_world.proofs.Lawful.{lawful-keep}
 use Rattle.lpc_world.specs.Names.{name_of, stands}
-use Rattle.lpc_world.specs.Shown.{AreNamed, Births, all_pass, birth_of, births_of, message_refs, object_stands, part_refs, shown_by, shown_handle, shown_message, shown_part, shown_process, shown_thread, shown_used, shown_wait, wait_refs, with_message}
+use Rattle.lpc_world.specs.Shown.{Tables, AreNamed, Births, all_pass, birth_of, births_of, message_refs, object_stands, part_refs, shown_by, shown_handle, shown_message, shown_part, shown_process, shown_thread, shown_used, shown_wait, wait_refs, with_message}
 use Rattle.lpc_world.specs.Parts.{handed, is_part, roomed}
 use Rattle.lpc_world.specs.declared.object.Object.{Object}
 use Rattle.lpc_world.specs.declared.parts.Part.{Part}
@@ -47,9 +47,9 @@ every_which : {X : Type 0} (p test : X → Bool) (xs : List X) → every p xs �
 every_which p test [] all = refl
 every_which p test (x ∷ xs) all = grind (arith, every_which p test xs)
 
-module _ (t : procs.Table) (parts : List Part) (p : PortTable) (w : WaitTable) (is : AreNamed (births_of p) parts p w) where
+module _ (it : Tables) (is : AreNamed (births_of it.ports) it) where
   abbrev n : Births
-  n = births_of p
+  n = births_of it.ports
 
   abbrev f : Object → Birth
   f = birth_of n
@@ -58,56 +58,56 @@ module _ (t : procs.Table) (parts : List Part) (p : PortTable) (w : WaitTable) (
   ok = object_stands n
 
   abbrev rows : World
-  rows = shown_by n t parts p w
+  rows = shown_by n it
 
   -- a message enters
-  pub entered : (row : Key × QueuedMessage) (room made : ℕ) → all_pass message_refs ok row ≡ true → AreNamed n parts (record p { messages = p.messages ++ row ∷ []; message_room = room; messages_made = made }) w
+  pub entered : (row : Key × QueuedMessage) (room made : ℕ) → all_pass message_refs ok row ≡ true → AreNamed n (record it { ports = record it.ports { messages = it.ports.messages ++ row ∷ []; message_room = room; messages_made = made } })
   entered row room made there = record {
     ports_apart = is.ports_apart;
-    refs = record { in_handles = is.refs.in_handles; in_ports = is.refs.in_ports; in_messages = every-push (all_pass message_refs ok) p.messages row is.refs.in_messages there; in_waits = is.refs.in_waits };
+    refs = record { in_handles = is.refs.in_handles; in_ports = is.refs.in_ports; in_messages = every-push (all_pass message_refs ok) it.ports.messages row is.refs.in_messages there; in_waits = is.refs.in_waits; in_names = is.refs.in_names };
   }
 
-  pub enters : (row : Key × QueuedMessage) (room made : ℕ) → shown_by n t parts (record p { messages = p.messages ++ row ∷ []; message_room = room; messages_made = made }) w ≡ basic rows (Enters (shown_message f row))
-  enters row room made = rw (push-map (shown_message f) p.messages row) refl
+  pub enters : (row : Key × QueuedMessage) (room made : ℕ) → shown_by n (record it { ports = record it.ports { messages = it.ports.messages ++ row ∷ []; message_room = room; messages_made = made } }) ≡ basic rows (Enters (shown_message f row))
+  enters row room made = rw (push-map (shown_message f) it.ports.messages row) refl
 
   -- the oldest message of a queue is taken
-  pub taken : (key : Key) (room : ℕ) → AreNamed n parts (record p { messages = without_first (ports.is_in key) p.messages; message_room = room }) w
+  pub taken : (key : Key) (room : ℕ) → AreNamed n (record it { ports = record it.ports { messages = without_first (ports.is_in key) it.ports.messages; message_room = room } })
   taken key room = record {
     ports_apart = is.ports_apart;
-    refs = record { in_handles = is.refs.in_handles; in_ports = is.refs.in_ports; in_messages = every-without_first (all_pass message_refs ok) (ports.is_in key) p.messages is.refs.in_messages; in_waits = is.refs.in_waits };
+    refs = record { in_handles = is.refs.in_handles; in_ports = is.refs.in_ports; in_messages = every-without_first (all_pass message_refs ok) (ports.is_in key) it.ports.messages is.refs.in_messages; in_waits = is.refs.in_waits; in_names = is.refs.in_names };
   }
 
-  pub takes : (key : Key) (room : ℕ) → stands n.ports key ≡ true → shown_by n t parts (record p { messages = without_first (ports.is_in key) p.messages; message_room = room }) w ≡ basic rows (Takes (name_of n.ports key))
-  takes key room there = rw (without_first-map (shown_message f) (all_pass message_refs ok) (ports.is_in key) (is_queued (name_of n.ports key)) (queue_same parts p w is key there) p.messages is.refs.in_messages) refl
+  pub takes : (key : Key) (room : ℕ) → stands n.ports key ≡ true → shown_by n (record it { ports = record it.ports { messages = without_first (ports.is_in key) it.ports.messages; message_room = room } }) ≡ basic rows (Takes (name_of n.ports key))
+  takes key room there = rw (without_first-map (shown_message f) (all_pass message_refs ok) (ports.is_in key) (is_queued (name_of n.ports key)) (queue_same it is key there) it.ports.messages is.refs.in_messages) refl
 
   -- waits
-  pub awaited : (row : WaitRow) (spare made : ℕ) → all_pass wait_refs ok row ≡ true → AreNamed n parts p (record { rows = w.rows ++ row ∷ []; spare = spare; made = made })
+  pub awaited : (row : WaitRow) (spare made : ℕ) → all_pass wait_refs ok row ≡ true → AreNamed n (record it { waits = record { rows = it.waits.rows ++ row ∷ []; spare = spare; made = made } })
   awaited row spare made there = record {
     ports_apart = is.ports_apart;
-    refs = record { in_handles = is.refs.in_handles; in_ports = is.refs.in_ports; in_messages = is.refs.in_messages; in_waits = every-push (all_pass wait_refs ok) w.rows row is.refs.in_waits there };
+    refs = record { in_handles = is.refs.in_handles; in_ports = is.refs.in_ports; in_messages = is.refs.in_messages; in_waits = every-push (all_pass wait_refs ok) it.waits.rows row is.refs.in_waits there; in_names = is.refs.in_names };
   }
 
-  pub awaits : (row : WaitRow) (spare made : ℕ) → shown_by n t parts p (record { rows = w.rows ++ row ∷ []; spare = spare; made = made }) ≡ basic rows (Awaits (shown_wait f row))
-  awaits row spare made = rw (push-map (shown_wait f) w.rows row) refl
+  pub awaits : (row : WaitRow) (spare made : ℕ) → shown_by n (record it { waits = record { rows = it.waits.rows ++ row ∷ []; spare = spare; made = made } }) ≡ basic rows (Awaits (shown_wait f row))
+  awaits row spare made = rw (push-map (shown_wait f) it.waits.rows row) refl
 
-  pub ended : (who spare made : ℕ) → AreNamed n parts p (record { rows = without (waits.is_of who) w.rows; spare = spare; made = made })
+  pub ended : (who spare made : ℕ) → AreNamed n (record it { waits = record { rows = without (waits.is_of who) it.waits.rows; spare = spare; made = made } })
   ended who spare made = record {
     ports_apart = is.ports_apart;
-    refs = record { in_handles = is.refs.in_handles; in_ports = is.refs.in_ports; in_messages = is.refs.in_messages; in_waits = every-without (all_pass wait_refs ok) (waits.is_of who) w.rows is.refs.in_waits };
+    refs = record { in_handles = is.refs.in_handles; in_ports = is.refs.in_ports; in_messages = is.refs.in_messages; in_waits = every-without (all_pass wait_refs ok) (waits.is_of who) it.waits.rows is.refs.in_waits; in_names = is.refs.in_names };
   }
 
-  pub ends : (who spare made : ℕ) → shown_by n t parts p (record { rows = without (waits.is_of who) w.rows; spare = spare; made = made }) ≡ record rows { waits = without (waits_as who) rows.waits }
-  ends who spare made = rw (without-map (shown_wait f) (all_pass wait_refs ok) (waits.is_of who) (waits_as who) (λ row there. refl) w.rows is.refs.in_waits) refl
+  pub ends : (who spare made : ℕ) → shown_by n (record it { waits = record { rows = without (waits.is_of who) it.waits.rows; spare = spare; made = made } }) ≡ record rows { waits = without (waits_as who) rows.waits }
+  ends who spare made = rw (without-map (shown_wait f) (all_pass wait_refs ok) (waits.is_of who) (waits_as who) (λ row there. refl) it.waits.rows is.refs.in_waits) refl
 
   -- a wait is changed, and names what it named
-  pub waiting : (who spare made : ℕ) (g : WaitRow → WaitRow) → ((row : WaitRow) → wait_refs (g row) ≡ wait_refs row) → AreNamed n parts p (record { rows = change (waits.is_of who) g w.rows; spare = spare; made = made })
+  pub waiting : (who spare made : ℕ) (g : WaitRow → WaitRow) → ((row : WaitRow) → wait_refs (g row) ≡ wait_refs row) → AreNamed n (record it { waits = record { rows = change (waits.is_of who) g it.waits.rows; spare = spare; made = made } })
   waiting who spare made g same = record {
     ports_apart = is.ports_apart;
-    refs = record { in_handles = is.refs.in_handles; in_ports = is.refs.in_ports; in_messages = is.refs.in_messages; in_waits = every-change (all_pass wait_refs ok) (waits.is_of who) g (λ row there. ap (every ok) (same row) ∙ there) w.rows is.refs.in_waits };
+    refs = record { in_handles = is.refs.in_handles; in_ports = is.refs.in_ports; in_messages = is.refs.in_messages; in_waits = every-change (all_pass wait_refs ok) (waits.is_of who) g (λ row there. ap (every ok) (same row) ∙ there) it.waits.rows is.refs.in_waits; in_names = is.refs.in_names };
   }
 
-  pub waits_change : (who spare made : ℕ) (g : WaitRow → WaitRow) (k : model.WaitRow → model.WaitRow) → ((row : WaitRow) → shown_wait f (g row) ≡ k (shown_wait f row)) → shown_by n t parts p (record { rows = change (waits.is_of who) g w.rows; spare = spare; made = made }) ≡ record rows { waits = change (waits_as who) k rows.waits }
-  waits_change who spare made g k same = rw (change-map (shown_wait f) (all_pass wait_refs ok) (waits.is_of who) (waits_as who) (λ row there. refl) g k (λ row there. same row) w.rows is.refs.in_waits) refl
+  pub waits_change : (who spare made : ℕ) (g : WaitRow → WaitRow) (k : model.WaitRow → model.WaitRow) → ((row : WaitRow) → shown_wait f (g row) ≡ k (shown_wait f row)) → shown_by n (record it { waits = record { rows = change (waits.is_of who) g it.waits.rows; spare = spare; made = made } }) ≡ record rows { waits = change (waits_as who) k rows.waits }
+  waits_change who spare made g k same = rw (change-map (shown_wait f) (all_pass wait_refs ok) (waits.is_of who) (waits_as who) (λ row there. refl) g k (λ row there. same row) it.waits.rows is.refs.in_waits) refl
 
   -- handles
   put : (value : ℕ) (row : Row Object) (hs : List (ℕ × Row Object)) → map (shown_handle f) (handles.with_row hs value row) ≡ put_handle (shown_handle f (value, row)) (map (shown_handle f) hs)
@@ -129,67 +129,75 @@ module _ (t : procs.Table) (parts : List Part) (p : PortTable) (w : WaitTable) (
       (every_which (λ r. ok r.1.object) (handles.is_below value) hs (sym (every-map ok (λ (r : ℕ × Row Object). r.1.object) hs) ∙ all))
       (rw there (every_which (λ r. ok r.1.object) (handles.is_above value) hs (sym (every-map ok (λ (r : ℕ × Row Object). r.1.object) hs) ∙ all))))
 
-  pub handed_named : (pid value : ℕ) (row : Row Object) → ok row.object ≡ true → AreNamed n (change (is_part pid) (handed value row) parts) p w
+  pub handed_named : (pid value : ℕ) (row : Row Object) → ok row.object ≡ true → AreNamed n (record it { parts = change (is_part pid) (handed value row) it.parts })
   handed_named pid value row there = record {
     ports_apart = is.ports_apart;
     refs = record {
-      in_handles = every-change (all_pass part_refs ok) (is_part pid) (handed value row) (λ part all. objects_put value row part.handles.rows there all) parts is.refs.in_handles;
+      in_handles = every-change (all_pass part_refs ok) (is_part pid) (handed value row) (λ part all. objects_put value row part.handles.rows there all) it.parts is.refs.in_handles;
       in_ports = is.refs.in_ports;
       in_messages = is.refs.in_messages;
       in_waits = is.refs.in_waits;
+      in_names = is.refs.in_names;
     };
   }
 
-  pub hands : (pid value : ℕ) (row : Row Object) → shown_by n t (change (is_part pid) (handed value row) parts) p w ≡ basic rows (AddsHandle pid (shown_handle f (value, row)))
+  pub hands : (pid value : ℕ) (row : Row Object) → shown_by n (record it { parts = change (is_part pid) (handed value row) it.parts }) ≡ basic rows (AddsHandle pid (shown_handle f (value, row)))
   hands pid value row =
       rw (change-map (shown_part f) (all_pass part_refs ok) (is_part pid) (is_table pid) (λ part _. refl) (handed value row) (with_handle (shown_handle f (value, row)))
-      (λ part _. ap (λ hs. record { process = part.process; rows = hs }) (put value row part.handles.rows)) parts is.refs.in_handles) refl
+      (λ part _. ap (λ hs. record { process = part.process; rows = hs }) (put value row part.handles.rows)) it.parts is.refs.in_handles) refl
 
   -- more room for handles
-  pub roomed_named : (pid spare : ℕ) → AreNamed n (change (is_part pid) (roomed spare) parts) p w
+  pub roomed_named : (pid spare : ℕ) → AreNamed n (record it { parts = change (is_part pid) (roomed spare) it.parts })
   roomed_named pid spare = record {
     ports_apart = is.ports_apart;
     refs = record {
-      in_handles = every-change (all_pass part_refs ok) (is_part pid) (roomed spare) (λ part all. all) parts is.refs.in_handles;
+      in_handles = every-change (all_pass part_refs ok) (is_part pid) (roomed spare) (λ part all. all) it.parts is.refs.in_handles;
       in_ports = is.refs.in_ports;
       in_messages = is.refs.in_messages;
       in_waits = is.refs.in_waits;
+      in_names = is.refs.in_names;
     };
   }
 
-  pub rooms : (pid spare : ℕ) → shown_by n t (change (is_part pid) (roomed spare) parts) p w ≡ rows
-  rooms pid spare = rw (unseen-change (shown_part f) (is_part pid) (roomed spare) (λ part. refl) parts) refl
+  pub rooms : (pid spare : ℕ) → shown_by n (record it { parts = change (is_part pid) (roomed spare) it.parts }) ≡ rows
+  rooms pid spare = rw (unseen-change (shown_part f) (is_part pid) (roomed spare) (λ part. refl) it.parts) refl
 
   -- processes and threads
   pub all_true : {X : Type 0} (xs : List X) → every (λ _. true) xs ≡ true
   all_true [] = refl
   all_true (x ∷ xs) = grind (arith, all_true xs)
 
-  pub processed : (part : Part) → part.handles.rows ≡ [] → AreNamed n (parts ++ part ∷ []) p w
-  processed part none = record {
+  pub threaded : (t : procs.Table) → AreNamed n (record it { procs = t })
+  threaded t = record {
     ports_apart = is.ports_apart;
-    refs = record { in_handles = every-push (all_pass part_refs ok) parts part is.refs.in_handles (rw none refl); in_ports = is.refs.in_ports; in_messages = is.refs.in_messages; in_waits = is.refs.in_waits };
+    refs = record { in_handles = is.refs.in_handles; in_ports = is.refs.in_ports; in_messages = is.refs.in_messages; in_waits = is.refs.in_waits; in_names = is.refs.in_names };
+  }
+
+  pub processed : (t : procs.Table) (part : Part) → part.handles.rows ≡ [] → AreNamed n (record it { procs = t; parts = it.parts ++ part ∷ [] })
+  processed t part none = record {
+    ports_apart = is.ports_apart;
+    refs = record { in_handles = every-push (all_pass part_refs ok) it.parts part is.refs.in_handles (rw none refl); in_ports = is.refs.in_ports; in_messages = is.refs.in_messages; in_waits = is.refs.in_waits; in_names = is.refs.in_names };
   }
 
   pub adds_process : (row : ProcessRow) (part : Part) (room : ℕ) → part.handles.rows ≡ [] → part.process ≡ row.number
-      → shown_by n (record t { processes = t.processes ++ row ∷ []; used_processes = t.used_processes ++ row.number ∷ []; process_room = room }) (parts ++ part ∷ []) p w ≡ basic rows (AddsProcess (shown_process row))
-  adds_process row part room none same = rw (push-map shown_process t.processes row, push-map (shown_part f) parts part, none, same) refl
+      → shown_by n (record it { procs = record it.procs { processes = it.procs.processes ++ row ∷ []; used_processes = it.procs.used_processes ++ row.number ∷ []; process_room = room }; parts = it.parts ++ part ∷ [] }) ≡ basic rows (AddsProcess (shown_process row))
+  adds_process row part room none same = rw (push-map shown_process it.procs.processes row, push-map (shown_part f) it.parts part, none, same) refl
 
   pub adds_thread : (row : ThreadRow) (room : ℕ)
-      → shown_by n (record t { threads = t.threads ++ row ∷ []; used_threads = t.used_threads ++ (record { number = row.number; process = row.process }) ∷ []; thread_room = room }) parts p w ≡ basic rows (AddsThread (shown_thread row))
+      → shown_by n (record it { procs = record it.procs { threads = it.procs.threads ++ row ∷ []; used_threads = it.procs.used_threads ++ (record { number = row.number; process = row.process }) ∷ []; thread_room = room } }) ≡ basic rows (AddsThread (shown_thread row))
   adds_thread row room =
       let u : UsedThread = record { number = row.number; process = row.process } in
-      rw (push-map shown_thread t.threads row, push-map shown_used t.used_threads u) refl
+      rw (push-map shown_thread it.procs.threads row, push-map shown_used it.procs.used_threads u) refl
 
-  pub draws_identifier : (who : ℕ) → shown_by n (procs.with_thread t who procs.past_identifier) parts p w ≡ basic rows (DrawsIdentifier who)
-  draws_identifier who = rw (change-map shown_thread (λ _. true) (procs.is_thread who) (is_thread who) (λ row _. refl) procs.past_identifier basics.past_identifier (λ row _. refl) t.threads (all_true t.threads)) refl
+  pub draws_identifier : (who : ℕ) → shown_by n (record it { procs = procs.with_thread it.procs who procs.past_identifier }) ≡ basic rows (DrawsIdentifier who)
+  draws_identifier who = rw (change-map shown_thread (λ _. true) (procs.is_thread who) (is_thread who) (λ row _. refl) procs.past_identifier basics.past_identifier (λ row _. refl) it.procs.threads (all_true it.procs.threads)) refl
 
-  pub draws_ordinal : (who : ℕ) → shown_by n (procs.with_thread t who procs.past_birth) parts p w ≡ basic rows (DrawsOrdinal who)
-  draws_ordinal who = rw (change-map shown_thread (λ _. true) (procs.is_thread who) (is_thread who) (λ row _. refl) procs.past_birth basics.past_ordinal (λ row _. refl) t.threads (all_true t.threads)) refl
+  pub draws_ordinal : (who : ℕ) → shown_by n (record it { procs = procs.with_thread it.procs who procs.past_birth }) ≡ basic rows (DrawsOrdinal who)
+  draws_ordinal who = rw (change-map shown_thread (λ _. true) (procs.is_thread who) (is_thread who) (λ row _. refl) procs.past_birth basics.past_ordinal (λ row _. refl) it.procs.threads (all_true it.procs.threads)) refl
 
   -- a wait whose request is received, and one that keeps its message
-  pub receives : (who : ℕ) → shown_by n t parts p (record w { rows = change (waits.is_of who) waits.received w.rows }) ≡ basic rows (Receives who)
-  receives who = waits_change who w.spare w.made waits.received basics.received (λ row. refl)
+  pub receives : (who : ℕ) → shown_by n (record it { waits = record it.waits { rows = change (waits.is_of who) waits.received it.waits.rows } }) ≡ basic rows (Receives who)
+  receives who = waits_change who it.waits.spare it.waits.made waits.received basics.received (λ row. refl)
 
   message_shown : (bytes : List ℕ) (row : WaitRow) → shown_wait f (waits.with_message bytes row) ≡ with_message (message_of bytes) (shown_wait f row)
   message_shown bytes row = by_kind row.wait.kind
@@ -198,8 +206,8 @@ module _ (t : procs.Table) (parts : List Part) (p : PortTable) (w : WaitTable) (
       by_kind wait.Request = refl
       by_kind wait.Receive = refl
 
-  pub keeps_message : (who : ℕ) (bytes : List ℕ) → shown_by n t parts p (record w { rows = change (waits.is_of who) (waits.with_message bytes) w.rows }) ≡ record rows { waits = change (waits_as who) (with_message (message_of bytes)) rows.waits }
-  keeps_message who bytes = waits_change who w.spare w.made (waits.with_message bytes) (with_message (message_of bytes)) (message_shown bytes)
+  pub keeps_message : (who : ℕ) (bytes : List ℕ) → shown_by n (record it { waits = record it.waits { rows = change (waits.is_of who) (waits.with_message bytes) it.waits.rows } }) ≡ record rows { waits = change (waits_as who) (with_message (message_of bytes)) rows.waits }
+  keeps_message who bytes = waits_change who it.waits.spare it.waits.made (waits.with_message bytes) (with_message (message_of bytes)) (message_shown bytes)
 
 -- a wait that keeps its message is pending where it was
 pending_kept : (m : Message) (x : model.WaitRow) → is_pending (with_message m x) ≡ is_pending x

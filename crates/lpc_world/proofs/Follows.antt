@@ -17,7 +17,7 @@ use Rattle.lpc_waits.specs.declared.WaitKind.{WaitKind}
 use Rattle.lpc_waits.specs.declared.WaitKind.TheVariants as wait
 use Rattle.lpc_waits.specs.declared.WaitRow.{WaitRow}
 use Rattle.lpc_world.specs.Names.{Names, are_apart, name_of, names_of, stands}
-use Rattle.lpc_world.specs.Shown.{AreNamed, Births, all_pass, birth_of, births_of, message_refs, object_stands, shown_kind, shown_message, shown_port, shown_wait, wait_refs}
+use Rattle.lpc_world.specs.Shown.{Tables, AreNamed, Births, all_pass, birth_of, births_of, message_refs, object_stands, shown_kind, shown_message, shown_port, shown_wait, wait_refs}
 use Rattle.lpc_world.specs.declared.object.Object.{Object}
 use Rattle.lpc_world.specs.declared.parts.Part.{Part}
 use Rattle.lpc_world.proofs.Naming.{agrees, key_itself, name_is, own}
@@ -50,9 +50,9 @@ module _ {R : Type 0} (birth : R → Birth) (rows : List (Key × R)) where
   pub own_birth : (row : Key × R) → is_own row ≡ true → name_of (names_of birth rows) row.0 ≡ birth row.1
   own_birth row ok = name_is _ _ (grind arith)
 
-module _ (parts : List Part) (p : PortTable) (w : WaitTable) (is : AreNamed (births_of p) parts p w) where
+module _ (it : Tables) (is : AreNamed (births_of it.ports) it) where
   abbrev n : Births
-  n = births_of p
+  n = births_of it.ports
 
   abbrev f : Object → Birth
   f = birth_of n
@@ -61,15 +61,15 @@ module _ (parts : List Part) (p : PortTable) (w : WaitTable) (is : AreNamed (bir
   agree a b one two = agrees n.ports a b is.ports_apart one two
 
   abbrev own_port : Key × Port → Bool
-  own_port = is_own (λ (r : Port). r.birth) p.ports
+  own_port = is_own (λ (r : Port). r.birth) it.ports.ports
 
-  pub own_ports : every own_port p.ports ≡ true
-  own_ports = rows_own (λ (r : Port). r.birth) p.ports is.ports_apart
+  pub own_ports : every own_port it.ports.ports ≡ true
+  own_ports = rows_own (λ (r : Port). r.birth) it.ports.ports is.ports_apart
 
   -- the tests of rows agree
   pub port_same : (key : Key) → stands n.ports key ≡ true → (row : Key × Port) → own_port row ≡ true → is_port (name_of n.ports key) (shown_port f row) ≡ at_key key row
   port_same key there row ok =
-      ap (λ b. same_birth b (name_of n.ports key)) (sym (own_birth (λ (r : Port). r.birth) p.ports row ok)) ∙ agree row.0 key (grind arith) there
+      ap (λ b. same_birth b (name_of n.ports key)) (sym (own_birth (λ (r : Port). r.birth) it.ports.ports row ok)) ∙ agree row.0 key (grind arith) there
 
   pub queue_same : (key : Key) → stands n.ports key ≡ true → (row : Key × QueuedMessage) → all_pass message_refs (object_stands n) row ≡ true → is_queued (name_of n.ports key) (shown_message f row) ≡ ports.is_in key row
   queue_same key there row ok = agree row.1.queue key (grind arith) there
@@ -82,11 +82,11 @@ module _ (parts : List Part) (p : PortTable) (w : WaitTable) (is : AreNamed (bir
   receive_same key there row ok = rw (agree row.wait.queue key (grind arith) there) (kind_same row.wait.kind row.message.items (is_key row.wait.queue key))
 
   -- what is found
-  pub first_port : (key : Key) → stands n.ports key ≡ true → first (is_port (name_of n.ports key)) (map (shown_port f) p.ports) ≡ option_map (shown_port f) (first (at_key key) p.ports)
-  first_port key there = first-map (shown_port f) own_port (at_key key) (is_port (name_of n.ports key)) (port_same key there) p.ports own_ports
+  pub first_port : (key : Key) → stands n.ports key ≡ true → first (is_port (name_of n.ports key)) (map (shown_port f) it.ports.ports) ≡ option_map (shown_port f) (first (at_key key) it.ports.ports)
+  first_port key there = first-map (shown_port f) own_port (at_key key) (is_port (name_of n.ports key)) (port_same key there) it.ports.ports own_ports
 
-  pub first_queued : (key : Key) → stands n.ports key ≡ true → first (is_queued (name_of n.ports key)) (map (shown_message f) p.messages) ≡ option_map (shown_message f) (first (ports.is_in key) p.messages)
-  first_queued key there = first-map (shown_message f) (all_pass message_refs (object_stands n)) (ports.is_in key) (is_queued (name_of n.ports key)) (queue_same key there) p.messages is.refs.in_messages
+  pub first_queued : (key : Key) → stands n.ports key ≡ true → first (is_queued (name_of n.ports key)) (map (shown_message f) it.ports.messages) ≡ option_map (shown_message f) (first (ports.is_in key) it.ports.messages)
+  first_queued key there = first-map (shown_message f) (all_pass message_refs (object_stands n)) (ports.is_in key) (is_queued (name_of n.ports key)) (queue_same key there) it.ports.messages is.refs.in_messages
 
-  pub first_receive : (key : Key) → stands n.ports key ≡ true → first (receives_on (name_of n.ports key)) (map (shown_wait f) w.rows) ≡ option_map (shown_wait f) (first (waits.is_receive_on key) w.rows)
-  first_receive key there = first-map (shown_wait f) (all_pass wait_refs (object_stands n)) (waits.is_receive_on key) (receives_on (name_of n.ports key)) (receive_same key there) w.rows is.refs.in_waits
+  pub first_receive : (key : Key) → stands n.ports key ≡ true → first (receives_on (name_of n.ports key)) (map (shown_wait f) it.waits.rows) ≡ option_map (shown_wait f) (first (waits.is_receive_on key) it.waits.rows)
+  first_receive key there = first-map (shown_wait f) (all_pass wait_refs (object_stands n)) (waits.is_receive_on key) (receives_on (name_of n.ports key)) (receive_same key there) it.waits.rows is.refs.in_waits

@@ -4,6 +4,7 @@ pub mod Finds
 pub mod Follows
 pub mod Lawful
 pub mod Makes
+pub mod Bound
 pub mod Naming
 pub mod OnePart
 pub mod Readings

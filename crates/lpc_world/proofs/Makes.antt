@@ -7,6 +7,8 @@ use Rattle.lpc_base.proofs.RowMaps.{push-map, same-map}
 use Rattle.lpc_handles.specs.declared.table.Row.{Row}
 use Rattle.lpc_model.specs.Basics.{Makes, basic}
 use Rattle.lpc_model.specs.Found.{is_port}
+use Rattle.lpc_names.specs.Walk.{LinkTo, Node, Path, Stands}
+use Rattle.lpc_names.specs.declared.names.Found.TheVariants.{Directory, Item}
 use Rattle.lpc_ports.specs.Table.{PortTable}
 use Rattle.lpc_ports.specs.declared.Port.{Port}
 use Rattle.lpc_ports.specs.declared.messages.QueuedMessage.{QueuedMessage}
@@ -16,7 +18,7 @@ use Rattle.lpc_slots.specs.declared.Key.{Key}
 use Rattle.lpc_waits.specs.Table.{WaitTable}
 use Rattle.lpc_waits.specs.declared.WaitRow.{WaitRow}
 use Rattle.lpc_world.specs.Names.{KeepsNames, Names, name_of, names_of, some_stands, stands}
-use Rattle.lpc_world.specs.Shown.{AreNamed, Births, all_pass, birth_in, birth_of, births_of, message_refs, name_by, object_stands, part_refs, port_refs, ports_in, shown_by, shown_handle, shown_message, shown_part, shown_port, shown_wait, wait_refs}
+use Rattle.lpc_world.specs.Shown.{Tables, AreNamed, Births, all_pass, binding_refs, birth_in, birth_of, births_of, message_refs, name_by, node_refs, object_stands, part_refs, port_refs, ports_in, shown_binding, shown_by, shown_handle, shown_message, shown_node, shown_part, shown_port, shown_wait, wait_refs}
 use Rattle.lpc_world.specs.declared.object.Object.{Object}
 use Rattle.lpc_world.specs.declared.object.Object.TheVariants as object
 use Rattle.lpc_world.specs.declared.parts.Part.{Part}
@@ -64,6 +66,14 @@ module _ (ok : Object → Bool) (f g : Object → Birth) (same : (o : Object) �
   wait_shape : (row : WaitRow) → every ok (wait_refs row) ≡ true → shown_wait f row ≡ shown_wait g row
   wait_shape row all = rw (same (object.Port row.wait.port) (grind arith), same (object.Port row.wait.queue) (grind arith)) refl
 
+  node_shape : (node : Node Key) → every ok (node_refs node) ≡ true → shown_node f node ≡ shown_node g node
+  node_shape (LinkTo target) all = refl
+  node_shape (Stands Directory) all = refl
+  node_shape (Stands (Item key)) all = ap (λ b. Stands (Item b)) (same (object.Port key) (every_first ok (object.Port key) [] all))
+
+  binding_shape : (row : Path × Node Key) → every ok (binding_refs row) ≡ true → shown_binding f row ≡ shown_binding g row
+  binding_shape row all = ap (λ node. (row.0, node)) (node_shape row.1 all)
+
   part_shape : (part : Part) → every ok (part_refs part) ≡ true → shown_part f part ≡ shown_part g part
   part_shape part all = ap (λ hs. record { process = part.process; rows = hs }) (handles_same part.handles.rows all)
 
@@ -75,6 +85,9 @@ messages_shape = record { same = message_shape }
 
 pub waits_shape : IsShape wait_refs shown_wait
 waits_shape = record { same = wait_shape }
+
+pub bindings_shape : IsShape binding_refs shown_binding
+bindings_shape = record { same = binding_shape }
 
 pub parts_shape : IsShape part_refs shown_part
 parts_shape = record { same = part_shape }
@@ -88,12 +101,12 @@ pub rows_more : {R : Type 0} (refs : R → List Object) (ok more : Object → Bo
 rows_more refs ok more wider rows all = every-more (all_pass refs ok) (all_pass refs more) (λ row there. every-more ok more wider (refs row) there) rows all
 
 -- One more port
-module _ (t : procs.Table) (parts : List Part) (p : PortTable) (w : WaitTable) (is : AreNamed (births_of p) parts p w) (key : Key) (row : Port) (room made : ℕ) where
+module _ (it : Tables) (is : AreNamed (births_of it.ports) it) (key : Key) (row : Port) (room made : ℕ) where
   abbrev n : Births
-  n = births_of p
+  n = births_of it.ports
 
   abbrev after : PortTable
-  after = record p { ports = p.ports ++ (key, row) ∷ []; port_room = room; ports_made = made }
+  after = record it.ports { ports = it.ports.ports ++ (key, row) ∷ []; port_room = room; ports_made = made }
 
   abbrev m : Births
   m = births_of after
@@ -102,7 +115,7 @@ module _ (t : procs.Table) (parts : List Part) (p : PortTable) (w : WaitTable) (
   longer = n.ports ++ (key, row.birth) ∷ []
 
   pub names_push : m.ports ≡ longer
-  names_push = push-map (λ (r : Key × Port). (r.0, r.1.birth)) p.ports (key, row)
+  names_push = push-map (λ (r : Key × Port). (r.0, r.1.birth)) it.ports.ports (key, row)
 
   stands_more : (o : Object) → object_stands n o ≡ true → object_stands m o ≡ true
   stands_more (object.Port k) there = rw names_push (stands-push n.ports key row.birth k there)
@@ -125,25 +138,27 @@ module _ (t : procs.Table) (parts : List Part) (p : PortTable) (w : WaitTable) (
     other_births [] none = refl
     other_births (r ∷ rows) none = grind (arith, other_births rows)
 
-    pub made_named : first (is_port row.birth) (map (shown_port (birth_of n)) p.ports) ≡ None → every (object_stands n) (port_refs (key, row)) ≡ true → AreNamed m parts after w
+    pub made_named : first (is_port row.birth) (map (shown_port (birth_of n)) it.ports.ports) ≡ None → every (object_stands n) (port_refs (key, row)) ≡ true → AreNamed m (record it { ports = after })
     made_named fresh refs = record {
-      ports_apart = rw names_push (apart-push n.ports key row.birth is.ports_apart absent (other_births p.ports fresh));
+      ports_apart = rw names_push (apart-push n.ports key row.birth is.ports_apart absent (other_births it.ports.ports fresh));
       refs = record {
-        in_handles = rows_more part_refs (object_stands n) (object_stands m) stands_more parts is.refs.in_handles;
-        in_ports = every-push (all_pass port_refs (object_stands m)) p.ports (key, row) (rows_more port_refs (object_stands n) (object_stands m) stands_more p.ports is.refs.in_ports) (every-more (object_stands n) (object_stands m) stands_more (port_refs (key, row)) refs);
-        in_messages = rows_more message_refs (object_stands n) (object_stands m) stands_more p.messages is.refs.in_messages;
-        in_waits = rows_more wait_refs (object_stands n) (object_stands m) stands_more w.rows is.refs.in_waits;
+        in_handles = rows_more part_refs (object_stands n) (object_stands m) stands_more it.parts is.refs.in_handles;
+        in_ports = every-push (all_pass port_refs (object_stands m)) it.ports.ports (key, row) (rows_more port_refs (object_stands n) (object_stands m) stands_more it.ports.ports is.refs.in_ports) (every-more (object_stands n) (object_stands m) stands_more (port_refs (key, row)) refs);
+        in_messages = rows_more message_refs (object_stands n) (object_stands m) stands_more it.ports.messages is.refs.in_messages;
+        in_waits = rows_more wait_refs (object_stands n) (object_stands m) stands_more it.waits.rows is.refs.in_waits;
+        in_names = rows_more binding_refs (object_stands n) (object_stands m) stands_more it.space.bindings is.refs.in_names;
       };
     }
 
-  pub makes : every (object_stands n) (port_refs (key, row)) ≡ true → shown_by m t parts after w ≡ basic (shown_by n t parts p w) (Makes (shown_port (birth_of n) (key, row)))
+  pub makes : every (object_stands n) (port_refs (key, row)) ≡ true → shown_by m (record it { ports = after }) ≡ basic (shown_by n it) (Makes (shown_port (birth_of n) (key, row)))
   makes refs =
       rw (
-        push-map (shown_port (birth_of m)) p.ports (key, row),
-        shown_same part_refs shown_part parts_shape (object_stands n) (birth_of m) (birth_of n) name_more parts is.refs.in_handles,
-        shown_same port_refs shown_port ports_shape (object_stands n) (birth_of m) (birth_of n) name_more p.ports is.refs.in_ports,
-        shown_same message_refs shown_message messages_shape (object_stands n) (birth_of m) (birth_of n) name_more p.messages is.refs.in_messages,
-        shown_same wait_refs shown_wait waits_shape (object_stands n) (birth_of m) (birth_of n) name_more w.rows is.refs.in_waits,
+        push-map (shown_port (birth_of m)) it.ports.ports (key, row),
+        shown_same part_refs shown_part parts_shape (object_stands n) (birth_of m) (birth_of n) name_more it.parts is.refs.in_handles,
+        shown_same port_refs shown_port ports_shape (object_stands n) (birth_of m) (birth_of n) name_more it.ports.ports is.refs.in_ports,
+        shown_same message_refs shown_message messages_shape (object_stands n) (birth_of m) (birth_of n) name_more it.ports.messages is.refs.in_messages,
+        shown_same wait_refs shown_wait waits_shape (object_stands n) (birth_of m) (birth_of n) name_more it.waits.rows is.refs.in_waits,
+        shown_same binding_refs shown_binding bindings_shape (object_stands n) (birth_of m) (birth_of n) name_more it.space.bindings is.refs.in_names,
         port_shape (object_stands n) (birth_of m) (birth_of n) name_more (key, row) refs,
       ) refl
 
@@ -156,8 +171,8 @@ absent key (row ∷ rows) none = grind (arith, absent key rows)
 pub vacant : (key : Key) (p : PortTable) → first (at_key key) p.ports ≡ None → stands (births_of p).ports key ≡ false
 vacant key p none = absent key p.ports none
 
-pub refs_stand : (parts : List Part) (p : PortTable) (w : WaitTable) (key : Key) (row : Port) → row.pair ≡ None → some_stands (births_of p).ports row.connection ≡ true → every (object_stands (births_of p)) (port_refs (key, row)) ≡ true
-refs_stand parts p w key row alone there = rw alone (some row.connection there)
+pub refs_stand : (p : PortTable) (key : Key) (row : Port) → row.pair ≡ None → some_stands (births_of p).ports row.connection ≡ true → every (object_stands (births_of p)) (port_refs (key, row)) ≡ true
+refs_stand p key row alone there = rw alone (some row.connection there)
   where
     some : (o : Option Key) → some_stands (births_of p).ports o ≡ true → every (object_stands (births_of p)) (ports_in o) ≡ true
     some None h = refl

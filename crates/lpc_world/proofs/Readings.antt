@@ -32,7 +32,7 @@ use Rattle.lpc_world.specs.Names.{name_of, names_of, some_stands, stands}
 use Rattle.lpc_world.specs.Kept.{Kept, kept, rows_by}
 use Rattle.lpc_world.specs.Parts.{has_name_of, is_part, is_the_port, names_it, rows_at, rows_in}
 use Rattle.lpc_world.specs.Ready.{HasRow, IsStanding, IsWait, port_in, port_of, wait_in, waiter}
-use Rattle.lpc_world.specs.Shown.{AreNamed, Births, all_pass, birth_of, births_of, message_refs, name_by, object_stands, part_refs, port_refs, ports_in, shown_handle, shown_kind, shown_message, shown_part, shown_port, shown_wait, wait_refs}
+use Rattle.lpc_world.specs.Shown.{Tables, AreNamed, Births, all_pass, birth_of, births_of, message_refs, name_by, object_stands, part_refs, port_refs, ports_in, shown_handle, shown_kind, shown_message, shown_part, shown_port, shown_wait, wait_refs}
 use Rattle.lpc_world.specs.declared.object.Object.{Object}
 use Rattle.lpc_world.specs.declared.object.Object.TheVariants as object
 use Rattle.lpc_world.specs.declared.parts.Part.{Part}
@@ -104,19 +104,19 @@ request_is : (kind : WaitKind) (bytes : List ℕ) → (elim (shown_kind kind byt
 request_is wait.Request bytes = refl
 request_is wait.Receive bytes = refl
 
-module _ (procs : procs.Table) (parts : List Part) (p : PortTable) (w : WaitTable) (is : AreNamed (births_of p) parts p w) where
+module _ (it : Tables) (is : AreNamed (births_of it.ports) it) where
   abbrev n : Births
-  n = births_of p
+  n = births_of it.ports
 
   abbrev f : Object → Birth
   f = birth_of n
 
   abbrev rows : model.World
-  rows = rows_by procs parts p w
+  rows = rows_by it
 
   -- Ports
-  pub there : (key : Key) → stands n.ports key ≡ true → is_some (row_at p.ports key) ≡ true
-  there key stand = row_there (λ (r : Port). r.birth) p.ports key stand
+  pub there : (key : Key) → stands n.ports key ≡ true → is_some (row_at it.ports.ports key) ≡ true
+  there key stand = row_there (λ (r : Port). r.birth) it.ports.ports key stand
 
   -- a port that stands has this row
   pub record IsPort (key : Key) (row : Port) : Type 0 where
@@ -126,15 +126,15 @@ module _ (procs : procs.Table) (parts : List Part) (p : PortTable) (w : WaitTabl
     pub pair : some_stands n.ports row.pair ≡ true
     pub connection : some_stands n.ports row.connection ≡ true
 
-  pub is_row : (key : Key) (row : Port) → stands n.ports key ≡ true → row_at p.ports key ≡ Some row → IsPort key row
+  pub is_row : (key : Key) (row : Port) → stands n.ports key ≡ true → row_at it.ports.ports key ≡ Some row → IsPort key row
   unfolding port_of
   is_row key row stand at =
-      let held = holds (λ (r : Key × Port). r.1) (first (at_key key) p.ports) row at in
+      let held = holds (λ (r : Key × Port). r.1) (first (at_key key) it.ports.ports) row at in
       let shown : shown_port f held.row ≡ shown_port f (key, row) = ap (λ (r : Port). shown_port f (key, r)) held.is in
       let found : port_row rows (name_of n.ports key) ≡ Some (shown_port f (key, row)) =
-      follows.first_port parts p w is key stand ∙ ap (λ o. option_map (shown_port f) o) held.found ∙ ap Some shown in
+      follows.first_port it is key stand ∙ ap (λ o. option_map (shown_port f) o) held.found ∙ ap Some shown in
       let refs : every (object_stands n) (port_refs (key, row)) ≡ true =
-      sym (ap (λ (r : Port). every (object_stands n) (port_refs (key, r))) held.is) ∙ every-first (all_pass port_refs (object_stands n)) (at_key key) p.ports held.row is.refs.in_ports held.found in
+      sym (ap (λ (r : Port). every (object_stands n) (port_refs (key, r))) held.is) ∙ every-first (all_pass port_refs (object_stands n)) (at_key key) it.ports.ports held.row is.refs.in_ports held.found in
       let both = pair_stands n row.pair row.connection refs in
       record {
         found = found ∙ ap Some (sym (ap port_in found));
@@ -147,16 +147,16 @@ module _ (procs : procs.Table) (parts : List Part) (p : PortTable) (w : WaitTabl
   -- what stands is found under its name
   module _ (places calls made : ℕ) where
     abbrev k : Kept
-    k = kept procs parts places p w calls made
+    k = kept it places calls made
 
-    standing_by : (key : Key) → stands n.ports key ≡ true → (o : Option Port) → row_at p.ports key ≡ o → is_some o ≡ true → IsStanding k key
+    standing_by : (key : Key) → stands n.ports key ≡ true → (o : Option Port) → row_at it.ports.ports key ≡ o → is_some o ≡ true → IsStanding k key
     standing_by key stand None at some = absurd (cc)
     standing_by key stand (Some row) at some =
         let found = is_row key row stand at in
         record { found = found.found; birth = ap (λ (q : model.PortRow). q.birth) found.port_is ∙ found.own }
 
     pub standing : (key : Key) → stands n.ports key ≡ true → IsStanding k key
-    standing key stand = standing_by key stand (row_at p.ports key) refl (there key stand)
+    standing key stand = standing_by key stand (row_at it.ports.ports key) refl (there key stand)
 
     pub has_row : (o : Object) → object_stands n o ≡ true → HasRow k o
     has_row (object.Port key) stand = standing key stand
@@ -167,25 +167,25 @@ module _ (procs : procs.Table) (parts : List Part) (p : PortTable) (w : WaitTabl
 
   -- the datagrams of a port
   datagram_same : (key : Key) → stands n.ports key ≡ true → (row : Key × QueuedMessage) → all_pass message_refs (object_stands n) row ≡ true → found.is_datagram_of (name_of n.ports key) (shown_message f row) ≡ ports.is_datagram_of key row
-  datagram_same key stand row ok = ap (λ b. b && (half_at row.1.message.bytes.items 4 == DATAGRAM)) (follows.agree parts p w is row.1.message.sender key (grind arith) stand)
+  datagram_same key stand row ok = ap (λ b. b && (half_at row.1.message.bytes.items 4 == DATAGRAM)) (follows.agree it is row.1.message.sender key (grind arith) stand)
 
-  pub datagrams_are : (key : Key) → stands n.ports key ≡ true → found.datagrams rows (name_of n.ports key) ≡ count (ports.is_datagram_of key) p.messages
-  datagrams_are key stand = count-map (shown_message f) (all_pass message_refs (object_stands n)) (ports.is_datagram_of key) (found.is_datagram_of (name_of n.ports key)) (datagram_same key stand) p.messages is.refs.in_messages
+  pub datagrams_are : (key : Key) → stands n.ports key ≡ true → found.datagrams rows (name_of n.ports key) ≡ count (ports.is_datagram_of key) it.ports.messages
+  datagrams_are key stand = count-map (shown_message f) (all_pass message_refs (object_stands n)) (ports.is_datagram_of key) (found.is_datagram_of (name_of n.ports key)) (datagram_same key stand) it.ports.messages is.refs.in_messages
 
   -- Waits
-  pub wait_is : (tid : ℕ) (row : WaitRow) → row_of w tid ≡ Some row → waiter rows tid ≡ shown_wait f row
+  pub wait_is : (tid : ℕ) (row : WaitRow) → row_of it.waits tid ≡ Some row → waiter rows tid ≡ shown_wait f row
   unfolding waiter
-  wait_is tid row at = ap wait_in (first-shown (shown_wait f) (waits.is_of tid) (waits_as tid) (λ r. refl) w.rows ∙ ap (λ o. option_map (shown_wait f) o) at)
+  wait_is tid row at = ap wait_in (first-shown (shown_wait f) (waits.is_of tid) (waits_as tid) (λ r. refl) it.waits.rows ∙ ap (λ o. option_map (shown_wait f) o) at)
 
-  pub is_wait : (places calls made tid : ℕ) (x : Wait) → option_map (λ row. row.wait) (row_of w tid) ≡ Some x → IsWait (kept procs parts places p w calls made) tid x
+  pub is_wait : (places calls made tid : ℕ) (x : Wait) → option_map (λ row. row.wait) (row_of it.waits tid) ≡ Some x → IsWait (kept it places calls made) tid x
   is_wait places calls made tid x at =
-      let held = holds (λ (r : WaitRow). r.wait) (row_of w tid) x at in
+      let held = holds (λ (r : WaitRow). r.wait) (row_of it.waits tid) x at in
       let same : waiter rows tid ≡ shown_wait f (record { thread = held.row.thread; wait = x; message = held.row.message }) =
       wait_is tid held.row held.found ∙ ap (λ (v : Wait). shown_wait f (record { thread = held.row.thread; wait = v; message = held.row.message })) held.is in
       let stand : every (object_stands n) (object.Port x.port ∷ object.Port x.queue ∷ []) ≡ true =
-      sym (ap (λ (v : Wait). every (object_stands n) (object.Port v.port ∷ object.Port v.queue ∷ [])) held.is) ∙ every-first (all_pass wait_refs (object_stands n)) (waits.is_of tid) w.rows held.row is.refs.in_waits held.found in
+      sym (ap (λ (v : Wait). every (object_stands n) (object.Port v.port ∷ object.Port v.queue ∷ [])) held.is) ∙ every-first (all_pass wait_refs (object_stands n)) (waits.is_of tid) it.waits.rows held.row is.refs.in_waits held.found in
       record {
-        thread = ap (λ (y : model.WaitRow). y.thread) same ∙ eqb-true held.row.thread tid (first-passes (waits.is_of tid) w.rows held.row held.found);
+        thread = ap (λ (y : model.WaitRow). y.thread) same ∙ eqb-true held.row.thread tid (first-passes (waits.is_of tid) it.waits.rows held.row held.found);
         call = ap (λ (y : model.WaitRow). y.call) same;
         process = ap (λ (y : model.WaitRow). y.process) same;
         request = ap (λ (y : model.WaitRow). found.is_request y) same ∙ request_is x.kind held.row.message.items;
@@ -197,68 +197,68 @@ module _ (procs : procs.Table) (parts : List Part) (p : PortTable) (w : WaitTabl
         queue_stands = grind arith;
       }
 
-  pub wait_if : (places calls made tid : ℕ) (r : Option Wait) → r ≡ option_map (λ row. row.wait) (row_of w tid) → IfSome r (λ x. IsWait (kept procs parts places p w calls made) tid x)
+  pub wait_if : (places calls made tid : ℕ) (r : Option Wait) → r ≡ option_map (λ row. row.wait) (row_of it.waits tid) → IfSome r (λ x. IsWait (kept it places calls made) tid x)
   wait_if places calls made tid None at = tt
   wait_if places calls made tid (Some x) at = is_wait places calls made tid x (sym at)
 
-  pub waits_are : (tid : ℕ) → has (waits_as tid) rows.waits ≡ is_some (row_of w tid)
-  waits_are tid = has-shown (shown_wait f) (waits.is_of tid) (waits_as tid) (λ r. refl) w.rows
+  pub waits_are : (tid : ℕ) → has (waits_as tid) rows.waits ≡ is_some (row_of it.waits tid)
+  waits_are tid = has-shown (shown_wait f) (waits.is_of tid) (waits_as tid) (λ r. refl) it.waits.rows
 
   -- Handles
-  pub table_is : (pid : ℕ) → has (is_table pid) rows.handles ≡ has (is_part pid) parts
-  table_is pid = has-shown (shown_part f) (is_part pid) (is_table pid) (λ r. refl) parts
+  pub table_is : (pid : ℕ) → has (is_table pid) rows.handles ≡ has (is_part pid) it.parts
+  table_is pid = has-shown (shown_part f) (is_part pid) (is_table pid) (λ r. refl) it.parts
 
   shown_rows : (o : Option Part) → found.rows_in (option_map (shown_part f) o) ≡ map (shown_handle f) (rows_in o)
   shown_rows None = refl
   shown_rows (Some part) = refl
 
-  pub handles_are : (pid : ℕ) → found.handles_of rows pid ≡ map (shown_handle f) (rows_at parts pid)
-  handles_are pid = ap found.rows_in (first-shown (shown_part f) (is_part pid) (is_table pid) (λ r. refl) parts) ∙ shown_rows (first (is_part pid) parts)
+  pub handles_are : (pid : ℕ) → found.handles_of rows pid ≡ map (shown_handle f) (rows_at it.parts pid)
+  handles_are pid = ap found.rows_in (first-shown (shown_part f) (is_part pid) (is_table pid) (λ r. refl) it.parts) ∙ shown_rows (first (is_part pid) it.parts)
 
   -- the objects of a process's handles stand
-  rows_stand : (o : Option Part) (pid : ℕ) → first (is_part pid) parts ≡ o → every (λ row. object_stands n row.1.object) (rows_in o) ≡ true
+  rows_stand : (o : Option Part) (pid : ℕ) → first (is_part pid) it.parts ≡ o → every (λ row. object_stands n row.1.object) (rows_in o) ≡ true
   rows_stand None pid at = refl
   rows_stand (Some part) pid at =
       sym (every-map (object_stands n) (λ (row : ℕ × Row Object). row.1.object) part.handles.rows)
-      ∙ every-first (all_pass part_refs (object_stands n)) (is_part pid) parts part is.refs.in_handles at
+      ∙ every-first (all_pass part_refs (object_stands n)) (is_part pid) it.parts part is.refs.in_handles at
 
   -- the handle of a value in a process is this one
   pub record IsHandle (pid value : ℕ) (row : Row Object) : Type 0 where
     pub handle_is : found.handle_at rows pid value ≡ Some (handle_row value (name_by f row.object) row.access)
     pub object_stands : object_stands n row.object ≡ true
 
-  pub is_handle : (pid value : ℕ) (row : Row Object) → handles.at (rows_at parts pid) value ≡ Some row → IsHandle pid value row
+  pub is_handle : (pid value : ℕ) (row : Row Object) → handles.at (rows_at it.parts pid) value ≡ Some row → IsHandle pid value row
   is_handle pid value row at =
-      let held = holds (λ (r : ℕ × Row Object). r.1) (first (handles.has_value value) (rows_at parts pid)) row at in
-      let own : held.row.0 ≡ value = eqb-true held.row.0 value (first-passes (handles.has_value value) (rows_at parts pid) held.row held.found) in
+      let held = holds (λ (r : ℕ × Row Object). r.1) (first (handles.has_value value) (rows_at it.parts pid)) row at in
+      let own : held.row.0 ≡ value = eqb-true held.row.0 value (first-passes (handles.has_value value) (rows_at it.parts pid) held.row held.found) in
       let shown : shown_handle f held.row ≡ handle_row value (name_by f row.object) row.access = λ i. handle_row (own i) (name_by f (held.is i).object) (held.is i).access in
       record {
         handle_is =
             ap (λ hs. first (found.has_value value) hs) (handles_are pid)
-            ∙ first-shown (shown_handle f) (handles.has_value value) (found.has_value value) (λ r. refl) (rows_at parts pid)
+            ∙ first-shown (shown_handle f) (handles.has_value value) (found.has_value value) (λ r. refl) (rows_at it.parts pid)
             ∙ ap (λ o. option_map (shown_handle f) o) held.found
             ∙ ap Some shown;
         object_stands =
             sym (ap (λ (r : Row Object). object_stands n r.object) held.is)
-            ∙ every-first (λ row. object_stands n row.1.object) (handles.has_value value) (rows_at parts pid) held.row (rows_stand (first (is_part pid) parts) pid refl) held.found;
+            ∙ every-first (λ row. object_stands n row.1.object) (handles.has_value value) (rows_at it.parts pid) held.row (rows_stand (first (is_part pid) it.parts) pid refl) held.found;
       }
 
-  pub no_handle : (pid value : ℕ) → handles.at (rows_at parts pid) value ≡ None → found.handle_at rows pid value ≡ None
+  pub no_handle : (pid value : ℕ) → handles.at (rows_at it.parts pid) value ≡ None → found.handle_at rows pid value ≡ None
   no_handle pid value none =
       ap (λ hs. first (found.has_value value) hs) (handles_are pid)
-      ∙ first-shown (shown_handle f) (handles.has_value value) (found.has_value value) (λ r. refl) (rows_at parts pid)
-      ∙ ap (λ o. option_map (shown_handle f) o) (none_before (λ (r : ℕ × Row Object). r.1) (first (handles.has_value value) (rows_at parts pid)) none)
+      ∙ first-shown (shown_handle f) (handles.has_value value) (found.has_value value) (λ r. refl) (rows_at it.parts pid)
+      ∙ ap (λ o. option_map (shown_handle f) o) (none_before (λ (r : ℕ × Row Object). r.1) (first (handles.has_value value) (rows_at it.parts pid)) none)
 
   -- what is found at a value
   pub record IsAt (pid value : ℕ) (o : Option (Row Object)) : Type 0 where
     pub row : MatchOption o (found.handle_at rows pid value ≡ None) (λ row. found.handle_at rows pid value ≡ Some (handle_row value (name_by f row.object) row.access))
     pub object_stands : IfSome o (λ row. object_stands n row.object ≡ true)
 
-  at_by : (pid value : ℕ) (o : Option (Row Object)) → handles.at (rows_at parts pid) value ≡ o → IsAt pid value o
+  at_by : (pid value : ℕ) (o : Option (Row Object)) → handles.at (rows_at it.parts pid) value ≡ o → IsAt pid value o
   at_by pid value None at = record { row = no_handle pid value at; object_stands = tt }
   at_by pid value (Some row) at = let is = is_handle pid value row at in record { row = is.handle_is; object_stands = is.object_stands }
 
-  pub is_at : (pid value : ℕ) (o : Option (Row Object)) → o ≡ handles.at (rows_at parts pid) value → IsAt pid value o
+  pub is_at : (pid value : ℕ) (o : Option (Row Object)) → o ≡ handles.at (rows_at it.parts pid) value → IsAt pid value o
   is_at pid value o is = at_by pid value o (sym is)
 
   -- an open port
@@ -266,12 +266,12 @@ module _ (procs : procs.Table) (parts : List Part) (p : PortTable) (w : WaitTabl
   named_same key stand row ok = named (row.1.object) ok
     where
       named : (o : Object) → object_stands n o ≡ true → names_port (name_of n.ports key) (name_by f o) ≡ is_the_port key o
-      named (object.Port other) one = follows.agree parts p w is other key one stand
+      named (object.Port other) one = follows.agree it is other key one stand
 
   opened_same : (key : Key) → stands n.ports key ≡ true → (part : Part) → all_pass part_refs (object_stands n) part ≡ true → has_handle_to (name_of n.ports key) (shown_part f part) ≡ has_name_of key part
   opened_same key stand part ok =
       has-map (shown_handle f) (λ row. object_stands n row.1.object) (names_it key) (λ h. names_port (name_of n.ports key) h.object) (named_same key stand) part.handles.rows
       (sym (every-map (object_stands n) (λ (row : ℕ × Row Object). row.1.object) part.handles.rows) ∙ ok)
 
-  pub open_is : (key : Key) → stands n.ports key ≡ true → found.is_open rows (name_of n.ports key) ≡ has (has_name_of key) parts
-  open_is key stand = has-map (shown_part f) (all_pass part_refs (object_stands n)) (has_name_of key) (has_handle_to (name_of n.ports key)) (opened_same key stand) parts is.refs.in_handles
+  pub open_is : (key : Key) → stands n.ports key ≡ true → found.is_open rows (name_of n.ports key) ≡ has (has_name_of key) it.parts
+  open_is key stand = has-map (shown_part f) (all_pass part_refs (object_stands n)) (has_name_of key) (has_handle_to (name_of n.ports key)) (opened_same key stand) it.parts is.refs.in_handles

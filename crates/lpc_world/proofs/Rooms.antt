@@ -12,14 +12,15 @@ use Rattle.lpc_world.specs.Lawful.{are_single}
 use Rattle.lpc_world.proofs.Lawful.{count-taken, length-end, pending-receive, pending-without}
 
 -- the room by its numbers
-abbrev pub room : ℕ → ℕ → ℕ → ℕ → ℕ → World → List HandleRoom → Room
-room processes threads waits messages ports w handles = record {
+abbrev pub room : ℕ → ℕ → ℕ → ℕ → ℕ → ℕ → World → List HandleRoom → Room
+room processes threads waits messages ports names w handles = record {
   processes = processes;
   threads = threads;
   waits = waits + length w.waits - length w.threads;
   messages = messages + count is_asking w.messages - length w.threads;
   requests = count is_pending w.waits - count is_asking w.messages;
   ports = ports;
+  names = names;
   handles = handles;
 }
 
@@ -28,8 +29,8 @@ pub handles_more : (rooms : List HandleRoom) (r : HandleRoom) (pid : ℕ) → sp
 handles_more [] r pid = grind arith
 handles_more (s ∷ rooms) r pid = grind (arith, handles_more rooms r pid)
 
-module _ (a b c d e : ℕ) (w : World) (hs : List HandleRoom) where
-  pub room_threads : (ts : List ThreadRow) → length ts ≡ length w.threads → Roomy (room a b c d e w hs) (room a b c d e (record w { threads = ts }) hs)
+module _ (a b c d e g : ℕ) (w : World) (hs : List HandleRoom) where
+  pub room_threads : (ts : List ThreadRow) → length ts ≡ length w.threads → Roomy (room a b c d e g w hs) (room a b c d e g (record w { threads = ts }) hs)
   room_threads ts same = record {
     for_processes = omega arith;
     for_threads = omega arith;
@@ -37,11 +38,12 @@ module _ (a b c d e : ℕ) (w : World) (hs : List HandleRoom) where
     for_messages = omega (arith, same);
     for_requests = omega arith;
     for_ports = omega arith;
+    for_names = omega arith;
     for_handles = λ pid. omega arith;
   }
 
   pub room_process : (v : World) (less : ℕ) (r : HandleRoom) → v.threads ≡ w.threads → v.waits ≡ w.waits → v.messages ≡ w.messages → a ≤ less + 1
-      → Roomy (room a b c d e w hs) (record (room less b c d e v (hs ++ r ∷ [])) { processes = less + 1 })
+      → Roomy (room a b c d e g w hs) (record (room less b c d e g v (hs ++ r ∷ [])) { processes = less + 1 })
   room_process v less r ts ws ms le = rw (ts, ws, ms) (record {
     for_processes = le;
     for_threads = omega arith;
@@ -49,11 +51,12 @@ module _ (a b c d e : ℕ) (w : World) (hs : List HandleRoom) where
     for_messages = omega arith;
     for_requests = omega arith;
     for_ports = omega arith;
+    for_names = omega arith;
     for_handles = handles_more hs r;
   })
 
   pub room_thread : (v : World) (t : ThreadRow) → v.threads ≡ w.threads ++ t ∷ [] → v.waits ≡ w.waits → v.messages ≡ w.messages
-      → let after = room a (b - 1) c d e v hs in Roomy (room a b c d e w hs) (record after { threads = after.threads + 1; waits = after.waits + 1; messages = after.messages + 1 })
+      → let after = room a (b - 1) c d e g v hs in Roomy (room a b c d e g w hs) (record after { threads = after.threads + 1; waits = after.waits + 1; messages = after.messages + 1 })
   room_thread v t ts ws ms = rw (ts, ws, ms) (let more = length_push w.threads t in record {
     for_processes = omega arith;
     for_threads = omega arith;
@@ -61,10 +64,11 @@ module _ (a b c d e : ℕ) (w : World) (hs : List HandleRoom) where
     for_messages = omega (arith, more);
     for_requests = omega arith;
     for_ports = omega arith;
+    for_names = omega arith;
     for_handles = λ pid. omega arith;
   })
 
-  pub room_port : (p : PortRow) → let after = room a b c d (e - 1) (record w { ports = w.ports ++ p ∷ [] }) hs in Roomy (room a b c d e w hs) (record after { ports = after.ports + 1 })
+  pub room_port : (p : PortRow) → let after = room a b c d (e - 1) g (record w { ports = w.ports ++ p ∷ [] }) hs in Roomy (room a b c d e g w hs) (record after { ports = after.ports + 1 })
   room_port p = record {
     for_processes = omega arith;
     for_threads = omega arith;
@@ -72,10 +76,11 @@ module _ (a b c d e : ℕ) (w : World) (hs : List HandleRoom) where
     for_messages = omega arith;
     for_requests = omega arith;
     for_ports = omega arith;
+    for_names = omega arith;
     for_handles = λ pid. omega arith;
   }
 
-  pub room_enter : (m : MessageRow) → 0 < d → let after = room a b c (d - 1) e (record w { messages = w.messages ++ m ∷ [] }) hs in Roomy (room a b c d e w hs) (record after { messages = after.messages + 1; requests = after.requests + 1 })
+  pub room_enter : (m : MessageRow) → 0 < d → let after = room a b c (d - 1) e g (record w { messages = w.messages ++ m ∷ [] }) hs in Roomy (room a b c d e g w hs) (record after { messages = after.messages + 1; requests = after.requests + 1 })
   room_enter m place =
       let more : count is_asking (w.messages ++ m ∷ []) ≡ count is_asking w.messages + cond (is_asking m) 1 0 = count-push is_asking w.messages m in
       let one : cond (is_asking m) 1 0 ≤ 1 = at_most (is_asking m) in
@@ -86,6 +91,7 @@ module _ (a b c d e : ℕ) (w : World) (hs : List HandleRoom) where
         for_messages = omega (arith, more, one, place);
         for_requests = omega (arith, more, one);
         for_ports = omega arith;
+        for_names = omega arith;
         for_handles = λ pid. omega arith;
       }
     where
@@ -93,7 +99,7 @@ module _ (a b c d e : ℕ) (w : World) (hs : List HandleRoom) where
       at_most true = omega arith
       at_most false = omega arith
 
-  pub room_take : (q : Birth) (m : MessageRow) → first (is_queued q) w.messages ≡ Some m → Roomy (room a b c d e w hs) (room a b c (d + 1) e (record w { messages = without_first (is_queued q) w.messages }) hs)
+  pub room_take : (q : Birth) (m : MessageRow) → first (is_queued q) w.messages ≡ Some m → Roomy (room a b c d e g w hs) (room a b c (d + 1) e g (record w { messages = without_first (is_queued q) w.messages }) hs)
   room_take q m at =
       let less = count-taken (is_queued q) w.messages m at in
       let one : cond (is_asking m) 1 0 ≤ 1 = at_most (is_asking m) in
@@ -104,6 +110,7 @@ module _ (a b c d e : ℕ) (w : World) (hs : List HandleRoom) where
         for_messages = omega (arith, less, one);
         for_requests = omega (arith, less);
         for_ports = omega arith;
+        for_names = omega arith;
         for_handles = λ pid. omega arith;
       }
     where
@@ -118,7 +125,7 @@ module _ (a b c d e : ℕ) (w : World) (hs : List HandleRoom) where
       let one : 1 ≤ cond (is_asking m) 1 0 = rw asks (omega arith) in
       omega (arith, less, one, le)
 
-  pub room_wait : (x : WaitRow) → 0 < c → Roomy (room a b c d e w hs) (room a b (c - 1) d e (record w { waits = w.waits ++ x ∷ [] }) hs)
+  pub room_wait : (x : WaitRow) → 0 < c → Roomy (room a b c d e g w hs) (room a b (c - 1) d e g (record w { waits = w.waits ++ x ∷ [] }) hs)
   room_wait x place =
       let more = length_push w.waits x in
       let pending : count is_pending (w.waits ++ x ∷ []) ≡ count is_pending w.waits + cond (is_pending x) 1 0 = count-push is_pending w.waits x in
@@ -129,6 +136,7 @@ module _ (a b c d e : ℕ) (w : World) (hs : List HandleRoom) where
         for_messages = omega arith;
         for_requests = omega (arith, pending);
         for_ports = omega arith;
+        for_names = omega arith;
         for_handles = λ pid. omega arith;
       }
 
@@ -138,7 +146,7 @@ module _ (a b c d e : ℕ) (w : World) (hs : List HandleRoom) where
       let one : 1 ≤ cond (is_pending x) 1 0 = rw pends (omega arith) in
       omega (arith, pending, one, le)
 
-  pub room_end : (who : ℕ) → are_single w.waits ≡ true → has (pends_as who) w.waits ≡ false → Roomy (room a b c d e w hs) (room a b (cond (has (waits_as who) w.waits) (c + 1) c) d e (record w { waits = without (waits_as who) w.waits }) hs)
+  pub room_end : (who : ℕ) → are_single w.waits ≡ true → has (pends_as who) w.waits ≡ false → Roomy (room a b c d e g w hs) (room a b (cond (has (waits_as who) w.waits) (c + 1) c) d e g (record w { waits = without (waits_as who) w.waits }) hs)
   room_end who one idle =
       let less = length-end who w.waits one in
       let same = pending-without who w.waits idle in
@@ -149,6 +157,7 @@ module _ (a b c d e : ℕ) (w : World) (hs : List HandleRoom) where
         for_messages = omega arith;
         for_requests = omega (arith, same);
         for_ports = omega arith;
+        for_names = omega arith;
         for_handles = λ pid. omega arith;
       }
     where
@@ -156,7 +165,7 @@ module _ (a b c d e : ℕ) (w : World) (hs : List HandleRoom) where
       ended true m eq = omega (arith, eq)
       ended false m eq = omega (arith, eq)
 
-  pub room_receive : (who : ℕ) → are_single w.waits ≡ true → let after = room a b c d e (record w { waits = change (waits_as who) received w.waits }) hs in Roomy (room a b c d e w hs) (record after { requests = after.requests + 1 })
+  pub room_receive : (who : ℕ) → are_single w.waits ≡ true → let after = room a b c d e g (record w { waits = change (waits_as who) received w.waits }) hs in Roomy (room a b c d e g w hs) (record after { requests = after.requests + 1 })
   room_receive who one =
       let fewer = pending-receive who w.waits one in
       let same = length-change (waits_as who) received w.waits in
@@ -167,10 +176,11 @@ module _ (a b c d e : ℕ) (w : World) (hs : List HandleRoom) where
         for_messages = omega arith;
         for_requests = omega (arith, fewer);
         for_ports = omega arith;
+        for_names = omega arith;
         for_handles = λ pid. omega arith;
       }
 
-  pub room_keep : (xs : List WaitRow) → length xs ≡ length w.waits → count is_pending xs ≡ count is_pending w.waits → Roomy (room a b c d e w hs) (room a b c d e (record w { waits = xs }) hs)
+  pub room_keep : (xs : List WaitRow) → length xs ≡ length w.waits → count is_pending xs ≡ count is_pending w.waits → Roomy (room a b c d e g w hs) (room a b c d e g (record w { waits = xs }) hs)
   room_keep xs long same = record {
     for_processes = omega arith;
     for_threads = omega arith;
@@ -178,17 +188,19 @@ module _ (a b c d e : ℕ) (w : World) (hs : List HandleRoom) where
     for_messages = omega arith;
     for_requests = omega (arith, same);
     for_ports = omega arith;
+    for_names = omega arith;
     for_handles = λ pid. omega arith;
   }
 
-  pub room_more : (a' b' c' d' e' : ℕ) → a ≤ a' → b ≤ b' → c ≤ c' → d ≤ d' → e ≤ e' → Roomy (room a b c d e w hs) (room a' b' c' d' e' w hs)
-  room_more a' b' c' d' e' la lb lc ld le = record {
+  pub room_more : (a' b' c' d' e' g' : ℕ) → a ≤ a' → b ≤ b' → c ≤ c' → d ≤ d' → e ≤ e' → g ≤ g' → Roomy (room a b c d e g w hs) (room a' b' c' d' e' g' w hs)
+  room_more a' b' c' d' e' g' la lb lc ld le lg = record {
     for_processes = la;
     for_threads = lb;
     for_waits = omega (arith, lc);
     for_messages = omega (arith, ld);
     for_requests = omega arith;
     for_ports = le;
+    for_names = lg;
     for_handles = λ pid. omega arith;
   }
 

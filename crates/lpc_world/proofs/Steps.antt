@@ -15,6 +15,7 @@ use Rattle.lpc_model.specs.Basics.{AddsHandle, AddsProcess, AddsThread, Awaits, 
 use Rattle.lpc_model.specs.Found.{is_port, is_process, is_queued, is_thread, receives_on, waits_as}
 use Rattle.lpc_model.specs.Message.{message_of}
 use Rattle.lpc_model.specs.Tests.{next_birth}
+use Rattle.lpc_names.specs.Binding.{NameSpace}
 use Rattle.lpc_ports.specs.Table as ports
 use Rattle.lpc_ports.specs.Table.{PortTable}
 use Rattle.lpc_ports.specs.declared.Port.{Port}
@@ -30,7 +31,7 @@ use Rattle.lpc_waits.specs.Table.{WaitTable}
 use Rattle.lpc_waits.specs.declared.Wait.{Wait}
 use Rattle.lpc_waits.specs.declared.WaitRow.{WaitRow}
 use Rattle.lpc_world.specs.Names.{are_apart, name_of, stands}
-use Rattle.lpc_world.specs.Shown.{Births, all_pass, birth_of, births_of, message_refs, object_stands, port_refs, pulled_row, shown_message, shown_port, shown_process, shown_thread, shown_used, shown_wait, wait_refs}
+use Rattle.lpc_world.specs.Shown.{Tables, Births, all_pass, birth_of, births_of, message_refs, object_stands, port_refs, pulled_row, shown_message, shown_port, shown_process, shown_thread, shown_used, shown_wait, tables_of, wait_refs}
 use Rattle.lpc_world.specs.Parts.{handed, is_part, roomed}
 use Rattle.lpc_world.specs.Kept.{is_asking, is_pending, pends_as, rows_by}
 use Rattle.lpc_world.specs.Lawful.{AreLawful, IsCounted, draws_at_most, drew, has_header, is_housed, is_quiet}
@@ -47,171 +48,171 @@ use Rattle.lpc_world.proofs.Naming.{key_is, key_itself}
 more_counted : (p : PortTable) (w : WaitTable) (made : ℕ) → IsCounted p w made → IsCounted p w (made + 1)
 more_counted p w made h = record { ports_made = omega (arith, h.ports_made); messages_made = omega (arith, h.messages_made); waits_made = omega (arith, h.waits_made) }
 
-module _ (t : procs.Table) (parts : List Part) (p : PortTable) (w : WaitTable) (calls made : ℕ) (is : AreLawful t parts p w calls made) where
+module _ (it : Tables) (calls made : ℕ) (is : AreLawful it calls made) where
   abbrev n : Births
-  n = births_of p
+  n = births_of it.ports
 
   abbrev rows : World
-  rows = rows_by t parts p w
+  rows = rows_by it
 
   -- the thread of a number
-  pub first_thread : (who : ℕ) → first (is_thread who) rows.threads ≡ option_map shown_thread (first (procs.is_thread who) t.threads)
-  first_thread who = first-map shown_thread (λ _. true) (procs.is_thread who) (is_thread who) (λ row _. refl) t.threads (changes.all_true t parts p w is.named t.threads)
+  pub first_thread : (who : ℕ) → first (is_thread who) rows.threads ≡ option_map shown_thread (first (procs.is_thread who) it.procs.threads)
+  first_thread who = first-map shown_thread (λ _. true) (procs.is_thread who) (is_thread who) (λ row _. refl) it.procs.threads (changes.all_true it is.named it.procs.threads)
 
-  pub has_thread : (who : ℕ) → has (is_thread who) rows.threads ≡ has (procs.is_thread who) t.threads
-  has_thread who = has-map shown_thread (λ _. true) (procs.is_thread who) (is_thread who) (λ row _. refl) t.threads (changes.all_true t parts p w is.named t.threads)
+  pub has_thread : (who : ℕ) → has (is_thread who) rows.threads ≡ has (procs.is_thread who) it.procs.threads
+  has_thread who = has-map shown_thread (λ _. true) (procs.is_thread who) (is_thread who) (λ row _. refl) it.procs.threads (changes.all_true it is.named it.procs.threads)
 
   -- numbers are left to draw
-  left : (who : ℕ) (o : Option ThreadRow) → first (procs.is_thread who) t.threads ≡ o → has (procs.is_thread who) t.threads ≡ true → IsSomeAnd o (λ r. (r.next_identifier < 2 ^ 32 - 1) × (r.next_ordinal < 2 ^ 32 - 1))
-  left who None at there = let no : has (procs.is_thread who) t.threads ≡ false = ap is_some at in absurd (cc)
+  left : (who : ℕ) (o : Option ThreadRow) → first (procs.is_thread who) it.procs.threads ≡ o → has (procs.is_thread who) it.procs.threads ≡ true → IsSomeAnd o (λ r. (r.next_identifier < 2 ^ 32 - 1) × (r.next_ordinal < 2 ^ 32 - 1))
+  left who None at there = let no : has (procs.is_thread who) it.procs.threads ≡ false = ap is_some at in absurd (cc)
   left who (Some r) at there =
       let drawn = lawful.drawn-numbers (made + 1) who rows.threads (shown_thread r) is.lawful.draws (first_thread who ∙ ap (option_map shown_thread) at) in
       let few = is.lawful.few in
       let budget = is.lawful.budget in
       (omega (arith, drawn.0, few, budget), omega (arith, drawn.1, few, budget))
 
-  pub identifier_left : (who : ℕ) → has (is_thread who) rows.threads ≡ true → IsSomeAnd (first (procs.is_thread who) t.threads) (λ r. r.next_identifier < 2 ^ 32 - 1)
-  identifier_left who there = one (first (procs.is_thread who) t.threads) (left who (first (procs.is_thread who) t.threads) refl (sym (has_thread who) ∙ there))
+  pub identifier_left : (who : ℕ) → has (is_thread who) rows.threads ≡ true → IsSomeAnd (first (procs.is_thread who) it.procs.threads) (λ r. r.next_identifier < 2 ^ 32 - 1)
+  identifier_left who there = one (first (procs.is_thread who) it.procs.threads) (left who (first (procs.is_thread who) it.procs.threads) refl (sym (has_thread who) ∙ there))
     where
       one : (o : Option ThreadRow) → IsSomeAnd o (λ r. (r.next_identifier < 2 ^ 32 - 1) × (r.next_ordinal < 2 ^ 32 - 1)) → IsSomeAnd o (λ r. r.next_identifier < 2 ^ 32 - 1)
       one None h = h
       one (Some r) h = h.0
 
-  pub ordinal_left : (who : ℕ) → has (is_thread who) rows.threads ≡ true → IsSomeAnd (first (procs.is_thread who) t.threads) (λ r. r.next_ordinal < 2 ^ 32 - 1)
-  ordinal_left who there = one (first (procs.is_thread who) t.threads) (left who (first (procs.is_thread who) t.threads) refl (sym (has_thread who) ∙ there))
+  pub ordinal_left : (who : ℕ) → has (is_thread who) rows.threads ≡ true → IsSomeAnd (first (procs.is_thread who) it.procs.threads) (λ r. r.next_ordinal < 2 ^ 32 - 1)
+  ordinal_left who there = one (first (procs.is_thread who) it.procs.threads) (left who (first (procs.is_thread who) it.procs.threads) refl (sym (has_thread who) ∙ there))
     where
       one : (o : Option ThreadRow) → IsSomeAnd o (λ r. (r.next_identifier < 2 ^ 32 - 1) × (r.next_ordinal < 2 ^ 32 - 1)) → IsSomeAnd o (λ r. r.next_ordinal < 2 ^ 32 - 1)
       one None h = h
       one (Some r) h = h.1
 
   -- what is drawn
-  pub drawn_identifier : (who result : ℕ) → option_map (λ r. r.next_identifier) (first (procs.is_thread who) t.threads) ≡ Some result → option_map (λ r. r.next_identifier) (first (is_thread who) rows.threads) ≡ Some result
-  drawn_identifier who result at = ap (option_map (λ r. r.next_identifier)) (first_thread who) ∙ mapped-twice shown_thread (λ r. r.next_identifier) (first (procs.is_thread who) t.threads) ∙ at
+  pub drawn_identifier : (who result : ℕ) → option_map (λ r. r.next_identifier) (first (procs.is_thread who) it.procs.threads) ≡ Some result → option_map (λ r. r.next_identifier) (first (is_thread who) rows.threads) ≡ Some result
+  drawn_identifier who result at = ap (option_map (λ r. r.next_identifier)) (first_thread who) ∙ mapped-twice shown_thread (λ r. r.next_identifier) (first (procs.is_thread who) it.procs.threads) ∙ at
 
-  pub drawn_birth : (who : ℕ) (result : Birth) → option_map procs.next_birth (first (procs.is_thread who) t.threads) ≡ Some result → option_map next_birth (first (is_thread who) rows.threads) ≡ Some result
-  drawn_birth who result at = ap (option_map next_birth) (first_thread who) ∙ mapped-twice shown_thread next_birth (first (procs.is_thread who) t.threads) ∙ at
+  pub drawn_birth : (who : ℕ) (result : Birth) → option_map procs.next_birth (first (procs.is_thread who) it.procs.threads) ≡ Some result → option_map next_birth (first (is_thread who) rows.threads) ≡ Some result
+  drawn_birth who result at = ap (option_map next_birth) (first_thread who) ∙ mapped-twice shown_thread next_birth (first (procs.is_thread who) it.procs.threads) ∙ at
 
   -- draws
-  pub drew_identifier : (who : ℕ) → made < 16 * calls → AreLawful (procs.with_thread t who procs.past_identifier) parts p w calls (made + 1)
+  pub drew_identifier : (who : ℕ) → made < 16 * calls → AreLawful (record it { procs = procs.with_thread it.procs who procs.past_identifier }) calls (made + 1)
   drew_identifier who lt = record {
-    named = is.named;
-    lawful = rw (changes.draws_identifier t parts p w is.named who) (lawful.lawful-identifier rows calls made w.spare p.message_room who is.lawful lt);
-    counted = more_counted p w made is.counted;
+    named = changes.threaded it is.named _;
+    lawful = rw (changes.draws_identifier it is.named who) (lawful.lawful-identifier rows calls made it.waits.spare it.ports.message_room who is.lawful lt);
+    counted = more_counted it.ports it.waits made is.counted;
     headed = is.headed;
-    drawn = rw (changes.draws_identifier t parts p w is.named who) (drawn.drawn-identifier rows who is.drawn);
+    drawn = rw (changes.draws_identifier it is.named who) (drawn.drawn-identifier rows who is.drawn);
   }
 
-  pub drew_birth : (who : ℕ) → made < 16 * calls → AreLawful (procs.with_thread t who procs.past_birth) parts p w calls (made + 1)
+  pub drew_birth : (who : ℕ) → made < 16 * calls → AreLawful (record it { procs = procs.with_thread it.procs who procs.past_birth }) calls (made + 1)
   drew_birth who lt = record {
-    named = is.named;
-    lawful = rw (changes.draws_ordinal t parts p w is.named who) (lawful.lawful-ordinal rows calls made w.spare p.message_room who is.lawful lt);
-    counted = more_counted p w made is.counted;
+    named = changes.threaded it is.named _;
+    lawful = rw (changes.draws_ordinal it is.named who) (lawful.lawful-ordinal rows calls made it.waits.spare it.ports.message_room who is.lawful lt);
+    counted = more_counted it.ports it.waits made is.counted;
     headed = is.headed;
-    drawn = rw (changes.draws_ordinal t parts p w is.named who) (drawn.drawn-ordinal rows who is.drawn);
+    drawn = rw (changes.draws_ordinal it is.named who) (drawn.drawn-ordinal rows who is.drawn);
   }
 
   -- processes and threads
-  pub added_process : (row : ProcessRow) (part : Part) (room : ℕ) → part.handles.rows ≡ [] → part.process ≡ row.number → made < 16 * calls → has (λ m. m == row.number) t.used_processes ≡ false
-      → AreLawful (record t { processes = t.processes ++ row ∷ []; used_processes = t.used_processes ++ row.number ∷ []; process_room = room }) (parts ++ part ∷ []) p w calls (made + 1)
+  pub added_process : (row : ProcessRow) (part : Part) (room : ℕ) → part.handles.rows ≡ [] → part.process ≡ row.number → made < 16 * calls → has (λ m. m == row.number) it.procs.used_processes ≡ false
+      → AreLawful (record it { procs = record it.procs { processes = it.procs.processes ++ row ∷ []; used_processes = it.procs.used_processes ++ row.number ∷ []; process_room = room }; parts = it.parts ++ part ∷ [] }) calls (made + 1)
   added_process row part room none same lt new = record {
-    named = changes.processed t parts p w is.named part none;
-    lawful = rw (changes.adds_process t parts p w is.named row part room none same) (lawful.lawful-process rows calls made w.spare p.message_room (shown_process row) is.lawful lt new);
-    counted = more_counted p w made is.counted;
+    named = changes.processed it is.named _ part none;
+    lawful = rw (changes.adds_process it is.named row part room none same) (lawful.lawful-process rows calls made it.waits.spare it.ports.message_room (shown_process row) is.lawful lt new);
+    counted = more_counted it.ports it.waits made is.counted;
     headed = is.headed;
-    drawn = rw (changes.adds_process t parts p w is.named row part room none same) (drawn.same-drawn rows _ refl refl refl is.drawn);
+    drawn = rw (changes.adds_process it is.named row part room none same) (drawn.same-drawn rows _ refl refl refl is.drawn);
   }
 
   pub added_thread : (row : ThreadRow) (room : ℕ) → has (λ u. u.number == row.number) rows.used_threads ≡ false → made < 16 * calls → draws_at_most 1 (shown_thread row) ≡ true → is_housed rows (shown_thread row) ≡ true
-      → length rows.threads < w.spare + length rows.waits → length rows.threads < p.message_room + count is_asking rows.messages
-      → AreLawful (record t { threads = t.threads ++ row ∷ []; used_threads = t.used_threads ++ (record { number = row.number; process = row.process }) ∷ []; thread_room = room }) parts p w calls (made + 1)
+      → length rows.threads < it.waits.spare + length rows.waits → length rows.threads < it.ports.message_room + count is_asking rows.messages
+      → AreLawful (record it { procs = record it.procs { threads = it.procs.threads ++ row ∷ []; used_threads = it.procs.used_threads ++ (record { number = row.number; process = row.process }) ∷ []; thread_room = room } }) calls (made + 1)
   added_thread row room unused lt young home wait_room message_room = record {
-    named = is.named;
-    lawful = rw (changes.adds_thread t parts p w is.named row room) (lawful.lawful-thread rows calls made w.spare p.message_room (shown_thread row) _ is.lawful lt young home wait_room message_room);
-    counted = more_counted p w made is.counted;
+    named = changes.threaded it is.named _;
+    lawful = rw (changes.adds_thread it is.named row room) (lawful.lawful-thread rows calls made it.waits.spare it.ports.message_room (shown_thread row) _ is.lawful lt young home wait_room message_room);
+    counted = more_counted it.ports it.waits made is.counted;
     headed = is.headed;
-    drawn = rw (changes.adds_thread t parts p w is.named row room) (drawn.drawn-thread rows (shown_thread row) _ refl unused is.drawn);
+    drawn = rw (changes.adds_thread it is.named row room) (drawn.drawn-thread rows (shown_thread row) _ refl unused is.drawn);
   }
 
   -- messages
-  pub entered : (row : Key × QueuedMessage) → all_pass message_refs (object_stands n) row ≡ true → has_header row ≡ true → made < 16 * calls → 0 < p.message_room → has (receives_on (name_of n.ports row.1.queue)) rows.waits ≡ false
+  pub entered : (row : Key × QueuedMessage) → all_pass message_refs (object_stands n) row ≡ true → has_header row ≡ true → made < 16 * calls → 0 < it.ports.message_room → has (receives_on (name_of n.ports row.1.queue)) rows.waits ≡ false
       → (is_asking (shown_message (birth_of n) row) ≡ true → count is_asking rows.messages < count is_pending rows.waits)
-      → (is_asking (shown_message (birth_of n) row) ≡ false → length rows.threads < p.message_room + count is_asking rows.messages)
-      → AreLawful t parts (record p { messages = p.messages ++ row ∷ []; message_room = p.message_room - 1; messages_made = p.messages_made + 1 }) w calls (made + 1)
+      → (is_asking (shown_message (birth_of n) row) ≡ false → length rows.threads < it.ports.message_room + count is_asking rows.messages)
+      → AreLawful (record it { ports = record it.ports { messages = it.ports.messages ++ row ∷ []; message_room = it.ports.message_room - 1; messages_made = it.ports.messages_made + 1 } }) calls (made + 1)
   entered row there long lt place none asks other = record {
-    named = changes.entered t parts p w is.named row (p.message_room - 1) (p.messages_made + 1) there;
-    lawful = rw (changes.enters t parts p w is.named row (p.message_room - 1) (p.messages_made + 1)) (lawful.lawful-enter rows calls made w.spare p.message_room (shown_message (birth_of n) row) is.lawful lt place none asks other);
+    named = changes.entered it is.named row (it.ports.message_room - 1) (it.ports.messages_made + 1) there;
+    lawful = rw (changes.enters it is.named row (it.ports.message_room - 1) (it.ports.messages_made + 1)) (lawful.lawful-enter rows calls made it.waits.spare it.ports.message_room (shown_message (birth_of n) row) is.lawful lt place none asks other);
     counted = record { ports_made = omega (arith, is.counted.ports_made); messages_made = omega (arith, is.counted.messages_made); waits_made = omega (arith, is.counted.waits_made) };
-    headed = every-push has_header p.messages row is.headed long;
+    headed = every-push has_header it.ports.messages row is.headed long;
     drawn = drawn.same-drawn rows _ refl refl refl is.drawn;
   }
 
   pub taken : (key : Key) (m : model.MessageRow) → stands n.ports key ≡ true → first (is_queued (name_of n.ports key)) rows.messages ≡ Some m
-      → AreLawful t parts (record p { messages = without_first (ports.is_in key) p.messages; message_room = p.message_room + 1 }) w calls made
+      → AreLawful (record it { ports = record it.ports { messages = without_first (ports.is_in key) it.ports.messages; message_room = it.ports.message_room + 1 } }) calls made
   taken key m there at = record {
-    named = changes.taken t parts p w is.named key (p.message_room + 1);
-    lawful = rw (changes.takes t parts p w is.named key (p.message_room + 1) there) (lawful.lawful-take rows calls made w.spare p.message_room (name_of n.ports key) m at is.lawful);
+    named = changes.taken it is.named key (it.ports.message_room + 1);
+    lawful = rw (changes.takes it is.named key (it.ports.message_room + 1) there) (lawful.lawful-take rows calls made it.waits.spare it.ports.message_room (name_of n.ports key) m at is.lawful);
     counted = record { ports_made = is.counted.ports_made; messages_made = is.counted.messages_made; waits_made = is.counted.waits_made };
-    headed = every-without_first has_header (ports.is_in key) p.messages is.headed;
+    headed = every-without_first has_header (ports.is_in key) it.ports.messages is.headed;
     drawn = drawn.same-drawn rows _ refl refl refl is.drawn;
   }
 
   -- waits
   pub awaited : (row : WaitRow) → all_pass wait_refs (object_stands n) row ≡ true → made < 16 * calls → has (is_thread row.thread) rows.threads ≡ true → has (waits_as row.thread) rows.waits ≡ false → is_quiet rows.messages (shown_wait (birth_of n) row) ≡ true
-      → AreLawful t parts p (record { rows = w.rows ++ row ∷ []; spare = w.spare - 1; made = w.made + 1 }) calls (made + 1)
+      → AreLawful (record it { waits = record { rows = it.waits.rows ++ row ∷ []; spare = it.waits.spare - 1; made = it.waits.made + 1 } }) calls (made + 1)
   awaited row there lt thread ready still = record {
-    named = changes.awaited t parts p w is.named row (w.spare - 1) (w.made + 1) there;
-    lawful = rw (changes.awaits t parts p w is.named row (w.spare - 1) (w.made + 1)) (lawful.lawful-wait rows calls made w.spare p.message_room (shown_wait (birth_of n) row) is.lawful lt thread ready still (lawful.wait-place rows calls made w.spare p.message_room row.thread is.lawful thread ready));
+    named = changes.awaited it is.named row (it.waits.spare - 1) (it.waits.made + 1) there;
+    lawful = rw (changes.awaits it is.named row (it.waits.spare - 1) (it.waits.made + 1)) (lawful.lawful-wait rows calls made it.waits.spare it.ports.message_room (shown_wait (birth_of n) row) is.lawful lt thread ready still (lawful.wait-place rows calls made it.waits.spare it.ports.message_room row.thread is.lawful thread ready));
     counted = record { ports_made = omega (arith, is.counted.ports_made); messages_made = omega (arith, is.counted.messages_made); waits_made = omega (arith, is.counted.waits_made) };
     headed = is.headed;
     drawn = drawn.same-drawn rows _ refl refl refl is.drawn;
   }
 
-  pub has_wait : (who : ℕ) → has (waits_as who) rows.waits ≡ has (waits.is_of who) w.rows
-  has_wait who = has-map (shown_wait (birth_of n)) (all_pass wait_refs (object_stands n)) (waits.is_of who) (waits_as who) (λ row _. refl) w.rows is.named.refs.in_waits
+  pub has_wait : (who : ℕ) → has (waits_as who) rows.waits ≡ has (waits.is_of who) it.waits.rows
+  has_wait who = has-map (shown_wait (birth_of n)) (all_pass wait_refs (object_stands n)) (waits.is_of who) (waits_as who) (λ row _. refl) it.waits.rows is.named.refs.in_waits
 
-  pub ended : (who : ℕ) → has (pends_as who) rows.waits ≡ false → AreLawful t parts p (record { rows = without (waits.is_of who) w.rows; spare = cond (has (waits.is_of who) w.rows) (w.spare + 1) w.spare; made = w.made }) calls made
+  pub ended : (who : ℕ) → has (pends_as who) rows.waits ≡ false → AreLawful (record it { waits = record { rows = without (waits.is_of who) it.waits.rows; spare = cond (has (waits.is_of who) it.waits.rows) (it.waits.spare + 1) it.waits.spare; made = it.waits.made } }) calls made
   ended who idle = record {
-    named = changes.ended t parts p w is.named who (cond (has (waits.is_of who) w.rows) (w.spare + 1) w.spare) w.made;
-    lawful = rw (changes.ends t parts p w is.named who (cond (has (waits.is_of who) w.rows) (w.spare + 1) w.spare) w.made, ← has_wait who) (lawful.lawful-end rows calls made w.spare p.message_room who is.lawful idle);
+    named = changes.ended it is.named who (cond (has (waits.is_of who) it.waits.rows) (it.waits.spare + 1) it.waits.spare) it.waits.made;
+    lawful = rw (changes.ends it is.named who (cond (has (waits.is_of who) it.waits.rows) (it.waits.spare + 1) it.waits.spare) it.waits.made, ← has_wait who) (lawful.lawful-end rows calls made it.waits.spare it.ports.message_room who is.lawful idle);
     counted = record { ports_made = is.counted.ports_made; messages_made = is.counted.messages_made; waits_made = is.counted.waits_made };
     headed = is.headed;
     drawn = drawn.same-drawn rows _ refl refl refl is.drawn;
   }
 
   -- a wait whose request is received
-  pub received : (who : ℕ) → count is_asking rows.messages < count is_pending rows.waits → AreLawful t parts p (record w { rows = change (waits.is_of who) waits.received w.rows }) calls made
+  pub received : (who : ℕ) → count is_asking rows.messages < count is_pending rows.waits → AreLawful (record it { waits = record it.waits { rows = change (waits.is_of who) waits.received it.waits.rows } }) calls made
   received who lt = record {
-    named = changes.waiting t parts p w is.named who w.spare w.made waits.received (λ row. refl);
-    lawful = rw (changes.receives t parts p w is.named who) (lawful.lawful-receive rows calls made w.spare p.message_room who is.lawful lt);
+    named = changes.waiting it is.named who it.waits.spare it.waits.made waits.received (λ row. refl);
+    lawful = rw (changes.receives it is.named who) (lawful.lawful-receive rows calls made it.waits.spare it.ports.message_room who is.lawful lt);
     counted = record { ports_made = is.counted.ports_made; messages_made = is.counted.messages_made; waits_made = is.counted.waits_made };
     headed = is.headed;
     drawn = drawn.same-drawn rows _ refl refl refl is.drawn;
   }
 
   -- a wait that keeps its message
-  pub kept_message : (who : ℕ) (bytes : List ℕ) → AreLawful t parts p (record w { rows = change (waits.is_of who) (waits.with_message bytes) w.rows }) calls made
+  pub kept_message : (who : ℕ) (bytes : List ℕ) → AreLawful (record it { waits = record it.waits { rows = change (waits.is_of who) (waits.with_message bytes) it.waits.rows } }) calls made
   kept_message who bytes = record {
-    named = changes.waiting t parts p w is.named who w.spare w.made (waits.with_message bytes) (λ row. refl);
-    lawful = rw (changes.keeps_message t parts p w is.named who bytes) (changes.lawful-message rows calls made w.spare p.message_room who bytes is.lawful);
+    named = changes.waiting it is.named who it.waits.spare it.waits.made (waits.with_message bytes) (λ row. refl);
+    lawful = rw (changes.keeps_message it is.named who bytes) (changes.lawful-message rows calls made it.waits.spare it.ports.message_room who bytes is.lawful);
     counted = record { ports_made = is.counted.ports_made; messages_made = is.counted.messages_made; waits_made = is.counted.waits_made };
     headed = is.headed;
     drawn = drawn.same-drawn rows _ refl refl refl is.drawn;
   }
 
   -- handles
-  pub handed_lawful : (pid value : ℕ) (row : Row Object) → object_stands n row.object ≡ true → AreLawful t (change (is_part pid) (handed value row) parts) p w calls made
+  pub handed_lawful : (pid value : ℕ) (row : Row Object) → object_stands n row.object ≡ true → AreLawful (record it { parts = change (is_part pid) (handed value row) it.parts }) calls made
   handed_lawful pid value row there = record {
-    named = changes.handed_named t parts p w is.named pid value row there;
-    lawful = rw (changes.hands t parts p w is.named pid value row) (lawful.lawful-handle rows calls made w.spare p.message_room pid _ is.lawful);
+    named = changes.handed_named it is.named pid value row there;
+    lawful = rw (changes.hands it is.named pid value row) (lawful.lawful-handle rows calls made it.waits.spare it.ports.message_room pid _ is.lawful);
     counted = is.counted;
     headed = is.headed;
     drawn = drawn.same-drawn rows _ refl refl refl is.drawn;
   }
 
-  pub roomed_lawful : (pid spare : ℕ) → AreLawful t (change (is_part pid) (roomed spare) parts) p w calls made
+  pub roomed_lawful : (pid spare : ℕ) → AreLawful (record it { parts = change (is_part pid) (roomed spare) it.parts }) calls made
   roomed_lawful pid spare = record {
-    named = changes.roomed_named t parts p w is.named pid spare;
-    lawful = rw (changes.rooms t parts p w is.named pid spare) is.lawful;
+    named = changes.roomed_named it is.named pid spare;
+    lawful = rw (changes.rooms it is.named pid spare) is.lawful;
     counted = is.counted;
     headed = is.headed;
     drawn = drawn.same-drawn rows _ refl refl refl is.drawn;
@@ -219,20 +220,20 @@ module _ (t : procs.Table) (parts : List Part) (p : PortTable) (w : WaitTable) (
 
   -- a port more
   pub made_lawful : (key : Key) (row : Port) → stands n.ports key ≡ false → first (is_port row.birth) rows.ports ≡ None → every (object_stands n) (port_refs (key, row)) ≡ true → has (drew row.birth) rows.threads ≡ true → made < 16 * calls
-      → AreLawful t parts (record p { ports = p.ports ++ (key, row) ∷ []; port_room = p.port_room - 1; ports_made = p.ports_made + 1 }) w calls (made + 1)
+      → AreLawful (record it { ports = record it.ports { ports = it.ports.ports ++ (key, row) ∷ []; port_room = it.ports.port_room - 1; ports_made = it.ports.ports_made + 1 } }) calls (made + 1)
   made_lawful key row absent fresh refs was lt = record {
-    named = makes.made_named t parts p w is.named key row (p.port_room - 1) (p.ports_made + 1) absent fresh refs;
-    lawful = rw (makes.makes t parts p w is.named key row (p.port_room - 1) (p.ports_made + 1) refs) (lawful.lawful-port rows calls made w.spare p.message_room (shown_port (birth_of n) (key, row)) is.lawful lt);
+    named = makes.made_named it is.named key row (it.ports.port_room - 1) (it.ports.ports_made + 1) absent fresh refs;
+    lawful = rw (makes.makes it is.named key row (it.ports.port_room - 1) (it.ports.ports_made + 1) refs) (lawful.lawful-port rows calls made it.waits.spare it.ports.message_room (shown_port (birth_of n) (key, row)) is.lawful lt);
     counted = record { ports_made = omega (arith, is.counted.ports_made); messages_made = omega (arith, is.counted.messages_made); waits_made = omega (arith, is.counted.waits_made) };
     headed = is.headed;
-    drawn = rw (makes.makes t parts p w is.named key row (p.port_room - 1) (p.ports_made + 1) refs) (drawn.drawn-port rows (shown_port (birth_of n) (key, row)) was is.drawn);
+    drawn = rw (makes.makes it is.named key row (it.ports.port_room - 1) (it.ports.ports_made + 1) refs) (drawn.drawn-port rows (shown_port (birth_of n) (key, row)) was is.drawn);
   }
 
 -- nothing
-pub none_lawful : AreLawful (record { processes = []; threads = []; used_processes = []; used_threads = []; process_room = 0; thread_room = 0 }) [] (record { ports = []; messages = []; port_room = 0; message_room = 0; ports_made = 0; messages_made = 0 }) (record { rows = []; spare = 0; made = 0 }) 0 0
+pub none_lawful : (space : NameSpace Key) → space.bindings ≡ [] → AreLawful (tables_of (record { processes = []; threads = []; used_processes = []; used_threads = []; process_room = 0; thread_room = 0 }) [] (record { ports = []; messages = []; port_room = 0; message_room = 0; ports_made = 0; messages_made = 0 }) (record { rows = []; spare = 0; made = 0 }) space) 0 0
 unfolding are_apart
-none_lawful = record {
-  named = record { ports_apart = refl; refs = record { in_handles = refl; in_ports = refl; in_messages = refl; in_waits = refl } };
+none_lawful space none = record {
+  named = record { ports_apart = refl; refs = record { in_handles = refl; in_ports = refl; in_messages = refl; in_waits = refl; in_names = rw none refl } };
   lawful = record {
     few = omega arith;
     budget = omega arith;
@@ -257,12 +258,12 @@ pub long_is : (bytes : List ℕ) → 24 ≤ length bytes → nat_le 24 (length b
 long_is bytes long = grind (arith, nat_tests)
 
 -- What calls require of the tables
-module _ (t : procs.Table) (parts : List Part) (p : PortTable) (w : WaitTable) (calls made : ℕ) (is : AreLawful t parts p w calls made) where
+module _ (it : Tables) (calls made : ℕ) (is : AreLawful it calls made) where
   abbrev all : World
-  all = rows_by t parts p w
+  all = rows_by it
 
   -- keys that stand
-  pub two_stand : (a b : Key) → stands (births_of p).ports a ≡ true → stands (births_of p).ports b ≡ true → every (object_stands (births_of p)) (object.Port a ∷ object.Port b ∷ []) ≡ true
+  pub two_stand : (a b : Key) → stands (births_of it.ports).ports a ≡ true → stands (births_of it.ports).ports b ≡ true → every (object_stands (births_of it.ports)) (object.Port a ∷ object.Port b ∷ []) ≡ true
   two_stand a b one two = rw (one, two) refl
 
   -- the wait of a thread
@@ -274,18 +275,18 @@ module _ (t : procs.Table) (parts : List Part) (p : PortTable) (w : WaitTable) (
   some_of None h = absurd (cc)
   some_of (Some x) h = refl
 
-  pub no_wait : (who : ℕ) → has (waits_as who) all.waits ≡ false → first (waits.is_of who) w.rows ≡ None
-  no_wait who none = none_of (first (waits.is_of who) w.rows) (sym (has_wait t parts p w calls made is who) ∙ none)
+  pub no_wait : (who : ℕ) → has (waits_as who) all.waits ≡ false → first (waits.is_of who) it.waits.rows ≡ None
+  no_wait who none = none_of (first (waits.is_of who) it.waits.rows) (sym (has_wait it calls made is who) ∙ none)
 
-  pub some_wait : (who : ℕ) → has (waits_as who) all.waits ≡ true → IsSome (first (waits.is_of who) w.rows)
-  some_wait who there = some_of (first (waits.is_of who) w.rows) (sym (has_wait t parts p w calls made is who) ∙ there)
+  pub some_wait : (who : ℕ) → has (waits_as who) all.waits ≡ true → IsSome (first (waits.is_of who) it.waits.rows)
+  some_wait who there = some_of (first (waits.is_of who) it.waits.rows) (sym (has_wait it calls made is who) ∙ there)
 
-  pub wait_place : (who : ℕ) → has (is_thread who) all.threads ≡ true → has (waits_as who) all.waits ≡ false → 0 < w.spare
-  wait_place who there none = lawful.wait-place all calls made w.spare p.message_room who is.lawful there none
+  pub wait_place : (who : ℕ) → has (is_thread who) all.threads ≡ true → has (waits_as who) all.waits ≡ false → 0 < it.waits.spare
+  wait_place who there none = lawful.wait-place all calls made it.waits.spare it.ports.message_room who is.lawful there none
 
   -- a place for a message
-  pub message_place : (ask : Bool) → (ask ≡ true → 0 < count is_pending all.waits - count is_asking all.messages) → (ask ≡ false → 0 < p.message_room + count is_asking all.messages - length all.threads) → 0 < p.message_room
-  message_place true asks other = let h = asks refl in lawful.message-place all calls made w.spare p.message_room is.lawful (omega (arith, h))
+  pub message_place : (ask : Bool) → (ask ≡ true → 0 < count is_pending all.waits - count is_asking all.messages) → (ask ≡ false → 0 < it.ports.message_room + count is_asking all.messages - length all.threads) → 0 < it.ports.message_room
+  message_place true asks other = let h = asks refl in lawful.message-place all calls made it.waits.spare it.ports.message_room is.lawful (omega (arith, h))
   message_place false asks other =
       let h = other refl in
       let pending = count-bound is_pending all.waits in
@@ -294,11 +295,11 @@ module _ (t : procs.Table) (parts : List Part) (p : PortTable) (w : WaitTable) (
       omega (arith, h, pending, fit, asked)
 
   -- the table that the end of a wait leaves
-  pub end_is : (who : ℕ) (new : WaitTable) (result : Option Wait) → result ≡ option_map (λ row. row.wait) (first (waits.is_of who) w.rows) → new.rows ≡ without (waits.is_of who) w.rows → new.spare ≡ cond (is_some result) (w.spare + 1) w.spare → new.made ≡ w.made
-      → new ≡ record { rows = without (waits.is_of who) w.rows; spare = cond (has (waits.is_of who) w.rows) (w.spare + 1) w.spare; made = w.made }
+  pub end_is : (who : ℕ) (new : WaitTable) (result : Option Wait) → result ≡ option_map (λ row. row.wait) (first (waits.is_of who) it.waits.rows) → new.rows ≡ without (waits.is_of who) it.waits.rows → new.spare ≡ cond (is_some result) (it.waits.spare + 1) it.waits.spare → new.made ≡ it.waits.made
+      → new ≡ record { rows = without (waits.is_of who) it.waits.rows; spare = cond (has (waits.is_of who) it.waits.rows) (it.waits.spare + 1) it.waits.spare; made = it.waits.made }
   end_is who new result value rows spare same =
-      let found : is_some result ≡ has (waits.is_of who) w.rows = ap is_some value ∙ is_some-map (first (waits.is_of who) w.rows) in
-      let left : new.spare ≡ cond (has (waits.is_of who) w.rows) (w.spare + 1) w.spare = spare ∙ ap (λ b. cond b (w.spare + 1) w.spare) found in
+      let found : is_some result ≡ has (waits.is_of who) it.waits.rows = ap is_some value ∙ is_some-map (first (waits.is_of who) it.waits.rows) in
+      let left : new.spare ≡ cond (has (waits.is_of who) it.waits.rows) (it.waits.spare + 1) it.waits.spare = spare ∙ ap (λ b. cond b (it.waits.spare + 1) it.waits.spare) found in
       λ i. record { rows = rows i; spare = left i; made = same i }
     where
       is_some-map : (o : Option WaitRow) → is_some (option_map (λ row. row.wait) o) ≡ is_some o
@@ -306,15 +307,15 @@ module _ (t : procs.Table) (parts : List Part) (p : PortTable) (w : WaitTable) (
       is_some-map (Some row) = refl
 
   -- the oldest message of a queue
-  queued_first : (key : Key) → stands (births_of p).ports key ≡ true → first (is_queued (name_of (births_of p).ports key)) all.messages ≡ option_map (shown_message (birth_of (births_of p))) (first (ports.is_in key) p.messages)
-  queued_first key there = first_queued parts p w is.named key there
+  queued_first : (key : Key) → stands (births_of it.ports).ports key ≡ true → first (is_queued (name_of (births_of it.ports).ports key)) all.messages ≡ option_map (shown_message (birth_of (births_of it.ports))) (first (ports.is_in key) it.ports.messages)
+  queued_first key there = first_queued it is.named key there
 
   no_row : (o : Option (Key × QueuedMessage)) → option_map (λ (row : Key × QueuedMessage). row.0) o ≡ None → o ≡ None
   no_row None h = refl
   no_row (Some row) h = absurd (cc)
 
-  pub none_queued : (key : Key) → stands (births_of p).ports key ≡ true → ports.first_in p.messages key ≡ None → first (is_queued (name_of (births_of p).ports key)) all.messages ≡ None
-  none_queued key there none = queued_first key there ∙ ap (option_map (shown_message (birth_of (births_of p)))) (no_row (first (ports.is_in key) p.messages) none)
+  pub none_queued : (key : Key) → stands (births_of it.ports).ports key ≡ true → ports.first_in it.ports.messages key ≡ None → first (is_queued (name_of (births_of it.ports).ports key)) all.messages ≡ None
+  none_queued key there none = queued_first key there ∙ ap (option_map (shown_message (birth_of (births_of it.ports)))) (no_row (first (ports.is_in key) it.ports.messages) none)
 
   -- the key that is found first in a queue has a row
   oldest_row : (queue key : Key) (ms : List (Key × QueuedMessage)) → option_map (λ (row : Key × QueuedMessage). row.0) (first (ports.is_in queue) ms) ≡ Some key → is_some (first (at_key key) ms) ≡ true
@@ -330,58 +331,58 @@ module _ (t : procs.Table) (parts : List Part) (p : PortTable) (w : WaitTable) (
       some_same : (a b : Key) → let x : Option Key = Some a in let y : Option Key = Some b in x ≡ y → a ≡ b
       some_same a b e = cc
 
-  pub some_message : (queue key : Key) → ports.first_in p.messages queue ≡ Some key → IsSome (ports.row_at p.messages key)
-  some_message queue key at = mapped (first (at_key key) p.messages) (oldest_row queue key p.messages at)
+  pub some_message : (queue key : Key) → ports.first_in it.ports.messages queue ≡ Some key → IsSome (ports.row_at it.ports.messages key)
+  some_message queue key at = mapped (first (at_key key) it.ports.messages) (oldest_row queue key it.ports.messages at)
     where
       mapped : (o : Option (Key × QueuedMessage)) → is_some o ≡ true → IsSome (option_map (λ (row : Key × QueuedMessage). row.1) o)
       mapped None h = absurd (cc)
       mapped (Some row) h = refl
 
-  pub first_message : (queue : Key) (m : Message) → stands (births_of p).ports queue ≡ true → option_map (λ (row : Key × QueuedMessage). row.1.message) (first (ports.is_in queue) p.messages) ≡ Some m → first (is_queued (name_of (births_of p).ports queue)) all.messages ≡ Some (pulled_row (births_of p) queue m)
-  first_message queue m there at = queued_first queue there ∙ found (first (ports.is_in queue) p.messages) refl at
+  pub first_message : (queue : Key) (m : Message) → stands (births_of it.ports).ports queue ≡ true → option_map (λ (row : Key × QueuedMessage). row.1.message) (first (ports.is_in queue) it.ports.messages) ≡ Some m → first (is_queued (name_of (births_of it.ports).ports queue)) all.messages ≡ Some (pulled_row (births_of it.ports) queue m)
+  first_message queue m there at = queued_first queue there ∙ found (first (ports.is_in queue) it.ports.messages) refl at
     where
       same_message : (a b : Message) → let x : Option Message = Some a in let y : Option Message = Some b in x ≡ y → a ≡ b
       same_message a b e = cc
 
-      found : (o : Option (Key × QueuedMessage)) → first (ports.is_in queue) p.messages ≡ o → option_map (λ (row : Key × QueuedMessage). row.1.message) o ≡ Some m → option_map (shown_message (birth_of (births_of p))) o ≡ Some (pulled_row (births_of p) queue m)
+      found : (o : Option (Key × QueuedMessage)) → first (ports.is_in queue) it.ports.messages ≡ o → option_map (λ (row : Key × QueuedMessage). row.1.message) o ≡ Some m → option_map (shown_message (birth_of (births_of it.ports))) o ≡ Some (pulled_row (births_of it.ports) queue m)
       found None is' h = absurd (cc)
       found (Some row) is' h =
           let same : row.1.message ≡ m = same_message row.1.message m h in
-          let own : row.1.queue ≡ queue = key_is row.1.queue queue (first-passes (ports.is_in queue) p.messages row is') in
-          λ i. Some (record { queue = name_of (births_of p).ports (own i); sender = name_of (births_of p).ports (same i).sender; context = (same i).context; message = message_of (same i).bytes.items })
+          let own : row.1.queue ≡ queue = key_is row.1.queue queue (first-passes (ports.is_in queue) it.ports.messages row is') in
+          λ i. Some (record { queue = name_of (births_of it.ports).ports (own i); sender = name_of (births_of it.ports).ports (same i).sender; context = (same i).context; message = message_of (same i).bytes.items })
 
   -- the table that the oldest message leaves
-  pub oldest : (queue key : Key) (new : PortTable) → new ≡ record p { messages = without (at_key key) p.messages; message_room = p.message_room + 1 } → new.messages ≡ without_first (ports.is_in queue) p.messages
-      → new ≡ record p { messages = without_first (ports.is_in queue) p.messages; message_room = p.message_room + 1 }
-  oldest queue key new table first = table ∙ ap (λ ms. record p { messages = ms; message_room = p.message_room + 1 }) (sym (ap (λ (q : PortTable). q.messages) table) ∙ first)
+  pub oldest : (queue key : Key) (new : PortTable) → new ≡ record it.ports { messages = without (at_key key) it.ports.messages; message_room = it.ports.message_room + 1 } → new.messages ≡ without_first (ports.is_in queue) it.ports.messages
+      → new ≡ record it.ports { messages = without_first (ports.is_in queue) it.ports.messages; message_room = it.ports.message_room + 1 }
+  oldest queue key new table first = table ∙ ap (λ ms. record it.ports { messages = ms; message_room = it.ports.message_room + 1 }) (sym (ap (λ (q : PortTable). q.messages) table) ∙ first)
 
   -- processes and used numbers
-  pub used_same : (who : ℕ) → has (λ u. u.number == who) all.used_threads ≡ has (procs.is_used_thread who) t.used_threads
-  used_same who = has-map shown_used (λ _. true) (procs.is_used_thread who) (λ u. u.number == who) (λ row _. refl) t.used_threads (changes.all_true t parts p w is.named t.used_threads)
+  pub used_same : (who : ℕ) → has (λ u. u.number == who) all.used_threads ≡ has (procs.is_used_thread who) it.procs.used_threads
+  used_same who = has-map shown_used (λ _. true) (procs.is_used_thread who) (λ u. u.number == who) (λ row _. refl) it.procs.used_threads (changes.all_true it is.named it.procs.used_threads)
 
-  pub process_same : (pid : ℕ) → has (is_process pid) all.processes ≡ has (procs.is_process pid) t.processes
-  process_same pid = has-map shown_process (λ _. true) (procs.is_process pid) (is_process pid) (λ row _. refl) t.processes (changes.all_true t parts p w is.named t.processes)
+  pub process_same : (pid : ℕ) → has (is_process pid) all.processes ≡ has (procs.is_process pid) it.procs.processes
+  process_same pid = has-map shown_process (λ _. true) (procs.is_process pid) (is_process pid) (λ row _. refl) it.procs.processes (changes.all_true it is.named it.procs.processes)
 
   -- more room for ports and messages
-  pub roomed_ports : (ports messages : ℕ) → p.message_room ≤ messages → AreLawful t parts (record p { port_room = ports; message_room = messages }) w calls made
+  pub roomed_ports : (ports messages : ℕ) → it.ports.message_room ≤ messages → AreLawful (record it { ports = record it.ports { port_room = ports; message_room = messages } }) calls made
   roomed_ports ports messages more = record {
-    named = record { ports_apart = is.named.ports_apart; refs = record { in_handles = is.named.refs.in_handles; in_ports = is.named.refs.in_ports; in_messages = is.named.refs.in_messages; in_waits = is.named.refs.in_waits } };
-    lawful = lawful.lawful-room all calls made w.spare p.message_room w.spare messages is.lawful (omega arith) more;
+    named = record { ports_apart = is.named.ports_apart; refs = record { in_handles = is.named.refs.in_handles; in_ports = is.named.refs.in_ports; in_messages = is.named.refs.in_messages; in_waits = is.named.refs.in_waits; in_names = is.named.refs.in_names } };
+    lawful = lawful.lawful-room all calls made it.waits.spare it.ports.message_room it.waits.spare messages is.lawful (omega arith) more;
     counted = record { ports_made = is.counted.ports_made; messages_made = is.counted.messages_made; waits_made = is.counted.waits_made };
     headed = is.headed;
     drawn = drawn.same-drawn all _ refl refl refl is.drawn;
   }
 
   -- a thread that waits, and one that doesn't
-  pub waits_there : (who : ℕ) (x : Wait) → option_map (λ (row : WaitRow). row.wait) (first (waits.is_of who) w.rows) ≡ Some x → IsSome (first (waits.is_of who) w.rows)
-  waits_there who x at = mapped (first (waits.is_of who) w.rows) at
+  pub waits_there : (who : ℕ) (x : Wait) → option_map (λ (row : WaitRow). row.wait) (first (waits.is_of who) it.waits.rows) ≡ Some x → IsSome (first (waits.is_of who) it.waits.rows)
+  waits_there who x at = mapped (first (waits.is_of who) it.waits.rows) at
     where
       mapped : (o : Option WaitRow) → option_map (λ (row : WaitRow). row.wait) o ≡ Some x → IsSome o
       mapped None h = absurd (cc)
       mapped (Some row) h = refl
 
-  pub waits_not : (who : ℕ) → option_map (λ (row : WaitRow). row.wait) (first (waits.is_of who) w.rows) ≡ None → has (waits_as who) all.waits ≡ false
-  waits_not who at = has_wait t parts p w calls made is who ∙ mapped (first (waits.is_of who) w.rows) at
+  pub waits_not : (who : ℕ) → option_map (λ (row : WaitRow). row.wait) (first (waits.is_of who) it.waits.rows) ≡ None → has (waits_as who) all.waits ≡ false
+  waits_not who at = has_wait it calls made is who ∙ mapped (first (waits.is_of who) it.waits.rows) at
     where
       mapped : (o : Option WaitRow) → option_map (λ (row : WaitRow). row.wait) o ≡ None → is_some o ≡ false
       mapped None h = refl
@@ -391,16 +392,16 @@ module _ (t : procs.Table) (parts : List Part) (p : PortTable) (w : WaitTable) (
   receives_none who none = ap (λ (xs : List model.WaitRow). record all { waits = xs }) (change-none (waits_as who) basics.received all.waits none)
 
   -- a message that is taken has a header
-  pub long_message : (queue : Key) (m : Message) → option_map (λ (row : Key × QueuedMessage). row.1.message) (first (ports.is_in queue) p.messages) ≡ Some m → 24 ≤ length m.bytes.items
-  long_message queue m at = found (first (ports.is_in queue) p.messages) refl at
+  pub long_message : (queue : Key) (m : Message) → option_map (λ (row : Key × QueuedMessage). row.1.message) (first (ports.is_in queue) it.ports.messages) ≡ Some m → 24 ≤ length m.bytes.items
+  long_message queue m at = found (first (ports.is_in queue) it.ports.messages) refl at
     where
       same : (a b : Message) → let x : Option Message = Some a in let y : Option Message = Some b in x ≡ y → a ≡ b
       same a b e = cc
 
-      found : (o : Option (Key × QueuedMessage)) → first (ports.is_in queue) p.messages ≡ o → option_map (λ (row : Key × QueuedMessage). row.1.message) o ≡ Some m → 24 ≤ length m.bytes.items
+      found : (o : Option (Key × QueuedMessage)) → first (ports.is_in queue) it.ports.messages ≡ o → option_map (λ (row : Key × QueuedMessage). row.1.message) o ≡ Some m → 24 ≤ length m.bytes.items
       found None is' h = absurd (cc)
       found (Some row) is' h =
-          let long : has_header row ≡ true = every-first has_header (ports.is_in queue) p.messages row is.headed is' in
+          let long : has_header row ≡ true = every-first has_header (ports.is_in queue) it.ports.messages row is.headed is' in
           let P : Message → Type 0 = λ x. 24 ≤ length x.bytes.items in
           subst P (same row.1.message m h) (grind (arith, nat_tests))
 

@@ -17,7 +17,7 @@ use Rattle.lpc_model.specs.Found.{free_handle, handles_of, is_table}
 use Rattle.lpc_ports.specs.Table.{PortTable}
 use Rattle.lpc_procs.specs.Procs as procs
 use Rattle.lpc_waits.specs.Table.{WaitTable}
-use Rattle.lpc_world.specs.Shown.{birth_of, births_of, object_stands, shown_handle, shown_part}
+use Rattle.lpc_world.specs.Shown.{Tables, birth_of, births_of, object_stands, shown_handle, shown_part}
 use Rattle.lpc_world.specs.Parts.{are_single_parts, handed, is_part, roomed, rows_at, rows_in, spare_at, spare_in}
 use Rattle.lpc_world.specs.Kept as kept
 use Rattle.lpc_world.specs.Kept.{HandleRoom, is_room, room_of_part, rows_by}
@@ -40,64 +40,64 @@ room_at parts pid = ap kept.spare_in (first-map room_of_part (λ _. true) (is_pa
     spared None = refl
     spared (Some part) = refl
 
-module _ (t : procs.Table) (parts : List Part) (p : PortTable) (w : WaitTable) (calls made : ℕ) (is : AreLawful t parts p w calls made) where
+module _ (it : Tables) (calls made : ℕ) (is : AreLawful it calls made) where
   abbrev rows : World
-  rows = rows_by t parts p w
+  rows = rows_by it
 
-  pub has_table : (pid : ℕ) → has (is_table pid) rows.handles ≡ has (is_part pid) parts
-  has_table pid = has-map (shown_part (birth_of (births_of p))) (λ _. true) (is_part pid) (is_table pid) (λ part _. refl) parts (all_true parts)
+  pub has_table : (pid : ℕ) → has (is_table pid) rows.handles ≡ has (is_part pid) it.parts
+  has_table pid = has-map (shown_part (birth_of (births_of it.ports))) (λ _. true) (is_part pid) (is_table pid) (λ part _. refl) it.parts (all_true it.parts)
 
-  first_table : (pid : ℕ) → first (is_table pid) rows.handles ≡ option_map (shown_part (birth_of (births_of p))) (first (is_part pid) parts)
-  first_table pid = first-map (shown_part (birth_of (births_of p))) (λ _. true) (is_part pid) (is_table pid) (λ part _. refl) parts (all_true parts)
+  first_table : (pid : ℕ) → first (is_table pid) rows.handles ≡ option_map (shown_part (birth_of (births_of it.ports))) (first (is_part pid) it.parts)
+  first_table pid = first-map (shown_part (birth_of (births_of it.ports))) (λ _. true) (is_part pid) (is_table pid) (λ part _. refl) it.parts (all_true it.parts)
 
-  pub handles_shown : (pid : ℕ) → handles_of rows pid ≡ map (shown_handle (birth_of (births_of p))) (rows_at parts pid)
-  handles_shown pid = ap found.rows_in (first_table pid) ∙ shown (first (is_part pid) parts)
+  pub handles_shown : (pid : ℕ) → handles_of rows pid ≡ map (shown_handle (birth_of (births_of it.ports))) (rows_at it.parts pid)
+  handles_shown pid = ap found.rows_in (first_table pid) ∙ shown (first (is_part pid) it.parts)
     where
-      shown : (o : Option Part) → found.rows_in (option_map (shown_part (birth_of (births_of p))) o) ≡ map (shown_handle (birth_of (births_of p))) (rows_in o)
+      shown : (o : Option Part) → found.rows_in (option_map (shown_part (birth_of (births_of it.ports))) o) ≡ map (shown_handle (birth_of (births_of it.ports))) (rows_in o)
       shown None = refl
       shown (Some part) = refl
 
-  pub handle_number : (pid : ℕ) → length (handles_of rows pid) ≡ length (rows_at parts pid)
-  handle_number pid = ap length (handles_shown pid) ∙ length-map (rows_at parts pid) (shown_handle (birth_of (births_of p)))
+  pub handle_number : (pid : ℕ) → length (handles_of rows pid) ≡ length (rows_at it.parts pid)
+  handle_number pid = ap length (handles_shown pid) ∙ length-map (rows_at it.parts pid) (shown_handle (birth_of (births_of it.ports)))
 
-  values_shown : (hs : List (ℕ × Row Object)) → map (λ h. h.value) (map (shown_handle (birth_of (births_of p))) hs) ≡ values hs
+  values_shown : (hs : List (ℕ × Row Object)) → map (λ h. h.value) (map (shown_handle (birth_of (births_of it.ports))) hs) ≡ values hs
   values_shown [] = refl
   values_shown (h ∷ hs) = ap (λ vs. h.0 ∷ vs) (values_shown hs)
 
-  pub free_value : (pid : ℕ) → free_handle rows pid ≡ least_handle (values (rows_at parts pid))
-  free_value pid = ap (λ (hs : List model.HandleRow). least_handle (map (λ h. h.value) hs)) (handles_shown pid) ∙ ap least_handle (values_shown (rows_at parts pid))
+  pub free_value : (pid : ℕ) → free_handle rows pid ≡ least_handle (values (rows_at it.parts pid))
+  free_value pid = ap (λ (hs : List model.HandleRow). least_handle (map (λ h. h.value) hs)) (handles_shown pid) ∙ ap least_handle (values_shown (rows_at it.parts pid))
 
-  -- no process has two parts
-  single_by : (ps : List Part) → are_single_tables (map (shown_part (birth_of (births_of p))) ps) ≡ true → are_single_parts ps ≡ true
+  -- no process has two it.parts
+  single_by : (ps : List Part) → are_single_tables (map (shown_part (birth_of (births_of it.ports))) ps) ≡ true → are_single_parts ps ≡ true
   single_by [] one = refl
   single_by (part ∷ ps) one =
-      let same : has (is_table part.process) (map (shown_part (birth_of (births_of p))) ps) ≡ has (is_part part.process) ps = has-map (shown_part (birth_of (births_of p))) (λ _. true) (is_part part.process) (is_table part.process) (λ q _. refl) ps (all_true ps) in
+      let same : has (is_table part.process) (map (shown_part (birth_of (births_of it.ports))) ps) ≡ has (is_part part.process) ps = has-map (shown_part (birth_of (births_of it.ports))) (λ _. true) (is_part part.process) (is_table part.process) (λ q _. refl) ps (all_true ps) in
       grind (arith, same, single_by ps)
 
-  pub single : are_single_parts parts ≡ true
-  single = single_by parts is.lawful.tables_single
+  pub single : are_single_parts it.parts ≡ true
+  single = single_by it.parts is.lawful.tables_single
 
   -- a handle more, or none
-  pub handed_or_same : (pid : ℕ) (row : Row Object) (r : Result ℕ TableFault) (new : List Part) → object_stands (births_of p) row.object ≡ true → IfOk r (λ v. new ≡ change (is_part pid) (handed v row) parts) → OnErr r (new ≡ parts) → AreLawful t new p w calls made
-  handed_or_same pid row (Ok v) new there more same = rw more (steps.handed_lawful t parts p w calls made is pid v row there)
+  pub handed_or_same : (pid : ℕ) (row : Row Object) (r : Result ℕ TableFault) (new : List Part) → object_stands (births_of it.ports) row.object ≡ true → IfOk r (λ v. new ≡ change (is_part pid) (handed v row) it.parts) → OnErr r (new ≡ it.parts) → AreLawful (record it { parts = new }) calls made
+  handed_or_same pid row (Ok v) new there more same = rw more (steps.handed_lawful it calls made is pid v row there)
   handed_or_same pid row (Err e) new there more same = rw same is
 
-  pub hands_or_not : (pid : ℕ) (row : Row Object) (r : Result ℕ TableFault) (new : List Part) → IfOk r (λ v. new ≡ change (is_part pid) (handed v row) parts) → IfOk r (λ v. rows_by t new p w ≡ basic rows (AddsHandle pid (shown_handle (birth_of (births_of p)) (v, row))))
-  hands_or_not pid row (Ok v) new more = rw more (changes.hands t parts p w is.named pid v row)
+  pub hands_or_not : (pid : ℕ) (row : Row Object) (r : Result ℕ TableFault) (new : List Part) → IfOk r (λ v. new ≡ change (is_part pid) (handed v row) it.parts) → IfOk r (λ v. rows_by (record it { parts = new }) ≡ basic rows (AddsHandle pid (shown_handle (birth_of (births_of it.ports)) (v, row))))
+  hands_or_not pid row (Ok v) new more = rw more (changes.hands it is.named pid v row)
   hands_or_not pid row (Err e) new more = tt
 
   -- more room for handles
-  pub roomed_lawful : (pid : ℕ) (new : List Part) → new ≡ change (is_part pid) (roomed (spare_at new pid)) parts → AreLawful t new p w calls made
-  roomed_lawful pid new at = rw at (steps.roomed_lawful t parts p w calls made is pid (spare_at new pid))
+  pub roomed_lawful : (pid : ℕ) (new : List Part) → new ≡ change (is_part pid) (roomed (spare_at new pid)) it.parts → AreLawful (record it { parts = new }) calls made
+  roomed_lawful pid new at = rw at (steps.roomed_lawful it calls made is pid (spare_at new pid))
 
-  pub roomed_rows : (pid : ℕ) (new : List Part) → new ≡ change (is_part pid) (roomed (spare_at new pid)) parts → rows_by t new p w ≡ rows
-  roomed_rows pid new at = ap (λ (ps : List Part). rows_by t ps p w) at ∙ changes.rooms t parts p w is.named pid (spare_at new pid)
+  pub roomed_rows : (pid : ℕ) (new : List Part) → new ≡ change (is_part pid) (roomed (spare_at new pid)) it.parts → rows_by (record it { parts = new }) ≡ rows
+  roomed_rows pid new at = ap (λ (ps : List Part). rows_by (record it { parts = ps })) at ∙ changes.rooms it is.named pid (spare_at new pid)
 
-  pub roomed_spare : (pid : ℕ) (new : List Part) → new ≡ change (is_part pid) (roomed (spare_at new pid)) parts → spare_at parts pid ≤ spare_at new pid → (other : ℕ) → spare_at parts other ≤ spare_at new other
+  pub roomed_spare : (pid : ℕ) (new : List Part) → new ≡ change (is_part pid) (roomed (spare_at new pid)) it.parts → spare_at it.parts pid ≤ spare_at new pid → (other : ℕ) → spare_at it.parts other ≤ spare_at new other
   roomed_spare pid new at more other =
-      elim (other == pid) as (λ b. (other == pid) ≡ b → spare_at parts other ≤ spare_at new other) [
-        | true ↦ λ here. let P : ℕ → Type 0 = λ n. spare_at parts n ≤ spare_at new n in subst P (sym (eqb-true other pid here)) more
+      elim (other == pid) as (λ b. (other == pid) ≡ b → spare_at it.parts other ≤ spare_at new other) [
+        | true ↦ λ here. let P : ℕ → Type 0 = λ n. spare_at it.parts n ≤ spare_at new n in subst P (sym (eqb-true other pid here)) more
         | false ↦ λ off.
-            let same : spare_at new other ≡ spare_at parts other = ap (λ (ps : List Part). spare_at ps other) at ∙ ap spare_in (first_other (roomed (spare_at new pid)) (λ part. refl) parts pid other off) in
+            let same : spare_at new other ≡ spare_at it.parts other = ap (λ (ps : List Part). spare_at ps other) at ∙ ap spare_in (first_other (roomed (spare_at new pid)) (λ part. refl) it.parts pid other off) in
             omega (arith, same)
       ] refl

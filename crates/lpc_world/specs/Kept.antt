@@ -4,10 +4,7 @@ use Rattle.lpc_base.specs.Rows.{count, first, has}
 use Rattle.lpc_model.specs.World.{World, MessageRow, WaitRow, ThreadRow}
 use Rattle.lpc_model.specs.Found.{is_request, waits_as}
 use Rattle.lpc_model.specs.Message.{asks}
-use Rattle.lpc_ports.specs.Table.{PortTable}
-use Rattle.lpc_procs.specs.Procs as procs
-use Rattle.lpc_waits.specs.Table.{WaitTable}
-use Rattle.lpc_world.specs.Shown.{Births, births_of, shown_by}
+use Rattle.lpc_world.specs.Shown.{Births, Tables, births_of, shown_by}
 use Rattle.lpc_world.specs.declared.parts.Part.{Part}
 
 -- a message whose sender waits for an answer, and a request that isn't received
@@ -31,6 +28,7 @@ pub record Room : Type 0 where
   pub messages : ℕ
   pub requests : ℕ
   pub ports : ℕ
+  pub names : ℕ
   pub handles : List HandleRoom
 
 -- the rows; the births of keys; how many directive and service calls were made; how many rows and numbers were made;
@@ -46,27 +44,28 @@ abbrev pub room_of_part : Part → HandleRoom
 room_of_part part = record { process = part.process; spare = part.handles.spare }
 
 -- the room of tables with so many places for parts left
-abbrev pub room_by : World → procs.Table → List Part → ℕ → PortTable → WaitTable → Room
-room_by rows procs parts places ports waits = record {
-  processes = min procs.process_room places;
-  threads = procs.thread_room;
-  waits = waits.spare + length rows.waits - length rows.threads;
-  messages = ports.message_room + count is_asking rows.messages - length rows.threads;
+abbrev pub room_by : World → Tables → ℕ → Room
+room_by rows it places = record {
+  processes = min it.procs.process_room places;
+  threads = it.procs.thread_room;
+  waits = it.waits.spare + length rows.waits - length rows.threads;
+  messages = it.ports.message_room + count is_asking rows.messages - length rows.threads;
   requests = count is_pending rows.waits - count is_asking rows.messages;
-  ports = ports.port_room;
-  handles = map room_of_part parts;
+  ports = it.ports.port_room;
+  names = it.space.spare;
+  handles = map room_of_part it.parts;
 }
 
-abbrev pub rows_by : procs.Table → List Part → PortTable → WaitTable → World
-rows_by procs parts ports waits = shown_by (births_of ports) procs parts ports waits
+abbrev pub rows_by : Tables → World
+rows_by it = shown_by (births_of it.ports) it
 
-abbrev pub kept : procs.Table → List Part → ℕ → PortTable → WaitTable → ℕ → ℕ → Kept
-kept procs parts places ports waits calls made = record {
-  rows = rows_by procs parts ports waits;
-  names = births_of ports;
+abbrev pub kept : Tables → ℕ → ℕ → ℕ → Kept
+kept it places calls made = record {
+  rows = rows_by it;
+  names = births_of it.ports;
   calls = calls;
   made = made;
-  room = room_by (rows_by procs parts ports waits) procs parts places ports waits;
+  room = room_by (rows_by it) it places;
 }
 
 -- nothing changed but the room
@@ -95,6 +94,7 @@ pub record Roomy (old new : Room) : Type 0 where
   pub for_messages : old.messages ≤ new.messages
   pub for_requests : old.requests ≤ new.requests
   pub for_ports : old.ports ≤ new.ports
+  pub for_names : old.names ≤ new.names
   pub for_handles : (pid : ℕ) → handle_room old pid ≤ handle_room new pid
 
 -- a thread waits for the reply to a request that isn't received

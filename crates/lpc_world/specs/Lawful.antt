@@ -6,12 +6,10 @@ use Rattle.lpc_model.specs.World.{World, HandleTable, MessageRow, PortRow, Threa
 use Rattle.lpc_model.specs.Found.{is_process, is_queued, is_receive, is_table, is_thread, waits_as}
 use Rattle.lpc_ports.specs.Table.{PortTable}
 use Rattle.lpc_ports.specs.declared.messages.QueuedMessage.{QueuedMessage}
-use Rattle.lpc_procs.specs.Procs as procs
 use Rattle.lpc_slots.specs.declared.Key.{Key}
 use Rattle.lpc_waits.specs.Table.{WaitTable}
 use Rattle.lpc_world.specs.Kept.{is_asking, is_pending, rows_by}
-use Rattle.lpc_world.specs.Shown.{AreNamed, births_of}
-use Rattle.lpc_world.specs.declared.parts.Part.{Part}
+use Rattle.lpc_world.specs.Shown.{AreNamed, Tables, births_of}
 
 -- no thread waits twice
 abbrev pub are_single : List WaitRow → Bool
@@ -96,10 +94,10 @@ abbrev pub has_header : Key × QueuedMessage → Bool
 has_header row = nat_le 24 (length row.1.message.bytes.items)
 
 -- The tables name what stands, and their rows are lawful.
-pub record AreLawful (procs : procs.Table) (parts : List Part) (ports : PortTable) (waits : WaitTable) (calls made : ℕ) : Type 0 where
-  pub named : AreNamed (births_of ports) parts ports waits
-  pub lawful : IsLawful (rows_by procs parts ports waits) calls made waits.spare ports.message_room
-  pub counted : IsCounted ports waits made
-  pub drawn : AreDrawn (rows_by procs parts ports waits)
+pub record AreLawful (it : Tables) (calls made : ℕ) : Type 0 where
+  pub named : AreNamed (births_of it.ports) it
+  pub lawful : IsLawful (rows_by it) calls made it.waits.spare it.ports.message_room
+  pub counted : IsCounted it.ports it.waits made
+  pub drawn : AreDrawn (rows_by it)
   -- a message that stands in a queue has a header
-  pub headed : every has_header ports.messages ≡ true
+  pub headed : every has_header it.ports.messages ≡ true

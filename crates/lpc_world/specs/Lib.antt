@@ -5,3 +5,4 @@ pub mod Kept
 pub mod Lawful
 pub mod Ready
 pub mod Does
+pub mod Bound

@@ -11,6 +11,11 @@ use Rattle.lpc_model.specs.Message.{message_of}
 use Rattle.lpc_model.specs.World as model
 use Rattle.lpc_model.specs.declared.message.Message as whole
 use Rattle.lpc_model.specs.World.{World, ObjectName}
+use Rattle.lpc_names.specs.Binding.{NameSpace}
+use Rattle.lpc_names.specs.Mapped.{binding_as, node_as}
+use Rattle.lpc_names.specs.Walk.{LinkTo, Node, Path, Stands}
+use Rattle.lpc_names.specs.declared.names.Found.{Found}
+use Rattle.lpc_names.specs.declared.names.Found.TheVariants.{Directory, Item}
 use Rattle.lpc_ports.specs.Table.{PortTable}
 use Rattle.lpc_ports.specs.declared.Port.{Port}
 use Rattle.lpc_ports.specs.declared.messages.Message.{Message}
@@ -129,18 +134,54 @@ shown_thread t = record {
 abbrev pub shown_used : UsedThread → model.UsedThread
 shown_used u = record { number = u.number; process = u.process }
 
+-- a port under its name: by its birth
+abbrev pub found_refs : Found Key → List Object
+found_refs Directory = []
+found_refs (Item key) = object.Port key ∷ []
+
+-- the birth of the port at a key
+abbrev pub port_birth : (Object → Birth) → Key → Birth
+port_birth f key = f (object.Port key)
+
+-- what a path is bound to
+abbrev pub node_refs : Node Key → List Object
+node_refs (Stands found) = found_refs found
+node_refs (LinkTo target) = []
+
+abbrev pub shown_node : (Object → Birth) → Node Key → Node Birth
+shown_node f = node_as (port_birth f)
+
+abbrev pub binding_refs : Path × Node Key → List Object
+binding_refs row = node_refs row.1
+
+abbrev pub shown_binding : (Object → Birth) → Path × Node Key → Path × Node Birth
+shown_binding f = binding_as (port_birth f)
+
 -- All rows
+-- the tables: processes and threads, the handles of each process, ports with the messages in their queues, waits, and
+-- the name space
+pub record Tables : Type 0 where
+  pub procs : procs.Table
+  pub parts : List Part
+  pub ports : PortTable
+  pub waits : WaitTable
+  pub space : NameSpace Key
+
+abbrev pub tables_of : procs.Table → List Part → PortTable → WaitTable → NameSpace Key → Tables
+tables_of procs parts ports waits space = record { procs = procs; parts = parts; ports = ports; waits = waits; space = space }
+
 -- what the tables stand for, under the births of keys
-abbrev pub shown_by : Births → procs.Table → List Part → PortTable → WaitTable → World
-shown_by n procs parts ports waits = record {
-  processes = map shown_process procs.processes;
-  threads = map shown_thread procs.threads;
-  used_processes = procs.used_processes;
-  used_threads = map shown_used procs.used_threads;
-  handles = map (shown_part (birth_of n)) parts;
-  ports = map (shown_port (birth_of n)) ports.ports;
-  messages = map (shown_message (birth_of n)) ports.messages;
-  waits = map (shown_wait (birth_of n)) waits.rows;
+abbrev pub shown_by : Births → Tables → World
+shown_by n it = record {
+  processes = map shown_process it.procs.processes;
+  threads = map shown_thread it.procs.threads;
+  used_processes = it.procs.used_processes;
+  used_threads = map shown_used it.procs.used_threads;
+  handles = map (shown_part (birth_of n)) it.parts;
+  ports = map (shown_port (birth_of n)) it.ports.ports;
+  messages = map (shown_message (birth_of n)) it.ports.messages;
+  waits = map (shown_wait (birth_of n)) it.waits.rows;
+  bindings = map (shown_binding (birth_of n)) it.space.bindings;
 }
 
 -- the births that the tables give their keys
@@ -152,16 +193,17 @@ abbrev pub all_pass : {R : Type 0} → (R → List Object) → (Object → Bool)
 all_pass refs ok row = every ok (refs row)
 
 -- the objects that the tables' rows name all pass
-pub record AllPass (ok : Object → Bool) (parts : List Part) (ports : PortTable) (waits : WaitTable) : Type 0 where
-  pub in_handles : every (all_pass part_refs ok) parts ≡ true
-  pub in_ports : every (all_pass port_refs ok) ports.ports ≡ true
-  pub in_messages : every (all_pass message_refs ok) ports.messages ≡ true
-  pub in_waits : every (all_pass wait_refs ok) waits.rows ≡ true
+pub record AllPass (ok : Object → Bool) (it : Tables) : Type 0 where
+  pub in_handles : every (all_pass part_refs ok) it.parts ≡ true
+  pub in_ports : every (all_pass port_refs ok) it.ports.ports ≡ true
+  pub in_messages : every (all_pass message_refs ok) it.ports.messages ≡ true
+  pub in_waits : every (all_pass wait_refs ok) it.waits.rows ≡ true
+  pub in_names : every (all_pass binding_refs ok) it.space.bindings ≡ true
 
 -- no two objects have one key or one birth, and each object that a row names stands
-pub record AreNamed (n : Births) (parts : List Part) (ports : PortTable) (waits : WaitTable) : Type 0 where
+pub record AreNamed (n : Births) (it : Tables) : Type 0 where
   pub ports_apart : are_apart n.ports ≡ true
-  pub refs : AllPass (object_stands n) parts ports waits
+  pub refs : AllPass (object_stands n) it
 
 -- a message as it enters a queue, and as it is taken from one
 abbrev pub row_with : Births → Key → Key → ℕ → whole.Message → model.MessageRow

@@ -7,12 +7,13 @@ ghost use Rattle.lpc_world.specs.Ready.{is_ready};
 
 use crate::{Condition, Object, World, kept, wants_answer};
 use lpc_base::status::{
-    ACCESS_DENIED, INVALID_CID, INVALID_HANDLE, OBJECT_NAME_COLLISION, OBJECT_TYPE_MISMATCH,
-    SUCCESS,
+    ACCESS_DENIED, INVALID_CID, INVALID_HANDLE, OBJECT_NAME_COLLISION, OBJECT_PATH_SYNTAX_BAD,
+    OBJECT_TYPE_MISMATCH, SUCCESS,
 };
 use lpc_base::{Birth, PortKind, Status};
 use lpc_message::ClientId;
 use lpc_model::{Entries, ObjectKind};
+use lpc_names::Found;
 use lpc_slots::Key;
 use std::process::Abort;
 use std::test::Fail;
@@ -128,6 +129,36 @@ fn finds_the_port(rt: &impl Abort, world: &World, port: Key) -> Result<(), Fail>
     Ok(())
 }
 
+// The port gets a name, to which a link leads.
+fn names_the_port(rt: &impl Abort, world: &mut World, port: Key) -> Result<(), Fail>
+    requires stands { stands world.old.names.ports port ≡ true }
+    ensures calls { world.new.calls ≡ world.old.calls }
+    ensures names { world.new.names ≡ world.old.names }
+{
+    world.names_reserve(3)?;
+    assert_eq!(rt; world.names_add_directory(b"\\Windows"), Ok(()));
+    assert_eq!(rt; world.names_add_link(b"\\L", b"\\Windows\\P"), Ok(()));
+    assert_eq!(rt; world.name_test(b"\\L"), Ok(()));
+    assert_eq!(rt; world.names_bind(b"\\L", port), Ok(()));
+    assert_eq!(rt; world.name_test(b"\\L"), Err(OBJECT_NAME_COLLISION));
+    let found = world.names().lookup(b"\\Windows\\P");
+    assert_eq!(rt; found, Ok(Found::Item(port)));
+    Ok(())
+}
+
+#[test]
+fn directories_and_links_are_made_where_nothing_stands(rt: HostRuntime) -> Result<(), Fail> {
+    let mut world = World::empty(rt.alloc());
+    assert_eq!(rt; world.names_add_directory(b"\\A"), Ok(()));
+    assert_eq!(rt; world.names_add_link(b"\\L", b"\\A"), Ok(()));
+    assert_eq!(rt; world.directory(b"\\L")?, OBJECT_NAME_COLLISION);
+    assert_eq!(rt; world.link(b"\\L\\M", b"A")?, OBJECT_PATH_SYNTAX_BAD);
+    assert_eq!(rt; world.link(b"\\L\\M", b"\\A")?, SUCCESS);
+    assert_eq!(rt; world.names().lookup(b"\\A\\M"), Ok(Found::Directory));
+    assert_eq!(rt; world.calls(), 3);
+    Ok(())
+}
+
 // A datagram enters the queue of the port and is taken from it.
 fn sends_a_datagram(
     rt: &impl Abort,
@@ -172,5 +203,6 @@ fn port_is_found_by_its_handle_and_keeps_a_message(rt: HostRuntime) -> Result<()
         return Ok(assert!(rt; false));
     };
     finds_the_port(&rt, &world, port)?;
+    names_the_port(&rt, &mut world, port)?;
     sends_a_datagram(&rt, &mut world, port, &mut out)
 }

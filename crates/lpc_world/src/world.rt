@@ -17,6 +17,7 @@ ghost use Rattle.lpc_world.specs.Ready.{IsWait};
 
 mod directives;
 mod lending;
+mod names;
 mod reading;
 mod steps;
 
@@ -24,6 +25,7 @@ use crate::Object;
 use crate::parts::{self, Part};
 use lpc_base::{Birth, OutOfMemory, PortKind};
 use lpc_handles::{Table, TableFault};
+use lpc_names::Names;
 use lpc_ports::{Message, Ports};
 use lpc_procs::Procs;
 use lpc_slots::Key;
@@ -42,6 +44,7 @@ pub struct World {
     parts: Vec<Part>,
     ports: Ports,
     waits: Waits,
+    names: Names<Key>,
     calls: u32,
     made: u32,
     alloc: Global,
@@ -51,12 +54,13 @@ impl Model for World {
     ghost use Rattle.std.specs.Prelude.{◌-◌, vec_len, vec_capacity};
     ghost use Rattle.lpc_world.specs.Kept.{Kept, kept};
     ghost use Rattle.lpc_world.specs.Lawful.{AreLawful};
+    ghost use Rattle.lpc_world.specs.Shown.{tables_of};
 
     ghost Value = { Kept };
 
-    ghost view = { λ w. kept w.procs w.parts.items (vec_capacity w.parts - vec_len w.parts) w.ports w.waits w.calls w.made };
+    ghost view = { λ w. kept (tables_of w.procs w.parts.items w.ports w.waits w.names) (vec_capacity w.parts - vec_len w.parts) w.calls w.made };
 
-    ghost invariant = { λ w. AreLawful w.procs w.parts.items w.ports w.waits w.calls w.made };
+    ghost invariant = { λ w. AreLawful (tables_of w.procs w.parts.items w.ports w.waits w.names) w.calls w.made };
 }
 
 impl World {
@@ -72,6 +76,7 @@ impl World {
             parts: Vec::new(alloc),
             ports: Ports::new(alloc),
             waits: Waits::new(alloc),
+            names: Names::new(alloc),
             calls: 0,
             made: 0,
             alloc,

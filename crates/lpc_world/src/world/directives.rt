@@ -1,9 +1,10 @@
-// The directives that make processes and threads: refusals in their order, else the steps.
+// The directives that make processes, threads, directories and links: refusals in their order, else the steps.
 ghost use Rattle.std.specs.Prelude.{◌≡◌, ◌<◌, ◌≤◌, OnOk, true, false};
 ghost use Rattle.lpc_base.specs.Rows.{has};
 ghost use Rattle.lpc_model.specs.Found.{is_process, is_table, was_thread};
 ghost use Rattle.lpc_model.specs.Machine as model;
-ghost use Rattle.lpc_model.specs.Machine.{boot_line, thread_line};
+ghost use Rattle.lpc_model.specs.Machine.{boot_line, dir_line, link_line, thread_line};
+ghost use Rattle.lpc_world.specs.Bound.{status_of_binding};
 ghost use Rattle.lpc_procs.specs.Procs.{IsNumber};
 ghost use Rattle.lpc_world.specs.Does.{Directs};
 ghost use Rattle.lpc_world.specs.Kept.{Same};
@@ -12,6 +13,7 @@ use crate::world::World;
 use lpc_base::limits::THREAD_LIMIT;
 use lpc_base::status::{INVALID_CID, OBJECT_NAME_COLLISION, QUOTA_EXCEEDED, SUCCESS};
 use lpc_base::{Birth, OutOfMemory, Status};
+use lpc_names::{BindFault, status_of};
 
 /// What a directive makes has maker 0 and its own number as ordinal.
 fn directive_birth(number: u32) -> Birth
@@ -21,6 +23,17 @@ fn directive_birth(number: u32) -> Birth
         maker: 0,
         ordinal: number,
         process: 0,
+    }
+}
+
+/// The status of a directive that binds a name.
+fn bound_status(bound: Result<(), BindFault>) -> Result<Status, OutOfMemory>
+    ensures { result ≡ status_of_binding bound }
+{
+    match bound {
+        Ok(()) => Ok(SUCCESS),
+        Err(BindFault::Name(fault)) => Ok(status_of(fault)),
+        Err(BindFault::OutOfMemory) => Err(OutOfMemory),
     }
 }
 
@@ -68,6 +81,34 @@ impl World {
         self.begin_call();
         self.procs_add_thread(tid, pid, directive_birth(tid));
         Ok(SUCCESS)
+    }
+
+    /// `dir`: makes a directory of the name space.
+    ///
+    /// Refusal: the fault of the path, or OBJECT_NAME_COLLISION where something stands there. After want of memory nothing
+    /// has changed.
+    #[tactic(auto, unfolding(lpc_model::specs::Machine::dir_line))]
+    pub fn directory(&mut self, path: &[u8]) -> Result<Status, OutOfMemory>
+        requires calls { self.old.calls < 1000000 }
+        ensures directs { Directs result (dir_line self.old.rows path.now) self.old self.new }
+    {
+        let status = bound_status(self.names_add_directory(path))?;
+        self.begin_call();
+        Ok(status)
+    }
+
+    /// `link`: makes a link of the name space, to a target that need not stand.
+    ///
+    /// Refusals, in this order: the fault of the target's form; the fault of the path, or OBJECT_NAME_COLLISION where
+    /// something stands there. After want of memory nothing has changed.
+    #[tactic(auto, unfolding(lpc_model::specs::Machine::link_line))]
+    pub fn link(&mut self, path: &[u8], target: &[u8]) -> Result<Status, OutOfMemory>
+        requires calls { self.old.calls < 1000000 }
+        ensures directs { Directs result (link_line self.old.rows path.now target.now) self.old self.new }
+    {
+        let status = bound_status(self.names_add_link(path, target))?;
+        self.begin_call();
+        Ok(status)
     }
 
     /// Why a process gets no further thread.

@@ -2,13 +2,15 @@
 ghost use Rattle.std.specs.Prelude.{◌≡◌, map, true};
 ghost use Rattle.lpc_base.specs.Rows.{has};
 ghost use Rattle.lpc_model.specs.Found.{handles_of, is_table};
-ghost use Rattle.lpc_world.specs.Shown.{birth_of, births_of, shown_handle, shown_message, shown_port, shown_process, shown_thread, shown_used, shown_wait};
+ghost use Rattle.lpc_world.specs.Shown.{birth_of, births_of, shown_binding, shown_handle, shown_message, shown_port, shown_process, shown_thread, shown_used, shown_wait};
 
 use crate::world::World;
 use crate::{Object, parts};
 use lpc_handles::Table;
+use lpc_names::Names;
 use lpc_ports::Ports;
 use lpc_procs::Procs;
+use lpc_slots::Key;
 use lpc_waits::Waits;
 
 impl World {
@@ -36,6 +38,13 @@ impl World {
         ensures waits { self.now.rows.waits ≡ map (shown_wait (birth_of self.now.names)) result.now.rows }
     {
         &self.waits
+    }
+
+    /// The name space: directories, links, and ports.
+    pub fn names(&self) -> &Names<Key>
+        ensures bindings { self.now.rows.bindings ≡ map (shown_binding (birth_of self.now.names)) result.now.bindings }
+    {
+        &self.names
     }
 
     /// The handles of a process that stands.

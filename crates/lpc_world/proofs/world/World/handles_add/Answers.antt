@@ -1,24 +1,25 @@
 use Rattle.std.proofs.Common.{sym, ◌∙◌}
+use Rattle.lpc_world.specs.Shown.{tables_of}
 use Rattle.lpc_world.proofs.Tables as tables
 use Rattle.lpc_world.proofs.world.World.handles_add.Goals as goal
 
 pub add_handle-requires-clause-one : goal.add_handle-requires-clause-one
-add_handle-requires-clause-one c = tables.single c.self.inside.procs c.self.inside.parts.items c.self.inside.ports c.self.inside.waits c.self.inside.calls c.self.inside.made c.self.invariant
+add_handle-requires-clause-one c = tables.single (tables_of c.self.inside.procs c.self.inside.parts.items c.self.inside.ports c.self.inside.waits c.self.inside.names) c.self.inside.calls c.self.inside.made c.self.invariant
 
 pub add_handle-requires-clause-part : goal.add_handle-requires-clause-part
-add_handle-requires-clause-part c = sym (tables.has_table c.self.inside.procs c.self.inside.parts.items c.self.inside.ports c.self.inside.waits c.self.inside.calls c.self.inside.made c.self.invariant c.args.pid) ∙ (rw (← c.self.view_is) at c.requires.table)
+add_handle-requires-clause-part c = sym (tables.has_table (tables_of c.self.inside.procs c.self.inside.parts.items c.self.inside.ports c.self.inside.waits c.self.inside.names) c.self.inside.calls c.self.inside.made c.self.invariant c.args.pid) ∙ (rw (← c.self.view_is) at c.requires.table)
 
 pub add_handle-requires-clause-room : goal.add_handle-requires-clause-room
-add_handle-requires-clause-room c = rw (← tables.handle_number c.self.inside.procs c.self.inside.parts.items c.self.inside.ports c.self.inside.waits c.self.inside.calls c.self.inside.made c.self.invariant c.args.pid, ← tables.room_at c.self.inside.parts.items c.args.pid) (rw (← c.self.view_is) at c.requires.room)
+add_handle-requires-clause-room c = rw (← tables.handle_number (tables_of c.self.inside.procs c.self.inside.parts.items c.self.inside.ports c.self.inside.waits c.self.inside.names) c.self.inside.calls c.self.inside.made c.self.invariant c.args.pid, ← tables.room_at c.self.inside.parts.items c.args.pid) (rw (← c.self.view_is) at c.requires.room)
 
 pub invariant_of-self : goal.invariant_of-self
-invariant_of-self c = tables.handed_or_same c.self.inside.procs c.self.inside.parts.items c.self.inside.ports c.self.inside.waits c.self.inside.calls c.self.inside.made c.self.invariant c.args.pid (record { object = c.args.object; access = c.args.access }) c.add_handle.result c.add_handle.new.parts.items (rw (← c.self.view_is) at c.requires.object) c.add_handle.ensures.parts c.add_handle.ensures.same
+invariant_of-self c = tables.handed_or_same (tables_of c.self.inside.procs c.self.inside.parts.items c.self.inside.ports c.self.inside.waits c.self.inside.names) c.self.inside.calls c.self.inside.made c.self.invariant c.args.pid (record { object = c.args.object; access = c.args.access }) c.add_handle.result c.add_handle.new.parts.items (rw (← c.self.view_is) at c.requires.object) c.add_handle.ensures.parts c.add_handle.ensures.same
 
 pub returns-clause-quota : goal.returns-clause-quota
-returns-clause-quota c = rw (← c.self.view_is, tables.handle_number c.self.inside.procs c.self.inside.parts.items c.self.inside.ports c.self.inside.waits c.self.inside.calls c.self.inside.made c.self.invariant c.args.pid) c.add_handle.ensures.quota
+returns-clause-quota c = rw (← c.self.view_is, tables.handle_number (tables_of c.self.inside.procs c.self.inside.parts.items c.self.inside.ports c.self.inside.waits c.self.inside.names) c.self.inside.calls c.self.inside.made c.self.invariant c.args.pid) c.add_handle.ensures.quota
 
 pub returns-clause-value : goal.returns-clause-value
-returns-clause-value c = rw (← c.self.view_is, tables.free_value c.self.inside.procs c.self.inside.parts.items c.self.inside.ports c.self.inside.waits c.self.inside.calls c.self.inside.made c.self.invariant c.args.pid) c.add_handle.ensures.value
+returns-clause-value c = rw (← c.self.view_is, tables.free_value (tables_of c.self.inside.procs c.self.inside.parts.items c.self.inside.ports c.self.inside.waits c.self.inside.names) c.self.inside.calls c.self.inside.made c.self.invariant c.args.pid) c.add_handle.ensures.value
 
 pub returns-clause-rows : goal.returns-clause-rows
-returns-clause-rows c = rw (← c.self.view_is) (tables.hands_or_not c.self.inside.procs c.self.inside.parts.items c.self.inside.ports c.self.inside.waits c.self.inside.calls c.self.inside.made c.self.invariant c.args.pid (record { object = c.args.object; access = c.args.access }) c.add_handle.result c.add_handle.new.parts.items c.add_handle.ensures.parts)
+returns-clause-rows c = rw (← c.self.view_is) (tables.hands_or_not (tables_of c.self.inside.procs c.self.inside.parts.items c.self.inside.ports c.self.inside.waits c.self.inside.names) c.self.inside.calls c.self.inside.made c.self.invariant c.args.pid (record { object = c.args.object; access = c.args.access }) c.add_handle.result c.add_handle.new.parts.items c.add_handle.ensures.parts)

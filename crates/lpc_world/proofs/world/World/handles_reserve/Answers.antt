@@ -1,22 +1,23 @@
 use Rattle.std.proofs.Common.{refl, sym, ◌∙◌, arith}
+use Rattle.lpc_world.specs.Shown.{tables_of}
 use Rattle.lpc_world.proofs.Tables as tables
 use Rattle.lpc_world.proofs.world.World.handles_reserve.Goals as goal
 
 pub reserve_handles-requires-clause-one : goal.reserve_handles-requires-clause-one
-reserve_handles-requires-clause-one c = tables.single c.self.inside.procs c.self.inside.parts.items c.self.inside.ports c.self.inside.waits c.self.inside.calls c.self.inside.made c.self.invariant
+reserve_handles-requires-clause-one c = tables.single (tables_of c.self.inside.procs c.self.inside.parts.items c.self.inside.ports c.self.inside.waits c.self.inside.names) c.self.inside.calls c.self.inside.made c.self.invariant
 
 pub reserve_handles-requires-clause-part : goal.reserve_handles-requires-clause-part
-reserve_handles-requires-clause-part c = sym (tables.has_table c.self.inside.procs c.self.inside.parts.items c.self.inside.ports c.self.inside.waits c.self.inside.calls c.self.inside.made c.self.invariant c.args.pid) ∙ (rw (← c.self.view_is) at c.requires)
+reserve_handles-requires-clause-part c = sym (tables.has_table (tables_of c.self.inside.procs c.self.inside.parts.items c.self.inside.ports c.self.inside.waits c.self.inside.names) c.self.inside.calls c.self.inside.made c.self.invariant c.args.pid) ∙ (rw (← c.self.view_is) at c.requires)
 
 pub invariant_of-self : goal.invariant_of-self
-invariant_of-self c = tables.roomed_lawful c.self.inside.procs c.self.inside.parts.items c.self.inside.ports c.self.inside.waits c.self.inside.calls c.self.inside.made c.self.invariant c.args.pid c.reserve_handles.new.parts.items c.reserve_handles.ensures.parts
+invariant_of-self c = tables.roomed_lawful (tables_of c.self.inside.procs c.self.inside.parts.items c.self.inside.ports c.self.inside.waits c.self.inside.names) c.self.inside.calls c.self.inside.made c.self.invariant c.args.pid c.reserve_handles.new.parts.items c.reserve_handles.ensures.parts
 
 pub returns-clause-same : goal.returns-clause-same
-returns-clause-same c = rw (← c.self.view_is) (record { rows = tables.roomed_rows c.self.inside.procs c.self.inside.parts.items c.self.inside.ports c.self.inside.waits c.self.inside.calls c.self.inside.made c.self.invariant c.args.pid c.reserve_handles.new.parts.items c.reserve_handles.ensures.parts; names = refl; calls = refl; made = refl })
+returns-clause-same c = rw (← c.self.view_is) (record { rows = tables.roomed_rows (tables_of c.self.inside.procs c.self.inside.parts.items c.self.inside.ports c.self.inside.waits c.self.inside.names) c.self.inside.calls c.self.inside.made c.self.invariant c.args.pid c.reserve_handles.new.parts.items c.reserve_handles.ensures.parts; names = refl; calls = refl; made = refl })
 
 pub returns-clause-room : goal.returns-clause-room
 returns-clause-room c =
-    let more = tables.roomed_spare c.self.inside.procs c.self.inside.parts.items c.self.inside.ports c.self.inside.waits c.self.inside.calls c.self.inside.made c.self.invariant c.args.pid c.reserve_handles.new.parts.items c.reserve_handles.ensures.parts c.reserve_handles.ensures.spare in
+    let more = tables.roomed_spare (tables_of c.self.inside.procs c.self.inside.parts.items c.self.inside.ports c.self.inside.waits c.self.inside.names) c.self.inside.calls c.self.inside.made c.self.invariant c.args.pid c.reserve_handles.new.parts.items c.reserve_handles.ensures.parts c.reserve_handles.ensures.spare in
     let long = c.reserve_handles.ensures.len in
     let places = c.reserve_handles.ensures.capacity in
     rw (← c.self.view_is, long, places) (record {
@@ -26,6 +27,7 @@ returns-clause-room c =
       for_messages = omega arith;
       for_requests = omega arith;
       for_ports = omega arith;
+      for_names = omega arith;
       for_handles = λ pid. rw (tables.room_at c.self.inside.parts.items pid, tables.room_at c.reserve_handles.new.parts.items pid) (more pid);
     })
 

@@ -2,7 +2,7 @@ use Rattle.std.proofs.Common.{rules, ◌+◌, sym, ap, []}
 use Rattle.lpc_model.specs.World.{World}
 use Rattle.lpc_world.specs.Kept.{rows_by}
 use Rattle.lpc_world.specs.Names.{name_of}
-use Rattle.lpc_world.specs.Shown.{births_of, pulled_row}
+use Rattle.lpc_world.specs.Shown.{births_of, pulled_row, tables_of}
 use Rattle.lpc_world.proofs.Changes as changes
 use Rattle.lpc_world.proofs.Lawful as lawful
 use Rattle.lpc_world.proofs.Rooms as rooms
@@ -12,51 +12,51 @@ use Rattle.lpc_world.proofs.world.World.ports_pull.Goals as goal
 pub returns-in_err-message-clause-message : goal.returns-in_err-message-clause-message
 returns-in_err-message-clause-message c =
     let there = rw (← c.self.view_is) at c.requires in
-    rw (← c.self.view_is, steps.none_queued c.self.inside.procs c.self.inside.parts.items c.self.inside.ports c.self.inside.waits c.self.inside.calls c.self.inside.made c.self.invariant c.args.queue there (sym c.in_err-message.ensures)) (search rules)
+    rw (← c.self.view_is, steps.none_queued (tables_of c.self.inside.procs c.self.inside.parts.items c.self.inside.ports c.self.inside.waits c.self.inside.names) c.self.inside.calls c.self.inside.made c.self.invariant c.args.queue there (sym c.in_err-message.ensures)) (search rules)
 
 pub returns-in_err-message-clause-rows : goal.returns-in_err-message-clause-rows
 returns-in_err-message-clause-rows c =
     let there = rw (← c.self.view_is) at c.requires in
-    let none = steps.none_queued c.self.inside.procs c.self.inside.parts.items c.self.inside.ports c.self.inside.waits c.self.inside.calls c.self.inside.made c.self.invariant c.args.queue there (sym c.in_err-message.ensures) in
-    rw (← c.self.view_is) (ap (λ ms. record (rows_by c.self.inside.procs c.self.inside.parts.items c.self.inside.ports c.self.inside.waits) { messages = ms }) (sym (lawful.without_first-none _ _ none)))
+    let none = steps.none_queued (tables_of c.self.inside.procs c.self.inside.parts.items c.self.inside.ports c.self.inside.waits c.self.inside.names) c.self.inside.calls c.self.inside.made c.self.invariant c.args.queue there (sym c.in_err-message.ensures) in
+    rw (← c.self.view_is) (ap (λ ms. record (rows_by (tables_of c.self.inside.procs c.self.inside.parts.items c.self.inside.ports c.self.inside.waits c.self.inside.names)) { messages = ms }) (sym (lawful.without_first-none _ _ none)))
 
 pub pull-requires : goal.pull-requires
-pull-requires c = record { stands = steps.some_message c.self.inside.procs c.self.inside.parts.items c.self.inside.ports c.self.inside.waits c.self.inside.calls c.self.inside.made c.self.invariant c.args.queue c.in_ok-message.message (sym c.in_ok-message.ensures) }
+pull-requires c = record { stands = steps.some_message (tables_of c.self.inside.procs c.self.inside.parts.items c.self.inside.ports c.self.inside.waits c.self.inside.names) c.self.inside.calls c.self.inside.made c.self.invariant c.args.queue c.in_ok-message.message (sym c.in_ok-message.ensures) }
 
 pub invariant_of-self : goal.invariant_of-self
 invariant_of-self c =
     let there = rw (← c.self.view_is) at c.requires in
     let at = sym c.in_ok-message.ensures in
-    let found = steps.first_message c.self.inside.procs c.self.inside.parts.items c.self.inside.ports c.self.inside.waits c.self.inside.calls c.self.inside.made c.self.invariant c.args.queue c.pull.result there (c.pull.ensures.first c.args.queue at) in
-    rw (steps.oldest c.self.inside.procs c.self.inside.parts.items c.self.inside.ports c.self.inside.waits c.self.inside.calls c.self.inside.made c.self.invariant c.args.queue c.in_ok-message.message c.pull.new.self c.pull.ensures.table (c.pull.ensures.oldest c.args.queue at)) (steps.taken c.self.inside.procs c.self.inside.parts.items c.self.inside.ports c.self.inside.waits c.self.inside.calls c.self.inside.made c.self.invariant c.args.queue (pulled_row (births_of c.self.inside.ports) c.args.queue c.pull.result) there found)
+    let found = steps.first_message (tables_of c.self.inside.procs c.self.inside.parts.items c.self.inside.ports c.self.inside.waits c.self.inside.names) c.self.inside.calls c.self.inside.made c.self.invariant c.args.queue c.pull.result there (c.pull.ensures.first c.args.queue at) in
+    rw (steps.oldest (tables_of c.self.inside.procs c.self.inside.parts.items c.self.inside.ports c.self.inside.waits c.self.inside.names) c.self.inside.calls c.self.inside.made c.self.invariant c.args.queue c.in_ok-message.message c.pull.new.self c.pull.ensures.table (c.pull.ensures.oldest c.args.queue at)) (steps.taken (tables_of c.self.inside.procs c.self.inside.parts.items c.self.inside.ports c.self.inside.waits c.self.inside.names) c.self.inside.calls c.self.inside.made c.self.invariant c.args.queue (pulled_row (births_of c.self.inside.ports) c.args.queue c.pull.result) there found)
 
 pub returns-clause-message : goal.returns-clause-message
 returns-clause-message c =
     let there = rw (← c.self.view_is) at c.requires in
     let at = sym c.in_ok-message.ensures in
-    rw (← c.self.view_is) (sym (steps.first_message c.self.inside.procs c.self.inside.parts.items c.self.inside.ports c.self.inside.waits c.self.inside.calls c.self.inside.made c.self.invariant c.args.queue c.pull.result there (c.pull.ensures.first c.args.queue at)))
+    rw (← c.self.view_is) (sym (steps.first_message (tables_of c.self.inside.procs c.self.inside.parts.items c.self.inside.ports c.self.inside.waits c.self.inside.names) c.self.inside.calls c.self.inside.made c.self.invariant c.args.queue c.pull.result there (c.pull.ensures.first c.args.queue at)))
 
 pub returns-clause-rows : goal.returns-clause-rows
 returns-clause-rows c =
     let there = rw (← c.self.view_is) at c.requires in
     let at = sym c.in_ok-message.ensures in
-    rw (← c.self.view_is, steps.oldest c.self.inside.procs c.self.inside.parts.items c.self.inside.ports c.self.inside.waits c.self.inside.calls c.self.inside.made c.self.invariant c.args.queue c.in_ok-message.message c.pull.new.self c.pull.ensures.table (c.pull.ensures.oldest c.args.queue at)) (changes.takes c.self.inside.procs c.self.inside.parts.items c.self.inside.ports c.self.inside.waits c.self.invariant.named c.args.queue (c.self.inside.ports.message_room + 1) there)
+    rw (← c.self.view_is, steps.oldest (tables_of c.self.inside.procs c.self.inside.parts.items c.self.inside.ports c.self.inside.waits c.self.inside.names) c.self.inside.calls c.self.inside.made c.self.invariant c.args.queue c.in_ok-message.message c.pull.new.self c.pull.ensures.table (c.pull.ensures.oldest c.args.queue at)) (changes.takes (tables_of c.self.inside.procs c.self.inside.parts.items c.self.inside.ports c.self.inside.waits c.self.inside.names) c.self.invariant.named c.args.queue (c.self.inside.ports.message_room + 1) there)
 
 pub returns-clause-room : goal.returns-clause-room
 returns-clause-room c =
     let there = rw (← c.self.view_is) at c.requires in
     let at = sym c.in_ok-message.ensures in
-    let found = steps.first_message c.self.inside.procs c.self.inside.parts.items c.self.inside.ports c.self.inside.waits c.self.inside.calls c.self.inside.made c.self.invariant c.args.queue c.pull.result there (c.pull.ensures.first c.args.queue at) in
-    rw (← c.self.view_is, steps.oldest c.self.inside.procs c.self.inside.parts.items c.self.inside.ports c.self.inside.waits c.self.inside.calls c.self.inside.made c.self.invariant c.args.queue c.in_ok-message.message c.pull.new.self c.pull.ensures.table (c.pull.ensures.oldest c.args.queue at), ap (λ (v : World). v.messages) (changes.takes c.self.inside.procs c.self.inside.parts.items c.self.inside.ports c.self.inside.waits c.self.invariant.named c.args.queue (c.self.inside.ports.message_room + 1) there))
-    (rooms.room_take _ _ _ _ _ (rows_by c.self.inside.procs c.self.inside.parts.items c.self.inside.ports c.self.inside.waits) _ (name_of (births_of c.self.inside.ports).ports c.args.queue) (pulled_row (births_of c.self.inside.ports) c.args.queue c.pull.result) found)
+    let found = steps.first_message (tables_of c.self.inside.procs c.self.inside.parts.items c.self.inside.ports c.self.inside.waits c.self.inside.names) c.self.inside.calls c.self.inside.made c.self.invariant c.args.queue c.pull.result there (c.pull.ensures.first c.args.queue at) in
+    rw (← c.self.view_is, steps.oldest (tables_of c.self.inside.procs c.self.inside.parts.items c.self.inside.ports c.self.inside.waits c.self.inside.names) c.self.inside.calls c.self.inside.made c.self.invariant c.args.queue c.in_ok-message.message c.pull.new.self c.pull.ensures.table (c.pull.ensures.oldest c.args.queue at), ap (λ (v : World). v.messages) (changes.takes (tables_of c.self.inside.procs c.self.inside.parts.items c.self.inside.ports c.self.inside.waits c.self.inside.names) c.self.invariant.named c.args.queue (c.self.inside.ports.message_room + 1) there))
+    (rooms.room_take _ _ _ _ _ _ (rows_by (tables_of c.self.inside.procs c.self.inside.parts.items c.self.inside.ports c.self.inside.waits c.self.inside.names)) _ (name_of (births_of c.self.inside.ports).ports c.args.queue) (pulled_row (births_of c.self.inside.ports) c.args.queue c.pull.result) found)
 
 pub returns-clause-owed : goal.returns-clause-owed
 returns-clause-owed c =
     let there = rw (← c.self.view_is) at c.requires in
     let at = sym c.in_ok-message.ensures in
-    let found = steps.first_message c.self.inside.procs c.self.inside.parts.items c.self.inside.ports c.self.inside.waits c.self.inside.calls c.self.inside.made c.self.invariant c.args.queue c.pull.result there (c.pull.ensures.first c.args.queue at) in
-    rw (← c.self.view_is, steps.oldest c.self.inside.procs c.self.inside.parts.items c.self.inside.ports c.self.inside.waits c.self.inside.calls c.self.inside.made c.self.invariant c.args.queue c.in_ok-message.message c.pull.new.self c.pull.ensures.table (c.pull.ensures.oldest c.args.queue at), ap (λ (v : World). v.messages) (changes.takes c.self.inside.procs c.self.inside.parts.items c.self.inside.ports c.self.inside.waits c.self.invariant.named c.args.queue (c.self.inside.ports.message_room + 1) there))
-    (λ asks. rooms.owed_take 0 0 0 0 0 (rows_by c.self.inside.procs c.self.inside.parts.items c.self.inside.ports c.self.inside.waits) [] (name_of (births_of c.self.inside.ports).ports c.args.queue) (pulled_row (births_of c.self.inside.ports) c.args.queue c.pull.result) found c.self.invariant.lawful.requests asks)
+    let found = steps.first_message (tables_of c.self.inside.procs c.self.inside.parts.items c.self.inside.ports c.self.inside.waits c.self.inside.names) c.self.inside.calls c.self.inside.made c.self.invariant c.args.queue c.pull.result there (c.pull.ensures.first c.args.queue at) in
+    rw (← c.self.view_is, steps.oldest (tables_of c.self.inside.procs c.self.inside.parts.items c.self.inside.ports c.self.inside.waits c.self.inside.names) c.self.inside.calls c.self.inside.made c.self.invariant c.args.queue c.in_ok-message.message c.pull.new.self c.pull.ensures.table (c.pull.ensures.oldest c.args.queue at), ap (λ (v : World). v.messages) (changes.takes (tables_of c.self.inside.procs c.self.inside.parts.items c.self.inside.ports c.self.inside.waits c.self.inside.names) c.self.invariant.named c.args.queue (c.self.inside.ports.message_room + 1) there))
+    (λ asks. rooms.owed_take 0 0 0 0 0 0 (rows_by (tables_of c.self.inside.procs c.self.inside.parts.items c.self.inside.ports c.self.inside.waits c.self.inside.names)) [] (name_of (births_of c.self.inside.ports).ports c.args.queue) (pulled_row (births_of c.self.inside.ports) c.args.queue c.pull.result) found c.self.invariant.lawful.requests asks)
 
 pub returns-clause-long : goal.returns-clause-long
-returns-clause-long c = steps.long_message c.self.inside.procs c.self.inside.parts.items c.self.inside.ports c.self.inside.waits c.self.inside.calls c.self.inside.made c.self.invariant c.args.queue c.pull.result (c.pull.ensures.first c.args.queue (sym c.in_ok-message.ensures))
+returns-clause-long c = steps.long_message (tables_of c.self.inside.procs c.self.inside.parts.items c.self.inside.ports c.self.inside.waits c.self.inside.names) c.self.inside.calls c.self.inside.made c.self.invariant c.args.queue c.pull.result (c.pull.ensures.first c.args.queue (sym c.in_ok-message.ensures))

@@ -1,11 +1,12 @@
 use Rattle.std.proofs.Common.{refl, arith}
+use Rattle.lpc_world.specs.Shown.{tables_of}
 use Rattle.lpc_world.specs.Kept.{rows_by}
 use Rattle.lpc_world.proofs.Rooms as rooms
 use Rattle.lpc_world.proofs.Steps as steps
 use Rattle.lpc_world.proofs.world.World.ports_reserve.Goals as goal
 
 pub invariant_of-self : goal.invariant_of-self
-invariant_of-self c = rw c.reserve.ensures.kept (steps.roomed_ports c.self.inside.procs c.self.inside.parts.items c.self.inside.ports c.self.inside.waits c.self.inside.calls c.self.inside.made c.self.invariant c.reserve.new.self.port_room c.reserve.new.self.message_room c.reserve.ensures.message_room)
+invariant_of-self c = rw c.reserve.ensures.kept (steps.roomed_ports (tables_of c.self.inside.procs c.self.inside.parts.items c.self.inside.ports c.self.inside.waits c.self.inside.names) c.self.inside.calls c.self.inside.made c.self.invariant c.reserve.new.self.port_room c.reserve.new.self.message_room c.reserve.ensures.message_room)
 
 pub returns-clause-same : goal.returns-clause-same
 returns-clause-same c = rw (← c.self.view_is, c.reserve.ensures.kept) (record { rows = refl; names = refl; calls = refl; made = refl })
@@ -14,4 +15,4 @@ pub returns-clause-room : goal.returns-clause-room
 returns-clause-room c =
     let ports = c.reserve.ensures.port_room in
     let messages = c.reserve.ensures.message_room in
-    rw (← c.self.view_is, c.reserve.ensures.kept) (rooms.room_more _ _ _ _ _ (rows_by c.self.inside.procs c.self.inside.parts.items c.self.inside.ports c.self.inside.waits) _ _ _ _ c.reserve.new.self.message_room c.reserve.new.self.port_room (omega arith) (omega arith) (omega arith) messages ports)
+    rw (← c.self.view_is, c.reserve.ensures.kept) (rooms.room_more _ _ _ _ _ _ (rows_by (tables_of c.self.inside.procs c.self.inside.parts.items c.self.inside.ports c.self.inside.waits c.self.inside.names)) _ _ _ _ c.reserve.new.self.message_room c.reserve.new.self.port_room _ (omega arith) (omega arith) (omega arith) messages ports (omega arith))

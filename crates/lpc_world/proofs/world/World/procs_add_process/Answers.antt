@@ -1,4 +1,5 @@
 use Rattle.std.proofs.Common.{◌-◌, refl, arith}
+use Rattle.lpc_world.specs.Shown.{tables_of}
 use Rattle.lpc_world.specs.Kept.{room_of_part}
 use Rattle.lpc_world.proofs.Rooms as rooms
 use Rattle.lpc_world.proofs.Steps as steps
@@ -10,7 +11,7 @@ pub invariant_of-self : goal.invariant_of-self
 invariant_of-self c =
     let there = rw (← c.self.view_is) at c.requires in
     rw (c.add_process.ensures.table, c.push_reserved.ensures.items)
-    (steps.added_process c.self.inside.procs c.self.inside.parts.items c.self.inside.ports c.self.inside.waits c.self.inside.calls c.self.inside.made c.self.invariant (record { number = c.args.pid; maker = c.args.maker; birth = c.args.birth }) (record { process = c.args.pid; handles = c.new.result }) (c.self.inside.procs.process_room - 1) (rw c.new.ensures refl) refl there.budget there.new)
+    (steps.added_process (tables_of c.self.inside.procs c.self.inside.parts.items c.self.inside.ports c.self.inside.waits c.self.inside.names) c.self.inside.calls c.self.inside.made c.self.invariant (record { number = c.args.pid; maker = c.args.maker; birth = c.args.birth }) (record { process = c.args.pid; handles = c.new.result }) (c.self.inside.procs.process_room - 1) (rw c.new.ensures refl) refl there.budget there.new)
 
 pub returns-clause-room : goal.returns-clause-room
 returns-clause-room c =
@@ -24,5 +25,6 @@ returns-clause-room c =
       for_messages = omega arith;
       for_requests = omega arith;
       for_ports = omega arith;
+      for_names = omega arith;
       for_handles = rooms.handles_more _ _;
     })

@@ -1,23 +1,24 @@
 use Rattle.std.proofs.Common.{ap}
 use Rattle.lpc_model.specs.World.{World}
+use Rattle.lpc_world.specs.Shown.{tables_of}
 use Rattle.lpc_world.proofs.Changes as changes
 use Rattle.lpc_world.proofs.Steps as steps
 use Rattle.lpc_world.proofs.world.World.procs_draw_birth.Goals as goal
 
 pub draw_birth-requires : goal.draw_birth-requires
-draw_birth-requires c = record { ordinal_left = steps.ordinal_left c.self.inside.procs c.self.inside.parts.items c.self.inside.ports c.self.inside.waits c.self.inside.calls c.self.inside.made c.self.invariant c.args.tid (rw (← c.self.view_is) at c.requires.stands) }
+draw_birth-requires c = record { ordinal_left = steps.ordinal_left (tables_of c.self.inside.procs c.self.inside.parts.items c.self.inside.ports c.self.inside.waits c.self.inside.names) c.self.inside.calls c.self.inside.made c.self.invariant c.args.tid (rw (← c.self.view_is) at c.requires.stands) }
 
 pub invariant_of-self : goal.invariant_of-self
-invariant_of-self c = rw c.draw_birth.ensures.table (steps.drew_birth c.self.inside.procs c.self.inside.parts.items c.self.inside.ports c.self.inside.waits c.self.inside.calls c.self.inside.made c.self.invariant c.args.tid (rw (← c.self.view_is) at c.requires.budget))
+invariant_of-self c = rw c.draw_birth.ensures.table (steps.drew_birth (tables_of c.self.inside.procs c.self.inside.parts.items c.self.inside.ports c.self.inside.waits c.self.inside.names) c.self.inside.calls c.self.inside.made c.self.invariant c.args.tid (rw (← c.self.view_is) at c.requires.budget))
 
 pub returns-clause-birth : goal.returns-clause-birth
-returns-clause-birth c = rw (← c.self.view_is) (steps.drawn_birth c.self.inside.procs c.self.inside.parts.items c.self.inside.ports c.self.inside.waits c.self.inside.calls c.self.inside.made c.self.invariant c.args.tid c.draw_birth.result c.draw_birth.ensures.birth)
+returns-clause-birth c = rw (← c.self.view_is) (steps.drawn_birth (tables_of c.self.inside.procs c.self.inside.parts.items c.self.inside.ports c.self.inside.waits c.self.inside.names) c.self.inside.calls c.self.inside.made c.self.invariant c.args.tid c.draw_birth.result c.draw_birth.ensures.birth)
 
 pub returns-clause-rows : goal.returns-clause-rows
-returns-clause-rows c = rw (← c.self.view_is, c.draw_birth.ensures.table) (changes.draws_ordinal c.self.inside.procs c.self.inside.parts.items c.self.inside.ports c.self.inside.waits c.self.invariant.named c.args.tid)
+returns-clause-rows c = rw (← c.self.view_is, c.draw_birth.ensures.table) (changes.draws_ordinal (tables_of c.self.inside.procs c.self.inside.parts.items c.self.inside.ports c.self.inside.waits c.self.inside.names) c.self.invariant.named c.args.tid)
 
 pub returns-clause-fresh : goal.returns-clause-fresh
-returns-clause-fresh c = steps.fresh_birth c.self.inside.procs c.self.inside.parts.items c.self.inside.ports c.self.inside.waits c.self.inside.calls c.self.inside.made c.self.invariant c.args.tid c.draw_birth.result (steps.drawn_birth c.self.inside.procs c.self.inside.parts.items c.self.inside.ports c.self.inside.waits c.self.inside.calls c.self.inside.made c.self.invariant c.args.tid c.draw_birth.result c.draw_birth.ensures.birth)
+returns-clause-fresh c = steps.fresh_birth (tables_of c.self.inside.procs c.self.inside.parts.items c.self.inside.ports c.self.inside.waits c.self.inside.names) c.self.inside.calls c.self.inside.made c.self.invariant c.args.tid c.draw_birth.result (steps.drawn_birth (tables_of c.self.inside.procs c.self.inside.parts.items c.self.inside.ports c.self.inside.waits c.self.inside.names) c.self.inside.calls c.self.inside.made c.self.invariant c.args.tid c.draw_birth.result c.draw_birth.ensures.birth)
 
 pub returns-clause-drawn : goal.returns-clause-drawn
-returns-clause-drawn c = rw (c.draw_birth.ensures.table, ap (λ (v : World). v.threads) (changes.draws_ordinal c.self.inside.procs c.self.inside.parts.items c.self.inside.ports c.self.inside.waits c.self.invariant.named c.args.tid)) (steps.now_drawn c.self.inside.procs c.self.inside.parts.items c.self.inside.ports c.self.inside.waits c.self.inside.calls c.self.inside.made c.self.invariant c.args.tid c.draw_birth.result (steps.drawn_birth c.self.inside.procs c.self.inside.parts.items c.self.inside.ports c.self.inside.waits c.self.inside.calls c.self.inside.made c.self.invariant c.args.tid c.draw_birth.result c.draw_birth.ensures.birth))
+returns-clause-drawn c = rw (c.draw_birth.ensures.table, ap (λ (v : World). v.threads) (changes.draws_ordinal (tables_of c.self.inside.procs c.self.inside.parts.items c.self.inside.ports c.self.inside.waits c.self.inside.names) c.self.invariant.named c.args.tid)) (steps.now_drawn (tables_of c.self.inside.procs c.self.inside.parts.items c.self.inside.ports c.self.inside.waits c.self.inside.names) c.self.inside.calls c.self.inside.made c.self.invariant c.args.tid c.draw_birth.result (steps.drawn_birth (tables_of c.self.inside.procs c.self.inside.parts.items c.self.inside.ports c.self.inside.waits c.self.inside.names) c.self.inside.calls c.self.inside.made c.self.invariant c.args.tid c.draw_birth.result c.draw_birth.ensures.birth))

@@ -1,15 +1,16 @@
+use Rattle.lpc_world.specs.Shown.{tables_of}
 use Rattle.lpc_world.proofs.Changes as changes
 use Rattle.lpc_world.proofs.Steps as steps
 use Rattle.lpc_world.proofs.world.World.procs_draw_identifier.Goals as goal
 
 pub draw_identifier-requires : goal.draw_identifier-requires
-draw_identifier-requires c = record { identifier_left = steps.identifier_left c.self.inside.procs c.self.inside.parts.items c.self.inside.ports c.self.inside.waits c.self.inside.calls c.self.inside.made c.self.invariant c.args.tid (rw (← c.self.view_is) at c.requires.stands) }
+draw_identifier-requires c = record { identifier_left = steps.identifier_left (tables_of c.self.inside.procs c.self.inside.parts.items c.self.inside.ports c.self.inside.waits c.self.inside.names) c.self.inside.calls c.self.inside.made c.self.invariant c.args.tid (rw (← c.self.view_is) at c.requires.stands) }
 
 pub invariant_of-self : goal.invariant_of-self
-invariant_of-self c = rw c.draw_identifier.ensures.table (steps.drew_identifier c.self.inside.procs c.self.inside.parts.items c.self.inside.ports c.self.inside.waits c.self.inside.calls c.self.inside.made c.self.invariant c.args.tid (rw (← c.self.view_is) at c.requires.budget))
+invariant_of-self c = rw c.draw_identifier.ensures.table (steps.drew_identifier (tables_of c.self.inside.procs c.self.inside.parts.items c.self.inside.ports c.self.inside.waits c.self.inside.names) c.self.inside.calls c.self.inside.made c.self.invariant c.args.tid (rw (← c.self.view_is) at c.requires.budget))
 
 pub returns-clause-number : goal.returns-clause-number
-returns-clause-number c = rw (← c.self.view_is) (steps.drawn_identifier c.self.inside.procs c.self.inside.parts.items c.self.inside.ports c.self.inside.waits c.self.inside.calls c.self.inside.made c.self.invariant c.args.tid c.draw_identifier.result c.draw_identifier.ensures.identifier)
+returns-clause-number c = rw (← c.self.view_is) (steps.drawn_identifier (tables_of c.self.inside.procs c.self.inside.parts.items c.self.inside.ports c.self.inside.waits c.self.inside.names) c.self.inside.calls c.self.inside.made c.self.invariant c.args.tid c.draw_identifier.result c.draw_identifier.ensures.identifier)
 
 pub returns-clause-rows : goal.returns-clause-rows
-returns-clause-rows c = rw (← c.self.view_is, c.draw_identifier.ensures.table) (changes.draws_identifier c.self.inside.procs c.self.inside.parts.items c.self.inside.ports c.self.inside.waits c.self.invariant.named c.args.tid)
+returns-clause-rows c = rw (← c.self.view_is, c.draw_identifier.ensures.table) (changes.draws_identifier (tables_of c.self.inside.procs c.self.inside.parts.items c.self.inside.ports c.self.inside.waits c.self.inside.names) c.self.invariant.named c.args.tid)

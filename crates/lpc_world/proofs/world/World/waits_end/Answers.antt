@@ -6,6 +6,7 @@ use Rattle.lpc_model.specs.Found.{waits_as}
 use Rattle.lpc_waits.specs.Table as waits
 use Rattle.lpc_waits.specs.Table.{row_of}
 use Rattle.lpc_waits.specs.declared.WaitRow.{WaitRow}
+use Rattle.lpc_world.specs.Shown.{tables_of}
 use Rattle.lpc_world.specs.Kept.{rows_by}
 use Rattle.lpc_world.proofs.Changes as changes
 use Rattle.lpc_world.proofs.Readings as readings
@@ -15,27 +16,27 @@ use Rattle.lpc_base.proofs.RowWords.{has_none-without}
 use Rattle.lpc_world.proofs.world.World.waits_end.Goals as goal
 
 pub invariant_of-self : goal.invariant_of-self
-invariant_of-self c = rw (steps.end_is c.self.inside.procs c.self.inside.parts.items c.self.inside.ports c.self.inside.waits c.self.inside.calls c.self.inside.made c.self.invariant c.args.tid c.end.new.self c.end.result c.end.ensures.value c.end.ensures.rows c.end.ensures.spare c.end.ensures.made) (steps.ended c.self.inside.procs c.self.inside.parts.items c.self.inside.ports c.self.inside.waits c.self.inside.calls c.self.inside.made c.self.invariant c.args.tid (rw (← c.self.view_is) at c.requires))
+invariant_of-self c = rw (steps.end_is (tables_of c.self.inside.procs c.self.inside.parts.items c.self.inside.ports c.self.inside.waits c.self.inside.names) c.self.inside.calls c.self.inside.made c.self.invariant c.args.tid c.end.new.self c.end.result c.end.ensures.value c.end.ensures.rows c.end.ensures.spare c.end.ensures.made) (steps.ended (tables_of c.self.inside.procs c.self.inside.parts.items c.self.inside.ports c.self.inside.waits c.self.inside.names) c.self.inside.calls c.self.inside.made c.self.invariant c.args.tid (rw (← c.self.view_is) at c.requires))
 
 pub returns-clause-rows : goal.returns-clause-rows
-returns-clause-rows c = rw (← c.self.view_is, steps.end_is c.self.inside.procs c.self.inside.parts.items c.self.inside.ports c.self.inside.waits c.self.inside.calls c.self.inside.made c.self.invariant c.args.tid c.end.new.self c.end.result c.end.ensures.value c.end.ensures.rows c.end.ensures.spare c.end.ensures.made) (changes.ends c.self.inside.procs c.self.inside.parts.items c.self.inside.ports c.self.inside.waits c.self.invariant.named c.args.tid (cond (has (waits.is_of c.args.tid) c.self.inside.waits.rows) (c.self.inside.waits.spare + 1) c.self.inside.waits.spare) c.self.inside.waits.made)
+returns-clause-rows c = rw (← c.self.view_is, steps.end_is (tables_of c.self.inside.procs c.self.inside.parts.items c.self.inside.ports c.self.inside.waits c.self.inside.names) c.self.inside.calls c.self.inside.made c.self.invariant c.args.tid c.end.new.self c.end.result c.end.ensures.value c.end.ensures.rows c.end.ensures.spare c.end.ensures.made) (changes.ends (tables_of c.self.inside.procs c.self.inside.parts.items c.self.inside.ports c.self.inside.waits c.self.inside.names) c.self.invariant.named c.args.tid (cond (has (waits.is_of c.args.tid) c.self.inside.waits.rows) (c.self.inside.waits.spare + 1) c.self.inside.waits.spare) c.self.inside.waits.made)
 
 pub returns-clause-room : goal.returns-clause-room
 returns-clause-room c =
     let spare = cond (has (waits.is_of c.args.tid) c.self.inside.waits.rows) (c.self.inside.waits.spare + 1) c.self.inside.waits.spare in
-    rw (← c.self.view_is, steps.end_is c.self.inside.procs c.self.inside.parts.items c.self.inside.ports c.self.inside.waits c.self.inside.calls c.self.inside.made c.self.invariant c.args.tid c.end.new.self c.end.result c.end.ensures.value c.end.ensures.rows c.end.ensures.spare c.end.ensures.made, ap (λ (v : World). v.waits) (changes.ends c.self.inside.procs c.self.inside.parts.items c.self.inside.ports c.self.inside.waits c.self.invariant.named c.args.tid spare c.self.inside.waits.made), ← steps.has_wait c.self.inside.procs c.self.inside.parts.items c.self.inside.ports c.self.inside.waits c.self.inside.calls c.self.inside.made c.self.invariant c.args.tid)
-    (rooms.room_end _ _ _ _ _ (rows_by c.self.inside.procs c.self.inside.parts.items c.self.inside.ports c.self.inside.waits) _ c.args.tid c.self.invariant.lawful.single (rw (← c.self.view_is) at c.requires))
+    rw (← c.self.view_is, steps.end_is (tables_of c.self.inside.procs c.self.inside.parts.items c.self.inside.ports c.self.inside.waits c.self.inside.names) c.self.inside.calls c.self.inside.made c.self.invariant c.args.tid c.end.new.self c.end.result c.end.ensures.value c.end.ensures.rows c.end.ensures.spare c.end.ensures.made, ap (λ (v : World). v.waits) (changes.ends (tables_of c.self.inside.procs c.self.inside.parts.items c.self.inside.ports c.self.inside.waits c.self.inside.names) c.self.invariant.named c.args.tid spare c.self.inside.waits.made), ← steps.has_wait (tables_of c.self.inside.procs c.self.inside.parts.items c.self.inside.ports c.self.inside.waits c.self.inside.names) c.self.inside.calls c.self.inside.made c.self.invariant c.args.tid)
+    (rooms.room_end _ _ _ _ _ _ (rows_by (tables_of c.self.inside.procs c.self.inside.parts.items c.self.inside.ports c.self.inside.waits c.self.inside.names)) _ c.args.tid c.self.invariant.lawful.single (rw (← c.self.view_is) at c.requires))
 
 pub returns-clause-still : goal.returns-clause-still
 returns-clause-still c =
     let spare = cond (has (waits.is_of c.args.tid) c.self.inside.waits.rows) (c.self.inside.waits.spare + 1) c.self.inside.waits.spare in
-    rw (← c.self.view_is, steps.end_is c.self.inside.procs c.self.inside.parts.items c.self.inside.ports c.self.inside.waits c.self.inside.calls c.self.inside.made c.self.invariant c.args.tid c.end.new.self c.end.result c.end.ensures.value c.end.ensures.rows c.end.ensures.spare c.end.ensures.made, ap (λ (v : World). v.waits) (changes.ends c.self.inside.procs c.self.inside.parts.items c.self.inside.ports c.self.inside.waits c.self.invariant.named c.args.tid spare c.self.inside.waits.made))
-    (record { ready = λ tid none. has_none-without (waits_as tid) (waits_as c.args.tid) (rows_by c.self.inside.procs c.self.inside.parts.items c.self.inside.ports c.self.inside.waits).waits none })
+    rw (← c.self.view_is, steps.end_is (tables_of c.self.inside.procs c.self.inside.parts.items c.self.inside.ports c.self.inside.waits c.self.inside.names) c.self.inside.calls c.self.inside.made c.self.invariant c.args.tid c.end.new.self c.end.result c.end.ensures.value c.end.ensures.rows c.end.ensures.spare c.end.ensures.made, ap (λ (v : World). v.waits) (changes.ends (tables_of c.self.inside.procs c.self.inside.parts.items c.self.inside.ports c.self.inside.waits c.self.inside.names) c.self.invariant.named c.args.tid spare c.self.inside.waits.made))
+    (record { ready = λ tid none. has_none-without (waits_as tid) (waits_as c.args.tid) (rows_by (tables_of c.self.inside.procs c.self.inside.parts.items c.self.inside.ports c.self.inside.waits c.self.inside.names)).waits none })
 
 pub returns-clause-some : goal.returns-clause-some
 returns-clause-some c =
-    rw (← c.self.view_is) (ap is_some c.end.ensures.value ∙ readings.some_of (λ (r : WaitRow). r.wait) (row_of c.self.inside.waits c.args.tid) ∙ sym (readings.waits_are c.self.inside.procs c.self.inside.parts.items c.self.inside.ports c.self.inside.waits c.self.invariant.named c.args.tid))
+    rw (← c.self.view_is) (ap is_some c.end.ensures.value ∙ readings.some_of (λ (r : WaitRow). r.wait) (row_of c.self.inside.waits c.args.tid) ∙ sym (readings.waits_are (tables_of c.self.inside.procs c.self.inside.parts.items c.self.inside.ports c.self.inside.waits c.self.inside.names) c.self.invariant.named c.args.tid))
 
 pub returns-clause-wait : goal.returns-clause-wait
 returns-clause-wait c =
-    rw (← c.self.view_is) (readings.wait_if c.self.inside.procs c.self.inside.parts.items c.self.inside.ports c.self.inside.waits c.self.invariant.named (vec_capacity c.self.inside.parts - vec_len c.self.inside.parts) c.self.inside.calls c.self.inside.made c.args.tid c.end.result c.end.ensures.value)
+    rw (← c.self.view_is) (readings.wait_if (tables_of c.self.inside.procs c.self.inside.parts.items c.self.inside.ports c.self.inside.waits c.self.inside.names) c.self.invariant.named (vec_capacity c.self.inside.parts - vec_len c.self.inside.parts) c.self.inside.calls c.self.inside.made c.args.tid c.end.result c.end.ensures.value)

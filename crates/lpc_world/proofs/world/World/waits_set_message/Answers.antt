@@ -3,7 +3,7 @@ use Rattle.lpc_base.specs.Rows.{change}
 use Rattle.lpc_model.specs.World.{World}
 use Rattle.lpc_model.specs.Found.{waits_as}
 use Rattle.lpc_world.specs.Kept.{rows_by}
-use Rattle.lpc_world.specs.Shown.{with_message}
+use Rattle.lpc_world.specs.Shown.{with_message, tables_of}
 use Rattle.lpc_model.specs.Message.{message_of}
 use Rattle.lpc_world.proofs.Changes as changes
 use Rattle.lpc_world.proofs.Rooms as rooms
@@ -11,13 +11,13 @@ use Rattle.lpc_world.proofs.Steps as steps
 use Rattle.lpc_world.proofs.world.World.waits_set_message.Goals as goal
 
 pub set_message-requires-clause-waits : goal.set_message-requires-clause-waits
-set_message-requires-clause-waits c = steps.some_wait c.self.inside.procs c.self.inside.parts.items c.self.inside.ports c.self.inside.waits c.self.inside.calls c.self.inside.made c.self.invariant c.args.tid (rw (← c.self.view_is) at c.requires.waits)
+set_message-requires-clause-waits c = steps.some_wait (tables_of c.self.inside.procs c.self.inside.parts.items c.self.inside.ports c.self.inside.waits c.self.inside.names) c.self.inside.calls c.self.inside.made c.self.invariant c.args.tid (rw (← c.self.view_is) at c.requires.waits)
 
 pub invariant_of-self : goal.invariant_of-self
-invariant_of-self c = rw c.set_message.ensures.table (steps.kept_message c.self.inside.procs c.self.inside.parts.items c.self.inside.ports c.self.inside.waits c.self.inside.calls c.self.inside.made c.self.invariant c.args.tid c.args.bytes.now)
+invariant_of-self c = rw c.set_message.ensures.table (steps.kept_message (tables_of c.self.inside.procs c.self.inside.parts.items c.self.inside.ports c.self.inside.waits c.self.inside.names) c.self.inside.calls c.self.inside.made c.self.invariant c.args.tid c.args.bytes.now)
 
 pub returns-clause-rows : goal.returns-clause-rows
-returns-clause-rows c = rw (← c.self.view_is, c.set_message.ensures.table) (changes.keeps_message c.self.inside.procs c.self.inside.parts.items c.self.inside.ports c.self.inside.waits c.self.invariant.named c.args.tid c.args.bytes.now)
+returns-clause-rows c = rw (← c.self.view_is, c.set_message.ensures.table) (changes.keeps_message (tables_of c.self.inside.procs c.self.inside.parts.items c.self.inside.ports c.self.inside.waits c.self.inside.names) c.self.invariant.named c.args.tid c.args.bytes.now)
 
 pub returns-clause-room : goal.returns-clause-room
-returns-clause-room c = rw (← c.self.view_is, c.set_message.ensures.table, ap (λ (v : World). v.waits) (changes.keeps_message c.self.inside.procs c.self.inside.parts.items c.self.inside.ports c.self.inside.waits c.self.invariant.named c.args.tid c.args.bytes.now)) (rooms.room_keep _ _ _ _ _ (rows_by c.self.inside.procs c.self.inside.parts.items c.self.inside.ports c.self.inside.waits) _ (change (waits_as c.args.tid) (with_message (message_of c.args.bytes.now)) (rows_by c.self.inside.procs c.self.inside.parts.items c.self.inside.ports c.self.inside.waits).waits) (changes.length-message c.args.tid c.args.bytes.now (rows_by c.self.inside.procs c.self.inside.parts.items c.self.inside.ports c.self.inside.waits).waits) (changes.count-message c.args.tid c.args.bytes.now (rows_by c.self.inside.procs c.self.inside.parts.items c.self.inside.ports c.self.inside.waits).waits))
+returns-clause-room c = rw (← c.self.view_is, c.set_message.ensures.table, ap (λ (v : World). v.waits) (changes.keeps_message (tables_of c.self.inside.procs c.self.inside.parts.items c.self.inside.ports c.self.inside.waits c.self.inside.names) c.self.invariant.named c.args.tid c.args.bytes.now)) (rooms.room_keep _ _ _ _ _ _ (rows_by (tables_of c.self.inside.procs c.self.inside.parts.items c.self.inside.ports c.self.inside.waits c.self.inside.names)) _ (change (waits_as c.args.tid) (with_message (message_of c.args.bytes.now)) (rows_by (tables_of c.self.inside.procs c.self.inside.parts.items c.self.inside.ports c.self.inside.waits c.self.inside.names)).waits) (changes.length-message c.args.tid c.args.bytes.now (rows_by (tables_of c.self.inside.procs c.self.inside.parts.items c.self.inside.ports c.self.inside.waits c.self.inside.names)).waits) (changes.count-message c.args.tid c.args.bytes.now (rows_by (tables_of c.self.inside.procs c.self.inside.parts.items c.self.inside.ports c.self.inside.waits c.self.inside.names)).waits))

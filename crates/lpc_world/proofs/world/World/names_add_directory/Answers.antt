@@ -1,0 +1,11 @@
+use Rattle.lpc_names.specs.declared.names.Found.TheVariants.{Directory, Item}
+use Rattle.lpc_names.specs.Walk.{Stands}
+use Rattle.lpc_world.specs.Shown.{tables_of}
+use Rattle.lpc_world.proofs.Bound as bound
+use Rattle.lpc_world.proofs.world.World.names_add_directory.Goals as goal
+
+pub returns-clause-bound : goal.returns-clause-bound
+returns-clause-bound c = rw (← c.self.view_is) (bound.bound_clause (tables_of c.self.inside.procs c.self.inside.parts.items c.self.inside.ports c.self.inside.waits c.self.inside.names) c.self.invariant.named c.add_directory.new.self c.args.path.now (Stands Directory) c.add_directory.result c.add_directory.ensures.bound)
+
+pub returns-clause-refused : goal.returns-clause-refused
+returns-clause-refused c = rw (← c.self.view_is) (bound.refused_clause (tables_of c.self.inside.procs c.self.inside.parts.items c.self.inside.ports c.self.inside.waits c.self.inside.names) c.self.invariant.named c.add_directory.new.self c.args.path.now (Stands Directory) c.add_directory.result c.add_directory.ensures.refused)
