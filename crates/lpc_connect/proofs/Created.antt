@@ -1,19 +1,22 @@
 -- A port that is made: the steps as they are taken one by one, and the steps of the definition.
-use Rattle.std.proofs.Common.{◌≡◌, ℕ, List, [], ◌∷◌, ◌++◌, Option, Some, None, option_map, Ok, refl, ap, sym, ◌∙◌}
+use Rattle.std.proofs.Common.{◌≡◌, ℕ, List, [], ◌∷◌, ◌++◌, Option, Some, None, option_map, Result, Ok, Err, IfOk, IsOk, refl, ap, sym, ◌∙◌}
 use Rattle.lpc_base.specs.Rows.{first}
 use Rattle.lpc_base.specs.declared.birth.Birth.{Birth}
-use Rattle.lpc_base.specs.declared.port_kind.PortKind.TheVariants.{Unnamed}
+use Rattle.lpc_base.specs.declared.status.Status.{Status}
 use Rattle.lpc_base.specs.declared.status.TheConstants.{SUCCESS}
 use Rattle.lpc_model.specs.declared.entry.CallName.TheVariants.{NtCreatePort}
 use Rattle.lpc_model.specs.declared.entry.Entry.{Entry}
 use Rattle.lpc_model.specs.declared.entry.Entry.TheVariants.{Answer}
-use Rattle.lpc_model.specs.Basics.{AddsHandle, DrawsOrdinal, Makes, basic}
-use Rattle.lpc_model.specs.Connect.{create_steps, new_port, nt_create_port}
+use Rattle.lpc_model.specs.Basics.{AddsHandle, Basic, DrawsOrdinal, Tells, basic, entries_of, world_after}
+use Rattle.lpc_model.specs.Connect.{create_steps, making, named_steps, nt_create_port, unnamed_steps}
 use Rattle.lpc_model.specs.Fields.{h}
 use Rattle.lpc_model.specs.Found.{free_handle, is_thread, port_name}
 use Rattle.lpc_model.specs.Machine.{Stepped, settled}
+use Rattle.lpc_model.specs.Named.{free_name}
+use Rattle.lpc_model.specs.Refusal.{◌>>=◌}
 use Rattle.lpc_model.specs.Tests.{PORT_ACCESS, handle_row, handles_test, next_birth}
-use Rattle.lpc_model.specs.World.{ThreadRow, World}
+use Rattle.lpc_model.specs.World.{Path, ThreadRow, World}
+use Rattle.lpc_model.proofs.SoundQueues.{after-append}
 use Rattle.lpc_world.specs.Does.{left_by}
 
 -- the birth that a thread draws is its next
@@ -24,26 +27,63 @@ drawn-birth w t b row drawn = ap (else_next t) (sym drawn ∙ ap (λ o. option_m
     else_next t (Some b) = b
     else_next t None = next_birth t
 
-pub created : (w drawn made given : World) (es list : List Entry) (t : ThreadRow) (b : Birth) (value : ℕ) (name : Birth)
-    → b ≡ next_birth t
-    → drawn ≡ basic w (DrawsOrdinal t.number)
-    → made ≡ basic drawn (Makes (new_port b Unnamed))
-    → value ≡ free_handle made t.process
-    → name ≡ b
-    → given ≡ basic made (AddsHandle t.process (handle_row value (port_name name) PORT_ACCESS))
-    → list ≡ es ++ Answer t.number NtCreatePort SUCCESS (h value ∷ []) ∷ []
-    → let end : Stepped = record { world = given; entries = list } in end ≡ left_by w es (create_steps t (next_birth t) (free_handle w t.process))
-created w drawn made given es list t b value name birth draw make least named give told =
-    let made_is : made ≡ basic (basic w (DrawsOrdinal t.number)) (Makes (new_port b Unnamed)) = make ∙ ap (λ (v : World). basic v (Makes (new_port b Unnamed))) draw in
-    let value_is : value ≡ free_handle w t.process = least ∙ ap (λ (v : World). free_handle v t.process) made_is in
-    let given_is : given ≡ basic (basic (basic w (DrawsOrdinal t.number)) (Makes (new_port b Unnamed))) (AddsHandle t.process (handle_row value (port_name b) PORT_ACCESS)) =
-    give ∙ ap (λ (v : World). basic v (AddsHandle t.process (handle_row value (port_name name) PORT_ACCESS))) made_is
-    ∙ ap (λ (n : Birth). basic (basic (basic w (DrawsOrdinal t.number)) (Makes (new_port b Unnamed))) (AddsHandle t.process (handle_row value (port_name n) PORT_ACCESS))) named in
-    (λ i. record { world = given_is i; entries = told i })
-    ∙ ap (λ (v : ℕ). left_by w es (create_steps t b v)) value_is
-    ∙ ap (λ (n : Birth). left_by w es (create_steps t n (free_handle w t.process))) birth
+module _ (w : World) (es : List Entry) (t : ThreadRow) where
+  abbrev drawn : World
+  drawn = basic w (DrawsOrdinal t.number)
 
--- where the test passes, the call's steps are those of a port that is made
-pub creates : (w : World) (t : ThreadRow) (es : List Entry) → handles_test w t.process 1 ≡ Ok _ → left_by w es (settled t NtCreatePort (nt_create_port w t)) ≡ left_by w es (create_steps t (next_birth t) (free_handle w t.process))
-unfolding nt_create_port
-creates w t es passes = rw (passes) refl
+  abbrev own : Basic
+  own = AddsHandle t.process (handle_row (free_handle w t.process) (port_name (next_birth t)) PORT_ACCESS)
+
+  -- the steps leave the handles as they are and tell nothing, and then the handle is given
+  module _ (made given : World) (list : List Entry) (value : ℕ) (name : Birth)
+      (least : value ≡ free_handle made t.process) (named : name ≡ next_birth t)
+      (give : given ≡ basic made (AddsHandle t.process (handle_row value (port_name name) PORT_ACCESS)))
+      (told : list ≡ es ++ Answer t.number NtCreatePort SUCCESS (h value ∷ []) ∷ []) where
+    abbrev End : Stepped
+    End = record { world = given; entries = list }
+
+    created_by : (steps : List Basic) → made ≡ world_after drawn steps → free_handle (world_after drawn steps) t.process ≡ free_handle w t.process → entries_of (steps ++ own ∷ []) ≡ []
+        → End ≡ left_by w es (create_steps t steps (free_handle w t.process))
+    created_by steps made_is same silent =
+        let value_is : value ≡ free_handle w t.process = least ∙ ap (λ (v : World). free_handle v t.process) made_is ∙ same in
+        let given_is : given ≡ world_after drawn (steps ++ own ∷ []) =
+        give ∙ ap (λ (v : World). basic v (AddsHandle t.process (handle_row value (port_name name) PORT_ACCESS))) made_is
+        ∙ ap (λ (n : ℕ). basic (world_after drawn steps) (AddsHandle t.process (handle_row n (port_name name) PORT_ACCESS))) value_is
+        ∙ ap (λ (b : Birth). basic (world_after drawn steps) (AddsHandle t.process (handle_row (free_handle w t.process) (port_name b) PORT_ACCESS))) named
+        ∙ sym (after-append drawn steps (own ∷ [])) in
+        let told_is : list ≡ es ++ Answer t.number NtCreatePort SUCCESS (h (free_handle w t.process) ∷ []) ∷ entries_of (steps ++ own ∷ []) =
+        told ∙ ap (λ (n : ℕ). es ++ Answer t.number NtCreatePort SUCCESS (h n ∷ []) ∷ []) value_is
+        ∙ ap (λ (xs : List Entry). es ++ Answer t.number NtCreatePort SUCCESS (h (free_handle w t.process) ∷ []) ∷ xs) (sym silent) in
+        λ i. record { world = given_is i; entries = told_is i }
+
+    abbrev Makes : List Basic → Type 0
+    Makes steps = made ≡ world_after drawn steps
+
+    abbrev Leaves : List Basic → Type 0
+    Leaves steps = End ≡ left_by w es (create_steps t steps (free_handle w t.process))
+
+    named_by : (r : Result Path Status) → IfOk (r >>= (λ path. Ok (named_steps (next_birth t) path))) Makes → IfOk (r >>= (λ path. Ok (named_steps (next_birth t) path))) Leaves
+    named_by (Err s) makes = tt
+    named_by (Ok path) makes = created_by (named_steps (next_birth t) path) makes refl refl
+
+    created_as : (o : Option (List ℕ)) → IfOk (making w (next_birth t) o) Makes → IfOk (making w (next_birth t) o) Leaves
+    created_as None makes = created_by (unnamed_steps (next_birth t)) makes refl refl
+    created_as (Some text) makes = named_by (free_name w text) makes
+
+    pub created : (drew : World) (b : Birth) (o : Option (List ℕ)) → b ≡ next_birth t → drew ≡ drawn → IfOk (making drew b o) (λ steps. made ≡ world_after drew steps) → IfOk (making w (next_birth t) o) Leaves
+    created drew b o birth draw makes = created_as o (rw (birth, draw) at makes)
+
+-- where the tests pass, the call's steps are those of a port that is made
+module _ (w : World) (t : ThreadRow) (es : List Entry) (end : Stepped) where
+  abbrev Creates : List Basic → Type 0
+  Creates made = end ≡ left_by w es (create_steps t made (free_handle w t.process))
+
+  creates_by : (r : Result (List Basic) Status) (q : Result Unit Status) → IsOk r → IsOk q → IfOk r Creates
+      → end ≡ left_by w es (settled t NtCreatePort (r >>= (λ made. q >>= (λ _. Ok (create_steps t made (free_handle w t.process))))))
+  creates_by (Ok made) (Ok u) free few creates = creates
+  creates_by (Ok made) (Err s) free few creates = absurd (cc)
+  creates_by (Err s) q free few creates = absurd (cc)
+
+  pub creates : (o : Option (List ℕ)) → IsOk (making w (next_birth t) o) → IsOk (handles_test w t.process 1) → IfOk (making w (next_birth t) o) Creates → end ≡ left_by w es (settled t NtCreatePort (nt_create_port w t o))
+  unfolding nt_create_port
+  creates o free few does = creates_by (making w (next_birth t) o) (handles_test w t.process 1) free few does

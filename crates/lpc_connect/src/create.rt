@@ -1,40 +1,105 @@
 // The call that makes a port.
-ghost use Rattle.std.specs.Prelude.{◌≡◌, ◌≤◌, ◌<◌, ◌+◌, ◌*◌, Some, IfOk, OnOk, OnErr, length, true};
+ghost use Rattle.std.specs.Prelude.{ℕ, ◌≡◌, ◌≤◌, ◌<◌, ◌+◌, ◌*◌, Ok, Err, None, Some, IfErr, IfOk, IsOk, OnOk, OnErr, is_some, length, option_copied, true};
 ghost use Rattle.lpc_base.specs.Rows.{first, has};
-ghost use Rattle.lpc_model.specs.Basics.{outcome_of};
+ghost use Rattle.lpc_model.specs.Basics.{outcome_of, world_after};
 ghost use Rattle.lpc_model.specs.Connect as connect;
-ghost use Rattle.lpc_model.specs.declared.entry.CallName.TheVariants as name;
-ghost use Rattle.lpc_model.specs.Found.{free_handle, handles_of, is_table, is_thread};
+ghost use Rattle.lpc_model.specs.declared.entry.CallName.TheVariants as call;
+ghost use Rattle.lpc_model.specs.Found.{free_handle, handles_of, is_table, is_thread, port_row};
 ghost use Rattle.lpc_model.specs.Machine.{settled};
+ghost use Rattle.lpc_model.specs.Named.{free_name};
+ghost use Rattle.lpc_model.specs.Tests as tests;
 ghost use Rattle.lpc_model.specs.Tests.{next_birth};
 ghost use Rattle.lpc_world.specs.Does.{Takes};
 ghost use Rattle.lpc_world.specs.Kept.{Same, handle_room};
+ghost use Rattle.lpc_world.specs.Lawful.{drew};
+ghost use Rattle.lpc_world.specs.Names.{name_of, stands};
 ghost use Rattle.lpc_world.specs.Ready.{caller, is_ready};
 ghost use Rattle.lpc_world.specs.Shown.{shown_thread};
 
 use lpc_base::status::SUCCESS;
-use lpc_base::{OutOfMemory, PortKind};
+use lpc_base::{Birth, OutOfMemory, PortKind, Status};
 use lpc_model::{CallName, Entries, Entry, Outcome};
 use lpc_procs::ThreadRow;
+use lpc_slots::Key;
 use lpc_world::{Object, World, handle_field, refuse};
 
 /// The rights of a handle that a call makes to a port.
 const PORT_ACCESS: u32 = 0x001F_0001;
 
+/// Why a thread's process gets no port of that name, or without one.
+#[tactic(auto, unfolding(lpc_model::specs::Connect::nt_create_port))]
+fn create_test(world: &World, by: &ThreadRow, name: Option<&[u8]>) -> Result<(), Status>
+    requires table { has (is_table by.now.process) world.now.rows.handles ≡ true }
+    ensures refused { IfErr result (λ status. connect.nt_create_port world.now.rows (shown_thread by.now) (option_copied name.entry) ≡ Err status) }
+    ensures name { OnOk result (IsOk (connect.making world.now.rows (next_birth (shown_thread by.now)) (option_copied name.entry))) }
+    ensures handles { OnOk result (IsOk (tests.handles_test world.now.rows by.now.process 1)) }
+    ensures few { OnOk result (length (handles_of world.now.rows by.now.process) < 256) }
+{
+    if let Some(path) = name {
+        world.name_test(path)?;
+    }
+    world.handles_test(by.process)
+}
+
+/// Makes a connection port that a path names, and answers its key.
+fn make_named(world: &mut World, path: &[u8], birth: Birth) -> Key
+    requires ports { 0 < world.old.room.ports }
+    requires names { 0 < world.old.room.names }
+    requires budget { world.old.made < 16 * world.old.calls }
+    requires fresh { port_row world.old.rows birth ≡ None }
+    requires drawn { has (drew birth) world.old.rows.threads ≡ true }
+    requires free { IsOk (free_name world.old.rows path.now) }
+    ensures rows { IfOk (free_name world.old.rows path.now) (λ place. world.new.rows ≡ world_after world.old.rows (connect.named_steps birth place)) }
+    ensures name { name_of world.new.names.ports result ≡ birth }
+    ensures stands { stands world.new.names.ports result ≡ true }
+    ensures calls { world.new.calls ≡ world.old.calls }
+    ensures made { world.new.made ≡ world.old.made + 1 }
+    ensures handles { (pid : ℕ) → handle_room world.old.room pid ≤ handle_room world.new.room pid }
+{
+    let port = world.ports_add(PortKind::Connection, birth, None);
+    match world.names_bind(path, port) {
+        Ok(()) => port,
+        Err(_) => unreachable!(),
+    }
+}
+
+/// Makes a port, with or without a name, and answers its key.
+fn make(world: &mut World, name: Option<&[u8]>, birth: Birth) -> Key
+    requires ports { 0 < world.old.room.ports }
+    requires names { is_some name ≡ true → 0 < world.old.room.names }
+    requires budget { world.old.made < 16 * world.old.calls }
+    requires fresh { port_row world.old.rows birth ≡ None }
+    requires drawn { has (drew birth) world.old.rows.threads ≡ true }
+    requires free { IsOk (connect.making world.old.rows birth (option_copied name)) }
+    ensures rows { IfOk (connect.making world.old.rows birth (option_copied name.entry)) (λ made. world.new.rows ≡ world_after world.old.rows made) }
+    ensures name { name_of world.new.names.ports result ≡ birth }
+    ensures stands { stands world.new.names.ports result ≡ true }
+    ensures calls { world.new.calls ≡ world.old.calls }
+    ensures made { world.new.made ≡ world.old.made + 1 }
+    ensures handles { (pid : ℕ) → handle_room world.old.room pid ≤ handle_room world.new.room pid }
+{
+    match name {
+        None => world.ports_add(PortKind::Unnamed, birth, None),
+        Some(path) => make_named(world, path, birth),
+    }
+}
+
 /// A port is made, with a handle to it.
-fn create(world: &mut World, by: &ThreadRow, out: &mut Entries)
+fn create(world: &mut World, by: &ThreadRow, name: Option<&[u8]>, out: &mut Entries)
     requires spare { 1 ≤ out.old.spare }
     requires ports { 0 < world.old.room.ports }
+    requires names { is_some name ≡ true → 0 < world.old.room.names }
     requires handles { 0 < handle_room world.old.room by.now.process }
     requires budget { world.old.made + 16 ≤ 16 * world.old.calls }
     requires thread { first (is_thread by.now.number) world.old.rows.threads ≡ Some (shown_thread by.now) }
     requires table { has (is_table by.now.process) world.old.rows.handles ≡ true }
     requires few { length (handles_of world.old.rows by.now.process) < 256 }
-    ensures takes { Takes (connect.create_steps (shown_thread by.now) (next_birth (shown_thread by.now)) (free_handle world.old.rows by.now.process)) world.old world.new out.old out.new }
+    requires free { IsOk (connect.making world.old.rows (next_birth (shown_thread by.now)) (option_copied name)) }
+    ensures takes { IfOk (connect.making world.old.rows (next_birth (shown_thread by.now)) (option_copied name.entry)) (λ made. Takes (connect.create_steps (shown_thread by.now) made (free_handle world.old.rows by.now.process)) world.old world.new out.old out.new) }
     ensures calls { world.new.calls ≡ world.old.calls }
 {
     let birth = world.procs_draw_birth(by.number);
-    let port = world.ports_add(PortKind::Unnamed, birth, None);
+    let port = make(world, name, birth);
     let value = world.give_handle(by.process, Object::Port(port), PORT_ACCESS);
     out.push(Entry::Answer {
         tid: by.number,
@@ -44,28 +109,36 @@ fn create(world: &mut World, by: &ThreadRow, out: &mut Entries)
     });
 }
 
-/// `NtCreatePort` without a name: makes a port for the threads of the caller's process.
+/// `NtCreatePort`: makes a port, with a handle for the caller's process. With a name it is a connection port, which the
+/// path of that name leads to from then on; without one it is a port for the threads of the caller's process.
 ///
-/// Refusal: QUOTA_EXCEEDED where the process has 256 handles. After want of memory nothing has changed.
+/// Refusals, in this order: the fault of the name, or OBJECT_NAME_COLLISION where something stands there; QUOTA_EXCEEDED
+/// where the process has 256 handles. After want of memory nothing has changed.
 #[tactic(auto, unfolding(lpc_model::specs::Connect::nt_create_port))]
-pub fn nt_create_port(world: &mut World, by: u32, out: &mut Entries) -> Result<Outcome, OutOfMemory>
+pub fn nt_create_port(
+    world: &mut World,
+    by: u32,
+    name: Option<&[u8]>,
+    out: &mut Entries,
+) -> Result<Outcome, OutOfMemory>
     requires ready { is_ready world.old.rows by ≡ true }
     requires spare { 2 ≤ out.old.spare }
     requires calls { world.old.calls < 1000000 }
-    ensures takes { OnOk result (Takes (settled (caller world.old.rows by) name.NtCreatePort (connect.nt_create_port world.old.rows (caller world.old.rows by))) world.old world.new out.old out.new) }
-    ensures outcome { IfOk result (λ o. o ≡ outcome_of (settled (caller world.old.rows by) name.NtCreatePort (connect.nt_create_port world.old.rows (caller world.old.rows by)))) }
+    ensures takes { OnOk result (Takes (settled (caller world.old.rows by) call.NtCreatePort (connect.nt_create_port world.old.rows (caller world.old.rows by) (option_copied name.entry))) world.old world.new out.old out.new) }
+    ensures outcome { IfOk result (λ o. o ≡ outcome_of (settled (caller world.old.rows by) call.NtCreatePort (connect.nt_create_port world.old.rows (caller world.old.rows by) (option_copied name.entry)))) }
     ensures calls { OnOk result (world.new.calls ≡ world.old.calls + 1) }
     ensures memory { OnErr result (Same world.old world.new) }
     ensures silent { OnErr result (out.new ≡ out.old) }
 {
     let caller = world.caller(by);
-    if let Err(status) = world.handles_test(caller.process) {
+    if let Err(status) = create_test(world, &caller, name) {
         world.begin_call();
         return Ok(refuse(caller.number, CallName::NtCreatePort, status, out));
     }
     world.ports_reserve(1, 0)?;
     world.handles_reserve(caller.process, 1)?;
+    world.names_reserve(usize::from(name.is_some()))?;
     world.begin_call();
-    create(world, &caller, out);
+    create(world, &caller, name, out);
     Ok(Outcome::Answered(SUCCESS))
 }

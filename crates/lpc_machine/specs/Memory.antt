@@ -1,10 +1,10 @@
 -- Which lines may need memory.
 use Rattle.std.specs.Prelude.{Bool, true, false}
-use Rattle.lpc_model.specs.Lines.{ScriptCall, ScriptLine, boot, thread, run, create_port, request_port}
+use Rattle.lpc_model.specs.Lines.{ScriptCall, ScriptLine, boot, thread, dir, link, run, create_port, request_port}
 
 -- the calls whose step may take memory: they make a port, or a message that no thread waits with
 abbrev pub call_takes_memory : ScriptCall → Bool
-call_takes_memory create_port = true
+call_takes_memory (create_port name) = true
 call_takes_memory (request_port handle message) = true
 call_takes_memory call = false
 
@@ -12,4 +12,6 @@ call_takes_memory call = false
 abbrev pub takes_memory : ScriptLine → Bool
 takes_memory (boot pid tid) = true
 takes_memory (thread tid pid) = true
+takes_memory (dir path) = true
+takes_memory (link path target) = true
 takes_memory (run tid call) = call_takes_memory call

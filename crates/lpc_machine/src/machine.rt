@@ -64,8 +64,8 @@ fn serve(world: &mut World, by: u32, call: &Call<'_>, out: &mut Entries) -> Resu
     ensures free { call_takes_memory (call_of call.now) ≡ false → IsOk result }
 {
     match call {
-        Call::CreatePort => {
-            nt_create_port(world, by, out)?;
+        Call::CreatePort { name } => {
+            nt_create_port(world, by, *name, out)?;
         }
         Call::RequestPort { handle, message } => {
             nt_request_port(world, by, *handle, message, out)?;
@@ -127,6 +127,16 @@ fn take(world: &mut World, line: &Line<'_>, out: &mut Entries) -> Result<(), Out
             tell(Word::Thread, status, out);
             Ok(())
         }
+        Line::Dir(path) => {
+            let status = world.directory(path)?;
+            tell(Word::Dir, status, out);
+            Ok(())
+        }
+        Line::Link { path, target } => {
+            let status = world.link(path, target)?;
+            tell(Word::Link, status, out);
+            Ok(())
+        }
         Line::Run { tid, call } => run(world, *tid, call, out),
     }
 }
@@ -167,8 +177,8 @@ impl Machine {
     /// One line's step: its entries are added to `out`, which is empty and has room for [`Machine::room_needed`] more.
     /// The line's process and thread numbers are from 1 to 2147483647.
     ///
-    /// After want of memory nothing has changed. Only `boot`, `thread`, `NtCreatePort` and `NtRequestPort` take memory;
-    /// every other line is answered.
+    /// After want of memory nothing has changed. Only directives, `NtCreatePort` and `NtRequestPort` take memory; every other
+    /// line is answered.
     pub fn step(&mut self, line: &Line<'_>, out: &mut Entries) -> Result<(), OutOfMemory>
         requires empty { out.old.list ≡ [] }
         requires spare { room_needed self.old.rows ≤ out.old.spare }

@@ -80,7 +80,7 @@ fn a_request_is_received_by_another_thread(rt: HostRuntime) -> Result<(), Fail> 
         &mut out,
         &Line::Run {
             tid: 24,
-            call: Call::CreatePort,
+            call: Call::CreatePort { name: None },
         },
         Entry::Answer {
             tid: 24,

@@ -23,7 +23,7 @@ use Rattle.lpc_model.specs.Basics.{Basic, Tells, entries_of, world_after}
 use Rattle.lpc_model.specs.Fields.{receipt}
 use Rattle.lpc_model.specs.Tests.{PORT_RIGHT, client_test, includes, is_client, object_test, own_handle, port_test}
 use Rattle.lpc_model.specs.Request.{answered_test, given_reply, is_spent, nt_reply_port, nt_reply_wait_receive_port, optional_message, receive_steps, receive_test, reply_steps}
-use Rattle.lpc_model.specs.Lines.{ScriptCall, ScriptLine, boot, create_port, reply_port, reply_wait_receive_port, request_port, request_wait_reply_port, run, thread}
+use Rattle.lpc_model.specs.Lines.{ScriptCall, ScriptLine, boot, create_port, dir, link, reply_port, reply_wait_receive_port, request_port, request_wait_reply_port, run, thread}
 use Rattle.lpc_model.specs.Machine.{name_of, ready_steps, service_of, settled, step, steps, thread_steps}
 use Rattle.lpc_model.specs.Run.{Along}
 use Rattle.lpc_model.specs.Replies.{ChangesNothing, IsRefused, MisfitsAreRefused, RefusedRepliesChangeNothing, Reply, fitted_wait, is_refusal, message_in, port_of, reply_of}
@@ -175,11 +175,13 @@ each_reply P h (run tid (reply_wait_receive_port handle (Some bytes))) r is =
     let same : q ≡ r = cc in
     subst (P (run tid (reply_wait_receive_port handle (Some bytes)))) same (h q true)
 each_reply P h (run tid (reply_wait_receive_port handle None)) r is = absurd (cc)
-each_reply P h (run tid create_port) r is = absurd (cc)
+each_reply P h (run tid (create_port name)) r is = absurd (cc)
 each_reply P h (run tid (request_port handle bytes)) r is = absurd (cc)
 each_reply P h (run tid (request_wait_reply_port handle bytes)) r is = absurd (cc)
 each_reply P h (boot pid tid) r is = absurd (cc)
 each_reply P h (thread tid pid) r is = absurd (cc)
+each_reply P h (dir path) r is = absurd (cc)
+each_reply P h (link path target) r is = absurd (cc)
 
 one_refused : (w : World) (line : ScriptLine) (tid : ℕ) → OneRefusal tid (steps line w) → IsRefused tid (step w line).entries
 one_refused w line tid one = record { own = one.0; others = []; refusal = one.1; told = ap entries_of one.2 }

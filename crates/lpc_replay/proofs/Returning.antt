@@ -24,11 +24,12 @@ use Rattle.lpc_model.specs.Message.{as_reply, asks, bytes_of, message_test}
 use Rattle.lpc_model.specs.Basics.{Awaits, Basic, Receives, Tells, Wakes, basic, entries_of, told, world_after}
 use Rattle.lpc_model.specs.Fields.{msg, receipt}
 use Rattle.lpc_model.specs.Entering.{enter, row_of, take_steps, takes, woken}
-use Rattle.lpc_model.specs.Tests.{PORT_RIGHT, client_test, handles_test, includes, object_test, own_handle, port_test}
-use Rattle.lpc_model.specs.Connect.{nt_create_port}
+use Rattle.lpc_model.specs.Tests.{PORT_RIGHT, client_test, handles_test, includes, next_birth, object_test, own_handle, port_test}
+use Rattle.lpc_model.specs.Connect.{making, nt_create_port}
+use Rattle.lpc_model.specs.Named.{free_name, spelled_name}
 use Rattle.lpc_model.specs.Request.{answered_test, datagram_send_test, datagram_start, given_reply, nt_reply_port, nt_reply_wait_receive_port, nt_request_port, nt_request_wait_reply_port, optional_message, receive_steps, receive_test, receive_wait, reply, request_start, send_test, sent_by}
-use Rattle.lpc_model.specs.Lines.{ScriptCall, ScriptLine, boot, create_port, reply_port, reply_wait_receive_port, request_port, request_wait_reply_port, run, thread}
-use Rattle.lpc_model.specs.Machine.{boot_line, name_of, ready_steps, service_of, step, steps, thread_line, thread_test, thread_steps, unused_test}
+use Rattle.lpc_model.specs.Lines.{ScriptCall, ScriptLine, boot, create_port, dir, link, reply_port, reply_wait_receive_port, request_port, request_wait_reply_port, run, thread}
+use Rattle.lpc_model.specs.Machine.{boot_line, dir_line, link_line, name_of, ready_steps, service_of, step, steps, thread_line, thread_test, thread_steps, unused_test}
 use Rattle.lpc_model.specs.Run.{Along}
 use Rattle.lpc_model.specs.Replies.{HasReply, IsReturnedBy, Reply, RequestsReturnByReply, message_in, port_of, reply_of}
 use Rattle.lpc_model.proofs.Holding.{Holds, bind_holds, directed_holds, found_holds, found_ok, holds_ok, not_refused, settled_holds}
@@ -174,9 +175,16 @@ returned_fair w line r by port m is_reply live at is =
     })))
 
 -- the services
-create_fair : (w : World) (line : ScriptLine) (by : ThreadRow) → Holds (AreFair w line) (nt_create_port w by)
+making_fair : (w : World) (line : ScriptLine) (port : Birth) (name : Option (List ℕ)) → Holds (AreFair w line) (making w port name)
+making_fair w line port None = (tt, tt)
+making_fair w line port (Some text) = bind_holds (free_name w text) _ (AreFair w line) (λ _ _. (tt, (tt, tt)))
+
+create_fair : (w : World) (line : ScriptLine) (by : ThreadRow) (name : Option (List ℕ)) → Holds (AreFair w line) (nt_create_port w by name)
 unfolding nt_create_port
-create_fair w line by = bind_holds (handles_test w by.process 1) _ (AreFair w line) (λ _ _. (tt, (tt, (tt, (tt, tt)))))
+create_fair w line by name =
+    bind_holds (making w (next_birth by) name) _ (AreFair w line) (λ made at. bind_holds (handles_test w by.process 1) _ (AreFair w line) (λ _ _.
+    let fair = holds_ok (AreFair w line) (making w (next_birth by) name) made (making_fair w line (next_birth by) name) at in
+    (tt, (tt, all_append (IsFair w line) made _ fair (tt, tt)))))
 
 -- some steps, and then a message that enters its queue
 sent_fair : (w : World) (line : ScriptLine) (m : MessageRow) (start : List Basic) → HaveTheirCalls w → AreFair w line start → AreFair w line (start ++ enter m (world_after w start))
@@ -236,7 +244,7 @@ wait_fair w tid by handle bytes live =
     (holds_ok P (given_reply w port o) bs (given_reply_fair w tid by handle bytes port o live at is) made)))))
 
 service_fair : (w : World) (tid : ℕ) (by : ThreadRow) (name : ScriptCall) → live_thread w tid ≡ Some by → HaveTheirCalls w → Holds (AreFair w (run tid name)) (service_of w by name)
-service_fair w tid by create_port live h = create_fair w _ by
+service_fair w tid by (create_port text) live h = create_fair w _ by text
 service_fair w tid by (request_port handle bytes) live h = datagram_fair w _ by handle bytes h
 service_fair w tid by (request_wait_reply_port handle bytes) live h = request_fair w _ by handle bytes h
 service_fair w tid by (reply_port handle bytes) live h = reply_fair w tid by handle bytes live
@@ -262,10 +270,23 @@ unfolding thread_line
 further_fair w line tid pid =
     bind_holds (thread_test w tid pid) _ (λ bs. AreFair w line (Tells (entry.Directive word.Thread SUCCESS) ∷ bs)) (λ _ _. (tt, (tt, tt)))
 
+dir_fair : (w : World) (line : ScriptLine) (path : List ℕ) → Holds (λ bs. AreFair w line (Tells (entry.Directive word.Dir SUCCESS) ∷ bs)) (dir_line w path)
+unfolding dir_line
+dir_fair w line path =
+    bind_holds (free_name w path) _ (λ bs. AreFair w line (Tells (entry.Directive word.Dir SUCCESS) ∷ bs)) (λ _ _. (tt, (tt, tt)))
+
+link_fair : (w : World) (line : ScriptLine) (path target : List ℕ) → Holds (λ bs. AreFair w line (Tells (entry.Directive word.Link SUCCESS) ∷ bs)) (link_line w path target)
+unfolding link_line
+link_fair w line path target =
+    bind_holds (spelled_name target) _ (λ bs. AreFair w line (Tells (entry.Directive word.Link SUCCESS) ∷ bs)) (λ _ _.
+    bind_holds (free_name w path) _ (λ bs. AreFair w line (Tells (entry.Directive word.Link SUCCESS) ∷ bs)) (λ _ _. (tt, (tt, tt))))
+
 steps_fair : (w : World) (line : ScriptLine) → HaveTheirCalls w → AreFair w line (steps line w)
 unfolding steps
 steps_fair w (boot pid tid) h = directed_holds (AreFair w (boot pid tid)) word.Boot (boot_line w pid tid) (boot_fair w _ pid tid) (λ s. (tt, tt))
 steps_fair w (thread tid pid) h = directed_holds (AreFair w (thread tid pid)) word.Thread (thread_line w tid pid) (further_fair w _ tid pid) (λ s. (tt, tt))
+steps_fair w (dir path) h = directed_holds (AreFair w (dir path)) word.Dir (dir_line w path) (dir_fair w _ path) (λ s. (tt, tt))
+steps_fair w (link path target) h = directed_holds (AreFair w (link path target)) word.Link (link_line w path target) (link_fair w _ path target) (λ s. (tt, tt))
 steps_fair w (run tid name) h = thread_fair w tid name (live_thread w tid) refl h
 
 pub returns_along : (w : World) (lines : List (Option ScriptLine)) → HaveTheirCalls w → Along RequestsReturnByReply w lines

@@ -467,6 +467,40 @@ fn other_words_are_told_the_usage(rt: HostRuntime) -> Result<(), Fail> {
     )
 }
 
+#[test]
+fn a_port_is_bound_where_its_name_leads(rt: HostRuntime) -> Result<(), Fail> {
+    replayed(
+        &rt,
+        rt.alloc(),
+        &[
+            "dir \\Windows\nlink \\L \\Windows\nlink \\Q \\Q\nboot 20 24\n",
+            "24 NtCreatePort Windows\n24 NtCreatePort \\Windows\\\n24 NtCreatePort \\A\\B\n",
+            "24 NtCreatePort \\L\\P\n24 NtCreatePort \\Windows\\P\n24 NtCreatePort \\Q\\P\n",
+        ],
+        0,
+        &[
+            "1 - dir 00000000\n2 - link 00000000\n3 - link 00000000\n4 - boot 00000000\n",
+            "5 24 NtCreatePort c000003b\n6 24 NtCreatePort c0000033\n7 24 NtCreatePort c000003a\n",
+            "8 24 NtCreatePort 00000000 h=4\n9 24 NtCreatePort c0000035\n10 24 NtCreatePort c0000033\n",
+            "end 10 10 3\n",
+        ],
+    )
+}
+
+#[test]
+fn a_refused_directive_changes_nothing(rt: HostRuntime) -> Result<(), Fail> {
+    replayed(
+        &rt,
+        rt.alloc(),
+        &["dir x\nlink \\L L\nlink L \\\ndir \\\nlink \\L \\A\nlink \\L \\B\ndir \\L\ndir \\A\n"],
+        0,
+        &[
+            "1 - dir c000003b\n2 - link c000003b\n3 - link c000003b\n4 - dir c0000035\n",
+            "5 - link 00000000\n6 - link 00000000\n7 - dir 00000000\n8 - dir c0000035\nend 8 8 0\n",
+        ],
+    )
+}
+
 // The status and the text of a replay of a script, whose source gives a byte a call and fails the call of this number.
 fn broken_off(
     rt: &impl Abort,

@@ -73,7 +73,7 @@ fn port(rt: &impl Abort, world: &mut World, out: &mut Entries) -> Result<(), Fai
     let joined = world.thread(28, 20)?;
     assert_eq!(rt; joined, SUCCESS);
     begins(rt, world, 24, out)?;
-    let made = nt_create_port(world, 24, out)?;
+    let made = nt_create_port(world, 24, None, out)?;
     assert_eq!(rt; made, Outcome::Answered(SUCCESS));
     Ok(())
 }

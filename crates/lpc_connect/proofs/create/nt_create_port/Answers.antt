@@ -1,4 +1,5 @@
-use Rattle.std.proofs.Common.{◌≡◌, sym, ◌∙◌}
+use Rattle.std.proofs.Common.{◌≡◌, ◌∙◌}
+use Rattle.std.specs.Prelude.{option_copied}
 use Rattle.lpc_model.specs.World.{World}
 use Rattle.lpc_world.specs.Shown.{shown_thread}
 use Rattle.lpc_connect.proofs.Created.{creates}
@@ -7,6 +8,6 @@ use Rattle.lpc_connect.proofs.create.nt_create_port.Goals as goal
 pub returns-clause-takes : goal.returns-clause-takes
 returns-clause-takes c =
     let w : World = c.args.world.now.rows in
-    let same : c.begin_call-2.new.self.rows ≡ w = c.begin_call-2.ensures.rows ∙ c.handles_reserve.ensures.same.rows ∙ c.ports_reserve.ensures.same.rows in
+    let same : c.begin_call-2.new.self.rows ≡ w = c.begin_call-2.ensures.rows ∙ c.names_reserve.ensures.same.rows ∙ c.handles_reserve.ensures.same.rows ∙ c.ports_reserve.ensures.same.rows in
     let made = rw (same) at c.create.ensures.takes in
-    rw (← c.caller-caller.ensures.row) (made ∙ sym (creates w (shown_thread c.caller-caller.result) c.args.out.now.list (sym c.handles_test.ensures.full ∙ c.in_default.is)))
+    rw (← c.caller-caller.ensures.row) (creates w (shown_thread c.caller-caller.result) c.args.out.now.list (record { world = c.create.new.world.rows; entries = c.create.new.out.list }) (option_copied c.args.name) c.in_default.ensures.name c.in_default.ensures.handles made)
