@@ -1,11 +1,12 @@
 -- What contracts see of the waits: the rows in the order of waiting.
-use Rattle.std.specs.Prelude.{ℕ, ◌+◌, ◌-◌, ◌==◌, ◌&&◌, ◌++◌, ◌∷◌, Bool, true, false, List, [], Option, not}
+use Rattle.std.specs.Prelude.{ℕ, ◌+◌, ◌-◌, ◌==◌, ◌&&◌, ◌||◌, ◌++◌, ◌∷◌, Bool, true, false, List, [], Option, None, is_some, not}
 use Rattle.lpc_base.specs.Rows.{first, has}
 use Rattle.lpc_slots.specs.Table.{is_key}
 use Rattle.lpc_slots.specs.declared.Key.{Key}
+use Rattle.lpc_waits.specs.declared.Accepted.{Accepted}
 use Rattle.lpc_waits.specs.declared.Wait.{Wait}
 use Rattle.lpc_waits.specs.declared.WaitKind.{WaitKind}
-use Rattle.lpc_waits.specs.declared.WaitKind.TheVariants.{Request, Receive}
+use Rattle.lpc_waits.specs.declared.WaitKind.TheVariants.{Connect, Listen, Receive, Request}
 use Rattle.lpc_waits.specs.declared.WaitRow.{WaitRow}
 
 -- the rows, how many more go in without memory, and how many were ever made
@@ -31,15 +32,56 @@ are_apart (row ∷ rows) = not (has (is_of row.thread) rows) && are_apart rows
 abbrev pub is_receive : WaitKind → Bool
 is_receive Request = false
 is_receive Receive = true
+is_receive Listen = false
+is_receive Connect = false
 
--- a receive that waits on this queue
-abbrev pub is_receive_on : Key → WaitRow → Bool
-is_receive_on queue row = is_receive row.wait.kind && is_key row.wait.queue queue
+-- the wait is a listen
+abbrev pub is_listen : WaitKind → Bool
+is_listen Request = false
+is_listen Receive = false
+is_listen Listen = true
+is_listen Connect = false
 
--- a thread's wait begins, without a message: it takes one place of the spare room, and counts as made
+-- the wait is a request, and a connect
+abbrev pub is_request : WaitKind → Bool
+is_request Request = true
+is_request Receive = false
+is_request Listen = false
+is_request Connect = false
+
+abbrev pub is_connect : WaitKind → Bool
+is_connect Request = false
+is_connect Receive = false
+is_connect Listen = false
+is_connect Connect = true
+
+-- a connect of a process
+abbrev pub is_connect_of : ℕ → WaitRow → Bool
+is_connect_of process row = is_connect row.wait.kind && (row.wait.process == process)
+
+-- a wait takes what comes: a receive, and a listen where listens count
+abbrev pub takes : Bool → WaitKind → Bool
+takes with_listens kind = is_receive kind || (with_listens && is_listen kind)
+
+-- a wait that takes what comes into this queue
+abbrev pub is_taker_on : Key → Bool → WaitRow → Bool
+is_taker_on queue with_listens row = takes with_listens row.wait.kind && is_key row.wait.queue queue
+
+-- a wait was made on this port, or is on its queue
+abbrev pub is_wait_at : Key → WaitRow → Bool
+is_wait_at port row = is_key row.wait.port port || is_key row.wait.queue port
+
+-- a connect that was accepted, and one that was made on this port
+abbrev pub is_accepted : WaitRow → Bool
+is_accepted row = is_connect row.wait.kind && is_some row.accepted
+
+abbrev pub is_accepted_on : Key → WaitRow → Bool
+is_accepted_on port row = is_accepted row && is_key row.wait.port port
+
+-- a thread's wait begins, without a message and not accepted: it takes one place of the spare room, and counts as made
 abbrev pub begun : WaitTable → ℕ → Wait → WaitTable
 begun s tid wait = record {
-  rows = s.rows ++ (record { thread = tid; wait = wait; message = record { items = [] } }) ∷ [];
+  rows = s.rows ++ (record { thread = tid; wait = wait; message = record { items = [] }; accepted = None }) ∷ [];
   spare = s.spare - 1;
   made = s.made + 1;
 }
@@ -55,3 +97,7 @@ with_queue queue row = record row { wait = record row.wait { queue = queue } }
 -- a row with these bytes as its message
 abbrev pub with_message : List ℕ → WaitRow → WaitRow
 with_message bytes row = record row { message = record { items = bytes } }
+
+-- a row with what its connect was accepted with, or with nothing of it
+abbrev pub with_accepted : Option Accepted → WaitRow → WaitRow
+with_accepted accepted row = record row { accepted = accepted }

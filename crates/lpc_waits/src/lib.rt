@@ -3,8 +3,8 @@
 
 ghost use Rattle.std.specs.Prelude.{◌≡◌, ◌+◌, ◌<◌, ◌-◌, ◌≤◌, ◌^◌, ◌++◌, ◌∷◌, [], length, OnOk, OnErr, Some, None, IsSome, option_copied, option_map, is_some, if◌then◌else◌};
 ghost use Rattle.std.specs.List.{position};
-ghost use Rattle.lpc_base.specs.Rows.{change, count, first, without};
-ghost use Rattle.lpc_waits.specs.Table.{begun, is_of, is_receive_on, received, row_of, with_message, with_queue};
+ghost use Rattle.lpc_base.specs.Rows.{change, count, first, without, has};
+ghost use Rattle.lpc_waits.specs.Table.{begun, is_connect_of, is_of, is_taker_on, received, row_of, takes, with_accepted, with_message, with_queue, is_wait_at, is_accepted, is_accepted_on, is_connect};
 
 #[cfg(test)]
 mod tests;
@@ -22,6 +22,33 @@ pub enum WaitKind {
     Request,
     /// A message.
     Receive,
+    /// A connection request.
+    Listen,
+    /// The connection that it asked for.
+    Connect,
+}
+
+impl WaitKind {
+    // A wait of this kind takes what comes: a receive does, and a listen where listens count.
+    fn takes(self, with_listens: bool) -> bool
+        ensures { result ≡ takes with_listens self }
+    {
+        match self {
+            WaitKind::Receive => true,
+            WaitKind::Listen => with_listens,
+            WaitKind::Request | WaitKind::Connect => false,
+        }
+    }
+
+    // A wait of this kind is a connect.
+    fn is_connect(self) -> bool
+        ensures { result ≡ is_connect self }
+    {
+        match self {
+            WaitKind::Connect => true,
+            WaitKind::Request | WaitKind::Receive | WaitKind::Listen => false,
+        }
+    }
 }
 
 /// The wait of a thread.
@@ -30,14 +57,21 @@ pub struct Wait {
     /// The process of the waiting thread.
     pub process: u32,
     pub kind: WaitKind,
-    /// The port on which the call was made.
+    /// The port on which the call was made; for a connect its client port.
     pub port: Key,
-    /// The port whose queue the request entered, or on whose queue a receive waits.
+    /// The port whose queue the request or the connection request entered, or on whose queue a receive or a listen waits.
     pub queue: Key,
-    /// The identifier of the request; 0 for a receive.
+    /// The identifier of the request or the connection request; 0 for a receive and a listen.
     pub identifier: u32,
-    /// A thread took the request from its queue.
+    /// A thread took the request or the connection request from its queue.
     pub received: bool,
+}
+
+/// What a connect was accepted with.
+#[derive(Drop)]
+pub struct Accepted {
+    /// The data of the accept's message.
+    pub reply: ArrayVec<u8, 256>,
 }
 
 /// A row of the table: a thread that waits.
@@ -47,6 +81,8 @@ pub struct WaitRow {
     pub wait: Wait,
     /// The bytes of the message that was sent, with its header; none until they are set.
     pub message: ArrayVec<u8, 256>,
+    /// What a connect was accepted with; none until it is.
+    pub accepted: Option<Accepted>,
 }
 
 /// The waits of all threads, in the order of waiting. A thread has one at most.
@@ -95,7 +131,7 @@ impl Waits {
         Ok(())
     }
 
-    /// Adds the wait of a thread behind the others. It has no message yet.
+    /// Adds the wait of a thread behind the others. It has no message yet, and isn't accepted.
     ///
     /// The thread has no wait, there is spare room, and fewer than 2^64 - 1 waits were made.
     pub fn add(&mut self, tid: u32, wait: Wait)
@@ -109,6 +145,7 @@ impl Waits {
             thread: tid,
             wait,
             message: ArrayVec::new(),
+            accepted: None,
         });
     }
 
@@ -137,7 +174,7 @@ impl Waits {
         Some(row.wait)
     }
 
-    /// Marks the request of a waiting thread as received.
+    /// Marks the request or the connection request of a waiting thread as received.
     pub fn receive(&mut self, tid: u32)
         requires waits { IsSome (row_of self.old tid) }
         ensures table { self.new ≡ record self.old { rows = change (is_of tid) received self.old.rows } }
@@ -146,15 +183,41 @@ impl Waits {
         self.rows[index].wait.received = true;
     }
 
-    /// The thread whose receive has waited longest on the queue of a port: None exactly where there is none.
+    /// The thread that takes a message which enters the queue of a port: None exactly where there is none.
     ///
-    /// No wait is a listen so far, so that `with_listens` adds none.
+    /// Of the waits on that queue it is the oldest receive, or where listens count the oldest of the receives and
+    /// listens together, in one order of waiting. A message goes to the oldest receive, a connection request to the
+    /// oldest receive or listen: so listens count exactly where the message is a connection request.
     pub fn first_on(&self, queue: Key, with_listens: bool) -> Option<u32>
-        ensures { result ≡ option_map (λ row. row.thread) (first (is_receive_on queue) self.now.rows) }
+        ensures { result ≡ option_map (λ row. row.thread) (first (is_taker_on queue with_listens) self.now.rows) }
     {
-        let _ = with_listens;
         for row in &self.rows {
-            if row.wait.kind == WaitKind::Receive && row.wait.queue == queue {
+            if row.wait.kind.takes(with_listens) && row.wait.queue == queue {
+                return Some(row.thread);
+            }
+        }
+        None
+    }
+
+    /// A row names this port: a wait was made on it, or is on its queue.
+    pub fn is_named(&self, port: Key) -> bool
+        ensures { result ≡ has (is_wait_at port) self.now.rows }
+    {
+        for row in &self.rows {
+            if row.wait.port == port || row.wait.queue == port {
+                return true;
+            }
+        }
+        false
+    }
+
+    /// The thread that waits on a port with an accepted connect, the one that has waited longest: None exactly where
+    /// there is none.
+    pub fn accepted_on(&self, port: Key) -> Option<u32>
+        ensures { result ≡ option_map (λ row. row.thread) (first (is_accepted_on port) self.now.rows) }
+    {
+        for row in &self.rows {
+            if is_accepted(row) && row.wait.port == port {
                 return Some(row.thread);
             }
         }
@@ -178,6 +241,33 @@ impl Waits {
     {
         let index = self.place(tid);
         self.rows[index].message = held(bytes);
+    }
+
+    /// How many threads of a process wait in a connect.
+    pub fn connects_of(&self, process: u32) -> usize
+        ensures { result ≡ count (is_connect_of process) self.now.rows }
+    {
+        self.rows
+            .iter()
+            .filter(|row| row.wait.kind == WaitKind::Connect && row.wait.process == process)
+            .count()
+    }
+
+    /// What a waiting thread's connect was accepted with: None until it is set.
+    pub fn accepted(&self, tid: u32) -> Option<&Accepted>
+        requires waits { IsSome (row_of self.now tid) }
+        ensures value { option_map (λ row. row.accepted) (row_of self.now tid) ≡ Some (option_copied result) }
+    {
+        self.rows[self.place(tid)].accepted.as_ref()
+    }
+
+    /// Gives a waiting thread's wait what its connect was accepted with, or takes that away.
+    pub fn set_accepted(&mut self, tid: u32, accepted: Option<Accepted>)
+        requires waits { IsSome (row_of self.old tid) }
+        ensures table { self.new ≡ record self.old { rows = change (is_of tid) (with_accepted accepted) self.old.rows } }
+    {
+        let index = self.place(tid);
+        self.rows[index].accepted = accepted;
     }
 
     /// Gives a waiting thread's wait another queue.
@@ -206,6 +296,13 @@ impl Waits {
             None => unreachable!(),
         }
     }
+}
+
+// The row is of a connect that was accepted.
+fn is_accepted(row: &WaitRow) -> bool
+    ensures { result ≡ is_accepted row.now }
+{
+    row.wait.kind.is_connect() && row.accepted.is_some()
 }
 
 // These bytes, held in place.
