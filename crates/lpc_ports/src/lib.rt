@@ -1,10 +1,10 @@
 //! Ports, and the messages that stand in their queues.
 #![tactic(auto)]
 
-ghost use Rattle.std.specs.Prelude.{◌≡◌, ◌+◌, ◌<◌, ◌-◌, ◌≤◌, ◌^◌, ◌++◌, ◌∷◌, [], length, OnOk, OnErr, Some, None, IsSome, option_copied, option_map, if◌then◌else◌};
-ghost use Rattle.lpc_base.specs.Rows.{count, first, without, without_first};
+ghost use Rattle.std.specs.Prelude.{◌≡◌, ◌||◌, ◌+◌, ◌<◌, ◌-◌, ◌≤◌, ◌^◌, ◌++◌, ◌∷◌, [], length, OnOk, OnErr, Some, None, IsSome, option_copied, option_map, if◌then◌else◌};
+ghost use Rattle.lpc_base.specs.Rows.{count, first, has, without, without_first};
 ghost use Rattle.lpc_slots.specs.Table.{at_key};
-ghost use Rattle.lpc_ports.specs.Table.{row_at, new_port, queued, joined, paired, parted, own_queue, route, first_in, has_none_in, is_in, is_datagram_of, with_row, unpaired, pair_of, if_open};
+ghost use Rattle.lpc_ports.specs.Table.{row_at, new_port, queued, joined, paired, parted, own_queue, route, first_in, first_connect_in, has_none_in, is_in, is_connect_in, is_datagram_of, is_joined_to, is_message_at, is_the, with_row, with_completed, with_creator, unpaired, pair_of, if_open};
 
 mod messages;
 #[cfg(test)]
@@ -13,12 +13,22 @@ mod tests;
 use crate::messages::held;
 pub use lpc_base::PortKind;
 use lpc_base::{Birth, OutOfMemory};
+use lpc_message::ClientId;
 use lpc_slots::{Key, Slots};
 pub use messages::{Message, QueuedMessage};
 use std::alloc::Global;
 use std::marker::Model;
 
-/// A row of the table: a port that is open.
+/// The connect that made a client port.
+#[derive(Clone, Copy, Debug, PartialEq, Eq)]
+pub struct Creator {
+    /// The process and the thread that connected.
+    pub client: ClientId,
+    /// The identifier of its connection request.
+    pub message_id: u32,
+}
+
+/// A row of the table: a port.
 #[derive(Clone, Copy, Debug, PartialEq, Eq)]
 pub struct Port {
     pub birth: Birth,
@@ -29,11 +39,35 @@ pub struct Port {
     pub connection: Option<Key>,
     /// What the server gave the connection when it accepted it; 0 until the port is joined.
     pub context: u32,
+    /// The connect that made a client port; none until it is set.
+    pub creator: Option<Creator>,
+    /// The connection is completed; false until it is set.
+    pub completed: bool,
+}
+
+impl Port {
+    // It has this port as its other end or as its connection port.
+    fn is_joined_to(&self, port: Key) -> bool
+        ensures { result ≡ is_the port self.now.pair || is_the port self.now.connection }
+    {
+        is_the(port, self.pair) || is_the(port, self.connection)
+    }
+}
+
+// There is a key, and it is this one.
+fn is_the(key: Key, other: Option<Key>) -> bool
+    ensures { result ≡ is_the key other }
+{
+    match other {
+        Some(other) => other == key,
+        None => false,
+    }
 }
 
 /// All ports, and the messages in their queues, each in the order of making.
 ///
-/// A port that is closed has no row. No call but `reserve` takes memory. This project's own.
+/// A port has a row from `add` to `free`. Here it counts as open while it has one: whether a handle names it isn't known
+/// to this table. No call but `reserve` takes memory. This project's own.
 #[derive(Drop)]
 pub struct Ports {
     ports: Slots<Port>,
@@ -82,7 +116,8 @@ impl Ports {
         self.messages.reserve(blocks)
     }
 
-    /// Adds a port behind the others, and answers its key. It has no pair yet, and its context is 0.
+    /// Adds a port behind the others, and answers its key. It has no pair and no creator yet, its context is 0, and it
+    /// isn't completed.
     ///
     /// There is spare room, and fewer than 2^64 - 1 ports were made.
     pub fn add(&mut self, kind: PortKind, birth: Birth, connection: Option<Key>) -> Key
@@ -97,10 +132,12 @@ impl Ports {
             pair: None,
             connection,
             context: 0,
+            creator: None,
+            completed: false,
         })
     }
 
-    /// The port of a key: None exactly where the port isn't open.
+    /// The port of a key: None exactly where the port has no row.
     pub fn get(&self, port: Key) -> Option<&Port>
         ensures { option_copied result ≡ row_at self.now.ports port }
     {
@@ -154,7 +191,41 @@ impl Ports {
         self.row(port).context
     }
 
-    /// Takes away the row of a port that is closed. Its room is spare then.
+    /// The connect that made a client port: None until it is set.
+    pub fn creator(&self, port: Key) -> Option<Creator>
+        requires { IsSome (row_at self.now.ports port) }
+        ensures { option_map (λ row. row.creator) (row_at self.now.ports port) ≡ Some result }
+    {
+        self.row(port).creator
+    }
+
+    /// The connection of a port is completed: false until it is set.
+    pub fn completed(&self, port: Key) -> bool
+        requires { IsSome (row_at self.now.ports port) }
+        ensures { option_map (λ row. row.completed) (row_at self.now.ports port) ≡ Some result }
+    {
+        self.row(port).completed
+    }
+
+    /// Gives a port the connect that made it, or takes that away. What has no row gets none.
+    pub fn set_creator(&mut self, port: Key, creator: Option<Creator>)
+        ensures { self.new ≡ record self.old { ports = with_row self.old.ports port (with_creator creator) } }
+    {
+        if let Some(row) = self.ports.get_mut(port) {
+            row.creator = creator;
+        }
+    }
+
+    /// Says of a port whether its connection is completed. What has no row gets none.
+    pub fn set_completed(&mut self, port: Key, completed: bool)
+        ensures { self.new ≡ record self.old { ports = with_row self.old.ports port (with_completed completed) } }
+    {
+        if let Some(side) = self.ports.get_mut(port) {
+            side.completed = completed;
+        }
+    }
+
+    /// Takes away the row of a port. Its room is spare then.
     ///
     /// No message stands in its queue.
     pub fn free(&mut self, port: Key)
@@ -188,21 +259,14 @@ impl Ports {
     }
 
     /// The oldest message of a queue, or its oldest connection request alone: None exactly where there is none.
-    ///
-    /// No message is a connection request so far, so that none is found where they alone are asked for.
     pub fn first(&self, queue: Key, connects_only: bool) -> Option<Key>
-        ensures { result ≡ (if connects_only then None else first_in self.now.messages queue) }
+        ensures { result ≡ (if connects_only then first_connect_in self.now.messages queue else first_in self.now.messages queue) }
     {
         if connects_only {
-            return None;
+            self.first_connect(queue)
+        } else {
+            self.first_message(queue)
         }
-        for place in 0..self.messages.count() {
-            let (key, row) = self.messages.row(place);
-            if row.queue == queue {
-                return Some(key);
-            }
-        }
-        None
     }
 
     /// How many of the messages that stand in queues were sent on this port and are datagrams.
@@ -217,6 +281,14 @@ impl Ports {
             }
         }
         sent
+    }
+
+    /// A row names this port: a port has it as its other end or its connection port, or a message was sent on it or
+    /// stands in its queue.
+    pub fn is_named(&self, port: Key) -> bool
+        ensures { result ≡ has (is_joined_to port) self.now.ports || has (is_message_at port) self.now.messages }
+    {
+        self.is_joined(port) || self.has_message(port)
     }
 
     /// A message that stands in a queue.
@@ -242,6 +314,8 @@ impl Ports {
         ensures table { self.new ≡ record self.old { messages = without (at_key message) self.old.messages; message_room = self.old.message_room + 1 } }
         ensures first { (queue : Key) → first_in self.old.messages queue ≡ Some message → option_map (λ row. row.1.message) (first (is_in queue) self.old.messages) ≡ Some result }
         ensures oldest { (queue : Key) → first_in self.old.messages queue ≡ Some message → self.new.messages ≡ without_first (is_in queue) self.old.messages }
+        ensures first_connect { (queue : Key) → first_connect_in self.old.messages queue ≡ Some message → option_map (λ row. row.1.message) (first (is_connect_in queue) self.old.messages) ≡ Some result }
+        ensures oldest_connect { (queue : Key) → first_connect_in self.old.messages queue ≡ Some message → self.new.messages ≡ without_first (is_connect_in queue) self.old.messages }
     {
         match self.messages.remove(message) {
             Some(row) => row.message,
@@ -249,8 +323,8 @@ impl Ports {
         }
     }
 
-    /// Makes a client and a server port the two ends of a connection, and gives both its context. What isn't open
-    /// gets no row.
+    /// Makes a client and a server port the two ends of a connection, and gives both its context. What has no row gets
+    /// none.
     pub fn join(&mut self, client: Key, server: Key, context: u32)
         ensures { self.new ≡ record self.old { ports = joined self.old.ports client server context } }
     {
@@ -258,7 +332,7 @@ impl Ports {
         self.pair_with(server, client, context);
     }
 
-    /// Takes a port and its pair apart. Both keep their contexts. What isn't open gets no row.
+    /// Takes a port and its pair apart. Both keep their contexts. What has no row gets none.
     pub fn cut(&mut self, port: Key)
         ensures { self.new ≡ record self.old { ports = parted self.old.ports port } }
     {
@@ -298,6 +372,32 @@ impl Ports {
         }
     }
 
+    // A port has this one as its other end or as its connection port.
+    fn is_joined(&self, port: Key) -> bool
+        ensures { result ≡ has (is_joined_to port) self.now.ports }
+    {
+        for place in 0..self.ports.count() {
+            let (_, row) = self.ports.row(place);
+            if row.is_joined_to(port) {
+                return true;
+            }
+        }
+        false
+    }
+
+    // A message was sent on the port, or stands in its queue.
+    fn has_message(&self, port: Key) -> bool
+        ensures { result ≡ has (is_message_at port) self.now.messages }
+    {
+        for place in 0..self.messages.count() {
+            let (_, row) = self.messages.row(place);
+            if row.is_at(port) {
+                return true;
+            }
+        }
+        false
+    }
+
     // The row of an open port.
     fn row(&self, port: Key) -> &Port
         requires { IsSome (row_at self.now.ports port) }
@@ -307,6 +407,32 @@ impl Ports {
             Some(row) => row,
             None => unreachable!(),
         }
+    }
+
+    // The oldest message of a queue.
+    fn first_message(&self, queue: Key) -> Option<Key>
+        ensures { result ≡ first_in self.now.messages queue }
+    {
+        for place in 0..self.messages.count() {
+            let (key, row) = self.messages.row(place);
+            if row.queue == queue {
+                return Some(key);
+            }
+        }
+        None
+    }
+
+    // The oldest connection request of a queue.
+    fn first_connect(&self, queue: Key) -> Option<Key>
+        ensures { result ≡ first_connect_in self.now.messages queue }
+    {
+        for place in 0..self.messages.count() {
+            let (key, row) = self.messages.row(place);
+            if row.is_connect_in(queue) {
+                return Some(key);
+            }
+        }
+        None
     }
 
     // The row of a message that stands in a queue.

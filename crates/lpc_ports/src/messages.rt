@@ -1,11 +1,11 @@
 //! Messages as they stand in queues.
 
-ghost use Rattle.std.specs.Prelude.{◌≡◌, ◌≤◌, ◌==◌, ◌&&◌, length, slice_index};
+ghost use Rattle.std.specs.Prelude.{◌≡◌, ◌≤◌, ◌==◌, ◌&&◌, ◌||◌, length, slice_index};
 ghost use Rattle.lpc_message.specs.Layout.{half_at};
 ghost use Rattle.lpc_slots.specs.Table.{is_key};
 
 use arrayvec::ArrayVec;
-use lpc_message::kind::DATAGRAM;
+use lpc_message::kind::{CONNECTION_REQUEST, DATAGRAM};
 use lpc_slots::Key;
 
 // Where a message has its type: the low byte, and the high one behind it.
@@ -30,6 +30,13 @@ impl Message {
         self.sender == sender && self.kind() == DATAGRAM
     }
 
+    /// Its type is that of a connection request.
+    pub(crate) fn is_connect(&self) -> bool
+        ensures { result ≡ (half_at self.now.bytes.items 4 == CONNECTION_REQUEST) }
+    {
+        self.kind() == CONNECTION_REQUEST
+    }
+
     // Its type. What isn't there of the two bytes counts as 0.
     fn kind(&self) -> u16
         ensures { result ≡ half_at self.now.bytes.items 4 }
@@ -45,6 +52,22 @@ impl Message {
 pub struct QueuedMessage {
     pub queue: Key,
     pub message: Message,
+}
+
+impl QueuedMessage {
+    /// It stands in this queue, and is a connection request.
+    pub(crate) fn is_connect_in(&self, queue: Key) -> bool
+        ensures { result ≡ is_key self.now.queue queue && (half_at self.now.message.bytes.items 4 == CONNECTION_REQUEST) }
+    {
+        self.queue == queue && self.message.is_connect()
+    }
+
+    /// It was sent on this port, or stands in its queue.
+    pub(crate) fn is_at(&self, port: Key) -> bool
+        ensures { result ≡ is_key self.now.message.sender port || is_key self.now.queue port }
+    {
+        self.message.sender == port || self.queue == port
+    }
 }
 
 /// These bytes, held in place.

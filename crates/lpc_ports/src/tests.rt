@@ -1,7 +1,8 @@
 // The ports, call by call, with ample memory.
-use crate::{PortKind, Ports};
+use crate::{Creator, PortKind, Ports};
 use lpc_base::Birth;
-use lpc_message::kind::{DATAGRAM, REQUEST};
+use lpc_message::ClientId;
+use lpc_message::kind::{CONNECTION_REQUEST, DATAGRAM, REQUEST};
 use std::test::Fail;
 
 fn birth(ordinal: u32) -> Birth {
@@ -9,6 +10,16 @@ fn birth(ordinal: u32) -> Birth {
         maker: 8,
         ordinal,
         process: 4,
+    }
+}
+
+fn creator() -> Creator {
+    Creator {
+        client: ClientId {
+            process: 4,
+            thread: 8,
+        },
+        message_id: 7,
     }
 }
 
@@ -59,6 +70,12 @@ fn port_is_read_and_freed(rt: HostRuntime) -> Result<(), Fail> {
     assert_eq!(rt; ports.pair(port), None);
     assert_eq!(rt; ports.connection(port), None);
     assert_eq!(rt; ports.context(port), 0);
+    assert_eq!(rt; ports.creator(port), None);
+    assert_eq!(rt; ports.completed(port), false);
+    ports.set_creator(port, Some(creator()));
+    ports.set_completed(port, true);
+    assert_eq!(rt; ports.creator(port), Some(creator()));
+    assert_eq!(rt; ports.completed(port), true);
     ports.free(port);
     assert_eq!(rt; ports.get(port), None);
     Ok(())
@@ -98,5 +115,48 @@ fn datagrams_are_counted_by_their_senders(rt: HostRuntime) -> Result<(), Fail> {
     ports.send(two, two, 0, &header(DATAGRAM));
     assert_eq!(rt; ports.sent_datagrams(one), 1);
     assert_eq!(rt; ports.sent_datagrams(two), 2);
+    Ok(())
+}
+
+#[test]
+#[tactic(auto, using(lpc_slots::proofs::Keys::key_itself))]
+fn connection_requests_are_found_alone(rt: HostRuntime) -> Result<(), Fail> {
+    let mut ports = Ports::new(rt.alloc());
+    ports.reserve(2, 4)?;
+    let one = ports.add(PortKind::Connection, birth(1), None);
+    let two = ports.add(PortKind::Unnamed, birth(2), None);
+    let datagram = ports.send(one, two, 0, &header(DATAGRAM));
+    ports.send(two, two, 0, &header(CONNECTION_REQUEST));
+    assert_eq!(rt; ports.first(one, true), None);
+    let older = ports.send(one, two, 0, &header(CONNECTION_REQUEST));
+    let newer = ports.send(one, two, 0, &header(CONNECTION_REQUEST));
+    assert_eq!(rt; ports.first(one, false), Some(datagram));
+    assert_eq!(rt; ports.first(one, true), Some(older));
+    ports.pull(older);
+    assert_eq!(rt; ports.first(one, true), Some(newer));
+    assert_eq!(rt; ports.first(one, false), Some(datagram));
+    Ok(())
+}
+
+#[test]
+fn rows_name_ports(rt: HostRuntime) -> Result<(), Fail> {
+    let mut ports = Ports::new(rt.alloc());
+    ports.reserve(4, 1)?;
+    let unnamed = ports.add(PortKind::Unnamed, birth(1), None);
+    let connection = ports.add(PortKind::Connection, birth(2), None);
+    let client = ports.add(PortKind::Client, birth(3), Some(connection));
+    let server = ports.add(PortKind::Server, birth(4), None);
+    assert_eq!(rt; ports.is_named(unnamed), false);
+    assert_eq!(rt; ports.is_named(connection), true);
+    assert_eq!(rt; ports.is_named(client), false);
+    ports.join(client, server, 77);
+    assert_eq!(rt; ports.is_named(client), true);
+    ports.cut(client);
+    assert_eq!(rt; ports.is_named(client), false);
+    let message = ports.send(unnamed, client, 0, &header(DATAGRAM));
+    assert_eq!(rt; ports.is_named(unnamed), true);
+    assert_eq!(rt; ports.is_named(client), true);
+    ports.pull(message);
+    assert_eq!(rt; ports.is_named(unnamed), false);
     Ok(())
 }
