@@ -200,6 +200,18 @@ impl<T: Copy + Eq> Names<T> {
         false
     }
 
+    /// Whether a name leads to an item.
+    pub fn has_name(&self, item: T) -> bool
+        ensures { result ≡ binding.has_name T.eq item self.now.bindings }
+    {
+        for place in 0..self.nodes.len() {
+            if self.is_name(place, item) {
+                return true;
+            }
+        }
+        false
+    }
+
     /// Whether a new name can be bound at a path: the fault that `bind` would answer, if there is one.
     pub fn test_free(&self, path: &[u8]) -> Result<(), NameFault>
         ensures fault { IfErr result (λ fault. names.free_path self.now.bindings path.now ≡ Err fault) }

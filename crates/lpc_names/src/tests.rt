@@ -62,7 +62,10 @@ fn item_has_its_name_until_it_is_unbound(rt: HostRuntime) {
     assert_eq!(rt; names.reserve(2), Ok(()));
     assert_eq!(rt; names.bind(b"\\A", 4), Ok(()));
     assert_eq!(rt; names.bind(b"\\B", 8), Ok(()));
+    assert_eq!(rt; names.has_name(4), true);
     assert_eq!(rt; names.unbind(4), true);
+    assert_eq!(rt; names.has_name(4), false);
+    assert_eq!(rt; names.has_name(8), true);
     assert_eq!(rt; names.unbind(4), false);
     assert_eq!(rt; names.lookup(b"\\A"), Err(NameFault::NameNotFound));
     assert_eq!(rt; names.lookup(b"\\B"), Ok(Found::Item(8)));
