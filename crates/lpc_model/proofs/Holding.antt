@@ -17,6 +17,11 @@ abbrev pub Holds : {A : Type 0} → (A → Type 0) → Result A Status → Type 
 Holds P (Ok x) = P x
 Holds P (Err s) = Unit {0}
 
+-- what holds anyway
+pub holds_any : {A : Type 0} (P : Type 0) → P → (r : Result A Status) → Holds (λ _. P) r
+holds_any P is (Ok x) = is
+holds_any P is (Err s) = tt
+
 pub bind_holds : {A B : Type 0} (r : Result A Status) (f : A → Result B Status) (P : B → Type 0) → ((x : A) → r ≡ Ok x → Holds P (f x)) → Holds P (r >>= f)
 bind_holds (Ok x) f P h = h x refl
 bind_holds (Err s) f P h = tt

@@ -1,7 +1,7 @@
 -- What the list words do to rows that are looked up by a test.
-use Rattle.std.proofs.Common.{◌≡◌, ◌≤◌, List, [], ◌∷◌, ◌++◌, Bool, true, false, not, Some, None, refl, arith}
+use Rattle.std.proofs.Common.{◌≡◌, ℕ, ◌≤◌, List, [], ◌∷◌, ◌++◌, Bool, true, false, not, map, Some, None, refl, arith}
 use Rattle.std.specs.Prelude.{◌&&◌, ◌||◌}
-use Rattle.lpc_base.specs.Rows.{change, count, every, first, has, passes, without_first}
+use Rattle.lpc_base.specs.Rows.{change, count, every, first, has, passes, without, without_first}
 
 -- first
 pub first-push : {X : Type 0} (p : X → Bool) (xs : List X) (x y : X) → first p xs ≡ Some x → first p (xs ++ y ∷ []) ≡ Some x
@@ -16,6 +16,21 @@ pub passes-change : {X : Type 0} (p f s : X → Bool) (k : X → X) → ((x : X)
 passes-change p f s k one two [] = refl
 passes-change p f s k one two (x ∷ xs) = grind (arith, one x, two x, passes-change p f s k one two xs)
 
+-- rows that are changed one by one, and pass as before
+pub first-map : {X : Type 0} (p : X → Bool) (f : X → X) → ((x : X) → p (f x) ≡ p x) → (xs : List X) (y : X) → first p xs ≡ Some y → first p (map f xs) ≡ Some (f y)
+first-map p f same [] y is = absurd (cc)
+first-map p f same (x ∷ xs) y is = grind (arith, same x, first-map p f same xs y)
+
+-- a row that isn't left out is found as before
+pub first-without : {X : Type 0} (p test : X → Bool) → ((x : X) → p x ≡ true → test x ≡ false) → (xs : List X) (y : X) → first p xs ≡ Some y → first p (without test xs) ≡ Some y
+first-without p test apart [] y is = absurd (cc)
+first-without p test apart (x ∷ xs) y is = grind (arith, apart x, first-without p test apart xs y)
+
+-- fewer rows, of which none passes
+pub first-less : {X : Type 0} (p test : X → Bool) (xs : List X) → first p xs ≡ None → first p (without test xs) ≡ None
+first-less p test [] none = refl
+first-less p test (x ∷ xs) none = grind (arith, first-less p test xs)
+
 -- has
 pub has-none : {X : Type 0} (p : X → Bool) (xs : List X) → first p xs ≡ None → has p xs ≡ false
 has-none p xs none = rw none refl
@@ -27,6 +42,11 @@ has-append p (x ∷ xs) ys = grind (arith, has-append p xs ys)
 pub has-change_to : {X : Type 0} (p s : X → Bool) (f : X → X) (xs : List X) → every (λ x. not (s x && p x) || p (f x)) xs ≡ true → has p xs ≡ true → has p (change s f xs) ≡ true
 has-change_to p s f [] kept is = absurd (cc)
 has-change_to p s f (x ∷ xs) kept is = grind (arith, has-change_to p s f xs)
+
+-- a row that is changed, and then passes
+pub has-changed : {X : Type 0} (p s : X → Bool) (f : X → X) → ((x : X) → p (f x) ≡ true) → (xs : List X) → has s xs ≡ true → has p (change s f xs) ≡ true
+has-changed p s f passes [] is = absurd (cc)
+has-changed p s f passes (x ∷ xs) is = grind (arith, passes x, has-changed p s f passes xs)
 
 -- one taken
 pub has-without_first : {X : Type 0} (p test : X → Bool) (xs : List X) (y : X) → first test xs ≡ Some y → p y ≡ false → has p xs ≡ true → has p (without_first test xs) ≡ true
@@ -53,3 +73,34 @@ count_none p (x ∷ xs) few = grind (arith, count_none p xs)
 pub count-change : {X : Type 0} (p s : X → Bool) (f : X → X) → ((x : X) → p (f x) ≡ p x) → (xs : List X) → count p (change s f xs) ≡ count p xs
 count-change p s f same [] = refl
 count-change p s f same (x ∷ xs) = grind (arith, same x, count-change p s f same xs)
+
+-- fewer rows, no more that pass
+count-without : {X : Type 0} (p test : X → Bool) (xs : List X) → count p (without test xs) ≤ count p xs
+count-without p test [] = omega arith
+count-without p test (x ∷ xs) = grind (arith, count-without p test xs)
+
+pub count-less : {X : Type 0} (p test : X → Bool) (xs : List X) (n : ℕ) → count p xs ≤ n → count p (without test xs) ≤ n
+count-less p test xs n few = omega (arith, count-without p test xs)
+
+-- where one row alone passes, each row that does is that one
+none-pass : {X : Type 0} (p f : X → Bool) (xs : List X) → has p xs ≡ false → every (λ y. not (p y) || f y) xs ≡ true
+none-pass p f [] none = refl
+none-pass p f (x ∷ xs) none = grind (arith, none-pass p f xs)
+
+pub has-found : {X : Type 0} (p test : X → Bool) (xs : List X) (x : X) → first test xs ≡ Some x → p x ≡ true → has p xs ≡ true
+has-found p test [] x at is = absurd (cc)
+has-found p test (y ∷ ys) x at is = grind (arith, has-found p test ys x)
+
+lone-push : {X : Type 0} (p f test : X → Bool) (y : X) (ys : List X) (x : X) (t b : Bool) → test y ≡ t → p y ≡ b → count p (y ∷ ys) ≤ 1 → first test (y ∷ ys) ≡ Some x → p x ≡ true → f x ≡ true
+    → (count p ys ≤ 1 → first test ys ≡ Some x → every (λ y. not (p y) || f y) ys ≡ true) → every (λ y. not (p y) || f y) (y ∷ ys) ≡ true
+lone-push p f test y ys x true true here on one at is will more =
+    let rest = none-pass p f ys (count_none p ys (grind arith)) in grind arith
+lone-push p f test y ys x true false here off one at is will more = absurd (cc)
+lone-push p f test y ys x false true here on one at is will more =
+    let none = count_none p ys (grind arith) in
+    let found = has-found p test ys x (grind arith) is in absurd (cc)
+lone-push p f test y ys x false false here off one at is will more = grind (arith, more)
+
+pub lone : {X : Type 0} (p f test : X → Bool) (xs : List X) (x : X) → count p xs ≤ 1 → first test xs ≡ Some x → p x ≡ true → f x ≡ true → every (λ y. not (p y) || f y) xs ≡ true
+lone p f test [] x one at is will = absurd (cc)
+lone p f test (y ∷ ys) x one at is will = lone-push p f test y ys x (test y) (p y) refl refl one at is will (λ few at. lone p f test ys x few at is will)

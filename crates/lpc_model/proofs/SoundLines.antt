@@ -1,41 +1,50 @@
 -- The step of each line leaves sound waits behind, and so does each line of a script.
-use Rattle.std.proofs.Common.{◌≡◌, ℕ, List, [], ◌∷◌, Bool, true, false, refl, arith}
-use Rattle.std.specs.Prelude.{◌||◌, Option, Some, None}
+use Rattle.std.proofs.Common.{◌≡◌, ℕ, List, [], ◌∷◌, ◌++◌, Bool, true, false, not, refl, subst, arith}
+use Rattle.std.specs.Prelude.{◌||◌, ◌==◌, Option, Some, None, is_some}
+use Rattle.std.proofs.lemmas.Bool.{eqb-true}
+use Rattle.std.proofs.lemmas.Bool.Decides.{nat_tests}
+use Rattle.lpc_base.specs.Rows.{first, has}
+use Rattle.lpc_base.proofs.RowWords.{first-passes, has-push}
+use Rattle.lpc_base.proofs.RowMaps.{every-first}
 use Rattle.std.specs.List.{AllByRecursion}
-use Rattle.lpc_base.specs.declared.status.TheConstants.{OBJECT_NAME_COLLISION}
+use Rattle.lpc_base.specs.declared.status.TheConstants.{INVALID_CID, OBJECT_NAME_COLLISION}
 use Rattle.lpc_model.specs.declared.entry.Word.TheVariants as word
 use Rattle.lpc_model.specs.World.{ThreadRow, WaitRow, World, no_rows}
-use Rattle.lpc_model.specs.Found.{live_thread, wait_of, was_process, was_thread}
-use Rattle.lpc_model.specs.Basics.{AddsProcess, basic}
-use Rattle.lpc_model.specs.Tests.{client_of, is_client}
-use Rattle.lpc_model.specs.Lines.{ScriptCall, ScriptLine, boot, create_port, reply_port, reply_wait_receive_port, request_port, request_wait_reply_port, dir, link, run, thread}
-use Rattle.lpc_model.specs.Machine.{Stepped, boot_line, dir_line, directive_birth, link_line, name_of, new_process, new_thread, ready_steps, service_of, steps, thread_line, thread_steps, thread_test, unused_test}
+use Rattle.lpc_model.specs.Found.{is_live, is_table, live_thread, lives_in, wait_of, was_process, was_thread}
+use Rattle.lpc_model.specs.Basics.{AddsProcess, basic, no_handles}
+use Rattle.lpc_model.specs.Lines.{ScriptCall, ScriptLine, accept_connect_port, boot, complete_connect_port, connect_port, create_port, listen_port, reply_port, reply_wait_receive_port, request_port, request_wait_reply_port, dir, link, run, thread}
+use Rattle.lpc_model.specs.Machine.{Stepped, boot_line, dir_line, directive_birth, link_line, live_test, name_of, new_process, new_thread, ready_steps, service_of, steps, thread_count_test, thread_line, thread_steps, thread_test, unused_test, unused_thread_test}
 use Rattle.lpc_model.specs.Named.{free_name, spelled_name}
 use Rattle.lpc_names.specs.Walk.{LinkTo, Stands}
 use Rattle.lpc_names.specs.declared.names.Found.TheVariants.{Directory}
 use Rattle.lpc_model.specs.Run.{line_step, said_in, trace}
-use Rattle.lpc_model.specs.SoundWaits.{HasSoundWaits, IsSoundWorld, RunStaysSound, StepsStaySound}
-use Rattle.lpc_model.proofs.Holding.{Holds, bind_holds, directed_holds, not_refused, settled_holds}
-use Rattle.lpc_model.proofs.Usable.{live-client}
+use Rattle.lpc_model.specs.SoundWaits.{HasSoundWaits, has_home, IsSoundWorld, RunStaysSound, StepsStaySound}
+use Rattle.lpc_model.proofs.Holding.{Holds, bind_holds, directed_holds, holds_any, holds_ok, not_refused, settled_holds}
+use Rattle.lpc_model.proofs.Usable.{CanCall, can-call}
 use Rattle.lpc_model.proofs.SoundBasics.{sound-binds, sound-process, sound-thread}
+use Rattle.lpc_model.proofs.SoundConnects.{accept-sound, complete-sound, connect-sound, listen-sound}
 use Rattle.lpc_model.proofs.SoundServices.{LeaveSound, create-sound, datagram-sound, receive-sound, reply-sound, request-sound}
 
 -- Calls
-service-sound : (w : World) (by : ThreadRow) (call : ScriptCall) → is_client w (client_of by) ≡ true → IsSoundWorld w → Holds (LeaveSound w) (service_of w by call)
-service-sound w by (create_port name) client s = create-sound w by name s
-service-sound w by (request_port handle bytes) client s = datagram-sound w by handle bytes s
-service-sound w by (request_wait_reply_port handle bytes) client s = request-sound w by handle bytes client s
-service-sound w by (reply_port handle bytes) client s = reply-sound w by handle bytes s
-service-sound w by (reply_wait_receive_port handle bytes) client s = receive-sound w by handle bytes client s
+service-sound : (w : World) (by : ThreadRow) (call : ScriptCall) → CanCall w by → IsSoundWorld w → Holds (LeaveSound w) (service_of w by call)
+service-sound w by (create_port name) c s = create-sound w by name c s
+service-sound w by (connect_port name info) c s = connect-sound w by name info c s
+service-sound w by (listen_port handle) c s = listen-sound w by handle c s
+service-sound w by (accept_connect_port context message accept) c s = accept-sound w by context message accept c s
+service-sound w by (complete_connect_port handle) c s = complete-sound w by handle s
+service-sound w by (request_port handle bytes) c s = datagram-sound w by handle bytes s
+service-sound w by (request_wait_reply_port handle bytes) c s = request-sound w by handle bytes c s
+service-sound w by (reply_port handle bytes) c s = reply-sound w by handle bytes s
+service-sound w by (reply_wait_receive_port handle bytes) c s = receive-sound w by handle bytes c s
 
-ready-sound : (w : World) (by : ThreadRow) (call : ScriptCall) (o : Option WaitRow) → is_client w (client_of by) ≡ true → IsSoundWorld w → LeaveSound w (ready_steps by call o w)
-ready-sound w by call (Some x) client s = s
-ready-sound w by call None client s =
-    settled_holds (LeaveSound w) by (name_of call) (service_of w by call) (service-sound w by call client s) (λ _. s)
+ready-sound : (w : World) (by : ThreadRow) (call : ScriptCall) (o : Option WaitRow) → (o ≡ None → CanCall w by) → IsSoundWorld w → LeaveSound w (ready_steps by call o w)
+ready-sound w by call (Some x) c s = s
+ready-sound w by call None c s =
+    settled_holds (LeaveSound w) by (name_of call) (service_of w by call) (service-sound w by call (c refl) s) (λ _. s)
 
 thread-sound : (w : World) (tid : ℕ) (call : ScriptCall) (o : Option ThreadRow) → live_thread w tid ≡ o → IsSoundWorld w → LeaveSound w (thread_steps tid call o w)
 thread-sound w tid call None live s = s
-thread-sound w tid call (Some by) live s = ready-sound w by call (wait_of w tid) (live-client w tid by live) s
+thread-sound w tid call (Some by) live s = ready-sound w by call (wait_of w tid) (λ idle. can-call w tid by live idle s) s
 
 -- Directives
 first-unused : (a b : Bool) → (a || b) ≡ false → a ≡ false
@@ -47,22 +56,43 @@ boot-sound w pid tid s =
     bind_holds (unused_test w pid tid) _ (LeaveSound w) (λ u is.
     let new = first-unused (was_process w pid) (was_thread w tid) (not_refused (was_process w pid || was_thread w tid) OBJECT_NAME_COLLISION u is) in
     let booted = new_process pid None (directive_birth pid) in
-    sound-thread (basic w (AddsProcess booted)) (new_thread tid pid (directive_birth tid)) (sound-process w booted new s))
+    let home : has (is_table pid) (w.handles ++ no_handles pid ∷ []) ≡ true = has-push (is_table pid) w.handles (no_handles pid) (grind (arith, nat_tests)) in
+    sound-thread (basic w (AddsProcess booted)) (new_thread tid pid (directive_birth tid)) home (sound-process w booted new s))
+
+-- a process that lives has a table of handles
+live-home : (w : World) (pid : ℕ) → IsSoundWorld w → is_live w pid ≡ true → has (is_table pid) w.handles ≡ true
+live-home w pid s is = at (first (lives_in pid) w.threads) refl is
+  where
+    at : (o : Option ThreadRow) → first (lives_in pid) w.threads ≡ o → is_some o ≡ true → has (is_table pid) w.handles ≡ true
+    at None here is = absurd (cc)
+    at (Some t) here is =
+        let lives = first-passes (lives_in pid) w.threads t here in
+        let same : (t.process == pid) ≡ true = grind arith in
+        subst (λ n. has (is_table n) w.handles ≡ true) (eqb-true t.process pid same) (every-first (has_home w) (lives_in pid) w.threads t s.homes here)
+
+-- the tests of a further thread find its process live
+tested-live : (w : World) (tid pid : ℕ) → Holds (λ _. is_live w pid ≡ true) (thread_test w tid pid)
+tested-live w tid pid =
+    let P : Unit {0} → Type 0 = λ _. is_live w pid ≡ true in
+    bind_holds (live_test w pid) _ P (λ u is.
+    let off = not_refused (not (is_live w pid)) INVALID_CID u is in
+    let lives : is_live w pid ≡ true = grind arith in
+    bind_holds (unused_thread_test w tid) _ P (λ _ _. holds_any (is_live w pid ≡ true) lives (thread_count_test w pid)))
 
 further-sound : (w : World) (tid pid : ℕ) → IsSoundWorld w → Holds (LeaveSound w) (thread_line w tid pid)
 unfolding thread_line
 further-sound w tid pid s =
-    bind_holds (thread_test w tid pid) _ (LeaveSound w) (λ _ _. sound-thread w (new_thread tid pid (directive_birth tid)) s)
+    bind_holds (thread_test w tid pid) _ (LeaveSound w) (λ u is. sound-thread w (new_thread tid pid (directive_birth tid)) (live-home w pid s (holds_ok (λ _. is_live w pid ≡ true) (thread_test w tid pid) u (tested-live w tid pid) is)) s)
 
 dir-sound : (w : World) (text : List ℕ) → IsSoundWorld w → Holds (LeaveSound w) (dir_line w text)
 unfolding dir_line
-dir-sound w text s = bind_holds (free_name w text) _ (LeaveSound w) (λ path _. sound-binds w path (Stands Directory) s)
+dir-sound w text s = bind_holds (free_name w text) _ (LeaveSound w) (λ path _. sound-binds w path (Stands Directory) refl s)
 
 link-sound : (w : World) (text target : List ℕ) → IsSoundWorld w → Holds (LeaveSound w) (link_line w text target)
 unfolding link_line
 link-sound w text target s =
     bind_holds (spelled_name target) _ (LeaveSound w) (λ to _.
-    bind_holds (free_name w text) _ (LeaveSound w) (λ path _. sound-binds w path (LinkTo to) s))
+    bind_holds (free_name w text) _ (LeaveSound w) (λ path _. sound-binds w path (LinkTo to) refl s))
 
 -- Lines
 line-sound : (w : World) (line : ScriptLine) → IsSoundWorld w → LeaveSound w (steps line w)
@@ -77,7 +107,10 @@ line-sound w (run tid call) s = thread-sound w tid call (live_thread w tid) refl
 pub sound_none : IsSoundWorld no_rows
 sound_none = record {
   waits = refl;
-  requests = refl;
+  stay = refl;
+  once = λ tid. grind arith;
+  names = refl;
+  homes = refl;
   tables = λ pid. grind arith;
   unused = λ pid new. refl;
 }

@@ -1,6 +1,6 @@
--- Each service leaves sound waits behind.
+-- Each service that makes, sends, receives or replies leaves sound waits behind.
 use Rattle.std.proofs.Common.{◌≡◌, ℕ, List, [], ◌∷◌, ◌++◌, Bool, true, false, not, refl, sym, ap, subst, arith}
-use Rattle.std.specs.Prelude.{◌&&◌, ◌==◌, Option, Some, None, Result, Ok}
+use Rattle.std.specs.Prelude.{◌&&◌, ◌==◌, Option, Some, None, Ok}
 use Rattle.std.proofs.lemmas.Bool.Decides.{nat_tests}
 use Rattle.lpc_base.specs.Rows.{first, has, passes, without}
 use Rattle.lpc_base.specs.declared.status.TheConstants.{PORT_DISCONNECTED, SUCCESS}
@@ -8,7 +8,7 @@ use Rattle.lpc_base.proofs.RowWords.{every-more, every-push, first-passes, has-p
 use Rattle.lpc_message.specs.declared.kind.TheConstants.{DATAGRAM, REQUEST}
 use Rattle.lpc_base.specs.declared.port_kind.PortKind.TheVariants.{Connection, Unnamed}
 use Rattle.lpc_model.specs.World.{Birth, Message, MessageRow, PortKind, PortRow, ThreadRow, WaitRow, World}
-use Rattle.lpc_model.specs.Found.{free_handle, is_live_thread, is_open, port_row, is_queued, is_thread, port_name, queue_of, route, same_birth, waits_as}
+use Rattle.lpc_model.specs.Found.{free_handle, is_live_thread, is_open, port_row, is_queued, is_thread, port_name, queue_of, route, same_birth, wait_of, waits_as}
 use Rattle.lpc_model.specs.Basics.{AddsHandle, Awaits, Basic, DrawsIdentifier, DrawsOrdinal, Makes, basic, past_identifier, world_after}
 use Rattle.lpc_model.specs.Message.{as_reply, message_test}
 use Rattle.lpc_model.specs.Fields.{msg}
@@ -21,11 +21,13 @@ use Rattle.lpc_names.specs.declared.names.Found.TheVariants.{Item}
 use Rattle.lpc_model.specs.Request.{Sendable, answered_test, datagram_send_test, given_reply, is_spent, nt_reply_port, nt_reply_wait_receive_port, nt_request_port, nt_request_wait_reply_port, optional_message, receive_steps, receive_test, receive_wait, request_steps, request_wait, send_test, sent_by}
 use Rattle.lpc_model.specs.Refusal.{◌>>=◌, found_or, refuse_if}
 use Rattle.lpc_model.specs.SoundWaits.{IsSoundWorld, is_answerable, is_joined, is_message_of}
-use Rattle.lpc_model.proofs.Rows.{has-none, passes-change}
+use Rattle.lpc_model.proofs.Rows.{first-less, has-none, passes-change}
 use Rattle.lpc_model.proofs.Holding.{Holds, bind_holds, found_ok, holds_ok, not_refused}
-use Rattle.lpc_model.proofs.Usable.{HasRoute, IsUsable, birth-same, birth-self, port-usable, queue-open, routed, unspent}
-use Rattle.lpc_model.proofs.SoundWorlds.{is_sure, sure-waits, tables-of}
-use Rattle.lpc_model.proofs.SoundBasics.{sound-awaits, sound-binds, sound-handle, sound-identifier, sound-makes, sound-ordinal, sound-wakes}
+use Rattle.lpc_model.proofs.Births.{birth-same, birth-self}
+use Rattle.lpc_model.proofs.Handles.{open-new}
+use Rattle.lpc_model.proofs.Usable.{CanCall, HasRoute, IsUsable, port-usable, queue-open, routed, unspent}
+use Rattle.lpc_model.proofs.SoundWorlds.{is_sure, order-of, sure-waits}
+use Rattle.lpc_model.proofs.SoundBasics.{once-awaits, sound-awaits, sound-binds, sound-handle, sound-identifier, sound-makes, sound-ordinal, sound-wakes}
 use Rattle.lpc_model.proofs.SoundQueues.{after-append, is_ready, ready-sure, sound-enter, sound-take}
 
 -- the steps leave a sound world
@@ -44,17 +46,17 @@ created-sound w by kind s =
 makes-sound : (w : World) (by : ThreadRow) (made : List Basic) → LeaveSound w (create_steps by made (free_handle w by.process)) → Holds (LeaveSound w) (handles_test w by.process 1 >>= (λ _. Ok (create_steps by made (free_handle w by.process))))
 makes-sound w by made s = bind_holds (handles_test w by.process 1) _ (LeaveSound w) (λ _ _. s)
 
--- so with a name, and without
-making-sound : (w : World) (by : ThreadRow) (name : Option (List ℕ)) → IsSoundWorld w → Holds (λ made. LeaveSound w (create_steps by made (free_handle w by.process))) (making w (next_birth by) name)
-making-sound w by None s = created-sound w by Unnamed s
-making-sound w by (Some name) s =
-    bind_holds (free_name w name) _ (λ made. LeaveSound w (create_steps by made (free_handle w by.process))) (λ path _. sound-binds _ path (Stands (Item (next_birth by))) (created-sound w by Connection s))
+-- so with a name, and without; the port that gets a name is open
+making-sound : (w : World) (by : ThreadRow) (name : Option (List ℕ)) → CanCall w by → IsSoundWorld w → Holds (λ made. LeaveSound w (create_steps by made (free_handle w by.process))) (making w (next_birth by) name)
+making-sound w by None c s = created-sound w by Unnamed s
+making-sound w by (Some name) c s =
+    bind_holds (free_name w name) _ (λ made. LeaveSound w (create_steps by made (free_handle w by.process))) (λ path _. sound-binds _ path (Stands (Item (next_birth by))) (open-new w by.process (free_handle w by.process) PORT_ACCESS (next_birth by) c.home) (created-sound w by Connection s))
 
-pub create-sound : (w : World) (by : ThreadRow) (name : Option (List ℕ)) → IsSoundWorld w → Holds (LeaveSound w) (nt_create_port w by name)
+pub create-sound : (w : World) (by : ThreadRow) (name : Option (List ℕ)) → CanCall w by → IsSoundWorld w → Holds (LeaveSound w) (nt_create_port w by name)
 unfolding nt_create_port
-create-sound w by name s =
+create-sound w by name c s =
     bind_holds (making w (next_birth by) name) _ (LeaveSound w) (λ made at.
-    makes-sound w by made (holds_ok (λ made. LeaveSound w (create_steps by made (free_handle w by.process))) (making w (next_birth by) name) made (making-sound w by name s) at))
+    makes-sound w by made (holds_ok (λ made. LeaveSound w (create_steps by made (free_handle w by.process))) (making w (next_birth by) name) made (making-sound w by name c s) at))
 
 -- Messages that are sent
 -- what the tests of a message that is sent find
@@ -67,12 +69,12 @@ send-routed w by handle bytes =
     routed w port queue (holds_ok (IsUsable w) (port_test w by handle) port (port-usable w by handle) at) (found_ok (route w port) PORT_DISCONNECTED queue way))))
 
 -- a message enters a sound world
-entered-sound : (w : World) (m : MessageRow) → IsSoundWorld w → LeaveSound w (enter m w)
-entered-sound w m s = sound-enter w m (every-more (is_sure w) (is_ready w m) (ready-sure w m) w.waits (sure-waits w s)) (tables-of w s)
+pub entered-sound : (w : World) (m : MessageRow) → IsSoundWorld w → LeaveSound w (enter m w)
+entered-sound w m s = sound-enter w m (every-more (is_sure w) (is_ready w m) (ready-sure w m) w.waits (sure-waits w s)) s.once (order-of w s)
 
 -- NtRequestWaitReplyPort
 -- its sender draws an identifier, and lives on
-drawn-client : (w : World) (by : ThreadRow) → is_client w (client_of by) ≡ true → is_client (basic w (DrawsIdentifier by.number)) (client_of by) ≡ true
+pub drawn-client : (w : World) (by : ThreadRow) → is_client w (client_of by) ≡ true → is_client (basic w (DrawsIdentifier by.number)) (client_of by) ≡ true
 drawn-client w by is = rw (passes-change (is_live_thread by.number) (λ t. t.process == by.process) (is_thread by.number) past_identifier (λ t. refl) (λ t. refl) w.threads) is
 
 own-message : (by : ThreadRow) (port : PortRow) (queue : Birth) (m : Message) → is_message_of (request_wait by port.birth queue (sent_by by REQUEST m)) (row_of queue port (sent_by by REQUEST m)) ≡ true
@@ -91,20 +93,21 @@ request-ready w by port queue m client r =
     ready-parts (is_client (basic w (DrawsIdentifier by.number)) (client_of by)) (is_open w port.birth) (is_open w queue) (has (is_message_of x) (w.messages ++ row ∷ [])) (is_answerable w x)
     (drawn-client w by client) r.from r.to stands r.answers
 
-requested-sound : (w : World) (by : ThreadRow) (port : PortRow) (queue : Birth) (m : Message) → IsSoundWorld w → is_client w (client_of by) ≡ true → HasRoute w port queue
+requested-sound : (w : World) (by : ThreadRow) (port : PortRow) (queue : Birth) (m : Message) → IsSoundWorld w → CanCall w by → HasRoute w port queue
     → LeaveSound w (request_steps by port queue (sent_by by REQUEST m) w)
-requested-sound w by port queue m s client r =
+requested-sound w by port queue m s c r =
     let row = row_of queue port (sent_by by REQUEST m) in
     let x = request_wait by port.birth queue (sent_by by REQUEST m) in
     let drawn = basic w (DrawsIdentifier by.number) in
-    let others = every-more (is_sure drawn) (is_ready drawn row) (ready-sure drawn row) w.waits (sure-waits drawn (sound-identifier w by.number s)) in
-    sound-enter (basic drawn (Awaits x)) row (every-push (is_ready drawn row) w.waits x others (request-ready w by port queue m client r)) (tables-of w s)
+    let t = sound-identifier w by.number s in
+    let others = every-more (is_sure drawn) (is_ready drawn row) (ready-sure drawn row) w.waits (sure-waits drawn t) in
+    sound-enter (basic drawn (Awaits x)) row (every-push (is_ready drawn row) w.waits x others (request-ready w by port queue m c.client r)) (once-awaits w x c.idle s.once) (order-of drawn t)
 
-pub request-sound : (w : World) (by : ThreadRow) (handle : ℕ) (bytes : List ℕ) → is_client w (client_of by) ≡ true → IsSoundWorld w → Holds (LeaveSound w) (nt_request_wait_reply_port w by handle bytes)
+pub request-sound : (w : World) (by : ThreadRow) (handle : ℕ) (bytes : List ℕ) → CanCall w by → IsSoundWorld w → Holds (LeaveSound w) (nt_request_wait_reply_port w by handle bytes)
 unfolding nt_request_wait_reply_port
-request-sound w by handle bytes client s =
+request-sound w by handle bytes c s =
     bind_holds (send_test w by handle bytes) _ (LeaveSound w) (λ sendable is.
-    requested-sound w by sendable.port sendable.queue sendable.message s client
+    requested-sound w by sendable.port sendable.queue sendable.message s c
     (holds_ok (λ (s : Sendable). HasRoute w s.port s.queue) (send_test w by handle bytes) sendable (send-routed w by handle bytes) is))
 
 -- NtRequestPort
@@ -127,13 +130,14 @@ reply-sound w by handle bytes s =
 record IsReplied (w : World) (bs : List Basic) : Type 0 where
   waits : List WaitRow
   world : world_after w bs ≡ record w { waits = waits }
+  idle : (tid : ℕ) → wait_of w tid ≡ None → first (waits_as tid) waits ≡ None
   sound : LeaveSound w bs
 
 replied : (w : World) (port : PortRow) (o : Option Message) → IsSoundWorld w → Holds (IsReplied w) (given_reply w port o)
-replied w port None s = record { waits = w.waits; world = refl; sound = s }
+replied w port None s = record { waits = w.waits; world = refl; idle = λ tid none. none; sound = s }
 replied w port (Some m) s =
     bind_holds (answered_test w port m) _ (IsReplied w) (λ x _.
-    record { waits = without (waits_as x.thread) w.waits; world = refl; sound = sound-wakes w x.thread x.call SUCCESS (msg (as_reply m) ∷ []) s })
+    record { waits = without (waits_as x.thread) w.waits; world = refl; idle = λ tid none. first-less (waits_as tid) (waits_as x.thread) w.waits none; sound = sound-wakes w x.thread x.call SUCCESS (msg (as_reply m) ∷ []) s })
 
 -- a receive finds its queue open, and a message can come where none stands in it
 record CanWait (w : World) (port : PortRow) (queue : Birth) : Type 0 where
@@ -157,28 +161,33 @@ receive-parts c o q h j one two three four five = grind arith
 turned : (a b : Birth) → same_birth a b ≡ false → same_birth b a ≡ false
 turned a b off = grind (arith, nat_tests)
 
+-- it takes nothing of another queue
+not-taken : (by : ThreadRow) (port queue : Birth) (m : MessageRow) → same_birth queue m.queue ≡ false → takes m (receive_wait by port queue) ≡ false
+not-taken by port queue m off = grind arith
+
 receive-sure : (w : World) (by : ThreadRow) (port : PortRow) (queue : Birth) → is_client w (client_of by) ≡ true → CanWait w port queue → first (is_queued queue) w.messages ≡ None → is_sure w (receive_wait by port.birth queue) ≡ true
 receive-sure w by port queue client c none =
     let x = receive_wait by port.birth queue in
-    let nothing = has_none-more (is_queued queue) (λ m. takes m x) (λ m off. turned m.queue queue off) w.messages (has-none (is_queued queue) w.messages none) in
+    let nothing = has_none-more (is_queued queue) (λ m. takes m x) (λ m off. not-taken by port.birth queue m (turned m.queue queue off)) w.messages (has-none (is_queued queue) w.messages none) in
     let joined : passes (port_row w port.birth) is_joined ≡ true = rw c.usable.stands (c.unspent none) in
     receive-parts (is_client w (client_of by)) (is_open w port.birth) (is_open w queue) (has (λ m. takes m x) w.messages) (passes (port_row w port.birth) is_joined)
     client c.usable.opens c.opens nothing joined
 
-received-sound : (w : World) (by : ThreadRow) (port : PortRow) (queue : Birth) (bs : List Basic) (o : Option MessageRow) → first (is_queued queue) w.messages ≡ o → is_client w (client_of by) ≡ true → CanWait w port queue → IsReplied w bs → LeaveSound w (receive_steps by port queue bs o)
-received-sound w by port queue bs (Some m) at client c r =
+received-sound : (w : World) (by : ThreadRow) (port : PortRow) (queue : Birth) (bs : List Basic) (o : Option MessageRow) → first (is_queued queue) w.messages ≡ o → CanCall w by → CanWait w port queue → IsReplied w bs → LeaveSound w (receive_steps by port queue bs o)
+received-sound w by port queue bs (Some m) at can c r =
     let same : queue ≡ m.queue = sym (birth-same m.queue queue (first-passes (is_queued queue) w.messages m at)) in
     let oldest = subst (λ q. first (is_queued q) w.messages ≡ Some m) same at in
     let taken = sound-take (world_after w bs) m (rw (ap (λ v. v.messages) r.world) oldest) r.sound in
     rw (after-append w bs (take_steps m)) taken
-received-sound w by port queue bs None at client c r =
+received-sound w by port queue bs None at can c r =
     let x = receive_wait by port.birth queue in
-    let sure = subst (λ v. is_sure v x ≡ true) (sym r.world) (receive-sure w by port queue client c at) in
-    rw (after-append w bs (Awaits x ∷ [])) (sound-awaits (world_after w bs) x sure r.sound)
+    let sure = subst (λ v. is_sure v x ≡ true) (sym r.world) (receive-sure w by port queue can.client c at) in
+    let idle : wait_of (world_after w bs) by.number ≡ None = rw r.world (r.idle by.number can.idle) in
+    rw (after-append w bs (Awaits x ∷ [])) (sound-awaits (world_after w bs) x sure idle r.sound)
 
-pub receive-sound : (w : World) (by : ThreadRow) (handle : ℕ) (bytes : Option (List ℕ)) → is_client w (client_of by) ≡ true → IsSoundWorld w → Holds (LeaveSound w) (nt_reply_wait_receive_port w by handle bytes)
+pub receive-sound : (w : World) (by : ThreadRow) (handle : ℕ) (bytes : Option (List ℕ)) → CanCall w by → IsSoundWorld w → Holds (LeaveSound w) (nt_reply_wait_receive_port w by handle bytes)
 unfolding nt_reply_wait_receive_port
-receive-sound w by handle bytes client s =
+receive-sound w by handle bytes caller s =
     bind_holds (port_test w by handle) _ (LeaveSound w) (λ port at.
     bind_holds (optional_message bytes) _ (LeaveSound w) (λ m _.
     bind_holds (receive_test w port) _ (LeaveSound w) (λ queue can.
@@ -186,4 +195,4 @@ receive-sound w by handle bytes client s =
     let u = holds_ok (IsUsable w) (port_test w by handle) port (port-usable w by handle) at in
     let c = holds_ok (CanWait w port) (receive_test w port) queue (can-wait w port u) can in
     let r = holds_ok (IsReplied w) (given_reply w port m) bs (replied w port m s) made in
-    received-sound w by port queue bs (first (is_queued queue) w.messages) refl client c r))))
+    received-sound w by port queue bs (first (is_queued queue) w.messages) refl caller c r))))

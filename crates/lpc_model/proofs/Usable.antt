@@ -8,44 +8,45 @@ use Rattle.lpc_base.specs.declared.port_kind.PortKind.{PortKind}
 use Rattle.lpc_base.specs.declared.port_kind.PortKind.TheVariants.{Client, Connection, Server, Unnamed}
 use Rattle.lpc_base.specs.declared.status.TheConstants.{ACCESS_DENIED, INVALID_HANDLE, OBJECT_TYPE_MISMATCH}
 use Rattle.lpc_base.proofs.RowWords.{first-passes}
+use Rattle.lpc_base.proofs.RowMaps.{every-first}
 use Rattle.lpc_model.specs.declared.entry.ObjectKind.TheVariants as kind
 use Rattle.lpc_model.specs.World.{Birth, HandleRow, HandleTable, MessageRow, PortRow, ThreadRow, World}
 use Rattle.lpc_model.specs.Refusal.{refuse_if}
-use Rattle.lpc_model.specs.Found.{handle_at, has_value, if_open, is_cut, is_live_thread, is_open, is_port, is_queued, is_table, live_thread, names_port, pair_of, port_row, queue_of, route, rows_in, same_birth, same_kind, way}
+use Rattle.lpc_model.specs.Found.{handle_at, has_value, if_open, is_cut, is_live_thread, is_open, is_port, is_queued, is_table, live_thread, names_port, pair_of, port_row, queue_of, route, rows_in, same_birth, same_kind, wait_of, way}
 use Rattle.lpc_model.specs.Tests.{PORT_RIGHT, client_of, includes, is_client, object_test, own_handle, port_test}
 use Rattle.lpc_model.specs.Request.{is_spent}
-use Rattle.lpc_model.specs.SoundWaits.{is_joined}
+use Rattle.lpc_model.specs.SoundWaits.{IsSoundWorld, has_home, is_joined}
+use Rattle.lpc_model.proofs.Rows.{has-found}
+use Rattle.lpc_model.proofs.Births.{birth-same, birth-self}
 use Rattle.lpc_model.proofs.Holding.{Holds, bind_holds, found_holds, found_ok, holds_ok, not_refused}
 
--- Births
-pub birth-self : (b : Birth) → same_birth b b ≡ true
-birth-self b = grind (arith, nat_tests)
-
-birth-parts : (a b c d e f : ℕ) → a ≡ d → b ≡ e → c ≡ f → let x : Birth = record { maker = a; ordinal = b; process = c } in let y : Birth = record { maker = d; ordinal = e; process = f } in x ≡ y
-birth-parts a b c d e f p q r = rw (p, q, r) refl
-
-pub birth-same : (a b : Birth) → same_birth a b ≡ true → a ≡ b
-birth-same a b is =
-    let maker : (a.maker == b.maker) ≡ true = grind arith in
-    let ordinal : (a.ordinal == b.ordinal) ≡ true = grind arith in
-    let process : (a.process == b.process) ≡ true = grind arith in
-    birth-parts _ _ _ _ _ _ (eqb-true _ _ maker) (eqb-true _ _ ordinal) (eqb-true _ _ process)
-
 -- Threads
--- a thread that is live is a client
-pub live-client : (w : World) (tid : ℕ) (by : ThreadRow) → live_thread w tid ≡ Some by → is_client w (client_of by) ≡ true
-live-client w tid by live =
+-- a thread that can make a call: it lives, doesn't wait, and its process has a table of handles
+pub record CanCall (w : World) (by : ThreadRow) : Type 0 where
+  pub client : is_client w (client_of by) ≡ true
+  pub idle : wait_of w by.number ≡ None
+  pub home : has (is_table by.process) w.handles ≡ true
+
+-- a live thread has the number by which it is found
+pub live-number : (w : World) (tid : ℕ) (by : ThreadRow) → live_thread w tid ≡ Some by → by.number ≡ tid
+live-number w tid by live =
     let passed = first-passes (is_live_thread tid) w.threads by live in
-    let number : (by.number == tid) ≡ true = grind arith in
-    let same : by.number ≡ tid = eqb-true _ _ number in
-    rw (same, live) (grind (arith, nat_tests))
+    let number : (by.number == tid) ≡ true = grind arith in eqb-true _ _ number
+
+-- a live thread is a client
+live-client : (w : World) (tid : ℕ) (by : ThreadRow) → live_thread w tid ≡ Some by → is_client w (client_of by) ≡ true
+live-client w tid by live = rw (live-number w tid by live, live) (grind (arith, nat_tests))
+
+-- a live thread that doesn't wait can make a call
+pub can-call : (w : World) (tid : ℕ) (by : ThreadRow) → live_thread w tid ≡ Some by → wait_of w tid ≡ None → IsSoundWorld w → CanCall w by
+can-call w tid by live idle s = record {
+  client = live-client w tid by live;
+  idle = rw (live-number w tid by live) idle;
+  home = every-first (has_home w) (is_live_thread tid) w.threads by s.homes live;
+}
 
 -- Handles
 -- a port that a handle of a process names is open
-has-found : {X : Type 0} (p test : X → Bool) (xs : List X) (x : X) → first test xs ≡ Some x → p x ≡ true → has p xs ≡ true
-has-found p test [] x at is = absurd (cc)
-has-found p test (y ∷ ys) x at is = grind (arith, has-found p test ys x)
-
 has-table : (pid : ℕ) (p : HandleRow → Bool) (ts : List HandleTable) → has p (rows_in (first (is_table pid) ts)) ≡ true → has (λ t. has p t.rows) ts ≡ true
 has-table pid p [] is = absurd (cc)
 has-table pid p (t ∷ ts) is = grind (arith, has-table pid p ts)
@@ -82,7 +83,7 @@ port-usable w by handle =
 
 -- Kinds of port
 -- what holds of each kind of port holds of a port
-by_port_kind : (P : PortRow → Type 0) → ((p : PortRow) → P (record p { kind = Unnamed })) → ((p : PortRow) → P (record p { kind = Connection })) → ((p : PortRow) → P (record p { kind = Client })) → ((p : PortRow) → P (record p { kind = Server })) → (p : PortRow) → P p
+pub by_port_kind : (P : PortRow → Type 0) → ((p : PortRow) → P (record p { kind = Unnamed })) → ((p : PortRow) → P (record p { kind = Connection })) → ((p : PortRow) → P (record p { kind = Client })) → ((p : PortRow) → P (record p { kind = Server })) → (p : PortRow) → P p
 by_port_kind P one two three four p = at p.kind
   where
     at : (kind : PortKind) → P (record p { kind = kind })

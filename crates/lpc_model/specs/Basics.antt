@@ -1,5 +1,5 @@
 -- The basic steps that each line's step is a list of, and what one does.
-use Rattle.std.specs.Prelude.{ℕ, ◌+◌, nat_lt, true, List, [], ◌∷◌, ◌++◌}
+use Rattle.std.specs.Prelude.{ℕ, ◌+◌, nat_lt, true, List, [], ◌∷◌, ◌++◌, map, Some, if◌then◌else◌}
 use Rattle.lpc_base.specs.declared.status.Status.{Status}
 use Rattle.lpc_model.specs.declared.entry.Entry.{Entry}
 use Rattle.lpc_model.specs.declared.entry.Entry.TheVariants as entry
@@ -7,8 +7,8 @@ use Rattle.lpc_model.specs.declared.entry.Field.{Field}
 use Rattle.lpc_model.specs.declared.entry.Outcome.{Outcome}
 use Rattle.lpc_model.specs.declared.entry.Outcome.TheVariants as outcome
 use Rattle.lpc_base.specs.Rows.{change, which, without, without_first}
-use Rattle.lpc_model.specs.World.{World, Birth, CallName, ProcessRow, ThreadRow, UsedThread, HandleRow, HandleTable, PortRow, MessageRow, WaitRow, Node, Path}
-use Rattle.lpc_model.specs.Found.{is_queued, is_table, is_thread, waits_as}
+use Rattle.lpc_model.specs.World.{World, Birth, CallName, ProcessRow, ThreadRow, UsedThread, HandleRow, HandleTable, PortRow, MessageRow, WaitKind, WaitRow, Accepted, Connect, Node, Path}
+use Rattle.lpc_model.specs.Found.{is_port, is_queued, is_queued_connect, is_table, is_thread, waits_as}
 
 -- One change of one row each, or one entry.
 pub data Basic : Type 0 where
@@ -18,11 +18,13 @@ pub data Basic : Type 0 where
   Wakes : ℕ → CallName → Status → List Field → Basic
   -- a thread begins to wait
   Awaits : WaitRow → Basic
-  -- a thread's request is received
+  -- a thread's request or connect is received, and a thread's connect is accepted with the data of an answer
   Receives : ℕ → Basic
-  -- a message enters its queue, and the oldest message of a queue is taken
+  Accepts : ℕ → List ℕ → Basic
+  -- a message enters its queue; the oldest message of a queue is taken, or its oldest connection request
   Enters : MessageRow → Basic
   Takes : Birth → Basic
+  TakesConnect : Birth → Basic
   -- a thread draws its next message identifier, and its next ordinal
   DrawsIdentifier : ℕ → Basic
   DrawsOrdinal : ℕ → Basic
@@ -30,10 +32,38 @@ pub data Basic : Type 0 where
   AddsProcess : ProcessRow → Basic
   AddsThread : ThreadRow → Basic
   Makes : PortRow → Basic
+  -- a client port and a server port become each other's pair, with a context
+  Joins : Birth → Birth → ℕ → Basic
+  -- the connection of a port is completed
+  Completes : Birth → Basic
+  -- a port that nothing holds any longer goes
+  Frees : Birth → Basic
   -- a path is bound to a directory, to a port, or as a link to another path
   Binds : Path → Node Birth → Basic
   -- a process gets a handle
   AddsHandle : ℕ → HandleRow → Basic
+
+-- a connect, accepted with the data of an answer
+abbrev pub accepted_as : List ℕ → WaitKind → WaitKind
+accepted_as reply (Connect m) = Accepted m reply
+accepted_as reply kind = kind
+
+abbrev pub accepted : List ℕ → WaitRow → WaitRow
+accepted reply x = record x { kind = accepted_as reply x.kind }
+
+-- a port with its other end and the context of the connection
+abbrev pub paired : Birth → ℕ → PortRow → PortRow
+paired other context p = record p { pair = Some other; context = context }
+
+-- the two ports of a connection, each with the other; any other port as it is
+abbrev pub joined : Birth → Birth → ℕ → PortRow → PortRow
+joined client server context p =
+    if is_port client p then paired server context p
+    else (if is_port server p then paired client context p else p)
+
+-- a port whose connection is completed
+abbrev pub completed : PortRow → PortRow
+completed p = record p { completed = true }
 
 -- a wait whose request is received
 abbrev pub received : WaitRow → WaitRow
@@ -68,8 +98,10 @@ basic w (Tells e) = w
 basic w (Wakes who call status fields) = record w { waits = without (waits_as who) w.waits }
 basic w (Awaits x) = record w { waits = w.waits ++ x ∷ [] }
 basic w (Receives who) = record w { waits = change (waits_as who) received w.waits }
+basic w (Accepts who reply) = record w { waits = change (waits_as who) (accepted reply) w.waits }
 basic w (Enters m) = record w { messages = w.messages ++ m ∷ [] }
 basic w (Takes q) = record w { messages = without_first (is_queued q) w.messages }
+basic w (TakesConnect q) = record w { messages = without_first (is_queued_connect q) w.messages }
 basic w (DrawsIdentifier who) = record w { threads = change (is_thread who) past_identifier w.threads }
 basic w (DrawsOrdinal who) = record w { threads = change (is_thread who) past_ordinal w.threads }
 basic w (AddsProcess p) =
@@ -81,6 +113,9 @@ basic w (AddsProcess p) =
 basic w (AddsThread t) =
     record w { threads = w.threads ++ t ∷ []; used_threads = w.used_threads ++ used t ∷ [] }
 basic w (Makes p) = record w { ports = w.ports ++ p ∷ [] }
+basic w (Joins client server context) = record w { ports = map (joined client server context) w.ports }
+basic w (Completes b) = record w { ports = change (is_port b) completed w.ports }
+basic w (Frees b) = record w { ports = without (is_port b) w.ports }
 basic w (Binds path node) = record w { bindings = w.bindings ++ (path, node) ∷ [] }
 basic w (AddsHandle pid h) = record w { handles = change (is_table pid) (with_handle h) w.handles }
 

@@ -1,33 +1,62 @@
--- Shared steps: a wake, a message that is taken, a message that enters a queue.
-use Rattle.std.specs.Prelude.{Bool, List, [], ◌∷◌, ◌++◌}
+-- Shared steps: a wake, a message that is taken, a message that enters a queue, a port that goes.
+use Rattle.std.specs.Prelude.{Bool, List, [], ◌∷◌, ◌++◌, ◌&&◌, ◌||◌, not}
 use Rattle.lpc_base.specs.declared.status.Status.{Status}
 use Rattle.lpc_base.specs.declared.status.TheConstants.{SUCCESS}
 use Rattle.lpc_model.specs.declared.entry.Field.{Field}
 use Rattle.lpc_base.specs.Rows.{first, given, when}
-use Rattle.lpc_model.specs.World.{Birth, Message, MessageRow, PortRow, WaitRow}
-use Rattle.lpc_model.specs.Message.{asks}
-use Rattle.lpc_model.specs.Found.{context_of, receives_on}
-use Rattle.lpc_model.specs.Basics.{Basic, Enters, Receives, Steps, Takes, Wakes}
-use Rattle.lpc_model.specs.Fields.{receipt}
+use Rattle.lpc_model.specs.World.{Birth, Listen, Message, MessageRow, PortRow, WaitRow}
+use Rattle.lpc_model.specs.Message.{asks, is_connection_request}
+use Rattle.lpc_model.specs.Found.{context_of, is_held, is_listen, is_receive, same_birth}
+use Rattle.lpc_model.specs.Basics.{Basic, Enters, Frees, Receives, Steps, Takes, TakesConnect, Wakes}
+use Rattle.lpc_model.specs.Fields.{msg, receipt}
 
 -- a wait ends, and its thread is told
 abbrev pub woken : Status → List Field → WaitRow → Basic
 woken status fields x = Wakes x.thread x.call status fields
 
--- the oldest message of its queue is taken, and where its sender waits for an answer, it is received
+-- a message that is taken is received, where its sender waits for an answer
+abbrev pub receipt_steps : MessageRow → List Basic
+receipt_steps m = when (asks m.message) (Receives m.message.header.client.thread ∷ [])
+
+-- the oldest message of its queue is taken
 abbrev pub take_steps : MessageRow → List Basic
-take_steps m = Takes m.queue ∷ when (asks m.message) (Receives m.message.header.client.thread ∷ [])
+take_steps m = Takes m.queue ∷ receipt_steps m
 
--- the waiter that takes a message that enters its queue
+-- the oldest connection request of its queue is taken
+abbrev pub take_connect_steps : MessageRow → List Basic
+take_connect_steps m = TakesConnect m.queue ∷ receipt_steps m
+
+-- the waiter takes what enters a queue: a receive takes each message, a listen connection requests alone
+abbrev pub takes_from : Birth → Bool → WaitRow → Bool
+takes_from q is_request x = (is_receive x || (is_listen x && is_request)) && same_birth x.queue q
+
 abbrev pub takes : MessageRow → WaitRow → Bool
-takes m x = receives_on m.queue x
+takes m x = takes_from m.queue (is_connection_request m.message) x
 
--- A message enters its queue. Where a thread waits there to receive it, the one that has waited longest takes it at
+-- a waiter takes the message: a receive the oldest one, a listen the oldest connection request
+abbrev pub given_steps : WaitRow → MessageRow → List Basic
+given_steps x m = elim x.kind [
+  | Listen ↦ take_connect_steps m
+  | _ ↦ take_steps m
+]
+
+-- what a waiter is shown of the message that it takes: a listen the message alone, a receive its context too
+abbrev pub shown : WaitRow → MessageRow → List Field
+shown x m = elim x.kind [
+  | Listen ↦ msg m.message ∷ []
+  | _ ↦ receipt m
+]
+
+-- A message enters its queue. Where a thread waits there that takes it, the one that has waited longest does so at
 -- once; a queue on which a thread waits holds nothing that it would take.
 abbrev pub enter : MessageRow → Steps
 enter m w =
-    Enters m ∷ given (first (takes m) w.waits) (λ x. take_steps m ++ woken SUCCESS (receipt m) x ∷ [])
+    Enters m ∷ given (first (takes m) w.waits) (λ x. given_steps x m ++ woken SUCCESS (shown x m) x ∷ [])
 
 -- a message that is sent on a port, in the queue that it enters
 abbrev pub row_of : Birth → PortRow → Message → MessageRow
 row_of queue port m = record { queue = queue; sender = port.birth; context = context_of port; message = m }
+
+-- a port goes where nothing holds it any longer; this stands behind the step that took what may have been the last holder
+abbrev pub free_port : Birth → Steps
+free_port b w = when (not (is_held w b)) (Frees b ∷ [])

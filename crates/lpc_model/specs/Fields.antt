@@ -18,6 +18,14 @@ id n = record { name = name.Id; value = Number n }
 abbrev pub ctx : ℕ → Field
 ctx n = record { name = name.Ctx; value = Hex n }
 
+-- the most bytes of a message on a connection, header included
+abbrev pub max : ℕ → Field
+max n = record { name = name.Max; value = Number n }
+
+-- the bytes that came with the answer to a connect
+abbrev pub info : List ℕ → Field
+info bytes = record { name = name.Info; value = Bytes (record { items = bytes }) }
+
 -- a message, header and data
 abbrev pub msg : Message → Field
 msg m = record { name = name.Msg; value = Bytes (record { items = bytes_of m }) }

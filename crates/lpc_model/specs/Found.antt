@@ -2,11 +2,13 @@
 use Rattle.std.specs.Prelude.{ℕ, ◌==◌, ◌&&◌, ◌||◌, ◌+◌, Bool, true, false, List, [], length, map, Option, Some, None, is_none, option_and_then, if◌then◌else◌}
 use Rattle.lpc_base.specs.Places.{least_handle}
 use Rattle.lpc_model.specs.declared.entry.ObjectKind.TheVariants as kind
-use Rattle.lpc_base.specs.declared.port_kind.PortKind.TheVariants.{Client, Server}
+use Rattle.lpc_base.specs.declared.port_kind.PortKind.TheVariants.{Client, Connection, Server}
 use Rattle.lpc_base.specs.Rows.{first, has, which, count, passes}
 use Rattle.lpc_message.specs.declared.kind.TheConstants.{DATAGRAM}
 use Rattle.lpc_message.specs.declared.message.ClientId.{ClientId}
-use Rattle.lpc_model.specs.World.{World, Birth, ObjectKind, ObjectName, Message, ProcessRow, ThreadRow, HandleRow, HandleTable, PortRow, MessageRow, WaitRow, Request, Receive}
+use Rattle.lpc_model.specs.Message.{is_connection_request}
+use Rattle.lpc_names.specs.Binding.{has_name}
+use Rattle.lpc_model.specs.World.{World, Birth, ObjectKind, ObjectName, Message, ProcessRow, ThreadRow, HandleRow, HandleTable, PortRow, MessageRow, WaitRow, Accepted, Connect, Listen, Receive, Request}
 
 -- Names
 -- two births are one
@@ -105,6 +107,19 @@ is_port b p = same_birth p.birth b
 abbrev pub port_row : World → Birth → Option PortRow
 port_row w b = first (is_port b) w.ports
 
+-- a connection port, and a server port
+abbrev pub is_connection_port : PortRow → Bool
+is_connection_port p = elim p.kind [
+  | Connection ↦ true
+  | _ ↦ false
+]
+
+abbrev pub is_server_port : PortRow → Bool
+is_server_port p = elim p.kind [
+  | Server ↦ true
+  | _ ↦ false
+]
+
 -- a port is open where a handle names it
 abbrev pub has_handle_to : Birth → HandleTable → Bool
 has_handle_to b t = has (λ h. names_port b h.object) t.rows
@@ -156,6 +171,10 @@ pair_of w b = option_and_then (λ p. p.pair) (port_row w b)
 abbrev pub is_queued : Birth → MessageRow → Bool
 is_queued q m = same_birth m.queue q
 
+-- a connection request of a queue
+abbrev pub is_queued_connect : Birth → MessageRow → Bool
+is_queued_connect q m = is_queued q m && is_connection_request m.message
+
 -- a datagram that was sent on a port
 abbrev pub is_datagram_of : Birth → MessageRow → Bool
 is_datagram_of b m = same_birth m.sender b && (m.message.header.kind == DATAGRAM)
@@ -175,6 +194,30 @@ is_receive x = elim x.kind [
   | _ ↦ false
 ]
 
+-- a wait for a connection request
+abbrev pub is_listen : WaitRow → Bool
+is_listen x = elim x.kind [
+  | Listen ↦ true
+  | _ ↦ false
+]
+
+-- a connect that isn't accepted, and one that is
+abbrev pub is_offered : WaitRow → Bool
+is_offered x = elim x.kind [
+  | Connect m ↦ true
+  | _ ↦ false
+]
+
+abbrev pub is_accepted : WaitRow → Bool
+is_accepted x = elim x.kind [
+  | Accepted m reply ↦ true
+  | _ ↦ false
+]
+
+-- a connect, accepted or not
+abbrev pub is_connect : WaitRow → Bool
+is_connect x = is_offered x || is_accepted x
+
 -- a wait for the reply to a request
 abbrev pub is_request : WaitRow → Bool
 is_request x = elim x.kind [
@@ -190,13 +233,18 @@ waits_as tid x = x.thread == tid
 abbrev pub wait_of : World → ℕ → Option WaitRow
 wait_of w tid = first (waits_as tid) w.waits
 
--- a receive that waits on a queue
-abbrev pub receives_on : Birth → WaitRow → Bool
-receives_on q x = is_receive x && same_birth x.queue q
+-- a receive or listen that waits on a queue
+abbrev pub waits_on : Birth → WaitRow → Bool
+waits_on q x = (is_receive x || is_listen x) && same_birth x.queue q
 
 -- the waiters on a queue, in order of waiting
 abbrev pub waiters_on : World → Birth → List WaitRow
-waiters_on w q = which (receives_on q) w.waits
+waiters_on w q = which (waits_on q) w.waits
+
+-- a message names the wait: its thread, its process and its identifier
+abbrev pub names_wait : WaitRow → Message → Bool
+names_wait x m =
+    (x.thread == m.header.client.thread) && ((x.process == m.header.client.process) && (x.identifier == m.header.message_id))
 
 -- A client and an identifier fit a wait through a port: they are the wait's thread, process and identifier, the wait is
 -- a request that was received, and the port is the wait's queue or the pair of its sender port.
@@ -215,6 +263,28 @@ abbrev pub fitted : World → Birth → Message → Option WaitRow
 fitted w port m = first (fits w port m) w.waits
 
 -- Objects
+-- a port has this one as its other end or as its connection port
+abbrev pub is_joined_to : Birth → PortRow → Bool
+is_joined_to b p = is_the b p.pair || is_the b p.connection
+
+-- a message was sent on the port, or stands in its queue
+abbrev pub is_message_at : Birth → MessageRow → Bool
+is_message_at b m = same_birth m.sender b || is_queued b m
+
+-- a wait was made on the port; one was made on it or is on its queue
+abbrev pub is_made_on : Birth → WaitRow → Bool
+is_made_on b x = same_birth x.port b
+
+abbrev pub is_wait_at : Birth → WaitRow → Bool
+is_wait_at b x = is_made_on b x || same_birth x.queue b
+
+-- A port is held by each row that names it: a handle, another port of its connections, a message, a wait, or a name.
+-- Where a port can go its queue was emptied and its name taken before, so the test is made on the rows alone.
+abbrev pub is_held : World → Birth → Bool
+is_held w b =
+    is_open w b || (has (is_joined_to b) w.ports || (has (is_message_at b) w.messages
+    || (has (is_wait_at b) w.waits || has_name same_birth b w.bindings)))
+
 -- how many object rows there are: a process, a thread and a port are objects
 abbrev pub objects : World → ℕ
 objects w = length w.processes + length w.threads + length w.ports

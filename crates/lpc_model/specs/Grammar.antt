@@ -6,13 +6,13 @@ use Rattle.std.specs.Option.{option_map, ok_or}
 use Rattle.std.specs.Str.{bytes_eq}
 use Rattle.lpc_base.specs.declared.limits.TheConstants.{LINE_LIMIT}
 use Rattle.lpc_model.specs.declared.entry.CallName.{CallName}
-use Rattle.lpc_model.specs.declared.entry.CallName.TheVariants.{NtCreatePort, NtRequestPort, NtRequestWaitReplyPort, NtReplyPort, NtReplyWaitReceivePort}
+use Rattle.lpc_model.specs.declared.entry.CallName.TheVariants.{NtCreatePort, NtConnectPort, NtListenPort, NtAcceptConnectPort, NtCompleteConnectPort, NtRequestPort, NtRequestWaitReplyPort, NtReplyPort, NtReplyWaitReceivePort}
 use Rattle.lpc_model.specs.declared.entry.Word.{Word}
 use Rattle.lpc_model.specs.declared.entry.Word.TheVariants.{Boot, Thread, Dir, Link}
 use Rattle.lpc_model.specs.declared.fault.LineFault.{LineFault}
 use Rattle.lpc_model.specs.declared.fault.LineFault.TheVariants as fault
-use Rattle.lpc_model.specs.Lines.{ScriptCall, create_port, request_port, request_wait_reply_port, reply_port, reply_wait_receive_port, ScriptLine, boot, thread, dir, link, run}
-use Rattle.lpc_model.specs.Words.{◌>>=◌, fault_if, words, begins, number_word, id_word, is_id, message_word}
+use Rattle.lpc_model.specs.Lines.{ScriptCall, create_port, connect_port, listen_port, accept_connect_port, complete_connect_port, request_port, request_wait_reply_port, reply_port, reply_wait_receive_port, ScriptLine, boot, thread, dir, link, run}
+use Rattle.lpc_model.specs.Words.{◌>>=◌, fault_if, words, begins, number_word, id_word, is_id, message_word, info_word}
 
 -- what stands beside a name in a table
 unfoldable pub named : {A : Type 0} → List (List ℕ × A) → List ℕ → Option A
@@ -22,6 +22,10 @@ named table word = option_map (λ entry. entry.1) (find (λ entry. bytes_eq word
 abbrev pub call_names : List (List ℕ × CallName)
 call_names =
     (codes "NtCreatePort", NtCreatePort)
+    ∷ (codes "NtConnectPort", NtConnectPort)
+    ∷ (codes "NtListenPort", NtListenPort)
+    ∷ (codes "NtAcceptConnectPort", NtAcceptConnectPort)
+    ∷ (codes "NtCompleteConnectPort", NtCompleteConnectPort)
     ∷ (codes "NtRequestPort", NtRequestPort)
     ∷ (codes "NtRequestWaitReplyPort", NtRequestWaitReplyPort)
     ∷ (codes "NtReplyPort", NtReplyPort)
@@ -36,7 +40,21 @@ directive_names = (codes "boot", Boot) ∷ (codes "thread", Thread) ∷ (codes "
 abbrev pub fixed_word : List ℕ → List ℕ → Result Unit LineFault
 fixed_word text word = fault_if (not (bytes_eq word text)) fault.Word
 
--- exactly one word, and exactly two
+-- a quality of service, and a view; each is `-` alone so far
+abbrev pub qos_word : List ℕ → Result Unit LineFault
+qos_word word = fixed_word (codes "-") word
+
+abbrev pub view_word : List ℕ → Result Unit LineFault
+view_word word = fixed_word (codes "-") word
+
+-- whether a connect is accepted: `accept` or `refuse`
+unfoldable pub accept_word : List ℕ → Result Bool LineFault
+accept_word word =
+    if bytes_eq word (codes "accept") then Ok true
+    else (if bytes_eq word (codes "refuse") then Ok false
+    else Err fault.Word)
+
+-- exactly one word, exactly two, and exactly four
 unfoldable pub one_word : List (List ℕ) → Result (List ℕ) LineFault
 one_word (a ∷ []) = Ok a
 one_word others = Err fault.Count
@@ -44,6 +62,10 @@ one_word others = Err fault.Count
 unfoldable pub two_words : List (List ℕ) → Result (List ℕ × List ℕ) LineFault
 two_words (a ∷ b ∷ []) = Ok (a, b)
 two_words others = Err fault.Count
+
+unfoldable pub four_words : List (List ℕ) → Result (List ℕ × List ℕ × List ℕ × List ℕ) LineFault
+four_words (a ∷ b ∷ c ∷ d ∷ []) = Ok (a, b, c, d)
+four_words others = Err fault.Count
 
 -- one word, and perhaps a second
 unfoldable pub one_or_two_words : List (List ℕ) → Result (List ℕ × Option (List ℕ)) LineFault
@@ -61,6 +83,12 @@ given_message (Some word) = do
 -- the name of a new port, which may be any word; `-` gives it none
 abbrev pub port_name : List ℕ → Option (List ℕ)
 port_name word = if bytes_eq word (codes "-") then None else Some word
+
+-- a handle alone
+abbrev pub one_handle : List (List ℕ) → Result ℕ LineFault
+one_handle others = do
+  word ← one_word others
+  number_word word
 
 -- a handle and a message
 abbrev pub handle_and_message : List (List ℕ) → Result (ℕ × List ℕ) LineFault
@@ -83,6 +111,25 @@ unfoldable pub call_words : CallName → List (List ℕ) → Result ScriptCall L
 call_words NtCreatePort others = do
   word ← one_word others
   Ok (create_port (port_name word))
+call_words NtConnectPort others = do
+  four ← four_words others
+  _ ← qos_word four.1
+  _ ← view_word four.2
+  info ← info_word four.3
+  Ok (connect_port four.0 info)
+call_words NtListenPort others = do
+  handle ← one_handle others
+  Ok (listen_port handle)
+call_words NtAcceptConnectPort others = do
+  four ← four_words others
+  context ← number_word four.0
+  message ← message_word four.1
+  accept ← accept_word four.2
+  _ ← view_word four.3
+  Ok (accept_connect_port context message accept)
+call_words NtCompleteConnectPort others = do
+  handle ← one_handle others
+  Ok (complete_connect_port handle)
 call_words NtRequestPort others = do
   datagram ← handle_and_message others
   Ok (request_port datagram.0 datagram.1)

@@ -22,3 +22,4 @@ pub mod Replies
 pub mod SoundWaits
 pub mod Transcript
 pub mod Worked
+pub mod WorkedConnections

@@ -1,5 +1,5 @@
 -- What a line of a script says, whatever buffer its messages lie in.
-use Rattle.std.specs.Prelude.{ℕ, List, Option}
+use Rattle.std.specs.Prelude.{ℕ, Bool, List, Option}
 use Rattle.std.specs.Option.{option_copied}
 use Rattle.lpc_model.specs.declared.line.Call.{Call}
 use Rattle.lpc_model.specs.declared.line.Call.TheVariants as call
@@ -9,6 +9,10 @@ use Rattle.lpc_model.specs.declared.line.Line.TheVariants as line
 -- a system call with its arguments; a message and a name are their bytes, and an unnamed port has none
 pub data ScriptCall : Type 0 where
   create_port : Option (List ℕ) → ScriptCall
+  connect_port : List ℕ → List ℕ → ScriptCall
+  listen_port : ℕ → ScriptCall
+  accept_connect_port : ℕ → List ℕ → Bool → ScriptCall
+  complete_connect_port : ℕ → ScriptCall
   request_port : ℕ → List ℕ → ScriptCall
   request_wait_reply_port : ℕ → List ℕ → ScriptCall
   reply_port : ℕ → List ℕ → ScriptCall
@@ -25,6 +29,10 @@ pub data ScriptLine : Type 0 where
 -- a call without the bytes that it is lent
 abbrev pub call_of : Call → ScriptCall
 call_of (call.CreatePort name) = create_port (option_copied name)
+call_of (call.ConnectPort name info) = connect_port name.now info.now
+call_of (call.ListenPort handle) = listen_port handle
+call_of (call.AcceptConnectPort context message accept) = accept_connect_port context message.now accept
+call_of (call.CompleteConnectPort handle) = complete_connect_port handle
 call_of (call.RequestPort handle message) = request_port handle message.now
 call_of (call.RequestWaitReplyPort handle message) = request_wait_reply_port handle message.now
 call_of (call.ReplyPort handle message) = reply_port handle message.now

@@ -7,21 +7,25 @@ use Rattle.lpc_model.specs.declared.entry.Entry.{Entry}
 use Rattle.lpc_model.specs.declared.entry.Entry.TheVariants.{Answer, Busy, Directive, NoThread}
 use Rattle.lpc_model.specs.declared.entry.Word.{Word}
 use Rattle.lpc_model.specs.declared.entry.Word.TheVariants as word
-use Rattle.lpc_model.specs.declared.entry.CallName.TheVariants.{NtCreatePort, NtReplyPort, NtReplyWaitReceivePort, NtRequestPort, NtRequestWaitReplyPort}
+use Rattle.lpc_model.specs.declared.entry.CallName.TheVariants.{NtAcceptConnectPort, NtCompleteConnectPort, NtConnectPort, NtCreatePort, NtListenPort, NtReplyPort, NtReplyWaitReceivePort, NtRequestPort, NtRequestWaitReplyPort}
 use Rattle.lpc_model.specs.Refusal.{◌>>=◌, refuse_if}
 use Rattle.lpc_model.specs.World.{World, Birth, CallName, ProcessRow, ThreadRow, WaitRow}
 use Rattle.lpc_model.specs.Found.{is_live, live_count, live_thread, wait_of, was_process, was_thread}
 use Rattle.lpc_model.specs.Basics.{AddsProcess, AddsThread, Basic, Binds, Steps, Tells, entries_of, world_after}
-use Rattle.lpc_model.specs.Connect.{nt_create_port}
+use Rattle.lpc_model.specs.Connect.{nt_accept_connect_port, nt_complete_connect_port, nt_connect_port, nt_create_port, nt_listen_port}
 use Rattle.lpc_model.specs.Named.{free_name, spelled_name}
 use Rattle.lpc_names.specs.Walk.{LinkTo, Stands}
 use Rattle.lpc_names.specs.declared.names.Found.TheVariants.{Directory}
 use Rattle.lpc_model.specs.Request.{nt_reply_port, nt_reply_wait_receive_port, nt_request_port, nt_request_wait_reply_port}
-use Rattle.lpc_model.specs.Lines.{ScriptCall, create_port, request_port, request_wait_reply_port, reply_port, reply_wait_receive_port, ScriptLine, boot, thread, dir, link, run}
+use Rattle.lpc_model.specs.Lines.{ScriptCall, create_port, connect_port, listen_port, accept_connect_port, complete_connect_port, request_port, request_wait_reply_port, reply_port, reply_wait_receive_port, ScriptLine, boot, thread, dir, link, run}
 
 -- the name of a call
 abbrev pub name_of : ScriptCall → CallName
 name_of (create_port name) = NtCreatePort
+name_of (connect_port name info) = NtConnectPort
+name_of (listen_port handle) = NtListenPort
+name_of (accept_connect_port context message accept) = NtAcceptConnectPort
+name_of (complete_connect_port handle) = NtCompleteConnectPort
 name_of (request_port handle message) = NtRequestPort
 name_of (request_wait_reply_port handle message) = NtRequestWaitReplyPort
 name_of (reply_port handle message) = NtReplyPort
@@ -30,6 +34,10 @@ name_of (reply_wait_receive_port handle reply) = NtReplyWaitReceivePort
 -- the service that serves a call
 abbrev pub service_of : World → ThreadRow → ScriptCall → Result (List Basic) Status
 service_of w by (create_port name) = nt_create_port w by name
+service_of w by (connect_port name info) = nt_connect_port w by name info
+service_of w by (listen_port handle) = nt_listen_port w by handle
+service_of w by (accept_connect_port context message accept) = nt_accept_connect_port w by context message accept
+service_of w by (complete_connect_port handle) = nt_complete_connect_port w by handle
 service_of w by (request_port handle message) = nt_request_port w by handle message
 service_of w by (request_wait_reply_port handle message) = nt_request_wait_reply_port w by handle message
 service_of w by (reply_port handle message) = nt_reply_port w by handle message

@@ -4,8 +4,10 @@ use Rattle.std.specs.List.{AllByRecursion}
 use Rattle.lpc_base.specs.Rows.{count, every, has, passes}
 use Rattle.lpc_base.specs.declared.port_kind.PortKind.TheVariants.{Client}
 use Rattle.lpc_message.specs.declared.message.ClientId.{ClientId}
-use Rattle.lpc_model.specs.World.{Message, MessageRow, PortRow, Receive, Request, WaitKind, WaitRow, World}
-use Rattle.lpc_model.specs.Found.{is_cut, is_open, is_queued, is_request, is_table, pair_of, port_row, same_birth, was_process}
+use Rattle.lpc_names.specs.Walk.{LinkTo, Stands}
+use Rattle.lpc_names.specs.declared.names.Found.TheVariants.{Directory, Item}
+use Rattle.lpc_model.specs.World.{Accepted, Birth, Connect, Listen, MessageRow, Node, PortRow, Receive, Request, ThreadRow, WaitKind, WaitRow, World}
+use Rattle.lpc_model.specs.Found.{is_cut, is_open, is_port, is_queued, is_table, names_wait, pair_of, port_row, same_birth, waits_as, was_process}
 use Rattle.lpc_model.specs.Message.{asks}
 use Rattle.lpc_model.specs.Entering.{takes}
 use Rattle.lpc_model.specs.Tests.{is_client}
@@ -14,12 +16,7 @@ use Rattle.lpc_model.specs.Machine.{step}
 use Rattle.lpc_model.specs.Run.{run_of}
 
 -- Requests
--- a message names the wait: its thread, its process and its identifier
-abbrev pub names_wait : WaitRow → Message → Bool
-names_wait x m =
-    (x.thread == m.header.client.thread) && ((x.process == m.header.client.process) && (x.identifier == m.header.message_id))
-
--- the message of a request: it stands in the request's queue, names its wait, and asks
+-- the message of a request or connect: it stands in the wait's queue, names the wait, and asks
 abbrev pub is_message_of : WaitRow → MessageRow → Bool
 is_message_of x m = is_queued x.queue m && (names_wait x m.message && asks m.message)
 
@@ -35,7 +32,7 @@ is_answerable w x = same_birth x.port x.queue || is_some (pair_of w x.port)
 abbrev pub is_sound_request : World → WaitRow → Bool
 is_sound_request w x = is_open w x.port && (if x.received then is_answerable w x else is_pending w x)
 
--- Receives
+-- Receives and listens
 -- what the wait is for has come: a message that it would take stands in its queue
 abbrev pub has_come : World → WaitRow → Bool
 has_come w x = has (λ m. takes m x) w.messages
@@ -52,11 +49,27 @@ abbrev pub is_sound_receive : World → WaitRow → Bool
 is_sound_receive w x =
     is_open w x.port && (is_open w x.queue && (not (has_come w x) && passes (port_row w x.port) is_joined))
 
+-- a listen was made on an open port, its queue is open, and no connection request has come
+abbrev pub is_sound_listen : World → WaitRow → Bool
+is_sound_listen w x = is_open w x.port && (is_open w x.queue && not (has_come w x))
+
+-- Connects
+-- a connect that isn't accepted has an open connection port, in whose queue its request stands until it is received
+abbrev pub is_sound_connect : World → WaitRow → Bool
+is_sound_connect w x = is_open w x.queue && (x.received || has (is_message_of x) w.messages)
+
+-- an accepted connect has a pair, a server port that is open
+abbrev pub is_sound_accepted : World → WaitRow → Bool
+is_sound_accepted w x = passes (pair_of w x.port) (is_open w)
+
 -- Waits
 -- the wait has what waits of a kind need
 abbrev pub is_sound_as : World → WaitRow → WaitKind → Bool
 is_sound_as w x (Request m) = is_sound_request w x
 is_sound_as w x Receive = is_sound_receive w x
+is_sound_as w x Listen = is_sound_listen w x
+is_sound_as w x (Connect m) = is_sound_connect w x
+is_sound_as w x (Accepted m reply) = is_sound_accepted w x
 
 -- the thread that waits, as a message names it
 abbrev pub waiter_of : WaitRow → ClientId
@@ -71,17 +84,43 @@ abbrev pub HasSoundWaits : World → Type 0
 HasSoundWaits w = every (is_sound_wait w) w.waits ≡ true
 
 -- What the lines keep
--- a request can be answered even before it is received
-abbrev pub will_be_answerable : World → WaitRow → Bool
-will_be_answerable w x = not (is_request x) || is_answerable w x
+-- the client port of a connect stands, and was made by the thread that waits
+abbrev pub has_client_port : World → WaitRow → Bool
+has_client_port w x = has (is_port x.port) w.ports && (x.port.maker == x.thread)
+
+-- what a wait of a kind needs to stay sound: a request can be answered even before it is received
+abbrev pub can_stay_as : World → WaitRow → WaitKind → Bool
+can_stay_as w x (Request m) = is_answerable w x
+can_stay_as w x Receive = true
+can_stay_as w x Listen = true
+can_stay_as w x (Connect m) = has_client_port w x
+can_stay_as w x (Accepted m reply) = has_client_port w x
+
+abbrev pub can_stay_sound : World → WaitRow → Bool
+can_stay_sound w x = can_stay_as w x x.kind
+
+-- a name leads to an open port, where it leads to a port
+abbrev pub leads_open : World → Node Birth → Bool
+leads_open w (LinkTo target) = true
+leads_open w (Stands Directory) = true
+leads_open w (Stands (Item port)) = is_open w port
+
+-- the process of a thread has a table of handles
+abbrev pub has_home : World → ThreadRow → Bool
+has_home w t = has (is_table t.process) w.handles
 
 -- A world has sound waits, and what the steps of a line need so that they stay sound.
 pub record IsSoundWorld (w : World) : Type 0 where
   pub waits : HasSoundWaits w
-  pub requests : every (will_be_answerable w) w.waits ≡ true
-  -- a process has one table of handles at most, and none before its number is used
+  pub stay : every (can_stay_sound w) w.waits ≡ true
+  -- a thread waits once
+  pub once : (tid : ℕ) → count (waits_as tid) w.waits ≤ 1
+  -- the ports that names lead to are open
+  pub names : every (λ b. leads_open w b.1) w.bindings ≡ true
+  -- a process has one table of handles at most, none before its number is used, and one where it has a thread
   pub tables : (pid : ℕ) → count (is_table pid) w.handles ≤ 1
   pub unused : (pid : ℕ) → was_process w pid ≡ false → has (is_table pid) w.handles ≡ false
+  pub homes : every (has_home w) w.threads ≡ true
 
 -- the step of each line keeps that
 abbrev pub StepsStaySound : Type 0

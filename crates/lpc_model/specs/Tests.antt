@@ -1,14 +1,14 @@
 -- The tests that several calls share. Each has its refusals in their order, and gives what it found.
-use Rattle.std.specs.Prelude.{ℕ, Bool, ◌+◌, ◌==◌, bit_and, length, nat_lt, not, false, Result, Ok}
+use Rattle.std.specs.Prelude.{ℕ, Bool, ◌&&◌, ◌+◌, ◌==◌, bit_and, length, nat_lt, not, false, Result, Ok}
 use Rattle.lpc_base.specs.declared.limits.TheConstants.{HANDLE_LIMIT}
 use Rattle.lpc_base.specs.declared.status.Status.{Status}
 use Rattle.lpc_base.specs.declared.status.TheConstants.{ACCESS_DENIED, INVALID_CID, INVALID_HANDLE, OBJECT_TYPE_MISMATCH, QUOTA_EXCEEDED, REPLY_MESSAGE_MISMATCH}
 use Rattle.lpc_message.specs.declared.message.ClientId.{ClientId}
-use Rattle.lpc_base.specs.Rows.{passes}
+use Rattle.lpc_base.specs.Rows.{count, passes}
 use Rattle.lpc_model.specs.Refusal.{◌>>=◌, refuse_if, found_or}
 use Rattle.lpc_model.specs.declared.entry.ObjectKind.TheVariants as kind
 use Rattle.lpc_model.specs.World.{World, Birth, CallName, HandleRow, Message, ObjectKind, ObjectName, PortRow, ThreadRow, WaitKind, WaitRow}
-use Rattle.lpc_model.specs.Found.{fitted, handle_at, handles_of, live_thread, port_row, same_kind}
+use Rattle.lpc_model.specs.Found.{fitted, handle_at, handles_of, is_connect, live_thread, port_row, same_kind}
 
 -- the rights of a handle that a call makes to a port
 abbrev pub PORT_ACCESS : ℕ
@@ -53,9 +53,17 @@ client_test w client = refuse_if (not (is_client w client)) INVALID_CID
 abbrev pub fit_test : World → Birth → Message → Result WaitRow Status
 fit_test w port m = found_or (fitted w port m) REPLY_MESSAGE_MISMATCH
 
+-- a connect of a process, which is to get a handle
+abbrev pub is_connect_of : ℕ → WaitRow → Bool
+is_connect_of pid x = is_connect x && (x.process == pid)
+
+-- the handles of a process, with those that its waiting connects are to get
+abbrev pub handle_load : World → ℕ → ℕ
+handle_load w pid = length (handles_of w pid) + count (is_connect_of pid) w.waits
+
 -- the process may have so many more handles
 abbrev pub handles_test : World → ℕ → ℕ → Result Unit Status
-handles_test w pid more = refuse_if (nat_lt HANDLE_LIMIT (length (handles_of w pid) + more)) QUOTA_EXCEEDED
+handles_test w pid more = refuse_if (nat_lt HANDLE_LIMIT (handle_load w pid + more)) QUOTA_EXCEEDED
 
 -- the birth of what a thread makes next
 abbrev pub next_birth : ThreadRow → Birth

@@ -5,12 +5,12 @@ use Rattle.std.specs.Int.{w32, to_be_bytes}
 use Rattle.hex.specs.Hex.{encode_lower}
 use Rattle.lpc_base.specs.declared.status.Status.{Status}
 use Rattle.lpc_model.specs.declared.entry.CallName.{CallName}
-use Rattle.lpc_model.specs.declared.entry.CallName.TheVariants.{NtCreatePort, NtRequestPort, NtRequestWaitReplyPort, NtReplyPort, NtReplyWaitReceivePort}
+use Rattle.lpc_model.specs.declared.entry.CallName.TheVariants.{NtCreatePort, NtConnectPort, NtListenPort, NtAcceptConnectPort, NtCompleteConnectPort, NtRequestPort, NtRequestWaitReplyPort, NtReplyPort, NtReplyWaitReceivePort}
 use Rattle.lpc_model.specs.declared.entry.Entry.{Entry}
 use Rattle.lpc_model.specs.declared.entry.Entry.TheVariants.{Answer, Waits, Wakes, Busy, NoThread, Died, Directive}
 use Rattle.lpc_model.specs.declared.entry.Field.{Field}
 use Rattle.lpc_model.specs.declared.entry.FieldName.{FieldName}
-use Rattle.lpc_model.specs.declared.entry.FieldName.TheVariants.{H, Id, Ctx, Msg, Data}
+use Rattle.lpc_model.specs.declared.entry.FieldName.TheVariants.{H, Id, Ctx, Msg, Data, Max, Info}
 use Rattle.lpc_model.specs.declared.entry.ObjectKind.{ObjectKind}
 use Rattle.lpc_model.specs.declared.entry.ObjectKind.TheVariants as kind
 use Rattle.lpc_model.specs.declared.entry.Value.{Value}
@@ -25,6 +25,10 @@ hex_word n = encode_lower (to_be_bytes w32 n)
 -- the name of a call
 abbrev pub call_text : CallName → List ℕ
 call_text NtCreatePort = codes "NtCreatePort"
+call_text NtConnectPort = codes "NtConnectPort"
+call_text NtListenPort = codes "NtListenPort"
+call_text NtAcceptConnectPort = codes "NtAcceptConnectPort"
+call_text NtCompleteConnectPort = codes "NtCompleteConnectPort"
 call_text NtRequestPort = codes "NtRequestPort"
 call_text NtRequestWaitReplyPort = codes "NtRequestWaitReplyPort"
 call_text NtReplyPort = codes "NtReplyPort"
@@ -52,6 +56,8 @@ name_text Id = codes "id"
 name_text Ctx = codes "ctx"
 name_text Msg = codes "msg"
 name_text Data = codes "data"
+name_text Max = codes "max"
+name_text Info = codes "info"
 
 -- a number in decimal, one of 32 bits in hexadecimal, the name of a kind, or each byte as two hexadecimal digits; no
 -- list that contracts see has the mark for the bytes of a memory read, since those bytes stand in its place

@@ -6,7 +6,7 @@ use Rattle.lpc_model.specs.declared.entry.Entry.{Entry}
 use Rattle.lpc_model.specs.declared.entry.Entry.TheVariants.{Answer, Waits, Wakes, Busy, NoThread, Died, Directive}
 use Rattle.lpc_model.specs.declared.entry.Field.{Field}
 use Rattle.lpc_model.specs.declared.entry.FieldName.{FieldName}
-use Rattle.lpc_model.specs.declared.entry.FieldName.TheVariants.{H, Id, Ctx, Msg, Data}
+use Rattle.lpc_model.specs.declared.entry.FieldName.TheVariants.{H, Id, Ctx, Msg, Data, Max, Info}
 use Rattle.lpc_model.specs.declared.entry.Value.{Value}
 use Rattle.lpc_model.specs.declared.entry.Value.TheVariants.{Number, Hex, Bytes}
 
@@ -16,13 +16,16 @@ pub data Sort : Type 0 where
   in_hexadecimal : Sort
   as_bytes : Sort
 
--- handles and message identifiers are printed in decimal, contexts in hexadecimal, messages and what was read as bytes
+-- handles, message identifiers and lengths are printed in decimal, contexts in hexadecimal, and messages, what was read
+-- and what came with a connect as bytes
 abbrev pub sort_of : FieldName → Sort
 sort_of H = in_decimal
 sort_of Id = in_decimal
 sort_of Ctx = in_hexadecimal
 sort_of Msg = as_bytes
 sort_of Data = as_bytes
+sort_of Max = in_decimal
+sort_of Info = as_bytes
 
 -- a number of 32 bits
 abbrev pub is_word : ℕ → Bool

@@ -3,6 +3,7 @@ use Rattle.std.specs.Prelude.{ℕ, ◌+◌, ◌==◌, ◌||◌, ◌&&◌, nat_eq
 use Rattle.std.specs.Char.{is_digit}
 use Rattle.std.specs.List.{slice_split, starts_with, list_all, position_or_len, before_first, after_first}
 use Rattle.std.specs.Option.{ok_or}
+use Rattle.std.specs.Str.{bytes_eq}
 use Rattle.std.specs.Str.Parse.{digits_value}
 use Rattle.hex.specs.Hex.{decode_of}
 use Rattle.hex.specs.declared.error.FromHexError.{FromHexError}
@@ -118,3 +119,10 @@ message_word word =
     else (if begins (codes "d:") word then hex_message (record { process = 0; thread = 0 }) 0 (drop 2 word)
     else (if begins (codes "r:") word then reply_message (drop 2 word)
     else Err fault.Message))
+
+-- INFO: `-` for no bytes, or `d:` and the bytes
+unfoldable pub info_word : List ℕ → Result (List ℕ) LineFault
+info_word word =
+    if bytes_eq word (codes "-") then Ok []
+    else (if begins (codes "d:") word then hex_word (drop 2 word)
+    else Err fault.Message)

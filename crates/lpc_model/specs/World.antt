@@ -45,13 +45,14 @@ pub record HandleTable : Type 0 where
   pub rows : List HandleRow
 
 -- a port; the connection port of a client or server port; the other end of a connection, none where it was never made
--- or is cut; what the server gave the connection when it accepted it
+-- or is cut; what the server gave the connection when it accepted it; whether the connection was completed
 pub record PortRow : Type 0 where
   pub birth : Birth
   pub kind : PortKind
   pub connection : Option Birth
   pub pair : Option Birth
   pub context : ℕ
+  pub completed : Bool
 
 -- a message that stands in the queue of a port, the port on which it was sent, and the context that a receive shows
 pub record MessageRow : Type 0 where
@@ -60,13 +61,19 @@ pub record MessageRow : Type 0 where
   pub context : ℕ
   pub message : Message
 
--- what a thread waits for: the reply to a request, which was sent so, or a message
+-- What a thread waits for: the reply to a request, which was sent so; a message; a connection request; that its connect,
+-- whose request was sent so, is accepted or refused; and, once it was accepted with the data of an answer, that it is
+-- completed.
 pub data WaitKind : Type 0 where
   Request : Message → WaitKind
   Receive : WaitKind
+  Listen : WaitKind
+  Connect : Message → WaitKind
+  Accepted : Message → List ℕ → WaitKind
 
--- The wait of a thread, which has one at most: its call, the port on which the call was made, the queue that the request
--- entered or on which a receive waits, the identifier of the request (0 for a receive), and whether it was received.
+-- The wait of a thread, which has one at most: its call; the port on which the call was made, for a connect the client
+-- port that it made; the queue that the request entered or on which a receive or listen waits; the identifier of the
+-- request (0 for a receive or listen); and whether it was received.
 pub record WaitRow : Type 0 where
   pub call : CallName
   pub thread : ℕ

@@ -13,6 +13,10 @@ use std::marker::Model;
 #[derive(Clone, Copy, Debug, PartialEq, Eq)]
 pub enum CallName {
     NtCreatePort,
+    NtConnectPort,
+    NtListenPort,
+    NtAcceptConnectPort,
+    NtCompleteConnectPort,
     NtRequestPort,
     NtRequestWaitReplyPort,
     NtReplyPort,
@@ -62,6 +66,10 @@ pub enum FieldName {
     Msg,
     /// The bytes that a call read.
     Data,
+    /// The most bytes of a message on a connection, header included.
+    Max,
+    /// The bytes that came with a connection request, or with its answer.
+    Info,
 }
 
 /// The value of a field.

@@ -10,6 +10,26 @@ pub enum Call<'a> {
     CreatePort {
         name: Option<&'a [u8]>,
     },
+    /// `NtConnectPort NAME - - INFO`: asks the connection port of a name for a connection, with the bytes of INFO, none
+    /// where the word is `-`, and waits until the server completes or refuses it.
+    ConnectPort {
+        name: &'a [u8],
+        info: &'a [u8],
+    },
+    /// `NtListenPort H`: takes the oldest connection request of a connection port's queue, or waits for one.
+    ListenPort {
+        handle: u32,
+    },
+    /// `NtAcceptConnectPort CTX MSG accept|refuse -`: accepts or refuses the connect that the message names.
+    AcceptConnectPort {
+        context: u32,
+        message: &'a [u8],
+        accept: bool,
+    },
+    /// `NtCompleteConnectPort H`: completes the connection of a server port, and wakes the client.
+    CompleteConnectPort {
+        handle: u32,
+    },
     /// `NtRequestPort H MSG`: sends a datagram on a port and waits for nothing.
     RequestPort {
         handle: u32,
