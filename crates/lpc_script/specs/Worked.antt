@@ -1,8 +1,8 @@
 -- Lines that were worked by hand, beside what they say or their first fault.
-use Rattle.std.specs.Prelude.{◌≡◌, ◌<◌, ℕ, List, length, [], ◌∷◌, ◌++◌, codes, Some, None, Ok, Err}
+use Rattle.std.specs.Prelude.{◌≡◌, ◌<◌, ℕ, true, false, List, length, [], ◌∷◌, ◌++◌, codes, Some, None, Ok, Err}
 use Rattle.lpc_base.specs.declared.limits.TheConstants.{LINE_LIMIT}
 use Rattle.lpc_model.specs.declared.fault.LineFault.TheVariants as fault
-use Rattle.lpc_model.specs.Lines.{boot, thread, dir, link, run, create_port, request_port, request_wait_reply_port, reply_port, reply_wait_receive_port}
+use Rattle.lpc_model.specs.Lines.{boot, thread, dir, link, run, create_port, connect_port, listen_port, accept_connect_port, complete_connect_port, request_port, request_wait_reply_port, reply_port, reply_wait_receive_port}
 use Rattle.lpc_model.specs.Grammar.{read_line}
 
 pub record WorkedLines : Type 0 where
@@ -15,6 +15,20 @@ pub record WorkedLines : Type 0 where
   pub unnamed_port : read_line (codes "24 NtCreatePort -") ≡ Ok (Some (run 24 (create_port None)))
   pub named_port : read_line (codes "24 NtCreatePort \\Windows\\ApiPort") ≡ Ok (Some (run 24 (create_port (Some (codes "\\Windows\\ApiPort")))))
   pub port_of_any_name : read_line (codes "24 NtCreatePort --") ≡ Ok (Some (run 24 (create_port (Some (codes "--")))))
+  pub connect : read_line (codes "36 NtConnectPort \\Windows\\ApiPort - - -") ≡ Ok (Some (run 36 (connect_port (codes "\\Windows\\ApiPort") [])))
+  pub connect_to_a_directory : read_line (codes "24 NtConnectPort \\Windows - - -") ≡ Ok (Some (run 24 (connect_port (codes "\\Windows") [])))
+  pub connect_with_info : read_line (codes "36 NtConnectPort \\Windows\\ApiPort - - d:4869") ≡ Ok (Some (run 36 (connect_port (codes "\\Windows\\ApiPort") (72 ∷ 105 ∷ []))))
+  pub connect_with_no_bytes : read_line (codes "24 NtConnectPort - - - d:") ≡ Ok (Some (run 24 (connect_port (codes "-") [])))
+  pub listen : read_line (codes "24 NtListenPort 4") ≡ Ok (Some (run 24 (listen_port 4)))
+  pub accept : read_line (codes "24 NtAcceptConnectPort 7 r:32.36.1: accept -")
+      ≡ Ok (Some (run 24 (accept_connect_port 7
+      (0 ∷ 0 ∷ 24 ∷ 0 ∷ 0 ∷ 0 ∷ 0 ∷ 0 ∷ 32 ∷ 0 ∷ 0 ∷ 0 ∷ 36 ∷ 0 ∷ 0 ∷ 0 ∷ 1 ∷ 0 ∷ 0 ∷ 0 ∷ 0 ∷ 0 ∷ 0 ∷ 0 ∷ []) true)))
+  pub accept_of_another_client : read_line (codes "24 NtAcceptConnectPort 9 r:40.44.1: accept -")
+      ≡ Ok (Some (run 24 (accept_connect_port 9
+      (0 ∷ 0 ∷ 24 ∷ 0 ∷ 0 ∷ 0 ∷ 0 ∷ 0 ∷ 40 ∷ 0 ∷ 0 ∷ 0 ∷ 44 ∷ 0 ∷ 0 ∷ 0 ∷ 1 ∷ 0 ∷ 0 ∷ 0 ∷ 0 ∷ 0 ∷ 0 ∷ 0 ∷ []) true)))
+  pub refusal : read_line (codes "24 NtAcceptConnectPort 0 m:4e6f refuse -") ≡ Ok (Some (run 24 (accept_connect_port 0 (78 ∷ 111 ∷ []) false)))
+  pub complete : read_line (codes "24 NtCompleteConnectPort 8") ≡ Ok (Some (run 24 (complete_connect_port 8)))
+  pub complete_in_hexadecimal : read_line (codes "24 NtCompleteConnectPort 0x8") ≡ Ok (Some (run 24 (complete_connect_port 8)))
   pub receive : read_line (codes "28 NtReplyWaitReceivePort 4294967295") ≡ Ok (Some (run 28 (reply_wait_receive_port 4294967295 None)))
   pub receive_with_a_reply : read_line (codes "28 NtReplyWaitReceivePort 4 m:4142") ≡ Ok (Some (run 28 (reply_wait_receive_port 4 (Some (65 ∷ 66 ∷ [])))))
   pub datagram : read_line (codes "24 NtRequestPort 4 m:41") ≡ Ok (Some (run 24 (request_port 4 (65 ∷ []))))
@@ -41,6 +55,15 @@ pub record WorkedLines : Type 0 where
   pub too_few_words : read_line (codes "24 NtReplyPort") ≡ Err fault.Count
   pub receive_of_no_handle : read_line (codes "24 NtReplyWaitReceivePort") ≡ Err fault.Count
   pub receive_with_two_replies : read_line (codes "24 NtReplyWaitReceivePort 4 d: d:") ≡ Err fault.Count
+  pub connect_of_three_words : read_line (codes "36 NtConnectPort \\P - -") ≡ Err fault.Count
+  pub connect_of_five_words : read_line (codes "36 NtConnectPort \\P - - - -") ≡ Err fault.Count
+  pub listen_of_no_handle : read_line (codes "24 NtListenPort") ≡ Err fault.Count
+  pub accept_without_a_view : read_line (codes "24 NtAcceptConnectPort 07 x accept") ≡ Err fault.Count
+  pub complete_of_two_handles : read_line (codes "24 NtCompleteConnectPort 4 8") ≡ Err fault.Count
+  pub quality_of_service : read_line (codes "36 NtConnectPort \\P q:2:d - -") ≡ Err fault.Word
+  pub view_of_a_connect : read_line (codes "36 NtConnectPort \\P - w:4:0:0 x") ≡ Err fault.Word
+  pub neither_accept_nor_refuse : read_line (codes "24 NtAcceptConnectPort 7 d: Accept w") ≡ Err fault.Word
+  pub view_of_a_refusal : read_line (codes "24 NtAcceptConnectPort 7 d: refuse w:4:0:0") ≡ Err fault.Word
   pub space_before_the_sign : read_line (codes " # boot") ≡ Err fault.Word
   pub name_before_the_count : read_line (codes "24 NtFoo 1 2 3 4") ≡ Err fault.Call
   pub count_before_the_words : read_line (codes "24 NtReplyPort 08 x: 4") ≡ Err fault.Count
@@ -51,11 +74,19 @@ pub record WorkedLines : Type 0 where
   pub nine_hexadecimal_digits : read_line (codes "24 NtReplyWaitReceivePort 0x000000001") ≡ Err fault.Number
   pub great_number : read_line (codes "24 NtReplyWaitReceivePort 4294967296") ≡ Err fault.Number
   pub letters_in_a_reply : read_line (codes "24 NtReplyPort 4 r:a.b.c:zz") ≡ Err fault.Number
+  pub context_before_the_message : read_line (codes "24 NtAcceptConnectPort - - - -") ≡ Err fault.Number
+  pub handle_of_a_listen : read_line (codes "24 NtListenPort -") ≡ Err fault.Number
+  pub handle_of_a_complete : read_line (codes "24 NtCompleteConnectPort 08") ≡ Err fault.Number
   pub odd_number_of_digits : read_line (codes "24 NtReplyPort 4 d:4") ≡ Err fault.Hex
   pub second_colon_of_a_reply : read_line (codes "24 NtReplyPort 4 r:1.2.3:41:42") ≡ Err fault.Hex
+  pub odd_number_of_digits_of_info : read_line (codes "36 NtConnectPort \\P - - d:0") ≡ Err fault.Hex
+  pub message_before_the_verdict : read_line (codes "24 NtAcceptConnectPort 7 m:0 - -") ≡ Err fault.Hex
   pub reply_without_a_colon : read_line (codes "24 NtReplyPort 4 r:1.2.3") ≡ Err fault.Message
   pub reply_of_two_numbers : read_line (codes "24 NtReplyPort 4 r:1.2:41") ≡ Err fault.Message
   pub reply_of_four_numbers : read_line (codes "24 NtReplyPort 4 r:1.2.3.4:41") ≡ Err fault.Message
   pub no_form_of_message : read_line (codes "24 NtReplyPort 4 x:41") ≡ Err fault.Message
   pub receive_with_no_message : read_line (codes "24 NtReplyWaitReceivePort 4 -") ≡ Err fault.Message
+  pub info_of_a_whole_message : read_line (codes "36 NtConnectPort \\P - - m:41") ≡ Err fault.Message
+  pub info_of_a_reply : read_line (codes "36 NtConnectPort \\P - - r:1.2.3:41") ≡ Err fault.Message
+  pub accept_of_no_message : read_line (codes "24 NtAcceptConnectPort 7 - accept -") ≡ Err fault.Message
   pub byte_past_the_limit : (line : List ℕ) → LINE_LIMIT < length line → read_line line ≡ Err fault.Long

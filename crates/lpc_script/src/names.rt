@@ -5,8 +5,12 @@ ghost use Rattle.lpc_model.specs.Grammar as grammar;
 
 use lpc_model::{CallName, Word};
 
-const CALLS: [(&[u8], CallName); 5] = [
+const CALLS: [(&[u8], CallName); 9] = [
     (b"NtCreatePort", CallName::NtCreatePort),
+    (b"NtConnectPort", CallName::NtConnectPort),
+    (b"NtListenPort", CallName::NtListenPort),
+    (b"NtAcceptConnectPort", CallName::NtAcceptConnectPort),
+    (b"NtCompleteConnectPort", CallName::NtCompleteConnectPort),
     (b"NtRequestPort", CallName::NtRequestPort),
     (b"NtRequestWaitReplyPort", CallName::NtRequestWaitReplyPort),
     (b"NtReplyPort", CallName::NtReplyPort),

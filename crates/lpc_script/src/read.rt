@@ -1,9 +1,9 @@
 // What a line says. A call or directive is an entry of its names and a case of its words.
-ghost use Rattle.std.specs.Prelude.{◌≡◌, ◌≤◌, length, IfOk, IfSome, IsTrue};
+ghost use Rattle.std.specs.Prelude.{◌≡◌, ◌≤◌, codes, length, IfOk, IfSome, IsTrue};
 ghost use Rattle.std.specs.List.{list_all};
 ghost use Rattle.std.specs.Option.{option_copied, option_map};
 ghost use Rattle.lpc_base.specs.declared.limits.TheConstants.{LINE_LIMIT};
-ghost use Rattle.lpc_model.specs.declared.entry.CallName.TheVariants.{NtCreatePort};
+ghost use Rattle.lpc_model.specs.declared.entry.CallName.TheVariants.{NtAcceptConnectPort, NtConnectPort, NtCreatePort};
 ghost use Rattle.lpc_model.specs.Lines.{call_of, line_of};
 ghost use Rattle.lpc_model.specs.Words.{words};
 ghost use Rattle.lpc_model.specs.Grammar.{call_words, directive_words, has_ids};
@@ -13,9 +13,40 @@ ghost use Rattle.lpc_script.specs.Gives.{Gives};
 use crate::names::{call_name, directive_name};
 use crate::number::{id, number};
 use crate::scratch::Scratch;
-use crate::words::{next_word, one_or_two_words, one_word, two_words};
+use crate::words::{four_words, next_word, one_or_two_words, one_word, two_words};
 use lpc_base::limits::LINE_LIMIT;
 use lpc_model::{Call, CallName, Line, LineFault, Word};
+
+/// The word `-`, the one that may stand for a quality of service or for a view so far.
+fn dash(word: &[u8]) -> Result<(), LineFault>
+    ensures { Gives (λ nothing. tt) result (grammar.fixed_word (codes "-") word.now) }
+{
+    if word != b"-".as_slice() {
+        return Err(LineFault::Word);
+    }
+    Ok(())
+}
+
+/// Whether a connect is accepted.
+#[tactic(auto, unfolding(lpc_model::specs::Grammar::accept_word))]
+fn accept(word: &[u8]) -> Result<bool, LineFault>
+    ensures { Gives (λ accepted. accepted) result (grammar.accept_word word.now) }
+{
+    if word == b"accept".as_slice() {
+        return Ok(true);
+    }
+    if word == b"refuse".as_slice() {
+        return Ok(false);
+    }
+    Err(LineFault::Word)
+}
+
+fn one_handle(text: &[u8]) -> Result<u32, LineFault>
+    ensures { Gives (λ handle. handle) result (grammar.one_handle (words text.now)) }
+{
+    let word = one_word(text)?;
+    number(word)
+}
 
 fn handle_and_message<'a>(
     text: &[u8],
@@ -71,6 +102,35 @@ fn create_port(text: &[u8]) -> Result<Call<'_>, LineFault>
     Ok(Call::CreatePort { name: Some(word) })
 }
 
+#[tactic(auto, unfolding(lpc_model::specs::Grammar::call_words))]
+fn connect_port<'a>(text: &'a [u8], scratch: &'a mut Scratch) -> Result<Call<'a>, LineFault>
+    requires { length text.now ≤ LINE_LIMIT }
+    ensures { Gives call_of result (call_words NtConnectPort (words text.now)) }
+{
+    let (name, qos, view, info) = four_words(text)?;
+    dash(qos)?;
+    dash(view)?;
+    let info = scratch.info(info)?;
+    Ok(Call::ConnectPort { name, info })
+}
+
+#[tactic(auto, unfolding(lpc_model::specs::Grammar::call_words))]
+fn accept_connect_port<'a>(text: &[u8], scratch: &'a mut Scratch) -> Result<Call<'a>, LineFault>
+    requires { length text.now ≤ LINE_LIMIT }
+    ensures { Gives call_of result (call_words NtAcceptConnectPort (words text.now)) }
+{
+    let (context, message, verdict, view) = four_words(text)?;
+    let context = number(context)?;
+    let message = scratch.message(message)?;
+    let accept = accept(verdict)?;
+    dash(view)?;
+    Ok(Call::AcceptConnectPort {
+        context,
+        message,
+        accept,
+    })
+}
+
 /// A call by the words behind its name.
 #[tactic(auto, unfolding(lpc_model::specs::Grammar::call_words))]
 fn call<'a>(name: CallName, text: &'a [u8], scratch: &'a mut Scratch) -> Result<Call<'a>, LineFault>
@@ -79,6 +139,16 @@ fn call<'a>(name: CallName, text: &'a [u8], scratch: &'a mut Scratch) -> Result<
 {
     match name {
         CallName::NtCreatePort => create_port(text),
+        CallName::NtConnectPort => connect_port(text, scratch),
+        CallName::NtListenPort => {
+            let handle = one_handle(text)?;
+            Ok(Call::ListenPort { handle })
+        }
+        CallName::NtAcceptConnectPort => accept_connect_port(text, scratch),
+        CallName::NtCompleteConnectPort => {
+            let handle = one_handle(text)?;
+            Ok(Call::CompleteConnectPort { handle })
+        }
         CallName::NtRequestPort => {
             let (handle, message) = handle_and_message(text, scratch)?;
             Ok(Call::RequestPort { handle, message })

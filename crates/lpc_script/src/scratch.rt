@@ -1,7 +1,7 @@
 // The bytes that hexadecimal words stand for, and the messages that they make.
 ghost use Rattle.std.specs.Prelude.{◌≡◌, ◌≤◌, ◌+◌, ◌/◌, length, take, IfOk};
 ghost use Rattle.lpc_base.specs.declared.limits.TheConstants.{HEADER_SIZE, LINE_LIMIT};
-ghost use Rattle.lpc_model.specs.Words.{hex_word, hex_message, reply_message, message_word};
+ghost use Rattle.lpc_model.specs.Words.{hex_word, hex_message, info_word, reply_message, message_word};
 ghost use Rattle.lpc_script.specs.Gives.{Gives, behind};
 
 use crate::number::number;
@@ -62,6 +62,21 @@ impl Scratch {
         }
         if word.starts_with(b"r:") {
             return self.reply_message(&word[2..]);
+        }
+        Err(LineFault::Message)
+    }
+
+    /// The bytes that come with a connect, as a word spells them.
+    #[tactic(auto, unfolding(lpc_model::specs::Words::info_word))]
+    pub(crate) fn info(&mut self, word: &[u8]) -> Result<&[u8], LineFault>
+        requires { length word.now ≤ LINE_LIMIT }
+        ensures { Gives (λ bytes. bytes.now) result (info_word word.now) }
+    {
+        if word == b"-".as_slice() {
+            return Ok(&[]);
+        }
+        if word.starts_with(b"d:") {
+            return self.behind(&[], &word[2..]);
         }
         Err(LineFault::Message)
     }

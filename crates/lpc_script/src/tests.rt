@@ -237,6 +237,190 @@ fn names_and_paths_are_words_as_they_stand(rt: HostRuntime) -> Result<(), Fail> 
 }
 
 #[test]
+fn a_connect_has_a_name_and_bytes(rt: HostRuntime) -> Result<(), Fail> {
+    let mut scratch = Scratch::new(rt.alloc())?;
+    has_faults(
+        &rt,
+        &mut scratch,
+        &[
+            ("36 NtConnectPort", Some(LineFault::Count)),
+            ("36 NtConnectPort \\P - -", Some(LineFault::Count)),
+            ("36 NtConnectPort \\P q - x -", Some(LineFault::Count)),
+            ("36 NtConnectPort \\P q:2:d - -", Some(LineFault::Word)),
+            ("36 NtConnectPort \\P -- - -", Some(LineFault::Word)),
+            ("36 NtConnectPort \\P - w:4:0:0 x", Some(LineFault::Word)),
+            ("36 NtConnectPort \\P - 0 -", Some(LineFault::Word)),
+            ("36 NtConnectPort \\P - - d:0", Some(LineFault::Hex)),
+            ("36 NtConnectPort \\P - - d:-", Some(LineFault::Hex)),
+            ("36 NtConnectPort \\P - - m:41", Some(LineFault::Message)),
+            (
+                "36 NtConnectPort \\P - - r:1.2.3:41",
+                Some(LineFault::Message),
+            ),
+            ("36 NtConnectPort \\P - - 41", Some(LineFault::Message)),
+            ("36 NtConnectPort \\P - - --", Some(LineFault::Message)),
+        ],
+    );
+    for (line, given, bytes) in [
+        (
+            "36 NtConnectPort \\P - - -",
+            b"\\P".as_slice(),
+            b"".as_slice(),
+        ),
+        ("36 NtConnectPort - - - d:", b"-".as_slice(), b"".as_slice()),
+        (
+            "36 NtConnectPort x - - d:4869fF",
+            b"x".as_slice(),
+            b"Hi\xff".as_slice(),
+        ),
+    ] {
+        let Ok(
+            Some(
+                Line::Run {
+                    call: Call::ConnectPort { name, info },
+                    ..
+                },
+            ),
+        ) = read_line(line.as_bytes(), &mut scratch)
+        else {
+            assert!(rt; false, "no connect");
+            return Ok(());
+        };
+        assert_eq!(rt; name, given);
+        assert_eq!(rt; info, bytes);
+    }
+    Ok(())
+}
+
+#[test]
+fn the_bytes_of_a_connect_may_be_too_many_for_the_call(rt: HostRuntime) -> Result<(), Fail> {
+    let alloc = rt.alloc();
+    let mut scratch = Scratch::new(alloc)?;
+    let mut line = b"36 NtConnectPort \\P - - d:".to_vec(alloc)?;
+    for _ in 0..233 {
+        line.extend_from_slice(b"61")?;
+    }
+    let Ok(
+        Some(
+            Line::Run {
+                call: Call::ConnectPort { info, .. },
+                ..
+            },
+        ),
+    ) = read_line(&line, &mut scratch)
+    else {
+        assert!(rt; false, "no connect");
+        return Ok(());
+    };
+    assert_eq!(rt; info.len(), 233);
+    Ok(())
+}
+
+#[test]
+fn an_accept_has_a_context_and_a_message(rt: HostRuntime) -> Result<(), Fail> {
+    let mut scratch = Scratch::new(rt.alloc())?;
+    has_faults(
+        &rt,
+        &mut scratch,
+        &[
+            ("24 NtAcceptConnectPort 7 d: accept", Some(LineFault::Count)),
+            ("24 NtAcceptConnectPort x x x x x", Some(LineFault::Count)),
+            ("24 NtAcceptConnectPort - x x x", Some(LineFault::Number)),
+            ("24 NtAcceptConnectPort 7 - x x", Some(LineFault::Message)),
+            ("24 NtAcceptConnectPort 7 d:0 x x", Some(LineFault::Hex)),
+            (
+                "24 NtAcceptConnectPort 7 d: Accept -",
+                Some(LineFault::Word),
+            ),
+            (
+                "24 NtAcceptConnectPort 7 d: refused -",
+                Some(LineFault::Word),
+            ),
+            (
+                "24 NtAcceptConnectPort 7 d: accept 0",
+                Some(LineFault::Word),
+            ),
+            (
+                "24 NtAcceptConnectPort 7 d: refuse w:4:0:0",
+                Some(LineFault::Word),
+            ),
+        ],
+    );
+    for (line, accepted) in [
+        ("24 NtAcceptConnectPort 0x10 m:4142 accept -", true),
+        ("24 NtAcceptConnectPort 16 m:4142 refuse -", false),
+    ] {
+        let Ok(
+            Some(
+                Line::Run {
+                    call: Call::AcceptConnectPort {
+                        context,
+                        message,
+                        accept,
+                    },
+                    ..
+                },
+            ),
+        ) = read_line(line.as_bytes(), &mut scratch)
+        else {
+            assert!(rt; false, "no accept");
+            return Ok(());
+        };
+        assert_eq!(rt; context, 16);
+        assert_eq!(rt; message, b"AB".as_slice());
+        assert_eq!(rt; accept, accepted);
+    }
+    Ok(())
+}
+
+#[test]
+fn a_listen_and_a_complete_have_a_handle(rt: HostRuntime) -> Result<(), Fail> {
+    let mut scratch = Scratch::new(rt.alloc())?;
+    has_faults(
+        &rt,
+        &mut scratch,
+        &[
+            ("24 NtListenPort", Some(LineFault::Count)),
+            ("24 NtListenPort 04 4", Some(LineFault::Count)),
+            ("24 NtListenPort 04", Some(LineFault::Number)),
+            ("24 NtListenPort -", Some(LineFault::Number)),
+            ("24 NtCompleteConnectPort", Some(LineFault::Count)),
+            ("24 NtCompleteConnectPort 8 d:", Some(LineFault::Count)),
+            ("24 NtCompleteConnectPort self", Some(LineFault::Number)),
+        ],
+    );
+    let listen = read_line(b"24 NtListenPort 4", &mut scratch);
+    let Ok(
+        Some(
+            Line::Run {
+                call: Call::ListenPort { handle },
+                ..
+            },
+        ),
+    ) = listen
+    else {
+        assert!(rt; false, "no listen");
+        return Ok(());
+    };
+    assert_eq!(rt; handle, 4);
+    let complete = read_line(b"24 NtCompleteConnectPort 0x8", &mut scratch);
+    let Ok(
+        Some(
+            Line::Run {
+                call: Call::CompleteConnectPort { handle },
+                ..
+            },
+        ),
+    ) = complete
+    else {
+        assert!(rt; false, "no complete");
+        return Ok(());
+    };
+    assert_eq!(rt; handle, 8);
+    Ok(())
+}
+
+#[test]
 fn a_line_has_at_most_16384_bytes(rt: HostRuntime) -> Result<(), Fail> {
     let alloc = rt.alloc();
     let mut scratch = Scratch::new(alloc)?;

@@ -82,6 +82,23 @@ pub fn two_words(text: &[u8]) -> Result<(&[u8], &[u8]), LineFault>
     Ok((first, second))
 }
 
+/// The words of a text that has exactly four.
+#[tactic(auto, unfolding(lpc_model::specs::Grammar::four_words))]
+pub fn four_words(text: &[u8]) -> Result<(&[u8], &[u8], &[u8], &[u8]), LineFault>
+    ensures value { Gives (λ four. (four.0.now, four.1.now, four.2.now, four.3.now)) result (grammar.four_words (words text.now)) }
+    ensures second { IfOk result (λ four. length four.1.now ≤ length text.now) }
+    ensures fourth { IfOk result (λ four. length four.3.now ≤ length text.now) }
+{
+    let (first, rest) = next_word(text).ok_or(LineFault::Count)?;
+    let (second, rest) = next_word(rest).ok_or(LineFault::Count)?;
+    let (third, rest) = next_word(rest).ok_or(LineFault::Count)?;
+    let (fourth, rest) = next_word(rest).ok_or(LineFault::Count)?;
+    if let Some((_, _)) = next_word(rest) {
+        return Err(LineFault::Count);
+    }
+    Ok((first, second, third, fourth))
+}
+
 /// The words of a text that has one or two.
 #[tactic(auto, unfolding(lpc_model::specs::Grammar::one_or_two_words))]
 pub fn one_or_two_words(text: &[u8]) -> Result<(&[u8], Option<&[u8]>), LineFault>

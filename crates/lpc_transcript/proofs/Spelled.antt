@@ -7,12 +7,12 @@ use Rattle.hex.specs.Hex.{encode_lower}
 use Rattle.lpc_model.specs.Text.{hex_word, call_text, word_text, name_text, value_text, fields_text, by_text, rest_text}
 use Rattle.lpc_model.specs.TextLaws.{Sort, in_decimal, in_hexadecimal, as_bytes, is_of_sort}
 use Rattle.lpc_model.specs.declared.entry.CallName.{CallName}
-use Rattle.lpc_model.specs.declared.entry.CallName.TheVariants.{NtCreatePort, NtRequestPort, NtRequestWaitReplyPort, NtReplyPort, NtReplyWaitReceivePort}
+use Rattle.lpc_model.specs.declared.entry.CallName.TheVariants.{NtCreatePort, NtConnectPort, NtListenPort, NtAcceptConnectPort, NtCompleteConnectPort, NtRequestPort, NtRequestWaitReplyPort, NtReplyPort, NtReplyWaitReceivePort}
 use Rattle.lpc_model.specs.declared.entry.Entry.{Entry}
 use Rattle.lpc_model.specs.declared.entry.Entry.TheVariants.{Answer, Waits, Wakes, Busy, NoThread, Died, Directive}
 use Rattle.lpc_model.specs.declared.entry.Field.{Field}
 use Rattle.lpc_model.specs.declared.entry.FieldName.{FieldName}
-use Rattle.lpc_model.specs.declared.entry.FieldName.TheVariants.{H, Id, Ctx, Msg, Data}
+use Rattle.lpc_model.specs.declared.entry.FieldName.TheVariants.{H, Id, Ctx, Msg, Data, Max, Info}
 use Rattle.lpc_model.specs.declared.entry.Value.{Value}
 use Rattle.lpc_model.specs.declared.entry.Value.TheVariants.{Number, Hex, Bytes}
 use Rattle.lpc_model.specs.declared.entry.Word.{Word}
@@ -75,13 +75,21 @@ rest_joined (Directive word status) = ap (λ text. codes " - " ++ word_text word
 read_call : List ℕ → CallName
 read_call text =
     if bytes_eq text (codes "NtCreatePort") then NtCreatePort
+    else (if bytes_eq text (codes "NtConnectPort") then NtConnectPort
+    else (if bytes_eq text (codes "NtListenPort") then NtListenPort
+    else (if bytes_eq text (codes "NtAcceptConnectPort") then NtAcceptConnectPort
+    else (if bytes_eq text (codes "NtCompleteConnectPort") then NtCompleteConnectPort
     else (if bytes_eq text (codes "NtRequestPort") then NtRequestPort
     else (if bytes_eq text (codes "NtReplyPort") then NtReplyPort
-    else (if bytes_eq text (codes "NtReplyWaitReceivePort") then NtReplyWaitReceivePort else NtRequestWaitReplyPort)))
+    else (if bytes_eq text (codes "NtReplyWaitReceivePort") then NtReplyWaitReceivePort else NtRequestWaitReplyPort)))))))
 
 read_call-text : (call : CallName) → read_call (call_text call) ≡ call
 unfolding read_call
 read_call-text NtCreatePort = refl
+read_call-text NtConnectPort = refl
+read_call-text NtListenPort = refl
+read_call-text NtAcceptConnectPort = refl
+read_call-text NtCompleteConnectPort = refl
 read_call-text NtRequestPort = refl
 read_call-text NtRequestWaitReplyPort = refl
 read_call-text NtReplyPort = refl
@@ -92,6 +100,10 @@ call_unique a b e = sym (read_call-text a) ∙ ap read_call e ∙ read_call-text
 
 pub call_plain : (call : CallName) → is_plain (call_text call) ≡ true
 call_plain NtCreatePort = refl
+call_plain NtConnectPort = refl
+call_plain NtListenPort = refl
+call_plain NtAcceptConnectPort = refl
+call_plain NtCompleteConnectPort = refl
 call_plain NtRequestPort = refl
 call_plain NtRequestWaitReplyPort = refl
 call_plain NtReplyPort = refl
@@ -124,7 +136,9 @@ read_name text =
     if bytes_eq text (codes "h") then H
     else (if bytes_eq text (codes "id") then Id
     else (if bytes_eq text (codes "ctx") then Ctx
-    else (if bytes_eq text (codes "msg") then Msg else Data)))
+    else (if bytes_eq text (codes "msg") then Msg
+    else (if bytes_eq text (codes "max") then Max
+    else (if bytes_eq text (codes "info") then Info else Data)))))
 
 read_name-text : (name : FieldName) → read_name (name_text name) ≡ name
 unfolding read_name
@@ -133,6 +147,8 @@ read_name-text Id = refl
 read_name-text Ctx = refl
 read_name-text Msg = refl
 read_name-text Data = refl
+read_name-text Max = refl
+read_name-text Info = refl
 
 pub name_unique : (a b : FieldName) → name_text a ≡ name_text b → a ≡ b
 name_unique a b e = sym (read_name-text a) ∙ ap read_name e ∙ read_name-text b
@@ -143,6 +159,8 @@ name_plain Id = refl
 name_plain Ctx = refl
 name_plain Msg = refl
 name_plain Data = refl
+name_plain Max = refl
+name_plain Info = refl
 
 -- ---- values can be read back
 

@@ -10,7 +10,7 @@ use Rattle.lpc_model.specs.Text.{hex_word, call_text, name_text, value_text, res
 use Rattle.lpc_model.specs.TextLaws.{sort_of, is_word, is_of_sort, is_sorted_field, is_regular, TextIsUnique}
 use Rattle.lpc_base.specs.declared.status.Status.{Status}
 use Rattle.lpc_model.specs.declared.entry.CallName.{CallName}
-use Rattle.lpc_model.specs.declared.entry.CallName.TheVariants.{NtCreatePort, NtRequestPort, NtRequestWaitReplyPort, NtReplyPort, NtReplyWaitReceivePort}
+use Rattle.lpc_model.specs.declared.entry.CallName.TheVariants.{NtCreatePort, NtConnectPort, NtListenPort, NtAcceptConnectPort, NtCompleteConnectPort, NtRequestPort, NtRequestWaitReplyPort, NtReplyPort, NtReplyWaitReceivePort}
 use Rattle.lpc_model.specs.declared.entry.Entry.{Entry}
 use Rattle.lpc_model.specs.declared.entry.Entry.TheVariants.{Answer, Waits, Wakes, Busy, NoThread, Died, Directive}
 use Rattle.lpc_model.specs.declared.entry.Field.{Field}
@@ -95,6 +95,10 @@ kind_of (Directive word status) = 6
 
 call_begins : (call : CallName) → first (call_text call) ≡ 78
 call_begins NtCreatePort = refl
+call_begins NtConnectPort = refl
+call_begins NtListenPort = refl
+call_begins NtAcceptConnectPort = refl
+call_begins NtCompleteConnectPort = refl
 call_begins NtRequestPort = refl
 call_begins NtRequestWaitReplyPort = refl
 call_begins NtReplyPort = refl

@@ -190,6 +190,63 @@ fn each_kind_of_value_has_its_form(rt: HostRuntime) -> Result<(), Fail> {
 }
 
 #[test]
+fn a_completed_connect_tells_its_limit_and_its_bytes(rt: HostRuntime) -> Result<(), Fail> {
+    let alloc = rt.alloc();
+    let mut fields = Fields::none();
+    fields.add(FieldName::H, Value::Number(4));
+    fields.add(FieldName::Max, Value::Number(256));
+    fields.add(FieldName::Info, Value::Bytes(ArrayVec::new()));
+    let completed = Entry::Wakes {
+        tid: 36,
+        call: CallName::NtConnectPort,
+        status: status::SUCCESS,
+        fields,
+    };
+    printed(
+        &rt,
+        alloc,
+        8,
+        completed,
+        "8 *36 NtConnectPort 00000000 h=4 max=256 info=\n",
+    )?;
+    let mut bytes = ArrayVec::new();
+    bytes.push(0x4e);
+    bytes.push(0x6f);
+    let refused = Entry::Wakes {
+        tid: 36,
+        call: CallName::NtConnectPort,
+        status: Status(0xC000_0041),
+        fields: one(FieldName::Info, Value::Bytes(bytes)),
+    };
+    printed(
+        &rt,
+        alloc,
+        7,
+        refused,
+        "7 *36 NtConnectPort c0000041 info=4e6f\n",
+    )?;
+    for (call, text) in [
+        (CallName::NtListenPort, "6 24 NtListenPort wait\n"),
+        (
+            CallName::NtAcceptConnectPort,
+            "6 24 NtAcceptConnectPort wait\n",
+        ),
+        (
+            CallName::NtCompleteConnectPort,
+            "6 24 NtCompleteConnectPort wait\n",
+        ),
+    ] {
+        let waits = Entry::Waits {
+            tid: 24,
+            call,
+            fields: Fields::none(),
+        };
+        printed(&rt, alloc, 6, waits, text)?;
+    }
+    Ok(())
+}
+
+#[test]
 fn entries_follow_in_order_behind_what_stands(rt: HostRuntime) -> Result<(), Fail> {
     let alloc = rt.alloc();
     let mut fields = Fields::none();

@@ -70,6 +70,10 @@ fn call_name(call: CallName) -> &'static [u8]
 {
     match call {
         CallName::NtCreatePort => b"NtCreatePort",
+        CallName::NtConnectPort => b"NtConnectPort",
+        CallName::NtListenPort => b"NtListenPort",
+        CallName::NtAcceptConnectPort => b"NtAcceptConnectPort",
+        CallName::NtCompleteConnectPort => b"NtCompleteConnectPort",
         CallName::NtRequestPort => b"NtRequestPort",
         CallName::NtRequestWaitReplyPort => b"NtRequestWaitReplyPort",
         CallName::NtReplyPort => b"NtReplyPort",
@@ -109,6 +113,8 @@ pub(crate) fn field_name(name: FieldName) -> &'static [u8]
         FieldName::Ctx => b"ctx",
         FieldName::Msg => b"msg",
         FieldName::Data => b"data",
+        FieldName::Max => b"max",
+        FieldName::Info => b"info",
     }
 }
 

@@ -1,12 +1,12 @@
 use Rattle.std.proofs.Common.{refl, arith}
 use Rattle.std.proofs.lemmas.Bool.Decides.{nat_tests}
-use Rattle.lpc_model.specs.Words.{words, digits_word, decimal_word, hexadecimal_word, number_word, id_word, hex_word, cut, three_parts, reply_message, message_word}
-use Rattle.lpc_model.specs.Grammar.{read_line, named, call_words, directive_words, call_line, directive_line, one_word, one_or_two_words, two_words}
+use Rattle.lpc_model.specs.Words.{words, digits_word, decimal_word, hexadecimal_word, number_word, id_word, hex_word, cut, three_parts, reply_message, message_word, info_word}
+use Rattle.lpc_model.specs.Grammar.{read_line, named, call_words, directive_words, call_line, directive_line, accept_word, one_word, one_or_two_words, two_words, four_words}
 use Rattle.hex.specs.Hex.{decode_pairs}
 use Rattle.lpc_script.proofs.laws.law_worked_lines.Goals as goal
 
 pub returns : goal.returns
-unfolding words digits_word decimal_word hexadecimal_word number_word id_word hex_word cut three_parts reply_message message_word read_line named call_words directive_words call_line directive_line one_word one_or_two_words two_words decode_pairs
+unfolding words digits_word decimal_word hexadecimal_word number_word id_word hex_word cut three_parts reply_message message_word info_word accept_word read_line named call_words directive_words call_line directive_line one_word one_or_two_words two_words four_words decode_pairs
 returns c = record {
   boot_of_a_process = refl;
   thread_in_hexadecimal = refl;
@@ -16,6 +16,16 @@ returns c = record {
   unnamed_port = refl;
   named_port = refl;
   port_of_any_name = refl;
+  connect = refl;
+  connect_to_a_directory = refl;
+  connect_with_info = refl;
+  connect_with_no_bytes = refl;
+  listen = refl;
+  accept = refl;
+  accept_of_another_client = refl;
+  refusal = refl;
+  complete = refl;
+  complete_in_hexadecimal = refl;
   receive = refl;
   receive_with_a_reply = refl;
   datagram = refl;
@@ -36,6 +46,15 @@ returns c = record {
   too_few_words = refl;
   receive_of_no_handle = refl;
   receive_with_two_replies = refl;
+  connect_of_three_words = refl;
+  connect_of_five_words = refl;
+  listen_of_no_handle = refl;
+  accept_without_a_view = refl;
+  complete_of_two_handles = refl;
+  quality_of_service = refl;
+  view_of_a_connect = refl;
+  neither_accept_nor_refuse = refl;
+  view_of_a_refusal = refl;
   space_before_the_sign = refl;
   name_before_the_count = refl;
   count_before_the_words = refl;
@@ -46,12 +65,20 @@ returns c = record {
   nine_hexadecimal_digits = refl;
   great_number = refl;
   letters_in_a_reply = refl;
+  context_before_the_message = refl;
+  handle_of_a_listen = refl;
+  handle_of_a_complete = refl;
   odd_number_of_digits = refl;
   second_colon_of_a_reply = refl;
+  odd_number_of_digits_of_info = refl;
+  message_before_the_verdict = refl;
   reply_without_a_colon = refl;
   reply_of_two_numbers = refl;
   reply_of_four_numbers = refl;
   no_form_of_message = refl;
   receive_with_no_message = refl;
+  info_of_a_whole_message = refl;
+  info_of_a_reply = refl;
+  accept_of_no_message = refl;
   byte_past_the_limit = λ line h. grind (arith, nat_tests, h);
 }
