@@ -1,6 +1,5 @@
 -- A name more: the table's binding is the definitions' over the rows that it stands for.
-use Rattle.std.proofs.Common.{◌≡◌, ℕ, List, [], ◌∷◌, ◌++◌, Bool, true, map, Result, Ok, Err, IsOk, OnOk, IfErr, refl, ap, sym, subst, ◌∙◌}
-use Rattle.lpc_base.specs.declared.birth.Birth.{Birth}
+use Rattle.std.proofs.Common.{◌≡◌, ℕ, List, [], ◌∷◌, ◌++◌, true, map, Result, Ok, Err, IsOk, OnOk, IfErr, refl, ap, sym, subst, ◌∙◌}
 use Rattle.lpc_base.specs.Rows.{every}
 use Rattle.lpc_base.proofs.RowWords.{every-push}
 use Rattle.lpc_base.proofs.RowMaps.{push-map}
@@ -19,7 +18,6 @@ use Rattle.lpc_world.specs.Bound.{bound_at, linked_at, with_link, with_name}
 use Rattle.lpc_world.specs.Lawful.{AreLawful, IsLawful}
 use Rattle.lpc_world.specs.Kept.{rows_by}
 use Rattle.lpc_world.specs.Shown.{AreNamed, Births, Tables, all_pass, binding_refs, birth_of, births_of, node_refs, object_stands, port_birth, shown_binding, shown_by, shown_node}
-use Rattle.lpc_world.specs.declared.object.Object.{Object}
 use Rattle.lpc_world.proofs.Drawn as drawn
 
 -- bindings with a node more
@@ -123,6 +121,7 @@ spaced_lawful it calls made space is named = record {
   counted = is.counted;
   headed = is.headed;
   drawn = drawn.same-drawn (rows_by it) _ refl refl refl is.drawn;
+  promised = is.promised;
 }
 
 -- What the calls on names answer

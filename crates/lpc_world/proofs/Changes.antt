@@ -1,6 +1,6 @@
 -- For each change that gives no object a key: the tables' new rows are the step of the rows that they stood for, and name
 -- what stands.
-use Rattle.std.proofs.Common.{◌≡◌, ℕ, List, [], ◌∷◌, ◌++◌, Bool, true, length, map, refl, ap, sym, ◌∙◌, arith}
+use Rattle.std.proofs.Common.{◌≡◌, ℕ, List, [], ◌∷◌, ◌++◌, Bool, true, length, map, refl, ap, sym, ◌∙◌, arith, Option, Some, None}
 use Rattle.std.specs.Prelude.{nat_lt}
 use Rattle.lpc_base.specs.declared.birth.Birth.{Birth}
 use Rattle.lpc_base.specs.Rows.{change, count, every, which, without, without_first}
@@ -12,7 +12,7 @@ use Rattle.lpc_model.specs.World as model
 use Rattle.lpc_model.specs.World.{World}
 use Rattle.lpc_model.specs.Basics as basics
 use Rattle.lpc_model.specs.Basics.{AddsHandle, AddsProcess, AddsThread, Awaits, DrawsIdentifier, DrawsOrdinal, Enters, Receives, Takes, basic, put_handle, with_handle}
-use Rattle.lpc_model.specs.Found.{is_queued, is_table, is_thread, waits_as}
+use Rattle.lpc_model.specs.Found.{is_accepted, is_connect, is_queued, is_table, is_thread, waits_as}
 use Rattle.lpc_ports.specs.Table as ports
 use Rattle.lpc_ports.specs.Table.{PortTable}
 use Rattle.lpc_ports.specs.declared.messages.QueuedMessage.{QueuedMessage}
@@ -25,6 +25,7 @@ use Rattle.lpc_model.specs.declared.message.Message.{Message}
 use Rattle.lpc_slots.specs.declared.Key.{Key}
 use Rattle.lpc_waits.specs.Table as waits
 use Rattle.lpc_waits.specs.Table.{WaitTable}
+use Rattle.lpc_waits.specs.declared.Accepted.{Accepted}
 use Rattle.lpc_waits.specs.declared.WaitKind.{WaitKind}
 use Rattle.lpc_waits.specs.declared.WaitKind.TheVariants as wait
 use Rattle.lpc_waits.specs.declared.WaitRow.{WaitRow}
@@ -205,9 +206,37 @@ module _ (it : Tables) (is : AreNamed (births_of it.ports) it) where
       by_kind : (kind : WaitKind) → let old : WaitRow = record row { wait = record row.wait { kind = kind } } in shown_wait f (waits.with_message bytes old) ≡ with_message (message_of bytes) (shown_wait f old)
       by_kind wait.Request = refl
       by_kind wait.Receive = refl
+      by_kind wait.Listen = refl
+      by_kind wait.Connect = by_accepted row.accepted
+        where
+          by_accepted : (accepted : Option Accepted) → let old : WaitRow = record row { wait = record row.wait { kind = wait.Connect }; accepted = accepted } in shown_wait f (waits.with_message bytes old) ≡ with_message (message_of bytes) (shown_wait f old)
+          by_accepted None = refl
+          by_accepted (Some accepted) = refl
 
   pub keeps_message : (who : ℕ) (bytes : List ℕ) → shown_by n (record it { waits = record it.waits { rows = change (waits.is_of who) (waits.with_message bytes) it.waits.rows } }) ≡ record rows { waits = change (waits_as who) (with_message (message_of bytes)) rows.waits }
   keeps_message who bytes = waits_change who it.waits.spare it.waits.made (waits.with_message bytes) (with_message (message_of bytes)) (message_shown bytes)
+
+-- a wait that keeps its message is a connect where it was
+pub connect_kept : (m : Message) (x : model.WaitRow) → is_connect (with_message m x) ≡ is_connect x
+connect_kept m x = by_kind x.kind
+  where
+    by_kind : (kind : model.WaitKind) → let old : model.WaitRow = record x { kind = kind } in is_connect (with_message m old) ≡ is_connect old
+    by_kind (model.Request other) = refl
+    by_kind model.Receive = refl
+    by_kind model.Listen = refl
+    by_kind (model.Connect other) = refl
+    by_kind (model.Accepted other reply) = refl
+
+-- a wait that keeps its message is accepted where it was
+pub accepted_kept : (m : Message) (x : model.WaitRow) → is_accepted (with_message m x) ≡ is_accepted x
+accepted_kept m x = by_kind x.kind
+  where
+    by_kind : (kind : model.WaitKind) → let old : model.WaitRow = record x { kind = kind } in is_accepted (with_message m old) ≡ is_accepted old
+    by_kind (model.Request other) = refl
+    by_kind model.Receive = refl
+    by_kind model.Listen = refl
+    by_kind (model.Connect other) = refl
+    by_kind (model.Accepted other reply) = refl
 
 -- a wait that keeps its message is pending where it was
 pending_kept : (m : Message) (x : model.WaitRow) → is_pending (with_message m x) ≡ is_pending x
@@ -216,6 +245,9 @@ pending_kept m x = by_kind x.kind
     by_kind : (kind : model.WaitKind) → let old : model.WaitRow = record x { kind = kind } in is_pending (with_message m old) ≡ is_pending old
     by_kind (model.Request other) = refl
     by_kind model.Receive = refl
+    by_kind model.Listen = refl
+    by_kind (model.Connect other) = refl
+    by_kind (model.Accepted other reply) = refl
 
 quiet_kept : (m : Message) (ms : List model.MessageRow) (x : model.WaitRow) → is_quiet ms (with_message m x) ≡ is_quiet ms x
 quiet_kept m ms x = by_kind x.kind
@@ -223,6 +255,9 @@ quiet_kept m ms x = by_kind x.kind
     by_kind : (kind : model.WaitKind) → let old : model.WaitRow = record x { kind = kind } in is_quiet ms (with_message m old) ≡ is_quiet ms old
     by_kind (model.Request other) = refl
     by_kind model.Receive = refl
+    by_kind model.Listen = refl
+    by_kind (model.Connect other) = refl
+    by_kind (model.Accepted other reply) = refl
 
 pub lawful-message : (v : World) (calls made a b who : ℕ) (bytes : List ℕ) → IsLawful v calls made a b → IsLawful (record v { waits = change (waits_as who) (with_message (message_of bytes)) v.waits }) calls made a b
 lawful-message v calls made a b who bytes h = lawful-keep v calls made a b who (with_message (message_of bytes)) (λ x. refl) (pending_kept (message_of bytes)) (quiet_kept (message_of bytes) v.messages) h

@@ -1,22 +1,22 @@
 -- A message that enters a queue and is taken at once, and a wait that begins with a message.
-use Rattle.std.proofs.Common.{◌≡◌, ℕ, List, [], ◌∷◌, ◌++◌, Bool, true, false, Option, Some, None, option_map, refl, ap, subst, ◌∙◌, arith}
-use Rattle.std.specs.Prelude.{OnSome, ◌==◌}
+use Rattle.std.proofs.Common.{◌≡◌, ℕ, List, [], ◌∷◌, ◌++◌, Bool, true, false, Option, Some, refl, ap, sym, subst, ◌∙◌, arith}
+use Rattle.std.specs.Prelude.{not, ◌==◌, ◌&&◌, ◌||◌}
 use Rattle.std.proofs.lemmas.Bool.Decides.{nat_tests}
 use Rattle.lpc_base.specs.declared.birth.Birth.{Birth}
-use Rattle.lpc_base.specs.declared.status.Status.{Status}
 use Rattle.lpc_base.specs.declared.status.TheConstants.{SUCCESS}
-use Rattle.lpc_base.specs.Rows.{change, every, first, has, when, without_first}
-use Rattle.lpc_base.proofs.RowWords.{first-passes, has-push}
+use Rattle.lpc_base.specs.Rows.{change, first, given, has, when, without_first}
+use Rattle.lpc_base.proofs.RowWords.{has-push}
 use Rattle.lpc_model.specs.declared.entry.CallName.{CallName}
 use Rattle.lpc_model.specs.declared.entry.Entry.{Entry}
 use Rattle.lpc_model.specs.declared.entry.Field.{Field}
-use Rattle.lpc_model.specs.World.{World, MessageRow, WaitRow}
-use Rattle.lpc_model.specs.Message.{asks}
-use Rattle.lpc_model.specs.Found.{is_queued, receives_on, same_birth, waits_as}
-use Rattle.lpc_model.specs.Basics.{Enters, Receives, Takes, Wakes, basic, told, world_after}
-use Rattle.lpc_model.specs.Fields.{receipt}
-use Rattle.lpc_model.specs.Entering.{enter, take_steps}
-use Rattle.lpc_base.proofs.RowMaps.{every-first}
+use Rattle.lpc_model.specs.World.{World, Accepted, Connect, Listen, MessageRow, Receive, Request, WaitKind, WaitRow}
+use Rattle.lpc_model.specs.Machine.{Stepped}
+use Rattle.lpc_model.specs.Message.{asks, is_connection_request}
+use Rattle.lpc_model.specs.Found.{is_listen, is_queued, is_queued_connect, is_receive, same_birth, waits_as}
+use Rattle.lpc_model.specs.Basics.{Basic, Enters, Receives, Wakes, basic, entries_of, told, world_after}
+use Rattle.lpc_model.specs.Fields.{msg, receipt}
+use Rattle.lpc_model.specs.Entering.{enter, given_steps, receipt_steps, shown, take_connect_steps, take_steps, takes, woken}
+use Rattle.lpc_model.proofs.SoundQueues.{after-append}
 use Rattle.lpc_world.specs.Does.{left_by}
 use Rattle.lpc_world.specs.Lawful.{is_quiet}
 use Rattle.lpc_world.proofs.Naming.{name_is}
@@ -24,31 +24,98 @@ use Rattle.lpc_world.proofs.Naming.{name_is}
 same-birth : (b : Birth) → same_birth b b ≡ true
 same-birth b = grind (arith, nat_tests)
 
--- a message that enters an empty queue is the one that is taken
-taken-at-once : (m : MessageRow) (ms : List MessageRow) → has (is_queued m.queue) ms ≡ false → without_first (is_queued m.queue) (ms ++ m ∷ []) ≡ ms
-taken-at-once m [] none = grind (arith, same-birth m.queue)
-taken-at-once m (x ∷ ms) none = grind (arith, taken-at-once m ms)
+-- a message that enters a queue where none like it stands is the one that is taken
+taken-at-once : (p : MessageRow → Bool) (m : MessageRow) (ms : List MessageRow) → p m ≡ true → has p ms ≡ false → without_first p (ms ++ m ∷ []) ≡ ms
+taken-at-once p m [] own none = grind (arith, own)
+taken-at-once p m (x ∷ ms) own none = grind (arith, taken-at-once p m ms)
 
-pub passed : (w : World) (m : MessageRow) → has (is_queued m.queue) w.messages ≡ false → world_after w (Enters m ∷ take_steps m) ≡ world_after w (when (asks m.message) (Receives m.message.header.client.thread ∷ []))
-passed w m none = ap (λ (ms : List MessageRow). world_after (record w { messages = ms }) (when (asks m.message) (Receives m.message.header.client.thread ∷ []))) (taken-at-once m w.messages none)
+taken-by : (w : World) (m : MessageRow) (p : MessageRow → Bool) → p m ≡ true → has p w.messages ≡ false → record w { messages = without_first p (w.messages ++ m ∷ []) } ≡ w
+taken-by w m p own none = ap (λ (ms : List MessageRow). record w { messages = ms }) (taken-at-once p m w.messages own none)
 
-pub passed-asking : (w : World) (m : MessageRow) → has (is_queued m.queue) w.messages ≡ false → asks m.message ≡ true → world_after w (Enters m ∷ take_steps m) ≡ basic w (Receives m.message.header.client.thread)
-passed-asking w m none asked = passed w m none ∙ ap (λ a. world_after w (when a (Receives m.message.header.client.thread ∷ []))) asked
+-- the queue of a waiter that takes the message is the message's
+both : (a b : Bool) → a && b ≡ true → (a ≡ true) × (b ≡ true)
+both true b h = (refl, h)
+both false b h = absurd (cc)
 
-pub passed-other : (w : World) (m : MessageRow) → has (is_queued m.queue) w.messages ≡ false → asks m.message ≡ false → world_after w (Enters m ∷ take_steps m) ≡ w
-passed-other w m none other = passed w m none ∙ ap (λ a. world_after w (when a (Receives m.message.header.client.thread ∷ []))) other
+pub taker-queue : (m : MessageRow) (x : WaitRow) → takes m x ≡ true → x.queue ≡ m.queue
+taker-queue m x h = name_is x.queue m.queue (both (is_receive x || (is_listen x && is_connection_request m.message)) (same_birth x.queue m.queue) h).1
+
+-- what the waiter takes, the message has entered for
+passed-as : (w : World) (m : MessageRow) (k : WaitKind) (q : Birth) → q ≡ m.queue
+    → ((elim k [ Receive ↦ true | _ ↦ false ]) || ((elim k [ Listen ↦ true | _ ↦ false ]) && is_connection_request m.message)) && same_birth q m.queue ≡ true
+    → not ((elim k [ Receive ↦ true | _ ↦ false ]) && has (is_queued q) w.messages) && not ((elim k [ Listen ↦ true | _ ↦ false ]) && has (is_queued_connect q) w.messages) ≡ true
+    → world_after (basic w (Enters m)) (elim k [ Listen ↦ take_connect_steps m | _ ↦ take_steps m ]) ≡ world_after w (receipt_steps m)
+passed-as w m (Request n) q own takes quiet = absurd (cc)
+passed-as w m Receive q own takes quiet =
+    let none : has (is_queued m.queue) w.messages ≡ false = subst (λ (b : Birth). has (is_queued b) w.messages ≡ false) own (off (has (is_queued q) w.messages) quiet) in
+    ap (λ (v : World). world_after v (receipt_steps m)) (taken-by w m (is_queued m.queue) (same-birth m.queue) none)
+  where
+    off : (b : Bool) → not b && true ≡ true → b ≡ false
+    off true h = absurd (cc)
+    off false h = refl
+passed-as w m Listen q own takes quiet =
+    let none : has (is_queued_connect m.queue) w.messages ≡ false = subst (λ (b : Birth). has (is_queued_connect b) w.messages ≡ false) own (off (has (is_queued_connect q) w.messages) quiet) in
+    let asks : is_connection_request m.message ≡ true = (both (is_connection_request m.message) (same_birth q m.queue) takes).0 in
+    ap (λ (v : World). world_after v (receipt_steps m)) (taken-by w m (is_queued_connect m.queue) (rw (same-birth m.queue, asks) refl) none)
+  where
+    off : (b : Bool) → not b ≡ true → b ≡ false
+    off true h = absurd (cc)
+    off false h = refl
+passed-as w m (Connect n) q own takes quiet = absurd (cc)
+passed-as w m (Accepted n reply) q own takes quiet = absurd (cc)
+
+pub passed : (w : World) (m : MessageRow) (x : WaitRow) → takes m x ≡ true → is_quiet w.messages x ≡ true → world_after w (Enters m ∷ given_steps x m) ≡ world_after w (receipt_steps m)
+passed w m x takes quiet = passed-as w m x.kind x.queue (taker-queue m x takes) takes quiet
+
+pub passed-asking : (w : World) (m : MessageRow) (x : WaitRow) → takes m x ≡ true → is_quiet w.messages x ≡ true → asks m.message ≡ true → world_after w (Enters m ∷ given_steps x m) ≡ basic w (Receives m.message.header.client.thread)
+passed-asking w m x takes quiet asked = passed w m x takes quiet ∙ ap (λ a. world_after w (when a (Receives m.message.header.client.thread ∷ []))) asked
+
+pub passed-other : (w : World) (m : MessageRow) (x : WaitRow) → takes m x ≡ true → is_quiet w.messages x ≡ true → asks m.message ≡ false → world_after w (Enters m ∷ given_steps x m) ≡ w
+passed-other w m x takes quiet other = passed w m x takes quiet ∙ ap (λ a. world_after w (when a (Receives m.message.header.client.thread ∷ []))) other
 
 -- the steps of a message that a waiting thread takes
-told-then : (w : World) (es : List Entry) (m : MessageRow) (q : Birth) (who tid : ℕ) (call : CallName) (status : Status) (fields : List Field) (a : Bool)
-    → left_by w es (Enters m ∷ ((Takes q ∷ when a (Receives who ∷ [])) ++ Wakes tid call status fields ∷ []))
-    ≡ record { world = basic (world_after w (Enters m ∷ Takes q ∷ when a (Receives who ∷ []))) (Wakes tid call status fields); entries = es ++ told (Wakes tid call status fields) }
-told-then w es m q who tid call status fields true = refl
-told-then w es m q who tid call status fields false = refl
+silent-receipt : (who : ℕ) (a : Bool) (bs : List Basic) → entries_of (when a (Receives who ∷ []) ++ bs) ≡ entries_of bs
+silent-receipt who true bs = refl
+silent-receipt who false bs = refl
 
-pub entered : (w : World) (es : List Entry) (m : MessageRow) (x : WaitRow) → first (receives_on m.queue) w.waits ≡ Some x
+silent-given : (x : WaitRow) (m : MessageRow) (bs : List Basic) → entries_of (given_steps x m ++ bs) ≡ entries_of bs
+silent-given x m bs = by_kind x.kind
+  where
+    by_kind : (k : WaitKind) → entries_of ((elim k [ Listen ↦ take_connect_steps m | _ ↦ take_steps m ]) ++ bs) ≡ entries_of bs
+    by_kind (Request n) = silent-receipt m.message.header.client.thread (asks m.message) bs
+    by_kind Receive = silent-receipt m.message.header.client.thread (asks m.message) bs
+    by_kind Listen = silent-receipt m.message.header.client.thread (asks m.message) bs
+    by_kind (Connect n) = silent-receipt m.message.header.client.thread (asks m.message) bs
+    by_kind (Accepted n reply) = silent-receipt m.message.header.client.thread (asks m.message) bs
+
+pub entered : (w : World) (es : List Entry) (m : MessageRow) (x : WaitRow) → first (takes m) w.waits ≡ Some x
     → left_by w es (enter m w)
-    ≡ record { world = basic (world_after w (Enters m ∷ take_steps m)) (Wakes x.thread x.call SUCCESS (receipt m)); entries = es ++ told (Wakes x.thread x.call SUCCESS (receipt m)) }
-entered w es m x found = rw found (told-then w es m m.queue m.message.header.client.thread x.thread x.call SUCCESS (receipt m) (asks m.message))
+    ≡ record { world = basic (world_after w (Enters m ∷ given_steps x m)) (Wakes x.thread x.call SUCCESS (shown x m)); entries = es ++ told (Wakes x.thread x.call SUCCESS (shown x m)) }
+entered w es m x found =
+    let wake : Basic = Wakes x.thread x.call SUCCESS (shown x m) in
+    ap (λ (o : Option WaitRow). left_by w es (Enters m ∷ given o (λ y. given_steps y m ++ woken SUCCESS (shown y m) y ∷ []))) found
+    ∙ (λ i. record { world = after-append (basic w (Enters m)) (given_steps x m) (wake ∷ []) i; entries = es ++ silent-given x m (wake ∷ []) i })
+
+-- what a waiter is shown, by its kind
+pub shown-listen : (x : WaitRow) (m : MessageRow) → is_listen x ≡ true → shown x m ≡ msg m.message ∷ []
+shown-listen x m is = by_kind x.kind is
+  where
+    by_kind : (k : WaitKind) → (elim k [ Listen ↦ true | _ ↦ false ]) ≡ true → (elim k [ Listen ↦ msg m.message ∷ [] | _ ↦ receipt m ]) ≡ msg m.message ∷ []
+    by_kind (Request n) h = absurd (cc)
+    by_kind Receive h = absurd (cc)
+    by_kind Listen h = refl
+    by_kind (Connect n) h = absurd (cc)
+    by_kind (Accepted n reply) h = absurd (cc)
+
+pub shown-other : (x : WaitRow) (m : MessageRow) → is_listen x ≡ false → shown x m ≡ receipt m
+shown-other x m is = by_kind x.kind is
+  where
+    by_kind : (k : WaitKind) → (elim k [ Listen ↦ true | _ ↦ false ]) ≡ false → (elim k [ Listen ↦ msg m.message ∷ [] | _ ↦ receipt m ]) ≡ receipt m
+    by_kind (Request n) h = refl
+    by_kind Receive h = refl
+    by_kind Listen h = absurd (cc)
+    by_kind (Connect n) h = refl
+    by_kind (Accepted n reply) h = refl
 
 -- a wait that begins, and is changed at once
 pub begun-waits : (x : WaitRow) (xs : List WaitRow) → has (waits_as x.thread) (xs ++ x ∷ []) ≡ true
@@ -58,16 +125,13 @@ pub begun-change : (f : WaitRow → WaitRow) (x : WaitRow) (xs : List WaitRow) �
 begun-change f x [] none = let own : (x.thread == x.thread) ≡ true = grind (arith, nat_tests) in grind (arith, own)
 begun-change f x (y ∷ xs) none = grind (arith, begun-change f x xs)
 
--- a queue on which a receive waits is empty
-pub quiet-queue : (ms : List MessageRow) (q : Birth) (xs : List WaitRow) → every (is_quiet ms) xs ≡ true → (o : Option ℕ) → o ≡ option_map (λ (x : WaitRow). x.thread) (first (receives_on q) xs) → OnSome o (has (is_queued q) ms ≡ false)
-quiet-queue ms q xs quiet o at = by_wait (first (receives_on q) xs) refl o at
-  where
-    by_wait : (found : Option WaitRow) → first (receives_on q) xs ≡ found → (o : Option ℕ) → o ≡ option_map (λ (x : WaitRow). x.thread) found → OnSome o (has (is_queued q) ms ≡ false)
-    by_wait found is' None at = tt
-    by_wait None is' (Some n) at = absurd (cc)
-    by_wait (Some x) is' (Some n) at =
-        let still : is_quiet ms x ≡ true = every-first (is_quiet ms) (receives_on q) xs x quiet is' in
-        let passes : receives_on q x ≡ true = first-passes (receives_on q) xs x is' in
-        let same : x.queue ≡ q = name_is x.queue q (grind arith) in
-        let P : Birth → Type 0 = λ b. has (is_queued b) ms ≡ false in
-        subst P same (grind arith)
+-- the message has entered, and its taker was told
+pub delivered : (w passed after : World) (es list : List Entry) (m : MessageRow) (x : WaitRow) (tid : ℕ) (call : CallName) (fields : List Field)
+    → first (takes m) w.waits ≡ Some x → x.thread ≡ tid → call ≡ x.call → fields ≡ shown x m
+    → passed ≡ world_after w (Enters m ∷ given_steps x m) → after ≡ basic passed (Wakes tid call SUCCESS fields) → list ≡ es ++ told (Wakes tid call SUCCESS fields)
+    → let end : Stepped = record { world = after; entries = list } in end ≡ left_by w es (enter m w)
+delivered w passed after es list m x tid call fields found own name shows pass wake told_is =
+    let wakes : Wakes tid call SUCCESS fields ≡ Wakes x.thread x.call SUCCESS (shown x m) = λ i. Wakes (sym own i) (name i) SUCCESS (shows i) in
+    let world_is : after ≡ basic (world_after w (Enters m ∷ given_steps x m)) (Wakes x.thread x.call SUCCESS (shown x m)) = wake ∙ (λ i. basic (pass i) (wakes i)) in
+    let list_is : list ≡ es ++ told (Wakes x.thread x.call SUCCESS (shown x m)) = told_is ∙ ap (λ (b : Basic). es ++ told b) wakes in
+    (λ i. record { world = world_is i; entries = list_is i }) ∙ sym (entered w es m x found)

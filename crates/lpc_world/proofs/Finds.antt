@@ -1,5 +1,5 @@
 -- What is found in the rows: a caller and its process, and the wait of a thread.
-use Rattle.std.proofs.Common.{◌≡◌, ◌≤◌, ℕ, List, [], ◌∷◌, Bool, true, false, cond, not, ◌&&◌, ◌==◌, Option, Some, None, MatchOption, IfSome, option_map, refl, ap, sym, subst, ◌∙◌, arith}
+use Rattle.std.proofs.Common.{◌≡◌, ◌≤◌, ℕ, List, [], ◌∷◌, Bool, true, false, cond, not, ◌&&◌, ◌||◌, ◌==◌, Option, Some, None, MatchOption, IfSome, option_map, refl, ap, sym, subst, ◌∙◌, arith}
 use Rattle.std.specs.Prelude.{is_some}
 use Rattle.std.proofs.lemmas.Bool.{eqb-true}
 use Rattle.std.proofs.lemmas.Bool.Decides.{nat_tests}
@@ -8,10 +8,11 @@ use Rattle.lpc_base.specs.Rows.{count, every, first, has}
 use Rattle.lpc_base.proofs.RowMaps.{every-first}
 use Rattle.lpc_base.proofs.RowWords.{first-passes, has-first, has_none-more}
 use Rattle.lpc_message.specs.declared.message.ClientId.{ClientId}
-use Rattle.lpc_model.specs.World.{Receive, Request, ThreadRow, WaitKind, WaitRow, World}
-use Rattle.lpc_model.specs.Found.{fits_as, is_live_thread, is_process, is_request, is_table, is_thread, lives_in, live_thread, receives_on, wait_of, waits_as}
+use Rattle.lpc_model.specs.World.{Accepted, Connect, Listen, Receive, Request, ThreadRow, WaitKind, WaitRow, World}
+use Rattle.lpc_model.specs.Found.{fits_as, is_live_thread, is_process, is_table, is_thread, lives_in, live_thread, same_birth, wait_of, waits_as}
+use Rattle.lpc_model.specs.Entering.{takes_from}
 use Rattle.lpc_world.specs.Kept.{is_alive, is_pending, is_pending_in, pends_as}
-use Rattle.lpc_world.specs.Lawful.{are_single, is_housed}
+use Rattle.lpc_world.specs.Lawful.{are_single, is_housed, is_quiet}
 use Rattle.lpc_world.specs.Ready.{caller, is_ready, thread_in, wait_in, waiter}
 
 -- Callers
@@ -85,7 +86,7 @@ own_wait p (x ∷ xs) y one is = elim (p x) as (λ b. p x ≡ b → first (waits
 ] refl
 
 -- and where it isn't pending, its thread waits for no reply to a request that isn't received
-idle_first : (p : WaitRow → Bool) (xs : List WaitRow) (x : WaitRow) → are_single xs ≡ true → first p xs ≡ Some x → is_pending x ≡ false → has (pends_as x.thread) xs ≡ false
+pub idle_first : (p : WaitRow → Bool) (xs : List WaitRow) (x : WaitRow) → are_single xs ≡ true → first p xs ≡ Some x → is_pending x ≡ false → has (pends_as x.thread) xs ≡ false
 idle_first p [] y one is off = refl
 idle_first p (x ∷ xs) y one is off = elim (p x) as (λ b. p x ≡ b → has (pends_as y.thread) (x ∷ xs) ≡ false) [
   | true ↦ λ here. let same : x ≡ y = grind arith in
@@ -102,10 +103,11 @@ pub record IsFound (w : World) (p : WaitRow → Bool) (r : Option ℕ) : Type 0 
   pub waits : IfSome r (λ tid. has (waits_as tid) w.waits ≡ true)
   pub thread : IfSome r (λ tid. let x = waiter w tid in x.thread ≡ tid)
   pub idle : IfSome r (λ tid. is_pending_in w tid ≡ false)
+  pub passes : IfSome r (λ tid. p (waiter w tid) ≡ true)
 
 found_row : (w : World) (p : WaitRow → Bool) → are_single w.waits ≡ true → ((x : WaitRow) → p x ≡ true → is_pending x ≡ false) → (o : Option WaitRow) → first p w.waits ≡ o → IsFound w p (option_map (λ x. x.thread) o)
 unfolding waiter
-found_row w p one off None is = record { found = is; waits = tt; thread = tt; idle = tt }
+found_row w p one off None is = record { found = is; waits = tt; thread = tt; idle = tt; passes = tt }
 found_row w p one off (Some x) is =
     let own : first (waits_as x.thread) w.waits ≡ Some x = own_wait p w.waits x one is in
     record {
@@ -113,29 +115,52 @@ found_row w p one off (Some x) is =
       waits = ap is_some own;
       thread = ap (λ o. (wait_in o).thread) own;
       idle = idle_first p w.waits x one is (off x (first-passes p w.waits x is));
+      passes = ap (λ o. p (wait_in o)) own ∙ first-passes p w.waits x is;
     }
 
 pub found_wait : (w : World) (p : WaitRow → Bool) (r : Option ℕ) → are_single w.waits ≡ true → ((x : WaitRow) → p x ≡ true → is_pending x ≡ false) → r ≡ option_map (λ x. x.thread) (first p w.waits) → IsFound w p r
 found_wait w p r one off is = subst (λ (o : Option ℕ). IsFound w p o) (sym is) (found_row w p one off (first p w.waits) refl)
 
--- a receive isn't pending, and a wait that a message fits isn't
-receive_idle : (k : WaitKind) (b c : Bool) → (elim k [ Receive ↦ true | _ ↦ false ]) && c ≡ true → (elim k [ Request m ↦ true | _ ↦ false ]) && not b ≡ false
-receive_idle (Request m) b c h = absurd (cc)
-receive_idle Receive b c h = refl
+-- what a wait of a queue is for doesn't stand there
+pub still_found : (w : World) (p : WaitRow → Bool) (r : Option ℕ) → are_single w.waits ≡ true → every (is_quiet w.messages) w.waits ≡ true → r ≡ option_map (λ x. x.thread) (first p w.waits) → IfSome r (λ tid. is_quiet w.messages (waiter w tid) ≡ true)
+unfolding waiter
+still_found w p r one quiet is = subst (λ (o : Option ℕ). IfSome o (λ tid. is_quiet w.messages (waiter w tid) ≡ true)) (sym is) (by_wait (first p w.waits) refl)
+  where
+    by_wait : (o : Option WaitRow) → first p w.waits ≡ o → IfSome (option_map (λ (x : WaitRow). x.thread) o) (λ tid. is_quiet w.messages (waiter w tid) ≡ true)
+    by_wait None at = tt
+    by_wait (Some x) at = ap (λ o. is_quiet w.messages (wait_in o)) (own_wait p w.waits x one at) ∙ every-first (is_quiet w.messages) p w.waits x quiet at
 
-pub receive_off : (q : Birth) (x : WaitRow) → receives_on q x ≡ true → is_pending x ≡ false
-receive_off q x h = receive_idle x.kind x.received _ h
+-- a receive or listen isn't pending, and a wait that a message fits isn't
+taker_idle : (k : WaitKind) (b c d : Bool) → ((elim k [ Receive ↦ true | _ ↦ false ]) || ((elim k [ Listen ↦ true | _ ↦ false ]) && c)) && d ≡ true
+    → ((elim k [ Request m ↦ true | _ ↦ false ]) || ((elim k [ Connect m ↦ true | _ ↦ false ]) || (elim k [ Accepted m reply ↦ true | _ ↦ false ]))) && not b ≡ false
+taker_idle (Request m) b c d h = absurd (cc)
+taker_idle Receive b c d h = refl
+taker_idle Listen b c d h = refl
+taker_idle (Connect m) b c d h = absurd (cc)
+taker_idle (Accepted m reply) b c d h = absurd (cc)
 
-fit_idle : (a b c d e f : Bool) → (a && (b && (c && (d && (e && f))))) ≡ true → d && not e ≡ false
-fit_idle true true true true true f h = refl
-fit_idle true true true true false f h = absurd (cc)
-fit_idle true true true false e f h = refl
-fit_idle true true false d e f h = absurd (cc)
-fit_idle true false c d e f h = absurd (cc)
-fit_idle false b c d e f h = absurd (cc)
+pub taker_off : (q : Birth) (connects : Bool) (x : WaitRow) → takes_from q connects x ≡ true → is_pending x ≡ false
+taker_off q connects x h = taker_idle x.kind x.received connects (same_birth x.queue q) h
+
+fit_idle : (k : WaitKind) (a b c e f : Bool) → (a && (b && (c && ((elim k [ Request m ↦ true | _ ↦ false ]) && (e && f))))) ≡ true
+    → ((elim k [ Request m ↦ true | _ ↦ false ]) || ((elim k [ Connect m ↦ true | _ ↦ false ]) || (elim k [ Accepted m reply ↦ true | _ ↦ false ]))) && not e ≡ false
+fit_idle k a b c true f h = no (elim k [ Request m ↦ true | _ ↦ false ]) ((elim k [ Connect m ↦ true | _ ↦ false ]) || (elim k [ Accepted m reply ↦ true | _ ↦ false ]))
+  where
+    no : (p q : Bool) → (p || q) && false ≡ false
+    no true q = refl
+    no false true = refl
+    no false false = refl
+fit_idle k true true true false f h = absurd (off (elim k [ Request m ↦ true | _ ↦ false ]) f h)
+  where
+    off : (p f : Bool) → p && (false && f) ≡ true → ⊥
+    off true f h = absurd (cc)
+    off false f h = absurd (cc)
+fit_idle k true true false false f h = absurd (cc)
+fit_idle k true false c false f h = absurd (cc)
+fit_idle k false b c false f h = absurd (cc)
 
 pub fit_off : (w : World) (port : Birth) (client : ClientId) (identifier : ℕ) (x : WaitRow) → fits_as w port client identifier x ≡ true → is_pending x ≡ false
-fit_off w port client identifier x h = fit_idle (x.thread == client.thread) (x.process == client.process) (x.identifier == identifier) (is_request x) x.received _ h
+fit_off w port client identifier x h = fit_idle x.kind (x.thread == client.thread) (x.process == client.process) (x.identifier == identifier) x.received _ h
 
 -- What fits is a wait of the thread
 fit_thread : (w : World) (port : Birth) (client : ClientId) (identifier : ℕ) (x : WaitRow) → waits_as client.thread x ≡ false → fits_as w port client identifier x ≡ false
@@ -145,12 +170,12 @@ fit_thread w port client identifier x off = short _ _ off
     short true b e = absurd (cc)
     short false b e = refl
 
-none_fits : (p : WaitRow → Bool) (tid : ℕ) → ((x : WaitRow) → waits_as tid x ≡ false → p x ≡ false) → (xs : List WaitRow) → has (waits_as tid) xs ≡ false → first p xs ≡ None
+pub none_fits : (p : WaitRow → Bool) (tid : ℕ) → ((x : WaitRow) → waits_as tid x ≡ false → p x ≡ false) → (xs : List WaitRow) → has (waits_as tid) xs ≡ false → first p xs ≡ None
 none_fits p tid off [] none = refl
 none_fits p tid off (x ∷ xs) none = grind (arith, off x, none_fits p tid off xs)
 
 -- where only a thread's waits pass, its wait is found where it passes
-first_own : (p : WaitRow → Bool) (tid : ℕ) → ((x : WaitRow) → waits_as tid x ≡ false → p x ≡ false) → (xs : List WaitRow) (x : WaitRow) → are_single xs ≡ true → first (waits_as tid) xs ≡ Some x → first p xs ≡ cond (p x) (Some x) None
+pub first_own : (p : WaitRow → Bool) (tid : ℕ) → ((x : WaitRow) → waits_as tid x ≡ false → p x ≡ false) → (xs : List WaitRow) (x : WaitRow) → are_single xs ≡ true → first (waits_as tid) xs ≡ Some x → first p xs ≡ cond (p x) (Some x) None
 first_own p tid off [] y one is = absurd (cc)
 first_own p tid off (x ∷ xs) y one is = elim (waits_as tid x) as (λ b. waits_as tid x ≡ b → first p (x ∷ xs) ≡ cond (p y) (Some y) None) [
   | true ↦ λ here.

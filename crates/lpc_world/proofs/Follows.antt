@@ -1,10 +1,12 @@
 -- What is found in the tables is what is found in the rows that they stand for.
-use Rattle.std.proofs.Common.{◌≡◌, ℕ, List, [], ◌∷◌, Bool, true, false, ◌&&◌, map, option_map, refl, ap, sym, ◌∙◌, arith}
+use Rattle.std.proofs.Common.{◌≡◌, ℕ, List, [], ◌∷◌, Bool, true, false, ◌&&◌, map, option_map, refl, ap, sym, ◌∙◌, arith, Option, Some, None, ◌||◌}
 use Rattle.lpc_base.specs.declared.birth.Birth.{Birth}
 use Rattle.lpc_base.specs.Rows.{every, first}
 use Rattle.lpc_base.proofs.RowMaps.{every-both, every-map, first-map}
 use Rattle.lpc_model.specs.World as model
-use Rattle.lpc_model.specs.Found.{is_port, is_queued, receives_on, same_birth}
+use Rattle.lpc_model.specs.Found.{is_port, is_queued, same_birth}
+use Rattle.lpc_model.specs.Entering.{takes_from}
+use Rattle.lpc_waits.specs.declared.Accepted.{Accepted}
 use Rattle.lpc_ports.specs.Table as ports
 use Rattle.lpc_ports.specs.Table.{PortTable}
 use Rattle.lpc_ports.specs.declared.Port.{Port}
@@ -19,7 +21,6 @@ use Rattle.lpc_waits.specs.declared.WaitRow.{WaitRow}
 use Rattle.lpc_world.specs.Names.{Names, are_apart, name_of, names_of, stands}
 use Rattle.lpc_world.specs.Shown.{Tables, AreNamed, Births, all_pass, birth_of, births_of, message_refs, object_stands, shown_kind, shown_message, shown_port, shown_wait, wait_refs}
 use Rattle.lpc_world.specs.declared.object.Object.{Object}
-use Rattle.lpc_world.specs.declared.parts.Part.{Part}
 use Rattle.lpc_world.proofs.Naming.{agrees, key_itself, name_is, own}
 
 -- A row's own key stands, and its birth is its own name
@@ -74,12 +75,20 @@ module _ (it : Tables) (is : AreNamed (births_of it.ports) it) where
   pub queue_same : (key : Key) → stands n.ports key ≡ true → (row : Key × QueuedMessage) → all_pass message_refs (object_stands n) row ≡ true → is_queued (name_of n.ports key) (shown_message f row) ≡ ports.is_in key row
   queue_same key there row ok = agree row.1.queue key (grind arith) there
 
-  kind_same : (kind : WaitKind) (bytes : List ℕ) (b : Bool) → (elim (shown_kind kind bytes) [ model.Receive ↦ true | _ ↦ false ]) && b ≡ waits.is_receive kind && b
-  kind_same wait.Request bytes b = refl
-  kind_same wait.Receive bytes b = refl
+  kind_same : (kind : WaitKind) (bytes : List ℕ) (accepted : Option Accepted) (connects b : Bool)
+      → ((elim (shown_kind kind bytes accepted) [ model.Receive ↦ true | _ ↦ false ]) || ((elim (shown_kind kind bytes accepted) [ model.Listen ↦ true | _ ↦ false ]) && connects)) && b ≡ waits.takes connects kind && b
+  kind_same wait.Request bytes accepted true b = refl
+  kind_same wait.Request bytes accepted false b = refl
+  kind_same wait.Receive bytes accepted connects b = refl
+  kind_same wait.Listen bytes accepted true b = refl
+  kind_same wait.Listen bytes accepted false b = refl
+  kind_same wait.Connect bytes None true b = refl
+  kind_same wait.Connect bytes None false b = refl
+  kind_same wait.Connect bytes (Some accepted) true b = refl
+  kind_same wait.Connect bytes (Some accepted) false b = refl
 
-  pub receive_same : (key : Key) → stands n.ports key ≡ true → (row : WaitRow) → all_pass wait_refs (object_stands n) row ≡ true → receives_on (name_of n.ports key) (shown_wait f row) ≡ waits.is_receive_on key row
-  receive_same key there row ok = rw (agree row.wait.queue key (grind arith) there) (kind_same row.wait.kind row.message.items (is_key row.wait.queue key))
+  pub taker_same : (key : Key) (connects : Bool) → stands n.ports key ≡ true → (row : WaitRow) → all_pass wait_refs (object_stands n) row ≡ true → takes_from (name_of n.ports key) connects (shown_wait f row) ≡ waits.is_taker_on key connects row
+  taker_same key connects there row ok = rw (agree row.wait.queue key (grind arith) there) (kind_same row.wait.kind row.message.items row.accepted connects (is_key row.wait.queue key))
 
   -- what is found
   pub first_port : (key : Key) → stands n.ports key ≡ true → first (is_port (name_of n.ports key)) (map (shown_port f) it.ports.ports) ≡ option_map (shown_port f) (first (at_key key) it.ports.ports)
@@ -88,5 +97,5 @@ module _ (it : Tables) (is : AreNamed (births_of it.ports) it) where
   pub first_queued : (key : Key) → stands n.ports key ≡ true → first (is_queued (name_of n.ports key)) (map (shown_message f) it.ports.messages) ≡ option_map (shown_message f) (first (ports.is_in key) it.ports.messages)
   first_queued key there = first-map (shown_message f) (all_pass message_refs (object_stands n)) (ports.is_in key) (is_queued (name_of n.ports key)) (queue_same key there) it.ports.messages is.refs.in_messages
 
-  pub first_receive : (key : Key) → stands n.ports key ≡ true → first (receives_on (name_of n.ports key)) (map (shown_wait f) it.waits.rows) ≡ option_map (shown_wait f) (first (waits.is_receive_on key) it.waits.rows)
-  first_receive key there = first-map (shown_wait f) (all_pass wait_refs (object_stands n)) (waits.is_receive_on key) (receives_on (name_of n.ports key)) (receive_same key there) it.waits.rows is.refs.in_waits
+  pub first_taker : (key : Key) (connects : Bool) → stands n.ports key ≡ true → first (takes_from (name_of n.ports key) connects) (map (shown_wait f) it.waits.rows) ≡ option_map (shown_wait f) (first (waits.is_taker_on key connects) it.waits.rows)
+  first_taker key connects there = first-map (shown_wait f) (all_pass wait_refs (object_stands n)) (waits.is_taker_on key connects) (takes_from (name_of n.ports key) connects) (taker_same key connects there) it.waits.rows is.refs.in_waits

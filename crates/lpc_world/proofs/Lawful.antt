@@ -14,7 +14,8 @@ use Rattle.lpc_base.specs.Rows.{change, count, every, first, has, without, witho
 use Rattle.lpc_base.proofs.RowWords.{change-none, count-bound, count-push, count-without, every-change, every-more, every-push, every-without, has-change, has-kept, has-push, has_none-change, has_none-more, has_none-push, has_none-without, length-change}
 use Rattle.lpc_base.proofs.RowMaps.{every-first}
 use Rattle.lpc_model.specs.World.{World, HandleRow, HandleTable, MessageRow, PortRow, ProcessRow, ThreadRow, UsedThread, WaitRow}
-use Rattle.lpc_model.specs.Found.{is_process, is_queued, is_table, is_thread, receives_on, same_birth, waits_as}
+use Rattle.lpc_model.specs.Found.{is_process, is_queued, is_queued_connect, is_table, is_thread, same_birth, waits_as}
+use Rattle.lpc_model.specs.Entering.{takes}
 use Rattle.lpc_model.specs.Basics.{no_handles, past_identifier, past_ordinal, received, with_handle}
 use Rattle.lpc_world.specs.Kept.{is_asking, is_pending, pends_as}
 use Rattle.lpc_world.specs.Lawful.{IsLawful, are_single, are_single_tables, draws_at_most, is_housed, is_of, is_quiet, is_used}
@@ -192,7 +193,7 @@ pub lawful-ordinal : (w : World) (calls made a b who : ℕ) → IsLawful w calls
 lawful-ordinal w calls made a b who h lt = lawful-drawn past_ordinal (λ t. refl) (λ t. refl) w calls made a b who h lt (draws-ordinals (made + 1) who w.threads h.draws)
 
 -- a process and its table of handles
-unused-table : (used : List ℕ) (pid : ℕ) (ts : List HandleTable) → every (is_used used) ts ≡ true → has (λ n. n == pid) used ≡ false → has (is_table pid) ts ≡ false
+pub unused-table : (used : List ℕ) (pid : ℕ) (ts : List HandleTable) → every (is_used used) ts ≡ true → has (λ n. n == pid) used ≡ false → has (is_table pid) ts ≡ false
 unused-table used pid [] all none = refl
 unused-table used pid (t ∷ ts) all none =
     elim (t.process == pid) as (λ b. (t.process == pid) ≡ b → has (is_table pid) (t ∷ ts) ≡ false) [
@@ -402,13 +403,13 @@ lawful-keep w calls made a b tid g same pends stills h = record {
 births-turned : (a b : Birth) → same_birth a b ≡ same_birth b a
 births-turned a b = grind (arith, nat_tests)
 
--- a message enters a queue on which no receive waits
-quiet-enter : (m : MessageRow) (ms : List MessageRow) (xs : List WaitRow) → every (is_quiet ms) xs ≡ true → has (receives_on m.queue) xs ≡ false → every (is_quiet (ms ++ m ∷ [])) xs ≡ true
+-- a message enters a queue on which no thread waits that takes it
+quiet-enter : (m : MessageRow) (ms : List MessageRow) (xs : List WaitRow) → every (is_quiet ms) xs ≡ true → has (takes m) xs ≡ false → every (is_quiet (ms ++ m ∷ [])) xs ≡ true
 quiet-enter m ms [] all none = refl
 quiet-enter m ms (x ∷ xs) all none =
-    grind (arith, has_none-push (is_queued x.queue) ms m, births-turned m.queue x.queue, quiet-enter m ms xs)
+    grind (arith, has_none-push (is_queued x.queue) ms m, has_none-push (is_queued_connect x.queue) ms m, births-turned m.queue x.queue, quiet-enter m ms xs)
 
-pub lawful-enter : (w : World) (calls made a b : ℕ) (m : MessageRow) → IsLawful w calls made a b → made < 16 * calls → 0 < b → has (receives_on m.queue) w.waits ≡ false
+pub lawful-enter : (w : World) (calls made a b : ℕ) (m : MessageRow) → IsLawful w calls made a b → made < 16 * calls → 0 < b → has (takes m) w.waits ≡ false
     → (is_asking m ≡ true → count is_asking w.messages < count is_pending w.waits) → (is_asking m ≡ false → length w.threads < b + count is_asking w.messages)
     → IsLawful (record w { messages = w.messages ++ m ∷ [] }) calls (made + 1) a (b - 1)
 lawful-enter w calls made a b m h lt place none asks other = record {
@@ -446,12 +447,12 @@ none-taken : (q p : MessageRow → Bool) (ms : List MessageRow) → has p ms ≡
 none-taken q p [] none = refl
 none-taken q p (m ∷ ms) none = grind (arith, none-taken q p ms)
 
-quiet-take : (q : Birth) (ms : List MessageRow) (x : WaitRow) → is_quiet ms x ≡ true → is_quiet (without_first (is_queued q) ms) x ≡ true
-quiet-take q ms x still = grind (arith, none-taken (is_queued q) (is_queued x.queue) ms)
+quiet-take : (p : MessageRow → Bool) (ms : List MessageRow) (x : WaitRow) → is_quiet ms x ≡ true → is_quiet (without_first p ms) x ≡ true
+quiet-take p ms x still = grind (arith, none-taken p (is_queued x.queue) ms, none-taken p (is_queued_connect x.queue) ms)
 
-pub lawful-take : (w : World) (calls made a b : ℕ) (q : Birth) (m : MessageRow) → first (is_queued q) w.messages ≡ Some m → IsLawful w calls made a b
-    → IsLawful (record w { messages = without_first (is_queued q) w.messages }) calls made a (b + 1)
-lawful-take w calls made a b q m is h = record {
+pub lawful-take : (w : World) (calls made a b : ℕ) (p : MessageRow → Bool) (m : MessageRow) → first p w.messages ≡ Some m → IsLawful w calls made a b
+    → IsLawful (record w { messages = without_first p w.messages }) calls made a (b + 1)
+lawful-take w calls made a b p m is h = record {
   few = h.few;
   budget = h.budget;
   rows = h.rows;
@@ -461,10 +462,10 @@ lawful-take w calls made a b q m is h = record {
   tables_single = h.tables_single;
   single = h.single;
   threads = h.threads;
-  quiet = every-more (is_quiet w.messages) (is_quiet (without_first (is_queued q) w.messages)) (λ x still. quiet-take q w.messages x still) w.waits h.quiet;
-  requests = grind (arith, h.requests, count-less (is_queued q) w.messages);
+  quiet = every-more (is_quiet w.messages) (is_quiet (without_first p w.messages)) (λ x still. quiet-take p w.messages x still) w.waits h.quiet;
+  requests = grind (arith, h.requests, count-less p w.messages);
   waits_fit = h.waits_fit;
-  messages_fit = grind (arith, h.messages_fit, count-taken (is_queued q) w.messages m is);
+  messages_fit = grind (arith, h.messages_fit, count-taken p w.messages m is);
 }
 
 -- Places

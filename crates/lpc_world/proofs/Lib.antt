@@ -1,10 +1,13 @@
 pub mod Changes
+pub mod Connecting
 pub mod Delivered
 pub mod Finds
 pub mod Follows
 pub mod Lawful
 pub mod Makes
 pub mod Bound
+pub mod Promised
+pub mod Finished
 pub mod Naming
 pub mod OnePart
 pub mod Readings
@@ -12,3 +15,8 @@ pub mod Rooms
 pub mod Steps
 pub mod Tables
 pub mod Drawn
+pub mod Joins
+pub mod Accepts
+pub mod Pulls
+pub mod Unheld
+pub mod Frees

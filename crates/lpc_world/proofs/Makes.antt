@@ -12,10 +12,8 @@ use Rattle.lpc_names.specs.declared.names.Found.TheVariants.{Directory, Item}
 use Rattle.lpc_ports.specs.Table.{PortTable}
 use Rattle.lpc_ports.specs.declared.Port.{Port}
 use Rattle.lpc_ports.specs.declared.messages.QueuedMessage.{QueuedMessage}
-use Rattle.lpc_procs.specs.Procs as procs
 use Rattle.lpc_slots.specs.Table.{at_key}
 use Rattle.lpc_slots.specs.declared.Key.{Key}
-use Rattle.lpc_waits.specs.Table.{WaitTable}
 use Rattle.lpc_waits.specs.declared.WaitRow.{WaitRow}
 use Rattle.lpc_world.specs.Names.{KeepsNames, Names, name_of, names_of, some_stands, stands}
 use Rattle.lpc_world.specs.Shown.{Tables, AreNamed, Births, all_pass, binding_refs, birth_in, birth_of, births_of, message_refs, name_by, node_refs, object_stands, part_refs, port_refs, ports_in, shown_binding, shown_by, shown_handle, shown_message, shown_node, shown_part, shown_port, shown_wait, wait_refs}

@@ -1,5 +1,5 @@
 -- What reading calls find in the tables is what is found in the rows that they stand for.
-use Rattle.std.proofs.Common.{◌≡◌, ◌+◌, ◌<◌, ℕ, get_or, drop, List, [], ◌∷◌, ◌++◌, Bool, true, false, cond, not, ◌&&◌, ◌==◌, map, length, Option, Some, None, option_map, refl, ap, sym, ◌∙◌, arith}
+use Rattle.std.proofs.Common.{◌≡◌, ◌+◌, ◌<◌, ℕ, get_or, drop, List, [], ◌∷◌, ◌++◌, Bool, true, false, cond, ◌&&◌, ◌==◌, map, length, Option, Some, None, option_map, refl, ap, sym, ◌∙◌, arith}
 use Rattle.std.specs.Prelude.{MatchOption, IfSome, is_none, is_some}
 use Rattle.std.proofs.lemmas.Bool.{eqb-true}
 use Rattle.std.proofs.lemmas.List.{at_drop_more}
@@ -19,11 +19,11 @@ use Rattle.lpc_ports.specs.Table as ports
 use Rattle.lpc_ports.specs.Table.{PortTable, row_at}
 use Rattle.lpc_ports.specs.declared.Port.{Port}
 use Rattle.lpc_ports.specs.declared.messages.QueuedMessage.{QueuedMessage}
-use Rattle.lpc_procs.specs.Procs as procs
 use Rattle.lpc_slots.specs.Table.{at_key}
 use Rattle.lpc_slots.specs.declared.Key.{Key}
 use Rattle.lpc_waits.specs.Table as waits
 use Rattle.lpc_waits.specs.Table.{WaitTable, row_of}
+use Rattle.lpc_waits.specs.declared.Accepted.{Accepted}
 use Rattle.lpc_waits.specs.declared.Wait.{Wait}
 use Rattle.lpc_waits.specs.declared.WaitKind.{WaitKind}
 use Rattle.lpc_waits.specs.declared.WaitKind.TheVariants as wait
@@ -100,9 +100,19 @@ pub named_has : (E : Object → Object → Bool) (key : Key) → ((o : Object) �
 named_has E key same [] = refl
 named_has E key same (row ∷ rows) = grind (arith, same row.1.object, named_has E key same rows)
 
-request_is : (kind : WaitKind) (bytes : List ℕ) → (elim (shown_kind kind bytes) [ model.Request m ↦ true | _ ↦ false ]) ≡ not (waits.is_receive kind)
-request_is wait.Request bytes = refl
-request_is wait.Receive bytes = refl
+request_is : (kind : WaitKind) (bytes : List ℕ) (accepted : Option Accepted) → (elim (shown_kind kind bytes accepted) [ model.Request m ↦ true | _ ↦ false ]) ≡ waits.is_request kind
+request_is wait.Request bytes accepted = refl
+request_is wait.Receive bytes accepted = refl
+request_is wait.Listen bytes accepted = refl
+request_is wait.Connect bytes None = refl
+request_is wait.Connect bytes (Some accepted) = refl
+
+listen_is : (kind : WaitKind) (bytes : List ℕ) (accepted : Option Accepted) → (elim (shown_kind kind bytes accepted) [ model.Listen ↦ true | _ ↦ false ]) ≡ waits.is_listen kind
+listen_is wait.Request bytes accepted = refl
+listen_is wait.Receive bytes accepted = refl
+listen_is wait.Listen bytes accepted = refl
+listen_is wait.Connect bytes None = refl
+listen_is wait.Connect bytes (Some accepted) = refl
 
 module _ (it : Tables) (is : AreNamed (births_of it.ports) it) where
   abbrev n : Births
@@ -180,15 +190,16 @@ module _ (it : Tables) (is : AreNamed (births_of it.ports) it) where
   pub is_wait : (places calls made tid : ℕ) (x : Wait) → option_map (λ row. row.wait) (row_of it.waits tid) ≡ Some x → IsWait (kept it places calls made) tid x
   is_wait places calls made tid x at =
       let held = holds (λ (r : WaitRow). r.wait) (row_of it.waits tid) x at in
-      let same : waiter rows tid ≡ shown_wait f (record { thread = held.row.thread; wait = x; message = held.row.message }) =
-      wait_is tid held.row held.found ∙ ap (λ (v : Wait). shown_wait f (record { thread = held.row.thread; wait = v; message = held.row.message })) held.is in
+      let same : waiter rows tid ≡ shown_wait f (record { thread = held.row.thread; wait = x; message = held.row.message; accepted = held.row.accepted }) =
+      wait_is tid held.row held.found ∙ ap (λ (v : Wait). shown_wait f (record { thread = held.row.thread; wait = v; message = held.row.message; accepted = held.row.accepted })) held.is in
       let stand : every (object_stands n) (object.Port x.port ∷ object.Port x.queue ∷ []) ≡ true =
       sym (ap (λ (v : Wait). every (object_stands n) (object.Port v.port ∷ object.Port v.queue ∷ [])) held.is) ∙ every-first (all_pass wait_refs (object_stands n)) (waits.is_of tid) it.waits.rows held.row is.refs.in_waits held.found in
       record {
         thread = ap (λ (y : model.WaitRow). y.thread) same ∙ eqb-true held.row.thread tid (first-passes (waits.is_of tid) it.waits.rows held.row held.found);
         call = ap (λ (y : model.WaitRow). y.call) same;
         process = ap (λ (y : model.WaitRow). y.process) same;
-        request = ap (λ (y : model.WaitRow). found.is_request y) same ∙ request_is x.kind held.row.message.items;
+        request = ap (λ (y : model.WaitRow). found.is_request y) same ∙ request_is x.kind held.row.message.items held.row.accepted;
+        listen = ap (λ (y : model.WaitRow). found.is_listen y) same ∙ listen_is x.kind held.row.message.items held.row.accepted;
         port = ap (λ (y : model.WaitRow). y.port) same;
         queue = ap (λ (y : model.WaitRow). y.queue) same;
         identifier = ap (λ (y : model.WaitRow). y.identifier) same;
@@ -216,7 +227,7 @@ module _ (it : Tables) (is : AreNamed (births_of it.ports) it) where
   handles_are pid = ap found.rows_in (first-shown (shown_part f) (is_part pid) (is_table pid) (λ r. refl) it.parts) ∙ shown_rows (first (is_part pid) it.parts)
 
   -- the objects of a process's handles stand
-  rows_stand : (o : Option Part) (pid : ℕ) → first (is_part pid) it.parts ≡ o → every (λ row. object_stands n row.1.object) (rows_in o) ≡ true
+  pub rows_stand : (o : Option Part) (pid : ℕ) → first (is_part pid) it.parts ≡ o → every (λ row. object_stands n row.1.object) (rows_in o) ≡ true
   rows_stand None pid at = refl
   rows_stand (Some part) pid at =
       sym (every-map (object_stands n) (λ (row : ℕ × Row Object). row.1.object) part.handles.rows)
@@ -262,7 +273,7 @@ module _ (it : Tables) (is : AreNamed (births_of it.ports) it) where
   is_at pid value o is = at_by pid value o (sym is)
 
   -- an open port
-  named_same : (key : Key) → stands n.ports key ≡ true → (row : ℕ × Row Object) → object_stands n row.1.object ≡ true → names_port (name_of n.ports key) (name_by f row.1.object) ≡ is_the_port key row.1.object
+  pub named_same : (key : Key) → stands n.ports key ≡ true → (row : ℕ × Row Object) → object_stands n row.1.object ≡ true → names_port (name_of n.ports key) (name_by f row.1.object) ≡ is_the_port key row.1.object
   named_same key stand row ok = named (row.1.object) ok
     where
       named : (o : Object) → object_stands n o ≡ true → names_port (name_of n.ports key) (name_by f o) ≡ is_the_port key o

@@ -12,7 +12,8 @@ use Rattle.lpc_model.specs.World as model
 use Rattle.lpc_model.specs.World.{World}
 use Rattle.lpc_model.specs.Basics as basics
 use Rattle.lpc_model.specs.Basics.{AddsHandle, AddsProcess, AddsThread, Awaits, DrawsIdentifier, DrawsOrdinal, Enters, Makes, Receives, Takes, basic}
-use Rattle.lpc_model.specs.Found.{is_port, is_process, is_queued, is_thread, receives_on, waits_as}
+use Rattle.lpc_model.specs.Found.{is_port, is_process, is_queued, is_thread, waits_as}
+use Rattle.lpc_model.specs.Entering.{takes}
 use Rattle.lpc_model.specs.Message.{message_of}
 use Rattle.lpc_model.specs.Tests.{next_birth}
 use Rattle.lpc_names.specs.Binding.{NameSpace}
@@ -31,10 +32,10 @@ use Rattle.lpc_waits.specs.Table.{WaitTable}
 use Rattle.lpc_waits.specs.declared.Wait.{Wait}
 use Rattle.lpc_waits.specs.declared.WaitRow.{WaitRow}
 use Rattle.lpc_world.specs.Names.{are_apart, name_of, stands}
-use Rattle.lpc_world.specs.Shown.{Tables, Births, all_pass, birth_of, births_of, message_refs, object_stands, port_refs, pulled_row, shown_message, shown_port, shown_process, shown_thread, shown_used, shown_wait, tables_of, wait_refs}
-use Rattle.lpc_world.specs.Parts.{handed, is_part, roomed}
+use Rattle.lpc_world.specs.Shown.{Tables, Births, all_pass, birth_of, births_of, message_refs, object_stands, port_refs, pulled_row, shown_handle, shown_message, shown_port, shown_process, shown_thread, shown_used, shown_wait, tables_of, wait_refs, with_message}
+use Rattle.lpc_world.specs.Parts.{are_single_parts, handed, is_part, roomed, spare_at}
 use Rattle.lpc_world.specs.Kept.{is_asking, is_pending, pends_as, rows_by}
-use Rattle.lpc_world.specs.Lawful.{AreLawful, IsCounted, draws_at_most, drew, has_header, is_housed, is_quiet}
+use Rattle.lpc_world.specs.Lawful.{AreLawful, IsCounted, draws_at_most, drew, IsPromised, has_header, is_housed, is_quiet}
 use Rattle.lpc_world.specs.declared.object.Object.{Object}
 use Rattle.lpc_world.specs.declared.object.Object.TheVariants as object
 use Rattle.lpc_world.specs.declared.parts.Part.{Part}
@@ -44,6 +45,8 @@ use Rattle.lpc_world.proofs.Follows.{first_queued}
 use Rattle.lpc_world.proofs.Lawful as lawful
 use Rattle.lpc_world.proofs.Makes as makes
 use Rattle.lpc_world.proofs.Naming.{key_is, key_itself}
+use Rattle.lpc_world.proofs.Promised as promised
+use Rattle.lpc_world.proofs.Promised.{IsWelcome}
 
 more_counted : (p : PortTable) (w : WaitTable) (made : ℕ) → IsCounted p w made → IsCounted p w (made + 1)
 more_counted p w made h = record { ports_made = omega (arith, h.ports_made); messages_made = omega (arith, h.messages_made); waits_made = omega (arith, h.waits_made) }
@@ -100,6 +103,7 @@ module _ (it : Tables) (calls made : ℕ) (is : AreLawful it calls made) where
     counted = more_counted it.ports it.waits made is.counted;
     headed = is.headed;
     drawn = rw (changes.draws_identifier it is.named who) (drawn.drawn-identifier rows who is.drawn);
+    promised = is.promised;
   }
 
   pub drew_birth : (who : ℕ) → made < 16 * calls → AreLawful (record it { procs = procs.with_thread it.procs who procs.past_birth }) calls (made + 1)
@@ -109,6 +113,7 @@ module _ (it : Tables) (calls made : ℕ) (is : AreLawful it calls made) where
     counted = more_counted it.ports it.waits made is.counted;
     headed = is.headed;
     drawn = rw (changes.draws_ordinal it is.named who) (drawn.drawn-ordinal rows who is.drawn);
+    promised = is.promised;
   }
 
   -- processes and threads
@@ -120,6 +125,7 @@ module _ (it : Tables) (calls made : ℕ) (is : AreLawful it calls made) where
     counted = more_counted it.ports it.waits made is.counted;
     headed = is.headed;
     drawn = rw (changes.adds_process it is.named row part room none same) (drawn.same-drawn rows _ refl refl refl is.drawn);
+    promised = subst (λ (v : World). IsPromised v.waits v.handles (it.parts ++ part ∷ [])) (sym (changes.adds_process it is.named row part room none same)) (promised.process-comes rows.waits rows.handles it.parts is.promised row.number part same (lawful.unused-table rows.used_processes row.number rows.handles is.lawful.tables_used new));
   }
 
   pub added_thread : (row : ThreadRow) (room : ℕ) → has (λ u. u.number == row.number) rows.used_threads ≡ false → made < 16 * calls → draws_at_most 1 (shown_thread row) ≡ true → is_housed rows (shown_thread row) ≡ true
@@ -131,10 +137,11 @@ module _ (it : Tables) (calls made : ℕ) (is : AreLawful it calls made) where
     counted = more_counted it.ports it.waits made is.counted;
     headed = is.headed;
     drawn = rw (changes.adds_thread it is.named row room) (drawn.drawn-thread rows (shown_thread row) _ refl unused is.drawn);
+    promised = is.promised;
   }
 
   -- messages
-  pub entered : (row : Key × QueuedMessage) → all_pass message_refs (object_stands n) row ≡ true → has_header row ≡ true → made < 16 * calls → 0 < it.ports.message_room → has (receives_on (name_of n.ports row.1.queue)) rows.waits ≡ false
+  pub entered : (row : Key × QueuedMessage) → all_pass message_refs (object_stands n) row ≡ true → has_header row ≡ true → made < 16 * calls → 0 < it.ports.message_room → has (takes (shown_message (birth_of n) row)) rows.waits ≡ false
       → (is_asking (shown_message (birth_of n) row) ≡ true → count is_asking rows.messages < count is_pending rows.waits)
       → (is_asking (shown_message (birth_of n) row) ≡ false → length rows.threads < it.ports.message_room + count is_asking rows.messages)
       → AreLawful (record it { ports = record it.ports { messages = it.ports.messages ++ row ∷ []; message_room = it.ports.message_room - 1; messages_made = it.ports.messages_made + 1 } }) calls (made + 1)
@@ -144,27 +151,31 @@ module _ (it : Tables) (calls made : ℕ) (is : AreLawful it calls made) where
     counted = record { ports_made = omega (arith, is.counted.ports_made); messages_made = omega (arith, is.counted.messages_made); waits_made = omega (arith, is.counted.waits_made) };
     headed = every-push has_header it.ports.messages row is.headed long;
     drawn = drawn.same-drawn rows _ refl refl refl is.drawn;
+    promised = is.promised;
   }
 
   pub taken : (key : Key) (m : model.MessageRow) → stands n.ports key ≡ true → first (is_queued (name_of n.ports key)) rows.messages ≡ Some m
       → AreLawful (record it { ports = record it.ports { messages = without_first (ports.is_in key) it.ports.messages; message_room = it.ports.message_room + 1 } }) calls made
   taken key m there at = record {
     named = changes.taken it is.named key (it.ports.message_room + 1);
-    lawful = rw (changes.takes it is.named key (it.ports.message_room + 1) there) (lawful.lawful-take rows calls made it.waits.spare it.ports.message_room (name_of n.ports key) m at is.lawful);
+    lawful = rw (changes.takes it is.named key (it.ports.message_room + 1) there) (lawful.lawful-take rows calls made it.waits.spare it.ports.message_room (is_queued (name_of n.ports key)) m at is.lawful);
     counted = record { ports_made = is.counted.ports_made; messages_made = is.counted.messages_made; waits_made = is.counted.waits_made };
     headed = every-without_first has_header (ports.is_in key) it.ports.messages is.headed;
     drawn = drawn.same-drawn rows _ refl refl refl is.drawn;
+    promised = is.promised;
   }
 
   -- waits
   pub awaited : (row : WaitRow) → all_pass wait_refs (object_stands n) row ≡ true → made < 16 * calls → has (is_thread row.thread) rows.threads ≡ true → has (waits_as row.thread) rows.waits ≡ false → is_quiet rows.messages (shown_wait (birth_of n) row) ≡ true
+      → IsPromised (rows.waits ++ shown_wait (birth_of n) row ∷ []) rows.handles it.parts
       → AreLawful (record it { waits = record { rows = it.waits.rows ++ row ∷ []; spare = it.waits.spare - 1; made = it.waits.made + 1 } }) calls (made + 1)
-  awaited row there lt thread ready still = record {
+  awaited row there lt thread ready still owed = record {
     named = changes.awaited it is.named row (it.waits.spare - 1) (it.waits.made + 1) there;
     lawful = rw (changes.awaits it is.named row (it.waits.spare - 1) (it.waits.made + 1)) (lawful.lawful-wait rows calls made it.waits.spare it.ports.message_room (shown_wait (birth_of n) row) is.lawful lt thread ready still (lawful.wait-place rows calls made it.waits.spare it.ports.message_room row.thread is.lawful thread ready));
     counted = record { ports_made = omega (arith, is.counted.ports_made); messages_made = omega (arith, is.counted.messages_made); waits_made = omega (arith, is.counted.waits_made) };
     headed = is.headed;
     drawn = drawn.same-drawn rows _ refl refl refl is.drawn;
+    promised = subst (λ (v : World). IsPromised v.waits v.handles it.parts) (sym (changes.awaits it is.named row (it.waits.spare - 1) (it.waits.made + 1))) owed;
   }
 
   pub has_wait : (who : ℕ) → has (waits_as who) rows.waits ≡ has (waits.is_of who) it.waits.rows
@@ -177,6 +188,7 @@ module _ (it : Tables) (calls made : ℕ) (is : AreLawful it calls made) where
     counted = record { ports_made = is.counted.ports_made; messages_made = is.counted.messages_made; waits_made = is.counted.waits_made };
     headed = is.headed;
     drawn = drawn.same-drawn rows _ refl refl refl is.drawn;
+    promised = subst (λ (v : World). IsPromised v.waits v.handles it.parts) (sym (changes.ends it is.named who (cond (has (waits.is_of who) it.waits.rows) (it.waits.spare + 1) it.waits.spare) it.waits.made)) (promised.wait-ends rows.waits rows.handles it.parts is.promised (waits_as who));
   }
 
   -- a wait whose request is received
@@ -187,6 +199,7 @@ module _ (it : Tables) (calls made : ℕ) (is : AreLawful it calls made) where
     counted = record { ports_made = is.counted.ports_made; messages_made = is.counted.messages_made; waits_made = is.counted.waits_made };
     headed = is.headed;
     drawn = drawn.same-drawn rows _ refl refl refl is.drawn;
+    promised = subst (λ (v : World). IsPromised v.waits v.handles it.parts) (sym (changes.receives it is.named who)) (promised.wait-stays rows.waits rows.handles it.parts is.promised (waits_as who) basics.received (λ x. refl) (λ x. refl) (promised.received-taken who rows.waits is.promised.taken));
   }
 
   -- a wait that keeps its message
@@ -197,25 +210,28 @@ module _ (it : Tables) (calls made : ℕ) (is : AreLawful it calls made) where
     counted = record { ports_made = is.counted.ports_made; messages_made = is.counted.messages_made; waits_made = is.counted.waits_made };
     headed = is.headed;
     drawn = drawn.same-drawn rows _ refl refl refl is.drawn;
+    promised = subst (λ (v : World). IsPromised v.waits v.handles it.parts) (sym (changes.keeps_message it is.named who bytes)) (promised.wait-stays rows.waits rows.handles it.parts is.promised (waits_as who) (with_message (message_of bytes)) (changes.connect_kept (message_of bytes)) (λ x. refl) (promised.kept-taken who (with_message (message_of bytes)) (changes.accepted_kept (message_of bytes)) (λ x. refl) rows.waits is.promised.taken));
   }
 
   -- handles
-  pub handed_lawful : (pid value : ℕ) (row : Row Object) → object_stands n row.object ≡ true → AreLawful (record it { parts = change (is_part pid) (handed value row) it.parts }) calls made
-  handed_lawful pid value row there = record {
+  pub handed_lawful : (pid value : ℕ) (row : Row Object) → object_stands n row.object ≡ true → are_single_parts it.parts ≡ true → IsWelcome rows.waits rows.handles it.parts pid → AreLawful (record it { parts = change (is_part pid) (handed value row) it.parts }) calls made
+  handed_lawful pid value row there one welcome = record {
     named = changes.handed_named it is.named pid value row there;
     lawful = rw (changes.hands it is.named pid value row) (lawful.lawful-handle rows calls made it.waits.spare it.ports.message_room pid _ is.lawful);
     counted = is.counted;
     headed = is.headed;
     drawn = drawn.same-drawn rows _ refl refl refl is.drawn;
+    promised = subst (λ (v : World). IsPromised v.waits v.handles (change (is_part pid) (handed value row) it.parts)) (sym (changes.hands it is.named pid value row)) (promised.handle-comes rows.waits rows.handles it.parts is.promised pid value (shown_handle (birth_of n) (value, row)) row one is.lawful.tables_single welcome);
   }
 
-  pub roomed_lawful : (pid spare : ℕ) → AreLawful (record it { parts = change (is_part pid) (roomed spare) it.parts }) calls made
-  roomed_lawful pid spare = record {
+  pub roomed_lawful : (pid spare : ℕ) → are_single_parts it.parts ≡ true → spare_at it.parts pid ≤ spare → AreLawful (record it { parts = change (is_part pid) (roomed spare) it.parts }) calls made
+  roomed_lawful pid spare one more = record {
     named = changes.roomed_named it is.named pid spare;
     lawful = rw (changes.rooms it is.named pid spare) is.lawful;
     counted = is.counted;
     headed = is.headed;
     drawn = drawn.same-drawn rows _ refl refl refl is.drawn;
+    promised = subst (λ (v : World). IsPromised v.waits v.handles (change (is_part pid) (roomed spare) it.parts)) (sym (changes.rooms it is.named pid spare)) (promised.room-grows rows.waits rows.handles it.parts is.promised pid spare more one);
   }
 
   -- a port more
@@ -227,6 +243,7 @@ module _ (it : Tables) (calls made : ℕ) (is : AreLawful it calls made) where
     counted = record { ports_made = omega (arith, is.counted.ports_made); messages_made = omega (arith, is.counted.messages_made); waits_made = omega (arith, is.counted.waits_made) };
     headed = is.headed;
     drawn = rw (makes.makes it is.named key row (it.ports.port_room - 1) (it.ports.ports_made + 1) refs) (drawn.drawn-port rows (shown_port (birth_of n) (key, row)) was is.drawn);
+    promised = subst (λ (v : World). IsPromised v.waits v.handles it.parts) (sym (makes.makes it is.named key row (it.ports.port_room - 1) (it.ports.ports_made + 1) refs)) is.promised;
   }
 
 -- nothing
@@ -252,6 +269,7 @@ none_lawful space none = record {
   counted = record { ports_made = omega arith; messages_made = omega arith; waits_made = omega arith };
   headed = refl;
   drawn = record { threads_single = refl; threads_noted = refl; ports_drawn = refl };
+  promised = promised.none-promised;
 }
 
 pub long_is : (bytes : List ℕ) → 24 ≤ length bytes → nat_le 24 (length bytes) ≡ true
@@ -371,6 +389,7 @@ module _ (it : Tables) (calls made : ℕ) (is : AreLawful it calls made) where
     counted = record { ports_made = is.counted.ports_made; messages_made = is.counted.messages_made; waits_made = is.counted.waits_made };
     headed = is.headed;
     drawn = drawn.same-drawn all _ refl refl refl is.drawn;
+    promised = is.promised;
   }
 
   -- a thread that waits, and one that doesn't

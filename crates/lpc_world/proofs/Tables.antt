@@ -1,11 +1,13 @@
 -- The handles of each process, as the definitions have them.
-use Rattle.std.proofs.Common.{◌≡◌, ℕ, ◌≤◌, List, [], ◌∷◌, true, false, length, map, Option, Some, None, option_map, refl, ap, sym, subst, ◌∙◌, arith}
-use Rattle.std.specs.Prelude.{Result, Ok, Err, IfOk, OnErr, ◌==◌}
+use Rattle.std.proofs.Common.{◌≡◌, ℕ, ◌<◌, ◌≤◌, ◌&&◌, ◌||◌, List, [], ◌∷◌, true, false, length, map, Option, Some, None, option_map, refl, ap, sym, subst, ◌∙◌, arith}
+use Rattle.std.specs.Prelude.{Result, Ok, Err, IfOk, OnErr, OnOk, is_some, nat_le, ◌==◌, ◌+◌}
 use Rattle.std.proofs.lemmas.Bool.{eqb-true}
 use Rattle.std.proofs.lemmas.List.{length-map}
 use Rattle.lpc_base.specs.Places.{least_handle}
-use Rattle.lpc_base.specs.Rows.{change, every, first, has}
-use Rattle.lpc_base.proofs.RowMaps.{first-map, has-map}
+use Rattle.lpc_base.specs.Rows.{change, count, every, first, has}
+use Rattle.std.proofs.lemmas.Bool.Decides.{nat_tests}
+use Rattle.lpc_base.proofs.RowMaps.{count-map, every-first, first-map, has-map}
+use Rattle.lpc_base.proofs.RowWords.{first-passes}
 use Rattle.lpc_handles.specs.Handles.{values}
 use Rattle.lpc_handles.specs.declared.table.Row.{Row}
 use Rattle.lpc_handles.specs.declared.table.TableFault.{TableFault}
@@ -14,18 +16,24 @@ use Rattle.lpc_model.specs.World.{World}
 use Rattle.lpc_model.specs.Basics.{AddsHandle, basic}
 use Rattle.lpc_model.specs.Found as found
 use Rattle.lpc_model.specs.Found.{free_handle, handles_of, is_table}
-use Rattle.lpc_ports.specs.Table.{PortTable}
-use Rattle.lpc_procs.specs.Procs as procs
+use Rattle.lpc_model.specs.Tests.{handle_load, is_connect_of}
+use Rattle.lpc_waits.specs.Table as waits
 use Rattle.lpc_waits.specs.Table.{WaitTable}
-use Rattle.lpc_world.specs.Shown.{Tables, birth_of, births_of, object_stands, shown_handle, shown_part}
+use Rattle.lpc_waits.specs.declared.Accepted.{Accepted}
+use Rattle.lpc_waits.specs.declared.Wait.{Wait}
+use Rattle.lpc_waits.specs.declared.WaitKind.{WaitKind}
+use Rattle.lpc_waits.specs.declared.WaitKind.TheVariants as wait
+use Rattle.lpc_waits.specs.declared.WaitRow.{WaitRow}
+use Rattle.lpc_world.specs.Shown.{Tables, birth_of, births_of, object_stands, shown_handle, shown_kind, shown_part, shown_wait}
 use Rattle.lpc_world.specs.Parts.{are_single_parts, handed, is_part, roomed, rows_at, rows_in, spare_at, spare_in}
 use Rattle.lpc_world.specs.Kept as kept
 use Rattle.lpc_world.specs.Kept.{HandleRoom, is_room, room_of_part, rows_by}
-use Rattle.lpc_world.specs.Lawful.{AreLawful, are_single_tables}
+use Rattle.lpc_world.specs.Lawful.{AreLawful, are_single_tables, is_taken, is_within}
 use Rattle.lpc_world.specs.declared.object.Object.{Object}
 use Rattle.lpc_world.specs.declared.parts.Part.{Part}
 use Rattle.lpc_world.proofs.Changes as changes
 use Rattle.lpc_world.proofs.OnePart.{first_other}
+use Rattle.lpc_world.proofs.Promised.{IsWelcome}
 use Rattle.lpc_world.proofs.Steps as steps
 
 all_true : {X : Type 0} (xs : List X) → every (λ _. true) xs ≡ true
@@ -78,17 +86,17 @@ module _ (it : Tables) (calls made : ℕ) (is : AreLawful it calls made) where
   single = single_by it.parts is.lawful.tables_single
 
   -- a handle more, or none
-  pub handed_or_same : (pid : ℕ) (row : Row Object) (r : Result ℕ TableFault) (new : List Part) → object_stands (births_of it.ports) row.object ≡ true → IfOk r (λ v. new ≡ change (is_part pid) (handed v row) it.parts) → OnErr r (new ≡ it.parts) → AreLawful (record it { parts = new }) calls made
-  handed_or_same pid row (Ok v) new there more same = rw more (steps.handed_lawful it calls made is pid v row there)
-  handed_or_same pid row (Err e) new there more same = rw same is
+  pub handed_or_same : (pid : ℕ) (row : Row Object) (r : Result ℕ TableFault) (new : List Part) → object_stands (births_of it.ports) row.object ≡ true → IfOk r (λ v. new ≡ change (is_part pid) (handed v row) it.parts) → OnErr r (new ≡ it.parts) → OnOk r (IsWelcome rows.waits rows.handles it.parts pid) → AreLawful (record it { parts = new }) calls made
+  handed_or_same pid row (Ok v) new there more same welcome = rw more (steps.handed_lawful it calls made is pid v row there single welcome)
+  handed_or_same pid row (Err e) new there more same welcome = rw same is
 
   pub hands_or_not : (pid : ℕ) (row : Row Object) (r : Result ℕ TableFault) (new : List Part) → IfOk r (λ v. new ≡ change (is_part pid) (handed v row) it.parts) → IfOk r (λ v. rows_by (record it { parts = new }) ≡ basic rows (AddsHandle pid (shown_handle (birth_of (births_of it.ports)) (v, row))))
   hands_or_not pid row (Ok v) new more = rw more (changes.hands it is.named pid v row)
   hands_or_not pid row (Err e) new more = tt
 
   -- more room for handles
-  pub roomed_lawful : (pid : ℕ) (new : List Part) → new ≡ change (is_part pid) (roomed (spare_at new pid)) it.parts → AreLawful (record it { parts = new }) calls made
-  roomed_lawful pid new at = rw at (steps.roomed_lawful it calls made is pid (spare_at new pid))
+  pub roomed_lawful : (pid : ℕ) (new : List Part) → new ≡ change (is_part pid) (roomed (spare_at new pid)) it.parts → spare_at it.parts pid ≤ spare_at new pid → AreLawful (record it { parts = new }) calls made
+  roomed_lawful pid new at more = rw at (steps.roomed_lawful it calls made is pid (spare_at new pid) single more)
 
   pub roomed_rows : (pid : ℕ) (new : List Part) → new ≡ change (is_part pid) (roomed (spare_at new pid)) it.parts → rows_by (record it { parts = new }) ≡ rows
   roomed_rows pid new at = ap (λ (ps : List Part). rows_by (record it { parts = ps })) at ∙ changes.rooms it is.named pid (spare_at new pid)
@@ -101,3 +109,48 @@ module _ (it : Tables) (calls made : ℕ) (is : AreLawful it calls made) where
             let same : spare_at new other ≡ spare_at it.parts other = ap (λ (ps : List Part). spare_at ps other) at ∙ ap spare_in (first_other (roomed (spare_at new pid)) (λ part. refl) it.parts pid other off) in
             omega (arith, same)
       ] refl
+
+  -- a process has room for a handle beside those that are promised
+  pub welcome : (pid : ℕ) → has (is_table pid) rows.handles ≡ true → handle_load rows pid < 256 → kept.promised rows pid < kept.spare_in (first (is_room pid) (map room_of_part it.parts)) → IsWelcome rows.waits rows.handles it.parts pid
+  welcome pid there load room = record { place = rw (← room_at it.parts pid) room; load = load; table = there }
+
+  -- how many of a process's threads wait in a connect
+  connect_is : (kind : WaitKind) (bytes : List ℕ) (accepted : Option Accepted)
+      → ((elim (shown_kind kind bytes accepted) [ model.Connect m ↦ true | _ ↦ false ]) || (elim (shown_kind kind bytes accepted) [ model.Accepted m reply ↦ true | _ ↦ false ])) ≡ waits.is_connect kind
+  connect_is wait.Request bytes accepted = refl
+  connect_is wait.Receive bytes accepted = refl
+  connect_is wait.Listen bytes accepted = refl
+  connect_is wait.Connect bytes None = refl
+  connect_is wait.Connect bytes (Some accepted) = refl
+
+  pub connect_same : (row : WaitRow) → found.is_connect (shown_wait (birth_of (births_of it.ports)) row) ≡ waits.is_connect row.wait.kind
+  connect_same row = connect_is row.wait.kind row.message.items row.accepted
+
+  pub promised_are : (pid : ℕ) → kept.promised rows pid ≡ count (waits.is_connect_of pid) it.waits.rows
+  promised_are pid = count-map (shown_wait (birth_of (births_of it.ports))) (λ _. true) (waits.is_connect_of pid) (is_connect_of pid) (λ row _. ap (λ b. b && (row.wait.process == pid)) (connect_same row)) it.waits.rows (all_true it.waits.rows)
+
+  pub load_bound : (pid : ℕ) → has (is_table pid) rows.handles ≡ true → handle_load rows pid ≤ 256
+  load_bound pid there = by_first (first (is_table pid) rows.handles) refl
+    where
+      le-of : (a b : ℕ) → nat_le a b ≡ true → a ≤ b
+      le-of a b h = grind (arith, nat_tests)
+
+      by_first : (o : Option model.HandleTable) → first (is_table pid) rows.handles ≡ o → handle_load rows pid ≤ 256
+      by_first None at = let no : has (is_table pid) rows.handles ≡ false = ap is_some at in absurd (cc)
+      by_first (Some t) at =
+          let own : t.process ≡ pid = eqb-true t.process pid (first-passes (is_table pid) rows.handles t at) in
+          let long : length (handles_of rows pid) ≡ length t.rows = ap (λ o. length (found.rows_in o)) at in
+          let bound : length t.rows + count (is_connect_of t.process) rows.waits ≤ 256 = le-of _ _ (every-first (is_within rows.waits) (is_table pid) rows.handles t is.promised.loads at) in
+          let P : ℕ → Type 0 = λ n. length t.rows + count (is_connect_of n) rows.waits ≤ 256 in
+          let here = subst P own bound in
+          omega (arith, long, here)
+
+  -- a wait that begins isn't accepted
+  pub fresh_taken : (tid : ℕ) (x : Wait) → is_taken (shown_wait (birth_of (births_of it.ports)) (record { thread = tid; wait = x; message = record { items = [] }; accepted = None })) ≡ true
+  fresh_taken tid x = by_kind x.kind
+    where
+      by_kind : (kind : WaitKind) → is_taken (shown_wait (birth_of (births_of it.ports)) (record { thread = tid; wait = record x { kind = kind }; message = record { items = [] }; accepted = None })) ≡ true
+      by_kind wait.Request = refl
+      by_kind wait.Receive = refl
+      by_kind wait.Listen = refl
+      by_kind wait.Connect = refl

@@ -1,26 +1,31 @@
 -- What contracts see of the world: the definitions' rows, the births of keys, the calls so far, and the room.
-use Rattle.std.specs.Prelude.{◌≡◌, ℕ, ◌+◌, ◌-◌, ◌≤◌, ◌==◌, ◌&&◌, Bool, false, not, List, length, map, min, Option, Some, None}
+use Rattle.std.specs.Prelude.{◌≡◌, ℕ, ◌+◌, ◌-◌, ◌≤◌, ◌==◌, ◌&&◌, ◌||◌, Bool, false, not, List, length, map, min, Option, Some, None}
 use Rattle.lpc_base.specs.Rows.{count, first, has}
 use Rattle.lpc_model.specs.World.{World, MessageRow, WaitRow, ThreadRow}
-use Rattle.lpc_model.specs.Found.{is_request, waits_as}
+use Rattle.lpc_model.specs.Found.{is_connect, is_request, waits_as}
 use Rattle.lpc_model.specs.Message.{asks}
+use Rattle.lpc_model.specs.Tests.{is_connect_of}
 use Rattle.lpc_world.specs.Shown.{Births, Tables, births_of, shown_by}
 use Rattle.lpc_world.specs.declared.parts.Part.{Part}
 
--- a message whose sender waits for an answer, and a request that isn't received
+-- a message whose sender waits for an answer, and a request or connect that isn't received
 abbrev pub is_asking : MessageRow → Bool
 is_asking m = asks m.message
 
 abbrev pub is_pending : WaitRow → Bool
-is_pending x = is_request x && not x.received
+is_pending x = (is_request x || is_connect x) && not x.received
 
--- how many more handles go into a process's table without memory
+-- how many handles a process's waiting connects are to get
+abbrev pub promised : World → ℕ → ℕ
+promised w pid = count (is_connect_of pid) w.waits
+
+-- how many more handles go into a process's table without memory, with those that its waiting connects are to get
 pub record HandleRoom : Type 0 where
   pub process : ℕ
   pub spare : ℕ
 
 -- How many more rows go in without memory. Each thread has a place for its wait and one for its request's message; the
--- places beyond those are counted here. A request that waits and whose message stands in no queue has its place still.
+-- places beyond those are counted here. A request or connect that waits and whose message stands in no queue has its place still.
 pub record Room : Type 0 where
   pub processes : ℕ
   pub threads : ℕ
@@ -97,14 +102,14 @@ pub record Roomy (old new : Room) : Type 0 where
   pub for_names : old.names ≤ new.names
   pub for_handles : (pid : ℕ) → handle_room old pid ≤ handle_room new pid
 
--- a thread waits for the reply to a request that isn't received
+-- a thread waits for the answer to a request or connect that isn't received
 abbrev pub pends_as : ℕ → WaitRow → Bool
 pends_as tid x = waits_as tid x && is_pending x
 
 abbrev pub is_pending_in : World → ℕ → Bool
 is_pending_in w tid = has (pends_as tid) w.waits
 
--- a thread that waits for no reply to a request that isn't received still waits for none
+-- a thread that waits for no answer to a request or connect that isn't received still waits for none
 pub record IsIdleAfter (old new : World) : Type 0 where
   pub idle : (tid : ℕ) → is_pending_in old tid ≡ false → is_pending_in new tid ≡ false
 

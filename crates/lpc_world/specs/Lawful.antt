@@ -1,13 +1,15 @@
 -- What the world keeps of its rows, its numbers and its room.
-use Rattle.std.specs.Prelude.{◌≡◌, ℕ, ◌+◌, ◌*◌, ◌==◌, ◌&&◌, ◌≤◌, nat_le, nat_lt, Bool, true, not, List, [], ◌∷◌, length}
+use Rattle.std.specs.Prelude.{◌≡◌, ℕ, ◌+◌, ◌*◌, ◌==◌, ◌&&◌, ◌||◌, ◌≤◌, nat_le, nat_lt, Bool, true, not, List, [], ◌∷◌, length}
 use Rattle.lpc_base.specs.declared.birth.Birth.{Birth}
 use Rattle.lpc_base.specs.Rows.{count, every, has}
 use Rattle.lpc_model.specs.World.{World, HandleTable, MessageRow, PortRow, ThreadRow, UsedThread, WaitRow}
-use Rattle.lpc_model.specs.Found.{is_process, is_queued, is_receive, is_table, is_thread, waits_as}
+use Rattle.lpc_model.specs.Found.{is_accepted, is_connect, is_listen, is_process, is_queued, is_queued_connect, is_receive, is_table, is_thread, waits_as}
+use Rattle.lpc_model.specs.Tests.{is_connect_of}
 use Rattle.lpc_ports.specs.Table.{PortTable}
 use Rattle.lpc_ports.specs.declared.messages.QueuedMessage.{QueuedMessage}
 use Rattle.lpc_slots.specs.declared.Key.{Key}
 use Rattle.lpc_waits.specs.Table.{WaitTable}
+use Rattle.lpc_world.specs.declared.parts.Part.{Part}
 use Rattle.lpc_world.specs.Kept.{is_asking, is_pending, rows_by}
 use Rattle.lpc_world.specs.Shown.{AreNamed, Tables, births_of}
 
@@ -33,9 +35,10 @@ draws_at_most n t = nat_le t.next_identifier n && nat_le t.next_ordinal n
 abbrev pub is_housed : World → ThreadRow → Bool
 is_housed w t = has (is_process t.process) w.processes && has (is_table t.process) w.handles
 
--- a receive waits on an empty queue
+-- a receive waits on an empty queue, and a listen on one without connection requests
 abbrev pub is_quiet : List MessageRow → WaitRow → Bool
-is_quiet messages x = not (is_receive x && has (is_queued x.queue) messages)
+is_quiet messages x =
+    not (is_receive x && has (is_queued x.queue) messages) && not (is_listen x && has (is_queued_connect x.queue) messages)
 
 -- the number of a table's process was used
 abbrev pub is_used : List ℕ → HandleTable → Bool
@@ -54,9 +57,10 @@ pub record IsLawful (w : World) (calls made waits messages : ℕ) : Type 0 where
   -- only a thread waits, and once
   pub single : are_single w.waits ≡ true
   pub threads : every (is_of w.threads) w.waits ≡ true
-  -- a queue on which a receive waits is empty
+  -- what a receive or listen waits for doesn't stand in its queue
   pub quiet : every (is_quiet w.messages) w.waits ≡ true
-  -- a queued request is one that waits and isn't received, and each thread has a place for its wait and one for its request
+  -- a queued request is one that waits and isn't received, as a connection request is, and each thread has a place for its
+  -- wait and one for its request
   pub requests : count is_asking w.messages ≤ count is_pending w.waits
   pub waits_fit : length w.threads ≤ waits + length w.waits
   pub messages_fit : length w.threads ≤ messages + count is_asking w.messages
@@ -89,6 +93,28 @@ pub record AreDrawn (w : World) : Type 0 where
   pub threads_noted : every (is_noted w.used_threads) w.threads ≡ true
   pub ports_drawn : every (was_drawn w.threads) w.ports ≡ true
 
+-- the room of a process's table holds the handles that its waiting connects are to get, and so many it may have
+abbrev pub has_places : List WaitRow → Part → Bool
+has_places waits part = nat_le (count (is_connect_of part.process) waits) part.handles.spare
+
+abbrev pub is_within : List WaitRow → HandleTable → Bool
+is_within waits t = nat_le (length t.rows + count (is_connect_of t.process) waits) 256
+
+-- the process of a connect has a table of handles
+abbrev pub is_at_home : List HandleTable → WaitRow → Bool
+is_at_home handles x = not (is_connect x) || has (is_table x.process) handles
+
+-- a connect that is accepted was received
+abbrev pub is_taken : WaitRow → Bool
+is_taken x = not (is_accepted x) || x.received
+
+-- each waiting connect can be completed without memory, and within the number of handles
+pub record IsPromised (waits : List WaitRow) (handles : List HandleTable) (parts : List Part) : Type 0 where
+  pub places : every (has_places waits) parts ≡ true
+  pub loads : every (is_within waits) handles ≡ true
+  pub homes : every (is_at_home handles) waits ≡ true
+  pub taken : every is_taken waits ≡ true
+
 -- a message's bytes begin with a header
 abbrev pub has_header : Key × QueuedMessage → Bool
 has_header row = nat_le 24 (length row.1.message.bytes.items)
@@ -99,5 +125,6 @@ pub record AreLawful (it : Tables) (calls made : ℕ) : Type 0 where
   pub lawful : IsLawful (rows_by it) calls made it.waits.spare it.ports.message_room
   pub counted : IsCounted it.ports it.waits made
   pub drawn : AreDrawn (rows_by it)
+  pub promised : IsPromised (rows_by it).waits (rows_by it).handles it.parts
   -- a message that stands in a queue has a header
   pub headed : every has_header it.ports.messages ≡ true

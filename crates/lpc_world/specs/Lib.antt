@@ -6,3 +6,5 @@ pub mod Lawful
 pub mod Ready
 pub mod Does
 pub mod Bound
+pub mod Joined
+pub mod Connecting

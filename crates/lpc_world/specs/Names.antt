@@ -30,6 +30,11 @@ pub record KeepsNames (old new : Names) : Type 0 where
   pub name : (key : Key) → stands old key ≡ true → name_of new key ≡ name_of old key
   pub there : (key : Key) → stands old key ≡ true → stands new key ≡ true
 
+-- what stood and isn't this key stands, under its name
+pub record KeepsOthers (gone : Key) (old new : Names) : Type 0 where
+  pub name : (key : Key) → is_key key gone ≡ false → stands old key ≡ true → name_of new key ≡ name_of old key
+  pub there : (key : Key) → is_key key gone ≡ false → stands old key ≡ true → stands new key ≡ true
+
 -- two entries have other keys and other births
 abbrev pub differs : Key × Birth → Key × Birth → Bool
 differs n m = not (is_key n.0 m.0) && not (same_birth n.1 m.1)

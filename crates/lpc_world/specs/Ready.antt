@@ -1,12 +1,12 @@
 -- The caller of a call, and whether it can make one.
-use Rattle.std.specs.Prelude.{◌≡◌, ℕ, ◌+◌, ◌*◌, ◌&&◌, Bool, true, false, not, Option, Some, None, is_none, is_some}
+use Rattle.std.specs.Prelude.{◌≡◌, ℕ, ◌+◌, ◌*◌, ◌&&◌, Bool, true, false, Option, Some, None, is_none, is_some}
 use Rattle.lpc_base.specs.Rows.{count}
 use Rattle.lpc_base.specs.declared.birth.Birth.{Birth}
 use Rattle.lpc_base.specs.declared.port_kind.PortKind.TheVariants.{Unnamed}
 use Rattle.lpc_model.specs.declared.entry.CallName.TheVariants.{NtReplyWaitReceivePort}
 use Rattle.lpc_model.specs.World.{World, PortRow, Receive, ThreadRow, WaitRow}
-use Rattle.lpc_model.specs.Found.{is_request, live_thread, port_row, wait_of}
-use Rattle.lpc_waits.specs.Table.{is_receive}
+use Rattle.lpc_model.specs.Found.{is_listen, is_request, live_thread, port_row, wait_of}
+use Rattle.lpc_waits.specs.Table as table
 use Rattle.lpc_waits.specs.declared.Wait.{Wait}
 use Rattle.lpc_world.specs.Names.{name_of, stands}
 use Rattle.lpc_world.specs.Shown.{call_of}
@@ -45,7 +45,7 @@ abbrev pub no_birth : Birth
 no_birth = record { maker = 0; ordinal = 0; process = 0 }
 
 abbrev pub no_port : PortRow
-no_port = record { birth = no_birth; kind = Unnamed; connection = None; pair = None; context = 0 }
+no_port = record { birth = no_birth; kind = Unnamed; connection = None; pair = None; context = 0; completed = false }
 
 abbrev pub port_in : Option PortRow → PortRow
 port_in None = no_port
@@ -78,7 +78,8 @@ pub record IsWait (w : Kept) (tid : ℕ) (x : Wait) : Type 0 where
   pub thread : let y = waiter w.rows tid in y.thread ≡ tid
   pub call : let y = waiter w.rows tid in y.call ≡ call_of x.kind
   pub process : let y = waiter w.rows tid in y.process ≡ x.process
-  pub request : is_request (waiter w.rows tid) ≡ not (is_receive x.kind)
+  pub request : is_request (waiter w.rows tid) ≡ table.is_request x.kind
+  pub listen : is_listen (waiter w.rows tid) ≡ table.is_listen x.kind
   pub port : let y = waiter w.rows tid in y.port ≡ name_of w.names.ports x.port
   pub queue : let y = waiter w.rows tid in y.queue ≡ name_of w.names.ports x.queue
   pub identifier : let y = waiter w.rows tid in y.identifier ≡ x.identifier

@@ -1,10 +1,10 @@
 -- The tables' rows as the definitions' rows: births in place of keys.
-use Rattle.std.specs.Prelude.{◌≡◌, ℕ, List, [], ◌∷◌, ◌++◌, Bool, true, Option, option_map, option_to_list, map}
+use Rattle.std.specs.Prelude.{◌≡◌, ℕ, List, [], ◌∷◌, ◌++◌, Bool, true, Option, Some, None, option_map, option_to_list, map}
 use Rattle.lpc_base.specs.declared.birth.Birth.{Birth}
 use Rattle.lpc_base.specs.Rows.{every}
 use Rattle.lpc_handles.specs.declared.table.Row.{Row}
 use Rattle.lpc_model.specs.declared.entry.CallName.{CallName}
-use Rattle.lpc_model.specs.declared.entry.CallName.TheVariants.{NtReplyWaitReceivePort, NtRequestWaitReplyPort}
+use Rattle.lpc_model.specs.declared.entry.CallName.TheVariants.{NtConnectPort, NtListenPort, NtReplyWaitReceivePort, NtRequestWaitReplyPort}
 use Rattle.lpc_model.specs.declared.entry.ObjectKind.{ObjectKind}
 use Rattle.lpc_model.specs.declared.entry.ObjectKind.TheVariants as kind
 use Rattle.lpc_model.specs.Message.{message_of}
@@ -26,6 +26,7 @@ use Rattle.lpc_procs.specs.declared.rows.ThreadRow.{ThreadRow}
 use Rattle.lpc_procs.specs.declared.rows.UsedThread.{UsedThread}
 use Rattle.lpc_slots.specs.declared.Key.{Key}
 use Rattle.lpc_waits.specs.Table.{WaitTable}
+use Rattle.lpc_waits.specs.declared.Accepted.{Accepted}
 use Rattle.lpc_waits.specs.declared.Wait.{Wait}
 use Rattle.lpc_waits.specs.declared.WaitKind.{WaitKind}
 use Rattle.lpc_waits.specs.declared.WaitKind.TheVariants as wait
@@ -72,6 +73,7 @@ shown_port f row = record {
   connection = birth_in f row.1.connection;
   pair = birth_in f row.1.pair;
   context = row.1.context;
+  completed = row.1.completed;
 }
 
 abbrev pub message_refs : Key × QueuedMessage → List Object
@@ -89,10 +91,18 @@ shown_message f row = record {
 abbrev pub call_of : WaitKind → CallName
 call_of wait.Request = NtRequestWaitReplyPort
 call_of wait.Receive = NtReplyWaitReceivePort
+call_of wait.Listen = NtListenPort
+call_of wait.Connect = NtConnectPort
 
-abbrev pub shown_kind : WaitKind → List ℕ → model.WaitKind
-shown_kind wait.Request bytes = model.Request (message_of bytes)
-shown_kind wait.Receive bytes = model.Receive
+abbrev pub shown_connect : List ℕ → Option Accepted → model.WaitKind
+shown_connect bytes None = model.Connect (message_of bytes)
+shown_connect bytes (Some accepted) = model.Accepted (message_of bytes) accepted.reply.items
+
+abbrev pub shown_kind : WaitKind → List ℕ → Option Accepted → model.WaitKind
+shown_kind wait.Request bytes accepted = model.Request (message_of bytes)
+shown_kind wait.Receive bytes accepted = model.Receive
+shown_kind wait.Listen bytes accepted = model.Listen
+shown_kind wait.Connect bytes accepted = shown_connect bytes accepted
 
 abbrev pub wait_refs : WaitRow → List Object
 wait_refs row = object.Port row.wait.port ∷ object.Port row.wait.queue ∷ []
@@ -102,7 +112,7 @@ shown_wait f row = record {
   call = call_of row.wait.kind;
   thread = row.thread;
   process = row.wait.process;
-  kind = shown_kind row.wait.kind row.message.items;
+  kind = shown_kind row.wait.kind row.message.items row.accepted;
   port = f (object.Port row.wait.port);
   queue = f (object.Port row.wait.queue);
   identifier = row.wait.identifier;
@@ -222,12 +232,15 @@ pulled_row n queue m = sent_row n queue m.sender m.context m.bytes.items
 
 -- a wait that a thread begins with a message
 abbrev pub waiting_row : Births → ℕ → Wait → List ℕ → model.WaitRow
-waiting_row n tid wait bytes = shown_wait (birth_of n) (record { thread = tid; wait = wait; message = record { items = bytes } })
+waiting_row n tid wait bytes = shown_wait (birth_of n) (record { thread = tid; wait = wait; message = record { items = bytes }; accepted = None })
 
--- a request's wait keeps its message; another wait has none
+-- a request's or connect's wait keeps its message; another wait has none
 abbrev pub keeping : whole.Message → model.WaitKind → model.WaitKind
 keeping m (model.Request old) = model.Request m
 keeping m model.Receive = model.Receive
+keeping m model.Listen = model.Listen
+keeping m (model.Connect old) = model.Connect m
+keeping m (model.Accepted old reply) = model.Accepted m reply
 
 abbrev pub with_message : whole.Message → model.WaitRow → model.WaitRow
 with_message m x = record x { kind = keeping m x.kind }

@@ -1,10 +1,13 @@
 // The fields of entries, by what they show, and the entry of a refusal.
 ghost use Rattle.std.specs.Prelude.{◌≡◌, ◌≤◌, [], ◌∷◌, ◌++◌, length};
 ghost use Rattle.lpc_model.specs.declared.entry.Entry.TheVariants.{Answer};
+ghost use Rattle.lpc_base.specs.declared.limits.TheConstants as constants;
 ghost use Rattle.lpc_model.specs.Fields as fields;
 ghost use Rattle.lpc_model.specs.Message.{message_of};
 
+use arrayvec::ArrayVec;
 use lpc_base::Status;
+use lpc_base::limits::MESSAGE_LIMIT;
 use lpc_message::MessageRef;
 use lpc_model::{Body, CallName, Entries, Entry, FieldName, Fields, Message, Outcome, Value};
 
@@ -44,6 +47,37 @@ pub fn receipt(context: u32, message: &Message) -> Fields
     let mut fields = one_field(FieldName::Ctx, Value::Hex(context));
     fields.add(FieldName::Msg, Value::Bytes(message.bytes()));
     fields
+}
+
+/// The bytes that came with the answer to a connect.
+pub fn info_field(bytes: &[u8]) -> Fields
+    requires { length bytes.now ≤ 256 }
+    ensures { result ≡ fields.info bytes.now ∷ [] }
+{
+    one_field(FieldName::Info, Value::Bytes(copied(bytes)))
+}
+
+/// What a thread is told of its completed connection: its handle, the most bytes of a message, and the data of the answer
+/// that accepted it.
+pub fn completion_fields(value: u32, reply: ArrayVec<u8, 256>) -> Fields
+    ensures { result ≡ fields.h value ∷ fields.max constants.MESSAGE_LIMIT ∷ fields.info reply.items ∷ [] }
+{
+    let mut fields = handle_field(value);
+    fields.add(FieldName::Max, Value::Number(MESSAGE_LIMIT as u64));
+    fields.add(FieldName::Info, Value::Bytes(reply));
+    fields
+}
+
+/// A copy of these bytes.
+pub(crate) fn copied(bytes: &[u8]) -> ArrayVec<u8, 256>
+    requires { length bytes.now ≤ 256 }
+    ensures { result.items ≡ bytes.now }
+{
+    let mut list = ArrayVec::new();
+    for byte in bytes {
+        list.push(*byte);
+    }
+    list
 }
 
 /// A copy of a message, which keeps its header's fields and its data: at most 256 bytes.

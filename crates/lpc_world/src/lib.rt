@@ -1,6 +1,7 @@
 //! The composed world: the tables together, seen as the rows of the definitions.
 #![tactic(auto)]
 
+mod completable;
 mod condition;
 mod fields;
 mod object;
@@ -9,7 +10,11 @@ mod parts;
 mod tests;
 mod world;
 
+pub use completable::Completable;
 pub use condition::Condition;
-pub use fields::{handle_field, identifier_field, kept, message_field, receipt, refuse};
+pub use fields::{
+    completion_fields, handle_field, identifier_field, info_field, kept, message_field, receipt,
+    refuse,
+};
 pub use object::Object;
 pub use world::{World, wants_answer};

@@ -1,7 +1,7 @@
 // The world with ample memory: directives line by line, and a port that is made, found and sent on. The expected values
 // are written out by hand.
-ghost use Rattle.std.specs.Prelude.{◌≡◌, ◌≤◌, ◌<◌, ◌+◌, true, IfOk};
-ghost use Rattle.lpc_world.specs.Names.{stands};
+ghost use Rattle.std.specs.Prelude.{◌≡◌, ◌≤◌, ◌<◌, ◌+◌, ◌*◌, true, IfOk, OnOk};
+ghost use Rattle.lpc_world.specs.Names.{KeepsNames, KeepsOthers, some_stands, stands};
 ghost use Rattle.lpc_procs.specs.Procs.{IsNumber};
 ghost use Rattle.lpc_world.specs.Ready.{is_ready};
 
@@ -94,7 +94,6 @@ fn makes_a_port(rt: &impl Abort, world: &mut World) -> Result<Key, Fail>
     let by = world.caller(24);
     assert_eq!(rt; by.process, 20);
     world.ports_reserve(1, 0)?;
-    world.handles_reserve(by.process, 1)?;
     world.begin_call();
     let birth = world.procs_draw_birth(by.number);
     let first = Birth {
@@ -104,6 +103,11 @@ fn makes_a_port(rt: &impl Abort, world: &mut World) -> Result<Key, Fail>
     };
     assert_eq!(rt; birth, first);
     let port = world.ports_add(PortKind::Unnamed, birth, None);
+    world.handles_reserve(by.process, 1)?;
+    let Ok(()) = world.handles_test(by.process) else {
+        assert!(rt; false);
+        return Ok(port);
+    };
     let given = world.handles_add(by.process, Object::Port(port), 1);
     assert_eq!(rt; given.ok(), Some(4));
     Ok(port)
@@ -125,7 +129,7 @@ fn finds_the_port(rt: &impl Abort, world: &World, port: Key) -> Result<(), Fail>
     assert_eq!(rt; world.context(port), 0);
     assert_eq!(rt; world.receive_test(port).ok(), Some(port));
     assert_eq!(rt; world.datagram_test(port), Ok(()));
-    assert_eq!(rt; world.receiver(port), None);
+    assert_eq!(rt; world.receiver(port, false), None);
     Ok(())
 }
 
@@ -205,4 +209,118 @@ fn port_is_found_by_its_handle_and_keeps_a_message(rt: HostRuntime) -> Result<()
     finds_the_port(&rt, &world, port)?;
     names_the_port(&rt, &mut world, port)?;
     sends_a_datagram(&rt, &mut world, port, &mut out)
+}
+
+// Thread 24 makes a port of a kind, which has no handle.
+fn adds_a_port(world: &mut World, kind: PortKind) -> Result<Key, Fail>
+    requires few { world.old.calls < 1000000 }
+    requires ready { is_ready world.old.rows 24 ≡ true }
+    ensures calls { world.new.calls ≤ world.old.calls + 1 }
+    ensures stands { IfOk result (λ port. stands world.new.names.ports port ≡ true) }
+    ensures others { OnOk result (KeepsNames world.old.names.ports world.new.names.ports) }
+{
+    let by = world.caller(24);
+    world.ports_reserve(1, 0)?;
+    world.begin_call();
+    let birth = world.procs_draw_birth(by.number);
+    Ok(world.ports_add(kind, birth, None))
+}
+
+// A server port is made, and joined with a client port, which is completed.
+fn joins_two_ports(rt: &impl Abort, world: &mut World, client: Key) -> Result<(), Fail>
+    requires few { world.old.calls < 1000000 }
+    requires ready { is_ready world.old.rows 24 ≡ true }
+    requires client { stands world.old.names.ports client ≡ true }
+    ensures names { OnOk result (KeepsNames world.old.names.ports world.new.names.ports) }
+    ensures calls { world.new.calls ≤ world.old.calls + 1 }
+{
+    assert_eq!(rt; world.context(client), 0);
+    let server = adds_a_port(world, PortKind::Server)?;
+    world.ports_join(client, server, 77);
+    assert_eq!(rt; world.context(client), 77);
+    assert_eq!(rt; world.context(server), 0);
+    world.ports_set_completed(client, true);
+    Ok(())
+}
+
+#[test]
+fn connection_is_joined_and_completed(rt: HostRuntime) -> Result<(), Fail> {
+    let mut world = World::empty(rt.alloc());
+    boots(&rt, &mut world, 20, 24, SUCCESS)?;
+    let Condition::Ready = world.condition(24) else {
+        return Ok(assert!(rt; false));
+    };
+    let client = adds_a_port(&mut world, PortKind::Client)?;
+    let Condition::Ready = world.condition(24) else {
+        return Ok(assert!(rt; false));
+    };
+    joins_two_ports(&rt, &mut world, client)
+}
+
+// Thread 24 makes a port that no handle names.
+fn makes_a_bare_port(
+    world: &mut World,
+    kind: PortKind,
+    connection: Option<Key>,
+) -> Result<Key, Fail>
+    requires few { world.old.calls < 1000000 }
+    requires ready { is_ready world.old.rows 24 ≡ true }
+    requires connection { some_stands world.old.names.ports connection ≡ true }
+    ensures calls { world.new.calls ≤ world.old.calls + 1 }
+    ensures stands { IfOk result (λ port. stands world.new.names.ports port ≡ true) }
+    ensures others { KeepsNames world.old.names.ports world.new.names.ports }
+{
+    let by = world.caller(24);
+    world.ports_reserve(1, 0)?;
+    world.begin_call();
+    let birth = world.procs_draw_birth(by.number);
+    Ok(world.ports_add(kind, birth, connection))
+}
+
+// A port that a row names stays.
+fn stays(rt: &impl Abort, world: &mut World, port: Key)
+    requires stands { stands world.old.names.ports port ≡ true }
+    ensures same { world.new ≡ world.old }
+{
+    assert!(rt; world.is_held(port));
+    world.free_port(port);
+}
+
+// A port that no row names goes.
+fn goes(rt: &impl Abort, world: &mut World, port: Key)
+    requires stands { stands world.old.names.ports port ≡ true }
+    ensures others { KeepsOthers port world.old.names.ports world.new.names.ports }
+{
+    assert!(rt; !world.is_held(port));
+    world.free_port(port);
+}
+
+// Of two ports one names the other, which stays until the first has gone.
+fn frees_two_ports(rt: &impl Abort, world: &mut World, connection: Key, client: Key)
+    requires connection { stands world.old.names.ports connection ≡ true }
+    requires client { stands world.old.names.ports client ≡ true }
+{
+    assert!(rt; connection != client);
+    stays(rt, world, connection);
+    assert_eq!(rt; world.objects(), 4);
+    goes(rt, world, client);
+    assert_eq!(rt; world.objects(), 3);
+    goes(rt, world, connection);
+    assert_eq!(rt; world.objects(), 2);
+}
+
+#[test]
+fn port_goes_once_no_row_names_it(rt: HostRuntime) -> Result<(), Fail> {
+    let mut world = World::empty(rt.alloc());
+    boots(&rt, &mut world, 20, 24, SUCCESS)?;
+    let Condition::Ready = world.condition(24) else {
+        return Ok(assert!(rt; false));
+    };
+    let connection = makes_a_bare_port(&mut world, PortKind::Connection, None)?;
+    let Condition::Ready = world.condition(24) else {
+        return Ok(assert!(rt; false));
+    };
+    let client = makes_a_bare_port(&mut world, PortKind::Client, Some(connection))?;
+    frees_two_ports(&rt, &mut world, connection, client);
+    Ok(())
 }

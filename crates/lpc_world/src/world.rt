@@ -3,19 +3,25 @@
 ghost use Rattle.std.specs.Prelude.{◌≡◌, ◌+◌, ◌*◌, ◌<◌, ◌≤◌, ◌↔◌, [], None, Some, true, false, IfSome, IfNone, IfOk, IsErr, OnOk, OnErr, is_some, length, option_map};
 ghost use Rattle.lpc_base.specs.Rows.{change, first, has, without};
 ghost use Rattle.lpc_model.specs.World.{no_rows};
-ghost use Rattle.lpc_model.specs.Found.{free_handle, handles_of, is_process, is_queued, is_table, is_thread, port_row, receives_on, was_process, was_thread, waits_as};
+ghost use Rattle.lpc_model.specs.Found.{free_handle, handles_of, is_process, is_queued, is_table, is_thread, port_row, was_process, was_thread, waits_as};
 ghost use Rattle.lpc_model.specs.Basics.{basic, AddsHandle, AddsProcess, AddsThread, Awaits, DrawsIdentifier, DrawsOrdinal, Enters, Makes, Receives, Takes};
+ghost use Rattle.lpc_model.specs.Entering.{takes};
 ghost use Rattle.lpc_model.specs.Machine.{new_process, new_thread};
 ghost use Rattle.lpc_model.specs.Message.{asks, message_of};
 ghost use Rattle.lpc_model.specs.Tests as tests;
 ghost use Rattle.lpc_procs.specs.Procs.{IsNumber};
+ghost use Rattle.lpc_waits.specs.Table.{is_connect};
 ghost use Rattle.lpc_world.specs.Names.{KeepsNames, name_of, some_stands, stands};
 ghost use Rattle.lpc_world.specs.Shown.{birth_in, birth_of, name_by, object_stands, pulled_row, sent_row, waiting_row, with_message};
 ghost use Rattle.lpc_world.specs.Lawful.{drew, is_quiet};
-ghost use Rattle.lpc_world.specs.Kept.{IsIdleAfter, Roomy, Same, StaysReady, handle_room, is_pending, is_pending_in};
+ghost use Rattle.lpc_world.specs.Kept.{IsIdleAfter, Roomy, Same, StaysReady, handle_room, is_pending, is_pending_in, promised};
 ghost use Rattle.lpc_world.specs.Ready.{IsWait};
 
+mod completing;
+mod connecting;
+mod connections;
 mod directives;
+mod freeing;
 mod lending;
 mod names;
 mod reading;
@@ -184,7 +190,7 @@ impl World {
         requires connection { some_stands self.old.names.ports connection ≡ true }
         requires fresh { port_row self.old.rows birth ≡ None }
         requires drawn { has (drew birth) self.old.rows.threads ≡ true }
-        ensures rows { self.new.rows ≡ basic self.old.rows (Makes (record { birth = birth; kind = kind; connection = birth_in (birth_of self.old.names) connection; pair = None; context = 0 })) }
+        ensures rows { self.new.rows ≡ basic self.old.rows (Makes (record { birth = birth; kind = kind; connection = birth_in (birth_of self.old.names) connection; pair = None; context = 0; completed = false })) }
         ensures name { name_of self.new.names.ports result ≡ birth }
         ensures stands { stands self.new.names.ports result ≡ true }
         ensures others { KeepsNames self.old.names.ports self.new.names.ports }
@@ -196,13 +202,13 @@ impl World {
         self.ports.add(kind, birth, connection)
     }
 
-    /// A message enters the queue of a port, on which no receive waits. A request has its place, every other message the room that was made for it.
+    /// A message enters the queue of a port, on which no thread waits that takes it. A request has its place, every other message the room that was made for it.
     pub fn ports_send(&mut self, queue: Key, sender: Key, context: u32, bytes: &[u8])
         requires queue { stands self.old.names.ports queue ≡ true }
         requires sender { stands self.old.names.ports sender ≡ true }
         requires long { 24 ≤ length bytes.now }
         requires bound { length bytes.now ≤ 256 }
-        requires quiet { has (receives_on (name_of self.old.names.ports queue)) self.old.rows.waits ≡ false }
+        requires quiet { has (takes (sent_row self.old.names queue sender context bytes.now)) self.old.rows.waits ≡ false }
         requires budget { self.old.made < 16 * self.old.calls }
         requires request { asks (message_of bytes.now) ≡ true → 0 < self.old.room.requests }
         requires other { asks (message_of bytes.now) ≡ false → 0 < self.old.room.messages }
@@ -235,7 +241,8 @@ impl World {
         Some(self.ports.pull(message))
     }
 
-    /// A thread that doesn't wait begins to wait, for a message only on an empty queue. Its place was made with the thread.
+    /// A thread that doesn't wait begins to wait, and what it waits for doesn't stand in the queue. Its place was made with
+    /// the thread. A connect of a process finds room for the handle that it is to get, within its number of handles.
     pub fn waits_add(&mut self, tid: u32, wait: Wait)
         requires thread { has (is_thread tid) self.old.rows.threads ≡ true }
         requires ready { has (waits_as tid) self.old.rows.waits ≡ false }
@@ -243,6 +250,9 @@ impl World {
         requires port { stands self.old.names.ports wait.port ≡ true }
         requires queue { stands self.old.names.ports wait.queue ≡ true }
         requires quiet { is_quiet self.old.rows.messages (waiting_row self.old.names tid wait []) ≡ true }
+        requires table { is_connect wait.kind ≡ true → has (is_table wait.process) self.old.rows.handles ≡ true }
+        requires load { is_connect wait.kind ≡ true → tests.handle_load self.old.rows wait.process < 256 }
+        requires handles { is_connect wait.kind ≡ true → promised self.old.rows wait.process < handle_room self.old.room wait.process }
         ensures rows { self.new.rows ≡ basic self.old.rows (Awaits (waiting_row self.old.names tid wait [])) }
         ensures names { self.new.names ≡ self.old.names }
         ensures calls { self.new.calls ≡ self.old.calls }
@@ -300,10 +310,12 @@ impl World {
     }
 
     /// Gives a process the least free handle, and answers its value; Quota exactly where the process has 256 handles,
-    /// and then nothing changes.
+    /// and then nothing changes. With those that its waiting connects are to get it has fewer than 256, and there is room
+    /// for one more beside them.
     pub fn handles_add(&mut self, pid: u32, object: Object, access: u32) -> Result<u32, TableFault>
         requires table { has (is_table pid) self.old.rows.handles ≡ true }
-        requires room { length (handles_of self.old.rows pid) < 256 → 0 < handle_room self.old.room pid }
+        requires load { tests.handle_load self.old.rows pid < 256 }
+        requires room { promised self.old.rows pid < handle_room self.old.room pid }
         requires object { object_stands self.old.names object ≡ true }
         ensures quota { IsErr result ↔ (length (handles_of self.old.rows pid) ≡ 256) }
         ensures value { IfOk result (λ v. v ≡ free_handle self.old.rows pid) }
@@ -357,13 +369,16 @@ impl World {
         self.waits.reserve(places)
     }
 
-    /// Makes room for so many further handles of a process.
+    /// Makes room for so many further handles of a process, beside those that its waiting connects are to get.
     pub fn handles_reserve(&mut self, pid: u32, more: usize) -> Result<(), OutOfMemory>
         requires { has (is_table pid) self.old.rows.handles ≡ true }
         ensures same { Same self.old self.new }
         ensures room { Roomy self.old.room self.new.room }
-        ensures handles { OnOk result (more ≤ handle_room self.new.room pid) }
+        ensures handles { OnOk result (promised self.new.rows pid + more ≤ handle_room self.new.room pid) }
     {
-        parts::reserve_handles(&mut self.parts, pid, more)
+        let Some(places) = self.waits.connects_of(pid).checked_add(more) else {
+            return Err(OutOfMemory);
+        };
+        parts::reserve_handles(&mut self.parts, pid, places)
     }
 }

@@ -91,6 +91,7 @@ impl World {
     pub fn directory(&mut self, path: &[u8]) -> Result<Status, OutOfMemory>
         requires calls { self.old.calls < 1000000 }
         ensures directs { Directs result (dir_line self.old.rows path.now) self.old self.new }
+        ensures names { self.new.names ≡ self.old.names }
     {
         let status = bound_status(self.names_add_directory(path))?;
         self.begin_call();
@@ -105,6 +106,7 @@ impl World {
     pub fn link(&mut self, path: &[u8], target: &[u8]) -> Result<Status, OutOfMemory>
         requires calls { self.old.calls < 1000000 }
         ensures directs { Directs result (link_line self.old.rows path.now target.now) self.old self.new }
+        ensures names { self.new.names ≡ self.old.names }
     {
         let status = bound_status(self.names_add_link(path, target))?;
         self.begin_call();

@@ -1,18 +1,21 @@
 // What is found in the world, in the definitions' words. An object that is found by its key stands.
-ghost use Rattle.std.specs.Prelude.{◌≡◌, ◌<◌, ◌≤◌, ◌&&◌, None, Some, Ok, Err, true, false, not, is_none, IfSome, IfOk, OnOk, MatchOption, MatchResult, length, option_map, OnSome};
+ghost use Rattle.std.specs.Prelude.{◌≡◌, ◌<◌, ◌≤◌, ◌&&◌, None, Some, Ok, Err, true, false, not, is_none, IfSome, IfOk, OnOk, MatchOption, MatchResult, length, option_map};
 ghost use Rattle.lpc_base.specs.Rows.{count, first, has};
 ghost use Rattle.lpc_model.specs.Found as found;
-ghost use Rattle.lpc_model.specs.Found.{fits_as, handle_at, handles_of, is_process, is_queued, is_table, is_the, is_thread, live_count, objects, pair_of, port_row, receives_on, same_birth, waits_as, was_process, was_thread};
+ghost use Rattle.lpc_model.specs.Found.{fits_as, handle_at, handles_of, is_process, is_queued, is_table, is_the, is_thread, live_count, objects, pair_of, port_row, same_birth, waits_as, was_process, was_thread};
 ghost use Rattle.lpc_model.specs.Request as request;
 ghost use Rattle.lpc_model.specs.Tests as tests;
-ghost use Rattle.lpc_world.specs.Lawful.{are_single};
+ghost use Rattle.lpc_model.specs.Entering.{shown as shown_to, takes_from};
+ghost use Rattle.lpc_world.specs.Does.{has_no_read};
+ghost use Rattle.lpc_world.specs.Lawful.{are_single, is_quiet};
 ghost use Rattle.lpc_world.specs.Names.{are_apart, name_of, some_stands, stands};
 ghost use Rattle.lpc_world.specs.Shown as shown;
-ghost use Rattle.lpc_world.specs.Shown.{birth_of, kind_of, name_by, object_stands, shown_thread};
-ghost use Rattle.lpc_waits.specs.Table.{is_receive};
+ghost use Rattle.lpc_world.specs.Shown.{Births, birth_of, kind_of, name_by, object_stands, row_with, shown_thread};
+ghost use Rattle.lpc_waits.specs.Table.{is_request};
 ghost use Rattle.lpc_world.specs.Kept.{is_alive, is_pending_in};
 ghost use Rattle.lpc_world.specs.Ready.{HasRow, IsWait, caller, condition_of, is_ready, port_of, room_needed, waiter};
 
+use crate::fields::{message_field, receipt};
 use crate::world::World;
 use crate::{Condition, Object, parts};
 use lpc_base::limits::{DATAGRAM_LIMIT, HANDLE_LIMIT};
@@ -23,7 +26,7 @@ use lpc_base::status::{
 use lpc_base::{PortKind, Status};
 use lpc_handles::Row;
 use lpc_message::ClientId;
-use lpc_model::{CallName, ObjectKind};
+use lpc_model::{CallName, Fields, Message, ObjectKind};
 use lpc_ports::Port;
 use lpc_procs::{Number, ThreadRow};
 use lpc_slots::Key;
@@ -177,6 +180,14 @@ impl World {
         parts::handles_of(&self.parts, pid).count()
     }
 
+    /// How many handles a process has, with those that its waiting connects are to get.
+    fn handle_load(&self, pid: u32) -> usize
+        requires { has (is_table pid) self.now.rows.handles ≡ true }
+        ensures { result ≡ tests.handle_load self.now.rows pid }
+    {
+        self.handle_count(pid) + self.waits.connects_of(pid)
+    }
+
     /// The port that a handle of the thread's process names, with the right to use it.
     pub fn port_at(&self, tid: u32, handle: u32) -> Result<Key, Status>
         requires { is_ready self.now.rows tid ≡ true }
@@ -188,13 +199,13 @@ impl World {
         Ok(port_key(object))
     }
 
-    /// The process may have one more handle.
+    /// The process may have one more handle: with those that its waiting connects are to get it has fewer than 256.
     pub fn handles_test(&self, pid: u32) -> Result<(), Status>
         requires { has (is_table pid) self.now.rows.handles ≡ true }
         ensures full { result ≡ tests.handles_test self.now.rows pid 1 }
-        ensures few { OnOk result (length (handles_of self.now.rows pid) < 256) }
+        ensures few { OnOk result (tests.handle_load self.now.rows pid < 256) }
     {
-        if self.handle_count(pid) >= HANDLE_LIMIT {
+        if self.handle_load(pid) >= HANDLE_LIMIT {
             return Err(QUOTA_EXCEEDED);
         }
         Ok(())
@@ -210,7 +221,7 @@ impl World {
 
     // Ports and queues.
 
-    fn port(&self, port: Key) -> Port
+    pub(crate) fn port(&self, port: Key) -> Port
         requires { stands self.now.names.ports port ≡ true }
         ensures found { port_row self.now.rows (name_of self.now.names.ports port) ≡ Some (port_of self.now.rows (name_of self.now.names.ports port)) }
         ensures birth { let p = port_of self.now.rows (name_of self.now.names.ports port) in p.birth ≡ name_of self.now.names.ports port }
@@ -218,6 +229,7 @@ impl World {
         ensures pair { let p = port_of self.now.rows (name_of self.now.names.ports port) in p.pair ≡ option_map (name_of self.now.names.ports) result.pair }
         ensures connection { let p = port_of self.now.rows (name_of self.now.names.ports port) in p.connection ≡ option_map (name_of self.now.names.ports) result.connection }
         ensures context { let p = port_of self.now.rows (name_of self.now.names.ports port) in p.context ≡ result.context }
+        ensures completed { let p = port_of self.now.rows (name_of self.now.names.ports port) in p.completed ≡ result.completed }
         ensures apart { are_apart self.now.names.ports ≡ true }
         ensures pair_stands { some_stands self.now.names.ports result.pair ≡ true }
         ensures connection_stands { some_stands self.now.names.ports result.connection ≡ true }
@@ -368,7 +380,7 @@ impl World {
         }
     }
 
-    fn is_waiting(&self, tid: u32) -> bool
+    pub(crate) fn is_waiting(&self, tid: u32) -> bool
         ensures waits { result ≡ has (waits_as tid) self.now.rows.waits }
         ensures single { are_single self.now.rows.waits ≡ true }
     {
@@ -379,7 +391,7 @@ impl World {
     }
 
     /// The wait of a thread that waits.
-    fn wait(&self, tid: u32) -> Wait
+    pub(crate) fn wait(&self, tid: u32) -> Wait
         requires { has (waits_as tid) self.now.rows.waits ≡ true }
         ensures wait { IsWait self.now tid result }
         ensures apart { are_apart self.now.names.ports ≡ true }
@@ -425,16 +437,30 @@ impl World {
         }
     }
 
-    /// The thread whose receive has waited longest on a queue: None exactly where none waits there.
-    pub fn receiver(&self, queue: Key) -> Option<u32>
+    /// The thread that takes a message which enters a queue: the one whose receive has waited longest there, or for a
+    /// connection request whose receive or listen has. None exactly where none waits there.
+    pub fn receiver(&self, queue: Key, is_connection_request: bool) -> Option<u32>
         requires { stands self.now.names.ports queue ≡ true }
-        ensures found { MatchOption result (first (receives_on (name_of self.now.names.ports queue)) self.now.rows.waits ≡ None) (λ tid. first (receives_on (name_of self.now.names.ports queue)) self.now.rows.waits ≡ Some (waiter self.now.rows tid)) }
+        ensures found { MatchOption result (first (takes_from (name_of self.now.names.ports queue) is_connection_request) self.now.rows.waits ≡ None) (λ tid. first (takes_from (name_of self.now.names.ports queue) is_connection_request) self.now.rows.waits ≡ Some (waiter self.now.rows tid)) }
         ensures waits { IfSome result (λ tid. has (waits_as tid) self.now.rows.waits ≡ true) }
         ensures thread { IfSome result (λ tid. let x = waiter self.now.rows tid in x.thread ≡ tid) }
         ensures idle { IfSome result (λ tid. is_pending_in self.now.rows tid ≡ false) }
-        ensures empty { OnSome result (has (is_queued (name_of self.now.names.ports queue)) self.now.rows.messages ≡ false) }
+        ensures takes { IfSome result (λ tid. takes_from (name_of self.now.names.ports queue) is_connection_request (waiter self.now.rows tid) ≡ true) }
+        ensures quiet { IfSome result (λ tid. is_quiet self.now.rows.messages (waiter self.now.rows tid) ≡ true) }
     {
-        self.waits.first_on(queue, false)
+        self.waits.first_on(queue, is_connection_request)
+    }
+
+    /// What a waiting thread is shown of the message that it takes: a listen the message alone, a receive its context too.
+    pub fn taken_fields(&self, tid: u32, context: u32, message: &Message) -> Fields
+        requires waits { has (waits_as tid) self.now.rows.waits ≡ true }
+        ensures plain { has_no_read result ≡ true }
+        ensures fields { (n : Births) (queue sender : Key) → result ≡ shown_to (waiter self.now.rows tid) (row_with n queue sender context message.now) }
+    {
+        match self.wait(tid).kind {
+            WaitKind::Listen => message_field(message),
+            _ => receipt(context, message),
+        }
     }
 
     /// The call that a waiting thread made.
@@ -472,15 +498,17 @@ fn call_of(kind: WaitKind) -> CallName
     match kind {
         WaitKind::Request => CallName::NtRequestWaitReplyPort,
         WaitKind::Receive => CallName::NtReplyWaitReceivePort,
+        WaitKind::Listen => CallName::NtListenPort,
+        WaitKind::Connect => CallName::NtConnectPort,
     }
 }
 
 /// The wait is for the reply to a request that was received.
 fn is_answerable(wait: Wait) -> bool
-    ensures { result ≡ (not (is_receive wait.kind) && wait.received) }
+    ensures { result ≡ (is_request wait.kind && wait.received) }
 {
     match wait.kind {
         WaitKind::Request => wait.received,
-        WaitKind::Receive => false,
+        WaitKind::Receive | WaitKind::Listen | WaitKind::Connect => false,
     }
 }

@@ -3,20 +3,21 @@ ghost use Rattle.std.specs.Prelude.{◌≡◌, ◌≤◌, ◌<◌, ◌+◌, ◌*
 ghost use Rattle.lpc_base.specs.Rows.{first, has};
 ghost use Rattle.lpc_base.specs.declared.status.TheConstants.{SUCCESS};
 ghost use Rattle.lpc_model.specs.Basics.{basic, told, world_after, AddsHandle, Awaits, Enters, Wakes};
-ghost use Rattle.lpc_model.specs.Entering.{enter, take_steps, woken};
-ghost use Rattle.lpc_model.specs.Found.{free_handle, handles_of, is_queued, is_table, is_thread, receives_on, waits_as};
+ghost use Rattle.lpc_model.specs.Entering.{enter, given_steps, shown, takes, woken};
+ghost use Rattle.lpc_model.specs.Found.{free_handle, handles_of, is_queued, is_table, is_thread, waits_as};
 ghost use Rattle.lpc_world.specs.Does.{has_no_read};
-ghost use Rattle.lpc_model.specs.Message.{asks, message_of, message_test};
+ghost use Rattle.lpc_model.specs.Message.{asks, is_connection_request, message_of, message_test};
+ghost use Rattle.lpc_model.specs.Tests as tests;
 ghost use Rattle.lpc_model.specs.Tests.{handle_row};
+ghost use Rattle.lpc_waits.specs.Table.{is_connect};
 ghost use Rattle.lpc_world.specs.Does.{Takes};
-ghost use Rattle.lpc_world.specs.Kept.{IsIdleAfter, Roomy, StaysReady, handle_room, is_pending, is_pending_in};
+ghost use Rattle.lpc_world.specs.Kept.{IsIdleAfter, Roomy, StaysReady, handle_room, is_pending, is_pending_in, promised};
 ghost use Rattle.lpc_world.specs.Lawful.{is_quiet};
 ghost use Rattle.lpc_world.specs.Names.{name_of, stands};
 ghost use Rattle.lpc_world.specs.Ready.{waiter};
 ghost use Rattle.lpc_world.specs.Shown.{birth_of, name_by, object_stands, row_with, waiting_row, with_message};
 
 use crate::Object;
-use crate::fields::receipt;
 use crate::world::World;
 use lpc_base::Status;
 use lpc_base::limits::MESSAGE_LIMIT;
@@ -44,11 +45,12 @@ impl World {
         Ok(message)
     }
 
-    /// Gives a process the least free handle, and answers its value. The process has fewer than 256 handles.
+    /// Gives a process the least free handle, and answers its value. The process has fewer than 256 handles, with those
+    /// that its waiting connects are to get.
     pub fn give_handle(&mut self, pid: u32, object: Object, access: u32) -> u32
         requires table { has (is_table pid) self.old.rows.handles ≡ true }
-        requires room { 0 < handle_room self.old.room pid }
-        requires few { length (handles_of self.old.rows pid) < 256 }
+        requires room { promised self.old.rows pid < handle_room self.old.room pid }
+        requires load { tests.handle_load self.old.rows pid < 256 }
         requires object { object_stands self.old.names object ≡ true }
         ensures value { result ≡ free_handle self.old.rows pid }
         ensures rows { self.new.rows ≡ basic self.old.rows (AddsHandle pid (handle_row result (name_by (birth_of self.old.names) object) access)) }
@@ -70,6 +72,9 @@ impl World {
         requires port { stands self.old.names.ports wait.port ≡ true }
         requires queue { stands self.old.names.ports wait.queue ≡ true }
         requires quiet { is_quiet self.old.rows.messages (waiting_row self.old.names tid wait []) ≡ true }
+        requires table { is_connect wait.kind ≡ true → has (is_table wait.process) self.old.rows.handles ≡ true }
+        requires load { is_connect wait.kind ≡ true → tests.handle_load self.old.rows wait.process < 256 }
+        requires handles { is_connect wait.kind ≡ true → promised self.old.rows wait.process < handle_room self.old.room wait.process }
         ensures rows { self.new.rows ≡ basic self.old.rows (Awaits (with_message message.now (waiting_row self.old.names tid wait []))) }
         ensures names { self.new.names ≡ self.old.names }
         ensures calls { self.new.calls ≡ self.old.calls }
@@ -130,8 +135,8 @@ impl World {
         });
     }
 
-    /// A message enters the queue of a port, and where a thread waits there to receive it, the one that has waited
-    /// longest takes it at once. A request has its place, every other message the room that was made for it.
+    /// A message enters the queue of a port, and where a thread waits there that takes it, the one that has waited longest
+    /// does so at once. A request or connection request has its place, every other message the room that was made for it.
     pub fn deliver(
         &mut self,
         queue: Key,
@@ -150,21 +155,22 @@ impl World {
         ensures names { self.new.names ≡ self.old.names }
         ensures calls { self.new.calls ≡ self.old.calls }
     {
-        match self.receiver(queue) {
+        match self.receiver(queue, asks_to_connect(message)) {
             Some(tid) => {
                 let call = self.waiting_call(tid);
-                self.pass(queue, sender, context, message);
-                self.tell_wake(tid, call, SUCCESS, receipt(context, message), out);
+                let fields = self.taken_fields(tid, context, message);
+                self.pass(tid, queue, sender, context, message);
+                self.tell_wake(tid, call, SUCCESS, fields, out);
             }
             None => self.enter(queue, sender, context, message),
         }
     }
 
-    /// A message enters its queue, on which no receive waits.
+    /// A message enters its queue, on which no thread waits that takes it.
     fn enter(&mut self, queue: Key, sender: Key, context: u32, message: &Message)
         requires queue { stands self.old.names.ports queue ≡ true }
         requires sender { stands self.old.names.ports sender ≡ true }
-        requires quiet { has (receives_on (name_of self.old.names.ports queue)) self.old.rows.waits ≡ false }
+        requires quiet { has (takes (row_with self.old.names queue sender context message.now)) self.old.rows.waits ≡ false }
         requires budget { self.old.made < 16 * self.old.calls }
         requires request { asks message.now ≡ true → 0 < self.old.room.requests }
         requires other { asks message.now ≡ false → 0 < self.old.room.messages }
@@ -178,26 +184,37 @@ impl World {
         self.ports_send(queue, sender, context, message.bytes().as_slice());
     }
 
-    /// A message enters an empty queue, and is taken at once, so that it needs no place there. Where its sender waits for
-    /// an answer, it is received.
-    fn pass(&mut self, queue: Key, sender: Key, context: u32, message: &Message)
-        requires empty { has (is_queued (name_of self.old.names.ports queue)) self.old.rows.messages ≡ false }
+    /// A message enters a queue, and the thread that waits there takes it at once, so that it needs no place there. Where
+    /// its sender waits for an answer, it is received.
+    fn pass(&mut self, tid: u32, queue: Key, sender: Key, context: u32, message: &Message)
+        requires takes { takes (row_with self.old.names queue sender context message.now) (waiter self.old.rows tid) ≡ true }
+        requires quiet { is_quiet self.old.rows.messages (waiter self.old.rows tid) ≡ true }
         requires request { asks message.now ≡ true → 0 < self.old.room.requests }
-        ensures rows { self.new.rows ≡ world_after self.old.rows (Enters (row_with self.old.names queue sender context message.now) ∷ take_steps (row_with self.old.names queue sender context message.now)) }
+        ensures rows { self.new.rows ≡ world_after self.old.rows (Enters (row_with self.old.names queue sender context message.now) ∷ given_steps (waiter self.old.rows tid) (row_with self.old.names queue sender context message.now)) }
         ensures names { self.new.names ≡ self.old.names }
         ensures idle { IsIdleAfter self.old.rows self.new.rows }
         ensures calls { self.new.calls ≡ self.old.calls }
     {
-        let _ = (queue, sender, context);
+        let _ = (tid, queue, sender, context);
         if wants_answer(message) {
             self.waits_receive(message.header.client.thread);
         }
     }
 }
 
+/// The message is a connection request.
+fn asks_to_connect(message: &Message) -> bool
+    ensures { result ≡ is_connection_request message.now }
+{
+    message.header.kind == kind::CONNECTION_REQUEST
+}
+
 /// The sender of the message waits until it is answered.
 pub fn wants_answer(message: &Message) -> bool
     ensures { result ≡ asks message.now }
 {
-    message.header.kind == kind::REQUEST
+    matches!(
+        message.header.kind,
+        kind::REQUEST | kind::CONNECTION_REQUEST
+    )
 }

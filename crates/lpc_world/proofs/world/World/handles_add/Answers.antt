@@ -1,7 +1,11 @@
-use Rattle.std.proofs.Common.{sym, ◌∙◌}
+use Rattle.std.proofs.Common.{Result, Ok, Err, OnOk, sym, ◌∙◌, arith}
 use Rattle.lpc_world.specs.Shown.{tables_of}
 use Rattle.lpc_world.proofs.Tables as tables
 use Rattle.lpc_world.proofs.world.World.handles_add.Goals as goal
+
+on-ok : {A B : Type 0} {P : Type 0} (r : Result A B) → P → OnOk r P
+on-ok (Ok a) p = p
+on-ok (Err e) p = tt
 
 pub add_handle-requires-clause-one : goal.add_handle-requires-clause-one
 add_handle-requires-clause-one c = tables.single (tables_of c.self.inside.procs c.self.inside.parts.items c.self.inside.ports c.self.inside.waits c.self.inside.names) c.self.inside.calls c.self.inside.made c.self.invariant
@@ -10,10 +14,14 @@ pub add_handle-requires-clause-part : goal.add_handle-requires-clause-part
 add_handle-requires-clause-part c = sym (tables.has_table (tables_of c.self.inside.procs c.self.inside.parts.items c.self.inside.ports c.self.inside.waits c.self.inside.names) c.self.inside.calls c.self.inside.made c.self.invariant c.args.pid) ∙ (rw (← c.self.view_is) at c.requires.table)
 
 pub add_handle-requires-clause-room : goal.add_handle-requires-clause-room
-add_handle-requires-clause-room c = rw (← tables.handle_number (tables_of c.self.inside.procs c.self.inside.parts.items c.self.inside.ports c.self.inside.waits c.self.inside.names) c.self.inside.calls c.self.inside.made c.self.invariant c.args.pid, ← tables.room_at c.self.inside.parts.items c.args.pid) (rw (← c.self.view_is) at c.requires.room)
+add_handle-requires-clause-room c =
+    let some = rw (← c.self.view_is, tables.room_at c.self.inside.parts.items c.args.pid) at c.requires.room in
+    λ few. omega (arith, some)
 
 pub invariant_of-self : goal.invariant_of-self
-invariant_of-self c = tables.handed_or_same (tables_of c.self.inside.procs c.self.inside.parts.items c.self.inside.ports c.self.inside.waits c.self.inside.names) c.self.inside.calls c.self.inside.made c.self.invariant c.args.pid (record { object = c.args.object; access = c.args.access }) c.add_handle.result c.add_handle.new.parts.items (rw (← c.self.view_is) at c.requires.object) c.add_handle.ensures.parts c.add_handle.ensures.same
+invariant_of-self c =
+    tables.handed_or_same (tables_of c.self.inside.procs c.self.inside.parts.items c.self.inside.ports c.self.inside.waits c.self.inside.names) c.self.inside.calls c.self.inside.made c.self.invariant c.args.pid (record { object = c.args.object; access = c.args.access }) c.add_handle.result c.add_handle.new.parts.items (rw (← c.self.view_is) at c.requires.object) c.add_handle.ensures.parts c.add_handle.ensures.same
+    (let there = rw (← c.self.view_is) at c.requires in on-ok c.add_handle.result (tables.welcome (tables_of c.self.inside.procs c.self.inside.parts.items c.self.inside.ports c.self.inside.waits c.self.inside.names) c.self.inside.calls c.self.inside.made c.self.invariant c.args.pid there.table there.load there.room))
 
 pub returns-clause-quota : goal.returns-clause-quota
 returns-clause-quota c = rw (← c.self.view_is, tables.handle_number (tables_of c.self.inside.procs c.self.inside.parts.items c.self.inside.ports c.self.inside.waits c.self.inside.names) c.self.inside.calls c.self.inside.made c.self.invariant c.args.pid) c.add_handle.ensures.quota

@@ -1,4 +1,4 @@
-use Rattle.std.proofs.Common.{refl, sym, ◌∙◌, arith}
+use Rattle.std.proofs.Common.{◌≡◌, ◌+◌, refl, ap, sym, ◌∙◌, arith}
 use Rattle.lpc_world.specs.Shown.{tables_of}
 use Rattle.lpc_world.proofs.Tables as tables
 use Rattle.lpc_world.proofs.world.World.handles_reserve.Goals as goal
@@ -10,7 +10,7 @@ pub reserve_handles-requires-clause-part : goal.reserve_handles-requires-clause-
 reserve_handles-requires-clause-part c = sym (tables.has_table (tables_of c.self.inside.procs c.self.inside.parts.items c.self.inside.ports c.self.inside.waits c.self.inside.names) c.self.inside.calls c.self.inside.made c.self.invariant c.args.pid) ∙ (rw (← c.self.view_is) at c.requires)
 
 pub invariant_of-self : goal.invariant_of-self
-invariant_of-self c = tables.roomed_lawful (tables_of c.self.inside.procs c.self.inside.parts.items c.self.inside.ports c.self.inside.waits c.self.inside.names) c.self.inside.calls c.self.inside.made c.self.invariant c.args.pid c.reserve_handles.new.parts.items c.reserve_handles.ensures.parts
+invariant_of-self c = tables.roomed_lawful (tables_of c.self.inside.procs c.self.inside.parts.items c.self.inside.ports c.self.inside.waits c.self.inside.names) c.self.inside.calls c.self.inside.made c.self.invariant c.args.pid c.reserve_handles.new.parts.items c.reserve_handles.ensures.parts c.reserve_handles.ensures.spare
 
 pub returns-clause-same : goal.returns-clause-same
 returns-clause-same c = rw (← c.self.view_is) (record { rows = tables.roomed_rows (tables_of c.self.inside.procs c.self.inside.parts.items c.self.inside.ports c.self.inside.waits c.self.inside.names) c.self.inside.calls c.self.inside.made c.self.invariant c.args.pid c.reserve_handles.new.parts.items c.reserve_handles.ensures.parts; names = refl; calls = refl; made = refl })
@@ -32,4 +32,7 @@ returns-clause-room c =
     })
 
 pub returns-clause-handles : goal.returns-clause-handles
-returns-clause-handles c = rw (tables.room_at c.reserve_handles.new.parts.items c.args.pid) c.reserve_handles.ensures.room
+returns-clause-handles c =
+    let own = tables.promised_are (tables_of c.self.inside.procs c.self.inside.parts.items c.self.inside.ports c.self.inside.waits c.self.inside.names) c.self.inside.calls c.self.inside.made c.self.invariant c.args.pid in
+    let sum : c.connects_of.result + c.args.more ≡ c.in-Some.places = sym c.in-Some.ensures.1 in
+    rw (tables.room_at c.reserve_handles.new.parts.items c.args.pid, own, ap (λ n. n + c.args.more) (sym c.connects_of.ensures) ∙ sum) c.reserve_handles.ensures.room

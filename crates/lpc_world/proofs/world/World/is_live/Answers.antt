@@ -1,6 +1,6 @@
 use Rattle.std.proofs.Common.{refl, sym, ◌∙◌}
 use Rattle.lpc_model.specs.Found as found
-use Rattle.lpc_model.specs.Found.{fits_as, is_table, port_row, receives_on, waits_as}
+use Rattle.lpc_model.specs.Found.{fits_as, is_table, port_row, waits_as}
 use Rattle.lpc_procs.specs.Procs as procs
 use Rattle.lpc_world.specs.Kept.{rows_by}
 use Rattle.lpc_world.specs.Shown.{shown_thread, tables_of}

@@ -1,4 +1,4 @@
-use Rattle.lpc_names.specs.declared.names.Found.TheVariants.{Directory, Item}
+use Rattle.lpc_names.specs.declared.names.Found.TheVariants.{Directory}
 use Rattle.lpc_names.specs.Walk.{Stands}
 use Rattle.lpc_world.specs.Shown.{tables_of}
 use Rattle.lpc_world.proofs.Bound as bound

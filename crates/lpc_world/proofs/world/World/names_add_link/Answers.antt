@@ -1,5 +1,3 @@
-use Rattle.lpc_names.specs.declared.names.Found.TheVariants.{Directory, Item}
-use Rattle.lpc_names.specs.Walk.{Stands}
 use Rattle.lpc_world.specs.Shown.{tables_of}
 use Rattle.lpc_world.proofs.Bound as bound
 use Rattle.lpc_world.proofs.world.World.names_add_link.Goals as goal

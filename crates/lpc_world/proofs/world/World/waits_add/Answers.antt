@@ -1,11 +1,13 @@
-use Rattle.std.proofs.Common.{◌+◌, ◌-◌, ap, []}
+use Rattle.std.proofs.Common.{◌+◌, ◌-◌, None, ap, sym, ◌∙◌, []}
 use Rattle.lpc_model.specs.World.{World}
 use Rattle.lpc_waits.specs.declared.WaitRow.{WaitRow}
 use Rattle.lpc_world.specs.Kept.{rows_by}
 use Rattle.lpc_world.specs.Shown.{birth_of, births_of, shown_wait, tables_of}
 use Rattle.lpc_world.proofs.Changes as changes
+use Rattle.lpc_world.proofs.Promised as promised
 use Rattle.lpc_world.proofs.Rooms as rooms
 use Rattle.lpc_world.proofs.Steps as steps
+use Rattle.lpc_world.proofs.Tables as tables
 use Rattle.lpc_world.proofs.world.World.waits_add.Goals as goal
 
 pub add-requires-clause-alone : goal.add-requires-clause-alone
@@ -17,18 +19,20 @@ add-requires-clause-room c = steps.wait_place (tables_of c.self.inside.procs c.s
 pub invariant_of-self : goal.invariant_of-self
 invariant_of-self c =
     let there = rw (← c.self.view_is) at c.requires in
-    rw c.add.ensures.table (steps.awaited (tables_of c.self.inside.procs c.self.inside.parts.items c.self.inside.ports c.self.inside.waits c.self.inside.names) c.self.inside.calls c.self.inside.made c.self.invariant (record { thread = c.args.tid; wait = c.args.wait; message = record { items = [] } }) (steps.two_stand (tables_of c.self.inside.procs c.self.inside.parts.items c.self.inside.ports c.self.inside.waits c.self.inside.names) c.self.inside.calls c.self.inside.made c.self.invariant c.args.wait.port c.args.wait.queue there.port there.queue) there.budget there.thread there.ready there.quiet)
+    rw c.add.ensures.table (steps.awaited (tables_of c.self.inside.procs c.self.inside.parts.items c.self.inside.ports c.self.inside.waits c.self.inside.names) c.self.inside.calls c.self.inside.made c.self.invariant (record { thread = c.args.tid; wait = c.args.wait; message = record { items = [] }; accepted = None }) (steps.two_stand (tables_of c.self.inside.procs c.self.inside.parts.items c.self.inside.ports c.self.inside.waits c.self.inside.names) c.self.inside.calls c.self.inside.made c.self.invariant c.args.wait.port c.args.wait.queue there.port there.queue) there.budget there.thread there.ready there.quiet
+    (promised.begins (rows_by (tables_of c.self.inside.procs c.self.inside.parts.items c.self.inside.ports c.self.inside.waits c.self.inside.names)).waits (rows_by (tables_of c.self.inside.procs c.self.inside.parts.items c.self.inside.ports c.self.inside.waits c.self.inside.names)).handles c.self.inside.parts.items c.self.invariant.promised (shown_wait (birth_of (births_of c.self.inside.ports)) (record { thread = c.args.tid; wait = c.args.wait; message = record { items = [] }; accepted = None })) (tables.single (tables_of c.self.inside.procs c.self.inside.parts.items c.self.inside.ports c.self.inside.waits c.self.inside.names) c.self.inside.calls c.self.inside.made c.self.invariant) c.self.invariant.lawful.tables_single (tables.fresh_taken (tables_of c.self.inside.procs c.self.inside.parts.items c.self.inside.ports c.self.inside.waits c.self.inside.names) c.self.inside.calls c.self.inside.made c.self.invariant c.args.tid c.args.wait)
+    (λ connects. let is = sym (tables.connect_same (tables_of c.self.inside.procs c.self.inside.parts.items c.self.inside.ports c.self.inside.waits c.self.inside.names) c.self.inside.calls c.self.inside.made c.self.invariant (record { thread = c.args.tid; wait = c.args.wait; message = record { items = [] }; accepted = None })) ∙ connects in tables.welcome (tables_of c.self.inside.procs c.self.inside.parts.items c.self.inside.ports c.self.inside.waits c.self.inside.names) c.self.inside.calls c.self.inside.made c.self.invariant c.args.wait.process (there.table is) (there.load is) (there.handles is))))
 
 pub returns-clause-rows : goal.returns-clause-rows
-returns-clause-rows c = rw (← c.self.view_is, c.add.ensures.table) (changes.awaits (tables_of c.self.inside.procs c.self.inside.parts.items c.self.inside.ports c.self.inside.waits c.self.inside.names) c.self.invariant.named (record { thread = c.args.tid; wait = c.args.wait; message = record { items = [] } }) (c.self.inside.waits.spare - 1) (c.self.inside.waits.made + 1))
+returns-clause-rows c = rw (← c.self.view_is, c.add.ensures.table) (changes.awaits (tables_of c.self.inside.procs c.self.inside.parts.items c.self.inside.ports c.self.inside.waits c.self.inside.names) c.self.invariant.named (record { thread = c.args.tid; wait = c.args.wait; message = record { items = [] }; accepted = None }) (c.self.inside.waits.spare - 1) (c.self.inside.waits.made + 1))
 
 pub returns-clause-room : goal.returns-clause-room
 returns-clause-room c =
-    let x : WaitRow = record { thread = c.args.tid; wait = c.args.wait; message = record { items = [] } } in
+    let x : WaitRow = record { thread = c.args.tid; wait = c.args.wait; message = record { items = [] }; accepted = None } in
     let place = steps.wait_place (tables_of c.self.inside.procs c.self.inside.parts.items c.self.inside.ports c.self.inside.waits c.self.inside.names) c.self.inside.calls c.self.inside.made c.self.invariant c.args.tid (rw (← c.self.view_is) at c.requires.thread) (rw (← c.self.view_is) at c.requires.ready) in
     rw (← c.self.view_is, c.add.ensures.table, ap (λ (v : World). v.waits) (changes.awaits (tables_of c.self.inside.procs c.self.inside.parts.items c.self.inside.ports c.self.inside.waits c.self.inside.names) c.self.invariant.named x (c.self.inside.waits.spare - 1) (c.self.inside.waits.made + 1))) (rooms.room_wait _ _ _ _ _ _ (rows_by (tables_of c.self.inside.procs c.self.inside.parts.items c.self.inside.ports c.self.inside.waits c.self.inside.names)) _ (shown_wait (birth_of (births_of c.self.inside.ports)) x) place)
 
 pub returns-clause-owed : goal.returns-clause-owed
 returns-clause-owed c =
-    let x : WaitRow = record { thread = c.args.tid; wait = c.args.wait; message = record { items = [] } } in
+    let x : WaitRow = record { thread = c.args.tid; wait = c.args.wait; message = record { items = [] }; accepted = None } in
     rw (c.add.ensures.table, ap (λ (v : World). v.waits) (changes.awaits (tables_of c.self.inside.procs c.self.inside.parts.items c.self.inside.ports c.self.inside.waits c.self.inside.names) c.self.invariant.named x (c.self.inside.waits.spare - 1) (c.self.inside.waits.made + 1))) (λ pends. rooms.owed_wait 0 0 0 0 0 0 (rows_by (tables_of c.self.inside.procs c.self.inside.parts.items c.self.inside.ports c.self.inside.waits c.self.inside.names)) [] (shown_wait (birth_of (births_of c.self.inside.ports)) x) c.self.invariant.lawful.requests pends)

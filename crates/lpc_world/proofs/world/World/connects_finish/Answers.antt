@@ -1,0 +1,54 @@
+use Rattle.std.proofs.Common.{ℕ, refl, ap, sym, ◌∙◌, arith}
+use Rattle.lpc_base.specs.Rows.{without}
+use Rattle.lpc_model.specs.Basics.{AddsHandle, basic}
+use Rattle.lpc_model.specs.Found.{free_handle, waits_as}
+use Rattle.lpc_model.specs.World.{World}
+use Rattle.lpc_world.specs.Kept.{rows_by}
+use Rattle.lpc_world.specs.Shown.{birth_of, births_of, shown_handle, tables_of}
+use Rattle.lpc_world.proofs.Finished as finished
+use Rattle.lpc_world.proofs.Steps as steps
+use Rattle.lpc_world.proofs.Tables as tables
+use Rattle.lpc_world.proofs.world.World.connects_finish.Goals as goal
+
+pub add_handle-requires-clause-one : goal.add_handle-requires-clause-one
+add_handle-requires-clause-one c = tables.single (tables_of c.self.inside.procs c.self.inside.parts.items c.self.inside.ports c.self.inside.waits c.self.inside.names) c.self.inside.calls c.self.inside.made c.self.invariant
+
+pub add_handle-requires-clause-part : goal.add_handle-requires-clause-part
+add_handle-requires-clause-part c =
+    let there = rw (← c.self.view_is) at c.requires in
+    let own = rw (← c.self.view_is) at c.wait-wait.ensures.wait.process in
+    finished.has_part (tables_of c.self.inside.procs c.self.inside.parts.items c.self.inside.ports c.self.inside.waits c.self.inside.names) c.self.inside.calls c.self.inside.made c.self.invariant c.args.tid c.wait-wait.result.process there.waits there.connect own
+
+pub add_handle-requires-clause-room : goal.add_handle-requires-clause-room
+add_handle-requires-clause-room c =
+    let there = rw (← c.self.view_is) at c.requires in
+    let own = rw (← c.self.view_is) at c.wait-wait.ensures.wait.process in
+    λ few. finished.some_place (tables_of c.self.inside.procs c.self.inside.parts.items c.self.inside.ports c.self.inside.waits c.self.inside.names) c.self.inside.calls c.self.inside.made c.self.invariant c.args.tid c.wait-wait.result.process there.waits there.connect own
+
+pub invariant_of-self : goal.invariant_of-self
+invariant_of-self c =
+    let there = rw (← c.self.view_is) at c.requires in
+    let own = rw (← c.self.view_is) at c.wait-wait.ensures.wait.process in
+    rw (c.in-Ok.ensures.parts, steps.end_is (tables_of c.self.inside.procs c.self.inside.parts.items c.self.inside.ports c.self.inside.waits c.self.inside.names) c.self.inside.calls c.self.inside.made c.self.invariant c.args.tid c.end.new.self c.end.result c.end.ensures.value c.end.ensures.rows c.end.ensures.spare c.end.ensures.made)
+    (finished.finished (tables_of c.self.inside.procs c.self.inside.parts.items c.self.inside.ports c.self.inside.waits c.self.inside.names) c.self.inside.calls c.self.inside.made c.self.invariant c.args.tid c.wait-wait.result.process there.waits there.connect own c.in-Ok.value (record { object = c.args.object; access = c.args.access }) there.object there.idle)
+
+pub unreachable-requires : goal.unreachable-requires
+unreachable-requires c =
+    let there = rw (← c.self.view_is) at c.requires in
+    let own = rw (← c.self.view_is) at c.wait-wait.ensures.wait.process in
+    let few = finished.few_handles (tables_of c.self.inside.procs c.self.inside.parts.items c.self.inside.ports c.self.inside.waits c.self.inside.names) c.self.inside.calls c.self.inside.made c.self.invariant c.args.tid c.wait-wait.result.process there.waits there.connect own in
+    let full = c.in-Err.ensures.quota.0 refl in
+    omega (arith, few, full)
+
+pub returns-clause-value : goal.returns-clause-value
+returns-clause-value c =
+    let own = rw (← c.self.view_is) at c.wait-wait.ensures.wait.process in
+    rw (← c.self.view_is) (c.in-Ok.ensures.value ∙ sym (tables.free_value (tables_of c.self.inside.procs c.self.inside.parts.items c.self.inside.ports c.self.inside.waits c.self.inside.names) c.self.inside.calls c.self.inside.made c.self.invariant c.wait-wait.result.process) ∙ ap (free_handle (rows_by (tables_of c.self.inside.procs c.self.inside.parts.items c.self.inside.ports c.self.inside.waits c.self.inside.names))) (sym own))
+
+pub returns-clause-rows : goal.returns-clause-rows
+returns-clause-rows c =
+    let there = rw (← c.self.view_is) at c.requires in
+    let own = rw (← c.self.view_is) at c.wait-wait.ensures.wait.process in
+    let given : World = rows_by (tables_of c.self.inside.procs c.self.inside.parts.items c.self.inside.ports c.self.inside.waits c.self.inside.names) in
+    rw (← c.self.view_is, c.in-Ok.ensures.parts, steps.end_is (tables_of c.self.inside.procs c.self.inside.parts.items c.self.inside.ports c.self.inside.waits c.self.inside.names) c.self.inside.calls c.self.inside.made c.self.invariant c.args.tid c.end.new.self c.end.result c.end.ensures.value c.end.ensures.rows c.end.ensures.spare c.end.ensures.made)
+    (finished.rows_after (tables_of c.self.inside.procs c.self.inside.parts.items c.self.inside.ports c.self.inside.waits c.self.inside.names) c.self.inside.calls c.self.inside.made c.self.invariant c.args.tid c.wait-wait.result.process there.waits there.connect own c.in-Ok.value (record { object = c.args.object; access = c.args.access }) there.object ∙ ap (λ (pid : ℕ). record (basic given (AddsHandle pid (shown_handle (birth_of (births_of c.self.inside.ports)) (c.in-Ok.value, (record { object = c.args.object; access = c.args.access }))))) { waits = without (waits_as c.args.tid) given.waits }) (sym own))

@@ -1,0 +1,35 @@
+use Rattle.std.proofs.Common.{◌+◌, sym, ap, ◌∙◌}
+use Rattle.lpc_model.specs.World.{World}
+use Rattle.lpc_world.specs.Kept.{rows_by}
+use Rattle.lpc_world.specs.Shown.{tables_of}
+use Rattle.lpc_world.proofs.Frees as frees
+use Rattle.lpc_world.proofs.Unheld as unheld
+use Rattle.lpc_world.proofs.world.World.ports_free.Goals as goal
+
+pub free-requires : goal.free-requires
+free-requires c =
+    let h = rw (← c.self.view_is) at c.requires in
+    let none = sym (unheld.held_is (tables_of c.self.inside.procs c.self.inside.parts.items c.self.inside.ports c.self.inside.waits c.self.inside.names) c.self.invariant.named c.args.port h.stands) ∙ h.free in
+    record { «open» = unheld.has_row (tables_of c.self.inside.procs c.self.inside.parts.items c.self.inside.ports c.self.inside.waits c.self.inside.names) c.self.invariant.named c.args.port h.stands; empty = unheld.empty_queue c.args.port (tables_of c.self.inside.procs c.self.inside.parts.items c.self.inside.ports c.self.inside.waits c.self.inside.names) none }
+
+pub invariant_of-self : goal.invariant_of-self
+invariant_of-self c =
+    let h = rw (← c.self.view_is) at c.requires in
+    let none = sym (unheld.held_is (tables_of c.self.inside.procs c.self.inside.parts.items c.self.inside.ports c.self.inside.waits c.self.inside.names) c.self.invariant.named c.args.port h.stands) ∙ h.free in
+    rw c.free.ensures.table (frees.freed_lawful (tables_of c.self.inside.procs c.self.inside.parts.items c.self.inside.ports c.self.inside.waits c.self.inside.names) c.self.inside.calls c.self.inside.made c.args.port (c.self.inside.ports.port_room + 1) c.self.invariant h.stands none)
+
+pub returns-clause-rows : goal.returns-clause-rows
+returns-clause-rows c =
+    let h = rw (← c.self.view_is) at c.requires in
+    let none = sym (unheld.held_is (tables_of c.self.inside.procs c.self.inside.parts.items c.self.inside.ports c.self.inside.waits c.self.inside.names) c.self.invariant.named c.args.port h.stands) ∙ h.free in
+    rw (← c.self.view_is, c.free.ensures.table) (frees.frees (tables_of c.self.inside.procs c.self.inside.parts.items c.self.inside.ports c.self.inside.waits c.self.inside.names) c.self.invariant.named c.args.port (c.self.inside.ports.port_room + 1) none h.stands)
+
+pub returns-clause-others : goal.returns-clause-others
+returns-clause-others c = rw (← c.self.view_is, c.free.ensures.table) (frees.keeps (tables_of c.self.inside.procs c.self.inside.parts.items c.self.inside.ports c.self.inside.waits c.self.inside.names) c.self.invariant.named c.args.port (c.self.inside.ports.port_room + 1))
+
+pub returns-clause-room : goal.returns-clause-room
+returns-clause-room c =
+    let h = rw (← c.self.view_is) at c.requires in
+    let none = sym (unheld.held_is (tables_of c.self.inside.procs c.self.inside.parts.items c.self.inside.ports c.self.inside.waits c.self.inside.names) c.self.invariant.named c.args.port h.stands) ∙ h.free in
+    let freed = frees.frees (tables_of c.self.inside.procs c.self.inside.parts.items c.self.inside.ports c.self.inside.waits c.self.inside.names) c.self.invariant.named c.args.port (c.self.inside.ports.port_room + 1) none h.stands in
+    rw (← c.self.view_is, c.free.ensures.table, ap (λ (v : World). v.waits) freed, ap (λ (v : World). v.messages) freed) (frees.room_freed _ _ _ _ _ _ (rows_by (tables_of c.self.inside.procs c.self.inside.parts.items c.self.inside.ports c.self.inside.waits c.self.inside.names)) _ (rows_by (tables_of c.self.inside.procs c.self.inside.parts.items c.self.inside.ports c.self.inside.waits c.self.inside.names)).ports)

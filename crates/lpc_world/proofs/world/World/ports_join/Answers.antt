@@ -1,0 +1,24 @@
+use Rattle.std.proofs.Common.{◌-◌, vec_len, vec_capacity}
+use Rattle.lpc_world.specs.Shown.{tables_of}
+use Rattle.lpc_world.proofs.Joins as joins
+use Rattle.lpc_world.proofs.world.World.ports_join.Goals as goal
+
+pub invariant_of-self : goal.invariant_of-self
+invariant_of-self c =
+    let there = rw (← c.self.view_is) at c.requires in
+    rw c.join.ensures (joins.joined_lawful (tables_of c.self.inside.procs c.self.inside.parts.items c.self.inside.ports c.self.inside.waits c.self.inside.names) c.self.invariant.named c.args.client c.args.server c.args.context there.client there.server c.self.inside.calls c.self.inside.made c.self.invariant)
+
+pub returns-clause-rows : goal.returns-clause-rows
+returns-clause-rows c =
+    let there = rw (← c.self.view_is) at c.requires in
+    rw (← c.self.view_is, c.join.ensures) (joins.joins (tables_of c.self.inside.procs c.self.inside.parts.items c.self.inside.ports c.self.inside.waits c.self.inside.names) c.self.invariant.named c.args.client c.args.server c.args.context there.client there.server)
+
+pub returns-clause-names : goal.returns-clause-names
+returns-clause-names c =
+    let there = rw (← c.self.view_is) at c.requires in
+    rw (← c.self.view_is, c.join.ensures) (joins.joined_names (tables_of c.self.inside.procs c.self.inside.parts.items c.self.inside.ports c.self.inside.waits c.self.inside.names) c.self.invariant.named c.args.client c.args.server c.args.context there.client there.server)
+
+pub returns-clause-room : goal.returns-clause-room
+returns-clause-room c =
+    let there = rw (← c.self.view_is) at c.requires in
+    rw (← c.self.view_is, c.join.ensures) (joins.joined_room (tables_of c.self.inside.procs c.self.inside.parts.items c.self.inside.ports c.self.inside.waits c.self.inside.names) c.self.invariant.named c.args.client c.args.server c.args.context there.client there.server (vec_capacity c.self.inside.parts - vec_len c.self.inside.parts))

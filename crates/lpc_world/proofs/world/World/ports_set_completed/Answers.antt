@@ -1,0 +1,24 @@
+use Rattle.std.proofs.Common.{◌-◌, vec_len, vec_capacity}
+use Rattle.lpc_world.specs.Shown.{tables_of}
+use Rattle.lpc_world.proofs.Joins as joins
+use Rattle.lpc_world.proofs.world.World.ports_set_completed.Goals as goal
+
+pub invariant_of-self : goal.invariant_of-self
+invariant_of-self c =
+    let there = rw (← c.self.view_is) at c.requires in
+    rw c.set_completed.ensures (joins.completed_lawful (tables_of c.self.inside.procs c.self.inside.parts.items c.self.inside.ports c.self.inside.waits c.self.inside.names) c.self.invariant.named c.args.port c.args.completed there c.self.inside.calls c.self.inside.made c.self.invariant)
+
+pub returns-clause-rows : goal.returns-clause-rows
+returns-clause-rows c =
+    let there = rw (← c.self.view_is) at c.requires in
+    rw (← c.self.view_is, c.set_completed.ensures) (joins.completes (tables_of c.self.inside.procs c.self.inside.parts.items c.self.inside.ports c.self.inside.waits c.self.inside.names) c.self.invariant.named c.args.port c.args.completed there)
+
+pub returns-clause-names : goal.returns-clause-names
+returns-clause-names c =
+    let there = rw (← c.self.view_is) at c.requires in
+    rw (← c.self.view_is, c.set_completed.ensures) (joins.completed_names (tables_of c.self.inside.procs c.self.inside.parts.items c.self.inside.ports c.self.inside.waits c.self.inside.names) c.self.invariant.named c.args.port c.args.completed there)
+
+pub returns-clause-room : goal.returns-clause-room
+returns-clause-room c =
+    let there = rw (← c.self.view_is) at c.requires in
+    rw (← c.self.view_is, c.set_completed.ensures) (joins.completed_room (tables_of c.self.inside.procs c.self.inside.parts.items c.self.inside.ports c.self.inside.waits c.self.inside.names) c.self.invariant.named c.args.port c.args.completed there (vec_capacity c.self.inside.parts - vec_len c.self.inside.parts))
