@@ -7,7 +7,7 @@ use Rattle.lpc_base.specs.declared.status.TheConstants.{SUCCESS}
 use Rattle.lpc_model.specs.declared.entry.CallName.TheVariants.{NtCreatePort}
 use Rattle.lpc_model.specs.declared.entry.Entry.{Entry}
 use Rattle.lpc_model.specs.declared.entry.Entry.TheVariants.{Answer}
-use Rattle.lpc_model.specs.Basics.{AddsHandle, Basic, DrawsOrdinal, Tells, basic, entries_of, world_after}
+use Rattle.lpc_model.specs.Basics.{AddsHandle, Basic, DrawsOrdinal, basic, entries_of, world_after}
 use Rattle.lpc_model.specs.Connect.{create_steps, making, named_steps, nt_create_port, unnamed_steps}
 use Rattle.lpc_model.specs.Fields.{h}
 use Rattle.lpc_model.specs.Found.{free_handle, is_thread, port_name}

@@ -1,1 +1,4 @@
+pub mod Accepted
 pub mod Created
+pub mod Completed
+pub mod Drawn

@@ -10,7 +10,7 @@ ghost use Rattle.lpc_model.specs.Named.{free_name};
 ghost use Rattle.lpc_model.specs.Tests as tests;
 ghost use Rattle.lpc_model.specs.Tests.{next_birth};
 ghost use Rattle.lpc_world.specs.Does.{Takes};
-ghost use Rattle.lpc_world.specs.Kept.{Same, handle_room};
+ghost use Rattle.lpc_world.specs.Kept.{Same, handle_room, promised};
 ghost use Rattle.lpc_world.specs.Lawful.{drew};
 ghost use Rattle.lpc_world.specs.Names.{name_of, stands};
 ghost use Rattle.lpc_world.specs.Ready.{caller, is_ready};
@@ -24,7 +24,7 @@ use lpc_slots::Key;
 use lpc_world::{Object, World, handle_field, refuse};
 
 /// The rights of a handle that a call makes to a port.
-const PORT_ACCESS: u32 = 0x001F_0001;
+pub(crate) const PORT_ACCESS: u32 = 0x001F_0001;
 
 /// Why a thread's process gets no port of that name, or without one.
 #[tactic(auto, unfolding(lpc_model::specs::Connect::nt_create_port))]
@@ -33,7 +33,7 @@ fn create_test(world: &World, by: &ThreadRow, name: Option<&[u8]>) -> Result<(),
     ensures refused { IfErr result (λ status. connect.nt_create_port world.now.rows (shown_thread by.now) (option_copied name.entry) ≡ Err status) }
     ensures name { OnOk result (IsOk (connect.making world.now.rows (next_birth (shown_thread by.now)) (option_copied name.entry))) }
     ensures handles { OnOk result (IsOk (tests.handles_test world.now.rows by.now.process 1)) }
-    ensures few { OnOk result (length (handles_of world.now.rows by.now.process) < 256) }
+    ensures few { OnOk result (tests.handle_load world.now.rows by.now.process < 256) }
 {
     if let Some(path) = name {
         world.name_test(path)?;
@@ -89,11 +89,11 @@ fn create(world: &mut World, by: &ThreadRow, name: Option<&[u8]>, out: &mut Entr
     requires spare { 1 ≤ out.old.spare }
     requires ports { 0 < world.old.room.ports }
     requires names { is_some name ≡ true → 0 < world.old.room.names }
-    requires handles { 0 < handle_room world.old.room by.now.process }
+    requires handles { promised world.old.rows by.now.process < handle_room world.old.room by.now.process }
     requires budget { world.old.made + 16 ≤ 16 * world.old.calls }
     requires thread { first (is_thread by.now.number) world.old.rows.threads ≡ Some (shown_thread by.now) }
     requires table { has (is_table by.now.process) world.old.rows.handles ≡ true }
-    requires few { length (handles_of world.old.rows by.now.process) < 256 }
+    requires few { tests.handle_load world.old.rows by.now.process < 256 }
     requires free { IsOk (connect.making world.old.rows (next_birth (shown_thread by.now)) (option_copied name)) }
     ensures takes { IfOk (connect.making world.old.rows (next_birth (shown_thread by.now)) (option_copied name.entry)) (λ made. Takes (connect.create_steps (shown_thread by.now) made (free_handle world.old.rows by.now.process)) world.old world.new out.old out.new) }
     ensures calls { world.new.calls ≡ world.old.calls }

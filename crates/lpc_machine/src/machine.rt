@@ -15,7 +15,10 @@ ghost use Rattle.lpc_world.specs.Kept.{Same};
 ghost use Rattle.lpc_world.specs.Ready.{caller, is_ready, room_needed};
 
 use lpc_base::{OutOfMemory, Status};
-use lpc_connect::nt_create_port;
+use lpc_connect::{
+    nt_accept_connect_port, nt_complete_connect_port, nt_connect_port, nt_create_port,
+    nt_listen_port,
+};
 use lpc_model::{Call, Entries, Entry, Line, Word};
 use lpc_request::{
     nt_reply_port, nt_reply_wait_receive_port, nt_request_port, nt_request_wait_reply_port,
@@ -66,6 +69,22 @@ fn serve(world: &mut World, by: u32, call: &Call<'_>, out: &mut Entries) -> Resu
     match call {
         Call::CreatePort { name } => {
             nt_create_port(world, by, *name, out)?;
+        }
+        Call::ConnectPort { name, info } => {
+            nt_connect_port(world, by, name, info, out)?;
+        }
+        Call::ListenPort { handle } => {
+            nt_listen_port(world, by, *handle, out);
+        }
+        Call::AcceptConnectPort {
+            context,
+            message,
+            accept,
+        } => {
+            nt_accept_connect_port(world, by, *context, message, *accept, out)?;
+        }
+        Call::CompleteConnectPort { handle } => {
+            nt_complete_connect_port(world, by, *handle, out);
         }
         Call::RequestPort { handle, message } => {
             nt_request_port(world, by, *handle, message, out)?;
@@ -177,8 +196,8 @@ impl Machine {
     /// One line's step: its entries are added to `out`, which is empty and has room for [`Machine::room_needed`] more.
     /// The line's process and thread numbers are from 1 to 2147483647.
     ///
-    /// After want of memory nothing has changed. Only directives, `NtCreatePort` and `NtRequestPort` take memory; every other
-    /// line is answered.
+    /// After want of memory nothing has changed. Only directives, `NtCreatePort`, `NtConnectPort`,
+    /// `NtAcceptConnectPort` to accept, and `NtRequestPort` take memory; every other line is answered.
     pub fn step(&mut self, line: &Line<'_>, out: &mut Entries) -> Result<(), OutOfMemory>
         requires empty { out.old.list ≡ [] }
         requires spare { room_needed self.old.rows ≤ out.old.spare }

@@ -1,0 +1,199 @@
+// The call that answers a connect: it accepts it, or refuses it.
+ghost use Rattle.std.specs.Prelude.{ℕ, ◌≡◌, ◌≤◌, ◌<◌, ◌+◌, ◌*◌, Ok, Err, true, false, IfErr, IfOk, IsOk, OnOk, OnErr, MatchResult};
+ghost use Rattle.lpc_base.specs.Rows.{first, has};
+ghost use Rattle.lpc_model.specs.Basics.{outcome_of};
+ghost use Rattle.lpc_model.specs.Connect as connect;
+ghost use Rattle.lpc_model.specs.declared.entry.CallName.TheVariants as call;
+ghost use Rattle.lpc_model.specs.Found.{free_handle, is_offered, is_table, is_thread, waits_as};
+ghost use Rattle.lpc_model.specs.Machine.{settled};
+ghost use Rattle.lpc_model.specs.Tests as tests;
+ghost use Rattle.lpc_world.specs.Does.{Takes};
+ghost use Rattle.lpc_world.specs.Kept.{Same, handle_room, is_pending_in, promised};
+ghost use Rattle.lpc_world.specs.Ready.{caller, is_ready, waiter};
+ghost use Rattle.lpc_world.specs.Shown.{shown_thread};
+
+use crate::create::PORT_ACCESS;
+use arrayvec::ArrayVec;
+use lpc_base::status::{PORT_CONNECTION_REFUSED, REPLY_MESSAGE_MISMATCH, SUCCESS};
+use lpc_base::{OutOfMemory, PortKind, Status};
+use lpc_model::{CallName, Entries, Entry, Fields, Message, Outcome};
+use lpc_procs::ThreadRow;
+use lpc_waits::Accepted;
+use lpc_world::{Object, World, handle_field, info_field, kept, refuse};
+
+/// The message that answers a connect, and the thread that waits in that connect.
+#[derive(Drop)]
+pub struct ConnectAnswer {
+    pub thread: u32,
+    pub message: Message,
+}
+
+/// The tests of an answer: the message, no such client, no connect that it names.
+#[tactic(auto, using(crate::proofs::Accepted::received_when_idle))]
+fn answer_test(world: &World, by: u32, bytes: &[u8]) -> Result<ConnectAnswer, Status>
+    requires ready { is_ready world.now.rows by ≡ true }
+    ensures found { MatchResult result (λ a. connect.answer_test world.now.rows (caller world.now.rows by) bytes.now ≡ Ok (record { message = a.message; wait = waiter world.now.rows a.thread })) (λ s. connect.answer_test world.now.rows (caller world.now.rows by) bytes.now ≡ Err s) }
+    ensures waits { IfOk result (λ a. has (waits_as a.thread) world.now.rows.waits ≡ true) }
+    ensures thread { IfOk result (λ a. let x = waiter world.now.rows a.thread in x.thread ≡ a.thread) }
+    ensures idle { IfOk result (λ a. is_pending_in world.now.rows a.thread ≡ false) }
+    ensures offered { IfOk result (λ a. is_offered (waiter world.now.rows a.thread) ≡ true) }
+    ensures received { IfOk result (λ a. let x = waiter world.now.rows a.thread in x.received ≡ true) }
+{
+    let message = kept(&world.read_message(bytes)?);
+    world.client_test(message.header.client)?;
+    match world.answered_connect(by, message.header.client, message.header.message_id) {
+        Some(thread) => Ok(ConnectAnswer { thread, message }),
+        None => Err(REPLY_MESSAGE_MISMATCH),
+    }
+}
+
+/// The connect that an answer names, unless it is refused: the tests of the answer, then, to accept, that the caller's
+/// process has 256 handles.
+#[tactic(auto, unfolding(lpc_model::specs::Connect::nt_accept_connect_port))]
+fn accept_test(
+    world: &World,
+    by: &ThreadRow,
+    bytes: &[u8],
+    accept: bool,
+) -> Result<ConnectAnswer, Status>
+    requires ready { is_ready world.now.rows by.now.number ≡ true }
+    requires row { shown_thread by.now ≡ caller world.now.rows by.now.number }
+    requires table { has (is_table by.now.process) world.now.rows.handles ≡ true }
+    ensures refused { IfErr result (λ s. (context : ℕ) → connect.nt_accept_connect_port world.now.rows (shown_thread by.now) context bytes.now accept ≡ Err s) }
+    ensures refuses { IfOk result (λ a. accept ≡ false → (context : ℕ) → connect.nt_accept_connect_port world.now.rows (shown_thread by.now) context bytes.now accept ≡ Ok (connect.refuse_steps (shown_thread by.now) (record { message = a.message; wait = waiter world.now.rows a.thread }) world.now.rows)) }
+    ensures accepts { IfOk result (λ a. accept ≡ true → (context : ℕ) → connect.nt_accept_connect_port world.now.rows (shown_thread by.now) context bytes.now accept ≡ Ok (connect.accept_steps (shown_thread by.now) context (free_handle world.now.rows by.now.process) (record { message = a.message; wait = waiter world.now.rows a.thread }))) }
+    ensures few { OnOk result (accept ≡ true → tests.handle_load world.now.rows by.now.process < 256) }
+    ensures waits { IfOk result (λ a. has (waits_as a.thread) world.now.rows.waits ≡ true) }
+    ensures thread { IfOk result (λ a. let x = waiter world.now.rows a.thread in x.thread ≡ a.thread) }
+    ensures idle { IfOk result (λ a. is_pending_in world.now.rows a.thread ≡ false) }
+    ensures offered { IfOk result (λ a. is_offered (waiter world.now.rows a.thread) ≡ true) }
+    ensures received { IfOk result (λ a. let x = waiter world.now.rows a.thread in x.received ≡ true) }
+{
+    let answer = answer_test(world, by.number, bytes)?;
+    if accept {
+        world.handles_test(by.process)?;
+    }
+    Ok(answer)
+}
+
+/// A connect is refused: its thread is told the data of the answer, and its client port goes.
+fn refuse_connect(
+    world: &mut World,
+    by: &ThreadRow,
+    thread: u32,
+    message: &Message,
+    out: &mut Entries,
+)
+    requires spare { 2 ≤ out.old.spare }
+    requires waits { has (waits_as thread) world.old.rows.waits ≡ true }
+    requires idle { is_pending_in world.old.rows thread ≡ false }
+    ensures takes { Takes (connect.refuse_steps (shown_thread by.now) (record { message = message.now; wait = waiter world.old.rows thread }) world.old.rows) world.old world.new out.old out.new }
+    ensures calls { world.new.calls ≡ world.old.calls }
+{
+    let client = world.waiting(thread).port;
+    out.push(Entry::Answer {
+        tid: by.number,
+        call: CallName::NtAcceptConnectPort,
+        status: SUCCESS,
+        fields: Fields::none(),
+    });
+    let fields = info_field(message.body.as_slice());
+    world.wake(thread, PORT_CONNECTION_REFUSED, fields, out);
+    world.free_port(client);
+}
+
+/// The data of an answer, as the connect keeps it.
+fn reply_of(message: &Message) -> ArrayVec<u8, 256>
+    ensures { result.items ≡ message.now.body }
+{
+    let mut reply = ArrayVec::new();
+    for byte in message.body.as_slice() {
+        reply.push(*byte);
+    }
+    reply
+}
+
+/// A connect is accepted: the server port is made, gets a handle, and is joined to the client port.
+#[tactic(auto, unfolding(lpc_world::specs::Ready::waiter))]
+fn accept_connect(
+    world: &mut World,
+    by: &ThreadRow,
+    context: u32,
+    thread: u32,
+    message: &Message,
+    out: &mut Entries,
+)
+    requires spare { 1 ≤ out.old.spare }
+    requires ports { 0 < world.old.room.ports }
+    requires handles { promised world.old.rows by.now.process < handle_room world.old.room by.now.process }
+    requires load { tests.handle_load world.old.rows by.now.process < 256 }
+    requires budget { world.old.made + 16 ≤ 16 * world.old.calls }
+    requires row { first (is_thread by.now.number) world.old.rows.threads ≡ Some (shown_thread by.now) }
+    requires table { has (is_table by.now.process) world.old.rows.handles ≡ true }
+    requires waits { has (waits_as thread) world.old.rows.waits ≡ true }
+    requires offered { is_offered (waiter world.old.rows thread) ≡ true }
+    requires received { let x = waiter world.old.rows thread in x.received ≡ true }
+    requires thread { let x = waiter world.old.rows thread in x.thread ≡ thread }
+    ensures takes { Takes (connect.accept_steps (shown_thread by.now) context (free_handle world.old.rows by.now.process) (record { message = message.now; wait = waiter world.old.rows thread })) world.old world.new out.old out.new }
+    ensures calls { world.new.calls ≡ world.old.calls }
+{
+    let wait = world.waiting(thread);
+    let birth = world.procs_draw_birth(by.number);
+    let server = world.ports_add(PortKind::Server, birth, Some(wait.queue));
+    let value = world.give_handle(by.process, Object::Port(server), PORT_ACCESS);
+    world.ports_join(wait.port, server, context);
+    let reply = reply_of(message);
+    world.waits_set_accepted(thread, Some(Accepted { reply }));
+    out.push(Entry::Answer {
+        tid: by.number,
+        call: CallName::NtAcceptConnectPort,
+        status: SUCCESS,
+        fields: handle_field(value),
+    });
+}
+
+/// `NtAcceptConnectPort`: accepts the connect that a message names, or refuses it. An accepted connect has a server port
+/// then, with a handle for the caller's process; its client waits on, until the connection is completed. A refused one
+/// ends, and its client port goes.
+///
+/// Refusals, in this order: a message of wrong shape, one that is too long; INVALID_CID where no live thread has the
+/// message's process and thread; REPLY_MESSAGE_MISMATCH where the message names no connect that was received and isn't
+/// accepted, to a connection port that the caller's process has a handle to; QUOTA_EXCEEDED where the process has 256
+/// handles, unless the connect is refused. A refused connect takes no memory; after want of memory nothing has changed.
+pub fn nt_accept_connect_port(
+    world: &mut World,
+    by: u32,
+    context: u32,
+    message: &[u8],
+    accept: bool,
+    out: &mut Entries,
+) -> Result<Outcome, OutOfMemory>
+    requires ready { is_ready world.old.rows by ≡ true }
+    requires spare { 2 ≤ out.old.spare }
+    requires calls { world.old.calls < 1000000 }
+    ensures takes { OnOk result (Takes (settled (caller world.old.rows by) call.NtAcceptConnectPort (connect.nt_accept_connect_port world.old.rows (caller world.old.rows by) context message.now accept)) world.old world.new out.old out.new) }
+    ensures outcome { IfOk result (λ o. o ≡ outcome_of (settled (caller world.old.rows by) call.NtAcceptConnectPort (connect.nt_accept_connect_port world.old.rows (caller world.old.rows by) context message.now accept))) }
+    ensures calls { OnOk result (world.new.calls ≡ world.old.calls + 1) }
+    ensures answered { accept ≡ false → IsOk result }
+    ensures memory { OnErr result (Same world.old world.new) }
+    ensures silent { OnErr result (out.new ≡ out.old) }
+{
+    let caller = world.caller(by);
+    let answer = match accept_test(world, &caller, message, accept) {
+        Ok(answer) => answer,
+        Err(status) => {
+            world.begin_call();
+            return Ok(refuse(caller.number, CallName::NtAcceptConnectPort, status, out));
+        }
+    };
+    if !accept {
+        world.begin_call();
+        refuse_connect(world, &caller, answer.thread, &answer.message, out);
+        return Ok(Outcome::Answered(SUCCESS));
+    }
+    world.ports_reserve(1, 0)?;
+    world.handles_reserve(caller.process, 1)?;
+    world.begin_call();
+    accept_connect(world, &caller, context, answer.thread, &answer.message, out);
+    Ok(Outcome::Answered(SUCCESS))
+}

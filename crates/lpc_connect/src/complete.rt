@@ -1,0 +1,115 @@
+// The call that completes a connection.
+ghost use Rattle.std.specs.Prelude.{◌≡◌, ◌≤◌, ◌<◌, ◌+◌, Ok, Err, IfErr, IfOk, MatchResult, true, false};
+ghost use Rattle.lpc_base.specs.Rows.{has};
+ghost use Rattle.lpc_model.specs.Basics.{outcome_of};
+ghost use Rattle.lpc_model.specs.Connect as connect;
+ghost use Rattle.lpc_model.specs.declared.entry.CallName.TheVariants as call;
+ghost use Rattle.lpc_model.specs.Found.{free_handle, is_accepted, waits_as};
+ghost use Rattle.lpc_model.specs.Machine.{settled};
+ghost use Rattle.lpc_world.specs.Does.{Takes};
+ghost use Rattle.lpc_world.specs.Kept.{is_pending_in};
+ghost use Rattle.lpc_world.specs.Names.{name_of, stands};
+ghost use Rattle.lpc_world.specs.Ready.{caller, is_ready, waiter};
+ghost use Rattle.lpc_world.specs.Shown.{shown_thread};
+
+use crate::create::PORT_ACCESS;
+use lpc_base::Status;
+use lpc_base::status::SUCCESS;
+use lpc_model::{CallName, Entries, Entry, Fields, Outcome};
+use lpc_procs::ThreadRow;
+use lpc_slots::Key;
+use lpc_world::{Object, World, completion_fields, refuse};
+
+/// A connection that can be completed: its two ports, and the thread that waits in the connect.
+#[derive(Clone, Copy)]
+struct Connection {
+    server: Key,
+    client: Key,
+    thread: u32,
+}
+
+/// The connection of the server port that a handle names.
+fn complete_test(world: &World, tid: u32, handle: u32) -> Result<Connection, Status>
+    requires { is_ready world.now.rows tid ≡ true }
+    ensures test { MatchResult result (λ c. connect.complete_test world.now.rows (caller world.now.rows tid) handle ≡ Ok (record { server = name_of world.now.names.ports c.server; client = name_of world.now.names.ports c.client; wait = waiter world.now.rows c.thread })) (λ s. connect.complete_test world.now.rows (caller world.now.rows tid) handle ≡ Err s) }
+    ensures server { IfOk result (λ c. stands world.now.names.ports c.server ≡ true) }
+    ensures client { IfOk result (λ c. stands world.now.names.ports c.client ≡ true) }
+    ensures waits { IfOk result (λ c. has (waits_as c.thread) world.now.rows.waits ≡ true) }
+    ensures thread { IfOk result (λ c. let x = waiter world.now.rows c.thread in x.thread ≡ c.thread) }
+    ensures accepted { IfOk result (λ c. is_accepted (waiter world.now.rows c.thread) ≡ true) }
+    ensures idle { IfOk result (λ c. is_pending_in world.now.rows c.thread ≡ false) }
+{
+    let server = world.port_at(tid, handle)?;
+    let found = world.completable(server)?;
+    Ok(Connection {
+        server,
+        client: found.client,
+        thread: found.thread,
+    })
+}
+
+/// A connection is completed: the client gets its handle, and its thread is told.
+#[tactic(auto, unfolding(lpc_world::specs::Ready::waiter))]
+fn complete(world: &mut World, by: &ThreadRow, connection: Connection, out: &mut Entries)
+    requires spare { 2 ≤ out.old.spare }
+    requires server { stands world.old.names.ports connection.server ≡ true }
+    requires client { stands world.old.names.ports connection.client ≡ true }
+    requires waits { has (waits_as connection.thread) world.old.rows.waits ≡ true }
+    requires thread { let x = waiter world.old.rows connection.thread in x.thread ≡ connection.thread }
+    requires accepted { is_accepted (waiter world.old.rows connection.thread) ≡ true }
+    requires idle { is_pending_in world.old.rows connection.thread ≡ false }
+    ensures takes { let x = waiter world.old.rows connection.thread in Takes (connect.complete_steps (shown_thread by.now) (free_handle world.old.rows x.process) (record { server = name_of world.old.names.ports connection.server; client = name_of world.old.names.ports connection.client; wait = x })) world.old world.new out.old out.new }
+    ensures calls { world.new.calls ≡ world.old.calls }
+{
+    let call = world.waiting_call(connection.thread);
+    let reply = world.reply_bytes(connection.thread);
+    out.push(Entry::Answer {
+        tid: by.number,
+        call: CallName::NtCompleteConnectPort,
+        status: SUCCESS,
+        fields: Fields::none(),
+    });
+    world.ports_set_completed(connection.server, true);
+    world.ports_set_completed(connection.client, true);
+    let value = world.connects_finish(
+        connection.thread,
+        Object::Port(connection.client),
+        PORT_ACCESS,
+    );
+    out.push(Entry::Wakes {
+        tid: connection.thread,
+        call,
+        status: SUCCESS,
+        fields: completion_fields(value, reply),
+    });
+}
+
+/// `NtCompleteConnectPort`: completes the connection of a server port. The client gets its handle, the least that is free
+/// then, and its thread wakes.
+///
+/// Refusals in their order: no such handle, no port, no right; INVALID_PORT_HANDLE where it isn't a server port;
+/// INVALID_PARAMETER where it was completed; PORT_DISCONNECTED where its pair is cut.
+#[tactic(auto, unfolding(lpc_model::specs::Connect::nt_complete_connect_port))]
+pub fn nt_complete_connect_port(
+    world: &mut World,
+    by: u32,
+    handle: u32,
+    out: &mut Entries,
+) -> Outcome
+    requires ready { is_ready world.old.rows by ≡ true }
+    requires spare { 2 ≤ out.old.spare }
+    requires calls { world.old.calls < 1000000 }
+    ensures takes { Takes (settled (caller world.old.rows by) call.NtCompleteConnectPort (connect.nt_complete_connect_port world.old.rows (caller world.old.rows by) handle)) world.old world.new out.old out.new }
+    ensures outcome { result ≡ outcome_of (settled (caller world.old.rows by) call.NtCompleteConnectPort (connect.nt_complete_connect_port world.old.rows (caller world.old.rows by) handle)) }
+    ensures calls { world.new.calls ≡ world.old.calls + 1 }
+{
+    let caller = world.caller(by);
+    world.begin_call();
+    match complete_test(world, by, handle) {
+        Ok(connection) => {
+            complete(world, &caller, connection, out);
+            Outcome::Answered(SUCCESS)
+        }
+        Err(status) => refuse(caller.number, CallName::NtCompleteConnectPort, status, out),
+    }
+}

@@ -1,0 +1,191 @@
+// The call that asks for a connection.
+ghost use Rattle.std.specs.Prelude.{ℕ, ◌≡◌, ◌≤◌, ◌<◌, ◌+◌, ◌*◌, [], ◌∷◌, Ok, Err, None, Some, IfErr, IfOk, OnOk, OnErr, false, length, true};
+ghost use Rattle.lpc_base.specs.Rows.{first, has};
+ghost use Rattle.lpc_model.specs.Basics.{basic, outcome_of, world_after, DrawsIdentifier, DrawsOrdinal, Makes};
+ghost use Rattle.lpc_model.specs.Connect as connect;
+ghost use Rattle.lpc_model.specs.declared.entry.CallName.TheVariants as call;
+ghost use Rattle.lpc_model.specs.Found.{is_table, is_thread, port_row, waits_as};
+ghost use Rattle.lpc_model.specs.Machine.{settled};
+ghost use Rattle.lpc_model.specs.Message.{asks};
+ghost use Rattle.lpc_model.specs.Tests as tests;
+ghost use Rattle.lpc_model.specs.Tests.{next_birth};
+ghost use Rattle.lpc_world.specs.Does.{Takes};
+ghost use Rattle.lpc_world.specs.Kept.{Same, handle_room, promised};
+ghost use Rattle.lpc_world.specs.Lawful.{drew};
+ghost use Rattle.lpc_world.specs.Names.{name_of, stands};
+ghost use Rattle.lpc_world.specs.Ready.{caller, is_ready};
+ghost use Rattle.lpc_world.specs.Shown.{shown_thread};
+
+use lpc_base::limits::{HEADER_SIZE, MESSAGE_LIMIT};
+use lpc_base::status::PORT_MESSAGE_TOO_LONG;
+use lpc_base::{Birth, OutOfMemory, PortKind, Status};
+use lpc_message::{ClientId, Header, kind};
+use lpc_model::{Body, CallName, Entries, Entry, Message, Outcome};
+use lpc_procs::ThreadRow;
+use lpc_slots::Key;
+use lpc_waits::{Wait, WaitKind};
+use lpc_world::{World, identifier_field, refuse};
+
+/// The bytes that go with a connect are no more than a message holds.
+fn info_test(info: &[u8]) -> Result<(), Status>
+    ensures test { result ≡ connect.info_test info.now }
+    ensures bound { OnOk result (length info.now ≤ 232) }
+{
+    if info.len() > MESSAGE_LIMIT - HEADER_SIZE {
+        return Err(PORT_MESSAGE_TOO_LONG);
+    }
+    Ok(())
+}
+
+/// The tests of a connect: too many bytes, a fault of the name or a directory, then the process has 256 handles.
+#[tactic(auto, unfolding(lpc_model::specs::Connect::nt_connect_port))]
+fn connect_test(world: &World, by: &ThreadRow, name: &[u8], info: &[u8]) -> Result<Key, Status>
+    requires table { has (is_table by.now.process) world.now.rows.handles ≡ true }
+    ensures refused { IfErr result (λ status. connect.nt_connect_port world.now.rows (shown_thread by.now) name.now info.now ≡ Err status) }
+    ensures steps { IfOk result (λ key. connect.nt_connect_port world.now.rows (shown_thread by.now) name.now info.now ≡ Ok (connect.connect_steps (shown_thread by.now) (name_of world.now.names.ports key) (connect.connection_request (shown_thread by.now) info.now) world.now.rows)) }
+    ensures stands { IfOk result (λ key. stands world.now.names.ports key ≡ true) }
+    ensures few { OnOk result (tests.handle_load world.now.rows by.now.process < 256) }
+    ensures bound { OnOk result (length info.now ≤ 232) }
+{
+    info_test(info)?;
+    let connection = world.named_port(name)?;
+    world.handles_test(by.process)?;
+    Ok(connection)
+}
+
+/// The connection request, with the identifier that its sender draws.
+fn connection_request(by: &ThreadRow, info: &[u8]) -> Message
+    requires { length info.now ≤ 232 }
+    ensures { result ≡ connect.connection_request (shown_thread by.now) info.now }
+{
+    Message {
+        header: Header {
+            data_size: info.len() as u16,
+            message_size: (HEADER_SIZE + info.len()) as u16,
+            kind: kind::CONNECTION_REQUEST,
+            ranges_offset: 0,
+            client: ClientId {
+                process: by.process,
+                thread: by.number,
+            },
+            message_id: by.next_identifier,
+            section_size: 0,
+        },
+        body: Body::from_slice(info),
+    }
+}
+
+/// A thread draws the identifier of its connection request, and the birth of its client port, which is answered.
+#[tactic(auto, using(crate::proofs::Drawn::stands_behind_identifier, crate::proofs::Drawn::stands_behind_ordinal, crate::proofs::Drawn::birth_behind_identifier))]
+fn draw(world: &mut World, by: &ThreadRow) -> Birth
+    requires budget { world.old.made + 16 ≤ 16 * world.old.calls }
+    requires thread { first (is_thread by.now.number) world.old.rows.threads ≡ Some (shown_thread by.now) }
+    ensures birth { result ≡ next_birth (shown_thread by.now) }
+    ensures fresh { port_row world.new.rows result ≡ None }
+    ensures drawn { has (drew result) world.new.rows.threads ≡ true }
+    ensures rows { world.new.rows ≡ world_after world.old.rows (DrawsIdentifier by.now.number ∷ DrawsOrdinal by.now.number ∷ []) }
+    ensures thread { has (is_thread by.now.number) world.new.rows.threads ≡ true }
+    ensures names { world.new.names ≡ world.old.names }
+    ensures calls { world.new.calls ≡ world.old.calls }
+    ensures made { world.new.made ≡ world.old.made + 2 }
+    ensures ports { world.old.room.ports ≤ world.new.room.ports }
+    ensures handles { (pid : ℕ) → handle_room world.old.room pid ≤ handle_room world.new.room pid }
+{
+    world.procs_draw_identifier(by.number);
+    world.procs_draw_birth(by.number)
+}
+
+/// A client port of a connection port is made, which isn't joined yet; its key is answered.
+fn make_client(world: &mut World, birth: Birth, connection: Key) -> Key
+    requires ports { 0 < world.old.room.ports }
+    requires budget { world.old.made < 16 * world.old.calls }
+    requires connection { stands world.old.names.ports connection ≡ true }
+    requires fresh { port_row world.old.rows birth ≡ None }
+    requires drawn { has (drew birth) world.old.rows.threads ≡ true }
+    ensures rows { world.new.rows ≡ basic world.old.rows (Makes (connect.client_port birth (name_of world.old.names.ports connection))) }
+    ensures name { name_of world.new.names.ports result ≡ birth }
+    ensures stands { stands world.new.names.ports result ≡ true }
+    ensures connection { name_of world.new.names.ports connection ≡ name_of world.old.names.ports connection }
+    ensures connection_stands { stands world.new.names.ports connection ≡ true }
+    ensures calls { world.new.calls ≡ world.old.calls }
+    ensures made { world.new.made ≡ world.old.made + 1 }
+    ensures handles { (pid : ℕ) → handle_room world.old.room pid ≤ handle_room world.new.room pid }
+{
+    world.ports_add(PortKind::Client, birth, Some(connection))
+}
+
+/// A connect begins: its thread draws the identifier, makes the client port and waits, and the connection request enters
+/// the queue of the connection port.
+fn start(world: &mut World, by: &ThreadRow, connection: Key, message: &Message, out: &mut Entries)
+    requires spare { 2 ≤ out.old.spare }
+    requires ports { 0 < world.old.room.ports }
+    requires handles { promised world.old.rows by.now.process < handle_room world.old.room by.now.process }
+    requires budget { world.old.made + 16 ≤ 16 * world.old.calls }
+    requires thread { first (is_thread by.now.number) world.old.rows.threads ≡ Some (shown_thread by.now) }
+    requires ready { has (waits_as by.now.number) world.old.rows.waits ≡ false }
+    requires table { has (is_table by.now.process) world.old.rows.handles ≡ true }
+    requires few { tests.handle_load world.old.rows by.now.process < 256 }
+    requires connection { stands world.old.names.ports connection ≡ true }
+    requires asks { asks message.now ≡ true }
+    ensures takes { Takes (connect.connect_steps (shown_thread by.now) (name_of world.old.names.ports connection) message.now world.old.rows) world.old world.new out.old out.new }
+    ensures calls { world.new.calls ≡ world.old.calls }
+{
+    out.push(Entry::Waits {
+        tid: by.number,
+        call: CallName::NtConnectPort,
+        fields: identifier_field(by.next_identifier),
+    });
+    let birth = draw(world, by);
+    let port = make_client(world, birth, connection);
+    world.wait_with(
+        by.number,
+        Wait {
+            process: by.process,
+            kind: WaitKind::Connect,
+            port,
+            queue: connection,
+            identifier: by.next_identifier,
+            received: false,
+        },
+        message,
+    );
+    world.deliver(connection, port, 0, message, out);
+}
+
+/// `NtConnectPort`: asks for a connection to the port that a path leads to, with bytes that go with the request, and waits
+/// for the end of the connect. The caller's process is to get a handle to the client port, for which there is room then.
+///
+/// Refusals, in this order: PORT_MESSAGE_TOO_LONG where there are more than 232 bytes; the fault of the name, or
+/// OBJECT_TYPE_MISMATCH where a directory stands there; QUOTA_EXCEEDED where the process has 256 handles, with those that
+/// its waiting connects are to get. After want of memory nothing has changed.
+pub fn nt_connect_port(
+    world: &mut World,
+    by: u32,
+    name: &[u8],
+    info: &[u8],
+    out: &mut Entries,
+) -> Result<Outcome, OutOfMemory>
+    requires ready { is_ready world.old.rows by ≡ true }
+    requires spare { 2 ≤ out.old.spare }
+    requires calls { world.old.calls < 1000000 }
+    ensures takes { OnOk result (Takes (settled (caller world.old.rows by) call.NtConnectPort (connect.nt_connect_port world.old.rows (caller world.old.rows by) name.now info.now)) world.old world.new out.old out.new) }
+    ensures outcome { IfOk result (λ o. o ≡ outcome_of (settled (caller world.old.rows by) call.NtConnectPort (connect.nt_connect_port world.old.rows (caller world.old.rows by) name.now info.now))) }
+    ensures calls { OnOk result (world.new.calls ≡ world.old.calls + 1) }
+    ensures memory { OnErr result (Same world.old world.new) }
+    ensures silent { OnErr result (out.new ≡ out.old) }
+{
+    let caller = world.caller(by);
+    let connection = match connect_test(world, &caller, name, info) {
+        Ok(connection) => connection,
+        Err(status) => {
+            world.begin_call();
+            return Ok(refuse(caller.number, CallName::NtConnectPort, status, out));
+        }
+    };
+    world.ports_reserve(1, 0)?;
+    world.handles_reserve(caller.process, 1)?;
+    world.begin_call();
+    let message = connection_request(&caller, info);
+    start(world, &caller, connection, &message, out);
+    Ok(Outcome::Waits)
+}
