@@ -23,7 +23,7 @@ use Rattle.lpc_model.specs.Basics.{Basic, Tells, entries_of, world_after}
 use Rattle.lpc_model.specs.Fields.{receipt}
 use Rattle.lpc_model.specs.Tests.{PORT_RIGHT, client_test, includes, is_client, object_test, own_handle, port_test}
 use Rattle.lpc_model.specs.Request.{answered_test, given_reply, is_spent, nt_reply_port, nt_reply_wait_receive_port, optional_message, receive_steps, receive_test, reply_steps}
-use Rattle.lpc_model.specs.Lines.{ScriptCall, ScriptLine, boot, create_port, dir, link, reply_port, reply_wait_receive_port, request_port, request_wait_reply_port, run, thread}
+use Rattle.lpc_model.specs.Lines.{ScriptCall, ScriptLine, accept_connect_port, boot, complete_connect_port, connect_port, create_port, dir, link, listen_port, reply_port, reply_wait_receive_port, request_port, request_wait_reply_port, run, thread}
 use Rattle.lpc_model.specs.Machine.{name_of, ready_steps, service_of, settled, step, steps, thread_steps}
 use Rattle.lpc_model.specs.Run.{Along}
 use Rattle.lpc_model.specs.Replies.{ChangesNothing, IsRefused, MisfitsAreRefused, RefusedRepliesChangeNothing, Reply, fitted_wait, is_refusal, message_in, port_of, reply_of}
@@ -176,6 +176,10 @@ each_reply P h (run tid (reply_wait_receive_port handle (Some bytes))) r is =
     subst (P (run tid (reply_wait_receive_port handle (Some bytes)))) same (h q true)
 each_reply P h (run tid (reply_wait_receive_port handle None)) r is = absurd (cc)
 each_reply P h (run tid (create_port name)) r is = absurd (cc)
+each_reply P h (run tid (connect_port name info)) r is = absurd (cc)
+each_reply P h (run tid (listen_port handle)) r is = absurd (cc)
+each_reply P h (run tid (accept_connect_port context bytes accept)) r is = absurd (cc)
+each_reply P h (run tid (complete_connect_port handle)) r is = absurd (cc)
 each_reply P h (run tid (request_port handle bytes)) r is = absurd (cc)
 each_reply P h (run tid (request_wait_reply_port handle bytes)) r is = absurd (cc)
 each_reply P h (boot pid tid) r is = absurd (cc)

@@ -1,12 +1,12 @@
 -- Each request that wakes with success is returned by a reply that fits it.
 use Rattle.std.proofs.Common.{◌≡◌, ℕ, Bool, true, false, cond, List, [], ◌∷◌, ◌++◌, refl, sym, subst}
-use Rattle.std.specs.Prelude.{Option, Some, None, Ok, is_some, nat_lt, not, option_and_then}
+use Rattle.std.specs.Prelude.{Option, Some, None, Ok, is_some, nat_lt, not, option_and_then, ◌==◌, ◌||◌, ◌&&◌}
 use Rattle.std.specs.List.{AllByRecursion}
 use Rattle.lpc_base.specs.Rows.{first, given, when}
 use Rattle.lpc_base.specs.declared.birth.Birth.{Birth}
 use Rattle.lpc_base.specs.declared.limits.TheConstants.{MESSAGE_LIMIT}
 use Rattle.lpc_base.specs.declared.status.Status.{Status}
-use Rattle.lpc_base.specs.declared.status.TheConstants.{ACCESS_DENIED, INVALID_HANDLE, INVALID_PARAMETER, OBJECT_TYPE_MISMATCH, PORT_MESSAGE_TOO_LONG, REPLY_MESSAGE_MISMATCH, SUCCESS}
+use Rattle.lpc_base.specs.declared.status.TheConstants.{ACCESS_DENIED, INVALID_HANDLE, INVALID_PARAMETER, INVALID_PORT_HANDLE, OBJECT_TYPE_MISMATCH, PORT_CONNECTION_REFUSED, PORT_DISCONNECTED, PORT_MESSAGE_TOO_LONG, REPLY_MESSAGE_MISMATCH, SUCCESS}
 use Rattle.lpc_base.proofs.RowWords.{first-passes}
 use Rattle.lpc_message.specs.Layout.{fault_of, header_of}
 use Rattle.lpc_message.specs.declared.kind.TheConstants.{DATAGRAM, REQUEST}
@@ -17,33 +17,35 @@ use Rattle.lpc_model.specs.declared.entry.Field.{Field}
 use Rattle.lpc_model.specs.declared.entry.ObjectKind.TheVariants as kind
 use Rattle.lpc_model.specs.declared.entry.Word.TheVariants as word
 use Rattle.lpc_model.specs.declared.message.Message.{Message}
-use Rattle.lpc_model.specs.Refusal.{refuse_if}
-use Rattle.lpc_model.specs.World.{HandleRow, MessageRow, PortRow, ThreadRow, WaitKind, Request, Receive, WaitRow, World}
-use Rattle.lpc_model.specs.Found.{fitted, handle_at, is_port, is_queued, live_thread, port_row, same_kind, wait_of}
-use Rattle.lpc_model.specs.Message.{as_reply, asks, bytes_of, message_test}
-use Rattle.lpc_model.specs.Basics.{Awaits, Basic, Receives, Tells, Wakes, basic, entries_of, told, world_after}
-use Rattle.lpc_model.specs.Fields.{msg, receipt}
-use Rattle.lpc_model.specs.Entering.{enter, row_of, take_steps, takes, woken}
+use Rattle.lpc_model.specs.Refusal.{found_or, refuse_if}
+use Rattle.lpc_model.specs.World.{Accepted, Connect, HandleRow, Listen, MessageRow, PortRow, ThreadRow, WaitKind, Request, Receive, WaitRow, World}
+use Rattle.lpc_model.specs.Found.{fitted, handle_at, is_accepted, is_connection_port, is_port, is_queued, is_queued_connect, is_server_port, live_thread, port_row, same_kind, wait_of, is_listen, is_receive, same_birth}
+use Rattle.lpc_model.specs.Message.{as_reply, asks, bytes_of, message_test, is_connection_request}
+use Rattle.lpc_model.specs.Basics.{Accepts, Awaits, Basic, Frees, Receives, Tells, Wakes, accepted, accepted_as, basic, entries_of, told, world_after}
+use Rattle.lpc_model.specs.Fields.{info, msg}
+use Rattle.lpc_model.specs.Entering.{enter, given_steps, receipt_steps, row_of, shown, take_connect_steps, take_steps, takes, woken}
 use Rattle.lpc_model.specs.Tests.{PORT_RIGHT, client_test, handles_test, includes, next_birth, object_test, own_handle, port_test}
-use Rattle.lpc_model.specs.Connect.{making, nt_create_port}
-use Rattle.lpc_model.specs.Named.{free_name, spelled_name}
+use Rattle.lpc_model.specs.Connect.{Completable, ConnectAnswer, answer_test, answered_steps, client_port, complete_test, connect_start, connection_request, info_test, is_accepted_on, listen_steps, making, nt_accept_connect_port, nt_complete_connect_port, nt_connect_port, nt_create_port, nt_listen_port, refuse_steps}
+use Rattle.lpc_model.specs.Named.{free_name, named_port, spelled_name}
 use Rattle.lpc_model.specs.Request.{answered_test, datagram_send_test, datagram_start, given_reply, nt_reply_port, nt_reply_wait_receive_port, nt_request_port, nt_request_wait_reply_port, optional_message, receive_steps, receive_test, receive_wait, reply, request_start, send_test, sent_by}
-use Rattle.lpc_model.specs.Lines.{ScriptCall, ScriptLine, boot, create_port, dir, link, reply_port, reply_wait_receive_port, request_port, request_wait_reply_port, run, thread}
+use Rattle.lpc_model.specs.Lines.{ScriptCall, ScriptLine, accept_connect_port, boot, complete_connect_port, connect_port, create_port, dir, link, listen_port, reply_port, reply_wait_receive_port, request_port, request_wait_reply_port, run, thread}
 use Rattle.lpc_model.specs.Machine.{boot_line, dir_line, link_line, name_of, ready_steps, service_of, step, steps, thread_line, thread_test, thread_steps, unused_test}
 use Rattle.lpc_model.specs.Run.{Along}
 use Rattle.lpc_model.specs.Replies.{HasReply, IsReturnedBy, Reply, RequestsReturnByReply, message_in, port_of, reply_of}
 use Rattle.lpc_model.proofs.Holding.{Holds, bind_holds, directed_holds, found_holds, found_ok, holds_ok, not_refused, settled_holds}
-use Rattle.lpc_model.proofs.Usable.{birth-same}
+use Rattle.lpc_model.proofs.Births.{birth-same}
 use Rattle.lpc_replay.proofs.Holding.{all_append, all_filter, all_map, and_first, find_all, not_false}
 
--- a receive waits in the call that receives
-abbrev pub waits_in : WaitKind → CallName → Type 0
-waits_in Receive call.NtReplyWaitReceivePort = Unit {0}
-waits_in Receive name = ⊥
-waits_in (Request m) name = Unit {0}
+-- the call in which a wait of a kind is
+abbrev pub call_of_kind : WaitKind → CallName
+call_of_kind (Request m) = call.NtRequestWaitReplyPort
+call_of_kind Receive = call.NtReplyWaitReceivePort
+call_of_kind Listen = call.NtListenPort
+call_of_kind (Connect m) = call.NtConnectPort
+call_of_kind (Accepted m answer) = call.NtConnectPort
 
 abbrev pub HasItsCall : WaitRow → Type 0
-HasItsCall x = waits_in x.kind x.call
+HasItsCall x = x.call ≡ call_of_kind x.kind
 
 abbrev pub HaveTheirCalls : World → Type 0
 HaveTheirCalls w = AllByRecursion HasItsCall w.waits
@@ -71,21 +73,63 @@ changed_call : (b : Bool) (x y : WaitRow) → HasItsCall x → HasItsCall y → 
 changed_call true x y h k = k
 changed_call false x y h k = h
 
+-- a connect that is accepted stays in its call
+same_call : (answer : List ℕ) (kind : WaitKind) → call_of_kind (accepted_as answer kind) ≡ call_of_kind kind
+same_call answer (Request m) = refl
+same_call answer Receive = refl
+same_call answer Listen = refl
+same_call answer (Connect m) = refl
+same_call answer (Accepted m before) = refl
+
+accepted_call : (answer : List ℕ) (x : WaitRow) → HasItsCall x → HasItsCall (accepted answer x)
+accepted_call answer x h = rw (same_call answer x.kind) h
+
 basic_keeps : (w : World) (line : ScriptLine) (v : World) (b : Basic) → IsFair w line b → HaveTheirCalls v → HaveTheirCalls (basic v b)
 basic_keeps w line v (Wakes who name status fields) f h = all_filter HasItsCall _ v.waits h
 basic_keeps w line v (Awaits x) f h = all_append HasItsCall v.waits (x ∷ []) h (f, tt)
 basic_keeps w line v (Receives who) f h = all_map HasItsCall _ v.waits (λ x k. changed_call _ x _ k k) h
+basic_keeps w line v (Accepts who answer) f h = all_map HasItsCall _ v.waits (λ x k. changed_call _ x _ k (accepted_call answer x k)) h
 basic_keeps w line v b f h = h
 
 pub steps_keep : (w : World) (line : ScriptLine) (v : World) (bs : List Basic) → AreFair w line bs → HaveTheirCalls v → HaveTheirCalls (world_after v bs)
 steps_keep w line v [] f h = h
 steps_keep w line v (b ∷ bs) f h = steps_keep w line (basic v b) bs f.1 (basic_keeps w line v b f.0 h)
 
--- a receive that wakes is no request
-receive_wakes : (w : World) (line : ScriptLine) (tid : ℕ) (kind : WaitKind) (name : CallName) (status : Status) (fields : List Field) → elim kind [ Receive ↦ true | _ ↦ false ] ≡ true → waits_in kind name → HasReply w line (entry.Wakes tid name status fields)
-receive_wakes w line tid Receive call.NtReplyWaitReceivePort status fields is h = tt
-receive_wakes w line tid Receive name status fields is h = absurd h
-receive_wakes w line tid (Request m) name status fields is h = absurd (cc)
+-- a kind of wait that is no request's
+abbrev pub is_no_request : WaitKind → Bool
+is_no_request (Request m) = false
+is_no_request kind = true
+
+-- a wait of such a kind ends by any line
+other_call : (w : World) (line : ScriptLine) (tid : ℕ) (kind : WaitKind) (status : Status) (fields : List Field) → is_no_request kind ≡ true → HasReply w line (entry.Wakes tid (call_of_kind kind) status fields)
+other_call w line tid (Request m) status fields is = absurd (cc)
+other_call w line tid Receive status fields is = tt
+other_call w line tid Listen status fields is = tt
+other_call w line tid (Connect m) status fields is = tt
+other_call w line tid (Accepted m answer) status fields is = tt
+
+other_wakes : (w : World) (line : ScriptLine) (x : WaitRow) (status : Status) (fields : List Field) → is_no_request x.kind ≡ true → HasItsCall x → HasReply w line (entry.Wakes x.thread x.call status fields)
+other_wakes w line x status fields is h = rw h (other_call w line x.thread x.kind status fields is)
+
+-- a receive, a listen and an accepted connect are no requests
+waiter_kind : (kind : WaitKind) → (elim kind [ Receive ↦ true | _ ↦ false ] || elim kind [ Listen ↦ true | _ ↦ false ]) ≡ true → is_no_request kind ≡ true
+waiter_kind (Request m) is = absurd (cc)
+waiter_kind Receive is = refl
+waiter_kind Listen is = refl
+waiter_kind (Connect m) is = refl
+waiter_kind (Accepted m answer) is = refl
+
+accepted_kind : (kind : WaitKind) → elim kind [ Accepted m answer ↦ true | _ ↦ false ] ≡ true → is_no_request kind ≡ true
+accepted_kind (Request m) is = absurd (cc)
+accepted_kind Receive is = refl
+accepted_kind Listen is = refl
+accepted_kind (Connect m) is = refl
+accepted_kind (Accepted m answer) is = refl
+
+-- a request that wakes without success needs no reply
+failure_wakes : (w : World) (line : ScriptLine) (tid : ℕ) (name : CallName) (status : Status) (fields : List Field) → (status.0 == SUCCESS.0) ≡ false → HasReply w line (entry.Wakes tid name status fields)
+failure_wakes w line tid call.NtRequestWaitReplyPort status fields fails = λ is. let same = rw is at fails in absurd (cc)
+failure_wakes w line tid name status fields fails = tt
 
 -- a request that a reply wakes has it
 reply_wakes : (w : World) (line : ScriptLine) (tid : ℕ) (name : CallName) (fields : List Field) → IsReturnedBy w line tid fields → HasReply w line (entry.Wakes tid name SUCCESS fields)
@@ -93,20 +137,40 @@ reply_wakes w line tid call.NtRequestWaitReplyPort fields r = λ _. r
 reply_wakes w line tid name fields r = tt
 
 -- a message that is taken wakes none
-when_fair : (w : World) (line : ScriptLine) (b : Bool) (tid : ℕ) → AreFair w line (when b (Receives tid ∷ []))
-when_fair w line true tid = (tt, tt)
-when_fair w line false tid = tt
+when_fair : (w : World) (line : ScriptLine) (b : Bool) (bs : List Basic) → AreFair w line bs → AreFair w line (when b bs)
+when_fair w line true bs fair = fair
+when_fair w line false bs fair = tt
+
+receipt_fair : (w : World) (line : ScriptLine) (m : MessageRow) → AreFair w line (receipt_steps m)
+receipt_fair w line m = when_fair w line (asks m.message) (Receives m.message.header.client.thread ∷ []) (tt, tt)
 
 take_fair : (w : World) (line : ScriptLine) (m : MessageRow) → AreFair w line (take_steps m)
-take_fair w line m = (tt, when_fair w line (asks m.message) m.message.header.client.thread)
+take_fair w line m = (tt, receipt_fair w line m)
 
--- a message that enters its queue wakes a receive alone
-given_fair : (w : World) (line : ScriptLine) (m : MessageRow) (o : Option WaitRow) → ((x : WaitRow) → o ≡ Some x → (takes m x ≡ true) × HasItsCall x) → AreFair w line (given o (λ x. take_steps m ++ woken SUCCESS (receipt m) x ∷ []))
+take_connect_fair : (w : World) (line : ScriptLine) (m : MessageRow) → AreFair w line (take_connect_steps m)
+take_connect_fair w line m = (tt, receipt_fair w line m)
+
+-- a waiter takes it as its kind does
+waiter_takes_fair : (w : World) (line : ScriptLine) (m : MessageRow) (kind : WaitKind) → AreFair w line (elim kind [ Listen ↦ take_connect_steps m | _ ↦ take_steps m ])
+waiter_takes_fair w line m (Request n) = take_fair w line m
+waiter_takes_fair w line m Receive = take_fair w line m
+waiter_takes_fair w line m Listen = take_connect_fair w line m
+waiter_takes_fair w line m (Connect n) = take_fair w line m
+waiter_takes_fair w line m (Accepted n answer) = take_fair w line m
+
+either : (a b c : Bool) → (a || (b && c)) ≡ true → (a || b) ≡ true
+either true b c h = refl
+either false true c h = refl
+either false false c h = absurd (cc)
+
+-- a message that enters its queue wakes a receive or a listen alone
+given_fair : (w : World) (line : ScriptLine) (m : MessageRow) (o : Option WaitRow) → ((x : WaitRow) → o ≡ Some x → (takes m x ≡ true) × HasItsCall x) → AreFair w line (given o (λ x. given_steps x m ++ woken SUCCESS (shown x m) x ∷ []))
 given_fair w line m None h = tt
 given_fair w line m (Some x) h =
     let known = h x refl in
-    all_append (IsFair w line) (take_steps m) (woken SUCCESS (receipt m) x ∷ []) (take_fair w line m)
-    (receive_wakes w line x.thread x.kind x.call SUCCESS (receipt m) (and_first _ _ known.0) known.1, tt)
+    let waits = either (is_receive x) (is_listen x) (is_connection_request m.message) (and_first (is_receive x || (is_listen x && is_connection_request m.message)) (same_birth x.queue m.queue) known.0) in
+    all_append (IsFair w line) (given_steps x m) (woken SUCCESS (shown x m) x ∷ []) (waiter_takes_fair w line m x.kind)
+    (other_wakes w line x SUCCESS (shown x m) (waiter_kind x.kind waits) known.1, tt)
 
 enter_fair : (w : World) (line : ScriptLine) (m : MessageRow) (v : World) → HaveTheirCalls v → AreFair w line (enter m v)
 enter_fair w line m v h =
@@ -114,7 +178,7 @@ enter_fair w line m v h =
 
 -- a receive wakes none beyond the reply that it makes first
 receive_fair : (w : World) (line : ScriptLine) (by : ThreadRow) (port : PortRow) (queue : Birth) (bs : List Basic) (o : Option MessageRow) → AreFair w line bs → AreFair w line (receive_steps by port queue bs o)
-receive_fair w line by port queue bs None fair = (tt, all_append (IsFair w line) bs (Awaits (receive_wait by port.birth queue) ∷ []) fair (tt, tt))
+receive_fair w line by port queue bs None fair = (tt, all_append (IsFair w line) bs (Awaits (receive_wait by port.birth queue) ∷ []) fair (refl, tt))
 receive_fair w line by port queue bs (Some m) fair = (tt, all_append (IsFair w line) bs (take_steps m) fair (take_fair w line m))
 
 -- the port on which a reply is made is the one that its handle names
@@ -192,6 +256,64 @@ sent_fair w line m start h fair =
     all_append (IsFair w line) start (enter m (world_after w start)) fair
     (enter_fair w line m (world_after w start) (steps_keep w line w start fair h))
 
+connect_fair : (w : World) (line : ScriptLine) (by : ThreadRow) (name bytes : List ℕ) → HaveTheirCalls w → Holds (AreFair w line) (nt_connect_port w by name bytes)
+unfolding nt_connect_port
+connect_fair w line by name bytes h =
+    let P = AreFair w line in
+    let m = connection_request by bytes in
+    bind_holds (info_test bytes) _ P (λ _ _.
+    bind_holds (named_port w name) _ P (λ connection _.
+    bind_holds (handles_test w by.process 1) _ P (λ _ _.
+    sent_fair w line (row_of connection (client_port (next_birth by) connection) m) (connect_start by connection m) h (tt, (tt, (tt, (tt, (refl, tt))))))))
+
+-- a listen that is made wakes none
+taken_fair : (w : World) (line : ScriptLine) (by : ThreadRow) (port : Birth) (o : Option MessageRow) → AreFair w line (listen_steps by port o)
+taken_fair w line by port None = (tt, (refl, tt))
+taken_fair w line by port (Some m) = (tt, take_connect_fair w line m)
+
+listen_fair : (w : World) (line : ScriptLine) (by : ThreadRow) (handle : ℕ) → Holds (AreFair w line) (nt_listen_port w by handle)
+unfolding nt_listen_port
+listen_fair w line by handle =
+    let P = AreFair w line in
+    bind_holds (port_test w by handle) _ P (λ port _.
+    bind_holds (refuse_if (not (is_connection_port port)) INVALID_PORT_HANDLE) _ P (λ _ _.
+    taken_fair w line by port.birth (first (is_queued_connect port.birth) w.messages)))
+
+-- a connect that is refused wakes without success, and one that is accepted waits on
+refuse_fair : (w : World) (line : ScriptLine) (by : ThreadRow) (a : ConnectAnswer) → AreFair w line (refuse_steps by a w)
+refuse_fair w line by a =
+    let end = failure_wakes w line a.wait.thread a.wait.call PORT_CONNECTION_REFUSED (info a.message.body ∷ []) refl in
+    (tt, (end, when_fair w line _ (Frees a.wait.port ∷ []) (tt, tt)))
+
+answer_fair : (w : World) (line : ScriptLine) (by : ThreadRow) (context : ℕ) (accept : Bool) (a : ConnectAnswer) → Holds (AreFair w line) (answered_steps w by context accept a)
+answer_fair w line by context false a = refuse_fair w line by a
+answer_fair w line by context true a =
+    bind_holds (handles_test w by.process 1) _ (AreFair w line) (λ _ _. (tt, (tt, (tt, (tt, (tt, (tt, tt)))))))
+
+accept_fair : (w : World) (line : ScriptLine) (by : ThreadRow) (context : ℕ) (bytes : List ℕ) (accept : Bool) → Holds (AreFair w line) (nt_accept_connect_port w by context bytes accept)
+unfolding nt_accept_connect_port
+accept_fair w line by context bytes accept =
+    bind_holds (answer_test w by bytes) _ (AreFair w line) (λ a _. answer_fair w line by context accept a)
+
+-- a completion wakes an accepted connect alone
+completable_holds : (w : World) (by : ThreadRow) (handle : ℕ) → HaveTheirCalls w → Holds (λ c. (is_accepted c.wait ≡ true) × HasItsCall c.wait) (complete_test w by handle)
+completable_holds w by handle h =
+    let P : Completable → Type 0 = λ c. (is_accepted c.wait ≡ true) × HasItsCall c.wait in
+    bind_holds (port_test w by handle) _ P (λ port _.
+    bind_holds (refuse_if (not (is_server_port port)) INVALID_PORT_HANDLE) _ P (λ _ _.
+    bind_holds (refuse_if port.completed INVALID_PARAMETER) _ P (λ _ _.
+    bind_holds (found_or port.pair PORT_DISCONNECTED) _ P (λ client _.
+    bind_holds (found_or (first (is_accepted_on client) w.waits) PORT_DISCONNECTED) _ P (λ x at.
+    let found = found_ok (first (is_accepted_on client) w.waits) PORT_DISCONNECTED x at in
+    (and_first _ _ (first-passes (is_accepted_on client) w.waits x found), find_all HasItsCall (is_accepted_on client) w.waits x h found))))))
+
+complete_fair : (w : World) (line : ScriptLine) (by : ThreadRow) (handle : ℕ) → HaveTheirCalls w → Holds (AreFair w line) (nt_complete_connect_port w by handle)
+unfolding nt_complete_connect_port
+complete_fair w line by handle h =
+    bind_holds (complete_test w by handle) _ (AreFair w line) (λ c at.
+    let known = holds_ok _ (complete_test w by handle) c (completable_holds w by handle h) at in
+    (tt, (tt, (tt, (tt, (other_wakes w line c.wait SUCCESS _ (accepted_kind c.wait.kind known.0) known.1, tt))))))
+
 datagram_fair : (w : World) (line : ScriptLine) (by : ThreadRow) (handle : ℕ) (bytes : List ℕ) → HaveTheirCalls w → Holds (AreFair w line) (nt_request_port w by handle bytes)
 unfolding nt_request_port
 datagram_fair w line by handle bytes h =
@@ -203,7 +325,7 @@ unfolding nt_request_wait_reply_port
 request_fair w line by handle bytes h =
     bind_holds (send_test w by handle bytes) _ (AreFair w line) (λ s _.
     let m = sent_by by REQUEST s.message in
-    sent_fair w line (row_of s.queue s.port m) (request_start by s.port.birth s.queue m) h (tt, (tt, (tt, tt))))
+    sent_fair w line (row_of s.queue s.port m) (request_start by s.port.birth s.queue m) h (tt, (tt, (refl, tt))))
 
 reply_fair : (w : World) (tid : ℕ) (by : ThreadRow) (handle : ℕ) (bytes : List ℕ) → live_thread w tid ≡ Some by → Holds (AreFair w (run tid (reply_port handle bytes))) (nt_reply_port w by handle bytes)
 unfolding nt_reply_port
@@ -245,6 +367,10 @@ wait_fair w tid by handle bytes live =
 
 service_fair : (w : World) (tid : ℕ) (by : ThreadRow) (name : ScriptCall) → live_thread w tid ≡ Some by → HaveTheirCalls w → Holds (AreFair w (run tid name)) (service_of w by name)
 service_fair w tid by (create_port text) live h = create_fair w _ by text
+service_fair w tid by (connect_port text bytes) live h = connect_fair w _ by text bytes h
+service_fair w tid by (listen_port handle) live h = listen_fair w _ by handle
+service_fair w tid by (accept_connect_port context bytes accept) live h = accept_fair w _ by context bytes accept
+service_fair w tid by (complete_connect_port handle) live h = complete_fair w _ by handle h
 service_fair w tid by (request_port handle bytes) live h = datagram_fair w _ by handle bytes h
 service_fair w tid by (request_wait_reply_port handle bytes) live h = request_fair w _ by handle bytes h
 service_fair w tid by (reply_port handle bytes) live h = reply_fair w tid by handle bytes live

@@ -1,6 +1,7 @@
 // Laws of the definitions alone.
 ghost use Rattle.std.specs.Prelude.{ℕ, List};
 ghost use Rattle.lpc_model.specs.Worked.{WorkedTranscripts};
+ghost use Rattle.lpc_model.specs.WorkedConnections.{WorkedConnections};
 ghost use Rattle.lpc_replay.specs.Laws.{MisfitsRefused, RefusalsIdle, RefusalsStay, RequestsReturn};
 
 /// Completion by a fitting reply, in every script.
@@ -18,5 +19,6 @@ pub fn law_completion()
 
 /// The definitions compute transcripts that were worked by hand, from the bytes of a script to the bytes sent for it.
 pub fn law_worked_transcripts()
-    ensures { WorkedTranscripts }
+    ensures transcripts { WorkedTranscripts }
+    ensures connections { WorkedConnections }
 {}

@@ -5,6 +5,8 @@ use std::alloc::Global;
 use std::process::Abort;
 use std::test::Fail;
 
+mod connections;
+
 // The status and the text for words and a script, which is read in pieces of 7 bytes and sent in pieces of 5.
 fn answered(
     rt: &impl Abort,
@@ -464,26 +466,6 @@ fn other_words_are_told_the_usage(rt: HostRuntime) -> Result<(), Fail> {
         b"boot 20 24\n",
         64,
         usage,
-    )
-}
-
-#[test]
-fn a_port_is_bound_where_its_name_leads(rt: HostRuntime) -> Result<(), Fail> {
-    replayed(
-        &rt,
-        rt.alloc(),
-        &[
-            "dir \\Windows\nlink \\L \\Windows\nlink \\Q \\Q\nboot 20 24\n",
-            "24 NtCreatePort Windows\n24 NtCreatePort \\Windows\\\n24 NtCreatePort \\A\\B\n",
-            "24 NtCreatePort \\L\\P\n24 NtCreatePort \\Windows\\P\n24 NtCreatePort \\Q\\P\n",
-        ],
-        0,
-        &[
-            "1 - dir 00000000\n2 - link 00000000\n3 - link 00000000\n4 - boot 00000000\n",
-            "5 24 NtCreatePort c000003b\n6 24 NtCreatePort c0000033\n7 24 NtCreatePort c000003a\n",
-            "8 24 NtCreatePort 00000000 h=4\n9 24 NtCreatePort c0000035\n10 24 NtCreatePort c0000033\n",
-            "end 10 10 3\n",
-        ],
     )
 }
 

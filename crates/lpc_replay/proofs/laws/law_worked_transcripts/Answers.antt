@@ -1,5 +1,9 @@
+use Rattle.lpc_model.proofs.WorkedConnections.{worked_connections}
 use Rattle.lpc_model.proofs.WorkedTranscripts.{worked_transcripts}
 use Rattle.lpc_replay.proofs.laws.law_worked_transcripts.Goals as goal
 
-pub returns : goal.returns
-returns c = worked_transcripts
+pub returns-clause-transcripts : goal.returns-clause-transcripts
+returns-clause-transcripts c = worked_transcripts
+
+pub returns-clause-connections : goal.returns-clause-connections
+returns-clause-connections c = worked_connections
