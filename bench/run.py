@@ -1,0 +1,115 @@
+#!/usr/bin/env python3
+"""How the program grows: lines a second and peak memory, for scripts of 1,000, 10,000 and 100,000 lines.
+
+    bench/run.py [PROGRAM]
+
+PROGRAM is crates/ntlpc/out/ntlpc where it isn't given. Each script is run once; the table goes to standard output.
+"""
+import os
+import subprocess
+import sys
+import tempfile
+import time
+
+SIZES = (1_000, 10_000, 100_000)
+HERE = os.path.dirname(os.path.abspath(__file__))
+
+
+def requests(lines):
+    """One process asks another's thread over a completed connection: a request, its receipt, its reply."""
+    yield from (
+        "boot 20 24",
+        "boot 32 36",
+        "24 NtCreatePort \\S",
+        "36 NtConnectPort \\S - - -",
+        "24 NtListenPort 4",
+        "24 NtAcceptConnectPort 7 r:32.36.1: accept -",
+        "24 NtCompleteConnectPort 8",
+    )
+    identifier = 1
+    for _ in range((lines - 7) // 3):
+        identifier += 1
+        yield "36 NtRequestWaitReplyPort 4 d:4142"
+        yield "24 NtReplyWaitReceivePort 4"
+        yield f"24 NtReplyPort 4 r:32.36.{identifier}:43"
+
+
+def datagrams(lines):
+    """A thread sends 32 datagrams, the most that may stand, and another takes them; over and over."""
+    yield from ("boot 20 24", "thread 28 20", "24 NtCreatePort -")
+    for _ in range((lines - 3) // 64):
+        for _ in range(32):
+            yield "24 NtRequestPort 4 d:41"
+        for _ in range(32):
+            yield "28 NtReplyWaitReceivePort 4"
+
+
+def connects(lines):
+    """Clients of many servers connect; every second connect is refused, the others are completed."""
+    number = 0
+    written = 0
+    while written < lines - 90:
+        number += 1
+        server = 1_000_000 + number
+        block = [f"boot {server} {server}", f"{server} NtCreatePort \\S{number}"]
+        handle = 4
+        for client in range(server * 100, server * 100 + 16):
+            verdict = "accept" if client % 2 else "refuse"
+            block.append(f"boot {client} {client}")
+            block.append(f"{client} NtConnectPort \\S{number} - - d:4869")
+            block.append(f"{server} NtListenPort 4")
+            block.append(f"{server} NtAcceptConnectPort 5 r:{client}.{client}.1:4f4b {verdict} -")
+            if verdict == "accept":
+                handle += 4
+                block.append(f"{server} NtCompleteConnectPort {handle}")
+        written += len(block)
+        yield from block
+
+
+def peak(process):
+    """The highest resident size of a running process so far, in MiB; 0 where it has ended."""
+    try:
+        with open(f"/proc/{process}/status", encoding="ascii") as status:
+            for line in status:
+                if line.startswith("VmHWM:"):
+                    return int(line.split()[1]) / 1024
+    except (FileNotFoundError, ProcessLookupError):
+        pass
+    return 0
+
+
+def measured(program, script):
+    """Seconds and peak memory in MiB of one run, and the status with which it ended. The memory is looked at again and
+    again while the program runs, so a short run's may be missed."""
+    memory = 0
+    with open(script, "rb") as source:
+        start = time.monotonic()
+        child = subprocess.Popen([program, "replay"], stdin=source, stdout=subprocess.DEVNULL)
+        while child.poll() is None:
+            memory = max(memory, peak(child.pid))
+            time.sleep(0.0005)
+        seconds = time.monotonic() - start
+    return seconds, memory, child.returncode
+
+
+def main():
+    program = sys.argv[1] if len(sys.argv) > 1 else os.path.join(HERE, "..", "crates", "ntlpc", "out", "ntlpc")
+    print("| Script | Lines | Seconds | Lines a second | Peak memory, MiB | Status |")
+    print("|---|---|---|---|---|---|")
+    with tempfile.TemporaryDirectory() as folder:
+        for kind in (requests, datagrams, connects):
+            for size in SIZES:
+                text = list(kind(size))
+                path = os.path.join(folder, "script")
+                with open(path, "w", encoding="ascii") as out:
+                    out.write("\n".join(text) + "\n")
+                seconds, memory, status = measured(program, path)
+                print(
+                    f"| {kind.__name__} | {len(text)} | {seconds:.3f} | {len(text) / seconds:.0f} "
+                    f"| {memory:.1f} | {status} |",
+                    flush=True,
+                )
+
+
+if __name__ == "__main__":
+    main()
