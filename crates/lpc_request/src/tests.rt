@@ -101,14 +101,13 @@ fn receives(
     Ok(())
 }
 
-#[test]
-fn datagram_is_received(rt: HostRuntime) -> Result<(), Fail> {
-    let alloc = rt.alloc();
-    let mut world = World::empty(alloc);
-    let mut out = Entries::new(alloc)?;
-    port(&rt, &mut world, &mut out)?;
-    begins(&rt, &world, 24, &mut out)?;
-    let outcome = nt_request_port(&mut world, 24, 4, &GIVEN, &mut out)?;
+// Thread 24 sends a datagram to its own port.
+fn sends(rt: &impl Abort, world: &mut World, out: &mut Entries) -> Result<(), Fail>
+    requires few { world.old.calls < 1000000 }
+    ensures calls { OnOk result (world.new.calls ≡ world.old.calls + 1) }
+{
+    begins(rt, world, 24, out)?;
+    let outcome = nt_request_port(world, 24, 4, &GIVEN, out)?;
     assert_eq!(rt; outcome, Outcome::Answered(SUCCESS));
     let answer = Entry::Answer {
         tid: 24,
@@ -117,20 +116,16 @@ fn datagram_is_received(rt: HostRuntime) -> Result<(), Fail> {
         fields: one(FieldName::Id, Value::Number(1)),
     };
     assert_eq!(rt; out.list(), [answer].as_slice());
-    receives(&rt, &mut world, &mut out, &DATAGRAM)
+    Ok(())
 }
 
-#[test]
-fn request_returns_by_its_reply(rt: HostRuntime) -> Result<(), Fail> {
-    let alloc = rt.alloc();
-    let mut world = World::empty(alloc);
-    let mut out = Entries::new(alloc)?;
-    port(&rt, &mut world, &mut out)?;
-    begins(&rt, &world, 24, &mut out)?;
-    nt_request_port(&mut world, 24, 4, &GIVEN, &mut out)?;
-    receives(&rt, &mut world, &mut out, &DATAGRAM)?;
-    begins(&rt, &world, 24, &mut out)?;
-    let asked = nt_request_wait_reply_port(&mut world, 24, 4, &GIVEN, &mut out);
+// Thread 24 asks, as its second message, and waits.
+fn asks(rt: &impl Abort, world: &mut World, out: &mut Entries) -> Result<(), Fail>
+    requires few { world.old.calls < 1000000 }
+    ensures calls { OnOk result (world.new.calls ≡ world.old.calls + 1) }
+{
+    begins(rt, world, 24, out)?;
+    let asked = nt_request_wait_reply_port(world, 24, 4, &GIVEN, out);
     assert_eq!(rt; asked, Outcome::Waits);
     let waits = Entry::Waits {
         tid: 24,
@@ -138,9 +133,16 @@ fn request_returns_by_its_reply(rt: HostRuntime) -> Result<(), Fail> {
         fields: one(FieldName::Id, Value::Number(2)),
     };
     assert_eq!(rt; out.list(), [waits].as_slice());
-    receives(&rt, &mut world, &mut out, &REQUEST)?;
-    begins(&rt, &world, 28, &mut out)?;
-    nt_reply_port(&mut world, 28, 4, &REPLY, &mut out);
+    Ok(())
+}
+
+// Thread 28 replies, and thread 24 wakes.
+fn replies(rt: &impl Abort, world: &mut World, out: &mut Entries) -> Result<(), Fail>
+    requires few { world.old.calls < 1000000 }
+    ensures calls { OnOk result (world.new.calls ≡ world.old.calls + 1) }
+{
+    begins(rt, world, 28, out)?;
+    nt_reply_port(world, 28, 4, &REPLY, out);
     let answer = Entry::Answer {
         tid: 28,
         call: CallName::NtReplyPort,
@@ -157,6 +159,30 @@ fn request_returns_by_its_reply(rt: HostRuntime) -> Result<(), Fail> {
         ),
     };
     assert_eq!(rt; out.list(), [answer, wake].as_slice());
+    Ok(())
+}
+
+#[test]
+fn datagram_is_received(rt: HostRuntime) -> Result<(), Fail> {
+    let alloc = rt.alloc();
+    let mut world = World::empty(alloc);
+    let mut out = Entries::new(alloc)?;
+    port(&rt, &mut world, &mut out)?;
+    sends(&rt, &mut world, &mut out)?;
+    receives(&rt, &mut world, &mut out, &DATAGRAM)
+}
+
+#[test]
+fn request_returns_by_its_reply(rt: HostRuntime) -> Result<(), Fail> {
+    let alloc = rt.alloc();
+    let mut world = World::empty(alloc);
+    let mut out = Entries::new(alloc)?;
+    port(&rt, &mut world, &mut out)?;
+    sends(&rt, &mut world, &mut out)?;
+    receives(&rt, &mut world, &mut out, &DATAGRAM)?;
+    asks(&rt, &mut world, &mut out)?;
+    receives(&rt, &mut world, &mut out, &REQUEST)?;
+    replies(&rt, &mut world, &mut out)?;
     begins(&rt, &world, 28, &mut out)?;
     let again = nt_reply_wait_receive_port(&mut world, 28, 4, Some(&REPLY), &mut out);
     assert_eq!(rt; again, Outcome::Answered(REPLY_MESSAGE_MISMATCH));

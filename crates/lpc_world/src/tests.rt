@@ -193,11 +193,8 @@ fn sends_a_datagram(
 }
 
 #[test]
-fn port_is_found_by_its_handle_and_keeps_a_message(rt: HostRuntime) -> Result<(), Fail> {
-    let alloc = rt.alloc();
-    let mut world = World::empty(alloc);
-    let mut out = Entries::new(alloc)?;
-    out.reserve(1)?;
+fn port_is_found_by_its_handle(rt: HostRuntime) -> Result<(), Fail> {
+    let mut world = World::empty(rt.alloc());
     boots(&rt, &mut world, 20, 24, SUCCESS)?;
     let Condition::Ready = world.condition(24) else {
         return Ok(assert!(rt; false));
@@ -206,9 +203,35 @@ fn port_is_found_by_its_handle_and_keeps_a_message(rt: HostRuntime) -> Result<()
     let Condition::Ready = world.condition(24) else {
         return Ok(assert!(rt; false));
     };
-    finds_the_port(&rt, &world, port)?;
-    names_the_port(&rt, &mut world, port)?;
-    sends_a_datagram(&rt, &mut world, port, &mut out)
+    finds_the_port(&rt, &world, port)
+}
+
+// The port has a name, and keeps a message.
+fn keeps_a_message(
+    rt: &impl Abort,
+    world: &mut World,
+    port: Key,
+    out: &mut Entries,
+) -> Result<(), Fail>
+    requires few { world.old.calls < 1000000 }
+    requires stands { stands world.old.names.ports port ≡ true }
+{
+    names_the_port(rt, world, port)?;
+    out.reserve(1)?;
+    sends_a_datagram(rt, world, port, out)
+}
+
+#[test]
+fn named_port_keeps_a_message(rt: HostRuntime) -> Result<(), Fail> {
+    let alloc = rt.alloc();
+    let mut world = World::empty(alloc);
+    let mut out = Entries::new(alloc)?;
+    boots(&rt, &mut world, 20, 24, SUCCESS)?;
+    let Condition::Ready = world.condition(24) else {
+        return Ok(assert!(rt; false));
+    };
+    let port = makes_a_port(&rt, &mut world)?;
+    keeps_a_message(&rt, &mut world, port, &mut out)
 }
 
 // Thread 24 makes a port of a kind, which has no handle.
