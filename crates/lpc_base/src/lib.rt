@@ -3,6 +3,7 @@
 #![tactic(auto)]
 
 mod birth;
+mod bytes;
 mod error;
 mod laws;
 pub mod limits;
@@ -14,6 +15,7 @@ mod streams;
 mod tests;
 
 pub use birth::Birth;
+pub use bytes::held;
 pub use error::{Failed, OutOfMemory};
 pub use laws::law_new_handle_is_least;
 pub use memory::{HonestSource, MemSink, MemSource};

@@ -4,6 +4,7 @@
 
 mod entry;
 mod fault;
+mod fields;
 mod laws;
 mod line;
 mod message;
@@ -12,6 +13,10 @@ pub use entry::{
     CallName, Entries, Entry, Field, FieldName, Fields, ObjectKind, Outcome, Value, Word,
 };
 pub use fault::LineFault;
+pub use fields::{
+    completion_fields, handle_field, identifier_field, info_field, kept, message_field, receipt,
+    refuse,
+};
 pub use laws::law_sound_waits;
 pub use line::{Call, Line};
 pub use message::{Body, Message};

@@ -10,9 +10,8 @@ mod messages;
 #[cfg(test)]
 mod tests;
 
-use crate::messages::held;
 pub use lpc_base::PortKind;
-use lpc_base::{Birth, OutOfMemory};
+use lpc_base::{Birth, OutOfMemory, held};
 use lpc_message::ClientId;
 use lpc_slots::{Key, Slots};
 pub use messages::{Message, QueuedMessage};

@@ -70,18 +70,6 @@ impl QueuedMessage {
     }
 }
 
-/// These bytes, held in place.
-pub fn held(bytes: &[u8]) -> ArrayVec<u8, 256>
-    requires { length bytes.now ≤ 256 }
-    ensures { result.items ≡ bytes.now }
-{
-    let mut list = ArrayVec::new();
-    for byte in bytes {
-        list.push(*byte);
-    }
-    list
-}
-
 // The byte at a place, and 0 from the end on.
 fn byte_at(bytes: &[u8], place: usize) -> u8
     ensures { result ≡ slice_index bytes.now place }

@@ -10,7 +10,7 @@ ghost use Rattle.lpc_waits.specs.Table.{begun, is_connect_of, is_of, is_taker_on
 mod tests;
 
 use arrayvec::ArrayVec;
-use lpc_base::OutOfMemory;
+use lpc_base::{OutOfMemory, held};
 use lpc_slots::Key;
 use std::alloc::Global;
 use std::marker::Model;
@@ -303,16 +303,4 @@ fn is_accepted(row: &WaitRow) -> bool
     ensures { result ≡ is_accepted row.now }
 {
     row.wait.kind.is_connect() && row.accepted.is_some()
-}
-
-// These bytes, held in place.
-fn held(bytes: &[u8]) -> ArrayVec<u8, 256>
-    requires { length bytes.now ≤ 256 }
-    ensures { result.items ≡ bytes.now }
-{
-    let mut list = ArrayVec::new();
-    for byte in bytes {
-        list.push(*byte);
-    }
-    list
 }

@@ -3,7 +3,6 @@
 
 mod completable;
 mod condition;
-mod fields;
 mod object;
 mod parts;
 #[cfg(test)]
@@ -12,9 +11,5 @@ mod world;
 
 pub use completable::Completable;
 pub use condition::Condition;
-pub use fields::{
-    completion_fields, handle_field, identifier_field, info_field, kept, message_field, receipt,
-    refuse,
-};
 pub use object::Object;
 pub use world::{World, wants_answer};

@@ -5,14 +5,14 @@ ghost use Rattle.lpc_world.specs.Names.{KeepsNames, KeepsOthers, some_stands, st
 ghost use Rattle.lpc_procs.specs.Procs.{IsNumber};
 ghost use Rattle.lpc_world.specs.Ready.{is_ready};
 
-use crate::{Condition, Object, World, kept, wants_answer};
+use crate::{Condition, Object, World, wants_answer};
 use lpc_base::status::{
     ACCESS_DENIED, INVALID_CID, INVALID_HANDLE, OBJECT_NAME_COLLISION, OBJECT_PATH_SYNTAX_BAD,
     OBJECT_TYPE_MISMATCH, SUCCESS,
 };
 use lpc_base::{Birth, PortKind, Status};
 use lpc_message::ClientId;
-use lpc_model::{Entries, ObjectKind};
+use lpc_model::{Entries, ObjectKind, kept};
 use lpc_names::Found;
 use lpc_slots::Key;
 use std::process::Abort;

@@ -13,14 +13,13 @@ ghost use Rattle.lpc_world.specs.Lawful.{are_single};
 ghost use Rattle.lpc_world.specs.Names.{are_apart, name_of, stands};
 ghost use Rattle.lpc_world.specs.Ready.{IsWait, caller, is_ready, port_of, waiter};
 
-use crate::fields::copied;
 use crate::world::World;
 use crate::{Completable, Object, parts};
 use arrayvec::ArrayVec;
 use lpc_base::status::{
     INVALID_PARAMETER, INVALID_PORT_HANDLE, OBJECT_TYPE_MISMATCH, PORT_DISCONNECTED,
 };
-use lpc_base::{PortKind, Status};
+use lpc_base::{PortKind, Status, held};
 use lpc_message::ClientId;
 use lpc_names::{Found, status_of};
 use lpc_slots::Key;
@@ -118,7 +117,7 @@ impl World {
         ensures { result.items ≡ answer_of (waiter self.now.rows tid) }
     {
         match self.waits.accepted(tid) {
-            Some(accepted) => copied(accepted.reply.as_slice()),
+            Some(accepted) => held(accepted.reply.as_slice()),
             None => unreachable!(),
         }
     }

@@ -15,7 +15,6 @@ ghost use Rattle.lpc_waits.specs.Table.{is_request};
 ghost use Rattle.lpc_world.specs.Kept.{is_alive, is_pending_in};
 ghost use Rattle.lpc_world.specs.Ready.{HasRow, IsWait, caller, condition_of, is_ready, port_of, room_needed, waiter};
 
-use crate::fields::{message_field, receipt};
 use crate::world::World;
 use crate::{Condition, Object, parts};
 use lpc_base::limits::{DATAGRAM_LIMIT, HANDLE_LIMIT};
@@ -26,7 +25,7 @@ use lpc_base::status::{
 use lpc_base::{PortKind, Status};
 use lpc_handles::Row;
 use lpc_message::ClientId;
-use lpc_model::{CallName, Fields, Message, ObjectKind};
+use lpc_model::{CallName, Fields, Message, ObjectKind, message_field, receipt};
 use lpc_ports::Port;
 use lpc_procs::{Number, ThreadRow};
 use lpc_slots::Key;

@@ -12,4 +12,4 @@ unreachable-requires c = connecting.no_reply (tables_of c.self.inside.procs c.se
 
 pub returns : goal.returns
 returns c =
-    rw (← c.self.view_is) (c.copied.ensures ∙ c.as_slice.ensures.value ∙ connecting.reply_is (tables_of c.self.inside.procs c.self.inside.parts.items c.self.inside.ports c.self.inside.waits c.self.inside.names) c.self.invariant.named c.args.tid c.in-Some.accepted.now (c.accepted.ensures.value ∙ ap (λ o. Some (option_copied o)) c.in-Some.is) (rw (← c.self.view_is) at c.requires.accepted))
+    rw (← c.self.view_is) (c.held.ensures ∙ c.as_slice.ensures.value ∙ connecting.reply_is (tables_of c.self.inside.procs c.self.inside.parts.items c.self.inside.ports c.self.inside.waits c.self.inside.names) c.self.invariant.named c.args.tid c.in-Some.accepted.now (c.accepted.ensures.value ∙ ap (λ o. Some (option_copied o)) c.in-Some.is) (rw (← c.self.view_is) at c.requires.accepted))
