@@ -10,7 +10,8 @@ use Rattle.lpc_base.specs.Rows.{change, which, without, without_first}
 use Rattle.lpc_model.specs.World.{World, Birth, CallName, ProcessRow, ThreadRow, UsedThread, HandleRow, HandleTable, PortRow, MessageRow, WaitKind, WaitRow, Accepted, Connect, Node, Path}
 use Rattle.lpc_model.specs.Found.{is_port, is_queued, is_queued_connect, is_table, is_thread, waits_as}
 
--- One change of one row each, or one entry.
+-- An entry, or one change of the rows that belong together: a wait that ends, with its entry; the two ends of a pair; a
+-- process, with its number and its empty table of handles; a thread, with its number; or else one row.
 pub data Basic : Type 0 where
   -- an entry of the line's own thread or directive
   Tells : Entry → Basic

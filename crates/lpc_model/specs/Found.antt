@@ -3,7 +3,7 @@ use Rattle.std.specs.Prelude.{ℕ, ◌==◌, ◌&&◌, ◌||◌, ◌+◌, Bool, 
 use Rattle.lpc_base.specs.Places.{least_handle}
 use Rattle.lpc_model.specs.declared.entry.ObjectKind.TheVariants as kind
 use Rattle.lpc_base.specs.declared.port_kind.PortKind.TheVariants.{Client, Connection, Server}
-use Rattle.lpc_base.specs.Rows.{first, has, which, count, passes}
+use Rattle.lpc_base.specs.Rows.{first, has, count, passes}
 use Rattle.lpc_message.specs.declared.kind.TheConstants.{DATAGRAM}
 use Rattle.lpc_message.specs.declared.message.ClientId.{ClientId}
 use Rattle.lpc_model.specs.Message.{is_connection_request}
@@ -55,7 +55,7 @@ is_live_thread tid t = (t.number == tid) && t.live
 abbrev pub lives_in : ℕ → ThreadRow → Bool
 lives_in pid t = (t.process == pid) && t.live
 
--- the live thread with a number; its row may stand when it has ended
+-- the live thread with a number; one that has ended may have a row too
 abbrev pub live_thread : World → ℕ → Option ThreadRow
 live_thread w tid = first (is_live_thread tid) w.threads
 
@@ -183,10 +183,6 @@ is_datagram_of b m = same_birth m.sender b && (m.message.header.kind == DATAGRAM
 abbrev pub datagrams : World → Birth → ℕ
 datagrams w b = count (is_datagram_of b) w.messages
 
--- the queue of a port: the messages that stand in it, the oldest first
-abbrev pub queued : World → Birth → List MessageRow
-queued w q = which (is_queued q) w.messages
-
 -- a wait for a message
 abbrev pub is_receive : WaitRow → Bool
 is_receive x = elim x.kind [
@@ -233,14 +229,6 @@ waits_as tid x = x.thread == tid
 abbrev pub wait_of : World → ℕ → Option WaitRow
 wait_of w tid = first (waits_as tid) w.waits
 
--- a receive or listen that waits on a queue
-abbrev pub waits_on : Birth → WaitRow → Bool
-waits_on q x = (is_receive x || is_listen x) && same_birth x.queue q
-
--- the waiters on a queue, in order of waiting
-abbrev pub waiters_on : World → Birth → List WaitRow
-waiters_on w q = which (waits_on q) w.waits
-
 -- a message names the wait: its thread, its process and its identifier
 abbrev pub names_wait : WaitRow → Message → Bool
 names_wait x m =
@@ -279,7 +267,7 @@ abbrev pub is_wait_at : Birth → WaitRow → Bool
 is_wait_at b x = is_made_on b x || same_birth x.queue b
 
 -- A port is held by each row that names it: a handle, another port of its connections, a message, a wait, or a name.
--- Where a port can go its queue was emptied and its name taken before, so the test is made on the rows alone.
+-- The client port of a refused connect, which alone goes so far, never had a name, nor a queue with a message or a wait.
 abbrev pub is_held : World → Birth → Bool
 is_held w b =
     is_open w b || (has (is_joined_to b) w.ports || (has (is_message_at b) w.messages

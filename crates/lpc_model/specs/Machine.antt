@@ -52,7 +52,7 @@ settled by call (Err s) = Tells (Answer by.number call s []) ∷ []
 abbrev pub call_steps : ThreadRow → ScriptCall → Steps
 call_steps by call w = settled by (name_of call) (service_of w by call)
 
--- a call of a thread that doesn't wait
+-- a call of a live thread, which is busy where it waits
 abbrev pub ready_steps : ThreadRow → ScriptCall → Option WaitRow → Steps
 ready_steps by call (Some x) w = Tells (Busy by.number) ∷ []
 ready_steps by call None w = call_steps by call w

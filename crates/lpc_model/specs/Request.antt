@@ -58,7 +58,7 @@ datagram_send_test w by handle bytes = do
   _ ← datagram_test w s.port
   Ok s
 
--- NtRequestPort
+-- NtRequestPort: the handle, the message, no route, 32 datagrams that aren't received
 unfoldable pub nt_request_port : World → ThreadRow → ℕ → List ℕ → Result (List Basic) Status
 nt_request_port w by handle bytes = do
   s ← datagram_send_test w by handle bytes

@@ -18,8 +18,8 @@ pub record ProcessRow : Type 0 where
   pub maker : Option ℕ
   pub birth : Birth
 
--- a thread of a process, which has not ended while it is live; the message identifier that it draws next and the
--- ordinal of what it makes next, both from 1
+-- a thread of a process; whether it is live, or has ended; the message identifier that it draws next and the ordinal of
+-- what it makes next, both from 1
 pub record ThreadRow : Type 0 where
   pub number : ℕ
   pub process : ℕ
@@ -61,9 +61,9 @@ pub record MessageRow : Type 0 where
   pub context : ℕ
   pub message : Message
 
--- What a thread waits for: the reply to a request, which was sent so; a message; a connection request; that its connect,
--- whose request was sent so, is accepted or refused; and, once it was accepted with the data of an answer, that it is
--- completed.
+-- What a thread waits for: the reply to its request, which is kept as it was sent; a message; a connection request; the
+-- answer to its connect, whose connection request is kept too; and, once that was accepted with some data, its
+-- completion, with those data.
 pub data WaitKind : Type 0 where
   Request : Message → WaitKind
   Receive : WaitKind

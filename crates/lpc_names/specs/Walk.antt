@@ -64,7 +64,7 @@ module _ {T : Type 0} where
   walk_by zero bindings path = onwards path (λ other. Err NameInvalid) (way bindings [] path)
   walk_by (suc left) bindings path = onwards path (walk_by left bindings) (way bindings [] path)
 
-  -- the walk of a path with a fault of its form, or with 32 replacements
+  -- the fault of a path's form, else its walk with at most 32 replacements
   abbrev pub walk_if : Bindings T → Result Path NameFault → Result (Place T) NameFault
   walk_if bindings (Err fault) = Err fault
   walk_if bindings (Ok path) = walk_by 32 bindings path
