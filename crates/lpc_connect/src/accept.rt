@@ -13,13 +13,12 @@ ghost use Rattle.lpc_world.specs.Ready.{caller, is_ready, waiter};
 ghost use Rattle.lpc_world.specs.Shown.{shown_thread};
 
 use crate::create::PORT_ACCESS;
-use arrayvec::ArrayVec;
-use lpc_base::status::{PORT_CONNECTION_REFUSED, REPLY_MESSAGE_MISMATCH, SUCCESS};
-use lpc_base::{OutOfMemory, PortKind, Status};
-use lpc_model::{CallName, Entries, Entry, Fields, Message, Outcome};
+use lpc_base::status::{REPLY_MESSAGE_MISMATCH, SUCCESS};
+use lpc_base::{OutOfMemory, PortKind, Status, held};
+use lpc_model::{CallName, Entries, Entry, Fields, Message, Outcome, handle_field, kept, refuse};
 use lpc_procs::ThreadRow;
 use lpc_waits::Accepted;
-use lpc_world::{Object, World, handle_field, info_field, kept, refuse};
+use lpc_world::{Object, World};
 
 /// The message that answers a connect, and the thread that waits in that connect.
 #[derive(Drop)]
@@ -48,7 +47,7 @@ fn answer_test(world: &World, by: u32, bytes: &[u8]) -> Result<ConnectAnswer, St
 }
 
 /// The connect that an answer names, unless it is refused: the tests of the answer, then, to accept, that the caller's
-/// process has 256 handles.
+/// process has 256 handles, with those that its waiting connects are to get.
 #[tactic(auto, unfolding(lpc_model::specs::Connect::nt_accept_connect_port))]
 fn accept_test(
     world: &World,
@@ -76,7 +75,7 @@ fn accept_test(
     Ok(answer)
 }
 
-/// A connect is refused: its thread is told the data of the answer, and its client port goes.
+/// A connect is refused: it ends, with the data of the answer.
 fn refuse_connect(
     world: &mut World,
     by: &ThreadRow,
@@ -87,30 +86,18 @@ fn refuse_connect(
     requires spare { 2 ≤ out.old.spare }
     requires waits { has (waits_as thread) world.old.rows.waits ≡ true }
     requires idle { is_pending_in world.old.rows thread ≡ false }
+    requires offered { is_offered (waiter world.old.rows thread) ≡ true }
     ensures takes { Takes (connect.refuse_steps (shown_thread by.now) (record { message = message.now; wait = waiter world.old.rows thread }) world.old.rows) world.old world.new out.old out.new }
     ensures calls { world.new.calls ≡ world.old.calls }
+    ensures spare { out.old.spare ≤ out.new.spare + 2 }
 {
-    let client = world.waiting(thread).port;
     out.push(Entry::Answer {
         tid: by.number,
         call: CallName::NtAcceptConnectPort,
         status: SUCCESS,
         fields: Fields::none(),
     });
-    let fields = info_field(message.body.as_slice());
-    world.wake(thread, PORT_CONNECTION_REFUSED, fields, out);
-    world.free_port(client);
-}
-
-/// The data of an answer, as the connect keeps it.
-fn reply_of(message: &Message) -> ArrayVec<u8, 256>
-    ensures { result.items ≡ message.now.body }
-{
-    let mut reply = ArrayVec::new();
-    for byte in message.body.as_slice() {
-        reply.push(*byte);
-    }
-    reply
+    world.end_connect(thread, message.body.as_slice(), out);
 }
 
 /// A connect is accepted: the server port is made, gets a handle, and is joined to the client port.
@@ -136,13 +123,14 @@ fn accept_connect(
     requires thread { let x = waiter world.old.rows thread in x.thread ≡ thread }
     ensures takes { Takes (connect.accept_steps (shown_thread by.now) context (free_handle world.old.rows by.now.process) (record { message = message.now; wait = waiter world.old.rows thread })) world.old world.new out.old out.new }
     ensures calls { world.new.calls ≡ world.old.calls }
+    ensures spare { out.old.spare ≤ out.new.spare + 2 }
 {
     let wait = world.waiting(thread);
     let birth = world.procs_draw_birth(by.number);
     let server = world.ports_add(PortKind::Server, birth, Some(wait.queue));
     let value = world.give_handle(by.process, Object::Port(server), PORT_ACCESS);
     world.ports_join(wait.port, server, context);
-    let reply = reply_of(message);
+    let reply = held(message.body.as_slice());
     world.waits_set_accepted(thread, Some(Accepted { reply }));
     out.push(Entry::Answer {
         tid: by.number,
@@ -159,7 +147,7 @@ fn accept_connect(
 /// Refusals, in this order: a message of wrong shape, one that is too long; INVALID_CID where no live thread has the
 /// message's process and thread; REPLY_MESSAGE_MISMATCH where the message names no connect that was received and isn't
 /// accepted, to a connection port that the caller's process has a handle to; QUOTA_EXCEEDED where the process has 256
-/// handles, unless the connect is refused. A refused connect takes no memory; after want of memory nothing has changed.
+/// handles, with those that its waiting connects are to get, unless the connect is refused. A refused connect takes no memory; after want of memory nothing has changed.
 pub fn nt_accept_connect_port(
     world: &mut World,
     by: u32,
@@ -174,6 +162,8 @@ pub fn nt_accept_connect_port(
     ensures takes { OnOk result (Takes (settled (caller world.old.rows by) call.NtAcceptConnectPort (connect.nt_accept_connect_port world.old.rows (caller world.old.rows by) context message.now accept)) world.old world.new out.old out.new) }
     ensures outcome { IfOk result (λ o. o ≡ outcome_of (settled (caller world.old.rows by) call.NtAcceptConnectPort (connect.nt_accept_connect_port world.old.rows (caller world.old.rows by) context message.now accept))) }
     ensures calls { OnOk result (world.new.calls ≡ world.old.calls + 1) }
+    ensures spare { OnOk result (out.old.spare ≤ out.new.spare + 2) }
+    ensures late { OnErr result (IsOk (connect.nt_accept_connect_port world.old.rows (caller world.old.rows by) context message.now accept)) }
     ensures answered { accept ≡ false → IsOk result }
     ensures memory { OnErr result (Same world.old world.new) }
     ensures silent { OnErr result (out.new ≡ out.old) }

@@ -15,10 +15,10 @@ ghost use Rattle.lpc_world.specs.Shown.{shown_thread};
 use crate::create::PORT_ACCESS;
 use lpc_base::Status;
 use lpc_base::status::SUCCESS;
-use lpc_model::{CallName, Entries, Entry, Fields, Outcome};
+use lpc_model::{CallName, Entries, Entry, Fields, Outcome, completion_fields, refuse};
 use lpc_procs::ThreadRow;
 use lpc_slots::Key;
-use lpc_world::{Object, World, completion_fields, refuse};
+use lpc_world::{Object, World};
 
 /// A connection that can be completed: its two ports, and the thread that waits in the connect.
 #[derive(Clone, Copy)]
@@ -60,6 +60,7 @@ fn complete(world: &mut World, by: &ThreadRow, connection: Connection, out: &mut
     requires idle { is_pending_in world.old.rows connection.thread ≡ false }
     ensures takes { let x = waiter world.old.rows connection.thread in Takes (connect.complete_steps (shown_thread by.now) (free_handle world.old.rows x.process) (record { server = name_of world.old.names.ports connection.server; client = name_of world.old.names.ports connection.client; wait = x })) world.old world.new out.old out.new }
     ensures calls { world.new.calls ≡ world.old.calls }
+    ensures spare { out.old.spare ≤ out.new.spare + 2 }
 {
     let call = world.waiting_call(connection.thread);
     let reply = world.reply_bytes(connection.thread);
@@ -102,6 +103,7 @@ pub fn nt_complete_connect_port(
     ensures takes { Takes (settled (caller world.old.rows by) call.NtCompleteConnectPort (connect.nt_complete_connect_port world.old.rows (caller world.old.rows by) handle)) world.old world.new out.old out.new }
     ensures outcome { result ≡ outcome_of (settled (caller world.old.rows by) call.NtCompleteConnectPort (connect.nt_complete_connect_port world.old.rows (caller world.old.rows by) handle)) }
     ensures calls { world.new.calls ≡ world.old.calls + 1 }
+    ensures spare { out.old.spare ≤ out.new.spare + 2 }
 {
     let caller = world.caller(by);
     world.begin_call();

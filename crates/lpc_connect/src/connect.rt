@@ -1,5 +1,5 @@
 // The call that asks for a connection.
-ghost use Rattle.std.specs.Prelude.{ℕ, ◌≡◌, ◌≤◌, ◌<◌, ◌+◌, ◌*◌, [], ◌∷◌, Ok, Err, None, Some, IfErr, IfOk, OnOk, OnErr, false, length, true};
+ghost use Rattle.std.specs.Prelude.{ℕ, ◌≡◌, ◌≤◌, ◌<◌, ◌+◌, ◌*◌, [], ◌∷◌, Ok, Err, None, Some, IfErr, IfOk, IsOk, OnOk, OnErr, false, length, true};
 ghost use Rattle.lpc_base.specs.Rows.{first, has};
 ghost use Rattle.lpc_model.specs.Basics.{basic, outcome_of, world_after, DrawsIdentifier, DrawsOrdinal, Makes};
 ghost use Rattle.lpc_model.specs.Connect as connect;
@@ -20,11 +20,11 @@ use lpc_base::limits::{HEADER_SIZE, MESSAGE_LIMIT};
 use lpc_base::status::PORT_MESSAGE_TOO_LONG;
 use lpc_base::{Birth, OutOfMemory, PortKind, Status};
 use lpc_message::{ClientId, Header, kind};
-use lpc_model::{Body, CallName, Entries, Entry, Message, Outcome};
+use lpc_model::{Body, CallName, Entries, Entry, Message, Outcome, identifier_field, refuse};
 use lpc_procs::ThreadRow;
 use lpc_slots::Key;
 use lpc_waits::{Wait, WaitKind};
-use lpc_world::{World, identifier_field, refuse};
+use lpc_world::World;
 
 /// The bytes that go with a connect are no more than a message holds.
 fn info_test(info: &[u8]) -> Result<(), Status>
@@ -129,6 +129,7 @@ fn start(world: &mut World, by: &ThreadRow, connection: Key, message: &Message, 
     requires asks { asks message.now ≡ true }
     ensures takes { Takes (connect.connect_steps (shown_thread by.now) (name_of world.old.names.ports connection) message.now world.old.rows) world.old world.new out.old out.new }
     ensures calls { world.new.calls ≡ world.old.calls }
+    ensures spare { out.old.spare ≤ out.new.spare + 2 }
 {
     out.push(Entry::Waits {
         tid: by.number,
@@ -171,6 +172,8 @@ pub fn nt_connect_port(
     ensures takes { OnOk result (Takes (settled (caller world.old.rows by) call.NtConnectPort (connect.nt_connect_port world.old.rows (caller world.old.rows by) name.now info.now)) world.old world.new out.old out.new) }
     ensures outcome { IfOk result (λ o. o ≡ outcome_of (settled (caller world.old.rows by) call.NtConnectPort (connect.nt_connect_port world.old.rows (caller world.old.rows by) name.now info.now))) }
     ensures calls { OnOk result (world.new.calls ≡ world.old.calls + 1) }
+    ensures spare { OnOk result (out.old.spare ≤ out.new.spare + 2) }
+    ensures late { OnErr result (IsOk (connect.nt_connect_port world.old.rows (caller world.old.rows by) name.now info.now)) }
     ensures memory { OnErr result (Same world.old world.new) }
     ensures silent { OnErr result (out.new ≡ out.old) }
 {

@@ -18,10 +18,10 @@ ghost use Rattle.lpc_world.specs.Shown.{shown_thread};
 
 use lpc_base::status::SUCCESS;
 use lpc_base::{Birth, OutOfMemory, PortKind, Status};
-use lpc_model::{CallName, Entries, Entry, Outcome};
+use lpc_model::{CallName, Entries, Entry, Outcome, handle_field, refuse};
 use lpc_procs::ThreadRow;
 use lpc_slots::Key;
-use lpc_world::{Object, World, handle_field, refuse};
+use lpc_world::{Object, World};
 
 /// The rights of a handle that a call makes to a port.
 pub(crate) const PORT_ACCESS: u32 = 0x001F_0001;
@@ -97,6 +97,7 @@ fn create(world: &mut World, by: &ThreadRow, name: Option<&[u8]>, out: &mut Entr
     requires free { IsOk (connect.making world.old.rows (next_birth (shown_thread by.now)) (option_copied name)) }
     ensures takes { IfOk (connect.making world.old.rows (next_birth (shown_thread by.now)) (option_copied name.entry)) (λ made. Takes (connect.create_steps (shown_thread by.now) made (free_handle world.old.rows by.now.process)) world.old world.new out.old out.new) }
     ensures calls { world.new.calls ≡ world.old.calls }
+    ensures spare { out.new.spare + 1 ≡ out.old.spare }
 {
     let birth = world.procs_draw_birth(by.number);
     let port = make(world, name, birth);
@@ -113,7 +114,7 @@ fn create(world: &mut World, by: &ThreadRow, name: Option<&[u8]>, out: &mut Entr
 /// path of that name leads to from then on; without one it is a port for the threads of the caller's process.
 ///
 /// Refusals, in this order: the fault of the name, or OBJECT_NAME_COLLISION where something stands there; QUOTA_EXCEEDED
-/// where the process has 256 handles. After want of memory nothing has changed.
+/// where the process has 256 handles, with those that its waiting connects are to get. After want of memory nothing has changed.
 #[tactic(auto, unfolding(lpc_model::specs::Connect::nt_create_port))]
 pub fn nt_create_port(
     world: &mut World,
@@ -127,6 +128,8 @@ pub fn nt_create_port(
     ensures takes { OnOk result (Takes (settled (caller world.old.rows by) call.NtCreatePort (connect.nt_create_port world.old.rows (caller world.old.rows by) (option_copied name.entry))) world.old world.new out.old out.new) }
     ensures outcome { IfOk result (λ o. o ≡ outcome_of (settled (caller world.old.rows by) call.NtCreatePort (connect.nt_create_port world.old.rows (caller world.old.rows by) (option_copied name.entry)))) }
     ensures calls { OnOk result (world.new.calls ≡ world.old.calls + 1) }
+    ensures spare { OnOk result (out.old.spare ≤ out.new.spare + 2) }
+    ensures late { OnErr result (IsOk (connect.nt_create_port world.old.rows (caller world.old.rows by) (option_copied name.entry))) }
     ensures memory { OnErr result (Same world.old world.new) }
     ensures silent { OnErr result (out.new ≡ out.old) }
 {

@@ -13,11 +13,11 @@ ghost use Rattle.lpc_world.specs.Shown.{shown_thread};
 
 use lpc_base::Status;
 use lpc_base::status::{INVALID_PORT_HANDLE, SUCCESS};
-use lpc_model::{CallName, Entries, Entry, Fields, Message, Outcome};
+use lpc_model::{CallName, Entries, Entry, Fields, Message, Outcome, message_field, refuse};
 use lpc_procs::ThreadRow;
 use lpc_slots::Key;
 use lpc_waits::{Wait, WaitKind};
-use lpc_world::{World, message_field, refuse, wants_answer};
+use lpc_world::{World, wants_answer};
 
 /// The connection port of a handle: the handle's fault, and INVALID_PORT_HANDLE for another kind of port.
 #[tactic(auto, unfolding(lpc_model::specs::Connect::nt_listen_port))]
@@ -44,6 +44,7 @@ fn take_or_wait(world: &mut World, by: &ThreadRow, port: Key, out: &mut Entries)
     ensures takes { Takes (connect.listen_steps (shown_thread by.now) (name_of world.old.names.ports port) (first (is_queued_connect (name_of world.old.names.ports port)) world.old.rows.messages)) world.old world.new out.old out.new }
     ensures outcome { result ≡ outcome_of (connect.listen_steps (shown_thread by.now) (name_of world.old.names.ports port) (first (is_queued_connect (name_of world.old.names.ports port)) world.old.rows.messages)) }
     ensures calls { world.new.calls ≡ world.old.calls }
+    ensures spare { out.old.spare ≤ out.new.spare + 2 }
 {
     match world.ports_pull_connect(port) {
         Some(taken) => {
@@ -87,6 +88,7 @@ fn listen(world: &mut World, tid: u32, handle: u32, out: &mut Entries) -> Result
     requires budget { world.old.made + 16 ≤ 16 * world.old.calls }
     ensures does { Does result (connect.nt_listen_port world.old.rows (caller world.old.rows tid) handle) world.old world.new out.old out.new }
     ensures calls { world.new.calls ≡ world.old.calls }
+    ensures spare { out.old.spare ≤ out.new.spare + 2 }
 {
     let port = listen_test(world, tid, handle)?;
     let by = world.caller(tid);
@@ -104,6 +106,7 @@ pub fn nt_listen_port(world: &mut World, by: u32, handle: u32, out: &mut Entries
     ensures takes { Takes (settled (caller world.old.rows by) call.NtListenPort (connect.nt_listen_port world.old.rows (caller world.old.rows by) handle)) world.old world.new out.old out.new }
     ensures outcome { result ≡ outcome_of (settled (caller world.old.rows by) call.NtListenPort (connect.nt_listen_port world.old.rows (caller world.old.rows by) handle)) }
     ensures calls { world.new.calls ≡ world.old.calls + 1 }
+    ensures spare { out.old.spare ≤ out.new.spare + 2 }
 {
     let caller = world.caller(by);
     world.begin_call();

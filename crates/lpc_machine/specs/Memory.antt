@@ -1,5 +1,8 @@
--- Which lines may need memory.
-use Rattle.std.specs.Prelude.{Bool, true, false}
+-- Which lines may need memory, and which make a call.
+use Rattle.std.specs.Prelude.{◌≡◌, Bool, true, false, IsOk}
+use Rattle.lpc_model.specs.World.{World}
+use Rattle.lpc_model.specs.Machine.{boot_line, dir_line, link_line, service_of, thread_line}
+use Rattle.lpc_world.specs.Ready.{caller, is_ready}
 use Rattle.lpc_model.specs.Lines.{ScriptCall, ScriptLine, boot, thread, dir, link, run, accept_connect_port, connect_port, create_port, request_port}
 
 -- the calls whose step may take memory: they make a port, or a message that no thread waits with; a refusal of a connect
@@ -18,3 +21,19 @@ takes_memory (thread tid pid) = true
 takes_memory (dir path) = true
 takes_memory (link path target) = true
 takes_memory (run tid call) = call_takes_memory call
+
+-- the line makes a call: a directive does, and a call of a thread that lives and doesn't wait
+abbrev pub makes_call : World → ScriptLine → Bool
+makes_call w (boot pid tid) = true
+makes_call w (thread tid pid) = true
+makes_call w (dir path) = true
+makes_call w (link path target) = true
+makes_call w (run tid call) = is_ready w tid
+
+-- the line makes a call that isn't refused
+abbrev pub GoesOn : World → ScriptLine → Type 0
+GoesOn w (boot pid tid) = IsOk (boot_line w pid tid)
+GoesOn w (thread tid pid) = IsOk (thread_line w tid pid)
+GoesOn w (dir path) = IsOk (dir_line w path)
+GoesOn w (link path target) = IsOk (link_line w path target)
+GoesOn w (run tid call) = (is_ready w tid ≡ true) × IsOk (service_of w (caller w tid) call)

@@ -6,10 +6,11 @@ ghost use Rattle.lpc_model.specs.Found.{live_thread};
 ghost use Rattle.lpc_model.specs.Grammar.{has_ids};
 ghost use Rattle.lpc_model.specs.Lines.{call_of, line_of};
 ghost use Rattle.lpc_model.specs.Machine as model;
-ghost use Rattle.lpc_model.specs.Machine.{call_steps, thread_steps};
+ghost use Rattle.lpc_model.specs.Lines as script;
+ghost use Rattle.lpc_model.specs.Machine.{call_steps, service_of, thread_steps};
 ghost use Rattle.lpc_model.specs.SoundWaits.{HasSoundWaits};
 ghost use Rattle.lpc_model.specs.declared.entry.Entry.TheVariants as entry;
-ghost use Rattle.lpc_machine.specs.Memory.{call_takes_memory, takes_memory};
+ghost use Rattle.lpc_machine.specs.Memory.{GoesOn, call_takes_memory, makes_call, takes_memory};
 ghost use Rattle.lpc_world.specs.Does.{Takes};
 ghost use Rattle.lpc_world.specs.Kept.{Same};
 ghost use Rattle.lpc_world.specs.Ready.{caller, is_ready, room_needed};
@@ -64,6 +65,7 @@ fn serve(world: &mut World, by: u32, call: &Call<'_>, out: &mut Entries) -> Resu
     ensures calls { OnOk result (world.new.calls ≡ world.old.calls + 1) }
     ensures memory { OnErr result (Same world.old world.new) }
     ensures silent { OnErr result (out.new ≡ out.old) }
+    ensures late { OnErr result (IsOk (service_of world.old.rows (caller world.old.rows by) (call_of call.now))) }
     ensures free { call_takes_memory (call_of call.now) ≡ false → IsOk result }
 {
     match call {
@@ -107,10 +109,11 @@ fn run(world: &mut World, tid: u32, call: &Call<'_>, out: &mut Entries) -> Resul
     requires spare { room_needed world.old.rows ≤ out.old.spare }
     requires calls { world.old.calls < 1000000 }
     ensures takes { OnOk result (Takes (thread_steps tid (call_of call.now) (live_thread world.old.rows tid) world.old.rows) world.old world.new out.old out.new) }
-    ensures calls { world.new.calls ≤ world.old.calls + 1 }
-    ensures counts { world.old.calls ≤ world.new.calls }
+    ensures counted { OnOk result (is_ready world.old.rows tid ≡ true → world.new.calls ≡ world.old.calls + 1) }
+    ensures uncounted { OnOk result (is_ready world.old.rows tid ≡ false → world.new.calls ≡ world.old.calls) }
     ensures memory { OnErr result (Same world.old world.new) }
     ensures silent { OnErr result (out.new ≡ out.old) }
+    ensures late { OnErr result (GoesOn world.old.rows (script.run tid (call_of call.now))) }
     ensures free { call_takes_memory (call_of call.now) ≡ false → IsOk result }
 {
     match world.condition(tid) {
@@ -131,8 +134,9 @@ fn take(world: &mut World, line: &Line<'_>, out: &mut Entries) -> Result<(), Out
     ensures ok { OnOk result (record { world = world.new.rows; entries = out.new.list } ≡ model.step world.old.rows (line_of line.now)) }
     ensures err { OnErr result (Same world.old world.new) }
     ensures silent { OnErr result (out.new.list ≡ []) }
-    ensures calls { world.new.calls ≤ world.old.calls + 1 }
-    ensures counts { world.old.calls ≤ world.new.calls }
+    ensures counted { OnOk result (makes_call world.old.rows (line_of line.now) ≡ true → world.new.calls ≡ world.old.calls + 1) }
+    ensures uncounted { OnOk result (makes_call world.old.rows (line_of line.now) ≡ false → world.new.calls ≡ world.old.calls) }
+    ensures late { OnErr result (GoesOn world.old.rows (line_of line.now)) }
     ensures free { takes_memory (line_of line.now) ≡ false → IsOk result }
 {
     match line {
@@ -197,7 +201,8 @@ impl Machine {
     /// The line's process and thread numbers are from 1 to 2147483647.
     ///
     /// After want of memory nothing has changed. Only directives, `NtCreatePort`, `NtConnectPort`,
-    /// `NtAcceptConnectPort` to accept, and `NtRequestPort` take memory; every other line is answered.
+    /// `NtAcceptConnectPort` to accept, and `NtRequestPort` take memory, and only where they aren't refused; every other
+    /// line is answered. A directive, and a call of a thread that lives and doesn't wait, counts as a call, refused or not.
     pub fn step(&mut self, line: &Line<'_>, out: &mut Entries) -> Result<(), OutOfMemory>
         requires empty { out.old.list ≡ [] }
         requires spare { room_needed self.old.rows ≤ out.old.spare }
@@ -207,8 +212,9 @@ impl Machine {
         ensures sound { HasSoundWaits self.new.rows }
         ensures err { OnErr result (Same self.old self.new) }
         ensures silent { OnErr result (out.new.list ≡ []) }
-        ensures calls { self.new.calls ≤ self.old.calls + 1 }
-        ensures counts { self.old.calls ≤ self.new.calls }
+        ensures counted { OnOk result (makes_call self.old.rows (line_of line.now) ≡ true → self.new.calls ≡ self.old.calls + 1) }
+        ensures uncounted { OnOk result (makes_call self.old.rows (line_of line.now) ≡ false → self.new.calls ≡ self.old.calls) }
+        ensures late { OnErr result (GoesOn self.old.rows (line_of line.now)) }
         ensures free { takes_memory (line_of line.now) ≡ false → IsOk result }
     {
         take(&mut self.world, line, out)

@@ -18,10 +18,10 @@ use Rattle.lpc_model.specs.Found.{free_handle, is_connection_port, is_live_threa
 use Rattle.lpc_model.specs.Basics.{AddsHandle, Awaits, Completes, DrawsIdentifier, DrawsOrdinal, Makes, basic, past_ordinal}
 use Rattle.lpc_model.specs.Message.{message_test}
 use Rattle.lpc_model.specs.Fields.{h, info, max}
-use Rattle.lpc_model.specs.Entering.{row_of, takes}
+use Rattle.lpc_model.specs.Entering.{row_of, takes, woken}
 use Rattle.lpc_model.specs.Named.{named, named_port, port_found}
 use Rattle.lpc_model.specs.Tests.{PORT_ACCESS, client_of, client_test, handle_row, handles_test, is_client, next_birth, port_test}
-use Rattle.lpc_model.specs.Connect.{Completable, ConnectAnswer, answer_of, answer_test, answered_steps, accept_steps, client_port, complete_steps, complete_test, connect_steps, connect_wait, connection_request, info_test, listen_steps, listen_wait, names_connect, nt_accept_connect_port, nt_complete_connect_port, nt_connect_port, nt_listen_port, refused, server_port}
+use Rattle.lpc_model.specs.Connect.{Completable, ConnectAnswer, answer_of, answer_test, answered_steps, accept_steps, client_port, complete_steps, complete_test, connect_steps, connect_wait, connection_request, info_test, listen_steps, listen_wait, names_connect, nt_accept_connect_port, nt_complete_connect_port, nt_connect_port, nt_listen_port, server_port}
 use Rattle.lpc_model.specs.Refusal.{◌>>=◌, found_or, refuse_if}
 use Rattle.lpc_model.specs.SoundWaits.{IsSoundWorld, is_message_of, leads_open}
 use Rattle.lpc_model.proofs.Rows.{has-none, lone, passes-change}
@@ -157,7 +157,7 @@ accept-sound w by context bytes accept c s =
   where
     answered-sound : (accept : Bool) (a : ConnectAnswer) → first (names_connect w by a.message) w.waits ≡ Some a.wait → Holds (LeaveSound w) (answered_steps w by context accept a)
     answered-sound false a at =
-        let waking = refused a.message.body a.wait in
+        let waking = woken PORT_CONNECTION_REFUSED (info a.message.body ∷ []) a.wait in
         sound-free (basic w waking) a.wait.port (sound-wakes w a.wait.thread a.wait.call PORT_CONNECTION_REFUSED (info a.message.body ∷ []) s)
     answered-sound true a at = bind_holds (handles_test w by.process 1) _ (LeaveSound w) (λ _ _. accepted-sound w by context a.message a.wait at c s)
 

@@ -3,7 +3,7 @@ use Rattle.std.specs.Prelude.{ℕ, Bool, true, false, not, nat_lt, length, List,
 use Rattle.lpc_base.specs.Rows.{first, has}
 use Rattle.lpc_base.specs.declared.limits.TheConstants.{HEADER_SIZE, MESSAGE_LIMIT}
 use Rattle.lpc_base.specs.declared.status.Status.{Status}
-use Rattle.lpc_base.specs.declared.status.TheConstants.{INVALID_PARAMETER, INVALID_PORT_HANDLE, PORT_CONNECTION_REFUSED, PORT_DISCONNECTED, PORT_MESSAGE_TOO_LONG, REPLY_MESSAGE_MISMATCH, SUCCESS}
+use Rattle.lpc_base.specs.declared.status.TheConstants.{INVALID_PARAMETER, INVALID_PORT_HANDLE, PORT_DISCONNECTED, PORT_MESSAGE_TOO_LONG, REPLY_MESSAGE_MISMATCH, SUCCESS}
 use Rattle.lpc_base.specs.declared.port_kind.PortKind.TheVariants.{Client, Connection, Server, Unnamed}
 use Rattle.lpc_message.specs.declared.kind.TheConstants.{CONNECTION_REQUEST}
 use Rattle.lpc_model.specs.declared.entry.Entry.TheVariants.{Answer, Waits}
@@ -14,7 +14,7 @@ use Rattle.lpc_model.specs.Message.{made, message_test}
 use Rattle.lpc_model.specs.Found.{free_handle, handles_of, is_accepted, is_connection_port, is_offered, is_queued_connect, is_server_port, names_port, names_wait, port_name, same_birth}
 use Rattle.lpc_model.specs.Basics.{Accepts, AddsHandle, Awaits, Basic, Binds, Completes, DrawsIdentifier, DrawsOrdinal, Joins, Makes, Steps, Tells, doing, ◌▹◌}
 use Rattle.lpc_model.specs.Fields.{h, id, info, max, msg}
-use Rattle.lpc_model.specs.Entering.{enter, free_port, row_of, take_connect_steps, woken}
+use Rattle.lpc_model.specs.Entering.{end_connect, enter, row_of, take_connect_steps, woken}
 use Rattle.lpc_model.specs.Named.{free_name, named_port}
 use Rattle.lpc_names.specs.Walk.{Stands}
 use Rattle.lpc_names.specs.declared.names.Found.TheVariants.{Item}
@@ -47,7 +47,7 @@ making w port (Some name) = do
   path ← free_name w name
   Ok (named_steps port path)
 
--- NtCreatePort: a fault of the name, then the process has 256 handles
+-- NtCreatePort: a fault of the name, then the process has 256 handles, with those that its waiting connects are to get
 unfoldable pub nt_create_port : World → ThreadRow → Option (List ℕ) → Result (List Basic) Status
 nt_create_port w by name = do
   made ← making w (next_birth by) name
@@ -90,7 +90,7 @@ abbrev pub connect_steps : ThreadRow → Birth → Message → Steps
 connect_steps by connection m =
     doing (connect_start by connection m) ▹ enter (row_of connection (client_port (next_birth by) connection) m)
 
--- NtConnectPort: too many bytes, a fault of the name or a directory, then the process has 256 handles
+-- NtConnectPort: too many bytes, a fault of the name or a directory, then the process has 256 handles, counted likewise
 unfoldable pub nt_connect_port : World → ThreadRow → List ℕ → List ℕ → Result (List Basic) Status
 nt_connect_port w by name bytes = do
   _ ← info_test bytes
@@ -139,17 +139,10 @@ answer_test w by bytes = do
   x ← found_or (first (names_connect w by m) w.waits) REPLY_MESSAGE_MISMATCH
   Ok (record { message = m; wait = x })
 
--- a connect ends unsuccessfully, and its thread is told the bytes of the answer
-abbrev pub refused : List ℕ → WaitRow → Basic
-refused bytes x = woken PORT_CONNECTION_REFUSED (info bytes ∷ []) x
-
--- a connect is refused, and its client port goes
-abbrev pub refuse_start : ThreadRow → ConnectAnswer → List Basic
-refuse_start by a =
-    Tells (Answer by.number NtAcceptConnectPort SUCCESS []) ∷ refused a.message.body a.wait ∷ []
-
+-- a connect is refused: it ends, with the bytes of the answer
 abbrev pub refuse_steps : ThreadRow → ConnectAnswer → Steps
-refuse_steps by a = doing (refuse_start by a) ▹ free_port a.wait.port
+refuse_steps by a =
+    doing (Tells (Answer by.number NtAcceptConnectPort SUCCESS []) ∷ []) ▹ end_connect a.message.body a.wait
 
 -- a connect is accepted: the server port is made, gets a handle, and is joined to the client port
 abbrev pub accept_steps : ThreadRow → ℕ → ℕ → ConnectAnswer → List Basic
@@ -162,14 +155,15 @@ accept_steps by context value a =
     ∷ Accepts a.wait.thread a.message.body
     ∷ []
 
--- a connect is accepted, unless the process has 256 handles, or refused
+-- a connect is accepted, unless the process has 256 handles, with those that its waiting connects are to get, or refused
 abbrev pub answered_steps : World → ThreadRow → ℕ → Bool → ConnectAnswer → Result (List Basic) Status
 answered_steps w by context false a = Ok (refuse_steps by a w)
 answered_steps w by context true a = do
   _ ← handles_test w by.process 1
   Ok (accept_steps by context (free_handle w by.process) a)
 
--- NtAcceptConnectPort: the message, no such client, no connect that it names, then, to accept, the process has 256 handles
+-- NtAcceptConnectPort: the message, no such client, no connect that it names, then, to accept, the process has 256
+-- handles, with those that its waiting connects are to get
 unfoldable pub nt_accept_connect_port : World → ThreadRow → ℕ → List ℕ → Bool → Result (List Basic) Status
 nt_accept_connect_port w by context bytes accept = do
   a ← answer_test w by bytes
@@ -218,7 +212,7 @@ complete_steps by value c =
     ∷ woken SUCCESS (h value ∷ max MESSAGE_LIMIT ∷ info (answer_of c.wait) ∷ []) c.wait
     ∷ []
 
--- NtCompleteConnectPort
+-- NtCompleteConnectPort: the handle, no server port, completed already, the pair is cut
 unfoldable pub nt_complete_connect_port : World → ThreadRow → ℕ → Result (List Basic) Status
 nt_complete_connect_port w by handle = do
   c ← complete_test w by handle

@@ -1,14 +1,14 @@
--- Shared steps: a wake, a message that is taken, a message that enters a queue, a port that goes.
-use Rattle.std.specs.Prelude.{Bool, List, [], ◌∷◌, ◌++◌, ◌&&◌, ◌||◌, not}
+-- Shared steps: a wake, a message that is taken, a message that enters a queue, a port that goes, a connect that ends.
+use Rattle.std.specs.Prelude.{ℕ, Bool, List, [], ◌∷◌, ◌++◌, ◌&&◌, ◌||◌, not}
 use Rattle.lpc_base.specs.declared.status.Status.{Status}
-use Rattle.lpc_base.specs.declared.status.TheConstants.{SUCCESS}
+use Rattle.lpc_base.specs.declared.status.TheConstants.{PORT_CONNECTION_REFUSED, SUCCESS}
 use Rattle.lpc_model.specs.declared.entry.Field.{Field}
 use Rattle.lpc_base.specs.Rows.{first, given, when}
 use Rattle.lpc_model.specs.World.{Birth, Listen, Message, MessageRow, PortRow, WaitRow}
 use Rattle.lpc_model.specs.Message.{asks, is_connection_request}
 use Rattle.lpc_model.specs.Found.{context_of, is_held, is_listen, is_receive, same_birth}
-use Rattle.lpc_model.specs.Basics.{Basic, Enters, Frees, Receives, Steps, Takes, TakesConnect, Wakes}
-use Rattle.lpc_model.specs.Fields.{msg, receipt}
+use Rattle.lpc_model.specs.Basics.{Basic, Enters, Frees, Receives, Steps, Takes, TakesConnect, Wakes, doing, ◌▹◌}
+use Rattle.lpc_model.specs.Fields.{info, msg, receipt}
 
 -- a wait ends, and its thread is told
 abbrev pub woken : Status → List Field → WaitRow → Basic
@@ -26,9 +26,10 @@ take_steps m = Takes m.queue ∷ receipt_steps m
 abbrev pub take_connect_steps : MessageRow → List Basic
 take_connect_steps m = TakesConnect m.queue ∷ receipt_steps m
 
--- the waiter takes what enters a queue: a receive takes each message, a listen connection requests alone
+-- the waiter takes what enters a queue, which is a connection request or isn't: a receive takes each message, a listen
+-- connection requests alone
 abbrev pub takes_from : Birth → Bool → WaitRow → Bool
-takes_from q is_request x = (is_receive x || (is_listen x && is_request)) && same_birth x.queue q
+takes_from q connects x = (is_receive x || (is_listen x && connects)) && same_birth x.queue q
 
 abbrev pub takes : MessageRow → WaitRow → Bool
 takes m x = takes_from m.queue (is_connection_request m.message) x
@@ -60,3 +61,7 @@ row_of queue port m = record { queue = queue; sender = port.birth; context = con
 -- a port goes where nothing holds it any longer; this stands behind the step that took what may have been the last holder
 abbrev pub free_port : Birth → Steps
 free_port b w = when (not (is_held w b)) (Frees b ∷ [])
+
+-- a connect ends unsuccessfully: its thread is told so, with the bytes of a refusal, and its client port goes
+abbrev pub end_connect : List ℕ → WaitRow → Steps
+end_connect bytes x = doing (woken PORT_CONNECTION_REFUSED (info bytes ∷ []) x ∷ []) ▹ free_port x.port

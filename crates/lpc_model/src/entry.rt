@@ -95,7 +95,14 @@ pub struct Field {
 }
 
 impl Default for Field {
-    fn default() -> Self {
+    ghost use Rattle.std.specs.Prelude.{◌≡◌};
+    ghost use Rattle.lpc_model.specs.declared.entry.FieldName.TheVariants.{H};
+    ghost use Rattle.lpc_model.specs.declared.entry.Value.TheVariants.{Number};
+
+    /// A handle of value 0: what fills an unused place of [`Fields`].
+    fn default() -> Self
+        ensures { result ≡ record { name = H; value = Number 0 } }
+    {
         Field {
             name: FieldName::H,
             value: Value::Number(0),
@@ -258,13 +265,15 @@ impl Entries {
         Ok(Entries { list, read })
     }
 
-    /// Makes spare room for so many more entries. After want of memory nothing has changed.
+    /// Makes spare room for so many more entries, which takes memory only where there is less of it. After want of memory
+    /// nothing has changed.
     pub fn reserve(&mut self, more: usize) -> Result<(), OutOfMemory>
         ensures list { self.new.list ≡ self.old.list }
         ensures read { self.new.read ≡ self.old.read }
         ensures reads { self.new.reads ≡ self.old.reads }
         ensures room { OnOk result (more ≤ self.new.spare) }
         ensures least { self.old.spare ≤ self.new.spare }
+        ensures wanting { OnErr result (self.old.spare < more) }
         ensures err { OnErr result (self.new ≡ self.old) }
     {
         if self.list.reserve(more).is_err() {

@@ -16,11 +16,13 @@ ghost use Rattle.lpc_request.specs.Replied.{may_be_told, replied_steps};
 use crate::reply::{answered_test, as_reply};
 use lpc_base::Status;
 use lpc_base::status::SUCCESS;
-use lpc_model::{CallName, Entries, Entry, Fields, Message, Outcome};
+use lpc_model::{
+    CallName, Entries, Entry, Fields, Message, Outcome, kept, message_field, receipt, refuse,
+};
 use lpc_procs::ThreadRow;
 use lpc_slots::Key;
 use lpc_waits::{Wait, WaitKind};
-use lpc_world::{World, kept, message_field, receipt, refuse, wants_answer};
+use lpc_world::{World, wants_answer};
 
 /// A reply that a receive makes first: the thread that asked, and the message.
 #[derive(Drop)]
@@ -34,6 +36,7 @@ fn make_reply(world: &mut World, replied: &Option<Replied>, out: &mut Entries)
     requires spare { 1 ≤ out.old.spare }
     requires told { may_be_told world.old.rows replied.now }
     ensures takes { Takes (replied_steps world.old.rows replied.now) world.old world.new out.old out.new }
+    ensures spare { out.old.spare ≤ out.new.spare + 1 }
     ensures names { world.new.names ≡ world.old.names }
     ensures calls { world.new.calls ≡ world.old.calls }
     ensures made { world.new.made ≡ world.old.made }
@@ -71,6 +74,7 @@ fn take_or_wait(
     ensures takes { Takes (request.receive_steps (shown_thread by.now) (port_of world.old.rows (name_of world.old.names.ports port)) (name_of world.old.names.ports queue) (replied_steps world.old.rows replied.now) (first (is_queued (name_of world.old.names.ports queue)) world.old.rows.messages)) world.old world.new out.old out.new }
     ensures outcome { result ≡ outcome_of (request.receive_steps (shown_thread by.now) (port_of world.old.rows (name_of world.old.names.ports port)) (name_of world.old.names.ports queue) (replied_steps world.old.rows replied.now) (first (is_queued (name_of world.old.names.ports queue)) world.old.rows.messages)) }
     ensures calls { world.new.calls ≡ world.old.calls }
+    ensures spare { out.old.spare ≤ out.new.spare + 2 }
 {
     match world.ports_pull(queue) {
         Some(taken) => {
@@ -118,6 +122,7 @@ fn receive(world: &mut World, tid: u32, handle: u32, out: &mut Entries) -> Resul
     requires budget { world.old.made + 16 ≤ 16 * world.old.calls }
     ensures does { Does result (request.nt_reply_wait_receive_port world.old.rows (caller world.old.rows tid) handle None) world.old world.new out.old out.new }
     ensures calls { world.new.calls ≡ world.old.calls }
+    ensures spare { out.old.spare ≤ out.new.spare + 2 }
 {
     let port = world.port_at(tid, handle)?;
     let queue = world.receive_test(port)?;
@@ -139,6 +144,7 @@ fn reply_and_receive(
     requires budget { world.old.made + 16 ≤ 16 * world.old.calls }
     ensures does { Does result (request.nt_reply_wait_receive_port world.old.rows (caller world.old.rows tid) handle (Some message.now)) world.old world.new out.old out.new }
     ensures calls { world.new.calls ≡ world.old.calls }
+    ensures spare { out.old.spare ≤ out.new.spare + 2 }
 {
     let port = world.port_at(tid, handle)?;
     let message = kept(&world.read_message(message)?);
@@ -169,6 +175,7 @@ pub fn nt_reply_wait_receive_port(
     ensures takes { Takes (settled (caller world.old.rows by) name.NtReplyWaitReceivePort (request.nt_reply_wait_receive_port world.old.rows (caller world.old.rows by) handle (option_copied reply.entry))) world.old world.new out.old out.new }
     ensures outcome { result ≡ outcome_of (settled (caller world.old.rows by) name.NtReplyWaitReceivePort (request.nt_reply_wait_receive_port world.old.rows (caller world.old.rows by) handle (option_copied reply.entry))) }
     ensures calls { world.new.calls ≡ world.old.calls + 1 }
+    ensures spare { out.old.spare ≤ out.new.spare + 2 }
 {
     let caller = world.caller(by);
     world.begin_call();

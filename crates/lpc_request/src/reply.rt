@@ -17,9 +17,9 @@ ghost use Rattle.lpc_world.specs.Ready.{caller, is_ready, port_of, waiter};
 use lpc_base::Status;
 use lpc_base::status::{REPLY_MESSAGE_MISMATCH, SUCCESS};
 use lpc_message::kind;
-use lpc_model::{CallName, Entries, Entry, Fields, Message, Outcome};
+use lpc_model::{CallName, Entries, Entry, Fields, Message, Outcome, kept, message_field, refuse};
 use lpc_slots::Key;
-use lpc_world::{World, kept, message_field, refuse};
+use lpc_world::World;
 
 /// A message as a reply returns it: type 2 and no section, all else as it is.
 pub fn as_reply(message: &Message) -> Message
@@ -58,6 +58,7 @@ fn reply(
     requires spare { 2 ≤ out.old.spare }
     ensures does { Does result (request.nt_reply_port world.old.rows (caller world.old.rows tid) handle message.now) world.old world.new out.old out.new }
     ensures calls { world.new.calls ≡ world.old.calls }
+    ensures spare { out.old.spare ≤ out.new.spare + 2 }
 {
     let port = world.port_at(tid, handle)?;
     let message = kept(&world.read_message(message)?);
@@ -74,6 +75,7 @@ fn send_reply(world: &mut World, tid: u32, answered: u32, message: &Message, out
     requires idle { is_pending_in world.old.rows answered ≡ false }
     ensures takes { Takes (request.reply_steps (caller world.old.rows tid) (waiter world.old.rows answered) message.now) world.old world.new out.old out.new }
     ensures calls { world.new.calls ≡ world.old.calls }
+    ensures spare { out.old.spare ≤ out.new.spare + 2 }
 {
     let by = world.caller(tid);
     out.push(Entry::Answer {
@@ -103,6 +105,7 @@ pub fn nt_reply_port(
     ensures takes { Takes (settled (caller world.old.rows by) name.NtReplyPort (request.nt_reply_port world.old.rows (caller world.old.rows by) handle message.now)) world.old world.new out.old out.new }
     ensures outcome { result ≡ outcome_of (settled (caller world.old.rows by) name.NtReplyPort (request.nt_reply_port world.old.rows (caller world.old.rows by) handle message.now)) }
     ensures calls { world.new.calls ≡ world.old.calls + 1 }
+    ensures spare { out.old.spare ≤ out.new.spare + 2 }
 {
     let caller = world.caller(by);
     world.begin_call();

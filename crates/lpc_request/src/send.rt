@@ -1,5 +1,5 @@
 // The calls that send.
-ghost use Rattle.std.specs.Prelude.{◌≡◌, ◌≤◌, ◌<◌, ◌+◌, ◌*◌, Ok, Err, true, false, IfOk, OnOk, OnErr, MatchResult};
+ghost use Rattle.std.specs.Prelude.{◌≡◌, ◌≤◌, ◌<◌, ◌+◌, ◌*◌, Ok, Err, true, false, IfOk, IsOk, OnOk, OnErr, MatchResult};
 ghost use Rattle.lpc_base.specs.Rows.{has};
 ghost use Rattle.lpc_message.specs.declared.kind.TheConstants.{DATAGRAM, REQUEST};
 ghost use Rattle.lpc_model.specs.Basics.{outcome_of};
@@ -16,11 +16,11 @@ ghost use Rattle.lpc_world.specs.Shown.{shown_thread};
 use lpc_base::status::{PORT_DISCONNECTED, SUCCESS};
 use lpc_base::{OutOfMemory, Status};
 use lpc_message::{ClientId, kind};
-use lpc_model::{CallName, Entries, Entry, Message, Outcome};
+use lpc_model::{CallName, Entries, Entry, Message, Outcome, identifier_field, kept, refuse};
 use lpc_procs::ThreadRow;
 use lpc_slots::Key;
 use lpc_waits::{Wait, WaitKind};
-use lpc_world::{World, identifier_field, kept, refuse};
+use lpc_world::World;
 
 /// A message that may be sent on a port, and the queue that it will enter.
 #[derive(Drop)]
@@ -86,6 +86,7 @@ fn send_datagram(
     requires room { 0 < world.old.room.messages }
     ensures takes { Takes (request.datagram_steps (shown_thread by.now) (port_of world.old.rows (name_of world.old.names.ports port)) (name_of world.old.names.ports queue) (request.sent_by (shown_thread by.now) DATAGRAM message.now) world.old.rows) world.old world.new out.old out.new }
     ensures calls { world.new.calls ≡ world.old.calls }
+    ensures spare { out.old.spare ≤ out.new.spare + 2 }
 {
     let context = world.context(port);
     let sent = sent_by(by, kind::DATAGRAM, message);
@@ -131,6 +132,8 @@ pub fn nt_request_port(
     ensures takes { OnOk result (Takes (settled (caller world.old.rows by) name.NtRequestPort (request.nt_request_port world.old.rows (caller world.old.rows by) handle message.now)) world.old world.new out.old out.new) }
     ensures outcome { IfOk result (λ o. o ≡ outcome_of (settled (caller world.old.rows by) name.NtRequestPort (request.nt_request_port world.old.rows (caller world.old.rows by) handle message.now))) }
     ensures calls { OnOk result (world.new.calls ≡ world.old.calls + 1) }
+    ensures spare { OnOk result (out.old.spare ≤ out.new.spare + 2) }
+    ensures late { OnErr result (IsOk (request.nt_request_port world.old.rows (caller world.old.rows by) handle message.now)) }
     ensures memory { OnErr result (Same world.old world.new) }
     ensures silent { OnErr result (out.new ≡ out.old) }
 {
@@ -168,6 +171,7 @@ fn send_request(
     requires name { let row = port_of world.old.rows (name_of world.old.names.ports port) in row.birth ≡ name_of world.old.names.ports port }
     ensures takes { Takes (request.request_steps (shown_thread by.now) (port_of world.old.rows (name_of world.old.names.ports port)) (name_of world.old.names.ports queue) (request.sent_by (shown_thread by.now) REQUEST message.now) world.old.rows) world.old world.new out.old out.new }
     ensures calls { world.new.calls ≡ world.old.calls }
+    ensures spare { out.old.spare ≤ out.new.spare + 2 }
 {
     let context = world.context(port);
     let sent = sent_by(by, kind::REQUEST, message);
@@ -205,6 +209,7 @@ fn request(
     requires budget { world.old.made + 16 ≤ 16 * world.old.calls }
     ensures does { Does result (request.nt_request_wait_reply_port world.old.rows (caller world.old.rows tid) handle message.now) world.old world.new out.old out.new }
     ensures calls { world.new.calls ≡ world.old.calls }
+    ensures spare { out.old.spare ≤ out.new.spare + 2 }
 {
     let sent = send_test(world, tid, handle, message)?;
     let by = world.caller(tid);
@@ -229,6 +234,7 @@ pub fn nt_request_wait_reply_port(
     ensures takes { Takes (settled (caller world.old.rows by) name.NtRequestWaitReplyPort (request.nt_request_wait_reply_port world.old.rows (caller world.old.rows by) handle message.now)) world.old world.new out.old out.new }
     ensures outcome { result ≡ outcome_of (settled (caller world.old.rows by) name.NtRequestWaitReplyPort (request.nt_request_wait_reply_port world.old.rows (caller world.old.rows by) handle message.now)) }
     ensures calls { world.new.calls ≡ world.old.calls + 1 }
+    ensures spare { out.old.spare ≤ out.new.spare + 2 }
 {
     let caller = world.caller(by);
     world.begin_call();

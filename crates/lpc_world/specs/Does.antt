@@ -1,5 +1,5 @@
 -- How what ran stands to its definition's steps.
-use Rattle.std.specs.Prelude.{Bool, not, ◌≡◌, ◌+◌, ◌++◌, [], List, Result, Ok, Err}
+use Rattle.std.specs.Prelude.{Bool, not, ◌≡◌, ◌+◌, ◌++◌, [], List, Result, Ok, Err, IsOk}
 use Rattle.lpc_base.specs.declared.status.Status.{Status}
 use Rattle.lpc_base.specs.declared.error.OutOfMemory.{OutOfMemory}
 use Rattle.lpc_base.specs.declared.status.TheConstants.{SUCCESS}
@@ -46,10 +46,11 @@ abbrev pub made_by : World → Result (List Basic) Status → Made
 made_by w (Ok bs) = record { world = world_after w bs; entries = entries_of bs; status = SUCCESS }
 made_by w (Err s) = record { world = w; entries = []; status = s }
 
--- a directive took the steps of its definition or was refused as the definition says, or found no memory
+-- a directive took the steps of its definition or was refused as the definition says, or it would have taken them but
+-- found no memory
 abbrev pub Directs : Result Status OutOfMemory → Result (List Basic) Status → Kept → Kept → Type 0
 Directs (Ok s) steps old new = (record { world = new.rows; entries = []; status = s } ≡ made_by old.rows steps) × (new.calls ≡ old.calls + 1)
-Directs (Err e) steps old new = Same old new
+Directs (Err e) steps old new = IsOk steps × Same old new
 
 -- no field shows the bytes of a memory read
 abbrev pub has_no_read : List Field → Bool

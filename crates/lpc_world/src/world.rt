@@ -310,12 +310,12 @@ impl World {
     }
 
     /// Gives a process the least free handle, and answers its value; Quota exactly where the process has 256 handles,
-    /// and then nothing changes. With those that its waiting connects are to get it has fewer than 256, and there is room
-    /// for one more beside them.
+    /// and then nothing changes. Where it has fewer, it has fewer than 256 with those that its waiting connects are to get
+    /// too, and there is room for one more beside them.
     pub fn handles_add(&mut self, pid: u32, object: Object, access: u32) -> Result<u32, TableFault>
         requires table { has (is_table pid) self.old.rows.handles ≡ true }
-        requires load { tests.handle_load self.old.rows pid < 256 }
-        requires room { promised self.old.rows pid < handle_room self.old.room pid }
+        requires load { length (handles_of self.old.rows pid) < 256 → tests.handle_load self.old.rows pid < 256 }
+        requires room { length (handles_of self.old.rows pid) < 256 → promised self.old.rows pid < handle_room self.old.room pid }
         requires object { object_stands self.old.names object ≡ true }
         ensures quota { IsErr result ↔ (length (handles_of self.old.rows pid) ≡ 256) }
         ensures value { IfOk result (λ v. v ≡ free_handle self.old.rows pid) }
@@ -336,6 +336,7 @@ impl World {
         ensures room { Roomy self.old.room self.new.room }
         ensures processes { OnOk result (processes ≤ self.new.room.processes) }
         ensures threads { OnOk result (threads ≤ self.new.room.threads) }
+        ensures wanting { OnErr result (processes ≤ self.old.room.processes → self.old.room.threads < threads) }
     {
         self.procs.reserve(processes, threads)?;
         if self.parts.reserve(processes).is_err() {

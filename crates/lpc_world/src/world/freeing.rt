@@ -1,13 +1,19 @@
-// A port that no row names any longer goes.
-ghost use Rattle.std.specs.Prelude.{◌≡◌, true, false};
+// A port that no row names any longer goes, and a connect that ends unsuccessfully takes its client port along.
+ghost use Rattle.std.specs.Prelude.{◌≡◌, ◌≤◌, ◌+◌, true, false, length};
+ghost use Rattle.lpc_base.specs.Rows.{has};
 ghost use Rattle.lpc_model.specs.Basics.{basic, world_after, Frees};
 ghost use Rattle.lpc_model.specs.Entering as entering;
 ghost use Rattle.lpc_model.specs.Found as found;
-ghost use Rattle.lpc_world.specs.Kept.{Roomy};
+ghost use Rattle.lpc_model.specs.Found.{waits_as};
+ghost use Rattle.lpc_world.specs.Does.{Takes};
+ghost use Rattle.lpc_world.specs.Kept.{Roomy, is_pending_in};
 ghost use Rattle.lpc_world.specs.Names.{KeepsOthers, name_of, stands};
+ghost use Rattle.lpc_world.specs.Ready.{waiter};
 
 use crate::parts;
 use crate::world::World;
+use lpc_base::status::PORT_CONNECTION_REFUSED;
+use lpc_model::{Entries, info_field};
 use lpc_slots::Key;
 
 impl World {
@@ -35,6 +41,24 @@ impl World {
         if !self.is_held(port) {
             self.ports_free(port);
         }
+    }
+
+    /// A waiting connect ends unsuccessfully: its thread is told PORT_CONNECTION_REFUSED, with the bytes of a refusal, at
+    /// most 232, and its client port goes where no row names it any longer. The connect was received. It takes no memory.
+    pub fn end_connect(&mut self, tid: u32, info: &[u8], out: &mut Entries)
+        requires spare { 1 ≤ out.old.spare }
+        requires waits { has (waits_as tid) self.old.rows.waits ≡ true }
+        requires connect { found.is_connect (waiter self.old.rows tid) ≡ true }
+        requires idle { is_pending_in self.old.rows tid ≡ false }
+        requires info { length info.now ≤ 232 }
+        ensures takes { Takes (entering.end_connect info.now (waiter self.old.rows tid) self.old.rows) self.old self.new out.old out.new }
+        ensures calls { self.new.calls ≡ self.old.calls }
+        ensures made { self.new.made ≡ self.old.made }
+        ensures spare { out.new.spare + 1 ≡ out.old.spare }
+    {
+        let client = self.waiting(tid).port;
+        self.wake(tid, PORT_CONNECTION_REFUSED, info_field(info), out);
+        self.free_port(client);
     }
 
     /// A port that no row names goes. Its room is spare then.

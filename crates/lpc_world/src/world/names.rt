@@ -77,6 +77,7 @@ impl World {
         ensures same { Same self.old self.new }
         ensures room { Roomy self.old.room self.new.room }
         ensures names { OnOk result (more ≤ self.new.room.names) }
+        ensures wanting { OnErr result (self.old.room.names < more) }
     {
         self.names.reserve(more)
     }

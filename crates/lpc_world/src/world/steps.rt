@@ -152,6 +152,7 @@ impl World {
         requires request { asks message.now ≡ true → 0 < self.old.room.requests }
         requires other { asks message.now ≡ false → 0 < self.old.room.messages }
         ensures takes { Takes (enter (row_with self.old.names queue sender context message.now) self.old.rows) self.old self.new out.old out.new }
+        ensures spare { out.old.spare ≤ out.new.spare + 1 }
         ensures names { self.new.names ≡ self.old.names }
         ensures calls { self.new.calls ≡ self.old.calls }
     {

@@ -1,11 +1,15 @@
-use Rattle.std.proofs.Common.{Result, Ok, Err, OnOk, sym, ◌∙◌, arith}
+use Rattle.std.proofs.Common.{ℕ, ◌≡◌, ◌≤◌, ◌<◌, ◌↔◌, Result, Ok, Err, OnOk, length, sym, ◌∙◌, arith}
+use Rattle.std.specs.Prelude.{IsErr}
+use Rattle.lpc_model.specs.Found.{handles_of}
+use Rattle.lpc_world.specs.Kept.{rows_by}
+use Rattle.lpc_world.specs.Parts.{rows_at}
 use Rattle.lpc_world.specs.Shown.{tables_of}
 use Rattle.lpc_world.proofs.Tables as tables
 use Rattle.lpc_world.proofs.world.World.handles_add.Goals as goal
 
-on-ok : {A B : Type 0} {P : Type 0} (r : Result A B) → P → OnOk r P
-on-ok (Ok a) p = p
-on-ok (Err e) p = tt
+on-few : {A B : Type 0} {P : Type 0} (r : Result A B) (n : ℕ) → (IsErr r ↔ (n ≡ 256)) → n ≤ 256 → (n < 256 → P) → OnOk r P
+on-few (Ok a) n quota most p = p (grind arith)
+on-few (Err e) n quota most p = tt
 
 pub add_handle-requires-clause-one : goal.add_handle-requires-clause-one
 add_handle-requires-clause-one c = tables.single (tables_of c.self.inside.procs c.self.inside.parts.items c.self.inside.ports c.self.inside.waits c.self.inside.names) c.self.inside.calls c.self.inside.made c.self.invariant
@@ -16,12 +20,18 @@ add_handle-requires-clause-part c = sym (tables.has_table (tables_of c.self.insi
 pub add_handle-requires-clause-room : goal.add_handle-requires-clause-room
 add_handle-requires-clause-room c =
     let some = rw (← c.self.view_is, tables.room_at c.self.inside.parts.items c.args.pid) at c.requires.room in
-    λ few. omega (arith, some)
+    let number = tables.handle_number (tables_of c.self.inside.procs c.self.inside.parts.items c.self.inside.ports c.self.inside.waits c.self.inside.names) c.self.inside.calls c.self.inside.made c.self.invariant c.args.pid in
+    λ few. omega (arith, some (omega (arith, number, few)))
 
 pub invariant_of-self : goal.invariant_of-self
 invariant_of-self c =
     tables.handed_or_same (tables_of c.self.inside.procs c.self.inside.parts.items c.self.inside.ports c.self.inside.waits c.self.inside.names) c.self.inside.calls c.self.inside.made c.self.invariant c.args.pid (record { object = c.args.object; access = c.args.access }) c.add_handle.result c.add_handle.new.parts.items (rw (← c.self.view_is) at c.requires.object) c.add_handle.ensures.parts c.add_handle.ensures.same
-    (let there = rw (← c.self.view_is) at c.requires in on-ok c.add_handle.result (tables.welcome (tables_of c.self.inside.procs c.self.inside.parts.items c.self.inside.ports c.self.inside.waits c.self.inside.names) c.self.inside.calls c.self.inside.made c.self.invariant c.args.pid there.table there.load there.room))
+    (let there = rw (← c.self.view_is) at c.requires in
+    let number = tables.handle_number (tables_of c.self.inside.procs c.self.inside.parts.items c.self.inside.ports c.self.inside.waits c.self.inside.names) c.self.inside.calls c.self.inside.made c.self.invariant c.args.pid in
+    let bound = tables.load_bound (tables_of c.self.inside.procs c.self.inside.parts.items c.self.inside.ports c.self.inside.waits c.self.inside.names) c.self.inside.calls c.self.inside.made c.self.invariant c.args.pid there.table in
+    on-few c.add_handle.result (length (rows_at c.self.inside.parts.items c.args.pid)) c.add_handle.ensures.quota (omega (arith, number, bound)) (λ few.
+    let fewer : length (handles_of (rows_by (tables_of c.self.inside.procs c.self.inside.parts.items c.self.inside.ports c.self.inside.waits c.self.inside.names)) c.args.pid) < 256 = omega (arith, number, few) in
+    tables.welcome (tables_of c.self.inside.procs c.self.inside.parts.items c.self.inside.ports c.self.inside.waits c.self.inside.names) c.self.inside.calls c.self.inside.made c.self.invariant c.args.pid there.table (there.load fewer) (there.room fewer)))
 
 pub returns-clause-quota : goal.returns-clause-quota
 returns-clause-quota c = rw (← c.self.view_is, tables.handle_number (tables_of c.self.inside.procs c.self.inside.parts.items c.self.inside.ports c.self.inside.waits c.self.inside.names) c.self.inside.calls c.self.inside.made c.self.invariant c.args.pid) c.add_handle.ensures.quota
