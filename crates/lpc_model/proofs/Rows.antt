@@ -1,12 +1,34 @@
 -- What the list words do to rows that are looked up by a test.
-use Rattle.std.proofs.Common.{◌≡◌, ℕ, ◌≤◌, List, [], ◌∷◌, ◌++◌, Bool, true, false, not, map, Some, None, refl, arith}
+use Rattle.std.proofs.Common.{◌≡◌, ℕ, ◌≤◌, List, [], ◌∷◌, ◌++◌, Bool, true, false, cond, not, map, Option, Some, None, option_map, refl, subst, arith}
 use Rattle.std.specs.Prelude.{◌&&◌, ◌||◌}
+use Rattle.std.specs.Option.{option_or}
+use Rattle.std.proofs.lemmas.List.Folds.{find-append}
 use Rattle.lpc_base.specs.Rows.{change, count, every, first, has, passes, without, without_first}
 
 -- first
 pub first-push : {X : Type 0} (p : X → Bool) (xs : List X) (x y : X) → first p xs ≡ Some x → first p (xs ++ y ∷ []) ≡ Some x
 first-push p [] x y is = absurd (cc)
 first-push p (z ∷ zs) x y is = grind (arith, first-push p zs x y)
+
+-- what is found with one row more was found before, or is that row
+pub first-pushed : {X : Type 0} (P : X → Type 0) (p : X → Bool) (xs : List X) (y x : X) → ((z : X) → first p xs ≡ Some z → P z) → P y → first p (xs ++ y ∷ []) ≡ Some x → P x
+first-pushed {X = X} P p xs y x old new is = at (first p xs) refl
+  where
+    one : (b : Bool) → option_or None (cond b (Some y) None) ≡ Some x → y ≡ x
+    one true is = cc
+    one false is = cc
+
+    at : (o : Option X) → first p xs ≡ o → P x
+    at None none =
+        let last : option_or None (cond (p y) (Some y) None) ≡ Some x = rw (find-append p xs (y ∷ []), none) at is in subst P (one (p y) last) new
+    at (Some z) here =
+        let found : Some z ≡ Some x = rw (find-append p xs (y ∷ []), here) at is in
+        let same : z ≡ x = cc in subst P same (old z here)
+
+-- what is found among rows that are changed
+pub first-change : {X : Type 0} (p s : X → Bool) (f : X → X) → ((x : X) → p (f x) ≡ p x) → (xs : List X) → first p (change s f xs) ≡ option_map (λ x. cond (s x) (f x) x) (first p xs)
+first-change p s f same [] = refl
+first-change p s f same (x ∷ xs) = grind (arith, same x, first-change p s f same xs)
 
 pub passes-push : {X : Type 0} (p f : X → Bool) (xs : List X) (y : X) → passes (first p xs) f ≡ true → passes (first p (xs ++ y ∷ [])) f ≡ true
 passes-push p f [] y is = absurd (cc)
@@ -35,6 +57,10 @@ first-less p test (x ∷ xs) none = grind (arith, first-less p test xs)
 pub has-none : {X : Type 0} (p : X → Bool) (xs : List X) → first p xs ≡ None → has p xs ≡ false
 has-none p xs none = rw none refl
 
+pub has-off : {X : Type 0} (p : X → Bool) (xs : List X) → every (λ x. not (p x)) xs ≡ true → has p xs ≡ false
+has-off p [] off = refl
+has-off p (x ∷ xs) off = grind (arith, has-off p xs)
+
 pub has-append : {X : Type 0} (p : X → Bool) (xs ys : List X) → has p (xs ++ ys) ≡ (has p xs || has p ys)
 has-append p [] ys = refl
 has-append p (x ∷ xs) ys = grind (arith, has-append p xs ys)
@@ -47,6 +73,21 @@ has-change_to p s f (x ∷ xs) kept is = grind (arith, has-change_to p s f xs)
 pub has-changed : {X : Type 0} (p s : X → Bool) (f : X → X) → ((x : X) → p (f x) ≡ true) → (xs : List X) → has s xs ≡ true → has p (change s f xs) ≡ true
 has-changed p s f passes [] is = absurd (cc)
 has-changed p s f passes (x ∷ xs) is = grind (arith, passes x, has-changed p s f passes xs)
+
+-- a row that passes another test is changed, and then passes
+pub has-turned : {X : Type 0} (q p s : X → Bool) (f : X → X) → ((x : X) → q x ≡ true → s x ≡ true) → ((x : X) → q x ≡ true → p (f x) ≡ true) → (xs : List X) → has q xs ≡ true → has p (change s f xs) ≡ true
+has-turned q p s f one two [] is = absurd (cc)
+has-turned q p s f one two (x ∷ xs) is = grind (arith, one x, two x, has-turned q p s f one two xs)
+
+-- a row that passes a test passes a weaker one
+pub has-more : {X : Type 0} (p q : X → Bool) → ((x : X) → p x ≡ true → q x ≡ true) → (xs : List X) → has p xs ≡ true → has q xs ≡ true
+has-more p q more [] is = absurd (cc)
+has-more p q more (x ∷ xs) is = grind (arith, more x, has-more p q more xs)
+
+-- what isn't left out stays
+pub has-without : {X : Type 0} (p test : X → Bool) (xs : List X) → every (λ x. not (test x) || not (p x)) xs ≡ true → has p xs ≡ true → has p (without test xs) ≡ true
+has-without p test [] apart is = absurd (cc)
+has-without p test (x ∷ xs) apart is = grind (arith, has-without p test xs)
 
 -- one taken
 pub has-without_first : {X : Type 0} (p test : X → Bool) (xs : List X) (y : X) → first test xs ≡ Some y → p y ≡ false → has p xs ≡ true → has p (without_first test xs) ≡ true

@@ -18,9 +18,10 @@ use Rattle.lpc_model.specs.Named.{free_name, spelled_name}
 use Rattle.lpc_names.specs.Walk.{LinkTo, Stands}
 use Rattle.lpc_names.specs.declared.names.Found.TheVariants.{Directory}
 use Rattle.lpc_model.specs.Run.{line_step, said_in, trace}
-use Rattle.lpc_model.specs.SoundWaits.{HasSoundWaits, has_home, IsSoundWorld, RunStaysSound, StepsStaySound}
+use Rattle.lpc_model.specs.SoundWaits.{HasSoundWaits, has_home, IsSoundWorld, RefusesCutPairsAlone, RunRefusesCutPairsAlone, RunStaysSound, StepsStaySound}
 use Rattle.lpc_model.proofs.Holding.{Holds, bind_holds, directed_holds, holds_any, holds_ok, not_refused, settled_holds}
 use Rattle.lpc_model.proofs.Usable.{CanCall, can-call}
+use Rattle.lpc_model.proofs.SoundPairs.{refuses_cut_pairs}
 use Rattle.lpc_model.proofs.SoundBasics.{sound-binds, sound-process, sound-thread}
 use Rattle.lpc_model.proofs.SoundConnects.{accept-sound, complete-sound, connect-sound, listen-sound}
 use Rattle.lpc_model.proofs.SoundServices.{LeaveSound, create-sound, datagram-sound, receive-sound, reply-sound, request-sound}
@@ -50,14 +51,19 @@ thread-sound w tid call (Some by) live s = ready-sound w by call (wait_of w tid)
 first-unused : (a b : Bool) → (a || b) ≡ false → a ≡ false
 first-unused a b off = grind arith
 
+second-unused : (a b : Bool) → (a || b) ≡ false → b ≡ false
+second-unused a b off = grind arith
+
 boot-sound : (w : World) (pid tid : ℕ) → IsSoundWorld w → Holds (LeaveSound w) (boot_line w pid tid)
 unfolding boot_line
 boot-sound w pid tid s =
     bind_holds (unused_test w pid tid) _ (LeaveSound w) (λ u is.
-    let new = first-unused (was_process w pid) (was_thread w tid) (not_refused (was_process w pid || was_thread w tid) OBJECT_NAME_COLLISION u is) in
+    let neither = not_refused (was_process w pid || was_thread w tid) OBJECT_NAME_COLLISION u is in
+    let new = first-unused (was_process w pid) (was_thread w tid) neither in
+    let unused = second-unused (was_process w pid) (was_thread w tid) neither in
     let booted = new_process pid None (directive_birth pid) in
     let home : has (is_table pid) (w.handles ++ no_handles pid ∷ []) ≡ true = has-push (is_table pid) w.handles (no_handles pid) (grind (arith, nat_tests)) in
-    sound-thread (basic w (AddsProcess booted)) (new_thread tid pid (directive_birth tid)) home (sound-process w booted new s))
+    sound-thread (basic w (AddsProcess booted)) (new_thread tid pid (directive_birth tid)) home unused (sound-process w booted new s))
 
 -- a process that lives has a table of handles
 live-home : (w : World) (pid : ℕ) → IsSoundWorld w → is_live w pid ≡ true → has (is_table pid) w.handles ≡ true
@@ -70,19 +76,21 @@ live-home w pid s is = at (first (lives_in pid) w.threads) refl is
         let same : (t.process == pid) ≡ true = grind arith in
         subst (λ n. has (is_table n) w.handles ≡ true) (eqb-true t.process pid same) (every-first (has_home w) (lives_in pid) w.threads t s.homes here)
 
--- the tests of a further thread find its process live
-tested-live : (w : World) (tid pid : ℕ) → Holds (λ _. is_live w pid ≡ true) (thread_test w tid pid)
-tested-live w tid pid =
-    let P : Unit {0} → Type 0 = λ _. is_live w pid ≡ true in
+-- the tests of a further thread find its process live, and its number unused
+tested-further : (w : World) (tid pid : ℕ) → Holds (λ _. (is_live w pid ≡ true) × (was_thread w tid ≡ false)) (thread_test w tid pid)
+tested-further w tid pid =
+    let P : Unit {0} → Type 0 = λ _. (is_live w pid ≡ true) × (was_thread w tid ≡ false) in
     bind_holds (live_test w pid) _ P (λ u is.
     let off = not_refused (not (is_live w pid)) INVALID_CID u is in
     let lives : is_live w pid ≡ true = grind arith in
-    bind_holds (unused_thread_test w tid) _ P (λ _ _. holds_any (is_live w pid ≡ true) lives (thread_count_test w pid)))
+    bind_holds (unused_thread_test w tid) _ P (λ v new. holds_any ((is_live w pid ≡ true) × (was_thread w tid ≡ false)) (lives, not_refused (was_thread w tid) OBJECT_NAME_COLLISION v new) (thread_count_test w pid)))
 
 further-sound : (w : World) (tid pid : ℕ) → IsSoundWorld w → Holds (LeaveSound w) (thread_line w tid pid)
 unfolding thread_line
 further-sound w tid pid s =
-    bind_holds (thread_test w tid pid) _ (LeaveSound w) (λ u is. sound-thread w (new_thread tid pid (directive_birth tid)) (live-home w pid s (holds_ok (λ _. is_live w pid ≡ true) (thread_test w tid pid) u (tested-live w tid pid) is)) s)
+    bind_holds (thread_test w tid pid) _ (LeaveSound w) (λ u is.
+    let found = holds_ok (λ _. (is_live w pid ≡ true) × (was_thread w tid ≡ false)) (thread_test w tid pid) u (tested-further w tid pid) is in
+    sound-thread w (new_thread tid pid (directive_birth tid)) (live-home w pid s found.0) found.1 s)
 
 dir-sound : (w : World) (text : List ℕ) → IsSoundWorld w → Holds (LeaveSound w) (dir_line w text)
 unfolding dir_line
@@ -113,6 +121,11 @@ sound_none = record {
   homes = refl;
   tables = λ pid. grind arith;
   unused = λ pid new. refl;
+  pairs = refl;
+  servers = refl;
+  ordinals = λ tid t here. refl;
+  numbers = refl;
+  makers = refl;
 }
 
 -- the step of a line keeps a world sound
@@ -128,13 +141,18 @@ said-sound : (w : World) (said : Option ScriptLine) → IsSoundWorld w → IsSou
 said-sound w None s = s
 said-sound w (Some line) s = sound_step w line s
 
-trace-sound : (w : World) (lines : List (Option ScriptLine)) → IsSoundWorld w → AllByRecursion (λ (s : Stepped). HasSoundWaits s.world) (trace w lines)
+-- what holds of each sound world holds of the world that each line leaves
+trace-keeps : (P : World → Type 0) → ((w : World) → IsSoundWorld w → P w) → (w : World) (lines : List (Option ScriptLine)) → IsSoundWorld w → AllByRecursion (λ (s : Stepped). P s.world) (trace w lines)
 unfolding trace
-trace-sound w [] s = tt
-trace-sound w (said ∷ later) s =
+trace-keeps P holds w [] s = tt
+trace-keeps P holds w (said ∷ later) s =
     let after = said-sound w said s in
-    (sound_waits (line_step w said).world after, trace-sound (line_step w said).world later after)
+    (holds (line_step w said).world after, trace-keeps P holds (line_step w said).world later after)
 
 -- each line of a script leaves a world with sound waits
 pub sound_run : (bytes : List ℕ) → RunStaysSound bytes
-sound_run bytes = trace-sound no_rows (said_in bytes) sound_none
+sound_run bytes = trace-keeps HasSoundWaits sound_waits no_rows (said_in bytes) sound_none
+
+-- and one that refuses completions on cut pairs alone
+pub cut_pairs_run : (bytes : List ℕ) → RunRefusesCutPairsAlone bytes
+cut_pairs_run bytes = trace-keeps RefusesCutPairsAlone refuses_cut_pairs no_rows (said_in bytes) sound_none

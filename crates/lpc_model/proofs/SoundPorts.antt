@@ -1,34 +1,37 @@
 -- Basic steps on connections keep a world's waits sound.
-use Rattle.std.proofs.Common.{◌≡◌, ℕ, List, [], ◌∷◌, Bool, true, false, cond, not, Option, Some, None, refl, sym, subst, arith}
+use Rattle.std.proofs.Common.{◌≡◌, ℕ, List, [], ◌∷◌, Bool, true, false, cond, map, not, Option, Some, None, refl, sym, subst, arith}
 use Rattle.std.specs.Prelude.{◌&&◌, ◌||◌, ◌==◌, is_some}
 use Rattle.std.proofs.lemmas.Bool.Decides.{nat_tests}
 use Rattle.lpc_base.specs.Rows.{every, first, has, passes, when}
-use Rattle.lpc_base.proofs.RowWords.{first-passes, has_none-more}
-use Rattle.lpc_base.proofs.RowMaps.{every-both, every-change_to, every-none}
+use Rattle.lpc_base.proofs.RowWords.{every-more, every-without, first-passes, has_none-more}
+use Rattle.lpc_base.proofs.RowMaps.{every-both, every-change_to, every-map, every-none}
 use Rattle.lpc_names.specs.Binding.{has_name}
 use Rattle.lpc_model.specs.World.{Accepted, Birth, Listen, PortRow, Receive, Request, WaitRow, World}
-use Rattle.lpc_model.specs.Found.{is_held, is_joined_to, is_made_on, is_message_at, is_open, is_port, is_wait_at, pair_of, port_row, same_birth, waits_as}
+use Rattle.lpc_model.specs.Found.{is_held, is_joined_to, is_made_on, is_message_at, is_open, is_port, is_wait_at, pair_of, port_row, same_birth, waits_as, was_thread}
 use Rattle.lpc_model.specs.Basics.{Accepts, Completes, Frees, Joins, accepted, basic, completed, joined, paired, world_after}
 use Rattle.lpc_model.specs.Entering.{free_port}
 use Rattle.lpc_model.specs.Tests.{is_client}
-use Rattle.lpc_model.specs.SoundWaits.{IsSoundWorld, has_client_port, is_joined, waiter_of}
+use Rattle.lpc_model.specs.SoundWaits.{IsSoundWorld, has_client_port, is_joined, is_past, waiter_of}
 use Rattle.lpc_model.proofs.Rows.{count-change, first-map, first-without}
 use Rattle.lpc_model.proofs.Births.{birth-same}
 use Rattle.lpc_model.proofs.Usable.{by_port_kind}
-use Rattle.lpc_model.proofs.SoundWorlds.{KeepsPort, StandsAs, by_kind, is_sure, kept-sure, order-of, port-kept, sound-from, sound-kept, stands-same, sure-waits}
+use Rattle.lpc_model.proofs.SoundPairs.{tied-of}
+use Rattle.lpc_model.proofs.SoundTies.{IsFree, completed-birth, completed-pair, joined-birth, other-port, same-port, tied-accepted, tied-completed, tied-freed}
+use Rattle.lpc_model.proofs.SoundWorlds.{InOrder, KeepsPort, StandsAs, by_kind, is_sure, kept-sure, port-kept, sound-from, sound-kept, stands-same, sure-waits}
+
+-- ports whose rows change, but not their births
+order-mapped : (w : World) (f : PortRow → PortRow) → ((p : PortRow) → (f p).birth ≡ p.birth) → IsSoundWorld w → InOrder (record w { ports = map f w.ports })
+order-mapped w f same s = record {
+  tables = s.tables;
+  unused = s.unused;
+  homes = s.homes;
+  names = s.names;
+  ordinals = λ tid t here. rw (every-map (λ p. is_past p t) f w.ports) (every-more (λ p. is_past p t) (λ p. is_past (f p) t) (λ p is. rw (same p) is) w.ports (s.ordinals tid t here));
+  numbers = s.numbers;
+  makers = rw (every-map (λ p. was_thread w p.birth.maker) f w.ports) (every-more (λ p. was_thread w p.birth.maker) (λ p. was_thread w (f p).birth.maker) (λ p is. rw (same p) is) w.ports s.makers);
+}
 
 -- A connection that is completed
-same-port : (b : Birth) (p q : PortRow) → q.birth ≡ p.birth → is_port b q ≡ is_port b p
-same-port b p q same = rw same refl
-
-completed-birth : (c : Bool) (p : PortRow) → let q : PortRow = cond c (completed p) p in q.birth ≡ p.birth
-completed-birth true p = refl
-completed-birth false p = refl
-
-completed-pair : (c : Bool) (p : PortRow) → let q : PortRow = cond c (completed p) p in q.pair ≡ p.pair
-completed-pair true p = refl
-completed-pair false p = refl
-
 completed-joined : (c : Bool) (p : PortRow) → let q : PortRow = cond c (completed p) p in is_joined q ≡ is_joined p
 completed-joined true p = refl
 completed-joined false p = refl
@@ -46,17 +49,9 @@ sound-completes w c s =
       paired = λ is. rw (completed-pair (is_port c p) p) is;
       joined = λ is. rw (completed-joined (is_port c p) p) is;
       served = λ _ is. rw (completed-pair (is_port c p) p) is;
-    })) refl (order-of w s) s
+    })) refl (order-mapped w (λ p. cond (is_port c p) (completed p) p) (λ p. completed-birth (is_port c p) p) s) (tied-completed w.ports w.waits c (tied-of w s)) s
 
 -- A connection that is joined
-joined-birth : (client server : Birth) (context : ℕ) (p : PortRow) → (joined client server context p).birth ≡ p.birth
-joined-birth client server context p = at (is_port client p) (is_port server p)
-  where
-    at : (c s : Bool) → let q : PortRow = cond c (paired server context p) (cond s (paired client context p) p) in q.birth ≡ p.birth
-    at true s = refl
-    at false true = refl
-    at false false = refl
-
 joined-row : (w : World) (client server : Birth) (context : ℕ) (b : Birth) (p : PortRow) → port_row w b ≡ Some p → port_row (basic w (Joins client server context)) b ≡ Some (joined client server context p)
 joined-row w client server context b p at =
     first-map (is_port b) (joined client server context) (λ p. same-port b p (joined client server context p) (joined-birth client server context p)) w.ports p at
@@ -149,8 +144,8 @@ known-parts true false b p is = (refl, refl, λ one. grind arith)
 known-parts true true b p is = absurd (cc)
 known-parts false a b p is = absurd (cc)
 
-pub sound-accepts : (w : World) (client server : Birth) (context who : ℕ) (reply : List ℕ) → is_open w server ≡ true → every (is_known w server.maker who client) w.waits ≡ true → IsSoundWorld w → IsSoundWorld (basic (basic w (Joins client server context)) (Accepts who reply))
-sound-accepts w client server context who reply opens all s =
+pub sound-accepts : (w : World) (client server : Birth) (context who : ℕ) (reply : List ℕ) → is_open w server ≡ true → every (is_known w server.maker who client) w.waits ≡ true → IsFree w.ports w.waits client server who → IsSoundWorld w → IsSoundWorld (basic (basic w (Joins client server context)) (Accepts who reply))
+sound-accepts w client server context who reply opens all free s =
     let v = basic w (Joins client server context) in
     let by = server.maker in
     let parts = λ (x : WaitRow) (is : is_known w by who client x ≡ true). known-parts (is_sure w x) (waits_as by x) (waits_as who x) (same_birth x.port client) is in
@@ -158,13 +153,10 @@ sound-accepts w client server context who reply opens all s =
     (every-change_to (is_known w by who client) (is_sure v) (waits_as who) (accepted reply)
     (λ x is one. let k = parts x is in now-accepted w client server context reply opens x (k.2 one) k.1 k.0)
     (λ x is other. let k = parts x is in kept-joined w client server context opens x k.1 k.0) w.waits all)
-    (λ tid. rw (count-change (waits_as tid) (waits_as who) (accepted reply) (λ x. refl) w.waits) (s.once tid)) (order-of w s)
+    (λ tid. rw (count-change (waits_as tid) (waits_as who) (accepted reply) (λ x. refl) w.waits) (s.once tid))
+    (order-mapped w (joined client server context) (joined-birth client server context) s) (tied-accepted w.ports w.waits client server context who reply free (tied-of w s))
 
 -- A port that goes
--- another port stands as it was
-other-port : (b c : Birth) (p : PortRow) → same_birth c b ≡ false → is_port c p ≡ true → is_port b p ≡ false
-other-port b c p apart here = subst (λ d. same_birth d b ≡ false) (sym (birth-same p.birth c here)) apart
-
 freed-keeps : (w : World) (b : Birth) (x : WaitRow) → same_birth x.port b ≡ false → KeepsPort w (basic w (Frees b)) x.port (x.port.maker == x.thread)
 freed-keeps w b x apart =
     let own = x.port.maker == x.thread in
@@ -179,10 +171,18 @@ kept-freed w b x is off =
       messages = refl;
     }) x (freed-keeps w b x (grind arith)) is
 
-sound-frees : (w : World) (b : Birth) → first (is_made_on b) w.waits ≡ None → IsSoundWorld w → IsSoundWorld (basic w (Frees b))
-sound-frees w b none s =
+sound-frees : (w : World) (b : Birth) → first (is_made_on b) w.waits ≡ None → every (λ p. not (is_joined_to b p)) w.ports ≡ true → IsSoundWorld w → IsSoundWorld (basic w (Frees b))
+sound-frees w b none apart s =
     let v = basic w (Frees b) in
-    sound-from v (every-both (is_sure w) (λ x. not (is_made_on b x)) (is_sure v) (kept-freed w b) w.waits (sure-waits w s) (every-none (is_made_on b) w.waits none)) s.once (order-of w s)
+    sound-from v (every-both (is_sure w) (λ x. not (is_made_on b x)) (is_sure v) (kept-freed w b) w.waits (sure-waits w s) (every-none (is_made_on b) w.waits none)) s.once (record {
+      tables = s.tables;
+      unused = s.unused;
+      homes = s.homes;
+      names = s.names;
+      ordinals = λ tid t here. every-without (λ p. is_past p t) (is_port b) w.ports (s.ordinals tid t here);
+      numbers = s.numbers;
+      makers = every-without (λ p. was_thread w p.birth.maker) (is_port b) w.ports s.makers;
+    }) (tied-freed w.ports w.waits b apart (tied-of w s))
 
 -- where no wait is made on a port that nothing holds
 none-found : {X : Type 0} (o : Option X) → is_some o ≡ false → o ≡ None
@@ -193,9 +193,15 @@ no-wait : (o p m n : Bool) (b : Birth) (xs : List WaitRow) → (o || (p || (m ||
 no-wait o p m n b xs off =
     none-found (first (is_made_on b) xs) (has_none-more (is_wait_at b) (is_made_on b) (λ x none. grind arith) xs (grind arith))
 
+-- and no port is joined to it
+no-joined : (o m h n : Bool) (b : Birth) (ps : List PortRow) → (o || (has (is_joined_to b) ps || (m || (h || n)))) ≡ false → every (λ p. not (is_joined_to b p)) ps ≡ true
+no-joined o m h n b ps off = every-none (is_joined_to b) ps (none-found (first (is_joined_to b) ps) (grind arith))
+
 pub sound-free : (w : World) (b : Birth) → IsSoundWorld w → IsSoundWorld (world_after w (free_port b w))
 sound-free w b s = at (is_held w b) refl
   where
     at : (held : Bool) → is_held w b ≡ held → IsSoundWorld (world_after w (when (not held) (Frees b ∷ [])))
     at true is = s
-    at false is = sound-frees w b (no-wait (is_open w b) (has (is_joined_to b) w.ports) (has (is_message_at b) w.messages) (has_name same_birth b w.bindings) b w.waits is) s
+    at false is =
+        sound-frees w b (no-wait (is_open w b) (has (is_joined_to b) w.ports) (has (is_message_at b) w.messages) (has_name same_birth b w.bindings) b w.waits is)
+        (no-joined (is_open w b) (has (is_message_at b) w.messages) (has (is_wait_at b) w.waits) (has_name same_birth b w.bindings) b w.ports is) s

@@ -4,19 +4,20 @@ use Rattle.std.specs.Prelude.{◌&&◌, ◌||◌}
 use Rattle.std.proofs.lemmas.Bool.Decides.{nat_tests}
 use Rattle.lpc_base.specs.Rows.{every, first, given, has, when, without_first}
 use Rattle.lpc_base.specs.declared.status.TheConstants.{SUCCESS}
-use Rattle.lpc_base.proofs.RowWords.{every-more, first-passes, has-kept, has_none-more, has_none-push}
+use Rattle.lpc_base.proofs.RowWords.{every-change, every-more, first-passes, has-kept, has_none-more, has_none-push}
 use Rattle.lpc_base.proofs.RowMaps.{every-both, every-first, every-map, every-none}
 use Rattle.lpc_model.specs.World.{Accepted, Birth, Connect, Listen, MessageRow, Receive, Request, WaitKind, WaitRow, World}
-use Rattle.lpc_model.specs.Found.{is_queued, is_queued_connect, same_birth, waits_as}
+use Rattle.lpc_model.specs.Found.{is_accepted, is_queued, is_queued_connect, same_birth, waits_as}
 use Rattle.lpc_model.specs.Message.{asks, is_connection_request}
 use Rattle.lpc_model.specs.Basics.{Basic, Enters, Receives, basic, received, world_after}
 use Rattle.lpc_model.specs.Entering.{enter, given_steps, receipt_steps, shown, take_connect_steps, take_steps, takes, woken}
 use Rattle.lpc_model.specs.Tests.{is_client}
 use Rattle.lpc_model.specs.SoundWaits.{IsSoundWorld, can_stay_sound, has_client_port, is_answerable, is_message_of, is_sound_accepted, is_sound_connect, is_sound_listen, is_sound_receive, is_sound_request, waiter_of}
-use Rattle.lpc_model.proofs.Rows.{count-change, has-append, has-without_first, has_none-without_first, without_first-push}
+use Rattle.lpc_model.proofs.Rows.{count-change, has-append, has-without_first, has_none-without_first, lone, without_first-push}
 use Rattle.lpc_model.proofs.Births.{birth-self}
-use Rattle.lpc_model.proofs.SoundWorlds.{IsOrderly, WaitOnce, by_kind, is_sure, order-of, sound-from, sure-waits}
-use Rattle.lpc_model.proofs.SoundBasics.{sound-wakes}
+use Rattle.lpc_model.proofs.SoundPairs.{IsTied, is_quiet, tied-changed, tied-of}
+use Rattle.lpc_model.proofs.SoundWorlds.{InOrder, WaitOnce, by_kind, is_sure, order-of, sound-from, sure-waits}
+use Rattle.lpc_model.proofs.SoundBasics.{sound-wakes-quiet}
 
 pub after-append : (w : World) (bs cs : List Basic) → world_after w (bs ++ cs) ≡ world_after (world_after w bs) cs
 after-append w [] cs = refl
@@ -31,11 +32,11 @@ marked-case : (P : WaitRow → Type 0) (c : Bool) (x : WaitRow) → (c ≡ true 
 marked-case P true x one two = one refl
 marked-case P false x one two = two refl
 
-sound-marked : (w : World) (asking : Bool) (who : ℕ) → every (λ x. is_sure w (marked asking who x)) w.waits ≡ true → WaitOnce w.waits → IsOrderly w.used_processes w.handles w.threads w.bindings → IsSoundWorld (world_after w (when asking (Receives who ∷ [])))
-sound-marked w true who all once t =
+sound-marked : (w : World) (asking : Bool) (who : ℕ) → every (λ x. is_sure w (marked asking who x)) w.waits ≡ true → WaitOnce w.waits → InOrder w → IsTied w.ports w.waits → IsSoundWorld (world_after w (when asking (Receives who ∷ [])))
+sound-marked w true who all once t ties =
     sound-from (basic w (Receives who)) (rw (every-map (is_sure w) (λ x. cond (waits_as who x) (received x) x) w.waits) all)
-    (λ tid. rw (count-change (waits_as tid) (waits_as who) received (λ x. refl) w.waits) (once tid)) t
-sound-marked w false who all once t = sound-from w all once t
+    (λ tid. rw (count-change (waits_as tid) (waits_as who) received (λ x. refl) w.waits) (once tid)) t (tied-changed w.ports w.waits (waits_as who) received (λ c y. refl) (λ b y. refl) ties)
+sound-marked w false who all once t ties = sound-from w all once t ties
 
 -- the message of a wait that isn't marked is another one
 other-message : (x : WaitRow) (m : MessageRow) → (asks m.message && waits_as m.message.header.client.thread x) ≡ false → is_message_of x m ≡ false
@@ -111,7 +112,7 @@ sound-taken : (w : World) (test : MessageRow → Bool) (m : MessageRow) → firs
 sound-taken w test m at s =
     let v = with_messages w (without_first test w.messages) in
     sound-marked v (asks m.message) m.message.header.client.thread
-    (every-more (is_sure w) (λ x. is_sure v (marked (asks m.message) m.message.header.client.thread x)) (taken-sure w test m at) w.waits (sure-waits w s)) s.once (order-of w s)
+    (every-more (is_sure w) (λ x. is_sure v (marked (asks m.message) m.message.header.client.thread x)) (taken-sure w test m at) w.waits (sure-waits w s)) s.once (order-of w s) (tied-of w s)
 
 pub sound-take : (w : World) (m : MessageRow) → first (is_queued m.queue) w.messages ≡ Some m → IsSoundWorld w → IsSoundWorld (world_after w (take_steps m))
 sound-take w m at s = sound-taken w (is_queued m.queue) m at s
@@ -188,43 +189,65 @@ given-sure w m =
 world-taken : (w : World) (test : MessageRow → Bool) (m : MessageRow) → has test w.messages ≡ false → test m ≡ true → with_messages w (without_first test (w.messages ++ m ∷ [])) ≡ w
 world-taken w test m none is = ap (with_messages w) (without_first-push test w.messages m none is)
 
+-- a wait that is received is no accepted connect
+quiet-marked : (w : World) (asking : Bool) (who tid : ℕ) → every (is_quiet tid) w.waits ≡ true → every (is_quiet tid) (world_after w (when asking (Receives who ∷ []))).waits ≡ true
+quiet-marked w true who tid quiet = every-change (is_quiet tid) (waits_as who) received (λ y is. is) w.waits quiet
+quiet-marked w false who tid quiet = quiet
+
 -- each wait is sound once the message has entered, and is taken again
-sound-back : (w : World) (m : MessageRow) (x : WaitRow) (waking : Basic) → ((v : World) → IsSoundWorld v → IsSoundWorld (basic v waking)) → every (is_ready w m) w.waits ≡ true → WaitOnce w.waits → IsOrderly w.used_processes w.handles w.threads w.bindings → IsSoundWorld (world_after w (receipt_steps m ++ waking ∷ []))
-sound-back w m x waking wakes all once t =
+sound-back : (w : World) (m : MessageRow) (x : WaitRow) (waking : Basic) → ((v : World) → every (is_quiet x.thread) v.waits ≡ true → IsSoundWorld v → IsSoundWorld (basic v waking)) → every (is_quiet x.thread) w.waits ≡ true → every (is_ready w m) w.waits ≡ true → WaitOnce w.waits → InOrder w → IsTied w.ports w.waits → IsSoundWorld (world_after w (receipt_steps m ++ waking ∷ []))
+sound-back w m x waking wakes quiet all once t ties =
     let who = m.message.header.client.thread in
-    let after = sound-marked w (asks m.message) who (every-more (is_ready w m) (λ y. is_sure w (marked (asks m.message) who y)) (given-sure w m) w.waits all) once t in
-    rw (after-append w (receipt_steps m) (waking ∷ [])) (wakes (world_after w (receipt_steps m)) after)
+    let after = sound-marked w (asks m.message) who (every-more (is_ready w m) (λ y. is_sure w (marked (asks m.message) who y)) (given-sure w m) w.waits all) once t ties in
+    rw (after-append w (receipt_steps m) (waking ∷ [])) (wakes (world_after w (receipt_steps m)) (quiet-marked w (asks m.message) who x.thread quiet) after)
 
 -- a waiter takes the message at once
 abbrev Given : World → MessageRow → WaitRow → Type 0
 Given w m x = IsSoundWorld (world_after (basic w (Enters m)) (given_steps x m ++ woken SUCCESS (shown x m) x ∷ []))
 
-sound-given : (w : World) (m : MessageRow) → every (is_ready w m) w.waits ≡ true → WaitOnce w.waits → IsOrderly w.used_processes w.handles w.threads w.bindings → (x : WaitRow) → is_ready w m x ≡ true → takes m x ≡ true → Given w m x
-sound-given w m all once t =
-    by_kind (λ x. is_ready w m x ≡ true → takes m x ≡ true → Given w m x)
-    (λ x r is here. absurd (cc))
-    (λ x is here.
+sound-given : (w : World) (m : MessageRow) → every (is_ready w m) w.waits ≡ true → WaitOnce w.waits → InOrder w → IsTied w.ports w.waits → (x : WaitRow) → is_ready w m x ≡ true → every (is_quiet x.thread) w.waits ≡ true → takes m x ≡ true → Given w m x
+sound-given w m all once t ties =
+    by_kind (λ x. is_ready w m x ≡ true → every (is_quiet x.thread) w.waits ≡ true → takes m x ≡ true → Given w m x)
+    (λ x r is quiet here. absurd (cc))
+    (λ x is quiet here.
     let y : WaitRow = record x { kind = Receive } in
     let nothing : has (λ n. takes n y) w.messages ≡ false = grind arith in
     let none = has_none-more (λ n. takes n y) (is_queued m.queue) (λ n off. receives-other x m n here off) w.messages nothing in
     let waking = woken SUCCESS (shown y m) y in
-    let back = sound-back w m y waking (λ v s. sound-wakes v y.thread y.call SUCCESS (shown y m) s) all once t in
+    let back = sound-back w m y waking (λ v off s. sound-wakes-quiet v y.thread y.call SUCCESS (shown y m) off s) quiet all once t ties in
     subst (λ v. IsSoundWorld (world_after v (receipt_steps m ++ waking ∷ []))) (sym (world-taken w (is_queued m.queue) m none (birth-self m.queue))) back)
-    (λ x is here.
+    (λ x is quiet here.
     let y : WaitRow = record x { kind = Listen } in
     let nothing : has (λ n. takes n y) w.messages ≡ false = grind arith in
     let none = has_none-more (λ n. takes n y) (is_queued_connect m.queue) (λ n off. listens-other x m n here off) w.messages nothing in
     let waking = woken SUCCESS (shown y m) y in
-    let back = sound-back w m y waking (λ v s. sound-wakes v y.thread y.call SUCCESS (shown y m) s) all once t in
+    let back = sound-back w m y waking (λ v off s. sound-wakes-quiet v y.thread y.call SUCCESS (shown y m) off s) quiet all once t ties in
     let self = birth-self m.queue in
     let own : is_queued_connect m.queue m ≡ true = grind arith in
     subst (λ v. IsSoundWorld (world_after v (receipt_steps m ++ waking ∷ []))) (sym (world-taken w (is_queued_connect m.queue) m none own)) back)
-    (λ x r is here. absurd (cc))
-    (λ x r reply is here. absurd (cc))
+    (λ x r is quiet here. absurd (cc))
+    (λ x r reply is quiet here. absurd (cc))
 
-pub sound-enter : (w : World) (m : MessageRow) → every (is_ready w m) w.waits ≡ true → WaitOnce w.waits → IsOrderly w.used_processes w.handles w.threads w.bindings → IsSoundWorld (world_after w (enter m w))
-sound-enter w m all once t = at (first (takes m) w.waits) refl
+-- a wait that takes a message is no accepted connect, and its thread waits for nothing else
+taker-quiet : (m : MessageRow) (x : WaitRow) → takes m x ≡ true → not (is_accepted x) ≡ true
+taker-quiet m =
+    by_kind (λ x. takes m x ≡ true → not (is_accepted x) ≡ true)
+    (λ x r here. refl)
+    (λ x here. refl)
+    (λ x here. refl)
+    (λ x r here. refl)
+    (λ x r reply here. absurd (cc))
+
+pub lone-quiet : (waits : List WaitRow) (test : WaitRow → Bool) (x : WaitRow) → WaitOnce waits → first test waits ≡ Some x → not (is_accepted x) ≡ true → every (is_quiet x.thread) waits ≡ true
+lone-quiet waits test x once at quiet =
+    let self : waits_as x.thread x ≡ true = grind (arith, nat_tests) in
+    lone (waits_as x.thread) (λ y. not (is_accepted y)) test waits x (once x.thread) at self quiet
+
+pub sound-enter : (w : World) (m : MessageRow) → every (is_ready w m) w.waits ≡ true → WaitOnce w.waits → InOrder w → IsTied w.ports w.waits → IsSoundWorld (world_after w (enter m w))
+sound-enter w m all once t ties = at (first (takes m) w.waits) refl
   where
     at : (o : Option WaitRow) → first (takes m) w.waits ≡ o → IsSoundWorld (world_after w (Enters m ∷ given o (λ x. given_steps x m ++ woken SUCCESS (shown x m) x ∷ [])))
-    at None is = sound-from (basic w (Enters m)) (every-both (is_ready w m) (λ x. not (takes m x)) (is_sure (basic w (Enters m))) (entered-sure w m) w.waits all (every-none (takes m) w.waits is)) once t
-    at (Some x) is = sound-given w m all once t x (every-first (is_ready w m) (takes m) w.waits x all is) (first-passes (takes m) w.waits x is)
+    at None is = sound-from (basic w (Enters m)) (every-both (is_ready w m) (λ x. not (takes m x)) (is_sure (basic w (Enters m))) (entered-sure w m) w.waits all (every-none (takes m) w.waits is)) once t ties
+    at (Some x) is =
+        let here = first-passes (takes m) w.waits x is in
+        sound-given w m all once t ties x (every-first (is_ready w m) (takes m) w.waits x all is) (lone-quiet w.waits (takes m) x once is (taker-quiet m x here)) here

@@ -2,33 +2,34 @@
 use Rattle.std.proofs.Common.{◌≡◌, ℕ, List, [], ◌∷◌, ◌++◌, Bool, true, false, not, refl, sym, ap, subst, arith}
 use Rattle.std.specs.Prelude.{◌&&◌, ◌==◌, Option, Some, None, Ok}
 use Rattle.std.proofs.lemmas.Bool.Decides.{nat_tests}
-use Rattle.lpc_base.specs.Rows.{first, has, passes, without}
-use Rattle.lpc_base.specs.declared.status.TheConstants.{PORT_DISCONNECTED, SUCCESS}
+use Rattle.lpc_base.specs.Rows.{every, first, has, passes, without}
+use Rattle.lpc_base.specs.declared.status.TheConstants.{PORT_DISCONNECTED, REPLY_MESSAGE_MISMATCH, SUCCESS}
 use Rattle.lpc_base.proofs.RowWords.{every-more, every-push, first-passes, has-push, has_none-more}
 use Rattle.lpc_message.specs.declared.kind.TheConstants.{DATAGRAM, REQUEST}
 use Rattle.lpc_base.specs.declared.port_kind.PortKind.TheVariants.{Connection, Unnamed}
 use Rattle.lpc_model.specs.World.{Birth, Message, MessageRow, PortKind, PortRow, ThreadRow, WaitRow, World}
-use Rattle.lpc_model.specs.Found.{free_handle, is_live_thread, is_open, port_row, is_queued, is_thread, port_name, queue_of, route, same_birth, wait_of, waits_as}
+use Rattle.lpc_model.specs.Found.{fits, fitted, free_handle, is_accepted, is_live_thread, is_open, port_row, is_queued, is_request, is_server_port, is_thread, port_name, queue_of, route, same_birth, wait_of, waits_as}
 use Rattle.lpc_model.specs.Basics.{AddsHandle, Awaits, Basic, DrawsIdentifier, DrawsOrdinal, Makes, basic, past_identifier, world_after}
 use Rattle.lpc_model.specs.Message.{as_reply, message_test}
 use Rattle.lpc_model.specs.Fields.{msg}
 use Rattle.lpc_model.specs.Entering.{enter, row_of, take_steps, takes}
-use Rattle.lpc_model.specs.Tests.{PORT_ACCESS, client_of, handle_row, handles_test, is_client, next_birth, port_test}
+use Rattle.lpc_model.specs.Tests.{PORT_ACCESS, client_of, client_test, handle_row, handles_test, is_client, next_birth, port_test}
 use Rattle.lpc_model.specs.Connect.{create_steps, making, new_port, nt_create_port}
 use Rattle.lpc_model.specs.Named.{free_name}
 use Rattle.lpc_names.specs.Walk.{Stands}
 use Rattle.lpc_names.specs.declared.names.Found.TheVariants.{Item}
-use Rattle.lpc_model.specs.Request.{Sendable, answered_test, datagram_send_test, given_reply, is_spent, nt_reply_port, nt_reply_wait_receive_port, nt_request_port, nt_request_wait_reply_port, optional_message, receive_steps, receive_test, receive_wait, request_steps, request_wait, send_test, sent_by}
+use Rattle.lpc_model.specs.Request.{Sendable, answered_test, datagram_send_test, given_reply, is_spent, nt_reply_port, nt_reply_wait_receive_port, nt_request_port, nt_request_wait_reply_port, optional_message, receive_steps, receive_test, receive_wait, reply, request_steps, request_wait, send_test, sent_by}
 use Rattle.lpc_model.specs.Refusal.{◌>>=◌, found_or, refuse_if}
 use Rattle.lpc_model.specs.SoundWaits.{IsSoundWorld, is_answerable, is_joined, is_message_of}
 use Rattle.lpc_model.proofs.Rows.{first-less, has-none, passes-change}
-use Rattle.lpc_model.proofs.Holding.{Holds, bind_holds, found_ok, holds_ok, not_refused}
+use Rattle.lpc_model.proofs.Holding.{Holds, bind_holds, found_holds, found_ok, holds_ok, not_refused}
 use Rattle.lpc_model.proofs.Births.{birth-same, birth-self}
 use Rattle.lpc_model.proofs.Handles.{open-new}
 use Rattle.lpc_model.proofs.Usable.{CanCall, HasRoute, IsUsable, port-usable, queue-open, routed, unspent}
-use Rattle.lpc_model.proofs.SoundWorlds.{is_sure, order-of, sure-waits}
-use Rattle.lpc_model.proofs.SoundBasics.{once-awaits, sound-awaits, sound-binds, sound-handle, sound-identifier, sound-makes, sound-ordinal, sound-wakes}
-use Rattle.lpc_model.proofs.SoundQueues.{after-append, is_ready, ready-sure, sound-enter, sound-take}
+use Rattle.lpc_model.proofs.SoundPairs.{apart-other, is_quiet, tied-awaits, tied-of}
+use Rattle.lpc_model.proofs.SoundWorlds.{by_kind, is_sure, order-of, sure-waits}
+use Rattle.lpc_model.proofs.SoundBasics.{no-server, once-awaits, sound-awaits, sound-binds, sound-handle, sound-identifier, sound-made, sound-wakes-quiet}
+use Rattle.lpc_model.proofs.SoundQueues.{after-append, is_ready, lone-quiet, ready-sure, sound-enter, sound-take}
 
 -- the steps leave a sound world
 abbrev pub LeaveSound : World → List Basic → Type 0
@@ -36,11 +37,12 @@ LeaveSound w bs = IsSoundWorld (world_after w bs)
 
 -- NtCreatePort
 -- a port is made by steps that leave a sound world, and then gets a handle
-created-sound : (w : World) (by : ThreadRow) (kind : PortKind) → IsSoundWorld w → LeaveSound w (DrawsOrdinal by.number ∷ Makes (new_port (next_birth by) kind) ∷ AddsHandle by.process (handle_row (free_handle w by.process) (port_name (next_birth by)) PORT_ACCESS) ∷ [])
-created-sound w by kind s =
-    let drawn = sound-ordinal w by.number s in
-    let made = sound-makes (basic w (DrawsOrdinal by.number)) (new_port (next_birth by) kind) drawn in
-    sound-handle (basic (basic w (DrawsOrdinal by.number)) (Makes (new_port (next_birth by) kind))) by.process (port_name (next_birth by)) PORT_ACCESS made
+created-sound : (w : World) (by : ThreadRow) (kind : PortKind) → CanCall w by → is_server_port (new_port (next_birth by) kind) ≡ false → IsSoundWorld w
+    → LeaveSound w (DrawsOrdinal by.number ∷ Makes (new_port (next_birth by) kind) ∷ AddsHandle by.process (handle_row (free_handle w by.process) (port_name (next_birth by)) PORT_ACCESS) ∷ [])
+created-sound w by kind c off s =
+    let port = new_port (next_birth by) kind in
+    let made = sound-made w by port c s refl refl (no-server w port off) in
+    sound-handle (basic (basic w (DrawsOrdinal by.number)) (Makes port)) by.process (port_name (next_birth by)) PORT_ACCESS made
 
 -- where the steps that make a port leave a sound world with a handle, the call does
 makes-sound : (w : World) (by : ThreadRow) (made : List Basic) → LeaveSound w (create_steps by made (free_handle w by.process)) → Holds (LeaveSound w) (handles_test w by.process 1 >>= (λ _. Ok (create_steps by made (free_handle w by.process))))
@@ -48,9 +50,9 @@ makes-sound w by made s = bind_holds (handles_test w by.process 1) _ (LeaveSound
 
 -- so with a name, and without; the port that gets a name is open
 making-sound : (w : World) (by : ThreadRow) (name : Option (List ℕ)) → CanCall w by → IsSoundWorld w → Holds (λ made. LeaveSound w (create_steps by made (free_handle w by.process))) (making w (next_birth by) name)
-making-sound w by None c s = created-sound w by Unnamed s
+making-sound w by None c s = created-sound w by Unnamed c refl s
 making-sound w by (Some name) c s =
-    bind_holds (free_name w name) _ (λ made. LeaveSound w (create_steps by made (free_handle w by.process))) (λ path _. sound-binds _ path (Stands (Item (next_birth by))) (open-new w by.process (free_handle w by.process) PORT_ACCESS (next_birth by) c.home) (created-sound w by Connection s))
+    bind_holds (free_name w name) _ (λ made. LeaveSound w (create_steps by made (free_handle w by.process))) (λ path _. sound-binds _ path (Stands (Item (next_birth by))) (open-new w by.process (free_handle w by.process) PORT_ACCESS (next_birth by) c.home) (created-sound w by Connection c refl s))
 
 pub create-sound : (w : World) (by : ThreadRow) (name : Option (List ℕ)) → CanCall w by → IsSoundWorld w → Holds (LeaveSound w) (nt_create_port w by name)
 unfolding nt_create_port
@@ -70,7 +72,7 @@ send-routed w by handle bytes =
 
 -- a message enters a sound world
 pub entered-sound : (w : World) (m : MessageRow) → IsSoundWorld w → LeaveSound w (enter m w)
-entered-sound w m s = sound-enter w m (every-more (is_sure w) (is_ready w m) (ready-sure w m) w.waits (sure-waits w s)) s.once (order-of w s)
+entered-sound w m s = sound-enter w m (every-more (is_sure w) (is_ready w m) (ready-sure w m) w.waits (sure-waits w s)) s.once (order-of w s) (tied-of w s)
 
 -- NtRequestWaitReplyPort
 -- its sender draws an identifier, and lives on
@@ -101,7 +103,7 @@ requested-sound w by port queue m s c r =
     let drawn = basic w (DrawsIdentifier by.number) in
     let t = sound-identifier w by.number s in
     let others = every-more (is_sure drawn) (is_ready drawn row) (ready-sure drawn row) w.waits (sure-waits drawn t) in
-    sound-enter (basic drawn (Awaits x)) row (every-push (is_ready drawn row) w.waits x others (request-ready w by port queue m c.client r)) (once-awaits w x c.idle s.once) (order-of drawn t)
+    sound-enter (basic drawn (Awaits x)) row (every-push (is_ready drawn row) w.waits x others (request-ready w by port queue m c.client r)) (once-awaits w x c.idle s.once) (order-of drawn t) (tied-awaits w.ports w.waits x (apart-other x refl w.ports) (tied-of drawn t))
 
 pub request-sound : (w : World) (by : ThreadRow) (handle : ℕ) (bytes : List ℕ) → CanCall w by → IsSoundWorld w → Holds (LeaveSound w) (nt_request_wait_reply_port w by handle bytes)
 unfolding nt_request_wait_reply_port
@@ -118,12 +120,30 @@ datagram-sound w by handle bytes s =
     entered-sound (basic w (DrawsIdentifier by.number)) (row_of sendable.queue sendable.port (sent_by by DATAGRAM sendable.message)) (sound-identifier w by.number s))
 
 -- NtReplyPort
+-- the request that a reply answers is no accepted connect
+request-quiet : (x : WaitRow) → is_request x ≡ true → not (is_accepted x) ≡ true
+request-quiet = by_kind (λ x. is_request x ≡ true → not (is_accepted x) ≡ true) (λ x m is. refl) (λ x is. refl) (λ x is. refl) (λ x m is. refl) (λ x m reply is. absurd (cc))
+
+fits-request : (w : World) (port : Birth) (m : Message) (x : WaitRow) → fits w port m x ≡ true → is_request x ≡ true
+fits-request w port m x is = grind arith
+
+answered-quiet : (w : World) (port : PortRow) (m : Message) → IsSoundWorld w → Holds (λ (x : WaitRow). every (is_quiet x.thread) w.waits ≡ true) (answered_test w port m)
+answered-quiet w port m s =
+    let P : WaitRow → Type 0 = λ x. every (is_quiet x.thread) w.waits ≡ true in
+    bind_holds (client_test w m.header.client) _ P (λ _ _.
+    found_holds P (fitted w port.birth m) REPLY_MESSAGE_MISMATCH (λ x at.
+    lone-quiet w.waits (fits w port.birth m) x s.once at (request-quiet x (fits-request w port.birth m x (first-passes (fits w port.birth m) w.waits x at)))))
+
+replied-sound : (w : World) (port : PortRow) (m : Message) (x : WaitRow) → answered_test w port m ≡ Ok x → IsSoundWorld w → IsSoundWorld (basic w (reply x m))
+replied-sound w port m x at s =
+    sound-wakes-quiet w x.thread x.call SUCCESS (msg (as_reply m) ∷ []) (holds_ok (λ (x : WaitRow). every (is_quiet x.thread) w.waits ≡ true) (answered_test w port m) x (answered-quiet w port m s) at) s
+
 pub reply-sound : (w : World) (by : ThreadRow) (handle : ℕ) (bytes : List ℕ) → IsSoundWorld w → Holds (LeaveSound w) (nt_reply_port w by handle bytes)
 unfolding nt_reply_port
 reply-sound w by handle bytes s =
     bind_holds (port_test w by handle) _ (LeaveSound w) (λ port _.
     bind_holds (message_test bytes) _ (LeaveSound w) (λ m _.
-    bind_holds (answered_test w port m) _ (LeaveSound w) (λ x _. sound-wakes w x.thread x.call SUCCESS (msg (as_reply m) ∷ []) s)))
+    bind_holds (answered_test w port m) _ (LeaveSound w) (λ x at. replied-sound w port m x at s)))
 
 -- NtReplyWaitReceivePort
 -- what a reply that is made first leaves: some waits, and all else as it was
@@ -136,8 +156,8 @@ record IsReplied (w : World) (bs : List Basic) : Type 0 where
 replied : (w : World) (port : PortRow) (o : Option Message) → IsSoundWorld w → Holds (IsReplied w) (given_reply w port o)
 replied w port None s = record { waits = w.waits; world = refl; idle = λ tid none. none; sound = s }
 replied w port (Some m) s =
-    bind_holds (answered_test w port m) _ (IsReplied w) (λ x _.
-    record { waits = without (waits_as x.thread) w.waits; world = refl; idle = λ tid none. first-less (waits_as tid) (waits_as x.thread) w.waits none; sound = sound-wakes w x.thread x.call SUCCESS (msg (as_reply m) ∷ []) s })
+    bind_holds (answered_test w port m) _ (IsReplied w) (λ x at.
+    record { waits = without (waits_as x.thread) w.waits; world = refl; idle = λ tid none. first-less (waits_as tid) (waits_as x.thread) w.waits none; sound = replied-sound w port m x at s })
 
 -- a receive finds its queue open, and a message can come where none stands in it
 record CanWait (w : World) (port : PortRow) (queue : Birth) : Type 0 where
@@ -183,7 +203,7 @@ received-sound w by port queue bs None at can c r =
     let x = receive_wait by port.birth queue in
     let sure = subst (λ v. is_sure v x ≡ true) (sym r.world) (receive-sure w by port queue can.client c at) in
     let idle : wait_of (world_after w bs) by.number ≡ None = rw r.world (r.idle by.number can.idle) in
-    rw (after-append w bs (Awaits x ∷ [])) (sound-awaits (world_after w bs) x sure idle r.sound)
+    rw (after-append w bs (Awaits x ∷ [])) (sound-awaits (world_after w bs) x sure idle refl r.sound)
 
 pub receive-sound : (w : World) (by : ThreadRow) (handle : ℕ) (bytes : Option (List ℕ)) → CanCall w by → IsSoundWorld w → Holds (LeaveSound w) (nt_reply_wait_receive_port w by handle bytes)
 unfolding nt_reply_wait_receive_port

@@ -186,8 +186,9 @@ pub record Completable : Type 0 where
   pub client : Birth
   pub wait : WaitRow
 
--- The tests of a completion behind that of the handle: no server port, completed already, the pair is cut. The connect of
--- a pair waits until it is completed, so it is found.
+-- The tests of a completion behind that of the handle: no server port, completed already, the pair is cut. In each world
+-- that a script leaves, the connect of a pair waits until it is completed, so it is found: PORT_DISCONNECTED tells of cut
+-- pairs alone.
 abbrev pub completion_test : World → PortRow → Result Completable Status
 completion_test w port = do
   _ ← refuse_if (not (is_server_port port)) INVALID_PORT_HANDLE

@@ -1,16 +1,18 @@
 -- Sound waits: what a thread waits for can still come, and hasn't come yet.
-use Rattle.std.specs.Prelude.{◌≡◌, ℕ, ◌≤◌, ◌==◌, ◌&&◌, ◌||◌, Bool, true, false, not, List, is_some, if◌then◌else◌}
+use Rattle.std.specs.Prelude.{◌≡◌, ℕ, ◌≤◌, ◌==◌, ◌&&◌, ◌||◌, Bool, true, false, not, nat_lt, List, Some, Err, is_some, if◌then◌else◌}
 use Rattle.std.specs.List.{AllByRecursion}
 use Rattle.lpc_base.specs.Rows.{count, every, has, passes}
 use Rattle.lpc_base.specs.declared.port_kind.PortKind.TheVariants.{Client}
+use Rattle.lpc_base.specs.declared.status.TheConstants.{PORT_DISCONNECTED}
 use Rattle.lpc_message.specs.declared.message.ClientId.{ClientId}
 use Rattle.lpc_names.specs.Walk.{LinkTo, Stands}
 use Rattle.lpc_names.specs.declared.names.Found.TheVariants.{Directory, Item}
 use Rattle.lpc_model.specs.World.{Accepted, Birth, Connect, Listen, MessageRow, Node, PortRow, Receive, Request, ThreadRow, WaitKind, WaitRow, World}
-use Rattle.lpc_model.specs.Found.{is_cut, is_open, is_port, is_queued, is_table, names_wait, pair_of, port_row, same_birth, waits_as, was_process}
+use Rattle.lpc_model.specs.Found.{is_connect, is_cut, is_open, is_port, is_queued, is_server_port, is_table, is_the, live_thread, names_wait, pair_of, port_row, same_birth, waits_as, was_process, was_thread}
 use Rattle.lpc_model.specs.Message.{asks}
 use Rattle.lpc_model.specs.Entering.{takes}
 use Rattle.lpc_model.specs.Tests.{is_client}
+use Rattle.lpc_model.specs.Connect.{completion_test, is_accepted_on}
 use Rattle.lpc_model.specs.Lines.{ScriptLine}
 use Rattle.lpc_model.specs.Machine.{step}
 use Rattle.lpc_model.specs.Run.{run_of}
@@ -109,6 +111,30 @@ leads_open w (Stands (Item port)) = is_open w port
 abbrev pub has_home : World → ThreadRow → Bool
 has_home w t = has (is_table t.process) w.handles
 
+-- the connection of a server port isn't completed
+abbrev pub is_uncompleted : PortRow → Bool
+is_uncompleted p = is_server_port p && not p.completed
+
+-- a connect that was accepted waits on the client port, whose pair is the server port
+abbrev pub is_awaited_on : World → Birth → Birth → Bool
+is_awaited_on w server client = has (is_accepted_on client) w.waits && is_the server (pair_of w client)
+
+-- a connection that isn't completed is awaited on its client port, unless the pair is cut
+abbrev pub is_awaited : World → PortRow → Bool
+is_awaited w p = not (is_uncompleted p) || (is_cut p || passes p.pair (is_awaited_on w p.birth))
+
+-- a connect waits on the port, accepted or not
+abbrev pub is_connect_on : Birth → WaitRow → Bool
+is_connect_on b x = is_connect x && same_birth x.port b
+
+-- no server port, or one on which no connect waits
+abbrev pub lacks_connects : World → PortRow → Bool
+lacks_connects w p = not (is_server_port p && has (is_connect_on p.birth) w.waits)
+
+-- a thread's next ordinal is past that of the port, where it made the port
+abbrev pub is_past : PortRow → ThreadRow → Bool
+is_past p t = not (p.birth.maker == t.number) || nat_lt p.birth.ordinal t.next_ordinal
+
 -- A world has sound waits, and what the steps of a line need so that they stay sound.
 pub record IsSoundWorld (w : World) : Type 0 where
   pub waits : HasSoundWaits w
@@ -121,6 +147,13 @@ pub record IsSoundWorld (w : World) : Type 0 where
   pub tables : (pid : ℕ) → count (is_table pid) w.handles ≤ 1
   pub unused : (pid : ℕ) → was_process w pid ≡ false → has (is_table pid) w.handles ≡ false
   pub homes : every (has_home w) w.threads ≡ true
+  -- each connection that isn't completed is awaited on its client port, and on a server port no connect waits
+  pub pairs : every (is_awaited w) w.ports ≡ true
+  pub servers : every (lacks_connects w) w.ports ≡ true
+  -- no thread draws the ordinal of a port that it made; the numbers of threads, and of the makers of ports, were used
+  pub ordinals : (tid : ℕ) (t : ThreadRow) → live_thread w tid ≡ Some t → every (λ p. is_past p t) w.ports ≡ true
+  pub numbers : every (λ t. was_thread w t.number) w.threads ≡ true
+  pub makers : every (λ p. was_thread w p.birth.maker) w.ports ≡ true
 
 -- the step of each line keeps that
 abbrev pub StepsStaySound : Type 0
@@ -129,3 +162,12 @@ StepsStaySound = (w : World) (line : ScriptLine) → IsSoundWorld w → IsSoundW
 -- each line of a script leaves a world with sound waits
 abbrev pub RunStaysSound : List ℕ → Type 0
 RunStaysSound bytes = AllByRecursion (λ s. HasSoundWaits s.world) (run_of bytes)
+
+-- a completion on a port that stands is refused as disconnected only where the port's pair is cut
+abbrev pub RefusesCutPairsAlone : World → Type 0
+RefusesCutPairsAlone w =
+    (port : PortRow) → port_row w port.birth ≡ Some port → completion_test w port ≡ Err PORT_DISCONNECTED → is_cut port ≡ true
+
+-- so in the world that each line of a script leaves
+abbrev pub RunRefusesCutPairsAlone : List ℕ → Type 0
+RunRefusesCutPairsAlone bytes = AllByRecursion (λ s. RefusesCutPairsAlone s.world) (run_of bytes)

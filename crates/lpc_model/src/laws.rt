@@ -1,7 +1,7 @@
 // Laws of the definitions alone.
 ghost use Rattle.std.specs.Prelude.{ℕ, List};
 ghost use Rattle.lpc_model.specs.World.{World, no_rows};
-ghost use Rattle.lpc_model.specs.SoundWaits.{HasSoundWaits, IsSoundWorld, RunStaysSound, StepsStaySound};
+ghost use Rattle.lpc_model.specs.SoundWaits.{HasSoundWaits, IsSoundWorld, RefusesCutPairsAlone, RunRefusesCutPairsAlone, RunStaysSound, StepsStaySound};
 
 /// In every script each waiting thread waits for what can still come, and hasn't come.
 ///
@@ -15,4 +15,13 @@ pub fn law_sound_waits()
     ensures steps { StepsStaySound }
     ensures waits { (w : World) → IsSoundWorld w → HasSoundWaits w }
     ensures runs { (script : List ℕ) → RunStaysSound script }
+{}
+
+/// In every script a completion is refused as disconnected only where the pair of its port is cut.
+///
+/// A server port whose connection isn't completed, and whose pair isn't cut, has an accepted connect that waits on its
+/// client port. So a completion on it finds that connect.
+pub fn law_completion_refuses_cut_pairs()
+    ensures alone { (w : World) → IsSoundWorld w → RefusesCutPairsAlone w }
+    ensures runs { (script : List ℕ) → RunRefusesCutPairsAlone script }
 {}
