@@ -23,7 +23,9 @@ use lpc_world::{Object, World};
 /// The message that answers a connect, and the thread that waits in that connect.
 #[derive(Drop)]
 pub struct ConnectAnswer {
+    /// The number of the thread that waits.
     pub thread: u32,
+    /// The message of the answer.
     pub message: Message,
 }
 
@@ -46,8 +48,8 @@ fn answer_test(world: &World, by: u32, bytes: &[u8]) -> Result<ConnectAnswer, St
     }
 }
 
-/// The connect that an answer names, unless it is refused: the tests of the answer, then, to accept, that the caller's
-/// process has 256 handles, with those that its waiting connects are to get.
+/// The connect that an answer names, unless the call is refused: the tests of the answer, then, to accept, that of the
+/// caller's handles.
 #[tactic(auto, unfolding(lpc_model::specs::Connect::nt_accept_connect_port))]
 fn accept_test(
     world: &World,
@@ -146,8 +148,9 @@ fn accept_connect(
 ///
 /// Refusals, in this order: a message of wrong shape, one that is too long; INVALID_CID where no live thread has the
 /// message's process and thread; REPLY_MESSAGE_MISMATCH where the message names no connect that was received and isn't
-/// accepted, to a connection port that the caller's process has a handle to; QUOTA_EXCEEDED where the process has 256
-/// handles, with those that its waiting connects are to get, unless the connect is refused. A refused connect takes no memory; after want of memory nothing has changed.
+/// accepted, to a connection port that the caller's process has a handle to; to accept, QUOTA_EXCEEDED where the process
+/// has 256 handles, with those that its waiting connects are to get. To refuse takes no memory; after want of memory
+/// nothing has changed but the room.
 pub fn nt_accept_connect_port(
     world: &mut World,
     by: u32,

@@ -37,7 +37,7 @@ fn info_test(info: &[u8]) -> Result<(), Status>
     Ok(())
 }
 
-/// The tests of a connect: too many bytes, a fault of the name or a directory, then the process has 256 handles.
+/// The tests of a connect: too many bytes, a fault of the name or a directory, then too many handles.
 #[tactic(auto, unfolding(lpc_model::specs::Connect::nt_connect_port))]
 fn connect_test(world: &World, by: &ThreadRow, name: &[u8], info: &[u8]) -> Result<Key, Status>
     requires table { has (is_table by.now.process) world.now.rows.handles ≡ true }
@@ -158,7 +158,7 @@ fn start(world: &mut World, by: &ThreadRow, connection: Key, message: &Message, 
 ///
 /// Refusals, in this order: PORT_MESSAGE_TOO_LONG where there are more than 232 bytes; the fault of the name, or
 /// OBJECT_TYPE_MISMATCH where a directory stands there; QUOTA_EXCEEDED where the process has 256 handles, with those that
-/// its waiting connects are to get. After want of memory nothing has changed.
+/// its waiting connects are to get. After want of memory nothing has changed but the room.
 pub fn nt_connect_port(
     world: &mut World,
     by: u32,

@@ -200,7 +200,7 @@ impl Machine {
     /// One line's step: its entries are added to `out`, which is empty and has room for [`Machine::room_needed`] more.
     /// The line's process and thread numbers are from 1 to 2147483647.
     ///
-    /// After want of memory nothing has changed. Only directives, `NtCreatePort`, `NtConnectPort`,
+    /// After want of memory nothing has changed but the room. Only directives, `NtCreatePort`, `NtConnectPort`,
     /// `NtAcceptConnectPort` to accept, and `NtRequestPort` take memory, and only where they aren't refused; every other
     /// line is answered. A directive, and a call of a thread that lives and doesn't wait, counts as a call, refused or not.
     pub fn step(&mut self, line: &Line<'_>, out: &mut Entries) -> Result<(), OutOfMemory>

@@ -47,7 +47,7 @@ making w port (Some name) = do
   path ← free_name w name
   Ok (named_steps port path)
 
--- NtCreatePort: a fault of the name, then the process has 256 handles, with those that its waiting connects are to get
+-- NtCreatePort: a fault of the name, then too many handles
 unfoldable pub nt_create_port : World → ThreadRow → Option (List ℕ) → Result (List Basic) Status
 nt_create_port w by name = do
   made ← making w (next_birth by) name
@@ -90,7 +90,7 @@ abbrev pub connect_steps : ThreadRow → Birth → Message → Steps
 connect_steps by connection m =
     doing (connect_start by connection m) ▹ enter (row_of connection (client_port (next_birth by) connection) m)
 
--- NtConnectPort: too many bytes, a fault of the name or a directory, then the process has 256 handles, counted likewise
+-- NtConnectPort: too many bytes, a fault of the name or a directory, then too many handles
 unfoldable pub nt_connect_port : World → ThreadRow → List ℕ → List ℕ → Result (List Basic) Status
 nt_connect_port w by name bytes = do
   _ ← info_test bytes
@@ -155,15 +155,14 @@ accept_steps by context value a =
     ∷ Accepts a.wait.thread a.message.body
     ∷ []
 
--- a connect is accepted, unless the process has 256 handles, with those that its waiting connects are to get, or refused
+-- a connect is accepted, unless the process has too many handles, or refused
 abbrev pub answered_steps : World → ThreadRow → ℕ → Bool → ConnectAnswer → Result (List Basic) Status
 answered_steps w by context false a = Ok (refuse_steps by a w)
 answered_steps w by context true a = do
   _ ← handles_test w by.process 1
   Ok (accept_steps by context (free_handle w by.process) a)
 
--- NtAcceptConnectPort: the message, no such client, no connect that it names, then, to accept, the process has 256
--- handles, with those that its waiting connects are to get
+-- NtAcceptConnectPort: the message, no such client, no connect that it names, then, to accept, too many handles
 unfoldable pub nt_accept_connect_port : World → ThreadRow → ℕ → List ℕ → Bool → Result (List Basic) Status
 nt_accept_connect_port w by context bytes accept = do
   a ← answer_test w by bytes

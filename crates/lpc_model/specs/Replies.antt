@@ -21,7 +21,8 @@ use Rattle.lpc_model.specs.Grammar.{read_line}
 use Rattle.lpc_model.specs.Run.{first_fault, said_from, trace, world_behind}
 
 -- Reply calls
--- a reply call, NtReplyPort or NtReplyWaitReceivePort with a message: the thread that makes it, the handle on which it is made, and the bytes of its message
+-- a reply call, NtReplyPort or NtReplyWaitReceivePort with a message: the thread that makes it, the handle on which it is
+-- made, and the bytes of its message
 pub record Reply : Type 0 where
   pub by : ℕ
   pub handle : ℕ

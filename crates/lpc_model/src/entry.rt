@@ -60,7 +60,7 @@ pub enum FieldName {
     H,
     /// A message identifier.
     Id,
-    /// The context of a port.
+    /// The context of a message that was received.
     Ctx,
     /// A message, header and data.
     Msg,
@@ -68,7 +68,7 @@ pub enum FieldName {
     Data,
     /// The most bytes of a message on a connection, header included.
     Max,
-    /// The bytes that came with a connection request, or with its answer.
+    /// The data of the answer to a connect.
     Info,
 }
 
@@ -90,7 +90,9 @@ pub enum Value {
 /// A field of an entry.
 #[derive(Clone, Debug, Drop, PartialEq, Eq)]
 pub struct Field {
+    /// What the value is.
     pub name: FieldName,
+    /// The value, and how it is printed.
     pub value: Value,
 }
 

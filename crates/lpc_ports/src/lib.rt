@@ -30,7 +30,9 @@ pub struct Creator {
 /// A row of the table: a port.
 #[derive(Clone, Copy, Debug, PartialEq, Eq)]
 pub struct Port {
+    /// The name that it was made under.
     pub birth: Birth,
+    /// Which of the four kinds it is.
     pub kind: PortKind,
     /// The other end of a connection; none where it was never made or is cut.
     pub pair: Option<Key>,

@@ -50,7 +50,9 @@ impl Message {
 /// A row of the table: a message, and the port in whose queue it stands.
 #[derive(Drop)]
 pub struct QueuedMessage {
+    /// The port in whose queue it stands.
     pub queue: Key,
+    /// The message.
     pub message: Message,
 }
 

@@ -8,6 +8,7 @@ use crate::{ProcessRow, ThreadRow, UsedThread};
 use lpc_base::Birth;
 use lpc_message::ClientId;
 
+/// The process that has the number.
 pub fn process_at(rows: &[ProcessRow], pid: u32) -> Option<ProcessRow>
     ensures { result ≡ first (is_process pid) rows.now }
 {
@@ -19,6 +20,7 @@ pub fn process_at(rows: &[ProcessRow], pid: u32) -> Option<ProcessRow>
     None
 }
 
+/// The thread that has the number, ended or not.
 pub fn thread_at(rows: &[ThreadRow], tid: u32) -> Option<ThreadRow>
     ensures { result ≡ first (is_thread tid) rows.now }
 {
@@ -30,6 +32,7 @@ pub fn thread_at(rows: &[ThreadRow], tid: u32) -> Option<ThreadRow>
     None
 }
 
+/// The thread number, where it was ever used.
 pub fn used_thread(used: &[UsedThread], tid: u32) -> Option<UsedThread>
     ensures { result ≡ first (is_used_thread tid) used.now }
 {
@@ -41,6 +44,7 @@ pub fn used_thread(used: &[UsedThread], tid: u32) -> Option<UsedThread>
     None
 }
 
+/// The process of a thread number that was ever used.
 pub fn process_of(used: &[UsedThread], tid: u32) -> Option<u32>
     ensures { result ≡ option_map (λ u. u.process) (first (is_used_thread tid) used.now) }
 {
@@ -50,12 +54,14 @@ pub fn process_of(used: &[UsedThread], tid: u32) -> Option<u32>
     }
 }
 
+/// The number was ever used for a thread.
 pub fn is_used_by_thread(used: &[UsedThread], tid: u32) -> bool
     ensures { result ≡ has (is_used_thread tid) used.now }
 {
     used_thread(used, tid).is_some()
 }
 
+/// The number is one of these.
 pub fn is_used(numbers: &[u32], number: u32) -> bool
     ensures { result ≡ has (λ n. n == number) numbers.now }
 {
@@ -67,6 +73,7 @@ pub fn is_used(numbers: &[u32], number: u32) -> bool
     false
 }
 
+/// The numbers are those of a live thread and of its process.
 pub fn is_live(threads: &[ThreadRow], client: ClientId) -> bool
     ensures { result ≡ has (is_live_client client) threads.now }
 {
@@ -138,6 +145,7 @@ pub fn put_thread(threads: &mut Vec<ThreadRow>, tid: u32, row: ThreadRow)
     }
 }
 
+/// Takes away the process that has the number.
 pub fn remove_process(rows: &mut Vec<ProcessRow>, pid: u32)
     ensures rows { rows.new.items ≡ without (is_process pid) rows.old.items }
     ensures fewer { vec_len rows.new ≤ vec_len rows.old }
@@ -146,6 +154,7 @@ pub fn remove_process(rows: &mut Vec<ProcessRow>, pid: u32)
     rows.retain(|p| p.number != pid);
 }
 
+/// Takes away the thread that has the number.
 pub fn remove_thread(rows: &mut Vec<ThreadRow>, tid: u32)
     ensures rows { rows.new.items ≡ without (is_thread tid) rows.old.items }
     ensures fewer { vec_len rows.new ≤ vec_len rows.old }

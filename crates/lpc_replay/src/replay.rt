@@ -100,7 +100,7 @@ pub fn run_words<S: Source, K: Sink>(
     // The status is one of six.
     ensures statuses { is_one_of (0 ∷ 2 ∷ 3 ∷ 4 ∷ 5 ∷ 64 ∷ []) result ≡ true }
 
-    // The words are none of the forms: the usage line is sent, nothing is read, and no memory is taken.
+    // The words are none of the forms: the usage line is sent, nothing is read, and want of memory is no answer.
     ensures words { result ≡ 64 → is_replay (map (λ w. string_bytes w) words.now) ≡ false }
     ensures no_form { is_replay (map (λ w. string_bytes w) words.now) ≡ false → is_one_of (64 ∷ 4 ∷ []) result ≡ true }
     ensures unread { is_replay (map (λ w. string_bytes w) words.now) ≡ false → source.new ≡ source.old }

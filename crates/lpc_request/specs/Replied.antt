@@ -14,7 +14,7 @@ abbrev pub replied_steps : World → Option Replied → List Basic
 replied_steps w None = []
 replied_steps w (Some r) = reply (waiter w r.thread) r.message ∷ []
 
--- the thread waits, and its wait isn't for the reply to a request that isn't received
+-- the thread waits, and its wait isn't for the answer to a request or connect that isn't received
 abbrev pub may_be_told : World → Option Replied → Type 0
 may_be_told w None = Unit {0}
 may_be_told w (Some r) = (has (waits_as r.thread) w.waits ≡ true) × (is_pending_in w r.thread ≡ false)

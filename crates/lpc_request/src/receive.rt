@@ -27,7 +27,9 @@ use lpc_world::{World, wants_answer};
 /// A reply that a receive makes first: the thread that asked, and the message.
 #[derive(Drop)]
 pub struct Replied {
+    /// The number of the thread that asked.
     pub thread: u32,
+    /// The message of the reply.
     pub message: Message,
 }
 

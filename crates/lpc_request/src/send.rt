@@ -25,8 +25,11 @@ use lpc_world::World;
 /// A message that may be sent on a port, and the queue that it will enter.
 #[derive(Drop)]
 pub struct Sendable {
+    /// The port on which it is sent.
     pub port: Key,
+    /// The queue that it will enter.
     pub queue: Key,
+    /// The message as the call was given it.
     pub message: Message,
 }
 
@@ -117,7 +120,7 @@ fn datagram_test(world: &World, tid: u32, handle: u32, bytes: &[u8]) -> Result<S
 ///
 /// Refusals in their order: no such handle, no port, no right; a message of wrong shape, one that is too long;
 /// PORT_DISCONNECTED where the port has no route; QUOTA_EXCEEDED where 32 datagrams of it aren't received. After want of
-/// memory nothing has changed.
+/// memory nothing has changed but the room.
 #[tactic(auto, unfolding(lpc_model::specs::Request::nt_request_port))]
 pub fn nt_request_port(
     world: &mut World,

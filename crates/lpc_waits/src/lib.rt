@@ -56,6 +56,7 @@ impl WaitKind {
 pub struct Wait {
     /// The process of the waiting thread.
     pub process: u32,
+    /// What it waits for.
     pub kind: WaitKind,
     /// The port on which the call was made; for a connect its client port.
     pub port: Key,
@@ -77,7 +78,9 @@ pub struct Accepted {
 /// A row of the table: a thread that waits.
 #[derive(Drop)]
 pub struct WaitRow {
+    /// The number of the thread.
     pub thread: u32,
+    /// What it waits for, and where.
     pub wait: Wait,
     /// The bytes of the message that was sent, with its header; none until they are set.
     pub message: ArrayVec<u8, 256>,

@@ -14,7 +14,9 @@ use lpc_slots::Key;
 /// The handles of one process.
 #[derive(Drop)]
 pub struct Part {
+    /// The number of the process.
     pub process: u32,
+    /// Its handles.
     pub handles: Table<Object>,
 }
 

@@ -1,5 +1,5 @@
-// The tables together: reading calls find what the definitions find, a changing call is one basic step and takes no
-// memory, and a reserving call makes room and changes nothing else.
+// The tables together: reading calls find what the definitions find, a changing call is one basic step or a part of one
+// and takes no memory, and a reserving call makes room and changes nothing else.
 ghost use Rattle.std.specs.Prelude.{◌≡◌, ◌+◌, ◌*◌, ◌<◌, ◌≤◌, ◌↔◌, [], None, Some, true, false, IfSome, IfNone, IfOk, IsErr, OnOk, OnErr, is_some, length, option_map};
 ghost use Rattle.lpc_base.specs.Rows.{change, first, has, without};
 ghost use Rattle.lpc_model.specs.World.{no_rows};
@@ -109,7 +109,7 @@ impl World {
         self.calls += 1;
     }
 
-    // Changes: one basic step each.
+    // Changes: one basic step each, or a part of one.
 
     /// A thread draws its next message identifier, which is answered.
     pub fn procs_draw_identifier(&mut self, tid: u32) -> u32
@@ -202,7 +202,8 @@ impl World {
         self.ports.add(kind, birth, connection)
     }
 
-    /// A message enters the queue of a port, on which no thread waits that takes it. A request has its place, every other message the room that was made for it.
+    /// A message enters the queue of a port, on which no thread waits that takes it. A request or connection request has
+    /// its place, every other message the room that was made for it.
     pub fn ports_send(&mut self, queue: Key, sender: Key, context: u32, bytes: &[u8])
         requires queue { stands self.old.names.ports queue ≡ true }
         requires sender { stands self.old.names.ports sender ≡ true }
@@ -277,8 +278,8 @@ impl World {
         self.waits.set_message(tid, bytes);
     }
 
-    /// Ends the wait of a thread, which isn't for the reply to a request that isn't received, and answers it: None
-    /// exactly where the thread doesn't wait.
+    /// Ends the wait of a thread, which isn't for the answer to a request or connect that isn't received, and answers it:
+    /// None exactly where the thread doesn't wait.
     pub fn waits_end(&mut self, tid: u32) -> Option<Wait>
         requires { is_pending_in self.old.rows tid ≡ false }
         ensures some { is_some result ≡ has (waits_as tid) self.old.rows.waits }
@@ -293,7 +294,7 @@ impl World {
         self.waits.end(tid)
     }
 
-    /// The request of a thread is received, where it waits. Its message stands in no queue any more.
+    /// The request or connect of a thread is received, where it waits. Its message stands in no queue any more.
     pub fn waits_receive(&mut self, tid: u32)
         requires owed { 0 < self.old.room.requests }
         ensures rows { self.new.rows ≡ basic self.old.rows (Receives tid) }

@@ -41,7 +41,7 @@ impl World {
     /// `boot`: makes a process without a maker, and its first thread.
     ///
     /// Refusal: OBJECT_NAME_COLLISION where the number was ever used for a process, or the other for a thread. After want
-    /// of memory nothing has changed.
+    /// of memory nothing has changed but the room.
     #[tactic(auto, unfolding(lpc_model::specs::Machine::boot_line))]
     pub fn boot(&mut self, pid: u32, tid: u32) -> Result<Status, OutOfMemory>
         requires calls { self.old.calls < 1000000 }
@@ -65,7 +65,7 @@ impl World {
     ///
     /// Refusals, in this order: INVALID_CID without a live process of that number; OBJECT_NAME_COLLISION where the
     /// number was ever used for a thread; QUOTA_EXCEEDED where the process has 64 live threads. After want of memory
-    /// nothing has changed.
+    /// nothing has changed but the room.
     #[tactic(auto, unfolding(lpc_model::specs::Machine::thread_line))]
     pub fn thread(&mut self, tid: u32, pid: u32) -> Result<Status, OutOfMemory>
         requires calls { self.old.calls < 1000000 }
@@ -86,7 +86,7 @@ impl World {
     /// `dir`: makes a directory of the name space.
     ///
     /// Refusal: the fault of the path, or OBJECT_NAME_COLLISION where something stands there. After want of memory nothing
-    /// has changed.
+    /// has changed but the room.
     #[tactic(auto, unfolding(lpc_model::specs::Machine::dir_line))]
     pub fn directory(&mut self, path: &[u8]) -> Result<Status, OutOfMemory>
         requires calls { self.old.calls < 1000000 }
@@ -101,7 +101,7 @@ impl World {
     /// `link`: makes a link of the name space, to a target that need not stand.
     ///
     /// Refusals, in this order: the fault of the target's form; the fault of the path, or OBJECT_NAME_COLLISION where
-    /// something stands there. After want of memory nothing has changed.
+    /// something stands there. After want of memory nothing has changed but the room.
     #[tactic(auto, unfolding(lpc_model::specs::Machine::link_line))]
     pub fn link(&mut self, path: &[u8], target: &[u8]) -> Result<Status, OutOfMemory>
         requires calls { self.old.calls < 1000000 }

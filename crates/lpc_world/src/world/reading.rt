@@ -220,6 +220,7 @@ impl World {
 
     // Ports and queues.
 
+    /// The row of a port that stands.
     pub(crate) fn port(&self, port: Key) -> Port
         requires { stands self.now.names.ports port ≡ true }
         ensures found { port_row self.now.rows (name_of self.now.names.ports port) ≡ Some (port_of self.now.rows (name_of self.now.names.ports port)) }
@@ -379,6 +380,7 @@ impl World {
         }
     }
 
+    /// The thread waits.
     pub(crate) fn is_waiting(&self, tid: u32) -> bool
         ensures waits { result ≡ has (waits_as tid) self.now.rows.waits }
         ensures single { are_single self.now.rows.waits ≡ true }

@@ -86,7 +86,7 @@ impl World {
         self.waits_set_message(tid, message.bytes().as_slice());
     }
 
-    /// A thread's wait ends, and it is told so. The wait isn't for the reply to a request that isn't received.
+    /// A thread's wait ends, and it is told so. The wait isn't for the answer to a request or connect that isn't received.
     pub fn wake(&mut self, tid: u32, status: Status, fields: Fields, out: &mut Entries)
         requires spare { 1 ≤ out.old.spare }
         requires waits { has (waits_as tid) self.old.rows.waits ≡ true }
