@@ -2,3 +2,4 @@ pub mod Streams
 pub mod Memory
 pub mod Places
 pub mod Rows
+pub mod Profile

@@ -17,7 +17,7 @@ mod tests;
 pub use birth::Birth;
 pub use bytes::held;
 pub use error::{Failed, OutOfMemory};
-pub use laws::law_new_handle_is_least;
+pub use laws::{law_new_handle_is_least, law_profile};
 pub use memory::{HonestSource, MemSink, MemSource};
 pub use port_kind::PortKind;
 pub use status::Status;

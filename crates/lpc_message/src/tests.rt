@@ -50,24 +50,6 @@ fn each_part_of_a_message_is_read(rt: HostRuntime) {
     assert_eq!(rt; message.range(2), None);
 }
 
-#[test]
-fn message_types_have_the_published_numbers(rt: HostRuntime) {
-    let kinds = [
-        kind::NEW_MESSAGE,
-        kind::REQUEST,
-        kind::REPLY,
-        kind::DATAGRAM,
-        kind::LOST_REPLY,
-        kind::PORT_CLOSED,
-        kind::CLIENT_DIED,
-        kind::EXCEPTION,
-        kind::DEBUG_EVENT,
-        kind::ERROR_EVENT,
-        kind::CONNECTION_REQUEST,
-    ];
-    assert_eq!(rt; kinds, [0, 1, 2, 3, 4, 5, 6, 7, 8, 9, 10]);
-}
-
 // What `read` answers to zeros with these sizes and this offset, and the count written where the offset says.
 fn answer(
     data_size: u16,
