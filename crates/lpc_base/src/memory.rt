@@ -104,6 +104,7 @@ impl Source for MemSource {
         ensures bytes { IfOk result (λ n. Told (Some self.old.left) (Some self.new.left) (Gives n into.new)) }
         ensures failed { OnErr result (self.new.left ≡ self.old.left) }
         ensures cause { HasCause self.old.faults self.new.faults result }
+        ensures still { IfOk result (λ _. self.new.faults ≡ self.old.faults) }
         ensures calls { self.new.calls ≡ raised self.old.calls }
         ensures fails { IsErr result ↔ Contains self.old.fails (raised self.old.calls) }
         ensures count { IfOk result (λ n. n ≡ min (min (length into.new) (length self.old.left)) self.old.piece) }
@@ -190,6 +191,7 @@ impl Sink for MemSink {
         ensures bytes { IfOk result (λ n. Told (Some self.old.sent) (Some self.new.sent) (λ old new. new ≡ old ++ take n from.now)) }
         ensures failed { OnErr result (self.new.sent ≡ self.old.sent) }
         ensures cause { HasCause self.old.faults self.new.faults result }
+        ensures still { IfOk result (λ _. self.new.faults ≡ self.old.faults) }
         ensures sure { length from.now ≤ sure_of self.old → IsOk result × (self.new.faults ≡ self.old.faults) }
         ensures spends { sure_of self.old ≤ sure_of self.new + taken result }
         ensures calls { self.new.calls ≡ raised self.old.calls }

@@ -15,13 +15,14 @@ pub trait Source {
     /// Reads the next bytes into the front of `into`, and answers how many: 0 at the end alone.
     ///
     /// `into` has room for a byte at least. Failed comes only where the failure was counted, and then nothing was taken
-    /// of what is left.
+    /// of what is left. A read that succeeds counts no failure.
     fn read(&mut self, into: &mut [u8]) -> Result<usize, Failed>
         requires { 0 < length into.old }
         ensures bound { IfOk result (λ n. n ≤ length into.new) }
         ensures bytes { IfOk result (λ n. Told (left self.old) (left self.new) (Gives n into.new)) }
         ensures failed { OnErr result (left self.new ≡ left self.old) }
-        ensures cause { HasCause (faults self.old) (faults self.new) result };
+        ensures cause { HasCause (faults self.old) (faults self.new) result }
+        ensures still { IfOk result (λ _. faults self.new ≡ faults self.old) };
 }
 
 /// What bytes are written to, piece by piece.
@@ -37,7 +38,8 @@ pub trait Sink {
 
     /// Sends bytes of the front of `from`, and answers how many, one at least.
     ///
-    /// `from` is not empty. Failed comes only where the failure was counted, and then nothing was sent.
+    /// `from` is not empty. Failed comes only where the failure was counted, and then nothing was sent. A write that
+    /// succeeds counts no failure.
     fn write(&mut self, from: &[u8]) -> Result<usize, Failed>
         requires { 0 < length from.now }
         ensures some { IfOk result (λ n. 1 ≤ n) }
@@ -45,6 +47,7 @@ pub trait Sink {
         ensures bytes { IfOk result (λ n. Told (sent self.old) (sent self.new) (λ old new. new ≡ old ++ take n from.now)) }
         ensures failed { OnErr result (sent self.new ≡ sent self.old) }
         ensures cause { HasCause (faults self.old) (faults self.new) result }
+        ensures still { IfOk result (λ _. faults self.new ≡ faults self.old) }
         ensures sure { length from.now ≤ sure self.old → IsOk result × (faults self.new ≡ faults self.old) }
         ensures spends { sure self.old ≤ sure self.new + taken result };
 }

@@ -1,5 +1,8 @@
-// The adapters over the standard streams, the trusted edge. What they hold or send isn't told; their faults are counted.
-ghost use Rattle.std.specs.Prelude.{None};
+// The adapters over the standard streams, the trusted edge. What they hold or sent isn't told to the replay; their
+// faults are counted. That no byte is lost or made between is said of every reader and writer that tells its bytes.
+ghost use Rattle.std.specs.Prelude.{◌≡◌, ◌<◌, ◌≤◌, length, None, IfOk};
+ghost use Rattle.std.specs.Io.KnownBytes.{ReadConsumes, WriteAppends};
+ghost use Rattle.lpc_base.specs.Streams.{HasCause};
 
 use lpc_base::{Failed, Sink, Source};
 use std::io::{Read, Write};
@@ -13,7 +16,10 @@ pub struct Input<R: Read> {
 
 impl<R: Read> Input<R> {
     /// A source that has not failed yet.
-    pub fn new(inner: R) -> Self {
+    pub fn new(inner: R) -> Self
+        ensures inner { result.inner ≡ inner }
+        ensures faults { result.faults ≡ 0 }
+    {
         Input { inner, faults: 0 }
     }
 }
@@ -23,7 +29,14 @@ impl<R: Read> Source for Input<R> {
 
     ghost faults = { λ s. s.faults };
 
-    fn read(&mut self, into: &mut [u8]) -> Result<usize, Failed> {
+    /// The bytes are the reader's next ones, and 0 comes only at its end. A read that fails takes none.
+    fn read(&mut self, into: &mut [u8]) -> Result<usize, Failed>
+        requires { 0 < length into.old }
+        ensures bound { IfOk result (λ n. n ≤ length into.new) }
+        ensures reader { ReadConsumes (R.remaining self.old.inner) (R.remaining self.new.inner) result into.new }
+        ensures cause { HasCause self.old.faults self.new.faults result }
+        ensures still { IfOk result (λ _. self.new.faults ≡ self.old.faults) }
+    {
         match self.inner.read(into) {
             Ok(count) => Ok(count),
             Err(_) => {
@@ -43,7 +56,10 @@ pub struct Output<W: Write> {
 
 impl<W: Write> Output<W> {
     /// A sink that has not failed yet.
-    pub fn new(inner: W) -> Self {
+    pub fn new(inner: W) -> Self
+        ensures inner { result.inner ≡ inner }
+        ensures faults { result.faults ≡ 0 }
+    {
         Output { inner, faults: 0 }
     }
 }
@@ -55,7 +71,15 @@ impl<W: Write> Sink for Output<W> {
 
     ghost sure = { λ _. 0 };
 
-    fn write(&mut self, from: &[u8]) -> Result<usize, Failed> {
+    /// The writer then holds the bytes that are answered as sent, behind what it held. A write that fails adds none.
+    fn write(&mut self, from: &[u8]) -> Result<usize, Failed>
+        requires { 0 < length from.now }
+        ensures some { IfOk result (λ n. 1 ≤ n) }
+        ensures bound { IfOk result (λ n. n ≤ length from.now) }
+        ensures writer { WriteAppends (W.contents self.old.inner) (W.contents self.new.inner) result from.now }
+        ensures cause { HasCause self.old.faults self.new.faults result }
+        ensures still { IfOk result (λ _. self.new.faults ≡ self.old.faults) }
+    {
         if let Ok(count) = self.inner.write(from) {
             if count > 0 {
                 return Ok(count);
