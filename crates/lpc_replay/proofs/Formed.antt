@@ -6,7 +6,7 @@ use Rattle.lpc_base.specs.Streams.{Told}
 use Rattle.lpc_model.specs.Script.{script_lines}
 use Rattle.lpc_model.specs.Run.{is_well_formed}
 use Rattle.lpc_model.specs.Transcript.{transcript}
-use Rattle.lpc_replay.specs.Reading.{IsRead, ended_lines, passes_limit}
+use Rattle.lpc_replay.specs.Reading.{IsRead, ended_lines, has_fault, passes_limit}
 use Rattle.lpc_replay.specs.TopCall.{IsFormed, IsStopped, Replays, Stops, StopsAtFault}
 use Rattle.lpc_replay.proofs.Ended.{ended_faulty}
 use Rattle.lpc_replay.proofs.Limits.{limit_faulty, read_sound}
@@ -30,13 +30,14 @@ replays left left' sent sent' script told is transcribed =
     told_weaker left left' (IsRead script) (λ all rest. (rest ≡ []) × Told sent sent' (λ before now. now ≡ before ++ transcript all))
     (λ old new r. let whole = read_sound script old new r is in (whole.0, subst (λ t. Told sent sent' (λ before now. now ≡ before ++ transcript t)) whole.1 transcribed)) told
 
--- what was read of a script, where no line of it is faulty that is ended
-pub sound_read : (left left' : Option (List ℕ)) (script : List ℕ) (status : ℕ) → Told left left' (λ old new. old ≡ script ++ new) → is_well_formed (ended_lines script) ≡ true → StopsAtFault left left' status
-sound_read None left' script status told sound = tt
-sound_read (Some old) None script status told sound = tt
-sound_read (Some old) (Some new) script status told sound = λ read parts faulty.
+-- what was read of a script, where no line of it is faulty that is ended, and it passes no limit
+pub sound_read : (left left' : Option (List ℕ)) (script : List ℕ) (status : ℕ) → Told left left' (λ old new. old ≡ script ++ new) → is_well_formed (ended_lines script) ≡ true → passes_limit script ≡ false → StopsAtFault left left' status
+sound_read None left' script status told sound within = tt
+sound_read (Some old) None script status told sound within = tt
+sound_read (Some old) (Some new) script status told sound within = λ read parts faulty.
     let same : script ≡ read = append_cancel_right script read new (sym told ∙ parts) in
-    let wrong = rw same at sound in
+    let none : has_fault script ≡ false = rw (within, sound) refl in
+    let wrong : has_fault read ≡ false = rw same at none in
     absurd (cc)
 
 -- and where one is

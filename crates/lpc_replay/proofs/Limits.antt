@@ -234,6 +234,16 @@ limit_faulty script new h =
     let none : behind start (script ++ new) ≡ None = behind_append start script new ∙ rw (none_is (behind start script) h) refl in
     faulty_is (first_fault 1 (script_lines (script ++ new))) (overruns start [] (script ++ new) tt refl none)
 
+within_case : (limit : Bool) (script : List ℕ) → passes_limit script ≡ limit → is_well_formed (script_lines script) ≡ true → passes_limit script ≡ false
+within_case true script l h =
+    let faulty : is_well_formed (script_lines script) ≡ false = rw (append-nil script) at (limit_faulty script [] l) in
+    absurd (cc)
+within_case false script l h = l
+
+-- a script without a faulty line passes no limit
+pub sound_within : (script : List ℕ) → is_well_formed (script_lines script) ≡ true → passes_limit script ≡ false
+sound_within script h = within_case (passes_limit script) script refl h
+
 -- what is read of a well-formed script is all of it
 read_case : (limit : Bool) (script old new : List ℕ) → passes_limit script ≡ limit → IsRead script old new → is_well_formed (script_lines old) ≡ true → (new ≡ []) × (script ≡ old)
 read_case true script old new l r h =

@@ -1,8 +1,9 @@
 -- How much of a script is read.
-use Rattle.std.specs.Prelude.{◌≡◌, ℕ, ◌+◌, ◌==◌, nat_le, Bool, false, List, [], ◌∷◌, ◌++◌, Option, Some, None, is_none, option_and_then, if◌then◌else◌}
+use Rattle.std.specs.Prelude.{◌≡◌, ℕ, ◌+◌, ◌==◌, nat_le, Bool, false, not, ◌||◌, List, [], ◌∷◌, ◌++◌, Option, Some, None, is_none, option_and_then, if◌then◌else◌}
 use Rattle.std.specs.List.{list_any}
 use Rattle.lpc_base.specs.declared.limits.TheConstants.{LINE_LIMIT, LINES_LIMIT}
 use Rattle.lpc_model.specs.Script.{script_lines}
+use Rattle.lpc_model.specs.Run.{is_well_formed}
 use Rattle.lpc_replay.specs.declared.reading.Place.{Place}
 
 -- the place behind one more byte; none where it is a byte of a line too many, or one too many of its line
@@ -39,3 +40,8 @@ ended_part (b ∷ bs) = if list_any (λ c. c == 10) (b ∷ bs) then b ∷ ended_
 -- the lines that are ended by byte 10; a rest behind the last byte 10 is none of them
 abbrev pub ended_lines : List ℕ → List (List ℕ)
 ended_lines bytes = script_lines (ended_part bytes)
+
+-- What is read holds a faulty line, whatever comes behind it: a line that is ended by byte 10 is faulty, or what is read
+-- passes a limit. So a rest without byte 10 counts as soon as it is too long, or is of a line too many.
+abbrev pub has_fault : List ℕ → Bool
+has_fault read = passes_limit read || not (is_well_formed (ended_lines read))

@@ -6,7 +6,7 @@ use Rattle.lpc_base.specs.Streams.{Rose, Told}
 use Rattle.lpc_model.specs.Script.{script_lines}
 use Rattle.lpc_model.specs.Run.{is_well_formed}
 use Rattle.lpc_model.specs.Transcript.{body, transcript}
-use Rattle.lpc_replay.specs.Reading.{ended_lines, ended_part, passes_limit}
+use Rattle.lpc_replay.specs.Reading.{ended_lines, ended_part, has_fault, passes_limit}
 
 -- the words are `replay` alone
 abbrev pub is_replay : List (List ℕ) → Bool
@@ -49,21 +49,23 @@ pub record IsStopped (sent sent' : Option (List ℕ)) (script rest : List ℕ) :
 abbrev pub Stops : Option (List ℕ) → Option (List ℕ) → Option (List ℕ) → Option (List ℕ) → Type 0
 Stops left left' sent sent' = Told left left' (IsStopped sent sent')
 
--- no line that was read to its byte 10 is faulty, and what these lines tell is sent, without a last line
+-- No line that was read is faulty: none that is ended by byte 10, and what is read passes no limit. What the lines tell
+-- that are ended by byte 10 is sent, without a last line.
 pub record IsBrokenOff (sent sent' : Option (List ℕ)) (script rest : List ℕ) : Type 0 where
   pub read : List ℕ
   pub parts : script ≡ read ++ rest
   pub sound : is_well_formed (ended_lines read) ≡ true
+  pub within : passes_limit read ≡ false
   pub told : Told sent sent' (λ before now. now ≡ before ++ body (ended_part read))
 
 abbrev pub BreaksOff : Option (List ℕ) → Option (List ℕ) → Option (List ℕ) → Option (List ℕ) → Type 0
 BreaksOff left left' sent sent' = Told left left' (IsBrokenOff sent sent')
 
--- where the source tells its bytes, and a line that was read to its byte 10 is faulty, the replay stops at a faulty
--- line, unless the sink fails or memory runs out
+-- where the source tells its bytes, and what is read holds a faulty line, the replay stops at a faulty line, unless the
+-- sink fails or memory runs out
 abbrev pub StopsAtFault : Option (List ℕ) → Option (List ℕ) → ℕ → Type 0
 StopsAtFault left left' status =
-    IfSome left (λ script. IfSome left' (λ rest. (read : List ℕ) → script ≡ read ++ rest → is_well_formed (ended_lines read) ≡ false → is_one_of (2 ∷ 4 ∷ 5 ∷ []) status ≡ true))
+    IfSome left (λ script. IfSome left' (λ rest. (read : List ℕ) → script ≡ read ++ rest → has_fault read ≡ true → is_one_of (2 ∷ 4 ∷ 5 ∷ []) status ≡ true))
 
 -- where the source tells its bytes, the script that it had left is well formed, or isn't
 abbrev pub IsFormed : Bool → Option (List ℕ) → Type 0

@@ -1,8 +1,8 @@
 // A script is read to its end, until it passes a limit, or until the source fails.
-ghost use Rattle.std.specs.Prelude.{◌≡◌, ◌≤◌, ◌<◌, ◌+◌, ◌++◌, [], IfOk};
+ghost use Rattle.std.specs.Prelude.{◌≡◌, ◌≤◌, ◌<◌, ◌+◌, ◌++◌, [], IfOk, false};
 ghost use Rattle.lpc_base.specs.Streams.{Told, Rose};
 ghost use Rattle.lpc_replay.specs.declared.reading.ReadEnd.TheVariants.{Finished, SourceFailed};
-ghost use Rattle.lpc_replay.specs.Reading.{IsRead, behind, ended_part};
+ghost use Rattle.lpc_replay.specs.Reading.{IsRead, behind, ended_part, passes_limit};
 
 use lpc_base::limits::{LINE_LIMIT, LINES_LIMIT};
 use lpc_base::{OutOfMemory, Source};
@@ -13,7 +13,8 @@ use std::alloc::Global;
 pub enum ReadEnd {
     /// The source answered its end, or the bytes read pass a limit. A rest without byte 10 is a line too.
     Finished,
-    /// The source failed. A rest without byte 10 is no line, since more of it may have been left.
+    /// The source failed, and the bytes read pass no limit. A rest without byte 10 is no line, since more of it may have
+    /// been left.
     SourceFailed,
 }
 
@@ -72,10 +73,11 @@ pub fn ended(script: &[u8]) -> &[u8]
 /// Reads a script until the source's end or its first failure, in pieces of at most 4096 bytes.
 ///
 /// It ends early where the bytes read pass a limit: a byte is one too many of its line, or is of a line too many. So
-/// a script is at most as long as the limits allow, and one piece.
+/// a script is at most as long as the limits allow, and one piece, and no failure comes behind a byte too many.
 pub fn read_script<S: Source>(alloc: Global, source: &mut S) -> Result<ReadScript, OutOfMemory>
     ensures read { IfOk result (λ script. Told (S.left source.old) (S.left source.new) (λ old new. old ≡ script.bytes.items ++ new)) }
     ensures finished { IfOk result (λ script. script.end ≡ Finished → Told (S.left source.old) (S.left source.new) (IsRead script.bytes.items)) }
+    ensures within { IfOk result (λ script. script.end ≡ SourceFailed → passes_limit script.bytes.items ≡ false) }
     ensures failed { IfOk result (λ script. script.end ≡ SourceFailed → Rose (S.faults source.old) (S.faults source.new)) }
     ensures later { S.faults source.old ≤ S.faults source.new }
 {

@@ -91,6 +91,10 @@ fn replay<S: Source, K: Sink>(alloc: Global, source: &mut S, sink: &mut K) -> u8
 /// faulty; the lines before it were run, and `stop` with its number and its fault was sent. 3: the source failed, and
 /// no line read before was faulty; what the lines tell that are ended by byte 10 was sent, and no last line. 4: the sink
 /// failed. 5: memory ran out. Other words answer 64, send the usage line and read nothing.
+///
+/// Where the source fails, a rest that isn't ended by byte 10 is no line, since more of it may have been left. But a rest
+/// that passes a limit is a faulty line, whatever comes behind it: once its byte 16,385 was read, or once a byte of line
+/// 1,000,001 was read. Then the script is read no further, and the status isn't 3.
 pub fn run_words<S: Source, K: Sink>(
     alloc: Global,
     words: &[String],

@@ -1,5 +1,6 @@
 use Rattle.std.proofs.Common.{sym, ◌∙◌}
 use Rattle.lpc_replay.proofs.Ended.{ended_sound}
+use Rattle.lpc_replay.proofs.Limits.{sound_within}
 use Rattle.lpc_replay.proofs.Formed.{formed, formed_ended, replays, sound_read, stops_ended}
 use Rattle.lpc_replay.proofs.replay.replay.Goals as goal
 
@@ -22,8 +23,9 @@ pub returns-in-Ok-true-clause-faulty_read : goal.returns-in-Ok-true-clause-fault
 returns-in-Ok-true-clause-faulty_read g c =
     let left = g.S.Source.left in
     let ok = c.in-Ok-true in
+    let sound = sym (rw c.deref.ensures.value at ok.ensures.whole) ∙ ok.field-0-test in
     sound_read (left c.args.source.now) (left c.read_script.new.source) c.in-Ok.script.bytes.items 0 c.in-Ok.ensures.read
-    (ended_sound c.in-Ok.script.bytes.items (sym (rw c.deref.ensures.value at ok.ensures.whole) ∙ ok.field-0-test))
+    (ended_sound c.in-Ok.script.bytes.items sound) (sound_within c.in-Ok.script.bytes.items sound)
 
 pub returns-in-Ok-false-clause-faulty : goal.returns-in-Ok-false-clause-faulty
 returns-in-Ok-false-clause-faulty g c =
@@ -37,7 +39,7 @@ returns-in-Ok-true-play_ended-clause-faulty_read g c =
     let left = g.S.Source.left in
     let ok = c.in-Ok-true-play_ended in
     sound_read (left c.args.source.now) (left c.read_script.new.source) c.in-Ok.script.bytes.items 3 c.in-Ok.ensures.read
-    (sym (rw c.deref-in-SourceFailed.ensures.value at ok.ensures.whole) ∙ ok.field-0-test)
+    (sym (rw c.deref-in-SourceFailed.ensures.value at ok.ensures.whole) ∙ ok.field-0-test) (c.in-Ok.ensures.within c.in-SourceFailed.is)
 
 pub returns-in-Ok-false-play_ended-clause-stopped : goal.returns-in-Ok-false-play_ended-clause-stopped
 returns-in-Ok-false-play_ended-clause-stopped g c =
