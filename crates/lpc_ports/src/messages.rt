@@ -1,6 +1,6 @@
 //! Messages as they stand in queues.
 
-ghost use Rattle.std.specs.Prelude.{◌≡◌, ◌≤◌, ◌==◌, ◌&&◌, ◌||◌, length, slice_index};
+ghost use Rattle.std.specs.Prelude.{◌≡◌, ◌==◌, ◌&&◌, ◌||◌, slice_index};
 ghost use Rattle.lpc_message.specs.Layout.{half_at};
 ghost use Rattle.lpc_slots.specs.Table.{is_key};
 
