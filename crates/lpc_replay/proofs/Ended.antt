@@ -4,14 +4,16 @@ use Rattle.std.specs.Prelude.{Option, Some, None, Result, Ok, Err, is_none, is_s
 use Rattle.std.specs.List.{list_any, onto_first}
 use Rattle.std.proofs.lemmas.Bool.Decides.{nat_tests}
 use Rattle.std.proofs.lemmas.List.{append-nil, take_more}
+use Rattle.lpc_base.specs.Streams.{Told}
 use Rattle.lpc_model.specs.declared.fault.LineFault.{LineFault}
 use Rattle.lpc_model.specs.Lines.{ScriptLine}
 use Rattle.lpc_model.specs.Script.{script_lines}
 use Rattle.lpc_model.specs.Run.{FaultyLine, faulty_or, first_fault, is_well_formed, numbered_line}
 use Rattle.lpc_model.specs.Transcript.{transcript}
-use Rattle.lpc_replay.specs.Playing.{Progress, begin, behind_line, line_and_later, line_text, text_from}
+use Rattle.lpc_replay.specs.Playing.{Progress, begin, behind_line, body_text, line_and_later, line_text, text_from}
 use Rattle.lpc_replay.specs.Reading.{ended_lines, ended_part}
-use Rattle.lpc_replay.proofs.Turns.{transcript_is}
+use Rattle.lpc_replay.specs.Sending.{SentBut}
+use Rattle.lpc_replay.proofs.Turns.{body_front, transcript_is}
 
 -- a byte 10 is among the bytes
 abbrev pub has_end : List ℕ → Bool
@@ -124,7 +126,7 @@ text_stays n p (l ∷ ls) back at h =
     text_case p (numbered_line (p.lines + 1) l) (first_fault (p.lines + 1 + 1) ls) (λ q. text_from q (ls ++ back)) (λ q. text_from q ls) (rw (← at) at h)
     (λ q is k. text_stays (p.lines + 1 + 1) q ls back (ap (λ m. m + 1) is) k)
 
-pub not_none : {A : Type 0} (o : Option A) → is_some o ≡ true → is_none o ≡ false
+not_none : {A : Type 0} (o : Option A) → is_some o ≡ true → is_none o ≡ false
 not_none None h = absurd (cc)
 not_none (Some x) h = refl
 
@@ -136,6 +138,19 @@ ended_transcript bytes h =
     ∙ (sym (text_stays 1 begin (ended_lines bytes) (script_lines f.0) refl h)
     ∙ (ap (λ lines. text_from begin lines) (sym (lines_parts bytes f.0) ∙ ap script_lines (sym f.1))
     ∙ transcript_is bytes))
+
+-- what was sent of the ended lines but the last line, where one of them is faulty
+pub ended_but : (a b : Option (List ℕ)) (bytes last : List ℕ) (fault : Option LineFault) → is_some fault ≡ true → is_none fault ≡ is_well_formed (ended_lines bytes) → Told a b (SentBut (text_from begin (ended_lines bytes)) last) → Told a b (SentBut (transcript bytes) last)
+ended_but a b bytes last fault some is told =
+    let faulty : is_well_formed (ended_lines bytes) ≡ false = sym is ∙ not_none fault some in
+    rw (transcript_is (ended_part bytes), ended_transcript bytes faulty) at told
+
+-- what the ended lines tell is a front of the transcript of the whole script
+pub ended_body : (bytes : List ℕ) → (rest : List ℕ) × (transcript bytes ≡ body_text begin (ended_lines bytes) ++ rest)
+ended_body bytes =
+    let f = ended_front bytes in
+    let told = body_front begin (ended_lines bytes) (script_lines f.0) in
+    (told.0, sym (transcript_is bytes) ∙ (ap (λ lines. text_from begin lines) (ap script_lines f.1 ∙ lines_parts bytes f.0) ∙ told.1))
 
 -- where a line is faulty that is ended, every script that begins so is faulty
 pub ended_faulty : (bytes rest : List ℕ) → is_well_formed (ended_lines bytes) ≡ false → is_well_formed (script_lines (bytes ++ rest)) ≡ false

@@ -6,11 +6,11 @@ use Rattle.lpc_base.specs.Streams.{Told}
 use Rattle.lpc_model.specs.Script.{script_lines}
 use Rattle.lpc_model.specs.Run.{is_well_formed}
 use Rattle.lpc_model.specs.Transcript.{transcript}
-use Rattle.lpc_replay.specs.Reading.{IsRead, ended_lines, has_fault, passes_limit}
-use Rattle.lpc_replay.specs.TopCall.{IsFormed, IsStopped, Replays, Stops, StopsAtFault}
+use Rattle.lpc_replay.specs.Reading.{IsRead, IsTaken, ended_lines, has_fault, passes_limit}
+use Rattle.lpc_replay.specs.TopCall.{Begins, IsBegun, IsFormed, IsStopped, Replays, Stops, StopsAtFault}
 use Rattle.lpc_replay.proofs.Ended.{ended_faulty}
 use Rattle.lpc_replay.proofs.Limits.{limit_faulty, read_sound}
-use Rattle.lpc_replay.proofs.Tells.{told_weaker}
+use Rattle.lpc_replay.proofs.Tells.{front_none, told_weaker}
 
 form_case : (limit : Bool) (script old new : List ℕ) → passes_limit script ≡ limit → IsRead script old new → is_well_formed (script_lines old) ≡ is_well_formed (script_lines script)
 form_case true script old new l r =
@@ -56,6 +56,11 @@ pub formed_ended : (left left' : Option (List ℕ)) (script : List ℕ) → Told
 formed_ended None left' script told faulty = tt
 formed_ended (Some old) None script told faulty = absurd told
 formed_ended (Some old) (Some new) script told faulty = rw told (ended_faulty script new faulty)
+
+-- nothing was sent, which begins the transcript of what was read
+pub begins_unsent : (left left' sent : Option (List ℕ)) → Told left left' IsTaken → Begins left left' sent sent
+begins_unsent left left' sent told =
+    told_weaker left left' IsTaken (IsBegun sent sent) (λ old new taken. record { read = taken.0; parts = taken.1; begun = front_none sent (transcript taken.0) }) told
 
 -- what holds of every script holds of the one that is told
 pub of_told : (P : List ℕ → Type 0) → ((script : List ℕ) → P script) → (left : Option (List ℕ)) → IfSome left P

@@ -1,9 +1,9 @@
 -- Facts on what a source or a sink tells, one after the other.
-use Rattle.std.proofs.Common.{◌≡◌, ℕ, subst, List, [], ◌++◌, take, drop, refl, ◌∙◌, append_assoc}
+use Rattle.std.proofs.Common.{◌≡◌, ℕ, subst, List, [], ◌++◌, take, drop, refl, sym, ◌∙◌, append_assoc}
 use Rattle.std.specs.Prelude.{Option, Some, None}
 use Rattle.std.proofs.lemmas.List.{append-nil, take-append-drop}
 use Rattle.lpc_base.specs.Streams.{Gives, Told}
-use Rattle.lpc_replay.specs.Sending.{SentBut}
+use Rattle.lpc_replay.specs.Sending.{IsFront, SentBut}
 
 pub told_then : (a b c : Option (List ℕ)) (P Q R : List ℕ → List ℕ → Type 0) → ((x y z : List ℕ) → P x y → Q y z → R x z) → Told a b P → Told b c Q → Told a c R
 told_then None None c P Q R f p q = q
@@ -27,23 +27,43 @@ sent_more bytes rest n a b c p q = told_then a b c _ _ _
     (λ x y z s t. (s.0 ++ take n rest, s.1 ∙ rw (append_assoc, take-append-drop) refl, t ∙ rw (s.2, append_assoc) refl)) p q
 
 -- what is still to be sent, said in other words
-pub told_as : (a b : Option (List ℕ)) (text same all : List ℕ) → text ≡ same → Told a b (λ old new. new ++ text ≡ old ++ all) → Told a b (λ old new. new ++ same ≡ old ++ all)
-told_as a b text same all e p = subst (λ t. Told a b (λ old new. new ++ t ≡ old ++ all)) e p
+pub sent_as : (a b : Option (List ℕ)) (all rest same : List ℕ) → rest ≡ same → Told a b (SentBut all rest) → Told a b (SentBut all same)
+sent_as a b all rest same e p = subst (λ t. Told a b (SentBut all t)) e p
 
 -- nothing is still to be sent
-pub told_all : (a b : Option (List ℕ)) (rest all : List ℕ) → rest ≡ [] → Told a b (λ old new. new ++ rest ≡ old ++ all) → Told a b (λ old new. new ≡ old ++ all)
-told_all a b rest all e p = told_weaker a b (λ old new. new ++ rest ≡ old ++ all) (λ old new. new ≡ old ++ all)
-    (λ x y s. rw (e, append-nil y) at s) p
+pub sent_all : (a b : Option (List ℕ)) (all rest : List ℕ) → rest ≡ [] → Told a b (SentBut all rest) → Told a b (λ old new. new ≡ old ++ all)
+sent_all a b all rest e p = told_weaker a b (SentBut all rest) (λ old new. new ≡ old ++ all)
+    (λ x y s. let whole : all ≡ s.0 = rw (e, append-nil s.0) at s.1 in rw whole s.2) p
 
--- the text of the rest begins with what is sent next
-pub told_goes : (s0 s1 s2 : Option (List ℕ)) (text rest more all : List ℕ) → Told s0 s1 (λ old new. new ++ rest ≡ old ++ all) → Told s1 s2 (λ old new. new ≡ old ++ text) → rest ≡ text ++ more → Told s0 s2 (λ old new. new ++ more ≡ old ++ all)
-told_goes s0 s1 s2 text rest more all p q e = told_then s0 s1 s2 (λ old new. new ++ rest ≡ old ++ all) (λ old new. new ≡ old ++ text) (λ old new. new ++ more ≡ old ++ all)
-    (λ x y z s t. rw (t, append_assoc, ← e) s) p q
+-- the rest begins with what is sent next
+pub sent_on : (a b c : Option (List ℕ)) (all rest text more : List ℕ) → Told a b (SentBut all rest) → Told b c (λ old new. new ≡ old ++ text) → rest ≡ text ++ more → Told a c (SentBut all more)
+sent_on a b c all rest text more p q e = told_then a b c (SentBut all rest) (λ old new. new ≡ old ++ text) (SentBut all more)
+    (λ x y z s t. (s.0 ++ text, s.1 ∙ rw (e, append_assoc) refl, t ∙ rw (s.2, append_assoc) refl)) p q
 
 -- the last text is sent
-pub told_ends : (s0 s1 s2 : Option (List ℕ)) (last all : List ℕ) → Told s0 s1 (λ old new. new ++ last ≡ old ++ all) → Told s1 s2 (λ old new. new ≡ old ++ last) → Told s0 s2 (λ old new. new ≡ old ++ all)
-told_ends s0 s1 s2 last all p q = told_then s0 s1 s2 (λ old new. new ++ last ≡ old ++ all) (λ old new. new ≡ old ++ last) (λ old new. new ≡ old ++ all)
-    (λ x y z s t. t ∙ s) p q
+pub sent_last : (a b c : Option (List ℕ)) (all last : List ℕ) → Told a b (SentBut all last) → Told b c (λ old new. new ≡ old ++ last) → Told a c (λ old new. new ≡ old ++ all)
+sent_last a b c all last p q = sent_all a c all [] refl (sent_on a b c all last last [] p q (sym (append-nil last)))
+
+-- no byte is sent
+pub front_none : (a : Option (List ℕ)) (all : List ℕ) → Told a a (IsFront all)
+front_none a all = told_same a a (IsFront all) (λ x. (all, ([], refl, sym (append-nil x)))) refl
+
+-- a part is sent
+pub front_but : (a b : Option (List ℕ)) (all rest : List ℕ) → Told a b (SentBut all rest) → Told a b (IsFront all)
+front_but a b all rest p = told_weaker a b (SentBut all rest) (IsFront all) (λ x y s. (rest, s)) p
+
+-- a front of a front
+pub front_more : (a b : Option (List ℕ)) (all text more : List ℕ) → all ≡ text ++ more → Told a b (IsFront text) → Told a b (IsFront all)
+front_more a b all text more e p = told_weaker a b (IsFront text) (IsFront all)
+    (λ x y s. (s.0 ++ more, (s.1.0, e ∙ rw (s.1.1, append_assoc) refl, s.1.2))) p
+
+-- the rest begins with what is sent next, a front of it at least
+pub front_on : (a b c : Option (List ℕ)) (all rest text more : List ℕ) → Told a b (SentBut all rest) → Told b c (IsFront text) → rest ≡ text ++ more → Told a c (IsFront all)
+front_on a b c all rest text more p q e = told_then a b c (SentBut all rest) (IsFront text) (IsFront all)
+    (λ x y z s t. (t.0 ++ more, (s.0 ++ t.1.0, s.1 ∙ rw (e, t.1.1) (simp append_assoc), t.1.2 ∙ rw (s.2, append_assoc) refl))) p q
+
+pub front_last : (a b c : Option (List ℕ)) (all last : List ℕ) → Told a b (SentBut all last) → Told b c (IsFront last) → Told a c (IsFront all)
+front_last a b c all last p q = front_on a b c all last last [] p q (sym (append-nil last))
 
 -- what was read, and one piece more
 pub read_more : (script into all : List ℕ) (n : ℕ) (a b c : Option (List ℕ)) → all ≡ script ++ take n into → Told a b (λ old new. old ≡ script ++ new) → Told b c (Gives n into) → Told a c (λ old new. old ≡ all ++ new)

@@ -1,6 +1,7 @@
 -- One line of a replay, its end, and the transcript as what is sent line by line.
 use Rattle.std.proofs.Common.{◌≡◌, ℕ, ◌+◌, ◌<◌, true, false, List, [], ◌∷◌, ◌++◌, length, refl, sym, ap, ◌∙◌, arith, append_assoc, length-append}
 use Rattle.std.specs.Prelude.{Option, Some, None, Result, Ok, Err, is_none}
+use Rattle.std.proofs.lemmas.List.{append-nil}
 use Rattle.lpc_base.specs.declared.limits.TheConstants.{LINES_LIMIT}
 use Rattle.lpc_model.specs.declared.fault.LineFault.{LineFault}
 use Rattle.lpc_model.specs.Machine.{step}
@@ -41,6 +42,22 @@ pub body_ends : (p : Progress) (rest : List ℕ) → length rest ≡ 0 → body_
 unfolding said_from trace body_from script_lines
 body_ends p [] none = refl
 body_ends p (b ∷ bs) none = absurd (omega arith)
+
+-- what lines tell is the front of what is sent for them, and for them and later ones
+body_case : (p : Progress) (r : Result (Option ScriptLine) LineFault) (line : List ℕ) (lines later : List (List ℕ)) → numbered_line (p.lines + 1) line ≡ r
+    → ((q : Progress) → (rest : List ℕ) × (text_from q (lines ++ later) ≡ body_text q lines ++ rest))
+    → (rest : List ℕ) × (text_from p (line ∷ (lines ++ later)) ≡ body_text p (line ∷ lines) ++ rest)
+body_case p (Err fault) line lines later is h =
+    (text_from p (line ∷ (lines ++ later)), sym (ap (λ b. b ++ text_from p (line ∷ (lines ++ later))) (body_stops p line lines fault is)))
+body_case p (Ok said) line lines later is h =
+    let f = h (behind_line p said) in
+    let goes = text_goes p line (lines ++ later) said is ∙ ap (λ t. line_text p said ++ t) f.1 in
+    (f.0, goes ∙ (sym (append_assoc (line_text p said) (body_text (behind_line p said) lines) f.0) ∙ ap (λ b. b ++ f.0) (sym (body_goes p line lines said is))))
+
+pub body_front : (p : Progress) (lines later : List (List ℕ)) → (rest : List ℕ) × (text_from p (lines ++ later) ≡ body_text p lines ++ rest)
+unfolding said_from trace body_from
+body_front p [] later = (text_from p later, refl)
+body_front p (line ∷ lines) later = body_case p (numbered_line (p.lines + 1) line) line lines later refl (λ q. body_front q lines later)
 
 pub fault_goes : (n : ℕ) (line : List ℕ) (lines : List (List ℕ)) (said : Option ScriptLine) → numbered_line n line ≡ Ok said → first_fault n (line ∷ lines) ≡ first_fault (n + 1) lines
 unfolding first_fault
@@ -108,6 +125,12 @@ unfolding transcript
 transcript_is bytes =
     let lines = script_lines bytes in
     text_is begin lines ∙ ap (λ last. body_from 1 (trace no_rows (said_from 1 lines)) ++ last) (last_is (first_fault 1 lines) bytes)
+
+pub whole_body : (bytes : List ℕ) → (rest : List ℕ) × (transcript bytes ≡ body_text begin (script_lines bytes) ++ rest)
+whole_body bytes =
+    let lines = script_lines bytes in
+    let told = body_front begin lines [] in
+    (told.0, sym (transcript_is bytes) ∙ (ap (λ all. text_from begin all) (sym (append-nil lines)) ∙ told.1))
 
 -- a line that was run and printed
 pub runs_said : (p : Progress) (line : List ℕ) (said : ScriptLine) (w : World) (count : ℕ) (text : List ℕ) → p.lines < LINES_LIMIT → read_line line ≡ Ok (Some said) → w ≡ (step p.rows said).world → count ≡ length (step p.rows said).entries → text ≡ entries_text (p.lines + 1) (step p.rows said).entries → RunsLine line None p (record { rows = w; lines = p.lines + 1; told = p.told + count }) text

@@ -32,6 +32,10 @@ pub record IsRead (script old new : List ℕ) : Type 0 where
   pub parts : old ≡ script ++ new
   pub whole : passes_limit script ≡ false → new ≡ []
 
+-- the first of what was left is read, and new is the rest
+abbrev pub IsTaken : List ℕ → List ℕ → Type 0
+IsTaken old new = (read : List ℕ) × (old ≡ read ++ new)
+
 -- the bytes up to the last byte 10, that one too: a byte is among them where there is a byte 10 from it on
 unfoldable pub ended_part : List ℕ → List ℕ
 ended_part [] = []

@@ -7,6 +7,7 @@ use Rattle.lpc_model.specs.Script.{script_lines}
 use Rattle.lpc_model.specs.Run.{is_well_formed}
 use Rattle.lpc_model.specs.Transcript.{body, transcript}
 use Rattle.lpc_replay.specs.Reading.{ended_lines, ended_part, has_fault, passes_limit}
+use Rattle.lpc_replay.specs.Sending.{IsFront}
 
 -- the words are `replay` alone
 abbrev pub is_replay : List (List ℕ) → Bool
@@ -60,6 +61,16 @@ pub record IsBrokenOff (sent sent' : Option (List ℕ)) (script rest : List ℕ)
 
 abbrev pub BreaksOff : Option (List ℕ) → Option (List ℕ) → Option (List ℕ) → Option (List ℕ) → Type 0
 BreaksOff left left' sent sent' = Told left left' (IsBrokenOff sent sent')
+
+-- What is sent begins the transcript of what is read, wherever the replay ends: also where the sink fails or memory runs
+-- out, and where the source fails.
+pub record IsBegun (sent sent' : Option (List ℕ)) (script rest : List ℕ) : Type 0 where
+  pub read : List ℕ
+  pub parts : script ≡ read ++ rest
+  pub begun : Told sent sent' (IsFront (transcript read))
+
+abbrev pub Begins : Option (List ℕ) → Option (List ℕ) → Option (List ℕ) → Option (List ℕ) → Type 0
+Begins left left' sent sent' = Told left left' (IsBegun sent sent')
 
 -- where the source tells its bytes, and what is read holds a faulty line, the replay stops at a faulty line, unless the
 -- sink fails or memory runs out

@@ -6,6 +6,7 @@ ghost use Rattle.lpc_model.specs.Run.{first_fault, is_well_formed};
 ghost use Rattle.lpc_model.specs.Transcript.{body, transcript};
 ghost use Rattle.lpc_replay.specs.Playing.{begin, body_text, last_text, text_from};
 ghost use Rattle.lpc_replay.specs.Reading.{ended_lines, ended_part};
+ghost use Rattle.lpc_replay.specs.Sending.{IsFront, SentBut};
 
 use crate::playback::Playback;
 use crate::reading::ended;
@@ -54,10 +55,13 @@ fn play_lines<K: Sink>(
     script: &[u8],
     sink: &mut K,
 ) -> Result<Option<LineFault>, PlayError>
-    ensures sent { IfOk result (λ fault. Told (K.sent sink.old) (K.sent sink.new) (λ old new. new ++ last_text playback.new.at fault ≡ old ++ text_from playback.old.at (script_lines script.now))) }
+    ensures sent { IfOk result (λ fault. Told (K.sent sink.old) (K.sent sink.new) (SentBut (text_from playback.old.at (script_lines script.now)) (last_text playback.new.at fault))) }
     ensures body { IfOk result (λ fault. Told (K.sent sink.old) (K.sent sink.new) (λ old new. new ≡ old ++ body_text playback.old.at (script_lines script.now))) }
     ensures fault { IfOk result (λ fault. is_none fault ≡ is_none (first_fault (playback.old.at.lines + 1) (script_lines script.now))) }
+    ensures front { Told (K.sent sink.old) (K.sent sink.new) (IsFront (body_text playback.old.at (script_lines script.now))) }
     ensures failed { IsErrOf result PlayError.SinkFailed → Rose (K.faults sink.old) (K.faults sink.new) }
+    ensures still { OnOk result (K.faults sink.new ≡ K.faults sink.old) }
+    ensures out_of_memory { IsErrOf result PlayError.OutOfMemory → K.faults sink.new ≡ K.faults sink.old }
     ensures later { K.faults sink.old ≤ K.faults sink.new }
 {
     let mut rest = script;
@@ -79,7 +83,10 @@ fn end<K: Sink>(
     sink: &mut K,
 ) -> Result<(), PlayError>
     ensures sent { OnOk result (Told (K.sent sink.old) (K.sent sink.new) (λ old new. new ≡ old ++ last_text playback.old.at fault)) }
+    ensures front { Told (K.sent sink.old) (K.sent sink.new) (IsFront (last_text playback.old.at fault)) }
     ensures failed { IsErrOf result PlayError.SinkFailed → Rose (K.faults sink.old) (K.faults sink.new) }
+    ensures still { OnOk result (K.faults sink.new ≡ K.faults sink.old) }
+    ensures out_of_memory { IsErrOf result PlayError.OutOfMemory → K.faults sink.new ≡ K.faults sink.old }
     ensures later { K.faults sink.old ≤ K.faults sink.new }
 {
     playback.end(fault)?;
@@ -98,7 +105,10 @@ fn play_all<K: Sink>(
     requires { playback.old.at ≡ begin }
     ensures sent { OnOk result (Told (K.sent sink.old) (K.sent sink.new) (λ old new. new ≡ old ++ transcript script.now)) }
     ensures whole { IfOk result (λ whole. whole ≡ is_well_formed (script_lines script.now)) }
+    ensures front { Told (K.sent sink.old) (K.sent sink.new) (IsFront (transcript script.now)) }
     ensures failed { IsErrOf result PlayError.SinkFailed → Rose (K.faults sink.old) (K.faults sink.new) }
+    ensures still { OnOk result (K.faults sink.new ≡ K.faults sink.old) }
+    ensures out_of_memory { IsErrOf result PlayError.OutOfMemory → K.faults sink.new ≡ K.faults sink.old }
     ensures later { K.faults sink.old ≤ K.faults sink.new }
 {
     let fault = play_lines(alloc, playback, scratch, script, sink)?;
@@ -119,7 +129,10 @@ fn play_ended_lines<K: Sink>(
     ensures told { IfOk result (λ whole. whole ≡ true → Told (K.sent sink.old) (K.sent sink.new) (λ old new. new ≡ old ++ body (ended_part script.now))) }
     ensures stopped { IfOk result (λ whole. whole ≡ false → Told (K.sent sink.old) (K.sent sink.new) (λ old new. new ≡ old ++ transcript script.now)) }
     ensures whole { IfOk result (λ whole. whole ≡ is_well_formed (ended_lines script.now)) }
+    ensures front { Told (K.sent sink.old) (K.sent sink.new) (IsFront (transcript script.now)) }
     ensures failed { IsErrOf result PlayError.SinkFailed → Rose (K.faults sink.old) (K.faults sink.new) }
+    ensures still { OnOk result (K.faults sink.new ≡ K.faults sink.old) }
+    ensures out_of_memory { IsErrOf result PlayError.OutOfMemory → K.faults sink.new ≡ K.faults sink.old }
     ensures later { K.faults sink.old ≤ K.faults sink.new }
 {
     let fault = play_lines(alloc, playback, scratch, ended(script), sink)?;
@@ -134,7 +147,10 @@ fn play_ended_lines<K: Sink>(
 pub fn play<K: Sink>(alloc: Global, script: &[u8], sink: &mut K) -> Result<bool, PlayError>
     ensures sent { OnOk result (Told (K.sent sink.old) (K.sent sink.new) (λ old new. new ≡ old ++ transcript script.now)) }
     ensures whole { IfOk result (λ whole. whole ≡ is_well_formed (script_lines script.now)) }
+    ensures front { Told (K.sent sink.old) (K.sent sink.new) (IsFront (transcript script.now)) }
     ensures failed { IsErrOf result PlayError.SinkFailed → Rose (K.faults sink.old) (K.faults sink.new) }
+    ensures still { OnOk result (K.faults sink.new ≡ K.faults sink.old) }
+    ensures out_of_memory { IsErrOf result PlayError.OutOfMemory → K.faults sink.new ≡ K.faults sink.old }
     ensures later { K.faults sink.old ≤ K.faults sink.new }
 {
     let mut scratch = Scratch::new(alloc)?;
@@ -148,7 +164,10 @@ pub fn play_ended<K: Sink>(alloc: Global, script: &[u8], sink: &mut K) -> Result
     ensures told { IfOk result (λ whole. whole ≡ true → Told (K.sent sink.old) (K.sent sink.new) (λ old new. new ≡ old ++ body (ended_part script.now))) }
     ensures stopped { IfOk result (λ whole. whole ≡ false → Told (K.sent sink.old) (K.sent sink.new) (λ old new. new ≡ old ++ transcript script.now)) }
     ensures whole { IfOk result (λ whole. whole ≡ is_well_formed (ended_lines script.now)) }
+    ensures front { Told (K.sent sink.old) (K.sent sink.new) (IsFront (transcript script.now)) }
     ensures failed { IsErrOf result PlayError.SinkFailed → Rose (K.faults sink.old) (K.faults sink.new) }
+    ensures still { OnOk result (K.faults sink.new ≡ K.faults sink.old) }
+    ensures out_of_memory { IsErrOf result PlayError.OutOfMemory → K.faults sink.new ≡ K.faults sink.old }
     ensures later { K.faults sink.old ≤ K.faults sink.new }
 {
     let mut scratch = Scratch::new(alloc)?;

@@ -93,7 +93,8 @@ impl Playback {
     /// Has the last line ready: of a script that was run to its end, or of one whose next line has this fault.
     #[tactic(auto, unfolding(crate::specs::Playing::last_text))]
     pub fn end(&mut self, fault: Option<LineFault>) -> Result<(), OutOfMemory>
-        ensures { OnOk result (self.new.text ≡ last_text self.old.at fault) }
+        ensures text { OnOk result (self.new.text ≡ last_text self.old.at fault) }
+        ensures at { self.new.at ≡ self.old.at }
     {
         self.text.clear();
         match fault {

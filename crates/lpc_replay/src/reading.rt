@@ -1,8 +1,8 @@
 // A script is read to its end, until it passes a limit, or until the source fails.
-ghost use Rattle.std.specs.Prelude.{◌≡◌, ◌≤◌, ◌<◌, ◌+◌, ◌++◌, [], IfOk, false};
+ghost use Rattle.std.specs.Prelude.{◌≡◌, ◌≤◌, ◌<◌, ◌+◌, ◌++◌, [], IfOk, OnErr, false};
 ghost use Rattle.lpc_base.specs.Streams.{Told, Rose};
 ghost use Rattle.lpc_replay.specs.declared.reading.ReadEnd.TheVariants.{Finished, SourceFailed};
-ghost use Rattle.lpc_replay.specs.Reading.{IsRead, behind, ended_part, passes_limit};
+ghost use Rattle.lpc_replay.specs.Reading.{IsRead, IsTaken, behind, ended_part, passes_limit};
 
 use lpc_base::limits::{LINE_LIMIT, LINES_LIMIT};
 use lpc_base::{OutOfMemory, Source};
@@ -79,6 +79,9 @@ pub fn read_script<S: Source>(alloc: Global, source: &mut S) -> Result<ReadScrip
     ensures finished { IfOk result (λ script. script.end ≡ Finished → Told (S.left source.old) (S.left source.new) (IsRead script.bytes.items)) }
     ensures within { IfOk result (λ script. script.end ≡ SourceFailed → passes_limit script.bytes.items ≡ false) }
     ensures failed { IfOk result (λ script. script.end ≡ SourceFailed → Rose (S.faults source.old) (S.faults source.new)) }
+    ensures taken { OnErr result (Told (S.left source.old) (S.left source.new) IsTaken) }
+    ensures still { IfOk result (λ script. script.end ≡ Finished → S.faults source.new ≡ S.faults source.old) }
+    ensures out_of_memory { OnErr result (S.faults source.new ≡ S.faults source.old) }
     ensures later { S.faults source.old ≤ S.faults source.new }
 {
     let mut bytes = Vec::new(alloc);

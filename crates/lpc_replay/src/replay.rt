@@ -2,7 +2,8 @@
 ghost use Rattle.std.specs.Prelude.{◌≡◌, ◌⊎◌, ◌≤◌, ◌++◌, [], ◌∷◌, map, true, false, string_bytes, IfSome};
 ghost use Rattle.lpc_base.specs.Streams.{Told, Rose};
 ghost use Rattle.lpc_replay.specs.Laws.{MisfitsRefused, RefusalsIdle, RefusalsStay, RequestsReturn};
-ghost use Rattle.lpc_replay.specs.TopCall.{BreaksOff, EndsAsFormed, IsFormed, Replays, Still, Stops, StopsAtFault, is_one_of, is_replay, usage};
+ghost use Rattle.lpc_replay.specs.Sending.{IsFront};
+ghost use Rattle.lpc_replay.specs.TopCall.{Begins, BreaksOff, EndsAsFormed, IsFormed, Replays, Still, Stops, StopsAtFault, is_one_of, is_replay, usage};
 
 use crate::play::{PlayError, play, play_ended};
 use crate::reading::{ReadEnd, read_script};
@@ -41,7 +42,9 @@ fn is_replay(words: &[String]) -> bool
 fn tell_usage<K: Sink>(sink: &mut K) -> u8
     ensures statuses { is_one_of (64 ∷ 4 ∷ []) result ≡ true }
     ensures usage { result ≡ 64 → Told (K.sent sink.old) (K.sent sink.new) (λ old new. new ≡ old ++ usage) }
+    ensures front { Told (K.sent sink.old) (K.sent sink.new) (IsFront usage) }
     ensures sink_failed { result ≡ 4 → Rose (K.faults sink.old) (K.faults sink.new) }
+    ensures sink_still { result ≡ 64 → K.faults sink.new ≡ K.faults sink.old }
     ensures sink_later { K.faults sink.old ≤ K.faults sink.new }
 {
     match send_all(sink, b"usage: ntlpc COMMAND [WORDS]\n") {
@@ -59,8 +62,11 @@ fn replay<S: Source, K: Sink>(alloc: Global, source: &mut S, sink: &mut K) -> u8
     ensures faulty { result ≡ 2 → IsFormed false (S.left source.old) }
     ensures faulty_read { StopsAtFault (S.left source.old) (S.left source.new) result }
     ensures failed_text { result ≡ 3 → BreaksOff (S.left source.old) (S.left source.new) (K.sent sink.old) (K.sent sink.new) }
+    ensures begun { Begins (S.left source.old) (S.left source.new) (K.sent sink.old) (K.sent sink.new) }
     ensures source_failed { result ≡ 3 → Rose (S.faults source.old) (S.faults source.new) }
+    ensures source_still { result ≡ 0 → S.faults source.new ≡ S.faults source.old }
     ensures sink_failed { result ≡ 4 → Rose (K.faults sink.old) (K.faults sink.new) }
+    ensures sink_still { is_one_of (0 ∷ 2 ∷ 3 ∷ 5 ∷ []) result ≡ true → K.faults sink.new ≡ K.faults sink.old }
     ensures source_later { S.faults source.old ≤ S.faults source.new }
     ensures sink_later { K.faults sink.old ≤ K.faults sink.new }
 {
@@ -92,6 +98,9 @@ fn replay<S: Source, K: Sink>(alloc: Global, source: &mut S, sink: &mut K) -> u8
 /// no line read before was faulty; what the lines tell that are ended by byte 10 was sent, and no last line. 4: the sink
 /// failed. 5: memory ran out. Other words answer 64, send the usage line and read nothing.
 ///
+/// Whatever the status, what was sent is a front of the transcript of what was read, or of the usage line: nothing else is
+/// sent, and nothing twice. Where a write failed the status is 4, and where a read failed it isn't 0.
+///
 /// Where the source fails, a rest that isn't ended by byte 10 is no line, since more of it may have been left. But a rest
 /// that passes a limit is a faulty line, whatever comes behind it: once its byte 16,385 was read, or once a byte of line
 /// 1,000,001 was read. Then the script is read no further, and the status isn't 3.
@@ -104,11 +113,13 @@ pub fn run_words<S: Source, K: Sink>(
     // The status is one of six.
     ensures statuses { is_one_of (0 ∷ 2 ∷ 3 ∷ 4 ∷ 5 ∷ 64 ∷ []) result ≡ true }
 
-    // The words are none of the forms: the usage line is sent, nothing is read, and want of memory is no answer.
+    // The words are none of the forms: the usage line is sent, or a front of it where the sink fails, nothing is read, and
+    // want of memory is no answer.
     ensures words { result ≡ 64 → is_replay (map (λ w. string_bytes w) words.now) ≡ false }
     ensures no_form { is_replay (map (λ w. string_bytes w) words.now) ≡ false → is_one_of (64 ∷ 4 ∷ []) result ≡ true }
     ensures unread { is_replay (map (λ w. string_bytes w) words.now) ≡ false → source.new ≡ source.old }
     ensures usage { result ≡ 64 → Told (K.sent sink.old) (K.sent sink.new) (λ old new. new ≡ old ++ usage) }
+    ensures usage_begun { is_replay (map (λ w. string_bytes w) words.now) ≡ false → Told (K.sent sink.old) (K.sent sink.new) (IsFront usage) }
 
     // The script is read to its end, is well formed, and its transcript is sent.
     ensures transcript { result ≡ 0 → Replays (S.left source.old) (S.left source.new) (K.sent sink.old) (K.sent sink.new) }
@@ -122,9 +133,15 @@ pub fn run_words<S: Source, K: Sink>(
     // The source failed before a faulty line was read: what the lines tell that are ended by byte 10 is sent.
     ensures failed_text { result ≡ 3 → BreaksOff (S.left source.old) (S.left source.new) (K.sent sink.old) (K.sent sink.new) }
 
-    // A failure is answered only where it was counted, and no count falls.
+    // Whatever the status, what was sent begins the transcript of what was read.
+    ensures begun { is_replay (map (λ w. string_bytes w) words.now) ≡ true → Begins (S.left source.old) (S.left source.new) (K.sent sink.old) (K.sent sink.new) }
+
+    // A failure is answered only where it was counted, and no count falls. Where the sink counted one the status is 4, and
+    // where the source did it isn't 0.
     ensures source_failed { result ≡ 3 → Rose (S.faults source.old) (S.faults source.new) }
+    ensures source_still { result ≡ 0 → S.faults source.new ≡ S.faults source.old }
     ensures sink_failed { result ≡ 4 → Rose (K.faults sink.old) (K.faults sink.new) }
+    ensures sink_still { is_one_of (0 ∷ 2 ∷ 3 ∷ 5 ∷ 64 ∷ []) result ≡ true → K.faults sink.new ≡ K.faults sink.old }
     ensures source_later { S.faults source.old ≤ S.faults source.new }
     ensures sink_later { K.faults sink.old ≤ K.faults sink.new }
 

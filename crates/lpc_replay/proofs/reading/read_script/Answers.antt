@@ -26,5 +26,5 @@ loop-place-preserved g c =
     record {
       told = read_more l.bytes.items c.read.new.into c.extend_from_slice.new.self.items c.in-Ok.count (left c.args.source.now) (left l.source) (left c.read.new.self) items l.invariant.told c.in-Ok.ensures.bytes;
       place = rw (c.behind-place.ensures, items) (behind_piece l.place l.bytes.items (take c.in-Ok.count c.read.new.into) c.in-Some.here l.invariant.place c.in-Some.is);
-      faults = omega arith;
+      faults = omega (arith, c.in-Ok.ensures.still);
     }

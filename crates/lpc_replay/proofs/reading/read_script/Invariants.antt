@@ -1,4 +1,4 @@
-use Rattle.std.proofs.Common.{◌≡◌, ◌++◌, ◌≤◌, ◌-◌, ◌*◌, length}
+use Rattle.std.proofs.Common.{◌≡◌, ◌++◌, ◌-◌, ◌*◌, length}
 use Rattle.lpc_base.specs.Streams.{Told}
 use Rattle.lpc_replay.specs.Reading.{behind, start}
 use Rattle.lpc_replay.proofs.reading.read_script.Given as goal
@@ -7,7 +7,7 @@ abbrev pub invariant-loop-place : goal.invariant-loop-place
 invariant-loop-place g l = record {
   told : Told (g.S.Source.left l.fn.source) (g.S.Source.left l.source) (λ old new. old ≡ l.bytes.items ++ new);
   place : l.place ≡ behind start l.bytes.items;
-  faults : g.S.Source.faults l.fn.source ≤ g.S.Source.faults l.source;
+  faults : g.S.Source.faults l.source ≡ g.S.Source.faults l.fn.source;
 }
 
 -- a million lines of 16,385 bytes each, with the byte that ends it, and one line more

@@ -1,8 +1,13 @@
 use Rattle.std.proofs.Common.{sym, ◌∙◌}
 use Rattle.lpc_replay.proofs.Ended.{ended_sound}
 use Rattle.lpc_replay.proofs.Limits.{sound_within}
-use Rattle.lpc_replay.proofs.Formed.{formed, formed_ended, replays, sound_read, stops_ended}
+use Rattle.lpc_replay.proofs.Formed.{begins_unsent, formed, formed_ended, replays, sound_read, stops_ended}
 use Rattle.lpc_replay.proofs.replay.replay.Goals as goal
+
+pub returns-in_default-clause-begun : goal.returns-in_default-clause-begun
+returns-in_default-clause-begun g c =
+    let left = g.S.Source.left in
+    begins_unsent (left c.args.source.now) (left c.read_script.new.source) (g.K.Sink.sent c.args.sink.now) c.in_default.ensures.taken
 
 pub returns-in-Ok-true-clause-transcript : goal.returns-in-Ok-true-clause-transcript
 returns-in-Ok-true-clause-transcript g c =
