@@ -1,11 +1,12 @@
 // A port is made with ample memory. The entry is written out by hand.
-ghost use Rattle.std.specs.Prelude.{◌≡◌, ◌∷◌, []};
+ghost use Rattle.std.specs.Prelude.{◌≡◌, ◌<◌, ◌∷◌, []};
 
 use crate::nt_create_port;
 use lpc_base::status::SUCCESS;
 use lpc_model::{CallName, Entries, Entry, FieldName, Fields, Outcome, Value};
 use lpc_names::Found;
 use lpc_world::{Condition, World};
+use std::process::Abort;
 use std::test::Fail;
 
 fn one(name: FieldName, value: Value) -> Fields
@@ -16,19 +17,31 @@ fn one(name: FieldName, value: Value) -> Fields
     fields
 }
 
+// Process 20 begins, and its thread 24 makes a port, with or without a name.
+fn makes_a_port(
+    rt: &impl Abort,
+    world: &mut World,
+    name: Option<&[u8]>,
+    out: &mut Entries,
+) -> Result<(), Fail>
+    requires few { world.old.calls < 1000 }
+{
+    assert_eq!(rt; world.boot(20, 24)?, SUCCESS);
+    let Condition::Ready = world.condition(24) else {
+        return Ok(assert!(rt; false));
+    };
+    out.reserve(2)?;
+    let outcome = nt_create_port(world, 24, name, out)?;
+    assert_eq!(rt; outcome, Outcome::Answered(SUCCESS));
+    Ok(())
+}
+
 #[test]
 fn first_port_of_a_process_has_handle_4(rt: HostRuntime) -> Result<(), Fail> {
     let alloc = rt.alloc();
     let mut world = World::empty(alloc);
     let mut out = Entries::new(alloc)?;
-    out.reserve(2)?;
-    let status = world.boot(20, 24)?;
-    assert_eq!(rt; status, SUCCESS);
-    let Condition::Ready = world.condition(24) else {
-        return Ok(assert!(rt; false));
-    };
-    let outcome = nt_create_port(&mut world, 24, None, &mut out)?;
-    assert_eq!(rt; outcome, Outcome::Answered(SUCCESS));
+    makes_a_port(&rt, &mut world, None, &mut out)?;
     let answer = Entry::Answer {
         tid: 24,
         call: CallName::NtCreatePort,
@@ -40,20 +53,21 @@ fn first_port_of_a_process_has_handle_4(rt: HostRuntime) -> Result<(), Fail> {
     Ok(())
 }
 
+// A directory is made, and a port with a name there.
+fn names_a_port(rt: &impl Abort, world: &mut World, out: &mut Entries) -> Result<(), Fail>
+    requires few { world.old.calls < 100 }
+{
+    assert_eq!(rt; world.directory(b"\\Windows")?, SUCCESS);
+    makes_a_port(rt, world, Some(b"\\Windows\\P"), out)?;
+    let found = world.names().lookup(b"\\Windows\\P");
+    assert!(rt; matches!(found, Ok(Found::Item(_))));
+    Ok(())
+}
+
 #[test]
 fn named_port_is_found_by_its_name(rt: HostRuntime) -> Result<(), Fail> {
     let alloc = rt.alloc();
     let mut world = World::empty(alloc);
     let mut out = Entries::new(alloc)?;
-    out.reserve(4)?;
-    assert_eq!(rt; world.directory(b"\\Windows")?, SUCCESS);
-    assert_eq!(rt; world.boot(20, 24)?, SUCCESS);
-    let Condition::Ready = world.condition(24) else {
-        return Ok(assert!(rt; false));
-    };
-    let outcome = nt_create_port(&mut world, 24, Some(b"\\Windows\\P"), &mut out)?;
-    assert_eq!(rt; outcome, Outcome::Answered(SUCCESS));
-    let found = world.names().lookup(b"\\Windows\\P");
-    assert!(rt; matches!(found, Ok(Found::Item(_))));
-    Ok(())
+    names_a_port(&rt, &mut world, &mut out)
 }

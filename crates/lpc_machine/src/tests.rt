@@ -53,84 +53,92 @@ const RECEIVED: [u8; 26] = [
     2, 0, 26, 0, 1, 0, 0, 0, 20, 0, 0, 0, 24, 0, 0, 0, 1, 0, 0, 0, 0, 0, 0, 0, 0x41, 0x42,
 ];
 
-#[test]
-fn a_request_is_received_by_another_thread(rt: HostRuntime) -> Result<(), Fail> {
-    let alloc = rt.alloc();
-    let mut machine = Machine::new(alloc);
-    let mut out = Entries::new(alloc)?;
-    assert_eq!(rt; machine.room_needed(), 1);
-    assert_eq!(rt; machine.objects(), 0);
-    makes(
-        &rt,
-        &mut machine,
-        &mut out,
-        &Line::Boot { pid: 20, tid: 24 },
-        directive(Word::Boot),
-    )?;
-    makes(
-        &rt,
-        &mut machine,
-        &mut out,
-        &Line::Thread { tid: 28, pid: 20 },
-        directive(Word::Thread),
-    )?;
-    makes(
-        &rt,
-        &mut machine,
-        &mut out,
-        &Line::Run {
-            tid: 24,
-            call: Call::CreatePort { name: None },
+// A process with two threads, the first of which makes a port.
+fn begins(rt: &impl Abort, machine: &mut Machine, out: &mut Entries) -> Result<(), Fail>
+    requires few { machine.old.calls < 1000 }
+    ensures calls { machine.new.calls ≤ machine.old.calls + 3 }
+{
+    let boot = Line::Boot { pid: 20, tid: 24 };
+    makes(rt, machine, out, &boot, directive(Word::Boot))?;
+    let thread = Line::Thread { tid: 28, pid: 20 };
+    makes(rt, machine, out, &thread, directive(Word::Thread))?;
+    let create = Line::Run {
+        tid: 24,
+        call: Call::CreatePort { name: None },
+    };
+    let answer = Entry::Answer {
+        tid: 24,
+        call: CallName::NtCreatePort,
+        status: SUCCESS,
+        fields: one(FieldName::H, Value::Number(4)),
+    };
+    makes(rt, machine, out, &create, answer)
+}
+
+// Thread 24 asks and waits.
+fn asks(rt: &impl Abort, machine: &mut Machine, out: &mut Entries) -> Result<(), Fail>
+    requires few { machine.old.calls < 1000000 }
+    ensures calls { machine.new.calls ≤ machine.old.calls + 1 }
+{
+    let request = Line::Run {
+        tid: 24,
+        call: Call::RequestWaitReplyPort {
+            handle: 4,
+            message: &GIVEN,
         },
-        Entry::Answer {
-            tid: 24,
-            call: CallName::NtCreatePort,
-            status: SUCCESS,
-            fields: one(FieldName::H, Value::Number(4)),
+    };
+    let waits = Entry::Waits {
+        tid: 24,
+        call: CallName::NtRequestWaitReplyPort,
+        fields: one(FieldName::Id, Value::Number(1)),
+    };
+    makes(rt, machine, out, &request, waits)
+}
+
+// Thread 28 receives the request.
+fn receives(rt: &impl Abort, machine: &mut Machine, out: &mut Entries) -> Result<(), Fail>
+    requires few { machine.old.calls < 1000000 }
+{
+    let receive = Line::Run {
+        tid: 28,
+        call: Call::ReplyWaitReceivePort {
+            handle: 4,
+            reply: None,
         },
-    )?;
-    makes(
-        &rt,
-        &mut machine,
-        &mut out,
-        &Line::Run {
-            tid: 24,
-            call: Call::RequestWaitReplyPort {
-                handle: 4,
-                message: &GIVEN,
-            },
-        },
-        Entry::Waits {
-            tid: 24,
-            call: CallName::NtRequestWaitReplyPort,
-            fields: one(FieldName::Id, Value::Number(1)),
-        },
-    )?;
+    };
     let mut received = one(FieldName::Ctx, Value::Hex(0));
     received.add(
         FieldName::Msg,
         Value::Bytes(ArrayVec::try_from(RECEIVED.as_slice())?),
     );
-    makes(
-        &rt,
-        &mut machine,
-        &mut out,
-        &Line::Run {
-            tid: 28,
-            call: Call::ReplyWaitReceivePort {
-                handle: 4,
-                reply: None,
-            },
-        },
-        Entry::Answer {
-            tid: 28,
-            call: CallName::NtReplyWaitReceivePort,
-            status: SUCCESS,
-            fields: received,
-        },
-    )?;
+    let answer = Entry::Answer {
+        tid: 28,
+        call: CallName::NtReplyWaitReceivePort,
+        status: SUCCESS,
+        fields: received,
+    };
+    makes(rt, machine, out, &receive, answer)
+}
+
+// The lines of a new machine, and what it counts.
+fn runs(rt: &impl Abort, machine: &mut Machine, out: &mut Entries) -> Result<(), Fail>
+    requires few { machine.old.calls < 1000 }
+{
+    assert_eq!(rt; machine.room_needed(), 1);
+    assert_eq!(rt; machine.objects(), 0);
+    begins(rt, machine, out)?;
+    asks(rt, machine, out)?;
+    receives(rt, machine, out)?;
     assert_eq!(rt; machine.room_needed(), 7);
     assert_eq!(rt; machine.objects(), 4);
     assert_eq!(rt; machine.world().calls(), 5);
     Ok(())
+}
+
+#[test]
+fn a_request_is_received_by_another_thread(rt: HostRuntime) -> Result<(), Fail> {
+    let alloc = rt.alloc();
+    let mut machine = Machine::new(alloc);
+    let mut out = Entries::new(alloc)?;
+    runs(&rt, &mut machine, &mut out)
 }

@@ -162,14 +162,35 @@ fn replies(rt: &impl Abort, world: &mut World, out: &mut Entries) -> Result<(), 
     Ok(())
 }
 
+// A datagram is sent and received.
+fn sends_and_receives(rt: &impl Abort, world: &mut World, out: &mut Entries) -> Result<(), Fail>
+    requires first { world.old.calls ≡ 0 }
+    ensures calls { OnOk result (world.new.calls ≡ 5) }
+{
+    port(rt, world, out)?;
+    sends(rt, world, out)?;
+    receives(rt, world, out, &DATAGRAM)
+}
+
 #[test]
 fn datagram_is_received(rt: HostRuntime) -> Result<(), Fail> {
     let alloc = rt.alloc();
     let mut world = World::empty(alloc);
     let mut out = Entries::new(alloc)?;
-    port(&rt, &mut world, &mut out)?;
-    sends(&rt, &mut world, &mut out)?;
-    receives(&rt, &mut world, &mut out, &DATAGRAM)
+    sends_and_receives(&rt, &mut world, &mut out)
+}
+
+// A request is sent, received and replied to; the same reply fits nothing then.
+fn asks_and_replies(rt: &impl Abort, world: &mut World, out: &mut Entries) -> Result<(), Fail>
+    requires few { world.old.calls < 1000 }
+{
+    asks(rt, world, out)?;
+    receives(rt, world, out, &REQUEST)?;
+    replies(rt, world, out)?;
+    begins(rt, world, 28, out)?;
+    let again = nt_reply_wait_receive_port(world, 28, 4, Some(&REPLY), out);
+    assert_eq!(rt; again, Outcome::Answered(REPLY_MESSAGE_MISMATCH));
+    Ok(())
 }
 
 #[test]
@@ -177,14 +198,6 @@ fn request_returns_by_its_reply(rt: HostRuntime) -> Result<(), Fail> {
     let alloc = rt.alloc();
     let mut world = World::empty(alloc);
     let mut out = Entries::new(alloc)?;
-    port(&rt, &mut world, &mut out)?;
-    sends(&rt, &mut world, &mut out)?;
-    receives(&rt, &mut world, &mut out, &DATAGRAM)?;
-    asks(&rt, &mut world, &mut out)?;
-    receives(&rt, &mut world, &mut out, &REQUEST)?;
-    replies(&rt, &mut world, &mut out)?;
-    begins(&rt, &world, 28, &mut out)?;
-    let again = nt_reply_wait_receive_port(&mut world, 28, 4, Some(&REPLY), &mut out);
-    assert_eq!(rt; again, Outcome::Answered(REPLY_MESSAGE_MISMATCH));
-    Ok(())
+    sends_and_receives(&rt, &mut world, &mut out)?;
+    asks_and_replies(&rt, &mut world, &mut out)
 }

@@ -47,16 +47,22 @@ fn threads(
     Ok(())
 }
 
-#[test]
-fn directives_make_processes_and_threads(rt: HostRuntime) -> Result<(), Fail> {
-    let mut world = World::empty(rt.alloc());
+// Six directives, on a new world.
+fn makes_processes_and_threads(rt: &impl Abort, world: &mut World) -> Result<(), Fail>
+    requires few { world.old.calls < 1000 }
+{
     assert_eq!(rt; world.room_needed(), 1);
-    boots(&rt, &mut world, 20, 24, SUCCESS)?;
-    boots(&rt, &mut world, 20, 28, OBJECT_NAME_COLLISION)?;
-    boots(&rt, &mut world, 32, 24, OBJECT_NAME_COLLISION)?;
-    threads(&rt, &mut world, 28, 20, SUCCESS)?;
-    threads(&rt, &mut world, 28, 20, OBJECT_NAME_COLLISION)?;
-    threads(&rt, &mut world, 28, 32, INVALID_CID)?;
+    boots(rt, world, 20, 24, SUCCESS)?;
+    boots(rt, world, 20, 28, OBJECT_NAME_COLLISION)?;
+    boots(rt, world, 32, 24, OBJECT_NAME_COLLISION)?;
+    threads(rt, world, 28, 20, SUCCESS)?;
+    threads(rt, world, 28, 20, OBJECT_NAME_COLLISION)?;
+    threads(rt, world, 28, 32, INVALID_CID)?;
+    Ok(())
+}
+
+// What those directives left.
+fn shows_processes_and_threads(rt: &impl Abort, world: &World) {
     assert_eq!(rt; world.calls(), 6);
     assert_eq!(rt; world.objects(), 3);
     assert_eq!(rt; world.live_count(20), 2);
@@ -76,6 +82,13 @@ fn directives_make_processes_and_threads(rt: HostRuntime) -> Result<(), Fail> {
     };
     assert_eq!(rt; world.client_test(here), Ok(()));
     assert_eq!(rt; world.client_test(elsewhere), Err(INVALID_CID));
+}
+
+#[test]
+fn directives_make_processes_and_threads(rt: HostRuntime) -> Result<(), Fail> {
+    let mut world = World::empty(rt.alloc());
+    makes_processes_and_threads(&rt, &mut world)?;
+    shows_processes_and_threads(&rt, &world);
     Ok(())
 }
 
@@ -150,9 +163,10 @@ fn names_the_port(rt: &impl Abort, world: &mut World, port: Key) -> Result<(), F
     Ok(())
 }
 
-#[test]
-fn directories_and_links_are_made_where_nothing_stands(rt: HostRuntime) -> Result<(), Fail> {
-    let mut world = World::empty(rt.alloc());
+// Directories and links, on a new world.
+fn makes_directories_and_links(rt: &impl Abort, world: &mut World) -> Result<(), Fail>
+    requires few { world.old.calls < 1000 }
+{
     assert_eq!(rt; world.names_add_directory(b"\\A"), Ok(()));
     assert_eq!(rt; world.names_add_link(b"\\L", b"\\A"), Ok(()));
     assert_eq!(rt; world.directory(b"\\L")?, OBJECT_NAME_COLLISION);
@@ -161,6 +175,12 @@ fn directories_and_links_are_made_where_nothing_stands(rt: HostRuntime) -> Resul
     assert_eq!(rt; world.names().lookup(b"\\A\\M"), Ok(Found::Directory));
     assert_eq!(rt; world.calls(), 3);
     Ok(())
+}
+
+#[test]
+fn directories_and_links_are_made_where_nothing_stands(rt: HostRuntime) -> Result<(), Fail> {
+    let mut world = World::empty(rt.alloc());
+    makes_directories_and_links(&rt, &mut world)
 }
 
 // A datagram enters the queue of the port and is taken from it.
@@ -192,18 +212,34 @@ fn sends_a_datagram(
     Ok(())
 }
 
+// Process 20 begins, and its thread 24 makes a port.
+fn begins_with_a_port(rt: &impl Abort, world: &mut World) -> Result<Key, Fail>
+    requires few { world.old.calls < 1000 }
+    ensures calls { world.new.calls ≤ world.old.calls + 2 }
+    ensures stands { IfOk result (λ port. stands world.new.names.ports port ≡ true) }
+{
+    boots(rt, world, 20, 24, SUCCESS)?;
+    let Condition::Ready = world.condition(24) else {
+        panic!(rt; "the thread can't call");
+    };
+    makes_a_port(rt, world)
+}
+
+// The port is made, and its handle found.
+fn makes_and_finds_a_port(rt: &impl Abort, world: &mut World) -> Result<(), Fail>
+    requires few { world.old.calls < 1000 }
+{
+    let port = begins_with_a_port(rt, world)?;
+    let Condition::Ready = world.condition(24) else {
+        panic!(rt; "the thread can't call");
+    };
+    finds_the_port(rt, world, port)
+}
+
 #[test]
 fn port_is_found_by_its_handle(rt: HostRuntime) -> Result<(), Fail> {
     let mut world = World::empty(rt.alloc());
-    boots(&rt, &mut world, 20, 24, SUCCESS)?;
-    let Condition::Ready = world.condition(24) else {
-        return Ok(assert!(rt; false));
-    };
-    let port = makes_a_port(&rt, &mut world)?;
-    let Condition::Ready = world.condition(24) else {
-        return Ok(assert!(rt; false));
-    };
-    finds_the_port(&rt, &world, port)
+    makes_and_finds_a_port(&rt, &mut world)
 }
 
 // The port has a name, and keeps a message.
@@ -221,63 +257,20 @@ fn keeps_a_message(
     sends_a_datagram(rt, world, port, out)
 }
 
+// The port is made, named, and keeps a message.
+fn makes_and_names_a_port(rt: &impl Abort, world: &mut World, out: &mut Entries) -> Result<(), Fail>
+    requires few { world.old.calls < 1000 }
+{
+    let port = begins_with_a_port(rt, world)?;
+    keeps_a_message(rt, world, port, out)
+}
+
 #[test]
 fn named_port_keeps_a_message(rt: HostRuntime) -> Result<(), Fail> {
     let alloc = rt.alloc();
     let mut world = World::empty(alloc);
     let mut out = Entries::new(alloc)?;
-    boots(&rt, &mut world, 20, 24, SUCCESS)?;
-    let Condition::Ready = world.condition(24) else {
-        return Ok(assert!(rt; false));
-    };
-    let port = makes_a_port(&rt, &mut world)?;
-    keeps_a_message(&rt, &mut world, port, &mut out)
-}
-
-// Thread 24 makes a port of a kind, which has no handle.
-fn adds_a_port(world: &mut World, kind: PortKind) -> Result<Key, Fail>
-    requires few { world.old.calls < 1000000 }
-    requires ready { is_ready world.old.rows 24 ≡ true }
-    ensures calls { world.new.calls ≤ world.old.calls + 1 }
-    ensures stands { IfOk result (λ port. stands world.new.names.ports port ≡ true) }
-    ensures others { OnOk result (KeepsNames world.old.names.ports world.new.names.ports) }
-{
-    let by = world.caller(24);
-    world.ports_reserve(1, 0)?;
-    world.begin_call();
-    let birth = world.procs_draw_birth(by.number);
-    Ok(world.ports_add(kind, birth, None))
-}
-
-// A server port is made, and joined with a client port, which is completed.
-fn joins_two_ports(rt: &impl Abort, world: &mut World, client: Key) -> Result<(), Fail>
-    requires few { world.old.calls < 1000000 }
-    requires ready { is_ready world.old.rows 24 ≡ true }
-    requires client { stands world.old.names.ports client ≡ true }
-    ensures names { OnOk result (KeepsNames world.old.names.ports world.new.names.ports) }
-    ensures calls { world.new.calls ≤ world.old.calls + 1 }
-{
-    assert_eq!(rt; world.context(client), 0);
-    let server = adds_a_port(world, PortKind::Server)?;
-    world.ports_join(client, server, 77);
-    assert_eq!(rt; world.context(client), 77);
-    assert_eq!(rt; world.context(server), 0);
-    world.ports_set_completed(client, true);
-    Ok(())
-}
-
-#[test]
-fn connection_is_joined_and_completed(rt: HostRuntime) -> Result<(), Fail> {
-    let mut world = World::empty(rt.alloc());
-    boots(&rt, &mut world, 20, 24, SUCCESS)?;
-    let Condition::Ready = world.condition(24) else {
-        return Ok(assert!(rt; false));
-    };
-    let client = adds_a_port(&mut world, PortKind::Client)?;
-    let Condition::Ready = world.condition(24) else {
-        return Ok(assert!(rt; false));
-    };
-    joins_two_ports(&rt, &mut world, client)
+    makes_and_names_a_port(&rt, &mut world, &mut out)
 }
 
 // Thread 24 makes a port that no handle names.
@@ -298,6 +291,44 @@ fn makes_a_bare_port(
     world.begin_call();
     let birth = world.procs_draw_birth(by.number);
     Ok(world.ports_add(kind, birth, connection))
+}
+
+// A server port is made, and joined with a client port, which is completed.
+fn joins_two_ports(rt: &impl Abort, world: &mut World, client: Key) -> Result<(), Fail>
+    requires few { world.old.calls < 1000000 }
+    requires ready { is_ready world.old.rows 24 ≡ true }
+    requires client { stands world.old.names.ports client ≡ true }
+    ensures names { OnOk result (KeepsNames world.old.names.ports world.new.names.ports) }
+    ensures calls { world.new.calls ≤ world.old.calls + 1 }
+{
+    assert_eq!(rt; world.context(client), 0);
+    let server = makes_a_bare_port(world, PortKind::Server, None)?;
+    world.ports_join(client, server, 77);
+    assert_eq!(rt; world.context(client), 77);
+    assert_eq!(rt; world.context(server), 0);
+    world.ports_set_completed(client, true);
+    Ok(())
+}
+
+// A client port is made, and joined.
+fn makes_and_joins_ports(rt: &impl Abort, world: &mut World) -> Result<(), Fail>
+    requires few { world.old.calls < 1000 }
+{
+    boots(rt, world, 20, 24, SUCCESS)?;
+    let Condition::Ready = world.condition(24) else {
+        panic!(rt; "the thread can't call");
+    };
+    let client = makes_a_bare_port(world, PortKind::Client, None)?;
+    let Condition::Ready = world.condition(24) else {
+        panic!(rt; "the thread can't call");
+    };
+    joins_two_ports(rt, world, client)
+}
+
+#[test]
+fn connection_is_joined_and_completed(rt: HostRuntime) -> Result<(), Fail> {
+    let mut world = World::empty(rt.alloc());
+    makes_and_joins_ports(&rt, &mut world)
 }
 
 // A port that a row names stays.
@@ -332,18 +363,25 @@ fn frees_two_ports(rt: &impl Abort, world: &mut World, connection: Key, client: 
     assert_eq!(rt; world.objects(), 2);
 }
 
+// A connection port and a client port of it are made, and freed.
+fn makes_and_frees_ports(rt: &impl Abort, world: &mut World) -> Result<(), Fail>
+    requires few { world.old.calls < 1000 }
+{
+    boots(rt, world, 20, 24, SUCCESS)?;
+    let Condition::Ready = world.condition(24) else {
+        panic!(rt; "the thread can't call");
+    };
+    let connection = makes_a_bare_port(world, PortKind::Connection, None)?;
+    let Condition::Ready = world.condition(24) else {
+        panic!(rt; "the thread can't call");
+    };
+    let client = makes_a_bare_port(world, PortKind::Client, Some(connection))?;
+    frees_two_ports(rt, world, connection, client);
+    Ok(())
+}
+
 #[test]
 fn port_goes_once_no_row_names_it(rt: HostRuntime) -> Result<(), Fail> {
     let mut world = World::empty(rt.alloc());
-    boots(&rt, &mut world, 20, 24, SUCCESS)?;
-    let Condition::Ready = world.condition(24) else {
-        return Ok(assert!(rt; false));
-    };
-    let connection = makes_a_bare_port(&mut world, PortKind::Connection, None)?;
-    let Condition::Ready = world.condition(24) else {
-        return Ok(assert!(rt; false));
-    };
-    let client = makes_a_bare_port(&mut world, PortKind::Client, Some(connection))?;
-    frees_two_ports(&rt, &mut world, connection, client);
-    Ok(())
+    makes_and_frees_ports(&rt, &mut world)
 }
