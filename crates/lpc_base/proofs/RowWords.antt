@@ -1,6 +1,6 @@
 -- What the list words do to one another.
-use Rattle.std.proofs.Common.{◌≡◌, ◌+◌, ◌≤◌, List, [], ◌∷◌, ◌++◌, Bool, true, false, cond, length, Some, refl, arith}
-use Rattle.lpc_base.specs.Rows.{first, has, without, without_first, change, count, every}
+use Rattle.std.proofs.Common.{◌≡◌, ◌+◌, ◌≤◌, ◌||◌, List, [], ◌∷◌, ◌++◌, Bool, true, false, cond, length, not, Some, refl, arith}
+use Rattle.lpc_base.specs.Rows.{first, has, which, without, without_first, change, count, every}
 
 -- every
 pub every-push : {X : Type 0} (p : X → Bool) (xs : List X) (y : X) → every p xs ≡ true → p y ≡ true → every p (xs ++ y ∷ []) ≡ true
@@ -18,6 +18,31 @@ every-change p test f same (x ∷ xs) all = grind (arith, same x, every-change p
 pub every-more : {X : Type 0} (p q : X → Bool) → ((x : X) → p x ≡ true → q x ≡ true) → (xs : List X) → every p xs ≡ true → every q xs ≡ true
 every-more p q more [] all = refl
 every-more p q more (x ∷ xs) all = grind (arith, more x, every-more p q more xs)
+
+pub every-append : {X : Type 0} (p : X → Bool) (xs ys : List X) → every p xs ≡ true → every p ys ≡ true → every p (xs ++ ys) ≡ true
+every-append p [] ys one two = two
+every-append p (x ∷ xs) ys one two = grind (arith, every-append p xs ys)
+
+pub every-front : {X : Type 0} (p : X → Bool) (xs ys : List X) → every p (xs ++ ys) ≡ true → every p xs ≡ true
+every-front p [] ys all = refl
+every-front p (x ∷ xs) ys all = grind (arith, every-front p xs ys)
+
+pub every-back : {X : Type 0} (p : X → Bool) (xs ys : List X) → every p (xs ++ ys) ≡ true → every p ys ≡ true
+every-back p [] ys all = all
+every-back p (x ∷ xs) ys all = grind (arith, every-back p xs ys)
+
+pub every-which : {X : Type 0} (p test : X → Bool) (xs : List X) → every p xs ≡ true → every p (which test xs) ≡ true
+every-which p test [] all = refl
+every-which p test (x ∷ xs) all = grind (arith, every-which p test xs)
+
+-- where no row passes a test
+pub every-off : {X : Type 0} (p q : X → Bool) → ((x : X) → p x ≡ false → q x ≡ true) → (xs : List X) → has p xs ≡ false → every q xs ≡ true
+every-off p q off [] none = refl
+every-off p q off (x ∷ xs) none = grind (arith, off x, every-off p q off xs)
+
+pub every-unless : {X : Type 0} (test q : X → Bool) (xs : List X) → has test xs ≡ false → every (λ x. not (test x) || q x) xs ≡ true
+every-unless test q [] none = refl
+every-unless test q (x ∷ xs) none = grind (arith, every-unless test q xs)
 
 -- has
 pub has-push : {X : Type 0} (p : X → Bool) (xs : List X) (y : X) → p y ≡ true → has p (xs ++ y ∷ []) ≡ true

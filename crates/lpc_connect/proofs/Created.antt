@@ -13,7 +13,7 @@ use Rattle.lpc_model.specs.Fields.{h}
 use Rattle.lpc_model.specs.Found.{free_handle, is_thread, port_name}
 use Rattle.lpc_model.specs.Machine.{Stepped, settled}
 use Rattle.lpc_model.specs.Named.{free_name}
-use Rattle.lpc_model.specs.Refusal.{◌>>=◌}
+use Rattle.lpc_model.specs.Then.{◌>>=◌}
 use Rattle.lpc_model.specs.Tests.{PORT_ACCESS, handle_row, handles_test, next_birth}
 use Rattle.lpc_model.specs.World.{Path, ThreadRow, World}
 use Rattle.lpc_model.proofs.SoundQueues.{after-append}

@@ -6,10 +6,6 @@ use Rattle.std.proofs.lemmas.List.Folds.{find-append}
 use Rattle.lpc_base.specs.Rows.{change, count, every, first, has, passes, without, without_first}
 
 -- first
-pub first-push : {X : Type 0} (p : X → Bool) (xs : List X) (x y : X) → first p xs ≡ Some x → first p (xs ++ y ∷ []) ≡ Some x
-first-push p [] x y is = absurd (cc)
-first-push p (z ∷ zs) x y is = grind (arith, first-push p zs x y)
-
 -- what is found with one row more was found before, or is that row
 pub first-pushed : {X : Type 0} (P : X → Type 0) (p : X → Bool) (xs : List X) (y x : X) → ((z : X) → first p xs ≡ Some z → P z) → P y → first p (xs ++ y ∷ []) ≡ Some x → P x
 first-pushed {X = X} P p xs y x old new is = at (first p xs) refl
@@ -103,10 +99,6 @@ without_first-push test [] y none is = grind arith
 without_first-push test (x ∷ xs) y none is = grind (arith, without_first-push test xs y)
 
 -- counts
-pub count-none : {X : Type 0} (p : X → Bool) (xs : List X) → has p xs ≡ false → count p xs ≡ 0
-count-none p [] none = refl
-count-none p (x ∷ xs) none = grind (arith, count-none p xs)
-
 pub count_none : {X : Type 0} (p : X → Bool) (xs : List X) → count p xs ≤ 0 → has p xs ≡ false
 count_none p [] few = refl
 count_none p (x ∷ xs) few = grind (arith, count_none p xs)

@@ -19,10 +19,11 @@ use Rattle.lpc_model.specs.Basics.{AddsHandle, Awaits, Completes, DrawsIdentifie
 use Rattle.lpc_model.specs.Message.{message_test}
 use Rattle.lpc_model.specs.Fields.{h, info, max}
 use Rattle.lpc_model.specs.Entering.{row_of, takes, woken}
-use Rattle.lpc_model.specs.Named.{named, named_port, port_found}
+use Rattle.lpc_model.specs.Named.{as_status, named_port, port_found}
 use Rattle.lpc_model.specs.Tests.{PORT_ACCESS, client_of, client_test, handle_row, handles_test, is_client, next_birth, port_test}
 use Rattle.lpc_model.specs.Connect.{Completable, ConnectAnswer, answer_of, answer_test, answered_steps, accept_steps, client_port, complete_steps, complete_test, connect_steps, connect_wait, connection_request, info_test, is_accepted_on, listen_steps, listen_wait, names_connect, nt_accept_connect_port, nt_complete_connect_port, nt_connect_port, nt_listen_port, server_port}
-use Rattle.lpc_model.specs.Refusal.{◌>>=◌, found_or, refuse_if}
+use Rattle.lpc_model.specs.Refusal.{found_or, refuse_if}
+use Rattle.lpc_model.specs.Then.{◌>>=◌}
 use Rattle.lpc_model.specs.SoundWaits.{IsSoundWorld, can_stay_sound, has_client_port, is_awaited, is_connect_on, is_message_of, is_past, lacks_connects, leads_open}
 use Rattle.lpc_model.proofs.Rows.{first-change, has-found, has-none, has-off, lone, passes-change}
 use Rattle.lpc_model.proofs.Births.{birth-same, birth-self}
@@ -48,7 +49,7 @@ unnamed w ((path, Stands (Item other)) ∷ rest) opens port = grind (arith, unna
 name-open : (w : World) (text : List ℕ) → IsSoundWorld w → Holds (λ port. is_open w port ≡ true) (named_port w text)
 name-open w text s = at (lookup w.bindings text) refl
   where
-    at : (r : Result (Found Birth) NameFault) → lookup w.bindings text ≡ r → Holds (λ port. is_open w port ≡ true) (named r >>= port_found)
+    at : (r : Result (Found Birth) NameFault) → lookup w.bindings text ≡ r → Holds (λ port. is_open w port ≡ true) (as_status r >>= port_found)
     at (Err fault) is = tt
     at (Ok Directory) is = tt
     at (Ok (Item port)) is =

@@ -13,7 +13,7 @@ use Rattle.lpc_model.specs.World.{ThreadRow, WaitRow, World, no_rows}
 use Rattle.lpc_model.specs.Found.{is_live, is_table, live_thread, lives_in, wait_of, was_process, was_thread}
 use Rattle.lpc_model.specs.Basics.{AddsProcess, basic, no_handles}
 use Rattle.lpc_model.specs.Lines.{ScriptCall, ScriptLine, accept_connect_port, boot, complete_connect_port, connect_port, create_port, listen_port, reply_port, reply_wait_receive_port, request_port, request_wait_reply_port, dir, link, run, thread}
-use Rattle.lpc_model.specs.Machine.{Stepped, boot_line, dir_line, directive_birth, link_line, live_test, name_of, new_process, new_thread, ready_steps, service_of, steps, thread_count_test, thread_line, thread_steps, thread_test, unused_test, unused_thread_test}
+use Rattle.lpc_model.specs.Machine.{Stepped, boot_line, dir_line, directive_birth, link_line, live_test, name_of_call, new_process, new_thread, ready_steps, service_of, steps, thread_count_test, thread_line, thread_steps, thread_test, unused_test, unused_thread_test}
 use Rattle.lpc_model.specs.Named.{free_name, spelled_name}
 use Rattle.lpc_names.specs.Walk.{LinkTo, Stands}
 use Rattle.lpc_names.specs.declared.names.Found.TheVariants.{Directory}
@@ -41,7 +41,7 @@ service-sound w by (reply_wait_receive_port handle bytes) c s = receive-sound w 
 ready-sound : (w : World) (by : ThreadRow) (call : ScriptCall) (o : Option WaitRow) → (o ≡ None → CanCall w by) → IsSoundWorld w → LeaveSound w (ready_steps by call o w)
 ready-sound w by call (Some x) c s = s
 ready-sound w by call None c s =
-    settled_holds (LeaveSound w) by (name_of call) (service_of w by call) (service-sound w by call (c refl) s) (λ _. s)
+    settled_holds (LeaveSound w) by (name_of_call call) (service_of w by call) (service-sound w by call (c refl) s) (λ _. s)
 
 thread-sound : (w : World) (tid : ℕ) (call : ScriptCall) (o : Option ThreadRow) → live_thread w tid ≡ o → IsSoundWorld w → LeaveSound w (thread_steps tid call o w)
 thread-sound w tid call None live s = s

@@ -8,7 +8,8 @@ use Rattle.lpc_base.specs.declared.port_kind.PortKind.TheVariants.{Client, Conne
 use Rattle.lpc_message.specs.declared.kind.TheConstants.{CONNECTION_REQUEST}
 use Rattle.lpc_model.specs.declared.entry.Entry.TheVariants.{Answer, Waits}
 use Rattle.lpc_model.specs.declared.entry.CallName.TheVariants.{NtAcceptConnectPort, NtCompleteConnectPort, NtConnectPort, NtCreatePort, NtListenPort}
-use Rattle.lpc_model.specs.Refusal.{◌>>=◌, found_or, refuse_if}
+use Rattle.lpc_model.specs.Refusal.{found_or, refuse_if}
+use Rattle.lpc_model.specs.Then.{◌>>=◌}
 use Rattle.lpc_model.specs.World.{World, Accepted, Birth, Connect, Listen, Message, MessageRow, Path, PortKind, PortRow, ThreadRow, WaitRow}
 use Rattle.lpc_model.specs.Message.{made, message_test}
 use Rattle.lpc_model.specs.Found.{free_handle, handles_of, is_accepted, is_connection_port, is_offered, is_queued_connect, is_server_port, names_port, names_wait, port_name, same_birth}

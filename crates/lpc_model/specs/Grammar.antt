@@ -12,7 +12,8 @@ use Rattle.lpc_model.specs.declared.entry.Word.TheVariants.{Boot, Thread, Dir, L
 use Rattle.lpc_model.specs.declared.fault.LineFault.{LineFault}
 use Rattle.lpc_model.specs.declared.fault.LineFault.TheVariants as fault
 use Rattle.lpc_model.specs.Lines.{ScriptCall, create_port, connect_port, listen_port, accept_connect_port, complete_connect_port, request_port, request_wait_reply_port, reply_port, reply_wait_receive_port, ScriptLine, boot, thread, dir, link, run}
-use Rattle.lpc_model.specs.Words.{◌>>=◌, fault_if, words, begins, number_word, id_word, is_id, message_word, info_word}
+use Rattle.lpc_model.specs.Words.{fault_if, words, begins, number_word, id_word, is_id, message_word, info_word}
+use Rattle.lpc_model.specs.Then.{◌>>=◌}
 
 -- what stands beside a name in a table
 unfoldable pub named : {A : Type 0} → List (List ℕ × A) → List ℕ → Option A
@@ -81,8 +82,8 @@ given_message (Some word) = do
   Ok (Some message)
 
 -- the name of a new port, which may be any word; `-` gives it none
-abbrev pub port_name : List ℕ → Option (List ℕ)
-port_name word = if bytes_eq word (codes "-") then None else Some word
+abbrev pub name_word : List ℕ → Option (List ℕ)
+name_word word = if bytes_eq word (codes "-") then None else Some word
 
 -- a handle alone
 abbrev pub one_handle : List (List ℕ) → Result ℕ LineFault
@@ -110,7 +111,7 @@ handle_and_reply others = do
 unfoldable pub call_words : CallName → List (List ℕ) → Result ScriptCall LineFault
 call_words NtCreatePort others = do
   word ← one_word others
-  Ok (create_port (port_name word))
+  Ok (create_port (name_word word))
 call_words NtConnectPort others = do
   four ← four_words others
   _ ← qos_word four.1

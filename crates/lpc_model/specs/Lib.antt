@@ -2,6 +2,7 @@ pub mod Message
 pub mod Listed
 pub mod Lines
 pub mod World
+pub mod Then
 pub mod Refusal
 pub mod Found
 pub mod Basics

@@ -8,7 +8,8 @@ use Rattle.lpc_model.specs.declared.entry.Entry.TheVariants.{Answer, Busy, Direc
 use Rattle.lpc_model.specs.declared.entry.Word.{Word}
 use Rattle.lpc_model.specs.declared.entry.Word.TheVariants as word
 use Rattle.lpc_model.specs.declared.entry.CallName.TheVariants.{NtAcceptConnectPort, NtCompleteConnectPort, NtConnectPort, NtCreatePort, NtListenPort, NtReplyPort, NtReplyWaitReceivePort, NtRequestPort, NtRequestWaitReplyPort}
-use Rattle.lpc_model.specs.Refusal.{◌>>=◌, refuse_if}
+use Rattle.lpc_model.specs.Refusal.{refuse_if}
+use Rattle.lpc_model.specs.Then.{◌>>=◌}
 use Rattle.lpc_model.specs.World.{World, Birth, CallName, ProcessRow, ThreadRow, WaitRow}
 use Rattle.lpc_model.specs.Found.{is_live, live_count, live_thread, wait_of, was_process, was_thread}
 use Rattle.lpc_model.specs.Basics.{AddsProcess, AddsThread, Basic, Binds, Steps, Tells, entries_of, world_after}
@@ -20,16 +21,16 @@ use Rattle.lpc_model.specs.Request.{nt_reply_port, nt_reply_wait_receive_port, n
 use Rattle.lpc_model.specs.Lines.{ScriptCall, create_port, connect_port, listen_port, accept_connect_port, complete_connect_port, request_port, request_wait_reply_port, reply_port, reply_wait_receive_port, ScriptLine, boot, thread, dir, link, run}
 
 -- the name of a call
-abbrev pub name_of : ScriptCall → CallName
-name_of (create_port name) = NtCreatePort
-name_of (connect_port name info) = NtConnectPort
-name_of (listen_port handle) = NtListenPort
-name_of (accept_connect_port context message accept) = NtAcceptConnectPort
-name_of (complete_connect_port handle) = NtCompleteConnectPort
-name_of (request_port handle message) = NtRequestPort
-name_of (request_wait_reply_port handle message) = NtRequestWaitReplyPort
-name_of (reply_port handle message) = NtReplyPort
-name_of (reply_wait_receive_port handle reply) = NtReplyWaitReceivePort
+abbrev pub name_of_call : ScriptCall → CallName
+name_of_call (create_port name) = NtCreatePort
+name_of_call (connect_port name info) = NtConnectPort
+name_of_call (listen_port handle) = NtListenPort
+name_of_call (accept_connect_port context message accept) = NtAcceptConnectPort
+name_of_call (complete_connect_port handle) = NtCompleteConnectPort
+name_of_call (request_port handle message) = NtRequestPort
+name_of_call (request_wait_reply_port handle message) = NtRequestWaitReplyPort
+name_of_call (reply_port handle message) = NtReplyPort
+name_of_call (reply_wait_receive_port handle reply) = NtReplyWaitReceivePort
 
 -- the service that serves a call
 abbrev pub service_of : World → ThreadRow → ScriptCall → Result (List Basic) Status
@@ -50,7 +51,7 @@ settled by call (Err s) = Tells (Answer by.number call s []) ∷ []
 
 -- a call of a thread
 abbrev pub call_steps : ThreadRow → ScriptCall → Steps
-call_steps by call w = settled by (name_of call) (service_of w by call)
+call_steps by call w = settled by (name_of_call call) (service_of w by call)
 
 -- a call of a live thread, which is busy where it waits
 abbrev pub ready_steps : ThreadRow → ScriptCall → Option WaitRow → Steps

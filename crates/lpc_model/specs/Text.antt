@@ -19,8 +19,8 @@ use Rattle.lpc_model.specs.declared.entry.Word.{Word}
 use Rattle.lpc_model.specs.declared.entry.Word.TheVariants as word
 
 -- a number of 32 bits as 8 hexadecimal digits, the highest first
-abbrev pub hex_word : ℕ → List ℕ
-hex_word n = encode_lower (to_be_bytes w32 n)
+abbrev pub eight_digits : ℕ → List ℕ
+eight_digits n = encode_lower (to_be_bytes w32 n)
 
 -- the name of a call
 abbrev pub call_text : CallName → List ℕ
@@ -63,7 +63,7 @@ name_text Info = codes "info"
 -- list that contracts see has the mark for the bytes of a memory read, since those bytes stand in its place
 abbrev pub value_text : Value → List ℕ
 value_text (Number n) = decimal n
-value_text (Hex n) = hex_word n
+value_text (Hex n) = eight_digits n
 value_text (Kind kind) = kind_text kind
 value_text (Bytes bytes) = encode_lower bytes.items
 value_text Read = []
@@ -82,7 +82,7 @@ by_text tid call = decimal tid ++ codes " " ++ call_text call
 
 -- a space and the status
 abbrev pub status_text : Status → List ℕ
-status_text status = codes " " ++ hex_word status.0
+status_text status = codes " " ++ eight_digits status.0
 
 -- what stands behind the line's number: who is spoken of, the call, how it ended, and the fields
 abbrev pub rest_text : Entry → List ℕ

@@ -3,7 +3,8 @@ use Rattle.std.proofs.Common.{◌≡◌, ℕ, List, [], ◌∷◌, ◌++◌, Boo
 use Rattle.std.specs.Prelude.{Option, Some, None, is_some, IfSome, option_map, ◌==◌}
 use Rattle.std.proofs.lemmas.Bool.Decides.{nat_tests}
 use Rattle.lpc_base.specs.Rows.{change, every, first, has, without}
-use Rattle.lpc_base.proofs.RowWords.{change-none, every-change, every-more, every-push, every-without, first-kept, first-push, has-change, has_none-push, has_none-without}
+use Rattle.lpc_base.proofs.Differ.{differ-change, differ-push, differ-without, rest-none}
+use Rattle.lpc_base.proofs.RowWords.{change-none, every-change, every-more, every-push, every-without, first-kept, first-push}
 use Rattle.lpc_procs.specs.declared.rows.ThreadRow.{ThreadRow}
 use Rattle.lpc_procs.specs.declared.rows.UsedThread.{UsedThread}
 use Rattle.lpc_procs.specs.Kept.{are_single, is_noted, is_of, IsKept}
@@ -11,18 +12,6 @@ use Rattle.lpc_procs.specs.Procs.{ended, is_thread, is_used_thread, past_birth, 
 
 same-number : (a b : ℕ) → (a == b) ≡ true → a ≡ b
 same-number a b is = grind (arith, nat_tests)
-
-single-push : (ts : List ThreadRow) (t : ThreadRow) → are_single ts ≡ true → has (is_thread t.number) ts ≡ false → are_single (ts ++ t ∷ []) ≡ true
-single-push [] t single none = refl
-single-push (x ∷ ts) t single none = grind (arith, nat_tests, single-push ts t, has_none-push (is_thread x.number) ts t)
-
-single-without : (test : ThreadRow → Bool) (ts : List ThreadRow) → are_single ts ≡ true → are_single (without test ts) ≡ true
-single-without test [] single = refl
-single-without test (x ∷ ts) single = grind (arith, single-without test ts, has_none-without (is_thread x.number) test ts)
-
-single-change : (test : ThreadRow → Bool) (f : ThreadRow → ThreadRow) → ((t : ThreadRow) → (f t).number ≡ t.number) → (ts : List ThreadRow) → are_single ts ≡ true → are_single (change test f ts) ≡ true
-single-change test f same [] single = refl
-single-change test f same (x ∷ ts) single = grind (arith, same x, single-change test f same ts, has-change (is_thread x.number) test f (λ t. ap (λ n. n == x.number) (same t)) ts)
 
 noted-push : (used : List UsedThread) (u : UsedThread) (t : ThreadRow) (o : Option UsedThread) → first (is_used_thread t.number) used ≡ o → is_of t.process o ≡ true → is_noted (used ++ u ∷ []) t ≡ true
 noted-push used u t None is of = cc
@@ -52,13 +41,13 @@ kept-push ts used t kept new =
     let here : is_noted (used ++ u ∷ []) t ≡ true = rw (first-push (is_used_thread t.number) used u new (grind (arith, nat_tests))) (grind (arith, nat_tests)) in
     record {
       noted = every-push (is_noted (used ++ u ∷ [])) ts t (every-more (is_noted used) (is_noted (used ++ u ∷ [])) (λ x h. noted-push used u x (first (is_used_thread x.number) used) refl h) ts kept.noted) here;
-      single = single-push ts t kept.single (unused-absent t.number used ts new kept.noted);
+      single = differ-push (λ (x : ThreadRow). x.number) ts t kept.single (unused-absent t.number used ts new kept.noted);
     }
 
 pub kept-without : (test : ThreadRow → Bool) (ts : List ThreadRow) (used : List UsedThread) → IsKept ts used → IsKept (without test ts) used
 kept-without test ts used kept = record {
   noted = every-without (is_noted used) test ts kept.noted;
-  single = single-without test ts kept.single;
+  single = differ-without (λ (x : ThreadRow). x.number) test ts kept.single;
 }
 
 -- a change that keeps numbers
@@ -72,13 +61,10 @@ noted-same used f keeps t noted = rw (keeps.number t, keeps.process t) noted
 pub kept-change : (test : ThreadRow → Bool) (f : ThreadRow → ThreadRow) (ts : List ThreadRow) (used : List UsedThread) → KeepsNumbers f → IsKept ts used → IsKept (change test f ts) used
 kept-change test f ts used keeps kept = record {
   noted = every-change (is_noted used) test f (noted-same used f keeps) ts kept.noted;
-  single = single-change test f keeps.number ts kept.single;
+  single = differ-change (λ (x : ThreadRow). x.number) test f keeps.number ts kept.single;
 }
 
 -- a row that is put in the place of the one thread of its number
-put-tail : (tid : ℕ) (x : ThreadRow) (ts : List ThreadRow) → are_single (x ∷ ts) ≡ true → x.number ≡ tid → has (is_thread tid) ts ≡ false
-put-tail tid x ts single is = rw (← is) (grind arith)
-
 pub put-changed : (tid : ℕ) (f : ThreadRow → ThreadRow) (ts : List ThreadRow) (row : ThreadRow) → are_single ts ≡ true → first (is_thread tid) ts ≡ Some row → change (is_thread tid) (λ _. f row) ts ≡ change (is_thread tid) f ts
 put-changed tid f [] row single is = refl
 put-changed tid f (x ∷ ts) row single is = step (x.number == tid) refl (λ is'. put-changed tid f ts row (grind arith) is')
@@ -87,7 +73,7 @@ put-changed tid f (x ∷ ts) row single is = step (x.number == tid) refl (λ is'
     step false off next = grind (arith, off, next, is)
     step true on next =
         let e : x.number ≡ tid = same-number x.number tid on in
-        let none = put-tail tid x ts single e in
+        let none = rest-none (λ (t : ThreadRow). t.number) x ts tid single e in
         grind (arith, on, is, change-none (is_thread tid) (λ _. f row) ts, change-none (is_thread tid) f ts)
 
 pub put-kept : (tid : ℕ) (f : ThreadRow → ThreadRow) (ts : List ThreadRow) (used : List UsedThread) (row : ThreadRow) → KeepsNumbers f → IsKept ts used → first (is_thread tid) ts ≡ Some row → IsKept (change (is_thread tid) (λ _. f row) ts) used

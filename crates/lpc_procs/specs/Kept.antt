@@ -1,9 +1,9 @@
 -- What the table keeps of its rows and numbers.
-use Rattle.std.specs.Prelude.{ℕ, ◌≡◌, ◌==◌, ◌&&◌, Bool, true, false, not, List, [], ◌∷◌, Option, Some, None}
-use Rattle.lpc_base.specs.Rows.{every, first, has}
+use Rattle.std.specs.Prelude.{ℕ, ◌≡◌, ◌==◌, Bool, true, false, List, Option, Some, None}
+use Rattle.lpc_base.specs.Rows.{differ_by, every, first}
 use Rattle.lpc_procs.specs.declared.rows.ThreadRow.{ThreadRow}
 use Rattle.lpc_procs.specs.declared.rows.UsedThread.{UsedThread}
-use Rattle.lpc_procs.specs.Procs.{is_thread, is_used_thread}
+use Rattle.lpc_procs.specs.Procs.{is_used_thread}
 
 -- a used number is of a process
 abbrev pub is_of : ℕ → Option UsedThread → Bool
@@ -16,8 +16,7 @@ is_noted used t = is_of t.process (first (is_used_thread t.number) used)
 
 -- no two threads have one number
 abbrev pub are_single : List ThreadRow → Bool
-are_single [] = true
-are_single (t ∷ ts) = not (has (is_thread t.number) ts) && are_single ts
+are_single threads = differ_by (λ t. t.number) threads
 
 -- each thread's number is noted, and no two threads have one
 pub record IsKept (threads : List ThreadRow) (used : List UsedThread) : Type 0 where

@@ -15,7 +15,8 @@ use Rattle.lpc_model.specs.declared.entry.Entry.{Entry}
 use Rattle.lpc_model.specs.declared.entry.Entry.TheVariants.{Answer, Busy, NoThread, Waits}
 use Rattle.lpc_model.specs.declared.entry.ObjectKind.TheVariants as kind
 use Rattle.lpc_model.specs.declared.message.Message.{Message}
-use Rattle.lpc_model.specs.Refusal.{◌>>=◌, found_or, refuse_if}
+use Rattle.lpc_model.specs.Refusal.{found_or, refuse_if}
+use Rattle.lpc_model.specs.Then.{◌>>=◌}
 use Rattle.lpc_model.specs.World.{MessageRow, PortRow, ThreadRow, WaitRow, World}
 use Rattle.lpc_model.specs.Found.{fitted, handle_at, is_live_thread, is_queued, live_thread, port_row, queue_of, same_kind, wait_of}
 use Rattle.lpc_model.specs.Message.{message_test}
@@ -24,7 +25,7 @@ use Rattle.lpc_model.specs.Fields.{receipt}
 use Rattle.lpc_model.specs.Tests.{PORT_RIGHT, client_test, includes, is_client, object_test, own_handle, port_test}
 use Rattle.lpc_model.specs.Request.{answered_test, given_reply, is_spent, nt_reply_port, nt_reply_wait_receive_port, optional_message, receive_steps, receive_test, reply_steps}
 use Rattle.lpc_model.specs.Lines.{ScriptCall, ScriptLine, accept_connect_port, boot, complete_connect_port, connect_port, create_port, dir, link, listen_port, reply_port, reply_wait_receive_port, request_port, request_wait_reply_port, run, thread}
-use Rattle.lpc_model.specs.Machine.{name_of, ready_steps, service_of, settled, step, steps, thread_steps}
+use Rattle.lpc_model.specs.Machine.{name_of_call, ready_steps, service_of, settled, step, steps, thread_steps}
 use Rattle.lpc_model.specs.Run.{Along}
 use Rattle.lpc_model.specs.Replies.{ChangesNothing, IsRefused, MisfitsAreRefused, RefusedRepliesChangeNothing, Reply, fitted_wait, is_refusal, message_in, port_of, reply_of}
 use Rattle.lpc_model.proofs.Holding.{Holds, bind_holds, holds_ok, settled_holds}
@@ -154,7 +155,7 @@ misfit_ready : (w : World) (r : Reply) (receives : Bool) (by : ThreadRow) (o : O
 misfit_ready w r receives by (Some x) live misfit = (Busy by.number, live_number w r.by by live, refl)
 misfit_ready w r receives by None live misfit =
     let c = replying receives r in
-    settled_refusal r.by by (name_of c) (service_of w by c) (live_number w r.by by live) (misfit_ends w r receives by live misfit)
+    settled_refusal r.by by (name_of_call c) (service_of w by c) (live_number w r.by by live) (misfit_ends w r receives by live misfit)
 
 misfit_thread : (w : World) (r : Reply) (receives : Bool) (o : Option ThreadRow) → live_thread w r.by ≡ o → fitted_wait w r ≡ None → OneRefusal r.by (thread_steps r.by (replying receives r) o w)
 misfit_thread w r receives None live misfit = (NoThread r.by, own_number r.by, refl)
@@ -244,7 +245,7 @@ ready_stays : (w : World) (r : Reply) (receives : Bool) (by : ThreadRow) (o : Op
 ready_stays w r receives by (Some x) = λ _. (Busy by.number, refl)
 ready_stays w r receives by None =
     let c = replying receives r in
-    settled_holds (StaysWhereRefused r.by) by (name_of c) (service_of w by c) (service_stays w r receives by) (λ s _. (Answer by.number (name_of c) s [], refl))
+    settled_holds (StaysWhereRefused r.by) by (name_of_call c) (service_of w by c) (service_stays w r receives by) (λ s _. (Answer by.number (name_of_call c) s [], refl))
 
 thread_stays : (w : World) (r : Reply) (receives : Bool) (o : Option ThreadRow) → StaysWhereRefused r.by (thread_steps r.by (replying receives r) o w)
 thread_stays w r receives None = λ _. (NoThread r.by, refl)

@@ -29,7 +29,7 @@ use Rattle.lpc_model.specs.Connect.{Completable, ConnectAnswer, answer_test, ans
 use Rattle.lpc_model.specs.Named.{free_name, named_port, spelled_name}
 use Rattle.lpc_model.specs.Request.{answered_test, datagram_send_test, datagram_start, given_reply, nt_reply_port, nt_reply_wait_receive_port, nt_request_port, nt_request_wait_reply_port, optional_message, receive_steps, receive_test, receive_wait, reply, request_start, send_test, sent_by}
 use Rattle.lpc_model.specs.Lines.{ScriptCall, ScriptLine, accept_connect_port, boot, complete_connect_port, connect_port, create_port, dir, link, listen_port, reply_port, reply_wait_receive_port, request_port, request_wait_reply_port, run, thread}
-use Rattle.lpc_model.specs.Machine.{boot_line, dir_line, link_line, name_of, ready_steps, service_of, step, steps, thread_line, thread_test, thread_steps, unused_test}
+use Rattle.lpc_model.specs.Machine.{boot_line, dir_line, link_line, name_of_call, ready_steps, service_of, step, steps, thread_line, thread_test, thread_steps, unused_test}
 use Rattle.lpc_model.specs.Run.{Along}
 use Rattle.lpc_model.specs.Replies.{HasReply, IsReturnedBy, Reply, RequestsReturnByReply, message_in, port_of, reply_of}
 use Rattle.lpc_model.proofs.Holding.{Holds, bind_holds, directed_holds, found_holds, found_ok, holds_ok, not_refused, settled_holds}
@@ -380,7 +380,7 @@ service_fair w tid by (reply_wait_receive_port handle bytes) live h = wait_fair 
 ready_fair : (w : World) (tid : ℕ) (by : ThreadRow) (name : ScriptCall) (o : Option WaitRow) → live_thread w tid ≡ Some by → HaveTheirCalls w → AreFair w (run tid name) (ready_steps by name o w)
 ready_fair w tid by name (Some x) live h = (tt, tt)
 ready_fair w tid by name None live h =
-    settled_holds (AreFair w (run tid name)) by (name_of name) (service_of w by name) (service_fair w tid by name live h) (λ s. (tt, tt))
+    settled_holds (AreFair w (run tid name)) by (name_of_call name) (service_of w by name) (service_fair w tid by name live h) (λ s. (tt, tt))
 
 thread_fair : (w : World) (tid : ℕ) (name : ScriptCall) (o : Option ThreadRow) → live_thread w tid ≡ o → HaveTheirCalls w → AreFair w (run tid name) (thread_steps tid name o w)
 thread_fair w tid name None live h = (tt, tt)

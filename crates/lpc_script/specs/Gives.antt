@@ -1,7 +1,7 @@
 -- What a reader of the code returned, beside what the grammar reads.
 use Rattle.std.specs.Prelude.{◌≡◌, ℕ, List, ◌++◌, Result, Ok, Err}
 use Rattle.lpc_model.specs.declared.fault.LineFault.{LineFault}
-use Rattle.lpc_model.specs.Words.{◌>>=◌}
+use Rattle.lpc_model.specs.Then.{◌>>=◌}
 
 -- a result, seen by view, is what reading gives
 abbrev pub Gives : {X Y E : Type 0} → (X → Y) → Result X E → Result Y E → Type 0

@@ -12,7 +12,7 @@ use Rattle.std.proofs.lemmas.Str.Parse.{digit_from_value}
 use Rattle.hex.specs.Hex.{IsBytes, decode_of, encode_lower, encode_with, is_hex_digit, lower_digits}
 use Rattle.hex.proofs.HexLemmas.{IsDigits-lower_digits, decode_of-encode_lower}
 use Rattle.lpc_base.specs.Rows.{every}
-use Rattle.lpc_model.specs.Text.{hex_word}
+use Rattle.lpc_model.specs.Text.{eight_digits}
 use Rattle.lpc_transcript.proofs.Parts.{is_stop, is_plain}
 use borrow.Author.Tests.{ltb-true}
 
@@ -94,10 +94,10 @@ high_first_bytes (suc k) n (suc i) = high_first_bytes k n i
 word_bytes : (n : ℕ) → IsBytes (to_be_bytes w32 n)
 word_bytes n = high_first_bytes 4 n
 
-pub word_figures : (n : ℕ) → are_figures (hex_word n) ≡ true
+pub word_figures : (n : ℕ) → are_figures (eight_digits n) ≡ true
 word_figures n = encode_figures (to_be_bytes w32 n) (word_bytes n)
 
-pub word_unique : (m n : ℕ) → m < 2 ^ 32 → n < 2 ^ 32 → hex_word m ≡ hex_word n → m ≡ n
+pub word_unique : (m n : ℕ) → m < 2 ^ 32 → n < 2 ^ 32 → eight_digits m ≡ eight_digits n → m ≡ n
 word_unique m n p q e =
     let bytes = encode_unique (to_be_bytes w32 m) (to_be_bytes w32 n) (word_bytes m) (word_bytes n) e in
     sym (from_be_bytes-to_be_bytes_4 m p) ∙ ap (from_be_bytes w32) bytes ∙ from_be_bytes-to_be_bytes_4 n q

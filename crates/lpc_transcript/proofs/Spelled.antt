@@ -4,7 +4,7 @@ use Rattle.std.specs.Prelude.{codes, decimal, if◌then◌else◌}
 use Rattle.std.specs.Str.{bytes_eq}
 use Rattle.std.proofs.lemmas.Fmt.{decimal_injective}
 use Rattle.hex.specs.Hex.{encode_lower}
-use Rattle.lpc_model.specs.Text.{hex_word, call_text, word_text, name_text, value_text, fields_text, by_text, rest_text}
+use Rattle.lpc_model.specs.Text.{eight_digits, call_text, word_text, name_text, value_text, fields_text, by_text, rest_text}
 use Rattle.lpc_model.specs.TextLaws.{Sort, in_decimal, in_hexadecimal, as_bytes, is_of_sort}
 use Rattle.lpc_model.specs.declared.entry.CallName.{CallName}
 use Rattle.lpc_model.specs.declared.entry.CallName.TheVariants.{NtCreatePort, NtConnectPort, NtListenPort, NtAcceptConnectPort, NtCompleteConnectPort, NtRequestPort, NtRequestWaitReplyPort, NtReplyPort, NtReplyWaitReceivePort}
@@ -35,13 +35,13 @@ field_parts (field ∷ fields) = spaced (name_text field.name) ∷ equated (valu
 
 -- the words of an entry
 abbrev pub parts : Entry → List Part
-parts (Answer tid call status fields) = spaced (decimal tid) ∷ spaced (call_text call) ∷ spaced (hex_word status.0) ∷ field_parts fields
+parts (Answer tid call status fields) = spaced (decimal tid) ∷ spaced (call_text call) ∷ spaced (eight_digits status.0) ∷ field_parts fields
 parts (Waits tid call fields) = spaced (decimal tid) ∷ spaced (call_text call) ∷ spaced (codes "wait") ∷ field_parts fields
-parts (Wakes tid call status fields) = spaced (42 ∷ decimal tid) ∷ spaced (call_text call) ∷ spaced (hex_word status.0) ∷ field_parts fields
+parts (Wakes tid call status fields) = spaced (42 ∷ decimal tid) ∷ spaced (call_text call) ∷ spaced (eight_digits status.0) ∷ field_parts fields
 parts (Busy tid) = spaced (decimal tid) ∷ spaced (codes "busy") ∷ []
 parts (NoThread tid) = spaced (decimal tid) ∷ spaced (codes "nothread") ∷ []
-parts (Died tid status) = spaced (126 ∷ decimal tid) ∷ spaced (codes "died") ∷ spaced (hex_word status.0) ∷ []
-parts (Directive word status) = spaced (codes "-") ∷ spaced (word_text word) ∷ spaced (hex_word status.0) ∷ []
+parts (Died tid status) = spaced (126 ∷ decimal tid) ∷ spaced (codes "died") ∷ spaced (eight_digits status.0) ∷ []
+parts (Directive word status) = spaced (codes "-") ∷ spaced (word_text word) ∷ spaced (eight_digits status.0) ∷ []
 
 pub chain : (a b c d e : List ℕ) → (((a ++ b) ++ c) ++ d) ++ e ≡ a ++ (b ++ (c ++ (d ++ e)))
 chain a b c d e = simp append_assoc
@@ -60,15 +60,15 @@ call_joined tid call ended fields =
 
 -- an entry's text is its words
 pub rest_joined : (entry : Entry) → codes " " ++ rest_text entry ≡ joined (parts entry)
-rest_joined (Answer tid call status fields) = ap (λ text. 32 ∷ text) (call_joined tid call (hex_word status.0) fields)
+rest_joined (Answer tid call status fields) = ap (λ text. 32 ∷ text) (call_joined tid call (eight_digits status.0) fields)
 rest_joined (Waits tid call fields) = ap (λ text. 32 ∷ text) (call_joined tid call (codes "wait") fields)
-rest_joined (Wakes tid call status fields) = ap (λ text. 32 ∷ 42 ∷ text) (call_joined tid call (hex_word status.0) fields)
+rest_joined (Wakes tid call status fields) = ap (λ text. 32 ∷ 42 ∷ text) (call_joined tid call (eight_digits status.0) fields)
 rest_joined (Busy tid) = refl
 rest_joined (NoThread tid) = refl
 rest_joined (Died tid status) =
-    ap (λ text. 32 ∷ 126 ∷ text) (append_assoc (decimal tid) (codes " died") (32 ∷ hex_word status.0))
-    ∙ ap (λ text. 32 ∷ 126 ∷ (decimal tid ++ (codes " died" ++ 32 ∷ text))) (sym (append-nil (hex_word status.0)))
-rest_joined (Directive word status) = ap (λ text. codes " - " ++ word_text word ++ 32 ∷ text) (sym (append-nil (hex_word status.0)))
+    ap (λ text. 32 ∷ 126 ∷ text) (append_assoc (decimal tid) (codes " died") (32 ∷ eight_digits status.0))
+    ∙ ap (λ text. 32 ∷ 126 ∷ (decimal tid ++ (codes " died" ++ 32 ∷ text))) (sym (append-nil (eight_digits status.0)))
+rest_joined (Directive word status) = ap (λ text. codes " - " ++ word_text word ++ 32 ∷ text) (sym (append-nil (eight_digits status.0)))
 
 -- ---- names can be read back
 
@@ -166,7 +166,7 @@ name_plain Info = refl
 
 pub value_plain : (sort : Sort) (value : Value) → is_of_sort sort value ≡ true → is_plain (value_text value) ≡ true
 value_plain in_decimal (Number n) h = figures_plain (decimal n) (decimal_figures n (ltb-true n (2 ^ 64) h))
-value_plain in_hexadecimal (Hex n) h = figures_plain (hex_word n) (word_figures n)
+value_plain in_hexadecimal (Hex n) h = figures_plain (eight_digits n) (word_figures n)
 value_plain as_bytes (Bytes bytes) h = figures_plain (encode_lower bytes.items) (encode_figures bytes.items (bytes_from_every bytes.items h))
 value_plain sort value h = absurd (cc)
 

@@ -6,7 +6,7 @@ use Rattle.std.proofs.lemmas.Bool.Decides.{nat_tests}
 use Rattle.std.proofs.lemmas.Fmt.{decimal_injective}
 use Rattle.std.proofs.lemmas.List.{append_cancel_left}
 use Rattle.lpc_base.specs.Rows.{every}
-use Rattle.lpc_model.specs.Text.{hex_word, call_text, name_text, value_text, rest_text, entry_text, entries_text}
+use Rattle.lpc_model.specs.Text.{eight_digits, call_text, name_text, value_text, rest_text, entry_text, entries_text}
 use Rattle.lpc_model.specs.TextLaws.{sort_of, is_word, is_of_sort, is_sorted_field, is_regular, TextIsUnique}
 use Rattle.lpc_base.specs.declared.status.Status.{Status}
 use Rattle.lpc_model.specs.declared.entry.CallName.{CallName}
@@ -34,10 +34,10 @@ number_unique m n p q e =
     let other = fits n q in
     decimal_injective m n (omega arith) (omega arith) e
 
-status_plain : (status : Status) → is_plain (hex_word status.0) ≡ true
-status_plain status = figures_plain (hex_word status.0) (word_figures status.0)
+status_plain : (status : Status) → is_plain (eight_digits status.0) ≡ true
+status_plain status = figures_plain (eight_digits status.0) (word_figures status.0)
 
-status_unique : (a b : Status) → is_word a.0 ≡ true → is_word b.0 ≡ true → hex_word a.0 ≡ hex_word b.0 → a ≡ b
+status_unique : (a b : Status) → is_word a.0 ≡ true → is_word b.0 ≡ true → eight_digits a.0 ≡ eight_digits b.0 → a ≡ b
 status_unique a b p q e =
     let same = word_unique a.0 b.0 (fits a.0 p) (fits b.0 q) e in
     λ i. record { 0 = same i }
@@ -139,8 +139,8 @@ told_kind_of : (entry : Entry) → is_regular entry ≡ true → told_kind (part
 told_kind_of (Answer tid call status fields) h =
     let outer = and_parts (is_word tid && is_word status.0) (every is_sorted_field fields) h in
     let inner = and_parts (is_word tid) (is_word status.0) outer.0 in
-    told_answer (first (decimal tid)) (first (call_text call)) (first (hex_word status.0)) (numbered tid inner.0) (call_begins call)
-    (figures_begin (hex_word status.0) 119 (word_figures status.0) refl (λ e. omega arith))
+    told_answer (first (decimal tid)) (first (call_text call)) (first (eight_digits status.0)) (numbered tid inner.0) (call_begins call)
+    (figures_begin (eight_digits status.0) 119 (word_figures status.0) refl (λ e. omega arith))
 told_kind_of (Waits tid call fields) h =
     told_waits (first (decimal tid)) (first (call_text call)) (numbered tid (and_parts (is_word tid) (every is_sorted_field fields) h).0) (call_begins call)
 told_kind_of (Wakes tid call status fields) h = refl

@@ -1,7 +1,7 @@
 // The words of a transcript's line, each put behind the text so far.
 ghost use Rattle.std.specs.Prelude.{◌≡◌, ◌≤◌, ◌++◌, length, codes, decimal, OnOk, OnErr};
 ghost use Rattle.hex.specs.Hex.{encode_lower};
-ghost use Rattle.lpc_model.specs.Text.{hex_word, call_text, word_text, kind_text, name_text, by_text, status_text};
+ghost use Rattle.lpc_model.specs.Text.{eight_digits, call_text, word_text, kind_text, name_text, by_text, status_text};
 ghost use Rattle.lpc_transcript.specs.Printing.{BeginsWith};
 
 use lpc_base::{OutOfMemory, Status};
@@ -34,7 +34,7 @@ pub(crate) fn put_long_number(into: &mut Vec<u8>, number: u128) -> Result<(), Ou
 
 // Eight hexadecimal digits.
 pub(crate) fn put_digits(into: &mut Vec<u8>, number: u32) -> Result<(), OutOfMemory>
-    ensures ok { OnOk result (into.new.items ≡ into.old.items ++ hex_word number) }
+    ensures ok { OnOk result (into.new.items ≡ into.old.items ++ eight_digits number) }
     ensures err { OnErr result (BeginsWith into.new.items into.old.items) }
 {
     let mut digits = [0u8; 8];

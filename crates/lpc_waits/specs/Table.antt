@@ -1,6 +1,6 @@
 -- What contracts see of the waits: the rows in the order of waiting.
-use Rattle.std.specs.Prelude.{ℕ, ◌+◌, ◌-◌, ◌==◌, ◌&&◌, ◌||◌, ◌++◌, ◌∷◌, Bool, true, false, List, [], Option, None, is_some, not}
-use Rattle.lpc_base.specs.Rows.{first, has}
+use Rattle.std.specs.Prelude.{ℕ, ◌+◌, ◌-◌, ◌==◌, ◌&&◌, ◌||◌, ◌++◌, ◌∷◌, Bool, true, false, List, [], Option, None, is_some}
+use Rattle.lpc_base.specs.Rows.{differ_by, first}
 use Rattle.lpc_slots.specs.Table.{is_key}
 use Rattle.lpc_slots.specs.declared.Key.{Key}
 use Rattle.lpc_waits.specs.declared.Accepted.{Accepted}
@@ -25,8 +25,7 @@ row_of s tid = first (is_of tid) s.rows
 
 -- no two rows have one thread
 abbrev pub are_apart : List WaitRow → Bool
-are_apart [] = true
-are_apart (row ∷ rows) = not (has (is_of row.thread) rows) && are_apart rows
+are_apart rows = differ_by (λ row. row.thread) rows
 
 -- the wait is a receive
 abbrev pub is_receive : WaitKind → Bool

@@ -4,7 +4,7 @@ use Rattle.lpc_base.specs.Rows.{every}
 use Rattle.lpc_base.proofs.RowWords.{every-push}
 use Rattle.lpc_base.proofs.RowMaps.{push-map}
 use Rattle.lpc_model.specs.World.{World}
-use Rattle.lpc_model.specs.Named.{free_name, named}
+use Rattle.lpc_model.specs.Named.{free_name, as_status}
 use Rattle.lpc_names.specs.Faults.{status_of}
 use Rattle.lpc_names.specs.Binding.{NameSpace, Refuses, bound, linked, with_node, with_link as with_link_bound}
 use Rattle.lpc_names.specs.declared.fault.BindFault.{BindFault}
@@ -146,10 +146,10 @@ module _ (it : Tables) (is : AreNamed (births_of it.ports) it) (space : NameSpac
   refused_link_clause target (Err fault) h = refuses_link it is fault text target h
 
 -- what the test of a name says
-fault_by : {X : Type 0} (r : Result X NameFault) (fault : NameFault) → r ≡ Err fault → named r ≡ Err (status_of fault)
-fault_by r fault is = ap named is
+fault_by : {X : Type 0} (r : Result X NameFault) (fault : NameFault) → r ≡ Err fault → as_status r ≡ Err (status_of fault)
+fault_by r fault is = ap as_status is
 
-free_by : {X : Type 0} (r : Result X NameFault) → IsOk r → IsOk (named r)
+free_by : {X : Type 0} (r : Result X NameFault) → IsOk r → IsOk (as_status r)
 free_by (Ok x) ok = ok
 free_by (Err fault) ok = ok
 

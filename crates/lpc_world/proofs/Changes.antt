@@ -4,7 +4,7 @@ use Rattle.std.proofs.Common.{◌≡◌, ℕ, List, [], ◌∷◌, ◌++◌, Boo
 use Rattle.std.specs.Prelude.{nat_lt}
 use Rattle.lpc_base.specs.declared.birth.Birth.{Birth}
 use Rattle.lpc_base.specs.Rows.{change, count, every, which, without, without_first}
-use Rattle.lpc_base.proofs.RowWords.{every-change, every-push, every-without, length-change}
+use Rattle.lpc_base.proofs.RowWords.{every-append, every-change, every-push, every-which, every-without, length-change}
 use Rattle.lpc_base.proofs.RowMaps.{change-map, every-map, every-without_first, push-map, unseen-change, which-map, without-map, without_first-map}
 use Rattle.lpc_handles.specs.Handles as handles
 use Rattle.lpc_handles.specs.declared.table.Row.{Row}
@@ -39,14 +39,6 @@ use Rattle.lpc_world.specs.declared.object.Object.{Object}
 use Rattle.lpc_world.specs.declared.parts.Part.{Part}
 use Rattle.std.proofs.lemmas.List.{map-append}
 use Rattle.lpc_world.proofs.Follows.{queue_same}
-
-every_append : {X : Type 0} (p : X → Bool) (xs ys : List X) → every p xs ≡ true → every p ys ≡ true → every p (xs ++ ys) ≡ true
-every_append p [] ys one two = two
-every_append p (x ∷ xs) ys one two = grind (arith, every_append p xs ys)
-
-every_which : {X : Type 0} (p test : X → Bool) (xs : List X) → every p xs ≡ true → every p (which test xs) ≡ true
-every_which p test [] all = refl
-every_which p test (x ∷ xs) all = grind (arith, every_which p test xs)
 
 module _ (it : Tables) (is : AreNamed (births_of it.ports) it) where
   abbrev n : Births
@@ -126,9 +118,9 @@ module _ (it : Tables) (is : AreNamed (births_of it.ports) it) where
   objects_put : (value : ℕ) (row : Row Object) (hs : List (ℕ × Row Object)) → ok row.object ≡ true → every ok (map (λ r. r.1.object) hs) ≡ true → every ok (map (λ r. r.1.object) (handles.with_row hs value row)) ≡ true
   objects_put value row hs there all =
       rw (every-map ok (λ (r : ℕ × Row Object). r.1.object) (handles.with_row hs value row))
-      (every_append (λ r. ok r.1.object) (which (handles.is_below value) hs) ((value, row) ∷ which (handles.is_above value) hs)
-      (every_which (λ r. ok r.1.object) (handles.is_below value) hs (sym (every-map ok (λ (r : ℕ × Row Object). r.1.object) hs) ∙ all))
-      (rw there (every_which (λ r. ok r.1.object) (handles.is_above value) hs (sym (every-map ok (λ (r : ℕ × Row Object). r.1.object) hs) ∙ all))))
+      (every-append (λ r. ok r.1.object) (which (handles.is_below value) hs) ((value, row) ∷ which (handles.is_above value) hs)
+      (every-which (λ r. ok r.1.object) (handles.is_below value) hs (sym (every-map ok (λ (r : ℕ × Row Object). r.1.object) hs) ∙ all))
+      (rw there (every-which (λ r. ok r.1.object) (handles.is_above value) hs (sym (every-map ok (λ (r : ℕ × Row Object). r.1.object) hs) ∙ all))))
 
   pub handed_named : (pid value : ℕ) (row : Row Object) → ok row.object ≡ true → AreNamed n (record it { parts = change (is_part pid) (handed value row) it.parts })
   handed_named pid value row there = record {

@@ -13,8 +13,8 @@ use Rattle.lpc_model.specs.declared.entry.CallName.TheVariants.{NtConnectPort}
 use Rattle.lpc_model.specs.declared.message.Message.{Message}
 use Rattle.lpc_model.specs.Connect.{answer_of, is_accepted_on, names_connect, reaches}
 use Rattle.lpc_model.specs.Found.{is_accepted, is_connect, is_offered, is_request, names_port, wait_of, waits_as}
-use Rattle.lpc_model.specs.Named.{named, named_port, port_found}
-use Rattle.lpc_model.specs.Refusal.{◌>>=◌}
+use Rattle.lpc_model.specs.Named.{as_status, named_port, port_found}
+use Rattle.lpc_model.specs.Then.{◌>>=◌}
 use Rattle.lpc_model.specs.World as model
 use Rattle.lpc_model.specs.World.{PortRow, ThreadRow, WaitRow, World}
 use Rattle.lpc_names.specs.Kept.{seen}
@@ -38,7 +38,7 @@ use Rattle.lpc_world.specs.Lawful.{are_single}
 use Rattle.lpc_world.specs.Names.{name_of, stands}
 use Rattle.lpc_world.specs.Parts.{is_part, is_the_port, names_it, rows_at}
 use Rattle.lpc_world.specs.Ready.{wait_in, waiter}
-use Rattle.lpc_world.specs.Shown.{AreNamed, Births, Tables, all_pass, binding_refs, birth_of, births_of, call_of, name_by, node_refs, object_stands, port_birth, shown_handle, shown_kind, shown_wait, wait_refs}
+use Rattle.lpc_world.specs.Shown.{AreNamed, Births, Tables, all_pass, binding_refs, birth_of, births_of, call_of_wait, name_by, node_refs, object_stands, port_birth, shown_handle, shown_kind, shown_wait, wait_refs}
 use Rattle.lpc_world.specs.declared.object.Object.{Object}
 use Rattle.lpc_world.proofs.Finds as finds
 use Rattle.lpc_world.proofs.Follows as follows
@@ -77,8 +77,8 @@ module _ (it : Tables) (is : AreNamed (births_of it.ports) it) where
       )
 
   -- and is the port that the definitions find
-  pub name_leads : (text : List ℕ) (r : Result (Found Key) NameFault) → lookup it.space.bindings text ≡ r → named_port (rows_by it) text ≡ named (seen (found_as (port_birth f)) r) >>= port_found
-  name_leads text r at = ap (λ x. named x >>= port_found) (lookup-as (port_birth f) it.space.bindings text ∙ ap (seen (found_as (port_birth f))) at)
+  pub name_leads : (text : List ℕ) (r : Result (Found Key) NameFault) → lookup it.space.bindings text ≡ r → named_port (rows_by it) text ≡ as_status (seen (found_as (port_birth f)) r) >>= port_found
+  name_leads text r at = ap (λ x. as_status x >>= port_found) (lookup-as (port_birth f) it.space.bindings text ∙ ap (seen (found_as (port_birth f))) at)
 
 -- Waits
 -- what was received isn't pending
@@ -197,13 +197,13 @@ is_connect_call call = elim call [
   | _ ↦ false
 ]
 
-not_connect : (kind : WaitKind) → (kind ≡ wait.Connect → ⊥) → is_connect_call (call_of kind) ≡ false
+not_connect : (kind : WaitKind) → (kind ≡ wait.Connect → ⊥) → is_connect_call (call_of_wait kind) ≡ false
 not_connect wait.Request off = refl
 not_connect wait.Receive off = refl
 not_connect wait.Listen off = refl
 not_connect wait.Connect off = absurd (off refl)
 
-offered_kind : (kind : WaitKind) (bytes : List ℕ) (accepted : Option Accepted) → (elim (shown_kind kind bytes accepted) [ model.Connect m ↦ true | _ ↦ false ]) ≡ is_connect_call (call_of kind) && is_none accepted
+offered_kind : (kind : WaitKind) (bytes : List ℕ) (accepted : Option Accepted) → (elim (shown_kind kind bytes accepted) [ model.Connect m ↦ true | _ ↦ false ]) ≡ is_connect_call (call_of_wait kind) && is_none accepted
 offered_kind wait.Request bytes accepted = refl
 offered_kind wait.Receive bytes accepted = refl
 offered_kind wait.Listen bytes accepted = refl
@@ -261,15 +261,15 @@ module _ (it : Tables) (is : AreNamed (births_of it.ports) it) where
       let held = readings.holds (λ (r : table.WaitRow). r.accepted) (row_of it.waits tid) accepted at in
       let shown = readings.wait_is it is tid held.row held.found in
       ap is_offered shown ∙ offered_kind held.row.wait.kind held.row.message.items held.row.accepted
-      ∙ ap (λ o. is_connect_call (call_of held.row.wait.kind) && is_none o) held.is
+      ∙ ap (λ o. is_connect_call (call_of_wait held.row.wait.kind) && is_none o) held.is
       ∙ ap (λ (x : WaitRow). is_connect_call x.call && is_none accepted) (sym shown)
 
-  pub offered_is : (tid : ℕ) (kind : WaitKind) (accepted : Option Accepted) → option_map (λ (r : table.WaitRow). r.accepted) (row_of it.waits tid) ≡ Some accepted → (waiter rows tid).call ≡ call_of kind → kind ≡ wait.Connect → is_none accepted ≡ is_offered (waiter rows tid)
+  pub offered_is : (tid : ℕ) (kind : WaitKind) (accepted : Option Accepted) → option_map (λ (r : table.WaitRow). r.accepted) (row_of it.waits tid) ≡ Some accepted → (waiter rows tid).call ≡ call_of_wait kind → kind ≡ wait.Connect → is_none accepted ≡ is_offered (waiter rows tid)
   offered_is tid kind accepted at call is_connect =
-      let one : is_connect_call (waiter rows tid).call ≡ true = ap is_connect_call call ∙ ap (λ k. is_connect_call (call_of k)) is_connect in
+      let one : is_connect_call (waiter rows tid).call ≡ true = ap is_connect_call call ∙ ap (λ k. is_connect_call (call_of_wait k)) is_connect in
       sym (offered_row tid accepted at ∙ ap (λ b. b && is_none accepted) one)
 
-  pub offered_never : (tid : ℕ) (kind : WaitKind) → has (waits_as tid) rows.waits ≡ true → (waiter rows tid).call ≡ call_of kind → (kind ≡ wait.Connect → ⊥) → false ≡ is_offered (waiter rows tid)
+  pub offered_never : (tid : ℕ) (kind : WaitKind) → has (waits_as tid) rows.waits ≡ true → (waiter rows tid).call ≡ call_of_wait kind → (kind ≡ wait.Connect → ⊥) → false ≡ is_offered (waiter rows tid)
   offered_never tid kind there call off = by (row_of it.waits tid) refl (has_its_row tid there)
     where
       short : (a b : Bool) → a ≡ false → a && b ≡ false

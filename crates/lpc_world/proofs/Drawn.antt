@@ -5,6 +5,7 @@ use Rattle.std.proofs.lemmas.Bool.{eqb-true}
 use Rattle.std.proofs.lemmas.Bool.Decides.{nat_tests}
 use Rattle.lpc_base.specs.declared.birth.Birth.{Birth}
 use Rattle.lpc_base.specs.Rows.{change, every, first, has}
+use Rattle.lpc_base.proofs.Differ.{differ-change, differ-push, rest-none}
 use Rattle.lpc_base.proofs.RowMaps.{every-first}
 use Rattle.lpc_base.proofs.RowWords.{every-change, every-more, every-push, first-passes, has-change, has-kept, has-push, has_none-push}
 use Rattle.lpc_model.specs.Basics.{past_identifier, past_ordinal}
@@ -17,24 +18,18 @@ use Rattle.lpc_world.proofs.Naming.{name_is}
 pub same-drawn : (w v : World) → v.threads ≡ w.threads → v.used_threads ≡ w.used_threads → v.ports ≡ w.ports → AreDrawn w → AreDrawn v
 same-drawn w v ts us ps h = record { threads_single = rw ts h.threads_single; threads_noted = rw (ts, us) h.threads_noted; ports_drawn = rw (ts, ps) h.ports_drawn }
 
-turned : (a b : ℕ) → (a == b) ≡ (b == a)
-turned a b = grind (arith, nat_tests)
+abbrev number : ThreadRow → ℕ
+number t = t.number
 
 -- a thread that draws keeps its number, and what it has drawn
 module _ (f : ThreadRow → ThreadRow) (same : (t : ThreadRow) → (f t).number ≡ t.number) (more : (b : Birth) (t : ThreadRow) → drew b t ≡ true → drew b (f t) ≡ true) where
-  single-drawn : (who : ℕ) (ts : List ThreadRow) → are_single_threads ts ≡ true → are_single_threads (change (is_thread who) f ts) ≡ true
-  single-drawn who [] one = refl
-  single-drawn who (t ∷ ts) one =
-      let h : has (is_thread t.number) (change (is_thread who) f ts) ≡ has (is_thread t.number) ts = has-change (is_thread t.number) (is_thread who) f (λ u. ap (λ n. n == t.number) (same u)) ts in
-      grind (arith, same t, single-drawn who ts, h)
-
   has-drawn : (b : Birth) (who : ℕ) (ts : List ThreadRow) → has (drew b) ts ≡ true → has (drew b) (change (is_thread who) f ts) ≡ true
   has-drawn b who [] h = cc
   has-drawn b who (t ∷ ts) h = grind (arith, more b t, has-drawn b who ts)
 
   pub drawn-by : (w : World) (who : ℕ) → AreDrawn w → AreDrawn (record w { threads = change (is_thread who) f w.threads })
   drawn-by w who h = record {
-    threads_single = single-drawn who w.threads h.threads_single;
+    threads_single = differ-change number (is_thread who) f same w.threads h.threads_single;
     threads_noted = every-change (is_noted w.used_threads) (is_thread who) f (λ t there. rw (same t) there) w.threads h.threads_noted;
     ports_drawn = every-more (was_drawn w.threads) _ (λ p there. has-drawn p.birth who w.threads there) w.ports h.ports_drawn;
   }
@@ -63,15 +58,9 @@ unnoted used tid (t ∷ ts) all none =
       | false ↦ λ off. grind (arith, unnoted used tid ts)
     ] refl
 
-single-push : (ts : List ThreadRow) (u : ThreadRow) → are_single_threads ts ≡ true → has (is_thread u.number) ts ≡ false → are_single_threads (ts ++ u ∷ []) ≡ true
-single-push [] u one none = refl
-single-push (t ∷ ts) u one none =
-    let off : is_thread t.number u ≡ false = grind (arith, turned t.number u.number) in
-    grind (arith, single-push ts u, has_none-push (is_thread t.number) ts u, off)
-
 pub drawn-thread : (w : World) (t : ThreadRow) (u : UsedThread) → u.number ≡ t.number → has (λ x. x.number == t.number) w.used_threads ≡ false → AreDrawn w → AreDrawn (record w { threads = w.threads ++ t ∷ []; used_threads = w.used_threads ++ u ∷ [] })
 drawn-thread w t u same new h = record {
-  threads_single = single-push w.threads t h.threads_single (unnoted w.used_threads t.number w.threads h.threads_noted new);
+  threads_single = differ-push number w.threads t h.threads_single (unnoted w.used_threads t.number w.threads h.threads_noted new);
   threads_noted = every-push (is_noted (w.used_threads ++ u ∷ [])) w.threads t
       (every-more (is_noted w.used_threads) (is_noted (w.used_threads ++ u ∷ [])) (λ x there. has-kept (λ y. y.number == x.number) w.used_threads u there) w.threads h.threads_noted)
       (has-push (λ y. y.number == t.number) w.used_threads u (rw same (grind (arith, nat_tests))));
@@ -91,7 +80,7 @@ not-drawn tid n (x ∷ xs) t b one is maker ordinal =
           let same : x ≡ t = grind arith in
           let own : x.number ≡ tid = eqb-true x.number tid here in
           let late : nat_lt b.ordinal x.next_ordinal ≡ false = rw (ordinal, same) (grind (arith, nat_tests)) in
-          let none : has (is_thread tid) xs ≡ false = rw (← own) (grind arith) in
+          let none = rest-none number x xs tid one own in
           grind (arith, late, none-drawn b tid xs maker none)
       | false ↦ λ off. grind (arith, maker, not-drawn tid n xs t b)
     ] refl
@@ -134,7 +123,7 @@ live-first tid (x ∷ xs) t one is =
     elim (x.number == tid) as (λ c. (x.number == tid) ≡ c → first (is_thread tid) (x ∷ xs) ≡ Some t) [
       | true ↦ λ here.
           let own : x.number ≡ tid = eqb-true x.number tid here in
-          let none : has (is_thread tid) xs ≡ false = rw (← own) (grind arith) in
+          let none = rest-none number x xs tid one own in
           grind (arith, none-live tid xs none)
       | false ↦ λ off. grind (arith, live-first tid xs t)
     ] refl

@@ -12,6 +12,7 @@ use Rattle.std.proofs.lemmas.Map.Made.{length-le_from_is_member}
 use Rattle.lpc_base.specs.declared.birth.Birth.{Birth}
 use Rattle.lpc_base.specs.Rows.{change, count, every, first, has, without, without_first}
 use Rattle.lpc_base.proofs.RowWords.{change-none, count-bound, count-push, count-without, every-change, every-more, every-push, every-without, has-change, has-kept, has-push, has_none-change, has_none-more, has_none-push, has_none-without, length-change}
+use Rattle.lpc_base.proofs.Differ.{differ-change, differ-push, differ-without, length-ended, rest-none}
 use Rattle.lpc_base.proofs.RowMaps.{every-first}
 use Rattle.lpc_model.specs.World.{World, HandleRow, HandleTable, MessageRow, PortRow, ProcessRow, ThreadRow, UsedThread, WaitRow}
 use Rattle.lpc_model.specs.Found.{is_process, is_queued, is_queued_connect, is_table, is_thread, same_birth, waits_as}
@@ -20,51 +21,25 @@ use Rattle.lpc_model.specs.Basics.{no_handles, past_identifier, past_ordinal, re
 use Rattle.lpc_world.specs.Kept.{is_asking, is_pending, pends_as}
 use Rattle.lpc_world.specs.Lawful.{IsLawful, are_single, are_single_tables, draws_at_most, is_housed, is_of, is_quiet, is_used}
 
--- Waiting once
 turned : (a b : ℕ) → (a == b) ≡ (b == a)
 turned a b = grind (arith, nat_tests)
 
-pub single-push : (xs : List WaitRow) (y : WaitRow) → are_single xs ≡ true → has (waits_as y.thread) xs ≡ false → are_single (xs ++ y ∷ []) ≡ true
-single-push [] y one none = refl
-single-push (x ∷ xs) y one none =
-    let off : waits_as x.thread y ≡ false = grind (arith, turned x.thread y.thread) in
-    grind (arith, single-push xs y, has_none-push (waits_as x.thread) xs y, off)
-
-pub single-without : (test : WaitRow → Bool) (xs : List WaitRow) → are_single xs ≡ true → are_single (without test xs) ≡ true
-single-without test [] one = refl
-single-without test (x ∷ xs) one = grind (arith, single-without test xs, has_none-without (waits_as x.thread) test xs)
-
-received-thread : (x : WaitRow) (tid : ℕ) → waits_as tid (received x) ≡ waits_as tid x
-received-thread x tid = refl
-
-pub single-receive : (who : ℕ) (xs : List WaitRow) → are_single xs ≡ true → are_single (change (waits_as who) received xs) ≡ true
-single-receive who [] one = refl
-single-receive who (x ∷ xs) one =
-    let h : has (waits_as x.thread) (change (waits_as who) received xs) ≡ has (waits_as x.thread) xs = has-change (waits_as x.thread) (waits_as who) received (λ y. refl) xs in
-    grind (arith, single-receive who xs, h)
+abbrev thread : WaitRow → ℕ
+thread x = x.thread
 
 -- Requests that aren't received
-pub idle-first : (p : WaitRow → Bool) (xs : List WaitRow) (x : WaitRow) → are_single xs ≡ true → first p xs ≡ Some x → is_pending x ≡ false → has (pends_as x.thread) xs ≡ false
-idle-first p [] y one is off = refl
-idle-first p (x ∷ xs) y one is off = elim (p x) as (λ b. p x ≡ b → has (pends_as y.thread) (x ∷ xs) ≡ false) [
-  | true ↦ λ here. let same : x ≡ y = grind arith in
-      subst (λ (z : WaitRow). has (pends_as z.thread) (x ∷ xs) ≡ false) same
-      (grind (arith, has_none-more (waits_as x.thread) (pends_as x.thread) (λ z none. grind arith) xs, (let P : WaitRow → Type 0 = λ z. is_pending z ≡ false in subst P (sym same) off)))
-  | false ↦ λ there. let found : first p xs ≡ Some y = grind arith in
-      let none : has (pends_as y.thread) xs ≡ false = idle-first p xs y (grind arith) found off in
-      grind (arith, none, elsewhere p x xs y (grind arith) found)
-] refl
-  where
-    elsewhere : (p : WaitRow → Bool) (x : WaitRow) (xs : List WaitRow) (y : WaitRow) → has (waits_as x.thread) xs ≡ false → first p xs ≡ Some y → (x.thread == y.thread) ≡ false
-    elsewhere p x [] y none is = cc
-    elsewhere p x (z ∷ zs) y none is = grind (arith, elsewhere p x zs y, turned z.thread x.thread, turned y.thread x.thread)
-
 pub idle-receive : (tid who : ℕ) (xs : List WaitRow) → has (pends_as tid) xs ≡ false → has (pends_as tid) (change (waits_as who) received xs) ≡ false
 idle-receive tid who xs none = has_none-change (pends_as tid) (waits_as who) received (λ x h. grind arith) xs none
 
 pub pending-receive : (who : ℕ) (xs : List WaitRow) → are_single xs ≡ true → count is_pending xs ≤ count is_pending (change (waits_as who) received xs) + 1
 pending-receive who [] one = grind arith
-pending-receive who (x ∷ xs) one = grind (arith, pending-receive who xs, change-none (waits_as who) received xs)
+pending-receive who (x ∷ xs) one =
+    elim (x.thread == who) as (λ b. (x.thread == who) ≡ b → count is_pending (x ∷ xs) ≤ count is_pending (change (waits_as who) received (x ∷ xs)) + 1) [
+      | true ↦ λ here.
+          let same = change-none (waits_as who) received xs (rest-none thread x xs who one (eqb-true x.thread who here)) in
+          grind (arith, same)
+      | false ↦ λ off. grind (arith, pending-receive who xs)
+    ] refl
 
 -- A thread that doesn't wait finds a place for its wait: waiting threads are fewer than threads
 member-number : (q : ℕ) (ts : List ThreadRow) → is_member eqb (map (λ t. t.number) ts) q ≡ has (is_thread q) ts
@@ -204,12 +179,6 @@ unused-table used pid (t ∷ ts) all none =
       | false ↦ λ off. grind (arith, unused-table used pid ts)
     ] refl
 
-tables-push : (ts : List HandleTable) (u : HandleTable) → are_single_tables ts ≡ true → has (is_table u.process) ts ≡ false → are_single_tables (ts ++ u ∷ []) ≡ true
-tables-push [] u one none = refl
-tables-push (t ∷ ts) u one none =
-    let off : is_table t.process u ≡ false = grind (arith, turned t.process u.process) in
-    grind (arith, tables-push ts u, has_none-push (is_table t.process) ts u, off)
-
 used-more : (used : List ℕ) (pid : ℕ) (ts : List HandleTable) → every (is_used used) ts ≡ true → every (is_used (used ++ pid ∷ [])) ts ≡ true
 used-more used pid ts all = every-more (is_used used) (is_used (used ++ pid ∷ [])) (λ t there. has-kept (λ n. n == t.process) used pid there) ts all
 
@@ -225,7 +194,7 @@ lawful-process w calls made a b p h lt new = record {
   draws = every-more (draws_at_most (made + 1)) (draws_at_most (made + 1 + 1)) (draws-more (made + 1) (made + 1 + 1) (omega arith)) w.threads h.draws;
   housed = every-more (is_housed w) _ (λ t there. grind (arith, has-kept (is_process t.process) w.processes p, has-kept (is_table t.process) w.handles (no_handles p.number))) w.threads h.housed;
   tables_used = every-push (is_used (w.used_processes ++ p.number ∷ [])) w.handles (no_handles p.number) (used-more w.used_processes p.number w.handles h.tables_used) (used-self w.used_processes p.number);
-  tables_single = tables-push w.handles (no_handles p.number) h.tables_single (unused-table w.used_processes p.number w.handles h.tables_used new);
+  tables_single = differ-push (λ (t : HandleTable). t.process) w.handles (no_handles p.number) h.tables_single (unused-table w.used_processes p.number w.handles h.tables_used new);
   single = h.single;
   threads = h.threads;
   quiet = h.quiet;
@@ -273,12 +242,6 @@ lawful-port w calls made a b p h lt = record {
   messages_fit = h.messages_fit;
 }
 
-tables-kept : (test : HandleTable → Bool) (g : HandleTable → HandleTable) → ((t : HandleTable) → (g t).process ≡ t.process) → (ts : List HandleTable) → are_single_tables ts ≡ true → are_single_tables (change test g ts) ≡ true
-tables-kept test g same [] one = refl
-tables-kept test g same (t ∷ ts) one =
-    let h : has (is_table t.process) (change test g ts) ≡ has (is_table t.process) ts = has-change (is_table t.process) test g (λ u. ap (λ n. n == t.process) (same u)) ts in
-    grind (arith, same t, tables-kept test g same ts, h)
-
 pub lawful-handle : (w : World) (calls made a b pid : ℕ) (row : HandleRow) → IsLawful w calls made a b
     → IsLawful (record w { handles = change (is_table pid) (with_handle row) w.handles }) calls made a b
 lawful-handle w calls made a b pid row h = record {
@@ -288,7 +251,7 @@ lawful-handle w calls made a b pid row h = record {
   draws = h.draws;
   housed = every-more (is_housed w) _ (λ t there. grind (arith, has-change (is_table t.process) (is_table pid) (with_handle row) (λ u. refl) w.handles)) w.threads h.housed;
   tables_used = every-change (is_used w.used_processes) (is_table pid) (with_handle row) (λ t there. there) w.handles h.tables_used;
-  tables_single = tables-kept (is_table pid) (with_handle row) (λ t. refl) w.handles h.tables_single;
+  tables_single = differ-change (λ (t : HandleTable). t.process) (is_table pid) (with_handle row) (λ t. refl) w.handles h.tables_single;
   single = h.single;
   threads = h.threads;
   quiet = h.quiet;
@@ -308,7 +271,7 @@ lawful-wait w calls made a b x h lt there none still place = record {
   housed = h.housed;
   tables_used = h.tables_used;
   tables_single = h.tables_single;
-  single = single-push w.waits x h.single none;
+  single = differ-push thread w.waits x h.single none;
   threads = every-push (is_of w.threads) w.waits x h.threads there;
   quiet = every-push (is_quiet w.messages) w.waits x h.quiet still;
   requests = grind (arith, h.requests, count-push is_pending w.waits x);
@@ -318,22 +281,6 @@ lawful-wait w calls made a b x h lt there none still place = record {
 
 pub pending-without : (tid : ℕ) (xs : List WaitRow) → has (pends_as tid) xs ≡ false → count is_pending (without (waits_as tid) xs) ≡ count is_pending xs
 pending-without tid xs none = count-without is_pending (waits_as tid) (pends_as tid) (λ x here off. grind arith) xs none
-
-without-none : {X : Type 0} (test : X → Bool) (xs : List X) → has test xs ≡ false → without test xs ≡ xs
-without-none test [] none = refl
-without-none test (x ∷ xs) none = grind (arith, without-none test xs)
-
--- the wait of a thread is one
-pub length-end : (tid : ℕ) (xs : List WaitRow) → are_single xs ≡ true → length (without (waits_as tid) xs) + cond (has (waits_as tid) xs) 1 0 ≡ length xs
-length-end tid [] one = refl
-length-end tid (x ∷ xs) one =
-    elim (x.thread == tid) as (λ b. (x.thread == tid) ≡ b → length (without (waits_as tid) (x ∷ xs)) + cond (has (waits_as tid) (x ∷ xs)) 1 0 ≡ length (x ∷ xs)) [
-      | true ↦ λ here.
-          let P : ℕ → Type 0 = λ n. has (waits_as n) xs ≡ false in
-          let none : has (waits_as tid) xs ≡ false = subst P (eqb-true x.thread tid here) (grind arith) in
-          grind (arith, without-none (waits_as tid) xs none)
-      | false ↦ λ off. grind (arith, length-end tid xs)
-    ] refl
 
 pub lawful-end : (w : World) (calls made a b tid : ℕ) → IsLawful w calls made a b → has (pends_as tid) w.waits ≡ false
     → IsLawful (record w { waits = without (waits_as tid) w.waits }) calls made (cond (has (waits_as tid) w.waits) (a + 1) a) b
@@ -345,11 +292,11 @@ lawful-end w calls made a b tid h none = record {
   housed = h.housed;
   tables_used = h.tables_used;
   tables_single = h.tables_single;
-  single = single-without (waits_as tid) w.waits h.single;
+  single = differ-without thread (waits_as tid) w.waits h.single;
   threads = every-without (is_of w.threads) (waits_as tid) w.waits h.threads;
   quiet = every-without (is_quiet w.messages) (waits_as tid) w.waits h.quiet;
   requests = grind (arith, h.requests, pending-without tid w.waits);
-  waits_fit = grind (arith, h.waits_fit, length-end tid w.waits h.single);
+  waits_fit = grind (arith, h.waits_fit, length-ended thread tid w.waits h.single);
   messages_fit = h.messages_fit;
 }
 
@@ -363,7 +310,7 @@ lawful-receive w calls made a b tid h lt = record {
   housed = h.housed;
   tables_used = h.tables_used;
   tables_single = h.tables_single;
-  single = single-receive tid w.waits h.single;
+  single = differ-change thread (waits_as tid) received (λ x. refl) w.waits h.single;
   threads = every-change (is_of w.threads) (waits_as tid) received (λ x there. there) w.waits h.threads;
   quiet = every-change (is_quiet w.messages) (waits_as tid) received (λ x there. there) w.waits h.quiet;
   requests = grind (arith, pending-receive tid w.waits h.single);
@@ -382,7 +329,7 @@ lawful-keep w calls made a b tid g same pends stills h = record {
   housed = h.housed;
   tables_used = h.tables_used;
   tables_single = h.tables_single;
-  single = single-keep w.waits h.single;
+  single = differ-change thread (waits_as tid) g same w.waits h.single;
   threads = every-change (is_of w.threads) (waits_as tid) g (λ x there. rw (same x) there) w.waits h.threads;
   quiet = every-change (is_quiet w.messages) (waits_as tid) g (λ x there. stills x ∙ there) w.waits h.quiet;
   requests = rw (count-keep w.waits) h.requests;
@@ -390,12 +337,6 @@ lawful-keep w calls made a b tid g same pends stills h = record {
   messages_fit = h.messages_fit;
 }
   where
-    single-keep : (xs : List WaitRow) → are_single xs ≡ true → are_single (change (waits_as tid) g xs) ≡ true
-    single-keep [] one = refl
-    single-keep (x ∷ xs) one =
-        let k : has (waits_as x.thread) (change (waits_as tid) g xs) ≡ has (waits_as x.thread) xs = has-change (waits_as x.thread) (waits_as tid) g (λ y. ap (λ n. n == x.thread) (same y)) xs in
-        grind (arith, same x, single-keep xs, k)
-
     count-keep : (xs : List WaitRow) → count is_pending (change (waits_as tid) g xs) ≡ count is_pending xs
     count-keep [] = refl
     count-keep (x ∷ xs) = grind (arith, pends x, count-keep xs)

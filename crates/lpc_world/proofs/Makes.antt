@@ -2,7 +2,7 @@
 use Rattle.std.proofs.Common.{◌≡◌, ℕ, List, [], ◌∷◌, ◌++◌, Bool, true, false, map, Option, Some, None, refl, ap, arith}
 use Rattle.lpc_base.specs.declared.birth.Birth.{Birth}
 use Rattle.lpc_base.specs.Rows.{every, first}
-use Rattle.lpc_base.proofs.RowWords.{every-more, every-push}
+use Rattle.lpc_base.proofs.RowWords.{every-back, every-front, every-more, every-push}
 use Rattle.lpc_base.proofs.RowMaps.{push-map, same-map}
 use Rattle.lpc_handles.specs.declared.table.Row.{Row}
 use Rattle.lpc_model.specs.Basics.{Makes, basic}
@@ -32,14 +32,6 @@ every_first p x xs all = grind arith
 every_later : {X : Type 0} (p : X → Bool) (x : X) (xs : List X) → every p (x ∷ xs) ≡ true → every p xs ≡ true
 every_later p x xs all = grind arith
 
-every_front : {X : Type 0} (p : X → Bool) (xs ys : List X) → every p (xs ++ ys) ≡ true → every p xs ≡ true
-every_front p [] ys all = refl
-every_front p (x ∷ xs) ys all = grind (arith, every_front p xs ys)
-
-every_back : {X : Type 0} (p : X → Bool) (xs ys : List X) → every p (xs ++ ys) ≡ true → every p ys ≡ true
-every_back p [] ys all = all
-every_back p (x ∷ xs) ys all = grind (arith, every_back p xs ys)
-
 module _ (ok : Object → Bool) (f g : Object → Birth) (same : (o : Object) → ok o ≡ true → f o ≡ g o) where
   birth_same : (key : Option Key) → every ok (ports_in key) ≡ true → birth_in f key ≡ birth_in g key
   birth_same None all = refl
@@ -54,8 +46,8 @@ module _ (ok : Object → Bool) (f g : Object → Birth) (same : (o : Object) �
 
   port_shape : (row : Key × Port) → every ok (port_refs row) ≡ true → shown_port f row ≡ shown_port g row
   port_shape row all =
-      let pair = birth_same row.1.pair (every_front ok (ports_in row.1.pair) (ports_in row.1.connection) all) in
-      let connection = birth_same row.1.connection (every_back ok (ports_in row.1.pair) (ports_in row.1.connection) all) in
+      let pair = birth_same row.1.pair (every-front ok (ports_in row.1.pair) (ports_in row.1.connection) all) in
+      let connection = birth_same row.1.connection (every-back ok (ports_in row.1.pair) (ports_in row.1.connection) all) in
       rw (pair, connection) refl
 
   message_shape : (row : Key × QueuedMessage) → every ok (message_refs row) ≡ true → shown_message f row ≡ shown_message g row

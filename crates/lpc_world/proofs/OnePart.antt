@@ -5,8 +5,8 @@ use Rattle.std.specs.List.{position}
 use Rattle.std.proofs.lemmas.Bool.{eqb-true}
 use Rattle.std.proofs.lemmas.Bool.Decides.{nat_tests}
 use Rattle.lpc_base.specs.Rows.{change, first, has}
-use Rattle.lpc_base.proofs.RowWords.{change-none, first-passes}
-use Rattle.lpc_waits.proofs.Places.{first_at, none_at, none_first, read_at}
+use Rattle.lpc_base.proofs.Differ.{IsRowAt, row-at, set-change}
+use Rattle.lpc_base.proofs.Positions.{none_first}
 use Rattle.lpc_handles.specs.Handles.{Handles, with_row}
 use Rattle.lpc_handles.specs.declared.table.Row.{Row}
 use Rattle.lpc_handles.specs.declared.table.TableFault.{TableFault}
@@ -14,50 +14,20 @@ use Rattle.lpc_world.specs.Parts.{are_single_parts, handed, is_part, roomed, spa
 use Rattle.lpc_world.specs.declared.object.Object.{Object}
 use Rattle.lpc_world.specs.declared.parts.Part.{Part}
 
+abbrev process : Part → ℕ
+process part = part.process
+
 -- a part that is found at its place
-pub record IsAt (parts : List Part) (pid index : ℕ) (part : Part) : Type 0 where
-  pub here : slice_get parts index ≡ Some part
-  pub own : part.process ≡ pid
-  pub is_first : first (is_part pid) parts ≡ Some part
+abbrev pub IsAt : (parts : List Part) (pid index : ℕ) (part : Part) → Type 0
+IsAt = IsRowAt process
 
 pub part_is : (parts : List Part) (pid index : ℕ) (part : Part) → position (is_part pid) parts ≡ Some index → part ≡ get_or parts index part → IsAt parts pid index part
-part_is parts pid index part at read =
-    let found = first_at (is_part pid) parts index at in
-    let same : found.element ≡ part = sym (read ∙ (read_at parts index found.element part found.here).1) in
-    record {
-      here = found.here ∙ ap Some same;
-      own = sym (ap (λ (p : Part). p.process) same) ∙ eqb-true found.element.process pid (first-passes (is_part pid) parts found.element found.is_first);
-      is_first = found.is_first ∙ ap Some same;
-    }
+part_is = row-at process
 
 pub no_place : (parts : List Part) (pid : ℕ) → has (is_part pid) parts ≡ true → position (is_part pid) parts ≡ None → ⊥
 no_place parts pid there none =
     let no : has (is_part pid) parts ≡ false = ap is_some (none_first (is_part pid) parts none) in
     absurd (cc)
-
-rest_none : (part : Part) (parts : List Part) (pid : ℕ) → are_single_parts (part ∷ parts) ≡ true → part.process ≡ pid → has (is_part pid) parts ≡ false
-rest_none part parts pid one same = rw (← same) (grind arith)
-
-rest_single : (part : Part) (parts : List Part) → are_single_parts (part ∷ parts) ≡ true → are_single_parts parts ≡ true
-rest_single part parts one = grind arith
-
-before : (part other : Part) (parts : List Part) (i pid : ℕ) → are_single_parts (part ∷ parts) ≡ true → slice_get parts i ≡ Some other → other.process ≡ pid → is_part pid part ≡ false
-before part other parts i pid one here same =
-    let off = none_at (is_part part.process) parts i other (rest_none part parts part.process one refl) here in
-    grind (arith, nat_tests)
-
--- the part at its place is the one that a change of the process's parts changes
-pub set_change : (f : Part → Part) (parts : List Part) (i pid : ℕ) (part : Part) → are_single_parts parts ≡ true → slice_get parts i ≡ Some part → part.process ≡ pid → set parts i (f part) ≡ change (is_part pid) f parts
-set_change f [] i pid part one here same = grind arith
-set_change f (head ∷ parts) zero pid part one here same =
-    let is : head ≡ part = cc in
-    let passes : is_part pid head ≡ true = grind (arith, nat_tests) in
-    let tail = change-none (is_part pid) f parts (rest_none head parts pid one (ap (λ (p : Part). p.process) is ∙ same)) in
-    sym (ap (λ b. cond b (f head) head ∷ change (is_part pid) f parts) passes ∙ (λ i. f (is i) ∷ tail i))
-set_change f (head ∷ parts) (suc i) pid part one here same =
-    let fails = before head part parts i pid one here same in
-    ap (λ r. head ∷ r) (set_change f parts i pid part (rest_single head parts one) here same)
-    ∙ sym (ap (λ b. cond b (f head) head ∷ change (is_part pid) f parts) fails)
 
 -- what the process's part is after a change
 pub first_changed : (f : Part → Part) → ((part : Part) → (f part).process ≡ part.process) → (parts : List Part) (pid : ℕ) (part : Part) → first (is_part pid) parts ≡ Some part → first (is_part pid) (change (is_part pid) f parts) ≡ Some (f part)
@@ -86,7 +56,7 @@ handed_part parts pid index part row (Ok v) new one at rows spare =
     let less : new.spare ≡ part.handles.spare - 1 = omega (arith, spare) in
     let same : new ≡ (handed v row part).handles = λ i. record { rows = rows i; spare = less i } in
     ap (λ (h : Handles Object). set parts index (record { process = part.process; handles = h })) same
-    ∙ set_change (handed v row) parts index pid part one at.here at.own
+    ∙ set-change process (handed v row) parts index pid part one at.here at.own
 
 -- more room in the part of a process
 pub record IsRoomed (parts after : List Part) (pid spare : ℕ) : Type 0 where
@@ -99,7 +69,7 @@ roomed_part parts pid index part new one at rows =
     let same : new ≡ (roomed new.spare part).handles = λ i. record { rows = rows i; spare = new.spare } in
     let parts_are : set parts index (record { process = part.process; handles = new }) ≡ change (is_part pid) (roomed new.spare) parts =
     ap (λ (h : Handles Object). set parts index (record { process = part.process; handles = h })) same
-    ∙ set_change (roomed new.spare) parts index pid part one at.here at.own in
+    ∙ set-change process (roomed new.spare) parts index pid part one at.here at.own in
     record {
       parts_are = parts_are;
       spare_is = ap (λ ps. spare_at ps pid) parts_are ∙ ap spare_in (first_changed (roomed new.spare) (λ p. refl) parts pid part at.is_first);

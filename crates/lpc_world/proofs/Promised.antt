@@ -4,8 +4,9 @@ use Rattle.std.specs.Prelude.{is_some, nat_le, nat_lt}
 use Rattle.std.proofs.lemmas.Bool.Decides.{nat_tests}
 use Rattle.std.proofs.lemmas.Bool.{eqb-true}
 use Rattle.lpc_base.specs.Rows.{change, count, every, first, has, which, without}
-use Rattle.lpc_base.proofs.RowMaps.{every-first}
-use Rattle.lpc_base.proofs.RowWords.{first-passes, count-push, every-change, every-more, every-push, every-without, has-change, has-kept}
+use Rattle.lpc_base.proofs.Differ.{own-rows}
+use Rattle.lpc_base.proofs.RowMaps.{every-both, every-change_to, every-first}
+use Rattle.lpc_base.proofs.RowWords.{first-passes, count-push, every-change, every-more, every-push, every-unless, every-without, has-change, has-kept, without-none}
 use Rattle.lpc_handles.specs.declared.table.Row.{Row}
 use Rattle.lpc_model.specs.World.{HandleRow, HandleTable, WaitRow}
 use Rattle.lpc_model.specs.Basics.{no_handles, put_handle, received, with_handle}
@@ -16,44 +17,9 @@ use Rattle.lpc_world.specs.Lawful.{IsPromised, are_single, are_single_tables, ha
 use Rattle.lpc_world.specs.declared.object.Object.{Object}
 use Rattle.lpc_world.specs.declared.parts.Part.{Part}
 
--- two tests together
-every-both : {X : Type 0} (p q r : X → Bool) → ((x : X) → p x ≡ true → q x ≡ true → r x ≡ true) → (xs : List X) → every p xs ≡ true → every q xs ≡ true → every r xs ≡ true
-every-both p q r more [] one two = refl
-every-both p q r more (x ∷ xs) one two = grind (arith, more x, every-both p q r more xs)
-
 every-changed : {X : Type 0} (p q test : X → Bool) (f : X → X) → ((x : X) → p x ≡ true → q x ≡ true → test x ≡ true → p (f x) ≡ true) → (xs : List X) → every p xs ≡ true → every q xs ≡ true → every p (change test f xs) ≡ true
 every-changed p q test f more [] one two = refl
 every-changed p q test f more (x ∷ xs) one two = grind (arith, more x, every-changed p q test f more xs)
-
--- what holds of the row of a process holds of each that passes
-unless : {X : Type 0} → (X → Bool) → (X → Bool) → X → Bool
-unless test q x = not (test x) || q x
-
-none-unless : {X : Type 0} (test q : X → Bool) (xs : List X) → has test xs ≡ false → every (λ x. not (test x) || q x) xs ≡ true
-none-unless test q [] none = refl
-none-unless test q (x ∷ xs) none = grind (arith, none-unless test q xs)
-
-own-part : (q : Part → Bool) (pid : ℕ) (parts : List Part) (part : Part) → are_single_parts parts ≡ true → first (is_part pid) parts ≡ Some part → q part ≡ true → every (λ p. not (is_part pid p) || q p) parts ≡ true
-own-part q pid [] part one at holds = refl
-own-part q pid (head ∷ parts) part one at holds = elim (is_part pid head) as (λ b. is_part pid head ≡ b → every (λ p. not (is_part pid p) || q p) (head ∷ parts) ≡ true) [
-  | true ↦ λ here.
-      let same : head ≡ part = grind arith in
-      let none : has (is_part pid) parts ≡ false = rw (← eqb-true head.process pid here) (grind arith) in
-      let passes : q head ≡ true = ap q same ∙ holds in
-      grind (arith, passes, none-unless (is_part pid) q parts none)
-  | false ↦ λ off. grind (arith, own-part q pid parts part)
-] refl
-
-own-table : (q : HandleTable → Bool) (pid : ℕ) (ts : List HandleTable) (t : HandleTable) → are_single_tables ts ≡ true → first (is_table pid) ts ≡ Some t → q t ≡ true → every (λ u. not (is_table pid u) || q u) ts ≡ true
-own-table q pid [] t one at holds = refl
-own-table q pid (head ∷ ts) t one at holds = elim (is_table pid head) as (λ b. is_table pid head ≡ b → every (λ u. not (is_table pid u) || q u) (head ∷ ts) ≡ true) [
-  | true ↦ λ here.
-      let same : head ≡ t = grind arith in
-      let none : has (is_table pid) ts ≡ false = rw (← eqb-true head.process pid here) (grind arith) in
-      let passes : q head ≡ true = ap q same ∙ holds in
-      grind (arith, passes, none-unless (is_table pid) q ts none)
-  | false ↦ λ off. grind (arith, own-table q pid ts t)
-] refl
 
 turned : (a b : ℕ) → (a == b) ≡ (b == a)
 turned a b = grind (arith, nat_tests)
@@ -110,15 +76,7 @@ other-taken false false c off = refl
 
 -- where a thread's wait was received, each of its waits was
 own-received : (who : ℕ) (xs : List WaitRow) (x : WaitRow) → are_single xs ≡ true → first (waits_as who) xs ≡ Some x → x.received ≡ true → every (λ y. not (waits_as who y) || y.received) xs ≡ true
-own-received who [] x one at is = refl
-own-received who (head ∷ xs) x one at is = elim (head.thread == who) as (λ b. (head.thread == who) ≡ b → every (λ y. not (waits_as who y) || y.received) (head ∷ xs) ≡ true) [
-  | true ↦ λ here.
-      let same : head ≡ x = grind arith in
-      let none : has (waits_as who) xs ≡ false = rw (← eqb-true head.thread who here) (grind arith) in
-      let took : head.received ≡ true = ap (λ (y : WaitRow). y.received) same ∙ is in
-      grind (arith, took, none-unless (waits_as who) (λ y. y.received) xs none)
-  | false ↦ λ off. grind (arith, own-received who xs x)
-] refl
+own-received = own-rows (λ (x : WaitRow). x.thread) (λ x. x.received)
 
 -- what a change of a wait leaves of that
 pub received-taken : (who : ℕ) (xs : List WaitRow) → every is_taken xs ≡ true → every is_taken (change (waits_as who) received xs) ≡ true
@@ -161,14 +119,14 @@ module _ (waits : List WaitRow) (handles : List HandleTable) (parts : List Part)
     where
       by_first : (o : Option Part) → first (is_part pid) parts ≡ o → every (λ p. not (is_part pid p) || has-spare pid p) parts ≡ true
       by_first None at = let no : spare_at parts pid ≡ 0 = ap spare_in at in absurd (omega (arith, no, place))
-      by_first (Some part) at = let some : spare_at parts pid ≡ part.handles.spare = ap spare_in at in own-part (has-spare pid) pid parts part one at (of-lt _ _ (omega (arith, some, place)))
+      by_first (Some part) at = let some : spare_at parts pid ≡ part.handles.spare = ap spare_in at in own-rows (λ (p : Part). p.process) (has-spare pid) pid parts part one at (of-lt _ _ (omega (arith, some, place)))
 
   load-all : (pid : ℕ) → are_single_tables handles ≡ true → length (rows_in (first (is_table pid) handles)) + count (is_connect_of pid) waits < 256 → has (is_table pid) handles ≡ true → every (λ t. not (is_table pid t) || has-load pid t) handles ≡ true
   load-all pid one load there = by_first (first (is_table pid) handles) refl
     where
       by_first : (o : Option HandleTable) → first (is_table pid) handles ≡ o → every (λ t. not (is_table pid t) || has-load pid t) handles ≡ true
       by_first None at = let no : has (is_table pid) handles ≡ false = ap is_some at in absurd (cc)
-      by_first (Some t) at = own-table (has-load pid) pid handles t one at (of-lt _ _ (let some : length (rows_in (first (is_table pid) handles)) ≡ length t.rows = ap (λ o. length (rows_in o)) at in omega (arith, some, load)))
+      by_first (Some t) at = own-rows (λ (t : HandleTable). t.process) (has-load pid) pid handles t one at (of-lt _ _ (let some : length (rows_in (first (is_table pid) handles)) ≡ length t.rows = ap (λ o. length (rows_in o)) at in omega (arith, some, load)))
 
   pub connect-begins : (x : WaitRow) → are_single_parts parts ≡ true → are_single_tables handles ≡ true → is_taken x ≡ true → IsWelcome waits handles parts x.process → IsPromised (waits ++ x ∷ []) handles parts
   connect-begins x one single fresh h = record {
@@ -282,8 +240,8 @@ module _ (waits : List WaitRow) (handles : List HandleTable) (parts : List Part)
   }
     where
       by_first : (o : Option Part) → first (is_part pid) parts ≡ o → every (λ p. not (is_part pid p) || nat_le p.handles.spare spare) parts ≡ true
-      by_first None at = none-unless (is_part pid) (λ p. nat_le p.handles.spare spare) parts (ap is_some at)
-      by_first (Some part) at = own-part (λ p. nat_le p.handles.spare spare) pid parts part one at (of-le _ _ (let some : spare_at parts pid ≡ part.handles.spare = ap spare_in at in omega (arith, some, more)))
+      by_first None at = every-unless (is_part pid) (λ p. nat_le p.handles.spare spare) parts (ap is_some at)
+      by_first (Some part) at = own-rows (λ (p : Part). p.process) (λ p. nat_le p.handles.spare spare) pid parts part one at (of-le _ _ (let some : spare_at parts pid ≡ part.handles.spare = ap spare_in at in omega (arith, some, more)))
 
   -- a handle comes, beside those that are promised
   pub put-long : (h : HandleRow) (rows : List HandleRow) → length (put_handle h rows) ≤ length rows + 1
@@ -320,14 +278,6 @@ module _ (waits : List WaitRow) (handles : List HandleTable) (parts : List Part)
           of-le _ _ (omega (arith, lt, le))
 
 -- A connect gets the handle that it was promised, and ends
-every-split : {X : Type 0} (p r test : X → Bool) (f : X → X) → ((x : X) → p x ≡ true → test x ≡ true → r (f x) ≡ true) → ((x : X) → p x ≡ true → r x ≡ true) → (xs : List X) → every p xs ≡ true → every r (change test f xs) ≡ true
-every-split p r test f own other [] all = refl
-every-split p r test f own other (x ∷ xs) all = grind (arith, own x, other x, every-split p r test f own other xs)
-
-without-same : (tid : ℕ) (xs : List WaitRow) → has (waits_as tid) xs ≡ false → without (waits_as tid) xs ≡ xs
-without-same tid [] none = refl
-without-same tid (x ∷ xs) none = grind (arith, without-same tid xs)
-
 pub count-ended : (tid pid : ℕ) (xs : List WaitRow) (x : WaitRow) → are_single xs ≡ true → first (waits_as tid) xs ≡ Some x → is_connect_of pid x ≡ true → count (is_connect_of pid) (without (waits_as tid) xs) + 1 ≡ count (is_connect_of pid) xs
 count-ended tid pid [] y one at own = absurd (cc)
 count-ended tid pid (x ∷ xs) y one at own = elim (x.thread == tid) as (λ b. (x.thread == tid) ≡ b → count (is_connect_of pid) (without (waits_as tid) (x ∷ xs)) + 1 ≡ count (is_connect_of pid) (x ∷ xs)) [
@@ -335,15 +285,15 @@ count-ended tid pid (x ∷ xs) y one at own = elim (x.thread == tid) as (λ b. (
       let same : x ≡ y = grind arith in
       let counts : is_connect_of pid x ≡ true = ap (is_connect_of pid) same ∙ own in
       let none : has (waits_as tid) xs ≡ false = rw (← eqb-true x.thread tid here) (grind arith) in
-      grind (arith, counts, without-same tid xs none)
+      grind (arith, counts, without-none (waits_as tid) xs none)
   | false ↦ λ off. grind (arith, count-ended tid pid xs y)
 ] refl
 
 pub connect-finishes : (waits : List WaitRow) (handles : List HandleTable) (parts : List Part) (tid pid value : ℕ) (shown : HandleRow) (row : Row Object) (x : WaitRow) → IsPromised waits handles parts → are_single waits ≡ true → first (waits_as tid) waits ≡ Some x → is_connect_of pid x ≡ true
     → IsPromised (without (waits_as tid) waits) (change (is_table pid) (with_handle shown) handles) (change (is_part pid) (handed value row) parts)
 connect-finishes waits handles parts tid pid value shown row x is one at own = record {
-  places = every-split (has_places waits) (has_places (without (waits_as tid) waits)) (is_part pid) (handed value row) placed (λ part there. of-le _ _ (let le = le-of _ _ there in let less = fewer waits handles parts is part.process (waits_as tid) waits in omega (arith, le, less))) parts is.places;
-  loads = every-split (is_within waits) (is_within (without (waits_as tid) waits)) (is_table pid) (with_handle shown) loaded (λ t there. of-le _ _ (let le = le-of _ _ there in let less = fewer waits handles parts is t.process (waits_as tid) waits in omega (arith, le, less))) handles is.loads;
+  places = every-change_to (has_places waits) (has_places (without (waits_as tid) waits)) (is_part pid) (handed value row) placed (λ part there off. of-le _ _ (let le = le-of _ _ there in let less = fewer waits handles parts is part.process (waits_as tid) waits in omega (arith, le, less))) parts is.places;
+  loads = every-change_to (is_within waits) (is_within (without (waits_as tid) waits)) (is_table pid) (with_handle shown) loaded (λ t there off. of-le _ _ (let le = le-of _ _ there in let less = fewer waits handles parts is t.process (waits_as tid) waits in omega (arith, le, less))) handles is.loads;
   homes = every-without (is_at_home (change (is_table pid) (with_handle shown) handles)) (waits_as tid) waits (every-more (is_at_home handles) (is_at_home (change (is_table pid) (with_handle shown) handles)) (λ y there. ap (λ b. not (is_connect y) || b) (has-table waits handles parts is pid shown y.process) ∙ there) waits is.homes);
   taken = every-without is_taken (waits_as tid) waits is.taken;
 }

@@ -3,13 +3,14 @@ use Rattle.std.proofs.Common.{◌≡◌, ℕ, ◌+◌, ◌-◌, ◌<◌, ◌≤�
 use Rattle.std.proofs.lemmas.List.{length_push}
 use Rattle.lpc_base.specs.declared.birth.Birth.{Birth}
 use Rattle.lpc_base.specs.Rows.{change, count, first, has, without, without_first}
+use Rattle.lpc_base.proofs.Differ.{length-ended}
 use Rattle.lpc_base.proofs.RowWords.{count-push, length-change}
 use Rattle.lpc_model.specs.World.{World, MessageRow, PortRow, ThreadRow, WaitRow}
 use Rattle.lpc_model.specs.Basics.{received}
 use Rattle.lpc_model.specs.Found.{is_queued, waits_as}
-use Rattle.lpc_world.specs.Kept.{HandleRoom, Room, Roomy, is_asking, is_pending, is_room, pends_as, spare_in}
+use Rattle.lpc_world.specs.Kept.{HandleRoom, Room, Roomy, is_asking, is_pending, is_room, pends_as, room_in}
 use Rattle.lpc_world.specs.Lawful.{are_single}
-use Rattle.lpc_world.proofs.Lawful.{count-taken, length-end, pending-receive, pending-without}
+use Rattle.lpc_world.proofs.Lawful.{count-taken, pending-receive, pending-without}
 
 -- the room by its numbers
 abbrev pub room : ℕ → ℕ → ℕ → ℕ → ℕ → ℕ → World → List HandleRoom → Room
@@ -25,7 +26,7 @@ room processes threads waits messages ports names w handles = record {
 }
 
 -- a room for handles more, behind the others
-pub handles_more : (rooms : List HandleRoom) (r : HandleRoom) (pid : ℕ) → spare_in (first (is_room pid) rooms) ≤ spare_in (first (is_room pid) (rooms ++ r ∷ []))
+pub handles_more : (rooms : List HandleRoom) (r : HandleRoom) (pid : ℕ) → room_in (first (is_room pid) rooms) ≤ room_in (first (is_room pid) (rooms ++ r ∷ []))
 handles_more [] r pid = grind arith
 handles_more (s ∷ rooms) r pid = grind (arith, handles_more rooms r pid)
 
@@ -148,7 +149,7 @@ module _ (a b c d e g : ℕ) (w : World) (hs : List HandleRoom) where
 
   pub room_end : (who : ℕ) → are_single w.waits ≡ true → has (pends_as who) w.waits ≡ false → Roomy (room a b c d e g w hs) (room a b (cond (has (waits_as who) w.waits) (c + 1) c) d e g (record w { waits = without (waits_as who) w.waits }) hs)
   room_end who one idle =
-      let less = length-end who w.waits one in
+      let less = length-ended (λ (x : WaitRow). x.thread) who w.waits one in
       let same = pending-without who w.waits idle in
       record {
         for_processes = omega arith;

@@ -41,10 +41,10 @@ all_true [] = refl
 all_true (x ∷ xs) = grind (arith, all_true xs)
 
 -- the room for handles of a process
-pub room_at : (parts : List Part) (pid : ℕ) → kept.spare_in (first (is_room pid) (map room_of_part parts)) ≡ spare_at parts pid
-room_at parts pid = ap kept.spare_in (first-map room_of_part (λ _. true) (is_part pid) (is_room pid) (λ part _. refl) parts (all_true parts)) ∙ spared (first (is_part pid) parts)
+pub room_at : (parts : List Part) (pid : ℕ) → kept.room_in (first (is_room pid) (map room_of_part parts)) ≡ spare_at parts pid
+room_at parts pid = ap kept.room_in (first-map room_of_part (λ _. true) (is_part pid) (is_room pid) (λ part _. refl) parts (all_true parts)) ∙ spared (first (is_part pid) parts)
   where
-    spared : (o : Option Part) → kept.spare_in (option_map room_of_part o) ≡ spare_in o
+    spared : (o : Option Part) → kept.room_in (option_map room_of_part o) ≡ spare_in o
     spared None = refl
     spared (Some part) = refl
 
@@ -111,7 +111,7 @@ module _ (it : Tables) (calls made : ℕ) (is : AreLawful it calls made) where
       ] refl
 
   -- a process has room for a handle beside those that are promised
-  pub welcome : (pid : ℕ) → has (is_table pid) rows.handles ≡ true → handle_load rows pid < 256 → kept.promised rows pid < kept.spare_in (first (is_room pid) (map room_of_part it.parts)) → IsWelcome rows.waits rows.handles it.parts pid
+  pub welcome : (pid : ℕ) → has (is_table pid) rows.handles ≡ true → handle_load rows pid < 256 → kept.promised rows pid < kept.room_in (first (is_room pid) (map room_of_part it.parts)) → IsWelcome rows.waits rows.handles it.parts pid
   welcome pid there load room = record { place = rw (← room_at it.parts pid) room; load = load; table = there }
 
   -- how many of a process's threads wait in a connect

@@ -4,6 +4,7 @@ use Rattle.std.specs.Prelude.{IsSome, is_some}
 use Rattle.lpc_base.specs.declared.birth.Birth.{Birth}
 use Rattle.lpc_base.specs.Rows.{every, has}
 use Rattle.lpc_base.proofs.RowMaps.{has-map}
+use Rattle.lpc_base.proofs.RowWords.{every-append, every-back, every-front, every-off}
 use Rattle.lpc_handles.specs.declared.table.Row.{Row}
 use Rattle.lpc_model.specs.Found as found
 use Rattle.lpc_model.specs.Found.{same_birth}
@@ -31,14 +32,6 @@ is_named_in it key =
     has (has_name_of key) it.parts || (has (ports.is_joined_to key) it.ports.ports || (has (ports.is_message_at key) it.ports.messages
     || (has (waits.is_wait_at key) it.waits.rows || has_name is_key key it.space.bindings)))
 
-every_front : {X : Type 0} (p : X → Bool) (xs ys : List X) → every p (xs ++ ys) ≡ true → every p xs ≡ true
-every_front p [] ys all = refl
-every_front p (x ∷ xs) ys all = grind (arith, every_front p xs ys)
-
-every_back : {X : Type 0} (p : X → Bool) (xs ys : List X) → every p (xs ++ ys) ≡ true → every p ys ≡ true
-every_back p [] ys all = all
-every_back p (x ∷ xs) ys all = grind (arith, every_back p xs ys)
-
 -- The tests of rows agree
 module _ (it : Tables) (is : AreNamed (births_of it.ports) it) (key : Key) (there : stands (births_of it.ports).ports key ≡ true) where
   abbrev n : Births
@@ -60,8 +53,8 @@ module _ (it : Tables) (is : AreNamed (births_of it.ports) it) (key : Key) (ther
   joined_same : (row : Key × Port) → all_pass port_refs ok row ≡ true → found.is_joined_to b (shown_port f row) ≡ ports.is_joined_to key row
   joined_same row all =
       rw (
-        the_same row.1.pair (every_front ok (ports_in row.1.pair) (ports_in row.1.connection) all),
-        the_same row.1.connection (every_back ok (ports_in row.1.pair) (ports_in row.1.connection) all),
+        the_same row.1.pair (every-front ok (ports_in row.1.pair) (ports_in row.1.connection) all),
+        the_same row.1.connection (every-back ok (ports_in row.1.pair) (ports_in row.1.connection) all),
       ) refl
 
   message_same : (row : Key × QueuedMessage) → all_pass message_refs ok row ≡ true → found.is_message_at b (shown_message f row) ≡ ports.is_message_at key row
@@ -101,14 +94,6 @@ module _ (it : Tables) (is : AreNamed (births_of it.ports) it) (key : Key) (ther
 abbrev pub is_other : Key → Object → Bool
 is_other key o = not (is_the_port key o)
 
-every_off : {X : Type 0} (p q : X → Bool) → ((x : X) → p x ≡ false → q x ≡ true) → (xs : List X) → has p xs ≡ false → every q xs ≡ true
-every_off p q off [] none = refl
-every_off p q off (x ∷ xs) none = grind (arith, off x, every_off p q off xs)
-
-every_append : {X : Type 0} (p : X → Bool) (xs ys : List X) → every p xs ≡ true → every p ys ≡ true → every p (xs ++ ys) ≡ true
-every_append p [] ys one two = two
-every_append p (x ∷ xs) ys one two = grind (arith, every_append p xs ys)
-
 module _ (key : Key) where
   handles_off : (rows : List (ℕ × Row Object)) → has (names_it key) rows ≡ false → every (is_other key) (map (λ row. row.1.object) rows) ≡ true
   handles_off [] none = refl
@@ -119,7 +104,7 @@ module _ (key : Key) where
   key_off (Some other) off = grind arith
 
   port_off : (row : Key × Port) → ports.is_joined_to key row ≡ false → all_pass port_refs (is_other key) row ≡ true
-  port_off row off = every_append (is_other key) (ports_in row.1.pair) (ports_in row.1.connection) (key_off row.1.pair (grind arith)) (key_off row.1.connection (grind arith))
+  port_off row off = every-append (is_other key) (ports_in row.1.pair) (ports_in row.1.connection) (key_off row.1.pair (grind arith)) (key_off row.1.connection (grind arith))
 
   message_off : (row : Key × QueuedMessage) → ports.is_message_at key row ≡ false → all_pass message_refs (is_other key) row ≡ true
   message_off row off = grind arith
@@ -138,10 +123,10 @@ module _ (key : Key) where
 
   pub others_pass : (it : Tables) → is_named_in it key ≡ false → AllPass (is_other key) it
   others_pass it none = record {
-    in_handles = every_off (has_name_of key) (all_pass part_refs (is_other key)) (λ part off. handles_off part.handles.rows off) it.parts (grind arith);
-    in_ports = every_off (ports.is_joined_to key) (all_pass port_refs (is_other key)) port_off it.ports.ports (grind arith);
-    in_messages = every_off (ports.is_message_at key) (all_pass message_refs (is_other key)) message_off it.ports.messages (grind arith);
-    in_waits = every_off (waits.is_wait_at key) (all_pass wait_refs (is_other key)) wait_off it.waits.rows (grind arith);
+    in_handles = every-off (has_name_of key) (all_pass part_refs (is_other key)) (λ part off. handles_off part.handles.rows off) it.parts (grind arith);
+    in_ports = every-off (ports.is_joined_to key) (all_pass port_refs (is_other key)) port_off it.ports.ports (grind arith);
+    in_messages = every-off (ports.is_message_at key) (all_pass message_refs (is_other key)) message_off it.ports.messages (grind arith);
+    in_waits = every-off (waits.is_wait_at key) (all_pass wait_refs (is_other key)) wait_off it.waits.rows (grind arith);
     in_names = names_off it.space.bindings (grind arith);
   }
 

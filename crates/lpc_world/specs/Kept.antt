@@ -84,12 +84,12 @@ pub record Same (old new : Kept) : Type 0 where
 abbrev pub is_room : ℕ → HandleRoom → Bool
 is_room pid r = r.process == pid
 
-abbrev pub spare_in : Option HandleRoom → ℕ
-spare_in None = 0
-spare_in (Some r) = r.spare
+abbrev pub room_in : Option HandleRoom → ℕ
+room_in None = 0
+room_in (Some r) = r.spare
 
 abbrev pub handle_room : Room → ℕ → ℕ
-handle_room room pid = spare_in (first (is_room pid) room.handles)
+handle_room room pid = room_in (first (is_room pid) room.handles)
 
 -- no room is lost
 pub record Roomy (old new : Room) : Type 0 where

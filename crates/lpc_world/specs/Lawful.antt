@@ -1,7 +1,7 @@
 -- What the world keeps of its rows, its numbers and its room.
 use Rattle.std.specs.Prelude.{◌≡◌, ℕ, ◌+◌, ◌*◌, ◌==◌, ◌&&◌, ◌||◌, ◌≤◌, nat_le, nat_lt, Bool, true, not, List, [], ◌∷◌, length}
 use Rattle.lpc_base.specs.declared.birth.Birth.{Birth}
-use Rattle.lpc_base.specs.Rows.{count, every, has}
+use Rattle.lpc_base.specs.Rows.{count, differ_by, every, has}
 use Rattle.lpc_model.specs.World.{World, HandleTable, MessageRow, PortRow, ThreadRow, UsedThread, WaitRow}
 use Rattle.lpc_model.specs.Found.{is_accepted, is_connect, is_listen, is_process, is_queued, is_queued_connect, is_receive, is_table, is_thread, waits_as}
 use Rattle.lpc_model.specs.Tests.{is_connect_of}
@@ -15,13 +15,11 @@ use Rattle.lpc_world.specs.Shown.{AreNamed, Tables, births_of}
 
 -- no thread waits twice
 abbrev pub are_single : List WaitRow → Bool
-are_single [] = true
-are_single (x ∷ xs) = not (has (waits_as x.thread) xs) && are_single xs
+are_single waits = differ_by (λ x. x.thread) waits
 
 -- no process has two tables of handles
 abbrev pub are_single_tables : List HandleTable → Bool
-are_single_tables [] = true
-are_single_tables (t ∷ ts) = not (has (is_table t.process) ts) && are_single_tables ts
+are_single_tables tables = differ_by (λ t. t.process) tables
 
 -- the waiting thread is one of the threads
 abbrev pub is_of : List ThreadRow → WaitRow → Bool
@@ -73,8 +71,7 @@ pub record IsCounted (ports : PortTable) (waits : WaitTable) (made : ℕ) : Type
 
 -- no two threads have one number
 abbrev pub are_single_threads : List ThreadRow → Bool
-are_single_threads [] = true
-are_single_threads (t ∷ ts) = not (has (is_thread t.number) ts) && are_single_threads ts
+are_single_threads threads = differ_by (λ t. t.number) threads
 
 -- a thread's number was used
 abbrev pub is_noted : List UsedThread → ThreadRow → Bool

@@ -1,6 +1,6 @@
 -- The handles of each process: which part of the world they stand in.
 use Rattle.std.specs.Prelude.{ℕ, ◌-◌, ◌==◌, ◌&&◌, Bool, true, not, List, [], ◌∷◌, Option, Some, None}
-use Rattle.lpc_base.specs.Rows.{first, has}
+use Rattle.lpc_base.specs.Rows.{differ_by, first, has}
 use Rattle.lpc_handles.specs.Handles as handles
 use Rattle.lpc_handles.specs.declared.table.Row.{Row}
 use Rattle.lpc_slots.specs.Table.{is_key}
@@ -15,8 +15,7 @@ is_part pid part = part.process == pid
 
 -- no process has two parts
 abbrev pub are_single_parts : List Part → Bool
-are_single_parts [] = true
-are_single_parts (part ∷ parts) = not (has (is_part part.process) parts) && are_single_parts parts
+are_single_parts parts = differ_by (λ part. part.process) parts
 
 -- the handles of an optional part, and its room
 abbrev pub rows_in : Option Part → List (ℕ × Row Object)

@@ -9,7 +9,7 @@ use Rattle.lpc_model.specs.Found.{is_listen, is_request, live_thread, port_row, 
 use Rattle.lpc_waits.specs.Table as table
 use Rattle.lpc_waits.specs.declared.Wait.{Wait}
 use Rattle.lpc_world.specs.Names.{name_of, stands}
-use Rattle.lpc_world.specs.Shown.{call_of}
+use Rattle.lpc_world.specs.Shown.{call_of_wait}
 use Rattle.lpc_world.specs.Kept.{Kept, is_alive}
 use Rattle.lpc_slots.specs.declared.Key.{Key}
 use Rattle.lpc_world.specs.declared.object.Object.{Object}
@@ -76,7 +76,7 @@ waiter w tid = wait_in (wait_of w tid)
 -- the wait of a thread that waits is this one, and the ports that it names stand
 pub record IsWait (w : Kept) (tid : ℕ) (x : Wait) : Type 0 where
   pub thread : let y = waiter w.rows tid in y.thread ≡ tid
-  pub call : let y = waiter w.rows tid in y.call ≡ call_of x.kind
+  pub call : let y = waiter w.rows tid in y.call ≡ call_of_wait x.kind
   pub process : let y = waiter w.rows tid in y.process ≡ x.process
   pub request : is_request (waiter w.rows tid) ≡ table.is_request x.kind
   pub listen : is_listen (waiter w.rows tid) ≡ table.is_listen x.kind

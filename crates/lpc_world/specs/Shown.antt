@@ -88,11 +88,11 @@ shown_message f row = record {
 }
 
 -- the call that a wait of a kind is made by, and what it waits for
-abbrev pub call_of : WaitKind → CallName
-call_of wait.Request = NtRequestWaitReplyPort
-call_of wait.Receive = NtReplyWaitReceivePort
-call_of wait.Listen = NtListenPort
-call_of wait.Connect = NtConnectPort
+abbrev pub call_of_wait : WaitKind → CallName
+call_of_wait wait.Request = NtRequestWaitReplyPort
+call_of_wait wait.Receive = NtReplyWaitReceivePort
+call_of_wait wait.Listen = NtListenPort
+call_of_wait wait.Connect = NtConnectPort
 
 abbrev pub shown_connect : List ℕ → Option Accepted → model.WaitKind
 shown_connect bytes None = model.Connect (message_of bytes)
@@ -109,7 +109,7 @@ wait_refs row = object.Port row.wait.port ∷ object.Port row.wait.queue ∷ []
 
 abbrev pub shown_wait : (Object → Birth) → WaitRow → model.WaitRow
 shown_wait f row = record {
-  call = call_of row.wait.kind;
+  call = call_of_wait row.wait.kind;
   thread = row.thread;
   process = row.wait.process;
   kind = shown_kind row.wait.kind row.message.items row.accepted;

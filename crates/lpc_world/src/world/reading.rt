@@ -470,7 +470,7 @@ impl World {
         ensures call { let x = waiter self.now.rows tid in result ≡ x.call }
         ensures thread { let x = waiter self.now.rows tid in x.thread ≡ tid }
     {
-        call_of(self.wait(tid).kind)
+        call_of_wait(self.wait(tid).kind)
     }
 }
 
@@ -493,8 +493,8 @@ fn is_of_kind(object: Object, kind: ObjectKind) -> bool
 }
 
 /// The call that a wait of a kind is made by.
-fn call_of(kind: WaitKind) -> CallName
-    ensures { result ≡ shown.call_of kind }
+fn call_of_wait(kind: WaitKind) -> CallName
+    ensures { result ≡ shown.call_of_wait kind }
 {
     match kind {
         WaitKind::Request => CallName::NtRequestWaitReplyPort,

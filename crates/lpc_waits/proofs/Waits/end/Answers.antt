@@ -2,7 +2,7 @@ use Rattle.std.proofs.Common.{sym, ap, ◌∙◌, option_map, is_some}
 use Rattle.lpc_waits.specs.declared.WaitRow.{WaitRow}
 use Rattle.lpc_waits.specs.Table.{is_of}
 use Rattle.lpc_base.proofs.RowWords.{without-none}
-use Rattle.lpc_waits.proofs.Places.{none_first}
+use Rattle.lpc_base.proofs.Positions.{none_first}
 use Rattle.lpc_waits.proofs.Apart.{apart_without, ended_at, row_is}
 use Rattle.lpc_waits.proofs.Waits.end.Goals as goal
 
@@ -24,7 +24,7 @@ invariant_of-self c =
 pub returns-clause-value : goal.returns-clause-value
 returns-clause-value c =
     let found = row_is c.self.inside.rows.items c.in_ok-index.index c.args.tid c.remove-row.result (sym (rw (← c.self.view_is) at c.in_ok-index.ensures)) c.remove-row.ensures.value in
-    rw (← c.self.view_is) (sym (ap (option_map (λ (row : WaitRow). row.wait)) found.2))
+    rw (← c.self.view_is) (sym (ap (option_map (λ (row : WaitRow). row.wait)) found.is_first))
 
 pub returns-clause-rows : goal.returns-clause-rows
 returns-clause-rows c =

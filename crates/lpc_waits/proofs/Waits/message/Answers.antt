@@ -6,4 +6,4 @@ use Rattle.lpc_waits.proofs.Waits.message.Goals as goal
 pub returns-clause-value : goal.returns-clause-value
 returns-clause-value c =
     let found = row_is c.self.inside.rows.items c.place.result c.args.tid c.index.result.now (sym (rw (← c.self.view_is) at c.place.ensures)) c.index.ensures in
-    rw (← c.self.view_is) (ap (option_map (λ (row : WaitRow). row.message.items)) found.2 ∙ ap Some (sym c.as_slice.ensures.value))
+    rw (← c.self.view_is) (ap (option_map (λ (row : WaitRow). row.message.items)) found.is_first ∙ ap Some (sym c.as_slice.ensures.value))

@@ -1,5 +1,5 @@
 use Rattle.std.proofs.Common.{sym, subst, ◌∙◌, true≢false, IsSome}
-use Rattle.lpc_waits.proofs.Places.{none_first}
+use Rattle.lpc_base.proofs.Positions.{none_first}
 use Rattle.lpc_waits.specs.Table.{is_of}
 use Rattle.lpc_waits.proofs.Waits.place.Goals as goal
 
