@@ -3,24 +3,32 @@
 ghost use Rattle.std.specs.Prelude.{◌≡◌, ◌<◌, ◌≤◌, length, None, IfOk};
 ghost use Rattle.std.specs.Io.KnownBytes.{ReadConsumes, WriteAppends};
 ghost use Rattle.lpc_base.specs.Streams.{HasCause};
+ghost use Rattle.ntlpc.specs.Counted.{Counted};
 
 use lpc_base::{Failed, Sink, Source};
 use std::io::{Read, Write};
+use std::marker::Model;
 
 /// A source over a reader.
 #[derive(Drop)]
 pub struct Input<R: Read> {
-    inner: R,
+    reader: R,
     faults: u64,
+}
+
+impl<R: Read> Model for Input<R> {
+    ghost Value = { Counted R };
+
+    ghost view = { λ s. record { stream = s.reader; faults = s.faults } };
 }
 
 impl<R: Read> Input<R> {
     /// A source that has not failed yet.
-    pub fn new(inner: R) -> Self
-        ensures inner { result.inner ≡ inner }
+    pub fn new(reader: R) -> Self
+        ensures stream { result.stream ≡ reader }
         ensures faults { result.faults ≡ 0 }
     {
-        Input { inner, faults: 0 }
+        Input { reader, faults: 0 }
     }
 }
 
@@ -33,11 +41,11 @@ impl<R: Read> Source for Input<R> {
     fn read(&mut self, into: &mut [u8]) -> Result<usize, Failed>
         requires { 0 < length into.old }
         ensures bound { IfOk result (λ n. n ≤ length into.new) }
-        ensures reader { ReadConsumes (R.remaining self.old.inner) (R.remaining self.new.inner) result into.new }
+        ensures reader { ReadConsumes (R.remaining self.old.stream) (R.remaining self.new.stream) result into.new }
         ensures cause { HasCause self.old.faults self.new.faults result }
         ensures still { IfOk result (λ _. self.new.faults ≡ self.old.faults) }
     {
-        match self.inner.read(into) {
+        match self.reader.read(into) {
             Ok(count) => Ok(count),
             Err(_) => {
                 self.faults = self.faults.saturating_add(1);
@@ -50,17 +58,23 @@ impl<R: Read> Source for Input<R> {
 /// A sink over a writer. A writer that takes no byte has failed.
 #[derive(Drop)]
 pub struct Output<W: Write> {
-    inner: W,
+    writer: W,
     faults: u64,
+}
+
+impl<W: Write> Model for Output<W> {
+    ghost Value = { Counted W };
+
+    ghost view = { λ s. record { stream = s.writer; faults = s.faults } };
 }
 
 impl<W: Write> Output<W> {
     /// A sink that has not failed yet.
-    pub fn new(inner: W) -> Self
-        ensures inner { result.inner ≡ inner }
+    pub fn new(writer: W) -> Self
+        ensures stream { result.stream ≡ writer }
         ensures faults { result.faults ≡ 0 }
     {
-        Output { inner, faults: 0 }
+        Output { writer, faults: 0 }
     }
 }
 
@@ -76,11 +90,11 @@ impl<W: Write> Sink for Output<W> {
         requires { 0 < length from.now }
         ensures some { IfOk result (λ n. 1 ≤ n) }
         ensures bound { IfOk result (λ n. n ≤ length from.now) }
-        ensures writer { WriteAppends (W.contents self.old.inner) (W.contents self.new.inner) result from.now }
+        ensures writer { WriteAppends (W.contents self.old.stream) (W.contents self.new.stream) result from.now }
         ensures cause { HasCause self.old.faults self.new.faults result }
         ensures still { IfOk result (λ _. self.new.faults ≡ self.old.faults) }
     {
-        if let Ok(count) = self.inner.write(from) {
+        if let Ok(count) = self.writer.write(from) {
             if count > 0 {
                 return Ok(count);
             }
