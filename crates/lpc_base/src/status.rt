@@ -1,7 +1,7 @@
 // The status numbers that calls answer. The numbers are NTSTATUS values; which service answers which for what cause is
 // this project's own profile.
 
-/// An NTSTATUS value: 0 for success, from 0xC0000000 up for an error.
+/// An NTSTATUS value, as published: 0 for success, from 0xC0000000 up for an error, and a few between for what is neither.
 #[derive(Clone, Copy, Debug, PartialEq, Eq)]
 pub struct Status(pub u32);
 
@@ -53,7 +53,7 @@ pub const OBJECT_NAME_NOT_FOUND: Status = Status(0xC000_0034);
 /// The name or number stands already.
 pub const OBJECT_NAME_COLLISION: Status = Status(0xC000_0035);
 
-/// The port or its other side is closed.
+/// The port or its other side is closed, or a connection's other end is gone before it is completed.
 pub const PORT_DISCONNECTED: Status = Status(0xC000_0037);
 
 /// An inner part of the path is no directory.
@@ -95,7 +95,7 @@ pub const CANT_OPEN_ANONYMOUS: Status = Status(0xC000_00A6);
 /// The fourth argument is out of range.
 pub const INVALID_PARAMETER_4: Status = Status(0xC000_00F2);
 
-/// The message fits no wait through the port.
+/// The message fits no wait through the port, or names no connect that can be answered.
 pub const REPLY_MESSAGE_MISMATCH: Status = Status(0xC000_021F);
 
 /// The view's offset is not aligned.

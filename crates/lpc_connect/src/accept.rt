@@ -144,7 +144,7 @@ fn accept_connect(
 
 /// `NtAcceptConnectPort`: accepts the connect that a message names, or refuses it. An accepted connect has a server port
 /// then, with a handle for the caller's process; its client waits on, until the connection is completed. A refused one
-/// ends, and its client port goes.
+/// ends, and its client port goes where no row names it.
 ///
 /// Refusals, in this order: a message of wrong shape, one that is too long; INVALID_CID where no live thread has the
 /// message's process and thread; REPLY_MESSAGE_MISMATCH where the message names no connect that was received and isn't

@@ -152,7 +152,7 @@ impl Ports {
         self.ports.count()
     }
 
-    /// The birth of a port.
+    /// The birth of a port that has a row.
     pub fn birth(&self, port: Key) -> Birth
         requires { IsSome (row_at self.now.ports port) }
         ensures { option_map (λ row. row.birth) (row_at self.now.ports port) ≡ Some result }
@@ -160,7 +160,7 @@ impl Ports {
         self.row(port).birth
     }
 
-    /// The kind of a port.
+    /// The kind of a port that has a row.
     pub fn kind(&self, port: Key) -> PortKind
         requires { IsSome (row_at self.now.ports port) }
         ensures { option_map (λ row. row.kind) (row_at self.now.ports port) ≡ Some result }
@@ -168,7 +168,7 @@ impl Ports {
         self.row(port).kind
     }
 
-    /// The other end of a port's connection: None where it was never made or is cut.
+    /// The other end of the connection of a port that has a row: None where it was never made or is cut.
     pub fn pair(&self, port: Key) -> Option<Key>
         requires { IsSome (row_at self.now.ports port) }
         ensures { option_map (λ row. row.pair) (row_at self.now.ports port) ≡ Some result }
@@ -176,7 +176,7 @@ impl Ports {
         self.row(port).pair
     }
 
-    /// The connection port of a client or server port: what the port was added with.
+    /// The connection port of a client or server port that has a row: what the port was added with.
     pub fn connection(&self, port: Key) -> Option<Key>
         requires { IsSome (row_at self.now.ports port) }
         ensures { option_map (λ row. row.connection) (row_at self.now.ports port) ≡ Some result }
@@ -184,7 +184,7 @@ impl Ports {
         self.row(port).connection
     }
 
-    /// The context of a port: 0 until it is joined.
+    /// The context of a port that has a row: 0 until it is joined.
     pub fn context(&self, port: Key) -> u32
         requires { IsSome (row_at self.now.ports port) }
         ensures { option_map (λ row. row.context) (row_at self.now.ports port) ≡ Some result }
@@ -192,7 +192,7 @@ impl Ports {
         self.row(port).context
     }
 
-    /// The connect that made a client port: None until it is set.
+    /// The connect that made a client port that has a row: None until it is set.
     pub fn creator(&self, port: Key) -> Option<Creator>
         requires { IsSome (row_at self.now.ports port) }
         ensures { option_map (λ row. row.creator) (row_at self.now.ports port) ≡ Some result }
@@ -200,7 +200,7 @@ impl Ports {
         self.row(port).creator
     }
 
-    /// The connection of a port is completed: false until it is set.
+    /// The connection of a port that has a row is completed: false until it is set.
     pub fn completed(&self, port: Key) -> bool
         requires { IsSome (row_at self.now.ports port) }
         ensures { option_map (λ row. row.completed) (row_at self.now.ports port) ≡ Some result }
@@ -226,7 +226,7 @@ impl Ports {
         }
     }
 
-    /// Takes away the row of a port. Its room is spare then.
+    /// Takes away the row that a port has. Its room is spare then.
     ///
     /// No message stands in its queue.
     pub fn free(&mut self, port: Key)

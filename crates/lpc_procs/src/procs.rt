@@ -76,7 +76,8 @@ impl Procs {
         Ok(())
     }
 
-    /// Adds a process under a number that no process ever had, made by the process `maker` or by a directive.
+    /// Adds a process under a number that no process ever had, made by the process `maker` or by a directive. There is
+    /// spare room for it, and the number is from 1 to 2,147,483,647.
     pub fn add_process(&mut self, pid: u32, maker: Option<u32>, birth: Birth)
         requires room { 0 < self.old.process_room }
         requires number { IsNumber pid }
@@ -95,8 +96,8 @@ impl Procs {
         self.used_processes.push_reserved(pid);
     }
 
-    /// Adds a live thread to a process, under a number that no thread ever had. Its identifiers and ordinals start
-    /// from 1.
+    /// Adds a live thread to a process that has a row, under a number that no thread ever had. Its identifiers and
+    /// ordinals start from 1. There is spare room for it, and the number is from 1 to 2,147,483,647.
     pub fn add_thread(&mut self, tid: u32, pid: u32, birth: Birth)
         requires room { 0 < self.old.thread_room }
         requires number { IsNumber tid }
@@ -191,7 +192,8 @@ impl Procs {
         self.threads.len()
     }
 
-    /// The thread's next message identifier. The one that it draws after this is greater by one.
+    /// The thread's next message identifier. The one that it draws after this is greater by one. The thread has a row,
+    /// and has drawn fewer than 2^32 - 2 before.
     pub fn draw_identifier(&mut self, tid: u32) -> u32
         requires identifier_left { IsSomeAnd (thread_at self.old tid) (λ t. t.next_identifier < 2 ^ 32 - 1) }
         ensures identifier { option_map (λ t. t.next_identifier) (thread_at self.old tid) ≡ Some result }
@@ -209,7 +211,8 @@ impl Procs {
         row.next_identifier
     }
 
-    /// The name of the object that the thread makes. The ordinal that it draws after this is greater by one.
+    /// The name of the object that the thread makes. The ordinal that it draws after this is greater by one. The thread
+    /// has a row, and has drawn fewer than 2^32 - 2 before.
     pub fn draw_birth(&mut self, tid: u32) -> Birth
         requires ordinal_left { IsSomeAnd (thread_at self.old tid) (λ t. t.next_ordinal < 2 ^ 32 - 1) }
         ensures birth { option_map procs.next_birth (thread_at self.old tid) ≡ Some result }
@@ -227,7 +230,7 @@ impl Procs {
         lists::next_birth(row)
     }
 
-    /// The birth that the thread's next `draw_birth` gives.
+    /// The birth that the thread's next `draw_birth` gives. The thread has a row.
     pub fn next_birth(&self, tid: u32) -> Birth
         requires present { is_some (thread_at self.now tid) ≡ true }
         ensures birth { option_map procs.next_birth (thread_at self.now tid) ≡ Some result }
@@ -235,7 +238,7 @@ impl Procs {
         lists::next_birth(self.thread(tid))
     }
 
-    /// The thread is live no more.
+    /// The thread, which has a row, is live no more.
     pub fn end_thread(&mut self, tid: u32)
         requires present { is_some (thread_at self.old tid) ≡ true }
         ensures table { self.new ≡ with_thread self.old tid ended }
@@ -244,7 +247,7 @@ impl Procs {
         lists::put_thread(&mut self.threads, tid, ThreadRow { live: false, ..row });
     }
 
-    /// The process that made a process, none where a directive did.
+    /// The process that made a process that has a row, none where a directive did.
     pub fn maker(&self, pid: u32) -> Option<u32>
         requires present { is_some (process_at self.now pid) ≡ true }
         ensures maker { option_map (λ p. p.maker) (process_at self.now pid) ≡ Some result }
@@ -252,7 +255,7 @@ impl Procs {
         self.process(pid).maker
     }
 
-    /// The birth of a process or thread.
+    /// The birth of a process or thread that has a row.
     pub fn birth(&self, number: Number) -> Birth
         requires present { is_some (birth_of self.now number) ≡ true }
         ensures birth { birth_of self.now number ≡ Some result }
@@ -263,7 +266,7 @@ impl Procs {
         }
     }
 
-    /// The thread has not ended.
+    /// The thread, which has a row, has not ended.
     pub fn live(&self, tid: u32) -> bool
         requires present { is_some (thread_at self.now tid) ≡ true }
         ensures live { option_map (λ t. t.live) (thread_at self.now tid) ≡ Some result }
@@ -271,7 +274,7 @@ impl Procs {
         self.thread(tid).live
     }
 
-    /// Removes the row of a process. Its number stays used, so the room need not grow.
+    /// Removes the row that a process has. Its number stays used, so the room need not grow.
     pub fn free_process(&mut self, pid: u32)
         requires present { is_some (process_at self.old pid) ≡ true }
         ensures table { self.new ≡ record self.old { processes = without (is_process pid) self.old.processes; process_room = self.new.process_room } }
@@ -280,7 +283,7 @@ impl Procs {
         lists::remove_process(&mut self.processes, pid);
     }
 
-    /// Removes the row of a thread. Its number stays used, so the room need not grow.
+    /// Removes the row that a thread has. Its number stays used, so the room need not grow.
     pub fn free_thread(&mut self, tid: u32)
         requires present { is_some (thread_at self.old tid) ≡ true }
         ensures table { self.new ≡ record self.old { threads = without (is_thread tid) self.old.threads; thread_room = self.new.thread_room } }

@@ -7,9 +7,10 @@ ghost use Rattle.lpc_replay.specs.Laws.{MisfitsRefused, RefusalsIdle, RefusalsSt
 /// Completion by a fitting reply, in every script.
 ///
 /// A request that wakes with success wakes in the step of a reply call whose message fits its wait through the port
-/// that the call's handle names, and it shows that message. Every other reply call is refused, by a status or because
-/// its thread can't call; a refused reply call changes nothing, and the script without its line tells the same
-/// otherwise.
+/// that the call's handle names, and it shows that message. A reply call whose message fits no wait through that port,
+/// or whose handle names no port, is refused, by a status or because its thread can't call. A reply call that is refused
+/// for whatever cause changes nothing; without its line the others tell the same, in a script of at most 1,000,000 lines
+/// with no faulty line before it, line numbers aside.
 pub fn law_completion()
     ensures returns { (script : List ℕ) → RequestsReturn script }
     ensures refused { (script : List ℕ) → MisfitsRefused script }

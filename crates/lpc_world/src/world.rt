@@ -1,5 +1,9 @@
 // The tables together: reading calls find what the definitions find, a changing call is one basic step or a part of one
-// and takes no memory, and a reserving call makes room and changes nothing else.
+// and takes no memory, and a reserving call makes room and changes nothing else. Directives, and the binding of a name
+// where there is no spare room, take memory.
+//
+// Each call that adds a row or draws a number asks for the spare room, and that fewer than 16 rows and numbers were made
+// for each call so far.
 ghost use Rattle.std.specs.Prelude.{◌≡◌, ◌+◌, ◌*◌, ◌<◌, ◌≤◌, ◌↔◌, [], None, Some, true, false, IfSome, IfNone, IfOk, IsErr, OnOk, OnErr, is_some, length, option_map};
 ghost use Rattle.lpc_base.specs.Rows.{change, first, has, without};
 ghost use Rattle.lpc_model.specs.World.{no_rows};
@@ -143,7 +147,7 @@ impl World {
         self.procs.draw_birth(tid)
     }
 
-    /// Adds a process, without threads and handles. Its number was never used.
+    /// Adds a process, without threads and handles. Its number is from 1 to 2,147,483,647 and was never used.
     pub fn procs_add_process(&mut self, pid: u32, maker: Option<u32>, birth: Birth)
         requires room { 0 < self.old.room.processes }
         requires budget { self.old.made < 16 * self.old.calls }
@@ -163,7 +167,8 @@ impl World {
         });
     }
 
-    /// Adds a live thread to a process that stands; it has drawn nothing yet. Its number was never used.
+    /// Adds a live thread to a process that stands; it has drawn nothing yet. Its number is from 1 to 2,147,483,647 and
+    /// was never used.
     pub fn procs_add_thread(&mut self, tid: u32, pid: u32, birth: Birth)
         requires room { 0 < self.old.room.threads }
         requires wait_room { 0 < self.old.room.waits }

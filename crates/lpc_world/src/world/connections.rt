@@ -42,7 +42,7 @@ impl World {
         self.ports.set_completed(port, completed);
     }
 
-    /// A waiting thread's connect, which isn't accepted yet, is accepted with the data of an answer. With None, and where
+    /// A waiting thread's connect, which was received and isn't accepted yet, is accepted with the data of an answer. With None, and where
     /// the thread waits for something else, nothing changes.
     pub fn waits_set_accepted(&mut self, tid: u32, accepted: Option<Accepted>)
         requires waits { has (waits_as tid) self.old.rows.waits ≡ true }

@@ -27,8 +27,8 @@ impl World {
 
     /// Gives a port that stands a name, where a path leads.
     ///
-    /// `Name`: the path's fault, and nothing changes. `OutOfMemory`: there was no room for a name, and memory ran out;
-    /// nothing but the room may change.
+    /// `Name`: the path's fault. `OutOfMemory`: there was no room for a name, and memory ran out. In both cases nothing but
+    /// the room may change.
     pub fn names_bind(&mut self, path: &[u8], port: Key) -> Result<(), BindFault>
         requires stands { stands self.old.names.ports port ≡ true }
         ensures bound { OnOk result (with_name self.old.rows path.now (Stands (Item (name_of self.old.names.ports port))) ≡ Ok self.new.rows) }

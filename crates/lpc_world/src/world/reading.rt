@@ -110,7 +110,7 @@ impl World {
         self.procs.processes() + self.procs.threads() + self.ports.count()
     }
 
-    /// How many entries one step makes at most: three for each live thread, and one.
+    /// The room for entries that one step asks for: three for each live thread, and one. It is more than a step takes.
     pub fn room_needed(&self) -> usize
         ensures { result ≡ room_needed self.now.rows }
     {
