@@ -41,7 +41,7 @@ service-sound w by (reply_wait_receive_port handle bytes) c s = receive-sound w 
 ready-sound : (w : World) (by : ThreadRow) (call : ScriptCall) (o : Option WaitRow) → (o ≡ None → CanCall w by) → IsSoundWorld w → LeaveSound w (ready_steps by call o w)
 ready-sound w by call (Some x) c s = s
 ready-sound w by call None c s =
-    settled_holds (LeaveSound w) by (name_of_call call) (service_of w by call) (service-sound w by call (c refl) s) (λ _. s)
+    settled_holds (LeaveSound w) by (name_of_call call) (service_of w by call) (service-sound w by call (c refl) s) (λ _ _. s)
 
 thread-sound : (w : World) (tid : ℕ) (call : ScriptCall) (o : Option ThreadRow) → live_thread w tid ≡ o → IsSoundWorld w → LeaveSound w (thread_steps tid call o w)
 thread-sound w tid call None live s = s

@@ -1,4 +1,5 @@
 pub mod Holding
+pub mod Failing
 pub mod Returning
 pub mod Refusing
 pub mod Removing

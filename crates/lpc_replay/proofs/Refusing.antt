@@ -29,47 +29,9 @@ use Rattle.lpc_model.specs.Machine.{name_of_call, ready_steps, service_of, settl
 use Rattle.lpc_model.specs.Run.{Along}
 use Rattle.lpc_model.specs.Replies.{ChangesNothing, IsRefused, MisfitsAreRefused, RefusedRepliesChangeNothing, Reply, fitted_wait, is_refusal, message_in, port_of, reply_of}
 use Rattle.lpc_model.proofs.Holding.{Holds, bind_holds, holds_ok, settled_holds}
+use Rattle.lpc_replay.proofs.Failing.{Ends, Fails, bind_ends, found_fails, message_fails, port_fails, refuse_fails}
 use Rattle.lpc_replay.proofs.Holding.{and_first}
 use Rattle.lpc_replay.proofs.Returning.{answered_holds, message_holds, optional_holds, port_holds}
-
--- a property of what wasn't refused, and a refusal's status is no success
-abbrev pub Ends : {A : Type 0} → (A → Type 0) → Result A Status → Type 0
-Ends P (Ok x) = P x
-Ends P (Err s) = not (s.0 == 0) ≡ true
-
-abbrev pub Fails : {A : Type 0} → Result A Status → Type 0
-Fails r = Ends (λ _. Unit {0}) r
-
-bind_ends : {A B : Type 0} (r : Result A Status) (f : A → Result B Status) (P : B → Type 0) → Fails r → ((x : A) → r ≡ Ok x → Ends P (f x)) → Ends P (r >>= f)
-bind_ends (Ok x) f P e h = h x refl
-bind_ends (Err s) f P e h = e
-
-found_fails : {A : Type 0} (o : Option A) (s : Status) → not (s.0 == 0) ≡ true → Fails (found_or o s)
-found_fails None s e = e
-found_fails (Some x) s e = tt
-
-refuse_fails : (b : Bool) (s : Status) → not (s.0 == 0) ≡ true → Fails (refuse_if b s)
-refuse_fails true s e = e
-refuse_fails false s e = tt
-
-object_fails : (w : World) (by : ThreadRow) (handle : ℕ) → Fails (object_test w by kind.Port PORT_RIGHT handle)
-object_fails w by handle =
-    let P : Birth → Type 0 = λ _. Unit {0} in
-    bind_ends (own_handle w by handle) _ P (found_fails (handle_at w by.process handle) INVALID_HANDLE refl) (λ h _.
-    bind_ends (refuse_if (not (same_kind h.object.kind kind.Port)) OBJECT_TYPE_MISMATCH) _ P (refuse_fails _ OBJECT_TYPE_MISMATCH refl) (λ _ _.
-    bind_ends (refuse_if (not (includes h.access PORT_RIGHT)) ACCESS_DENIED) _ P (refuse_fails _ ACCESS_DENIED refl) (λ _ _. tt)))
-
-port_fails : (w : World) (by : ThreadRow) (handle : ℕ) → Fails (port_test w by handle)
-port_fails w by handle =
-    bind_ends (object_test w by kind.Port PORT_RIGHT handle) _ (λ (port : PortRow). Unit {0}) (object_fails w by handle) (λ birth _.
-    found_fails (port_row w birth) INVALID_HANDLE refl)
-
-message_fails : (bytes : List ℕ) → Fails (message_test bytes)
-unfolding message_test
-message_fails bytes =
-    let P : Message → Type 0 = λ _. Unit {0} in
-    bind_ends (refuse_if (is_some (fault_of bytes)) INVALID_PARAMETER) _ P (refuse_fails _ INVALID_PARAMETER refl) (λ _ _.
-    bind_ends (refuse_if (nat_lt MESSAGE_LIMIT (header_of bytes).message_size) PORT_MESSAGE_TOO_LONG) _ P (refuse_fails _ PORT_MESSAGE_TOO_LONG refl) (λ _ _. tt))
 
 optional_fails : (bytes : List ℕ) → Fails (optional_message (Some bytes))
 optional_fails bytes = bind_ends (message_test bytes) _ (λ (o : Option Message). Unit {0}) (message_fails bytes) (λ _ _. tt)
@@ -245,7 +207,7 @@ ready_stays : (w : World) (r : Reply) (receives : Bool) (by : ThreadRow) (o : Op
 ready_stays w r receives by (Some x) = λ _. (Busy by.number, refl)
 ready_stays w r receives by None =
     let c = replying receives r in
-    settled_holds (StaysWhereRefused r.by) by (name_of_call c) (service_of w by c) (service_stays w r receives by) (λ s _. (Answer by.number (name_of_call c) s [], refl))
+    settled_holds (StaysWhereRefused r.by) by (name_of_call c) (service_of w by c) (service_stays w r receives by) (λ s _ _. (Answer by.number (name_of_call c) s [], refl))
 
 thread_stays : (w : World) (r : Reply) (receives : Bool) (o : Option ThreadRow) → StaysWhereRefused r.by (thread_steps r.by (replying receives r) o w)
 thread_stays w r receives None = λ _. (NoThread r.by, refl)

@@ -1,6 +1,6 @@
 -- Each request that wakes with success is returned by a reply that fits it.
 use Rattle.std.proofs.Common.{◌≡◌, ℕ, Bool, true, false, cond, List, [], ◌∷◌, ◌++◌, refl, sym, subst}
-use Rattle.std.specs.Prelude.{Option, Some, None, Ok, is_some, nat_lt, not, option_and_then, ◌==◌, ◌||◌, ◌&&◌}
+use Rattle.std.specs.Prelude.{Option, Some, None, Ok, Err, is_some, nat_lt, not, option_and_then, ◌==◌, ◌||◌, ◌&&◌}
 use Rattle.std.specs.List.{AllByRecursion}
 use Rattle.lpc_base.specs.Rows.{first, given, when}
 use Rattle.lpc_base.specs.declared.birth.Birth.{Birth}
@@ -34,6 +34,7 @@ use Rattle.lpc_model.specs.Run.{Along}
 use Rattle.lpc_model.specs.Replies.{HasReply, IsReturnedBy, Reply, RequestsReturnByReply, message_in, port_of, reply_of}
 use Rattle.lpc_model.proofs.Holding.{Holds, bind_holds, directed_holds, found_holds, found_ok, holds_ok, not_refused, settled_holds}
 use Rattle.lpc_model.proofs.Births.{birth-same}
+use Rattle.lpc_replay.proofs.Failing.{fails_with, request_fails}
 use Rattle.lpc_replay.proofs.Holding.{all_append, all_filter, all_map, and_first, find_all, not_false}
 
 -- the call in which a wait of a kind is
@@ -376,11 +377,23 @@ service_fair w tid by (request_wait_reply_port handle bytes) live h = request_fa
 service_fair w tid by (reply_port handle bytes) live h = reply_fair w tid by handle bytes live
 service_fair w tid by (reply_wait_receive_port handle bytes) live h = wait_fair w tid by handle bytes live
 
+-- a call that is refused
+refused_fair : (w : World) (line : ScriptLine) (by : ThreadRow) (name : ScriptCall) (s : Status) → service_of w by name ≡ Err s → IsFair w line (Tells (entry.Answer by.number (name_of_call name) s []))
+refused_fair w line by (create_port text) s is = tt
+refused_fair w line by (connect_port text bytes) s is = tt
+refused_fair w line by (listen_port handle) s is = tt
+refused_fair w line by (accept_connect_port context bytes accept) s is = tt
+refused_fair w line by (complete_connect_port handle) s is = tt
+refused_fair w line by (request_port handle bytes) s is = tt
+refused_fair w line by (request_wait_reply_port handle bytes) s is = fails_with (nt_request_wait_reply_port w by handle bytes) s (request_fails w by handle bytes) is
+refused_fair w line by (reply_port handle bytes) s is = tt
+refused_fair w line by (reply_wait_receive_port handle bytes) s is = tt
+
 -- the lines
 ready_fair : (w : World) (tid : ℕ) (by : ThreadRow) (name : ScriptCall) (o : Option WaitRow) → live_thread w tid ≡ Some by → HaveTheirCalls w → AreFair w (run tid name) (ready_steps by name o w)
 ready_fair w tid by name (Some x) live h = (tt, tt)
 ready_fair w tid by name None live h =
-    settled_holds (AreFair w (run tid name)) by (name_of_call name) (service_of w by name) (service_fair w tid by name live h) (λ s. (tt, tt))
+    settled_holds (AreFair w (run tid name)) by (name_of_call name) (service_of w by name) (service_fair w tid by name live h) (λ s is. (refused_fair w (run tid name) by name s is, tt))
 
 thread_fair : (w : World) (tid : ℕ) (name : ScriptCall) (o : Option ThreadRow) → live_thread w tid ≡ o → HaveTheirCalls w → AreFair w (run tid name) (thread_steps tid name o w)
 thread_fair w tid name None live h = (tt, tt)

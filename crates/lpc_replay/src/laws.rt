@@ -6,8 +6,8 @@ ghost use Rattle.lpc_replay.specs.Laws.{MisfitsRefused, RefusalsIdle, RefusalsSt
 
 /// Completion by a fitting reply, in every script.
 ///
-/// A request that wakes with success wakes in the step of a reply call whose message fits its wait through the port
-/// that the call's handle names, and it shows that message. A reply call whose message fits no wait through that port,
+/// A request that returns with success does so by a wake, in the step of a reply call whose message fits its wait through
+/// the port that the call's handle names, and it shows that message. A reply call whose message fits no wait through that port,
 /// or whose handle names no port, is refused, by a status or because its thread can't call. A reply call that is refused
 /// for whatever cause changes nothing; without its line the others tell the same, in a script of at most 1,000,000 lines
 /// with no faulty line before it, line numbers aside.

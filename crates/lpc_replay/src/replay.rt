@@ -149,7 +149,7 @@ pub fn run_words<S: Source, K: Sink>(
     ensures unfailing { is_replay (map (λ w. string_bytes w) words.now) ≡ true → Still (S.faults source.old) (S.faults source.new) → Still (K.faults sink.old) (K.faults sink.new) → is_one_of (0 ∷ 2 ∷ 5 ∷ []) result ≡ true }
     ensures complete { is_replay (map (λ w. string_bytes w) words.now) ≡ true → Still (S.faults source.old) (S.faults source.new) → Still (K.faults sink.old) (K.faults sink.new) → EndsAsFormed (S.left source.old) result }
 
-    // In the script read a waiting request wakes with success only by a reply that fits it. A reply that fits no wait is
+    // In the script read a request returns with success only by a reply that fits it. A reply that fits no wait is
     // refused, a refused reply changes nothing, and without its line the others tell the same.
     ensures returns { result ≡ 0 → IfSome (S.left source.old) RequestsReturn }
     ensures refused { result ≡ 0 → IfSome (S.left source.old) MisfitsRefused }
