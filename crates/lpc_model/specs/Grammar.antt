@@ -1,8 +1,8 @@
--- What a line says, or its first fault. A call or directive is an entry of its table of names and a case of its words.
+-- What a line says, or its first fault. A call or directive stands in its list, and has a case for its words.
 use Rattle.std.specs.Prelude.{ℕ, ◌&&◌, nat_lt, nat_le, not, Bool, true, false, List, [], ◌∷◌, length, find, codes, Option, Some, None, Result, Ok, Err, if◌then◌else◌}
 use Rattle.std.specs.Char.{is_ascii_digit}
 use Rattle.std.specs.List.{list_all}
-use Rattle.std.specs.Option.{option_map, ok_or}
+use Rattle.std.specs.Option.{ok_or}
 use Rattle.std.specs.Str.{bytes_eq}
 use Rattle.lpc_base.specs.declared.limits.TheConstants.{LINE_LIMIT}
 use Rattle.lpc_model.specs.declared.entry.CallName.{CallName}
@@ -13,29 +13,34 @@ use Rattle.lpc_model.specs.declared.fault.LineFault.{LineFault}
 use Rattle.lpc_model.specs.declared.fault.LineFault.TheVariants as fault
 use Rattle.lpc_model.specs.Lines.{ScriptCall, create_port, connect_port, listen_port, accept_connect_port, complete_connect_port, request_port, request_wait_reply_port, reply_port, reply_wait_receive_port, ScriptLine, boot, thread, dir, link, run}
 use Rattle.lpc_model.specs.Words.{fault_if, words, begins, number_word, id_word, is_id, message_word, info_word}
+use Rattle.lpc_model.specs.Text.{call_text, word_text}
 use Rattle.lpc_model.specs.Then.{◌>>=◌}
 
--- what stands beside a name in a table
-unfoldable pub named : {A : Type 0} → List (List ℕ × A) → List ℕ → Option A
-named table word = option_map (λ entry. entry.1) (find (λ entry. bytes_eq word entry.0) table)
-
--- the calls by their names
-abbrev pub call_names : List (List ℕ × CallName)
-call_names =
-    (codes "NtCreatePort", NtCreatePort)
-    ∷ (codes "NtConnectPort", NtConnectPort)
-    ∷ (codes "NtListenPort", NtListenPort)
-    ∷ (codes "NtAcceptConnectPort", NtAcceptConnectPort)
-    ∷ (codes "NtCompleteConnectPort", NtCompleteConnectPort)
-    ∷ (codes "NtRequestPort", NtRequestPort)
-    ∷ (codes "NtRequestWaitReplyPort", NtRequestWaitReplyPort)
-    ∷ (codes "NtReplyPort", NtReplyPort)
-    ∷ (codes "NtReplyWaitReceivePort", NtReplyWaitReceivePort)
+-- the calls that a line may name
+abbrev pub calls : List CallName
+calls =
+    NtCreatePort
+    ∷ NtConnectPort
+    ∷ NtListenPort
+    ∷ NtAcceptConnectPort
+    ∷ NtCompleteConnectPort
+    ∷ NtRequestPort
+    ∷ NtRequestWaitReplyPort
+    ∷ NtReplyPort
+    ∷ NtReplyWaitReceivePort
     ∷ []
 
--- the directives by their words
-abbrev pub directive_names : List (List ℕ × Word)
-directive_names = (codes "boot", Boot) ∷ (codes "thread", Thread) ∷ (codes "dir", Dir) ∷ (codes "link", Link) ∷ []
+-- the call whose name a word is
+unfoldable pub call_named : List ℕ → Option CallName
+call_named word = find (λ call. bytes_eq word (call_text call)) calls
+
+-- the directives that a line may name
+abbrev pub directives : List Word
+directives = Boot ∷ Thread ∷ Dir ∷ Link ∷ []
+
+-- the directive whose name a word is
+unfoldable pub directive_named : List ℕ → Option Word
+directive_named word = find (λ directive. bytes_eq word (word_text directive)) directives
 
 -- the one word that may stand in a place
 abbrev pub fixed_word : List ℕ → List ℕ → Result Unit LineFault
@@ -164,23 +169,23 @@ directive_words Link others = do
   Ok (link two.0 two.1)
 
 -- the call of a thread: its name, and the words behind it
-abbrev pub named_call : List (List ℕ) → Result ScriptCall LineFault
-named_call [] = Err fault.Count
-named_call (word ∷ others) = do
-  name ← ok_or (named call_names word) fault.Call
+abbrev pub thread_call : List (List ℕ) → Result ScriptCall LineFault
+thread_call [] = Err fault.Count
+thread_call (word ∷ others) = do
+  name ← ok_or (call_named word) fault.Call
   call_words name others
 
 -- the number of a thread, and its call
 unfoldable pub call_line : List ℕ → List (List ℕ) → Result ScriptLine LineFault
 call_line front others = do
   tid ← id_word front
-  call ← named_call others
+  call ← thread_call others
   Ok (run tid call)
 
 -- a directive's word, and the words behind it
 unfoldable pub directive_line : List ℕ → List (List ℕ) → Result ScriptLine LineFault
 directive_line front others = do
-  word ← ok_or (named directive_names front) fault.Word
+  word ← ok_or (directive_named front) fault.Word
   directive_words word others
 
 -- a first word that begins with a digit is the number of a thread

@@ -3,6 +3,7 @@ ghost use Rattle.std.specs.Prelude.{◌≡◌, ◌+◌, ◌<◌, ◌≤◌, ◌+
 ghost use Rattle.std.specs.Option.{option_map, option_copied};
 ghost use Rattle.lpc_base.specs.declared.status.TheConstants.{SUCCESS};
 ghost use Rattle.lpc_model.specs.Listed.{shown_entry, has_read};
+ghost use Rattle.lpc_model.specs.Text.{call_text, word_text};
 
 use arrayvec::ArrayVec;
 use lpc_base::{OutOfMemory, Status, status};
@@ -23,6 +24,38 @@ pub enum CallName {
     NtReplyWaitReceivePort,
 }
 
+impl CallName {
+    /// Each call, in the order in which the grammar lists them.
+    pub const ALL: [CallName; 9] = [
+        CallName::NtCreatePort,
+        CallName::NtConnectPort,
+        CallName::NtListenPort,
+        CallName::NtAcceptConnectPort,
+        CallName::NtCompleteConnectPort,
+        CallName::NtRequestPort,
+        CallName::NtRequestWaitReplyPort,
+        CallName::NtReplyPort,
+        CallName::NtReplyWaitReceivePort,
+    ];
+
+    /// The name of the call, as scripts and transcripts spell it.
+    pub fn name(self) -> &'static [u8]
+        ensures { result.now ≡ call_text self }
+    {
+        match self {
+            CallName::NtCreatePort => b"NtCreatePort",
+            CallName::NtConnectPort => b"NtConnectPort",
+            CallName::NtListenPort => b"NtListenPort",
+            CallName::NtAcceptConnectPort => b"NtAcceptConnectPort",
+            CallName::NtCompleteConnectPort => b"NtCompleteConnectPort",
+            CallName::NtRequestPort => b"NtRequestPort",
+            CallName::NtRequestWaitReplyPort => b"NtRequestWaitReplyPort",
+            CallName::NtReplyPort => b"NtReplyPort",
+            CallName::NtReplyWaitReceivePort => b"NtReplyWaitReceivePort",
+        }
+    }
+}
+
 /// The directives.
 #[derive(Clone, Copy, Debug, PartialEq, Eq)]
 pub enum Word {
@@ -30,6 +63,23 @@ pub enum Word {
     Thread,
     Dir,
     Link,
+}
+
+impl Word {
+    /// Each directive, in the order in which the grammar lists them.
+    pub const ALL: [Word; 4] = [Word::Boot, Word::Thread, Word::Dir, Word::Link];
+
+    /// The word of the directive, as scripts and transcripts spell it.
+    pub fn name(self) -> &'static [u8]
+        ensures { result.now ≡ word_text self }
+    {
+        match self {
+            Word::Boot => b"boot",
+            Word::Thread => b"thread",
+            Word::Dir => b"dir",
+            Word::Link => b"link",
+        }
+    }
 }
 
 /// The kinds of object.

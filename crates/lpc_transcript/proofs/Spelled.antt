@@ -1,9 +1,10 @@
 -- The words of an entry's line.
 use Rattle.std.proofs.Common.{◌≡◌, refl, sym, ap, ◌∙◌, ℕ, ◌^◌, true, false, List, [], ◌∷◌, ◌++◌, append_assoc, append-nil}
-use Rattle.std.specs.Prelude.{codes, decimal, if◌then◌else◌}
+use Rattle.std.specs.Prelude.{codes, decimal, Some, if◌then◌else◌}
 use Rattle.std.specs.Str.{bytes_eq}
 use Rattle.std.proofs.lemmas.Fmt.{decimal_injective}
 use Rattle.hex.specs.Hex.{encode_lower}
+use Rattle.lpc_model.specs.Grammar.{call_named, directive_named}
 use Rattle.lpc_model.specs.Text.{eight_digits, call_text, word_text, name_text, value_text, fields_text, by_text, rest_text}
 use Rattle.lpc_model.specs.TextLaws.{Sort, in_decimal, in_hexadecimal, as_bytes, is_of_sort}
 use Rattle.lpc_model.specs.declared.entry.CallName.{CallName}
@@ -72,31 +73,23 @@ rest_joined (Directive word status) = ap (λ text. codes " - " ++ word_text word
 
 -- ---- names can be read back
 
-read_call : List ℕ → CallName
-read_call text =
-    if bytes_eq text (codes "NtCreatePort") then NtCreatePort
-    else (if bytes_eq text (codes "NtConnectPort") then NtConnectPort
-    else (if bytes_eq text (codes "NtListenPort") then NtListenPort
-    else (if bytes_eq text (codes "NtAcceptConnectPort") then NtAcceptConnectPort
-    else (if bytes_eq text (codes "NtCompleteConnectPort") then NtCompleteConnectPort
-    else (if bytes_eq text (codes "NtRequestPort") then NtRequestPort
-    else (if bytes_eq text (codes "NtReplyPort") then NtReplyPort
-    else (if bytes_eq text (codes "NtReplyWaitReceivePort") then NtReplyWaitReceivePort else NtRequestWaitReplyPort)))))))
-
-read_call-text : (call : CallName) → read_call (call_text call) ≡ call
-unfolding read_call
-read_call-text NtCreatePort = refl
-read_call-text NtConnectPort = refl
-read_call-text NtListenPort = refl
-read_call-text NtAcceptConnectPort = refl
-read_call-text NtCompleteConnectPort = refl
-read_call-text NtRequestPort = refl
-read_call-text NtRequestWaitReplyPort = refl
-read_call-text NtReplyPort = refl
-read_call-text NtReplyWaitReceivePort = refl
+-- a call is found by its name
+call_named-text : (call : CallName) → call_named (call_text call) ≡ Some call
+unfolding call_named
+call_named-text NtCreatePort = refl
+call_named-text NtConnectPort = refl
+call_named-text NtListenPort = refl
+call_named-text NtAcceptConnectPort = refl
+call_named-text NtCompleteConnectPort = refl
+call_named-text NtRequestPort = refl
+call_named-text NtRequestWaitReplyPort = refl
+call_named-text NtReplyPort = refl
+call_named-text NtReplyWaitReceivePort = refl
 
 pub call_unique : (a b : CallName) → call_text a ≡ call_text b → a ≡ b
-call_unique a b e = sym (read_call-text a) ∙ ap read_call e ∙ read_call-text b
+call_unique a b e =
+    let found : Some a ≡ Some b = sym (call_named-text a) ∙ ap call_named e ∙ call_named-text b in
+    cc
 
 pub call_plain : (call : CallName) → is_plain (call_text call) ≡ true
 call_plain NtCreatePort = refl
@@ -109,21 +102,18 @@ call_plain NtRequestWaitReplyPort = refl
 call_plain NtReplyPort = refl
 call_plain NtReplyWaitReceivePort = refl
 
-read_word : List ℕ → Word
-read_word text =
-    if bytes_eq text (codes "boot") then word.Boot
-    else (if bytes_eq text (codes "thread") then word.Thread
-    else (if bytes_eq text (codes "dir") then word.Dir else word.Link))
-
-read_word-text : (w : Word) → read_word (word_text w) ≡ w
-unfolding read_word
-read_word-text word.Boot = refl
-read_word-text word.Thread = refl
-read_word-text word.Dir = refl
-read_word-text word.Link = refl
+-- a directive is found by its name
+directive_named-text : (w : Word) → directive_named (word_text w) ≡ Some w
+unfolding directive_named
+directive_named-text word.Boot = refl
+directive_named-text word.Thread = refl
+directive_named-text word.Dir = refl
+directive_named-text word.Link = refl
 
 pub word_name_unique : (a b : Word) → word_text a ≡ word_text b → a ≡ b
-word_name_unique a b e = sym (read_word-text a) ∙ ap read_word e ∙ read_word-text b
+word_name_unique a b e =
+    let found : Some a ≡ Some b = sym (directive_named-text a) ∙ ap directive_named e ∙ directive_named-text b in
+    cc
 
 pub word_plain : (w : Word) → is_plain (word_text w) ≡ true
 word_plain word.Boot = refl

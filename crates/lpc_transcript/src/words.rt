@@ -1,7 +1,7 @@
 // The words of a transcript's line, each put behind the text so far.
 ghost use Rattle.std.specs.Prelude.{◌≡◌, ◌≤◌, ◌++◌, length, codes, decimal, OnOk, OnErr};
 ghost use Rattle.hex.specs.Hex.{encode_lower};
-ghost use Rattle.lpc_model.specs.Text.{eight_digits, call_text, word_text, kind_text, name_text, by_text, status_text};
+ghost use Rattle.lpc_model.specs.Text.{eight_digits, word_text, kind_text, name_text, by_text, status_text};
 ghost use Rattle.lpc_transcript.specs.Printing.{BeginsWith};
 
 use lpc_base::{OutOfMemory, Status};
@@ -65,33 +65,6 @@ pub(crate) fn put_read(alloc: Global, into: &mut Vec<u8>, bytes: &[u8]) -> Resul
     put(into, digits.as_bytes())
 }
 
-fn call_name(call: CallName) -> &'static [u8]
-    ensures { result.now ≡ call_text call }
-{
-    match call {
-        CallName::NtCreatePort => b"NtCreatePort",
-        CallName::NtConnectPort => b"NtConnectPort",
-        CallName::NtListenPort => b"NtListenPort",
-        CallName::NtAcceptConnectPort => b"NtAcceptConnectPort",
-        CallName::NtCompleteConnectPort => b"NtCompleteConnectPort",
-        CallName::NtRequestPort => b"NtRequestPort",
-        CallName::NtRequestWaitReplyPort => b"NtRequestWaitReplyPort",
-        CallName::NtReplyPort => b"NtReplyPort",
-        CallName::NtReplyWaitReceivePort => b"NtReplyWaitReceivePort",
-    }
-}
-
-fn directive_name(word: Word) -> &'static [u8]
-    ensures { result.now ≡ word_text word }
-{
-    match word {
-        Word::Boot => b"boot",
-        Word::Thread => b"thread",
-        Word::Dir => b"dir",
-        Word::Link => b"link",
-    }
-}
-
 pub(crate) fn kind_name(kind: ObjectKind) -> &'static [u8]
     ensures { result.now ≡ kind_text kind }
 {
@@ -126,7 +99,7 @@ pub(crate) fn put_by(into: &mut Vec<u8>, tid: u32, call: CallName) -> Result<(),
 {
     put_number(into, u64::from(tid))?;
     put(into, b" ")?;
-    put(into, call_name(call))
+    put(into, call.name())
 }
 
 #[tactic(auto, using(std::proofs::Common::append_assoc, crate::proofs::Begins::begins_before))]
@@ -184,6 +157,6 @@ pub(crate) fn put_directive(
     ensures err { OnErr result (BeginsWith into.new.items into.old.items) }
 {
     put(into, b"- ")?;
-    put(into, directive_name(word))?;
+    put(into, word.name())?;
     put_status(into, status)
 }
