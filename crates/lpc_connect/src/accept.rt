@@ -184,7 +184,7 @@ pub fn nt_accept_connect_port(
         refuse_connect(world, &caller, answer.thread, &answer.message, out);
         return Ok(Outcome::Answered(SUCCESS));
     }
-    world.ports_reserve(1, 0)?;
+    world.ports_reserve(1)?;
     world.handles_reserve(caller.process, 1)?;
     world.begin_call();
     accept_connect(world, &caller, context, answer.thread, &answer.message, out);

@@ -185,7 +185,7 @@ pub fn nt_connect_port(
             return Ok(refuse(caller.number, CallName::NtConnectPort, status, out));
         }
     };
-    world.ports_reserve(1, 0)?;
+    world.ports_reserve(1)?;
     world.handles_reserve(caller.process, 1)?;
     world.begin_call();
     let message = connection_request(&caller, info);

@@ -139,7 +139,7 @@ pub fn nt_create_port(
         world.begin_call();
         return Ok(refuse(caller.number, CallName::NtCreatePort, status, out));
     }
-    world.ports_reserve(1, 0)?;
+    world.ports_reserve(1)?;
     world.handles_reserve(caller.process, 1)?;
     world.names_reserve(usize::from(name.is_some()))?;
     world.begin_call();

@@ -3,7 +3,7 @@ use Rattle.std.specs.Prelude.{◌≡◌, ◌==◌, ◌&&◌, ◌||◌, ℕ, Bool
 use Rattle.std.specs.Option.{option_map_or}
 use Rattle.lpc_base.specs.declared.birth.Birth.{Birth}
 use Rattle.lpc_base.specs.Rows.{change, first, passes}
-use Rattle.lpc_message.specs.declared.kind.TheConstants.{CONNECTION_REQUEST, DATAGRAM}
+use Rattle.lpc_message.specs.declared.kind.TheConstants.{CONNECTION_REQUEST, DATAGRAM, REQUEST}
 use Rattle.lpc_message.specs.Layout.{half_at}
 use Rattle.lpc_slots.specs.Table.{at_key, is_key}
 use Rattle.lpc_slots.specs.declared.Key.{Key}
@@ -137,3 +137,7 @@ is_message_at port row = is_key row.1.message.sender port || is_in port row
 -- a message was sent on this port, and is a datagram
 abbrev pub is_datagram_of : Key → Key × QueuedMessage → Bool
 is_datagram_of sender row = is_key row.1.message.sender sender && (half_at row.1.message.bytes.items 4 == DATAGRAM)
+
+-- a message asks for an answer: it is a request or a connection request
+abbrev pub is_asking : Key × QueuedMessage → Bool
+is_asking row = (half_at row.1.message.bytes.items 4 == REQUEST) || (half_at row.1.message.bytes.items 4 == CONNECTION_REQUEST)

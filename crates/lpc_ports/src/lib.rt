@@ -4,7 +4,7 @@
 ghost use Rattle.std.specs.Prelude.{◌≡◌, ◌||◌, ◌+◌, ◌<◌, ◌-◌, ◌≤◌, ◌^◌, ◌++◌, ◌∷◌, [], length, OnOk, OnErr, Some, None, IsSome, option_copied, option_map, if◌then◌else◌};
 ghost use Rattle.lpc_base.specs.Rows.{count, first, has, without, without_first};
 ghost use Rattle.lpc_slots.specs.Table.{at_key};
-ghost use Rattle.lpc_ports.specs.Table.{row_at, new_port, queued, joined, paired, parted, own_queue, route, first_in, first_connect_in, has_none_in, is_in, is_connect_in, is_datagram_of, is_joined_to, is_message_at, is_the, with_row, with_completed, with_creator, unpaired, pair_of, if_open};
+ghost use Rattle.lpc_ports.specs.Table.{row_at, new_port, queued, joined, paired, parted, own_queue, route, first_in, first_connect_in, has_none_in, is_asking, is_in, is_connect_in, is_datagram_of, is_joined_to, is_message_at, is_the, with_row, with_completed, with_creator, unpaired, pair_of, if_open};
 
 mod messages;
 #[cfg(test)]
@@ -282,6 +282,20 @@ impl Ports {
             }
         }
         sent
+    }
+
+    /// How many of the messages that stand in queues ask for an answer: requests and connection requests.
+    pub fn asking(&self) -> usize
+        ensures { result ≡ count is_asking self.now.messages }
+    {
+        let mut asking = 0;
+        for place in 0..self.messages.count() {
+            let (_, row) = self.messages.row(place);
+            if row.message.asks() {
+                asking += 1;
+            }
+        }
+        asking
     }
 
     /// A row names this port: a port has it as its other end or its connection port, or a message was sent on it or

@@ -5,7 +5,7 @@ ghost use Rattle.lpc_message.specs.Layout.{half_at};
 ghost use Rattle.lpc_slots.specs.Table.{is_key};
 
 use arrayvec::ArrayVec;
-use lpc_message::kind::{CONNECTION_REQUEST, DATAGRAM};
+use lpc_message::kind::{CONNECTION_REQUEST, DATAGRAM, REQUEST};
 use lpc_slots::Key;
 
 // Where a message has its type: the low byte, and the high one behind it.
@@ -35,6 +35,13 @@ impl Message {
         ensures { result ≡ (half_at self.now.bytes.items 4 == CONNECTION_REQUEST) }
     {
         self.kind() == CONNECTION_REQUEST
+    }
+
+    /// It asks for an answer: its type is that of a request or a connection request.
+    pub(crate) fn asks(&self) -> bool
+        ensures { result ≡ (half_at self.now.bytes.items 4 == REQUEST) || (half_at self.now.bytes.items 4 == CONNECTION_REQUEST) }
+    {
+        self.kind() == REQUEST || self.is_connect()
     }
 
     // Its type. What isn't there of the two bytes counts as 0.

@@ -1,8 +1,11 @@
 // The ports, call by call, with ample memory.
+ghost use Rattle.std.specs.Prelude.{◌<◌};
+
 use crate::{Creator, PortKind, Ports};
 use lpc_base::Birth;
 use lpc_message::ClientId;
-use lpc_message::kind::{CONNECTION_REQUEST, DATAGRAM, REQUEST};
+use lpc_message::kind::{CONNECTION_REQUEST, DATAGRAM, REPLY, REQUEST};
+use std::process::Abort;
 use std::test::Fail;
 
 fn birth(ordinal: u32) -> Birth {
@@ -116,6 +119,28 @@ fn datagrams_are_counted_by_their_senders(rt: HostRuntime) -> Result<(), Fail> {
     assert_eq!(rt; ports.sent_datagrams(one), 1);
     assert_eq!(rt; ports.sent_datagrams(two), 2);
     Ok(())
+}
+
+// Four messages of as many types enter a queue, where none stood before: two of them ask.
+fn sends_four_types(rt: &impl Abort, ports: &mut Ports) -> Result<(), Fail>
+    requires ports { ports.old.ports_made < 1000 }
+    requires messages { ports.old.messages_made < 1000 }
+{
+    assert_eq!(rt; ports.asking(), 0);
+    ports.reserve(1, 4)?;
+    let port = ports.add(PortKind::Connection, birth(1), None);
+    ports.send(port, port, 0, &header(REQUEST));
+    ports.send(port, port, 0, &header(DATAGRAM));
+    ports.send(port, port, 0, &header(CONNECTION_REQUEST));
+    ports.send(port, port, 0, &header(REPLY));
+    assert_eq!(rt; ports.asking(), 2);
+    Ok(())
+}
+
+#[test]
+fn requests_and_connection_requests_ask(rt: HostRuntime) -> Result<(), Fail> {
+    let mut ports = Ports::new(rt.alloc());
+    sends_four_types(&rt, &mut ports)
 }
 
 #[test]

@@ -1,14 +1,12 @@
 -- Each reply that fits no wait is refused, and a refused reply changes nothing.
 use Rattle.std.proofs.Common.{◌≡◌, ℕ, Bool, true, false, List, [], ◌∷◌, length, refl, ap, subst}
-use Rattle.std.specs.Prelude.{Option, Some, None, Result, Ok, Err, is_some, nat_lt, not, ◌==◌, ◌&&◌, option_and_then}
+use Rattle.std.specs.Prelude.{Option, Some, None, Result, Ok, Err, not, ◌==◌, ◌&&◌, option_and_then}
 use Rattle.std.proofs.lemmas.Bool.{eq-eqb}
 use Rattle.lpc_base.specs.Rows.{first}
 use Rattle.lpc_base.specs.declared.birth.Birth.{Birth}
-use Rattle.lpc_base.specs.declared.limits.TheConstants.{MESSAGE_LIMIT}
 use Rattle.lpc_base.specs.declared.status.Status.{Status}
-use Rattle.lpc_base.specs.declared.status.TheConstants.{ACCESS_DENIED, INVALID_CID, INVALID_HANDLE, INVALID_PARAMETER, OBJECT_TYPE_MISMATCH, PORT_DISCONNECTED, PORT_MESSAGE_TOO_LONG, REPLY_MESSAGE_MISMATCH, SUCCESS}
+use Rattle.lpc_base.specs.declared.status.TheConstants.{INVALID_CID, PORT_DISCONNECTED, REPLY_MESSAGE_MISMATCH, SUCCESS}
 use Rattle.lpc_base.proofs.RowWords.{first-passes}
-use Rattle.lpc_message.specs.Layout.{fault_of, header_of}
 use Rattle.lpc_model.specs.declared.entry.CallName.{CallName}
 use Rattle.lpc_model.specs.declared.entry.CallName.TheVariants.{NtReplyPort, NtReplyWaitReceivePort}
 use Rattle.lpc_model.specs.declared.entry.Entry.{Entry}
@@ -16,13 +14,12 @@ use Rattle.lpc_model.specs.declared.entry.Entry.TheVariants.{Answer, Busy, NoThr
 use Rattle.lpc_model.specs.declared.entry.ObjectKind.TheVariants as kind
 use Rattle.lpc_model.specs.declared.message.Message.{Message}
 use Rattle.lpc_model.specs.Refusal.{found_or, refuse_if}
-use Rattle.lpc_model.specs.Then.{◌>>=◌}
 use Rattle.lpc_model.specs.World.{MessageRow, PortRow, ThreadRow, WaitRow, World}
-use Rattle.lpc_model.specs.Found.{fitted, handle_at, is_live_thread, is_queued, live_thread, port_row, queue_of, same_kind, wait_of}
+use Rattle.lpc_model.specs.Found.{fitted, handle_at, is_live_thread, is_queued, live_thread, queue_of, wait_of}
 use Rattle.lpc_model.specs.Message.{message_test}
 use Rattle.lpc_model.specs.Basics.{Basic, Tells, entries_of, world_after}
 use Rattle.lpc_model.specs.Fields.{receipt}
-use Rattle.lpc_model.specs.Tests.{PORT_RIGHT, client_test, includes, is_client, object_test, own_handle, port_test}
+use Rattle.lpc_model.specs.Tests.{client_test, is_client, port_test}
 use Rattle.lpc_model.specs.Request.{answered_test, given_reply, is_spent, nt_reply_port, nt_reply_wait_receive_port, optional_message, receive_steps, receive_test, reply_steps}
 use Rattle.lpc_model.specs.Lines.{ScriptCall, ScriptLine, accept_connect_port, boot, complete_connect_port, connect_port, create_port, dir, link, listen_port, reply_port, reply_wait_receive_port, request_port, request_wait_reply_port, run, thread}
 use Rattle.lpc_model.specs.Machine.{name_of_call, ready_steps, service_of, settled, step, steps, thread_steps}

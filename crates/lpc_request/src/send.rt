@@ -148,7 +148,7 @@ pub fn nt_request_port(
             return Ok(refuse(caller.number, CallName::NtRequestPort, status, out));
         }
     };
-    world.ports_reserve(0, 1)?;
+    world.messages_reserve(1)?;
     world.begin_call();
     send_datagram(world, &caller, sent.port, sent.queue, &sent.message, out);
     Ok(Outcome::Answered(SUCCESS))

@@ -152,6 +152,13 @@ impl Waits {
         });
     }
 
+    /// How many waits there are.
+    pub fn count(&self) -> usize
+        ensures { result ≡ length self.now.rows }
+    {
+        self.rows.len()
+    }
+
     /// The wait of a thread: None exactly where it has none.
     pub fn of(&self, tid: u32) -> Option<&Wait>
         ensures value { option_copied result ≡ option_map (λ row. row.wait) (row_of self.now tid) }

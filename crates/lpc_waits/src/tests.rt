@@ -42,6 +42,7 @@ fn waits_begin_change_and_end(rt: HostRuntime) -> Result<(), Fail> {
         })
     );
     assert_eq!(rt; waits.of(7), None);
+    assert_eq!(rt; waits.count(), 3);
     waits.set_queue(5, key(3));
     assert_eq!(rt; waits.first_on(key(2), false), Some(6));
     assert_eq!(rt; waits.end(6), Some(wait(WaitKind::Receive, 0)));

@@ -7,7 +7,7 @@ use Rattle.lpc_base.specs.declared.birth.Birth.{Birth}
 use Rattle.lpc_base.specs.Rows.{change, every, first, has}
 use Rattle.lpc_base.proofs.Differ.{differ-change, differ-push, rest-none}
 use Rattle.lpc_base.proofs.RowMaps.{every-first}
-use Rattle.lpc_base.proofs.RowWords.{every-change, every-more, every-push, first-passes, has-change, has-kept, has-push, has_none-push}
+use Rattle.lpc_base.proofs.RowWords.{every-change, every-more, every-push, first-passes, has-kept, has-push}
 use Rattle.lpc_model.specs.Basics.{past_identifier, past_ordinal}
 use Rattle.lpc_model.specs.Found.{is_live_thread, is_port, is_thread}
 use Rattle.lpc_model.specs.Tests.{next_birth}

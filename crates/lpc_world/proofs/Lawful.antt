@@ -11,7 +11,7 @@ use Rattle.std.proofs.lemmas.Map.Keys.{IsDistinct-cons}
 use Rattle.std.proofs.lemmas.Map.Made.{length-le_from_is_member}
 use Rattle.lpc_base.specs.declared.birth.Birth.{Birth}
 use Rattle.lpc_base.specs.Rows.{change, count, every, first, has, without, without_first}
-use Rattle.lpc_base.proofs.RowWords.{change-none, count-bound, count-push, count-without, every-change, every-more, every-push, every-without, has-change, has-kept, has-push, has_none-change, has_none-more, has_none-push, has_none-without, length-change}
+use Rattle.lpc_base.proofs.RowWords.{change-none, count-bound, count-push, count-without, every-change, every-more, every-push, every-without, has-change, has-kept, has-push, has_none-change, has_none-push, length-change}
 use Rattle.lpc_base.proofs.Differ.{differ-change, differ-push, differ-without, length-ended, rest-none}
 use Rattle.lpc_base.proofs.RowMaps.{every-first}
 use Rattle.lpc_model.specs.World.{World, HandleRow, HandleTable, MessageRow, PortRow, ProcessRow, ThreadRow, UsedThread, WaitRow}
@@ -19,7 +19,7 @@ use Rattle.lpc_model.specs.Found.{is_process, is_queued, is_queued_connect, is_t
 use Rattle.lpc_model.specs.Entering.{takes}
 use Rattle.lpc_model.specs.Basics.{no_handles, past_identifier, past_ordinal, received, with_handle}
 use Rattle.lpc_world.specs.Kept.{is_asking, is_pending, pends_as}
-use Rattle.lpc_world.specs.Lawful.{IsLawful, are_single, are_single_tables, draws_at_most, is_housed, is_of, is_quiet, is_used}
+use Rattle.lpc_world.specs.Lawful.{IsLawful, are_single, draws_at_most, is_housed, is_of, is_quiet, is_used}
 
 turned : (a b : ℕ) → (a == b) ≡ (b == a)
 turned a b = grind (arith, nat_tests)

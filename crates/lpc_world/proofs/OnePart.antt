@@ -1,8 +1,7 @@
 -- The part of a process: where it stands, and what a change of it leaves.
-use Rattle.std.proofs.Common.{◌≡◌, ◌+◌, ◌-◌, ℕ, zero, suc, true, false, cond, refl, sym, ap, ◌∙◌, arith, List, [], ◌∷◌, get_or, set, slice_get, Some, None}
+use Rattle.std.proofs.Common.{◌≡◌, ◌+◌, ◌-◌, ℕ, true, false, refl, ap, ◌∙◌, arith, List, [], ◌∷◌, get_or, set, Some, None}
 use Rattle.std.specs.Prelude.{is_some, ◌==◌, Result, Ok, Err, IfOk, OnOk}
 use Rattle.std.specs.List.{position}
-use Rattle.std.proofs.lemmas.Bool.{eqb-true}
 use Rattle.std.proofs.lemmas.Bool.Decides.{nat_tests}
 use Rattle.lpc_base.specs.Rows.{change, first, has}
 use Rattle.lpc_base.proofs.Differ.{IsRowAt, row-at, set-change}

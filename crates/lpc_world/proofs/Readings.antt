@@ -29,7 +29,7 @@ use Rattle.lpc_waits.specs.declared.WaitKind.{WaitKind}
 use Rattle.lpc_waits.specs.declared.WaitKind.TheVariants as wait
 use Rattle.lpc_waits.specs.declared.WaitRow.{WaitRow}
 use Rattle.lpc_world.specs.Names.{name_of, names_of, some_stands, stands}
-use Rattle.lpc_world.specs.Kept.{Kept, kept, rows_by}
+use Rattle.lpc_world.specs.Kept.{Kept, is_asking, kept, rows_by}
 use Rattle.lpc_world.specs.Parts.{has_name_of, is_part, is_the_port, names_it, rows_at, rows_in}
 use Rattle.lpc_world.specs.Ready.{HasRow, IsStanding, IsWait, port_in, port_of, wait_in, waiter}
 use Rattle.lpc_world.specs.Shown.{Tables, AreNamed, Births, all_pass, birth_of, births_of, message_refs, name_by, object_stands, part_refs, port_refs, ports_in, shown_handle, shown_kind, shown_message, shown_part, shown_port, shown_wait, wait_refs}
@@ -181,6 +181,10 @@ module _ (it : Tables) (is : AreNamed (births_of it.ports) it) where
 
   pub datagrams_are : (key : Key) → stands n.ports key ≡ true → found.datagrams rows (name_of n.ports key) ≡ count (ports.is_datagram_of key) it.ports.messages
   datagrams_are key stand = count-map (shown_message f) (all_pass message_refs (object_stands n)) (ports.is_datagram_of key) (found.is_datagram_of (name_of n.ports key)) (datagram_same key stand) it.ports.messages is.refs.in_messages
+
+  -- the messages that ask
+  pub asking_are : count is_asking rows.messages ≡ count ports.is_asking it.ports.messages
+  asking_are = count-shown (shown_message f) ports.is_asking is_asking (λ row. refl) it.ports.messages
 
   -- Waits
   pub wait_is : (tid : ℕ) (row : WaitRow) → row_of it.waits tid ≡ Some row → waiter rows tid ≡ shown_wait f row

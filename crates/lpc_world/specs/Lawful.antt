@@ -1,9 +1,9 @@
 -- What the world keeps of its rows, its numbers and its room.
-use Rattle.std.specs.Prelude.{◌≡◌, ℕ, ◌+◌, ◌*◌, ◌==◌, ◌&&◌, ◌||◌, ◌≤◌, nat_le, nat_lt, Bool, true, not, List, [], ◌∷◌, length}
+use Rattle.std.specs.Prelude.{◌≡◌, ℕ, ◌+◌, ◌*◌, ◌==◌, ◌&&◌, ◌||◌, ◌≤◌, nat_le, nat_lt, Bool, true, not, List, length}
 use Rattle.lpc_base.specs.declared.birth.Birth.{Birth}
 use Rattle.lpc_base.specs.Rows.{count, differ_by, every, has}
 use Rattle.lpc_model.specs.World.{World, HandleTable, MessageRow, PortRow, ThreadRow, UsedThread, WaitRow}
-use Rattle.lpc_model.specs.Found.{is_accepted, is_connect, is_listen, is_process, is_queued, is_queued_connect, is_receive, is_table, is_thread, waits_as}
+use Rattle.lpc_model.specs.Found.{is_accepted, is_connect, is_listen, is_process, is_queued, is_queued_connect, is_receive, is_table, is_thread}
 use Rattle.lpc_model.specs.Tests.{is_connect_of}
 use Rattle.lpc_ports.specs.Table.{PortTable}
 use Rattle.lpc_ports.specs.declared.messages.QueuedMessage.{QueuedMessage}

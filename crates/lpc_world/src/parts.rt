@@ -72,6 +72,7 @@ pub fn reserve_handles(parts: &mut Vec<Part>, pid: u32, more: usize) -> Result<(
     requires one { are_single_parts parts.old.items ≡ true }
     requires part { has (is_part pid) parts.old.items ≡ true }
     ensures room { OnOk result (more ≤ spare_at parts.new.items pid) }
+    ensures wanting { OnErr result (spare_at parts.old.items pid < more) }
     ensures parts { parts.new.items ≡ change (is_part pid) (roomed (spare_at parts.new.items pid)) parts.old.items }
     ensures spare { spare_at parts.old.items pid ≤ spare_at parts.new.items pid }
     ensures len { vec_len parts.new ≡ vec_len parts.old }

@@ -106,7 +106,7 @@ fn makes_a_port(rt: &impl Abort, world: &mut World) -> Result<Key, Fail>
 {
     let by = world.caller(24);
     assert_eq!(rt; by.process, 20);
-    world.ports_reserve(1, 0)?;
+    world.ports_reserve(1)?;
     world.begin_call();
     let birth = world.procs_draw_birth(by.number);
     let first = Birth {
@@ -199,7 +199,7 @@ fn sends_a_datagram(
     };
     let message = kept(&given);
     assert!(rt; !wants_answer(&message));
-    world.ports_reserve(0, 1)?;
+    world.messages_reserve(1)?;
     world.begin_call();
     world.deliver(port, port, 7, &message, out);
     assert_eq!(rt; out.list().len(), 0);
@@ -287,7 +287,7 @@ fn makes_a_bare_port(
     ensures others { KeepsNames world.old.names.ports world.new.names.ports }
 {
     let by = world.caller(24);
-    world.ports_reserve(1, 0)?;
+    world.ports_reserve(1)?;
     world.begin_call();
     let birth = world.procs_draw_birth(by.number);
     Ok(world.ports_add(kind, birth, connection))

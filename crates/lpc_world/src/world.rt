@@ -351,41 +351,49 @@ impl World {
         Ok(())
     }
 
-    /// Makes room for so many further ports, and for so many messages beyond the one that each thread may ask with.
-    pub fn ports_reserve(&mut self, ports: usize, messages: usize) -> Result<(), OutOfMemory>
+    /// Makes room for so many further ports.
+    pub fn ports_reserve(&mut self, more: usize) -> Result<(), OutOfMemory>
         ensures same { Same self.old self.new }
         ensures room { Roomy self.old.room self.new.room }
-        ensures ports { OnOk result (ports ≤ self.new.room.ports) }
-        ensures messages { OnOk result (messages ≤ self.new.room.messages) }
+        ensures ports { OnOk result (more ≤ self.new.room.ports) }
+        ensures wanting { OnErr result (self.old.room.ports < more) }
     {
-        let Some(places) = self.procs.threads().checked_add(messages) else {
-            return Err(OutOfMemory);
-        };
-        self.ports.reserve(ports, places)
+        self.ports.reserve(more, 0)
+    }
+
+    /// Makes room for so many messages beyond the one that each thread may ask with.
+    pub fn messages_reserve(&mut self, more: u32) -> Result<(), OutOfMemory>
+        ensures same { Same self.old self.new }
+        ensures room { Roomy self.old.room self.new.room }
+        ensures messages { OnOk result (more ≤ self.new.room.messages) }
+        ensures wanting { OnErr result (self.old.room.messages < more) }
+    {
+        let wanted = self.procs.threads() + more as usize;
+        self.ports
+            .reserve(0, wanted.saturating_sub(self.ports.asking()))
     }
 
     /// Makes room for so many waits beyond the one that each thread may have.
-    pub fn waits_reserve(&mut self, more: usize) -> Result<(), OutOfMemory>
+    pub fn waits_reserve(&mut self, more: u32) -> Result<(), OutOfMemory>
         ensures same { Same self.old self.new }
         ensures room { Roomy self.old.room self.new.room }
         ensures waits { OnOk result (more ≤ self.new.room.waits) }
+        ensures wanting { OnErr result (self.old.room.waits < more) }
     {
-        let Some(places) = self.procs.threads().checked_add(more) else {
-            return Err(OutOfMemory);
-        };
-        self.waits.reserve(places)
+        let wanted = self.procs.threads() + more as usize;
+        self.waits
+            .reserve(wanted.saturating_sub(self.waits.count()))
     }
 
     /// Makes room for so many further handles of a process, beside those that its waiting connects are to get.
-    pub fn handles_reserve(&mut self, pid: u32, more: usize) -> Result<(), OutOfMemory>
+    pub fn handles_reserve(&mut self, pid: u32, more: u32) -> Result<(), OutOfMemory>
         requires { has (is_table pid) self.old.rows.handles ≡ true }
         ensures same { Same self.old self.new }
         ensures room { Roomy self.old.room self.new.room }
         ensures handles { OnOk result (promised self.new.rows pid + more ≤ handle_room self.new.room pid) }
+        ensures wanting { OnErr result (handle_room self.old.room pid < promised self.old.rows pid + more) }
     {
-        let Some(places) = self.waits.connects_of(pid).checked_add(more) else {
-            return Err(OutOfMemory);
-        };
+        let places = self.waits.connects_of(pid) + more as usize;
         parts::reserve_handles(&mut self.parts, pid, places)
     }
 }

@@ -139,6 +139,6 @@ impl World {
         ensures messages { OnOk result (1 ≤ self.new.room.messages) }
     {
         self.waits_reserve(1)?;
-        self.ports_reserve(0, 1)
+        self.messages_reserve(1)
     }
 }

@@ -13,6 +13,11 @@ returns-clause-room c =
     let roomed = roomed_part c.args.parts.now.items c.args.pid c.place_of-index.result c.index_mut.result.now c.reserve.new.self c.requires.one at c.reserve.ensures.rows in
     rw roomed.spare_is c.reserve.ensures.room
 
+pub returns-clause-wanting : goal.returns-clause-wanting
+returns-clause-wanting c =
+    let at = part_is c.args.parts.now.items c.args.pid c.place_of-index.result c.index_mut.result.now (rw c.deref.ensures.value at c.place_of-index.ensures) c.index_mut.ensures.value in
+    rw at.is_first c.reserve.ensures.wanting
+
 pub returns-clause-spare : goal.returns-clause-spare
 returns-clause-spare c =
     let at = part_is c.args.parts.now.items c.args.pid c.place_of-index.result c.index_mut.result.now (rw c.deref.ensures.value at c.place_of-index.ensures) c.index_mut.ensures.value in

@@ -1,4 +1,4 @@
-use Rattle.std.proofs.Common.{◌≡◌, ◌+◌, refl, ap, sym, ◌∙◌, arith}
+use Rattle.std.proofs.Common.{refl, sym, ◌∙◌, arith}
 use Rattle.lpc_world.specs.Shown.{tables_of}
 use Rattle.lpc_world.proofs.Tables as tables
 use Rattle.lpc_world.proofs.world.World.handles_reserve.Goals as goal
@@ -31,8 +31,18 @@ returns-clause-room c =
       for_handles = λ pid. rw (tables.room_at c.self.inside.parts.items pid, tables.room_at c.reserve_handles.new.parts.items pid) (more pid);
     })
 
+pub overflow_add-places : goal.overflow_add-places
+overflow_add-places c =
+    let own = tables.promised_are (tables_of c.self.inside.procs c.self.inside.parts.items c.self.inside.ports c.self.inside.waits c.self.inside.names) c.self.inside.calls c.self.inside.made c.self.invariant c.args.pid in
+    let bound = tables.load_bound (tables_of c.self.inside.procs c.self.inside.parts.items c.self.inside.ports c.self.inside.waits c.self.inside.names) c.self.inside.calls c.self.inside.made c.self.invariant c.args.pid (rw (← c.self.view_is) at c.requires) in
+    omega (arith, own, bound, c.connects_of.ensures)
+
 pub returns-clause-handles : goal.returns-clause-handles
 returns-clause-handles c =
     let own = tables.promised_are (tables_of c.self.inside.procs c.self.inside.parts.items c.self.inside.ports c.self.inside.waits c.self.inside.names) c.self.inside.calls c.self.inside.made c.self.invariant c.args.pid in
-    let sum : c.connects_of.result + c.args.more ≡ c.in-Some.places = sym c.in-Some.ensures.1 in
-    rw (tables.room_at c.reserve_handles.new.parts.items c.args.pid, own, ap (λ n. n + c.args.more) (sym c.connects_of.ensures) ∙ sum) c.reserve_handles.ensures.room
+    rw (tables.room_at c.reserve_handles.new.parts.items c.args.pid, own, ← c.connects_of.ensures) c.reserve_handles.ensures.room
+
+pub returns-clause-wanting : goal.returns-clause-wanting
+returns-clause-wanting c =
+    let own = tables.promised_are (tables_of c.self.inside.procs c.self.inside.parts.items c.self.inside.ports c.self.inside.waits c.self.inside.names) c.self.inside.calls c.self.inside.made c.self.invariant c.args.pid in
+    rw (← c.self.view_is, tables.room_at c.self.inside.parts.items c.args.pid, own, ← c.connects_of.ensures) c.reserve_handles.ensures.wanting
