@@ -24,6 +24,10 @@ pub all_filter : {A : Type 0} (P : A → Type 0) (p : A → Bool) (xs : List A) 
 all_filter P p [] h = tt
 all_filter P p (x ∷ xs) h = kept_all P (p x) x (filter p xs) h.0 (all_filter P p xs h.1)
 
+pub all_more : {A : Type 0} (P Q : A → Type 0) → ((x : A) → P x → Q x) → (xs : List A) → AllByRecursion P xs → AllByRecursion Q xs
+all_more P Q more [] h = tt
+all_more P Q more (x ∷ xs) h = (more x h.0, all_more P Q more xs h.1)
+
 pub all_map : {A : Type 0} (P : A → Type 0) (f : A → A) (xs : List A) → ((x : A) → P x → P (f x)) → AllByRecursion P xs → AllByRecursion P (map f xs)
 all_map P f [] k h = tt
 all_map P f (x ∷ xs) k h = (k x h.0, all_map P f xs k h.1)

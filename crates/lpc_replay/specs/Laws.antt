@@ -4,6 +4,7 @@ use Rattle.lpc_model.specs.World.{no_rows}
 use Rattle.lpc_model.specs.Script.{script_lines}
 use Rattle.lpc_model.specs.Run.{Along, said_in}
 use Rattle.lpc_model.specs.Replies.{MisfitsAreRefused, RefusedRepliesAreIdle, RefusedRepliesChangeNothing, RequestsReturnByReply}
+use Rattle.lpc_replay.specs.Connects.{ConnectsReturnByAnswer}
 
 -- the lines of a script before its first faulty one: each request returns only by a reply that fits it
 unfoldable pub RequestsReturn : List ℕ → Type 0
@@ -20,3 +21,7 @@ RefusalsStay script = Along RefusedRepliesChangeNothing no_rows (said_in script)
 -- without the line of a refused reply, the other lines tell the same
 unfoldable pub RefusalsIdle : List ℕ → Type 0
 RefusalsIdle script = RefusedRepliesAreIdle (script_lines script)
+
+-- each connect returns only by its answer
+unfoldable pub ConnectsReturn : List ℕ → Type 0
+ConnectsReturn script = Along ConnectsReturnByAnswer no_rows (said_in script)

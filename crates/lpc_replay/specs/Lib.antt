@@ -1,3 +1,4 @@
+pub mod Connects
 pub mod Laws
 pub mod Sending
 pub mod Reading

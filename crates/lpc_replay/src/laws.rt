@@ -2,7 +2,7 @@
 ghost use Rattle.std.specs.Prelude.{ℕ, List};
 ghost use Rattle.lpc_model.specs.Worked.{WorkedTranscripts};
 ghost use Rattle.lpc_model.specs.WorkedConnections.{WorkedConnections};
-ghost use Rattle.lpc_replay.specs.Laws.{MisfitsRefused, RefusalsIdle, RefusalsStay, RequestsReturn};
+ghost use Rattle.lpc_replay.specs.Laws.{ConnectsReturn, MisfitsRefused, RefusalsIdle, RefusalsStay, RequestsReturn};
 
 /// Completion by a fitting reply, in every script.
 ///
@@ -16,6 +16,15 @@ pub fn law_completion()
     ensures refused { (script : List ℕ) → MisfitsRefused script }
     ensures unchanged { (script : List ℕ) → RefusalsStay script }
     ensures idle { (script : List ℕ) → RefusalsIdle script }
+{}
+
+/// A connect returns only by its answer, in every script.
+///
+/// A connect that wakes does so in the step of the call that completes its connection, with success, or in the step of the
+/// call that refuses it and whose message names it, with PORT_CONNECTION_REFUSED. It is told what that call gives it. Its
+/// own call never answers success.
+pub fn law_connects()
+    ensures { (script : List ℕ) → ConnectsReturn script }
 {}
 
 /// The definitions compute transcripts that were worked by hand, from the bytes of a script to the bytes sent for it.
