@@ -183,7 +183,7 @@ impl Machine {
         &self.world
     }
 
-    /// The room for entries that one step asks for: three for each live thread, and one. It is more than a step takes.
+    /// The room for entries that one step asks for: three for each live thread, and one. No step takes more.
     pub fn room_needed(&self) -> usize
         ensures { result ≡ room_needed self.now.rows }
     {
