@@ -21,4 +21,4 @@ pub use laws::{law_new_handle_is_least, law_profile};
 pub use memory::{HonestSource, MemSink, MemSource};
 pub use port_kind::PortKind;
 pub use status::Status;
-pub use streams::{Sink, Source};
+pub use streams::{Asked, Sink, Source};

@@ -1,8 +1,9 @@
 // Sources and sinks in memory.
-ghost use Rattle.std.specs.Prelude.{◌≡◌, ◌-◌, ◌+◌, ◌<◌, ◌≤◌, [], length, drop, take, Some, IfOk, IsOk, IsErr, OnErr, Contains, ◌↔◌, ◌⊎◌, ◌++◌, min};
-ghost use Rattle.lpc_base.specs.Streams.{Told, Gives, HasCause, taken};
-ghost use Rattle.lpc_base.specs.Memory.{raised, sure_of};
+ghost use Rattle.std.specs.Prelude.{◌≡◌, ◌+◌, ◌<◌, ◌≤◌, length, drop, take, Some, IfOk, IsOk, IsErr, OnErr, Contains, ◌↔◌, ◌++◌, min};
+ghost use Rattle.lpc_base.specs.Streams.{Asks, Gives, HasCause, asked_for, raised, taken, unasked};
+ghost use Rattle.lpc_base.specs.Memory.{FailsNext, part_of, piece_of, store, supply, sure_of};
 
+use crate::streams::Asked;
 use crate::{Failed, OutOfMemory, Sink, Source};
 use std::alloc::Global;
 use std::marker::Model;
@@ -41,9 +42,11 @@ impl Source for HonestSource {
     fn read(&mut self, into: &mut [u8]) -> Result<usize, Failed>
         requires { 0 < length into.old }
         ensures bound { IfOk result (λ n. n ≤ length into.new) }
-        ensures bytes { IfOk result (λ n. Told (Some self.old) (Some self.new) (Gives n into.new)) }
+        ensures bytes { IfOk result (λ n. Gives n into.new self.old self.new) }
+        ensures rest { drop (taken result) into.new ≡ drop (taken result) into.old }
         ensures failed { OnErr result (self.new ≡ self.old) }
         ensures cause { HasCause 0 0 result }
+        ensures asked { Asks unasked unasked (length into.old) (taken result) }
         ensures honest { IsOk result }
         ensures count { IfOk result (λ n. n ≡ min (length into.new) (length self.old)) }
     {
@@ -54,7 +57,8 @@ impl Source for HonestSource {
     }
 }
 
-/// A source that gives at most `piece` bytes a call, and fails the calls whose numbers, from 1, stand in `fails`.
+/// A source that gives at most `piece` bytes a call, and fails the calls whose numbers, from 1, stand in `fails`. It
+/// keeps how it was asked.
 #[derive(Drop)]
 pub struct MemSource {
     bytes: Vec<u8>,
@@ -63,6 +67,7 @@ pub struct MemSource {
     fails: Vec<u64>,
     calls: u64,
     faults: u64,
+    asked: Asked,
 }
 
 impl Model for MemSource {
@@ -71,7 +76,14 @@ impl Model for MemSource {
 
     ghost Value = { Supply };
 
-    ghost view = { λ s. record { left = drop s.at s.bytes.items; piece = s.piece; fails = s.fails.items; calls = s.calls; faults = s.faults } };
+    ghost view = { λ s. record {
+      left = drop s.at s.bytes.items;
+      piece = s.piece;
+      fails = s.fails.items;
+      calls = s.calls;
+      faults = s.faults;
+      asked = s.asked;
+    } };
 
     ghost invariant = { λ s. (s.at ≤ vec_len s.bytes) × (0 < s.piece) };
 }
@@ -80,7 +92,7 @@ impl MemSource {
     /// A source of these bytes. `piece` is at least 1.
     pub fn new(bytes: Vec<u8>, piece: usize, fails: Vec<u64>) -> MemSource
         requires { 0 < piece }
-        ensures { result ≡ record { left = bytes.items; piece = piece; fails = fails.items; calls = 0; faults = 0 } }
+        ensures { result ≡ supply bytes.items piece fails.items }
     {
         MemSource {
             bytes,
@@ -89,7 +101,15 @@ impl MemSource {
             fails,
             calls: 0,
             faults: 0,
+            asked: Asked::unasked(),
         }
+    }
+
+    /// How it was asked so far.
+    pub fn asked(&self) -> Asked
+        ensures { result ≡ self.now.asked }
+    {
+        self.asked
     }
 }
 
@@ -98,26 +118,33 @@ impl Source for MemSource {
 
     ghost faults = { λ s. s.faults };
 
+    ghost asked = { λ s. s.asked };
+
     fn read(&mut self, into: &mut [u8]) -> Result<usize, Failed>
         requires { 0 < length into.old }
         ensures bound { IfOk result (λ n. n ≤ length into.new) }
-        ensures bytes { IfOk result (λ n. Told (Some self.old.left) (Some self.new.left) (Gives n into.new)) }
+        ensures bytes { IfOk result (λ n. Gives n into.new self.old.left self.new.left) }
+        ensures rest { drop (taken result) into.new ≡ drop (taken result) into.old }
         ensures failed { OnErr result (self.new.left ≡ self.old.left) }
         ensures cause { HasCause self.old.faults self.new.faults result }
         ensures still { IfOk result (λ _. self.new.faults ≡ self.old.faults) }
+        ensures asked { self.new.asked ≡ asked_for self.old.asked (length into.old) (taken result) }
         ensures calls { self.new.calls ≡ raised self.old.calls }
         ensures fails { IsErr result ↔ Contains self.old.fails (raised self.old.calls) }
-        ensures count { IfOk result (λ n. n ≡ min (min (length into.new) (length self.old.left)) self.old.piece) }
+        ensures once { OnErr result (self.new.faults ≡ raised self.old.faults) }
+        ensures count { IfOk result (λ n. n ≡ piece_of self.old (length into.new)) }
         ensures same { (self.new.piece ≡ self.old.piece) × (self.new.fails ≡ self.old.fails) }
     {
         self.calls = self.calls.saturating_add(1);
         if self.fails.contains(&self.calls) {
             self.faults = self.faults.saturating_add(1);
+            self.asked = self.asked.asked_for(into.len(), 0);
             return Err(Failed);
         }
         let count = into.len().min(self.bytes.len() - self.at).min(self.piece);
         into[..count].copy_from_slice(&self.bytes[self.at..self.at + count]);
         self.at += count;
+        self.asked = self.asked.asked_for(into.len(), count);
         Ok(count)
     }
 }
@@ -140,9 +167,17 @@ impl Model for MemSink {
 
     ghost Value = { Store };
 
-    ghost view = { λ s. record { sent = s.bytes.items; room = s.room - vec_len s.bytes; piece = s.piece; fails = s.fails.items; calls = s.calls; faults = s.faults } };
+    ghost view = { λ s. record {
+      sent = s.bytes.items;
+      room = s.room - vec_len s.bytes;
+      piece = s.piece;
+      fails = s.fails.items;
+      calls = s.calls;
+      faults = s.faults;
+    } };
 
-    ghost invariant = { λ s. (vec_len s.bytes ≤ s.room) × (s.room ≤ vec_capacity s.bytes) × (0 < s.piece) };
+    ghost invariant = { λ s.
+        (vec_len s.bytes ≤ s.room) × (s.room ≤ vec_capacity s.bytes) × (0 < s.piece) };
 }
 
 impl MemSink {
@@ -154,7 +189,7 @@ impl MemSink {
         fails: Vec<u64>,
     ) -> Result<MemSink, OutOfMemory>
         requires { 0 < piece }
-        ensures { IfOk result (λ s. s ≡ record { sent = []; room = room; piece = piece; fails = fails.items; calls = 0; faults = 0 }) }
+        ensures { IfOk result (λ s. s ≡ store room piece fails.items) }
     {
         let Ok(bytes) = Vec::with_capacity(alloc, room) else {
             return Err(OutOfMemory);
@@ -188,15 +223,16 @@ impl Sink for MemSink {
         requires { 0 < length from.now }
         ensures some { IfOk result (λ n. 1 ≤ n) }
         ensures bound { IfOk result (λ n. n ≤ length from.now) }
-        ensures bytes { IfOk result (λ n. Told (Some self.old.sent) (Some self.new.sent) (λ old new. new ≡ old ++ take n from.now)) }
+        ensures bytes { IfOk result (λ n. self.new.sent ≡ self.old.sent ++ take n from.now) }
         ensures failed { OnErr result (self.new.sent ≡ self.old.sent) }
         ensures cause { HasCause self.old.faults self.new.faults result }
         ensures still { IfOk result (λ _. self.new.faults ≡ self.old.faults) }
-        ensures sure { length from.now ≤ sure_of self.old → IsOk result × (self.new.faults ≡ self.old.faults) }
+        ensures sure { length from.now ≤ sure_of self.old → IsOk result }
         ensures spends { sure_of self.old ≤ sure_of self.new + taken result }
         ensures calls { self.new.calls ≡ raised self.old.calls }
-        ensures fails { IsErr result ↔ ((self.old.room ≡ 0) ⊎ Contains self.old.fails (raised self.old.calls)) }
-        ensures count { IfOk result (λ n. n ≡ min (min (length from.now) self.old.room) self.old.piece) }
+        ensures fails { IsErr result ↔ FailsNext self.old }
+        ensures once { OnErr result (self.new.faults ≡ raised self.old.faults) }
+        ensures count { IfOk result (λ n. n ≡ part_of self.old (length from.now)) }
         ensures room { self.new.room + taken result ≡ self.old.room }
         ensures same { (self.new.piece ≡ self.old.piece) × (self.new.fails ≡ self.old.fails) }
     {
