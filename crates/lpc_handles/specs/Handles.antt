@@ -1,5 +1,5 @@
 -- What contracts see of the handles of one process.
-use Rattle.std.specs.Prelude.{ℕ, ◌+◌, ◌%◌, ◌≤◌, ◌≡◌, ◌==◌, ◌&&◌, Bool, true, not, nat_lt, List, [], ◌∷◌, ◌++◌, map, Option, is_some, option_map, refl}
+use Rattle.std.specs.Prelude.{ℕ, ◌+◌, ◌%◌, ◌≤◌, ◌≡◌, ◌==◌, ◌&&◌, Bool, true, not, nat_lt, List, [], ◌∷◌, ◌++◌, insert, map, Option, None, is_some, option_map, refl}
 use Rattle.std.specs.Coded.{Coded, code_by, coded×, coded_ℕ, coded_list}
 use Rattle.lpc_base.specs.Rows.{first, which}
 use Rattle.lpc_handles.specs.declared.table.Row.{Row}
@@ -17,6 +17,10 @@ handles_code {O} code =
     code_by (List (ℕ × Row O) × ℕ) (coded× (coded_list (coded× coded_ℕ (row_code code))) coded_ℕ) (λ h. (h.rows, h.spare)) (λ p. record { rows = p.0; spare = p.1 }) (λ _. refl)
 
 module _ {O : Type 0} where
+  -- what a new handle names and grants
+  abbrev pub new_row : O → ℕ → Row O
+  new_row object access = record { object = object; access = access }
+
   -- a handle has the value
   abbrev pub has_value : ℕ → ℕ × Row O → Bool
   has_value value row = row.0 == value
@@ -48,10 +52,29 @@ module _ {O : Type 0} where
   abbrev pub with_row : List (ℕ × Row O) → ℕ → Row O → List (ℕ × Row O)
   with_row rows value row = which (is_below value) rows ++ (value, row) ∷ which (is_above value) rows
 
+  -- the handles come to have one more, of this value
+  abbrev pub Gains : List (ℕ × Row O) → Row O → List (ℕ × Row O) → ℕ → Type 0
+  Gains old row new value = new ≡ with_row old value row
+
+  -- a handle of the value goes in at the index, whatever it names
+  abbrev pub IsPlaceOf : List (ℕ × Row O) → ℕ → ℕ → Type 0
+  IsPlaceOf rows index value = (row : Row O) → insert rows index (value, row) ≡ with_row rows value row
+
+  -- the least value that isn't below this one, and that there is none
+  abbrev pub first_from : List (ℕ × Row O) → ℕ → Option ℕ
+  first_from rows value = option_map (λ row. row.0) (first (is_from value) rows)
+
+  abbrev pub HasNoneFrom : List (ℕ × Row O) → ℕ → Type 0
+  HasNoneFrom rows value = (other : ℕ) → value ≤ other → at rows other ≡ None
+
   -- the values are multiples of 4 that rise, none below `least`
   abbrev pub are_rising : ℕ → List (ℕ × Row O) → Bool
   are_rising least [] = true
   are_rising least (row ∷ rows) = is_from least row && ((row.0 % 4 == 0) && are_rising (row.0 + 4) rows)
+
+  -- the values still rise with a handle of this value at the index
+  abbrev pub KeepsRising : List (ℕ × Row O) → ℕ → ℕ → Type 0
+  KeepsRising rows index value = (row : Row O) → are_rising 4 (insert rows index (value, row)) ≡ true
 
   -- the value is in use and not below another one, and each such value is at least it
   pub record IsLeastFrom (rows : List (ℕ × Row O)) (from value : ℕ) : Type 0 where

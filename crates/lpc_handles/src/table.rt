@@ -1,8 +1,9 @@
 // The table of one process's handles, by rising value.
-ghost use Rattle.std.specs.Prelude.{◌≡◌, ℕ, ◌+◌, ◌<◌, ◌≤◌, ◌↔◌, true, [], length, insert, option_map, None, IsErr, IfOk, OnOk, OnErr, OnSome, IfSome, IfNone, vec_len, vec_capacity};
+ghost use Rattle.std.specs.Prelude.{◌≡◌, ◌+◌, ◌<◌, ◌≤◌, ◌↔◌, true, [], length, IsErr, IfOk, OnOk, OnErr, OnSome, IfSome, IfNone, vec_len, vec_capacity};
 ghost use Rattle.lpc_base.specs.Places.{least_handle};
-ghost use Rattle.lpc_base.specs.Rows.{first, has, without};
-ghost use Rattle.lpc_handles.specs.Handles.{IsLeastFrom, are_rising, at, has_value, is_from, is_named, values, with_row};
+ghost use Rattle.lpc_base.specs.Rows.{has, without};
+ghost use Rattle.lpc_base.specs.declared.limits.TheConstants.{HANDLE_LIMIT};
+ghost use Rattle.lpc_handles.specs.Handles.{Gains, HasNoneFrom, IsLeastFrom, IsPlaceOf, KeepsRising, are_rising, at, first_from, has_value, is_named, new_row, values};
 
 use lpc_base::OutOfMemory;
 use lpc_base::limits::HANDLE_LIMIT;
@@ -10,14 +11,14 @@ use std::alloc::Global;
 use std::marker::Model;
 
 /// Why a handle is not given.
-#[derive(Clone, Copy, Debug, PartialEq, Eq)]
+#[derive(Clone, Copy)]
 pub enum TableFault {
     /// The process has 256 handles, the limit of this project's profile.
     Quota,
 }
 
 /// What a handle names, and the rights that it grants.
-#[derive(Clone, Copy, Debug, PartialEq, Eq)]
+#[derive(Clone, Copy, PartialEq, Eq)]
 pub struct Row<O> {
     /// The object.
     pub object: O,
@@ -36,6 +37,7 @@ pub struct Table<O: Copy> {
 
 impl<O: Copy> Model for Table<O> {
     ghost use Rattle.std.specs.Prelude.{◌≡◌, ◌≤◌, ◌-◌, true, length, vec_capacity, vec_len};
+    ghost use Rattle.lpc_base.specs.declared.limits.TheConstants.{HANDLE_LIMIT};
     ghost use Rattle.lpc_handles.specs.Handles.{Handles, handles_code, are_rising};
 
     ghost Value = { Handles O };
@@ -44,7 +46,7 @@ impl<O: Copy> Model for Table<O> {
 
     ghost view = { λ t. record { rows = t.rows.items; spare = vec_capacity t.rows - vec_len t.rows } };
 
-    ghost invariant = { λ t. (length t.rows.items ≤ 256) × (are_rising 4 t.rows.items ≡ true) };
+    ghost invariant = { λ t. (length t.rows.items ≤ HANDLE_LIMIT) × (are_rising 4 t.rows.items ≡ true) };
 }
 
 impl<O: Copy> Table<O> {
@@ -75,10 +77,10 @@ impl<O: Copy> Table<O> {
     /// Quota comes exactly where 256 handles stand, and then nothing changes. Otherwise there is room that `reserve`
     /// made.
     pub fn add(&mut self, object: O, access: u32) -> Result<u32, TableFault>
-        requires { length self.old.rows < 256 → 0 < self.old.spare }
-        ensures quota { IsErr result ↔ (length self.old.rows ≡ 256) }
+        requires { length self.old.rows < HANDLE_LIMIT → 0 < self.old.spare }
+        ensures quota { IsErr result ↔ (length self.old.rows ≡ HANDLE_LIMIT) }
         ensures value { IfOk result (λ v. v ≡ least_handle (values self.old.rows)) }
-        ensures rows { IfOk result (λ v. self.new.rows ≡ with_row self.old.rows v (record { object = object; access = access })) }
+        ensures rows { IfOk result (Gains self.old.rows (new_row object access) self.new.rows) }
         ensures spare { OnOk result (self.new.spare + 1 ≡ self.old.spare) }
         ensures same { OnErr result (self.new ≡ self.old) }
     {
@@ -126,9 +128,9 @@ impl<O: Copy> Table<O> {
 
     /// The least value in use that isn't below `value`; None exactly where each value in use is below it.
     pub fn first_from(&self, value: u32) -> Option<u32>
-        ensures first { result ≡ option_map (λ row. row.0) (first (is_from value) self.now.rows) }
+        ensures first { result ≡ first_from self.now.rows value }
         ensures least { IfSome result (λ v. IsLeastFrom self.now.rows value v) }
-        ensures none { IfNone result ((other : ℕ) → value ≤ other → at self.now.rows other ≡ None) }
+        ensures none { IfNone result (HasNoneFrom self.now.rows value) }
         ensures rising { are_rising 4 self.now.rows ≡ true }
     {
         value_from(&self.rows, value)
@@ -151,7 +153,7 @@ impl<O: Copy + Eq> Table<O> {
 
 /// The first value that isn't below.
 fn value_from<O: Copy>(rows: &[(u32, Row<O>)], value: u32) -> Option<u32>
-    ensures { result ≡ option_map (λ row. row.0) (first (is_from value) rows.now) }
+    ensures { result ≡ first_from rows.now value }
 {
     for (other, _) in rows {
         if *other >= value {
@@ -172,12 +174,12 @@ fn take_out<O: Copy>(rows: &mut Vec<(u32, Row<O>)>, value: u32)
 
 /// The least free value among rising values, and the place where it goes in.
 fn free_place<O: Copy>(rows: &[(u32, Row<O>)]) -> (usize, u32)
-    requires few { length rows.now ≤ 256 }
+    requires few { length rows.now ≤ HANDLE_LIMIT }
     requires rising { are_rising 4 rows.now ≡ true }
     ensures within { result.0 ≤ length rows.now }
     ensures value { result.1 ≡ least_handle (values rows.now) }
-    ensures place { (row : Row O) → insert rows.now result.0 (result.1, row) ≡ with_row rows.now result.1 row }
-    ensures rises { (row : Row O) → are_rising 4 (insert rows.now result.0 (result.1, row)) ≡ true }
+    ensures place { IsPlaceOf rows.now result.0 result.1 }
+    ensures rises { KeepsRising rows.now result.0 result.1 }
 {
     let mut value = 4;
     for (index, row) in rows.iter().enumerate() {

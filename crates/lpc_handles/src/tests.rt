@@ -1,33 +1,55 @@
 // The calls with ample memory, over values worked out by hand.
-use crate::{Row, Table, TableFault};
+use crate::{Row, Table};
+use std::process::Abort;
 use std::test::Fail;
+
+// Room is made, and a handle to the object gets this value.
+fn adds(
+    rt: &impl Abort,
+    table: &mut Table<u8>,
+    object: u8,
+    access: u32,
+    value: u32,
+) -> Result<(), Fail> {
+    table.reserve(1)?;
+    assert!(rt; table.add(object, access).ok() == Some(value));
+    Ok(())
+}
+
+// The handle with a value names this object and grants these rights.
+fn names(rt: &impl Abort, row: Option<Row<u8>>, object: u8, access: u32) {
+    assert!(rt; row == Some(Row { object, access }));
+}
+
+// Three handles, of which the middle one is closed.
+fn closes_the_second(rt: &impl Abort, table: &mut Table<u8>) -> Result<(), Fail> {
+    adds(rt, table, b'a', 1, 4)?;
+    adds(rt, table, b'b', 2, 8)?;
+    adds(rt, table, b'c', 3, 12)?;
+    names(rt, table.get(8), b'b', 2);
+    names(rt, table.close(8), b'b', 2);
+    assert!(rt; table.get(8) == None);
+    Ok(())
+}
+
+// A fourth handle takes the value that is free.
+fn gives_the_second_again(rt: &impl Abort, table: &mut Table<u8>) -> Result<(), Fail> {
+    assert!(rt; table.first_from(5) == Some(12));
+    adds(rt, table, b'd', 4, 8)?;
+    names(rt, table.get(8), b'd', 4);
+    assert!(rt; table.first_from(13) == None);
+    assert!(rt; table.names(b'd') && !table.names(b'b'));
+    Ok(())
+}
+
+// The calls that the test makes.
+fn handles_come_and_go(rt: &impl Abort, table: &mut Table<u8>) -> Result<(), Fail> {
+    closes_the_second(rt, table)?;
+    gives_the_second_again(rt, table)
+}
 
 #[test]
 fn handle_takes_the_least_free_multiple_of_four(rt: HostRuntime) -> Result<(), Fail> {
     let mut table: Table<u8> = Table::new(rt.alloc());
-    table.reserve(3)?;
-    assert_eq!(rt; table.add(b'a', 1), Ok(4));
-    assert_eq!(rt; table.add(b'b', 2), Ok(8));
-    assert_eq!(rt; table.add(b'c', 3), Ok(12));
-    assert_eq!(rt;
-        table.close(8),
-        Some(Row {
-            object: b'b',
-            access: 2
-        })
-    );
-    assert_eq!(rt; table.get(8), None);
-    assert_eq!(rt; table.first_from(5), Some(12));
-    assert_eq!(rt; table.add(b'd', 4), Ok(8));
-    assert_eq!(rt;
-        table.get(8),
-        Some(Row {
-            object: b'd',
-            access: 4
-        })
-    );
-    assert_eq!(rt; table.first_from(13), None);
-    assert!(rt; table.names(b'd'));
-    assert!(rt; !table.names(b'b'));
-    Ok(())
+    handles_come_and_go(&rt, &mut table)
 }

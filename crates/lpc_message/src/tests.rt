@@ -1,5 +1,6 @@
 // The layout against values written out by hand.
 use crate::{ClientId, Header, MessageRef, Range, Shape, kind, write_header};
+use std::process::Abort;
 
 // A header of fields that differ in each byte, for 20 bytes of data with two ranges at their start.
 const HEADER: Header = Header {
@@ -24,19 +25,18 @@ const BYTES: [u8; 44] = [
 fn header_is_written_low_bytes_first(rt: HostRuntime) {
     let mut bytes = [0xEE; 24];
     write_header(&mut bytes, &HEADER);
-    assert_eq!(rt; bytes.as_slice(), &BYTES[..24]);
+    assert!(rt; bytes.as_slice() == &BYTES[..24]);
 }
 
-#[test]
-fn each_part_of_a_message_is_read(rt: HostRuntime) {
-    let Ok(message) = MessageRef::read(&BYTES) else {
-        assert!(rt; false, "these bytes are a message");
-        return;
-    };
-    assert_eq!(rt; message.bytes(), &BYTES[..]);
-    assert_eq!(rt; message.header(), HEADER);
-    assert_eq!(rt; message.body(), &BYTES[24..]);
-    assert_eq!(rt; message.range_count(), 2);
+// The parts that a message always has.
+fn shows_header_and_data(rt: &impl Abort, message: &MessageRef<'_>) {
+    assert!(rt; message.bytes() == &BYTES[..]);
+    assert!(rt; message.header() == HEADER);
+    assert!(rt; message.body() == &BYTES[24..]);
+}
+
+// The ranges of its table.
+fn shows_ranges(rt: &impl Abort, message: &MessageRef<'_>) {
     let first = Range {
         base: 0x1234_5678,
         size: 16,
@@ -45,9 +45,20 @@ fn each_part_of_a_message_is_read(rt: HostRuntime) {
         base: 0x0040_0000,
         size: 0x01FF,
     };
-    assert_eq!(rt; message.range(0), Some(first));
-    assert_eq!(rt; message.range(1), Some(second));
-    assert_eq!(rt; message.range(2), None);
+    assert!(rt; message.range_count() == 2);
+    assert!(rt; message.range(0) == Some(first));
+    assert!(rt; message.range(1) == Some(second));
+    assert!(rt; message.range(2) == None);
+}
+
+#[test]
+fn each_part_of_a_message_is_read(rt: HostRuntime) {
+    let Ok(message) = MessageRef::read(&BYTES) else {
+        assert!(rt; false, "these bytes are a message");
+        return;
+    };
+    shows_header_and_data(&rt, &message);
+    shows_ranges(&rt, &message);
 }
 
 // What `read` answers to zeros with these sizes and this offset, and the count written where the offset says.
@@ -101,7 +112,7 @@ fn range_table_is_read_where_it_is_inside_the_data(rt: HostRuntime) {
     for (data_size, offset, count, want) in rows {
         let size = 24u16.saturating_add(data_size);
         let got = answer(data_size, size, offset, count, size as usize);
-        assert_eq!(rt; got, want, "{data_size} bytes, table at {offset}");
+        assert!(rt; got == want, "{data_size} bytes, table at {offset}");
     }
 }
 
@@ -124,9 +135,8 @@ fn first_fault_is_answered(rt: HostRuntime) {
     ];
     for (data_size, message_size, offset, length, want) in rows {
         let got = answer(data_size, message_size, offset, None, length);
-        assert_eq!(rt;
-            got,
-            want,
+        assert!(rt;
+            got == want,
             "{length} bytes, sizes {data_size} and {message_size}, table at {offset}"
         );
     }

@@ -1,5 +1,6 @@
 -- What a name space is, and how it changes: one name comes, or one name goes.
-use Rattle.std.specs.Prelude.{◌≡◌, ℕ, Bool, true, false, if◌then◌else◌, List, [], ◌∷◌, ◌++◌, Result, Ok, Err, IsOk}
+use Rattle.std.specs.Prelude.{◌≡◌, ℕ, Bool, true, false, if◌then◌else◌, List, [], ◌∷◌, ◌++◌, Result, Ok, Err, IfErr, IsOk, OnOk, slice_get}
+use Rattle.std.specs.Option.{option_map_or}
 use Rattle.lpc_names.specs.declared.fault.NameFault.{NameFault}
 use Rattle.lpc_names.specs.declared.fault.BindFault.{BindFault}
 use Rattle.lpc_names.specs.declared.fault.BindFault.TheVariants.{Name, OutOfMemory}
@@ -17,6 +18,14 @@ pub record NameSpace (T : Type 0) : Type 0 where
 abbrev pub Refuses : {X : Type 0} → BindFault → Result X NameFault → Type 0
 Refuses (Name fault) answer = answer ≡ Err fault
 Refuses OutOfMemory answer = IsOk answer
+
+-- where such a call succeeds, these are the bindings that it leaves
+abbrev pub IsBound : {T Y E : Type 0} → Result (Bindings T) NameFault → NameSpace T → Result Y E → Type 0
+IsBound answer new result = OnOk result (answer ≡ Ok new.bindings)
+
+-- where such a call fails, it is refused so
+abbrev pub RefusedBy : {X Y : Type 0} → Result X NameFault → Result Y BindFault → Type 0
+RefusedBy answer result = IfErr result (λ fault. Refuses fault answer)
 
 module _ {T : Type 0} where
   -- the bindings with one more, at the free path where one was found
@@ -37,6 +46,13 @@ module _ {T : Type 0} where
   abbrev pub with_link : Bindings T → List ℕ → List ℕ → Result (Bindings T) NameFault
   with_link bindings text target = linked bindings text (spelled target)
 
+  -- the bindings with an item, and with a directory, where the text leads
+  abbrev pub with_item : Bindings T → List ℕ → T → Result (Bindings T) NameFault
+  with_item bindings text item = bound bindings text (Stands (Item item))
+
+  abbrev pub with_directory : Bindings T → List ℕ → Result (Bindings T) NameFault
+  with_directory bindings text = bound bindings text (Stands Directory)
+
   -- after a refusal nothing is changed; want of memory may change the room
   abbrev pub Leaves : BindFault → NameSpace T → NameSpace T → Type 0
   Leaves (Name fault) old new = new ≡ old
@@ -49,6 +65,10 @@ module _ {T : Type 0} where
       | LinkTo target ↦ false
       | Stands found ↦ elim found [ Directory ↦ false | Item other ↦ same other item ]
     ]
+
+    -- the binding at an index is a name of the item
+    abbrev pub is_name_at : Bindings T → ℕ → Bool
+    is_name_at bindings index = option_map_or is_name (slice_get bindings index) false
 
     -- the item has a name
     abbrev pub has_name : Bindings T → Bool

@@ -1,5 +1,5 @@
 -- A path as the list of its components, and the texts that spell one.
-use Rattle.std.specs.Prelude.{ℕ, suc, ◌+◌, ◌==◌, nat_lt, nat_eq, Bool, true, false, ◌||◌, if◌then◌else◌, List, [], ◌∷◌, length, Result, Ok, Err}
+use Rattle.std.specs.Prelude.{ℕ, suc, ◌+◌, ◌≤◌, ◌==◌, nat_lt, nat_eq, Bool, true, false, ◌||◌, if◌then◌else◌, List, [], ◌∷◌, length, Result, Ok, Err}
 use Rattle.std.specs.List.{list_any}
 use Rattle.std.specs.Cmp.Lexicographic.{pointwise}
 use Rattle.lpc_names.specs.declared.fault.NameFault.{NameFault}
@@ -36,6 +36,10 @@ size_of (name ∷ names) = suc (length name) + size_of names
 -- a path has 256 bytes at most
 abbrev pub is_too_long : Path → Bool
 is_too_long path = nat_lt 256 (size_of path)
+
+-- a text is no longer than a path
+abbrev pub IsWithinPath : List ℕ → Type 0
+IsWithinPath text = length text ≤ 256
 
 -- components behind the first backslash: none of them is empty, and the path isn't too long
 abbrev pub sound : Path → Result Path NameFault

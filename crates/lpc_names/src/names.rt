@@ -1,11 +1,10 @@
 // The name space: a table from paths without links to what stands there, and the walk that finds them.
-ghost use Rattle.std.specs.Prelude.{◌≡◌, ◌≢◌, ◌+◌, ◌<◌, ◌≤◌, length, drop, true, Ok, Err, Some, None, IfErr, IfOk, IsOk, OnOk, OnErr, MatchResult, option_copied, option_map, slice_get, false, [], ◌∷◌, ◌++◌};
-ghost use Rattle.std.specs.Option.{option_map_or};
-ghost use Rattle.lpc_names.specs.Path.{parts_of};
+ghost use Rattle.std.specs.Prelude.{◌≡◌, ◌≢◌, ◌+◌, ◌<◌, ◌≤◌, length, Err, None, IfErr, IfOk, IsOk, OnOk, OnErr, []};
+ghost use Rattle.lpc_names.specs.Path.{IsWithinPath, parts_of};
 ghost use Rattle.lpc_names.specs.Walk as names;
 ghost use Rattle.lpc_names.specs.Binding as binding;
-ghost use Rattle.lpc_names.specs.declared.names.Found.TheVariants as found;
-ghost use Rattle.lpc_names.specs.Kept.{path_of, seen, shown_node, shown_place, shown_way};
+ghost use Rattle.lpc_names.specs.Binding.{IsBound, RefusedBy, with_directory, with_item, with_link};
+ghost use Rattle.lpc_names.specs.Kept.{bound_node, node_of, path_of, seen, seen_node, seen_path, shown_node, shown_place, shown_way, way_of, with_node_at};
 
 use crate::text::{Text, join, length_of_name, read};
 use crate::{BindFault, NameFault};
@@ -79,7 +78,7 @@ impl<T: Copy + Eq> Model for Names<T> {
 // The key of a path, which leaves out its first backslash: the root has none.
 fn key_of(path: &[u8]) -> Text
     requires some { 0 < length path.now }
-    requires fits { length path.now ≤ 256 }
+    requires fits { IsWithinPath path.now }
     ensures { parts_of result.items ≡ path_of path.now }
 {
     let mut key = Text::new();
@@ -145,8 +144,8 @@ impl<T: Copy + Eq> Names<T> {
     /// does; nothing is changed. `OutOfMemory`: the path is free, there was no spare room, and memory ran out; nothing
     /// is bound or unbound.
     pub fn bind(&mut self, path: &[u8], item: T) -> Result<(), BindFault>
-        ensures bound { OnOk result (binding.bound self.old.bindings path.now (names.Stands (found.Item item)) ≡ Ok self.new.bindings) }
-        ensures refused { IfErr result (λ fault. binding.Refuses fault (binding.bound self.old.bindings path.now (names.Stands (found.Item item)))) }
+        ensures bound { IsBound (with_item self.old.bindings path.now item) self.new result }
+        ensures refused { RefusedBy (with_item self.old.bindings path.now item) result }
         ensures left { IfErr result (λ fault. binding.Leaves fault self.old self.new) }
         ensures room { 0 < self.old.spare → result ≢ Err BindFault.OutOfMemory }
         ensures spare { OnOk result (self.old.spare ≤ self.new.spare + 1) }
@@ -160,8 +159,8 @@ impl<T: Copy + Eq> Names<T> {
     ///
     /// As for `bind`.
     pub fn add_directory(&mut self, path: &[u8]) -> Result<(), BindFault>
-        ensures bound { OnOk result (binding.bound self.old.bindings path.now (names.Stands found.Directory) ≡ Ok self.new.bindings) }
-        ensures refused { IfErr result (λ fault. binding.Refuses fault (binding.bound self.old.bindings path.now (names.Stands found.Directory))) }
+        ensures bound { IsBound (with_directory self.old.bindings path.now) self.new result }
+        ensures refused { RefusedBy (with_directory self.old.bindings path.now) result }
         ensures left { IfErr result (λ fault. binding.Leaves fault self.old self.new) }
         ensures room { 0 < self.old.spare → result ≢ Err BindFault.OutOfMemory }
         ensures spare { OnOk result (self.old.spare ≤ self.new.spare + 1) }
@@ -175,8 +174,8 @@ impl<T: Copy + Eq> Names<T> {
     ///
     /// As for `bind`; but first of all `Name` with `PathSyntax` or `NameInvalid` where the target is no path.
     pub fn add_link(&mut self, path: &[u8], target: &[u8]) -> Result<(), BindFault>
-        ensures bound { OnOk result (binding.with_link self.old.bindings path.now target.now ≡ Ok self.new.bindings) }
-        ensures refused { IfErr result (λ fault. binding.Refuses fault (binding.with_link self.old.bindings path.now target.now)) }
+        ensures bound { IsBound (with_link self.old.bindings path.now target.now) self.new result }
+        ensures refused { RefusedBy (with_link self.old.bindings path.now target.now) result }
         ensures left { IfErr result (λ fault. binding.Leaves fault self.old self.new) }
         ensures room { 0 < self.old.spare → result ≢ Err BindFault.OutOfMemory }
         ensures spare { OnOk result (self.old.spare ≤ self.new.spare + 1) }
@@ -214,7 +213,7 @@ impl<T: Copy + Eq> Names<T> {
 
     /// Whether a new name can be bound at a path: the fault that `bind` would answer, if there is one.
     pub fn test_free(&self, path: &[u8]) -> Result<(), NameFault>
-        ensures fault { IfErr result (λ fault. names.free_path self.now.bindings path.now ≡ Err fault) }
+        ensures fault { IfErr result (λ f. names.free_path self.now.bindings path.now ≡ Err f) }
         ensures free { OnOk result (IsOk (names.free_path self.now.bindings path.now)) }
     {
         self.free_path(path)?;
@@ -224,15 +223,15 @@ impl<T: Copy + Eq> Names<T> {
     // What is bound at a path that isn't the root.
     fn node(&self, path: &[u8]) -> Option<&Node<T>>
         requires some { 0 < length path.now }
-        requires fits { length path.now ≤ 256 }
-        ensures { option_map shown_node (option_copied result) ≡ names.node_at self.now.bindings (path_of path.now) }
+        requires fits { IsWithinPath path.now }
+        ensures { seen_node result ≡ node_of self.now.bindings path.now }
     {
         self.nodes.get(&key_of(path))
     }
 
     // Along the path up to its end or to its first link.
     fn way(&self, path: &Text) -> Result<Way<T>, NameFault>
-        ensures { seen shown_way result ≡ names.way self.now.bindings [] (path_of path.now.items) }
+        ensures { seen shown_way result ≡ way_of self.now.bindings path.now.items }
     {
         let bytes = path.as_slice();
         let mut walked = 0;
@@ -271,8 +270,8 @@ impl<T: Copy + Eq> Names<T> {
 
     // The path at which a new name goes.
     fn free_path(&self, text: &[u8]) -> Result<Text, NameFault>
-        ensures path { seen (λ path. path_of path.items) result ≡ names.free_path self.now.bindings text.now }
-        ensures free { IfOk result (λ path. names.node_at self.now.bindings (path_of path.items) ≡ None) }
+        ensures path { seen_path result ≡ names.free_path self.now.bindings text.now }
+        ensures free { IfOk result (λ path. node_of self.now.bindings path.items ≡ None) }
         ensures some { IfOk result (λ path. 0 < length path.items) }
     {
         let place = self.walk(text)?;
@@ -285,8 +284,8 @@ impl<T: Copy + Eq> Names<T> {
     // One more binding, at a path where nothing is bound.
     fn put(&mut self, path: &Text, node: Node<T>) -> Result<(), OutOfMemory>
         requires some { 0 < length path.now.items }
-        requires free { names.node_at self.old.bindings (path_of path.now.items) ≡ None }
-        ensures bound { OnOk result (self.new.bindings ≡ self.old.bindings ++ (path_of path.now.items, shown_node node) ∷ []) }
+        requires free { node_of self.old.bindings path.now.items ≡ None }
+        ensures bound { OnOk result (self.new.bindings ≡ with_node_at self.old.bindings path.now.items (shown_node node)) }
         ensures left { OnErr result (self.new.bindings ≡ self.old.bindings) }
         ensures room { 0 < self.old.spare → IsOk result }
         ensures spare { self.old.spare ≤ self.new.spare + 1 }
@@ -299,8 +298,8 @@ impl<T: Copy + Eq> Names<T> {
 
     // One more binding, where a text leads.
     fn bind_node(&mut self, text: &[u8], node: Node<T>) -> Result<(), BindFault>
-        ensures bound { OnOk result (binding.bound self.old.bindings text.now (shown_node node) ≡ Ok self.new.bindings) }
-        ensures refused { IfErr result (λ fault. binding.Refuses fault (binding.bound self.old.bindings text.now (shown_node node))) }
+        ensures bound { IsBound (bound_node self.old.bindings text.now node) self.new result }
+        ensures refused { RefusedBy (bound_node self.old.bindings text.now node) result }
         ensures left { IfErr result (λ fault. binding.Leaves fault self.old self.new) }
         ensures room { 0 < self.old.spare → result ≢ Err BindFault.OutOfMemory }
         ensures spare { OnOk result (self.old.spare ≤ self.new.spare + 1) }
@@ -311,7 +310,7 @@ impl<T: Copy + Eq> Names<T> {
 
     // The binding at an index is a name of the item.
     fn is_name(&self, index: usize, item: T) -> bool
-        ensures { result ≡ option_map_or (binding.is_name T.eq item) (slice_get self.now.bindings index) false }
+        ensures { result ≡ binding.is_name_at T.eq item self.now.bindings index }
     {
         match self.nodes.get_index(index) {
             Some((_, Node::Stands(Found::Item(other)))) => *other == item,

@@ -1,8 +1,8 @@
 // A path as the machine keeps it: no byte for the root, else a backslash before each component.
-ghost use Rattle.std.specs.Prelude.{◌≡◌, ◌≤◌, length, true, false, Ok, Err, MatchResult, MatchOption, ◌++◌, ◌∷◌};
+ghost use Rattle.std.specs.Prelude.{◌≡◌, ◌≤◌, length, true, Err, MatchOption, ◌++◌, ◌∷◌};
 ghost use Rattle.std.specs.List.{list_any};
-ghost use Rattle.lpc_names.specs.Path.{is_empty, parts_of, spelled, is_too_long};
-ghost use Rattle.lpc_names.specs.Kept.{begins_part, name_length, path_of, seen};
+ghost use Rattle.lpc_names.specs.Path.{is_empty, parts_of, spelled};
+ghost use Rattle.lpc_names.specs.Kept.{IsJoined, begins_part, name_length, path_of, seen_path};
 
 use crate::NameFault;
 use arrayvec::ArrayVec;
@@ -55,7 +55,7 @@ fn behind_root(text: &[u8]) -> Option<&[u8]>
 /// `PathSyntax`: the text does not begin with a backslash. `NameInvalid`: a component is empty, or the text has more
 /// than 256 bytes.
 pub fn read(text: &[u8]) -> Result<Text, NameFault>
-    ensures { seen (λ path. path_of path.items) result ≡ spelled text.now }
+    ensures { seen_path result ≡ spelled text.now }
 {
     let Some(names) = behind_root(text) else {
         return Err(NameFault::PathSyntax);
@@ -80,9 +80,7 @@ pub fn read(text: &[u8]) -> Result<Text, NameFault>
 /// `NameInvalid`: the two have more than 256 bytes together.
 pub fn join(target: &Text, rest: &[u8]) -> Result<Text, NameFault>
     requires { begins_part rest.now ≡ true }
-    ensures { MatchResult result
-        (λ path. (path_of path.items ≡ path_of target.now.items ++ path_of rest.now) × (is_too_long (path_of target.now.items ++ path_of rest.now) ≡ false))
-        (λ fault. (fault ≡ NameFault.NameInvalid) × (is_too_long (path_of target.now.items ++ path_of rest.now) ≡ true)) }
+    ensures { IsJoined (path_of target.now.items ++ path_of rest.now) result }
 {
     let mut path = Text::new();
     path.try_extend_from_slice(target).unwrap();

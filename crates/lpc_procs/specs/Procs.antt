@@ -1,6 +1,6 @@
 -- What contracts see of processes and threads.
-use Rattle.std.specs.Prelude.{ℕ, ◌+◌, ◌<◌, ◌≤◌, ◌==◌, ◌&&◌, Bool, false, List, option_map, Option}
-use Rattle.lpc_base.specs.Rows.{change, first, has}
+use Rattle.std.specs.Prelude.{ℕ, ◌+◌, ◌-◌, ◌^◌, ◌<◌, ◌≤◌, ◌==◌, ◌&&◌, Bool, false, List, [], option_map, Option}
+use Rattle.lpc_base.specs.Rows.{change, first, has, without}
 use Rattle.lpc_base.specs.declared.birth.Birth.{Birth}
 use Rattle.lpc_message.specs.declared.message.ClientId.{ClientId}
 use Rattle.lpc_procs.specs.declared.rows.Number.{Number}
@@ -19,6 +19,14 @@ pub record Table : Type 0 where
   pub process_room : ℕ
   pub thread_room : ℕ
 
+-- no process, no thread, no number used and no room
+abbrev pub nothing : Table
+nothing = record { processes = []; threads = []; used_processes = []; used_threads = []; process_room = 0; thread_room = 0 }
+
+-- the table with this room for processes and for threads
+abbrev pub with_room : Table → ℕ → ℕ → Table
+with_room s processes threads = record s { process_room = processes; thread_room = threads }
+
 -- Rows
 -- a process has the number, and a thread has it
 abbrev pub is_process : ℕ → ProcessRow → Bool
@@ -33,6 +41,13 @@ process_at s pid = first (is_process pid) s.processes
 
 abbrev pub thread_at : Table → ℕ → Option ThreadRow
 thread_at s tid = first (is_thread tid) s.threads
+
+-- the table without the process of a number, and without the thread of a number, with this room for more
+abbrev pub without_process : Table → ℕ → ℕ → Table
+without_process s pid room = record s { processes = without (is_process pid) s.processes; process_room = room }
+
+abbrev pub without_thread : Table → ℕ → ℕ → Table
+without_thread s tid room = record s { threads = without (is_thread tid) s.threads; thread_room = room }
 
 -- a thread is live and of the process, and a thread is live and has the number
 abbrev pub lives_in : ℕ → ThreadRow → Bool
@@ -55,6 +70,10 @@ pub record IsNumber (n : ℕ) : Type 0 where
 abbrev pub is_used_thread : ℕ → UsedThread → Bool
 is_used_thread tid u = u.number == tid
 
+-- the process of a thread number that was used
+abbrev pub used_process : List UsedThread → ℕ → Option ℕ
+used_process used tid = option_map (λ u. u.process) (first (is_used_thread tid) used)
+
 -- the number was ever used, for a process or for a thread
 abbrev pub was_used : Table → Number → Bool
 was_used s (number.Process pid) = has (λ n. n == pid) s.used_processes
@@ -69,6 +88,13 @@ birth_of s (number.Thread tid) = option_map (λ t. t.birth) (thread_at s tid)
 -- the name of the object that a thread makes next
 abbrev pub next_birth : ThreadRow → Birth
 next_birth t = record { maker = t.number; ordinal = t.next_ordinal; process = t.process }
+
+-- the thread has drawn fewer than 2^32 - 2 identifiers, and as few births
+abbrev pub HasIdentifierLeft : ThreadRow → Type 0
+HasIdentifierLeft t = t.next_identifier < 2 ^ 32 - 1
+
+abbrev pub HasOrdinalLeft : ThreadRow → Type 0
+HasOrdinalLeft t = t.next_ordinal < 2 ^ 32 - 1
 
 -- a thread behind a draw of an identifier, behind a draw of a birth, and when it has ended
 abbrev pub past_identifier : ThreadRow → ThreadRow

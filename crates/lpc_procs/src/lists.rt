@@ -1,8 +1,8 @@
 // Searches and changes of plain lists of rows.
-ghost use Rattle.std.specs.Prelude.{◌≡◌, ◌==◌, ◌≤◌, option_map, if◌then◌else◌, vec_len, vec_capacity};
+ghost use Rattle.std.specs.Prelude.{◌≡◌, ◌==◌, ◌≤◌, if◌then◌else◌, vec_len, vec_capacity};
 ghost use Rattle.lpc_base.specs.Rows.{change, count, first, has, without};
 ghost use Rattle.lpc_procs.specs.Procs as procs;
-ghost use Rattle.lpc_procs.specs.Procs.{is_live_client, is_live_thread, is_process, is_thread, is_used_thread, lives_in};
+ghost use Rattle.lpc_procs.specs.Procs.{is_live_client, is_live_thread, is_process, is_thread, is_used_thread, lives_in, used_process};
 
 use crate::{ProcessRow, ThreadRow, UsedThread};
 use lpc_base::Birth;
@@ -46,7 +46,7 @@ pub fn used_thread(used: &[UsedThread], tid: u32) -> Option<UsedThread>
 
 /// The process of a thread number that was ever used.
 pub fn process_of(used: &[UsedThread], tid: u32) -> Option<u32>
-    ensures { result ≡ option_map (λ u. u.process) (first (is_used_thread tid) used.now) }
+    ensures { result ≡ used_process used.now tid }
 {
     match used_thread(used, tid) {
         Some(u) => Some(u.process),

@@ -1,8 +1,8 @@
 // The table of processes and threads.
-ghost use Rattle.std.specs.Prelude.{◌≡◌, ◌-◌, ◌<◌, ◌≤◌, ◌^◌, ◌++◌, ◌∷◌, [], true, false, length, is_some, option_map, Some, IsSomeAnd, OnOk, OnErr, IfSome};
-ghost use Rattle.lpc_base.specs.Rows.{count, first, has, without};
+ghost use Rattle.std.specs.Prelude.{◌≡◌, ◌-◌, ◌<◌, ◌≤◌, ◌++◌, ◌∷◌, [], true, false, length, is_some, option_map, Some, IsSomeAnd, OnOk, OnErr, IfSome};
+ghost use Rattle.lpc_base.specs.Rows.{count, first, has};
 ghost use Rattle.lpc_procs.specs.Procs as procs;
-ghost use Rattle.lpc_procs.specs.Procs.{IsNumber, birth_of, ended, is_live_client, is_live_thread, is_process, is_thread, is_used_thread, lives_in, past_birth, past_identifier, process_at, thread_at, with_thread};
+ghost use Rattle.lpc_procs.specs.Procs.{HasIdentifierLeft, HasOrdinalLeft, IsNumber, birth_of, ended, is_live_client, is_live_thread, lives_in, nothing, past_birth, past_identifier, process_at, thread_at, used_process, with_room, with_thread, without_process, without_thread};
 
 use crate::{Number, ProcessRow, ThreadRow, UsedThread, lists};
 use lpc_base::{Birth, OutOfMemory};
@@ -44,7 +44,7 @@ impl Model for Procs {
 impl Procs {
     /// No process, no thread, no number used and no room. It takes no memory, and keeps the allocator for `reserve`.
     pub fn new(alloc: Global) -> Procs
-        ensures empty { result ≡ record { processes = []; threads = []; used_processes = []; used_threads = []; process_room = 0; thread_room = 0 } }
+        ensures empty { result ≡ nothing }
     {
         Procs {
             processes: Vec::new(alloc),
@@ -62,7 +62,7 @@ impl Procs {
         ensures processes { OnOk result (processes ≤ self.new.process_room) }
         ensures threads { OnOk result (threads ≤ self.new.thread_room) }
         ensures wanting { OnErr result (processes ≤ self.old.process_room → self.old.thread_room < threads) }
-        ensures same { self.new ≡ record self.old { process_room = self.new.process_room; thread_room = self.new.thread_room } }
+        ensures same { self.new ≡ with_room self.old self.new.process_room self.new.thread_room }
         ensures process_room { self.old.process_room ≤ self.new.process_room }
         ensures thread_room { self.old.thread_room ≤ self.new.thread_room }
     {
@@ -136,7 +136,7 @@ impl Procs {
     /// The process of a thread number that was ever used, also where the thread's row has gone; None exactly where the
     /// number was never used for a thread.
     pub fn process_of(&self, tid: u32) -> Option<u32>
-        ensures process { result ≡ option_map (λ u. u.process) (first (is_used_thread tid) self.now.used_threads) }
+        ensures process { result ≡ used_process self.now.used_threads tid }
         ensures row { IfSome (thread_at self.now tid) (λ t. result ≡ Some t.process) }
     {
         lists::process_of(&self.used_threads, tid)
@@ -195,7 +195,7 @@ impl Procs {
     /// The thread's next message identifier. The one that it draws after this is greater by one. The thread has a row,
     /// and has drawn fewer than 2^32 - 2 before.
     pub fn draw_identifier(&mut self, tid: u32) -> u32
-        requires identifier_left { IsSomeAnd (thread_at self.old tid) (λ t. t.next_identifier < 2 ^ 32 - 1) }
+        requires identifier_left { IsSomeAnd (thread_at self.old tid) HasIdentifierLeft }
         ensures identifier { option_map (λ t. t.next_identifier) (thread_at self.old tid) ≡ Some result }
         ensures table { self.new ≡ with_thread self.old tid past_identifier }
     {
@@ -214,7 +214,7 @@ impl Procs {
     /// The name of the object that the thread makes. The ordinal that it draws after this is greater by one. The thread
     /// has a row, and has drawn fewer than 2^32 - 2 before.
     pub fn draw_birth(&mut self, tid: u32) -> Birth
-        requires ordinal_left { IsSomeAnd (thread_at self.old tid) (λ t. t.next_ordinal < 2 ^ 32 - 1) }
+        requires ordinal_left { IsSomeAnd (thread_at self.old tid) HasOrdinalLeft }
         ensures birth { option_map procs.next_birth (thread_at self.old tid) ≡ Some result }
         ensures table { self.new ≡ with_thread self.old tid past_birth }
     {
@@ -277,7 +277,7 @@ impl Procs {
     /// Removes the row that a process has. Its number stays used, so the room need not grow.
     pub fn free_process(&mut self, pid: u32)
         requires present { is_some (process_at self.old pid) ≡ true }
-        ensures table { self.new ≡ record self.old { processes = without (is_process pid) self.old.processes; process_room = self.new.process_room } }
+        ensures table { self.new ≡ without_process self.old pid self.new.process_room }
         ensures room { self.old.process_room ≤ self.new.process_room }
     {
         lists::remove_process(&mut self.processes, pid);
@@ -286,7 +286,7 @@ impl Procs {
     /// Removes the row that a thread has. Its number stays used, so the room need not grow.
     pub fn free_thread(&mut self, tid: u32)
         requires present { is_some (thread_at self.old tid) ≡ true }
-        ensures table { self.new ≡ record self.old { threads = without (is_thread tid) self.old.threads; thread_room = self.new.thread_room } }
+        ensures table { self.new ≡ without_thread self.old tid self.new.thread_room }
         ensures room { self.old.thread_room ≤ self.new.thread_room }
     {
         lists::remove_thread(&mut self.threads, tid);

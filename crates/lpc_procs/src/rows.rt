@@ -2,7 +2,7 @@
 use lpc_base::Birth;
 
 /// The number of a process or of a thread. The two are spaces of their own: one number may name a process and a thread.
-#[derive(Clone, Copy, Debug, PartialEq, Eq)]
+#[derive(Clone, Copy)]
 pub enum Number {
     /// A process has the number.
     Process(u32),
@@ -11,7 +11,7 @@ pub enum Number {
 }
 
 /// A process.
-#[derive(Clone, Copy, Debug, PartialEq, Eq)]
+#[derive(Clone, Copy)]
 pub struct ProcessRow {
     /// From 1 to 2147483647.
     pub number: u32,
@@ -22,7 +22,7 @@ pub struct ProcessRow {
 }
 
 /// A thread.
-#[derive(Clone, Copy, Debug, PartialEq, Eq)]
+#[derive(Clone, Copy)]
 pub struct ThreadRow {
     /// From 1 to 2147483647.
     pub number: u32,
@@ -39,7 +39,7 @@ pub struct ThreadRow {
 }
 
 /// A thread number that was ever used, and the process of that thread. It stays when the thread's row goes.
-#[derive(Clone, Copy, Debug, PartialEq, Eq)]
+#[derive(Clone, Copy)]
 pub struct UsedThread {
     /// The number of the thread.
     pub number: u32,

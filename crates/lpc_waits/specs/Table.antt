@@ -1,6 +1,6 @@
 -- What contracts see of the waits: the rows in the order of waiting.
-use Rattle.std.specs.Prelude.{ℕ, ◌+◌, ◌-◌, ◌==◌, ◌&&◌, ◌||◌, ◌++◌, ◌∷◌, Bool, true, false, List, [], Option, None, is_some}
-use Rattle.lpc_base.specs.Rows.{differ_by, first}
+use Rattle.std.specs.Prelude.{ℕ, ◌+◌, ◌-◌, ◌==◌, ◌&&◌, ◌||◌, ◌++◌, ◌∷◌, Bool, true, false, List, [], Option, None, is_some, option_map}
+use Rattle.lpc_base.specs.Rows.{change, differ_by, first}
 use Rattle.lpc_slots.specs.Table.{is_key}
 use Rattle.lpc_slots.specs.declared.Key.{Key}
 use Rattle.lpc_waits.specs.declared.Accepted.{Accepted}
@@ -22,6 +22,21 @@ is_of tid row = row.thread == tid
 -- the row that a thread has, if it waits
 abbrev pub row_of : WaitTable → ℕ → Option WaitRow
 row_of s tid = first (is_of tid) s.rows
+
+-- the message of a thread's wait, and what its connect was accepted with
+abbrev pub message_of : WaitTable → ℕ → Option (List ℕ)
+message_of s tid = option_map (λ row. row.message.items) (row_of s tid)
+
+abbrev pub accepted_of : WaitTable → ℕ → Option (Option Accepted)
+accepted_of s tid = option_map (λ row. row.accepted) (row_of s tid)
+
+-- the thread of the first row that passes
+abbrev pub first_thread : (WaitRow → Bool) → WaitTable → Option ℕ
+first_thread test s = option_map (λ row. row.thread) (first test s.rows)
+
+-- the waits, that of a thread changed
+abbrev pub with_row : WaitTable → ℕ → (WaitRow → WaitRow) → WaitTable
+with_row s tid f = record s { rows = change (is_of tid) f s.rows }
 
 -- no two rows have one thread
 abbrev pub are_apart : List WaitRow → Bool

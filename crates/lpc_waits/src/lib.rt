@@ -3,8 +3,9 @@
 
 ghost use Rattle.std.specs.Prelude.{◌≡◌, ◌+◌, ◌<◌, ◌-◌, ◌≤◌, ◌^◌, ◌++◌, ◌∷◌, [], length, OnOk, OnErr, Some, None, IsSome, option_copied, option_map, is_some, if◌then◌else◌};
 ghost use Rattle.std.specs.List.{position};
-ghost use Rattle.lpc_base.specs.Rows.{change, count, first, without, has};
-ghost use Rattle.lpc_waits.specs.Table.{begun, is_connect_of, is_of, is_taker_on, received, row_of, takes, with_accepted, with_message, with_queue, is_wait_at, is_accepted, is_accepted_on, is_connect};
+ghost use Rattle.lpc_base.specs.Rows.{count, without, has};
+ghost use Rattle.lpc_base.specs.declared.limits.TheConstants.{MESSAGE_LIMIT};
+ghost use Rattle.lpc_waits.specs.Table.{accepted_of, begun, first_thread, is_accepted, is_accepted_on, is_connect, is_connect_of, is_of, is_taker_on, is_wait_at, message_of, received, row_of, takes, with_accepted, with_message, with_queue, with_row};
 
 #[cfg(test)]
 mod tests;
@@ -16,7 +17,7 @@ use std::alloc::Global;
 use std::marker::Model;
 
 /// What a thread waits for.
-#[derive(Clone, Copy, Debug, PartialEq, Eq)]
+#[derive(Clone, Copy, PartialEq, Eq)]
 pub enum WaitKind {
     /// The reply to a request.
     Request,
@@ -52,7 +53,7 @@ impl WaitKind {
 }
 
 /// The wait of a thread.
-#[derive(Clone, Copy, Debug, PartialEq, Eq)]
+#[derive(Clone, Copy)]
 pub struct Wait {
     /// The process of the waiting thread.
     pub process: u32,
@@ -187,7 +188,7 @@ impl Waits {
     /// Marks the request or the connection request of a waiting thread as received.
     pub fn receive(&mut self, tid: u32)
         requires waits { IsSome (row_of self.old tid) }
-        ensures table { self.new ≡ record self.old { rows = change (is_of tid) received self.old.rows } }
+        ensures table { self.new ≡ with_row self.old tid received }
     {
         let index = self.place(tid);
         self.rows[index].wait.received = true;
@@ -199,7 +200,7 @@ impl Waits {
     /// listens together, in one order of waiting. A message goes to the oldest receive, a connection request to the
     /// oldest receive or listen: so listens count exactly where the message is a connection request.
     pub fn first_on(&self, queue: Key, with_listens: bool) -> Option<u32>
-        ensures { result ≡ option_map (λ row. row.thread) (first (is_taker_on queue with_listens) self.now.rows) }
+        ensures { result ≡ first_thread (is_taker_on queue with_listens) self.now }
     {
         for row in &self.rows {
             if row.wait.kind.takes(with_listens) && row.wait.queue == queue {
@@ -224,7 +225,7 @@ impl Waits {
     /// The thread that waits on a port with an accepted connect, the one that has waited longest: None exactly where
     /// there is none.
     pub fn accepted_on(&self, port: Key) -> Option<u32>
-        ensures { result ≡ option_map (λ row. row.thread) (first (is_accepted_on port) self.now.rows) }
+        ensures { result ≡ first_thread (is_accepted_on port) self.now }
     {
         for row in &self.rows {
             if is_accepted(row) && row.wait.port == port {
@@ -237,8 +238,8 @@ impl Waits {
     /// The bytes of the message with which a waiting thread waits; none until they are set.
     pub fn message(&self, tid: u32) -> &[u8]
         requires waits { IsSome (row_of self.now tid) }
-        ensures value { option_map (λ row. row.message.items) (row_of self.now tid) ≡ Some result.now }
-        ensures bound { length result.now ≤ 256 }
+        ensures value { message_of self.now tid ≡ Some result.now }
+        ensures bound { length result.now ≤ MESSAGE_LIMIT }
     {
         self.rows[self.place(tid)].message.as_slice()
     }
@@ -246,8 +247,8 @@ impl Waits {
     /// Gives a waiting thread's wait the bytes of a message: no more than a message holds.
     pub fn set_message(&mut self, tid: u32, bytes: &[u8])
         requires waits { IsSome (row_of self.old tid) }
-        requires bound { length bytes.now ≤ 256 }
-        ensures table { self.new ≡ record self.old { rows = change (is_of tid) (with_message bytes.now) self.old.rows } }
+        requires bound { length bytes.now ≤ MESSAGE_LIMIT }
+        ensures table { self.new ≡ with_row self.old tid (with_message bytes.now) }
     {
         let index = self.place(tid);
         self.rows[index].message = held(bytes);
@@ -266,7 +267,7 @@ impl Waits {
     /// What a waiting thread's connect was accepted with: None until it is set.
     pub fn accepted(&self, tid: u32) -> Option<&Accepted>
         requires waits { IsSome (row_of self.now tid) }
-        ensures value { option_map (λ row. row.accepted) (row_of self.now tid) ≡ Some (option_copied result) }
+        ensures value { accepted_of self.now tid ≡ Some (option_copied result) }
     {
         self.rows[self.place(tid)].accepted.as_ref()
     }
@@ -274,7 +275,7 @@ impl Waits {
     /// Gives a waiting thread's wait what its connect was accepted with, or takes that away.
     pub fn set_accepted(&mut self, tid: u32, accepted: Option<Accepted>)
         requires waits { IsSome (row_of self.old tid) }
-        ensures table { self.new ≡ record self.old { rows = change (is_of tid) (with_accepted accepted) self.old.rows } }
+        ensures table { self.new ≡ with_row self.old tid (with_accepted accepted) }
     {
         let index = self.place(tid);
         self.rows[index].accepted = accepted;
@@ -283,7 +284,7 @@ impl Waits {
     /// Gives a waiting thread's wait another queue.
     pub fn set_queue(&mut self, tid: u32, queue: Key)
         requires waits { IsSome (row_of self.old tid) }
-        ensures table { self.new ≡ record self.old { rows = change (is_of tid) (with_queue queue) self.old.rows } }
+        ensures table { self.new ≡ with_row self.old tid (with_queue queue) }
     {
         let index = self.place(tid);
         self.rows[index].wait.queue = queue;
