@@ -1,8 +1,8 @@
 -- What contracts see of ports and of the messages in their queues, each in the order of making.
-use Rattle.std.specs.Prelude.{◌≡◌, ◌==◌, ◌&&◌, ◌||◌, ℕ, Bool, false, List, Option, Some, None, is_some, is_none, option_map, option_and_then, if◌then◌else◌}
+use Rattle.std.specs.Prelude.{◌≡◌, ◌+◌, ◌-◌, ◌==◌, ◌&&◌, ◌||◌, ◌++◌, ◌∷◌, ℕ, Bool, false, List, [], Option, Some, None, option_map, option_and_then, if◌then◌else◌}
 use Rattle.std.specs.Option.{option_map_or}
 use Rattle.lpc_base.specs.declared.birth.Birth.{Birth}
-use Rattle.lpc_base.specs.Rows.{change, first, passes}
+use Rattle.lpc_base.specs.Rows.{change, first, has, passes, without, without_first}
 use Rattle.lpc_message.specs.declared.kind.TheConstants.{CONNECTION_REQUEST, DATAGRAM, REQUEST}
 use Rattle.lpc_message.specs.Layout.{half_at}
 use Rattle.lpc_slots.specs.Table.{at_key, is_key}
@@ -10,7 +10,7 @@ use Rattle.lpc_slots.specs.declared.Key.{Key}
 use Rattle.lpc_ports.specs.declared.Creator.{Creator}
 use Rattle.lpc_ports.specs.declared.Port.{Port}
 use Rattle.lpc_base.specs.declared.port_kind.PortKind.{PortKind}
-use Rattle.lpc_base.specs.declared.port_kind.PortKind.TheVariants.{Client, Server}
+use Rattle.lpc_ports.specs.declared.messages.Message.{Message}
 use Rattle.lpc_ports.specs.declared.messages.QueuedMessage.{QueuedMessage}
 
 -- the ports, and the messages that stand in queues; how many more of each go in without memory, and how many were
@@ -22,6 +22,14 @@ pub record PortTable : Type 0 where
   pub message_room : ℕ
   pub ports_made : ℕ
   pub messages_made : ℕ
+
+-- no port, no message and no room
+abbrev pub nothing : PortTable
+nothing = record { ports = []; messages = []; port_room = 0; message_room = 0; ports_made = 0; messages_made = 0 }
+
+-- the table with this room for ports and for messages
+abbrev pub with_room : PortTable → ℕ → ℕ → PortTable
+with_room s ports messages = record s { port_room = ports; message_room = messages }
 
 module _ {T : Type 0} where
   -- what the row of a key holds
@@ -44,6 +52,16 @@ new_port kind birth connection = record {
   completed = false;
 }
 
+-- the table with a port behind the others, with a port changed, and without a port
+abbrev pub with_port : PortTable → Key → Port → PortTable
+with_port s key port = record s { ports = s.ports ++ (key, port) ∷ []; port_room = s.port_room - 1; ports_made = s.ports_made + 1 }
+
+abbrev pub with_changed : PortTable → Key → (Port → Port) → PortTable
+with_changed s key f = record s { ports = with_row s.ports key f }
+
+abbrev pub without_port : PortTable → Key → PortTable
+without_port s key = record s { ports = without (at_key key) s.ports; port_room = s.port_room + 1 }
+
 -- a port whose other end and context are these
 abbrev pub paired : Key → ℕ → Port → Port
 paired other context port = record port { pair = Some other; context = context }
@@ -60,6 +78,9 @@ with_completed completed port = record port { completed = completed }
 abbrev pub joined : List (Key × Port) → Key → Key → ℕ → List (Key × Port)
 joined ports client server context = with_row (with_row ports client (paired server context)) server (paired client context)
 
+abbrev pub with_joined : PortTable → Key → Key → ℕ → PortTable
+with_joined s client server context = record s { ports = joined s.ports client server context }
+
 -- a port without another end
 abbrev pub unpaired : Port → Port
 unpaired port = record port { pair = None }
@@ -72,35 +93,34 @@ pair_of ports key = option_and_then (λ (row : Port). row.pair) (row_at ports ke
 abbrev pub parted : List (Key × Port) → Key → List (Key × Port)
 parted ports key = with_row (option_map_or (λ other. with_row ports other unpaired) (pair_of ports key) ports) key unpaired
 
--- a port where it is open: where it has a row, since this table doesn't know the handles
-abbrev pub if_open : List (Key × Port) → Option Key → Option Key
-if_open ports port = option_and_then (λ key. if is_some (row_at ports key) then Some key else None) port
-
--- the queue of a port's own: itself, or for a server port its connection port; none where that isn't open
-abbrev pub own_queue : List (Key × Port) → Key → Option Key
-own_queue ports key = option_and_then (λ (row : Port). elim row.kind [
-  | Server ↦ if_open ports row.connection
-  | _ ↦ Some key
-]) (row_at ports key)
-
--- the queue that a message sent on an open port enters
-abbrev pub way : List (Key × Port) → Key → Port → Option Key
-way ports key row = elim row.kind [
-  | Client ↦ if is_none row.pair then None else if_open ports row.connection
-  | Server ↦ if_open ports row.pair
-  | _ ↦ Some key
-]
-
--- the queue that a message sent on a port enters; none where the port isn't open, or has no way
-abbrev pub route : List (Key × Port) → Key → Option Key
-route ports key = option_and_then (way ports key) (row_at ports key)
-
 -- a message in a queue
 abbrev pub queued : Key → Key → ℕ → List ℕ → QueuedMessage
 queued queue sender context bytes = record {
   queue = queue;
   message = record { bytes = record { items = bytes }; sender = sender; context = context };
 }
+
+-- the table with a message behind the others, and without a message
+abbrev pub with_sent : PortTable → Key → QueuedMessage → PortTable
+with_sent s key message = record s {
+  messages = s.messages ++ (key, message) ∷ [];
+  message_room = s.message_room - 1;
+  messages_made = s.messages_made + 1;
+}
+
+abbrev pub without_message : PortTable → Key → PortTable
+without_message s key = record s { messages = without (at_key key) s.messages; message_room = s.message_room + 1 }
+
+-- the message of a key, and the queue in which it stands
+abbrev pub message_at : List (Key × QueuedMessage) → Key → Option Message
+message_at messages key = option_map (λ row. row.message) (row_at messages key)
+
+abbrev pub queue_at : List (Key × QueuedMessage) → Key → Option Key
+queue_at messages key = option_map (λ row. row.queue) (row_at messages key)
+
+-- a message has the type of this number
+abbrev pub is_of_type : ℕ → Message → Bool
+is_of_type number message = half_at message.bytes.items 4 == number
 
 -- a message stands in this queue
 abbrev pub is_in : Key → Key × QueuedMessage → Bool
@@ -112,11 +132,26 @@ first_in messages queue = option_map (λ row. row.0) (first (is_in queue) messag
 
 -- a connection request stands in this queue
 abbrev pub is_connect_in : Key → Key × QueuedMessage → Bool
-is_connect_in queue row = is_in queue row && (half_at row.1.message.bytes.items 4 == CONNECTION_REQUEST)
+is_connect_in queue row = is_in queue row && is_of_type CONNECTION_REQUEST row.1.message
 
 -- the oldest connection request of a queue
 abbrev pub first_connect_in : List (Key × QueuedMessage) → Key → Option Key
 first_connect_in messages queue = option_map (λ row. row.0) (first (is_connect_in queue) messages)
+
+-- the oldest message of a queue, or its oldest connection request alone
+abbrev pub first_of : Bool → List (Key × QueuedMessage) → Key → Option Key
+first_of connects_only messages queue = if connects_only then first_connect_in messages queue else first_in messages queue
+
+-- the key of the first message that passes a test of a queue
+abbrev pub key_of_first : (Key × QueuedMessage → Bool) → List (Key × QueuedMessage) → Option Key
+key_of_first test messages = option_map (λ row. row.0) (first test messages)
+
+-- where a message is the first that passes a test of a queue: it is the one that was taken, and the others are left
+abbrev pub PullsFirst : (Key → Key × QueuedMessage → Bool) → List (Key × QueuedMessage) → Key → Message → Type 0
+PullsFirst test messages key message = (queue : Key) → key_of_first (test queue) messages ≡ Some key → option_map (λ row. row.1.message) (first (test queue) messages) ≡ Some message
+
+abbrev pub LeavesOthers : (Key → Key × QueuedMessage → Bool) → List (Key × QueuedMessage) → Key → List (Key × QueuedMessage) → Type 0
+LeavesOthers test messages key left = (queue : Key) → key_of_first (test queue) messages ≡ Some key → left ≡ without_first (test queue) messages
 
 -- no message stands in this queue
 abbrev pub has_none_in : List (Key × QueuedMessage) → Key → Type 0
@@ -134,10 +169,15 @@ is_joined_to port row = is_the port row.1.pair || is_the port row.1.connection
 abbrev pub is_message_at : Key → Key × QueuedMessage → Bool
 is_message_at port row = is_key row.1.message.sender port || is_in port row
 
+-- a row names this port: a port has it as its other end or its connection port, or a message was sent on it or stands
+-- in its queue
+abbrev pub is_named : PortTable → Key → Bool
+is_named s port = has (is_joined_to port) s.ports || has (is_message_at port) s.messages
+
 -- a message was sent on this port, and is a datagram
 abbrev pub is_datagram_of : Key → Key × QueuedMessage → Bool
-is_datagram_of sender row = is_key row.1.message.sender sender && (half_at row.1.message.bytes.items 4 == DATAGRAM)
+is_datagram_of sender row = is_key row.1.message.sender sender && is_of_type DATAGRAM row.1.message
 
 -- a message asks for an answer: it is a request or a connection request
 abbrev pub is_asking : Key × QueuedMessage → Bool
-is_asking row = (half_at row.1.message.bytes.items 4 == REQUEST) || (half_at row.1.message.bytes.items 4 == CONNECTION_REQUEST)
+is_asking row = is_of_type REQUEST row.1.message || is_of_type CONNECTION_REQUEST row.1.message

@@ -1,10 +1,11 @@
 //! Ports, and the messages that stand in their queues.
 #![tactic(auto)]
 
-ghost use Rattle.std.specs.Prelude.{◌≡◌, ◌||◌, ◌+◌, ◌<◌, ◌-◌, ◌≤◌, ◌^◌, ◌++◌, ◌∷◌, [], length, OnOk, OnErr, Some, None, IsSome, option_copied, option_map, if◌then◌else◌};
-ghost use Rattle.lpc_base.specs.Rows.{count, first, has, without, without_first};
+ghost use Rattle.std.specs.Prelude.{◌≡◌, ◌||◌, ◌<◌, ◌-◌, ◌≤◌, ◌^◌, length, OnOk, OnErr, Some, None, IsSome, option_copied, option_map, slice_get};
+ghost use Rattle.lpc_base.specs.Rows.{count, first, has};
+ghost use Rattle.lpc_base.specs.declared.limits.TheConstants.{MESSAGE_LIMIT};
 ghost use Rattle.lpc_slots.specs.Table.{at_key};
-ghost use Rattle.lpc_ports.specs.Table.{row_at, new_port, queued, joined, paired, parted, own_queue, route, first_in, first_connect_in, has_none_in, is_asking, is_in, is_connect_in, is_datagram_of, is_joined_to, is_message_at, is_the, with_row, with_completed, with_creator, unpaired, pair_of, if_open};
+ghost use Rattle.lpc_ports.specs.Table.{LeavesOthers, PullsFirst, first_connect_in, first_in, first_of, has_none_in, is_asking, is_connect_in, is_datagram_of, is_in, is_joined_to, is_message_at, is_named, is_the, message_at, new_port, nothing, pair_of, paired, parted, queue_at, queued, row_at, unpaired, with_changed, with_completed, with_creator, with_joined, with_port, with_room, with_sent, without_message, without_port};
 
 mod messages;
 #[cfg(test)]
@@ -19,7 +20,7 @@ use std::alloc::Global;
 use std::marker::Model;
 
 /// The connect that made a client port.
-#[derive(Clone, Copy, Debug, PartialEq, Eq)]
+#[derive(Clone, Copy)]
 pub struct Creator {
     /// The process and the thread that connected.
     pub client: ClientId,
@@ -28,7 +29,7 @@ pub struct Creator {
 }
 
 /// A row of the table: a port.
-#[derive(Clone, Copy, Debug, PartialEq, Eq)]
+#[derive(Clone, Copy)]
 pub struct Port {
     /// The name that it was made under.
     pub birth: Birth,
@@ -94,7 +95,7 @@ impl Model for Ports {
 impl Ports {
     /// No ports and no messages, and no spare room.
     pub fn new(alloc: Global) -> Ports
-        ensures { result ≡ record { ports = []; messages = []; port_room = 0; message_room = 0; ports_made = 0; messages_made = 0 } }
+        ensures { result ≡ nothing }
     {
         Ports {
             ports: Slots::new(alloc),
@@ -109,7 +110,7 @@ impl Ports {
         ensures ports { OnOk result (ports ≤ self.new.port_room) }
         ensures messages { OnOk result (blocks ≤ self.new.message_room) }
         ensures wanting { OnErr result (ports ≤ self.old.port_room → self.old.message_room < blocks) }
-        ensures kept { self.new ≡ record self.old { port_room = self.new.port_room; message_room = self.new.message_room } }
+        ensures kept { self.new ≡ with_room self.old self.new.port_room self.new.message_room }
         ensures port_room { self.old.port_room ≤ self.new.port_room }
         ensures message_room { self.old.message_room ≤ self.new.message_room }
     {
@@ -125,7 +126,7 @@ impl Ports {
         requires room { 0 < self.old.port_room }
         requires few { self.old.ports_made < 2 ^ 64 - 1 }
         ensures vacant { first (at_key result) self.old.ports ≡ None }
-        ensures table { self.new ≡ record self.old { ports = self.old.ports ++ (result, new_port kind birth connection) ∷ []; port_room = self.old.port_room - 1; ports_made = self.old.ports_made + 1 } }
+        ensures table { self.new ≡ with_port self.old result (new_port kind birth connection) }
     {
         self.ports.insert_reserved(Port {
             birth,
@@ -150,6 +151,15 @@ impl Ports {
         ensures { result ≡ length self.now.ports }
     {
         self.ports.count()
+    }
+
+    /// The key of the port at a place. Places go from 0 in the order of making.
+    pub fn key_at(&self, place: usize) -> Key
+        requires { place < length self.now.ports }
+        ensures { option_map (λ row. row.0) (slice_get self.now.ports place) ≡ Some result }
+    {
+        let (key, _) = self.ports.row(place);
+        key
     }
 
     /// The birth of a port that has a row.
@@ -210,7 +220,7 @@ impl Ports {
 
     /// Gives a port the connect that made it, or takes that away. What has no row gets none.
     pub fn set_creator(&mut self, port: Key, creator: Option<Creator>)
-        ensures { self.new ≡ record self.old { ports = with_row self.old.ports port (with_creator creator) } }
+        ensures { self.new ≡ with_changed self.old port (with_creator creator) }
     {
         if let Some(row) = self.ports.get_mut(port) {
             row.creator = creator;
@@ -219,7 +229,7 @@ impl Ports {
 
     /// Says of a port whether its connection is completed. What has no row gets none.
     pub fn set_completed(&mut self, port: Key, completed: bool)
-        ensures { self.new ≡ record self.old { ports = with_row self.old.ports port (with_completed completed) } }
+        ensures { self.new ≡ with_changed self.old port (with_completed completed) }
     {
         if let Some(side) = self.ports.get_mut(port) {
             side.completed = completed;
@@ -232,7 +242,7 @@ impl Ports {
     pub fn free(&mut self, port: Key)
         requires open { IsSome (row_at self.old.ports port) }
         requires empty { has_none_in self.old.messages port }
-        ensures table { self.new ≡ record self.old { ports = without (at_key port) self.old.ports; port_room = self.old.port_room + 1 } }
+        ensures table { self.new ≡ without_port self.old port }
     {
         if self.ports.remove(port).is_none() {
             unreachable!()
@@ -245,9 +255,9 @@ impl Ports {
     pub fn send(&mut self, queue: Key, sender: Key, context: u32, bytes: &[u8]) -> Key
         requires room { 0 < self.old.message_room }
         requires few { self.old.messages_made < 2 ^ 64 - 1 }
-        requires bound { length bytes.now ≤ 256 }
+        requires bound { length bytes.now ≤ MESSAGE_LIMIT }
         ensures vacant { first (at_key result) self.old.messages ≡ None }
-        ensures table { self.new ≡ record self.old { messages = self.old.messages ++ (result, queued queue sender context bytes.now) ∷ []; message_room = self.old.message_room - 1; messages_made = self.old.messages_made + 1 } }
+        ensures table { self.new ≡ with_sent self.old result (queued queue sender context bytes.now) }
     {
         self.messages.insert_reserved(QueuedMessage {
             queue,
@@ -261,7 +271,7 @@ impl Ports {
 
     /// The oldest message of a queue, or its oldest connection request alone: None exactly where there is none.
     pub fn first(&self, queue: Key, connects_only: bool) -> Option<Key>
-        ensures { result ≡ (if connects_only then first_connect_in self.now.messages queue else first_in self.now.messages queue) }
+        ensures { result ≡ first_of connects_only self.now.messages queue }
     {
         if connects_only {
             self.first_connect(queue)
@@ -301,7 +311,7 @@ impl Ports {
     /// A row names this port: a port has it as its other end or its connection port, or a message was sent on it or
     /// stands in its queue.
     pub fn is_named(&self, port: Key) -> bool
-        ensures { result ≡ has (is_joined_to port) self.now.ports || has (is_message_at port) self.now.messages }
+        ensures { result ≡ is_named self.now port }
     {
         self.is_joined(port) || self.has_message(port)
     }
@@ -309,7 +319,7 @@ impl Ports {
     /// A message that stands in a queue.
     pub fn message(&self, message: Key) -> &Message
         requires { IsSome (row_at self.now.messages message) }
-        ensures { option_map (λ row. row.message) (row_at self.now.messages message) ≡ Some result.now }
+        ensures { message_at self.now.messages message ≡ Some result.now }
     {
         &self.queued(message).message
     }
@@ -317,7 +327,7 @@ impl Ports {
     /// The port in whose queue a message stands.
     pub fn message_queue(&self, message: Key) -> Key
         requires { IsSome (row_at self.now.messages message) }
-        ensures { option_map (λ row. row.queue) (row_at self.now.messages message) ≡ Some result }
+        ensures { queue_at self.now.messages message ≡ Some result }
     {
         self.queued(message).queue
     }
@@ -325,12 +335,12 @@ impl Ports {
     /// Takes a message from its queue, and answers it. Its room is spare then.
     pub fn pull(&mut self, message: Key) -> Message
         requires stands { IsSome (row_at self.old.messages message) }
-        ensures value { option_map (λ row. row.message) (row_at self.old.messages message) ≡ Some result }
-        ensures table { self.new ≡ record self.old { messages = without (at_key message) self.old.messages; message_room = self.old.message_room + 1 } }
-        ensures first { (queue : Key) → first_in self.old.messages queue ≡ Some message → option_map (λ row. row.1.message) (first (is_in queue) self.old.messages) ≡ Some result }
-        ensures oldest { (queue : Key) → first_in self.old.messages queue ≡ Some message → self.new.messages ≡ without_first (is_in queue) self.old.messages }
-        ensures first_connect { (queue : Key) → first_connect_in self.old.messages queue ≡ Some message → option_map (λ row. row.1.message) (first (is_connect_in queue) self.old.messages) ≡ Some result }
-        ensures oldest_connect { (queue : Key) → first_connect_in self.old.messages queue ≡ Some message → self.new.messages ≡ without_first (is_connect_in queue) self.old.messages }
+        ensures value { message_at self.old.messages message ≡ Some result }
+        ensures table { self.new ≡ without_message self.old message }
+        ensures first { PullsFirst is_in self.old.messages message result }
+        ensures oldest { LeavesOthers is_in self.old.messages message self.new.messages }
+        ensures first_connect { PullsFirst is_connect_in self.old.messages message result }
+        ensures oldest_connect { LeavesOthers is_connect_in self.old.messages message self.new.messages }
     {
         match self.messages.remove(message) {
             Some(row) => row.message,
@@ -341,7 +351,7 @@ impl Ports {
     /// Makes a client and a server port the two ends of a connection, and gives both its context. What has no row gets
     /// none.
     pub fn join(&mut self, client: Key, server: Key, context: u32)
-        ensures { self.new ≡ record self.old { ports = joined self.old.ports client server context } }
+        ensures { self.new ≡ with_joined self.old client server context }
     {
         self.pair_with(client, server, context);
         self.pair_with(server, client, context);
@@ -355,36 +365,6 @@ impl Ports {
             self.forget_pair(other);
         }
         self.forget_pair(port);
-    }
-
-    /// The queue that a message sent on a port enters.
-    ///
-    /// An unnamed or connection port's message enters its own queue, a client port's that of its connection port, a
-    /// server port's that of its pair. None exactly where the port isn't open, where a client or server port has no
-    /// pair, or where the port of that queue isn't open.
-    pub fn route(&self, port: Key) -> Option<Key>
-        ensures { result ≡ route self.now.ports port }
-    {
-        let row = self.get(port)?;
-        match row.kind {
-            PortKind::Unnamed | PortKind::Connection => Some(port),
-            PortKind::Client => {
-                row.pair?;
-                self.if_open(row.connection)
-            }
-            PortKind::Server => self.if_open(row.pair),
-        }
-    }
-
-    /// The queue of a port's own: itself, or for a server port its connection port. None exactly where that isn't open.
-    pub fn queue_of(&self, port: Key) -> Option<Key>
-        ensures { result ≡ own_queue self.now.ports port }
-    {
-        let row = self.get(port)?;
-        match row.kind {
-            PortKind::Server => self.if_open(row.connection),
-            _ => Some(port),
-        }
     }
 
     // A port has this one as its other end or as its connection port.
@@ -477,7 +457,7 @@ impl Ports {
 
     // Gives a port its other end and its context, where the port is open.
     fn pair_with(&mut self, port: Key, pair: Key, context: u32)
-        ensures { self.new ≡ record self.old { ports = with_row self.old.ports port (paired pair context) } }
+        ensures { self.new ≡ with_changed self.old port (paired pair context) }
     {
         if let Some(row) = self.ports.get_mut(port) {
             row.pair = Some(pair);
@@ -487,21 +467,10 @@ impl Ports {
 
     // Takes the pair from a port, where the port is open.
     fn forget_pair(&mut self, port: Key)
-        ensures { self.new ≡ record self.old { ports = with_row self.old.ports port unpaired } }
+        ensures { self.new ≡ with_changed self.old port unpaired }
     {
         if let Some(row) = self.ports.get_mut(port) {
             row.pair = None;
-        }
-    }
-
-    // The port, where it is open.
-    fn if_open(&self, port: Option<Key>) -> Option<Key>
-        ensures { result ≡ if_open self.now.ports port }
-    {
-        let key = port?;
-        match self.get(key) {
-            Some(_) => Some(key),
-            None => None,
         }
     }
 }

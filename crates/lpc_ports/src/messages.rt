@@ -1,8 +1,9 @@
 //! Messages as they stand in queues.
 
-ghost use Rattle.std.specs.Prelude.{◌≡◌, ◌==◌, ◌&&◌, ◌||◌, slice_index};
+ghost use Rattle.std.specs.Prelude.{◌≡◌, ◌&&◌, ◌||◌, slice_index};
 ghost use Rattle.lpc_message.specs.Layout.{half_at};
 ghost use Rattle.lpc_slots.specs.Table.{is_key};
+ghost use Rattle.lpc_ports.specs.Table.{is_of_type};
 
 use arrayvec::ArrayVec;
 use lpc_message::kind::{CONNECTION_REQUEST, DATAGRAM, REQUEST};
@@ -25,21 +26,21 @@ pub struct Message {
 impl Message {
     /// It was sent on this port, and its type is that of a datagram.
     pub(crate) fn is_datagram_of(&self, sender: Key) -> bool
-        ensures { result ≡ is_key self.now.sender sender && (half_at self.now.bytes.items 4 == DATAGRAM) }
+        ensures { result ≡ is_key self.now.sender sender && is_of_type DATAGRAM self.now }
     {
         self.sender == sender && self.kind() == DATAGRAM
     }
 
     /// Its type is that of a connection request.
     pub(crate) fn is_connect(&self) -> bool
-        ensures { result ≡ (half_at self.now.bytes.items 4 == CONNECTION_REQUEST) }
+        ensures { result ≡ is_of_type CONNECTION_REQUEST self.now }
     {
         self.kind() == CONNECTION_REQUEST
     }
 
     /// It asks for an answer: its type is that of a request or a connection request.
     pub(crate) fn asks(&self) -> bool
-        ensures { result ≡ (half_at self.now.bytes.items 4 == REQUEST) || (half_at self.now.bytes.items 4 == CONNECTION_REQUEST) }
+        ensures { result ≡ is_of_type REQUEST self.now || is_of_type CONNECTION_REQUEST self.now }
     {
         self.kind() == REQUEST || self.is_connect()
     }
@@ -66,7 +67,7 @@ pub struct QueuedMessage {
 impl QueuedMessage {
     /// It stands in this queue, and is a connection request.
     pub(crate) fn is_connect_in(&self, queue: Key) -> bool
-        ensures { result ≡ is_key self.now.queue queue && (half_at self.now.message.bytes.items 4 == CONNECTION_REQUEST) }
+        ensures { result ≡ is_key self.now.queue queue && is_of_type CONNECTION_REQUEST self.now.message }
     {
         self.queue == queue && self.message.is_connect()
     }

@@ -1,10 +1,12 @@
 // The ports, call by call, with ample memory.
-ghost use Rattle.std.specs.Prelude.{◌<◌};
+ghost use Rattle.std.specs.Prelude.{◌≡◌, ◌<◌, ◌+◌, IsSome};
+ghost use Rattle.lpc_ports.specs.Table.{row_at};
 
-use crate::{Creator, PortKind, Ports};
+use crate::{Creator, Message, PortKind, Ports};
 use lpc_base::Birth;
 use lpc_message::ClientId;
 use lpc_message::kind::{CONNECTION_REQUEST, DATAGRAM, REPLY, REQUEST};
+use lpc_slots::Key;
 use std::process::Abort;
 use std::test::Fail;
 
@@ -34,32 +36,69 @@ fn header(kind: u16) -> [u8; 24] {
     bytes
 }
 
+// The port has this birth, this other end and this context.
+fn is_port(
+    rt: &impl Abort,
+    ports: &Ports,
+    port: Key,
+    birth: Birth,
+    pair: Option<Key>,
+    context: u32,
+) {
+    let Some(row) = ports.get(port) else {
+        assert!(rt; false);
+        return;
+    };
+    assert!(rt; row.birth == birth);
+    assert!(rt; row.pair == pair);
+    assert!(rt; row.context == context);
+}
+
+// A client and a server port become the ends of one connection, and are taken apart.
+fn joins_and_cuts(rt: &impl Abort, ports: &mut Ports, client: Key, server: Key) {
+    is_port(rt, ports, client, birth(3), None, 0);
+    ports.join(client, server, 77);
+    is_port(rt, ports, client, birth(3), Some(server), 77);
+    is_port(rt, ports, server, birth(4), Some(client), 77);
+    ports.cut(server);
+    is_port(rt, ports, client, birth(3), None, 77);
+    is_port(rt, ports, server, birth(4), None, 77);
+}
+
 #[test]
-fn ports_are_joined_routed_and_cut(rt: HostRuntime) -> Result<(), Fail> {
+fn ports_are_joined_and_cut(rt: HostRuntime) -> Result<(), Fail> {
     let mut ports = Ports::new(rt.alloc());
-    ports.reserve(4, 0)?;
-    let unnamed = ports.add(PortKind::Unnamed, birth(1), None);
+    ports.reserve(3, 0)?;
     let connection = ports.add(PortKind::Connection, birth(2), None);
     let client = ports.add(PortKind::Client, birth(3), Some(connection));
     let server = ports.add(PortKind::Server, birth(4), Some(connection));
-    assert_eq!(rt; ports.get(client).map(|row| row.birth), Some(birth(3)));
-    assert_eq!(rt; ports.route(unnamed), Some(unnamed));
-    assert_eq!(rt; ports.route(connection), Some(connection));
-    assert_eq!(rt; ports.route(client), None);
-    assert_eq!(rt; ports.route(server), None);
-    ports.join(client, server, 77);
-    assert_eq!(rt; ports.get(client).map(|row| row.pair), Some(Some(server)));
-    assert_eq!(rt; ports.get(server).map(|row| row.pair), Some(Some(client)));
-    assert_eq!(rt; ports.route(client), Some(connection));
-    assert_eq!(rt; ports.route(server), Some(client));
-    assert_eq!(rt; ports.queue_of(client), Some(client));
-    assert_eq!(rt; ports.queue_of(server), Some(connection));
-    ports.cut(server);
-    assert_eq!(rt; ports.get(client).map(|row| row.pair), Some(None));
-    assert_eq!(rt; ports.get(server).map(|row| row.context), Some(77));
-    assert_eq!(rt; ports.route(client), None);
-    assert_eq!(rt; ports.route(server), None);
+    joins_and_cuts(&rt, &mut ports, client, server);
     Ok(())
+}
+
+// What a port shows that was made and never changed.
+fn is_new(rt: &impl Abort, ports: &Ports, port: Key)
+    requires { IsSome (row_at ports.now.ports port) }
+{
+    assert!(rt; ports.birth(port) == birth(1));
+    assert!(rt; matches!(ports.kind(port), PortKind::Unnamed));
+    assert!(rt; ports.pair(port) == None);
+    assert!(rt; ports.connection(port) == None);
+    assert!(rt; ports.context(port) == 0);
+}
+
+// The port has a creator, and is completed, or neither.
+fn is_set(rt: &impl Abort, ports: &Ports, port: Key, set: bool)
+    requires { IsSome (row_at ports.now.ports port) }
+{
+    assert!(rt; ports.completed(port) == set);
+    match ports.creator(port) {
+        Some(creator) => {
+            assert!(rt; set && creator.message_id == 7);
+            assert!(rt; creator.client.process == 4 && creator.client.thread == 8);
+        }
+        None => assert!(rt; !set),
+    }
 }
 
 #[test]
@@ -68,20 +107,33 @@ fn port_is_read_and_freed(rt: HostRuntime) -> Result<(), Fail> {
     let mut ports = Ports::new(rt.alloc());
     ports.reserve(1, 0)?;
     let port = ports.add(PortKind::Unnamed, birth(1), None);
-    assert_eq!(rt; ports.birth(port), birth(1));
-    assert_eq!(rt; ports.kind(port), PortKind::Unnamed);
-    assert_eq!(rt; ports.pair(port), None);
-    assert_eq!(rt; ports.connection(port), None);
-    assert_eq!(rt; ports.context(port), 0);
-    assert_eq!(rt; ports.creator(port), None);
-    assert_eq!(rt; ports.completed(port), false);
+    is_new(&rt, &ports, port);
+    is_set(&rt, &ports, port, false);
     ports.set_creator(port, Some(creator()));
     ports.set_completed(port, true);
-    assert_eq!(rt; ports.creator(port), Some(creator()));
-    assert_eq!(rt; ports.completed(port), true);
+    is_set(&rt, &ports, port, true);
     ports.free(port);
-    assert_eq!(rt; ports.get(port), None);
+    assert!(rt; ports.get(port).is_none());
     Ok(())
+}
+
+// The oldest message of a queue, or its oldest connection request.
+fn is_first(rt: &impl Abort, ports: &Ports, queue: Key, connects_only: bool, message: Option<Key>) {
+    assert!(rt; ports.first(queue, connects_only) == message);
+}
+
+// The message stands in this queue, with this context.
+fn stands(rt: &impl Abort, ports: &Ports, message: Key, queue: Key, context: u32)
+    requires { IsSome (row_at ports.now.messages message) }
+{
+    assert!(rt; ports.message_queue(message) == queue);
+    assert!(rt; ports.message(message).context == context);
+}
+
+// The message has these bytes, and was sent on this port.
+fn is_message(rt: &impl Abort, message: &Message, bytes: &[u8], sender: Key) {
+    assert!(rt; message.bytes.as_slice() == bytes);
+    assert!(rt; message.sender == sender);
 }
 
 #[test]
@@ -94,53 +146,68 @@ fn messages_stand_in_their_queues_in_the_order_of_sending(rt: HostRuntime) -> Re
     let first = ports.send(one, two, 7, b"a");
     let second = ports.send(one, one, 0, b"d");
     let other = ports.send(two, one, 6, b"bc");
-    assert_eq!(rt; ports.first(one, true), None);
-    assert_eq!(rt; ports.first(one, false), Some(first));
-    assert_eq!(rt; ports.first(two, false), Some(other));
-    assert_eq!(rt; ports.message_queue(first), one);
-    assert_eq!(rt; ports.message(first).context, 7);
-    let taken = ports.pull(first);
-    assert_eq!(rt; taken.bytes.as_slice(), b"a".as_slice());
-    assert_eq!(rt; taken.sender, two);
-    assert_eq!(rt; ports.first(one, false), Some(second));
+    is_first(&rt, &ports, one, true, None);
+    is_first(&rt, &ports, one, false, Some(first));
+    is_first(&rt, &ports, two, false, Some(other));
+    stands(&rt, &ports, first, one, 7);
+    is_message(&rt, &ports.pull(first), b"a", two);
+    is_first(&rt, &ports, one, false, Some(second));
+    Ok(())
+}
+
+// A message of a type enters a queue.
+fn sends(ports: &mut Ports, queue: Key, sender: Key, kind: u16)
+    requires room { 0 < ports.old.message_room }
+    requires few { ports.old.messages_made < 1000 }
+    ensures room { ports.new.message_room + 1 ≡ ports.old.message_room }
+    ensures made { ports.new.messages_made ≡ ports.old.messages_made + 1 }
+{
+    ports.send(queue, sender, 0, &header(kind));
+}
+
+// Three datagrams and a request, sent on two ports.
+fn counts_datagrams(rt: &impl Abort, ports: &mut Ports, one: Key, two: Key) -> Result<(), Fail>
+    requires { ports.old.messages_made < 100 }
+{
+    ports.reserve(0, 4)?;
+    sends(ports, one, two, DATAGRAM);
+    sends(ports, one, two, REQUEST);
+    sends(ports, two, one, DATAGRAM);
+    sends(ports, two, two, DATAGRAM);
+    assert!(rt; ports.sent_datagrams(one) == 1);
+    assert!(rt; ports.sent_datagrams(two) == 2);
     Ok(())
 }
 
 #[test]
 fn datagrams_are_counted_by_their_senders(rt: HostRuntime) -> Result<(), Fail> {
     let mut ports = Ports::new(rt.alloc());
-    ports.reserve(2, 4)?;
+    ports.reserve(2, 0)?;
     let one = ports.add(PortKind::Unnamed, birth(1), None);
     let two = ports.add(PortKind::Unnamed, birth(2), None);
-    ports.send(one, two, 0, &header(DATAGRAM));
-    ports.send(one, two, 0, &header(REQUEST));
-    ports.send(two, one, 0, &header(DATAGRAM));
-    ports.send(two, two, 0, &header(DATAGRAM));
-    assert_eq!(rt; ports.sent_datagrams(one), 1);
-    assert_eq!(rt; ports.sent_datagrams(two), 2);
-    Ok(())
+    counts_datagrams(&rt, &mut ports, one, two)
 }
 
 // Four messages of as many types enter a queue, where none stood before: two of them ask.
-fn sends_four_types(rt: &impl Abort, ports: &mut Ports) -> Result<(), Fail>
-    requires ports { ports.old.ports_made < 1000 }
-    requires messages { ports.old.messages_made < 1000 }
+fn counts_asking(rt: &impl Abort, ports: &mut Ports, port: Key) -> Result<(), Fail>
+    requires { ports.old.messages_made < 100 }
 {
-    assert_eq!(rt; ports.asking(), 0);
-    ports.reserve(1, 4)?;
-    let port = ports.add(PortKind::Connection, birth(1), None);
-    ports.send(port, port, 0, &header(REQUEST));
-    ports.send(port, port, 0, &header(DATAGRAM));
-    ports.send(port, port, 0, &header(CONNECTION_REQUEST));
-    ports.send(port, port, 0, &header(REPLY));
-    assert_eq!(rt; ports.asking(), 2);
+    assert!(rt; ports.asking() == 0);
+    ports.reserve(0, 4)?;
+    sends(ports, port, port, REQUEST);
+    sends(ports, port, port, DATAGRAM);
+    sends(ports, port, port, CONNECTION_REQUEST);
+    sends(ports, port, port, REPLY);
+    assert!(rt; ports.asking() == 2);
     Ok(())
 }
 
 #[test]
 fn requests_and_connection_requests_ask(rt: HostRuntime) -> Result<(), Fail> {
     let mut ports = Ports::new(rt.alloc());
-    sends_four_types(&rt, &mut ports)
+    ports.reserve(1, 0)?;
+    let port = ports.add(PortKind::Connection, birth(1), None);
+    counts_asking(&rt, &mut ports, port)
 }
 
 #[test]
@@ -152,36 +219,56 @@ fn connection_requests_are_found_alone(rt: HostRuntime) -> Result<(), Fail> {
     let two = ports.add(PortKind::Unnamed, birth(2), None);
     let datagram = ports.send(one, two, 0, &header(DATAGRAM));
     ports.send(two, two, 0, &header(CONNECTION_REQUEST));
-    assert_eq!(rt; ports.first(one, true), None);
+    is_first(&rt, &ports, one, true, None);
     let older = ports.send(one, two, 0, &header(CONNECTION_REQUEST));
     let newer = ports.send(one, two, 0, &header(CONNECTION_REQUEST));
-    assert_eq!(rt; ports.first(one, false), Some(datagram));
-    assert_eq!(rt; ports.first(one, true), Some(older));
+    is_first(&rt, &ports, one, false, Some(datagram));
+    is_first(&rt, &ports, one, true, Some(older));
     ports.pull(older);
-    assert_eq!(rt; ports.first(one, true), Some(newer));
-    assert_eq!(rt; ports.first(one, false), Some(datagram));
+    is_first(&rt, &ports, one, true, Some(newer));
+    is_first(&rt, &ports, one, false, Some(datagram));
     Ok(())
 }
 
+// A row names the port, or none does.
+fn names(rt: &impl Abort, ports: &Ports, port: Key, named: bool) {
+    assert!(rt; ports.is_named(port) == named);
+}
+
+// Two ports name each other while they are joined.
+fn ends_are_named(rt: &impl Abort, ports: &mut Ports, client: Key, server: Key) {
+    names(rt, ports, client, false);
+    ports.join(client, server, 77);
+    names(rt, ports, client, true);
+    ports.cut(client);
+    names(rt, ports, client, false);
+}
+
 #[test]
-fn rows_name_ports(rt: HostRuntime) -> Result<(), Fail> {
+fn ports_name_ports(rt: HostRuntime) -> Result<(), Fail> {
     let mut ports = Ports::new(rt.alloc());
-    ports.reserve(4, 1)?;
+    ports.reserve(4, 0)?;
     let unnamed = ports.add(PortKind::Unnamed, birth(1), None);
     let connection = ports.add(PortKind::Connection, birth(2), None);
     let client = ports.add(PortKind::Client, birth(3), Some(connection));
     let server = ports.add(PortKind::Server, birth(4), None);
-    assert_eq!(rt; ports.is_named(unnamed), false);
-    assert_eq!(rt; ports.is_named(connection), true);
-    assert_eq!(rt; ports.is_named(client), false);
-    ports.join(client, server, 77);
-    assert_eq!(rt; ports.is_named(client), true);
-    ports.cut(client);
-    assert_eq!(rt; ports.is_named(client), false);
-    let message = ports.send(unnamed, client, 0, &header(DATAGRAM));
-    assert_eq!(rt; ports.is_named(unnamed), true);
-    assert_eq!(rt; ports.is_named(client), true);
+    names(&rt, &ports, unnamed, false);
+    names(&rt, &ports, connection, true);
+    ends_are_named(&rt, &mut ports, client, server);
+    Ok(())
+}
+
+#[test]
+#[tactic(auto, using(lpc_slots::proofs::Keys::key_itself))]
+fn messages_name_ports(rt: HostRuntime) -> Result<(), Fail> {
+    let mut ports = Ports::new(rt.alloc());
+    ports.reserve(2, 1)?;
+    let one = ports.add(PortKind::Unnamed, birth(1), None);
+    let two = ports.add(PortKind::Client, birth(2), None);
+    let message = ports.send(one, two, 0, &header(DATAGRAM));
+    names(&rt, &ports, one, true);
+    names(&rt, &ports, two, true);
     ports.pull(message);
-    assert_eq!(rt; ports.is_named(unnamed), false);
+    names(&rt, &ports, one, false);
     Ok(())
 }
