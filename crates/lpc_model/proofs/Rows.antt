@@ -85,6 +85,11 @@ pub has-without : {X : Type 0} (p test : X → Bool) (xs : List X) → every (λ
 has-without p test [] apart is = absurd (cc)
 has-without p test (x ∷ xs) apart is = grind (arith, has-without p test xs)
 
+-- what is found among fewer rows is found
+pub has-less : {X : Type 0} (p test : X → Bool) (xs : List X) → has p (without test xs) ≡ true → has p xs ≡ true
+has-less p test [] is = absurd (cc)
+has-less p test (x ∷ xs) is = grind (arith, has-less p test xs)
+
 -- one taken
 pub has-without_first : {X : Type 0} (p test : X → Bool) (xs : List X) (y : X) → first test xs ≡ Some y → p y ≡ false → has p xs ≡ true → has p (without_first test xs) ≡ true
 has-without_first p test [] y is off one = absurd (cc)
@@ -108,7 +113,7 @@ count-change p s f same [] = refl
 count-change p s f same (x ∷ xs) = grind (arith, same x, count-change p s f same xs)
 
 -- fewer rows, no more that pass
-count-without : {X : Type 0} (p test : X → Bool) (xs : List X) → count p (without test xs) ≤ count p xs
+pub count-without : {X : Type 0} (p test : X → Bool) (xs : List X) → count p (without test xs) ≤ count p xs
 count-without p test [] = omega arith
 count-without p test (x ∷ xs) = grind (arith, count-without p test xs)
 
@@ -137,3 +142,8 @@ lone-push p f test y ys x false false here off one at is will more = grind (arit
 pub lone : {X : Type 0} (p f test : X → Bool) (xs : List X) (x : X) → count p xs ≤ 1 → first test xs ≡ Some x → p x ≡ true → f x ≡ true → every (λ y. not (p y) || f y) xs ≡ true
 lone p f test [] x one at is will = absurd (cc)
 lone p f test (y ∷ ys) x one at is will = lone-push p f test y ys x (test y) (p y) refl refl one at is will (λ few at. lone p f test ys x few at is will)
+
+-- what is left behind a test that takes rows away doesn't pass it
+pub every-left : {X : Type 0} (test : X → Bool) (xs : List X) → every (λ x. not (test x)) (without test xs) ≡ true
+every-left test [] = refl
+every-left test (x ∷ xs) = grind (arith, every-left test xs)

@@ -11,9 +11,12 @@ use Rattle.lpc_base.specs.declared.status.TheConstants.{INVALID_CID, OBJECT_NAME
 use Rattle.lpc_model.specs.declared.entry.Word.TheVariants as word
 use Rattle.lpc_model.specs.World.{ThreadRow, WaitRow, World, no_rows}
 use Rattle.lpc_model.specs.Found.{is_live, is_table, live_thread, lives_in, wait_of, was_process, was_thread}
-use Rattle.lpc_model.specs.Basics.{AddsProcess, basic, no_handles}
+use Rattle.lpc_model.specs.Basics.{AddsProcess, Basic, basic, no_handles, world_after}
+use Rattle.lpc_model.specs.Sweep.{sweep}
+use Rattle.lpc_model.proofs.SoundFrees.{swept-sound}
+use Rattle.lpc_model.proofs.SoundQueues.{after-append}
 use Rattle.lpc_model.specs.Lines.{ScriptCall, ScriptLine, accept_connect_port, boot, complete_connect_port, connect_port, create_port, listen_port, reply_port, reply_wait_receive_port, request_port, request_wait_reply_port, dir, link, run, thread}
-use Rattle.lpc_model.specs.Machine.{Stepped, boot_line, dir_line, directive_birth, link_line, live_test, name_of_call, new_process, new_thread, ready_steps, service_of, steps, thread_count_test, thread_line, thread_steps, thread_test, unused_test, unused_thread_test}
+use Rattle.lpc_model.specs.Machine.{Stepped, boot_line, dir_line, directive_birth, link_line, live_test, name_of_call, new_process, new_thread, ready_steps, service_of, bare_steps, thread_count_test, thread_line, thread_steps, thread_test, unused_test, unused_thread_test}
 use Rattle.lpc_model.specs.Named.{free_name, spelled_name}
 use Rattle.lpc_names.specs.Walk.{LinkTo, Stands}
 use Rattle.lpc_names.specs.declared.names.Found.TheVariants.{Directory}
@@ -23,8 +26,16 @@ use Rattle.lpc_model.proofs.Holding.{Holds, bind_holds, directed_holds, holds_an
 use Rattle.lpc_model.proofs.Usable.{CanCall, can-call}
 use Rattle.lpc_model.proofs.SoundPairs.{refuses_cut_pairs}
 use Rattle.lpc_model.proofs.SoundBasics.{sound-binds, sound-process, sound-thread}
-use Rattle.lpc_model.proofs.SoundConnects.{accept-sound, complete-sound, connect-sound, listen-sound}
-use Rattle.lpc_model.proofs.SoundServices.{LeaveSound, create-sound, datagram-sound, receive-sound, reply-sound, request-sound}
+use Rattle.lpc_model.proofs.SoundCalls.{LeaveSound}
+use Rattle.lpc_model.proofs.SoundCreate.{create-sound}
+use Rattle.lpc_model.proofs.SoundConnect.{connect-sound}
+use Rattle.lpc_model.proofs.SoundListen.{listen-sound}
+use Rattle.lpc_model.proofs.SoundAccept.{accept-sound}
+use Rattle.lpc_model.proofs.SoundComplete.{complete-sound}
+use Rattle.lpc_model.proofs.SoundDatagram.{datagram-sound}
+use Rattle.lpc_model.proofs.SoundRequest.{request-sound}
+use Rattle.lpc_model.proofs.SoundReply.{reply-sound}
+use Rattle.lpc_model.proofs.SoundReceive.{receive-sound}
 
 -- Calls
 service-sound : (w : World) (by : ThreadRow) (call : ScriptCall) → CanCall w by → IsSoundWorld w → Holds (LeaveSound w) (service_of w by call)
@@ -103,8 +114,9 @@ link-sound w text target s =
     bind_holds (free_name w text) _ (LeaveSound w) (λ path _. sound-binds w path (LinkTo to) refl s))
 
 -- Lines
-line-sound : (w : World) (line : ScriptLine) → IsSoundWorld w → LeaveSound w (steps line w)
-unfolding steps
+-- before rows go
+pub line-sound : (w : World) (line : ScriptLine) → IsSoundWorld w → LeaveSound w (bare_steps line w)
+unfolding bare_steps
 line-sound w (boot pid tid) s = directed_holds (LeaveSound w) word.Boot (boot_line w pid tid) (boot-sound w pid tid s) (λ _. s)
 line-sound w (thread tid pid) s = directed_holds (LeaveSound w) word.Thread (thread_line w tid pid) (further-sound w tid pid s) (λ _. s)
 line-sound w (dir path) s = directed_holds (LeaveSound w) word.Dir (dir_line w path) (dir-sound w path s) (λ _. s)
@@ -130,7 +142,10 @@ sound_none = record {
 
 -- the step of a line keeps a world sound
 pub sound_step : StepsStaySound
-sound_step w line s = line-sound w line s
+sound_step w line s = swept w (bare_steps line w) (line-sound w line s)
+  where
+    swept : (w : World) (bs : List Basic) → LeaveSound w bs → LeaveSound w (bs ++ sweep (world_after w bs))
+    swept w bs t = rw (after-append w bs (sweep (world_after w bs))) (swept-sound (world_after w bs) t)
 
 -- a sound world has sound waits
 pub sound_waits : (w : World) → IsSoundWorld w → HasSoundWaits w

@@ -1,26 +1,24 @@
 -- Basic steps on connections keep a world's waits sound.
-use Rattle.std.proofs.Common.{◌≡◌, ℕ, List, [], ◌∷◌, Bool, true, false, cond, map, not, Option, Some, None, refl, sym, subst, arith}
+use Rattle.std.proofs.Common.{◌≡◌, ℕ, List, Bool, true, false, cond, map, not, Option, Some, None, refl, sym, subst, arith}
 use Rattle.std.specs.Prelude.{◌&&◌, ◌||◌, ◌==◌, is_some}
 use Rattle.std.proofs.lemmas.Bool.Decides.{nat_tests}
-use Rattle.lpc_base.specs.Rows.{every, first, has, passes, when}
-use Rattle.lpc_base.proofs.RowWords.{every-more, every-without, first-passes, has_none-more}
-use Rattle.lpc_base.proofs.RowMaps.{every-both, every-change_to, every-map, every-none}
-use Rattle.lpc_names.specs.Binding.{has_name}
+use Rattle.lpc_base.specs.Rows.{every, has, passes}
+use Rattle.lpc_base.proofs.RowWords.{every-more, every-without, first-passes}
+use Rattle.lpc_base.proofs.RowMaps.{every-both, every-change_to, every-map}
 use Rattle.lpc_model.specs.World.{Accepted, Birth, Listen, PortRow, Receive, Request, WaitRow, World}
-use Rattle.lpc_model.specs.Found.{is_held, is_joined_to, is_made_on, is_message_at, is_open, is_port, is_wait_at, pair_of, port_row, same_birth, waits_as, was_thread}
-use Rattle.lpc_model.specs.Basics.{Accepts, Completes, Frees, Joins, accepted, basic, completed, joined, paired, world_after}
-use Rattle.lpc_model.specs.Entering.{free_port}
+use Rattle.lpc_model.specs.Found.{is_made_on, is_open, is_port, port_name, pair_of, port_row, same_birth, waits_as, was_thread}
+use Rattle.lpc_model.specs.Basics.{Accepts, Completes, Frees, Joins, accepted, basic, completed, joined, paired}
 use Rattle.lpc_model.specs.Tests.{is_client}
 use Rattle.lpc_model.specs.SoundWaits.{IsSoundWorld, has_client_port, is_joined, is_past, waiter_of}
 use Rattle.lpc_model.proofs.Rows.{count-change, first-map, first-without}
 use Rattle.lpc_model.proofs.Births.{birth-same}
 use Rattle.lpc_model.proofs.Usable.{by_port_kind}
 use Rattle.lpc_model.proofs.SoundPairs.{tied-of}
-use Rattle.lpc_model.proofs.SoundTies.{IsFree, completed-birth, completed-pair, joined-birth, other-port, same-port, tied-accepted, tied-completed, tied-freed}
+use Rattle.lpc_model.proofs.SoundTies.{IsFree, is_joined_to, completed-birth, completed-pair, joined-birth, other-port, same-port, tied-accepted, tied-completed, tied-freed}
 use Rattle.lpc_model.proofs.SoundWorlds.{InOrder, KeepsPort, StandsAs, by_kind, is_sure, kept-sure, port-kept, sound-from, sound-kept, stands-same, sure-waits}
 
 -- ports whose rows change, but not their births
-order-mapped : (w : World) (f : PortRow → PortRow) → ((p : PortRow) → (f p).birth ≡ p.birth) → IsSoundWorld w → InOrder (record w { ports = map f w.ports })
+pub order-mapped : (w : World) (f : PortRow → PortRow) → ((p : PortRow) → (f p).birth ≡ p.birth) → IsSoundWorld w → InOrder (record w { ports = map f w.ports })
 order-mapped w f same s = record {
   tables = s.tables;
   unused = s.unused;
@@ -157,24 +155,24 @@ sound-accepts w client server context who reply opens all free s =
     (order-mapped w (joined client server context) (joined-birth client server context) s) (tied-accepted w.ports w.waits client server context who reply free (tied-of w s))
 
 -- A port that goes
-freed-keeps : (w : World) (b : Birth) (x : WaitRow) → same_birth x.port b ≡ false → KeepsPort w (basic w (Frees b)) x.port (x.port.maker == x.thread)
+freed-keeps : (w : World) (b : Birth) (x : WaitRow) → same_birth x.port b ≡ false → KeepsPort w (basic w (Frees (port_name b))) x.port (x.port.maker == x.thread)
 freed-keeps w b x apart =
     let own = x.port.maker == x.thread in
-    port-kept w (basic w (Frees b)) x.port own (λ b is. is) (λ p at.
-    stands-same (basic w (Frees b)) x.port own p (first-without (is_port x.port) (is_port b) (λ p here. other-port b x.port p apart here) w.ports p at))
+    port-kept w (basic w (Frees (port_name b))) x.port own (λ b is. is) (λ p at.
+    stands-same (basic w (Frees (port_name b))) x.port own p (first-without (is_port x.port) (is_port b) (λ p here. other-port b x.port p apart here) w.ports p at))
 
-kept-freed : (w : World) (b : Birth) (x : WaitRow) → is_sure w x ≡ true → not (is_made_on b x) ≡ true → is_sure (basic w (Frees b)) x ≡ true
+kept-freed : (w : World) (b : Birth) (x : WaitRow) → is_sure w x ≡ true → not (is_made_on b x) ≡ true → is_sure (basic w (Frees (port_name b))) x ≡ true
 kept-freed w b x is off =
-    kept-sure w (basic w (Frees b)) (record {
+    kept-sure w (basic w (Frees (port_name b))) (record {
       clients = λ c is. is;
       opens = λ b is. is;
       messages = refl;
     }) x (freed-keeps w b x (grind arith)) is
 
-sound-frees : (w : World) (b : Birth) → first (is_made_on b) w.waits ≡ None → every (λ p. not (is_joined_to b p)) w.ports ≡ true → IsSoundWorld w → IsSoundWorld (basic w (Frees b))
+pub sound-frees : (w : World) (b : Birth) → every (λ x. not (is_made_on b x)) w.waits ≡ true → every (λ p. not (is_joined_to b p)) w.ports ≡ true → IsSoundWorld w → IsSoundWorld (basic w (Frees (port_name b)))
 sound-frees w b none apart s =
-    let v = basic w (Frees b) in
-    sound-from v (every-both (is_sure w) (λ x. not (is_made_on b x)) (is_sure v) (kept-freed w b) w.waits (sure-waits w s) (every-none (is_made_on b) w.waits none)) s.once (record {
+    let v = basic w (Frees (port_name b)) in
+    sound-from v (every-both (is_sure w) (λ x. not (is_made_on b x)) (is_sure v) (kept-freed w b) w.waits (sure-waits w s) none) s.once (record {
       tables = s.tables;
       unused = s.unused;
       homes = s.homes;
@@ -183,25 +181,3 @@ sound-frees w b none apart s =
       numbers = s.numbers;
       makers = every-without (λ p. was_thread w p.birth.maker) (is_port b) w.ports s.makers;
     }) (tied-freed w.ports w.waits b apart (tied-of w s))
-
--- where no wait is made on a port that nothing holds
-none-found : {X : Type 0} (o : Option X) → is_some o ≡ false → o ≡ None
-none-found None off = refl
-none-found (Some x) off = absurd (cc)
-
-no-wait : (o p m n : Bool) (b : Birth) (xs : List WaitRow) → (o || (p || (m || (has (is_wait_at b) xs || n)))) ≡ false → first (is_made_on b) xs ≡ None
-no-wait o p m n b xs off =
-    none-found (first (is_made_on b) xs) (has_none-more (is_wait_at b) (is_made_on b) (λ x none. grind arith) xs (grind arith))
-
--- and no port is joined to it
-no-joined : (o m h n : Bool) (b : Birth) (ps : List PortRow) → (o || (has (is_joined_to b) ps || (m || (h || n)))) ≡ false → every (λ p. not (is_joined_to b p)) ps ≡ true
-no-joined o m h n b ps off = every-none (is_joined_to b) ps (none-found (first (is_joined_to b) ps) (grind arith))
-
-pub sound-free : (w : World) (b : Birth) → IsSoundWorld w → IsSoundWorld (world_after w (free_port b w))
-sound-free w b s = at (is_held w b) refl
-  where
-    at : (held : Bool) → is_held w b ≡ held → IsSoundWorld (world_after w (when (not held) (Frees b ∷ [])))
-    at true is = s
-    at false is =
-        sound-frees w b (no-wait (is_open w b) (has (is_joined_to b) w.ports) (has (is_message_at b) w.messages) (has_name same_birth b w.bindings) b w.waits is)
-        (no-joined (is_open w b) (has (is_message_at b) w.messages) (has (is_wait_at b) w.waits) (has_name same_birth b w.bindings) b w.ports is) s

@@ -7,7 +7,7 @@ use Rattle.lpc_base.specs.declared.status.TheConstants.{SUCCESS}
 use Rattle.lpc_base.proofs.RowWords.{every-change, every-more, first-passes, has-kept, has_none-more, has_none-push}
 use Rattle.lpc_base.proofs.RowMaps.{every-both, every-first, every-map, every-none}
 use Rattle.lpc_model.specs.World.{Accepted, Birth, Connect, Listen, MessageRow, Receive, Request, WaitKind, WaitRow, World}
-use Rattle.lpc_model.specs.Found.{is_accepted, is_queued, is_queued_connect, same_birth, waits_as}
+use Rattle.lpc_model.specs.Found.{is_accepted, is_queued, is_queued_connect, same_birth, waits_as, waits_at}
 use Rattle.lpc_model.specs.Message.{asks, is_connection_request}
 use Rattle.lpc_model.specs.Basics.{Basic, Enters, Receives, basic, received, world_after}
 use Rattle.lpc_model.specs.Entering.{enter, given_steps, receipt_steps, shown, take_connect_steps, take_steps, takes, woken}
@@ -25,22 +25,25 @@ after-append w (b ∷ bs) cs = after-append (basic w b) bs cs
 
 -- What is received
 -- the wait behind the taking of a message, if that asks: received where it is of the message's thread
-abbrev marked : Bool → ℕ → WaitRow → WaitRow
-marked asking who x = cond (asking && waits_as who x) (received x) x
+abbrev marked : Bool → ℕ → Birth → WaitRow → WaitRow
+marked asking who q x = cond (asking && waits_at who q x) (received x) x
 
 marked-case : (P : WaitRow → Type 0) (c : Bool) (x : WaitRow) → (c ≡ true → P (received x)) → (c ≡ false → P x) → P (cond c (received x) x)
 marked-case P true x one two = one refl
 marked-case P false x one two = two refl
 
-sound-marked : (w : World) (asking : Bool) (who : ℕ) → every (λ x. is_sure w (marked asking who x)) w.waits ≡ true → WaitOnce w.waits → InOrder w → IsTied w.ports w.waits → IsSoundWorld (world_after w (when asking (Receives who ∷ [])))
-sound-marked w true who all once t ties =
-    sound-from (basic w (Receives who)) (rw (every-map (is_sure w) (λ x. cond (waits_as who x) (received x) x) w.waits) all)
-    (λ tid. rw (count-change (waits_as tid) (waits_as who) received (λ x. refl) w.waits) (once tid)) t (tied-changed w.ports w.waits (waits_as who) received (λ c y. refl) (λ b y. refl) ties)
-sound-marked w false who all once t ties = sound-from w all once t ties
+sound-marked : (w : World) (asking : Bool) (who : ℕ) (q : Birth) → every (λ x. is_sure w (marked asking who q x)) w.waits ≡ true → WaitOnce w.waits → InOrder w → IsTied w.ports w.waits → IsSoundWorld (world_after w (when asking (Receives who q ∷ [])))
+sound-marked w true who q all once t ties =
+    sound-from (basic w (Receives who q)) (rw (every-map (is_sure w) (λ x. cond (waits_at who q x) (received x) x) w.waits) all)
+    (λ tid. rw (count-change (waits_as tid) (waits_at who q) received (λ x. refl) w.waits) (once tid)) t (tied-changed w.ports w.waits (waits_at who q) received (λ c y. refl) (λ b y. refl) ties)
+sound-marked w false who q all once t ties = sound-from w all once t ties
 
 -- the message of a wait that isn't marked is another one
-other-message : (x : WaitRow) (m : MessageRow) → (asks m.message && waits_as m.message.header.client.thread x) ≡ false → is_message_of x m ≡ false
-other-message x m off = grind arith
+turned : (a b : Birth) → same_birth a b ≡ same_birth b a
+turned a b = grind (arith, nat_tests)
+
+other-message : (x : WaitRow) (m : MessageRow) → (asks m.message && waits_at m.message.header.client.thread m.queue x) ≡ false → is_message_of x m ≡ false
+other-message x m off = let same : same_birth m.queue x.queue ≡ same_birth x.queue m.queue = turned m.queue x.queue in grind arith
 
 -- the waits of each kind among sound ones
 abbrev is_sure_request : World → WaitRow → Bool
@@ -87,13 +90,13 @@ listen-sure w ms x none is = grind (arith, none)
 
 -- A message that is taken
 -- the first message that passes a test is taken
-taken-sure : (w : World) (test : MessageRow → Bool) (m : MessageRow) → first test w.messages ≡ Some m → (x : WaitRow) → is_sure w x ≡ true → is_sure (with_messages w (without_first test w.messages)) (marked (asks m.message) m.message.header.client.thread x) ≡ true
+taken-sure : (w : World) (test : MessageRow → Bool) (m : MessageRow) → first test w.messages ≡ Some m → (x : WaitRow) → is_sure w x ≡ true → is_sure (with_messages w (without_first test w.messages)) (marked (asks m.message) m.message.header.client.thread m.queue x) ≡ true
 taken-sure w test m at =
     let rest = without_first test w.messages in
     let v = with_messages w rest in
-    let mark = λ (x : WaitRow). asks m.message && waits_as m.message.header.client.thread x in
+    let mark = λ (x : WaitRow). asks m.message && waits_at m.message.header.client.thread m.queue x in
     let none = λ (x : WaitRow). has_none-without_first (λ n. takes n x) test w.messages in
-    by_kind (λ x. is_sure w x ≡ true → is_sure v (marked (asks m.message) m.message.header.client.thread x) ≡ true)
+    by_kind (λ x. is_sure w x ≡ true → is_sure v (marked (asks m.message) m.message.header.client.thread m.queue x) ≡ true)
     (λ x r is. marked-case (λ y. is_sure v y ≡ true) (mark x) (record x { kind = Request r })
     (λ _. received-sure w rest x is)
     (λ off. request-sure w rest x (has-without_first (is_message_of x) test w.messages m at (other-message x m off)) is))
@@ -111,8 +114,8 @@ taken-sure w test m at =
 sound-taken : (w : World) (test : MessageRow → Bool) (m : MessageRow) → first test w.messages ≡ Some m → IsSoundWorld w → IsSoundWorld (world_after (with_messages w (without_first test w.messages)) (receipt_steps m))
 sound-taken w test m at s =
     let v = with_messages w (without_first test w.messages) in
-    sound-marked v (asks m.message) m.message.header.client.thread
-    (every-more (is_sure w) (λ x. is_sure v (marked (asks m.message) m.message.header.client.thread x)) (taken-sure w test m at) w.waits (sure-waits w s)) s.once (order-of w s) (tied-of w s)
+    sound-marked v (asks m.message) m.message.header.client.thread m.queue
+    (every-more (is_sure w) (λ x. is_sure v (marked (asks m.message) m.message.header.client.thread m.queue x)) (taken-sure w test m at) w.waits (sure-waits w s)) s.once (order-of w s) (tied-of w s)
 
 pub sound-take : (w : World) (m : MessageRow) → first (is_queued m.queue) w.messages ≡ Some m → IsSoundWorld w → IsSoundWorld (world_after w (take_steps m))
 sound-take w m at s = sound-taken w (is_queued m.queue) m at s
@@ -171,10 +174,10 @@ listens-other x m n here off =
 not-entered : (w : World) (m : MessageRow) (x : WaitRow) → is_message_of x m ≡ false → has (is_message_of x) (w.messages ++ m ∷ []) ≡ true → has (is_message_of x) w.messages ≡ true
 not-entered w m x off one = grind (arith, has-append (is_message_of x) w.messages (m ∷ []))
 
-given-sure : (w : World) (m : MessageRow) (x : WaitRow) → is_ready w m x ≡ true → is_sure w (marked (asks m.message) m.message.header.client.thread x) ≡ true
+given-sure : (w : World) (m : MessageRow) (x : WaitRow) → is_ready w m x ≡ true → is_sure w (marked (asks m.message) m.message.header.client.thread m.queue x) ≡ true
 given-sure w m =
-    let mark = λ (x : WaitRow). asks m.message && waits_as m.message.header.client.thread x in
-    by_kind (λ x. is_ready w m x ≡ true → is_sure w (marked (asks m.message) m.message.header.client.thread x) ≡ true)
+    let mark = λ (x : WaitRow). asks m.message && waits_at m.message.header.client.thread m.queue x in
+    by_kind (λ x. is_ready w m x ≡ true → is_sure w (marked (asks m.message) m.message.header.client.thread m.queue x) ≡ true)
     (λ x r is. marked-case (λ y. is_sure w y ≡ true) (mark x) (record x { kind = Request r })
     (λ _. received-sure (basic w (Enters m)) w.messages x is)
     (λ off. request-sure (basic w (Enters m)) w.messages x (λ one. not-entered w m x (other-message x m off) one) is))
@@ -190,16 +193,16 @@ world-taken : (w : World) (test : MessageRow → Bool) (m : MessageRow) → has 
 world-taken w test m none is = ap (with_messages w) (without_first-push test w.messages m none is)
 
 -- a wait that is received is no accepted connect
-quiet-marked : (w : World) (asking : Bool) (who tid : ℕ) → every (is_quiet tid) w.waits ≡ true → every (is_quiet tid) (world_after w (when asking (Receives who ∷ []))).waits ≡ true
-quiet-marked w true who tid quiet = every-change (is_quiet tid) (waits_as who) received (λ y is. is) w.waits quiet
-quiet-marked w false who tid quiet = quiet
+quiet-marked : (w : World) (asking : Bool) (who : ℕ) (q : Birth) (tid : ℕ) → every (is_quiet tid) w.waits ≡ true → every (is_quiet tid) (world_after w (when asking (Receives who q ∷ []))).waits ≡ true
+quiet-marked w true who q tid quiet = every-change (is_quiet tid) (waits_at who q) received (λ y is. is) w.waits quiet
+quiet-marked w false who q tid quiet = quiet
 
 -- each wait is sound once the message has entered, and is taken again
 sound-back : (w : World) (m : MessageRow) (x : WaitRow) (waking : Basic) → ((v : World) → every (is_quiet x.thread) v.waits ≡ true → IsSoundWorld v → IsSoundWorld (basic v waking)) → every (is_quiet x.thread) w.waits ≡ true → every (is_ready w m) w.waits ≡ true → WaitOnce w.waits → InOrder w → IsTied w.ports w.waits → IsSoundWorld (world_after w (receipt_steps m ++ waking ∷ []))
 sound-back w m x waking wakes quiet all once t ties =
     let who = m.message.header.client.thread in
-    let after = sound-marked w (asks m.message) who (every-more (is_ready w m) (λ y. is_sure w (marked (asks m.message) who y)) (given-sure w m) w.waits all) once t ties in
-    rw (after-append w (receipt_steps m) (waking ∷ [])) (wakes (world_after w (receipt_steps m)) (quiet-marked w (asks m.message) who x.thread quiet) after)
+    let after = sound-marked w (asks m.message) who m.queue (every-more (is_ready w m) (λ y. is_sure w (marked (asks m.message) who m.queue y)) (given-sure w m) w.waits all) once t ties in
+    rw (after-append w (receipt_steps m) (waking ∷ [])) (wakes (world_after w (receipt_steps m)) (quiet-marked w (asks m.message) who m.queue x.thread quiet) after)
 
 -- a waiter takes the message at once
 abbrev Given : World → MessageRow → WaitRow → Type 0

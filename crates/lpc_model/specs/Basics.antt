@@ -7,8 +7,9 @@ use Rattle.lpc_model.specs.declared.entry.Field.{Field}
 use Rattle.lpc_model.specs.declared.entry.Outcome.{Outcome}
 use Rattle.lpc_model.specs.declared.entry.Outcome.TheVariants as outcome
 use Rattle.lpc_base.specs.Rows.{change, which, without, without_first}
-use Rattle.lpc_model.specs.World.{World, Birth, CallName, ProcessRow, ThreadRow, UsedThread, HandleRow, HandleTable, PortRow, MessageRow, WaitKind, WaitRow, Accepted, Connect, Node, Path}
-use Rattle.lpc_model.specs.Found.{is_port, is_queued, is_queued_connect, is_table, is_thread, waits_as}
+use Rattle.lpc_model.specs.declared.entry.ObjectKind.TheVariants as kind
+use Rattle.lpc_model.specs.World.{World, Birth, CallName, ObjectKind, ObjectName, ProcessRow, ThreadRow, UsedThread, HandleRow, HandleTable, PortRow, MessageRow, WaitKind, WaitRow, Accepted, Connect, Node, Path}
+use Rattle.lpc_model.specs.Found.{is_own_of, is_port, is_queued, is_queued_connect, is_table, is_thread, same_birth, waits_as, waits_at}
 
 -- An entry, or one change of the rows that belong together: a wait that ends, with its entry; the two ends of a pair; a
 -- process, with its number and its empty table of handles; a thread, with its number; or else one row.
@@ -19,13 +20,15 @@ pub data Basic : Type 0 where
   Wakes : ℕ → CallName → Status → List Field → Basic
   -- a thread begins to wait
   Awaits : WaitRow → Basic
-  -- a thread's request or connect is received, and a thread's connect is accepted with the data of an answer
-  Receives : ℕ → Basic
+  -- a thread's request or connect to a queue is received, and a thread's connect is accepted with the data of an answer
+  Receives : ℕ → Birth → Basic
   Accepts : ℕ → List ℕ → Basic
   -- a message enters its queue; the oldest message of a queue is taken, or its oldest connection request
   Enters : MessageRow → Basic
   Takes : Birth → Basic
   TakesConnect : Birth → Basic
+  -- the own message of a thread, a request or connection request, leaves its queue
+  Withdraws : ℕ → Basic
   -- a thread draws its next message identifier, and its next ordinal
   DrawsIdentifier : ℕ → Basic
   DrawsOrdinal : ℕ → Basic
@@ -37,8 +40,8 @@ pub data Basic : Type 0 where
   Joins : Birth → Birth → ℕ → Basic
   -- the connection of a port is completed
   Completes : Birth → Basic
-  -- a port that nothing holds any longer goes
-  Frees : Birth → Basic
+  -- the row of an object goes
+  Frees : ObjectName → Basic
   -- a path is bound to a directory, to a port, or as a link to another path
   Binds : Path → Node Birth → Basic
   -- a process gets a handle
@@ -93,16 +96,25 @@ with_handle h t = record t { rows = put_handle h t.rows }
 abbrev pub no_handles : ℕ → HandleTable
 no_handles pid = record { process = pid; rows = [] }
 
+-- the world without the row of an object
+abbrev pub freed : World → ObjectKind → Birth → World
+freed w kind.Port b = record w { ports = without (is_port b) w.ports }
+freed w kind.Section b = w
+freed w kind.Token b = w
+freed w kind.Process b = record w { processes = without (λ p. same_birth p.birth b) w.processes }
+freed w kind.Thread b = record w { threads = without (λ t. same_birth t.birth b) w.threads }
+
 -- the world after a basic step
 abbrev pub basic : World → Basic → World
 basic w (Tells e) = w
 basic w (Wakes who call status fields) = record w { waits = without (waits_as who) w.waits }
 basic w (Awaits x) = record w { waits = w.waits ++ x ∷ [] }
-basic w (Receives who) = record w { waits = change (waits_as who) received w.waits }
+basic w (Receives who queue) = record w { waits = change (waits_at who queue) received w.waits }
 basic w (Accepts who reply) = record w { waits = change (waits_as who) (accepted reply) w.waits }
 basic w (Enters m) = record w { messages = w.messages ++ m ∷ [] }
 basic w (Takes q) = record w { messages = without_first (is_queued q) w.messages }
 basic w (TakesConnect q) = record w { messages = without_first (is_queued_connect q) w.messages }
+basic w (Withdraws who) = record w { messages = without (is_own_of who) w.messages }
 basic w (DrawsIdentifier who) = record w { threads = change (is_thread who) past_identifier w.threads }
 basic w (DrawsOrdinal who) = record w { threads = change (is_thread who) past_ordinal w.threads }
 basic w (AddsProcess p) =
@@ -116,7 +128,7 @@ basic w (AddsThread t) =
 basic w (Makes p) = record w { ports = w.ports ++ p ∷ [] }
 basic w (Joins client server context) = record w { ports = map (joined client server context) w.ports }
 basic w (Completes b) = record w { ports = change (is_port b) completed w.ports }
-basic w (Frees b) = record w { ports = without (is_port b) w.ports }
+basic w (Frees o) = freed w o.kind o.birth
 basic w (Binds path node) = record w { bindings = w.bindings ++ (path, node) ∷ [] }
 basic w (AddsHandle pid h) = record w { handles = change (is_table pid) (with_handle h) w.handles }
 

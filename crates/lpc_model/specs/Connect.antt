@@ -10,7 +10,7 @@ use Rattle.lpc_model.specs.declared.entry.Entry.TheVariants.{Answer, Waits}
 use Rattle.lpc_model.specs.declared.entry.CallName.TheVariants.{NtAcceptConnectPort, NtCompleteConnectPort, NtConnectPort, NtCreatePort, NtListenPort}
 use Rattle.lpc_model.specs.Refusal.{found_or, refuse_if}
 use Rattle.lpc_model.specs.Then.{◌>>=◌}
-use Rattle.lpc_model.specs.World.{World, Accepted, Birth, Connect, Listen, Message, MessageRow, Path, PortKind, PortRow, ThreadRow, WaitRow}
+use Rattle.lpc_model.specs.World.{World, Accepted, Birth, Connect, Creator, Listen, Message, MessageRow, Path, PortKind, PortRow, ThreadRow, WaitRow}
 use Rattle.lpc_model.specs.Message.{made, message_test}
 use Rattle.lpc_model.specs.Found.{free_handle, handles_of, is_accepted, is_connection_port, is_offered, is_queued_connect, is_server_port, names_port, names_wait, port_name, same_birth}
 use Rattle.lpc_model.specs.Basics.{Accepts, AddsHandle, Awaits, Basic, Binds, Completes, DrawsIdentifier, DrawsOrdinal, Joins, Makes, Steps, Tells, doing, ◌▹◌}
@@ -24,7 +24,7 @@ use Rattle.lpc_model.specs.Tests.{PORT_ACCESS, client_of, client_test, handle_ro
 -- a port that is joined to nothing
 abbrev pub new_port : Birth → PortKind → PortRow
 new_port b kind =
-    record { birth = b; kind = kind; connection = None; pair = None; context = 0; completed = false }
+    record { birth = b; kind = kind; connection = None; pair = None; context = 0; completed = false; creator = None }
 
 -- a port without a name, and the connection port that a path names
 abbrev pub unnamed_steps : Birth → List Basic
@@ -56,9 +56,14 @@ nt_create_port w by name = do
   Ok (create_steps by made (free_handle w by.process))
 
 -- NtConnectPort
--- a client port, which isn't joined yet, and a server port
-abbrev pub client_port : Birth → Birth → PortRow
-client_port b connection = record (new_port b Client) { connection = Some connection }
+-- the connect that a thread makes next, as the port that it makes keeps it
+abbrev pub next_creator : ThreadRow → Creator
+next_creator by = record { client = client_of by; identifier = by.next_identifier }
+
+-- a client port, which isn't joined yet, with the connect that makes it, and a server port
+abbrev pub client_port : ThreadRow → Birth → PortRow
+client_port by connection =
+    record (new_port (next_birth by) Client) { connection = Some connection; creator = Some (next_creator by) }
 
 abbrev pub server_port : Birth → Birth → PortRow
 server_port b connection = record (new_port b Server) { connection = Some connection }
@@ -82,14 +87,14 @@ connect_start by connection m =
     Tells (Waits by.number NtConnectPort (id by.next_identifier ∷ []))
     ∷ DrawsIdentifier by.number
     ∷ DrawsOrdinal by.number
-    ∷ Makes (client_port (next_birth by) connection)
+    ∷ Makes (client_port by connection)
     ∷ Awaits (connect_wait by connection m)
     ∷ []
 
 -- and then the connection request enters the queue of the connection port
 abbrev pub connect_steps : ThreadRow → Birth → Message → Steps
 connect_steps by connection m =
-    doing (connect_start by connection m) ▹ enter (row_of connection (client_port (next_birth by) connection) m)
+    doing (connect_start by connection m) ▹ enter (row_of connection (client_port by connection) m)
 
 -- NtConnectPort: too many bytes, a fault of the name or a directory, then too many handles
 unfoldable pub nt_connect_port : World → ThreadRow → List ℕ → List ℕ → Result (List Basic) Status
@@ -141,9 +146,9 @@ answer_test w by bytes = do
   Ok (record { message = m; wait = x })
 
 -- a connect is refused: it ends, with the bytes of the answer
-abbrev pub refuse_steps : ThreadRow → ConnectAnswer → Steps
+abbrev pub refuse_steps : ThreadRow → ConnectAnswer → List Basic
 refuse_steps by a =
-    doing (Tells (Answer by.number NtAcceptConnectPort SUCCESS []) ∷ []) ▹ end_connect a.message.body a.wait
+    Tells (Answer by.number NtAcceptConnectPort SUCCESS []) ∷ end_connect a.message.body a.wait ∷ []
 
 -- a connect is accepted: the server port is made, gets a handle, and is joined to the client port
 abbrev pub accept_steps : ThreadRow → ℕ → ℕ → ConnectAnswer → List Basic
@@ -152,13 +157,13 @@ accept_steps by context value a =
     ∷ DrawsOrdinal by.number
     ∷ Makes (server_port (next_birth by) a.wait.queue)
     ∷ AddsHandle by.process (handle_row value (port_name (next_birth by)) PORT_ACCESS)
-    ∷ Joins a.wait.port (next_birth by) context
     ∷ Accepts a.wait.thread a.message.body
+    ∷ Joins a.wait.port (next_birth by) context
     ∷ []
 
 -- a connect is accepted, unless the process has too many handles, or refused
 abbrev pub answered_steps : World → ThreadRow → ℕ → Bool → ConnectAnswer → Result (List Basic) Status
-answered_steps w by context false a = Ok (refuse_steps by a w)
+answered_steps w by context false a = Ok (refuse_steps by a)
 answered_steps w by context true a = do
   _ ← handles_test w by.process 1
   Ok (accept_steps by context (free_handle w by.process) a)

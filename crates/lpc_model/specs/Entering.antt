@@ -1,13 +1,13 @@
--- Shared steps: a wake, a message that is taken, a message that enters a queue, a port that goes, a connect that ends.
-use Rattle.std.specs.Prelude.{ℕ, Bool, List, [], ◌∷◌, ◌++◌, ◌&&◌, ◌||◌, not}
+-- Shared steps: a wake, a message that is taken, a message that enters a queue, a connect that ends.
+use Rattle.std.specs.Prelude.{ℕ, Bool, List, [], ◌∷◌, ◌++◌, ◌&&◌, ◌||◌}
 use Rattle.lpc_base.specs.declared.status.Status.{Status}
 use Rattle.lpc_base.specs.declared.status.TheConstants.{PORT_CONNECTION_REFUSED, SUCCESS}
 use Rattle.lpc_model.specs.declared.entry.Field.{Field}
 use Rattle.lpc_base.specs.Rows.{first, given, when}
 use Rattle.lpc_model.specs.World.{Birth, Listen, Message, MessageRow, PortRow, WaitRow}
 use Rattle.lpc_model.specs.Message.{asks, is_connection_request}
-use Rattle.lpc_model.specs.Found.{context_of, is_held, is_listen, is_receive, same_birth}
-use Rattle.lpc_model.specs.Basics.{Basic, Enters, Frees, Receives, Steps, Takes, TakesConnect, Wakes, doing, ◌▹◌}
+use Rattle.lpc_model.specs.Found.{context_of, is_listen, is_receive, same_birth}
+use Rattle.lpc_model.specs.Basics.{Basic, Enters, Receives, Steps, Takes, TakesConnect, Wakes}
 use Rattle.lpc_model.specs.Fields.{info, msg, receipt}
 
 -- a wait ends, and its thread is told
@@ -16,7 +16,7 @@ woken status fields x = Wakes x.thread x.call status fields
 
 -- a message that is taken is received, where its sender waits for an answer
 abbrev pub receipt_steps : MessageRow → List Basic
-receipt_steps m = when (asks m.message) (Receives m.message.header.client.thread ∷ [])
+receipt_steps m = when (asks m.message) (Receives m.message.header.client.thread m.queue ∷ [])
 
 -- the oldest message of its queue is taken
 abbrev pub take_steps : MessageRow → List Basic
@@ -58,10 +58,6 @@ enter m w =
 abbrev pub row_of : Birth → PortRow → Message → MessageRow
 row_of queue port m = record { queue = queue; sender = port.birth; context = context_of port; message = m }
 
--- a port goes where nothing holds it any longer; this stands behind the step that took what may have been the last holder
-abbrev pub free_port : Birth → Steps
-free_port b w = when (not (is_held w b)) (Frees b ∷ [])
-
--- a connect ends unsuccessfully: its thread is told so, with the bytes of a refusal, and its client port goes
-abbrev pub end_connect : List ℕ → WaitRow → Steps
-end_connect bytes x = doing (woken PORT_CONNECTION_REFUSED (info bytes ∷ []) x ∷ []) ▹ free_port x.port
+-- a connect ends unsuccessfully: its thread is told so, with the bytes of a refusal
+abbrev pub end_connect : List ℕ → WaitRow → Basic
+end_connect bytes x = woken PORT_CONNECTION_REFUSED (info bytes ∷ []) x

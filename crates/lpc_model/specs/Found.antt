@@ -1,13 +1,12 @@
 -- What is found in the world: filters and counts of its rows.
-use Rattle.std.specs.Prelude.{ℕ, ◌==◌, ◌&&◌, ◌||◌, ◌+◌, Bool, true, false, List, [], length, map, Option, Some, None, is_none, option_and_then, if◌then◌else◌}
+use Rattle.std.specs.Prelude.{ℕ, ◌==◌, ◌&&◌, ◌||◌, ◌+◌, ◌++◌, Bool, true, false, List, [], length, map, Option, Some, None, is_none, option_and_then, if◌then◌else◌}
 use Rattle.lpc_base.specs.Places.{least_handle}
 use Rattle.lpc_model.specs.declared.entry.ObjectKind.TheVariants as kind
 use Rattle.lpc_base.specs.declared.port_kind.PortKind.TheVariants.{Client, Connection, Server}
-use Rattle.lpc_base.specs.Rows.{first, has, count, passes}
+use Rattle.lpc_base.specs.Rows.{each, first, has, count, passes, which}
 use Rattle.lpc_message.specs.declared.kind.TheConstants.{DATAGRAM}
 use Rattle.lpc_message.specs.declared.message.ClientId.{ClientId}
-use Rattle.lpc_model.specs.Message.{is_connection_request}
-use Rattle.lpc_names.specs.Binding.{has_name}
+use Rattle.lpc_model.specs.Message.{asks, is_connection_request}
 use Rattle.lpc_model.specs.World.{World, Birth, ObjectKind, ObjectName, Message, ProcessRow, ThreadRow, HandleRow, HandleTable, PortRow, MessageRow, WaitRow, Accepted, Connect, Listen, Receive, Request}
 
 -- Names
@@ -175,6 +174,10 @@ is_queued q m = same_birth m.queue q
 abbrev pub is_queued_connect : Birth → MessageRow → Bool
 is_queued_connect q m = is_queued q m && is_connection_request m.message
 
+-- the messages of a queue, the oldest first
+abbrev pub queued_on : World → Birth → List MessageRow
+queued_on w q = which (is_queued q) w.messages
+
 -- a datagram that was sent on a port
 abbrev pub is_datagram_of : Birth → MessageRow → Bool
 is_datagram_of b m = same_birth m.sender b && (m.message.header.kind == DATAGRAM)
@@ -182,6 +185,10 @@ is_datagram_of b m = same_birth m.sender b && (m.message.header.kind == DATAGRAM
 -- how many datagrams of a port stand in queues
 abbrev pub datagrams : World → Birth → ℕ
 datagrams w b = count (is_datagram_of b) w.messages
+
+-- the message of a thread that waits for its answer: a request or connection request
+abbrev pub is_own_of : ℕ → MessageRow → Bool
+is_own_of who m = asks m.message && (m.message.header.client.thread == who)
 
 -- a wait for a message
 abbrev pub is_receive : WaitRow → Bool
@@ -196,6 +203,13 @@ is_listen x = elim x.kind [
   | Listen ↦ true
   | _ ↦ false
 ]
+
+-- the receives and listens on a queue, the one that has waited longest first
+abbrev pub is_waiter_on : Birth → WaitRow → Bool
+is_waiter_on q x = (is_receive x || is_listen x) && same_birth x.queue q
+
+abbrev pub waiters_on : World → Birth → List WaitRow
+waiters_on w q = which (is_waiter_on q) w.waits
 
 -- a connect that isn't accepted, and one that is
 abbrev pub is_offered : WaitRow → Bool
@@ -225,6 +239,10 @@ is_request x = elim x.kind [
 abbrev pub waits_as : ℕ → WaitRow → Bool
 waits_as tid x = x.thread == tid
 
+-- the wait of a thread on a queue
+abbrev pub waits_at : ℕ → Birth → WaitRow → Bool
+waits_at tid q x = waits_as tid x && same_birth x.queue q
+
 -- the wait that a thread has, if it waits
 abbrev pub wait_of : World → ℕ → Option WaitRow
 wait_of w tid = first (waits_as tid) w.waits
@@ -251,28 +269,66 @@ abbrev pub fitted : World → Birth → Message → Option WaitRow
 fitted w port m = first (fits w port m) w.waits
 
 -- Objects
--- a port has this one as its other end or as its connection port
-abbrev pub is_joined_to : Birth → PortRow → Bool
-is_joined_to b p = is_the b p.pair || is_the b p.connection
+-- two names are of one object
+abbrev pub same_object : ObjectName → ObjectName → Bool
+same_object a b = same_kind a.kind b.kind && same_birth a.birth b.birth
 
--- a message was sent on the port, or stands in its queue
-abbrev pub is_message_at : Birth → MessageRow → Bool
-is_message_at b m = same_birth m.sender b || is_queued b m
+-- the handles of all processes, and how many of them name an object
+abbrev pub all_handles : World → List HandleRow
+all_handles w = each (λ t. t.rows) w.handles
 
--- a wait was made on the port; one was made on it or is on its queue
+abbrev pub handle_count : World → ObjectName → ℕ
+handle_count w o = count (λ h. same_object h.object o) (all_handles w)
+
+-- a port has this one as its other end; as its connection port
+abbrev pub is_paired_to : Birth → PortRow → Bool
+is_paired_to b p = is_the b p.pair
+
+abbrev pub is_connected_to : Birth → PortRow → Bool
+is_connected_to b p = is_the b p.connection
+
+-- a message was sent on the port; a wait was made on it
+abbrev pub is_sent_on : Birth → MessageRow → Bool
+is_sent_on b m = same_birth m.sender b
+
 abbrev pub is_made_on : Birth → WaitRow → Bool
 is_made_on b x = same_birth x.port b
 
-abbrev pub is_wait_at : Birth → WaitRow → Bool
-is_wait_at b x = is_made_on b x || same_birth x.queue b
+-- a live thread of the process with a birth; the live thread with a birth
+abbrev pub lives_by : World → Birth → ThreadRow → Bool
+lives_by w b t = t.live && has (λ p. same_birth p.birth b && (p.number == t.process)) w.processes
 
--- A port is held by each row that names it: a handle, another port of its connections, a message, a wait, or a name.
--- The client port of a refused connect, which alone goes so far, never had a name, nor a queue with a message or a wait.
-abbrev pub is_held : World → Birth → Bool
-is_held w b =
-    is_open w b || (has (is_joined_to b) w.ports || (has (is_message_at b) w.messages
-    || (has (is_wait_at b) w.waits || has_name same_birth b w.bindings)))
+abbrev pub is_life : Birth → ThreadRow → Bool
+is_life b t = t.live && same_birth t.birth b
 
--- how many object rows there are: a process, a thread and a port are objects
+-- How many rows but handles count for an object. A port: ports whose other end it is, those whose connection port it is, queued
+-- messages that were sent on it, waits that were made on it. A process: its live threads. A thread: itself, while it lives.
+-- A queue and a name don't count for their port. There are no sections and tokens yet.
+abbrev pub holders : World → ObjectKind → Birth → ℕ
+holders w kind.Port b =
+    count (is_paired_to b) w.ports + (count (is_connected_to b) w.ports
+    + (count (is_sent_on b) w.messages + count (is_made_on b) w.waits))
+holders w kind.Section b = 0
+holders w kind.Token b = 0
+holders w kind.Process b = count (lives_by w b) w.threads
+holders w kind.Thread b = count (is_life b) w.threads
+
+-- how many rows count for an object
+abbrev pub pointer_count : World → ObjectName → ℕ
+pointer_count w o = handle_count w o + holders w o.kind o.birth
+
+-- the objects: a process, a thread and a port are objects
+abbrev pub process_name : Birth → ObjectName
+process_name b = record { kind = kind.Process; birth = b }
+
+abbrev pub thread_name : Birth → ObjectName
+thread_name b = record { kind = kind.Thread; birth = b }
+
+abbrev pub object_names : World → List ObjectName
+object_names w =
+    map (λ p. process_name p.birth) w.processes ++ (map (λ t. thread_name t.birth) w.threads
+    ++ map (λ p. port_name p.birth) w.ports)
+
+-- how many object rows there are
 abbrev pub objects : World → ℕ
 objects w = length w.processes + length w.threads + length w.ports

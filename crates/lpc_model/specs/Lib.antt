@@ -12,6 +12,7 @@ pub mod Tests
 pub mod Named
 pub mod Connect
 pub mod Request
+pub mod Sweep
 pub mod Machine
 pub mod Text
 pub mod TextLaws
@@ -19,8 +20,14 @@ pub mod Script
 pub mod Words
 pub mod Grammar
 pub mod Run
+pub mod Circle
 pub mod Replies
 pub mod SoundWaits
+pub mod Linked
+pub mod OpenQueues
+pub mod Limits
+pub mod Connected
+pub mod Queues
 pub mod Transcript
 pub mod Worked
 pub mod WorkedConnections

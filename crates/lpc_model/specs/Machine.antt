@@ -10,9 +10,10 @@ use Rattle.lpc_model.specs.declared.entry.Word.TheVariants as word
 use Rattle.lpc_model.specs.declared.entry.CallName.TheVariants.{NtAcceptConnectPort, NtCompleteConnectPort, NtConnectPort, NtCreatePort, NtListenPort, NtReplyPort, NtReplyWaitReceivePort, NtRequestPort, NtRequestWaitReplyPort}
 use Rattle.lpc_model.specs.Refusal.{refuse_if}
 use Rattle.lpc_model.specs.Then.{◌>>=◌}
-use Rattle.lpc_model.specs.World.{World, Birth, CallName, ProcessRow, ThreadRow, WaitRow}
+use Rattle.lpc_model.specs.World.{World, Birth, CallName, MessageRow, ProcessRow, ThreadRow, WaitRow}
 use Rattle.lpc_model.specs.Found.{is_live, live_count, live_thread, wait_of, was_process, was_thread}
-use Rattle.lpc_model.specs.Basics.{AddsProcess, AddsThread, Basic, Binds, Steps, Tells, entries_of, world_after}
+use Rattle.lpc_model.specs.Basics.{AddsProcess, AddsThread, Basic, Binds, Steps, Tells, entries_of, posts_of, world_after, ◌▹◌}
+use Rattle.lpc_model.specs.Sweep.{sweep}
 use Rattle.lpc_model.specs.Connect.{nt_accept_connect_port, nt_complete_connect_port, nt_connect_port, nt_create_port, nt_listen_port}
 use Rattle.lpc_model.specs.Named.{free_name, spelled_name}
 use Rattle.lpc_names.specs.Walk.{LinkTo, Stands}
@@ -135,23 +136,32 @@ link_line w text target = do
   path ← free_name w text
   Ok (Binds path (LinkTo to) ∷ [])
 
--- what a line does in a world
-unfoldable pub steps : ScriptLine → Steps
-steps (boot pid tid) w = directed word.Boot (boot_line w pid tid)
-steps (thread tid pid) w = directed word.Thread (thread_line w tid pid)
-steps (dir path) w = directed word.Dir (dir_line w path)
-steps (link path target) w = directed word.Link (link_line w path target)
-steps (run tid call) w = thread_steps tid call (live_thread w tid) w
+-- Lines
+-- what a line does in a world, before rows go
+unfoldable pub bare_steps : ScriptLine → Steps
+bare_steps (boot pid tid) w = directed word.Boot (boot_line w pid tid)
+bare_steps (thread tid pid) w = directed word.Thread (thread_line w tid pid)
+bare_steps (dir path) w = directed word.Dir (dir_line w path)
+bare_steps (link path target) w = directed word.Link (link_line w path target)
+bare_steps (run tid call) w = thread_steps tid call (live_thread w tid) w
 
--- the world that a step leaves, and the entries that it makes
+-- what a line does in a world: its call or directive, and then the objects go that no row counts for
+abbrev pub steps : ScriptLine → Steps
+steps line = bare_steps line ▹ sweep
+
+-- the world that a step leaves, the entries that it makes, and the messages that it posts
 pub record Stepped : Type 0 where
   pub world : World
   pub entries : List Entry
+  pub posts : List MessageRow
 
--- what some steps leave and tell
+-- what some steps leave, tell and post
 abbrev pub landed : World → List Basic → Stepped
-landed w bs = record { world = world_after w bs; entries = entries_of bs }
+landed w bs = record { world = world_after w bs; entries = entries_of bs; posts = posts_of bs }
 
--- the step of a line
+-- the step of a line, and what it is before rows go
 abbrev pub step : World → ScriptLine → Stepped
 step w line = landed w (steps line w)
+
+abbrev pub bare_step : World → ScriptLine → Stepped
+bare_step w line = landed w (bare_steps line w)

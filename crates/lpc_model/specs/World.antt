@@ -1,6 +1,7 @@
 -- The world: lists of rows. In a row an object is named by its kind and its birth.
 use Rattle.std.specs.Prelude.{ℕ, Bool, List, [], Option}
 pub use Rattle.lpc_base.specs.declared.birth.Birth.{Birth}
+use Rattle.lpc_message.specs.declared.message.ClientId.{ClientId}
 pub use Rattle.lpc_base.specs.declared.port_kind.PortKind.{PortKind}
 pub use Rattle.lpc_names.specs.Walk.{Bindings, Node, Path}
 pub use Rattle.lpc_model.specs.declared.entry.CallName.{CallName}
@@ -44,8 +45,14 @@ pub record HandleTable : Type 0 where
   pub process : ℕ
   pub rows : List HandleRow
 
+-- who made a port by a connect: the client, as a message names it, and the identifier of its connection request
+pub record Creator : Type 0 where
+  pub client : ClientId
+  pub identifier : ℕ
+
 -- a port; the connection port of a client or server port; the other end of a connection, none where it was never made
--- or is cut; what the server gave the connection when it accepted it; whether the connection was completed
+-- or is cut; what the server gave the connection when it accepted it; whether the connection was completed; the connect
+-- that made a client port
 pub record PortRow : Type 0 where
   pub birth : Birth
   pub kind : PortKind
@@ -53,6 +60,7 @@ pub record PortRow : Type 0 where
   pub pair : Option Birth
   pub context : ℕ
   pub completed : Bool
+  pub creator : Option Creator
 
 -- a message that stands in the queue of a port, the port on which it was sent, and the context that a receive shows
 pub record MessageRow : Type 0 where

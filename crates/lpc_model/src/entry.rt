@@ -123,7 +123,7 @@ pub enum FieldName {
 }
 
 /// The value of a field.
-#[derive(Clone, Debug, Drop, PartialEq, Eq)]
+#[derive(Drop, PartialEq, Eq)]
 pub enum Value {
     /// Printed in decimal.
     Number(u64),
@@ -138,7 +138,7 @@ pub enum Value {
 }
 
 /// A field of an entry.
-#[derive(Clone, Debug, Drop, PartialEq, Eq)]
+#[derive(Drop, PartialEq, Eq)]
 pub struct Field {
     /// What the value is.
     pub name: FieldName,
@@ -163,7 +163,7 @@ impl Default for Field {
 }
 
 /// The fields of an entry in order, up to six.
-#[derive(Clone, Debug, Drop, PartialEq, Eq)]
+#[derive(Drop, PartialEq, Eq)]
 pub struct Fields {
     list: ArrayVec<Field, 6>,
 }
@@ -228,7 +228,7 @@ impl Fields {
 }
 
 /// An entry of a transcript, without its line number.
-#[derive(Clone, Debug, Drop, PartialEq, Eq)]
+#[derive(Drop, PartialEq, Eq)]
 pub enum Entry {
     /// The thread's call was answered.
     Answer {

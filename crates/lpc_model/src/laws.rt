@@ -1,6 +1,12 @@
 // Laws of the definitions alone.
 ghost use Rattle.std.specs.Prelude.{ℕ, List};
-ghost use Rattle.lpc_model.specs.World.{World, no_rows};
+ghost use Rattle.lpc_model.specs.World.{World};
+ghost use Rattle.lpc_model.specs.Linked.{IsLinked, RunHoldsRows, StepsHoldRows};
+ghost use Rattle.lpc_model.specs.OpenQueues.{HasOpenQueues, RunKeepsQueuesOpen, StepsKeepQueuesOpen};
+ghost use Rattle.lpc_model.specs.Limits.{LimitsDatagrams, LimitsHandles, LimitsInfo, LimitsMessages, LimitsThreads};
+ghost use Rattle.lpc_model.specs.Connected.{ConnectedPortsReachEachOther};
+ghost use Rattle.lpc_model.specs.Queues.{FirstWaiterTakes, QueuesAreFirstInFirstOut};
+ghost use Rattle.lpc_model.specs.Run.{first_state};
 ghost use Rattle.lpc_model.specs.SoundWaits.{HasSoundWaits, IsSoundWorld, RefusesCutPairsAlone, RunRefusesCutPairsAlone, RunStaysSound, StepsStaySound};
 
 /// In every script each waiting thread waits for what can still come, and hasn't come.
@@ -11,7 +17,7 @@ ghost use Rattle.lpc_model.specs.SoundWaits.{HasSoundWaits, IsSoundWorld, Refuse
 /// connection port, in whose queue its request stands until it is received; an accepted one has a pair, whose server
 /// port is open. That is so before the first line and behind each line.
 pub fn law_sound_waits()
-    ensures first { IsSoundWorld no_rows }
+    ensures first { IsSoundWorld first_state }
     ensures steps { StepsStaySound }
     ensures waits { (w : World) → IsSoundWorld w → HasSoundWaits w }
     ensures runs { (script : List ℕ) → RunStaysSound script }
@@ -24,4 +30,56 @@ pub fn law_sound_waits()
 pub fn law_completion_refuses_cut_pairs()
     ensures alone { (w : World) → IsSoundWorld w → RefusesCutPairsAlone w }
     ensures runs { (script : List ℕ) → RunRefusesCutPairsAlone script }
+{}
+
+/// In every script some row counts for each object that stands behind a line, and before the first line none stands.
+///
+/// An object that no row counts for any longer goes at the end of the line in two passes; two are enough.
+pub fn law_held_objects()
+    ensures first { IsLinked first_state }
+    ensures steps { StepsHoldRows }
+    ensures runs { (script : List ℕ) → RunHoldsRows script }
+{}
+
+/// In every script messages stand, and threads wait, in queues of open ports alone.
+///
+/// A port is open while a handle names it. A message enters a queue, and a thread begins to wait on one, only where the
+/// queue's port is open, and no line takes a handle away. So the queue of each message that stands, and of each wait,
+/// received or not, is that of an open port, before the first line and behind each line.
+pub fn law_open_queues()
+    ensures first { HasOpenQueues first_state }
+    ensures steps { StepsKeepQueuesOpen }
+    ensures runs { (script : List ℕ) → RunKeepsQueuesOpen script }
+{}
+
+/// Five limits are tested exactly: below a limit its test grants one more, from there on it refuses.
+///
+/// A process with fewer than 256 handles and waiting connects together is granted a further one, with 256 it is refused;
+/// so with 64 live threads of a process, and with 32 datagrams of a port that aren't received. A message of lawful shape
+/// is good with a MessageSize of at most 256, and the bytes of a connect where they are at most 232. Which calls make
+/// which test stands with each call.
+pub fn law_limits()
+    ensures handles { LimitsHandles }
+    ensures threads { LimitsThreads }
+    ensures datagrams { LimitsDatagrams }
+    ensures messages { LimitsMessages }
+    ensures info { LimitsInfo }
+{}
+
+/// What is sent on one port of a connection enters the queue from which the other receives.
+///
+/// Where a client port and a server port are each other's other end, and they and their connection port are open, the
+/// server port sends into the client port's own queue, and the client port into that of the connection port, from which
+/// the server port receives.
+pub fn law_connected_ports_reach_each_other()
+    ensures reach { ConnectedPortsReachEachOther }
+{}
+
+/// What the basic steps do to a queue: its oldest message is taken, and what enters goes to its end.
+///
+/// The others stay in their order where one is taken, and those of other queues too. Of all waits, the first that takes
+/// a message is the first receive or listen on its queue that takes it.
+pub fn law_queues_keep_their_order()
+    ensures messages { QueuesAreFirstInFirstOut }
+    ensures waiters { FirstWaiterTakes }
 {}

@@ -4,7 +4,7 @@
 ///
 /// A message is the whole message, header and data, and a name is a word as it stands; both are tested by the call, not by
 /// the line.
-#[derive(Clone, Copy, Debug)]
+#[derive(Clone, Copy)]
 pub enum Call<'a> {
     /// `NtCreatePort NAME`: makes a connection port of that name, or an unnamed port where the word is `-`.
     CreatePort {
@@ -55,7 +55,7 @@ pub enum Call<'a> {
 
 /// What one line of a script says. Process and thread numbers are from 1 to 2147483647. A path is a word as it stands; it
 /// is tested by the directive, not by the line.
-#[derive(Clone, Copy, Debug)]
+#[derive(Clone, Copy)]
 pub enum Line<'a> {
     /// `boot PID TID`: makes a process with its first thread.
     Boot { pid: u32, tid: u32 },

@@ -4,6 +4,7 @@ ghost use Rattle.std.specs.List.{list_all};
 ghost use Rattle.std.specs.Option.{option_copied, option_map};
 ghost use Rattle.lpc_base.specs.declared.limits.TheConstants.{LINE_LIMIT};
 ghost use Rattle.lpc_model.specs.declared.entry.CallName.TheVariants.{NtAcceptConnectPort, NtConnectPort, NtCreatePort};
+ghost use Rattle.lpc_model.specs.declared.entry.Word.TheVariants.{Boot, Thread};
 ghost use Rattle.lpc_model.specs.Lines.{call_of, line_of};
 ghost use Rattle.lpc_model.specs.Words.{words};
 ghost use Rattle.lpc_model.specs.Grammar.{call_words, directive_words, has_ids};
@@ -53,7 +54,7 @@ fn handle_and_message<'a>(
     scratch: &'a mut Scratch,
 ) -> Result<(u32, &'a [u8]), LineFault>
     requires { length text.now ≤ LINE_LIMIT }
-    ensures { Gives (λ two. (two.0, two.1.now)) result (grammar.handle_and_message (words text.now)) }
+    ensures { Gives (λ p. (p.0, p.1.now)) result (grammar.handle_and_message (words text.now)) }
 {
     let (handle, message) = two_words(text)?;
     let handle = number(handle)?;
@@ -83,7 +84,7 @@ fn handle_and_reply<'a>(
     scratch: &'a mut Scratch,
 ) -> Result<(u32, Option<&'a [u8]>), LineFault>
     requires { length text.now ≤ LINE_LIMIT }
-    ensures { Gives (λ two. (two.0, option_copied two.1)) result (grammar.handle_and_reply (words text.now)) }
+    ensures { Gives (λ p. (p.0, option_copied p.1)) result (grammar.handle_and_reply (words text.now)) }
 {
     let (handle, reply) = one_or_two_words(text)?;
     let handle = number(handle)?;
@@ -168,6 +169,30 @@ fn call<'a>(name: CallName, text: &'a [u8], scratch: &'a mut Scratch) -> Result<
     }
 }
 
+/// A process with its first thread.
+#[tactic(auto, unfolding(lpc_model::specs::Grammar::directive_words))]
+fn boot(text: &[u8]) -> Result<Line<'_>, LineFault>
+    ensures value { Gives line_of result (directive_words Boot (words text.now)) }
+    ensures ids { IfOk result (λ line. IsTrue (has_ids (line_of line))) }
+{
+    let (pid, tid) = two_words(text)?;
+    let pid = id(pid)?;
+    let tid = id(tid)?;
+    Ok(Line::Boot { pid, tid })
+}
+
+/// A thread of a process.
+#[tactic(auto, unfolding(lpc_model::specs::Grammar::directive_words))]
+fn thread(text: &[u8]) -> Result<Line<'_>, LineFault>
+    ensures value { Gives line_of result (directive_words Thread (words text.now)) }
+    ensures ids { IfOk result (λ line. IsTrue (has_ids (line_of line))) }
+{
+    let (tid, pid) = two_words(text)?;
+    let tid = id(tid)?;
+    let pid = id(pid)?;
+    Ok(Line::Thread { tid, pid })
+}
+
 /// A directive by the words behind it.
 #[tactic(auto, unfolding(lpc_model::specs::Grammar::directive_words))]
 fn directive(word: Word, text: &[u8]) -> Result<Line<'_>, LineFault>
@@ -175,18 +200,8 @@ fn directive(word: Word, text: &[u8]) -> Result<Line<'_>, LineFault>
     ensures ids { IfOk result (λ line. IsTrue (has_ids (line_of line))) }
 {
     match word {
-        Word::Boot => {
-            let (pid, tid) = two_words(text)?;
-            let pid = id(pid)?;
-            let tid = id(tid)?;
-            Ok(Line::Boot { pid, tid })
-        }
-        Word::Thread => {
-            let (tid, pid) = two_words(text)?;
-            let tid = id(tid)?;
-            let pid = id(pid)?;
-            Ok(Line::Thread { tid, pid })
-        }
+        Word::Boot => boot(text),
+        Word::Thread => thread(text),
         Word::Dir => {
             let path = one_word(text)?;
             Ok(Line::Dir(path))
@@ -248,6 +263,23 @@ fn is_printable(text: &[u8]) -> bool
     true
 }
 
+/// What a text says by its words, none where it has no word, or its first fault.
+fn words_line<'a>(text: &'a [u8], scratch: &'a mut Scratch) -> Result<Option<Line<'a>>, LineFault>
+    requires { length text.now ≤ LINE_LIMIT }
+    ensures value { Gives (option_map line_of) result (grammar.words_line (words text.now)) }
+    ensures ids { IfOk result (λ line. IfSome line (λ said. IsTrue (has_ids (line_of said)))) }
+{
+    let Some((front, rest)) = next_word(text) else {
+        return Ok(None);
+    };
+    if starts_call(front) {
+        let line = call_line(front, rest, scratch)?;
+        return Ok(Some(line));
+    }
+    let line = directive_line(front, rest)?;
+    Ok(Some(line))
+}
+
 /// What a line says, none where it is a comment or has no word, or its first fault.
 ///
 /// The line is given without the byte 10 that ends it. Its messages lie in the scratch, its names and paths in the line
@@ -271,13 +303,5 @@ pub fn read_line<'a>(
     if !is_printable(bytes) {
         return Err(LineFault::Byte);
     }
-    let Some((front, rest)) = next_word(bytes) else {
-        return Ok(None);
-    };
-    if starts_call(front) {
-        let line = call_line(front, rest, scratch)?;
-        return Ok(Some(line));
-    }
-    let line = directive_line(front, rest)?;
-    Ok(Some(line))
+    words_line(bytes, scratch)
 }

@@ -1,10 +1,10 @@
 // The words of a line, one after the other, and the parts of a word.
 ghost use Rattle.std.specs.Prelude.{◌≡◌, ◌≢◌, ◌<◌, ◌≤◌, [], ◌∷◌, length, slice_index, MatchOption, IfSome, IfOk};
-ghost use Rattle.std.specs.Option.{option_copied, option_map};
+ghost use Rattle.std.specs.Option.{option_map};
 ghost use Rattle.lpc_model.specs.Words.{parts, words};
 ghost use Rattle.lpc_model.specs.Words as spec;
 ghost use Rattle.lpc_model.specs.Grammar as grammar;
-ghost use Rattle.lpc_script.specs.Gives.{Gives};
+ghost use Rattle.lpc_script.specs.Gives.{Gives, seen_four, seen_one_or_two, seen_three, seen_two};
 
 use lpc_model::LineFault;
 
@@ -13,7 +13,7 @@ pub fn cut(text: &[u8], by: u8) -> Option<(&[u8], &[u8])>
     ensures parts { MatchOption result
         (parts by text.now ≡ text.now ∷ [])
         (λ p. parts by text.now ≡ p.0.now ∷ parts by p.1.now) }
-    ensures first { option_map (λ p. (p.0.now, p.1.now)) result ≡ spec.cut by text.now }
+    ensures first { option_map seen_two result ≡ spec.cut by text.now }
     ensures front { IfSome result (λ p. length p.0.now ≤ length text.now) }
     ensures back { IfSome result (λ p. length p.1.now ≤ length text.now) }
 {
@@ -71,7 +71,7 @@ pub fn one_word(text: &[u8]) -> Result<&[u8], LineFault>
 /// The words of a text that has exactly two.
 #[tactic(auto, unfolding(lpc_model::specs::Grammar::two_words))]
 pub fn two_words(text: &[u8]) -> Result<(&[u8], &[u8]), LineFault>
-    ensures value { Gives (λ two. (two.0.now, two.1.now)) result (grammar.two_words (words text.now)) }
+    ensures value { Gives seen_two result (grammar.two_words (words text.now)) }
     ensures length { IfOk result (λ two. length two.1.now ≤ length text.now) }
 {
     let (first, rest) = next_word(text).ok_or(LineFault::Count)?;
@@ -85,7 +85,7 @@ pub fn two_words(text: &[u8]) -> Result<(&[u8], &[u8]), LineFault>
 /// The words of a text that has exactly four.
 #[tactic(auto, unfolding(lpc_model::specs::Grammar::four_words))]
 pub fn four_words(text: &[u8]) -> Result<(&[u8], &[u8], &[u8], &[u8]), LineFault>
-    ensures value { Gives (λ four. (four.0.now, four.1.now, four.2.now, four.3.now)) result (grammar.four_words (words text.now)) }
+    ensures value { Gives seen_four result (grammar.four_words (words text.now)) }
     ensures second { IfOk result (λ four. length four.1.now ≤ length text.now) }
     ensures fourth { IfOk result (λ four. length four.3.now ≤ length text.now) }
 {
@@ -102,7 +102,7 @@ pub fn four_words(text: &[u8]) -> Result<(&[u8], &[u8], &[u8], &[u8]), LineFault
 /// The words of a text that has one or two.
 #[tactic(auto, unfolding(lpc_model::specs::Grammar::one_or_two_words))]
 pub fn one_or_two_words(text: &[u8]) -> Result<(&[u8], Option<&[u8]>), LineFault>
-    ensures value { Gives (λ two. (two.0.now, option_copied two.1)) result (grammar.one_or_two_words (words text.now)) }
+    ensures value { Gives seen_one_or_two result (grammar.one_or_two_words (words text.now)) }
     ensures length { IfOk result (λ two. IfSome two.1 (λ word. length word.now ≤ length text.now)) }
 {
     let (first, rest) = next_word(text).ok_or(LineFault::Count)?;
@@ -118,7 +118,7 @@ pub fn one_or_two_words(text: &[u8]) -> Result<(&[u8], Option<&[u8]>), LineFault
 /// The parts between the dots of a text that has exactly two.
 #[tactic(auto, unfolding(lpc_model::specs::Words::three_parts))]
 pub fn three_parts(text: &[u8]) -> Option<(&[u8], &[u8], &[u8])>
-    ensures { option_map (λ three. (three.0.now, three.1.now, three.2.now)) result ≡ spec.three_parts (parts 46 text.now) }
+    ensures { option_map seen_three result ≡ spec.three_parts (parts 46 text.now) }
 {
     let (first, rest) = cut(text, b'.')?;
     let (second, third) = cut(rest, b'.')?;

@@ -1,6 +1,49 @@
--- What stands of a text while more of it is printed.
-use Rattle.std.specs.Prelude.{◌≡◌, ℕ, List, length, take}
+-- What is printed, and what stands of a text while more of it is printed.
+use Rattle.std.specs.Prelude.{◌≡◌, ℕ, List, ◌++◌, codes, decimal, length, map, OnOk, Result, take}
+use Rattle.lpc_base.specs.declared.status.Status.{Status}
+use Rattle.lpc_model.specs.Listed.{shown_entry, shown_field, shown_value}
+use Rattle.lpc_model.specs.Text.{by_text, entries_text, entry_text, field_text, fields_text, rest_text, status_text, value_text, word_text}
+use Rattle.lpc_model.specs.declared.entry.CallName.{CallName}
+use Rattle.lpc_model.specs.declared.entry.Entry.{Entry}
+use Rattle.lpc_model.specs.declared.entry.Field.{Field}
+use Rattle.lpc_model.specs.declared.entry.FieldName.{FieldName}
+use Rattle.lpc_model.specs.declared.entry.Value.{Value}
+use Rattle.lpc_model.specs.declared.entry.Word.{Word}
 
 -- a text begins with another, so that what was printed first stands as it was
 pub record BeginsWith (text front : List ℕ) : Type 0 where
   pub same : take (length front) text ≡ front
+
+-- where it succeeds, more stands behind the text
+abbrev pub Puts : {T E : Type 0} → List ℕ → List ℕ → List ℕ → Result T E → Type 0
+Puts before now more result = OnOk result (now ≡ before ++ more)
+
+-- the text of a value, of a field, of fields, of what stands behind a line's number, of an entry and of entries, with
+-- these bytes where a memory read stands
+abbrev pub value_of : List ℕ → Value → List ℕ
+value_of read value = value_text (shown_value read value)
+
+abbrev pub field_of : List ℕ → FieldName → Value → List ℕ
+field_of read name value = field_text (shown_field read (record { name = name; value = value }))
+
+abbrev pub fields_of : List ℕ → List Field → List ℕ
+fields_of read fields = fields_text (map (shown_field read) fields)
+
+abbrev pub rest_of : List ℕ → Entry → List ℕ
+rest_of read entry = rest_text (shown_entry read entry)
+
+abbrev pub line_of : ℕ → List ℕ → Entry → List ℕ
+line_of line read entry = entry_text line (shown_entry read entry)
+
+abbrev pub lines_of : ℕ → List ℕ → List Entry → List ℕ
+lines_of line read entries = entries_text line (map (shown_entry read) entries)
+
+-- a thread, its call and the status with which the call ended; a thread that died; a directive and its status
+abbrev pub ended_text : ℕ → CallName → Status → List ℕ
+ended_text tid call status = by_text tid call ++ status_text status
+
+abbrev pub died_text : ℕ → Status → List ℕ
+died_text tid status = codes "~" ++ decimal tid ++ codes " died" ++ status_text status
+
+abbrev pub directive_text : Word → Status → List ℕ
+directive_text word status = codes "- " ++ word_text word ++ status_text status

@@ -1,8 +1,6 @@
 // The fields of an entry.
-ghost use Rattle.std.specs.Prelude.{◌≡◌, ◌++◌, map, OnOk, OnErr};
-ghost use Rattle.lpc_model.specs.Listed.{shown_value, shown_field};
-ghost use Rattle.lpc_model.specs.Text.{value_text, field_text, fields_text};
-ghost use Rattle.lpc_transcript.specs.Printing.{BeginsWith};
+ghost use Rattle.std.specs.Prelude.{OnErr};
+ghost use Rattle.lpc_transcript.specs.Printing.{BeginsWith, Puts, field_of, fields_of, value_of};
 
 use crate::words::{field_name, kind_name, put, put_bytes, put_digits, put_number, put_read};
 use lpc_base::OutOfMemory;
@@ -15,7 +13,7 @@ fn put_value(
     value: &Value,
     read: &[u8],
 ) -> Result<(), OutOfMemory>
-    ensures ok { OnOk result (into.new.items ≡ into.old.items ++ value_text (shown_value read.now value.now)) }
+    ensures ok { Puts into.old.items into.new.items (value_of read.now value.now) result }
     ensures err { OnErr result (BeginsWith into.new.items into.old.items) }
 {
     match value {
@@ -35,7 +33,7 @@ fn put_field(
     value: &Value,
     read: &[u8],
 ) -> Result<(), OutOfMemory>
-    ensures ok { OnOk result (into.new.items ≡ into.old.items ++ field_text (shown_field read.now (record { name = name; value = value.now }))) }
+    ensures ok { Puts into.old.items into.new.items (field_of read.now name value.now) result }
     ensures err { OnErr result (BeginsWith into.new.items into.old.items) }
 {
     put(into, b" ")?;
@@ -52,7 +50,7 @@ pub(crate) fn put_fields(
     fields: &Fields,
     read: &[u8],
 ) -> Result<(), OutOfMemory>
-    ensures ok { OnOk result (into.new.items ≡ into.old.items ++ fields_text (map (shown_field read.now) fields.now)) }
+    ensures ok { Puts into.old.items into.new.items (fields_of read.now fields.now) result }
     ensures err { OnErr result (BeginsWith into.new.items into.old.items) }
 {
     for at in 0..fields.count() {

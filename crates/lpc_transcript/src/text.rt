@@ -1,9 +1,8 @@
 // The text of entries, and the last line of a transcript.
-ghost use Rattle.std.specs.Prelude.{◌≡◌, ◌++◌, map, take, OnOk, OnErr};
-ghost use Rattle.lpc_model.specs.Listed.{shown_entry};
+ghost use Rattle.std.specs.Prelude.{◌≡◌, take, OnOk, OnErr};
 ghost use Rattle.lpc_model.specs.Script.{kind_number};
-ghost use Rattle.lpc_model.specs.Text.{rest_text, entry_text, entries_text, end_text, stop_text};
-ghost use Rattle.lpc_transcript.specs.Printing.{BeginsWith};
+ghost use Rattle.lpc_model.specs.Text.{entries_text, end_text, stop_text};
+ghost use Rattle.lpc_transcript.specs.Printing.{BeginsWith, Puts, line_of, lines_of, rest_of};
 
 use crate::fields::put_fields;
 use crate::words::{
@@ -21,7 +20,7 @@ fn put_rest(
     entry: &Entry,
     read: &[u8],
 ) -> Result<(), OutOfMemory>
-    ensures ok { OnOk result (into.new.items ≡ into.old.items ++ rest_text (shown_entry read.now entry.now)) }
+    ensures ok { Puts into.old.items into.new.items (rest_of read.now entry.now) result }
     ensures err { OnErr result (BeginsWith into.new.items into.old.items) }
 {
     match entry {
@@ -64,7 +63,7 @@ fn put_entry(
     entry: &Entry,
     read: &[u8],
 ) -> Result<(), OutOfMemory>
-    ensures ok { OnOk result (into.new.items ≡ into.old.items ++ entry_text line (shown_entry read.now entry.now)) }
+    ensures ok { Puts into.old.items into.new.items (line_of line read.now entry.now) result }
     ensures err { OnErr result (BeginsWith into.new.items into.old.items) }
 {
     put_number(into, u64::from(line))?;
@@ -81,7 +80,7 @@ fn put_entries(
     entries: &[Entry],
     read: &[u8],
 ) -> Result<(), OutOfMemory>
-    ensures ok { OnOk result (into.new.items ≡ into.old.items ++ entries_text line (map (shown_entry read.now) entries.now)) }
+    ensures ok { Puts into.old.items into.new.items (lines_of line read.now entries.now) result }
     ensures err { OnErr result (BeginsWith into.new.items into.old.items) }
 {
     for entry in entries {
@@ -116,7 +115,7 @@ pub fn print(
     entries: &Entries,
     into: &mut Vec<u8>,
 ) -> Result<(), OutOfMemory>
-    ensures ok { OnOk result (into.new.items ≡ into.old.items ++ entries_text line entries.now.list) }
+    ensures ok { Puts into.old.items into.new.items (entries_text line entries.now.list) result }
     ensures err { OnErr result (into.new.items ≡ into.old.items) }
 {
     let before = into.len();
@@ -126,7 +125,7 @@ pub fn print(
 
 #[tactic(auto, using(std::proofs::Common::append_assoc, crate::proofs::Begins::begins_before))]
 fn put_end(into: &mut Vec<u8>, lines: u32, entries: u128, objects: usize) -> Result<(), OutOfMemory>
-    ensures ok { OnOk result (into.new.items ≡ into.old.items ++ end_text lines entries objects) }
+    ensures ok { Puts into.old.items into.new.items (end_text lines entries objects) result }
     ensures err { OnErr result (BeginsWith into.new.items into.old.items) }
 {
     put(into, b"end ")?;
@@ -148,7 +147,7 @@ pub fn print_end(
     entries: u128,
     objects: usize,
 ) -> Result<(), OutOfMemory>
-    ensures ok { OnOk result (into.new.items ≡ into.old.items ++ end_text lines entries objects) }
+    ensures ok { Puts into.old.items into.new.items (end_text lines entries objects) result }
     ensures err { OnErr result (into.new.items ≡ into.old.items) }
 {
     let before = into.len();
@@ -174,7 +173,7 @@ fn kind_of(fault: LineFault) -> u64
 
 #[tactic(auto, using(std::proofs::Common::append_assoc, crate::proofs::Begins::begins_before))]
 fn put_stop(into: &mut Vec<u8>, line: u32, fault: LineFault) -> Result<(), OutOfMemory>
-    ensures ok { OnOk result (into.new.items ≡ into.old.items ++ stop_text line (kind_number fault)) }
+    ensures ok { Puts into.old.items into.new.items (stop_text line (kind_number fault)) result }
     ensures err { OnErr result (BeginsWith into.new.items into.old.items) }
 {
     put(into, b"stop ")?;
@@ -189,7 +188,7 @@ fn put_stop(into: &mut Vec<u8>, line: u32, fault: LineFault) -> Result<(), OutOf
 ///
 /// After want of memory the text is as it was.
 pub fn print_stop(into: &mut Vec<u8>, line: u32, fault: LineFault) -> Result<(), OutOfMemory>
-    ensures ok { OnOk result (into.new.items ≡ into.old.items ++ stop_text line (kind_number fault)) }
+    ensures ok { Puts into.old.items into.new.items (stop_text line (kind_number fault)) result }
     ensures err { OnErr result (into.new.items ≡ into.old.items) }
 {
     let before = into.len();

@@ -1,15 +1,16 @@
 // The words of a transcript's line, each put behind the text so far.
-ghost use Rattle.std.specs.Prelude.{◌≡◌, ◌≤◌, ◌++◌, length, codes, decimal, OnOk, OnErr};
+ghost use Rattle.std.specs.Prelude.{◌≡◌, ◌≤◌, ◌++◌, length, decimal, OnErr};
+ghost use Rattle.lpc_base.specs.declared.limits.TheConstants.{MESSAGE_LIMIT};
 ghost use Rattle.hex.specs.Hex.{encode_lower};
-ghost use Rattle.lpc_model.specs.Text.{eight_digits, word_text, kind_text, name_text, by_text, status_text};
-ghost use Rattle.lpc_transcript.specs.Printing.{BeginsWith};
+ghost use Rattle.lpc_model.specs.Text.{eight_digits, kind_text, name_text, by_text, status_text};
+ghost use Rattle.lpc_transcript.specs.Printing.{BeginsWith, Puts, died_text, directive_text, ended_text};
 
 use lpc_base::{OutOfMemory, Status};
 use lpc_model::{CallName, FieldName, ObjectKind, Word};
 use std::alloc::Global;
 
 pub(crate) fn put(into: &mut Vec<u8>, bytes: &[u8]) -> Result<(), OutOfMemory>
-    ensures ok { OnOk result (into.new.items ≡ into.old.items ++ bytes.now) }
+    ensures ok { Puts into.old.items into.new.items bytes.now result }
     ensures err { OnErr result (BeginsWith into.new.items into.old.items) }
 {
     if into.extend_from_slice(bytes).is_err() {
@@ -19,14 +20,14 @@ pub(crate) fn put(into: &mut Vec<u8>, bytes: &[u8]) -> Result<(), OutOfMemory>
 }
 
 pub(crate) fn put_number(into: &mut Vec<u8>, number: u64) -> Result<(), OutOfMemory>
-    ensures ok { OnOk result (into.new.items ≡ into.old.items ++ decimal number) }
+    ensures ok { Puts into.old.items into.new.items (decimal number) result }
     ensures err { OnErr result (BeginsWith into.new.items into.old.items) }
 {
     put(into, itoa::Buffer::new().format(number).as_bytes())
 }
 
 pub(crate) fn put_long_number(into: &mut Vec<u8>, number: u128) -> Result<(), OutOfMemory>
-    ensures ok { OnOk result (into.new.items ≡ into.old.items ++ decimal number) }
+    ensures ok { Puts into.old.items into.new.items (decimal number) result }
     ensures err { OnErr result (BeginsWith into.new.items into.old.items) }
 {
     put(into, itoa::Buffer::new().format(number).as_bytes())
@@ -34,7 +35,7 @@ pub(crate) fn put_long_number(into: &mut Vec<u8>, number: u128) -> Result<(), Ou
 
 // Eight hexadecimal digits.
 pub(crate) fn put_digits(into: &mut Vec<u8>, number: u32) -> Result<(), OutOfMemory>
-    ensures ok { OnOk result (into.new.items ≡ into.old.items ++ eight_digits number) }
+    ensures ok { Puts into.old.items into.new.items (eight_digits number) result }
     ensures err { OnErr result (BeginsWith into.new.items into.old.items) }
 {
     let mut digits = [0u8; 8];
@@ -44,8 +45,8 @@ pub(crate) fn put_digits(into: &mut Vec<u8>, number: u32) -> Result<(), OutOfMem
 
 // The bytes of a field, which has room for this many.
 pub(crate) fn put_bytes(into: &mut Vec<u8>, bytes: &[u8]) -> Result<(), OutOfMemory>
-    requires { length bytes.now ≤ 256 }
-    ensures ok { OnOk result (into.new.items ≡ into.old.items ++ encode_lower bytes.now) }
+    requires { length bytes.now ≤ MESSAGE_LIMIT }
+    ensures ok { Puts into.old.items into.new.items (encode_lower bytes.now) result }
     ensures err { OnErr result (BeginsWith into.new.items into.old.items) }
 {
     let mut buffer = [0u8; 512];
@@ -56,7 +57,7 @@ pub(crate) fn put_bytes(into: &mut Vec<u8>, bytes: &[u8]) -> Result<(), OutOfMem
 
 // The bytes of a memory read, of which there may be too many for a buffer on the stack.
 pub(crate) fn put_read(alloc: Global, into: &mut Vec<u8>, bytes: &[u8]) -> Result<(), OutOfMemory>
-    ensures ok { OnOk result (into.new.items ≡ into.old.items ++ encode_lower bytes.now) }
+    ensures ok { Puts into.old.items into.new.items (encode_lower bytes.now) result }
     ensures err { OnErr result (BeginsWith into.new.items into.old.items) }
 {
     let Ok(digits) = hex::encode(alloc, bytes) else {
@@ -94,7 +95,7 @@ pub(crate) fn field_name(name: FieldName) -> &'static [u8]
 // A thread and its call.
 #[tactic(auto, using(std::proofs::Common::append_assoc, crate::proofs::Begins::begins_before))]
 pub(crate) fn put_by(into: &mut Vec<u8>, tid: u32, call: CallName) -> Result<(), OutOfMemory>
-    ensures ok { OnOk result (into.new.items ≡ into.old.items ++ by_text tid call) }
+    ensures ok { Puts into.old.items into.new.items (by_text tid call) result }
     ensures err { OnErr result (BeginsWith into.new.items into.old.items) }
 {
     put_number(into, u64::from(tid))?;
@@ -104,7 +105,7 @@ pub(crate) fn put_by(into: &mut Vec<u8>, tid: u32, call: CallName) -> Result<(),
 
 #[tactic(auto, using(std::proofs::Common::append_assoc, crate::proofs::Begins::begins_before))]
 fn put_status(into: &mut Vec<u8>, status: Status) -> Result<(), OutOfMemory>
-    ensures ok { OnOk result (into.new.items ≡ into.old.items ++ status_text status) }
+    ensures ok { Puts into.old.items into.new.items (status_text status) result }
     ensures err { OnErr result (BeginsWith into.new.items into.old.items) }
 {
     put(into, b" ")?;
@@ -119,7 +120,7 @@ pub(crate) fn put_ended(
     call: CallName,
     status: Status,
 ) -> Result<(), OutOfMemory>
-    ensures ok { OnOk result (into.new.items ≡ into.old.items ++ (by_text tid call ++ status_text status)) }
+    ensures ok { Puts into.old.items into.new.items (ended_text tid call status) result }
     ensures err { OnErr result (BeginsWith into.new.items into.old.items) }
 {
     put_by(into, tid, call)?;
@@ -129,7 +130,7 @@ pub(crate) fn put_ended(
 // A thread that made no call, and why.
 #[tactic(auto, using(std::proofs::Common::append_assoc, crate::proofs::Begins::begins_before))]
 pub(crate) fn put_state(into: &mut Vec<u8>, tid: u32, state: &[u8]) -> Result<(), OutOfMemory>
-    ensures ok { OnOk result (into.new.items ≡ into.old.items ++ (decimal tid ++ state.now)) }
+    ensures ok { Puts into.old.items into.new.items (decimal tid ++ state.now) result }
     ensures err { OnErr result (BeginsWith into.new.items into.old.items) }
 {
     put_number(into, u64::from(tid))?;
@@ -138,7 +139,7 @@ pub(crate) fn put_state(into: &mut Vec<u8>, tid: u32, state: &[u8]) -> Result<()
 
 #[tactic(auto, using(std::proofs::Common::append_assoc, crate::proofs::Begins::begins_before))]
 pub(crate) fn put_death(into: &mut Vec<u8>, tid: u32, status: Status) -> Result<(), OutOfMemory>
-    ensures ok { OnOk result (into.new.items ≡ into.old.items ++ (codes "~" ++ decimal tid ++ codes " died" ++ status_text status)) }
+    ensures ok { Puts into.old.items into.new.items (died_text tid status) result }
     ensures err { OnErr result (BeginsWith into.new.items into.old.items) }
 {
     put(into, b"~")?;
@@ -153,7 +154,7 @@ pub(crate) fn put_directive(
     word: Word,
     status: Status,
 ) -> Result<(), OutOfMemory>
-    ensures ok { OnOk result (into.new.items ≡ into.old.items ++ (codes "- " ++ word_text word ++ status_text status)) }
+    ensures ok { Puts into.old.items into.new.items (directive_text word status) result }
     ensures err { OnErr result (BeginsWith into.new.items into.old.items) }
 {
     put(into, b"- ")?;

@@ -1,0 +1,58 @@
+-- NtConnectPort: the port that it makes is held by the wait of the connect.
+use Rattle.std.proofs.Common.{ℕ, ◌+◌, ◌≤◌, List, refl, arith}
+use Rattle.lpc_base.specs.Rows.{count}
+use Rattle.lpc_base.proofs.RowWords.{every-append, every-more, every-push, has-push}
+use Rattle.lpc_model.specs.World.{Birth, Message, ThreadRow, World}
+use Rattle.lpc_model.specs.Found.{handle_count, is_connected_to, is_made_on, is_paired_to, is_sent_on, port_name}
+use Rattle.lpc_model.specs.Basics.{world_after}
+use Rattle.lpc_model.specs.Entering.{enter, row_of}
+use Rattle.lpc_model.specs.Tests.{handles_test, next_birth}
+use Rattle.lpc_model.specs.Named.{named_port}
+use Rattle.lpc_model.specs.Connect.{client_port, connect_start, connect_steps, connect_wait, connection_request, info_test, nt_connect_port}
+use Rattle.lpc_model.specs.Linked.{AreLivesHeld, HasHeldPorts}
+use Rattle.lpc_model.proofs.Births.{birth-self}
+use Rattle.lpc_model.proofs.Holding.{Holds, bind_holds}
+use Rattle.lpc_model.proofs.Handles.{count-has}
+use Rattle.lpc_model.proofs.LinkedSteps.{is_steady}
+use Rattle.lpc_model.proofs.SteadySteps.{steady-enter}
+use Rattle.lpc_model.proofs.HeldSteps.{KeepLives, KeepQuiet, counts-more, held-some, holds-port, keeps_lives, lives-all, ports-more, push-more, quiet-all, steady-keeps}
+
+connected-lives : (w : World) (by : ThreadRow) (connection : Birth) (m : Message) → AreLivesHeld w → KeepLives w (connect_steps by connection m w)
+connected-lives w by connection m held =
+    let entering = enter (row_of connection (client_port by connection) m) (world_after w (connect_start by connection m)) in
+    lives-all w (connect_steps by connection m w) (every-append keeps_lives (connect_start by connection m) entering refl
+    (every-more is_steady keeps_lives steady-keeps entering (steady-enter (row_of connection (client_port by connection) m) (world_after w (connect_start by connection m))))) held
+
+pub connect-lives : (w : World) (by : ThreadRow) (name bytes : List ℕ) → AreLivesHeld w → Holds (KeepLives w) (nt_connect_port w by name bytes)
+unfolding nt_connect_port
+connect-lives w by name bytes held =
+    bind_holds (info_test bytes) _ (KeepLives w) (λ _ _.
+    bind_holds (named_port w name) _ (KeepLives w) (λ connection _.
+    bind_holds (handles_test w by.process 1) _ (KeepLives w) (λ _ _. connected-lives w by connection (connection_request by bytes) held)))
+
+-- the new port has a wait
+last-some : (a b c d e : ℕ) → 1 ≤ e → 1 ≤ a + (b + (c + (d + e)))
+last-some a b c d e some = omega (arith, some)
+
+started-quiet : (w : World) (by : ThreadRow) (connection : Birth) (m : Message) → HasHeldPorts w → HasHeldPorts (world_after w (connect_start by connection m))
+started-quiet w by connection m held =
+    let own = next_birth by in
+    let port = client_port by connection in
+    let x = connect_wait by connection m in
+    let v = world_after w (connect_start by connection m) in
+    let old = ports-more w v (λ b. counts-more (handle_count w (port_name b)) _ _ (count (is_sent_on b) w.messages) _ _ _ _ _ _ (omega arith) (push-more (is_paired_to b) w.ports port) (push-more (is_connected_to b) w.ports port) (omega arith) (push-more (is_made_on b) w.waits x)) held in
+    let some = count-has (is_made_on own) (world_after w (connect_start by connection m)).waits (has-push (is_made_on own) w.waits x (birth-self own)) in
+    every-push (holds-port v) w.ports port old (held-some _ (last-some (handle_count v (port_name own)) (count (is_paired_to own) v.ports) (count (is_connected_to own) v.ports) (count (is_sent_on own) v.messages) _ some))
+
+connected-quiet : (w : World) (by : ThreadRow) (connection : Birth) (m : Message) → HasHeldPorts w → KeepQuiet w (connect_steps by connection m w)
+connected-quiet w by connection m held quiet =
+    let v = world_after w (connect_start by connection m) in
+    let row = row_of connection (client_port by connection) m in
+    quiet-all v (enter row v) (steady-enter row v) quiet (started-quiet w by connection m held)
+
+pub connect-quiet : (w : World) (by : ThreadRow) (name bytes : List ℕ) → HasHeldPorts w → Holds (KeepQuiet w) (nt_connect_port w by name bytes)
+unfolding nt_connect_port
+connect-quiet w by name bytes held =
+    bind_holds (info_test bytes) _ (KeepQuiet w) (λ _ _.
+    bind_holds (named_port w name) _ (KeepQuiet w) (λ connection _.
+    bind_holds (handles_test w by.process 1) _ (KeepQuiet w) (λ _ _. connected-quiet w by connection (connection_request by bytes) held)))

@@ -1,0 +1,62 @@
+-- Each limit from both sides.
+use Rattle.std.proofs.Common.{◌≡◌, ℕ, ◌+◌, ◌<◌, ◌≤◌, Bool, true, false, length, refl, arith}
+use Rattle.std.specs.Prelude.{nat_le, nat_lt, Ok, Err}
+use Rattle.std.proofs.lemmas.Bool.Decides.{nat_tests}
+use Rattle.lpc_base.specs.declared.status.Status.{Status}
+use Rattle.lpc_base.specs.declared.status.TheConstants.{PORT_MESSAGE_TOO_LONG, QUOTA_EXCEEDED}
+use Rattle.lpc_message.specs.Layout.{header_of}
+use Rattle.lpc_model.specs.Found.{datagrams, live_count}
+use Rattle.lpc_model.specs.Message.{message_test}
+use Rattle.lpc_model.specs.Refusal.{refuse_if}
+use Rattle.lpc_model.specs.Tests.{handle_load}
+use Rattle.lpc_model.specs.Limits.{LimitsDatagrams, LimitsHandles, LimitsInfo, LimitsMessages, LimitsThreads}
+
+passes : (b : Bool) (s : Status) → b ≡ false → refuse_if b s ≡ Ok tt
+passes b s is = rw is refl
+
+refuses : (b : Bool) (s : Status) → b ≡ true → refuse_if b s ≡ Err s
+refuses b s is = rw is refl
+
+-- the tests on numbers
+past-off : (limit n : ℕ) → n ≤ limit → nat_lt limit n ≡ false
+past-off limit n is = grind (arith, nat_tests)
+
+past : (limit n : ℕ) → limit < n → nat_lt limit n ≡ true
+past limit n is = grind (arith, nat_tests)
+
+at-off : (limit n : ℕ) → n < limit → nat_le limit n ≡ false
+at-off limit n is = grind (arith, nat_tests)
+
+at-least : (limit n : ℕ) → limit ≤ n → nat_le limit n ≡ true
+at-least limit n is = grind (arith, nat_tests)
+
+pub limits_handles : LimitsHandles
+limits_handles w pid = record {
+  below = λ few. passes _ QUOTA_EXCEEDED (past-off 256 (handle_load w pid + 1) (omega (arith, few)));
+  reached = λ many. refuses _ QUOTA_EXCEEDED (past 256 (handle_load w pid + 1) (omega (arith, many)));
+}
+
+pub limits_threads : LimitsThreads
+limits_threads w pid = record {
+  below = λ few. passes _ QUOTA_EXCEEDED (at-off 64 (live_count w pid) few);
+  reached = λ many. refuses _ QUOTA_EXCEEDED (at-least 64 (live_count w pid) many);
+}
+
+pub limits_datagrams : LimitsDatagrams
+limits_datagrams w port = record {
+  below = λ few. passes _ QUOTA_EXCEEDED (at-off 32 (datagrams w port.birth) few);
+  reached = λ many. refuses _ QUOTA_EXCEEDED (at-least 32 (datagrams w port.birth) many);
+}
+
+pub limits_messages : LimitsMessages
+unfolding message_test
+limits_messages bytes lawful = record {
+  within = λ few. rw (lawful, past-off 256 (header_of bytes).message_size few) refl;
+  beyond = λ many. rw (lawful, past 256 (header_of bytes).message_size many) refl;
+}
+
+pub limits_info : LimitsInfo
+limits_info bytes = record {
+  within = λ few. passes _ PORT_MESSAGE_TOO_LONG (past-off 256 (24 + length bytes) (omega (arith, few)));
+  beyond = λ many. refuses _ PORT_MESSAGE_TOO_LONG (past 256 (24 + length bytes) (omega (arith, many)));
+}

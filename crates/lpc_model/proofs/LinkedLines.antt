@@ -1,0 +1,115 @@
+-- Each line keeps ports linked, and leaves no port row that no row names.
+use Rattle.std.proofs.Common.{◌≡◌, ℕ, List, [], ◌∷◌, Option, Some, None, refl, arith}
+use Rattle.std.specs.List.{AllByRecursion}
+use Rattle.lpc_model.specs.declared.entry.Word.TheVariants as word
+use Rattle.lpc_model.specs.World.{ThreadRow, WaitRow, World}
+use Rattle.lpc_model.specs.Found.{live_thread, wait_of}
+use Rattle.lpc_model.specs.Basics.{world_after}
+use Rattle.lpc_model.specs.Named.{free_name, spelled_name}
+use Rattle.lpc_model.specs.Lines.{ScriptCall, ScriptLine, accept_connect_port, boot, complete_connect_port, connect_port, create_port, dir, link, listen_port, reply_port, reply_wait_receive_port, request_port, request_wait_reply_port, run, thread}
+use Rattle.lpc_model.specs.Machine.{boot_line, dir_line, link_line, name_of_call, ready_steps, service_of, bare_steps, thread_line, thread_steps, thread_test, unused_test}
+use Rattle.lpc_model.specs.SoundWaits.{IsSoundWorld}
+use Rattle.lpc_model.proofs.Holding.{Holds, bind_holds, directed_holds, settled_holds}
+use Rattle.lpc_model.specs.World.{no_rows}
+use Rattle.lpc_model.specs.Sweep.{free_unheld, sweep}
+use Rattle.lpc_model.specs.Linked.{HasHeldRows, IsLinked}
+use Rattle.lpc_model.specs.Run.{run_of, said_in, trace}
+use Rattle.lpc_model.specs.Machine.{Stepped, step}
+use Rattle.lpc_model.proofs.Usable.{CanCall, can-call}
+use Rattle.lpc_model.proofs.SoundQueues.{after-append}
+use Rattle.lpc_model.proofs.SoundLines.{sound_none, line-sound, sound_step}
+use Rattle.lpc_model.proofs.SteadyListen.{listen-steady}
+use Rattle.lpc_model.proofs.SteadyDatagram.{datagram-steady}
+use Rattle.lpc_model.proofs.SteadyRequest.{request-steady}
+use Rattle.lpc_model.proofs.SteadyReply.{reply-steady}
+use Rattle.lpc_model.proofs.SteadyReceive.{receive-steady}
+use Rattle.lpc_model.proofs.LinkedJoins.{swept-linked}
+use Rattle.lpc_model.proofs.Swept.{two-passes}
+use Rattle.lpc_model.proofs.SweptLives.{processes-held, threads-held}
+use Rattle.lpc_model.proofs.LinkedCalls.{ArePlain, KeepLinked, plain_holds, steady_holds}
+use Rattle.lpc_model.proofs.LinkedCreate.{create-linked}
+use Rattle.lpc_model.proofs.LinkedConnect.{connect-linked}
+use Rattle.lpc_model.proofs.LinkedAccept.{accept-linked}
+use Rattle.lpc_model.proofs.LinkedComplete.{complete-linked}
+
+-- Directives
+boot-plain : (w : World) (pid tid : ℕ) → Holds ArePlain (boot_line w pid tid)
+unfolding boot_line
+boot-plain w pid tid = bind_holds (unused_test w pid tid) _ ArePlain (λ _ _. refl)
+
+further-plain : (w : World) (tid pid : ℕ) → Holds ArePlain (thread_line w tid pid)
+unfolding thread_line
+further-plain w tid pid = bind_holds (thread_test w tid pid) _ ArePlain (λ _ _. refl)
+
+dir-plain : (w : World) (text : List ℕ) → Holds ArePlain (dir_line w text)
+unfolding dir_line
+dir-plain w text = bind_holds (free_name w text) _ ArePlain (λ path _. refl)
+
+link-plain : (w : World) (text target : List ℕ) → Holds ArePlain (link_line w text target)
+unfolding link_line
+link-plain w text target =
+    bind_holds (spelled_name target) _ ArePlain (λ to _.
+    bind_holds (free_name w text) _ ArePlain (λ path _. refl))
+
+-- Calls
+service-linked : (w : World) (by : ThreadRow) (call : ScriptCall) → CanCall w by → IsSoundWorld w → IsLinked w → Holds (KeepLinked w) (service_of w by call)
+service-linked w by (create_port name) c s l = create-linked w by name c s l
+service-linked w by (connect_port name info) c s l = connect-linked w by name info c s l
+service-linked w by (listen_port handle) c s l = steady_holds w _ l (listen-steady w by handle)
+service-linked w by (accept_connect_port context message accept) c s l = accept-linked w by context message accept c s l
+service-linked w by (complete_connect_port handle) c s l = complete-linked w by handle l
+service-linked w by (request_port handle bytes) c s l = steady_holds w _ l (datagram-steady w by handle bytes)
+service-linked w by (request_wait_reply_port handle bytes) c s l = steady_holds w _ l (request-steady w by handle bytes)
+service-linked w by (reply_port handle bytes) c s l = steady_holds w _ l (reply-steady w by handle bytes)
+service-linked w by (reply_wait_receive_port handle bytes) c s l = steady_holds w _ l (receive-steady w by handle bytes)
+
+ready-linked : (w : World) (by : ThreadRow) (call : ScriptCall) (o : Option WaitRow) → (o ≡ None → CanCall w by) → IsSoundWorld w → IsLinked w → KeepLinked w (ready_steps by call o w)
+ready-linked w by call (Some x) c s l = l
+ready-linked w by call None c s l = settled_holds (KeepLinked w) by (name_of_call call) (service_of w by call) (service-linked w by call (c refl) s l) (λ _ _. l)
+
+thread-linked : (w : World) (tid : ℕ) (call : ScriptCall) (o : Option ThreadRow) → live_thread w tid ≡ o → IsSoundWorld w → IsLinked w → KeepLinked w (thread_steps tid call o w)
+thread-linked w tid call None live s l = l
+thread-linked w tid call (Some by) live s l = ready-linked w by call (wait_of w tid) (λ idle. can-call w tid by live idle s) s l
+
+-- Lines
+-- before rows go
+pub line_linked : (w : World) (line : ScriptLine) → IsSoundWorld w → IsLinked w → KeepLinked w (bare_steps line w)
+unfolding bare_steps
+line_linked w (boot pid tid) s l = directed_holds (KeepLinked w) word.Boot (boot_line w pid tid) (plain_holds w (boot_line w pid tid) l (boot-plain w pid tid)) (λ _. l)
+line_linked w (thread tid pid) s l = directed_holds (KeepLinked w) word.Thread (thread_line w tid pid) (plain_holds w (thread_line w tid pid) l (further-plain w tid pid)) (λ _. l)
+line_linked w (dir path) s l = directed_holds (KeepLinked w) word.Dir (dir_line w path) (plain_holds w (dir_line w path) l (dir-plain w path)) (λ _. l)
+line_linked w (link path target) s l = directed_holds (KeepLinked w) word.Link (link_line w path target) (plain_holds w (link_line w path target) l (link-plain w path target)) (λ _. l)
+line_linked w (run tid call) s l = thread-linked w tid call (live_thread w tid) refl s l
+
+-- the step of a line keeps ports linked, and leaves no port row that no row names
+pub linked_step : (w : World) (line : ScriptLine) → IsSoundWorld w → IsLinked w → IsLinked (step w line).world
+linked_step w line s l =
+    let bs = bare_steps line w in
+    rw (after-append w bs (sweep (world_after w bs))) (swept-linked (world_after w bs) (line-sound w line s) (line_linked w line s l))
+
+swept-rows : (w : World) → IsLinked w → HasHeldRows (world_after w (sweep w))
+unfolding sweep
+swept-rows w l =
+    let v = world_after w (free_unheld w) in
+    rw (after-append w (free_unheld w) (free_unheld v)) (record { ports = two-passes w l; lives = record { threads = threads-held w; processes = processes-held w } })
+
+pub held_step : (w : World) (line : ScriptLine) → IsSoundWorld w → IsLinked w → HasHeldRows (step w line).world
+held_step w line s l =
+    let bs = bare_steps line w in
+    rw (after-append w bs (sweep (world_after w bs))) (swept-rows (world_after w bs) (line_linked w line s l))
+
+pub linked_none : IsLinked no_rows
+linked_none = record { births = λ b. grind arith; pairs = refl; rooted = refl; offers = refl; targets = refl }
+
+-- Runs
+trace-held : (w : World) (lines : List (Option ScriptLine)) → IsSoundWorld w → IsLinked w → HasHeldRows w → AllByRecursion (λ (s : Stepped). HasHeldRows s.world) (trace w lines)
+unfolding trace
+trace-held w [] s l held = tt
+trace-held w (None ∷ later) s l held = (held, trace-held w later s l held)
+trace-held w (Some line ∷ later) s l held =
+    let after = held_step w line s l in
+    (after, trace-held (step w line).world later (sound_step w line s) (linked_step w line s l) after)
+
+-- behind each line of a script each row of an object is named by a row
+pub held_run : (bytes : List ℕ) → AllByRecursion (λ (s : Stepped). HasHeldRows s.world) (run_of bytes)
+held_run bytes = trace-held no_rows (said_in bytes) sound_none linked_none (record { ports = refl; lives = record { threads = refl; processes = refl } })

@@ -1,0 +1,391 @@
+-- Each line keeps messages and waits in queues of open ports.
+use Rattle.std.proofs.Common.{◌≡◌, ℕ, ◌≤◌, List, [], ◌∷◌, ◌++◌, Bool, true, false, map, not, Option, Some, None, refl, arith}
+use Rattle.std.specs.Prelude.{◌&&◌, Result, Ok, Err}
+use Rattle.std.specs.List.{AllByRecursion}
+use Rattle.lpc_base.specs.Rows.{count, every, first, given, when}
+use Rattle.lpc_base.proofs.RowWords.{every-append, every-change, every-more, every-push, every-without, has-kept}
+use Rattle.lpc_base.proofs.RowMaps.{every-without_first}
+use Rattle.lpc_base.specs.declared.limits.TheConstants.{MESSAGE_LIMIT}
+use Rattle.lpc_base.specs.declared.port_kind.PortKind.TheVariants.{Connection, Unnamed}
+use Rattle.lpc_base.specs.declared.status.Status.{Status}
+use Rattle.lpc_base.specs.declared.status.TheConstants.{INVALID_PORT_HANDLE, PORT_DISCONNECTED, SUCCESS}
+use Rattle.lpc_message.specs.declared.kind.TheConstants.{DATAGRAM, REQUEST}
+use Rattle.lpc_names.specs.Walk.{Stands}
+use Rattle.lpc_names.specs.declared.names.Found.TheVariants.{Item}
+use Rattle.lpc_model.specs.declared.entry.ObjectKind.TheVariants as kind
+use Rattle.lpc_model.specs.declared.entry.Word.TheVariants as word
+use Rattle.lpc_model.specs.World.{Birth, Message, MessageRow, ObjectKind, ObjectName, PortRow, ThreadRow, WaitRow, World, no_rows}
+use Rattle.lpc_model.specs.Found.{free_handle, has_handle_to, is_connection_port, is_open, is_own_of, is_queued, is_queued_connect, is_table, live_thread, port_name, queue_of, wait_of, waits_as, waits_at}
+use Rattle.lpc_model.specs.Basics.{Accepts, AddsHandle, AddsProcess, AddsThread, Awaits, Basic, Binds, Completes, DrawsIdentifier, DrawsOrdinal, Enters, Frees, Joins, Makes, Receives, Takes, TakesConnect, Tells, Wakes, Withdraws, accepted, basic, freed, no_handles, received, world_after}
+use Rattle.lpc_model.specs.Sweep.{free_unheld, sweep, unheld}
+use Rattle.lpc_model.specs.Message.{asks, message_test}
+use Rattle.lpc_model.specs.Fields.{h, info, max}
+use Rattle.lpc_model.specs.Entering.{enter, given_steps, receipt_steps, row_of, shown, takes, woken}
+use Rattle.lpc_model.specs.Named.{free_name, named_port, spelled_name}
+use Rattle.lpc_model.specs.Refusal.{found_or, refuse_if}
+use Rattle.lpc_model.specs.Tests.{PORT_ACCESS, handle_row, handles_test, next_birth, port_test}
+use Rattle.lpc_model.specs.Connect.{Completable, ConnectAnswer, accept_steps, answer_of, answer_test, answered_steps, client_port, complete_steps, complete_test, connect_start, connection_request, create_steps, info_test, listen_steps, making, new_port, nt_accept_connect_port, nt_complete_connect_port, nt_connect_port, nt_create_port, nt_listen_port, refuse_steps, server_port}
+use Rattle.lpc_model.specs.Request.{Sendable, answered_test, datagram_send_test, datagram_start, datagram_test, given_reply, is_spent, nt_reply_port, nt_reply_wait_receive_port, nt_request_port, nt_request_wait_reply_port, optional_message, receive_steps, receive_test, request_start, send_test, sent_by}
+use Rattle.lpc_model.specs.Lines.{ScriptCall, ScriptLine, accept_connect_port, boot, complete_connect_port, connect_port, create_port, dir, link, listen_port, reply_port, reply_wait_receive_port, request_port, request_wait_reply_port, run, thread}
+use Rattle.lpc_model.specs.Machine.{Stepped, bare_steps, boot_line, dir_line, link_line, name_of_call, ready_steps, service_of, step, thread_line, thread_steps, thread_test, unused_test}
+use Rattle.lpc_model.specs.Run.{said_in, trace}
+use Rattle.lpc_model.specs.SoundWaits.{IsSoundWorld}
+use Rattle.lpc_model.specs.OpenQueues.{HasOpenQueues, RunKeepsQueuesOpen, StepsKeepQueuesOpen}
+use Rattle.lpc_model.proofs.Holding.{Holds, bind_holds, directed_holds, found_ok, holds_ok, settled_holds}
+use Rattle.lpc_model.proofs.Handles.{open-add}
+use Rattle.lpc_model.proofs.Usable.{HasRoute, IsUsable, port-usable, queue-open}
+use Rattle.lpc_model.proofs.SoundWorlds.{by_kind}
+use Rattle.lpc_model.proofs.SoundQueues.{after-append}
+use Rattle.lpc_model.proofs.SoundCalls.{send-routed}
+use Rattle.lpc_model.proofs.SoundConnect.{name-open}
+use Rattle.lpc_model.proofs.SoundLines.{sound_none, sound_step}
+
+-- What keeps queues open
+-- the ports that are open in one world are open in another
+abbrev StayOpen : World → World → Type 0
+StayOpen w v = (b : Birth) → is_open w b ≡ true → is_open v b ≡ true
+
+abbrev enters_open : World → MessageRow → Bool
+enters_open w m = is_open w m.queue
+
+abbrev waits_open : World → WaitRow → Bool
+waits_open w x = is_open w x.queue
+
+-- one world behind another: open ports stay open, and so do the queues of messages and waits
+record KeepsOpen (w v : World) : Type 0 where
+  opens : StayOpen w v
+  queues : HasOpenQueues w → HasOpenQueues v
+
+kept : (w v : World) → StayOpen w v → (every (enters_open w) w.messages ≡ true → every (enters_open w) v.messages ≡ true) → (every (waits_open w) w.waits ≡ true → every (waits_open w) v.waits ≡ true) → KeepsOpen w v
+kept w v opens messages waits = record {
+  opens = opens;
+  queues = λ q. record {
+    messages = every-more (enters_open w) (enters_open v) (λ m is. opens m.queue is) v.messages (messages q.messages);
+    waits = every-more (waits_open w) (waits_open v) (λ x is. opens x.queue is) v.waits (waits q.waits);
+  };
+}
+
+-- the messages change alone, and the waits alone, and neither does
+messages-kept : (w : World) (messages : List MessageRow) → (every (enters_open w) w.messages ≡ true → every (enters_open w) messages ≡ true) → KeepsOpen w (record w { messages = messages })
+messages-kept w messages all = kept w (record w { messages = messages }) (λ b is. is) all (λ all. all)
+
+waits-kept : (w : World) (waits : List WaitRow) → (every (waits_open w) w.waits ≡ true → every (waits_open w) waits ≡ true) → KeepsOpen w (record w { waits = waits })
+waits-kept w waits all = kept w (record w { waits = waits }) (λ b is. is) (λ all. all) all
+
+-- a basic step that keeps queues open whatever stands behind it: it gives no handle, and what enters or waits does so in a
+-- queue of an open port
+abbrev is_open_step : World → Basic → Bool
+is_open_step w (Awaits x) = is_open w x.queue
+is_open_step w (Enters m) = is_open w m.queue
+is_open_step w (AddsHandle pid row) = false
+is_open_step w b = true
+
+abbrev AreOpen : World → List Basic → Type 0
+AreOpen w bs = every (is_open_step w) bs ≡ true
+
+freed-kept : (w : World) (k : ObjectKind) (b : Birth) → KeepsOpen w (freed w k b)
+freed-kept w kind.Port b = kept w (freed w kind.Port b) (λ b is. is) (λ all. all) (λ all. all)
+freed-kept w kind.Section b = kept w w (λ b is. is) (λ all. all) (λ all. all)
+freed-kept w kind.Token b = kept w w (λ b is. is) (λ all. all) (λ all. all)
+freed-kept w kind.Process b = kept w (freed w kind.Process b) (λ b is. is) (λ all. all) (λ all. all)
+freed-kept w kind.Thread b = kept w (freed w kind.Thread b) (λ b is. is) (λ all. all) (λ all. all)
+
+-- a step that passes in a world keeps queues open in each later one
+step-kept : (w v : World) (b : Basic) → StayOpen w v → is_open_step w b ≡ true → KeepsOpen v (basic v b)
+step-kept w v (Tells e) stay is = kept v v (λ b is. is) (λ all. all) (λ all. all)
+step-kept w v (Wakes who call status fields) stay is = waits-kept v _ (every-without (waits_open v) (waits_as who) v.waits)
+step-kept w v (Awaits x) stay is = waits-kept v _ (λ all. every-push (waits_open v) v.waits x all (stay x.queue is))
+step-kept w v (Receives who queue) stay is = waits-kept v _ (every-change (waits_open v) (waits_at who queue) received (λ x is. is) v.waits)
+step-kept w v (Accepts who reply) stay is = waits-kept v _ (every-change (waits_open v) (waits_as who) (accepted reply) (λ x is. is) v.waits)
+step-kept w v (Enters m) stay is = messages-kept v _ (λ all. every-push (enters_open v) v.messages m all (stay m.queue is))
+step-kept w v (Takes q) stay is = messages-kept v _ (every-without_first (enters_open v) (is_queued q) v.messages)
+step-kept w v (TakesConnect q) stay is = messages-kept v _ (every-without_first (enters_open v) (is_queued_connect q) v.messages)
+step-kept w v (Withdraws who) stay is = messages-kept v _ (every-without (enters_open v) (is_own_of who) v.messages)
+step-kept w v (DrawsIdentifier who) stay is = kept v (basic v (DrawsIdentifier who)) (λ b is. is) (λ all. all) (λ all. all)
+step-kept w v (DrawsOrdinal who) stay is = kept v (basic v (DrawsOrdinal who)) (λ b is. is) (λ all. all) (λ all. all)
+step-kept w v (AddsProcess p) stay is = kept v (basic v (AddsProcess p)) (λ b is. has-kept (has_handle_to b) v.handles (no_handles p.number) is) (λ all. all) (λ all. all)
+step-kept w v (AddsThread t) stay is = kept v (basic v (AddsThread t)) (λ b is. is) (λ all. all) (λ all. all)
+step-kept w v (Makes p) stay is = kept v (basic v (Makes p)) (λ b is. is) (λ all. all) (λ all. all)
+step-kept w v (Joins client server context) stay is = kept v (basic v (Joins client server context)) (λ b is. is) (λ all. all) (λ all. all)
+step-kept w v (Completes b) stay is = kept v (basic v (Completes b)) (λ b is. is) (λ all. all) (λ all. all)
+step-kept w v (Frees o) stay is = freed-kept v o.kind o.birth
+step-kept w v (Binds path node) stay is = kept v (basic v (Binds path node)) (λ b is. is) (λ all. all) (λ all. all)
+step-kept w v (AddsHandle pid row) stay is = absurd (cc)
+
+steps-kept : (w v : World) (bs : List Basic) → StayOpen w v → AreOpen w bs → HasOpenQueues v → HasOpenQueues (world_after v bs)
+steps-kept w v [] stay all q = q
+steps-kept w v (b ∷ bs) stay all q =
+    let here : is_open_step w b ≡ true = grind arith in
+    let later : every (is_open_step w) bs ≡ true = grind arith in
+    let k = step-kept w v b stay here in
+    steps-kept w (basic v b) bs (λ c is. k.opens c (stay c is)) later (k.queues q)
+
+-- steps that all pass keep queues open
+open-all : (w : World) (bs : List Basic) → AreOpen w bs → HasOpenQueues w → HasOpenQueues (world_after w bs)
+open-all w bs all q = steps-kept w w bs (λ c is. is) all q
+
+-- a process gets a handle at a free value
+handled : (w : World) (pid : ℕ) (object : ObjectName) → count (is_table pid) w.handles ≤ 1 → HasOpenQueues w → HasOpenQueues (basic w (AddsHandle pid (handle_row (free_handle w pid) object PORT_ACCESS)))
+handled w pid object one q =
+    let v = basic w (AddsHandle pid (handle_row (free_handle w pid) object PORT_ACCESS)) in
+    let k = kept w v (λ b is. open-add w pid object PORT_ACCESS b one is) (λ all. all) (λ all. all) in
+    k.queues q
+
+-- Messages that enter
+both-true : (a b : Bool) → a ≡ true → b ≡ true → (a && b) ≡ true
+both-true a b one two = grind arith
+
+open-receipt : (w : World) (m : MessageRow) → AreOpen w (receipt_steps m)
+open-receipt w m = at (asks m.message)
+  where
+    at : (a : Bool) → AreOpen w (when a (Receives m.message.header.client.thread m.queue ∷ []))
+    at true = refl
+    at false = refl
+
+open-given : (w : World) (m : MessageRow) (x : WaitRow) → AreOpen w (given_steps x m ++ woken SUCCESS (shown x m) x ∷ [])
+open-given w m x =
+    by_kind (λ x. AreOpen w (given_steps x m ++ woken SUCCESS (shown x m) x ∷ []))
+    (λ x r. every-append (is_open_step w) (receipt_steps m) _ (open-receipt w m) refl)
+    (λ x. every-append (is_open_step w) (receipt_steps m) _ (open-receipt w m) refl)
+    (λ x. every-append (is_open_step w) (receipt_steps m) _ (open-receipt w m) refl)
+    (λ x r. every-append (is_open_step w) (receipt_steps m) _ (open-receipt w m) refl)
+    (λ x r reply. every-append (is_open_step w) (receipt_steps m) _ (open-receipt w m) refl) x
+
+-- a message enters a queue that is open in one world, in a later one
+open-enter : (w : World) (m : MessageRow) (v : World) → is_open w m.queue ≡ true → AreOpen w (enter m v)
+open-enter w m v opens = both-true (is_open w m.queue) _ opens (at (first (takes m) v.waits))
+  where
+    at : (o : Option WaitRow) → AreOpen w (given o (λ x. given_steps x m ++ woken SUCCESS (shown x m) x ∷ []))
+    at None = refl
+    at (Some x) = open-given w m x
+
+-- Services
+abbrev KeepOpen : World → List Basic → Type 0
+KeepOpen w bs = HasOpenQueues (world_after w bs)
+
+open_holds : (w : World) (r : Result (List Basic) Status) → HasOpenQueues w → Holds (AreOpen w) r → Holds (KeepOpen w) r
+open_holds w (Ok bs) q all = open-all w bs all q
+open_holds w (Err s) q all = tt
+
+-- NtCreatePort
+making-open : (w : World) (by : ThreadRow) (name : Option (List ℕ)) → IsSoundWorld w → HasOpenQueues w → Holds (λ made. KeepOpen w (create_steps by made (free_handle w by.process))) (making w (next_birth by) name)
+making-open w by None s q =
+    let bs = DrawsOrdinal by.number ∷ Makes (new_port (next_birth by) Unnamed) ∷ [] in
+    handled (world_after w bs) by.process (port_name (next_birth by)) (s.tables by.process) (open-all w bs refl q)
+making-open w by (Some name) s q =
+    bind_holds (free_name w name) _ (λ made. KeepOpen w (create_steps by made (free_handle w by.process))) (λ path _.
+    let bs = DrawsOrdinal by.number ∷ Makes (new_port (next_birth by) Connection) ∷ Binds path (Stands (Item (next_birth by))) ∷ [] in
+    handled (world_after w bs) by.process (port_name (next_birth by)) (s.tables by.process) (open-all w bs refl q))
+
+create-open : (w : World) (by : ThreadRow) (name : Option (List ℕ)) → IsSoundWorld w → HasOpenQueues w → Holds (KeepOpen w) (nt_create_port w by name)
+unfolding nt_create_port
+create-open w by name s q =
+    let value = free_handle w by.process in
+    bind_holds (making w (next_birth by) name) _ (KeepOpen w) (λ made at.
+    bind_holds (handles_test w by.process 1) _ (KeepOpen w) (λ _ _.
+    holds_ok (λ made. KeepOpen w (create_steps by made value)) (making w (next_birth by) name) made (making-open w by name s q) at))
+
+-- NtConnectPort
+-- a name leads to an open port, in whose queue the request enters and its thread waits
+connect-open : (w : World) (by : ThreadRow) (name bytes : List ℕ) → IsSoundWorld w → Holds (AreOpen w) (nt_connect_port w by name bytes)
+unfolding nt_connect_port
+connect-open w by name bytes s =
+    bind_holds (info_test bytes) _ (AreOpen w) (λ _ _.
+    bind_holds (named_port w name) _ (AreOpen w) (λ connection at.
+    bind_holds (handles_test w by.process 1) _ (AreOpen w) (λ _ _.
+    let m = connection_request by bytes in
+    let opens = holds_ok (λ port. is_open w port ≡ true) (named_port w name) connection (name-open w name s) at in
+    both-true (is_open w connection) _ opens (open-enter w (row_of connection (client_port by connection) m) (world_after w (connect_start by connection m)) opens))))
+
+-- NtListenPort
+listened-open : (w : World) (by : ThreadRow) (port : Birth) (o : Option MessageRow) → is_open w port ≡ true → AreOpen w (listen_steps by port o)
+listened-open w by port (Some m) opens = open-receipt w m
+listened-open w by port None opens = both-true (is_open w port) true opens refl
+
+listen-open : (w : World) (by : ThreadRow) (handle : ℕ) → Holds (AreOpen w) (nt_listen_port w by handle)
+unfolding nt_listen_port
+listen-open w by handle =
+    bind_holds (port_test w by handle) _ (AreOpen w) (λ port at.
+    bind_holds (refuse_if (not (is_connection_port port)) INVALID_PORT_HANDLE) _ (AreOpen w) (λ _ _.
+    let u = holds_ok (IsUsable w) (port_test w by handle) port (port-usable w by handle) at in
+    listened-open w by port.birth (first (is_queued_connect port.birth) w.messages) u.opens))
+
+-- NtAcceptConnectPort
+accepted-open : (w : World) (by : ThreadRow) (context : ℕ) (a : ConnectAnswer) → IsSoundWorld w → HasOpenQueues w → KeepOpen w (accept_steps by context (free_handle w by.process) a)
+accepted-open w by context a s q =
+    let server = next_birth by in
+    let bs = DrawsOrdinal by.number ∷ Makes (server_port server a.wait.queue) ∷ [] in
+    let made = world_after w bs in
+    let held = basic made (AddsHandle by.process (handle_row (free_handle w by.process) (port_name server) PORT_ACCESS)) in
+    open-all held (Accepts a.wait.thread a.message.body ∷ Joins a.wait.port server context ∷ []) refl
+    (handled made by.process (port_name server) (s.tables by.process) (open-all w bs refl q))
+
+accept-open : (w : World) (by : ThreadRow) (context : ℕ) (bytes : List ℕ) (accept : Bool) → IsSoundWorld w → HasOpenQueues w → Holds (KeepOpen w) (nt_accept_connect_port w by context bytes accept)
+unfolding nt_accept_connect_port
+accept-open w by context bytes accept s q = bind_holds (answer_test w by bytes) _ (KeepOpen w) (λ a _. answered accept a)
+  where
+    answered : (accept : Bool) (a : ConnectAnswer) → Holds (KeepOpen w) (answered_steps w by context accept a)
+    answered false a = open-all w (refuse_steps by a) refl q
+    answered true a = bind_holds (handles_test w by.process 1) _ (KeepOpen w) (λ _ _. accepted-open w by context a s q)
+
+-- NtCompleteConnectPort
+completed-open : (w : World) (by : ThreadRow) (c : Completable) → IsSoundWorld w → HasOpenQueues w → KeepOpen w (complete_steps by (free_handle w c.wait.process) c)
+completed-open w by c s q =
+    let pid = c.wait.process in
+    let value = free_handle w pid in
+    let bs = Completes c.server ∷ Completes c.client ∷ [] in
+    let held = basic (world_after w bs) (AddsHandle pid (handle_row value (port_name c.client) PORT_ACCESS)) in
+    open-all held (woken SUCCESS (h value ∷ max MESSAGE_LIMIT ∷ info (answer_of c.wait) ∷ []) c.wait ∷ []) refl
+    (handled (world_after w bs) pid (port_name c.client) (s.tables pid) (open-all w bs refl q))
+
+complete-open : (w : World) (by : ThreadRow) (handle : ℕ) → IsSoundWorld w → HasOpenQueues w → Holds (KeepOpen w) (nt_complete_connect_port w by handle)
+unfolding nt_complete_connect_port
+complete-open w by handle s q = bind_holds (complete_test w by handle) _ (KeepOpen w) (λ c _. completed-open w by c s q)
+
+-- NtRequestPort and NtRequestWaitReplyPort
+-- a message is sent only to an open queue, in which it enters and its thread waits
+sent-open : (w : World) (by : ThreadRow) (handle : ℕ) (bytes : List ℕ) (s : Sendable) → send_test w by handle bytes ≡ Ok s → is_open w s.queue ≡ true
+sent-open w by handle bytes s at =
+    let r = holds_ok (λ (s : Sendable). HasRoute w s.port s.queue) (send_test w by handle bytes) s (send-routed w by handle bytes) at in
+    r.to
+
+datagram-to : (w : World) (by : ThreadRow) (handle : ℕ) (bytes : List ℕ) → Holds (λ (s : Sendable). is_open w s.queue ≡ true) (datagram_send_test w by handle bytes)
+datagram-to w by handle bytes =
+    let P : Sendable → Type 0 = λ s. is_open w s.queue ≡ true in
+    bind_holds (send_test w by handle bytes) _ P (λ s at.
+    bind_holds (datagram_test w s.port) _ P (λ _ _. sent-open w by handle bytes s at))
+
+datagram-open : (w : World) (by : ThreadRow) (handle : ℕ) (bytes : List ℕ) → Holds (AreOpen w) (nt_request_port w by handle bytes)
+unfolding nt_request_port
+datagram-open w by handle bytes =
+    bind_holds (datagram_send_test w by handle bytes) _ (AreOpen w) (λ s at.
+    let opens = holds_ok (λ (s : Sendable). is_open w s.queue ≡ true) (datagram_send_test w by handle bytes) s (datagram-to w by handle bytes) at in
+    open-enter w (row_of s.queue s.port (sent_by by DATAGRAM s.message)) (world_after w (datagram_start by)) opens)
+
+request-open : (w : World) (by : ThreadRow) (handle : ℕ) (bytes : List ℕ) → Holds (AreOpen w) (nt_request_wait_reply_port w by handle bytes)
+unfolding nt_request_wait_reply_port
+request-open w by handle bytes =
+    bind_holds (send_test w by handle bytes) _ (AreOpen w) (λ s at.
+    let m = sent_by by REQUEST s.message in
+    let opens = sent-open w by handle bytes s at in
+    both-true (is_open w s.queue) _ opens (open-enter w (row_of s.queue s.port m) (world_after w (request_start by s.port.birth s.queue m)) opens))
+
+-- NtReplyPort
+reply-open : (w : World) (by : ThreadRow) (handle : ℕ) (bytes : List ℕ) → Holds (AreOpen w) (nt_reply_port w by handle bytes)
+unfolding nt_reply_port
+reply-open w by handle bytes =
+    bind_holds (port_test w by handle) _ (AreOpen w) (λ port _.
+    bind_holds (message_test bytes) _ (AreOpen w) (λ m _.
+    bind_holds (answered_test w port m) _ (AreOpen w) (λ x _. refl)))
+
+-- NtReplyWaitReceivePort
+given-reply-open : (w : World) (port : PortRow) (m : Option Message) → Holds (AreOpen w) (given_reply w port m)
+given-reply-open w port None = refl
+given-reply-open w port (Some m) = bind_holds (answered_test w port m) _ (AreOpen w) (λ x _. refl)
+
+-- a receive waits only on an open queue
+receive-at : (w : World) (port : PortRow) → Holds (λ queue. is_open w queue ≡ true) (receive_test w port)
+receive-at w port =
+    let P : Birth → Type 0 = λ queue. is_open w queue ≡ true in
+    bind_holds (found_or (queue_of w port) PORT_DISCONNECTED) _ P (λ queue at.
+    bind_holds (refuse_if (is_spent w port queue) PORT_DISCONNECTED) _ P (λ _ _. queue-open w queue port (found_ok (queue_of w port) PORT_DISCONNECTED queue at)))
+
+received-open : (w : World) (by : ThreadRow) (port : PortRow) (queue : Birth) (replied : List Basic) (o : Option MessageRow) → AreOpen w replied → is_open w queue ≡ true → AreOpen w (receive_steps by port queue replied o)
+received-open w by port queue replied (Some m) all opens = every-append (is_open_step w) replied _ all (open-receipt w m)
+received-open w by port queue replied None all opens = every-append (is_open_step w) replied _ all (both-true (is_open w queue) true opens refl)
+
+receive-open : (w : World) (by : ThreadRow) (handle : ℕ) (bytes : Option (List ℕ)) → Holds (AreOpen w) (nt_reply_wait_receive_port w by handle bytes)
+unfolding nt_reply_wait_receive_port
+receive-open w by handle bytes =
+    bind_holds (port_test w by handle) _ (AreOpen w) (λ port _.
+    bind_holds (optional_message bytes) _ (AreOpen w) (λ m _.
+    bind_holds (receive_test w port) _ (AreOpen w) (λ queue found.
+    bind_holds (given_reply w port m) _ (AreOpen w) (λ replied at.
+    received-open w by port queue replied (first (is_queued queue) w.messages)
+    (holds_ok (AreOpen w) (given_reply w port m) replied (given-reply-open w port m) at)
+    (holds_ok (λ queue. is_open w queue ≡ true) (receive_test w port) queue (receive-at w port) found)))))
+
+-- Calls
+service-open : (w : World) (by : ThreadRow) (call : ScriptCall) → IsSoundWorld w → HasOpenQueues w → Holds (KeepOpen w) (service_of w by call)
+service-open w by (create_port name) s q = create-open w by name s q
+service-open w by (connect_port name info) s q = open_holds w _ q (connect-open w by name info s)
+service-open w by (listen_port handle) s q = open_holds w _ q (listen-open w by handle)
+service-open w by (accept_connect_port context message accept) s q = accept-open w by context message accept s q
+service-open w by (complete_connect_port handle) s q = complete-open w by handle s q
+service-open w by (request_port handle bytes) s q = open_holds w _ q (datagram-open w by handle bytes)
+service-open w by (request_wait_reply_port handle bytes) s q = open_holds w _ q (request-open w by handle bytes)
+service-open w by (reply_port handle bytes) s q = open_holds w _ q (reply-open w by handle bytes)
+service-open w by (reply_wait_receive_port handle bytes) s q = open_holds w _ q (receive-open w by handle bytes)
+
+ready-open : (w : World) (by : ThreadRow) (call : ScriptCall) (o : Option WaitRow) → IsSoundWorld w → HasOpenQueues w → KeepOpen w (ready_steps by call o w)
+ready-open w by call (Some x) s q = q
+ready-open w by call None s q = settled_holds (KeepOpen w) by (name_of_call call) (service_of w by call) (service-open w by call s q) (λ _ _. q)
+
+thread-open : (w : World) (tid : ℕ) (call : ScriptCall) (o : Option ThreadRow) → IsSoundWorld w → HasOpenQueues w → KeepOpen w (thread_steps tid call o w)
+thread-open w tid call None s q = q
+thread-open w tid call (Some by) s q = ready-open w by call (wait_of w tid) s q
+
+-- Directives
+boot-open : (w : World) (pid tid : ℕ) → Holds (AreOpen w) (boot_line w pid tid)
+unfolding boot_line
+boot-open w pid tid = bind_holds (unused_test w pid tid) _ (AreOpen w) (λ _ _. refl)
+
+further-open : (w : World) (tid pid : ℕ) → Holds (AreOpen w) (thread_line w tid pid)
+unfolding thread_line
+further-open w tid pid = bind_holds (thread_test w tid pid) _ (AreOpen w) (λ _ _. refl)
+
+dir-open : (w : World) (text : List ℕ) → Holds (AreOpen w) (dir_line w text)
+unfolding dir_line
+dir-open w text = bind_holds (free_name w text) _ (AreOpen w) (λ path _. refl)
+
+link-open : (w : World) (text target : List ℕ) → Holds (AreOpen w) (link_line w text target)
+unfolding link_line
+link-open w text target =
+    bind_holds (spelled_name target) _ (AreOpen w) (λ to _.
+    bind_holds (free_name w text) _ (AreOpen w) (λ path _. refl))
+
+-- Lines
+-- before rows go
+pub queues_line : (w : World) (line : ScriptLine) → IsSoundWorld w → HasOpenQueues w → HasOpenQueues (world_after w (bare_steps line w))
+unfolding bare_steps
+queues_line w (boot pid tid) s q = directed_holds (KeepOpen w) word.Boot (boot_line w pid tid) (open_holds w (boot_line w pid tid) q (boot-open w pid tid)) (λ _. q)
+queues_line w (thread tid pid) s q = directed_holds (KeepOpen w) word.Thread (thread_line w tid pid) (open_holds w (thread_line w tid pid) q (further-open w tid pid)) (λ _. q)
+queues_line w (dir path) s q = directed_holds (KeepOpen w) word.Dir (dir_line w path) (open_holds w (dir_line w path) q (dir-open w path)) (λ _. q)
+queues_line w (link path target) s q = directed_holds (KeepOpen w) word.Link (link_line w path target) (open_holds w (link_line w path target) q (link-open w path target)) (λ _. q)
+queues_line w (run tid call) s q = thread-open w tid call (live_thread w tid) s q
+
+-- the row of an object that goes takes no handle, no message and no wait away
+pub queues_freed : (w : World) (o : ObjectName) → HasOpenQueues w → HasOpenQueues (basic w (Frees o))
+queues_freed w o q = open-all w (Frees o ∷ []) refl q
+
+freed-open : (w : World) (os : List ObjectName) → AreOpen w (map Frees os)
+freed-open w [] = refl
+freed-open w (o ∷ os) = freed-open w os
+
+pub queues_swept : (w : World) → HasOpenQueues w → HasOpenQueues (world_after w (sweep w))
+unfolding sweep
+queues_swept w q =
+    let v = world_after w (free_unheld w) in
+    open-all w (sweep w) (every-append (is_open_step w) (free_unheld w) (free_unheld v) (freed-open w (unheld w)) (freed-open w (unheld v))) q
+
+-- the step of a line keeps queues open
+pub queues_step : StepsKeepQueuesOpen
+queues_step w line s q =
+    let bs = bare_steps line w in
+    rw (after-append w bs (sweep (world_after w bs))) (queues_swept (world_after w bs) (queues_line w line s q))
+
+pub queues_none : HasOpenQueues no_rows
+queues_none = record { messages = refl; waits = refl }
+
+-- Runs
+trace-open : (w : World) (lines : List (Option ScriptLine)) → IsSoundWorld w → HasOpenQueues w → AllByRecursion (λ (s : Stepped). HasOpenQueues s.world) (trace w lines)
+unfolding trace
+trace-open w [] s q = tt
+trace-open w (None ∷ later) s q = (q, trace-open w later s q)
+trace-open w (Some line ∷ later) s q =
+    let after = queues_step w line s q in
+    (after, trace-open (step w line).world later (sound_step w line s) after)
+
+-- each line of a script leaves a world whose queues are open
+pub queues_run : (bytes : List ℕ) → RunKeepsQueuesOpen bytes
+queues_run bytes = trace-open no_rows (said_in bytes) sound_none queues_none

@@ -1,0 +1,199 @@
+-- A line that lets no name go leaves no row of an object that no row names.
+use Rattle.std.proofs.Common.{◌≡◌, ℕ, ◌+◌, ◌≤◌, List, [], ◌∷◌, ◌++◌, Bool, true, false, Option, Some, None, refl, arith}
+use Rattle.std.specs.Prelude.{◌&&◌, ◌==◌}
+use Rattle.std.proofs.lemmas.Bool.Decides.{nat_tests}
+use Rattle.lpc_base.specs.Rows.{count, has}
+use Rattle.lpc_base.proofs.RowWords.{every-push, has-kept, has-push}
+use Rattle.lpc_model.specs.declared.entry.Word.TheVariants as word
+use Rattle.lpc_model.specs.World.{Birth, Node, ObjectName, Path, ProcessRow, ThreadRow, WaitRow, World}
+use Rattle.lpc_model.specs.Found.{handle_count, is_connected_to, is_life, is_made_on, is_paired_to, is_sent_on, live_thread, lives_by, port_name, process_name, same_birth, same_object, thread_name, wait_of}
+use Rattle.lpc_model.specs.Basics.{AddsProcess, AddsThread, Binds, basic, no_handles, world_after}
+use Rattle.lpc_model.specs.Lines.{ScriptCall, ScriptLine, accept_connect_port, boot, complete_connect_port, connect_port, create_port, dir, link, listen_port, reply_port, reply_wait_receive_port, request_port, request_wait_reply_port, run, thread}
+use Rattle.lpc_names.specs.Walk.{LinkTo, Stands}
+use Rattle.lpc_names.specs.declared.names.Found.TheVariants.{Directory}
+use Rattle.lpc_model.specs.Named.{free_name, spelled_name}
+use Rattle.lpc_model.specs.Machine.{bare_steps, boot_line, dir_line, directive_birth, link_line, name_of_call, new_process, new_thread, ready_steps, service_of, thread_line, thread_steps, thread_test, unused_test}
+use Rattle.lpc_model.specs.Sweep.{loosened, unheld}
+use Rattle.lpc_model.specs.Linked.{AreLivesHeld, HasHeldPorts, HasHeldRows}
+use Rattle.lpc_model.specs.SoundWaits.{IsSoundWorld}
+use Rattle.lpc_model.proofs.Births.{birth-self}
+use Rattle.lpc_model.proofs.SoundFrees.{fewer-pass}
+use Rattle.lpc_model.proofs.Holding.{Holds, bind_holds, directed_holds, settled_holds}
+use Rattle.lpc_model.proofs.Handles.{count-has}
+use Rattle.lpc_model.proofs.Usable.{CanCall, can-call}
+use Rattle.lpc_model.proofs.SteadyListen.{listen-steady}
+use Rattle.lpc_model.proofs.SteadyDatagram.{datagram-steady}
+use Rattle.lpc_model.proofs.SteadyRequest.{request-steady}
+use Rattle.lpc_model.proofs.SteadyReply.{reply-steady}
+use Rattle.lpc_model.proofs.SteadyReceive.{receive-steady}
+use Rattle.lpc_model.proofs.Sweeping.{unheld_ports}
+use Rattle.lpc_model.proofs.HeldSteps.{KeepLives, KeepQuiet, counts-more, handles-push, held-some, lives-more, ports-more, push-more, steady_lives, steady_quiet}
+use Rattle.lpc_model.proofs.HeldCreate.{create-lives, create-quiet}
+use Rattle.lpc_model.proofs.HeldConnect.{connect-lives, connect-quiet}
+use Rattle.lpc_model.proofs.HeldAccept.{accept-lives, accept-quiet}
+use Rattle.lpc_model.proofs.HeldComplete.{complete-lives, complete-quiet}
+
+-- Calls
+service-lives : (w : World) (by : ThreadRow) (call : ScriptCall) → IsSoundWorld w → AreLivesHeld w → Holds (KeepLives w) (service_of w by call)
+service-lives w by (create_port name) s held = create-lives w by name s held
+service-lives w by (connect_port name info) s held = connect-lives w by name info held
+service-lives w by (listen_port handle) s held = steady_lives w _ held (listen-steady w by handle)
+service-lives w by (accept_connect_port context message accept) s held = accept-lives w by context message accept s held
+service-lives w by (complete_connect_port handle) s held = complete-lives w by handle s held
+service-lives w by (request_port handle bytes) s held = steady_lives w _ held (datagram-steady w by handle bytes)
+service-lives w by (request_wait_reply_port handle bytes) s held = steady_lives w _ held (request-steady w by handle bytes)
+service-lives w by (reply_port handle bytes) s held = steady_lives w _ held (reply-steady w by handle bytes)
+service-lives w by (reply_wait_receive_port handle bytes) s held = steady_lives w _ held (receive-steady w by handle bytes)
+
+service-quiet : (w : World) (by : ThreadRow) (call : ScriptCall) → CanCall w by → IsSoundWorld w → HasHeldPorts w → Holds (KeepQuiet w) (service_of w by call)
+service-quiet w by (create_port name) c s held = create-quiet w by name c s held
+service-quiet w by (connect_port name info) c s held = connect-quiet w by name info held
+service-quiet w by (listen_port handle) c s held = steady_quiet w _ held (listen-steady w by handle)
+service-quiet w by (accept_connect_port context message accept) c s held = accept-quiet w by context message accept
+service-quiet w by (complete_connect_port handle) c s held = complete-quiet w by handle
+service-quiet w by (request_port handle bytes) c s held = steady_quiet w _ held (datagram-steady w by handle bytes)
+service-quiet w by (request_wait_reply_port handle bytes) c s held = steady_quiet w _ held (request-steady w by handle bytes)
+service-quiet w by (reply_port handle bytes) c s held = steady_quiet w _ held (reply-steady w by handle bytes)
+service-quiet w by (reply_wait_receive_port handle bytes) c s held = steady_quiet w _ held (receive-steady w by handle bytes)
+
+ready-lives : (w : World) (by : ThreadRow) (call : ScriptCall) (o : Option WaitRow) → IsSoundWorld w → AreLivesHeld w → KeepLives w (ready_steps by call o w)
+ready-lives w by call (Some x) s held = held
+ready-lives w by call None s held = settled_holds (KeepLives w) by (name_of_call call) (service_of w by call) (service-lives w by call s held) (λ _ _. held)
+
+thread-lives : (w : World) (tid : ℕ) (call : ScriptCall) (o : Option ThreadRow) → IsSoundWorld w → AreLivesHeld w → KeepLives w (thread_steps tid call o w)
+thread-lives w tid call None s held = held
+thread-lives w tid call (Some by) s held = ready-lives w by call (wait_of w tid) s held
+
+ready-quiet : (w : World) (by : ThreadRow) (call : ScriptCall) (o : Option WaitRow) → (o ≡ None → CanCall w by) → IsSoundWorld w → HasHeldPorts w → KeepQuiet w (ready_steps by call o w)
+ready-quiet w by call (Some x) c s held = λ _. held
+ready-quiet w by call None c s held = settled_holds (KeepQuiet w) by (name_of_call call) (service_of w by call) (service-quiet w by call (c refl) s held) (λ _ _. λ _. held)
+
+thread-quiet : (w : World) (tid : ℕ) (call : ScriptCall) (o : Option ThreadRow) → live_thread w tid ≡ o → IsSoundWorld w → HasHeldPorts w → KeepQuiet w (thread_steps tid call o w)
+thread-quiet w tid call None live s held = λ _. held
+thread-quiet w tid call (Some by) live s held = ready-quiet w by call (wait_of w tid) (λ idle. can-call w tid by live idle s) s held
+
+-- Threads that are made
+back-some : (a b : ℕ) → 1 ≤ b → 1 ≤ a + b
+back-some a b some = omega (arith, some)
+
+sum-more : (a b c : ℕ) → b ≤ c → a + b ≤ a + c
+sum-more a b c is = omega (arith, is)
+
+-- a thread that is made holds itself
+further-thread : (w : World) (tid pid : ℕ) → AreLivesHeld w → AreLivesHeld (basic w (AddsThread (new_thread tid pid (directive_birth tid))))
+further-thread w tid pid held =
+    let t = new_thread tid pid (directive_birth tid) in
+    let v = basic w (AddsThread t) in
+    let more = lives-more w v (λ b. sum-more (handle_count w (thread_name b)) _ _ (push-more (is_life b) w.threads t)) (λ b. sum-more (handle_count w (process_name b)) _ _ (push-more (lives_by w b) w.threads t)) held in
+    let some = count-has (is_life t.birth) v.threads (has-push (is_life t.birth) w.threads t (birth-self t.birth)) in
+    record {
+      threads = every-push _ w.threads t more.0 (held-some _ (back-some (handle_count v (thread_name t.birth)) _ some));
+      processes = more.1;
+    }
+
+-- A process that is made with a thread
+module _ (w : World) (pid tid : ℕ) where
+  abbrev booted_process : ProcessRow
+  booted_process = new_process pid None (directive_birth pid)
+
+  abbrev booted_thread : ThreadRow
+  booted_thread = new_thread tid pid (directive_birth tid)
+
+  abbrev booted : World
+  booted = basic (basic w (AddsProcess booted_process)) (AddsThread booted_thread)
+
+  booted-handles : (o : ObjectName) → handle_count w o ≤ handle_count booted o
+  booted-handles o = handles-push (λ h. same_object h.object o) w.handles (no_handles pid)
+
+  still-lives : (b : Birth) (t : ThreadRow) → lives_by w b t ≡ true → lives_by booted b t ≡ true
+  still-lives b t is = at t.live _ _ (has-kept (λ (p : ProcessRow). same_birth p.birth b && (p.number == t.process)) w.processes booted_process) is
+    where
+      at : (l x y : Bool) → (x ≡ true → y ≡ true) → (l && x) ≡ true → (l && y) ≡ true
+      at l x y more is = grind (arith, more)
+
+  both-more : (a b c d : ℕ) → a ≤ b → c ≤ d → a + c ≤ b + d
+  both-more a b c d one two = omega (arith, one, two)
+
+  through : (a b c : ℕ) → a ≤ b → b ≤ c → a ≤ c
+  through a b c one two = omega (arith, one, two)
+
+  own-process : has (λ (p : ProcessRow). same_birth p.birth booted_process.birth && (p.number == pid)) (w.processes ++ booted_process ∷ []) ≡ true
+  own-process = has-push (λ (p : ProcessRow). same_birth p.birth booted_process.birth && (p.number == pid)) w.processes booted_process (let self = birth-self booted_process.birth in grind (arith, nat_tests))
+
+  boot-held : AreLivesHeld w → AreLivesHeld booted
+  boot-held held =
+      let more = lives-more w booted (λ b. both-more _ _ _ _ (booted-handles (thread_name b)) (push-more (is_life b) w.threads booted_thread))
+      (λ b. both-more _ _ _ _ (booted-handles (process_name b)) (through _ _ _ (fewer-pass (lives_by w b) (lives_by booted b) (still-lives b) w.threads) (push-more (lives_by booted b) w.threads booted_thread))) held in
+      let thread_some = count-has (is_life booted_thread.birth) booted.threads (has-push (is_life booted_thread.birth) w.threads booted_thread (birth-self booted_thread.birth)) in
+      let process_some = count-has (lives_by booted booted_process.birth) booted.threads (has-push (lives_by booted booted_process.birth) w.threads booted_thread own-process) in
+      record {
+        threads = every-push _ w.threads booted_thread more.0 (held-some _ (back-some (handle_count booted (thread_name booted_thread.birth)) _ thread_some));
+        processes = every-push _ w.processes booted_process more.1 (held-some _ (back-some (handle_count booted (process_name booted_process.birth)) _ process_some));
+      }
+
+  boot-ports : HasHeldPorts w → HasHeldPorts booted
+  boot-ports held = ports-more w booted (λ b. counts-more _ (count (is_paired_to b) w.ports) (count (is_connected_to b) w.ports) (count (is_sent_on b) w.messages) (count (is_made_on b) w.waits) _ _ _ _ _ (booted-handles (port_name b)) (omega arith) (omega arith) (omega arith) (omega arith)) held
+
+-- Directives
+boot-lives : (w : World) (pid tid : ℕ) → AreLivesHeld w → Holds (KeepLives w) (boot_line w pid tid)
+unfolding boot_line
+boot-lives w pid tid held = bind_holds (unused_test w pid tid) _ (KeepLives w) (λ _ _. boot-held w pid tid held)
+
+boot-quiet : (w : World) (pid tid : ℕ) → HasHeldPorts w → Holds (KeepQuiet w) (boot_line w pid tid)
+unfolding boot_line
+boot-quiet w pid tid held = bind_holds (unused_test w pid tid) _ (KeepQuiet w) (λ _ _. λ _. boot-ports w pid tid held)
+
+further-lives : (w : World) (tid pid : ℕ) → AreLivesHeld w → Holds (KeepLives w) (thread_line w tid pid)
+unfolding thread_line
+further-lives w tid pid held = bind_holds (thread_test w tid pid) _ (KeepLives w) (λ _ _. further-thread w tid pid held)
+
+further-quiet : (w : World) (tid pid : ℕ) → HasHeldPorts w → Holds (KeepQuiet w) (thread_line w tid pid)
+unfolding thread_line
+further-quiet w tid pid held = bind_holds (thread_test w tid pid) _ (KeepQuiet w) (λ _ _. λ _. held)
+
+-- a name that is bound holds no row
+bound-lives : (w : World) (path : Path) (node : Node Birth) → AreLivesHeld w → AreLivesHeld (basic w (Binds path node))
+bound-lives w path node held = record { threads = held.threads; processes = held.processes }
+
+dir-lives : (w : World) (text : List ℕ) → AreLivesHeld w → Holds (KeepLives w) (dir_line w text)
+unfolding dir_line
+dir-lives w text held = bind_holds (free_name w text) _ (KeepLives w) (λ path _. bound-lives w path (Stands Directory) held)
+
+dir-quiet : (w : World) (text : List ℕ) → HasHeldPorts w → Holds (KeepQuiet w) (dir_line w text)
+unfolding dir_line
+dir-quiet w text held = bind_holds (free_name w text) _ (KeepQuiet w) (λ _ _. λ _. held)
+
+link-lives : (w : World) (text target : List ℕ) → AreLivesHeld w → Holds (KeepLives w) (link_line w text target)
+unfolding link_line
+link-lives w text target held =
+    bind_holds (spelled_name target) _ (KeepLives w) (λ to _.
+    bind_holds (free_name w text) _ (KeepLives w) (λ path _. bound-lives w path (LinkTo to) held))
+
+link-quiet : (w : World) (text target : List ℕ) → HasHeldPorts w → Holds (KeepQuiet w) (link_line w text target)
+unfolding link_line
+link-quiet w text target held =
+    bind_holds (spelled_name target) _ (KeepQuiet w) (λ to _.
+    bind_holds (free_name w text) _ (KeepQuiet w) (λ path _. λ _. held))
+
+-- Lines
+-- before rows go, each process and thread row is named by a row
+pub lives_kept : (w : World) (line : ScriptLine) → IsSoundWorld w → AreLivesHeld w → AreLivesHeld (world_after w (bare_steps line w))
+unfolding bare_steps
+lives_kept w (boot pid tid) s held = directed_holds (KeepLives w) word.Boot (boot_line w pid tid) (boot-lives w pid tid held) (λ _. held)
+lives_kept w (thread tid pid) s held = directed_holds (KeepLives w) word.Thread (thread_line w tid pid) (further-lives w tid pid held) (λ _. held)
+lives_kept w (dir path) s held = directed_holds (KeepLives w) word.Dir (dir_line w path) (dir-lives w path held) (λ _. held)
+lives_kept w (link path target) s held = directed_holds (KeepLives w) word.Link (link_line w path target) (link-lives w path target held) (λ _. held)
+lives_kept w (run tid call) s held = thread-lives w tid call (live_thread w tid) s held
+
+-- and each port row, where the line lets no name go
+pub ports_kept : (w : World) (line : ScriptLine) → IsSoundWorld w → HasHeldPorts w → loosened false (bare_steps line w) ≡ false → HasHeldPorts (world_after w (bare_steps line w))
+unfolding bare_steps
+ports_kept w (boot pid tid) s held = directed_holds (KeepQuiet w) word.Boot (boot_line w pid tid) (boot-quiet w pid tid held) (λ _. λ _. held)
+ports_kept w (thread tid pid) s held = directed_holds (KeepQuiet w) word.Thread (thread_line w tid pid) (further-quiet w tid pid held) (λ _. λ _. held)
+ports_kept w (dir path) s held = directed_holds (KeepQuiet w) word.Dir (dir_line w path) (dir-quiet w path held) (λ _. λ _. held)
+ports_kept w (link path target) s held = directed_holds (KeepQuiet w) word.Link (link_line w path target) (link-quiet w path target held) (λ _. λ _. held)
+ports_kept w (run tid call) s held = thread-quiet w tid call (live_thread w tid) refl s held
+
+-- so such a line leaves no row that no row names
+pub quiet_line : (w : World) (line : ScriptLine) → IsSoundWorld w → HasHeldRows w → loosened false (bare_steps line w) ≡ false → unheld (world_after w (bare_steps line w)) ≡ []
+quiet_line w line s held quiet = unheld_ports (world_after w (bare_steps line w)) (lives_kept w line s held.lives) (ports_kept w line s held.ports quiet)

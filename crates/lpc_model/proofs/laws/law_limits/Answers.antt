@@ -1,0 +1,17 @@
+use Rattle.lpc_model.proofs.Limits.{limits_datagrams, limits_handles, limits_info, limits_messages, limits_threads}
+use Rattle.lpc_model.proofs.laws.law_limits.Goals as goal
+
+pub returns-clause-handles : goal.returns-clause-handles
+returns-clause-handles c = limits_handles
+
+pub returns-clause-threads : goal.returns-clause-threads
+returns-clause-threads c = limits_threads
+
+pub returns-clause-datagrams : goal.returns-clause-datagrams
+returns-clause-datagrams c = limits_datagrams
+
+pub returns-clause-messages : goal.returns-clause-messages
+returns-clause-messages c = limits_messages
+
+pub returns-clause-info : goal.returns-clause-info
+returns-clause-info c = limits_info

@@ -1,0 +1,228 @@
+-- What the processes of a group do and are told in a run, the circle of a process, and the law on two scripts: what a
+-- process is told follows from what its circle does and is told.
+use Rattle.std.specs.Prelude.{◌≡◌, ℕ, ◌==◌, ◌&&◌, ◌||◌, Bool, true, false, not, nat_lt, length, List, [], ◌∷◌, ◌++◌, map, Option, Some, None, Result, Ok, Err, is_none, option_map}
+use Rattle.std.specs.List.{list_any}
+use Rattle.lpc_base.specs.Rows.{every, first, passes, which}
+use Rattle.lpc_base.specs.declared.limits.TheConstants.{HEADER_SIZE}
+use Rattle.lpc_base.specs.declared.port_kind.PortKind.TheVariants.{Client}
+use Rattle.lpc_message.specs.Layout.{header_of}
+use Rattle.lpc_names.specs.Walk.{lookup}
+use Rattle.lpc_names.specs.declared.fault.NameFault.{NameFault}
+use Rattle.lpc_names.specs.declared.names.Found.{Found}
+use Rattle.lpc_names.specs.declared.names.Found.TheVariants.{Directory, Item as PortThere}
+use Rattle.lpc_model.specs.declared.entry.Entry.{Entry}
+use Rattle.lpc_model.specs.declared.entry.Entry.TheVariants.{Answer, Busy, Died, Directive, NoThread, Waits, Wakes}
+use Rattle.lpc_model.specs.World.{Birth, PortRow, UsedThread, World}
+use Rattle.lpc_model.specs.Found.{was_process}
+use Rattle.lpc_model.specs.Lines.{ScriptCall, ScriptLine, accept_connect_port, boot, complete_connect_port, connect_port, create_port, dir, link, listen_port, reply_port, reply_wait_receive_port, request_port, request_wait_reply_port, run, thread}
+use Rattle.lpc_model.specs.Machine.{step}
+use Rattle.lpc_model.specs.Run.{Along, State, first_state, said_in, world_behind}
+
+-- The group
+-- a group of processes, by their numbers; those in it are its members, all others are outsiders
+abbrev pub Group : Type 0
+Group = ℕ → Bool
+
+-- the group of the numbers in a list
+abbrev pub members : List ℕ → Group
+members pids = λ pid. list_any (λ p. p == pid) pids
+
+-- Whose it is
+-- the process of the thread that has, or had, a number; none where the number was never used for a thread
+abbrev pub is_number : ℕ → UsedThread → Bool
+is_number tid u = u.number == tid
+
+abbrev pub owner : World → ℕ → Option ℕ
+owner w tid = option_map (λ (u : UsedThread). u.process) (first (is_number tid) w.used_threads)
+
+-- whom a line or an entry is of: a process, everyone, or nobody, where no thread has or had its number
+pub data Whose : Type 0 where
+  Of : ℕ → Whose
+  Everyone : Whose
+  Nobody : Whose
+
+abbrev pub owned : Option ℕ → Whose
+owned None = Nobody
+owned (Some pid) = Of pid
+
+abbrev pub thread_whose : World → ℕ → Whose
+thread_whose w tid = owned (owner w tid)
+
+-- A line of a thread is of its process, by the world before the line. A directive about a process is of that process, one
+-- about the name space is everyone's.
+abbrev pub line_whose : World → ScriptLine → Whose
+line_whose w (boot pid tid) = Of pid
+line_whose w (thread tid pid) = Of pid
+line_whose w (dir path) = Everyone
+line_whose w (link path target) = Everyone
+line_whose w (run tid call) = thread_whose w tid
+
+-- An entry is of the process of its thread, by the world behind the line. That of a directive is whose the directive is.
+abbrev pub entry_whose : World → Whose → Entry → Whose
+entry_whose w directive (Answer tid call status fields) = thread_whose w tid
+entry_whose w directive (Waits tid call fields) = thread_whose w tid
+entry_whose w directive (Wakes tid call status fields) = thread_whose w tid
+entry_whose w directive (Busy tid) = thread_whose w tid
+entry_whose w directive (NoThread tid) = thread_whose w tid
+entry_whose w directive (Died tid status) = thread_whose w tid
+entry_whose w directive (Directive word status) = directive
+
+-- What happens
+-- a line is run, or an entry is told
+pub data Item : Type 0 where
+  Ran : ScriptLine → Item
+  Told : Entry → Item
+
+-- an item, and whose it is
+pub record Event : Type 0 where
+  pub whose : Whose
+  pub item : Item
+
+abbrev pub told_event : World → Whose → Entry → Event
+told_event w directive e = record { whose = entry_whose w directive e; item = Told e }
+
+-- what happens at a line: it is run, and its entries are told, in their order
+abbrev pub line_events : World → ScriptLine → List Event
+line_events w line =
+    record { whose = line_whose w line; item = Ran line }
+    ∷ map (told_event (step w line).world (line_whose w line)) (step w line).entries
+
+-- what happens in a run of lines, from a state on
+abbrev pub events : State → List (Option ScriptLine) → List Event
+events w [] = []
+events w (None ∷ later) = events w later
+events w (Some line ∷ later) = line_events w line ++ events (step w line).world later
+
+-- Items and inputs
+-- a group has to do with what is of its members, and with what is everyone's
+abbrev pub is_seen : Group → Whose → Bool
+is_seen group (Of pid) = group pid
+is_seen group Everyone = true
+is_seen group Nobody = false
+
+-- an entry of a directive; each other is an entry of a thread
+abbrev pub is_directive : Entry → Bool
+is_directive (Directive word status) = true
+is_directive (Answer tid call status fields) = false
+is_directive (Waits tid call fields) = false
+is_directive (Wakes tid call status fields) = false
+is_directive (Busy tid) = false
+is_directive (NoThread tid) = false
+is_directive (Died tid status) = false
+
+-- an entry of a thread of the process c
+abbrev pub is_told_to : ℕ → Whose → Item → Bool
+is_told_to c (Of pid) (Told e) = (pid == c) && not (is_directive e)
+is_told_to c (Of pid) (Ran line) = false
+is_told_to c Everyone item = false
+is_told_to c Nobody item = false
+
+abbrev pub is_item : Group → Event → Bool
+is_item group event = is_seen group event.whose
+
+abbrev pub is_input : Group → ℕ → Event → Bool
+is_input group c event = is_item group event && not (is_told_to c event.whose event.item)
+
+abbrev pub item_of : Event → Item
+item_of event = event.item
+
+-- The items of a group: the lines of its members' threads, what those threads are told, and each directive about a member
+-- or about the name space, with its status; all in order. Nothing tells at which line of the script an item stands.
+abbrev pub items : Group → List Event → List Item
+items group happened = map item_of (which (is_item group) happened)
+
+-- the inputs of a group and a process c: the items of the group without what c's threads are told
+abbrev pub inputs : Group → ℕ → List Event → List Item
+inputs group c happened = map item_of (which (is_input group c) happened)
+
+-- The circle: what each world between two lines must be
+-- A port is of the process of the thread that made it. Of a client port and its connection port: where the client port is
+-- a member's, so is the connection port; where the connection port is c's, the client port is a member's. A member other
+-- than c may serve outsiders.
+abbrev pub is_fine_client : Group → ℕ → Birth → Birth → Bool
+is_fine_client group c client connection =
+    (not (group client.process) || group connection.process) && (not (connection.process == c) || group client.process)
+
+abbrev pub is_fine_port : Group → ℕ → PortRow → Bool
+is_fine_port group c p = elim p.kind [
+  | Client ↦ passes p.connection (is_fine_client group c p.birth)
+  | _ ↦ true
+]
+
+-- each tie between the processes of a world that c could learn by; one field for each kind of tie
+pub record IsFineWorld (group : Group) (c : ℕ) (w : World) : Type 0 where
+  pub ports : every (is_fine_port group c) w.ports ≡ true
+
+-- The circle: what each call of c must be
+-- a number was used by then for no process outside the group, and for no thread of one
+abbrev pub is_no_outsider : Group → World → ℕ → Bool
+is_no_outsider group w pid = group pid || not (was_process w pid)
+
+abbrev pub is_no_outsiders_thread : Group → World → ℕ → Bool
+is_no_outsiders_thread group w tid = is_none (owner w tid) || passes (owner w tid) group
+
+-- the client that the bytes of a message name is no outsider, where they are at least as many as a header has
+abbrev pub names_no_outsider : Group → World → List ℕ → Bool
+names_no_outsider group w bytes =
+    nat_lt (length bytes) HEADER_SIZE
+    || (is_no_outsider group w (header_of bytes).client.process && is_no_outsiders_thread group w (header_of bytes).client.thread)
+
+-- the port at the end of a path, behind links, is a member's, if one stands there
+abbrev pub leads_inside : Group → Result (Found Birth) NameFault → Bool
+leads_inside group (Ok (PortThere port)) = group port.process
+leads_inside group (Ok Directory) = true
+leads_inside group (Err fault) = true
+
+abbrev pub names_inside : Group → World → List ℕ → Bool
+names_inside group w text = leads_inside group (lookup w.bindings text)
+
+-- a call names no outsider, and no port of one: not by a path, and not by the client of a message; one clause for each call
+abbrev pub is_fine_call : Group → World → ScriptCall → Bool
+is_fine_call group w (create_port None) = true
+is_fine_call group w (create_port (Some name)) = names_inside group w name
+is_fine_call group w (connect_port name info) = names_inside group w name
+is_fine_call group w (listen_port handle) = true
+is_fine_call group w (accept_connect_port context message accept) = names_no_outsider group w message
+is_fine_call group w (complete_connect_port handle) = true
+is_fine_call group w (request_port handle message) = names_no_outsider group w message
+is_fine_call group w (request_wait_reply_port handle message) = names_no_outsider group w message
+is_fine_call group w (reply_port handle message) = names_no_outsider group w message
+is_fine_call group w (reply_wait_receive_port handle None) = true
+is_fine_call group w (reply_wait_receive_port handle (Some message)) = names_no_outsider group w message
+
+-- where a line is a call of c, it is such a call; directives and other processes may name whom they like
+abbrev pub is_fine_line : Group → ℕ → World → ScriptLine → Bool
+is_fine_line group c w (run tid call) = not (passes (owner w tid) (λ p. p == c)) || is_fine_call group w call
+is_fine_line group c w (boot pid tid) = true
+is_fine_line group c w (thread tid pid) = true
+is_fine_line group c w (dir path) = true
+is_fine_line group c w (link path target) = true
+
+-- a line, and the world before it
+abbrev pub IsFineAt : Group → ℕ → World → ScriptLine → Type 0
+IsFineAt group c w line = IsFineWorld group c w × (is_fine_line group c w line ≡ true)
+
+-- the group is a circle of c in a run of lines from a state on: at each line, and behind the last
+abbrev pub IsCircle : Group → ℕ → State → List (Option ScriptLine) → Type 0
+IsCircle group c w lines = Along (IsFineAt group c) w lines × IsFineWorld group c (world_behind w lines)
+
+-- The law
+-- what happens in the run of a script; the items and inputs of a list of processes in it
+abbrev pub events_of : List ℕ → List Event
+events_of script = events first_state (said_in script)
+
+abbrev pub items_of : List ℕ → List ℕ → List Item
+items_of group script = items (members group) (events_of script)
+
+abbrev pub inputs_of : List ℕ → ℕ → List ℕ → List Item
+inputs_of group c script = inputs (members group) c (events_of script)
+
+-- a list of processes is a circle of the process c in the run of a script: c is in it, and the run is as a circle must be
+abbrev pub IsCircleIn : List ℕ → ℕ → List ℕ → Type 0
+IsCircleIn group c script = (members group c ≡ true) × IsCircle (members group) c first_state (said_in script)
+
+-- In two scripts that agree on a process's lines and on its circle's lines and answers, that process is answered alike.
+abbrev pub Isolation : Type 0
+Isolation =
+    (group : List ℕ) (c : ℕ) (one two : List ℕ) → IsCircleIn group c one → IsCircleIn group c two →
+    inputs_of group c one ≡ inputs_of group c two → items_of (c ∷ []) one ≡ items_of (c ∷ []) two

@@ -1,0 +1,42 @@
+-- Limits from both sides: what is still granted, and what is refused.
+use Rattle.std.specs.Prelude.{◌≡◌, ℕ, ◌<◌, ◌≤◌, List, length, None, Result, Ok, Err}
+use Rattle.lpc_base.specs.declared.status.Status.{Status}
+use Rattle.lpc_base.specs.declared.status.TheConstants.{PORT_MESSAGE_TOO_LONG, QUOTA_EXCEEDED}
+use Rattle.lpc_message.specs.Layout.{fault_of, header_of}
+use Rattle.lpc_model.specs.World.{PortRow, World}
+use Rattle.lpc_model.specs.Found.{datagrams, live_count}
+use Rattle.lpc_model.specs.Message.{message_of, message_test}
+use Rattle.lpc_model.specs.Tests.{handle_load, handles_test}
+use Rattle.lpc_model.specs.Connect.{info_test}
+use Rattle.lpc_model.specs.Request.{datagram_test}
+use Rattle.lpc_model.specs.Machine.{thread_count_test}
+
+-- one more of what is counted is granted below a limit, and refused once the limit is reached
+pub record IsGrantedBelow (limit counted : ℕ) (test : Result Unit Status) : Type 0 where
+  pub below : counted < limit → test ≡ Ok tt
+  pub reached : limit ≤ counted → test ≡ Err QUOTA_EXCEEDED
+
+-- a size is good up to a limit, and refused beyond it
+pub record IsGoodUpTo {A : Type 0} (limit size : ℕ) (test : Result A Status) (good : A) : Type 0 where
+  pub within : size ≤ limit → test ≡ Ok good
+  pub beyond : limit < size → test ≡ Err PORT_MESSAGE_TOO_LONG
+
+-- one handle more is granted to a process with fewer than 256, together with those that its waiting connects are to get
+abbrev pub LimitsHandles : Type 0
+LimitsHandles = (w : World) (pid : ℕ) → IsGrantedBelow 256 (handle_load w pid) (handles_test w pid 1)
+
+-- one live thread more is granted to a process with fewer than 64
+abbrev pub LimitsThreads : Type 0
+LimitsThreads = (w : World) (pid : ℕ) → IsGrantedBelow 64 (live_count w pid) (thread_count_test w pid)
+
+-- one datagram more is granted to a port of whose datagrams fewer than 32 stand in queues
+abbrev pub LimitsDatagrams : Type 0
+LimitsDatagrams = (w : World) (port : PortRow) → IsGrantedBelow 32 (datagrams w port.birth) (datagram_test w port)
+
+-- a message of lawful shape is good where its MessageSize is at most 256
+abbrev pub LimitsMessages : Type 0
+LimitsMessages = (bytes : List ℕ) → fault_of bytes ≡ None → IsGoodUpTo 256 (header_of bytes).message_size (message_test bytes) (message_of bytes)
+
+-- the bytes of a connect are good where they are at most 232
+abbrev pub LimitsInfo : Type 0
+LimitsInfo = (bytes : List ℕ) → IsGoodUpTo 232 (length bytes) (info_test bytes) tt

@@ -1,0 +1,37 @@
+-- Objects that no row counts for go at the end of a line.
+use Rattle.std.specs.Prelude.{Bool, true, false, List, [], ◌∷◌, map, ◌==◌, ◌||◌}
+use Rattle.lpc_base.specs.Rows.{which}
+use Rattle.lpc_model.specs.World.{ObjectName, World}
+use Rattle.lpc_model.specs.Found.{object_names, pointer_count}
+use Rattle.lpc_model.specs.Basics.{Basic, Frees, Joins, Steps, Takes, TakesConnect, Wakes, Withdraws, ◌▹◌}
+
+-- no row counts for the object
+abbrev pub is_unheld : World → ObjectName → Bool
+is_unheld w o = pointer_count w o == 0
+
+-- the objects that no row counts for
+abbrev pub unheld : World → List ObjectName
+unheld w = which (is_unheld w) (object_names w)
+
+-- they go
+abbrev pub free_unheld : Steps
+free_unheld w = map Frees (unheld w)
+
+-- and then those that only they counted for: a connection port of closed ports alone
+unfoldable pub sweep : Steps
+sweep = free_unheld ▹ free_unheld
+
+-- a step takes a row away that may count for an object, or what in it counts: a join takes the other end that a port had
+abbrev pub loosens : Basic → Bool
+loosens (Wakes who call status fields) = true
+loosens (Takes q) = true
+loosens (TakesConnect q) = true
+loosens (Withdraws who) = true
+loosens (Joins client server context) = true
+loosens (Frees o) = true
+loosens b = false
+
+-- one of the steps does, or one before them did
+abbrev pub loosened : Bool → List Basic → Bool
+loosened before [] = before
+loosened before (b ∷ bs) = loosened (loosens b || before) bs
