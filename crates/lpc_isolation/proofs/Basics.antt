@@ -1,0 +1,274 @@
+-- What each basic step does to a view.
+use Rattle.std.proofs.Common.{◌≡◌, ℕ, List, [], ◌∷◌, ◌++◌, Bool, true, false, cond, not, map, Option, Some, None, refl, ap, ◌∙◌, arith}
+use Rattle.std.specs.Prelude.{◌&&◌, ◌||◌, ◌==◌, is_none}
+use Rattle.std.proofs.lemmas.Bool.{eqb-true}
+use Rattle.lpc_base.specs.Rows.{every, first, has, passes, which, without_first}
+use Rattle.lpc_base.proofs.RowWords.{change-none, without-none}
+use Rattle.lpc_model.specs.World.{Birth, HandleTable, MessageRow, PortRow, World}
+use Rattle.lpc_model.specs.Found.{is_own_of, is_port, is_queued, is_queued_connect, is_table, is_thread, waits_as, waits_at}
+use Rattle.lpc_model.specs.Basics.{Accepts, AddsHandle, AddsProcess, AddsThread, Awaits, Basic, Binds, Completes, DrawsIdentifier, DrawsOrdinal, Enters, Frees, Joins, Makes, Receives, Takes, TakesConnect, Tells, Wakes, Withdraws, accepted, basic, completed, joined, no_handles, past_identifier, past_ordinal, received, used, with_handle, world_after}
+use Rattle.lpc_model.specs.Circle.{Group}
+use Rattle.lpc_isolation.proofs.Filters.{kept-change, kept-push, kept-push_out, kept-without, kept-without_first, kept-without_first_out, shown, shown-change, shown-map, shown-push, shown-push_out, shown-change_out, shown-map_out, kept-change_out, every-any, without_first-none}
+use Rattle.lpc_isolation.proofs.View.{both, of_birth, one_of, other_of, our_binding, our_message, our_node, our_port, our_process, our_table, our_thread, our_used, our_wait, seen_pair, seen_port, view}
+
+-- a thread's wait is in the view, and so is its row
+abbrev pub sees_wait : Group → World → ℕ → Bool
+sees_wait m w who = has (waits_as who) (which (our_wait m) w.waits)
+
+abbrev pub sees_at : Group → World → ℕ → Birth → Bool
+sees_at m w who q = has (waits_at who q) (which (our_wait m) w.waits)
+
+abbrev pub sees_thread : Group → World → ℕ → Bool
+sees_thread m w who = has (is_thread who) (which (our_thread m) w.threads)
+
+-- a thread's message that asks is in the view
+abbrev pub sees_own : Group → World → ℕ → Bool
+sees_own m w who = has (is_own_of who) (which (our_message m) w.messages)
+
+-- the view changes by the step
+abbrev pub sees : Group → World → Basic → Bool
+sees m w (Tells e) = false
+sees m w (Wakes who call status fields) = sees_wait m w who
+sees m w (Awaits x) = our_wait m x
+sees m w (Receives who q) = sees_at m w who q
+sees m w (Accepts who reply) = sees_wait m w who
+sees m w (Enters x) = our_message m x
+sees m w (Takes q) = passes (first (is_queued q) w.messages) (our_message m)
+sees m w (TakesConnect q) = passes (first (is_queued_connect q) w.messages) (our_message m)
+sees m w (Withdraws who) = sees_own m w who
+sees m w (DrawsIdentifier who) = sees_thread m w who
+sees m w (DrawsOrdinal who) = sees_thread m w who
+sees m w (AddsProcess p) = m p.number
+sees m w (AddsThread t) = m t.process
+sees m w (Makes p) = our_port m p
+sees m w (Joins client server context) = m client.process && m server.process
+sees m w (Completes b) = m b.process
+sees m w (Frees o) = true
+sees m w (Binds path node) = our_node m node
+sees m w (AddsHandle pid h) = m pid
+
+-- the port isn't joined to a member's
+abbrev pub is_apart : Group → Birth → PortRow → Bool
+is_apart m b p = not (is_port b p) || is_none (seen_pair m p.pair)
+
+-- what is asked of the steps of every line
+abbrev pub is_regular : Group → World → Basic → Bool
+is_regular m w (Makes p) = is_none p.pair && (p.context == 0)
+is_regular m w (Joins client server context) =
+    (not (m client.process) || m server.process) && (m client.process || (not (m server.process) || every (is_apart m server) w.ports))
+is_regular m w (Tells e) = true
+is_regular m w (Wakes who call status fields) = true
+is_regular m w (Awaits x) = true
+is_regular m w (Receives who q) = true
+is_regular m w (Accepts who reply) = true
+is_regular m w (Enters x) = true
+is_regular m w (Takes q) = true
+is_regular m w (TakesConnect q) = true
+is_regular m w (Withdraws who) = true
+is_regular m w (DrawsIdentifier who) = true
+is_regular m w (DrawsOrdinal who) = true
+is_regular m w (AddsProcess p) = true
+is_regular m w (AddsThread t) = true
+is_regular m w (Completes b) = true
+is_regular m w (Frees o) = false
+is_regular m w (Binds path node) = true
+is_regular m w (AddsHandle pid h) = true
+
+-- Ports
+new-port : (m : Group) (p : PortRow) → (is_none p.pair && (p.context == 0)) ≡ true → seen_port m p ≡ p
+new-port m p is = at p.pair refl
+  where
+    at : (o : Option Birth) → p.pair ≡ o → seen_port m p ≡ p
+    at None none = let zero : p.context ≡ 0 = eqb-true _ _ (other_of _ _ is) in rw (none, zero) refl
+    at (Some b) some = let k : (is_none p.pair && (p.context == 0)) ≡ false = rw some refl in absurd (cc)
+
+joined-seen : (m : Group) (client server : Birth) (context : ℕ) → m client.process ≡ true → m server.process ≡ true → (p : PortRow) → seen_port m (joined client server context p) ≡ joined client server context (seen_port m p)
+joined-seen m client server context one two p = at (is_port client p) (is_port server p) refl refl
+  where
+    at : (a b : Bool) → is_port client p ≡ a → is_port server p ≡ b → seen_port m (joined client server context p) ≡ joined client server context (seen_port m p)
+    at true b is it = rw (is, two) refl
+    at false true is it = rw (is, it, one) refl
+    at false false is it = rw (is, it) refl
+
+joined-birth : (m : Group) (client server : Birth) (context : ℕ) (p : PortRow) → our_port m (joined client server context p) ≡ our_port m p
+joined-birth m client server context p = at (is_port client p) (is_port server p) refl refl
+  where
+    at : (a b : Bool) → is_port client p ≡ a → is_port server p ≡ b → our_port m (joined client server context p) ≡ our_port m p
+    at true b is it = rw is refl
+    at false true is it = rw (is, it) refl
+    at false false is it = rw (is, it) refl
+
+-- Messages
+take-seen : (m : Group) (test : MessageRow → Bool) (xs : List MessageRow) (o : Option MessageRow) → first test xs ≡ o → passes o (our_message m) ≡ true → which (our_message m) (without_first test xs) ≡ without_first test (which (our_message m) xs)
+take-seen m test xs None at is = absurd (cc)
+take-seen m test xs (Some x) at is = kept-without_first (our_message m) test xs x at is
+
+take-unseen : (m : Group) (test : MessageRow → Bool) (xs : List MessageRow) (o : Option MessageRow) → first test xs ≡ o → passes o (our_message m) ≡ false → which (our_message m) (without_first test xs) ≡ which (our_message m) xs
+take-unseen m test xs None at out = rw (without_first-none test xs at) refl
+take-unseen m test xs (Some x) at out = kept-without_first_out (our_message m) test xs x at out
+
+-- the step adds what is a member's, or takes it
+abbrev pub is_ours : Group → World → Basic → Bool
+is_ours m w (Awaits x) = our_wait m x
+is_ours m w (Enters x) = our_message m x
+is_ours m w (Takes q) = passes (first (is_queued q) w.messages) (our_message m)
+is_ours m w (TakesConnect q) = passes (first (is_queued_connect q) w.messages) (our_message m)
+is_ours m w (AddsProcess p) = m p.number
+is_ours m w (AddsThread t) = m t.process
+is_ours m w (Makes p) = our_port m p
+is_ours m w (Joins client server context) = m client.process && m server.process
+is_ours m w (Binds path node) = our_node m node
+is_ours m w (Tells e) = true
+is_ours m w (Wakes who call status fields) = true
+is_ours m w (Receives who q) = true
+is_ours m w (Accepts who reply) = true
+is_ours m w (Withdraws who) = true
+is_ours m w (DrawsIdentifier who) = true
+is_ours m w (DrawsOrdinal who) = true
+is_ours m w (Completes b) = true
+is_ours m w (Frees o) = true
+is_ours m w (AddsHandle pid h) = true
+
+-- such a step does to the view what it does to the world
+pub basic-ours : (m : Group) (w : World) (b : Basic) → is_ours m w b ≡ true → is_regular m w b ≡ true → view m (basic w b) ≡ basic (view m w) b
+basic-ours m w (Tells e) is ok = refl
+basic-ours m w (Wakes who call status fields) is ok = rw (kept-without (our_wait m) (waits_as who) w.waits) refl
+basic-ours m w (Awaits x) is ok = rw (kept-push (our_wait m) w.waits x is) refl
+basic-ours m w (Receives who q) is ok = rw (kept-change (our_wait m) (waits_at who q) received (λ x. refl) w.waits) refl
+basic-ours m w (Accepts who reply) is ok = rw (kept-change (our_wait m) (waits_as who) (accepted reply) (λ x. refl) w.waits) refl
+basic-ours m w (Enters x) is ok = rw (kept-push (our_message m) w.messages x is) refl
+basic-ours m w (Takes q) is ok = rw (take-seen m (is_queued q) w.messages (first (is_queued q) w.messages) refl is) refl
+basic-ours m w (TakesConnect q) is ok = rw (take-seen m (is_queued_connect q) w.messages (first (is_queued_connect q) w.messages) refl is) refl
+basic-ours m w (Withdraws who) is ok = rw (kept-without (our_message m) (is_own_of who) w.messages) refl
+basic-ours m w (DrawsIdentifier who) is ok = rw (kept-change (our_thread m) (is_thread who) past_identifier (λ t. refl) w.threads) refl
+basic-ours m w (DrawsOrdinal who) is ok = rw (kept-change (our_thread m) (is_thread who) past_ordinal (λ t. refl) w.threads) refl
+basic-ours m w (AddsProcess p) is ok = rw (kept-push (our_process m) w.processes p is, kept-push m w.used_processes p.number is, kept-push (our_table m) w.handles (no_handles p.number) is) refl
+basic-ours m w (AddsThread t) is ok = rw (kept-push (our_thread m) w.threads t is, kept-push (our_used m) w.used_threads (used t) is) refl
+basic-ours m w (Makes p) is ok = rw (shown-push (our_port m) (seen_port m) w.ports p is, new-port m p ok) refl
+basic-ours m w (Joins client server context) is ok = rw (shown-map (our_port m) (seen_port m) (joined client server context) (joined client server context) (joined-birth m client server context) (λ p kept. joined-seen m client server context (one_of _ _ is) (other_of _ _ is) p) w.ports) refl
+basic-ours m w (Completes b) is ok = rw (shown-change (our_port m) (is_port b) (seen_port m) completed (λ p. refl) (λ p. refl) (λ p. refl) w.ports) refl
+basic-ours m w (Frees o) is ok = absurd (cc)
+basic-ours m w (Binds path node) is ok = rw (kept-push (our_binding m) w.bindings (path, node) is) refl
+basic-ours m w (AddsHandle pid h) is ok = rw (kept-change (our_table m) (is_table pid) (with_handle h) (λ t. refl) w.handles) refl
+
+-- a step that is seen is one
+seen-ours : (m : Group) (w : World) (b : Basic) → sees m w b ≡ true → is_ours m w b ≡ true
+seen-ours m w (Awaits x) is = is
+seen-ours m w (Enters x) is = is
+seen-ours m w (Takes q) is = is
+seen-ours m w (TakesConnect q) is = is
+seen-ours m w (AddsProcess p) is = is
+seen-ours m w (AddsThread t) is = is
+seen-ours m w (Makes p) is = is
+seen-ours m w (Joins client server context) is = is
+seen-ours m w (Binds path node) is = is
+seen-ours m w (Tells e) is = refl
+seen-ours m w (Wakes who call status fields) is = refl
+seen-ours m w (Receives who q) is = refl
+seen-ours m w (Accepts who reply) is = refl
+seen-ours m w (Withdraws who) is = refl
+seen-ours m w (DrawsIdentifier who) is = refl
+seen-ours m w (DrawsOrdinal who) is = refl
+seen-ours m w (Completes b) is = refl
+seen-ours m w (Frees o) is = refl
+seen-ours m w (AddsHandle pid h) is = refl
+
+pub basic-seen : (m : Group) (w : World) (b : Basic) → sees m w b ≡ true → is_regular m w b ≡ true → view m (basic w b) ≡ basic (view m w) b
+basic-seen m w b is ok = basic-ours m w b (seen-ours m w b is) ok
+
+-- Unseen steps
+-- a port that is joined to an outsider's
+apart-seen : (m : Group) (b other : Birth) (context : ℕ) (p : PortRow) → m other.process ≡ false → is_port b p ≡ true → is_apart m b p ≡ true → seen_port m (record p { pair = Some other; context = context }) ≡ seen_port m p
+apart-seen m b other context p out its apart = at p.pair refl
+  where
+    at : (o : Option Birth) → p.pair ≡ o → seen_port m (record p { pair = Some other; context = context }) ≡ seen_port m p
+    at None none = rw (none, out) refl
+    at (Some x) some = inside (m x.process) refl
+      where
+        inside : (c : Bool) → m x.process ≡ c → seen_port m (record p { pair = Some other; context = context }) ≡ seen_port m p
+        inside true is = let k : is_apart m b p ≡ false = rw (its, some, is) refl in absurd (cc)
+        inside false is = rw (some, out, is) refl
+
+joined-apart : (m : Group) (client server : Birth) (context : ℕ) → m client.process ≡ false → (p : PortRow) → is_apart m server p ≡ true → our_port m p ≡ true → seen_port m (joined client server context p) ≡ seen_port m p
+joined-apart m client server context out p apart kept = at (is_port client p) (is_port server p) refl refl
+  where
+    at : (a b : Bool) → is_port client p ≡ a → is_port server p ≡ b → seen_port m (joined client server context p) ≡ seen_port m p
+    at true b is it = let k : m p.birth.process ≡ m client.process = of_birth m p.birth client is in absurd (cc)
+    at false true is it = rw (is, it) (apart-seen m server client context p out it apart)
+    at false false is it = rw (is, it) refl
+
+joined-out : (m : Group) (client server : Birth) (context : ℕ) → m client.process ≡ false → m server.process ≡ false → (p : PortRow) → our_port m p ≡ true → seen_port m (joined client server context p) ≡ seen_port m p
+joined-out m client server context one two p kept = at (is_port client p) (is_port server p) refl refl
+  where
+    at : (a b : Bool) → is_port client p ≡ a → is_port server p ≡ b → seen_port m (joined client server context p) ≡ seen_port m p
+    at true b is it = let k : m p.birth.process ≡ m client.process = of_birth m p.birth client is in absurd (cc)
+    at false true is it = let k : m p.birth.process ≡ m server.process = of_birth m p.birth server it in absurd (cc)
+    at false false is it = rw (is, it) refl
+
+joins-unseen : (m : Group) (w : World) (client server : Birth) (context : ℕ) (a b : Bool) → m client.process ≡ a → m server.process ≡ b → sees m w (Joins client server context) ≡ false → is_regular m w (Joins client server context) ≡ true → shown (our_port m) (seen_port m) (map (joined client server context) w.ports) ≡ shown (our_port m) (seen_port m) w.ports
+joins-unseen m w client server context true b one two out ok = absurd (grind arith)
+joins-unseen m w client server context false true one two out ok =
+    shown-map_out (is_apart m server) (our_port m) (seen_port m) (joined client server context) (joined-birth m client server context) (joined-apart m client server context one) w.ports (grind arith)
+joins-unseen m w client server context false false one two out ok =
+    shown-map_out (λ p. true) (our_port m) (seen_port m) (joined client server context) (joined-birth m client server context) (λ p any kept. joined-out m client server context one two p kept) w.ports (every-any w.ports)
+
+named-out : (m : Group) (b : Birth) → m b.process ≡ false → (p : PortRow) → is_port b p ≡ true → our_port m p ≡ false
+named-out m b out p is = of_birth m p.birth b is ∙ out
+
+table-out : (m : Group) (pid : ℕ) → m pid ≡ false → (t : HandleTable) → is_table pid t ≡ true → our_table m t ≡ false
+table-out m pid out t is = ap m (eqb-true _ _ is) ∙ out
+
+-- a step that isn't seen leaves the view
+pub basic-unseen : (m : Group) (w : World) (b : Basic) → sees m w b ≡ false → is_regular m w b ≡ true → view m (basic w b) ≡ view m w
+basic-unseen m w (Tells e) out ok = refl
+basic-unseen m w (Wakes who call status fields) out ok = rw (kept-without (our_wait m) (waits_as who) w.waits, without-none (waits_as who) (which (our_wait m) w.waits) out) refl
+basic-unseen m w (Awaits x) out ok = rw (kept-push_out (our_wait m) w.waits x out) refl
+basic-unseen m w (Receives who q) out ok = rw (kept-change (our_wait m) (waits_at who q) received (λ x. refl) w.waits, change-none (waits_at who q) received (which (our_wait m) w.waits) out) refl
+basic-unseen m w (Accepts who reply) out ok = rw (kept-change (our_wait m) (waits_as who) (accepted reply) (λ x. refl) w.waits, change-none (waits_as who) (accepted reply) (which (our_wait m) w.waits) out) refl
+basic-unseen m w (Enters x) out ok = rw (kept-push_out (our_message m) w.messages x out) refl
+basic-unseen m w (Takes q) out ok = rw (take-unseen m (is_queued q) w.messages (first (is_queued q) w.messages) refl out) refl
+basic-unseen m w (TakesConnect q) out ok = rw (take-unseen m (is_queued_connect q) w.messages (first (is_queued_connect q) w.messages) refl out) refl
+basic-unseen m w (Withdraws who) out ok = rw (kept-without (our_message m) (is_own_of who) w.messages, without-none (is_own_of who) (which (our_message m) w.messages) out) refl
+basic-unseen m w (DrawsIdentifier who) out ok = rw (kept-change (our_thread m) (is_thread who) past_identifier (λ t. refl) w.threads, change-none (is_thread who) past_identifier (which (our_thread m) w.threads) out) refl
+basic-unseen m w (DrawsOrdinal who) out ok = rw (kept-change (our_thread m) (is_thread who) past_ordinal (λ t. refl) w.threads, change-none (is_thread who) past_ordinal (which (our_thread m) w.threads) out) refl
+basic-unseen m w (AddsProcess p) out ok = rw (kept-push_out (our_process m) w.processes p out, kept-push_out m w.used_processes p.number out, kept-push_out (our_table m) w.handles (no_handles p.number) out) refl
+basic-unseen m w (AddsThread t) out ok = rw (kept-push_out (our_thread m) w.threads t out, kept-push_out (our_used m) w.used_threads (used t) out) refl
+basic-unseen m w (Makes p) out ok = rw (shown-push_out (our_port m) (seen_port m) w.ports p out) refl
+basic-unseen m w (Joins client server context) out ok = rw (joins-unseen m w client server context (m client.process) (m server.process) refl refl out ok) refl
+basic-unseen m w (Completes b) out ok = rw (shown-change_out (our_port m) (is_port b) (seen_port m) completed (λ p. refl) (named-out m b out) w.ports) refl
+basic-unseen m w (Frees o) out ok = absurd (cc)
+basic-unseen m w (Binds path node) out ok = rw (kept-push_out (our_binding m) w.bindings (path, node) out) refl
+basic-unseen m w (AddsHandle pid h) out ok = rw (kept-change_out (our_table m) (is_table pid) (with_handle h) (λ t. refl) (table-out m pid out) w.handles) refl
+
+-- Lists of steps
+-- what the view shows of a list of steps
+abbrev pub visible : Group → World → List Basic → List Basic
+visible m w [] = []
+visible m w (b ∷ bs) = cond (sees m w b) (b ∷ visible m (basic w b) bs) (visible m (basic w b) bs)
+
+abbrev pub are_regular : Group → World → List Basic → Bool
+are_regular m w [] = true
+are_regular m w (b ∷ bs) = is_regular m w b && are_regular m (basic w b) bs
+
+run-one : (m : Group) (w : World) (b : Basic) (bs : List Basic) (s : Bool) → sees m w b ≡ s → is_regular m w b ≡ true → view m (world_after w (b ∷ bs)) ≡ world_after (view m (basic w b)) (visible m (basic w b) bs)
+    → view m (world_after w (b ∷ bs)) ≡ world_after (view m w) (cond s (b ∷ visible m (basic w b) bs) (visible m (basic w b) bs))
+run-one m w b bs true is ok rest = rest ∙ ap (λ v. world_after v (visible m (basic w b) bs)) (basic-seen m w b is ok)
+run-one m w b bs false is ok rest = rest ∙ ap (λ v. world_after v (visible m (basic w b) bs)) (basic-unseen m w b is ok)
+
+-- the view behind a list of steps is what the visible ones leave of the view before it
+pub run-view : (m : Group) (w : World) (bs : List Basic) → are_regular m w bs ≡ true → view m (world_after w bs) ≡ world_after (view m w) (visible m w bs)
+run-view m w [] ok = refl
+run-view m w (b ∷ bs) ok = run-one m w b bs (sees m w b) refl (one_of _ _ ok) (run-view m (basic w b) bs (other_of _ _ ok))
+
+-- steps that are all members'
+abbrev pub are_ours : Group → World → List Basic → Bool
+are_ours m w [] = true
+are_ours m w (b ∷ bs) = (is_ours m w b && is_regular m w b) && are_ours m (basic w b) bs
+
+pub run-ours : (m : Group) (w : World) (bs : List Basic) → are_ours m w bs ≡ true → view m (world_after w bs) ≡ world_after (view m w) bs
+run-ours m w [] ok = refl
+run-ours m w (b ∷ bs) ok = run-ours m (basic w b) bs (other_of _ _ ok) ∙ ap (λ v. world_after v bs) (basic-ours m w b (one_of _ _ (one_of _ _ ok)) (other_of _ _ (one_of _ _ ok)))
+
+pub ours-append : (m : Group) (w : World) (bs cs : List Basic) → are_ours m w bs ≡ true → are_ours m (world_after w bs) cs ≡ true → are_ours m w (bs ++ cs) ≡ true
+ours-append m w [] cs one two = two
+ours-append m w (b ∷ bs) cs one two = both _ _ (one_of _ _ one) (ours-append m (basic w b) bs cs (other_of _ _ one) two)

@@ -1,0 +1,246 @@
+-- The line of a call owes what its service owes.
+use Rattle.std.proofs.Common.{◌≡◌, ℕ, List, [], ◌∷◌, ◌++◌, Bool, true, false, cond, not, Option, Some, None, refl, ap, sym, subst, ◌∙◌, arith}
+use Rattle.std.specs.Prelude.{◌&&◌, ◌==◌, Result, Ok, Err}
+use Rattle.std.proofs.lemmas.Bool.{eqb-true}
+use Rattle.std.proofs.lemmas.Bool.Decides.{nat_tests}
+use Rattle.lpc_base.specs.Rows.{every}
+use Rattle.lpc_base.specs.declared.status.Status.{Status}
+use Rattle.lpc_base.specs.declared.status.TheConstants.{SUCCESS}
+use Rattle.lpc_base.proofs.RowMaps.{every-both}
+use Rattle.lpc_model.specs.declared.entry.Entry.{Entry}
+use Rattle.lpc_model.specs.declared.entry.Entry.TheVariants as entry
+use Rattle.lpc_model.specs.World.{ThreadRow, WaitRow, World}
+use Rattle.lpc_model.specs.Found.{live_thread, wait_of, waits_as}
+use Rattle.lpc_model.specs.Basics.{Accepts, AddsHandle, AddsProcess, AddsThread, Awaits, Basic, Binds, Completes, DrawsIdentifier, DrawsOrdinal, Enters, Frees, Joins, Makes, Receives, Takes, TakesConnect, Tells, Wakes, Withdraws, entries_of, world_after}
+use Rattle.lpc_model.specs.Lines.{ScriptCall, run}
+use Rattle.lpc_model.specs.Machine.{name_of_call, service_of, settled, bare_step, bare_steps}
+use Rattle.lpc_model.proofs.Holding.{Holds, holds_ok}
+use Rattle.lpc_model.proofs.Usable.{live-number}
+use Rattle.lpc_model.specs.Circle.{Everyone, Group, Item, Nobody, Of, Told, Whose, entry_whose, is_seen, is_told_to, owned, owner, thread_whose}
+use Rattle.lpc_isolation.proofs.Alone.{HasFinePorts, alone}
+use Rattle.lpc_isolation.proofs.Filters.{first-where}
+use Rattle.lpc_isolation.proofs.View.{both, one_of, other_of, our_wait, view}
+use Rattle.lpc_isolation.proofs.Basics.{are_ours}
+use Rattle.lpc_isolation.proofs.Fair.{Fair, is_fair_wait}
+use Rattle.lpc_isolation.proofs.Seen.{live-owner, live-view}
+use Rattle.lpc_isolation.proofs.Apart.{Owned, are_apart, is_heard, is_owned, owned-by}
+use Rattle.lpc_isolation.proofs.Callers.{Led, c-wait}
+use Rattle.lpc_isolation.proofs.Listens.{own_entry}
+use Rattle.lpc_isolation.proofs.Play.{told_inputs, told_items}
+use Rattle.lpc_isolation.proofs.Lines.{Leads, Owes, accepts, is_done, led_line, next_entry}
+use Rattle.lpc_isolation.proofs.Serves.{is_call_of, is_orderly, orderly-done, orderly-used, tells_thread}
+
+-- what a service owes to the call of a thread that waits for nothing
+pub record Serves (led : Leads) (m : Group) (c : ℕ) (w : World) (by : ThreadRow) (call : ScriptCall) : Type 0 where
+  pub apart : (u : World) (d : Whose) → u.used_threads ≡ w.used_threads → m by.process ≡ false → Holds (λ bs. HasFinePorts m c (world_after w bs) → are_apart m c u d w bs ≡ true) (service_of w by call)
+  pub same : by.process ≡ c → service_of (view m w) by call ≡ service_of w by call
+  pub ours : by.process ≡ c → Holds (λ bs. HasFinePorts m c (world_after w bs) → are_ours m w bs ≡ true) (service_of w by call)
+  pub leads : (u : World) (d : Whose) → u.used_threads ≡ w.used_threads → m by.process ≡ true → (by.process == c) ≡ false → Holds (λ bs. HasFinePorts m c (world_after w bs) → Led m c u d w bs (led (view m w) by call (own_entry bs))) (service_of w by call)
+  pub orderly : Holds (λ bs. is_call_of by.number bs ≡ true) (service_of w by call)
+  pub refuses : (s : Status) → service_of w by call ≡ Err s → (s.0 == SUCCESS.0) ≡ false
+
+-- what the list of a line owes
+record OwesAt (led : Leads) (m : Group) (c : ℕ) (w : World) (tid : ℕ) (call : ScriptCall) (bs : List Basic) : Type 0 where
+  apart : is_seen m (thread_whose w tid) ≡ false → are_apart m c (world_after w bs) (thread_whose w tid) w bs ≡ true
+  same : is_seen (alone c) (thread_whose w tid) ≡ true → bare_steps (run tid call) (view m w) ≡ bs
+  ours : is_seen (alone c) (thread_whose w tid) ≡ true → are_ours m w bs ≡ true
+  leads : is_seen m (thread_whose w tid) ≡ true → is_seen (alone c) (thread_whose w tid) ≡ false → Led m c (world_after w bs) (thread_whose w tid) w bs (led_line led (view m w) tid call (own_entry bs))
+  first : is_seen m (thread_whose w tid) ≡ true → is_seen (alone c) (thread_whose w tid) ≡ false → (is : List Item) → next_entry (told_items (told_inputs m c (world_after w bs) (thread_whose w tid) (entries_of bs)) ++ is) ≡ own_entry bs
+  done : every (is_done (world_after w bs)) (entries_of bs) ≡ true
+
+owes-of : (led : Leads) (m : Group) (c : ℕ) (w : World) (tid : ℕ) (call : ScriptCall) (bs : List Basic) → bare_steps (run tid call) w ≡ bs → OwesAt led m c w tid call bs → Owes led m c w tid call
+owes-of led m c w tid call bs is o = from (subst (OwesAt led m c w tid call) (sym is) o)
+  where
+    from : OwesAt led m c w tid call (bare_steps (run tid call) w) → Owes led m c w tid call
+    from o = record { apart = o.apart; same = o.same; ours = o.ours; leads = o.leads; first = o.first; done = o.done }
+
+-- a member's entry, other than c's, is the next of its inputs
+not-told : (c : ℕ) (whose : Whose) (e : Entry) → is_seen (alone c) whose ≡ false → is_told_to c whose (Told e) ≡ false
+not-told c (Of pid) e off = rw off refl
+not-told c Everyone e off = refl
+not-told c Nobody e off = refl
+
+next-is : (m : Group) (c : ℕ) (u : World) (d : Whose) (e : Entry) (es : List Entry) (is : List Item) → is_heard m u d e ≡ true → is_heard (alone c) u d e ≡ false → next_entry (told_items (told_inputs m c u d (e ∷ es)) ++ is) ≡ e
+next-is m c u d e es is seen off =
+    let told : is_told_to c (entry_whose u d e) (Told e) ≡ false = not-told c (entry_whose u d e) e off in
+    subst (λ b. next_entry (told_items (cond b (e ∷ told_inputs m c u d es) (told_inputs m c u d es)) ++ is) ≡ e) (sym (keeps (is_heard m u d e) (is_told_to c (entry_whose u d e) (Told e)) seen told)) refl
+  where
+    keeps : (a b : Bool) → a ≡ true → b ≡ false → (a && not b) ≡ true
+    keeps a b one off = grind arith
+
+-- a line that tells one entry, which accepts nothing
+owes-lone : (led : Leads) (m : Group) (c : ℕ) (w : World) (tid : ℕ) (call : ScriptCall) (e : Entry) → entry_whose w (thread_whose w tid) e ≡ thread_whose w tid → accepts e ≡ false → is_done w e ≡ true → (is_seen (alone c) (thread_whose w tid) ≡ true → bare_steps (run tid call) (view m w) ≡ Tells e ∷ []) → OwesAt led m c w tid call (Tells e ∷ [])
+owes-lone led m c w tid call e whose off done same = record {
+  apart = λ out. let gone : is_heard m w (thread_whose w tid) e ≡ false = ap (is_seen m) whose ∙ out in rw gone refl;
+  same = same;
+  ours = λ is. refl;
+  leads = λ seen other. let none : is_heard (alone c) w (thread_whose w tid) e ≡ false = ap (is_seen (alone c)) whose ∙ other in record { world = rw off refl; told = rw (none, off) refl };
+  first = λ seen other is. next-is m c w (thread_whose w tid) e [] is (ap (is_seen m) whose ∙ seen) (ap (is_seen (alone c)) whose ∙ other);
+  done = rw done refl;
+}
+
+-- the threads of c are seen as they are
+c-idle : (m : Group) (c : ℕ) (w : World) (tid : ℕ) → m c ≡ true → Fair m c w → Owned w w → owner w tid ≡ Some c → wait_of (view m w) tid ≡ wait_of w tid
+c-idle m c w tid c_in f owned own = first-where (λ x. is_fair_wait m c x && is_owned w x) (our_wait m) (waits_as tid) (λ x ok is.
+    let here : owner w x.thread ≡ Some c = ap (owner w) (eqb-true _ _ is) ∙ own in
+    let process : c ≡ x.process = owned-by w x c here (other_of _ _ ok) in
+    let mine : (x.process == c) ≡ true = rw (sym process) (same c) in
+    c-wait m c x c_in (one_of _ _ ok) mine) w.waits (every-both (is_fair_wait m c) (is_owned w) _ (λ x a b. both _ _ a b) w.waits f.waits owned)
+  where
+    same : (n : ℕ) → (n == n) ≡ true
+    same n = grind (arith, nat_tests)
+
+owner-c : (c : ℕ) (w : World) (tid : ℕ) → is_seen (alone c) (thread_whose w tid) ≡ true → owner w tid ≡ Some c
+owner-c c w tid is = at (owner w tid) is
+  where
+    at : (o : Option ℕ) → is_seen (alone c) (owned o) ≡ true → o ≡ Some c
+    at None is = absurd (cc)
+    at (Some p) is = ap (λ p. Some p) (eqb-true _ _ is)
+
+owner-in : (m : Group) (w : World) (tid : ℕ) (by : ThreadRow) → owner w tid ≡ Some by.process → is_seen m (thread_whose w tid) ≡ m by.process
+owner-in m w tid by own = ap (λ o. is_seen m (owned o)) own
+
+-- The call of a thread that waits for nothing
+-- its entry is its own
+own-whose : (u : World) (d : Whose) (tid : ℕ) (e : Entry) → tells_thread tid e ≡ true → entry_whose u d e ≡ thread_whose u tid
+own-whose u d tid (entry.Answer who call status fields) is = ap (thread_whose u) (eqb-true _ _ (one_of _ _ is))
+own-whose u d tid (entry.Waits who call fields) is = ap (thread_whose u) (eqb-true _ _ is)
+own-whose u d tid (entry.Wakes who call status fields) is = absurd (cc)
+own-whose u d tid (entry.Busy who) is = absurd (cc)
+own-whose u d tid (entry.NoThread who) is = absurd (cc)
+own-whose u d tid (entry.Died who status) is = absurd (cc)
+own-whose u d tid (entry.Directive word status) is = absurd (cc)
+
+tells-accepts : (tid : ℕ) (e : Entry) → tells_thread tid e ≡ true → accepts e ≡ true
+tells-accepts tid (entry.Answer who call status fields) is = other_of _ _ is
+tells-accepts tid (entry.Waits who call fields) is = refl
+tells-accepts tid (entry.Wakes who call status fields) is = absurd (cc)
+tells-accepts tid (entry.Busy who) is = absurd (cc)
+tells-accepts tid (entry.NoThread who) is = absurd (cc)
+tells-accepts tid (entry.Died who status) is = absurd (cc)
+tells-accepts tid (entry.Directive word status) is = absurd (cc)
+
+-- the first of its list
+pub record Headed (tid : ℕ) (bs : List Basic) : Type 0 where
+  pub entry : Entry
+  pub rest : List Basic
+  pub is : bs ≡ Tells entry ∷ rest
+  pub own : tells_thread tid entry ≡ true
+  pub orderly : is_orderly bs ≡ true
+
+tells-orderly : (tid : ℕ) (e : Entry) (bs : List Basic) → tells_thread tid e ≡ true → is_orderly bs ≡ true → is_orderly (Tells e ∷ bs) ≡ true
+tells-orderly tid (entry.Answer who call status fields) bs is ok = ok
+tells-orderly tid (entry.Waits who call fields) bs is ok = ok
+tells-orderly tid (entry.Wakes who call status fields) bs is ok = absurd (cc)
+tells-orderly tid (entry.Busy who) bs is ok = absurd (cc)
+tells-orderly tid (entry.NoThread who) bs is ok = absurd (cc)
+tells-orderly tid (entry.Died who status) bs is ok = absurd (cc)
+tells-orderly tid (entry.Directive word status) bs is ok = absurd (cc)
+
+pub headed : (tid : ℕ) (bs : List Basic) → is_call_of tid bs ≡ true → Headed tid bs
+headed tid [] is = absurd (cc)
+headed tid (Tells e ∷ bs) is = record { entry = e; rest = bs; is = refl; own = one_of _ _ is; orderly = tells-orderly tid e bs (one_of _ _ is) (other_of _ _ is) }
+headed tid (Wakes a b d f ∷ bs) is = absurd (cc)
+headed tid (Awaits x ∷ bs) is = absurd (cc)
+headed tid (Receives a b ∷ bs) is = absurd (cc)
+headed tid (Accepts a b ∷ bs) is = absurd (cc)
+headed tid (Enters x ∷ bs) is = absurd (cc)
+headed tid (Takes q ∷ bs) is = absurd (cc)
+headed tid (TakesConnect q ∷ bs) is = absurd (cc)
+headed tid (DrawsIdentifier a ∷ bs) is = absurd (cc)
+headed tid (DrawsOrdinal a ∷ bs) is = absurd (cc)
+headed tid (AddsProcess p ∷ bs) is = absurd (cc)
+headed tid (AddsThread t ∷ bs) is = absurd (cc)
+headed tid (Makes p ∷ bs) is = absurd (cc)
+headed tid (Joins a b x ∷ bs) is = absurd (cc)
+headed tid (Completes b ∷ bs) is = absurd (cc)
+headed tid (Withdraws a ∷ bs) is = absurd (cc)
+headed tid (Frees o ∷ bs) is = absurd (cc)
+headed tid (Binds a b ∷ bs) is = absurd (cc)
+headed tid (AddsHandle a b ∷ bs) is = absurd (cc)
+
+own-is : (tid : ℕ) (bs : List Basic) (h : Headed tid bs) → own_entry bs ≡ h.entry
+own-is tid bs h = ap own_entry h.is
+
+-- a world of a run, seen from a call
+pub record Ready (m : Group) (c : ℕ) (w : World) (tid : ℕ) (by : ThreadRow) : Type 0 where
+  pub c_in : m c ≡ true
+  pub fair : Fair m c w
+  pub owned : Owned w w
+  pub live : live_thread w tid ≡ Some by
+  pub idle : wait_of w tid ≡ None
+
+pub called : (w : World) (tid : ℕ) (call : ScriptCall) (by : ThreadRow) → live_thread w tid ≡ Some by → wait_of w tid ≡ None → bare_steps (run tid call) w ≡ settled by (name_of_call call) (service_of w by call)
+unfolding bare_steps
+called w tid call by live idle = rw (live, idle) refl
+
+-- c's call in the view
+c-called : (led : Leads) (m : Group) (c : ℕ) (w : World) (tid : ℕ) (call : ScriptCall) (by : ThreadRow) → Ready m c w tid by → Serves led m c w by call → is_seen (alone c) (thread_whose w tid) ≡ true → bare_steps (run tid call) (view m w) ≡ settled by (name_of_call call) (service_of w by call)
+c-called led m c w tid call by r s is =
+    let own : owner w tid ≡ Some c = owner-c c w tid is in
+    let both_own : Some by.process ≡ Some c = sym (live-owner m c w tid by r.fair r.live) ∙ own in
+    let mine : by.process ≡ c = cc in
+    called (view m w) tid call by (live-view m c w tid c r.fair own r.c_in ∙ r.live) (c-idle m c w tid r.c_in r.fair r.owned own ∙ r.idle)
+    ∙ ap (settled by (name_of_call call)) (s.same mine)
+
+owes-ok : (led : Leads) (m : Group) (c : ℕ) (w : World) (tid : ℕ) (call : ScriptCall) (by : ThreadRow) (bs : List Basic) → Ready m c w tid by → Serves led m c w by call → service_of w by call ≡ Ok bs → HasFinePorts m c (world_after w bs) → OwesAt led m c w tid call bs
+owes-ok led m c w tid call by bs r s at fine =
+    let number : by.number ≡ tid = live-number w tid by r.live in
+    let own : owner w tid ≡ Some by.process = live-owner m c w tid by r.fair r.live in
+    let u : World = world_after w bs in
+    let d : Whose = thread_whose w tid in
+    let head : Headed tid bs = subst (λ n. Headed n bs) number (headed by.number bs (holds_ok (λ bs. is_call_of by.number bs ≡ true) (service_of w by call) bs s.orderly at)) in
+    let used : u.used_threads ≡ w.used_threads = orderly-used w bs head.orderly in
+    let whose : entry_whose u d head.entry ≡ d = own-whose u d tid head.entry head.own ∙ rw used refl in
+    record {
+      apart = λ out. holds_ok (λ bs. HasFinePorts m c (world_after w bs) → are_apart m c u d w bs ≡ true) (service_of w by call) bs (s.apart u d used (sym (owner-in m w tid by own) ∙ out)) at fine;
+      same = λ is. c-called led m c w tid call by r s is ∙ ap (settled by (name_of_call call)) at;
+      ours = λ is.
+          let both_own : Some by.process ≡ Some c = sym own ∙ owner-c c w tid is in
+          let mine : by.process ≡ c = cc in
+          holds_ok (λ bs. HasFinePorts m c (world_after w bs) → are_ours m w bs ≡ true) (service_of w by call) bs (s.ours mine) at fine;
+      leads = λ seen other.
+          let by_in : m by.process ≡ true = sym (owner-in m w tid by own) ∙ seen in
+          let by_other : (by.process == c) ≡ false = sym (owner-in (alone c) w tid by own) ∙ other in
+          let accepted : accepts (own_entry bs) ≡ true = ap accepts (own-is tid bs head) ∙ tells-accepts tid head.entry head.own in
+          rw (accepted, live-view m c w tid by.process r.fair own by_in, r.live) (holds_ok (λ bs. HasFinePorts m c (world_after w bs) → Led m c u d w bs (led (view m w) by call (own_entry bs))) (service_of w by call) bs (s.leads u d used by_in by_other) at fine);
+      first = λ seen other is.
+          ap (λ bs'. next_entry (told_items (told_inputs m c u d (entries_of bs')) ++ is)) head.is
+          ∙ next-is m c u d head.entry (entries_of head.rest) is (ap (is_seen m) whose ∙ seen) (ap (is_seen (alone c)) whose ∙ other)
+          ∙ sym (own-is tid bs head);
+      done = orderly-done w bs head.orderly;
+    }
+
+owes-settled : (led : Leads) (m : Group) (c : ℕ) (w : World) (tid : ℕ) (call : ScriptCall) (by : ThreadRow) (t : Result (List Basic) Status) → Ready m c w tid by → Serves led m c w by call → service_of w by call ≡ t → HasFinePorts m c (world_after w (settled by (name_of_call call) t)) → OwesAt led m c w tid call (settled by (name_of_call call) t)
+owes-settled led m c w tid call by (Ok bs) r s at fine = owes-ok led m c w tid call by bs r s at fine
+owes-settled led m c w tid call by (Err e) r s at fine =
+    let number : by.number ≡ tid = live-number w tid by r.live in
+    owes-lone led m c w tid call (entry.Answer by.number (name_of_call call) e []) (ap (thread_whose w) number) (s.refuses e at) refl (λ is. c-called led m c w tid call by r s is ∙ ap (settled by (name_of_call call)) at)
+
+-- the line of a call
+pub owes-call : (led : Leads) (m : Group) (c : ℕ) (w : World) (tid : ℕ) (call : ScriptCall) (by : ThreadRow) → Ready m c w tid by → Serves led m c w by call → HasFinePorts m c (bare_step w (run tid call)).world → Owes led m c w tid call
+owes-call led m c w tid call by r s fine =
+    let is : bare_steps (run tid call) w ≡ settled by (name_of_call call) (service_of w by call) = called w tid call by r.live r.idle in
+    owes-of led m c w tid call (settled by (name_of_call call) (service_of w by call)) is
+    (owes-settled led m c w tid call by (service_of w by call) r s refl (subst (λ bs. HasFinePorts m c (world_after w bs)) is fine))
+
+-- a line of a number that no live thread has, and one of a thread that waits
+pub nobody : (w : World) (tid : ℕ) (call : ScriptCall) → live_thread w tid ≡ None → bare_steps (run tid call) w ≡ Tells (entry.NoThread tid) ∷ []
+unfolding bare_steps
+nobody w tid call none = rw none refl
+
+pub owes-none : (led : Leads) (m : Group) (c : ℕ) (w : World) (tid : ℕ) (call : ScriptCall) → m c ≡ true → Fair m c w → live_thread w tid ≡ None → Owes led m c w tid call
+owes-none led m c w tid call c_in f none =
+    owes-of led m c w tid call (Tells (entry.NoThread tid) ∷ []) (nobody w tid call none)
+    (owes-lone led m c w tid call (entry.NoThread tid) refl refl refl (λ is. nobody (view m w) tid call (live-view m c w tid c f (owner-c c w tid is) c_in ∙ none)))
+
+pub busy : (w : World) (tid : ℕ) (call : ScriptCall) (by : ThreadRow) (x : WaitRow) → live_thread w tid ≡ Some by → wait_of w tid ≡ Some x → bare_steps (run tid call) w ≡ Tells (entry.Busy by.number) ∷ []
+unfolding bare_steps
+busy w tid call by x live waits = rw (live, waits) refl
+
+pub owes-busy : (led : Leads) (m : Group) (c : ℕ) (w : World) (tid : ℕ) (call : ScriptCall) (by : ThreadRow) (x : WaitRow) → m c ≡ true → Fair m c w → Owned w w → live_thread w tid ≡ Some by → wait_of w tid ≡ Some x → Owes led m c w tid call
+owes-busy led m c w tid call by x c_in f owned live waits =
+    owes-of led m c w tid call (Tells (entry.Busy by.number) ∷ []) (busy w tid call by x live waits)
+    (owes-lone led m c w tid call (entry.Busy by.number) (ap (thread_whose w) (live-number w tid by live)) refl refl (λ is.
+    let own : owner w tid ≡ Some c = owner-c c w tid is in
+    busy (view m w) tid call by x (live-view m c w tid c f own c_in ∙ live) (c-idle m c w tid c_in f owned own ∙ waits)))

@@ -1,0 +1,166 @@
+-- The numbers of processes are below 2^31, so a message's client reads back from its bytes.
+use Rattle.std.proofs.Common.{◌≡◌, ◌≤◌, ◌%◌, ◌/◌, ◌+◌, ◌*◌, ℕ, List, [], ◌∷◌, ◌++◌, Bool, true, false, not, Option, Some, None, refl, subst, arith}
+use Rattle.std.specs.Prelude.{◌&&◌, ◌==◌, codes, nat_le, nat_lt, length, Result, Ok, Err, if◌then◌else◌}
+use Rattle.std.proofs.lemmas.Bool.{eqb-true}
+use Rattle.std.proofs.lemmas.Bool.Decides.{nat_tests}
+use Rattle.lpc_base.specs.Rows.{every, first, passes}
+use Rattle.lpc_base.proofs.RowWords.{every-more, first-passes}
+use Rattle.lpc_base.proofs.RowMaps.{every-first}
+use Rattle.lpc_base.specs.declared.limits.TheConstants.{LINES_LIMIT, LINE_LIMIT}
+use Rattle.lpc_message.specs.Layout.{header_bytes, header_of}
+use Rattle.lpc_message.specs.declared.message.Header.{Header}
+use Rattle.lpc_model.specs.declared.fault.LineFault.{LineFault}
+use Rattle.lpc_model.specs.declared.fault.LineFault.TheVariants as fault
+use Rattle.lpc_model.specs.declared.entry.Word.{Word}
+use Rattle.lpc_model.specs.declared.entry.Word.TheVariants.{Boot, Thread, Dir, Link}
+use Rattle.std.specs.Option.{ok_or}
+use Rattle.lpc_model.specs.declared.message.Message.{Message}
+use Rattle.lpc_model.specs.Message.{bytes_of}
+use Rattle.lpc_model.specs.Then.{◌>>=◌}
+use Rattle.lpc_model.specs.World.{MessageRow, UsedThread, World}
+use Rattle.lpc_model.specs.Words.{begins, fault_if, id_word, is_id, number_word, words}
+use Rattle.lpc_model.specs.Grammar.{call_line, directive_line, directive_named, directive_words, has_ids, one_word, is_printable, read_line, starts_call, thread_call, two_words, words_line}
+use Rattle.lpc_model.specs.Lines.{ScriptLine}
+use Rattle.lpc_model.specs.Run.{numbered_line, said_from, said_in, unless_faulty}
+use Rattle.lpc_model.specs.Script.{script_lines}
+use Rattle.std.specs.List.{list_all}
+use Rattle.lpc_model.specs.Circle.{is_number}
+use Rattle.lpc_isolation.proofs.View.{both, one_of, other_of, same-number}
+use Rattle.lpc_isolation.proofs.Fair.{is_sent}
+use Rattle.lpc_isolation.proofs.Takes.{is_readable}
+use Rattle.lpc_isolation.proofs.Play.{are_ok}
+
+-- a number reads back
+word-back : (p : ℕ) → nat_le p 2147483647 ≡ true → p % 256 + 256 * (p / 256 % 256 + 256 * (p / 65536 % 256 + 256 * (p / 16777216 % 256 + 256 * 0))) ≡ p
+word-back p few = let le : p ≤ 2147483647 = grind (arith, nat_tests) in omega (arith, le)
+
+client-back : (h : Header) (body : List ℕ) → nat_le h.client.process 2147483647 ≡ true → (header_of (header_bytes h ++ body)).client.process ≡ h.client.process
+client-back h body few = word-back h.client.process few
+
+-- the numbers that were used for processes and threads
+abbrev pub of_number : UsedThread → Bool
+of_number u = nat_le u.process 2147483647 && nat_le u.number 2147483647
+
+abbrev pub Numbered : World → Type 0
+Numbered w = every of_number w.used_threads ≡ true
+
+pub reads-back : (us : List UsedThread) → every of_number us ≡ true → (x : MessageRow) → is_sent us x ≡ true → is_readable x ≡ true
+unfolding bytes_of
+reads-back us all x sent = at (first (is_number x.message.header.client.thread) us) refl sent
+  where
+    at : (o : Option UsedThread) → first (is_number x.message.header.client.thread) us ≡ o → passes o (λ u. u.process == x.message.header.client.process) ≡ true → is_readable x ≡ true
+    at None none is = absurd (cc)
+    at (Some u) some is =
+        let same : u.process ≡ x.message.header.client.process = eqb-true _ _ is in
+        let few : nat_le x.message.header.client.process 2147483647 ≡ true = subst (λ n. nat_le n 2147483647 ≡ true) same (one_of _ _ (every-first of_number (is_number x.message.header.client.thread) us u all some)) in
+        rw (client-back x.message.header x.message.body few) (same-number x.message.header.client.process)
+
+-- and so does its thread
+thread-back : (h : Header) (body : List ℕ) → nat_le h.client.thread 2147483647 ≡ true → (header_of (header_bytes h ++ body)).client.thread ≡ h.client.thread
+thread-back h body few = word-back h.client.thread few
+
+pub thread-reads : (us : List UsedThread) → every of_number us ≡ true → (x : MessageRow) → is_sent us x ≡ true → (header_of (bytes_of x.message)).client.thread ≡ x.message.header.client.thread
+unfolding bytes_of
+thread-reads us all x sent = at (first (is_number x.message.header.client.thread) us) refl sent
+  where
+    at : (o : Option UsedThread) → first (is_number x.message.header.client.thread) us ≡ o → passes o (λ u. u.process == x.message.header.client.process) ≡ true → (header_of (bytes_of x.message)).client.thread ≡ x.message.header.client.thread
+    at None none is = absurd (cc)
+    at (Some u) some is =
+        let same : u.number ≡ x.message.header.client.thread = eqb-true _ _ (first-passes (is_number x.message.header.client.thread) us u some) in
+        let few : nat_le x.message.header.client.thread 2147483647 ≡ true = subst (λ n. nat_le n 2147483647 ≡ true) same (other_of _ _ (every-first of_number (is_number x.message.header.client.thread) us u all some)) in
+        thread-back x.message.header x.message.body few
+
+-- and its kind, where that is a number of two bytes
+half-back : (k : ℕ) → nat_le k 65535 ≡ true → k % 256 + 256 * (k / 256 % 256 + 256 * 0) ≡ k
+half-back k few = let le : k ≤ 65535 = grind (arith, nat_tests) in omega (arith, le)
+
+pub kind-reads : (m : Message) → nat_le m.header.kind 65535 ≡ true → (header_of (bytes_of m)).kind ≡ m.header.kind
+unfolding bytes_of
+kind-reads m few = half-back m.header.kind few
+
+pub all-readable : (w : World) → Numbered w → every (is_sent w.used_threads) w.messages ≡ true → every is_readable w.messages ≡ true
+all-readable w all sent = every-more (is_sent w.used_threads) is_readable (reads-back w.used_threads all) w.messages sent
+
+-- What a line says has such numbers
+abbrev Says : {A : Type 0} → (A → Type 0) → Result A LineFault → Type 0
+Says P (Ok x) = P x
+Says P (Err e) = Unit {0}
+
+bind_says : {A B : Type 0} (r : Result A LineFault) (f : A → Result B LineFault) (P : B → Type 0) → ((x : A) → r ≡ Ok x → Says P (f x)) → Says P (r >>= f)
+bind_says (Ok x) f P h = h x refl
+bind_says (Err e) f P h = tt
+
+says_ok : {A : Type 0} (P : A → Type 0) (r : Result A LineFault) (x : A) → Says P r → r ≡ Ok x → P x
+says_ok P (Ok y) x h is = let same : y ≡ x = cc in subst P same h
+says_ok P (Err e) x h is = absurd (cc)
+
+abbrev IsId : ℕ → Type 0
+IsId n = is_id n ≡ true
+
+unfaulted : (n : ℕ) (b : Bool) → is_id n ≡ b → Says IsId (fault_if (not b) fault.Number >>= (λ _. Ok n))
+unfaulted n true is = is
+unfaulted n false is = tt
+
+id-says : (word : List ℕ) → Says IsId (id_word word)
+unfolding id_word
+id-says word = bind_says (number_word word) (λ n. fault_if (not (is_id n)) fault.Number >>= (λ _. Ok n)) IsId (λ n _. unfaulted n (is_id n) refl)
+
+abbrev Ids : ScriptLine → Type 0
+Ids line = has_ids line ≡ true
+
+call-says : (front : List ℕ) (others : List (List ℕ)) → Says Ids (call_line front others)
+unfolding call_line
+call-says front others = bind_says (id_word front) _ Ids (λ tid is. bind_says (thread_call others) _ Ids (λ call _. says_ok IsId (id_word front) tid (id-says front) is))
+
+directive-says : (word : Word) (others : List (List ℕ)) → Says Ids (directive_words word others)
+unfolding directive_words
+directive-says Boot others = bind_says (two_words others) _ Ids (λ two _. bind_says (id_word two.0) _ Ids (λ pid one. bind_says (id_word two.1) _ Ids (λ tid other. both _ _ (says_ok IsId (id_word two.0) pid (id-says two.0) one) (says_ok IsId (id_word two.1) tid (id-says two.1) other))))
+directive-says Thread others = bind_says (two_words others) _ Ids (λ two _. bind_says (id_word two.0) _ Ids (λ tid one. bind_says (id_word two.1) _ Ids (λ pid other. both _ _ (says_ok IsId (id_word two.0) tid (id-says two.0) one) (says_ok IsId (id_word two.1) pid (id-says two.1) other))))
+directive-says Dir others = bind_says (one_word others) _ Ids (λ path _. refl)
+directive-says Link others = bind_says (two_words others) _ Ids (λ two _. refl)
+
+word-says : (front : List ℕ) (others : List (List ℕ)) → Says Ids (directive_line front others)
+unfolding directive_line
+word-says front others = bind_says (ok_or (directive_named front) fault.Word) _ Ids (λ word _. directive-says word others)
+
+abbrev SomeIds : Option ScriptLine → Type 0
+SomeIds None = Unit {0}
+SomeIds (Some line) = Ids line
+
+some-says : (b : Bool) (front : List ℕ) (others : List (List ℕ)) → Says SomeIds ((if b then call_line front others else directive_line front others) >>= (λ line. Ok (Some line)))
+some-says true front others = bind_says (call_line front others) _ SomeIds (λ line is. says_ok Ids (call_line front others) line (call-says front others) is)
+some-says false front others = bind_says (directive_line front others) _ SomeIds (λ line is. says_ok Ids (directive_line front others) line (word-says front others) is)
+
+words-say : (ws : List (List ℕ)) → Says SomeIds (words_line ws)
+words-say [] = tt
+words-say (front ∷ others) = some-says (starts_call front) front others
+
+line-says : (line : List ℕ) → Says SomeIds (read_line line)
+unfolding read_line
+line-says line = at (nat_lt LINE_LIMIT (length line)) (begins (codes "#") line) (list_all is_printable line)
+  where
+    at : (a b d : Bool) → Says SomeIds (if a then Err fault.Long else (if b then Ok None else (if not d then Err fault.Byte else words_line (words line))))
+    at true b d = tt
+    at false true d = tt
+    at false false false = tt
+    at false false true = words-say (words line)
+
+numbered-says : (n : ℕ) (line : List ℕ) → Says SomeIds (numbered_line n line)
+numbered-says n line = at (nat_lt LINES_LIMIT n)
+  where
+    at : (a : Bool) → Says SomeIds (if a then Err fault.Lines else read_line line)
+    at true = tt
+    at false = line-says line
+
+said-says : (r : Result (Option ScriptLine) LineFault) (later : List (Option ScriptLine)) → Says SomeIds r → are_ok has_ids later ≡ true → are_ok has_ids (unless_faulty r later) ≡ true
+said-says (Err e) later is rest = refl
+said-says (Ok None) later is rest = rest
+said-says (Ok (Some line)) later is rest = both _ _ is rest
+
+from-says : (n : ℕ) (lines : List (List ℕ)) → are_ok has_ids (said_from n lines) ≡ true
+unfolding said_from
+from-says n [] = refl
+from-says n (line ∷ lines) = said-says (numbered_line n line) (said_from (n + 1) lines) (numbered-says n line) (from-says (n + 1) lines)
+
+pub script-says : (script : List ℕ) → are_ok has_ids (said_in script) ≡ true
+script-says script = from-says 1 (script_lines script)

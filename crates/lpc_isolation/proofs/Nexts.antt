@@ -1,0 +1,152 @@
+-- What each line keeps, in a run in which a group is a circle of c.
+use Rattle.lpc_isolation.proofs.Services.{lawful}
+use Rattle.std.proofs.Common.{◌≡◌, ℕ, ◌≤◌, List, [], ◌∷◌, ◌++◌, Bool, true, false, Option, Some, None, refl, sym, subst, arith}
+use Rattle.std.specs.Prelude.{◌||◌, ◌==◌, ◌+◌, Result, Ok, Err}
+use Rattle.std.proofs.lemmas.Bool.{eqb-true}
+use Rattle.lpc_base.specs.Rows.{count, every, has}
+use Rattle.lpc_base.specs.declared.status.Status.{Status}
+use Rattle.lpc_base.proofs.RowWords.{count-none, count-push}
+use Rattle.lpc_model.specs.World.{Birth, ThreadRow, UsedThread, WaitRow, World}
+use Rattle.lpc_model.specs.Found.{live_thread, wait_of, was_process, was_thread}
+use Rattle.lpc_model.specs.Basics.{AddsProcess, AddsThread, Basic, Binds, used, world_after}
+use Rattle.lpc_model.specs.Named.{free_name, spelled_name}
+use Rattle.lpc_model.specs.Refusal.{refuse_if}
+use Rattle.lpc_model.specs.Then.{◌>>=◌}
+use Rattle.lpc_base.specs.declared.status.TheConstants.{OBJECT_NAME_COLLISION}
+use Rattle.lpc_model.specs.declared.entry.Word.{Word}
+use Rattle.lpc_model.specs.declared.entry.Word.TheVariants.{Boot, Dir, Link, Thread}
+use Rattle.lpc_names.specs.Walk.{LinkTo, Stands}
+use Rattle.lpc_names.specs.declared.names.Found.TheVariants.{Directory}
+use Rattle.lpc_model.specs.Lines.{ScriptCall, ScriptLine, boot, dir, link, run, thread}
+use Rattle.lpc_model.specs.Machine.{boot_line, dir_line, directed, directive_birth, link_line, live_test, name_of_call, new_process, new_thread, service_of, settled, bare_step, thread_count_test, thread_line, thread_test, unused_thread_test}
+use Rattle.lpc_model.proofs.Holding.{Holds, bind_holds, holds_any, holds_ok, not_refused}
+use Rattle.lpc_model.specs.Circle.{Group, is_number}
+use Rattle.lpc_isolation.proofs.Alone.{HasFinePorts}
+use Rattle.lpc_isolation.proofs.Fair.{are_fair, run-fair}
+use Rattle.lpc_isolation.proofs.Names.{SeenNames}
+use Rattle.lpc_base.proofs.RowWords.{every-push}
+use Rattle.std.specs.Prelude.{nat_le}
+use Rattle.lpc_model.specs.Words.{is_id}
+use Rattle.lpc_model.specs.Grammar.{has_ids}
+use Rattle.lpc_isolation.proofs.View.{both, one_of, other_of}
+use Rattle.lpc_isolation.proofs.Asked.{are_asked, run-asked}
+use Rattle.lpc_isolation.proofs.Ids.{of_number}
+use Rattle.lpc_isolation.proofs.Ways.{are_paths, run-paths}
+use Rattle.lpc_isolation.proofs.Lines.{OnceUsed}
+use Rattle.lpc_isolation.proofs.Calls.{busy, called, headed, nobody}
+use Rattle.lpc_isolation.proofs.Serves.{is_call_of, orderly-used}
+use Rattle.lpc_isolation.proofs.Instances.{At, caller}
+use Rattle.lpc_isolation.proofs.Kept.{names-bound}
+use Rattle.lpc_isolation.proofs.Bindings.{free-unbound}
+use Rattle.lpc_isolation.proofs.Directives.{boot-directs, dir-directs, link-directs, thread-directs}
+use Rattle.lpc_isolation.proofs.Stands.{Kept, State, Stood, ready-at}
+use Rattle.lpc_isolation.proofs.Knows.{known_queue}
+
+id-most : (n : ℕ) → is_id n ≡ true → nat_le n 2147483647 ≡ true
+id-most n is = other_of _ _ is
+
+same-used : (w v : World) → v.used_threads ≡ w.used_threads → OnceUsed w → OnceUsed v
+same-used w v same once tid = rw same (once tid)
+
+at-most : (tid : ℕ) (us : List UsedThread) (u : UsedThread) → has (is_number u.number) us ≡ false → count (is_number tid) us ≤ 1 → count (is_number tid) (us ++ u ∷ []) ≤ 1
+at-most tid us u new once = at (u.number == tid) refl
+  where
+    at : (b : Bool) → (u.number == tid) ≡ b → count (is_number tid) (us ++ u ∷ []) ≤ 1
+    at true is =
+        let same : u.number ≡ tid = eqb-true _ _ is in
+        let none : count (is_number tid) us ≡ 0 = count-none (is_number tid) us (subst (λ n. has (is_number n) us ≡ false) same new) in
+        rw (count-push (is_number tid) us u, none, is) (omega arith)
+    at false other = rw (count-push (is_number tid) us u, other) (few (count (is_number tid) us) once)
+      where
+        few : (n : ℕ) → n ≤ 1 → n + 0 ≤ 1
+        few n is = omega (arith, is)
+
+-- the two tests of a number
+not_either : (a b : Bool) → (a || b) ≡ false → b ≡ false
+not_either a b off = grind arith
+
+unused-number : (w : World) (tid pid : ℕ) → Holds (λ (u : Unit {0}). was_thread w tid ≡ false) (thread_test w tid pid)
+unused-number w tid pid = bind_holds (live_test w pid) _ (λ u. was_thread w tid ≡ false) (λ _ _.
+    bind_holds (unused_thread_test w tid) _ (λ u. was_thread w tid ≡ false) (λ u is. holds_any (was_thread w tid ≡ false) (not_refused (was_thread w tid) OBJECT_NAME_COLLISION u is) (thread_count_test w pid)))
+
+boot-next : (m : Group) (c : ℕ) (w : World) (pid tid : ℕ) → has_ids (boot pid tid) ≡ true → Kept m c w → (r : Result (List Basic) Status) → boot_line w pid tid ≡ r → Kept m c (world_after w (directed Boot r))
+unfolding boot_line
+boot-next m c w pid tid ids n (Err s) is = n
+boot-next m c w pid tid ids n (Ok bs) is = at (was_process w pid || was_thread w tid) refl is
+  where
+    at : (b : Bool) → (was_process w pid || was_thread w tid) ≡ b → (refuse_if b OBJECT_NAME_COLLISION >>= (λ (u : Unit {0}). Ok (AddsProcess (new_process pid None (directive_birth pid)) ∷ AddsThread (new_thread tid pid (directive_birth tid)) ∷ []))) ≡ Ok bs → Kept m c (world_after w bs)
+    at true used is = absurd (cc)
+    at false unused is =
+        let new : has (is_number tid) w.used_threads ≡ false = not_either (was_process w pid) (was_thread w tid) unused in
+        let same : (AddsProcess (new_process pid None (directive_birth pid)) ∷ AddsThread (new_thread tid pid (directive_birth tid)) ∷ []) ≡ bs = cc in
+        subst (λ bs. Kept m c (world_after w bs)) same (record {
+          fair = run-fair m c w (AddsProcess (new_process pid None (directive_birth pid)) ∷ AddsThread (new_thread tid pid (directive_birth tid)) ∷ []) (rw new refl) n.fair;
+          once = λ t. at-most t w.used_threads (used (new_thread tid pid (directive_birth tid))) new (n.once t);
+          names = n.names;
+          paths = n.paths;
+          numbered = every-push of_number w.used_threads (used (new_thread tid pid (directive_birth tid))) n.numbered (both _ _ (id-most pid (one_of _ _ ids)) (id-most tid (other_of _ _ ids)));
+          asked = record { sorts = n.asked.sorts; own = n.asked.own; one = n.asked.one };
+        })
+
+thread-holds : (m : Group) (c : ℕ) (w : World) (tid pid : ℕ) → has_ids (thread tid pid) ≡ true → Kept m c w → Holds (λ bs. Kept m c (world_after w bs)) (thread_line w tid pid)
+unfolding thread_line
+thread-holds m c w tid pid ids n = bind_holds (thread_test w tid pid) _ (λ bs. Kept m c (world_after w bs)) (λ u is.
+    let new : has (is_number tid) w.used_threads ≡ false = holds_ok (λ _. was_thread w tid ≡ false) (thread_test w tid pid) u (unused-number w tid pid) is in
+    record {
+      fair = run-fair m c w (AddsThread (new_thread tid pid (directive_birth tid)) ∷ []) (rw new refl) n.fair;
+      once = λ t. at-most t w.used_threads (used (new_thread tid pid (directive_birth tid))) new (n.once t);
+      names = n.names;
+      paths = n.paths;
+      numbered = every-push of_number w.used_threads (used (new_thread tid pid (directive_birth tid))) n.numbered (both _ _ (id-most pid (other_of _ _ ids)) (id-most tid (one_of _ _ ids)));
+      asked = record { sorts = n.asked.sorts; own = n.asked.own; one = n.asked.one };
+    })
+
+thread-next : (m : Group) (c : ℕ) (w : World) (tid pid : ℕ) → has_ids (thread tid pid) ≡ true → Kept m c w → (r : Result (List Basic) Status) → thread_line w tid pid ≡ r → Kept m c (world_after w (directed Thread r))
+thread-next m c w tid pid ids n (Err s) is = n
+thread-next m c w tid pid ids n (Ok bs) is = holds_ok (λ bs. Kept m c (world_after w bs)) (thread_line w tid pid) bs (thread-holds m c w tid pid ids n) is
+
+dir-next : (m : Group) (c : ℕ) (w : World) (text : List ℕ) → Kept m c w → Holds (λ bs. Kept m c (world_after w bs)) (dir_line w text)
+unfolding dir_line
+dir-next m c w text n = bind_holds (free_name w text) _ (λ bs. Kept m c (world_after w bs)) (λ path is. record { fair = run-fair m c w (Binds path (Stands Directory) ∷ []) refl n.fair; once = n.once; names = names-bound m w.bindings path (Stands Directory) n.names (free-unbound w text path is); paths = n.paths; numbered = n.numbered; asked = record { sorts = n.asked.sorts; own = n.asked.own; one = n.asked.one } })
+
+link-next : (m : Group) (c : ℕ) (w : World) (text target : List ℕ) → Kept m c w → Holds (λ bs. Kept m c (world_after w bs)) (link_line w text target)
+unfolding link_line
+link-next m c w text target n = bind_holds (spelled_name target) _ (λ bs. Kept m c (world_after w bs)) (λ to _. bind_holds (free_name w text) _ (λ bs. Kept m c (world_after w bs)) (λ path is. record { fair = run-fair m c w (Binds path (LinkTo to) ∷ []) refl n.fair; once = n.once; names = names-bound m w.bindings path (LinkTo to) n.names (free-unbound w text path is); paths = n.paths; numbered = n.numbered; asked = record { sorts = n.asked.sorts; own = n.asked.own; one = n.asked.one } }))
+
+directed-next : (m : Group) (c : ℕ) (w : World) (name : Word) (r : Result (List Basic) Status) → Kept m c w → Holds (λ bs. Kept m c (world_after w bs)) r → Kept m c (world_after w (directed name r))
+directed-next m c w name (Ok bs) n h = h
+directed-next m c w name (Err s) n h = n
+
+ok-next : (m : Group) (c : ℕ) (w : World) (by : ThreadRow) (known : List ℕ → Birth) (call : ScriptCall) (t : Result (List Basic) Status) → At m c w by known → Kept m c w → service_of w by call ≡ t → HasFinePorts m c (world_after w (settled by (name_of_call call) t)) → Kept m c (world_after w (settled by (name_of_call call) t))
+ok-next m c w by known call (Err s) a n is fine = n
+ok-next m c w by known call (Ok bs) a n is fine =
+    let head = headed by.number bs (holds_ok (λ bs. is_call_of by.number bs ≡ true) (service_of w by call) bs ((lawful call).orderly m c w w by (caller m c w by known w a refl)) is) in
+    record {
+      fair = run-fair m c w bs (holds_ok (λ bs. HasFinePorts m c (world_after w bs) → are_fair m c w bs ≡ true) (service_of w by call) bs ((lawful call).fair m c w by known a) is fine) n.fair;
+      once = same-used w (world_after w bs) (orderly-used w bs head.orderly) n.once;
+      names = holds_ok (λ bs. SeenNames m (world_after w bs).bindings) (service_of w by call) bs ((lawful call).names m c w w by (caller m c w by known w a refl)) is;
+      paths = run-paths m w bs (holds_ok (λ bs. are_paths m w bs ≡ true) (service_of w by call) bs ((lawful call).paths m c w by n.paths (caller m c w by known w a refl)) is) n.paths;
+      numbered = subst (λ us. every of_number us ≡ true) (sym (orderly-used w bs head.orderly)) n.numbered;
+      asked = run-asked w bs (holds_ok (λ bs. are_asked w bs ≡ true) (service_of w by call) bs ((lawful call).asked m c w by n.asked (caller m c w by known w a refl)) is) n.asked;
+    }
+
+run-next : (m : Group) (c : ℕ) (w : World) (s : State) (tid : ℕ) (call : ScriptCall) → m c ≡ true → Stood m c w s → HasFinePorts m c w → HasFinePorts m c (bare_step w (run tid call)).world → Kept m c (bare_step w (run tid call)).world
+run-next m c w s tid call c_in st fine next = at (live_thread w tid) refl
+  where
+    ready : (by : ThreadRow) → live_thread w tid ≡ Some by → (o : Option WaitRow) → wait_of w tid ≡ o → Kept m c (bare_step w (run tid call)).world
+    ready by live (Some x) waits = subst (λ bs. Kept m c (world_after w bs)) (sym (busy w tid call by x live waits)) st.kept
+    ready by live None idle =
+        let is = called w tid call by live idle in
+        subst (λ bs. Kept m c (world_after w bs)) (sym is)
+        (ok-next m c w by (known_queue s.memo) call (service_of w by call) (ready-at m c w s tid by c_in st fine live idle) st.kept refl (subst (λ bs. HasFinePorts m c (world_after w bs)) is next))
+
+    at : (o : Option ThreadRow) → live_thread w tid ≡ o → Kept m c (bare_step w (run tid call)).world
+    at None none = subst (λ bs. Kept m c (world_after w bs)) (sym (nobody w tid call none)) st.kept
+    at (Some by) live = ready by live (wait_of w tid) refl
+
+pub line-next : (m : Group) (c : ℕ) (w : World) (s : State) (line : ScriptLine) → has_ids line ≡ true → m c ≡ true → Stood m c w s → HasFinePorts m c w → HasFinePorts m c (bare_step w line).world → Kept m c (bare_step w line).world
+line-next m c w s (run tid call) ids c_in st fine next = run-next m c w s tid call c_in st fine next
+line-next m c w s (boot pid tid) ids c_in st fine next = subst (λ bs. Kept m c (world_after w bs)) (sym (boot-directs m w pid tid).is) (boot-next m c w pid tid ids st.kept (boot_line w pid tid) refl)
+line-next m c w s (thread tid pid) ids c_in st fine next = subst (λ bs. Kept m c (world_after w bs)) (sym (thread-directs m w tid pid).is) (thread-next m c w tid pid ids st.kept (thread_line w tid pid) refl)
+line-next m c w s (dir path) ids c_in st fine next = subst (λ bs. Kept m c (world_after w bs)) (sym (dir-directs m w path st.kept.names).is) (directed-next m c w Dir (dir_line w path) st.kept (dir-next m c w path st.kept))
+line-next m c w s (link path target) ids c_in st fine next = subst (λ bs. Kept m c (world_after w bs)) (sym (link-directs m w path target st.kept.names).is) (directed-next m c w Link (link_line w path target) st.kept (link-next m c w path target st.kept))

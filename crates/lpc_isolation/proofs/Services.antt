@@ -1,0 +1,255 @@
+-- What each call owes the law, and that each does so. A further call adds a file with its own such lemmas, and its value and
+-- its line here.
+use Rattle.std.specs.Prelude.{◌≡◌, ℕ, ◌==◌, Bool, true, false, cond, List, Option, None}
+use Rattle.std.proofs.Common.{refl, subst}
+use Rattle.lpc_model.specs.World.{Birth, ProcessRow, ThreadRow, World}
+use Rattle.lpc_model.specs.Found.{wait_of}
+use Rattle.lpc_model.specs.Basics.{world_after}
+use Rattle.lpc_model.specs.Tests.{next_birth}
+use Rattle.lpc_model.specs.Lines.{ScriptCall, accept_connect_port, complete_connect_port, connect_port, create_port, listen_port, reply_port, reply_wait_receive_port, request_port, request_wait_reply_port}
+use Rattle.lpc_model.specs.Machine.{service_of}
+use Rattle.lpc_model.specs.SoundWaits.{IsSoundWorld}
+use Rattle.lpc_model.specs.Circle.{Group, Whose, is_fine_call}
+use Rattle.lpc_model.proofs.Holding.{Holds}
+use Rattle.lpc_isolation.proofs.Alone.{HasFinePorts}
+use Rattle.lpc_isolation.proofs.View.{view}
+use Rattle.lpc_isolation.proofs.Basics.{are_ours}
+use Rattle.lpc_isolation.proofs.Fair.{are_fair}
+use Rattle.lpc_isolation.proofs.Apart.{Owned, are_apart}
+use Rattle.lpc_isolation.proofs.Names.{SeenNames}
+use Rattle.lpc_isolation.proofs.Sends.{Caller}
+use Rattle.lpc_isolation.proofs.Serves.{is_call_of}
+use Rattle.lpc_isolation.proofs.Calls.{Serves}
+use Rattle.lpc_isolation.proofs.Listens.{own_entry}
+use Rattle.lpc_isolation.proofs.Ids.{Numbered}
+use Rattle.lpc_isolation.proofs.Asked.{Asked, are_asked}
+use Rattle.lpc_isolation.proofs.Thin.{Alive, Closed, thin}
+use Rattle.lpc_isolation.proofs.Heard.{Heard, call_memo}
+use Rattle.lpc_isolation.proofs.Knows.{AllKnown}
+use Rattle.lpc_isolation.proofs.ThinCalls.{AreClosed, alike-create, alike-connect, alike-listen, alike-accept, alike-complete, alike-datagram, alike-request, alike-reply, alike-receive, stands-create, stands-connect, stands-listen, stands-accept, stands-complete, stands-datagram, stands-request, stands-reply, stands-receive}
+use Rattle.lpc_isolation.proofs.Fine.{FineAfter, fine-create, fine-connect, fine-listen, fine-accept, fine-complete, fine-datagram, fine-request, fine-reply, fine-receive}
+use Rattle.lpc_isolation.proofs.Ways.{Paths, are_paths, paths-create, paths-connect, paths-listen, paths-accept, paths-complete, paths-datagram, paths-request, paths-reply, paths-receive}
+use Rattle.lpc_isolation.proofs.AskedCalls.{asked-create, asked-connect, asked-listen, asked-accept, asked-complete, asked-datagram, asked-request, asked-reply, asked-receive}
+use Rattle.lpc_isolation.proofs.Orderly.{orderly-create, orderly-connect, orderly-listen, orderly-accept, orderly-complete, orderly-datagram, orderly-request, orderly-reply, orderly-receive}
+use Rattle.lpc_isolation.proofs.Refuses.{Refuses, refuses-create, refuses-connect, refuses-listen, refuses-accept, refuses-complete, refuses-datagram, refuses-request, refuses-reply, refuses-receive}
+use Rattle.lpc_isolation.proofs.Bindings.{names-create, names-connect, names-listen, names-accept, names-complete, names-datagram, names-request, names-reply, names-receive}
+use Rattle.lpc_isolation.proofs.Kept.{fair-create, fair-connect, fair-listen, fair-accept, fair-complete, fair-datagram, fair-request, fair-reply, fair-receive}
+use Rattle.lpc_isolation.proofs.Instances.{At, Leading, caller, leads_by, apart-create, apart-connect, apart-listen, apart-accept, apart-complete, apart-datagram, apart-request, apart-reply, apart-receive, same-create, same-connect, same-listen, same-accept, same-complete, same-datagram, same-request, same-reply, same-receive, ours-create, ours-connect, ours-listen, ours-accept, ours-complete, ours-datagram, ours-request, ours-reply, ours-receive, leads-create, leads-connect, leads-listen, leads-accept, leads-complete, leads-datagram, leads-request, leads-reply, leads-receive}
+use Rattle.lpc_isolation.proofs.KnownCalls.{Hears, hears-create, hears-connect, hears-listen, hears-accept, hears-complete, hears-datagram, hears-request, hears-reply, hears-receive, notes-create, notes-connect, notes-listen, notes-accept, notes-complete, notes-datagram, notes-request, notes-reply, notes-receive}
+
+pub record Lawful (call : ScriptCall) : Type 0 where
+  -- the call tells its caller first, adds no thread, and begins no wait of a thread that it woke; no refusal is a success
+  pub orderly : (m : Group) (c : ℕ) (u w : World) (by : ThreadRow) → Caller m c u w by → Holds (λ bs. is_call_of by.number bs ≡ true) (service_of w by call)
+  pub refuses : (w : World) (by : ThreadRow) → Refuses (service_of w by call)
+  -- what it keeps: rows that are fair, names, the ways of requests, the waits of those who asked
+  pub fair : (m : Group) (c : ℕ) (w : World) (by : ThreadRow) (known : List ℕ → Birth) → At m c w by known → Holds (λ bs. HasFinePorts m c (world_after w bs) → are_fair m c w bs ≡ true) (service_of w by call)
+  pub names : (m : Group) (c : ℕ) (u w : World) (by : ThreadRow) → Caller m c u w by → Holds (λ bs. SeenNames m (world_after w bs).bindings) (service_of w by call)
+  pub paths : (m : Group) (c : ℕ) (w : World) (by : ThreadRow) → Paths m w → Caller m c w w by → Holds (λ bs. are_paths m w bs ≡ true) (service_of w by call)
+  pub asked : (m : Group) (c : ℕ) (w : World) (by : ThreadRow) → Asked w → Caller m c w w by → Holds (λ bs. are_asked w bs ≡ true) (service_of w by call)
+  -- of an outsider: the view loses only waits whose wakes are told
+  pub apart : (m : Group) (c : ℕ) (u : World) (d : Whose) (w : World) (by : ThreadRow) (known : List ℕ → Birth) → At m c w by known → u.used_threads ≡ w.used_threads → m by.process ≡ false → Holds (λ bs. HasFinePorts m c (world_after w bs) → are_apart m c u d w bs ≡ true) (service_of w by call)
+  -- of c: the view answers as the world does, and changes as it does
+  pub same : (m : Group) (c : ℕ) (w : World) (by : ThreadRow) (known : List ℕ → Birth) → At m c w by known → by.process ≡ c → is_fine_call m w call ≡ true → service_of (view m w) by call ≡ service_of w by call
+  pub ours : (m : Group) (c : ℕ) (w : World) (by : ThreadRow) (known : List ℕ → Birth) → At m c w by known → by.process ≡ c → Holds (λ bs. HasFinePorts m c (world_after w bs) → are_ours m w bs ≡ true) (service_of w by call)
+  -- of another member: the view and what c is told follow from the view and the member's own answer
+  pub leads : (m : Group) (c : ℕ) (u : World) (d : Whose) (w : World) (by : ThreadRow) (known : List ℕ → Birth) → At m c w by known → u.used_threads ≡ w.used_threads → m by.process ≡ true → (by.process == c) ≡ false → Holds (λ bs. HasFinePorts m c (world_after w bs) → Leading m c u d w by known call bs) (service_of w by call)
+  -- what is remembered of outsiders' connects stays right, by the wakes of an outsider's call and by a member's answer
+  pub hears : (m : Group) (c : ℕ) (u w : World) (by : ThreadRow) (d : Whose) (memo : List Heard) → Caller m c u w by → Owned w w → Numbered w → Asked w → AllKnown m memo w → m by.process ≡ false → Holds (λ bs. HasFinePorts m c (world_after w bs) → Hears m c u d w memo bs) (service_of w by call)
+  pub notes : (m : Group) (c : ℕ) (u w : World) (by : ThreadRow) (memo : List Heard) → Caller m c u w by → Owned w w → Numbered w → Asked w → AllKnown m memo w → m by.process ≡ true → Holds (λ bs. AllKnown m (cond (by.process == c) memo (call_memo m (view m w) by call (own_entry bs) memo)) (world_after w bs)) (service_of w by call)
+  -- it answers alike where rows that nothing names have gone, names what stands alone, and makes ports as the circle has them
+  pub alike : (k : Alive) (ps : List ProcessRow) (u : World) (by : ThreadRow) → Closed k u → service_of (thin k ps u) by call ≡ service_of u by call
+  pub stands : (k : Alive) (u : World) (by : ThreadRow) → IsSoundWorld u → Closed k u → k (next_birth by) ≡ true → Holds (AreClosed k) (service_of u by call)
+  pub fine : (m : Group) (c : ℕ) (after u : World) (by : ThreadRow) → wait_of u by.number ≡ None → HasFinePorts m c after → Holds (FineAfter m c after u) (service_of u by call)
+
+create-lawful : (name : Option (List ℕ)) → Lawful (create_port name)
+create-lawful name = record {
+  orderly = λ m c u w by k. orderly-create m c u w by name k;
+  refuses = λ w by. refuses-create w by name;
+  fair = λ m c w by known a. fair-create m c w by known name a;
+  names = λ m c u w by k. names-create m c u w by name k;
+  paths = λ m c w by all k. paths-create m c w by name all k;
+  asked = λ m c w by a k. asked-create m c w by name a k;
+  apart = λ m c u d w by known a used out. apart-create m c u d w by known name a used out;
+  same = λ m c w by known a mine fine. same-create m c w by known name a mine fine;
+  ours = λ m c w by known a mine. ours-create m c w by known name a mine;
+  leads = λ m c u d w by known a used by_in other. leads-create m c u d w by known name a used by_in other;
+  hears = λ m c u w by d memo k owned n a all out. hears-create m c u w by d memo k owned n a all out name;
+  notes = λ m c u w by memo k owned n a all by_in. notes-create m c u w by memo k owned n a all by_in name;
+  alike = λ k ps u by c. alike-create k ps u by name c;
+  stands = λ k u by s c new. stands-create k u by name s c new;
+  fine = λ m c after u by idle f. fine-create m c after u by name idle f;
+}
+
+connect-lawful : (name bytes : List ℕ) → Lawful (connect_port name bytes)
+connect-lawful name bytes = record {
+  orderly = λ m c u w by k. orderly-connect m c u w by name bytes k;
+  refuses = λ w by. refuses-connect w by name bytes;
+  fair = λ m c w by known a. fair-connect m c w by known name bytes a;
+  names = λ m c u w by k. names-connect m c u w by name bytes k;
+  paths = λ m c w by all k. paths-connect m c w by name bytes all k;
+  asked = λ m c w by a k. asked-connect m c w by name bytes a k;
+  apart = λ m c u d w by known a used out. apart-connect m c u d w by known name bytes a used out;
+  same = λ m c w by known a mine fine. same-connect m c w by known name bytes a mine fine;
+  ours = λ m c w by known a mine. ours-connect m c w by known name bytes a mine;
+  leads = λ m c u d w by known a used by_in other. leads-connect m c u d w by known name bytes a used by_in other;
+  hears = λ m c u w by d memo k owned n a all out. hears-connect m c u w by d memo k owned n a all out name bytes;
+  notes = λ m c u w by memo k owned n a all by_in. notes-connect m c u w by memo k owned n a all by_in name bytes;
+  alike = λ k ps u by c. alike-connect k ps u by name bytes c;
+  stands = λ k u by s c new. stands-connect k u by name bytes s c new;
+  fine = λ m c after u by idle f. fine-connect m c after u by name bytes idle f;
+}
+
+listen-lawful : (handle : ℕ) → Lawful (listen_port handle)
+listen-lawful handle = record {
+  orderly = λ m c u w by k. orderly-listen m c u w by handle k;
+  refuses = λ w by. refuses-listen w by handle;
+  fair = λ m c w by known a. fair-listen m c w by known handle a;
+  names = λ m c u w by k. names-listen m c u w by handle k;
+  paths = λ m c w by all k. paths-listen m c w by handle all k;
+  asked = λ m c w by a k. asked-listen m c w by handle a k;
+  apart = λ m c u d w by known a used out. apart-listen m c u d w by known handle a used out;
+  same = λ m c w by known a mine fine. same-listen m c w by known handle a mine fine;
+  ours = λ m c w by known a mine. ours-listen m c w by known handle a mine;
+  leads = λ m c u d w by known a used by_in other. leads-listen m c u d w by known handle a used by_in other;
+  hears = λ m c u w by d memo k owned n a all out. hears-listen m c u w by d memo k owned n a all out handle;
+  notes = λ m c u w by memo k owned n a all by_in. notes-listen m c u w by memo k owned n a all by_in handle;
+  alike = λ k ps u by c. alike-listen k ps u by handle c;
+  stands = λ k u by s c new. stands-listen k u by handle s c new;
+  fine = λ m c after u by idle f. fine-listen m c after u by handle idle f;
+}
+
+accept-lawful : (context : ℕ) (message : List ℕ) (accept : Bool) → Lawful (accept_connect_port context message accept)
+accept-lawful context message accept = record {
+  orderly = λ m c u w by k. orderly-accept m c u w by context message accept k;
+  refuses = λ w by. refuses-accept w by context message accept;
+  fair = λ m c w by known a. fair-accept m c w by known context message accept a;
+  names = λ m c u w by k. names-accept m c u w by context message accept k;
+  paths = λ m c w by all k. paths-accept m c w by context message accept all k;
+  asked = λ m c w by a k. asked-accept m c w by context message accept a k;
+  apart = λ m c u d w by known a used out. apart-accept m c u d w by known context message accept a used out;
+  same = λ m c w by known a mine fine. same-accept m c w by known context message accept a mine fine;
+  ours = λ m c w by known a mine. ours-accept m c w by known context message accept a mine;
+  leads = λ m c u d w by known a used by_in other. leads-accept m c u d w by known context message accept a used by_in other;
+  hears = λ m c u w by d memo k owned n a all out. hears-accept m c u w by d memo k owned n a all out context message accept;
+  notes = λ m c u w by memo k owned n a all by_in. notes-accept m c u w by memo k owned n a all by_in context message accept;
+  alike = λ k ps u by c. alike-accept k ps u by context message accept c;
+  stands = λ k u by s c new. stands-accept k u by context message accept s c new;
+  fine = λ m c after u by idle f. fine-accept m c after u by context message accept idle f;
+}
+
+complete-lawful : (handle : ℕ) → Lawful (complete_connect_port handle)
+complete-lawful handle = record {
+  orderly = λ m c u w by k. orderly-complete m c u w by handle k;
+  refuses = λ w by. refuses-complete w by handle;
+  fair = λ m c w by known a. fair-complete m c w by known handle a;
+  names = λ m c u w by k. names-complete m c u w by handle k;
+  paths = λ m c w by all k. paths-complete m c w by handle all k;
+  asked = λ m c w by a k. asked-complete m c w by handle a k;
+  apart = λ m c u d w by known a used out. apart-complete m c u d w by known handle a used out;
+  same = λ m c w by known a mine fine. same-complete m c w by known handle a mine fine;
+  ours = λ m c w by known a mine. ours-complete m c w by known handle a mine;
+  leads = λ m c u d w by known a used by_in other. leads-complete m c u d w by known handle a used by_in other;
+  hears = λ m c u w by d memo k owned n a all out. hears-complete m c u w by d memo k owned n a all out handle;
+  notes = λ m c u w by memo k owned n a all by_in. notes-complete m c u w by memo k owned n a all by_in handle;
+  alike = λ k ps u by c. alike-complete k ps u by handle c;
+  stands = λ k u by s c new. stands-complete k u by handle s c new;
+  fine = λ m c after u by idle f. fine-complete m c after u by handle idle f;
+}
+
+datagram-lawful : (handle : ℕ) (message : List ℕ) → Lawful (request_port handle message)
+datagram-lawful handle message = record {
+  orderly = λ m c u w by k. orderly-datagram m c u w by handle message k;
+  refuses = λ w by. refuses-datagram w by handle message;
+  fair = λ m c w by known a. fair-datagram m c w by known handle message a;
+  names = λ m c u w by k. names-datagram m c u w by handle message k;
+  paths = λ m c w by all k. paths-datagram m c w by handle message all k;
+  asked = λ m c w by a k. asked-datagram m c w by handle message a k;
+  apart = λ m c u d w by known a used out. apart-datagram m c u d w by known handle message a used out;
+  same = λ m c w by known a mine fine. same-datagram m c w by known handle message a mine fine;
+  ours = λ m c w by known a mine. ours-datagram m c w by known handle message a mine;
+  leads = λ m c u d w by known a used by_in other. leads-datagram m c u d w by known handle message a used by_in other;
+  hears = λ m c u w by d memo k owned n a all out. hears-datagram m c u w by d memo k owned n a all out handle message;
+  notes = λ m c u w by memo k owned n a all by_in. notes-datagram m c u w by memo k owned n a all by_in handle message;
+  alike = λ k ps u by c. alike-datagram k ps u by handle message c;
+  stands = λ k u by s c new. stands-datagram k u by handle message s c new;
+  fine = λ m c after u by idle f. fine-datagram m c after u by handle message idle f;
+}
+
+request-lawful : (handle : ℕ) (message : List ℕ) → Lawful (request_wait_reply_port handle message)
+request-lawful handle message = record {
+  orderly = λ m c u w by k. orderly-request m c u w by handle message k;
+  refuses = λ w by. refuses-request w by handle message;
+  fair = λ m c w by known a. fair-request m c w by known handle message a;
+  names = λ m c u w by k. names-request m c u w by handle message k;
+  paths = λ m c w by all k. paths-request m c w by handle message all k;
+  asked = λ m c w by a k. asked-request m c w by handle message a k;
+  apart = λ m c u d w by known a used out. apart-request m c u d w by known handle message a used out;
+  same = λ m c w by known a mine fine. same-request m c w by known handle message a mine fine;
+  ours = λ m c w by known a mine. ours-request m c w by known handle message a mine;
+  leads = λ m c u d w by known a used by_in other. leads-request m c u d w by known handle message a used by_in other;
+  hears = λ m c u w by d memo k owned n a all out. hears-request m c u w by d memo k owned n a all out handle message;
+  notes = λ m c u w by memo k owned n a all by_in. notes-request m c u w by memo k owned n a all by_in handle message;
+  alike = λ k ps u by c. alike-request k ps u by handle message c;
+  stands = λ k u by s c new. stands-request k u by handle message s c new;
+  fine = λ m c after u by idle f. fine-request m c after u by handle message idle f;
+}
+
+reply-lawful : (handle : ℕ) (message : List ℕ) → Lawful (reply_port handle message)
+reply-lawful handle message = record {
+  orderly = λ m c u w by k. orderly-reply m c u w by handle message k;
+  refuses = λ w by. refuses-reply w by handle message;
+  fair = λ m c w by known a. fair-reply m c w by known handle message a;
+  names = λ m c u w by k. names-reply m c u w by handle message k;
+  paths = λ m c w by all k. paths-reply m c w by handle message all k;
+  asked = λ m c w by a k. asked-reply m c w by handle message a k;
+  apart = λ m c u d w by known a used out. apart-reply m c u d w by known handle message a used out;
+  same = λ m c w by known a mine fine. same-reply m c w by known handle message a mine fine;
+  ours = λ m c w by known a mine. ours-reply m c w by known handle message a mine;
+  leads = λ m c u d w by known a used by_in other. leads-reply m c u d w by known handle message a used by_in other;
+  hears = λ m c u w by d memo k owned n a all out. hears-reply m c u w by d memo k owned n a all out handle message;
+  notes = λ m c u w by memo k owned n a all by_in. notes-reply m c u w by memo k owned n a all by_in handle message;
+  alike = λ k ps u by c. alike-reply k ps u by handle message c;
+  stands = λ k u by s c new. stands-reply k u by handle message s c new;
+  fine = λ m c after u by idle f. fine-reply m c after u by handle message idle f;
+}
+
+receive-lawful : (handle : ℕ) (message : Option (List ℕ)) → Lawful (reply_wait_receive_port handle message)
+receive-lawful handle message = record {
+  orderly = λ m c u w by k. orderly-receive m c u w by handle message k;
+  refuses = λ w by. refuses-receive w by handle message;
+  fair = λ m c w by known a. fair-receive m c w by known handle message a;
+  names = λ m c u w by k. names-receive m c u w by handle message k;
+  paths = λ m c w by all k. paths-receive m c w by handle message all k;
+  asked = λ m c w by a k. asked-receive m c w by handle message a k;
+  apart = λ m c u d w by known a used out. apart-receive m c u d w by known handle message a used out;
+  same = λ m c w by known a mine fine. same-receive m c w by known handle message a mine fine;
+  ours = λ m c w by known a mine. ours-receive m c w by known handle message a mine;
+  leads = λ m c u d w by known a used by_in other. leads-receive m c u d w by known handle message a used by_in other;
+  hears = λ m c u w by d memo k owned n a all out. hears-receive m c u w by d memo k owned n a all out handle message;
+  notes = λ m c u w by memo k owned n a all by_in. notes-receive m c u w by memo k owned n a all by_in handle message;
+  alike = λ k ps u by c. alike-receive k ps u by handle message c;
+  stands = λ k u by s c new. stands-receive k u by handle message s c new;
+  fine = λ m c after u by idle f. fine-receive m c after u by handle message idle f;
+}
+
+pub lawful : (call : ScriptCall) → Lawful call
+lawful (create_port name) = create-lawful name
+lawful (connect_port name bytes) = connect-lawful name bytes
+lawful (listen_port handle) = listen-lawful handle
+lawful (accept_connect_port context message accept) = accept-lawful context message accept
+lawful (complete_connect_port handle) = complete-lawful handle
+lawful (request_port handle message) = datagram-lawful handle message
+lawful (request_wait_reply_port handle message) = request-lawful handle message
+lawful (reply_port handle message) = reply-lawful handle message
+lawful (reply_wait_receive_port handle message) = receive-lawful handle message
+
+-- all that a call owes
+pub serves : (m : Group) (c : ℕ) (w : World) (by : ThreadRow) (known : List ℕ → Birth) (call : ScriptCall) → At m c w by known → (by.process ≡ c → is_fine_call m w call ≡ true) → Serves (leads_by m known) m c w by call
+serves m c w by known call a fine = record {
+  apart = λ u d used out. (lawful call).apart m c u d w by known a used out;
+  same = λ mine. (lawful call).same m c w by known a mine (fine mine);
+  ours = λ mine. (lawful call).ours m c w by known a mine;
+  leads = λ u d used by_in other. (lawful call).leads m c u d w by known a used by_in other;
+  orderly = (lawful call).orderly m c w w by (caller m c w by known w a refl);
+  refuses = λ s is. subst Refuses is ((lawful call).refuses w by);
+}

@@ -1,0 +1,328 @@
+-- A world without some rows that no other row names: what each basic step and the sweep do to it.
+use Rattle.std.proofs.Common.{◌≡◌, ℕ, List, [], ◌∷◌, ◌++◌, Bool, true, false, not, map, Option, Some, None, refl, ap, sym, subst, ◌∙◌, arith}
+use Rattle.std.specs.Prelude.{◌&&◌, ◌||◌, ◌+◌, nat_lt}
+use Rattle.lpc_base.specs.Rows.{count, each, every, has, which, without}
+use Rattle.lpc_base.proofs.RowWords.{every-change, every-more, every-off, every-push, every-without}
+use Rattle.lpc_base.proofs.RowMaps.{every-both, every-without_first}
+use Rattle.lpc_model.specs.declared.entry.ObjectKind.{ObjectKind}
+use Rattle.lpc_model.specs.declared.entry.ObjectKind.TheVariants as kind
+use Rattle.lpc_model.specs.World.{Birth, HandleRow, HandleTable, MessageRow, ObjectName, PortRow, ProcessRow, ThreadRow, WaitRow, World}
+use Rattle.lpc_model.specs.Found.{all_handles, handle_count, is_connected_to, is_life, is_made_on, is_own_of, is_paired_to, is_port, is_sent_on, is_table, is_the, is_thread, port_name, same_birth, same_kind, same_object, thread_name, waits_as, waits_at}
+use Rattle.lpc_model.specs.Basics.{Accepts, AddsHandle, AddsProcess, AddsThread, Awaits, Basic, Binds, Completes, DrawsIdentifier, DrawsOrdinal, Enters, Frees, Joins, Makes, Receives, Takes, TakesConnect, Tells, Wakes, Withdraws, accepted, basic, completed, freed, joined, no_handles, past_identifier, past_ordinal, received, with_handle, world_after}
+use Rattle.lpc_model.specs.Sweep.{free_unheld, is_unheld, sweep, unheld}
+use Rattle.lpc_model.proofs.Births.{birth-same}
+use Rattle.lpc_model.proofs.SoundFrees.{is-zero, less-held, none-pass, sum-first, sum-second, which-all}
+use Rattle.lpc_model.proofs.SoundQueues.{after-append}
+use Rattle.lpc_isolation.proofs.Filters.{kept-change, kept-push}
+use Rattle.lpc_isolation.proofs.View.{both, one_of, other_of}
+
+-- the births of the ports that rows still name
+abbrev pub Alive : Type 0
+Alive = Birth → Bool
+
+abbrev pub port_alive : Alive → PortRow → Bool
+port_alive k p = k p.birth
+
+-- The world without the others' rows, and with some processes: no call reads those, so it is no matter which have gone.
+abbrev pub thin : Alive → List ProcessRow → World → World
+thin k ps u = record u { processes = ps; ports = which (port_alive k) u.ports }
+
+-- what a row names is alive
+abbrev pub all_alive : Alive → Option Birth → Bool
+all_alive k None = true
+all_alive k (Some b) = k b
+
+abbrev pub object_alive : Alive → ObjectName → Bool
+object_alive k o = not (same_kind o.kind kind.Port) || k o.birth
+
+abbrev pub handle_closed : Alive → HandleRow → Bool
+handle_closed k h = object_alive k h.object
+
+abbrev pub table_closed : Alive → HandleTable → Bool
+table_closed k t = every (handle_closed k) t.rows
+
+abbrev pub port_closed : Alive → PortRow → Bool
+port_closed k p = not (k p.birth) || (all_alive k p.pair && all_alive k p.connection)
+
+abbrev pub message_closed : Alive → MessageRow → Bool
+message_closed k x = k x.sender
+
+abbrev pub wait_closed : Alive → WaitRow → Bool
+wait_closed k x = k x.port
+
+-- what the rows that stand name, stands; and each thread lives
+pub record Closed (k : Alive) (u : World) : Type 0 where
+  pub tables : every (table_closed k) u.handles ≡ true
+  pub ports : every (port_closed k) u.ports ≡ true
+  pub messages : every (message_closed k) u.messages ≡ true
+  pub waits : every (wait_closed k) u.waits ≡ true
+  pub lives : every (λ t. t.live) u.threads ≡ true
+
+-- a step that names what is alive alone
+abbrev pub is_closed : Alive → Basic → Bool
+is_closed k (Awaits x) = wait_closed k x
+is_closed k (Enters x) = message_closed k x
+is_closed k (Makes p) = k p.birth && port_closed k p
+is_closed k (Joins client server context) = k client && k server
+is_closed k (Binds path node) = true
+is_closed k (AddsHandle pid h) = handle_closed k h
+is_closed k (Tells e) = true
+is_closed k (Wakes who call status fields) = true
+is_closed k (Receives who q) = true
+is_closed k (Accepts who reply) = true
+is_closed k (Takes q) = true
+is_closed k (TakesConnect q) = true
+is_closed k (DrawsIdentifier who) = true
+is_closed k (DrawsOrdinal who) = true
+is_closed k (AddsProcess p) = true
+is_closed k (AddsThread t) = t.live
+is_closed k (Completes b) = true
+is_closed k (Withdraws who) = true
+is_closed k (Frees o) = false
+
+-- Lists
+which-map : {X : Type 0} (k : X → Bool) (f : X → X) → ((x : X) → k (f x) ≡ k x) → (xs : List X) → which k (map f xs) ≡ map f (which k xs)
+which-map k f same [] = refl
+which-map k f same (x ∷ xs) = grind (arith, same x, which-map k f same xs)
+
+which-without : {X : Type 0} (k t : X → Bool) (xs : List X) → which k (without t xs) ≡ without t (which k xs)
+which-without k t [] = refl
+which-without k t (x ∷ xs) = grind (arith, which-without k t xs)
+
+which-but : {X : Type 0} (k t : X → Bool) (xs : List X) → which (λ x. k x && not (t x)) xs ≡ without t (which k xs)
+which-but k t [] = refl
+which-but k t (x ∷ xs) = grind (arith, which-but k t xs)
+
+every-mapped : {X : Type 0} (p : X → Bool) (f : X → X) → ((x : X) → p x ≡ true → p (f x) ≡ true) → (xs : List X) → every p xs ≡ true → every p (map f xs) ≡ true
+every-mapped p f keeps [] all = refl
+every-mapped p f keeps (x ∷ xs) all = both _ _ (keeps x (one_of _ _ all)) (every-mapped p f keeps xs (other_of _ _ all))
+
+every-kept : {X : Type 0} (p k : X → Bool) (xs : List X) → every p xs ≡ true → every p (which k xs) ≡ true
+every-kept p k [] all = refl
+every-kept p k (x ∷ xs) all = grind (arith, every-kept p k xs)
+
+every-two : {X : Type 0} (p : X → Bool) (xs : List X) (y : X) (ys : List X) → every p xs ≡ true → p y ≡ true → every p ys ≡ true → every p (xs ++ y ∷ ys) ≡ true
+every-two p [] y ys one here two = both _ _ here two
+every-two p (x ∷ xs) y ys one here two = both _ _ (one_of _ _ one) (every-two p xs y ys (other_of _ _ one) here two)
+
+none-which : {X : Type 0} (k t : X → Bool) (xs : List X) → has t (which k xs) ≡ false → every (λ x. not (k x) || not (t x)) xs ≡ true
+none-which k t [] none = refl
+none-which k t (x ∷ xs) none = grind (arith, none-which k t xs)
+
+every-not : {X : Type 0} (t : X → Bool) (xs : List X) → has t xs ≡ false → every (λ x. not (t x)) xs ≡ true
+every-not t xs none = every-off t (λ x. not (t x)) (λ x off. rw off refl) xs none
+
+-- Basic steps
+joined-alive : (k : Alive) (client server : Birth) (context : ℕ) (p : PortRow) → port_alive k (joined client server context p) ≡ port_alive k p
+joined-alive k client server context p = at (is_port client p) (is_port server p) refl refl
+  where
+    at : (a b : Bool) → is_port client p ≡ a → is_port server p ≡ b → port_alive k (joined client server context p) ≡ port_alive k p
+    at true b is it = rw is refl
+    at false true is it = rw (is, it) refl
+    at false false is it = rw (is, it) refl
+
+-- the processes that stand, behind a step
+abbrev pub joining : List ProcessRow → Basic → List ProcessRow
+joining ps (AddsProcess p) = ps ++ p ∷ []
+joining ps b = ps
+
+abbrev pub all_joining : List ProcessRow → List Basic → List ProcessRow
+all_joining ps [] = ps
+all_joining ps (b ∷ bs) = all_joining (joining ps b) bs
+
+pub thin-basic : (k : Alive) (ps : List ProcessRow) (u : World) (b : Basic) → is_closed k b ≡ true → thin k (joining ps b) (basic u b) ≡ basic (thin k ps u) b
+thin-basic k ps u (Makes p) ok = rw (kept-push (port_alive k) u.ports p (one_of _ _ ok)) refl
+thin-basic k ps u (Joins client server context) ok = rw (which-map (port_alive k) (joined client server context) (joined-alive k client server context) u.ports) refl
+thin-basic k ps u (Completes b) ok = rw (kept-change (port_alive k) (is_port b) completed (λ p. refl) u.ports) refl
+thin-basic k ps u (Frees o) ok = absurd (cc)
+thin-basic k ps u (Awaits x) ok = refl
+thin-basic k ps u (Enters x) ok = refl
+thin-basic k ps u (Binds path node) ok = refl
+thin-basic k ps u (AddsHandle pid h) ok = refl
+thin-basic k ps u (Tells e) ok = refl
+thin-basic k ps u (Wakes who call status fields) ok = refl
+thin-basic k ps u (Receives who q) ok = refl
+thin-basic k ps u (Accepts who reply) ok = refl
+thin-basic k ps u (Takes q) ok = refl
+thin-basic k ps u (TakesConnect q) ok = refl
+thin-basic k ps u (Withdraws who) ok = refl
+thin-basic k ps u (DrawsIdentifier who) ok = refl
+thin-basic k ps u (DrawsOrdinal who) ok = refl
+thin-basic k ps u (AddsProcess p) ok = refl
+thin-basic k ps u (AddsThread t) ok = refl
+
+put-closed : (k : Alive) (h : HandleRow) (t : HandleTable) → handle_closed k h ≡ true → table_closed k t ≡ true → table_closed k (with_handle h t) ≡ true
+put-closed k h t ok all =
+    every-two (handle_closed k) (which (λ r. nat_lt r.value h.value) t.rows) h (which (λ r. nat_lt h.value r.value) t.rows)
+    (every-kept (handle_closed k) (λ r. nat_lt r.value h.value) t.rows all) ok (every-kept (handle_closed k) (λ r. nat_lt h.value r.value) t.rows all)
+
+joined-closed : (k : Alive) (client server : Birth) (context : ℕ) → k client ≡ true → k server ≡ true → (p : PortRow) → port_closed k p ≡ true → port_closed k (joined client server context p) ≡ true
+joined-closed k client server context one two p ok = at (is_port client p) (is_port server p) refl refl
+  where
+    at : (a b : Bool) → is_port client p ≡ a → is_port server p ≡ b → port_closed k (joined client server context p) ≡ true
+    at true b is it = rw (is, two) (grind arith)
+    at false true is it = rw (is, it, one) (grind arith)
+    at false false is it = rw (is, it) ok
+
+pub keeps-closed : (k : Alive) (u : World) (b : Basic) → is_closed k b ≡ true → Closed k u → Closed k (basic u b)
+keeps-closed k u (Awaits x) ok c = record { tables = c.tables; ports = c.ports; messages = c.messages; waits = every-push (wait_closed k) u.waits x c.waits ok; lives = c.lives }
+keeps-closed k u (Enters x) ok c = record { tables = c.tables; ports = c.ports; messages = every-push (message_closed k) u.messages x c.messages ok; waits = c.waits; lives = c.lives }
+keeps-closed k u (Makes p) ok c = record { tables = c.tables; ports = every-push (port_closed k) u.ports p c.ports (other_of _ _ ok); messages = c.messages; waits = c.waits; lives = c.lives }
+keeps-closed k u (Joins client server context) ok c = record { tables = c.tables; ports = every-mapped (port_closed k) (joined client server context) (joined-closed k client server context (one_of _ _ ok) (other_of _ _ ok)) u.ports c.ports; messages = c.messages; waits = c.waits; lives = c.lives }
+keeps-closed k u (Binds path node) ok c = record { tables = c.tables; ports = c.ports; messages = c.messages; waits = c.waits; lives = c.lives }
+keeps-closed k u (AddsHandle pid h) ok c = record { tables = every-change (table_closed k) (is_table pid) (with_handle h) (λ t all. put-closed k h t ok all) u.handles c.tables; ports = c.ports; messages = c.messages; waits = c.waits; lives = c.lives }
+keeps-closed k u (AddsProcess p) ok c = record { tables = every-push (table_closed k) u.handles (no_handles p.number) c.tables refl; ports = c.ports; messages = c.messages; waits = c.waits; lives = c.lives }
+keeps-closed k u (AddsThread t) ok c = record { tables = c.tables; ports = c.ports; messages = c.messages; waits = c.waits; lives = every-push (λ t. t.live) u.threads t c.lives ok }
+keeps-closed k u (Wakes who call status fields) ok c = record { tables = c.tables; ports = c.ports; messages = c.messages; waits = every-without (wait_closed k) (waits_as who) u.waits c.waits; lives = c.lives }
+keeps-closed k u (Receives who q) ok c = record { tables = c.tables; ports = c.ports; messages = c.messages; waits = every-change (wait_closed k) (waits_at who q) received (λ x is. is) u.waits c.waits; lives = c.lives }
+keeps-closed k u (Accepts who reply) ok c = record { tables = c.tables; ports = c.ports; messages = c.messages; waits = every-change (wait_closed k) (waits_as who) (accepted reply) (λ x is. is) u.waits c.waits; lives = c.lives }
+keeps-closed k u (Takes q) ok c = record { tables = c.tables; ports = c.ports; messages = every-without_first (message_closed k) _ u.messages c.messages; waits = c.waits; lives = c.lives }
+keeps-closed k u (TakesConnect q) ok c = record { tables = c.tables; ports = c.ports; messages = every-without_first (message_closed k) _ u.messages c.messages; waits = c.waits; lives = c.lives }
+keeps-closed k u (Withdraws who) ok c = record { tables = c.tables; ports = c.ports; messages = every-without (message_closed k) (is_own_of who) u.messages c.messages; waits = c.waits; lives = c.lives }
+keeps-closed k u (Completes b) ok c = record { tables = c.tables; ports = every-change (port_closed k) (is_port b) completed (λ p is. is) u.ports c.ports; messages = c.messages; waits = c.waits; lives = c.lives }
+keeps-closed k u (DrawsIdentifier who) ok c = record { tables = c.tables; ports = c.ports; messages = c.messages; waits = c.waits; lives = every-change (λ t. t.live) (is_thread who) past_identifier (λ t is. is) u.threads c.lives }
+keeps-closed k u (DrawsOrdinal who) ok c = record { tables = c.tables; ports = c.ports; messages = c.messages; waits = c.waits; lives = every-change (λ t. t.live) (is_thread who) past_ordinal (λ t is. is) u.threads c.lives }
+keeps-closed k u (Tells e) ok c = c
+keeps-closed k u (Frees o) ok c = absurd (cc)
+
+pub thin-run : (k : Alive) (ps : List ProcessRow) (u : World) (bs : List Basic) → every (is_closed k) bs ≡ true → thin k (all_joining ps bs) (world_after u bs) ≡ world_after (thin k ps u) bs
+thin-run k ps u [] ok = refl
+thin-run k ps u (b ∷ bs) ok = thin-run k (joining ps b) (basic u b) bs (other_of _ _ ok) ∙ ap (λ v. world_after v bs) (thin-basic k ps u b (one_of _ _ ok))
+
+pub closed-run : (k : Alive) (u : World) (bs : List Basic) → every (is_closed k) bs ≡ true → Closed k u → Closed k (world_after u bs)
+closed-run k u [] ok c = c
+closed-run k u (b ∷ bs) ok c = closed-run k (basic u b) bs (other_of _ _ ok) (keeps-closed k u b (one_of _ _ ok) c)
+
+-- The sweep
+-- a world from which rows have gone is this one without them
+pub record Behind (w u : World) : Type 0 where
+  pub alive : Alive
+  pub stood : List ProcessRow
+  pub same : w ≡ thin alive stood u
+  pub closed : Closed alive u
+
+abbrev pub but : Birth → Alive → Alive
+but b k = λ x. k x && not (same_birth x b)
+
+swap : (a b : Birth) → same_birth a b ≡ false → same_birth b a ≡ false
+swap a b off = at (same_birth b a) refl
+  where
+    at : (e : Bool) → same_birth b a ≡ e → e ≡ false
+    at true is = let k : same_birth a b ≡ true = subst (λ x. same_birth x b ≡ true) (birth-same b a is) (subst (λ x. same_birth b x ≡ true) (sym (birth-same b a is)) is) in absurd (cc)
+    at false is = refl
+
+-- what no row counts for, isn't named
+every-front : {X : Type 0} (p : X → Bool) (xs ys : List X) → every p (xs ++ ys) ≡ true → every p xs ≡ true
+every-front p [] ys all = refl
+every-front p (x ∷ xs) ys all = both _ _ (one_of _ _ all) (every-front p xs ys (other_of _ _ all))
+
+every-back : {X : Type 0} (p : X → Bool) (xs ys : List X) → every p (xs ++ ys) ≡ true → every p ys ≡ true
+every-back p [] ys all = all
+every-back p (x ∷ xs) ys all = every-back p xs ys (other_of _ _ all)
+
+every-each : {X Y : Type 0} (p : Y → Bool) (f : X → List Y) (xs : List X) → every p (each f xs) ≡ true → every (λ x. every p (f x)) xs ≡ true
+every-each p f [] all = refl
+every-each p f (x ∷ xs) all = both _ _ (every-front p (f x) (each f xs) all) (every-each p f xs (every-back p (f x) (each f xs) all))
+
+-- no row counts for the port
+record Unnamed (b : Birth) (w : World) : Type 0 where
+  handles : every (λ t. every (λ h. not (same_object h.object (port_name b))) t.rows) w.handles ≡ true
+  pairs : every (λ p. not (is_paired_to b p)) w.ports ≡ true
+  connections : every (λ p. not (is_connected_to b p)) w.ports ≡ true
+  messages : every (λ x. not (is_sent_on b x)) w.messages ≡ true
+  waits : every (λ x. not (is_made_on b x)) w.waits ≡ true
+
+unnamed-of : (w : World) (b : Birth) → is_unheld w (port_name b) ≡ true → Unnamed b w
+unnamed-of w b none =
+    let handles = handle_count w (port_name b) in
+    let pairs = count (is_paired_to b) w.ports in
+    let connections = count (is_connected_to b) w.ports in
+    let messages = count (is_sent_on b) w.messages in
+    let waits = count (is_made_on b) w.waits in
+    let all = is-zero (handles + (pairs + (connections + (messages + waits)))) none in
+    let two = sum-second handles (pairs + (connections + (messages + waits))) all in
+    let three = sum-second pairs (connections + (messages + waits)) two in
+    let four = sum-second connections (messages + waits) three in
+    record {
+      handles = every-each (λ h. not (same_object h.object (port_name b))) (λ t. t.rows) w.handles (none-pass (λ h. same_object h.object (port_name b)) (all_handles w) (sum-first handles (pairs + (connections + (messages + waits))) all));
+      pairs = none-pass (is_paired_to b) w.ports (sum-first pairs (connections + (messages + waits)) two);
+      connections = none-pass (is_connected_to b) w.ports (sum-first connections (messages + waits) three);
+      messages = none-pass (is_sent_on b) w.messages (sum-first messages waits four);
+      waits = none-pass (is_made_on b) w.waits (sum-second messages waits four);
+    }
+
+handle-off : (k : Alive) (b : Birth) (h : HandleRow) → handle_closed k h ≡ true → not (same_object h.object (port_name b)) ≡ true → handle_closed (but b k) h ≡ true
+handle-off k b h ok off = grind arith
+
+table-off : (k : Alive) (b : Birth) (t : HandleTable) → table_closed k t ≡ true → every (λ h. not (same_object h.object (port_name b))) t.rows ≡ true → table_closed (but b k) t ≡ true
+table-off k b t ok off = every-both (handle_closed k) (λ h. not (same_object h.object (port_name b))) (handle_closed (but b k)) (handle-off k b) t.rows ok off
+
+named-off : (k : Alive) (b : Birth) (o : Option Birth) → all_alive k o ≡ true → not (is_the b o) ≡ true → all_alive (but b k) o ≡ true
+named-off k b None ok off = refl
+named-off k b (Some x) ok off = rw (ok, swap b x (grind arith)) refl
+
+port-off : (k : Alive) (b : Birth) (p : PortRow) → port_closed k p ≡ true → (not (k p.birth) || (not (is_paired_to b p) && not (is_connected_to b p))) ≡ true → port_closed (but b k) p ≡ true
+port-off k b p ok off = at (k p.birth) refl
+  where
+    at : (e : Bool) → k p.birth ≡ e → port_closed (but b k) p ≡ true
+    at false dead = rw dead refl
+    at true live =
+        let pair : all_alive (but b k) p.pair ≡ true = named-off k b p.pair (grind arith) (grind arith) in
+        let connection : all_alive (but b k) p.connection ≡ true = named-off k b p.connection (grind arith) (grind arith) in
+        rw (pair, connection) (grind arith)
+
+of-kept : {X : Type 0} (k s t : X → Bool) (xs : List X) → every (λ x. not (s x)) (which k xs) ≡ true → every (λ x. not (t x)) (which k xs) ≡ true → every (λ x. not (k x) || (not (s x) && not (t x))) xs ≡ true
+of-kept k s t [] one two = refl
+of-kept k s t (x ∷ xs) one two = grind (arith, of-kept k s t xs)
+
+pub frees-one : (k : Alive) (ps : List ProcessRow) (u : World) (b : Birth) → is_unheld (thin k ps u) (port_name b) ≡ true → Closed k u → Closed (but b k) u
+frees-one k ps u b none c =
+    let n = unnamed-of (thin k ps u) b none in
+    record {
+      tables = every-both (table_closed k) (λ t. every (λ h. not (same_object h.object (port_name b))) t.rows) (table_closed (but b k)) (table-off k b) u.handles c.tables n.handles;
+      ports = every-both (port_closed k) (λ p. not (k p.birth) || (not (is_paired_to b p) && not (is_connected_to b p))) (port_closed (but b k)) (port-off k b) u.ports c.ports (of-kept (port_alive k) (is_paired_to b) (is_connected_to b) u.ports n.pairs n.connections);
+      messages = every-both (message_closed k) (λ x. not (is_sent_on b x)) (message_closed (but b k)) (λ x ok off. grind arith) u.messages c.messages n.messages;
+      waits = every-both (wait_closed k) (λ x. not (is_made_on b x)) (wait_closed (but b k)) (λ x ok off. grind arith) u.waits c.waits n.waits;
+      lives = c.lives;
+    }
+
+-- each thread lives, so no row of a thread goes
+lives-stay : (b : Birth) (ts : List ThreadRow) → every (λ t. t.live) ts ≡ true → every (λ t. not (is_life b t)) ts ≡ true → without (λ t. same_birth t.birth b) ts ≡ ts
+lives-stay b [] lives none = refl
+lives-stay b (t ∷ ts) lives none = grind (arith, lives-stay b ts)
+
+behind-one : (w u : World) (o : ObjectName) → is_unheld w o ≡ true → Behind w u → Behind (basic w (Frees o)) u
+behind-one w u o none r = at o.kind o.birth (subst (λ v. is_unheld v o ≡ true) r.same none)
+  where
+    at : (s : ObjectKind) (b : Birth) → is_unheld (thin r.alive r.stood u) (record { kind = s; birth = b }) ≡ true → Behind (freed w s b) u
+    at kind.Port b off = record {
+      alive = but b r.alive;
+      stood = r.stood;
+      same = ap (λ v. freed v kind.Port b) r.same ∙ ap (λ ps. record u { processes = r.stood; ports = ps }) (sym (which-but (port_alive r.alive) (is_port b) u.ports));
+      closed = frees-one r.alive r.stood u b off r.closed;
+    }
+    at kind.Section b off = r
+    at kind.Token b off = r
+    at kind.Process b off = record { alive = r.alive; stood = without (λ p. same_birth p.birth b) r.stood; same = ap (λ v. freed v kind.Process b) r.same; closed = r.closed }
+    at kind.Thread b off =
+        let v : World = thin r.alive r.stood u in
+        let handles = handle_count v (thread_name b) in
+        let lives = count (is_life b) u.threads in
+        let few = sum-second handles lives (is-zero (handles + lives) off) in
+        let stay = lives-stay b u.threads r.closed.lives (none-pass (is_life b) u.threads few) in
+        record { alive = r.alive; stood = r.stood; same = ap (λ v. freed v kind.Thread b) r.same ∙ ap (λ ts. record v { threads = ts }) stay; closed = r.closed }
+
+behind-all : (w u : World) (os : List ObjectName) → every (is_unheld w) os ≡ true → Behind w u → Behind (world_after w (map Frees os)) u
+behind-all w u [] all r = r
+behind-all w u (o ∷ os) all r =
+    behind-all (basic w (Frees o)) u os (every-more (is_unheld w) (is_unheld (basic w (Frees o))) (less-held w o) os (other_of _ _ all)) (behind-one w u o (one_of _ _ all) r)
+
+behind-unheld : (w u : World) → Behind w u → Behind (world_after w (free_unheld w)) u
+behind-unheld w u r = behind-all w u (unheld w) (which-all (is_unheld w) _) r
+
+-- rows that nothing names go: a world is behind as before
+pub behind-sweep : (w u : World) → Behind w u → Behind (world_after w (sweep w)) u
+unfolding sweep
+behind-sweep w u r =
+    let v : World = world_after w (free_unheld w) in
+    subst (λ x. Behind x u) (sym (after-append w (free_unheld w) (free_unheld v))) (behind-unheld v u (behind-unheld w u r))
