@@ -189,7 +189,7 @@ module _ (it : Tables) (is : AreNamed (births_of it.ports) it) where
   draws_ordinal who = rw (change-map shown_thread (λ _. true) (procs.is_thread who) (is_thread who) (λ row _. refl) procs.past_birth basics.past_ordinal (λ row _. refl) it.procs.threads (all_true it.procs.threads)) refl
 
   -- a wait whose request is received, and one that keeps its message
-  pub receives : (who : ℕ) → shown_by n (record it { waits = record it.waits { rows = change (waits.is_of who) waits.received it.waits.rows } }) ≡ basic rows (Receives who)
+  pub receives : (who : ℕ) → shown_by n (record it { waits = record it.waits { rows = change (waits.is_of who) waits.received it.waits.rows } }) ≡ record rows { waits = change (waits_as who) basics.received rows.waits }
   receives who = waits_change who it.waits.spare it.waits.made waits.received basics.received (λ row. refl)
 
   message_shown : (bytes : List ℕ) (row : WaitRow) → shown_wait f (waits.with_message bytes row) ≡ with_message (message_of bytes) (shown_wait f row)

@@ -10,14 +10,14 @@ use Rattle.lpc_model.specs.declared.entry.CallName.{CallName}
 use Rattle.lpc_model.specs.declared.entry.Entry.{Entry}
 use Rattle.lpc_model.specs.declared.entry.Field.{Field}
 use Rattle.lpc_model.specs.World.{World, Accepted, Connect, Listen, MessageRow, Receive, Request, WaitKind, WaitRow}
-use Rattle.lpc_model.specs.Machine.{Stepped}
 use Rattle.lpc_model.specs.Message.{asks, is_connection_request}
 use Rattle.lpc_model.specs.Found.{is_listen, is_queued, is_queued_connect, is_receive, same_birth, waits_as}
 use Rattle.lpc_model.specs.Basics.{Basic, Enters, Receives, Wakes, basic, entries_of, told, world_after}
 use Rattle.lpc_model.specs.Fields.{msg, receipt}
 use Rattle.lpc_model.specs.Entering.{enter, given_steps, receipt_steps, shown, take_connect_steps, take_steps, takes, woken}
 use Rattle.lpc_model.proofs.SoundQueues.{after-append}
-use Rattle.lpc_world.specs.Does.{left_by}
+use Rattle.lpc_model.specs.Sweep.{loosened, loosens}
+use Rattle.lpc_world.specs.Does.{Left, left_by}
 use Rattle.lpc_world.specs.Lawful.{is_quiet}
 use Rattle.lpc_world.proofs.Naming.{name_is}
 
@@ -67,34 +67,52 @@ passed-as w m (Accepted n reply) q own takes quiet = absurd (cc)
 pub passed : (w : World) (m : MessageRow) (x : WaitRow) → takes m x ≡ true → is_quiet w.messages x ≡ true → world_after w (Enters m ∷ given_steps x m) ≡ world_after w (receipt_steps m)
 passed w m x takes quiet = passed-as w m x.kind x.queue (taker-queue m x takes) takes quiet
 
-pub passed-asking : (w : World) (m : MessageRow) (x : WaitRow) → takes m x ≡ true → is_quiet w.messages x ≡ true → asks m.message ≡ true → world_after w (Enters m ∷ given_steps x m) ≡ basic w (Receives m.message.header.client.thread)
-passed-asking w m x takes quiet asked = passed w m x takes quiet ∙ ap (λ a. world_after w (when a (Receives m.message.header.client.thread ∷ []))) asked
+pub passed-asking : (w : World) (m : MessageRow) (x : WaitRow) → takes m x ≡ true → is_quiet w.messages x ≡ true → asks m.message ≡ true → world_after w (Enters m ∷ given_steps x m) ≡ basic w (Receives m.message.header.client.thread m.queue)
+passed-asking w m x takes quiet asked = passed w m x takes quiet ∙ ap (λ a. world_after w (when a (Receives m.message.header.client.thread m.queue ∷ []))) asked
 
 pub passed-other : (w : World) (m : MessageRow) (x : WaitRow) → takes m x ≡ true → is_quiet w.messages x ≡ true → asks m.message ≡ false → world_after w (Enters m ∷ given_steps x m) ≡ w
-passed-other w m x takes quiet other = passed w m x takes quiet ∙ ap (λ a. world_after w (when a (Receives m.message.header.client.thread ∷ []))) other
+passed-other w m x takes quiet other = passed w m x takes quiet ∙ ap (λ a. world_after w (when a (Receives m.message.header.client.thread m.queue ∷ []))) other
 
 -- the steps of a message that a waiting thread takes
-silent-receipt : (who : ℕ) (a : Bool) (bs : List Basic) → entries_of (when a (Receives who ∷ []) ++ bs) ≡ entries_of bs
-silent-receipt who true bs = refl
-silent-receipt who false bs = refl
+silent-receipt : (who : ℕ) (q : Birth) (a : Bool) (bs : List Basic) → entries_of (when a (Receives who q ∷ []) ++ bs) ≡ entries_of bs
+silent-receipt who q true bs = refl
+silent-receipt who q false bs = refl
+
+-- and what loosens: the message that was taken may have named its sender
+loose-receipt : (who : ℕ) (q : Birth) (l a : Bool) (bs : List Basic) → loosened l (when a (Receives who q ∷ []) ++ bs) ≡ loosened l bs
+loose-receipt who q l true bs = refl
+loose-receipt who q l false bs = refl
 
 silent-given : (x : WaitRow) (m : MessageRow) (bs : List Basic) → entries_of (given_steps x m ++ bs) ≡ entries_of bs
 silent-given x m bs = by_kind x.kind
   where
     by_kind : (k : WaitKind) → entries_of ((elim k [ Listen ↦ take_connect_steps m | _ ↦ take_steps m ]) ++ bs) ≡ entries_of bs
-    by_kind (Request n) = silent-receipt m.message.header.client.thread (asks m.message) bs
-    by_kind Receive = silent-receipt m.message.header.client.thread (asks m.message) bs
-    by_kind Listen = silent-receipt m.message.header.client.thread (asks m.message) bs
-    by_kind (Connect n) = silent-receipt m.message.header.client.thread (asks m.message) bs
-    by_kind (Accepted n reply) = silent-receipt m.message.header.client.thread (asks m.message) bs
+    by_kind (Request n) = silent-receipt m.message.header.client.thread m.queue (asks m.message) bs
+    by_kind Receive = silent-receipt m.message.header.client.thread m.queue (asks m.message) bs
+    by_kind Listen = silent-receipt m.message.header.client.thread m.queue (asks m.message) bs
+    by_kind (Connect n) = silent-receipt m.message.header.client.thread m.queue (asks m.message) bs
+    by_kind (Accepted n reply) = silent-receipt m.message.header.client.thread m.queue (asks m.message) bs
 
-pub entered : (w : World) (es : List Entry) (m : MessageRow) (x : WaitRow) → first (takes m) w.waits ≡ Some x
-    → left_by w es (enter m w)
-    ≡ record { world = basic (world_after w (Enters m ∷ given_steps x m)) (Wakes x.thread x.call SUCCESS (shown x m)); entries = es ++ told (Wakes x.thread x.call SUCCESS (shown x m)) }
-entered w es m x found =
+loose-given : (x : WaitRow) (m : MessageRow) (l : Bool) (wake : Basic) → loosens wake ≡ true → loosened l (given_steps x m ++ wake ∷ []) ≡ true
+loose-given x m l wake is = by_kind x.kind
+  where
+    last : (l : Bool) → (loosens wake || l) ≡ true
+    last l = rw is refl
+
+    by_kind : (k : WaitKind) → loosened l ((elim k [ Listen ↦ take_connect_steps m | _ ↦ take_steps m ]) ++ wake ∷ []) ≡ true
+    by_kind (Request n) = loose-receipt m.message.header.client.thread m.queue true (asks m.message) (wake ∷ []) ∙ last true
+    by_kind Receive = loose-receipt m.message.header.client.thread m.queue true (asks m.message) (wake ∷ []) ∙ last true
+    by_kind Listen = loose-receipt m.message.header.client.thread m.queue true (asks m.message) (wake ∷ []) ∙ last true
+    by_kind (Connect n) = loose-receipt m.message.header.client.thread m.queue true (asks m.message) (wake ∷ []) ∙ last true
+    by_kind (Accepted n reply) = loose-receipt m.message.header.client.thread m.queue true (asks m.message) (wake ∷ []) ∙ last true
+
+pub entered : (w : World) (es : List Entry) (loose : Bool) (m : MessageRow) (x : WaitRow) → first (takes m) w.waits ≡ Some x
+    → left_by w es loose (enter m w)
+    ≡ record { world = basic (world_after w (Enters m ∷ given_steps x m)) (Wakes x.thread x.call SUCCESS (shown x m)); entries = es ++ told (Wakes x.thread x.call SUCCESS (shown x m)); loose = true }
+entered w es loose m x found =
     let wake : Basic = Wakes x.thread x.call SUCCESS (shown x m) in
-    ap (λ (o : Option WaitRow). left_by w es (Enters m ∷ given o (λ y. given_steps y m ++ woken SUCCESS (shown y m) y ∷ []))) found
-    ∙ (λ i. record { world = after-append (basic w (Enters m)) (given_steps x m) (wake ∷ []) i; entries = es ++ silent-given x m (wake ∷ []) i })
+    ap (λ (o : Option WaitRow). left_by w es loose (Enters m ∷ given o (λ y. given_steps y m ++ woken SUCCESS (shown y m) y ∷ []))) found
+    ∙ (λ i. record { world = after-append (basic w (Enters m)) (given_steps x m) (wake ∷ []) i; entries = es ++ silent-given x m (wake ∷ []) i; loose = loose-given x m loose wake refl i })
 
 -- what a waiter is shown, by its kind
 pub shown-listen : (x : WaitRow) (m : MessageRow) → is_listen x ≡ true → shown x m ≡ msg m.message ∷ []
@@ -126,12 +144,12 @@ begun-change f x [] none = let own : (x.thread == x.thread) ≡ true = grind (ar
 begun-change f x (y ∷ xs) none = grind (arith, begun-change f x xs)
 
 -- the message has entered, and its taker was told
-pub delivered : (w passed after : World) (es list : List Entry) (m : MessageRow) (x : WaitRow) (tid : ℕ) (call : CallName) (fields : List Field)
+pub delivered : (w passed after : World) (es list : List Entry) (before loose : Bool) (m : MessageRow) (x : WaitRow) (tid : ℕ) (call : CallName) (fields : List Field)
     → first (takes m) w.waits ≡ Some x → x.thread ≡ tid → call ≡ x.call → fields ≡ shown x m
-    → passed ≡ world_after w (Enters m ∷ given_steps x m) → after ≡ basic passed (Wakes tid call SUCCESS fields) → list ≡ es ++ told (Wakes tid call SUCCESS fields)
-    → let end : Stepped = record { world = after; entries = list } in end ≡ left_by w es (enter m w)
-delivered w passed after es list m x tid call fields found own name shows pass wake told_is =
+    → passed ≡ world_after w (Enters m ∷ given_steps x m) → after ≡ basic passed (Wakes tid call SUCCESS fields) → list ≡ es ++ told (Wakes tid call SUCCESS fields) → loose ≡ true
+    → let end : Left = record { world = after; entries = list; loose = loose } in end ≡ left_by w es before (enter m w)
+delivered w passed after es list before loose m x tid call fields found own name shows pass wake told_is went =
     let wakes : Wakes tid call SUCCESS fields ≡ Wakes x.thread x.call SUCCESS (shown x m) = λ i. Wakes (sym own i) (name i) SUCCESS (shows i) in
     let world_is : after ≡ basic (world_after w (Enters m ∷ given_steps x m)) (Wakes x.thread x.call SUCCESS (shown x m)) = wake ∙ (λ i. basic (pass i) (wakes i)) in
     let list_is : list ≡ es ++ told (Wakes x.thread x.call SUCCESS (shown x m)) = told_is ∙ ap (λ (b : Basic). es ++ told b) wakes in
-    (λ i. record { world = world_is i; entries = list_is i }) ∙ sym (entered w es m x found)
+    (λ i. record { world = world_is i; entries = list_is i; loose = went i }) ∙ sym (entered w es before m x found)

@@ -6,7 +6,7 @@ use Rattle.lpc_base.specs.Rows.{every, without}
 use Rattle.lpc_base.proofs.RowMaps.{every-both, without-map}
 use Rattle.lpc_base.proofs.RowWords.{count-bound, every-without}
 use Rattle.lpc_model.specs.Basics.{Frees, basic}
-use Rattle.lpc_model.specs.Found.{is_port}
+use Rattle.lpc_model.specs.Found.{is_port, port_name}
 use Rattle.lpc_model.specs.World as model
 use Rattle.lpc_model.specs.World.{World}
 use Rattle.lpc_ports.specs.Table.{PortTable}
@@ -91,7 +91,7 @@ module _ (it : Tables) (is : AreNamed (births_of it.ports) it) (key : Key) (room
         shown_same port_refs shown_port ports_shape ok (birth_of m) (birth_of n) name_less (without (at_key key) it.ports.ports) (every-without (all_pass port_refs ok) (at_key key) it.ports.ports pass.in_ports)
         ∙ without-map (shown_port (birth_of n)) (is_own (λ (r : Port). r.birth) it.ports.ports) (at_key key) (is_port (name_of n.ports key)) (follows.port_same it is key there) it.ports.ports (follows.own_ports it is)
 
-    pub frees : stands n.ports key ≡ true → shown_by m (record it { ports = after }) ≡ basic (shown_by n it) (Frees (name_of n.ports key))
+    pub frees : stands n.ports key ≡ true → shown_by m (record it { ports = after }) ≡ basic (shown_by n it) (Frees (port_name (name_of n.ports key)))
     frees there =
         rw (
           ports_less there,

@@ -20,3 +20,5 @@ pub mod Accepts
 pub mod Pulls
 pub mod Unheld
 pub mod Frees
+pub mod ReceivesAt
+pub mod HeldPorts

@@ -1,5 +1,5 @@
 -- A port more: what stood stands under its name, and the new rows are the step of the rows that the tables stood for.
-use Rattle.std.proofs.Common.{◌≡◌, ℕ, List, [], ◌∷◌, ◌++◌, Bool, true, false, map, Option, Some, None, refl, ap, arith}
+use Rattle.std.proofs.Common.{◌≡◌, ◌+◌, ◌-◌, ◌∙◌, ℕ, List, [], ◌∷◌, ◌++◌, Bool, true, false, map, Option, Some, None, refl, ap, arith}
 use Rattle.lpc_base.specs.declared.birth.Birth.{Birth}
 use Rattle.lpc_base.specs.Rows.{every, first}
 use Rattle.lpc_base.proofs.RowWords.{every-back, every-front, every-more, every-push}
@@ -9,9 +9,12 @@ use Rattle.lpc_model.specs.Basics.{Makes, basic}
 use Rattle.lpc_model.specs.Found.{is_port}
 use Rattle.lpc_names.specs.Walk.{LinkTo, Node, Path, Stands}
 use Rattle.lpc_names.specs.declared.names.Found.TheVariants.{Directory, Item}
-use Rattle.lpc_ports.specs.Table.{PortTable}
+use Rattle.lpc_base.specs.declared.port_kind.PortKind.{PortKind}
+use Rattle.lpc_ports.specs.Table.{PortTable, new_port, with_creator, with_row}
+use Rattle.lpc_ports.specs.declared.Creator.{Creator}
 use Rattle.lpc_ports.specs.declared.Port.{Port}
 use Rattle.lpc_ports.specs.declared.messages.QueuedMessage.{QueuedMessage}
+use Rattle.std.proofs.lemmas.Bool.Decides.{nat_tests}
 use Rattle.lpc_slots.specs.Table.{at_key}
 use Rattle.lpc_slots.specs.declared.Key.{Key}
 use Rattle.lpc_waits.specs.declared.WaitRow.{WaitRow}
@@ -167,3 +170,16 @@ refs_stand p key row alone there = rw alone (some row.connection there)
     some : (o : Option Key) → some_stands (births_of p).ports o ≡ true → every (object_stands (births_of p)) (ports_in o) ≡ true
     some None h = refl
     some (Some k) h = rw h refl
+
+-- a port that is added, and then given the connect that made it
+change_push : (key : Key) (f : Port → Port) (rows : List (Key × Port)) (row : Port) → first (at_key key) rows ≡ None → with_row (rows ++ (key, row) ∷ []) key f ≡ rows ++ (key, f row) ∷ []
+change_push key f [] row none = grind (arith, nat_tests)
+change_push key f (r ∷ rows) row none = grind (arith, change_push key f rows row)
+
+pub created : (old added new : PortTable) (key : Key) (kind : PortKind) (birth : Birth) (connection : Option Key) (creator : Option Creator) → first (at_key key) old.ports ≡ None
+    → added ≡ record old { ports = old.ports ++ (key, new_port kind birth connection) ∷ []; port_room = old.port_room - 1; ports_made = old.ports_made + 1 }
+    → new ≡ record added { ports = with_row added.ports key (with_creator creator) }
+    → new ≡ record old { ports = old.ports ++ (key, with_creator creator (new_port kind birth connection)) ∷ []; port_room = old.port_room - 1; ports_made = old.ports_made + 1 }
+created old added new key kind birth connection creator none is made =
+    made ∙ ap (λ (t : PortTable). record t { ports = with_row t.ports key (with_creator creator) }) is
+    ∙ ap (λ (rows : List (Key × Port)). record old { ports = rows; port_room = old.port_room - 1; ports_made = old.ports_made + 1 }) (change_push key (with_creator creator) old.ports (new_port kind birth connection) none)

@@ -155,9 +155,9 @@ module _ (it : Tables) (is : AreNamed (births_of it.ports) it) where
       }
 
   -- what stands is found under its name
-  module _ (places calls made : ℕ) where
+  module _ (places calls made : ℕ) (loose : Bool) where
     abbrev k : Kept
-    k = kept it places calls made
+    k = kept it places calls made loose
 
     standing_by : (key : Key) → stands n.ports key ≡ true → (o : Option Port) → row_at it.ports.ports key ≡ o → is_some o ≡ true → IsStanding k key
     standing_by key stand None at some = absurd (cc)
@@ -191,8 +191,8 @@ module _ (it : Tables) (is : AreNamed (births_of it.ports) it) where
   unfolding waiter
   wait_is tid row at = ap wait_in (first-shown (shown_wait f) (waits.is_of tid) (waits_as tid) (λ r. refl) it.waits.rows ∙ ap (λ o. option_map (shown_wait f) o) at)
 
-  pub is_wait : (places calls made tid : ℕ) (x : Wait) → option_map (λ row. row.wait) (row_of it.waits tid) ≡ Some x → IsWait (kept it places calls made) tid x
-  is_wait places calls made tid x at =
+  pub is_wait : (places calls made : ℕ) (loose : Bool) (tid : ℕ) (x : Wait) → option_map (λ row. row.wait) (row_of it.waits tid) ≡ Some x → IsWait (kept it places calls made loose) tid x
+  is_wait places calls made loose tid x at =
       let held = holds (λ (r : WaitRow). r.wait) (row_of it.waits tid) x at in
       let same : waiter rows tid ≡ shown_wait f (record { thread = held.row.thread; wait = x; message = held.row.message; accepted = held.row.accepted }) =
       wait_is tid held.row held.found ∙ ap (λ (v : Wait). shown_wait f (record { thread = held.row.thread; wait = v; message = held.row.message; accepted = held.row.accepted })) held.is in
@@ -212,9 +212,9 @@ module _ (it : Tables) (is : AreNamed (births_of it.ports) it) where
         queue_stands = grind arith;
       }
 
-  pub wait_if : (places calls made tid : ℕ) (r : Option Wait) → r ≡ option_map (λ row. row.wait) (row_of it.waits tid) → IfSome r (λ x. IsWait (kept it places calls made) tid x)
-  wait_if places calls made tid None at = tt
-  wait_if places calls made tid (Some x) at = is_wait places calls made tid x (sym at)
+  pub wait_if : (places calls made : ℕ) (loose : Bool) (tid : ℕ) (r : Option Wait) → r ≡ option_map (λ row. row.wait) (row_of it.waits tid) → IfSome r (λ x. IsWait (kept it places calls made loose) tid x)
+  wait_if places calls made loose tid None at = tt
+  wait_if places calls made loose tid (Some x) at = is_wait places calls made loose tid x (sym at)
 
   pub waits_are : (tid : ℕ) → has (waits_as tid) rows.waits ≡ is_some (row_of it.waits tid)
   waits_are tid = has-shown (shown_wait f) (waits.is_of tid) (waits_as tid) (λ r. refl) it.waits.rows

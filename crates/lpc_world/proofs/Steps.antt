@@ -6,7 +6,7 @@ use Rattle.std.proofs.lemmas.Bool.Decides.{nat_tests}
 use Rattle.lpc_base.specs.declared.birth.Birth.{Birth}
 use Rattle.lpc_base.specs.Rows.{change, count, every, first, has, without, without_first}
 use Rattle.lpc_base.proofs.RowMaps.{every-first, every-without_first, first-map, has-map, mapped-twice}
-use Rattle.lpc_base.proofs.RowWords.{change-none, count-bound, every-push, first-passes}
+use Rattle.lpc_base.proofs.RowWords.{count-bound, every-push, first-passes}
 use Rattle.lpc_handles.specs.declared.table.Row.{Row}
 use Rattle.lpc_model.specs.World as model
 use Rattle.lpc_model.specs.World.{World}
@@ -406,9 +406,6 @@ module _ (it : Tables) (calls made : ℕ) (is : AreLawful it calls made) where
       mapped : (o : Option WaitRow) → option_map (λ (row : WaitRow). row.wait) o ≡ None → is_some o ≡ false
       mapped None h = refl
       mapped (Some row) h = absurd (cc)
-
-  pub receives_none : (who : ℕ) → has (waits_as who) all.waits ≡ false → basic all (Receives who) ≡ all
-  receives_none who none = ap (λ (xs : List model.WaitRow). record all { waits = xs }) (change-none (waits_as who) basics.received all.waits none)
 
   -- a message that is taken has a header
   pub long_message : (queue : Key) (m : Message) → option_map (λ (row : Key × QueuedMessage). row.1.message) (first (ports.is_in queue) it.ports.messages) ≡ Some m → 24 ≤ length m.bytes.items

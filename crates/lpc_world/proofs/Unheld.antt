@@ -8,6 +8,7 @@ use Rattle.lpc_base.proofs.RowWords.{every-append, every-back, every-front, ever
 use Rattle.lpc_handles.specs.declared.table.Row.{Row}
 use Rattle.lpc_model.specs.Found as found
 use Rattle.lpc_model.specs.Found.{same_birth}
+use Rattle.lpc_world.specs.Held as held
 use Rattle.lpc_names.specs.Binding.{has_name, is_name}
 use Rattle.lpc_names.specs.Walk.{Bindings, LinkTo, Node, Path, Stands}
 use Rattle.lpc_names.specs.declared.names.Found.TheVariants.{Directory, Item}
@@ -50,17 +51,17 @@ module _ (it : Tables) (is : AreNamed (births_of it.ports) it) (key : Key) (ther
   the_same None all = refl
   the_same (Some other) all = follows.agree it is key other there (grind arith) ∙ key_turned key other
 
-  joined_same : (row : Key × Port) → all_pass port_refs ok row ≡ true → found.is_joined_to b (shown_port f row) ≡ ports.is_joined_to key row
+  joined_same : (row : Key × Port) → all_pass port_refs ok row ≡ true → held.is_joined_to b (shown_port f row) ≡ ports.is_joined_to key row
   joined_same row all =
       rw (
         the_same row.1.pair (every-front ok (ports_in row.1.pair) (ports_in row.1.connection) all),
         the_same row.1.connection (every-back ok (ports_in row.1.pair) (ports_in row.1.connection) all),
       ) refl
 
-  message_same : (row : Key × QueuedMessage) → all_pass message_refs ok row ≡ true → found.is_message_at b (shown_message f row) ≡ ports.is_message_at key row
+  message_same : (row : Key × QueuedMessage) → all_pass message_refs ok row ≡ true → held.is_message_at b (shown_message f row) ≡ ports.is_message_at key row
   message_same row all = rw (follows.agree it is row.1.message.sender key (grind arith) there, follows.agree it is row.1.queue key (grind arith) there) refl
 
-  wait_same : (row : WaitRow) → all_pass wait_refs ok row ≡ true → found.is_wait_at b (shown_wait f row) ≡ waits.is_wait_at key row
+  wait_same : (row : WaitRow) → all_pass wait_refs ok row ≡ true → held.is_wait_at b (shown_wait f row) ≡ waits.is_wait_at key row
   wait_same row all = rw (follows.agree it is row.wait.port key (grind arith) there, follows.agree it is row.wait.queue key (grind arith) there) refl
 
   node_same : (path : Path) (node : Node Key) → every ok (node_refs node) ≡ true → is_name same_birth b (shown_binding f (path, node)) ≡ is_name is_key key (path, node)
@@ -72,13 +73,13 @@ module _ (it : Tables) (is : AreNamed (births_of it.ports) it) (key : Key) (ther
   name_same [] all = refl
   name_same (row ∷ rows) all = grind (arith, node_same row.0 row.1, name_same rows)
 
-  pub held_is : found.is_held (shown_by n it) b ≡ is_named_in it key
+  pub held_is : held.is_named (shown_by n it) b ≡ is_named_in it key
   held_is =
       rw (
         readings.open_is it is key there,
-        has-map (shown_port f) (all_pass port_refs ok) (ports.is_joined_to key) (found.is_joined_to b) joined_same it.ports.ports is.refs.in_ports,
-        has-map (shown_message f) (all_pass message_refs ok) (ports.is_message_at key) (found.is_message_at b) message_same it.ports.messages is.refs.in_messages,
-        has-map (shown_wait f) (all_pass wait_refs ok) (waits.is_wait_at key) (found.is_wait_at b) wait_same it.waits.rows is.refs.in_waits,
+        has-map (shown_port f) (all_pass port_refs ok) (ports.is_joined_to key) (held.is_joined_to b) joined_same it.ports.ports is.refs.in_ports,
+        has-map (shown_message f) (all_pass message_refs ok) (ports.is_message_at key) (held.is_message_at b) message_same it.ports.messages is.refs.in_messages,
+        has-map (shown_wait f) (all_pass wait_refs ok) (waits.is_wait_at key) (held.is_wait_at b) wait_same it.waits.rows is.refs.in_waits,
         name_same it.space.bindings is.refs.in_names,
       ) refl
 

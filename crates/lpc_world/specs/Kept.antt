@@ -37,12 +37,13 @@ pub record Room : Type 0 where
   pub handles : List HandleRoom
 
 -- the rows; the births of keys; how many directive and service calls were made; how many rows and numbers were made;
--- the room
+-- whether a row went since the last sweep that may have named an object; the room
 pub record Kept : Type 0 where
   pub rows : World
   pub names : Births
   pub calls : ℕ
   pub made : ℕ
+  pub loose : Bool
   pub room : Room
 
 abbrev pub room_of_part : Part → HandleRoom
@@ -64,12 +65,13 @@ room_by rows it places = record {
 abbrev pub rows_by : Tables → World
 rows_by it = shown_by (births_of it.ports) it
 
-abbrev pub kept : Tables → ℕ → ℕ → ℕ → Kept
-kept it places calls made = record {
+abbrev pub kept : Tables → ℕ → ℕ → ℕ → Bool → Kept
+kept it places calls made loose = record {
   rows = rows_by it;
   names = births_of it.ports;
   calls = calls;
   made = made;
+  loose = loose;
   room = room_by (rows_by it) it places;
 }
 
@@ -79,6 +81,7 @@ pub record Same (old new : Kept) : Type 0 where
   pub names : new.names ≡ old.names
   pub calls : new.calls ≡ old.calls
   pub made : new.made ≡ old.made
+  pub loose : new.loose ≡ old.loose
 
 -- the room in a process's table of handles
 abbrev pub is_room : ℕ → HandleRoom → Bool
@@ -119,3 +122,17 @@ is_alive t = t.live
 -- a thread that doesn't wait still doesn't
 pub record StaysReady (old new : World) : Type 0 where
   pub ready : (tid : ℕ) → has (waits_as tid) old.waits ≡ false → has (waits_as tid) new.waits ≡ false
+
+-- Without memory there is no room for a further thread with its wait and its message, nor for a process with a thread; no
+-- room for a name.
+abbrev pub lacks_thread_parts : Kept → Bool
+lacks_thread_parts w = (w.room.waits == 0) || (w.room.messages == 0)
+
+abbrev pub lacks_thread_room : Kept → Bool
+lacks_thread_room w = lacks_thread_parts w || (w.room.threads == 0)
+
+abbrev pub lacks_process_room : Kept → Bool
+lacks_process_room w = lacks_thread_room w || (w.room.processes == 0)
+
+abbrev pub lacks_name_room : Kept → Bool
+lacks_name_room w = w.room.names == 0

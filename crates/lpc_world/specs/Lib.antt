@@ -5,6 +5,8 @@ pub mod Kept
 pub mod Lawful
 pub mod Ready
 pub mod Does
+pub mod Held
 pub mod Bound
 pub mod Joined
 pub mod Connecting
+pub mod Clauses

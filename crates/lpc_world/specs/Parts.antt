@@ -1,6 +1,7 @@
 -- The handles of each process: which part of the world they stand in.
-use Rattle.std.specs.Prelude.{ℕ, ◌-◌, ◌==◌, Bool, List, [], Option, Some, None}
-use Rattle.lpc_base.specs.Rows.{differ_by, first, has}
+use Rattle.std.specs.Prelude.{ℕ, ◌-◌, ◌<◌, ◌==◌, Bool, List, [], length, Option, Some, None}
+use Rattle.lpc_base.specs.Rows.{change, differ_by, first, has}
+use Rattle.lpc_base.specs.declared.limits.TheConstants.{HANDLE_LIMIT}
 use Rattle.lpc_handles.specs.Handles as handles
 use Rattle.lpc_handles.specs.declared.table.Row.{Row}
 use Rattle.lpc_slots.specs.Table.{is_key}
@@ -40,6 +41,17 @@ handed value row part = record part { handles = record { rows = handles.with_row
 -- a part with so much room
 abbrev pub roomed : ℕ → Part → Part
 roomed spare part = record part { handles = record part.handles { spare = spare } }
+
+-- the parts of all processes, with one more handle, or with so much room, in that of a process
+abbrev pub handing : ℕ → ℕ → Object → ℕ → List Part → List Part
+handing pid value object access parts = change (is_part pid) (handed value (record { object = object; access = access })) parts
+
+abbrev pub rooming : ℕ → ℕ → List Part → List Part
+rooming pid spare parts = change (is_part pid) (roomed spare) parts
+
+-- a process has fewer handles than it may have
+abbrev pub HasFew : List Part → ℕ → Type 0
+HasFew parts pid = length (rows_at parts pid) < HANDLE_LIMIT
 
 -- an object is the port, and a handle of the part names it
 abbrev pub is_the_port : Key → Object → Bool

@@ -45,7 +45,7 @@ abbrev pub no_birth : Birth
 no_birth = record { maker = 0; ordinal = 0; process = 0 }
 
 abbrev pub no_port : PortRow
-no_port = record { birth = no_birth; kind = Unnamed; connection = None; pair = None; context = 0; completed = false }
+no_port = record { birth = no_birth; kind = Unnamed; connection = None; pair = None; context = 0; completed = false; creator = None }
 
 abbrev pub port_in : Option PortRow → PortRow
 port_in None = no_port

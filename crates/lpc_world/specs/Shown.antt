@@ -1,6 +1,7 @@
 -- The tables' rows as the definitions' rows: births in place of keys.
-use Rattle.std.specs.Prelude.{◌≡◌, ℕ, List, [], ◌∷◌, ◌++◌, Bool, true, Option, Some, None, option_map, option_to_list, map}
+use Rattle.std.specs.Prelude.{◌≡◌, ℕ, List, [], ◌∷◌, ◌++◌, Bool, true, false, Option, Some, None, option_map, option_to_list, map}
 use Rattle.lpc_base.specs.declared.birth.Birth.{Birth}
+use Rattle.lpc_base.specs.declared.port_kind.PortKind.{PortKind}
 use Rattle.lpc_base.specs.Rows.{every}
 use Rattle.lpc_handles.specs.declared.table.Row.{Row}
 use Rattle.lpc_model.specs.declared.entry.CallName.{CallName}
@@ -17,6 +18,7 @@ use Rattle.lpc_names.specs.Walk.{LinkTo, Node, Path, Stands}
 use Rattle.lpc_names.specs.declared.names.Found.{Found}
 use Rattle.lpc_names.specs.declared.names.Found.TheVariants.{Directory, Item}
 use Rattle.lpc_ports.specs.Table.{PortTable}
+use Rattle.lpc_ports.specs.declared.Creator.{Creator}
 use Rattle.lpc_ports.specs.declared.Port.{Port}
 use Rattle.lpc_ports.specs.declared.messages.Message.{Message}
 use Rattle.lpc_ports.specs.declared.messages.QueuedMessage.{QueuedMessage}
@@ -66,6 +68,10 @@ birth_in f key = option_map (λ k. f (object.Port k)) key
 abbrev pub port_refs : Key × Port → List Object
 port_refs row = ports_in row.1.pair ++ ports_in row.1.connection
 
+-- the connect that made a port
+abbrev pub shown_creator : Creator → model.Creator
+shown_creator c = record { client = c.client; identifier = c.message_id }
+
 abbrev pub shown_port : (Object → Birth) → Key × Port → model.PortRow
 shown_port f row = record {
   birth = row.1.birth;
@@ -74,6 +80,19 @@ shown_port f row = record {
   pair = birth_in f row.1.pair;
   context = row.1.context;
   completed = row.1.completed;
+  creator = option_map shown_creator row.1.creator;
+}
+
+-- a port that is added, which has no other end yet
+abbrev pub port_with : (Object → Birth) → PortKind → Birth → Option Key → Option Creator → model.PortRow
+port_with f kind birth connection creator = record {
+  birth = birth;
+  kind = kind;
+  connection = birth_in f connection;
+  pair = None;
+  context = 0;
+  completed = false;
+  creator = option_map shown_creator creator;
 }
 
 abbrev pub message_refs : Key × QueuedMessage → List Object

@@ -1,10 +1,11 @@
 // The handles of each process.
-ghost use Rattle.std.specs.Prelude.{◌≡◌, ◌+◌, ◌-◌, ◌<◌, ◌≤◌, ◌↔◌, true, Some, None, IsErr, IfOk, OnOk, OnErr, OnSome, length, vec_len, vec_capacity};
+ghost use Rattle.std.specs.Prelude.{◌≡◌, ◌+◌, ◌-◌, ◌<◌, ◌≤◌, ◌↔◌, true, Some, None, IsErr, IfOk, OnOk, OnErr, length, vec_len, vec_capacity};
 ghost use Rattle.std.specs.List.{position};
 ghost use Rattle.lpc_base.specs.Places.{least_handle};
-ghost use Rattle.lpc_base.specs.Rows.{change, first, has};
+ghost use Rattle.lpc_base.specs.Rows.{has};
 ghost use Rattle.lpc_handles.specs.Handles.{values};
-ghost use Rattle.lpc_world.specs.Parts.{are_single_parts, handed, has_name_of, is_part, roomed, rows_at, spare_at};
+ghost use Rattle.lpc_world.specs.Parts.{HasFew, are_single_parts, handing, has_name_of, is_part, rooming, rows_at, spare_at};
+ghost use Rattle.lpc_base.specs.declared.limits.TheConstants.{HANDLE_LIMIT};
 
 use crate::Object;
 use lpc_base::OutOfMemory;
@@ -55,10 +56,10 @@ pub fn add_handle(
 ) -> Result<u32, TableFault>
     requires one { are_single_parts parts.old.items ≡ true }
     requires part { has (is_part pid) parts.old.items ≡ true }
-    requires room { length (rows_at parts.old.items pid) < 256 → 0 < spare_at parts.old.items pid }
-    ensures quota { IsErr result ↔ (length (rows_at parts.old.items pid) ≡ 256) }
+    requires room { HasFew parts.old.items pid → 0 < spare_at parts.old.items pid }
+    ensures quota { IsErr result ↔ (length (rows_at parts.old.items pid) ≡ HANDLE_LIMIT) }
     ensures value { IfOk result (λ v. v ≡ least_handle (values (rows_at parts.old.items pid))) }
-    ensures parts { IfOk result (λ v. parts.new.items ≡ change (is_part pid) (handed v (record { object = object; access = access })) parts.old.items) }
+    ensures parts { IfOk result (λ v. parts.new.items ≡ handing pid v object access parts.old.items) }
     ensures same { OnErr result (parts.new.items ≡ parts.old.items) }
     ensures len { vec_len parts.new ≡ vec_len parts.old }
     ensures capacity { vec_capacity parts.new ≡ vec_capacity parts.old }
@@ -73,7 +74,7 @@ pub fn reserve_handles(parts: &mut Vec<Part>, pid: u32, more: usize) -> Result<(
     requires part { has (is_part pid) parts.old.items ≡ true }
     ensures room { OnOk result (more ≤ spare_at parts.new.items pid) }
     ensures wanting { OnErr result (spare_at parts.old.items pid < more) }
-    ensures parts { parts.new.items ≡ change (is_part pid) (roomed (spare_at parts.new.items pid)) parts.old.items }
+    ensures parts { parts.new.items ≡ rooming pid (spare_at parts.new.items pid) parts.old.items }
     ensures spare { spare_at parts.old.items pid ≤ spare_at parts.new.items pid }
     ensures len { vec_len parts.new ≡ vec_len parts.old }
     ensures capacity { vec_capacity parts.new ≡ vec_capacity parts.old }

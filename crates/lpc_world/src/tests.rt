@@ -1,32 +1,34 @@
 // The world with ample memory: directives line by line, and a port that is made, found and sent on. The expected values
 // are written out by hand.
 ghost use Rattle.std.specs.Prelude.{◌≡◌, ◌≤◌, ◌<◌, ◌+◌, ◌*◌, true, IfOk, OnOk};
-ghost use Rattle.lpc_world.specs.Names.{KeepsNames, KeepsOthers, some_stands, stands};
+ghost use Rattle.lpc_world.specs.Names.{KeepsNames, stands};
 ghost use Rattle.lpc_procs.specs.Procs.{IsNumber};
 ghost use Rattle.lpc_world.specs.Ready.{is_ready};
+ghost use Rattle.lpc_base.specs.declared.limits.TheConstants.{LINES_LIMIT};
 
 use crate::{Condition, Object, World, wants_answer};
 use lpc_base::status::{
     ACCESS_DENIED, INVALID_CID, INVALID_HANDLE, OBJECT_NAME_COLLISION, OBJECT_PATH_SYNTAX_BAD,
     OBJECT_TYPE_MISMATCH, SUCCESS,
 };
-use lpc_base::{Birth, PortKind, Status};
+use lpc_base::{PortKind, Status};
 use lpc_message::ClientId;
-use lpc_model::{Entries, ObjectKind, kept};
-use lpc_names::Found;
+use lpc_model::{Entries, Message, ObjectKind, kept};
+use lpc_names::{BindFault, Found};
+use lpc_ports::Creator;
 use lpc_slots::Key;
 use std::process::Abort;
 use std::test::Fail;
 
 // The line `boot` ends so.
 fn boots(rt: &impl Abort, world: &mut World, pid: u32, tid: u32, status: Status) -> Result<(), Fail>
-    requires calls { world.old.calls < 1000000 }
+    requires calls { world.old.calls < LINES_LIMIT }
     requires process { IsNumber pid }
     requires thread { IsNumber tid }
     ensures calls { world.new.calls ≤ world.old.calls + 1 }
 {
     let answer = world.boot(pid, tid)?;
-    assert_eq!(rt; answer, status);
+    assert!(rt; answer == status);
     Ok(())
 }
 
@@ -38,12 +40,30 @@ fn threads(
     pid: u32,
     status: Status,
 ) -> Result<(), Fail>
-    requires calls { world.old.calls < 1000000 }
+    requires calls { world.old.calls < LINES_LIMIT }
     requires thread { IsNumber tid }
     ensures calls { world.new.calls ≤ world.old.calls + 1 }
 {
     let answer = world.thread(tid, pid)?;
-    assert_eq!(rt; answer, status);
+    assert!(rt; answer == status);
+    Ok(())
+}
+
+// Thread 24 can make a call.
+fn can_call(rt: &impl Abort, world: &World)
+    ensures { is_ready world.now.rows 24 ≡ true }
+{
+    let Condition::Ready = world.condition(24) else {
+        panic!(rt; "the thread can't call");
+    };
+}
+
+// Room is made without a row.
+fn makes_room(world: &mut World) -> Result<(), Fail>
+    ensures calls { world.new.calls ≡ world.old.calls }
+{
+    world.procs_reserve(2, 3)?;
+    world.waits_reserve(2)?;
     Ok(())
 }
 
@@ -51,99 +71,162 @@ fn threads(
 fn makes_processes_and_threads(rt: &impl Abort, world: &mut World) -> Result<(), Fail>
     requires few { world.old.calls < 1000 }
 {
-    assert_eq!(rt; world.room_needed(), 1);
     boots(rt, world, 20, 24, SUCCESS)?;
     boots(rt, world, 20, 28, OBJECT_NAME_COLLISION)?;
     boots(rt, world, 32, 24, OBJECT_NAME_COLLISION)?;
     threads(rt, world, 28, 20, SUCCESS)?;
     threads(rt, world, 28, 20, OBJECT_NAME_COLLISION)?;
-    threads(rt, world, 28, 32, INVALID_CID)?;
-    Ok(())
+    threads(rt, world, 28, 32, INVALID_CID)
 }
 
-// What those directives left.
-fn shows_processes_and_threads(rt: &impl Abort, world: &World) {
-    assert_eq!(rt; world.calls(), 6);
-    assert_eq!(rt; world.objects(), 3);
-    assert_eq!(rt; world.live_count(20), 2);
-    assert_eq!(rt; world.room_needed(), 7);
+// What those directives left, counted.
+fn counts_processes_and_threads(rt: &impl Abort, world: &World) {
+    assert!(rt; world.calls() == 6);
+    assert!(rt; world.objects() == 3);
+    assert!(rt; world.live_count(20) == 2);
+    assert!(rt; world.room_needed() == 7);
+}
+
+// The numbers that those directives used.
+fn shows_numbers(rt: &impl Abort, world: &World) {
     assert!(rt; world.is_live(20) && !world.is_live(32));
     assert!(rt; world.was_process(20) && !world.was_process(24));
     assert!(rt; world.was_thread(24) && !world.was_thread(20));
-    assert_eq!(rt; world.condition(28), Condition::Ready);
-    assert_eq!(rt; world.condition(20), Condition::Absent);
-    let here = ClientId {
-        process: 20,
+}
+
+// Whether thread 28 is one of the process, as a message may name it.
+fn is_client(world: &World, process: u32) -> bool {
+    let client = ClientId {
+        process,
         thread: 28,
     };
-    let elsewhere = ClientId {
-        process: 32,
-        thread: 28,
-    };
-    assert_eq!(rt; world.client_test(here), Ok(()));
-    assert_eq!(rt; world.client_test(elsewhere), Err(INVALID_CID));
+    world.client_test(client).is_ok()
+}
+
+// The threads that those directives made.
+fn shows_threads(rt: &impl Abort, world: &World) {
+    assert!(rt; world.condition(28) == Condition::Ready);
+    assert!(rt; world.condition(20) == Condition::Absent);
+    assert!(rt; is_client(world, 20) && !is_client(world, 32));
+}
+
+// Directives on a new world in which there is room, and what they left.
+fn makes_and_shows_threads(rt: &impl Abort, world: &mut World) -> Result<(), Fail>
+    requires few { world.old.calls < 1000 }
+{
+    makes_room(world)?;
+    makes_processes_and_threads(rt, world)?;
+    counts_processes_and_threads(rt, world);
+    shows_numbers(rt, world);
+    shows_threads(rt, world);
+    Ok(())
 }
 
 #[test]
 fn directives_make_processes_and_threads(rt: HostRuntime) -> Result<(), Fail> {
     let mut world = World::empty(rt.alloc());
-    makes_processes_and_threads(&rt, &mut world)?;
-    shows_processes_and_threads(&rt, &world);
-    Ok(())
+    makes_and_shows_threads(&rt, &mut world)
 }
 
-// A datagram of two bytes of data, without a client and an identifier.
-const DATAGRAM: [u8; 26] = [
-    2, 0, 26, 0, 3, 0, 0, 0, 0, 0, 0, 0, 0, 0, 0, 0, 0, 0, 0, 0, 0, 0, 0, 0, 0x41, 0x42,
-];
-
-// Thread 24 of process 20 makes its first port, which has a handle with the right to use it alone.
-fn makes_a_port(rt: &impl Abort, world: &mut World) -> Result<Key, Fail>
-    requires few { world.old.calls < 1000000 }
+// Thread 24 makes a port that no handle names.
+fn makes_a_port(world: &mut World, kind: PortKind, creator: Option<Creator>) -> Result<Key, Fail>
+    requires few { world.old.calls < LINES_LIMIT }
     requires ready { is_ready world.old.rows 24 ≡ true }
     ensures calls { world.new.calls ≤ world.old.calls + 1 }
     ensures stands { IfOk result (λ port. stands world.new.names.ports port ≡ true) }
+    ensures others { KeepsNames world.old.names.ports world.new.names.ports }
 {
     let by = world.caller(24);
-    assert_eq!(rt; by.process, 20);
     world.ports_reserve(1)?;
     world.begin_call();
     let birth = world.procs_draw_birth(by.number);
-    let first = Birth {
-        maker: 24,
-        ordinal: 1,
-        process: 20,
-    };
-    assert_eq!(rt; birth, first);
-    let port = world.ports_add(PortKind::Unnamed, birth, None);
+    Ok(world.ports_add(kind, birth, None, creator))
+}
+
+// The process of thread 24 gets a handle of a port, with the right to use it alone: the first of its handles.
+fn gets_a_handle(rt: &impl Abort, world: &mut World, port: Key) -> Result<(), Fail>
+    requires ready { is_ready world.old.rows 24 ≡ true }
+    requires stands { stands world.old.names.ports port ≡ true }
+    ensures names { world.new.names ≡ world.old.names }
+    ensures calls { world.new.calls ≡ world.old.calls }
+{
+    let by = world.caller(24);
     world.handles_reserve(by.process, 1)?;
     let Ok(()) = world.handles_test(by.process) else {
-        assert!(rt; false);
-        return Ok(port);
+        return Ok(assert!(rt; false));
     };
     let given = world.handles_add(by.process, Object::Port(port), 1);
-    assert_eq!(rt; given.ok(), Some(4));
+    assert!(rt; given.ok() == Some(4));
+    Ok(())
+}
+
+// Process 20 begins, and its thread 24 makes a port, which gets a handle.
+fn begins_with_a_port(rt: &impl Abort, world: &mut World) -> Result<Key, Fail>
+    requires few { world.old.calls < 1000 }
+    ensures calls { world.new.calls ≤ world.old.calls + 2 }
+    ensures stands { IfOk result (λ port. stands world.new.names.ports port ≡ true) }
+{
+    boots(rt, world, 20, 24, SUCCESS)?;
+    can_call(rt, world);
+    let port = makes_a_port(world, PortKind::Unnamed, None)?;
+    can_call(rt, world);
+    gets_a_handle(rt, world, port)?;
     Ok(port)
 }
 
-// The handle of the port is found, by its value, then its kind, then its rights.
-fn finds_the_port(rt: &impl Abort, world: &World, port: Key) -> Result<(), Fail>
+// A handle is refused so.
+fn refuses(rt: &impl Abort, world: &World, handle: u32, kind: ObjectKind, status: Status)
     requires ready { is_ready world.now.rows 24 ≡ true }
+{
+    assert!(rt; world.object_at(24, handle, kind, 2).err() == Some(status));
+}
+
+// The handle of the port is found, by its value, then its kind, then its rights.
+fn finds_the_port(rt: &impl Abort, world: &World, port: Key)
+    requires ready { is_ready world.now.rows 24 ≡ true }
+{
+    assert!(rt; world.port_at(24, 4).ok() == Some(port));
+    refuses(rt, world, 8, ObjectKind::Process, INVALID_HANDLE);
+    refuses(rt, world, 4, ObjectKind::Process, OBJECT_TYPE_MISMATCH);
+    refuses(rt, world, 4, ObjectKind::Port, ACCESS_DENIED);
+}
+
+// What is sent on the port enters its own queue.
+fn routes_to_itself(rt: &impl Abort, world: &World, port: Key)
     requires stands { stands world.now.names.ports port ≡ true }
 {
-    assert_eq!(rt; world.port_at(24, 4).ok(), Some(port));
-    let absent = world.object_at(24, 8, ObjectKind::Process, 2);
-    assert_eq!(rt; absent.err(), Some(INVALID_HANDLE));
-    let other = world.object_at(24, 4, ObjectKind::Process, 2);
-    assert_eq!(rt; other.err(), Some(OBJECT_TYPE_MISMATCH));
-    let weak = world.object_at(24, 4, ObjectKind::Port, 2);
-    assert_eq!(rt; weak.err(), Some(ACCESS_DENIED));
-    assert_eq!(rt; world.route(port), Some(port));
-    assert_eq!(rt; world.context(port), 0);
-    assert_eq!(rt; world.receive_test(port).ok(), Some(port));
-    assert_eq!(rt; world.datagram_test(port), Ok(()));
-    assert_eq!(rt; world.receiver(port, false), None);
+    assert!(rt; world.route(port) == Some(port));
+    assert!(rt; world.context(port) == 0);
+    assert!(rt; world.receive_test(port).ok() == Some(port));
+    assert!(rt; world.datagram_test(port).is_ok());
+    assert!(rt; world.receiver(port, false).is_none());
+}
+
+// The port is made, and its handle found.
+fn makes_and_finds_a_port(rt: &impl Abort, world: &mut World) -> Result<(), Fail>
+    requires few { world.old.calls < 1000 }
+{
+    let port = begins_with_a_port(rt, world)?;
+    can_call(rt, world);
+    finds_the_port(rt, world, port);
+    routes_to_itself(rt, world, port);
     Ok(())
+}
+
+#[test]
+fn port_is_found_by_its_handle(rt: HostRuntime) -> Result<(), Fail> {
+    let mut world = World::empty(rt.alloc());
+    makes_and_finds_a_port(&rt, &mut world)
+}
+
+// A binding of a name succeeds.
+fn binds(rt: &impl Abort, bound: Result<(), BindFault>) {
+    assert!(rt; bound.is_ok());
+}
+
+// The path leads to the port, or to a directory.
+fn leads_to(rt: &impl Abort, world: &World, path: &[u8], found: Found<Key>) {
+    assert!(rt; world.names().lookup(path) == Ok(found));
 }
 
 // The port gets a name, to which a link leads.
@@ -153,13 +236,12 @@ fn names_the_port(rt: &impl Abort, world: &mut World, port: Key) -> Result<(), F
     ensures names { world.new.names ≡ world.old.names }
 {
     world.names_reserve(3)?;
-    assert_eq!(rt; world.names_add_directory(b"\\Windows"), Ok(()));
-    assert_eq!(rt; world.names_add_link(b"\\L", b"\\Windows\\P"), Ok(()));
-    assert_eq!(rt; world.name_test(b"\\L"), Ok(()));
-    assert_eq!(rt; world.names_bind(b"\\L", port), Ok(()));
-    assert_eq!(rt; world.name_test(b"\\L"), Err(OBJECT_NAME_COLLISION));
-    let found = world.names().lookup(b"\\Windows\\P");
-    assert_eq!(rt; found, Ok(Found::Item(port)));
+    binds(rt, world.names_add_directory(b"\\Windows"));
+    binds(rt, world.names_add_link(b"\\L", b"\\Windows\\P"));
+    assert!(rt; world.name_test(b"\\L").is_ok());
+    binds(rt, world.names_bind(b"\\L", port));
+    assert!(rt; world.name_test(b"\\L") == Err(OBJECT_NAME_COLLISION));
+    leads_to(rt, world, b"\\Windows\\P", Found::Item(port));
     Ok(())
 }
 
@@ -167,13 +249,12 @@ fn names_the_port(rt: &impl Abort, world: &mut World, port: Key) -> Result<(), F
 fn makes_directories_and_links(rt: &impl Abort, world: &mut World) -> Result<(), Fail>
     requires few { world.old.calls < 1000 }
 {
-    assert_eq!(rt; world.names_add_directory(b"\\A"), Ok(()));
-    assert_eq!(rt; world.names_add_link(b"\\L", b"\\A"), Ok(()));
-    assert_eq!(rt; world.directory(b"\\L")?, OBJECT_NAME_COLLISION);
-    assert_eq!(rt; world.link(b"\\L\\M", b"A")?, OBJECT_PATH_SYNTAX_BAD);
-    assert_eq!(rt; world.link(b"\\L\\M", b"\\A")?, SUCCESS);
-    assert_eq!(rt; world.names().lookup(b"\\A\\M"), Ok(Found::Directory));
-    assert_eq!(rt; world.calls(), 3);
+    binds(rt, world.names_add_directory(b"\\A"));
+    binds(rt, world.names_add_link(b"\\L", b"\\A"));
+    assert!(rt; world.directory(b"\\L")? == OBJECT_NAME_COLLISION);
+    assert!(rt; world.link(b"\\L\\M", b"A")? == OBJECT_PATH_SYNTAX_BAD);
+    assert!(rt; world.link(b"\\L\\M", b"\\A")? == SUCCESS);
+    leads_to(rt, world, b"\\A\\M", Found::Directory);
     Ok(())
 }
 
@@ -183,78 +264,61 @@ fn directories_and_links_are_made_where_nothing_stands(rt: HostRuntime) -> Resul
     makes_directories_and_links(&rt, &mut world)
 }
 
-// A datagram enters the queue of the port and is taken from it.
-fn sends_a_datagram(
+// A datagram of two bytes of data, without a client and an identifier.
+const DATAGRAM: [u8; 26] = [
+    2, 0, 26, 0, 3, 0, 0, 0, 0, 0, 0, 0, 0, 0, 0, 0, 0, 0, 0, 0, 0, 0, 0, 0, 0x41, 0x42,
+];
+
+// A datagram enters the queue of the port on which it is sent.
+fn delivers(
     rt: &impl Abort,
     world: &mut World,
     port: Key,
+    message: &Message,
     out: &mut Entries,
 ) -> Result<(), Fail>
-    requires few { world.old.calls < 1000000 }
+    requires few { world.old.calls < LINES_LIMIT }
     requires spare { 1 ≤ out.old.spare }
     requires stands { stands world.old.names.ports port ≡ true }
+    ensures names { world.new.names ≡ world.old.names }
 {
-    let Ok(given) = world.read_message(&DATAGRAM) else {
-        return Ok(assert!(rt; false));
-    };
-    let message = kept(&given);
-    assert!(rt; !wants_answer(&message));
+    assert!(rt; !wants_answer(message));
     world.messages_reserve(1)?;
     world.begin_call();
-    world.deliver(port, port, 7, &message, out);
-    assert_eq!(rt; out.list().len(), 0);
-    let Some(taken) = world.ports_pull(port) else {
-        return Ok(assert!(rt; false));
-    };
-    assert_eq!(rt; taken.bytes.as_slice(), DATAGRAM.as_slice());
-    assert_eq!(rt; taken.sender, port);
-    assert_eq!(rt; taken.context, 7);
+    world.deliver(port, port, 7, message, out);
+    assert!(rt; out.list().len() == 0);
     Ok(())
 }
 
-// Process 20 begins, and its thread 24 makes a port.
-fn begins_with_a_port(rt: &impl Abort, world: &mut World) -> Result<Key, Fail>
-    requires few { world.old.calls < 1000 }
-    ensures calls { world.new.calls ≤ world.old.calls + 2 }
-    ensures stands { IfOk result (λ port. stands world.new.names.ports port ≡ true) }
+// The datagram is taken from the queue.
+fn pulls_the_datagram(rt: &impl Abort, world: &mut World, port: Key)
+    requires stands { stands world.old.names.ports port ≡ true }
 {
-    boots(rt, world, 20, 24, SUCCESS)?;
-    let Condition::Ready = world.condition(24) else {
-        panic!(rt; "the thread can't call");
+    let Some(taken) = world.ports_pull(port) else {
+        return assert!(rt; false);
     };
-    makes_a_port(rt, world)
+    assert!(rt; taken.bytes.as_slice() == DATAGRAM.as_slice());
+    assert!(rt; taken.sender == port && taken.context == 7);
 }
 
-// The port is made, and its handle found.
-fn makes_and_finds_a_port(rt: &impl Abort, world: &mut World) -> Result<(), Fail>
-    requires few { world.old.calls < 1000 }
-{
-    let port = begins_with_a_port(rt, world)?;
-    let Condition::Ready = world.condition(24) else {
-        panic!(rt; "the thread can't call");
-    };
-    finds_the_port(rt, world, port)
-}
-
-#[test]
-fn port_is_found_by_its_handle(rt: HostRuntime) -> Result<(), Fail> {
-    let mut world = World::empty(rt.alloc());
-    makes_and_finds_a_port(&rt, &mut world)
-}
-
-// The port has a name, and keeps a message.
+// The port has a name, and keeps a message until it is taken.
 fn keeps_a_message(
     rt: &impl Abort,
     world: &mut World,
     port: Key,
     out: &mut Entries,
 ) -> Result<(), Fail>
-    requires few { world.old.calls < 1000000 }
+    requires few { world.old.calls < LINES_LIMIT }
     requires stands { stands world.old.names.ports port ≡ true }
 {
     names_the_port(rt, world, port)?;
     out.reserve(1)?;
-    sends_a_datagram(rt, world, port, out)
+    let Ok(given) = world.read_message(&DATAGRAM) else {
+        return Ok(assert!(rt; false));
+    };
+    delivers(rt, world, port, &kept(&given), out)?;
+    pulls_the_datagram(rt, world, port);
+    Ok(())
 }
 
 // The port is made, named, and keeps a message.
@@ -273,115 +337,45 @@ fn named_port_keeps_a_message(rt: HostRuntime) -> Result<(), Fail> {
     makes_and_names_a_port(&rt, &mut world, &mut out)
 }
 
-// Thread 24 makes a port that no handle names.
-fn makes_a_bare_port(
-    world: &mut World,
-    kind: PortKind,
-    connection: Option<Key>,
-) -> Result<Key, Fail>
-    requires few { world.old.calls < 1000000 }
-    requires ready { is_ready world.old.rows 24 ≡ true }
-    requires connection { some_stands world.old.names.ports connection ≡ true }
-    ensures calls { world.new.calls ≤ world.old.calls + 1 }
-    ensures stands { IfOk result (λ port. stands world.new.names.ports port ≡ true) }
-    ensures others { KeepsNames world.old.names.ports world.new.names.ports }
-{
-    let by = world.caller(24);
-    world.ports_reserve(1)?;
-    world.begin_call();
-    let birth = world.procs_draw_birth(by.number);
-    Ok(world.ports_add(kind, birth, connection))
+// The connect that makes the client port.
+fn creator() -> Creator {
+    let client = ClientId {
+        process: 20,
+        thread: 24,
+    };
+    Creator {
+        client,
+        message_id: 1,
+    }
 }
 
-// A server port is made, and joined with a client port, which is completed.
-fn joins_two_ports(rt: &impl Abort, world: &mut World, client: Key) -> Result<(), Fail>
-    requires few { world.old.calls < 1000000 }
-    requires ready { is_ready world.old.rows 24 ≡ true }
+// Two ports are joined, and the client port has the context.
+fn joins(rt: &impl Abort, world: &mut World, client: Key, server: Key)
     requires client { stands world.old.names.ports client ≡ true }
-    ensures names { OnOk result (KeepsNames world.old.names.ports world.new.names.ports) }
-    ensures calls { world.new.calls ≤ world.old.calls + 1 }
+    requires server { stands world.old.names.ports server ≡ true }
 {
-    assert_eq!(rt; world.context(client), 0);
-    let server = makes_a_bare_port(world, PortKind::Server, None)?;
+    assert!(rt; world.context(client) == 0);
     world.ports_join(client, server, 77);
-    assert_eq!(rt; world.context(client), 77);
-    assert_eq!(rt; world.context(server), 0);
+    assert!(rt; world.context(client) == 77);
+    assert!(rt; world.context(server) == 0);
     world.ports_set_completed(client, true);
-    Ok(())
 }
 
-// A client port is made, and joined.
+// A client port and a server port are made, and joined.
 fn makes_and_joins_ports(rt: &impl Abort, world: &mut World) -> Result<(), Fail>
     requires few { world.old.calls < 1000 }
 {
     boots(rt, world, 20, 24, SUCCESS)?;
-    let Condition::Ready = world.condition(24) else {
-        panic!(rt; "the thread can't call");
-    };
-    let client = makes_a_bare_port(world, PortKind::Client, None)?;
-    let Condition::Ready = world.condition(24) else {
-        panic!(rt; "the thread can't call");
-    };
-    joins_two_ports(rt, world, client)
+    can_call(rt, world);
+    let client = makes_a_port(world, PortKind::Client, Some(creator()))?;
+    can_call(rt, world);
+    let server = makes_a_port(world, PortKind::Server, None)?;
+    joins(rt, world, client, server);
+    Ok(())
 }
 
 #[test]
 fn connection_is_joined_and_completed(rt: HostRuntime) -> Result<(), Fail> {
     let mut world = World::empty(rt.alloc());
     makes_and_joins_ports(&rt, &mut world)
-}
-
-// A port that a row names stays.
-fn stays(rt: &impl Abort, world: &mut World, port: Key)
-    requires stands { stands world.old.names.ports port ≡ true }
-    ensures same { world.new ≡ world.old }
-{
-    assert!(rt; world.is_held(port));
-    world.free_port(port);
-}
-
-// A port that no row names goes.
-fn goes(rt: &impl Abort, world: &mut World, port: Key)
-    requires stands { stands world.old.names.ports port ≡ true }
-    ensures others { KeepsOthers port world.old.names.ports world.new.names.ports }
-{
-    assert!(rt; !world.is_held(port));
-    world.free_port(port);
-}
-
-// Of two ports one names the other, which stays until the first has gone.
-fn frees_two_ports(rt: &impl Abort, world: &mut World, connection: Key, client: Key)
-    requires connection { stands world.old.names.ports connection ≡ true }
-    requires client { stands world.old.names.ports client ≡ true }
-{
-    assert!(rt; connection != client);
-    stays(rt, world, connection);
-    assert_eq!(rt; world.objects(), 4);
-    goes(rt, world, client);
-    assert_eq!(rt; world.objects(), 3);
-    goes(rt, world, connection);
-    assert_eq!(rt; world.objects(), 2);
-}
-
-// A connection port and a client port of it are made, and freed.
-fn makes_and_frees_ports(rt: &impl Abort, world: &mut World) -> Result<(), Fail>
-    requires few { world.old.calls < 1000 }
-{
-    boots(rt, world, 20, 24, SUCCESS)?;
-    let Condition::Ready = world.condition(24) else {
-        panic!(rt; "the thread can't call");
-    };
-    let connection = makes_a_bare_port(world, PortKind::Connection, None)?;
-    let Condition::Ready = world.condition(24) else {
-        panic!(rt; "the thread can't call");
-    };
-    let client = makes_a_bare_port(world, PortKind::Client, Some(connection))?;
-    frees_two_ports(rt, world, connection, client);
-    Ok(())
-}
-
-#[test]
-fn port_goes_once_no_row_names_it(rt: HostRuntime) -> Result<(), Fail> {
-    let mut world = World::empty(rt.alloc());
-    makes_and_frees_ports(&rt, &mut world)
 }

@@ -4,22 +4,23 @@
 //
 // Each call that adds a row or draws a number asks for the spare room, and that fewer than 16 rows and numbers were made
 // for each call so far.
-ghost use Rattle.std.specs.Prelude.{◌≡◌, ◌+◌, ◌*◌, ◌<◌, ◌≤◌, ◌↔◌, [], None, Some, true, false, IfSome, IfNone, IfOk, IsErr, OnOk, OnErr, is_some, length, option_map};
-ghost use Rattle.lpc_base.specs.Rows.{change, first, has, without};
+ghost use Rattle.std.specs.Prelude.{◌≡◌, ◌+◌, ◌*◌, ◌<◌, ◌≤◌, ◌↔◌, ◌||◌, [], None, Some, true, false, IfSome, IfNone, IfOk, IsErr, OnOk, OnErr, is_some, length};
+ghost use Rattle.lpc_base.specs.Rows.{first, has, without};
 ghost use Rattle.lpc_model.specs.World.{no_rows};
-ghost use Rattle.lpc_model.specs.Found.{free_handle, handles_of, is_process, is_queued, is_table, is_thread, port_row, was_process, was_thread, waits_as};
-ghost use Rattle.lpc_model.specs.Basics.{basic, AddsHandle, AddsProcess, AddsThread, Awaits, DrawsIdentifier, DrawsOrdinal, Enters, Makes, Receives, Takes};
+ghost use Rattle.lpc_model.specs.Found.{free_handle, handles_of, is_process, is_table, is_thread, port_row, was_process, was_thread, waits_as};
+ghost use Rattle.lpc_model.specs.Basics.{basic, AddsProcess, AddsThread, Awaits, DrawsIdentifier, DrawsOrdinal, Makes, Receives, Takes};
 ghost use Rattle.lpc_model.specs.Entering.{takes};
 ghost use Rattle.lpc_model.specs.Machine.{new_process, new_thread};
 ghost use Rattle.lpc_model.specs.Message.{asks, message_of};
 ghost use Rattle.lpc_model.specs.Tests as tests;
 ghost use Rattle.lpc_procs.specs.Procs.{IsNumber};
-ghost use Rattle.lpc_waits.specs.Table.{is_connect};
 ghost use Rattle.lpc_world.specs.Names.{KeepsNames, name_of, some_stands, stands};
-ghost use Rattle.lpc_world.specs.Shown.{birth_in, birth_of, name_by, object_stands, pulled_row, sent_row, waiting_row, with_message};
+ghost use Rattle.lpc_world.specs.Shown.{object_stands};
 ghost use Rattle.lpc_world.specs.Lawful.{drew, is_quiet};
-ghost use Rattle.lpc_world.specs.Kept.{IsIdleAfter, Roomy, Same, StaysReady, handle_room, is_pending, is_pending_in, promised};
+ghost use Rattle.lpc_world.specs.Kept.{IsIdleAfter, Roomy, Same, StaysReady, handle_room, is_pending_in, promised};
 ghost use Rattle.lpc_world.specs.Ready.{IsWait};
+ghost use Rattle.lpc_base.specs.declared.limits.TheConstants.{HANDLE_LIMIT, HEADER_SIZE, LINES_LIMIT, MESSAGE_LIMIT};
+ghost use Rattle.lpc_world.specs.Clauses.{HasFewHandles, HasHandlePlaces, HasHandleRoom, HasSmallLoad, IsOwed, after, and_message, and_port, and_process, and_request, and_thread, birth_at, birth_next, connects, has_message, has_table, has_taker, identifier_next, new_wait, oldest, pends, pulled, sent, waiting_with, with_handle, with_port, without_wait};
 
 mod completing;
 mod connecting;
@@ -36,7 +37,7 @@ use crate::parts::{self, Part};
 use lpc_base::{Birth, OutOfMemory, PortKind};
 use lpc_handles::{Table, TableFault};
 use lpc_names::Names;
-use lpc_ports::{Message, Ports};
+use lpc_ports::{Creator, Message, Ports};
 use lpc_procs::Procs;
 use lpc_slots::Key;
 use lpc_waits::{Wait, Waits};
@@ -57,6 +58,7 @@ pub struct World {
     names: Names<Key>,
     calls: u32,
     made: u32,
+    loose: bool,
     alloc: Global,
 }
 
@@ -68,7 +70,7 @@ impl Model for World {
 
     ghost Value = { Kept };
 
-    ghost view = { λ w. kept (tables_of w.procs w.parts.items w.ports w.waits w.names) (vec_capacity w.parts - vec_len w.parts) w.calls w.made };
+    ghost view = { λ w. kept (tables_of w.procs w.parts.items w.ports w.waits w.names) (vec_capacity w.parts - vec_len w.parts) w.calls w.made w.loose };
 
     ghost invariant = { λ w. AreLawful (tables_of w.procs w.parts.items w.ports w.waits w.names) w.calls w.made };
 }
@@ -80,6 +82,7 @@ impl World {
         ensures births { result.names.ports ≡ [] }
         ensures calls { result.calls ≡ 0 }
         ensures made { result.made ≡ 0 }
+        ensures loose { result.loose ≡ false }
     {
         World {
             procs: Procs::new(alloc),
@@ -89,6 +92,7 @@ impl World {
             names: Names::new(alloc),
             calls: 0,
             made: 0,
+            loose: false,
             alloc,
         }
     }
@@ -102,11 +106,12 @@ impl World {
 
     /// One more directive or service call, which may make up to 16 rows and numbers.
     pub fn begin_call(&mut self)
-        requires { self.old.calls < 1000000 }
+        requires { self.old.calls < LINES_LIMIT }
         ensures rows { self.new.rows ≡ self.old.rows }
         ensures names { self.new.names ≡ self.old.names }
         ensures calls { self.new.calls ≡ self.old.calls + 1 }
         ensures made { self.new.made ≡ self.old.made }
+        ensures loose { self.new.loose ≡ self.old.loose }
         ensures room { self.new.room ≡ self.old.room }
         ensures budget { self.new.made + 16 ≤ 16 * self.new.calls }
     {
@@ -119,10 +124,11 @@ impl World {
     pub fn procs_draw_identifier(&mut self, tid: u32) -> u32
         requires stands { has (is_thread tid) self.old.rows.threads ≡ true }
         requires budget { self.old.made < 16 * self.old.calls }
-        ensures number { option_map (λ t. t.next_identifier) (first (is_thread tid) self.old.rows.threads) ≡ Some result }
-        ensures rows { self.new.rows ≡ basic self.old.rows (DrawsIdentifier tid) }
+        ensures number { identifier_next self.old.rows tid ≡ Some result }
+        ensures rows { self.new.rows ≡ after self.old (DrawsIdentifier tid) }
         ensures names { self.new.names ≡ self.old.names }
         ensures calls { self.new.calls ≡ self.old.calls }
+        ensures loose { self.new.loose ≡ self.old.loose }
         ensures made { self.new.made ≡ self.old.made + 1 }
         ensures room { Roomy self.old.room self.new.room }
     {
@@ -134,12 +140,13 @@ impl World {
     pub fn procs_draw_birth(&mut self, tid: u32) -> Birth
         requires stands { has (is_thread tid) self.old.rows.threads ≡ true }
         requires budget { self.old.made < 16 * self.old.calls }
-        ensures birth { option_map tests.next_birth (first (is_thread tid) self.old.rows.threads) ≡ Some result }
+        ensures birth { birth_next self.old.rows tid ≡ Some result }
         ensures fresh { port_row self.new.rows result ≡ None }
         ensures drawn { has (drew result) self.new.rows.threads ≡ true }
-        ensures rows { self.new.rows ≡ basic self.old.rows (DrawsOrdinal tid) }
+        ensures rows { self.new.rows ≡ after self.old (DrawsOrdinal tid) }
         ensures names { self.new.names ≡ self.old.names }
         ensures calls { self.new.calls ≡ self.old.calls }
+        ensures loose { self.new.loose ≡ self.old.loose }
         ensures made { self.new.made ≡ self.old.made + 1 }
         ensures room { Roomy self.old.room self.new.room }
     {
@@ -153,11 +160,12 @@ impl World {
         requires budget { self.old.made < 16 * self.old.calls }
         requires number { IsNumber pid }
         requires new { was_process self.old.rows pid ≡ false }
-        ensures rows { self.new.rows ≡ basic self.old.rows (AddsProcess (new_process pid maker birth)) }
+        ensures rows { self.new.rows ≡ after self.old (AddsProcess (new_process pid maker birth)) }
         ensures names { self.new.names ≡ self.old.names }
         ensures calls { self.new.calls ≡ self.old.calls }
+        ensures loose { self.new.loose ≡ self.old.loose }
         ensures made { self.new.made ≡ self.old.made + 1 }
-        ensures room { Roomy self.old.room (record self.new.room { processes = self.new.room.processes + 1 }) }
+        ensures room { Roomy self.old.room (and_process self.new.room) }
     {
         self.made += 1;
         self.procs.add_process(pid, maker, birth);
@@ -178,33 +186,44 @@ impl World {
         requires new { was_thread self.old.rows tid ≡ false }
         requires process { has (is_process pid) self.old.rows.processes ≡ true }
         requires table { has (is_table pid) self.old.rows.handles ≡ true }
-        ensures rows { self.new.rows ≡ basic self.old.rows (AddsThread (new_thread tid pid birth)) }
+        ensures rows { self.new.rows ≡ after self.old (AddsThread (new_thread tid pid birth)) }
         ensures names { self.new.names ≡ self.old.names }
         ensures calls { self.new.calls ≡ self.old.calls }
+        ensures loose { self.new.loose ≡ self.old.loose }
         ensures made { self.new.made ≡ self.old.made + 1 }
-        ensures room { Roomy self.old.room (record self.new.room { threads = self.new.room.threads + 1; waits = self.new.room.waits + 1; messages = self.new.room.messages + 1 }) }
+        ensures room { Roomy self.old.room (and_thread self.new.room) }
     {
         self.made += 1;
         self.procs.add_thread(tid, pid, birth);
     }
 
     /// Adds a port, and answers its key. It has no pair yet, and its context is 0. Its birth was drawn, and no port has it.
-    pub fn ports_add(&mut self, kind: PortKind, birth: Birth, connection: Option<Key>) -> Key
+    /// `creator` is the connect that makes a client port.
+    pub fn ports_add(
+        &mut self,
+        kind: PortKind,
+        birth: Birth,
+        connection: Option<Key>,
+        creator: Option<Creator>,
+    ) -> Key
         requires room { 0 < self.old.room.ports }
         requires budget { self.old.made < 16 * self.old.calls }
         requires connection { some_stands self.old.names.ports connection ≡ true }
         requires fresh { port_row self.old.rows birth ≡ None }
         requires drawn { has (drew birth) self.old.rows.threads ≡ true }
-        ensures rows { self.new.rows ≡ basic self.old.rows (Makes (record { birth = birth; kind = kind; connection = birth_in (birth_of self.old.names) connection; pair = None; context = 0; completed = false })) }
+        ensures rows { self.new.rows ≡ with_port self.old kind birth connection creator }
         ensures name { name_of self.new.names.ports result ≡ birth }
         ensures stands { stands self.new.names.ports result ≡ true }
         ensures others { KeepsNames self.old.names.ports self.new.names.ports }
         ensures calls { self.new.calls ≡ self.old.calls }
+        ensures loose { self.new.loose ≡ self.old.loose }
         ensures made { self.new.made ≡ self.old.made + 1 }
-        ensures room { Roomy self.old.room (record self.new.room { ports = self.new.room.ports + 1 }) }
+        ensures room { Roomy self.old.room (and_port self.new.room) }
     {
         self.made += 1;
-        self.ports.add(kind, birth, connection)
+        let port = self.ports.add(kind, birth, connection);
+        self.ports.set_creator(port, creator);
+        port
     }
 
     /// A message enters the queue of a port, on which no thread waits that takes it. A request or connection request has
@@ -212,18 +231,19 @@ impl World {
     pub fn ports_send(&mut self, queue: Key, sender: Key, context: u32, bytes: &[u8])
         requires queue { stands self.old.names.ports queue ≡ true }
         requires sender { stands self.old.names.ports sender ≡ true }
-        requires long { 24 ≤ length bytes.now }
-        requires bound { length bytes.now ≤ 256 }
-        requires quiet { has (takes (sent_row self.old.names queue sender context bytes.now)) self.old.rows.waits ≡ false }
+        requires long { HEADER_SIZE ≤ length bytes.now }
+        requires bound { length bytes.now ≤ MESSAGE_LIMIT }
+        requires quiet { has_taker self.old queue sender context (message_of bytes.now) ≡ false }
         requires budget { self.old.made < 16 * self.old.calls }
         requires request { asks (message_of bytes.now) ≡ true → 0 < self.old.room.requests }
         requires other { asks (message_of bytes.now) ≡ false → 0 < self.old.room.messages }
-        ensures rows { self.new.rows ≡ basic self.old.rows (Enters (sent_row self.old.names queue sender context bytes.now)) }
+        ensures rows { self.new.rows ≡ sent self.old queue sender context (message_of bytes.now) }
         ensures names { self.new.names ≡ self.old.names }
-        ensures queued { is_some (first (is_queued (name_of self.old.names.ports queue)) self.new.rows.messages) ≡ true }
+        ensures queued { has_message self.new.rows (birth_at self.old queue) ≡ true }
         ensures calls { self.new.calls ≡ self.old.calls }
+        ensures loose { self.new.loose ≡ self.old.loose }
         ensures made { self.new.made ≡ self.old.made + 1 }
-        ensures room { Roomy self.old.room (record self.new.room { messages = self.new.room.messages + 1; requests = self.new.room.requests + 1 }) }
+        ensures room { Roomy self.old.room (and_message self.new.room) }
     {
         self.made += 1;
         self.ports.send(queue, sender, context, bytes);
@@ -232,18 +252,20 @@ impl World {
     /// Takes the oldest message of a queue: None exactly where the queue is empty.
     pub fn ports_pull(&mut self, queue: Key) -> Option<Message>
         requires { stands self.old.names.ports queue ≡ true }
-        ensures message { option_map (pulled_row self.old.names queue) result ≡ first (is_queued (name_of self.old.names.ports queue)) self.old.rows.messages }
-        ensures rows { self.new.rows ≡ basic self.old.rows (Takes (name_of self.old.names.ports queue)) }
+        ensures message { pulled self.old queue result ≡ oldest self.old queue }
+        ensures rows { self.new.rows ≡ after self.old (Takes (birth_at self.old queue)) }
         ensures none { IfNone result (self.new.rows ≡ self.old.rows) }
         ensures names { self.new.names ≡ self.old.names }
-        ensures long { IfSome result (λ m. 24 ≤ length m.bytes.items) }
-        ensures bound { IfSome result (λ m. length m.bytes.items ≤ 256) }
+        ensures long { IfSome result (λ m. HEADER_SIZE ≤ length m.bytes.items) }
+        ensures bound { IfSome result (λ m. length m.bytes.items ≤ MESSAGE_LIMIT) }
         ensures calls { self.new.calls ≡ self.old.calls }
+        ensures loose { self.new.loose ≡ (is_some result || self.old.loose) }
         ensures made { self.new.made ≡ self.old.made }
         ensures room { Roomy self.old.room self.new.room }
-        ensures owed { IfSome result (λ m. asks (message_of m.bytes.items) ≡ true → self.old.room.requests < self.new.room.requests) }
+        ensures owed { IfSome result (λ m. IsOwed m self.old.room self.new.room) }
     {
         let message = self.ports.first(queue, false)?;
+        self.loose = true;
         Some(self.ports.pull(message))
     }
 
@@ -255,16 +277,17 @@ impl World {
         requires budget { self.old.made < 16 * self.old.calls }
         requires port { stands self.old.names.ports wait.port ≡ true }
         requires queue { stands self.old.names.ports wait.queue ≡ true }
-        requires quiet { is_quiet self.old.rows.messages (waiting_row self.old.names tid wait []) ≡ true }
-        requires table { is_connect wait.kind ≡ true → has (is_table wait.process) self.old.rows.handles ≡ true }
-        requires load { is_connect wait.kind ≡ true → tests.handle_load self.old.rows wait.process < 256 }
-        requires handles { is_connect wait.kind ≡ true → promised self.old.rows wait.process < handle_room self.old.room wait.process }
-        ensures rows { self.new.rows ≡ basic self.old.rows (Awaits (waiting_row self.old.names tid wait [])) }
+        requires quiet { is_quiet self.old.rows.messages (new_wait self.old tid wait) ≡ true }
+        requires table { connects wait ≡ true → has_table self.old.rows wait.process ≡ true }
+        requires load { connects wait ≡ true → HasSmallLoad self.old.rows wait.process }
+        requires handles { connects wait ≡ true → HasHandleRoom self.old wait.process }
+        ensures rows { self.new.rows ≡ after self.old (Awaits (new_wait self.old tid wait)) }
         ensures names { self.new.names ≡ self.old.names }
         ensures calls { self.new.calls ≡ self.old.calls }
+        ensures loose { self.new.loose ≡ self.old.loose }
         ensures made { self.new.made ≡ self.old.made + 1 }
         ensures room { Roomy self.old.room self.new.room }
-        ensures owed { is_pending (waiting_row self.old.names tid wait []) ≡ true → 0 < self.new.room.requests }
+        ensures owed { pends self.old tid wait ≡ true → 0 < self.new.room.requests }
     {
         self.made += 1;
         self.waits.add(tid, wait);
@@ -273,10 +296,11 @@ impl World {
     /// A waiting thread's wait keeps the message with which it waits.
     pub fn waits_set_message(&mut self, tid: u32, bytes: &[u8])
         requires waits { has (waits_as tid) self.old.rows.waits ≡ true }
-        requires bound { length bytes.now ≤ 256 }
-        ensures rows { self.new.rows ≡ record self.old.rows { waits = change (waits_as tid) (with_message (message_of bytes.now)) self.old.rows.waits } }
+        requires bound { length bytes.now ≤ MESSAGE_LIMIT }
+        ensures rows { self.new.rows ≡ waiting_with self.old.rows tid (message_of bytes.now) }
         ensures names { self.new.names ≡ self.old.names }
         ensures calls { self.new.calls ≡ self.old.calls }
+        ensures loose { self.new.loose ≡ self.old.loose }
         ensures made { self.new.made ≡ self.old.made }
         ensures room { Roomy self.old.room self.new.room }
     {
@@ -289,29 +313,33 @@ impl World {
         requires { is_pending_in self.old.rows tid ≡ false }
         ensures some { is_some result ≡ has (waits_as tid) self.old.rows.waits }
         ensures wait { IfSome result (λ wait. IsWait self.old tid wait) }
-        ensures rows { self.new.rows ≡ record self.old.rows { waits = without (waits_as tid) self.old.rows.waits } }
+        ensures rows { self.new.rows ≡ without_wait self.old.rows tid }
         ensures names { self.new.names ≡ self.old.names }
         ensures calls { self.new.calls ≡ self.old.calls }
+        ensures loose { self.new.loose ≡ true }
         ensures made { self.new.made ≡ self.old.made }
         ensures room { Roomy self.old.room self.new.room }
         ensures still { StaysReady self.old.rows self.new.rows }
     {
+        self.loose = true;
         self.waits.end(tid)
     }
 
-    /// The request or connect of a thread is received, where it waits. Its message stands in no queue any more.
-    pub fn waits_receive(&mut self, tid: u32)
+    /// The request or connect of a thread to a queue is received, where it waits there. Its message stands in no queue any
+    /// more.
+    pub fn waits_receive(&mut self, tid: u32, queue: Key)
+        requires queue { stands self.old.names.ports queue ≡ true }
         requires owed { 0 < self.old.room.requests }
-        ensures rows { self.new.rows ≡ basic self.old.rows (Receives tid) }
+        ensures rows { self.new.rows ≡ after self.old (Receives tid (birth_at self.old queue)) }
         ensures names { self.new.names ≡ self.old.names }
         ensures calls { self.new.calls ≡ self.old.calls }
+        ensures loose { self.new.loose ≡ self.old.loose }
         ensures made { self.new.made ≡ self.old.made }
-        ensures room { Roomy self.old.room (record self.new.room { requests = self.new.room.requests + 1 }) }
+        ensures room { Roomy self.old.room (and_request self.new.room) }
         ensures idle { IsIdleAfter self.old.rows self.new.rows }
     {
-        match self.waits.of(tid) {
-            Some(_) => self.waits.receive(tid),
-            None => {}
+        if self.waits_on(tid, queue) {
+            self.waits.receive(tid);
         }
     }
 
@@ -320,14 +348,15 @@ impl World {
     /// too, and there is room for one more beside them.
     pub fn handles_add(&mut self, pid: u32, object: Object, access: u32) -> Result<u32, TableFault>
         requires table { has (is_table pid) self.old.rows.handles ≡ true }
-        requires load { length (handles_of self.old.rows pid) < 256 → tests.handle_load self.old.rows pid < 256 }
-        requires room { length (handles_of self.old.rows pid) < 256 → promised self.old.rows pid < handle_room self.old.room pid }
+        requires load { HasFewHandles self.old.rows pid → HasSmallLoad self.old.rows pid }
+        requires room { HasFewHandles self.old.rows pid → HasHandleRoom self.old pid }
         requires object { object_stands self.old.names object ≡ true }
-        ensures quota { IsErr result ↔ (length (handles_of self.old.rows pid) ≡ 256) }
+        ensures quota { IsErr result ↔ (length (handles_of self.old.rows pid) ≡ HANDLE_LIMIT) }
         ensures value { IfOk result (λ v. v ≡ free_handle self.old.rows pid) }
-        ensures rows { IfOk result (λ v. self.new.rows ≡ basic self.old.rows (AddsHandle pid (tests.handle_row v (name_by (birth_of self.old.names) object) access))) }
+        ensures rows { IfOk result (λ v. self.new.rows ≡ with_handle self.old pid v object access) }
         ensures names { self.new.names ≡ self.old.names }
         ensures calls { self.new.calls ≡ self.old.calls }
+        ensures loose { self.new.loose ≡ self.old.loose }
         ensures made { self.new.made ≡ self.old.made }
         ensures same { OnErr result (self.new ≡ self.old) }
     {
@@ -390,7 +419,7 @@ impl World {
         requires { has (is_table pid) self.old.rows.handles ≡ true }
         ensures same { Same self.old self.new }
         ensures room { Roomy self.old.room self.new.room }
-        ensures handles { OnOk result (promised self.new.rows pid + more ≤ handle_room self.new.room pid) }
+        ensures handles { OnOk result (HasHandlePlaces self.new pid more) }
         ensures wanting { OnErr result (handle_room self.old.room pid < promised self.old.rows pid + more) }
     {
         let places = self.waits.connects_of(pid) + more as usize;

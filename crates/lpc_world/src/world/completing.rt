@@ -1,12 +1,11 @@
 // The end of a connect that is completed: it gets the handle that it was promised.
 ghost use Rattle.std.specs.Prelude.{◌≡◌, true, false};
-ghost use Rattle.lpc_base.specs.Rows.{has, without};
-ghost use Rattle.lpc_model.specs.Basics.{basic, AddsHandle};
+ghost use Rattle.lpc_base.specs.Rows.{has};
 ghost use Rattle.lpc_model.specs.Found.{free_handle, is_connect, waits_as};
-ghost use Rattle.lpc_model.specs.Tests.{handle_row};
 ghost use Rattle.lpc_world.specs.Kept.{is_pending_in};
 ghost use Rattle.lpc_world.specs.Ready.{waiter};
-ghost use Rattle.lpc_world.specs.Shown.{birth_of, name_by, object_stands};
+ghost use Rattle.lpc_world.specs.Shown.{object_stands};
+ghost use Rattle.lpc_world.specs.Clauses.{finished};
 
 use crate::world::World;
 use crate::{Object, parts};
@@ -20,14 +19,16 @@ impl World {
         requires idle { is_pending_in self.old.rows tid ≡ false }
         requires object { object_stands self.old.names object ≡ true }
         ensures value { let x = waiter self.old.rows tid in result ≡ free_handle self.old.rows x.process }
-        ensures rows { let x = waiter self.old.rows tid in self.new.rows ≡ record (basic self.old.rows (AddsHandle x.process (handle_row result (name_by (birth_of self.old.names) object) access))) { waits = without (waits_as tid) self.old.rows.waits } }
+        ensures rows { self.new.rows ≡ finished self.old tid result object access }
         ensures names { self.new.names ≡ self.old.names }
         ensures calls { self.new.calls ≡ self.old.calls }
+        ensures loose { self.new.loose ≡ true }
         ensures made { self.new.made ≡ self.old.made }
     {
         let wait = self.wait(tid);
         match parts::add_handle(&mut self.parts, wait.process, object, access) {
             Ok(value) => {
+                self.loose = true;
                 self.waits.end(tid);
                 value
             }

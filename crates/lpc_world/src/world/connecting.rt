@@ -1,17 +1,17 @@
 // What the services of connections look up in the world.
-ghost use Rattle.std.specs.Prelude.{◌≡◌, ◌≤◌, IfOk, IfSome, MatchOption, MatchResult, None, Some, Ok, Err, false, length, true};
-ghost use Rattle.lpc_base.specs.Rows.{first, has};
+ghost use Rattle.std.specs.Prelude.{◌≡◌, ◌≤◌, IfOk, IfSome, None, Some, Ok, Err, false, true};
+ghost use Rattle.lpc_base.specs.Rows.{has};
 ghost use Rattle.lpc_model.specs.Connect as connect;
-ghost use Rattle.lpc_model.specs.Connect.{answer_of, completion_test, is_accepted_on, names_connect};
+ghost use Rattle.lpc_model.specs.Connect.{answer_of, completion_test, is_accepted_on};
 ghost use Rattle.lpc_model.specs.Found as found;
-ghost use Rattle.lpc_model.specs.Found.{is_accepted, is_connection_port, is_table, waits_as};
-ghost use Rattle.lpc_model.specs.Named as named;
+ghost use Rattle.lpc_model.specs.Found.{is_accepted, is_connection_port, is_offered, is_table, waits_as};
+ghost use Rattle.lpc_model.specs.Named.{named_port};
 ghost use Rattle.lpc_model.specs.declared.message.Message.{Message};
 ghost use Rattle.lpc_world.specs.Connecting.{is_answered};
 ghost use Rattle.lpc_world.specs.Kept.{is_pending_in};
-ghost use Rattle.lpc_world.specs.Lawful.{are_single};
-ghost use Rattle.lpc_world.specs.Names.{are_apart, name_of, stands};
-ghost use Rattle.lpc_world.specs.Ready.{IsWait, caller, is_ready, port_of, waiter};
+ghost use Rattle.lpc_world.specs.Names.{are_apart, stands};
+ghost use Rattle.lpc_world.specs.Ready.{IsWait, caller, is_ready, waiter};
+ghost use Rattle.lpc_world.specs.Clauses.{Answers, FindsConnect, FindsWait, IsOwnWait, birth_at, completion_at, port_at};
 
 use crate::world::World;
 use crate::{Completable, Object, parts};
@@ -29,7 +29,7 @@ impl World {
     /// The port that a path leads to: the status of the path's fault, and OBJECT_TYPE_MISMATCH where a directory stands
     /// there.
     pub fn named_port(&self, path: &[u8]) -> Result<Key, Status>
-        ensures port { MatchResult result (λ key. named.named_port self.now.rows path.now ≡ Ok (name_of self.now.names.ports key)) (λ s. named.named_port self.now.rows path.now ≡ Err s) }
+        ensures port { Answers result (birth_at self.now) (named_port self.now.rows path.now) }
         ensures stands { IfOk result (λ key. stands self.now.names.ports key ≡ true) }
     {
         match self.names.lookup(path) {
@@ -42,7 +42,7 @@ impl World {
     /// The port is a connection port.
     pub fn is_connection(&self, port: Key) -> bool
         requires { stands self.now.names.ports port ≡ true }
-        ensures { result ≡ is_connection_port (port_of self.now.rows (name_of self.now.names.ports port)) }
+        ensures { result ≡ is_connection_port (port_at self.now port) }
     {
         matches!(self.port(port).kind, PortKind::Connection)
     }
@@ -60,11 +60,11 @@ impl World {
     /// accepted, and the caller's process has a handle to its connection port. None exactly where there is none.
     pub fn answered_connect(&self, by: u32, client: ClientId, identifier: u32) -> Option<u32>
         requires { is_ready self.now.rows by ≡ true }
-        ensures found { (m : Message) → m.header.client ≡ client → m.header.message_id ≡ identifier → MatchOption result (first (names_connect self.now.rows (caller self.now.rows by) m) self.now.rows.waits ≡ None) (λ tid. first (names_connect self.now.rows (caller self.now.rows by) m) self.now.rows.waits ≡ Some (waiter self.now.rows tid)) }
+        ensures found { (m : Message) → m.header.client ≡ client → m.header.message_id ≡ identifier → FindsConnect self.now by m result }
         ensures waits { IfSome result (λ tid. has (waits_as tid) self.now.rows.waits ≡ true) }
-        ensures thread { IfSome result (λ tid. let x = waiter self.now.rows tid in x.thread ≡ tid) }
+        ensures thread { IfSome result (λ tid. IsOwnWait self.now.rows tid) }
         ensures idle { IfSome result (λ tid. is_pending_in self.now.rows tid ≡ false) }
-        ensures offered { IfSome result (λ tid. found.is_offered (waiter self.now.rows tid) ≡ true) }
+        ensures offered { IfSome result (λ tid. is_offered (waiter self.now.rows tid) ≡ true) }
     {
         let process = self.caller(by).process;
         if !self.is_waiting(client.thread) {
@@ -93,7 +93,7 @@ impl World {
     /// The wait of a thread that waits is a connect that isn't accepted.
     fn is_offered(&self, tid: u32) -> bool
         requires { has (waits_as tid) self.now.rows.waits ≡ true }
-        ensures { result ≡ found.is_offered (waiter self.now.rows tid) }
+        ensures { result ≡ is_offered (waiter self.now.rows tid) }
     {
         match self.wait(tid).kind {
             WaitKind::Connect => self.waits.accepted(tid).is_none(),
@@ -105,7 +105,7 @@ impl World {
     fn reaches(&self, pid: u32, port: Key) -> bool
         requires table { has (is_table pid) self.now.rows.handles ≡ true }
         requires port { stands self.now.names.ports port ≡ true }
-        ensures { result ≡ connect.reaches self.now.rows pid (name_of self.now.names.ports port) }
+        ensures { result ≡ connect.reaches self.now.rows pid (birth_at self.now port) }
     {
         parts::handles_of(&self.parts, pid).names(Object::Port(port))
     }
@@ -126,10 +126,10 @@ impl World {
     /// INVALID_PARAMETER where it was completed, PORT_DISCONNECTED where its pair is cut or no accepted connect waits there.
     pub fn completable(&self, port: Key) -> Result<Completable, Status>
         requires { stands self.now.names.ports port ≡ true }
-        ensures test { MatchResult result (λ c. completion_test self.now.rows (port_of self.now.rows (name_of self.now.names.ports port)) ≡ Ok (record { server = name_of self.now.names.ports port; client = name_of self.now.names.ports c.client; wait = waiter self.now.rows c.thread })) (λ s. completion_test self.now.rows (port_of self.now.rows (name_of self.now.names.ports port)) ≡ Err s) }
+        ensures test { Answers result (completion_at self.now port) (completion_test self.now.rows (port_at self.now port)) }
         ensures stands { IfOk result (λ c. stands self.now.names.ports c.client ≡ true) }
         ensures waits { IfOk result (λ c. has (waits_as c.thread) self.now.rows.waits ≡ true) }
-        ensures thread { IfOk result (λ c. let x = waiter self.now.rows c.thread in x.thread ≡ c.thread) }
+        ensures thread { IfOk result (λ c. IsOwnWait self.now.rows c.thread) }
         ensures accepted { IfOk result (λ c. is_accepted (waiter self.now.rows c.thread) ≡ true) }
         ensures idle { IfOk result (λ c. is_pending_in self.now.rows c.thread ≡ false) }
     {
@@ -152,9 +152,9 @@ impl World {
     /// The thread whose accepted connect waits on a client port: None exactly where there is none.
     fn accepted_on(&self, client: Key) -> Option<u32>
         requires { stands self.now.names.ports client ≡ true }
-        ensures found { MatchOption result (first (is_accepted_on (name_of self.now.names.ports client)) self.now.rows.waits ≡ None) (λ tid. first (is_accepted_on (name_of self.now.names.ports client)) self.now.rows.waits ≡ Some (waiter self.now.rows tid)) }
+        ensures found { FindsWait self.now (is_accepted_on (birth_at self.now client)) result }
         ensures waits { IfSome result (λ tid. has (waits_as tid) self.now.rows.waits ≡ true) }
-        ensures thread { IfSome result (λ tid. let x = waiter self.now.rows tid in x.thread ≡ tid) }
+        ensures thread { IfSome result (λ tid. IsOwnWait self.now.rows tid) }
         ensures accepted { IfSome result (λ tid. is_accepted (waiter self.now.rows tid) ≡ true) }
         ensures idle { IfSome result (λ tid. is_pending_in self.now.rows tid ≡ false) }
     {

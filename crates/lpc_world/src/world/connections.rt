@@ -1,15 +1,14 @@
 // The changes that a connection makes: its ports are joined and completed, a connect is accepted, and a connection request
 // is taken from its queue.
-ghost use Rattle.std.specs.Prelude.{◌≡◌, ◌≤◌, ◌<◌, true, false, IfSome, IfNone, length, option_map};
-ghost use Rattle.lpc_base.specs.Rows.{change, first, has};
-ghost use Rattle.lpc_model.specs.Basics.{basic, Accepts, Joins, TakesConnect};
-ghost use Rattle.lpc_model.specs.Found.{is_accepted, is_port, is_queued_connect, waits_as};
-ghost use Rattle.lpc_model.specs.Message.{asks, message_of};
-ghost use Rattle.lpc_world.specs.Joined.{with_completed};
+ghost use Rattle.std.specs.Prelude.{◌≡◌, ◌≤◌, ◌<◌, ◌||◌, true, false, IfSome, IfNone, is_some, length};
+ghost use Rattle.lpc_base.specs.Rows.{first, has};
+ghost use Rattle.lpc_model.specs.Basics.{Accepts, TakesConnect};
+ghost use Rattle.lpc_model.specs.Found.{is_accepted, waits_as};
 ghost use Rattle.lpc_world.specs.Kept.{IsIdleAfter, Roomy, StaysReady};
-ghost use Rattle.lpc_world.specs.Names.{name_of, stands};
+ghost use Rattle.lpc_world.specs.Names.{stands};
 ghost use Rattle.lpc_world.specs.Ready.{waiter};
-ghost use Rattle.lpc_world.specs.Shown.{pulled_row};
+ghost use Rattle.lpc_base.specs.declared.limits.TheConstants.{HEADER_SIZE, MESSAGE_LIMIT};
+ghost use Rattle.lpc_world.specs.Clauses.{IsOwed, after, birth_at, joined, oldest_connect, pulled, with_completion};
 
 use crate::world::World;
 use lpc_ports::Message;
@@ -21,21 +20,24 @@ impl World {
     pub fn ports_join(&mut self, client: Key, server: Key, context: u32)
         requires client { stands self.old.names.ports client ≡ true }
         requires server { stands self.old.names.ports server ≡ true }
-        ensures rows { self.new.rows ≡ basic self.old.rows (Joins (name_of self.old.names.ports client) (name_of self.old.names.ports server) context) }
+        ensures rows { self.new.rows ≡ joined self.old client server context }
         ensures names { self.new.names ≡ self.old.names }
         ensures calls { self.new.calls ≡ self.old.calls }
+        ensures loose { self.new.loose ≡ true }
         ensures made { self.new.made ≡ self.old.made }
         ensures room { Roomy self.old.room self.new.room }
     {
+        self.loose = true;
         self.ports.join(client, server, context);
     }
 
     /// The connection of a port is completed, or isn't any more.
     pub fn ports_set_completed(&mut self, port: Key, completed: bool)
         requires { stands self.old.names.ports port ≡ true }
-        ensures rows { self.new.rows ≡ record self.old.rows { ports = change (is_port (name_of self.old.names.ports port)) (with_completed completed) self.old.rows.ports } }
+        ensures rows { self.new.rows ≡ with_completion self.old port completed }
         ensures names { self.new.names ≡ self.old.names }
         ensures calls { self.new.calls ≡ self.old.calls }
+        ensures loose { self.new.loose ≡ self.old.loose }
         ensures made { self.new.made ≡ self.old.made }
         ensures room { Roomy self.old.room self.new.room }
     {
@@ -48,10 +50,11 @@ impl World {
         requires waits { has (waits_as tid) self.old.rows.waits ≡ true }
         requires offered { is_accepted (waiter self.old.rows tid) ≡ false }
         requires received { let x = waiter self.old.rows tid in x.received ≡ true }
-        ensures some { IfSome accepted (λ a. self.new.rows ≡ basic self.old.rows (Accepts tid a.reply.items)) }
+        ensures some { IfSome accepted (λ a. self.new.rows ≡ after self.old (Accepts tid a.reply.items)) }
         ensures none { IfNone accepted (self.new.rows ≡ self.old.rows) }
         ensures names { self.new.names ≡ self.old.names }
         ensures calls { self.new.calls ≡ self.old.calls }
+        ensures loose { self.new.loose ≡ self.old.loose }
         ensures made { self.new.made ≡ self.old.made }
         ensures room { Roomy self.old.room self.new.room }
         ensures idle { IsIdleAfter self.old.rows self.new.rows }
@@ -63,18 +66,20 @@ impl World {
     /// Takes the oldest connection request of a queue: None exactly where no connection request stands in it.
     pub fn ports_pull_connect(&mut self, queue: Key) -> Option<Message>
         requires { stands self.old.names.ports queue ≡ true }
-        ensures message { option_map (pulled_row self.old.names queue) result ≡ first (is_queued_connect (name_of self.old.names.ports queue)) self.old.rows.messages }
-        ensures rows { self.new.rows ≡ basic self.old.rows (TakesConnect (name_of self.old.names.ports queue)) }
+        ensures message { pulled self.old queue result ≡ oldest_connect self.old queue }
+        ensures rows { self.new.rows ≡ after self.old (TakesConnect (birth_at self.old queue)) }
         ensures none { IfNone result (self.new.rows ≡ self.old.rows) }
         ensures names { self.new.names ≡ self.old.names }
-        ensures long { IfSome result (λ m. 24 ≤ length m.bytes.items) }
-        ensures bound { IfSome result (λ m. length m.bytes.items ≤ 256) }
+        ensures long { IfSome result (λ m. HEADER_SIZE ≤ length m.bytes.items) }
+        ensures bound { IfSome result (λ m. length m.bytes.items ≤ MESSAGE_LIMIT) }
         ensures calls { self.new.calls ≡ self.old.calls }
+        ensures loose { self.new.loose ≡ (is_some result || self.old.loose) }
         ensures made { self.new.made ≡ self.old.made }
         ensures room { Roomy self.old.room self.new.room }
-        ensures owed { IfSome result (λ m. asks (message_of m.bytes.items) ≡ true → self.old.room.requests < self.new.room.requests) }
+        ensures owed { IfSome result (λ m. IsOwed m self.old.room self.new.room) }
     {
         let message = self.ports.first(queue, true)?;
+        self.loose = true;
         Some(self.ports.pull(message))
     }
 }

@@ -1,5 +1,5 @@
 // The directives that make processes, threads, directories and links: refusals in their order, else the steps.
-ghost use Rattle.std.specs.Prelude.{◌≡◌, ◌<◌, ◌≤◌, OnOk, true, false};
+ghost use Rattle.std.specs.Prelude.{◌≡◌, ◌<◌, ◌≤◌, OnErr, OnOk, true, false};
 ghost use Rattle.lpc_base.specs.Rows.{has};
 ghost use Rattle.lpc_model.specs.Found.{is_process, is_table, was_thread};
 ghost use Rattle.lpc_model.specs.Machine as model;
@@ -7,7 +7,8 @@ ghost use Rattle.lpc_model.specs.Machine.{boot_line, dir_line, link_line, thread
 ghost use Rattle.lpc_world.specs.Bound.{status_of_binding};
 ghost use Rattle.lpc_procs.specs.Procs.{IsNumber};
 ghost use Rattle.lpc_world.specs.Does.{Directs};
-ghost use Rattle.lpc_world.specs.Kept.{Same};
+ghost use Rattle.lpc_world.specs.Kept.{Roomy, Same, lacks_name_room, lacks_process_room, lacks_thread_parts, lacks_thread_room};
+ghost use Rattle.lpc_base.specs.declared.limits.TheConstants.{LINES_LIMIT};
 
 use crate::world::World;
 use lpc_base::limits::THREAD_LIMIT;
@@ -40,14 +41,15 @@ fn bound_status(bound: Result<(), BindFault>) -> Result<Status, OutOfMemory>
 impl World {
     /// `boot`: makes a process without a maker, and its first thread.
     ///
-    /// Refusal: OBJECT_NAME_COLLISION where the number was ever used for a process, or the other for a thread. After want
-    /// of memory nothing has changed but the room.
+    /// Refusal: OBJECT_NAME_COLLISION where the number was ever used for a process, or the other for a thread. It wants for
+    /// memory only where there is no room for a process with a thread; then nothing has changed but the room.
     #[tactic(auto, unfolding(lpc_model::specs::Machine::boot_line))]
     pub fn boot(&mut self, pid: u32, tid: u32) -> Result<Status, OutOfMemory>
-        requires calls { self.old.calls < 1000000 }
+        requires calls { self.old.calls < LINES_LIMIT }
         requires process { IsNumber pid }
         requires thread { IsNumber tid }
         ensures directs { Directs result (boot_line self.old.rows pid tid) self.old self.new }
+        ensures wanting { OnErr result (lacks_process_room self.old ≡ true) }
     {
         if self.was_process(pid) || self.was_thread(tid) {
             self.begin_call();
@@ -64,13 +66,14 @@ impl World {
     /// `thread`: makes a further thread of a live process.
     ///
     /// Refusals, in this order: INVALID_CID without a live process of that number; OBJECT_NAME_COLLISION where the
-    /// number was ever used for a thread; QUOTA_EXCEEDED where the process has 64 live threads. After want of memory
-    /// nothing has changed but the room.
+    /// number was ever used for a thread; QUOTA_EXCEEDED where the process has 64 live threads. It wants for memory only
+    /// where there is no room for a thread with its wait and its message; then nothing has changed but the room.
     #[tactic(auto, unfolding(lpc_model::specs::Machine::thread_line))]
     pub fn thread(&mut self, tid: u32, pid: u32) -> Result<Status, OutOfMemory>
-        requires calls { self.old.calls < 1000000 }
+        requires calls { self.old.calls < LINES_LIMIT }
         requires thread { IsNumber tid }
         ensures directs { Directs result (thread_line self.old.rows tid pid) self.old self.new }
+        ensures wanting { OnErr result (lacks_thread_room self.old ≡ true) }
     {
         if let Err(status) = self.thread_test(tid, pid) {
             self.begin_call();
@@ -85,12 +88,13 @@ impl World {
 
     /// `dir`: makes a directory of the name space.
     ///
-    /// Refusal: the fault of the path, or OBJECT_NAME_COLLISION where something stands there. After want of memory nothing
-    /// has changed but the room.
+    /// Refusal: the fault of the path, or OBJECT_NAME_COLLISION where something stands there. It wants for memory only where
+    /// there is no room for a name; then nothing has changed but the room.
     #[tactic(auto, unfolding(lpc_model::specs::Machine::dir_line))]
     pub fn directory(&mut self, path: &[u8]) -> Result<Status, OutOfMemory>
-        requires calls { self.old.calls < 1000000 }
+        requires calls { self.old.calls < LINES_LIMIT }
         ensures directs { Directs result (dir_line self.old.rows path.now) self.old self.new }
+        ensures wanting { OnErr result (lacks_name_room self.old ≡ true) }
         ensures names { self.new.names ≡ self.old.names }
     {
         let status = bound_status(self.names_add_directory(path))?;
@@ -101,11 +105,13 @@ impl World {
     /// `link`: makes a link of the name space, to a target that need not stand.
     ///
     /// Refusals, in this order: the fault of the target's form; the fault of the path, or OBJECT_NAME_COLLISION where
-    /// something stands there. After want of memory nothing has changed but the room.
+    /// something stands there. It wants for memory only where there is no room for a name; then nothing has changed but
+    /// the room.
     #[tactic(auto, unfolding(lpc_model::specs::Machine::link_line))]
     pub fn link(&mut self, path: &[u8], target: &[u8]) -> Result<Status, OutOfMemory>
-        requires calls { self.old.calls < 1000000 }
+        requires calls { self.old.calls < LINES_LIMIT }
         ensures directs { Directs result (link_line self.old.rows path.now target.now) self.old self.new }
+        ensures wanting { OnErr result (lacks_name_room self.old ≡ true) }
         ensures names { self.new.names ≡ self.old.names }
     {
         let status = bound_status(self.names_add_link(path, target))?;
@@ -137,6 +143,8 @@ impl World {
         ensures same { Same self.old self.new }
         ensures waits { OnOk result (1 ≤ self.new.room.waits) }
         ensures messages { OnOk result (1 ≤ self.new.room.messages) }
+        ensures room { Roomy self.old.room self.new.room }
+        ensures wanting { OnErr result (lacks_thread_parts self.old ≡ true) }
     {
         self.waits_reserve(1)?;
         self.messages_reserve(1)

@@ -1,26 +1,26 @@
-// A port that no row names any longer goes, and a connect that ends unsuccessfully takes its client port along.
-ghost use Rattle.std.specs.Prelude.{◌≡◌, ◌≤◌, ◌+◌, true, false, length};
-ghost use Rattle.lpc_base.specs.Rows.{has};
-ghost use Rattle.lpc_model.specs.Basics.{basic, world_after, Frees};
-ghost use Rattle.lpc_model.specs.Entering as entering;
-ghost use Rattle.lpc_model.specs.Found as found;
-ghost use Rattle.lpc_model.specs.Found.{waits_as};
-ghost use Rattle.lpc_world.specs.Does.{Takes};
-ghost use Rattle.lpc_world.specs.Kept.{Roomy, is_pending_in};
-ghost use Rattle.lpc_world.specs.Names.{KeepsOthers, name_of, stands};
-ghost use Rattle.lpc_world.specs.Ready.{waiter};
+// Objects that no row counts for go.
+ghost use Rattle.std.specs.Prelude.{◌≡◌, ◌<◌, [], true, false, IfNone, IfSome, Some, length, not};
+ghost use Rattle.lpc_model.specs.Basics.{world_after, Frees};
+ghost use Rattle.lpc_model.specs.Found.{port_name};
+ghost use Rattle.lpc_model.specs.Linked.{HasHeldPorts};
+ghost use Rattle.lpc_model.specs.Sweep as model;
+ghost use Rattle.lpc_model.specs.Sweep.{is_unheld};
+ghost use Rattle.lpc_world.specs.Held as held;
+ghost use Rattle.lpc_world.specs.Held.{CanSweep};
+ghost use Rattle.lpc_world.specs.Kept.{Roomy};
+ghost use Rattle.lpc_world.specs.Names.{KeepsOthers, stands};
+ghost use Rattle.lpc_world.specs.Shown.{object_stands};
+ghost use Rattle.lpc_world.specs.Clauses.{after, birth_at, birth_in_place, has_port, is_unheld_at, name_at};
 
-use crate::parts;
 use crate::world::World;
-use lpc_base::status::PORT_CONNECTION_REFUSED;
-use lpc_model::{Entries, info_field};
+use crate::{Object, parts};
 use lpc_slots::Key;
 
 impl World {
-    /// A row names the port: a handle, another port, a message, a wait, or a name.
-    pub fn is_held(&self, port: Key) -> bool
+    /// Some row names the port: a handle, another port, a message, a wait, or a name.
+    fn is_named(&self, port: Key) -> bool
         requires { stands self.now.names.ports port ≡ true }
-        ensures { result ≡ found.is_held self.now.rows (name_of self.now.names.ports port) }
+        ensures { result ≡ held.is_named self.now.rows (birth_at self.now port) }
     {
         parts::names_port(&self.parts, port)
             || self.ports.is_named(port)
@@ -28,47 +28,109 @@ impl World {
             || self.names.has_name(port)
     }
 
-    /// A port goes where no row names it any longer; else nothing changes.
-    pub fn free_port(&mut self, port: Key)
-        requires { stands self.old.names.ports port ≡ true }
-        ensures rows { self.new.rows ≡ world_after self.old.rows (entering.free_port (name_of self.old.names.ports port) self.old.rows) }
-        ensures held { found.is_held self.old.rows (name_of self.old.names.ports port) ≡ true → self.new ≡ self.old }
-        ensures others { KeepsOthers port self.old.names.ports self.new.names.ports }
+    /// A row counts for the port. The other end of a pair counts, so that of most ports the row alone tells it.
+    fn is_held(&self, port: Key) -> bool
+        requires can { CanSweep self.now.rows }
+        requires stands { stands self.now.names.ports port ≡ true }
+        ensures { result ≡ not (is_unheld_at self.now port) }
+    {
+        if let Some(_) = self.port(port).pair {
+            return true;
+        }
+        self.is_named(port)
+    }
+
+    /// The port at a place, in the order of making.
+    fn port_key(&self, place: usize) -> Key
+        requires { place < length self.now.rows.ports }
+        ensures stands { stands self.now.names.ports result ≡ true }
+        ensures port { birth_in_place self.now place ≡ Some (birth_at self.now result) }
+    {
+        self.ports.key_at(place)
+    }
+
+    /// How many ports there are.
+    fn port_count(&self) -> usize
+        ensures { result ≡ length self.now.rows.ports }
+    {
+        self.ports.count()
+    }
+
+    /// The oldest port that no row holds: None exactly where each port is held.
+    fn unheld_port(&self) -> Option<Key>
+        requires { CanSweep self.now.rows }
+        ensures none { IfNone result (HasHeldPorts self.now.rows) }
+        ensures stands { IfSome result (λ key. stands self.now.names.ports key ≡ true) }
+        ensures row { IfSome result (λ key. has_port self.now key ≡ true) }
+        ensures unheld { IfSome result (λ key. is_unheld_at self.now key ≡ true) }
+    {
+        for place in 0..self.port_count() {
+            let port = self.port_key(place);
+            if !self.is_held(port) {
+                return Some(port);
+            }
+        }
+        None
+    }
+
+    /// The row of an object that no row counts for goes. Its room is spare then.
+    pub fn free(&mut self, object: Object)
+        requires stands { object_stands self.old.names object ≡ true }
+        requires can { CanSweep self.old.rows }
+        requires unheld { is_unheld self.old.rows (name_at self.old object) ≡ true }
+        ensures rows { self.new.rows ≡ after self.old (Frees (name_at self.old object)) }
+        ensures calls { self.new.calls ≡ self.old.calls }
+        ensures made { self.new.made ≡ self.old.made }
+        ensures loose { self.new.loose ≡ true }
+        ensures room { Roomy self.old.room self.new.room }
+    {
+        self.ports_free(object.port());
+        self.loose = true;
+    }
+
+    /// Each object goes that no row counts for, and then each that only those counted for. There is nothing to do where no
+    /// row went since the last time.
+    pub fn sweep(&mut self)
+        requires can { CanSweep self.old.rows }
+        requires still { self.old.loose ≡ false → model.unheld self.old.rows ≡ [] }
+        ensures rows { self.new.rows ≡ world_after self.old.rows (model.sweep self.old.rows) }
+        ensures calls { self.new.calls ≡ self.old.calls }
+        ensures made { self.new.made ≡ self.old.made }
+        ensures loose { self.new.loose ≡ false }
+        ensures room { Roomy self.old.room self.new.room }
+    {
+        if self.loose {
+            self.free_unheld();
+            self.loose = false;
+        }
+    }
+
+    /// While there is a port that no row counts for, it goes.
+    fn free_unheld(&mut self)
+        requires can { CanSweep self.old.rows }
+        ensures rows { self.new.rows ≡ world_after self.old.rows (model.sweep self.old.rows) }
         ensures calls { self.new.calls ≡ self.old.calls }
         ensures made { self.new.made ≡ self.old.made }
         ensures room { Roomy self.old.room self.new.room }
     {
-        if !self.is_held(port) {
-            self.ports_free(port);
+        for freed in 0..self.port_count() {
+            let _ = freed;
+            match self.unheld_port() {
+                Some(port) => self.free(Object::Port(port)),
+                None => return,
+            }
         }
-    }
-
-    /// A waiting connect ends unsuccessfully: its thread is told PORT_CONNECTION_REFUSED, with the bytes of a refusal, at
-    /// most 232, and its client port goes where no row names it any longer. The connect was received. It takes no memory.
-    pub fn end_connect(&mut self, tid: u32, info: &[u8], out: &mut Entries)
-        requires spare { 1 ≤ out.old.spare }
-        requires waits { has (waits_as tid) self.old.rows.waits ≡ true }
-        requires connect { found.is_connect (waiter self.old.rows tid) ≡ true }
-        requires idle { is_pending_in self.old.rows tid ≡ false }
-        requires info { length info.now ≤ 232 }
-        ensures takes { Takes (entering.end_connect info.now (waiter self.old.rows tid) self.old.rows) self.old self.new out.old out.new }
-        ensures calls { self.new.calls ≡ self.old.calls }
-        ensures made { self.new.made ≡ self.old.made }
-        ensures spare { out.new.spare + 1 ≡ out.old.spare }
-    {
-        let client = self.waiting(tid).port;
-        self.wake(tid, PORT_CONNECTION_REFUSED, info_field(info), out);
-        self.free_port(client);
     }
 
     /// A port that no row names goes. Its room is spare then.
     fn ports_free(&mut self, port: Key)
         requires stands { stands self.old.names.ports port ≡ true }
-        requires free { found.is_held self.old.rows (name_of self.old.names.ports port) ≡ false }
-        ensures rows { self.new.rows ≡ basic self.old.rows (Frees (name_of self.old.names.ports port)) }
+        requires free { held.is_named self.old.rows (birth_at self.old port) ≡ false }
+        ensures rows { self.new.rows ≡ after self.old (Frees (port_name (birth_at self.old port))) }
         ensures others { KeepsOthers port self.old.names.ports self.new.names.ports }
         ensures calls { self.new.calls ≡ self.old.calls }
         ensures made { self.new.made ≡ self.old.made }
+        ensures loose { self.new.loose ≡ self.old.loose }
         ensures room { Roomy self.old.room self.new.room }
     {
         self.ports.free(port);

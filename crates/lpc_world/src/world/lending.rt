@@ -2,7 +2,8 @@
 ghost use Rattle.std.specs.Prelude.{◌≡◌, map, true};
 ghost use Rattle.lpc_base.specs.Rows.{has};
 ghost use Rattle.lpc_model.specs.Found.{handles_of, is_table};
-ghost use Rattle.lpc_world.specs.Shown.{birth_of, births_of, shown_binding, shown_handle, shown_message, shown_port, shown_process, shown_thread, shown_used, shown_wait};
+ghost use Rattle.lpc_world.specs.Shown.{births_of, shown_binding, shown_handle, shown_message, shown_port, shown_process, shown_thread, shown_used, shown_wait};
+ghost use Rattle.lpc_world.specs.Clauses.{shown_in};
 
 use crate::world::World;
 use crate::{Object, parts};
@@ -27,22 +28,22 @@ impl World {
     /// Ports, and the messages in their queues.
     pub fn ports(&self) -> &Ports
         ensures births { self.now.names ≡ births_of result.now }
-        ensures ports { self.now.rows.ports ≡ map (shown_port (birth_of self.now.names)) result.now.ports }
-        ensures messages { self.now.rows.messages ≡ map (shown_message (birth_of self.now.names)) result.now.messages }
+        ensures ports { self.now.rows.ports ≡ shown_in self.now shown_port result.now.ports }
+        ensures messages { self.now.rows.messages ≡ shown_in self.now shown_message result.now.messages }
     {
         &self.ports
     }
 
     /// The waits of threads.
     pub fn waits(&self) -> &Waits
-        ensures waits { self.now.rows.waits ≡ map (shown_wait (birth_of self.now.names)) result.now.rows }
+        ensures waits { self.now.rows.waits ≡ shown_in self.now shown_wait result.now.rows }
     {
         &self.waits
     }
 
     /// The name space: directories, links, and ports.
     pub fn names(&self) -> &Names<Key>
-        ensures bindings { self.now.rows.bindings ≡ map (shown_binding (birth_of self.now.names)) result.now.bindings }
+        ensures bindings { self.now.rows.bindings ≡ shown_in self.now shown_binding result.now.bindings }
     {
         &self.names
     }
@@ -50,7 +51,7 @@ impl World {
     /// The handles of a process that stands.
     pub fn handles(&self, pid: u32) -> &Table<Object>
         requires { has (is_table pid) self.now.rows.handles ≡ true }
-        ensures rows { handles_of self.now.rows pid ≡ map (shown_handle (birth_of self.now.names)) result.now.rows }
+        ensures rows { handles_of self.now.rows pid ≡ shown_in self.now shown_handle result.now.rows }
     {
         parts::handles_of(&self.parts, pid)
     }

@@ -1,12 +1,10 @@
 // The name space: what its calls bind, and why they don't.
 ghost use Rattle.std.specs.Prelude.{◌≡◌, ◌≢◌, ◌+◌, ◌<◌, ◌≤◌, Ok, Err, IfErr, IsOk, OnErr, OnOk, true};
 ghost use Rattle.lpc_model.specs.Named.{free_name};
-ghost use Rattle.lpc_names.specs.Binding.{Refuses};
-ghost use Rattle.lpc_names.specs.Walk.{Stands};
-ghost use Rattle.lpc_names.specs.declared.names.Found.TheVariants.{Directory, Item};
-ghost use Rattle.lpc_world.specs.Bound.{with_link, with_name};
+ghost use Rattle.lpc_world.specs.Bound.{with_link};
 ghost use Rattle.lpc_world.specs.Kept.{Roomy, Same};
-ghost use Rattle.lpc_world.specs.Names.{name_of, stands};
+ghost use Rattle.lpc_world.specs.Names.{stands};
+ghost use Rattle.lpc_world.specs.Clauses.{RefusedAs, and_name, with_directory, with_port_name};
 
 use crate::world::World;
 use lpc_base::{OutOfMemory, Status};
@@ -31,28 +29,30 @@ impl World {
     /// the room may change.
     pub fn names_bind(&mut self, path: &[u8], port: Key) -> Result<(), BindFault>
         requires stands { stands self.old.names.ports port ≡ true }
-        ensures bound { OnOk result (with_name self.old.rows path.now (Stands (Item (name_of self.old.names.ports port))) ≡ Ok self.new.rows) }
-        ensures refused { IfErr result (λ fault. Refuses fault (with_name self.old.rows path.now (Stands (Item (name_of self.old.names.ports port))))) }
+        ensures bound { OnOk result (with_port_name self.old path.now port ≡ Ok self.new.rows) }
+        ensures refused { RefusedAs result (with_port_name self.old path.now port) }
         ensures same { OnErr result (Same self.old self.new) }
         ensures names { self.new.names ≡ self.old.names }
         ensures calls { self.new.calls ≡ self.old.calls }
+        ensures loose { self.new.loose ≡ self.old.loose }
         ensures made { self.new.made ≡ self.old.made }
         ensures memory { 0 < self.old.room.names → result ≢ Err BindFault.OutOfMemory }
-        ensures room { Roomy self.old.room (record self.new.room { names = self.new.room.names + 1 }) }
+        ensures room { Roomy self.old.room (and_name self.new.room) }
     {
         self.names.bind(path, port)
     }
 
     /// Makes a directory where a path leads. Faults as for `names_bind`.
     pub fn names_add_directory(&mut self, path: &[u8]) -> Result<(), BindFault>
-        ensures bound { OnOk result (with_name self.old.rows path.now (Stands Directory) ≡ Ok self.new.rows) }
-        ensures refused { IfErr result (λ fault. Refuses fault (with_name self.old.rows path.now (Stands Directory))) }
+        ensures bound { OnOk result (with_directory self.old.rows path.now ≡ Ok self.new.rows) }
+        ensures refused { RefusedAs result (with_directory self.old.rows path.now) }
         ensures same { OnErr result (Same self.old self.new) }
         ensures names { self.new.names ≡ self.old.names }
         ensures calls { self.new.calls ≡ self.old.calls }
+        ensures loose { self.new.loose ≡ self.old.loose }
         ensures made { self.new.made ≡ self.old.made }
         ensures memory { 0 < self.old.room.names → result ≢ Err BindFault.OutOfMemory }
-        ensures room { Roomy self.old.room (record self.new.room { names = self.new.room.names + 1 }) }
+        ensures room { Roomy self.old.room (and_name self.new.room) }
     {
         self.names.add_directory(path)
     }
@@ -61,13 +61,14 @@ impl World {
     /// target's form come first.
     pub fn names_add_link(&mut self, path: &[u8], target: &[u8]) -> Result<(), BindFault>
         ensures bound { OnOk result (with_link self.old.rows path.now target.now ≡ Ok self.new.rows) }
-        ensures refused { IfErr result (λ fault. Refuses fault (with_link self.old.rows path.now target.now)) }
+        ensures refused { RefusedAs result (with_link self.old.rows path.now target.now) }
         ensures same { OnErr result (Same self.old self.new) }
         ensures names { self.new.names ≡ self.old.names }
         ensures calls { self.new.calls ≡ self.old.calls }
+        ensures loose { self.new.loose ≡ self.old.loose }
         ensures made { self.new.made ≡ self.old.made }
         ensures memory { 0 < self.old.room.names → result ≢ Err BindFault.OutOfMemory }
-        ensures room { Roomy self.old.room (record self.new.room { names = self.new.room.names + 1 }) }
+        ensures room { Roomy self.old.room (and_name self.new.room) }
     {
         self.names.add_link(path, target)
     }

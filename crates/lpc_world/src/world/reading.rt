@@ -1,19 +1,20 @@
 // What is found in the world, in the definitions' words. An object that is found by its key stands.
-ghost use Rattle.std.specs.Prelude.{◌≡◌, ◌<◌, ◌≤◌, ◌&&◌, None, Some, Ok, Err, true, false, not, is_none, IfSome, IfOk, OnOk, MatchOption, MatchResult, length, option_map};
+ghost use Rattle.std.specs.Prelude.{◌≡◌, ◌<◌, ◌≤◌, ◌&&◌, None, Some, Ok, Err, true, false, is_none, IfSome, IfOk, OnOk, length, option_map};
 ghost use Rattle.lpc_base.specs.Rows.{count, first, has};
 ghost use Rattle.lpc_model.specs.Found as found;
-ghost use Rattle.lpc_model.specs.Found.{fits_as, handle_at, handles_of, is_process, is_queued, is_table, is_the, is_thread, live_count, objects, pair_of, port_row, same_birth, waits_as, was_process, was_thread};
+ghost use Rattle.lpc_model.specs.Found.{datagrams, handle_at, handles_of, is_table, is_the, is_thread, live_count, objects, same_birth, waits_as, waits_at, was_process, was_thread};
 ghost use Rattle.lpc_model.specs.Request as request;
 ghost use Rattle.lpc_model.specs.Tests as tests;
-ghost use Rattle.lpc_model.specs.Entering.{shown as shown_to, takes_from};
+ghost use Rattle.lpc_model.specs.Entering.{shown as shown_to};
 ghost use Rattle.lpc_world.specs.Does.{has_no_read};
-ghost use Rattle.lpc_world.specs.Lawful.{are_single, is_quiet};
-ghost use Rattle.lpc_world.specs.Names.{are_apart, name_of, some_stands, stands};
+ghost use Rattle.lpc_world.specs.Lawful.{are_single};
+ghost use Rattle.lpc_world.specs.Names.{are_apart, some_stands, stands};
 ghost use Rattle.lpc_world.specs.Shown as shown;
-ghost use Rattle.lpc_world.specs.Shown.{Births, birth_of, kind_of, name_by, object_stands, row_with, shown_thread};
+ghost use Rattle.lpc_world.specs.Shown.{Births, birth_of, kind_of, object_stands, row_with, shown_thread};
 ghost use Rattle.lpc_waits.specs.Table.{is_request};
 ghost use Rattle.lpc_world.specs.Kept.{is_alive, is_pending_in};
-ghost use Rattle.lpc_world.specs.Ready.{HasRow, IsWait, caller, condition_of, is_ready, port_of, room_needed, waiter};
+ghost use Rattle.lpc_world.specs.Ready.{HasRow, IsWait, caller, condition_of, is_ready, room_needed, waiter};
+ghost use Rattle.lpc_world.specs.Clauses.{Answers, Finds, FindsWait, HasSmallLoad, IsOwnWait, IsUnderName, birth_at, fits_at, has_process, has_table, is_quiet_for, object_for, oldest, pair_at, port_at, port_for, queue_at, receive_at, route_at, row_at, row_shown, some_birth, takes_at, thread_row};
 
 use crate::world::World;
 use crate::{Condition, Object, parts};
@@ -61,7 +62,7 @@ impl World {
         requires { is_ready self.now.rows tid ≡ true }
         ensures row { shown_thread result ≡ caller self.now.rows tid }
         ensures number { result.number ≡ tid }
-        ensures found { first (is_thread result.number) self.now.rows.threads ≡ Some (shown_thread result) }
+        ensures found { thread_row self.now.rows result.number ≡ Some (shown_thread result) }
         ensures stands { has (is_thread tid) self.now.rows.threads ≡ true }
         ensures ready { has (waits_as tid) self.now.rows.waits ≡ false }
         ensures table { has (is_table result.process) self.now.rows.handles ≡ true }
@@ -90,8 +91,8 @@ impl World {
     /// The process has a live thread.
     pub fn is_live(&self, pid: u32) -> bool
         ensures live { result ≡ found.is_live self.now.rows pid }
-        ensures process { result ≡ true → has (is_process pid) self.now.rows.processes ≡ true }
-        ensures table { result ≡ true → has (is_table pid) self.now.rows.handles ≡ true }
+        ensures process { result ≡ true → has_process self.now.rows pid ≡ true }
+        ensures table { result ≡ true → has_table self.now.rows pid ≡ true }
     {
         self.procs.is_live(pid)
     }
@@ -145,7 +146,7 @@ impl World {
         right: u32,
     ) -> Result<Object, Status>
         requires { is_ready self.now.rows tid ≡ true }
-        ensures object { MatchResult result (λ o. tests.object_test self.now.rows (caller self.now.rows tid) kind right handle ≡ Ok (birth_of self.now.names o)) (λ s. tests.object_test self.now.rows (caller self.now.rows tid) kind right handle ≡ Err s) }
+        ensures object { Answers result (birth_of self.now.names) (object_for self.now.rows tid kind right handle) }
         ensures stands { IfOk result (λ o. object_stands self.now.names o ≡ true) }
         ensures kind { IfOk result (λ o. found.same_kind (kind_of o) kind ≡ true) }
         ensures row { IfOk result (λ o. HasRow self.now o) }
@@ -165,7 +166,7 @@ impl World {
 
     fn handle(&self, pid: u32, value: u32) -> Option<Row<Object>>
         requires { has (is_table pid) self.now.rows.handles ≡ true }
-        ensures row { MatchOption result (handle_at self.now.rows pid value ≡ None) (λ row. handle_at self.now.rows pid value ≡ Some (tests.handle_row value (name_by (birth_of self.now.names) row.object) row.access)) }
+        ensures row { Finds result (row_shown self.now value) (handle_at self.now.rows pid value) }
         ensures stands { IfSome result (λ row. object_stands self.now.names row.object ≡ true) }
         ensures object { IfSome result (λ row. HasRow self.now row.object) }
     {
@@ -190,9 +191,9 @@ impl World {
     /// The port that a handle of the thread's process names, with the right to use it.
     pub fn port_at(&self, tid: u32, handle: u32) -> Result<Key, Status>
         requires { is_ready self.now.rows tid ≡ true }
-        ensures port { MatchResult result (λ key. tests.port_test self.now.rows (caller self.now.rows tid) handle ≡ Ok (port_of self.now.rows (name_of self.now.names.ports key))) (λ s. tests.port_test self.now.rows (caller self.now.rows tid) handle ≡ Err s) }
+        ensures port { Answers result (port_at self.now) (port_for self.now.rows tid handle) }
         ensures stands { IfOk result (λ key. stands self.now.names.ports key ≡ true) }
-        ensures name { IfOk result (λ key. let port = port_of self.now.rows (name_of self.now.names.ports key) in port.birth ≡ name_of self.now.names.ports key) }
+        ensures name { IfOk result (λ key. IsUnderName self.now key) }
     {
         let object = self.object_at(tid, handle, ObjectKind::Port, 1)?;
         Ok(port_key(object))
@@ -202,7 +203,7 @@ impl World {
     pub fn handles_test(&self, pid: u32) -> Result<(), Status>
         requires { has (is_table pid) self.now.rows.handles ≡ true }
         ensures full { result ≡ tests.handles_test self.now.rows pid 1 }
-        ensures few { OnOk result (tests.handle_load self.now.rows pid < 256) }
+        ensures few { OnOk result (HasSmallLoad self.now.rows pid) }
     {
         if self.handle_load(pid) >= HANDLE_LIMIT {
             return Err(QUOTA_EXCEEDED);
@@ -213,7 +214,7 @@ impl World {
     /// A handle names the port.
     fn is_open(&self, port: Key) -> bool
         requires { stands self.now.names.ports port ≡ true }
-        ensures { result ≡ found.is_open self.now.rows (name_of self.now.names.ports port) }
+        ensures { result ≡ found.is_open self.now.rows (birth_at self.now port) }
     {
         parts::names_port(&self.parts, port)
     }
@@ -223,13 +224,13 @@ impl World {
     /// The row of a port that stands.
     pub(crate) fn port(&self, port: Key) -> Port
         requires { stands self.now.names.ports port ≡ true }
-        ensures found { port_row self.now.rows (name_of self.now.names.ports port) ≡ Some (port_of self.now.rows (name_of self.now.names.ports port)) }
-        ensures birth { let p = port_of self.now.rows (name_of self.now.names.ports port) in p.birth ≡ name_of self.now.names.ports port }
-        ensures kind { let p = port_of self.now.rows (name_of self.now.names.ports port) in p.kind ≡ result.kind }
-        ensures pair { let p = port_of self.now.rows (name_of self.now.names.ports port) in p.pair ≡ option_map (name_of self.now.names.ports) result.pair }
-        ensures connection { let p = port_of self.now.rows (name_of self.now.names.ports port) in p.connection ≡ option_map (name_of self.now.names.ports) result.connection }
-        ensures context { let p = port_of self.now.rows (name_of self.now.names.ports port) in p.context ≡ result.context }
-        ensures completed { let p = port_of self.now.rows (name_of self.now.names.ports port) in p.completed ≡ result.completed }
+        ensures found { row_at self.now port ≡ Some (port_at self.now port) }
+        ensures birth { let p = port_at self.now port in p.birth ≡ birth_at self.now port }
+        ensures kind { let p = port_at self.now port in p.kind ≡ result.kind }
+        ensures pair { let p = port_at self.now port in p.pair ≡ some_birth self.now result.pair }
+        ensures connection { let p = port_at self.now port in p.connection ≡ some_birth self.now result.connection }
+        ensures context { let p = port_at self.now port in p.context ≡ result.context }
+        ensures completed { let p = port_at self.now port in p.completed ≡ result.completed }
         ensures apart { are_apart self.now.names.ports ≡ true }
         ensures pair_stands { some_stands self.now.names.ports result.pair ≡ true }
         ensures connection_stands { some_stands self.now.names.ports result.connection ≡ true }
@@ -243,7 +244,7 @@ impl World {
     /// No message stands in the queue.
     fn is_empty(&self, queue: Key) -> bool
         requires { stands self.now.names.ports queue ≡ true }
-        ensures { result ≡ is_none (first (is_queued (name_of self.now.names.ports queue)) self.now.rows.messages) }
+        ensures { result ≡ is_none (oldest self.now queue) }
     {
         match self.ports.first(queue, false) {
             Some(_) => false,
@@ -253,14 +254,14 @@ impl World {
 
     fn datagrams(&self, port: Key) -> usize
         requires { stands self.now.names.ports port ≡ true }
-        ensures { let p = port_of self.now.rows (name_of self.now.names.ports port) in result ≡ found.datagrams self.now.rows p.birth }
+        ensures { let p = port_at self.now port in result ≡ datagrams self.now.rows p.birth }
     {
         self.ports.sent_datagrams(port)
     }
 
     fn if_open(&self, port: Option<Key>) -> Option<Key>
         requires { some_stands self.now.names.ports port ≡ true }
-        ensures name { option_map (name_of self.now.names.ports) result ≡ found.if_open self.now.rows (option_map (name_of self.now.names.ports) port) }
+        ensures name { some_birth self.now result ≡ found.if_open self.now.rows (some_birth self.now port) }
         ensures stands { some_stands self.now.names.ports result ≡ true }
     {
         match port {
@@ -272,7 +273,7 @@ impl World {
     /// The queue that a message sent on a port enters: none where the port isn't open, or has no way.
     pub fn route(&self, port: Key) -> Option<Key>
         requires { stands self.now.names.ports port ≡ true }
-        ensures queue { option_map (name_of self.now.names.ports) result ≡ found.route self.now.rows (port_of self.now.rows (name_of self.now.names.ports port)) }
+        ensures queue { some_birth self.now result ≡ route_at self.now port }
         ensures stands { some_stands self.now.names.ports result ≡ true }
     {
         let row = self.port(port);
@@ -292,7 +293,7 @@ impl World {
 
     fn queue_of(&self, port: Key) -> Option<Key>
         requires { stands self.now.names.ports port ≡ true }
-        ensures queue { option_map (name_of self.now.names.ports) result ≡ found.queue_of self.now.rows (port_of self.now.rows (name_of self.now.names.ports port)) }
+        ensures queue { some_birth self.now result ≡ queue_at self.now port }
         ensures stands { some_stands self.now.names.ports result ≡ true }
     {
         let row = self.port(port);
@@ -305,7 +306,7 @@ impl World {
     fn is_spent(&self, port: Key, queue: Key) -> bool
         requires port { stands self.now.names.ports port ≡ true }
         requires queue { stands self.now.names.ports queue ≡ true }
-        ensures { result ≡ request.is_spent self.now.rows (port_of self.now.rows (name_of self.now.names.ports port)) (name_of self.now.names.ports queue) }
+        ensures { result ≡ request.is_spent self.now.rows (port_at self.now port) (birth_at self.now queue) }
     {
         let row = self.port(port);
         match row.kind {
@@ -321,7 +322,7 @@ impl World {
     /// come.
     pub fn receive_test(&self, port: Key) -> Result<Key, Status>
         requires { stands self.now.names.ports port ≡ true }
-        ensures queue { MatchResult result (λ q. request.receive_test self.now.rows (port_of self.now.rows (name_of self.now.names.ports port)) ≡ Ok (name_of self.now.names.ports q)) (λ s. request.receive_test self.now.rows (port_of self.now.rows (name_of self.now.names.ports port)) ≡ Err s) }
+        ensures queue { Answers result (birth_at self.now) (receive_at self.now port) }
         ensures stands { IfOk result (λ q. stands self.now.names.ports q ≡ true) }
     {
         let Some(queue) = self.queue_of(port) else {
@@ -336,7 +337,7 @@ impl World {
     /// The context that a message sent on a port keeps: that of the pair for a client port, else 0.
     pub fn context(&self, port: Key) -> u32
         requires { stands self.now.names.ports port ≡ true }
-        ensures { result ≡ found.context_of (port_of self.now.rows (name_of self.now.names.ports port)) }
+        ensures { result ≡ found.context_of (port_at self.now port) }
     {
         let row = self.port(port);
         match row.kind {
@@ -351,7 +352,7 @@ impl World {
     /// Fewer than 32 datagrams of the port stand in queues.
     pub fn datagram_test(&self, port: Key) -> Result<(), Status>
         requires { stands self.now.names.ports port ≡ true }
-        ensures { result ≡ request.datagram_test self.now.rows (port_of self.now.rows (name_of self.now.names.ports port)) }
+        ensures { result ≡ request.datagram_test self.now.rows (port_at self.now port) }
     {
         if self.datagrams(port) >= DATAGRAM_LIMIT {
             return Err(QUOTA_EXCEEDED);
@@ -365,9 +366,9 @@ impl World {
     /// where it fits none.
     pub fn fitted(&self, port: Key, client: ClientId, identifier: u32) -> Option<u32>
         requires { stands self.now.names.ports port ≡ true }
-        ensures found { MatchOption result (first (fits_as self.now.rows (name_of self.now.names.ports port) client identifier) self.now.rows.waits ≡ None) (λ tid. first (fits_as self.now.rows (name_of self.now.names.ports port) client identifier) self.now.rows.waits ≡ Some (waiter self.now.rows tid)) }
+        ensures found { FindsWait self.now (fits_at self.now port client identifier) result }
         ensures waits { IfSome result (λ tid. has (waits_as tid) self.now.rows.waits ≡ true) }
-        ensures thread { IfSome result (λ tid. let x = waiter self.now.rows tid in x.thread ≡ tid) }
+        ensures thread { IfSome result (λ tid. IsOwnWait self.now.rows tid) }
         ensures idle { IfSome result (λ tid. is_pending_in self.now.rows tid ≡ false) }
     {
         if !self.is_waiting(client.thread) {
@@ -391,6 +392,17 @@ impl World {
         }
     }
 
+    /// The thread waits on the queue.
+    pub(crate) fn waits_on(&self, tid: u32, queue: Key) -> bool
+        requires { stands self.now.names.ports queue ≡ true }
+        ensures { result ≡ has (waits_at tid (birth_at self.now queue)) self.now.rows.waits }
+    {
+        if !self.is_waiting(tid) {
+            return false;
+        }
+        self.is_same(self.wait(tid).queue, queue)
+    }
+
     /// The wait of a thread that waits.
     pub(crate) fn wait(&self, tid: u32) -> Wait
         requires { has (waits_as tid) self.now.rows.waits ≡ true }
@@ -407,7 +419,7 @@ impl World {
     fn fits(&self, port: Key, client: ClientId, identifier: u32) -> bool
         requires port { stands self.now.names.ports port ≡ true }
         requires waits { has (waits_as client.thread) self.now.rows.waits ≡ true }
-        ensures { result ≡ fits_as self.now.rows (name_of self.now.names.ports port) client identifier (waiter self.now.rows client.thread) }
+        ensures { result ≡ fits_at self.now port client identifier (waiter self.now.rows client.thread) }
     {
         let wait = self.wait(client.thread);
         if wait.process != client.process || wait.identifier != identifier {
@@ -421,7 +433,7 @@ impl World {
         requires apart { are_apart self.now.names.ports ≡ true }
         requires one { stands self.now.names.ports one ≡ true }
         requires other { stands self.now.names.ports other ≡ true }
-        ensures { result ≡ same_birth (name_of self.now.names.ports one) (name_of self.now.names.ports other) }
+        ensures { result ≡ same_birth (birth_at self.now one) (birth_at self.now other) }
     {
         one == other
     }
@@ -430,7 +442,7 @@ impl World {
     fn is_pair(&self, port: Key, other: Key) -> bool
         requires port { stands self.now.names.ports port ≡ true }
         requires other { stands self.now.names.ports other ≡ true }
-        ensures { result ≡ is_the (name_of self.now.names.ports other) (pair_of self.now.rows (name_of self.now.names.ports port)) }
+        ensures { result ≡ is_the (birth_at self.now other) (pair_at self.now port) }
     {
         match self.port(port).pair {
             Some(pair) => self.is_same(other, pair),
@@ -442,12 +454,12 @@ impl World {
     /// connection request whose receive or listen has. None exactly where none waits there.
     pub fn receiver(&self, queue: Key, is_connection_request: bool) -> Option<u32>
         requires { stands self.now.names.ports queue ≡ true }
-        ensures found { MatchOption result (first (takes_from (name_of self.now.names.ports queue) is_connection_request) self.now.rows.waits ≡ None) (λ tid. first (takes_from (name_of self.now.names.ports queue) is_connection_request) self.now.rows.waits ≡ Some (waiter self.now.rows tid)) }
+        ensures found { FindsWait self.now (takes_at self.now queue is_connection_request) result }
         ensures waits { IfSome result (λ tid. has (waits_as tid) self.now.rows.waits ≡ true) }
-        ensures thread { IfSome result (λ tid. let x = waiter self.now.rows tid in x.thread ≡ tid) }
+        ensures thread { IfSome result (λ tid. IsOwnWait self.now.rows tid) }
         ensures idle { IfSome result (λ tid. is_pending_in self.now.rows tid ≡ false) }
-        ensures takes { IfSome result (λ tid. takes_from (name_of self.now.names.ports queue) is_connection_request (waiter self.now.rows tid) ≡ true) }
-        ensures quiet { IfSome result (λ tid. is_quiet self.now.rows.messages (waiter self.now.rows tid) ≡ true) }
+        ensures takes { IfSome result (λ tid. takes_at self.now queue is_connection_request (waiter self.now.rows tid) ≡ true) }
+        ensures quiet { IfSome result (λ tid. is_quiet_for self.now.rows tid ≡ true) }
     {
         self.waits.first_on(queue, is_connection_request)
     }
@@ -468,7 +480,7 @@ impl World {
     pub fn waiting_call(&self, tid: u32) -> CallName
         requires { has (waits_as tid) self.now.rows.waits ≡ true }
         ensures call { let x = waiter self.now.rows tid in result ≡ x.call }
-        ensures thread { let x = waiter self.now.rows tid in x.thread ≡ tid }
+        ensures thread { IsOwnWait self.now.rows tid }
     {
         call_of_wait(self.wait(tid).kind)
     }

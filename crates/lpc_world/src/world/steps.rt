@@ -1,29 +1,32 @@
 // The steps that several services share: a message is read, a wait begins and ends, a message enters its queue.
-ghost use Rattle.std.specs.Prelude.{◌≡◌, ◌≤◌, ◌<◌, ◌+◌, ◌*◌, [], ◌∷◌, ◌++◌, Ok, Err, None, Some, true, false, MatchResult, IfOk, is_some, length};
-ghost use Rattle.lpc_base.specs.Rows.{first, has};
+ghost use Rattle.std.specs.Prelude.{◌≡◌, ◌≤◌, ◌<◌, ◌+◌, ◌*◌, [], ◌∷◌, ◌++◌, Ok, Err, None, Some, true, false, IfOk, length};
+ghost use Rattle.lpc_base.specs.Rows.{has};
 ghost use Rattle.lpc_base.specs.declared.status.TheConstants.{SUCCESS};
-ghost use Rattle.lpc_model.specs.Basics.{basic, told, world_after, AddsHandle, Awaits, Enters, Wakes};
-ghost use Rattle.lpc_model.specs.Entering.{enter, given_steps, shown, takes, woken};
-ghost use Rattle.lpc_model.specs.Found.{free_handle, handles_of, is_queued, is_table, is_thread, waits_as};
+ghost use Rattle.lpc_model.specs.Basics.{told, Awaits, Wakes};
+ghost use Rattle.lpc_model.specs.Entering.{end_connect, enter, takes};
+ghost use Rattle.lpc_model.specs.Found.{free_handle, is_connect, is_table, is_thread, waits_as};
 ghost use Rattle.lpc_world.specs.Does.{has_no_read};
 ghost use Rattle.lpc_model.specs.Message.{asks, is_connection_request, message_of, message_test};
 ghost use Rattle.lpc_model.specs.Tests as tests;
-ghost use Rattle.lpc_model.specs.Tests.{handle_row};
-ghost use Rattle.lpc_waits.specs.Table.{is_connect};
+ghost use Rattle.lpc_waits.specs.Table as waits;
 ghost use Rattle.lpc_world.specs.Does.{Takes};
-ghost use Rattle.lpc_world.specs.Kept.{IsIdleAfter, Roomy, StaysReady, handle_room, is_pending, is_pending_in, promised};
+ghost use Rattle.lpc_world.specs.Kept.{IsIdleAfter, Roomy, StaysReady, is_pending_in};
 ghost use Rattle.lpc_world.specs.Lawful.{is_quiet};
-ghost use Rattle.lpc_world.specs.Names.{name_of, stands};
+ghost use Rattle.lpc_world.specs.Names.{stands};
 ghost use Rattle.lpc_world.specs.Ready.{waiter};
-ghost use Rattle.lpc_world.specs.Shown.{birth_of, name_by, object_stands, row_with, waiting_row, with_message};
+ghost use Rattle.lpc_world.specs.Shown.{object_stands, row_with, with_message};
+ghost use Rattle.lpc_base.specs.declared.limits.TheConstants.{MESSAGE_LIMIT};
+ghost use Rattle.lpc_world.specs.Clauses.{Answers, HasHandleRoom, HasSmallLoad, after, and_message, birth_at, connects, has_message, has_table, has_taker, is_quiet_for, new_wait, passed, pends, sent, waking, with_handle};
 
 use crate::Object;
 use crate::world::World;
 use lpc_base::Status;
 use lpc_base::limits::MESSAGE_LIMIT;
-use lpc_base::status::{INVALID_PARAMETER, PORT_MESSAGE_TOO_LONG, SUCCESS};
+use lpc_base::status::{
+    INVALID_PARAMETER, PORT_CONNECTION_REFUSED, PORT_MESSAGE_TOO_LONG, SUCCESS,
+};
 use lpc_message::{MessageRef, kind};
-use lpc_model::{CallName, Entries, Entry, Fields, Message};
+use lpc_model::{CallName, Entries, Entry, Fields, Message, info_field};
 use lpc_slots::Key;
 use lpc_waits::Wait;
 
@@ -32,8 +35,8 @@ impl World {
     /// PORT_MESSAGE_TOO_LONG where its MessageSize is above 256.
     #[tactic(auto, unfolding(lpc_model::specs::Message::message_test))]
     pub fn read_message<'a>(&self, bytes: &'a [u8]) -> Result<MessageRef<'a>, Status>
-        ensures message { MatchResult result (λ m. message_test bytes.now ≡ Ok (message_of m.now)) (λ s. message_test bytes.now ≡ Err s) }
-        ensures bound { IfOk result (λ m. length m.now ≤ 256) }
+        ensures message { Answers result (λ m. message_of m.now) (message_test bytes.now) }
+        ensures bound { IfOk result (λ m. length m.now ≤ MESSAGE_LIMIT) }
     {
         let message = match MessageRef::read(bytes) {
             Ok(message) => message,
@@ -49,13 +52,14 @@ impl World {
     /// that its waiting connects are to get.
     pub fn give_handle(&mut self, pid: u32, object: Object, access: u32) -> u32
         requires table { has (is_table pid) self.old.rows.handles ≡ true }
-        requires room { promised self.old.rows pid < handle_room self.old.room pid }
-        requires load { tests.handle_load self.old.rows pid < 256 }
+        requires room { HasHandleRoom self.old pid }
+        requires load { HasSmallLoad self.old.rows pid }
         requires object { object_stands self.old.names object ≡ true }
         ensures value { result ≡ free_handle self.old.rows pid }
-        ensures rows { self.new.rows ≡ basic self.old.rows (AddsHandle pid (handle_row result (name_by (birth_of self.old.names) object) access)) }
+        ensures rows { self.new.rows ≡ with_handle self.old pid result object access }
         ensures names { self.new.names ≡ self.old.names }
         ensures calls { self.new.calls ≡ self.old.calls }
+        ensures loose { self.new.loose ≡ self.old.loose }
         ensures made { self.new.made ≡ self.old.made }
     {
         match self.handles_add(pid, object, access) {
@@ -71,16 +75,17 @@ impl World {
         requires budget { self.old.made < 16 * self.old.calls }
         requires port { stands self.old.names.ports wait.port ≡ true }
         requires queue { stands self.old.names.ports wait.queue ≡ true }
-        requires quiet { is_quiet self.old.rows.messages (waiting_row self.old.names tid wait []) ≡ true }
-        requires table { is_connect wait.kind ≡ true → has (is_table wait.process) self.old.rows.handles ≡ true }
-        requires load { is_connect wait.kind ≡ true → tests.handle_load self.old.rows wait.process < 256 }
-        requires handles { is_connect wait.kind ≡ true → promised self.old.rows wait.process < handle_room self.old.room wait.process }
-        ensures rows { self.new.rows ≡ basic self.old.rows (Awaits (with_message message.now (waiting_row self.old.names tid wait []))) }
+        requires quiet { is_quiet self.old.rows.messages (new_wait self.old tid wait) ≡ true }
+        requires table { connects wait ≡ true → has_table self.old.rows wait.process ≡ true }
+        requires load { connects wait ≡ true → HasSmallLoad self.old.rows wait.process }
+        requires handles { connects wait ≡ true → HasHandleRoom self.old wait.process }
+        ensures rows { self.new.rows ≡ after self.old (Awaits (with_message message.now (new_wait self.old tid wait))) }
         ensures names { self.new.names ≡ self.old.names }
         ensures calls { self.new.calls ≡ self.old.calls }
+        ensures loose { self.new.loose ≡ self.old.loose }
         ensures made { self.new.made ≡ self.old.made + 1 }
         ensures room { Roomy self.old.room self.new.room }
-        ensures owed { is_pending (waiting_row self.old.names tid wait []) ≡ true → 0 < self.new.room.requests }
+        ensures owed { pends self.old tid wait ≡ true → 0 < self.new.room.requests }
     {
         self.waits_add(tid, wait);
         self.waits_set_message(tid, message.bytes().as_slice());
@@ -92,12 +97,13 @@ impl World {
         requires waits { has (waits_as tid) self.old.rows.waits ≡ true }
         requires plain { has_no_read fields ≡ true }
         requires idle { is_pending_in self.old.rows tid ≡ false }
-        ensures rows { self.new.rows ≡ basic self.old.rows (woken status fields (waiter self.old.rows tid)) }
+        ensures rows { self.new.rows ≡ after self.old (waking self.old tid status fields) }
         ensures names { self.new.names ≡ self.old.names }
         ensures calls { self.new.calls ≡ self.old.calls }
+        ensures loose { self.new.loose ≡ true }
         ensures made { self.new.made ≡ self.old.made }
         ensures room { Roomy self.old.room self.new.room }
-        ensures list { out.new.list ≡ out.old.list ++ told (woken status fields (waiter self.old.rows tid)) }
+        ensures list { out.new.list ≡ out.old.list ++ told (waking self.old tid status fields) }
         ensures spare { out.new.spare + 1 ≡ out.old.spare }
         ensures still { StaysReady self.old.rows self.new.rows }
     {
@@ -117,9 +123,10 @@ impl World {
         requires spare { 1 ≤ out.old.spare }
         requires plain { has_no_read fields ≡ true }
         requires idle { is_pending_in self.old.rows tid ≡ false }
-        ensures rows { self.new.rows ≡ basic self.old.rows (Wakes tid call status fields) }
+        ensures rows { self.new.rows ≡ after self.old (Wakes tid call status fields) }
         ensures names { self.new.names ≡ self.old.names }
         ensures calls { self.new.calls ≡ self.old.calls }
+        ensures loose { self.new.loose ≡ true }
         ensures made { self.new.made ≡ self.old.made }
         ensures room { Roomy self.old.room self.new.room }
         ensures list { out.new.list ≡ out.old.list ++ told (Wakes tid call status fields) }
@@ -133,6 +140,23 @@ impl World {
             status,
             fields,
         });
+    }
+
+    /// A waiting connect ends unsuccessfully: its thread is told PORT_CONNECTION_REFUSED, with the bytes of a refusal, at
+    /// most 232. The connect was received.
+    pub fn end_connect(&mut self, tid: u32, info: &[u8], out: &mut Entries)
+        requires spare { 1 ≤ out.old.spare }
+        requires waits { has (waits_as tid) self.old.rows.waits ≡ true }
+        requires connect { is_connect (waiter self.old.rows tid) ≡ true }
+        requires idle { is_pending_in self.old.rows tid ≡ false }
+        requires info { length info.now ≤ 232 }
+        ensures takes { Takes (end_connect info.now (waiter self.old.rows tid) ∷ []) self.old self.new out.old out.new }
+        ensures names { self.new.names ≡ self.old.names }
+        ensures calls { self.new.calls ≡ self.old.calls }
+        ensures made { self.new.made ≡ self.old.made }
+        ensures spare { out.new.spare + 1 ≡ out.old.spare }
+    {
+        self.wake(tid, PORT_CONNECTION_REFUSED, info_field(info), out);
     }
 
     /// A message enters the queue of a port, and where a thread waits there that takes it, the one that has waited longest
@@ -171,16 +195,17 @@ impl World {
     fn enter(&mut self, queue: Key, sender: Key, context: u32, message: &Message)
         requires queue { stands self.old.names.ports queue ≡ true }
         requires sender { stands self.old.names.ports sender ≡ true }
-        requires quiet { has (takes (row_with self.old.names queue sender context message.now)) self.old.rows.waits ≡ false }
+        requires quiet { has_taker self.old queue sender context message.now ≡ false }
         requires budget { self.old.made < 16 * self.old.calls }
         requires request { asks message.now ≡ true → 0 < self.old.room.requests }
         requires other { asks message.now ≡ false → 0 < self.old.room.messages }
-        ensures rows { self.new.rows ≡ basic self.old.rows (Enters (row_with self.old.names queue sender context message.now)) }
+        ensures rows { self.new.rows ≡ sent self.old queue sender context message.now }
         ensures names { self.new.names ≡ self.old.names }
-        ensures queued { is_some (first (is_queued (name_of self.old.names.ports queue)) self.new.rows.messages) ≡ true }
+        ensures queued { has_message self.new.rows (birth_at self.old queue) ≡ true }
         ensures calls { self.new.calls ≡ self.old.calls }
+        ensures loose { self.new.loose ≡ self.old.loose }
         ensures made { self.new.made ≡ self.old.made + 1 }
-        ensures room { Roomy self.old.room (record self.new.room { messages = self.new.room.messages + 1; requests = self.new.room.requests + 1 }) }
+        ensures room { Roomy self.old.room (and_message self.new.room) }
     {
         self.ports_send(queue, sender, context, message.bytes().as_slice());
     }
@@ -188,17 +213,19 @@ impl World {
     /// A message enters a queue, and the thread that waits there takes it at once, so that it needs no place there. Where
     /// its sender waits for an answer, it is received.
     fn pass(&mut self, tid: u32, queue: Key, sender: Key, context: u32, message: &Message)
+        requires queue { stands self.old.names.ports queue ≡ true }
         requires takes { takes (row_with self.old.names queue sender context message.now) (waiter self.old.rows tid) ≡ true }
-        requires quiet { is_quiet self.old.rows.messages (waiter self.old.rows tid) ≡ true }
+        requires quiet { is_quiet_for self.old.rows tid ≡ true }
         requires request { asks message.now ≡ true → 0 < self.old.room.requests }
-        ensures rows { self.new.rows ≡ world_after self.old.rows (Enters (row_with self.old.names queue sender context message.now) ∷ given_steps (waiter self.old.rows tid) (row_with self.old.names queue sender context message.now)) }
+        ensures rows { self.new.rows ≡ passed self.old.rows tid (row_with self.old.names queue sender context message.now) }
         ensures names { self.new.names ≡ self.old.names }
         ensures idle { IsIdleAfter self.old.rows self.new.rows }
         ensures calls { self.new.calls ≡ self.old.calls }
+        ensures loose { self.new.loose ≡ self.old.loose }
     {
-        let _ = (tid, queue, sender, context);
+        let _ = (tid, sender, context);
         if wants_answer(message) {
-            self.waits_receive(message.header.client.thread);
+            self.waits_receive(message.header.client.thread, queue);
         }
     }
 }

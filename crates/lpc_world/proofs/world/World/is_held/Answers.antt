@@ -1,35 +1,15 @@
-use Rattle.std.proofs.Common.{◌≡◌, ap, ◌∙◌, arith}
-use Rattle.lpc_base.specs.Rows.{has}
-use Rattle.lpc_world.specs.Parts.{has_name_of}
-use Rattle.lpc_world.specs.Shown.{tables_of}
-use Rattle.lpc_world.proofs.Unheld as unheld
+use Rattle.std.proofs.Common.{◌≡◌, true, not, ap, sym, ◌∙◌}
+use Rattle.lpc_world.specs.Clauses.{birth_at, port_at}
+use Rattle.lpc_world.specs.Names.{name_of}
+use Rattle.lpc_world.proofs.HeldPorts.{held_as, paired_held}
 use Rattle.lpc_world.proofs.world.World.is_held.Goals as goal
-use Rattle.lpc_world.proofs.world.World.is_held.Goals.{then-names_port, else-names_port, then-is_named, else-is_named}
 
-pub returns-then-is_named-2 : goal.returns-then-is_named-2
-returns-then-is_named-2 c =
-    let there = rw (← c.self.view_is) at c.requires in
-    let held = unheld.held_is (tables_of c.self.inside.procs c.self.inside.parts.items c.self.inside.ports c.self.inside.waits c.self.inside.names) c.self.invariant.named c.args.port there in
-    let by_handle : c.names_port.result ≡ has (has_name_of c.args.port) c.self.inside.parts.items = c.names_port.ensures ∙ ap (λ ps. has (has_name_of c.args.port) ps) c.deref.ensures.value in
-    rw (← c.self.view_is, held)
-    (elim c.if-is_named.branch [
-      | then-is_named w ↦ elim c.if-names_port.branch [
-        | then-names_port v ↦ grind (arith, by_handle)
-        | else-names_port v ↦ grind (arith, v.is_named.ensures)
-      ]
-      | else-is_named w ↦ grind (arith, w.is_named-else-is_named.ensures)
-    ])
+pub returns-in-Some : goal.returns-in-Some
+returns-in-Some c =
+    let w = c.args.self.now in
+    let port = c.args.port in
+    let pair = rw c.in-Some.is at c.port.ensures.pair in
+    sym (ap not (paired_held w.rows (birth_at w port) (birth_at w c.in-Some.field-0) (port_at w port) c.requires.can c.port.ensures.found c.port.ensures.birth pair))
 
-pub returns-else-is_named-2 : goal.returns-else-is_named-2
-returns-else-is_named-2 c =
-    let there = rw (← c.self.view_is) at c.requires in
-    let held = unheld.held_is (tables_of c.self.inside.procs c.self.inside.parts.items c.self.inside.ports c.self.inside.waits c.self.inside.names) c.self.invariant.named c.args.port there in
-    let by_handle : c.names_port.result ≡ has (has_name_of c.args.port) c.self.inside.parts.items = c.names_port.ensures ∙ ap (λ ps. has (has_name_of c.args.port) ps) c.deref.ensures.value in
-    rw (← c.self.view_is, held)
-    (elim c.if-is_named.branch [
-      | then-is_named w ↦ absurd (cc)
-      | else-is_named w ↦ elim c.if-names_port.branch [
-        | then-names_port v ↦ absurd (cc)
-        | else-names_port v ↦ grind (arith, by_handle, v.is_named.ensures, w.is_named-else-is_named.ensures, c.has_name.ensures)
-      ]
-    ])
+pub returns : goal.returns
+returns c = c.is_named.ensures ∙ held_as c.args.self.now.rows (name_of c.args.self.now.names.ports c.args.port) c.requires.can

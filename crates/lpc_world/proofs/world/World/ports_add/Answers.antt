@@ -10,24 +10,24 @@ use Rattle.lpc_world.proofs.world.World.ports_add.Goals as goal
 pub invariant_of-self : goal.invariant_of-self
 invariant_of-self c =
     let there = rw (← c.self.view_is) at c.requires in
-    rw c.add.ensures.table (steps.made_lawful (tables_of c.self.inside.procs c.self.inside.parts.items c.self.inside.ports c.self.inside.waits c.self.inside.names) c.self.inside.calls c.self.inside.made c.self.invariant c.add.result (record { birth = c.args.birth; kind = c.args.kind; pair = None; connection = c.args.connection; context = 0; creator = None; completed = false }) (makes.vacant c.add.result c.self.inside.ports c.add.ensures.vacant) there.fresh (makes.refs_stand c.self.inside.ports c.add.result (record { birth = c.args.birth; kind = c.args.kind; pair = None; connection = c.args.connection; context = 0; creator = None; completed = false }) refl there.connection) there.drawn there.budget)
+    rw (makes.created c.self.inside.ports c.«add-port».new.self c.set_creator.new.self c.«add-port».result c.args.kind c.args.birth c.args.connection c.args.creator c.«add-port».ensures.vacant c.«add-port».ensures.table c.set_creator.ensures) (steps.made_lawful (tables_of c.self.inside.procs c.self.inside.parts.items c.self.inside.ports c.self.inside.waits c.self.inside.names) c.self.inside.calls c.self.inside.made c.self.invariant c.«add-port».result (record { birth = c.args.birth; kind = c.args.kind; pair = None; connection = c.args.connection; context = 0; creator = c.args.creator; completed = false }) (makes.vacant c.«add-port».result c.self.inside.ports c.«add-port».ensures.vacant) there.fresh (makes.refs_stand c.self.inside.ports c.«add-port».result (record { birth = c.args.birth; kind = c.args.kind; pair = None; connection = c.args.connection; context = 0; creator = c.args.creator; completed = false }) refl there.connection) there.drawn there.budget)
 
 pub returns-clause-rows : goal.returns-clause-rows
 returns-clause-rows c =
     let there = rw (← c.self.view_is) at c.requires in
-    rw (← c.self.view_is, c.add.ensures.table) (makes.makes (tables_of c.self.inside.procs c.self.inside.parts.items c.self.inside.ports c.self.inside.waits c.self.inside.names) c.self.invariant.named c.add.result (record { birth = c.args.birth; kind = c.args.kind; pair = None; connection = c.args.connection; context = 0; creator = None; completed = false }) (c.self.inside.ports.port_room - 1) (c.self.inside.ports.ports_made + 1) (makes.refs_stand c.self.inside.ports c.add.result (record { birth = c.args.birth; kind = c.args.kind; pair = None; connection = c.args.connection; context = 0; creator = None; completed = false }) refl there.connection))
+    rw (← c.self.view_is, (makes.created c.self.inside.ports c.«add-port».new.self c.set_creator.new.self c.«add-port».result c.args.kind c.args.birth c.args.connection c.args.creator c.«add-port».ensures.vacant c.«add-port».ensures.table c.set_creator.ensures)) (makes.makes (tables_of c.self.inside.procs c.self.inside.parts.items c.self.inside.ports c.self.inside.waits c.self.inside.names) c.self.invariant.named c.«add-port».result (record { birth = c.args.birth; kind = c.args.kind; pair = None; connection = c.args.connection; context = 0; creator = c.args.creator; completed = false }) (c.self.inside.ports.port_room - 1) (c.self.inside.ports.ports_made + 1) (makes.refs_stand c.self.inside.ports c.«add-port».result (record { birth = c.args.birth; kind = c.args.kind; pair = None; connection = c.args.connection; context = 0; creator = c.args.creator; completed = false }) refl there.connection))
 
 pub returns-clause-name : goal.returns-clause-name
-returns-clause-name c = rw c.add.ensures.table (makes.name_new (tables_of c.self.inside.procs c.self.inside.parts.items c.self.inside.ports c.self.inside.waits c.self.inside.names) c.self.invariant.named c.add.result (record { birth = c.args.birth; kind = c.args.kind; pair = None; connection = c.args.connection; context = 0; creator = None; completed = false }) (c.self.inside.ports.port_room - 1) (c.self.inside.ports.ports_made + 1) (makes.vacant c.add.result c.self.inside.ports c.add.ensures.vacant))
+returns-clause-name c = rw (makes.created c.self.inside.ports c.«add-port».new.self c.set_creator.new.self c.«add-port».result c.args.kind c.args.birth c.args.connection c.args.creator c.«add-port».ensures.vacant c.«add-port».ensures.table c.set_creator.ensures) (makes.name_new (tables_of c.self.inside.procs c.self.inside.parts.items c.self.inside.ports c.self.inside.waits c.self.inside.names) c.self.invariant.named c.«add-port».result (record { birth = c.args.birth; kind = c.args.kind; pair = None; connection = c.args.connection; context = 0; creator = c.args.creator; completed = false }) (c.self.inside.ports.port_room - 1) (c.self.inside.ports.ports_made + 1) (makes.vacant c.«add-port».result c.self.inside.ports c.«add-port».ensures.vacant))
 
 pub returns-clause-stands : goal.returns-clause-stands
-returns-clause-stands c = rw c.add.ensures.table (makes.stands_new (tables_of c.self.inside.procs c.self.inside.parts.items c.self.inside.ports c.self.inside.waits c.self.inside.names) c.self.invariant.named c.add.result (record { birth = c.args.birth; kind = c.args.kind; pair = None; connection = c.args.connection; context = 0; creator = None; completed = false }) (c.self.inside.ports.port_room - 1) (c.self.inside.ports.ports_made + 1) (makes.vacant c.add.result c.self.inside.ports c.add.ensures.vacant))
+returns-clause-stands c = rw (makes.created c.self.inside.ports c.«add-port».new.self c.set_creator.new.self c.«add-port».result c.args.kind c.args.birth c.args.connection c.args.creator c.«add-port».ensures.vacant c.«add-port».ensures.table c.set_creator.ensures) (makes.stands_new (tables_of c.self.inside.procs c.self.inside.parts.items c.self.inside.ports c.self.inside.waits c.self.inside.names) c.self.invariant.named c.«add-port».result (record { birth = c.args.birth; kind = c.args.kind; pair = None; connection = c.args.connection; context = 0; creator = c.args.creator; completed = false }) (c.self.inside.ports.port_room - 1) (c.self.inside.ports.ports_made + 1) (makes.vacant c.«add-port».result c.self.inside.ports c.«add-port».ensures.vacant))
 
 pub returns-clause-others : goal.returns-clause-others
-returns-clause-others c = rw (← c.self.view_is, c.add.ensures.table) (makes.keeps (tables_of c.self.inside.procs c.self.inside.parts.items c.self.inside.ports c.self.inside.waits c.self.inside.names) c.self.invariant.named c.add.result (record { birth = c.args.birth; kind = c.args.kind; pair = None; connection = c.args.connection; context = 0; creator = None; completed = false }) (c.self.inside.ports.port_room - 1) (c.self.inside.ports.ports_made + 1))
+returns-clause-others c = rw (← c.self.view_is, (makes.created c.self.inside.ports c.«add-port».new.self c.set_creator.new.self c.«add-port».result c.args.kind c.args.birth c.args.connection c.args.creator c.«add-port».ensures.vacant c.«add-port».ensures.table c.set_creator.ensures)) (makes.keeps (tables_of c.self.inside.procs c.self.inside.parts.items c.self.inside.ports c.self.inside.waits c.self.inside.names) c.self.invariant.named c.«add-port».result (record { birth = c.args.birth; kind = c.args.kind; pair = None; connection = c.args.connection; context = 0; creator = c.args.creator; completed = false }) (c.self.inside.ports.port_room - 1) (c.self.inside.ports.ports_made + 1))
 
 pub returns-clause-room : goal.returns-clause-room
 returns-clause-room c =
     let there = rw (← c.self.view_is) at c.requires in
-    let made = makes.makes (tables_of c.self.inside.procs c.self.inside.parts.items c.self.inside.ports c.self.inside.waits c.self.inside.names) c.self.invariant.named c.add.result (record { birth = c.args.birth; kind = c.args.kind; pair = None; connection = c.args.connection; context = 0; creator = None; completed = false }) (c.self.inside.ports.port_room - 1) (c.self.inside.ports.ports_made + 1) (makes.refs_stand c.self.inside.ports c.add.result (record { birth = c.args.birth; kind = c.args.kind; pair = None; connection = c.args.connection; context = 0; creator = None; completed = false }) refl there.connection) in
-    rw (← c.self.view_is, c.add.ensures.table, ap (λ (v : World). v.waits) made, ap (λ (v : World). v.messages) made) (rooms.room_port _ _ _ _ _ _ (rows_by (tables_of c.self.inside.procs c.self.inside.parts.items c.self.inside.ports c.self.inside.waits c.self.inside.names)) _ (shown_port (birth_of (births_of c.self.inside.ports)) (c.add.result, (record { birth = c.args.birth; kind = c.args.kind; pair = None; connection = c.args.connection; context = 0; creator = None; completed = false }))))
+    let made = makes.makes (tables_of c.self.inside.procs c.self.inside.parts.items c.self.inside.ports c.self.inside.waits c.self.inside.names) c.self.invariant.named c.«add-port».result (record { birth = c.args.birth; kind = c.args.kind; pair = None; connection = c.args.connection; context = 0; creator = c.args.creator; completed = false }) (c.self.inside.ports.port_room - 1) (c.self.inside.ports.ports_made + 1) (makes.refs_stand c.self.inside.ports c.«add-port».result (record { birth = c.args.birth; kind = c.args.kind; pair = None; connection = c.args.connection; context = 0; creator = c.args.creator; completed = false }) refl there.connection) in
+    rw (← c.self.view_is, (makes.created c.self.inside.ports c.«add-port».new.self c.set_creator.new.self c.«add-port».result c.args.kind c.args.birth c.args.connection c.args.creator c.«add-port».ensures.vacant c.«add-port».ensures.table c.set_creator.ensures), ap (λ (v : World). v.waits) made, ap (λ (v : World). v.messages) made) (rooms.room_port _ _ _ _ _ _ (rows_by (tables_of c.self.inside.procs c.self.inside.parts.items c.self.inside.ports c.self.inside.waits c.self.inside.names)) _ (shown_port (birth_of (births_of c.self.inside.ports)) (c.«add-port».result, (record { birth = c.args.birth; kind = c.args.kind; pair = None; connection = c.args.connection; context = 0; creator = c.args.creator; completed = false }))))

@@ -39,4 +39,4 @@ returns-clause-some c =
 
 pub returns-clause-wait : goal.returns-clause-wait
 returns-clause-wait c =
-    rw (← c.self.view_is) (readings.wait_if (tables_of c.self.inside.procs c.self.inside.parts.items c.self.inside.ports c.self.inside.waits c.self.inside.names) c.self.invariant.named (vec_capacity c.self.inside.parts - vec_len c.self.inside.parts) c.self.inside.calls c.self.inside.made c.args.tid c.end.result c.end.ensures.value)
+    rw (← c.self.view_is) (readings.wait_if (tables_of c.self.inside.procs c.self.inside.parts.items c.self.inside.ports c.self.inside.waits c.self.inside.names) c.self.invariant.named (vec_capacity c.self.inside.parts - vec_len c.self.inside.parts) c.self.inside.calls c.self.inside.made c.self.inside.loose c.args.tid c.end.result c.end.ensures.value)

@@ -1,0 +1,230 @@
+-- A port that no row counts for is named by no row at all, in a world that can be swept.
+use Rattle.std.proofs.Common.{◌≡◌, ◌+◌, ◌≤◌, ℕ, zero, suc, List, [], ◌∷◌, Bool, true, false, drop, length, map, not, slice_get, Option, Some, None, option_map, refl, ap, sym, subst, ◌∙◌, arith}
+use Rattle.std.specs.Prelude.{◌||◌, ◌&&◌, ◌==◌, option_and_then}
+use Rattle.lpc_base.specs.declared.birth.Birth.{Birth}
+use Rattle.lpc_base.specs.Rows.{count, each, every, has, without}
+use Rattle.lpc_names.specs.Binding.{has_name}
+use Rattle.lpc_names.specs.Walk.{Bindings, LinkTo, Stands}
+use Rattle.lpc_names.specs.declared.names.Found.TheVariants.{Directory, Item}
+use Rattle.lpc_model.specs.World.{HandleRow, MessageRow, PortRow, WaitRow, World}
+use Rattle.lpc_model.specs.Found.{all_handles, handle_count, is_connected_to, is_made_on, is_open, is_paired_to, is_port, is_queued, is_sent_on, is_the, names_port, pair_of, port_name, port_row, same_birth}
+use Rattle.lpc_model.specs.SoundWaits.{leads_open}
+use Rattle.lpc_model.specs.Sweep.{is_unheld}
+use Rattle.lpc_model.specs.Basics.{Frees, basic}
+use Rattle.lpc_model.specs.Linked.{HasHeldPorts, is_mutual}
+use Rattle.lpc_base.proofs.RowMaps.{every-first}
+use Rattle.lpc_model.proofs.Births.{birth-same, birth-self}
+use Rattle.lpc_model.proofs.OpenQueues.{queues_freed}
+use Rattle.lpc_model.proofs.Rows.{has-append, has-found}
+use Rattle.lpc_model.proofs.Sweeping.{free_kept, lives_freed}
+use Rattle.lpc_model.proofs.Swept.{unheld-parts}
+use Rattle.lpc_ports.specs.declared.Port.{Port}
+use Rattle.lpc_slots.proofs.Walk.{drop_row}
+use Rattle.lpc_slots.specs.declared.Key.{Key}
+use Rattle.lpc_world.specs.Names.{name_of, stands}
+use Rattle.lpc_world.specs.Kept.{Kept, Room, Roomy}
+use Rattle.lpc_world.specs.declared.object.Object.{Object}
+use Rattle.lpc_world.specs.declared.object.Object.TheVariants as object
+use Rattle.lpc_world.specs.Shown.{AreNamed, Births, Tables, birth_of, births_of, name_by, shown_port}
+use Rattle.lpc_world.proofs.Follows.{is_own, own_birth, own_ports}
+use Rattle.lpc_world.specs.Held.{CanSweep, is_joined_to, is_named}
+
+has_or : {X : Type 0} (p q : X → Bool) (xs : List X) → has (λ x. p x || q x) xs ≡ (has p xs || has q xs)
+has_or p q [] = refl
+has_or p q (x ∷ xs) = grind (arith, has_or p q xs)
+
+-- A port has a handle where it is open
+has_in : {X Y : Type 0} (p : Y → Bool) (f : X → List Y) (xs : List X) → has p (each f xs) ≡ has (λ x. has p (f x)) xs
+has_in p f [] = refl
+has_in p f (x ∷ xs) = grind (arith, has-append p (f x) (each f xs), has_in p f xs)
+
+zero_has : {X : Type 0} (p : X → Bool) (xs : List X) → not (count p xs == 0) ≡ has p xs
+zero_has p [] = refl
+zero_has p (x ∷ xs) = at (p x) refl (zero_has p xs)
+  where
+    at : (c : Bool) → p x ≡ c → not (count p xs == 0) ≡ has p xs → not (count p (x ∷ xs) == 0) ≡ has p (x ∷ xs)
+    at true is later = grind arith
+    at false is later = grind (arith, later)
+
+counted : (w : World) (b : Birth) → not (handle_count w (port_name b) == 0) ≡ is_open w b
+counted w b = zero_has (λ (h : HandleRow). names_port b h.object) (all_handles w) ∙ has_in (λ (h : HandleRow). names_port b h.object) (λ t. t.rows) w.handles
+
+-- What is open is what queues and names are of
+module _ (w : World) (b : Birth) (off : is_open w b ≡ false) where
+  apart : (c : Birth) → is_open w c ≡ true → same_birth c b ≡ false
+  apart c there = at (same_birth c b) refl
+    where
+      at : (k : Bool) → same_birth c b ≡ k → k ≡ false
+      at false is = refl
+      at true is = let here : is_open w b ≡ true = subst (λ d. is_open w d ≡ true) (birth-same c b is) there in absurd (cc)
+
+  no_queued : (ms : List MessageRow) → every (λ m. is_open w m.queue) ms ≡ true → has (is_queued b) ms ≡ false
+  no_queued [] all = refl
+  no_queued (m ∷ ms) all = grind (arith, apart m.queue, no_queued ms)
+
+  no_waiting : (xs : List WaitRow) → every (λ x. is_open w x.queue) xs ≡ true → has (λ x. same_birth x.queue b) xs ≡ false
+  no_waiting [] all = refl
+  no_waiting (x ∷ xs) all = grind (arith, apart x.queue, no_waiting xs)
+
+  no_named : (bs : Bindings Birth) → every (λ x. leads_open w x.1) bs ≡ true → has_name same_birth b bs ≡ false
+  no_named [] all = refl
+  no_named ((path, LinkTo target) ∷ bs) all = no_named bs all
+  no_named ((path, Stands Directory) ∷ bs) all = no_named bs all
+  no_named ((path, Stands (Item port)) ∷ bs) all = grind (arith, apart port, no_named bs)
+
+-- some row names the port exactly where one counts for it
+pub held_as : (w : World) (b : Birth) → CanSweep w → is_named w b ≡ not (is_unheld w (port_name b))
+held_as w b can = at (is_open w b) refl
+  where
+    parts : (h s m p q : Bool) → not (not ((h || (s || m)) || (p || q))) ≡ ((h || (s || m)) || (p || q))
+    parts h s m p q = grind arith
+
+    joins : (o p q s u m v n h : Bool) → h ≡ o → (o ≡ false → (u ≡ false) × ((v ≡ false) × (n ≡ false))) → (o || ((p || q) || ((s || u) || ((m || v) || n)))) ≡ ((h || (s || m)) || (p || q))
+    joins true p q s u m v n h same off = grind arith
+    joins false p q s u m v n h same off = let none = off refl in grind (arith, none.0, none.1.0, none.1.1)
+
+    at : (o : Bool) → is_open w b ≡ o → is_named w b ≡ not (is_unheld w (port_name b))
+    at o is =
+        let hs = not (handle_count w (port_name b) == 0) in
+        rw (has_or (is_paired_to b) (is_connected_to b) w.ports, has_or (is_sent_on b) (is_queued b) w.messages, has_or (is_made_on b) (λ x. same_birth x.queue b) w.waits, unheld-parts w b)
+        (joins (is_open w b) (has (is_paired_to b) w.ports) (has (is_connected_to b) w.ports) (has (is_sent_on b) w.messages) (has (is_queued b) w.messages) (has (is_made_on b) w.waits) (has (λ x. same_birth x.queue b) w.waits) (has_name same_birth b w.bindings) hs (counted w b)
+        (λ off. (no_queued w b off w.messages can.queues.messages, (no_waiting w b off w.waits can.queues.waits, no_named w b off w.bindings can.sound.names)))
+        ∙ sym (parts hs (has (is_sent_on b) w.messages) (has (is_made_on b) w.waits) (has (is_paired_to b) w.ports) (has (is_connected_to b) w.ports)))
+
+-- a port with another end is held by it
+paired_as : (w : World) (b : Birth) (o : Option PortRow) (q : Birth) → port_row w q ≡ o → is_the b (option_and_then (λ p. p.pair) o) ≡ true → has (is_paired_to b) w.ports ≡ true
+paired_as w b None q found is = absurd (cc)
+paired_as w b (Some r) q found is = has-found (is_paired_to b) (is_port q) w.ports r found is
+
+pub paired_held : (w : World) (b q : Birth) (p : PortRow) → CanSweep w → port_row w b ≡ Some p → p.birth ≡ b → p.pair ≡ Some q → is_unheld w (port_name b) ≡ false
+paired_held w b q p can found own pair =
+    let both : is_mutual w p ≡ true = every-first (is_mutual w) (is_port b) w.ports p can.linked.pairs found in
+    let back : is_the b (pair_of w q) ≡ true = rw (pair, own) at both in
+    let paired : has (is_paired_to b) w.ports ≡ true = paired_as w b (port_row w q) q refl back in
+    let joined : has (is_joined_to b) w.ports ≡ true = rw (has_or (is_paired_to b) (is_connected_to b) w.ports, paired) refl in
+    let named : is_named w b ≡ true = grind (arith, joined) in
+    not_true (is_unheld w (port_name b)) (sym (held_as w b can) ∙ named)
+  where
+    not_true : (u : Bool) → not u ≡ true → u ≡ false
+    not_true true h = absurd (cc)
+    not_true false h = refl
+
+-- so the port that no row counts for can go
+pub free_port : (w : Kept) (o : Object) (key : Key) → object.Port key ≡ o → CanSweep w.rows → is_unheld w.rows (name_by (birth_of w.names) o) ≡ true → is_named w.rows (name_of w.names.ports key) ≡ false
+free_port w o key is can none =
+    let here : is_unheld w.rows (port_name (name_of w.names.ports key)) ≡ true = subst (λ q. is_unheld w.rows (name_by (birth_of w.names) q) ≡ true) (sym is) none in
+    held_as w.rows (name_of w.names.ports key) can ∙ ap not here
+
+-- a port that goes leaves a world that can be swept
+pub can_freed : (w : World) (b : Birth) → CanSweep w → is_unheld w (port_name b) ≡ true → CanSweep (basic w (Frees (port_name b)))
+can_freed w b can none =
+    let kept = free_kept w b can.sound can.linked none in
+    record { sound = kept.0; linked = kept.1; queues = queues_freed w (port_name b) can.queues; lives = lives_freed w b can.lives }
+
+-- The port at a place
+every_at : {X : Type 0} (p : X → Bool) (xs : List X) (place : ℕ) (x : X) → every p xs ≡ true → slice_get xs place ≡ Some x → p x ≡ true
+every_at p [] place x all here = absurd (cc)
+every_at p (y ∷ ys) zero x all here = grind arith
+every_at p (y ∷ ys) (suc place) x all here = grind (arith, every_at p ys place x)
+
+mapped_at : {X Y : Type 0} (g : X → Y) (xs : List X) (place : ℕ) → slice_get (map g xs) place ≡ option_map g (slice_get xs place)
+mapped_at g [] place = refl
+mapped_at g (x ∷ xs) zero = refl
+mapped_at g (x ∷ xs) (suc place) = mapped_at g xs place
+
+module _ (it : Tables) (is : AreNamed (births_of it.ports) it) where
+  abbrev n : Births
+  n = births_of it.ports
+
+  pub record IsAt (place : ℕ) (key : Key) : Type 0 where
+    pub there : stands n.ports key ≡ true
+    pub birth : option_map (λ (p : PortRow). p.birth) (slice_get (map (shown_port (birth_of n)) it.ports.ports) place) ≡ Some (name_of n.ports key)
+
+  pub at_place : (place : ℕ) (key : Key) → option_map (λ (row : Key × Port). row.0) (slice_get it.ports.ports place) ≡ Some key → IsAt place key
+  at_place place key at = by_row (slice_get it.ports.ports place) refl at
+    where
+      same : (a b : Key) → let x : Option Key = Some a in let y : Option Key = Some b in x ≡ y → a ≡ b
+      same a b e = cc
+
+      by_row : (o : Option (Key × Port)) → slice_get it.ports.ports place ≡ o → option_map (λ (row : Key × Port). row.0) o ≡ Some key → IsAt place key
+      by_row None here at = absurd (cc)
+      by_row (Some row) here at =
+          let ok = every_at (is_own (λ (r : Port). r.birth) it.ports.ports) it.ports.ports place row (own_ports it is) here in
+          let key_is : row.0 ≡ key = same row.0 key at in
+          record {
+            there = subst (λ k. stands n.ports k ≡ true) key_is (grind arith);
+            birth = rw (mapped_at (shown_port (birth_of n)) it.ports.ports place, here) (ap Some (sym (own_birth (λ (r : Port). r.birth) it.ports.ports row ok) ∙ ap (name_of n.ports) key_is));
+          }
+
+-- Ports held so far
+pub held_on : (w : World) (ports : List PortRow) (place : ℕ) (b : Birth) → option_map (λ (p : PortRow). p.birth) (slice_get ports place) ≡ Some b → is_unheld w (port_name b) ≡ false
+    → every (λ p. not (is_unheld w (port_name p.birth))) (drop place ports) ≡ every (λ p. not (is_unheld w (port_name p.birth))) (drop (place + 1) ports)
+held_on w ports place b at held = by_row (slice_get ports place) refl at
+  where
+    same : (a b : Birth) → let x : Option Birth = Some a in let y : Option Birth = Some b in x ≡ y → a ≡ b
+    same a b e = cc
+
+    by_row : (o : Option PortRow) → slice_get ports place ≡ o → option_map (λ (p : PortRow). p.birth) o ≡ Some b
+        → every (λ p. not (is_unheld w (port_name p.birth))) (drop place ports) ≡ every (λ p. not (is_unheld w (port_name p.birth))) (drop (place + 1) ports)
+    by_row None here at = absurd (cc)
+    by_row (Some p) here at =
+        let one : not (is_unheld w (port_name p.birth)) ≡ true = rw (same p.birth b at, held) refl in
+        ap (every (λ p. not (is_unheld w (port_name p.birth)))) (drop_row ports place p here) ∙ ap (λ c. c && every (λ p. not (is_unheld w (port_name p.birth))) (drop (place + 1) ports)) one
+
+-- a port at a place is among the ports
+pub row_at_place : (ports : List PortRow) (place : ℕ) (b : Birth) → option_map (λ (p : PortRow). p.birth) (slice_get ports place) ≡ Some b → has (is_port b) ports ≡ true
+row_at_place [] place b at = absurd (cc)
+row_at_place (p ∷ ps) zero b at = let is : p.birth ≡ b = cc in let own : is_port p.birth p ≡ true = birth-self p.birth in subst (λ d. has (is_port d) (p ∷ ps) ≡ true) is (rw own refl)
+row_at_place (p ∷ ps) (suc place) b at = grind (arith, row_at_place ps place b at)
+
+-- all rows were passed
+pub drop_all : {X : Type 0} (xs : List X) (n : ℕ) → length xs ≤ n → drop n xs ≡ []
+drop_all [] zero few = refl
+drop_all [] (suc n) few = refl
+drop_all (x ∷ xs) zero few = absurd (omega (arith, few))
+drop_all (x ∷ xs) (suc n) few = drop_all xs n (omega (arith, few))
+
+-- one row less
+no_longer : {X : Type 0} (p : X → Bool) (xs : List X) → length (without p xs) ≤ length xs
+no_longer p [] = omega arith
+no_longer p (x ∷ xs) = grind (arith, no_longer p xs)
+
+pub length_less : {X : Type 0} (p : X → Bool) (xs : List X) → has p xs ≡ true → length (without p xs) + 1 ≤ length xs
+length_less p [] is = absurd (cc)
+length_less p (x ∷ xs) is = at (p x) refl (length_less p xs)
+  where
+    at : (b : Bool) → p x ≡ b → (has p xs ≡ true → length (without p xs) + 1 ≤ length xs) → length (without p (x ∷ xs)) + 1 ≤ length (x ∷ xs)
+    at true here later = grind (arith, no_longer p xs)
+    at false off later = grind (arith, later)
+
+-- no port, none unheld
+pub none_unheld : (w : World) → length w.ports ≤ 0 → HasHeldPorts w
+none_unheld w few = at w.ports few
+  where
+    at : (ports : List PortRow) → length ports ≤ 0 → every (λ p. not (is_unheld w (port_name p.birth))) ports ≡ true
+    at [] few = refl
+    at (p ∷ ps) few = absurd (omega (arith, few))
+
+pub roomy_same : (a : Room) → Roomy a a
+roomy_same a = record {
+  for_processes = omega arith;
+  for_threads = omega arith;
+  for_waits = omega arith;
+  for_messages = omega arith;
+  for_requests = omega arith;
+  for_ports = omega arith;
+  for_names = omega arith;
+  for_handles = λ pid. omega arith;
+}
+
+pub roomy_then : (a b c : Room) → Roomy a b → Roomy b c → Roomy a c
+roomy_then a b c one two = record {
+  for_processes = omega (arith, one.for_processes, two.for_processes);
+  for_threads = omega (arith, one.for_threads, two.for_threads);
+  for_waits = omega (arith, one.for_waits, two.for_waits);
+  for_messages = omega (arith, one.for_messages, two.for_messages);
+  for_requests = omega (arith, one.for_requests, two.for_requests);
+  for_ports = omega (arith, one.for_ports, two.for_ports);
+  for_names = omega (arith, one.for_names, two.for_names);
+  for_handles = λ pid. omega (arith, one.for_handles pid, two.for_handles pid);
+}

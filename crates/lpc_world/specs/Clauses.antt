@@ -1,0 +1,276 @@
+-- Words of the world's clauses: what stands at a key, what a call leaves of the rows, and the room that it takes.
+use Rattle.std.specs.Prelude.{◌≡◌, ℕ, ◌+◌, ◌<◌, ◌≤◌, ◌∷◌, Bool, true, List, [], map, Option, option_map, is_some, slice_get, IfErr, MatchOption, None, Some, MatchResult, Result, Ok, Err, length}
+use Rattle.lpc_base.specs.declared.birth.Birth.{Birth}
+use Rattle.lpc_base.specs.declared.limits.TheConstants.{HANDLE_LIMIT}
+use Rattle.lpc_base.specs.declared.port_kind.PortKind.{PortKind}
+use Rattle.lpc_base.specs.declared.status.Status.{Status}
+use Rattle.lpc_base.specs.Rows.{change, first, has, without}
+use Rattle.lpc_handles.specs.declared.table.Row.{Row}
+use Rattle.lpc_model.specs.Basics.{Basic, basic, world_after, AddsHandle, Enters, Joins, Makes}
+use Rattle.lpc_model.specs.Connect as connect
+use Rattle.lpc_model.specs.Connect.{names_connect}
+use Rattle.lpc_model.specs.Entering.{given_steps, takes, takes_from, woken}
+use Rattle.lpc_model.specs.Found.{fits_as, handles_of, is_port, is_process, is_queued, is_queued_connect, is_table, is_thread, pair_of, port_name, port_row, queue_of, route, waits_as}
+use Rattle.lpc_model.specs.Message.{asks, message_of}
+use Rattle.lpc_model.specs.Request.{receive_test}
+use Rattle.lpc_model.specs.Sweep.{is_unheld}
+use Rattle.lpc_model.specs.Tests.{handle_load, handle_row, next_birth, object_test, port_test}
+use Rattle.lpc_model.specs.World as model
+use Rattle.lpc_model.specs.World.{ObjectName, World}
+use Rattle.lpc_model.specs.declared.entry.ObjectKind.{ObjectKind}
+use Rattle.lpc_message.specs.declared.message.ClientId.{ClientId}
+use Rattle.lpc_model.specs.declared.entry.Field.{Field}
+use Rattle.lpc_model.specs.declared.message.Message as whole
+use Rattle.lpc_names.specs.Binding.{Refuses}
+use Rattle.lpc_names.specs.Walk.{Stands}
+use Rattle.lpc_names.specs.declared.fault.BindFault.{BindFault}
+use Rattle.lpc_names.specs.declared.fault.NameFault.{NameFault}
+use Rattle.lpc_names.specs.declared.names.Found.TheVariants.{Directory, Item}
+use Rattle.lpc_ports.specs.declared.Creator.{Creator}
+use Rattle.lpc_ports.specs.declared.messages.Message.{Message}
+use Rattle.lpc_slots.specs.declared.Key.{Key}
+use Rattle.lpc_waits.specs.Table as table
+use Rattle.lpc_waits.specs.declared.Wait.{Wait}
+use Rattle.lpc_world.specs.Bound.{with_name}
+use Rattle.lpc_world.specs.Joined.{with_completed}
+use Rattle.lpc_world.specs.Kept.{Kept, Room, handle_room, is_pending, promised}
+use Rattle.lpc_world.specs.Lawful.{is_quiet}
+use Rattle.lpc_world.specs.Names.{name_of}
+use Rattle.lpc_world.specs.Ready.{caller, port_of, waiter}
+use Rattle.lpc_world.specs.Shown.{birth_of, name_by, port_with, pulled_row, row_with, waiting_row, with_message}
+use Rattle.lpc_world.specs.declared.completable.Completable.{Completable}
+use Rattle.lpc_world.specs.declared.object.Object.{Object}
+
+-- What is found
+-- a call answers what a test answers, seen through a word
+abbrev pub Answers : {A B : Type 0} → Result A Status → (A → B) → Result B Status → Type 0
+Answers result seen test = MatchResult result (λ x. test ≡ Ok (seen x)) (λ s. test ≡ Err s)
+
+-- a call finds what the definitions find, seen through a word
+abbrev pub Finds : {A B : Type 0} → Option A → (A → B) → Option B → Type 0
+Finds result seen found = MatchOption result (found ≡ None) (λ x. found ≡ Some (seen x))
+
+-- the birth and the row of the port at a key, and the birth of an optional one
+abbrev pub birth_at : Kept → Key → Birth
+birth_at w = name_of w.names.ports
+
+abbrev pub port_at : Kept → Key → model.PortRow
+port_at w key = port_of w.rows (birth_at w key)
+
+abbrev pub row_at : Kept → Key → Option model.PortRow
+row_at w key = port_row w.rows (birth_at w key)
+
+abbrev pub some_birth : Kept → Option Key → Option Birth
+some_birth w key = option_map (birth_at w) key
+
+-- a port's row stands, and is that of its name
+abbrev pub has_port : Kept → Key → Bool
+has_port w key = has (is_port (birth_at w key)) w.rows.ports
+
+abbrev pub IsUnderName : Kept → Key → Type 0
+IsUnderName w key = let port = port_at w key in port.birth ≡ birth_at w key
+
+-- the birth of the port at a place, in the order of making
+abbrev pub birth_in_place : Kept → ℕ → Option Birth
+birth_in_place w place = option_map (λ p. p.birth) (slice_get w.rows.ports place)
+
+-- no row names the port
+abbrev pub is_unheld_at : Kept → Key → Bool
+is_unheld_at w key = is_unheld w.rows (port_name (birth_at w key))
+
+-- the port's other end, the queue that what is sent on it enters, its own queue, and that of a receive on it
+abbrev pub pair_at : Kept → Key → Option Birth
+pair_at w key = pair_of w.rows (birth_at w key)
+
+abbrev pub route_at : Kept → Key → Option Birth
+route_at w key = route w.rows (port_at w key)
+
+abbrev pub queue_at : Kept → Key → Option Birth
+queue_at w key = queue_of w.rows (port_at w key)
+
+abbrev pub receive_at : Kept → Key → Result Birth Status
+receive_at w key = receive_test w.rows (port_at w key)
+
+-- the name of an object
+abbrev pub name_at : Kept → Object → ObjectName
+name_at w object = name_by (birth_of w.names) object
+
+-- the rows of a table as the definitions have them
+abbrev pub shown_in : {R S : Type 0} → Kept → ((Object → Birth) → R → S) → List R → List S
+shown_in w show rows = map (show (birth_of w.names)) rows
+
+-- the row of a thread, and what the thread draws next: an identifier, a birth
+abbrev pub thread_row : World → ℕ → Option model.ThreadRow
+thread_row w tid = first (is_thread tid) w.threads
+
+abbrev pub identifier_next : World → ℕ → Option ℕ
+identifier_next w tid = option_map (λ t. t.next_identifier) (thread_row w tid)
+
+abbrev pub birth_next : World → ℕ → Option Birth
+birth_next w tid = option_map next_birth (thread_row w tid)
+
+-- the oldest message of a queue, and its oldest connection request
+abbrev pub oldest : Kept → Key → Option model.MessageRow
+oldest w queue = first (is_queued (birth_at w queue)) w.rows.messages
+
+abbrev pub oldest_connect : Kept → Key → Option model.MessageRow
+oldest_connect w queue = first (is_queued_connect (birth_at w queue)) w.rows.messages
+
+-- a message that was taken from a queue
+abbrev pub pulled : Kept → Key → Option Message → Option model.MessageRow
+pulled w queue message = option_map (pulled_row w.names queue) message
+
+-- a message stands in a queue
+abbrev pub has_message : World → Birth → Bool
+has_message w queue = is_some (first (is_queued queue) w.messages)
+
+-- a thread waits that takes a message which enters a queue
+abbrev pub has_taker : Kept → Key → Key → ℕ → whole.Message → Bool
+has_taker w queue sender context message = has (takes (row_with w.names queue sender context message)) w.rows.waits
+
+-- the thread whose wait passes a test first
+abbrev pub FindsWait : Kept → (model.WaitRow → Bool) → Option ℕ → Type 0
+FindsWait w test result = Finds result (waiter w.rows) (first test w.rows.waits)
+
+-- a wait that a message fits through a port, and one that takes a message which enters a queue
+abbrev pub fits_at : Kept → Key → ClientId → ℕ → model.WaitRow → Bool
+fits_at w port client identifier = fits_as w.rows (birth_at w port) client identifier
+
+abbrev pub takes_at : Kept → Key → Bool → model.WaitRow → Bool
+takes_at w queue is_connection_request = takes_from (birth_at w queue) is_connection_request
+
+-- what the thread waits for doesn't stand in the queue
+abbrev pub is_quiet_for : World → ℕ → Bool
+is_quiet_for w tid = is_quiet w.messages (waiter w tid)
+
+-- the thread whose connect a caller's answer names
+abbrev pub FindsConnect : Kept → ℕ → whole.Message → Option ℕ → Type 0
+FindsConnect w by m result = FindsWait w (names_connect w.rows (caller w.rows by) m) result
+
+-- the wait that is found for a thread is the thread's
+abbrev pub IsOwnWait : World → ℕ → Type 0
+IsOwnWait w tid = let x = waiter w tid in x.thread ≡ tid
+
+-- the object that a handle of a thread's process names, and the port that it names
+abbrev pub object_for : World → ℕ → ObjectKind → ℕ → ℕ → Result Birth Status
+object_for w tid kind right handle = object_test w (caller w tid) kind right handle
+
+abbrev pub port_for : World → ℕ → ℕ → Result model.PortRow Status
+port_for w tid handle = port_test w (caller w tid) handle
+
+-- a handle's row
+abbrev pub row_shown : Kept → ℕ → Row Object → model.HandleRow
+row_shown w value row = handle_row value (name_at w row.object) row.access
+
+-- a connection that can be completed, on its server port
+abbrev pub completion_at : Kept → Key → Completable → connect.Completable
+completion_at w port c = record { server = birth_at w port; client = birth_at w c.client; wait = waiter w.rows c.thread }
+
+-- What is left
+-- the rows behind a basic step
+abbrev pub after : Kept → Basic → World
+after w b = basic w.rows b
+
+-- a wait that a thread begins, as yet without a message: it is for the answer to a request or connect, or to a connect
+abbrev pub new_wait : Kept → ℕ → Wait → model.WaitRow
+new_wait w tid wait = waiting_row w.names tid wait []
+
+abbrev pub pends : Kept → ℕ → Wait → Bool
+pends w tid wait = is_pending (new_wait w tid wait)
+
+abbrev pub connects : Wait → Bool
+connects wait = table.is_connect wait.kind
+
+-- a port more, a message more in a queue, a handle more
+abbrev pub with_port : Kept → PortKind → Birth → Option Key → Option Creator → World
+with_port w kind birth connection creator = after w (Makes (port_with (birth_of w.names) kind birth connection creator))
+
+abbrev pub sent : Kept → Key → Key → ℕ → whole.Message → World
+sent w queue sender context message = after w (Enters (row_with w.names queue sender context message))
+
+abbrev pub with_handle : Kept → ℕ → ℕ → Object → ℕ → World
+with_handle w pid value object access = after w (AddsHandle pid (handle_row value (name_at w object) access))
+
+-- a wait less, and a wait with its message
+abbrev pub without_wait : World → ℕ → World
+without_wait w tid = record w { waits = without (waits_as tid) w.waits }
+
+abbrev pub waiting_with : World → ℕ → whole.Message → World
+waiting_with w tid message = record w { waits = change (waits_as tid) (with_message message) w.waits }
+
+-- the step by which a thread's wait ends
+abbrev pub waking : Kept → ℕ → Status → List Field → Basic
+waking w tid status fields = woken status fields (waiter w.rows tid)
+
+-- a thread's connect got its handle, and ended
+abbrev pub finished : Kept → ℕ → ℕ → Object → ℕ → World
+finished w tid value object access =
+    record (with_handle w (waiter w.rows tid).process value object access) { waits = without (waits_as tid) w.rows.waits }
+
+-- a message entered a queue, and a thread that waited there was given it
+abbrev pub passed : World → ℕ → model.MessageRow → World
+passed w tid m = world_after w (Enters m ∷ given_steps (waiter w tid) m)
+
+-- two ports are joined, and a connection is completed or not
+abbrev pub joined : Kept → Key → Key → ℕ → World
+joined w client server context = after w (Joins (birth_at w client) (birth_at w server) context)
+
+abbrev pub with_completion : Kept → Key → Bool → World
+with_completion w port completed =
+    record w.rows { ports = change (is_port (birth_at w port)) (with_completed completed) w.rows.ports }
+
+-- a port's name, or a directory, where a text leads
+abbrev pub with_port_name : Kept → List ℕ → Key → Result World NameFault
+with_port_name w text port = with_name w.rows text (Stands (Item (birth_at w port)))
+
+abbrev pub with_directory : World → List ℕ → Result World NameFault
+with_directory w text = with_name w text (Stands Directory)
+
+-- a name isn't bound, as the definition says
+abbrev pub RefusedAs : Result Unit BindFault → Result World NameFault → Type 0
+RefusedAs result world = IfErr result (λ fault. Refuses fault world)
+
+-- The room
+-- the room with the places that a row took
+abbrev pub and_process : Room → Room
+and_process r = record r { processes = r.processes + 1 }
+
+abbrev pub and_thread : Room → Room
+and_thread r = record r { threads = r.threads + 1; waits = r.waits + 1; messages = r.messages + 1 }
+
+abbrev pub and_port : Room → Room
+and_port r = record r { ports = r.ports + 1 }
+
+abbrev pub and_message : Room → Room
+and_message r = record r { messages = r.messages + 1; requests = r.requests + 1 }
+
+abbrev pub and_request : Room → Room
+and_request r = record r { requests = r.requests + 1 }
+
+abbrev pub and_name : Room → Room
+and_name r = record r { names = r.names + 1 }
+
+-- a message that asks was taken, and its place is kept for its request or connect
+abbrev pub IsOwed : Message → Room → Room → Type 0
+IsOwed m old new = asks (message_of m.bytes.items) ≡ true → old.requests < new.requests
+
+-- a process stands, and has a table of handles, with fewer than it may have
+abbrev pub has_process : World → ℕ → Bool
+has_process w pid = has (is_process pid) w.processes
+
+abbrev pub has_table : World → ℕ → Bool
+has_table w pid = has (is_table pid) w.handles
+
+abbrev pub HasFewHandles : World → ℕ → Type 0
+HasFewHandles w pid = length (handles_of w pid) < HANDLE_LIMIT
+
+-- and with those that its waiting connects are to get
+abbrev pub HasSmallLoad : World → ℕ → Type 0
+HasSmallLoad w pid = handle_load w pid < HANDLE_LIMIT
+
+-- there is room for one more handle, or for so many, beside those
+abbrev pub HasHandleRoom : Kept → ℕ → Type 0
+HasHandleRoom w pid = promised w.rows pid < handle_room w.room pid
+
+abbrev pub HasHandlePlaces : Kept → ℕ → ℕ → Type 0
+HasHandlePlaces w pid more = promised w.rows pid + more ≤ handle_room w.room pid
