@@ -1,5 +1,5 @@
 -- A connection that is completed: the steps as they are taken one by one, and the steps of the definition.
-use Rattle.std.proofs.Common.{◌≡◌, ℕ, List, [], ◌∷◌, ◌++◌, Ok, refl, ap, sym, ◌∙◌, append_assoc}
+use Rattle.std.proofs.Common.{◌≡◌, ℕ, Bool, true, List, [], ◌∷◌, ◌++◌, Ok, refl, ap, sym, ◌∙◌, append_assoc}
 use Rattle.lpc_base.specs.Rows.{without}
 use Rattle.lpc_base.specs.declared.birth.Birth.{Birth}
 use Rattle.lpc_base.specs.declared.limits.TheConstants.{MESSAGE_LIMIT}
@@ -13,13 +13,13 @@ use Rattle.lpc_model.specs.Basics.{AddsHandle, Completes, basic}
 use Rattle.lpc_model.specs.Connect.{Completable, answer_of, complete_steps, complete_test, nt_complete_connect_port}
 use Rattle.lpc_model.specs.Fields.{h, info, max}
 use Rattle.lpc_model.specs.Found.{free_handle, port_name, waits_as}
-use Rattle.lpc_model.specs.Machine.{Stepped, settled}
+use Rattle.lpc_model.specs.Machine.{settled}
 use Rattle.lpc_model.specs.Tests.{PORT_ACCESS, handle_row}
 use Rattle.lpc_model.specs.World.{ThreadRow, WaitRow, World}
-use Rattle.lpc_world.specs.Does.{left_by}
+use Rattle.lpc_world.specs.Does.{Left, left_by}
 use Rattle.lpc_world.specs.Ready.{waiter}
 
-module _ (w : World) (es : List Entry) (t : ThreadRow) (server client : Birth) (tid : ℕ) where
+module _ (w : World) (es : List Entry) (l : Bool) (t : ThreadRow) (server client : Birth) (tid : ℕ) where
   abbrev x : WaitRow
   x = waiter w tid
 
@@ -31,17 +31,17 @@ module _ (w : World) (es : List Entry) (t : ThreadRow) (server client : Birth) (
   unfolding waiter
   same-waiter = refl
 
-  abbrev End : World → List Entry → Stepped
-  End v list = record { world = v; entries = list }
+  abbrev End : World → List Entry → Bool → Left
+  End v list loose = record { world = v; entries = list; loose = loose }
 
-  pub completed : (one two ended : World) (first list : List Entry) (client' client'' : Birth) (value : ℕ) (call : CallName) (fields : List Field)
+  pub completed : (one two ended : World) (first list : List Entry) (loose : Bool) (client' client'' : Birth) (value : ℕ) (call : CallName) (fields : List Field)
       → one ≡ basic w (Completes server) → two ≡ basic one (Completes client') → client' ≡ client → client'' ≡ client
       → (let y = waiter two tid in value ≡ free_handle two y.process)
       → (let y = waiter two tid in ended ≡ record (basic two (AddsHandle y.process (handle_row value (port_name client'') PORT_ACCESS))) { waits = without (waits_as tid) two.waits })
       → call ≡ x.call → x.thread ≡ tid → fields ≡ h value ∷ max MESSAGE_LIMIT ∷ info (answer_of x) ∷ []
-      → first ≡ es ++ Answer t.number NtCompleteConnectPort SUCCESS [] ∷ [] → list ≡ first ++ Wakes tid call SUCCESS fields ∷ []
-      → End ended list ≡ left_by w es (complete_steps t (free_handle w x.process) (record { server = server; client = client; wait = x }))
-  completed one two ended first list client' client'' value call fields one_is two_is name name' value_is ended_is call_is own fields_is first_is list_is =
+      → first ≡ es ++ Answer t.number NtCompleteConnectPort SUCCESS [] ∷ [] → list ≡ first ++ Wakes tid call SUCCESS fields ∷ [] → loose ≡ true
+      → End ended list loose ≡ left_by w es l (complete_steps t (free_handle w x.process) (record { server = server; client = client; wait = x }))
+  completed one two ended first list loose client' client'' value call fields one_is two_is name name' value_is ended_is call_is own fields_is first_is list_is loosen =
       let back : tid ≡ x.thread = sym own in
       let both : two ≡ twice = two_is ∙ (λ i. basic (one_is i) (Completes (name i))) in
       let pid : (let y = waiter two tid in y.process ≡ x.process) = ap (λ (v : World). let y = waiter v tid in y.process) both ∙ ap (λ (y : WaitRow). y.process) same-waiter in
@@ -52,9 +52,9 @@ module _ (w : World) (es : List Entry) (t : ThreadRow) (server client : Birth) (
       list_is ∙ (λ i. first_is i ++ Wakes (back i) (call_is i) SUCCESS (fields_is i) ∷ [])
       ∙ ap (λ (n : ℕ). (es ++ Answer t.number NtCompleteConnectPort SUCCESS [] ∷ []) ++ Wakes x.thread x.call SUCCESS (h n ∷ max MESSAGE_LIMIT ∷ info (answer_of x) ∷ []) ∷ []) least
       in
-      (λ i. End (world_is i) (told i)) ∙ ap (λ (list : List Entry). End (record (basic twice (AddsHandle x.process (handle_row (free_handle w x.process) (port_name client) PORT_ACCESS))) { waits = without (waits_as x.thread) w.waits }) list) (append_assoc es (Answer t.number NtCompleteConnectPort SUCCESS [] ∷ []) (Wakes x.thread x.call SUCCESS (h (free_handle w x.process) ∷ max MESSAGE_LIMIT ∷ info (answer_of x) ∷ []) ∷ []))
+      (λ i. End (world_is i) (told i) (loosen i)) ∙ ap (λ (list : List Entry). End (record (basic twice (AddsHandle x.process (handle_row (free_handle w x.process) (port_name client) PORT_ACCESS))) { waits = without (waits_as x.thread) w.waits }) list true) (append_assoc es (Answer t.number NtCompleteConnectPort SUCCESS [] ∷ []) (Wakes x.thread x.call SUCCESS (h (free_handle w x.process) ∷ max MESSAGE_LIMIT ∷ info (answer_of x) ∷ []) ∷ []))
 
 -- where the tests pass, the call's steps are those of a completion
-pub completes : (w : World) (t : ThreadRow) (handle : ℕ) (es : List Entry) (c : Completable) → complete_test w t handle ≡ Ok c → left_by w es (complete_steps t (free_handle w c.wait.process) c) ≡ left_by w es (settled t NtCompleteConnectPort (nt_complete_connect_port w t handle))
+pub completes : (w : World) (t : ThreadRow) (handle : ℕ) (es : List Entry) (l : Bool) (c : Completable) → complete_test w t handle ≡ Ok c → left_by w es l (complete_steps t (free_handle w c.wait.process) c) ≡ left_by w es l (settled t NtCompleteConnectPort (nt_complete_connect_port w t handle))
 unfolding nt_complete_connect_port
-completes w t handle es c is = rw is refl
+completes w t handle es l c is = rw is refl

@@ -1,5 +1,5 @@
 -- A port that is made: the steps as they are taken one by one, and the steps of the definition.
-use Rattle.std.proofs.Common.{◌≡◌, ℕ, List, [], ◌∷◌, ◌++◌, Option, Some, None, option_map, Result, Ok, Err, IfOk, IsOk, refl, ap, sym, ◌∙◌}
+use Rattle.std.proofs.Common.{◌≡◌, ℕ, Bool, List, [], ◌∷◌, ◌++◌, Option, Some, None, option_map, Result, Ok, Err, IfOk, IsOk, refl, ap, sym, ◌∙◌}
 use Rattle.lpc_base.specs.Rows.{first}
 use Rattle.lpc_base.specs.declared.birth.Birth.{Birth}
 use Rattle.lpc_base.specs.declared.status.Status.{Status}
@@ -11,13 +11,14 @@ use Rattle.lpc_model.specs.Basics.{AddsHandle, Basic, DrawsOrdinal, basic, entri
 use Rattle.lpc_model.specs.Connect.{create_steps, making, named_steps, nt_create_port, unnamed_steps}
 use Rattle.lpc_model.specs.Fields.{h}
 use Rattle.lpc_model.specs.Found.{free_handle, is_thread, port_name}
-use Rattle.lpc_model.specs.Machine.{Stepped, settled}
+use Rattle.lpc_model.specs.Machine.{settled}
 use Rattle.lpc_model.specs.Named.{free_name}
+use Rattle.lpc_model.specs.Sweep.{loosened}
 use Rattle.lpc_model.specs.Then.{◌>>=◌}
 use Rattle.lpc_model.specs.Tests.{PORT_ACCESS, handle_row, handles_test, next_birth}
 use Rattle.lpc_model.specs.World.{Path, ThreadRow, World}
 use Rattle.lpc_model.proofs.SoundQueues.{after-append}
-use Rattle.lpc_world.specs.Does.{left_by}
+use Rattle.lpc_world.specs.Does.{Left, left_by}
 
 -- the birth that a thread draws is its next
 pub drawn-birth : (w : World) (t : ThreadRow) (b : Birth) → first (is_thread t.number) w.threads ≡ Some t → option_map next_birth (first (is_thread t.number) w.threads) ≡ Some b → b ≡ next_birth t
@@ -27,7 +28,7 @@ drawn-birth w t b row drawn = ap (else_next t) (sym drawn ∙ ap (λ o. option_m
     else_next t (Some b) = b
     else_next t None = next_birth t
 
-module _ (w : World) (es : List Entry) (t : ThreadRow) where
+module _ (w : World) (es : List Entry) (l : Bool) (t : ThreadRow) where
   abbrev drawn : World
   drawn = basic w (DrawsOrdinal t.number)
 
@@ -35,16 +36,16 @@ module _ (w : World) (es : List Entry) (t : ThreadRow) where
   own = AddsHandle t.process (handle_row (free_handle w t.process) (port_name (next_birth t)) PORT_ACCESS)
 
   -- the steps leave the handles as they are and tell nothing, and then the handle is given
-  module _ (made given : World) (list : List Entry) (value : ℕ) (name : Birth)
+  module _ (made given : World) (list : List Entry) (loose : Bool) (value : ℕ) (name : Birth)
       (least : value ≡ free_handle made t.process) (named : name ≡ next_birth t)
       (give : given ≡ basic made (AddsHandle t.process (handle_row value (port_name name) PORT_ACCESS)))
-      (told : list ≡ es ++ Answer t.number NtCreatePort SUCCESS (h value ∷ []) ∷ []) where
-    abbrev End : Stepped
-    End = record { world = given; entries = list }
+      (told : list ≡ es ++ Answer t.number NtCreatePort SUCCESS (h value ∷ []) ∷ []) (kept : loose ≡ l) where
+    abbrev End : Left
+    End = record { world = given; entries = list; loose = loose }
 
-    created_by : (steps : List Basic) → made ≡ world_after drawn steps → free_handle (world_after drawn steps) t.process ≡ free_handle w t.process → entries_of (steps ++ own ∷ []) ≡ []
-        → End ≡ left_by w es (create_steps t steps (free_handle w t.process))
-    created_by steps made_is same silent =
+    created_by : (steps : List Basic) → made ≡ world_after drawn steps → free_handle (world_after drawn steps) t.process ≡ free_handle w t.process → entries_of (steps ++ own ∷ []) ≡ [] → loosened l (steps ++ own ∷ []) ≡ l
+        → End ≡ left_by w es l (create_steps t steps (free_handle w t.process))
+    created_by steps made_is same silent firm =
         let value_is : value ≡ free_handle w t.process = least ∙ ap (λ (v : World). free_handle v t.process) made_is ∙ same in
         let given_is : given ≡ world_after drawn (steps ++ own ∷ []) =
         give ∙ ap (λ (v : World). basic v (AddsHandle t.process (handle_row value (port_name name) PORT_ACCESS))) made_is
@@ -54,36 +55,37 @@ module _ (w : World) (es : List Entry) (t : ThreadRow) where
         let told_is : list ≡ es ++ Answer t.number NtCreatePort SUCCESS (h (free_handle w t.process) ∷ []) ∷ entries_of (steps ++ own ∷ []) =
         told ∙ ap (λ (n : ℕ). es ++ Answer t.number NtCreatePort SUCCESS (h n ∷ []) ∷ []) value_is
         ∙ ap (λ (xs : List Entry). es ++ Answer t.number NtCreatePort SUCCESS (h (free_handle w t.process) ∷ []) ∷ xs) (sym silent) in
-        λ i. record { world = given_is i; entries = told_is i }
+        let loose_is : loose ≡ loosened l (steps ++ own ∷ []) = kept ∙ sym firm in
+        λ i. record { world = given_is i; entries = told_is i; loose = loose_is i }
 
     abbrev Makes : List Basic → Type 0
     Makes steps = made ≡ world_after drawn steps
 
     abbrev Leaves : List Basic → Type 0
-    Leaves steps = End ≡ left_by w es (create_steps t steps (free_handle w t.process))
+    Leaves steps = End ≡ left_by w es l (create_steps t steps (free_handle w t.process))
 
     named_by : (r : Result Path Status) → IfOk (r >>= (λ path. Ok (named_steps (next_birth t) path))) Makes → IfOk (r >>= (λ path. Ok (named_steps (next_birth t) path))) Leaves
     named_by (Err s) makes = tt
-    named_by (Ok path) makes = created_by (named_steps (next_birth t) path) makes refl refl
+    named_by (Ok path) makes = created_by (named_steps (next_birth t) path) makes refl refl refl
 
     created_as : (o : Option (List ℕ)) → IfOk (making w (next_birth t) o) Makes → IfOk (making w (next_birth t) o) Leaves
-    created_as None makes = created_by (unnamed_steps (next_birth t)) makes refl refl
+    created_as None makes = created_by (unnamed_steps (next_birth t)) makes refl refl refl
     created_as (Some text) makes = named_by (free_name w text) makes
 
     pub created : (drew : World) (b : Birth) (o : Option (List ℕ)) → b ≡ next_birth t → drew ≡ drawn → IfOk (making drew b o) (λ steps. made ≡ world_after drew steps) → IfOk (making w (next_birth t) o) Leaves
     created drew b o birth draw makes = created_as o (rw (birth, draw) at makes)
 
 -- where the tests pass, the call's steps are those of a port that is made
-module _ (w : World) (t : ThreadRow) (es : List Entry) (end : Stepped) where
+module _ (w : World) (t : ThreadRow) (es : List Entry) (l : Bool) (end : Left) where
   abbrev Creates : List Basic → Type 0
-  Creates made = end ≡ left_by w es (create_steps t made (free_handle w t.process))
+  Creates made = end ≡ left_by w es l (create_steps t made (free_handle w t.process))
 
   creates_by : (r : Result (List Basic) Status) (q : Result Unit Status) → IsOk r → IsOk q → IfOk r Creates
-      → end ≡ left_by w es (settled t NtCreatePort (r >>= (λ made. q >>= (λ _. Ok (create_steps t made (free_handle w t.process))))))
+      → end ≡ left_by w es l (settled t NtCreatePort (r >>= (λ made. q >>= (λ _. Ok (create_steps t made (free_handle w t.process))))))
   creates_by (Ok made) (Ok u) free few creates = creates
   creates_by (Ok made) (Err s) free few creates = absurd (cc)
   creates_by (Err s) q free few creates = absurd (cc)
 
-  pub creates : (o : Option (List ℕ)) → IsOk (making w (next_birth t) o) → IsOk (handles_test w t.process 1) → IfOk (making w (next_birth t) o) Creates → end ≡ left_by w es (settled t NtCreatePort (nt_create_port w t o))
+  pub creates : (o : Option (List ℕ)) → IsOk (making w (next_birth t) o) → IsOk (handles_test w t.process 1) → IfOk (making w (next_birth t) o) Creates → end ≡ left_by w es l (settled t NtCreatePort (nt_create_port w t o))
   unfolding nt_create_port
   creates o free few does = creates_by (making w (next_birth t) o) (handles_test w t.process 1) free few does

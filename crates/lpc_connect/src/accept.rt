@@ -1,14 +1,16 @@
 // The call that answers a connect: it accepts it, or refuses it.
 ghost use Rattle.std.specs.Prelude.{ℕ, ◌≡◌, ◌≤◌, ◌<◌, ◌+◌, ◌*◌, Ok, Err, true, false, IfErr, IfOk, IsOk, OnOk, OnErr, MatchResult};
-ghost use Rattle.lpc_base.specs.Rows.{first, has};
+ghost use Rattle.lpc_base.specs.Rows.{has};
+ghost use Rattle.lpc_base.specs.declared.limits.TheConstants.{HANDLE_LIMIT, LINES_LIMIT};
+ghost use Rattle.lpc_connect.specs.Calls.{Answering, HasThread, IsOwnWait, accepting, answer_with, called, service, shown_answer, was_received};
+ghost use Rattle.lpc_connect.specs.Room.{HasHandleRoom, lacks_port_room};
 ghost use Rattle.lpc_model.specs.Basics.{outcome_of};
 ghost use Rattle.lpc_model.specs.Connect as connect;
-ghost use Rattle.lpc_model.specs.declared.entry.CallName.TheVariants as call;
-ghost use Rattle.lpc_model.specs.Found.{free_handle, is_offered, is_table, is_thread, waits_as};
-ghost use Rattle.lpc_model.specs.Machine.{settled};
+ghost use Rattle.lpc_model.specs.Found.{is_offered, is_table, waits_as};
+ghost use Rattle.lpc_model.specs.Lines.{accept_connect_port};
 ghost use Rattle.lpc_model.specs.Tests as tests;
 ghost use Rattle.lpc_world.specs.Does.{Takes};
-ghost use Rattle.lpc_world.specs.Kept.{Same, handle_room, is_pending_in, promised};
+ghost use Rattle.lpc_world.specs.Kept.{Same, is_pending_in};
 ghost use Rattle.lpc_world.specs.Ready.{caller, is_ready, waiter};
 ghost use Rattle.lpc_world.specs.Shown.{shown_thread};
 
@@ -33,12 +35,14 @@ pub struct ConnectAnswer {
 #[tactic(auto, using(crate::proofs::Accepted::received_when_idle))]
 fn answer_test(world: &World, by: u32, bytes: &[u8]) -> Result<ConnectAnswer, Status>
     requires ready { is_ready world.now.rows by ≡ true }
-    ensures found { MatchResult result (λ a. connect.answer_test world.now.rows (caller world.now.rows by) bytes.now ≡ Ok (record { message = a.message; wait = waiter world.now.rows a.thread })) (λ s. connect.answer_test world.now.rows (caller world.now.rows by) bytes.now ≡ Err s) }
+    ensures found { let by = caller world.now.rows by in
+        let found = connect.answer_test world.now.rows by bytes.now in
+        MatchResult result (λ a. found ≡ Ok (shown_answer world.now.rows a)) (λ s. found ≡ Err s) }
     ensures waits { IfOk result (λ a. has (waits_as a.thread) world.now.rows.waits ≡ true) }
-    ensures thread { IfOk result (λ a. let x = waiter world.now.rows a.thread in x.thread ≡ a.thread) }
+    ensures thread { IfOk result (λ a. IsOwnWait world.now.rows a.thread) }
     ensures idle { IfOk result (λ a. is_pending_in world.now.rows a.thread ≡ false) }
     ensures offered { IfOk result (λ a. is_offered (waiter world.now.rows a.thread) ≡ true) }
-    ensures received { IfOk result (λ a. let x = waiter world.now.rows a.thread in x.received ≡ true) }
+    ensures received { IfOk result (λ a. was_received world.now.rows a.thread ≡ true) }
 {
     let message = kept(&world.read_message(bytes)?);
     world.client_test(message.header.client)?;
@@ -60,15 +64,21 @@ fn accept_test(
     requires ready { is_ready world.now.rows by.now.number ≡ true }
     requires row { shown_thread by.now ≡ caller world.now.rows by.now.number }
     requires table { has (is_table by.now.process) world.now.rows.handles ≡ true }
-    ensures refused { IfErr result (λ s. (context : ℕ) → connect.nt_accept_connect_port world.now.rows (shown_thread by.now) context bytes.now accept ≡ Err s) }
-    ensures refuses { IfOk result (λ a. accept ≡ false → (context : ℕ) → connect.nt_accept_connect_port world.now.rows (shown_thread by.now) context bytes.now accept ≡ Ok (connect.refuse_steps (shown_thread by.now) (record { message = a.message; wait = waiter world.now.rows a.thread }) world.now.rows)) }
-    ensures accepts { IfOk result (λ a. accept ≡ true → (context : ℕ) → connect.nt_accept_connect_port world.now.rows (shown_thread by.now) context bytes.now accept ≡ Ok (connect.accept_steps (shown_thread by.now) context (free_handle world.now.rows by.now.process) (record { message = a.message; wait = waiter world.now.rows a.thread }))) }
-    ensures few { OnOk result (accept ≡ true → tests.handle_load world.now.rows by.now.process < 256) }
+    ensures refused { let by = shown_thread by.now in
+        IfErr result (λ s. Answering world.now.rows by bytes.now accept (λ context. Err s)) }
+    ensures refuses { let by = shown_thread by.now in
+        IfOk result (λ a. accept ≡ false → Answering world.now.rows by bytes.now accept
+        (λ context. Ok (connect.refuse_steps by (shown_answer world.now.rows a)))) }
+    ensures accepts { let by = shown_thread by.now in
+        IfOk result (λ a. accept ≡ true → Answering world.now.rows by bytes.now accept
+        (λ context. Ok (accepting world.now.rows by (shown_answer world.now.rows a) context))) }
+    ensures few { let load = tests.handle_load world.now.rows by.now.process in
+        OnOk result (accept ≡ true → load < HANDLE_LIMIT) }
     ensures waits { IfOk result (λ a. has (waits_as a.thread) world.now.rows.waits ≡ true) }
-    ensures thread { IfOk result (λ a. let x = waiter world.now.rows a.thread in x.thread ≡ a.thread) }
+    ensures thread { IfOk result (λ a. IsOwnWait world.now.rows a.thread) }
     ensures idle { IfOk result (λ a. is_pending_in world.now.rows a.thread ≡ false) }
     ensures offered { IfOk result (λ a. is_offered (waiter world.now.rows a.thread) ≡ true) }
-    ensures received { IfOk result (λ a. let x = waiter world.now.rows a.thread in x.received ≡ true) }
+    ensures received { IfOk result (λ a. was_received world.now.rows a.thread ≡ true) }
 {
     let answer = answer_test(world, by.number, bytes)?;
     if accept {
@@ -89,7 +99,9 @@ fn refuse_connect(
     requires waits { has (waits_as thread) world.old.rows.waits ≡ true }
     requires idle { is_pending_in world.old.rows thread ≡ false }
     requires offered { is_offered (waiter world.old.rows thread) ≡ true }
-    ensures takes { Takes (connect.refuse_steps (shown_thread by.now) (record { message = message.now; wait = waiter world.old.rows thread }) world.old.rows) world.old world.new out.old out.new }
+    ensures takes { let a = answer_with world.old.rows thread message.now in
+        let steps = connect.refuse_steps (shown_thread by.now) a in
+        Takes steps world.old world.new out.old out.new }
     ensures calls { world.new.calls ≡ world.old.calls }
     ensures spare { out.old.spare ≤ out.new.spare + 2 }
 {
@@ -114,26 +126,28 @@ fn accept_connect(
 )
     requires spare { 1 ≤ out.old.spare }
     requires ports { 0 < world.old.room.ports }
-    requires handles { promised world.old.rows by.now.process < handle_room world.old.room by.now.process }
-    requires load { tests.handle_load world.old.rows by.now.process < 256 }
+    requires handles { HasHandleRoom world.old by.now.process }
+    requires load { tests.handle_load world.old.rows by.now.process < HANDLE_LIMIT }
     requires budget { world.old.made + 16 ≤ 16 * world.old.calls }
-    requires row { first (is_thread by.now.number) world.old.rows.threads ≡ Some (shown_thread by.now) }
+    requires row { HasThread world.old.rows (shown_thread by.now) }
     requires table { has (is_table by.now.process) world.old.rows.handles ≡ true }
     requires waits { has (waits_as thread) world.old.rows.waits ≡ true }
     requires offered { is_offered (waiter world.old.rows thread) ≡ true }
-    requires received { let x = waiter world.old.rows thread in x.received ≡ true }
-    requires thread { let x = waiter world.old.rows thread in x.thread ≡ thread }
-    ensures takes { Takes (connect.accept_steps (shown_thread by.now) context (free_handle world.old.rows by.now.process) (record { message = message.now; wait = waiter world.old.rows thread })) world.old world.new out.old out.new }
+    requires received { was_received world.old.rows thread ≡ true }
+    requires thread { IsOwnWait world.old.rows thread }
+    ensures takes { let a = answer_with world.old.rows thread message.now in
+        let steps = accepting world.old.rows (shown_thread by.now) a context in
+        Takes steps world.old world.new out.old out.new }
     ensures calls { world.new.calls ≡ world.old.calls }
     ensures spare { out.old.spare ≤ out.new.spare + 2 }
 {
     let wait = world.waiting(thread);
     let birth = world.procs_draw_birth(by.number);
-    let server = world.ports_add(PortKind::Server, birth, Some(wait.queue));
+    let server = world.ports_add(PortKind::Server, birth, Some(wait.queue), None);
     let value = world.give_handle(by.process, Object::Port(server), PORT_ACCESS);
-    world.ports_join(wait.port, server, context);
     let reply = held(message.body.as_slice());
     world.waits_set_accepted(thread, Some(Accepted { reply }));
+    world.ports_join(wait.port, server, context);
     out.push(Entry::Answer {
         tid: by.number,
         call: CallName::NtAcceptConnectPort,
@@ -144,7 +158,7 @@ fn accept_connect(
 
 /// `NtAcceptConnectPort`: accepts the connect that a message names, or refuses it. An accepted connect has a server port
 /// then, with a handle for the caller's process; its client waits on, until the connection is completed. A refused one
-/// ends, and its client port goes where no row names it.
+/// ends; where no row names its client port, that goes at the end of the line.
 ///
 /// Refusals, in this order: a message of wrong shape, one that is too long; INVALID_CID where no live thread has the
 /// message's process and thread; REPLY_MESSAGE_MISMATCH where the message names no connect that was received and isn't
@@ -161,13 +175,17 @@ pub fn nt_accept_connect_port(
 ) -> Result<Outcome, OutOfMemory>
     requires ready { is_ready world.old.rows by ≡ true }
     requires spare { 2 ≤ out.old.spare }
-    requires calls { world.old.calls < 1000000 }
-    ensures takes { OnOk result (Takes (settled (caller world.old.rows by) call.NtAcceptConnectPort (connect.nt_accept_connect_port world.old.rows (caller world.old.rows by) context message.now accept)) world.old world.new out.old out.new) }
-    ensures outcome { IfOk result (λ o. o ≡ outcome_of (settled (caller world.old.rows by) call.NtAcceptConnectPort (connect.nt_accept_connect_port world.old.rows (caller world.old.rows by) context message.now accept))) }
+    requires calls { world.old.calls < LINES_LIMIT }
+    ensures takes { let call = accept_connect_port context message.now accept in
+        OnOk result (Takes (called world.old.rows by call) world.old world.new out.old out.new) }
+    ensures outcome { let call = accept_connect_port context message.now accept in
+        IfOk result (λ o. o ≡ outcome_of (called world.old.rows by call)) }
     ensures calls { OnOk result (world.new.calls ≡ world.old.calls + 1) }
     ensures spare { OnOk result (out.old.spare ≤ out.new.spare + 2) }
-    ensures late { OnErr result (IsOk (connect.nt_accept_connect_port world.old.rows (caller world.old.rows by) context message.now accept)) }
+    ensures late { let call = accept_connect_port context message.now accept in
+        OnErr result (IsOk (service world.old.rows by call)) }
     ensures answered { accept ≡ false → IsOk result }
+    ensures wanting { OnErr result (lacks_port_room world.old (caller world.old.rows by) ≡ true) }
     ensures memory { OnErr result (Same world.old world.new) }
     ensures silent { OnErr result (out.new ≡ out.old) }
 {

@@ -1,14 +1,15 @@
 // The call that completes a connection.
 ghost use Rattle.std.specs.Prelude.{◌≡◌, ◌≤◌, ◌<◌, ◌+◌, Ok, Err, IfErr, IfOk, MatchResult, true, false};
 ghost use Rattle.lpc_base.specs.Rows.{has};
+ghost use Rattle.lpc_base.specs.declared.limits.TheConstants.{LINES_LIMIT};
+ghost use Rattle.lpc_connect.specs.Calls.{IsOwnWait, called, completing, shown_connection};
 ghost use Rattle.lpc_model.specs.Basics.{outcome_of};
 ghost use Rattle.lpc_model.specs.Connect as connect;
-ghost use Rattle.lpc_model.specs.declared.entry.CallName.TheVariants as call;
-ghost use Rattle.lpc_model.specs.Found.{free_handle, is_accepted, waits_as};
-ghost use Rattle.lpc_model.specs.Machine.{settled};
+ghost use Rattle.lpc_model.specs.Found.{is_accepted, waits_as};
+ghost use Rattle.lpc_model.specs.Lines.{complete_connect_port};
 ghost use Rattle.lpc_world.specs.Does.{Takes};
 ghost use Rattle.lpc_world.specs.Kept.{is_pending_in};
-ghost use Rattle.lpc_world.specs.Names.{name_of, stands};
+ghost use Rattle.lpc_world.specs.Names.{stands};
 ghost use Rattle.lpc_world.specs.Ready.{caller, is_ready, waiter};
 ghost use Rattle.lpc_world.specs.Shown.{shown_thread};
 
@@ -31,11 +32,13 @@ struct Connection {
 /// The connection of the server port that a handle names.
 fn complete_test(world: &World, tid: u32, handle: u32) -> Result<Connection, Status>
     requires { is_ready world.now.rows tid ≡ true }
-    ensures test { MatchResult result (λ c. connect.complete_test world.now.rows (caller world.now.rows tid) handle ≡ Ok (record { server = name_of world.now.names.ports c.server; client = name_of world.now.names.ports c.client; wait = waiter world.now.rows c.thread })) (λ s. connect.complete_test world.now.rows (caller world.now.rows tid) handle ≡ Err s) }
+    ensures test { let by = caller world.now.rows tid in
+        let test = connect.complete_test world.now.rows by handle in
+        MatchResult result (λ c. test ≡ Ok (shown_connection world.now c)) (λ s. test ≡ Err s) }
     ensures server { IfOk result (λ c. stands world.now.names.ports c.server ≡ true) }
     ensures client { IfOk result (λ c. stands world.now.names.ports c.client ≡ true) }
     ensures waits { IfOk result (λ c. has (waits_as c.thread) world.now.rows.waits ≡ true) }
-    ensures thread { IfOk result (λ c. let x = waiter world.now.rows c.thread in x.thread ≡ c.thread) }
+    ensures thread { IfOk result (λ c. IsOwnWait world.now.rows c.thread) }
     ensures accepted { IfOk result (λ c. is_accepted (waiter world.now.rows c.thread) ≡ true) }
     ensures idle { IfOk result (λ c. is_pending_in world.now.rows c.thread ≡ false) }
 {
@@ -55,10 +58,12 @@ fn complete(world: &mut World, by: &ThreadRow, connection: Connection, out: &mut
     requires server { stands world.old.names.ports connection.server ≡ true }
     requires client { stands world.old.names.ports connection.client ≡ true }
     requires waits { has (waits_as connection.thread) world.old.rows.waits ≡ true }
-    requires thread { let x = waiter world.old.rows connection.thread in x.thread ≡ connection.thread }
+    requires thread { IsOwnWait world.old.rows connection.thread }
     requires accepted { is_accepted (waiter world.old.rows connection.thread) ≡ true }
     requires idle { is_pending_in world.old.rows connection.thread ≡ false }
-    ensures takes { let x = waiter world.old.rows connection.thread in Takes (connect.complete_steps (shown_thread by.now) (free_handle world.old.rows x.process) (record { server = name_of world.old.names.ports connection.server; client = name_of world.old.names.ports connection.client; wait = x })) world.old world.new out.old out.new }
+    ensures takes { let c = shown_connection world.old connection in
+        let steps = completing world.old.rows (shown_thread by.now) c in
+        Takes steps world.old world.new out.old out.new }
     ensures calls { world.new.calls ≡ world.old.calls }
     ensures spare { out.old.spare ≤ out.new.spare + 2 }
 {
@@ -100,9 +105,11 @@ pub fn nt_complete_connect_port(
 ) -> Outcome
     requires ready { is_ready world.old.rows by ≡ true }
     requires spare { 2 ≤ out.old.spare }
-    requires calls { world.old.calls < 1000000 }
-    ensures takes { Takes (settled (caller world.old.rows by) call.NtCompleteConnectPort (connect.nt_complete_connect_port world.old.rows (caller world.old.rows by) handle)) world.old world.new out.old out.new }
-    ensures outcome { result ≡ outcome_of (settled (caller world.old.rows by) call.NtCompleteConnectPort (connect.nt_complete_connect_port world.old.rows (caller world.old.rows by) handle)) }
+    requires calls { world.old.calls < LINES_LIMIT }
+    ensures takes { let steps = called world.old.rows by (complete_connect_port handle) in
+        Takes steps world.old world.new out.old out.new }
+    ensures outcome { let steps = called world.old.rows by (complete_connect_port handle) in
+        result ≡ outcome_of steps }
     ensures calls { world.new.calls ≡ world.old.calls + 1 }
     ensures spare { out.old.spare ≤ out.new.spare + 2 }
 {

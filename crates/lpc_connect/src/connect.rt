@@ -1,16 +1,19 @@
 // The call that asks for a connection.
 ghost use Rattle.std.specs.Prelude.{ℕ, ◌≡◌, ◌≤◌, ◌<◌, ◌+◌, ◌*◌, [], ◌∷◌, Ok, Err, None, Some, IfErr, IfOk, IsOk, OnOk, OnErr, false, length, true};
 ghost use Rattle.lpc_base.specs.Rows.{first, has};
-ghost use Rattle.lpc_model.specs.Basics.{basic, outcome_of, world_after, DrawsIdentifier, DrawsOrdinal, Makes};
+ghost use Rattle.lpc_base.specs.declared.limits.TheConstants.{HANDLE_LIMIT, HEADER_SIZE, LINES_LIMIT, MESSAGE_LIMIT};
+ghost use Rattle.lpc_connect.specs.Calls.{HasThread, birth_at, called, connecting, draws, service};
+ghost use Rattle.lpc_connect.specs.Room.{HasHandleRoom, KeepsHandleRoom, lacks_port_room};
+ghost use Rattle.lpc_model.specs.Basics.{basic, outcome_of, world_after, Makes};
 ghost use Rattle.lpc_model.specs.Connect as connect;
-ghost use Rattle.lpc_model.specs.declared.entry.CallName.TheVariants as call;
 ghost use Rattle.lpc_model.specs.Found.{is_table, is_thread, port_row, waits_as};
-ghost use Rattle.lpc_model.specs.Machine.{settled};
+ghost use Rattle.lpc_model.specs.Lines.{connect_port};
+ghost use Rattle.lpc_model.specs.Machine.{service_of};
 ghost use Rattle.lpc_model.specs.Message.{asks};
 ghost use Rattle.lpc_model.specs.Tests as tests;
 ghost use Rattle.lpc_model.specs.Tests.{next_birth};
 ghost use Rattle.lpc_world.specs.Does.{Takes};
-ghost use Rattle.lpc_world.specs.Kept.{Same, handle_room, promised};
+ghost use Rattle.lpc_world.specs.Kept.{Same};
 ghost use Rattle.lpc_world.specs.Lawful.{drew};
 ghost use Rattle.lpc_world.specs.Names.{name_of, stands};
 ghost use Rattle.lpc_world.specs.Ready.{caller, is_ready};
@@ -21,6 +24,7 @@ use lpc_base::status::PORT_MESSAGE_TOO_LONG;
 use lpc_base::{Birth, OutOfMemory, PortKind, Status};
 use lpc_message::{ClientId, Header, kind};
 use lpc_model::{Body, CallName, Entries, Entry, Message, Outcome, identifier_field, refuse};
+use lpc_ports::Creator;
 use lpc_procs::ThreadRow;
 use lpc_slots::Key;
 use lpc_waits::{Wait, WaitKind};
@@ -29,7 +33,7 @@ use lpc_world::World;
 /// The bytes that go with a connect are no more than a message holds.
 fn info_test(info: &[u8]) -> Result<(), Status>
     ensures test { result ≡ connect.info_test info.now }
-    ensures bound { OnOk result (length info.now ≤ 232) }
+    ensures bound { OnOk result (HEADER_SIZE + length info.now ≤ MESSAGE_LIMIT) }
 {
     if info.len() > MESSAGE_LIMIT - HEADER_SIZE {
         return Err(PORT_MESSAGE_TOO_LONG);
@@ -41,11 +45,14 @@ fn info_test(info: &[u8]) -> Result<(), Status>
 #[tactic(auto, unfolding(lpc_model::specs::Connect::nt_connect_port))]
 fn connect_test(world: &World, by: &ThreadRow, name: &[u8], info: &[u8]) -> Result<Key, Status>
     requires table { has (is_table by.now.process) world.now.rows.handles ≡ true }
-    ensures refused { IfErr result (λ status. connect.nt_connect_port world.now.rows (shown_thread by.now) name.now info.now ≡ Err status) }
-    ensures steps { IfOk result (λ key. connect.nt_connect_port world.now.rows (shown_thread by.now) name.now info.now ≡ Ok (connect.connect_steps (shown_thread by.now) (name_of world.now.names.ports key) (connect.connection_request (shown_thread by.now) info.now) world.now.rows)) }
+    ensures refused { let call = connect_port name.now info.now in
+        IfErr result (λ s. service_of world.now.rows (shown_thread by.now) call ≡ Err s) }
+    ensures steps { let call = connect_port name.now info.now in
+        IfOk result (λ key. service_of world.now.rows (shown_thread by.now) call
+        ≡ Ok (connecting world.now (shown_thread by.now) key info.now)) }
     ensures stands { IfOk result (λ key. stands world.now.names.ports key ≡ true) }
-    ensures few { OnOk result (tests.handle_load world.now.rows by.now.process < 256) }
-    ensures bound { OnOk result (length info.now ≤ 232) }
+    ensures few { OnOk result (tests.handle_load world.now.rows by.now.process < HANDLE_LIMIT) }
+    ensures bound { OnOk result (HEADER_SIZE + length info.now ≤ MESSAGE_LIMIT) }
 {
     info_test(info)?;
     let connection = world.named_port(name)?;
@@ -53,9 +60,19 @@ fn connect_test(world: &World, by: &ThreadRow, name: &[u8], info: &[u8]) -> Resu
     Ok(connection)
 }
 
+/// The client that a thread is.
+fn client_of(by: &ThreadRow) -> ClientId
+    ensures { result ≡ tests.client_of (shown_thread by.now) }
+{
+    ClientId {
+        process: by.process,
+        thread: by.number,
+    }
+}
+
 /// The connection request, with the identifier that its sender draws.
 fn connection_request(by: &ThreadRow, info: &[u8]) -> Message
-    requires { length info.now ≤ 232 }
+    requires { HEADER_SIZE + length info.now ≤ MESSAGE_LIMIT }
     ensures { result ≡ connect.connection_request (shown_thread by.now) info.now }
 {
     Message {
@@ -64,10 +81,7 @@ fn connection_request(by: &ThreadRow, info: &[u8]) -> Message
             message_size: (HEADER_SIZE + info.len()) as u16,
             kind: kind::CONNECTION_REQUEST,
             ranges_offset: 0,
-            client: ClientId {
-                process: by.process,
-                thread: by.number,
-            },
+            client: client_of(by),
             message_id: by.next_identifier,
             section_size: 0,
         },
@@ -79,39 +93,49 @@ fn connection_request(by: &ThreadRow, info: &[u8]) -> Message
 #[tactic(auto, using(crate::proofs::Drawn::stands_behind_identifier, crate::proofs::Drawn::stands_behind_ordinal, crate::proofs::Drawn::birth_behind_identifier))]
 fn draw(world: &mut World, by: &ThreadRow) -> Birth
     requires budget { world.old.made + 16 ≤ 16 * world.old.calls }
-    requires thread { first (is_thread by.now.number) world.old.rows.threads ≡ Some (shown_thread by.now) }
+    requires thread { HasThread world.old.rows (shown_thread by.now) }
     ensures birth { result ≡ next_birth (shown_thread by.now) }
     ensures fresh { port_row world.new.rows result ≡ None }
     ensures drawn { has (drew result) world.new.rows.threads ≡ true }
-    ensures rows { world.new.rows ≡ world_after world.old.rows (DrawsIdentifier by.now.number ∷ DrawsOrdinal by.now.number ∷ []) }
+    ensures rows { world.new.rows ≡ world_after world.old.rows (draws by.now.number) }
     ensures thread { has (is_thread by.now.number) world.new.rows.threads ≡ true }
     ensures names { world.new.names ≡ world.old.names }
     ensures calls { world.new.calls ≡ world.old.calls }
+    ensures loose { world.new.loose ≡ world.old.loose }
     ensures made { world.new.made ≡ world.old.made + 2 }
     ensures ports { world.old.room.ports ≤ world.new.room.ports }
-    ensures handles { (pid : ℕ) → handle_room world.old.room pid ≤ handle_room world.new.room pid }
+    ensures handles { KeepsHandleRoom world.old world.new }
 {
     world.procs_draw_identifier(by.number);
     world.procs_draw_birth(by.number)
 }
 
-/// A client port of a connection port is made, which isn't joined yet; its key is answered.
-fn make_client(world: &mut World, birth: Birth, connection: Key) -> Key
+/// A client port of a connection port is made, which isn't joined yet and keeps the connect that makes it; its key is
+/// answered.
+fn make_client(world: &mut World, by: &ThreadRow, birth: Birth, connection: Key) -> Key
     requires ports { 0 < world.old.room.ports }
     requires budget { world.old.made < 16 * world.old.calls }
     requires connection { stands world.old.names.ports connection ≡ true }
+    requires birth { birth ≡ next_birth (shown_thread by.now) }
     requires fresh { port_row world.old.rows birth ≡ None }
     requires drawn { has (drew birth) world.old.rows.threads ≡ true }
-    ensures rows { world.new.rows ≡ basic world.old.rows (Makes (connect.client_port birth (name_of world.old.names.ports connection))) }
+    ensures rows { let queue = birth_at world.old connection in
+        let port = connect.client_port (shown_thread by.now) queue in
+        world.new.rows ≡ basic world.old.rows (Makes port) }
     ensures name { name_of world.new.names.ports result ≡ birth }
     ensures stands { stands world.new.names.ports result ≡ true }
-    ensures connection { name_of world.new.names.ports connection ≡ name_of world.old.names.ports connection }
+    ensures connection { birth_at world.new connection ≡ birth_at world.old connection }
     ensures connection_stands { stands world.new.names.ports connection ≡ true }
     ensures calls { world.new.calls ≡ world.old.calls }
+    ensures loose { world.new.loose ≡ world.old.loose }
     ensures made { world.new.made ≡ world.old.made + 1 }
-    ensures handles { (pid : ℕ) → handle_room world.old.room pid ≤ handle_room world.new.room pid }
+    ensures handles { KeepsHandleRoom world.old world.new }
 {
-    world.ports_add(PortKind::Client, birth, Some(connection))
+    let creator = Creator {
+        client: client_of(by),
+        message_id: by.next_identifier,
+    };
+    world.ports_add(PortKind::Client, birth, Some(connection), Some(creator))
 }
 
 /// A connect begins: its thread draws the identifier, makes the client port and waits, and the connection request enters
@@ -119,15 +143,17 @@ fn make_client(world: &mut World, birth: Birth, connection: Key) -> Key
 fn start(world: &mut World, by: &ThreadRow, connection: Key, message: &Message, out: &mut Entries)
     requires spare { 2 ≤ out.old.spare }
     requires ports { 0 < world.old.room.ports }
-    requires handles { promised world.old.rows by.now.process < handle_room world.old.room by.now.process }
+    requires handles { HasHandleRoom world.old by.now.process }
     requires budget { world.old.made + 16 ≤ 16 * world.old.calls }
-    requires thread { first (is_thread by.now.number) world.old.rows.threads ≡ Some (shown_thread by.now) }
+    requires thread { HasThread world.old.rows (shown_thread by.now) }
     requires ready { has (waits_as by.now.number) world.old.rows.waits ≡ false }
     requires table { has (is_table by.now.process) world.old.rows.handles ≡ true }
-    requires few { tests.handle_load world.old.rows by.now.process < 256 }
+    requires few { tests.handle_load world.old.rows by.now.process < HANDLE_LIMIT }
     requires connection { stands world.old.names.ports connection ≡ true }
     requires asks { asks message.now ≡ true }
-    ensures takes { Takes (connect.connect_steps (shown_thread by.now) (name_of world.old.names.ports connection) message.now world.old.rows) world.old world.new out.old out.new }
+    ensures takes { let queue = birth_at world.old connection in
+        let steps = connect.connect_steps (shown_thread by.now) queue message.now world.old.rows in
+        Takes steps world.old world.new out.old out.new }
     ensures calls { world.new.calls ≡ world.old.calls }
     ensures spare { out.old.spare ≤ out.new.spare + 2 }
 {
@@ -137,7 +163,7 @@ fn start(world: &mut World, by: &ThreadRow, connection: Key, message: &Message, 
         fields: identifier_field(by.next_identifier),
     });
     let birth = draw(world, by);
-    let port = make_client(world, birth, connection);
+    let port = make_client(world, by, birth, connection);
     world.wait_with(
         by.number,
         Wait {
@@ -168,12 +194,16 @@ pub fn nt_connect_port(
 ) -> Result<Outcome, OutOfMemory>
     requires ready { is_ready world.old.rows by ≡ true }
     requires spare { 2 ≤ out.old.spare }
-    requires calls { world.old.calls < 1000000 }
-    ensures takes { OnOk result (Takes (settled (caller world.old.rows by) call.NtConnectPort (connect.nt_connect_port world.old.rows (caller world.old.rows by) name.now info.now)) world.old world.new out.old out.new) }
-    ensures outcome { IfOk result (λ o. o ≡ outcome_of (settled (caller world.old.rows by) call.NtConnectPort (connect.nt_connect_port world.old.rows (caller world.old.rows by) name.now info.now))) }
+    requires calls { world.old.calls < LINES_LIMIT }
+    ensures takes { let steps = called world.old.rows by (connect_port name.now info.now) in
+        OnOk result (Takes steps world.old world.new out.old out.new) }
+    ensures outcome { let steps = called world.old.rows by (connect_port name.now info.now) in
+        IfOk result (λ o. o ≡ outcome_of steps) }
     ensures calls { OnOk result (world.new.calls ≡ world.old.calls + 1) }
     ensures spare { OnOk result (out.old.spare ≤ out.new.spare + 2) }
-    ensures late { OnErr result (IsOk (connect.nt_connect_port world.old.rows (caller world.old.rows by) name.now info.now)) }
+    ensures late { let call = connect_port name.now info.now in
+        OnErr result (IsOk (service world.old.rows by call)) }
+    ensures wanting { OnErr result (lacks_port_room world.old (caller world.old.rows by) ≡ true) }
     ensures memory { OnErr result (Same world.old world.new) }
     ensures silent { OnErr result (out.new ≡ out.old) }
 {

@@ -1,16 +1,19 @@
 // The call that makes a port.
 ghost use Rattle.std.specs.Prelude.{ℕ, ◌≡◌, ◌≤◌, ◌<◌, ◌+◌, ◌*◌, Ok, Err, None, Some, IfErr, IfOk, IsOk, OnOk, OnErr, is_some, length, option_copied, true};
 ghost use Rattle.lpc_base.specs.Rows.{first, has};
+ghost use Rattle.lpc_base.specs.declared.limits.TheConstants.{HANDLE_LIMIT, LINES_LIMIT};
+ghost use Rattle.lpc_connect.specs.Calls.{HasThread, called, creating, service};
+ghost use Rattle.lpc_connect.specs.Room.{HasHandleRoom, KeepsHandleRoom, lacks_room_for};
 ghost use Rattle.lpc_model.specs.Basics.{outcome_of, world_after};
 ghost use Rattle.lpc_model.specs.Connect as connect;
-ghost use Rattle.lpc_model.specs.declared.entry.CallName.TheVariants as call;
 ghost use Rattle.lpc_model.specs.Found.{free_handle, handles_of, is_table, is_thread, port_row};
-ghost use Rattle.lpc_model.specs.Machine.{settled};
+ghost use Rattle.lpc_model.specs.Lines.{create_port};
+ghost use Rattle.lpc_model.specs.Machine.{service_of};
 ghost use Rattle.lpc_model.specs.Named.{free_name};
 ghost use Rattle.lpc_model.specs.Tests as tests;
 ghost use Rattle.lpc_model.specs.Tests.{next_birth};
 ghost use Rattle.lpc_world.specs.Does.{Takes};
-ghost use Rattle.lpc_world.specs.Kept.{Same, handle_room, promised};
+ghost use Rattle.lpc_world.specs.Kept.{Same};
 ghost use Rattle.lpc_world.specs.Lawful.{drew};
 ghost use Rattle.lpc_world.specs.Names.{name_of, stands};
 ghost use Rattle.lpc_world.specs.Ready.{caller, is_ready};
@@ -30,10 +33,12 @@ pub(crate) const PORT_ACCESS: u32 = 0x001F_0001;
 #[tactic(auto, unfolding(lpc_model::specs::Connect::nt_create_port))]
 fn create_test(world: &World, by: &ThreadRow, name: Option<&[u8]>) -> Result<(), Status>
     requires table { has (is_table by.now.process) world.now.rows.handles ≡ true }
-    ensures refused { IfErr result (λ status. connect.nt_create_port world.now.rows (shown_thread by.now) (option_copied name.entry) ≡ Err status) }
-    ensures name { OnOk result (IsOk (connect.making world.now.rows (next_birth (shown_thread by.now)) (option_copied name.entry))) }
+    ensures refused { let call = create_port (option_copied name.entry) in
+        IfErr result (λ s. service_of world.now.rows (shown_thread by.now) call ≡ Err s) }
+    ensures name { let port = next_birth (shown_thread by.now) in
+        OnOk result (IsOk (connect.making world.now.rows port (option_copied name.entry))) }
     ensures handles { OnOk result (IsOk (tests.handles_test world.now.rows by.now.process 1)) }
-    ensures few { OnOk result (tests.handle_load world.now.rows by.now.process < 256) }
+    ensures few { OnOk result (tests.handle_load world.now.rows by.now.process < HANDLE_LIMIT) }
 {
     if let Some(path) = name {
         world.name_test(path)?;
@@ -49,14 +54,16 @@ fn make_named(world: &mut World, path: &[u8], birth: Birth) -> Key
     requires fresh { port_row world.old.rows birth ≡ None }
     requires drawn { has (drew birth) world.old.rows.threads ≡ true }
     requires free { IsOk (free_name world.old.rows path.now) }
-    ensures rows { IfOk (free_name world.old.rows path.now) (λ place. world.new.rows ≡ world_after world.old.rows (connect.named_steps birth place)) }
+    ensures rows { IfOk (free_name world.old.rows path.now) (λ place.
+        world.new.rows ≡ world_after world.old.rows (connect.named_steps birth place)) }
     ensures name { name_of world.new.names.ports result ≡ birth }
     ensures stands { stands world.new.names.ports result ≡ true }
     ensures calls { world.new.calls ≡ world.old.calls }
+    ensures loose { world.new.loose ≡ world.old.loose }
     ensures made { world.new.made ≡ world.old.made + 1 }
-    ensures handles { (pid : ℕ) → handle_room world.old.room pid ≤ handle_room world.new.room pid }
+    ensures handles { KeepsHandleRoom world.old world.new }
 {
-    let port = world.ports_add(PortKind::Connection, birth, None);
+    let port = world.ports_add(PortKind::Connection, birth, None, None);
     match world.names_bind(path, port) {
         Ok(()) => port,
         Err(_) => unreachable!(),
@@ -71,15 +78,17 @@ fn make(world: &mut World, name: Option<&[u8]>, birth: Birth) -> Key
     requires fresh { port_row world.old.rows birth ≡ None }
     requires drawn { has (drew birth) world.old.rows.threads ≡ true }
     requires free { IsOk (connect.making world.old.rows birth (option_copied name)) }
-    ensures rows { IfOk (connect.making world.old.rows birth (option_copied name.entry)) (λ made. world.new.rows ≡ world_after world.old.rows made) }
+    ensures rows { IfOk (connect.making world.old.rows birth (option_copied name.entry)) (λ made.
+        world.new.rows ≡ world_after world.old.rows made) }
     ensures name { name_of world.new.names.ports result ≡ birth }
     ensures stands { stands world.new.names.ports result ≡ true }
     ensures calls { world.new.calls ≡ world.old.calls }
+    ensures loose { world.new.loose ≡ world.old.loose }
     ensures made { world.new.made ≡ world.old.made + 1 }
-    ensures handles { (pid : ℕ) → handle_room world.old.room pid ≤ handle_room world.new.room pid }
+    ensures handles { KeepsHandleRoom world.old world.new }
 {
     match name {
-        None => world.ports_add(PortKind::Unnamed, birth, None),
+        None => world.ports_add(PortKind::Unnamed, birth, None, None),
         Some(path) => make_named(world, path, birth),
     }
 }
@@ -89,13 +98,17 @@ fn create(world: &mut World, by: &ThreadRow, name: Option<&[u8]>, out: &mut Entr
     requires spare { 1 ≤ out.old.spare }
     requires ports { 0 < world.old.room.ports }
     requires names { is_some name ≡ true → 0 < world.old.room.names }
-    requires handles { promised world.old.rows by.now.process < handle_room world.old.room by.now.process }
+    requires handles { HasHandleRoom world.old by.now.process }
     requires budget { world.old.made + 16 ≤ 16 * world.old.calls }
-    requires thread { first (is_thread by.now.number) world.old.rows.threads ≡ Some (shown_thread by.now) }
+    requires thread { HasThread world.old.rows (shown_thread by.now) }
     requires table { has (is_table by.now.process) world.old.rows.handles ≡ true }
-    requires few { tests.handle_load world.old.rows by.now.process < 256 }
-    requires free { IsOk (connect.making world.old.rows (next_birth (shown_thread by.now)) (option_copied name)) }
-    ensures takes { IfOk (connect.making world.old.rows (next_birth (shown_thread by.now)) (option_copied name.entry)) (λ made. Takes (connect.create_steps (shown_thread by.now) made (free_handle world.old.rows by.now.process)) world.old world.new out.old out.new) }
+    requires few { tests.handle_load world.old.rows by.now.process < HANDLE_LIMIT }
+    requires free { let port = next_birth (shown_thread by.now) in
+        IsOk (connect.making world.old.rows port (option_copied name)) }
+    ensures takes { let port = next_birth (shown_thread by.now) in
+        IfOk (connect.making world.old.rows port (option_copied name.entry)) (λ made.
+        let steps = creating world.old.rows (shown_thread by.now) made in
+        Takes steps world.old world.new out.old out.new) }
     ensures calls { world.new.calls ≡ world.old.calls }
     ensures spare { out.new.spare + 1 ≡ out.old.spare }
 {
@@ -125,12 +138,17 @@ pub fn nt_create_port(
 ) -> Result<Outcome, OutOfMemory>
     requires ready { is_ready world.old.rows by ≡ true }
     requires spare { 2 ≤ out.old.spare }
-    requires calls { world.old.calls < 1000000 }
-    ensures takes { OnOk result (Takes (settled (caller world.old.rows by) call.NtCreatePort (connect.nt_create_port world.old.rows (caller world.old.rows by) (option_copied name.entry))) world.old world.new out.old out.new) }
-    ensures outcome { IfOk result (λ o. o ≡ outcome_of (settled (caller world.old.rows by) call.NtCreatePort (connect.nt_create_port world.old.rows (caller world.old.rows by) (option_copied name.entry)))) }
+    requires calls { world.old.calls < LINES_LIMIT }
+    ensures takes { let call = create_port (option_copied name.entry) in
+        OnOk result (Takes (called world.old.rows by call) world.old world.new out.old out.new) }
+    ensures outcome { let call = create_port (option_copied name.entry) in
+        IfOk result (λ o. o ≡ outcome_of (called world.old.rows by call)) }
     ensures calls { OnOk result (world.new.calls ≡ world.old.calls + 1) }
     ensures spare { OnOk result (out.old.spare ≤ out.new.spare + 2) }
-    ensures late { OnErr result (IsOk (connect.nt_create_port world.old.rows (caller world.old.rows by) (option_copied name.entry))) }
+    ensures late { let call = create_port (option_copied name.entry) in
+        OnErr result (IsOk (service world.old.rows by call)) }
+    ensures wanting { let named = option_copied name.entry in
+        OnErr result (lacks_room_for world.old (caller world.old.rows by) named ≡ true) }
     ensures memory { OnErr result (Same world.old world.new) }
     ensures silent { OnErr result (out.new ≡ out.old) }
 {

@@ -1,14 +1,14 @@
 // The listen: a thread takes a connection request, or waits for one.
 ghost use Rattle.std.specs.Prelude.{◌≡◌, ◌≤◌, ◌<◌, ◌+◌, ◌*◌, Ok, Err, true, false, IfOk, MatchResult};
-ghost use Rattle.lpc_base.specs.Rows.{first, has};
+ghost use Rattle.lpc_base.specs.Rows.{has};
+ghost use Rattle.lpc_base.specs.declared.limits.TheConstants.{LINES_LIMIT};
+ghost use Rattle.lpc_connect.specs.Calls.{birth_at, called, listening, row_birth, service};
 ghost use Rattle.lpc_model.specs.Basics.{outcome_of};
-ghost use Rattle.lpc_model.specs.Connect as connect;
-ghost use Rattle.lpc_model.specs.declared.entry.CallName.TheVariants as call;
-ghost use Rattle.lpc_model.specs.Found.{is_queued_connect, is_thread, waits_as};
-ghost use Rattle.lpc_model.specs.Machine.{settled};
+ghost use Rattle.lpc_model.specs.Found.{is_thread, waits_as};
+ghost use Rattle.lpc_model.specs.Lines.{listen_port};
 ghost use Rattle.lpc_world.specs.Does.{Does, Takes};
-ghost use Rattle.lpc_world.specs.Names.{name_of, stands};
-ghost use Rattle.lpc_world.specs.Ready.{caller, is_ready, port_of};
+ghost use Rattle.lpc_world.specs.Names.{stands};
+ghost use Rattle.lpc_world.specs.Ready.{caller, is_ready};
 ghost use Rattle.lpc_world.specs.Shown.{shown_thread};
 
 use lpc_base::Status;
@@ -23,9 +23,13 @@ use lpc_world::{World, wants_answer};
 #[tactic(auto, unfolding(lpc_model::specs::Connect::nt_listen_port))]
 fn listen_test(world: &World, tid: u32, handle: u32) -> Result<Key, Status>
     requires { is_ready world.now.rows tid ≡ true }
-    ensures found { MatchResult result (λ key. let port = port_of world.now.rows (name_of world.now.names.ports key) in connect.nt_listen_port world.now.rows (caller world.now.rows tid) handle ≡ Ok (connect.listen_steps (caller world.now.rows tid) port.birth (first (is_queued_connect port.birth) world.now.rows.messages))) (λ s. connect.nt_listen_port world.now.rows (caller world.now.rows tid) handle ≡ Err s) }
+    ensures found { let found = service world.now.rows tid (listen_port handle) in
+        let by = caller world.now.rows tid in
+        MatchResult result
+        (λ key. found ≡ Ok (listening world.now.rows by (row_birth world.now key)))
+        (λ s. found ≡ Err s) }
     ensures stands { IfOk result (λ key. stands world.now.names.ports key ≡ true) }
-    ensures name { IfOk result (λ key. let port = port_of world.now.rows (name_of world.now.names.ports key) in port.birth ≡ name_of world.now.names.ports key) }
+    ensures name { IfOk result (λ key. row_birth world.now key ≡ birth_at world.now key) }
 {
     let port = world.port_at(tid, handle)?;
     if !world.is_connection(port) {
@@ -41,8 +45,11 @@ fn take_or_wait(world: &mut World, by: &ThreadRow, port: Key, out: &mut Entries)
     requires thread { has (is_thread by.now.number) world.old.rows.threads ≡ true }
     requires ready { has (waits_as by.now.number) world.old.rows.waits ≡ false }
     requires port { stands world.old.names.ports port ≡ true }
-    ensures takes { Takes (connect.listen_steps (shown_thread by.now) (name_of world.old.names.ports port) (first (is_queued_connect (name_of world.old.names.ports port)) world.old.rows.messages)) world.old world.new out.old out.new }
-    ensures outcome { result ≡ outcome_of (connect.listen_steps (shown_thread by.now) (name_of world.old.names.ports port) (first (is_queued_connect (name_of world.old.names.ports port)) world.old.rows.messages)) }
+    ensures takes { let port = birth_at world.old port in
+        let steps = listening world.old.rows (shown_thread by.now) port in
+        Takes steps world.old world.new out.old out.new }
+    ensures outcome { let port = birth_at world.old port in
+        result ≡ outcome_of (listening world.old.rows (shown_thread by.now) port) }
     ensures calls { world.new.calls ≡ world.old.calls }
     ensures spare { out.old.spare ≤ out.new.spare + 2 }
 {
@@ -56,7 +63,7 @@ fn take_or_wait(world: &mut World, by: &ThreadRow, port: Key, out: &mut Entries)
                 fields: message_field(&message),
             });
             if wants_answer(&message) {
-                world.waits_receive(message.header.client.thread);
+                world.waits_receive(message.header.client.thread, port);
             }
             Outcome::Answered(SUCCESS)
         }
@@ -86,7 +93,8 @@ fn listen(world: &mut World, tid: u32, handle: u32, out: &mut Entries) -> Result
     requires ready { is_ready world.old.rows tid ≡ true }
     requires spare { 2 ≤ out.old.spare }
     requires budget { world.old.made + 16 ≤ 16 * world.old.calls }
-    ensures does { Does result (connect.nt_listen_port world.old.rows (caller world.old.rows tid) handle) world.old world.new out.old out.new }
+    ensures does { let does = service world.old.rows tid (listen_port handle) in
+        Does result does world.old world.new out.old out.new }
     ensures calls { world.new.calls ≡ world.old.calls }
     ensures spare { out.old.spare ≤ out.new.spare + 2 }
 {
@@ -102,9 +110,10 @@ fn listen(world: &mut World, tid: u32, handle: u32, out: &mut Entries) -> Result
 pub fn nt_listen_port(world: &mut World, by: u32, handle: u32, out: &mut Entries) -> Outcome
     requires ready { is_ready world.old.rows by ≡ true }
     requires spare { 2 ≤ out.old.spare }
-    requires calls { world.old.calls < 1000000 }
-    ensures takes { Takes (settled (caller world.old.rows by) call.NtListenPort (connect.nt_listen_port world.old.rows (caller world.old.rows by) handle)) world.old world.new out.old out.new }
-    ensures outcome { result ≡ outcome_of (settled (caller world.old.rows by) call.NtListenPort (connect.nt_listen_port world.old.rows (caller world.old.rows by) handle)) }
+    requires calls { world.old.calls < LINES_LIMIT }
+    ensures takes { let steps = called world.old.rows by (listen_port handle) in
+        Takes steps world.old world.new out.old out.new }
+    ensures outcome { result ≡ outcome_of (called world.old.rows by (listen_port handle)) }
     ensures calls { world.new.calls ≡ world.old.calls + 1 }
     ensures spare { out.old.spare ≤ out.new.spare + 2 }
 {

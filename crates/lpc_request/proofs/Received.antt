@@ -6,12 +6,11 @@ use Rattle.lpc_base.specs.declared.birth.Birth.{Birth}
 use Rattle.lpc_model.specs.declared.entry.Entry.{Entry}
 use Rattle.lpc_model.specs.World.{World, MessageRow}
 use Rattle.lpc_model.specs.Message.{asks}
-use Rattle.lpc_model.specs.Basics.{Receives, Takes, Tells, basic, entries_of, world_after}
+use Rattle.lpc_model.specs.Basics.{Basic, Receives, Takes, Tells, basic, entries_of, world_after}
 use Rattle.lpc_model.specs.Entering.{take_steps}
-use Rattle.lpc_model.specs.Machine.{Stepped}
 use Rattle.lpc_request.specs.Replied.{replied_steps}
 use Rattle.lpc_request.specs.declared.receive.Replied.{Replied}
-use Rattle.lpc_world.specs.Does.{left_by}
+use Rattle.lpc_world.specs.Does.{Left, left_by}
 use Rattle.lpc_world.specs.Ready.{waiter}
 
 -- a message less changes no wait
@@ -23,24 +22,34 @@ replied-same w q (Some r) = refl
 append-one : (es : List Entry) (own : Entry) (others : List Entry) → es ++ own ∷ others ≡ (es ++ own ∷ []) ++ others
 append-one es own others = sym (append_assoc es (own ∷ []) others)
 
-taken-by : (w : World) (es : List Entry) (own : Entry) (replied : Option Replied) (m : MessageRow) (a : Bool)
-    → left_by w es (Tells own ∷ replied_steps w replied ++ Takes m.queue ∷ when a (Receives m.message.header.client.thread ∷ []))
-    ≡ record { world = world_after (world_after (basic w (Takes m.queue)) (replied_steps w replied)) (when a (Receives m.message.header.client.thread ∷ [])); entries = (es ++ own ∷ []) ++ entries_of (replied_steps w replied) }
-taken-by w es own None m true = λ i. record { world = world_after (basic w (Takes m.queue)) (Receives m.message.header.client.thread ∷ []); entries = append-one es own [] i }
-taken-by w es own None m false = λ i. record { world = basic w (Takes m.queue); entries = append-one es own [] i }
-taken-by w es own (Some r) m true = λ i. record { world = world_after (world_after (basic w (Takes m.queue)) (replied_steps w (Some r))) (Receives m.message.header.client.thread ∷ []); entries = append-one es own (entries_of (replied_steps w (Some r))) i }
-taken-by w es own (Some r) m false = λ i. record { world = world_after (basic w (Takes m.queue)) (replied_steps w (Some r)); entries = append-one es own (entries_of (replied_steps w (Some r))) i }
+-- the receipt of a message, whose sender waits for an answer or doesn't
+abbrev received-if : MessageRow → Bool → List Basic
+received-if m a = when a (Receives m.message.header.client.thread m.queue ∷ [])
+
+taken-by : (w : World) (es : List Entry) (loose : Bool) (own : Entry) (replied : Option Replied) (m : MessageRow) (a : Bool)
+    → left_by w es loose (Tells own ∷ replied_steps w replied ++ Takes m.queue ∷ received-if m a)
+    ≡ record { world = world_after (world_after (basic w (Takes m.queue)) (replied_steps w replied)) (received-if m a); entries = (es ++ own ∷ []) ++ entries_of (replied_steps w replied); loose = true }
+taken-by w es loose own None m true = λ i. record { world = world_after (basic w (Takes m.queue)) (received-if m true); entries = append-one es own [] i; loose = true }
+taken-by w es loose own None m false = λ i. record { world = basic w (Takes m.queue); entries = append-one es own [] i; loose = true }
+taken-by w es loose own (Some r) m true = λ i. record { world = world_after (world_after (basic w (Takes m.queue)) (replied_steps w (Some r))) (received-if m true); entries = append-one es own (entries_of (replied_steps w (Some r))) i; loose = true }
+taken-by w es loose own (Some r) m false = λ i. record { world = world_after (basic w (Takes m.queue)) (replied_steps w (Some r)); entries = append-one es own (entries_of (replied_steps w (Some r))) i; loose = true }
+
+-- behind a message that was taken, a reply leaves the mark that a row went
+still-loose : (w : World) (es : List Entry) (replied : Option Replied) → (left_by w es true (replied_steps w replied)).loose ≡ true
+still-loose w es None = refl
+still-loose w es (Some r) = refl
 
 -- what a taken message leaves, behind a reply
-pub taken : (w : World) (es : List Entry) (own : Entry) (replied : Option Replied) (m : MessageRow) (a : Bool) (pulled answered after : World) (list : List Entry)
-    → asks m.message ≡ a → pulled ≡ basic w (Takes m.queue) → let mid : Stepped = record { world = answered; entries = list } in mid ≡ left_by pulled (es ++ own ∷ []) (replied_steps pulled replied)
-    → after ≡ world_after answered (when a (Receives m.message.header.client.thread ∷ []))
-    → let end : Stepped = record { world = after; entries = list } in end ≡ left_by w es (Tells own ∷ replied_steps w replied ++ take_steps m)
-taken w es own replied m a pulled answered after list asked pull made last =
+pub taken : (w : World) (es : List Entry) (loose : Bool) (own : Entry) (replied : Option Replied) (m : MessageRow) (a : Bool) (pulled answered after : World) (list : List Entry) (mark last_mark : Bool)
+    → asks m.message ≡ a → pulled ≡ basic w (Takes m.queue) → let mid : Left = record { world = answered; entries = list; loose = mark } in mid ≡ left_by pulled (es ++ own ∷ []) true (replied_steps pulled replied)
+    → after ≡ world_after answered (received-if m a) → last_mark ≡ mark
+    → let end : Left = record { world = after; entries = list; loose = last_mark } in end ≡ left_by w es loose (Tells own ∷ replied_steps w replied ++ take_steps m)
+taken w es loose own replied m a pulled answered after list mark last_mark asked pull made last marked =
     let steps : replied_steps pulled replied ≡ replied_steps w replied = ap (λ (v : World). replied_steps v replied) pull ∙ replied-same w m.queue replied in
-    let world_is : answered ≡ world_after (basic w (Takes m.queue)) (replied_steps w replied) = ap (λ (s : Stepped). s.world) made ∙ ap (λ (v : World). world_after v (replied_steps pulled replied)) pull ∙ ap (λ bs. world_after (basic w (Takes m.queue)) bs) steps in
-    let list_is : list ≡ (es ++ own ∷ []) ++ entries_of (replied_steps w replied) = ap (λ (s : Stepped). s.entries) made ∙ ap (λ bs. (es ++ own ∷ []) ++ entries_of bs) steps in
-    let end_is : after ≡ world_after (world_after (basic w (Takes m.queue)) (replied_steps w replied)) (when a (Receives m.message.header.client.thread ∷ [])) = last ∙ ap (λ (v : World). world_after v (when a (Receives m.message.header.client.thread ∷ []))) world_is in
-    (λ i. record { world = end_is i; entries = list_is i })
-    ∙ sym (taken-by w es own replied m a)
-    ∙ ap (λ b. left_by w es (Tells own ∷ replied_steps w replied ++ Takes m.queue ∷ when b (Receives m.message.header.client.thread ∷ []))) (sym asked)
+    let world_is : answered ≡ world_after (basic w (Takes m.queue)) (replied_steps w replied) = ap (λ (s : Left). s.world) made ∙ ap (λ (v : World). world_after v (replied_steps pulled replied)) pull ∙ ap (λ bs. world_after (basic w (Takes m.queue)) bs) steps in
+    let list_is : list ≡ (es ++ own ∷ []) ++ entries_of (replied_steps w replied) = ap (λ (s : Left). s.entries) made ∙ ap (λ bs. (es ++ own ∷ []) ++ entries_of bs) steps in
+    let mark_is : last_mark ≡ true = marked ∙ ap (λ (s : Left). s.loose) made ∙ still-loose pulled (es ++ own ∷ []) replied in
+    let end_is : after ≡ world_after (world_after (basic w (Takes m.queue)) (replied_steps w replied)) (received-if m a) = last ∙ ap (λ (v : World). world_after v (received-if m a)) world_is in
+    (λ i. record { world = end_is i; entries = list_is i; loose = mark_is i })
+    ∙ sym (taken-by w es loose own replied m a)
+    ∙ ap (λ b. left_by w es loose (Tells own ∷ replied_steps w replied ++ Takes m.queue ∷ received-if m b)) (sym asked)

@@ -1,1 +1,4 @@
+pub mod Called
 pub mod Replied
+pub mod Rows
+pub mod Sent

@@ -1,20 +1,50 @@
--- The reply that a receive makes first.
-use Rattle.std.specs.Prelude.{◌≡◌, true, false, List, [], ◌∷◌, Option, Some, None}
-use Rattle.lpc_base.specs.Rows.{has}
-use Rattle.lpc_model.specs.World.{World}
+-- Replies, and the reply that a receive makes first.
+use Rattle.std.specs.Prelude.{◌≡◌, ℕ, true, false, List, [], ◌∷◌, Option, Some, None, Result}
+use Rattle.lpc_base.specs.Rows.{first, has}
+use Rattle.lpc_base.specs.declared.status.Status.{Status}
+use Rattle.lpc_model.specs.World.{WaitRow, World}
 use Rattle.lpc_model.specs.Basics.{Basic}
-use Rattle.lpc_model.specs.Found.{waits_as}
+use Rattle.lpc_model.specs.Found.{is_queued, waits_as}
+use Rattle.lpc_model.specs.Listed.{Listed}
+use Rattle.lpc_model.specs.Request as request
 use Rattle.lpc_model.specs.Request.{reply}
+use Rattle.lpc_model.specs.declared.message.Message.{Message}
+use Rattle.lpc_procs.specs.declared.rows.ThreadRow.{ThreadRow}
+use Rattle.lpc_request.specs.Rows.{name_at, row_at}
 use Rattle.lpc_request.specs.declared.receive.Replied.{Replied}
-use Rattle.lpc_world.specs.Kept.{is_pending_in}
-use Rattle.lpc_world.specs.Ready.{waiter}
+use Rattle.lpc_slots.specs.declared.Key.{Key}
+use Rattle.lpc_world.specs.Does.{Takes}
+use Rattle.lpc_world.specs.Kept.{Kept, is_pending_in}
+use Rattle.lpc_world.specs.Ready.{caller, waiter}
+use Rattle.lpc_world.specs.Shown.{shown_thread}
+
+-- the wait that a message fits through a port, or why there is none
+abbrev pub answered_by : Kept → Key → Message → Result WaitRow Status
+answered_by w port m = request.answered_test w.rows (row_at w port) m
+
+-- a thread's reply wakes the thread that asked
+abbrev pub Returns : ℕ → ℕ → Message → Kept → Kept → Listed → Listed → Type 0
+Returns tid answered m old new before after =
+    Takes (request.reply_steps (caller old.rows tid) (waiter old.rows answered) m) old new before after
 
 -- the steps of a reply that is made, none where there is none
 abbrev pub replied_steps : World → Option Replied → List Basic
 replied_steps w None = []
 replied_steps w (Some r) = reply (waiter w r.thread) r.message ∷ []
 
+abbrev pub RepliesFirst : Option Replied → Kept → Kept → Listed → Listed → Type 0
+RepliesFirst replied old new before after = Takes (replied_steps old.rows replied) old new before after
+
 -- the thread waits, and its wait isn't for the answer to a request or connect that isn't received
 abbrev pub may_be_told : World → Option Replied → Type 0
 may_be_told w None = Unit {0}
 may_be_told w (Some r) = (has (waits_as r.thread) w.waits ≡ true) × (is_pending_in w r.thread ≡ false)
+
+-- a thread's receive on a port, behind a reply: the oldest message of the queue is taken, or the thread waits
+abbrev pub receive_by : ThreadRow → Key → Key → Option Replied → Kept → List Basic
+receive_by by port queue replied w =
+    request.receive_steps (shown_thread by) (row_at w port) (name_at w queue) (replied_steps w.rows replied) (first (is_queued (name_at w queue)) w.rows.messages)
+
+abbrev pub TakesOrWaits : ThreadRow → Key → Key → Option Replied → Kept → Kept → Listed → Listed → Type 0
+TakesOrWaits by port queue replied old new before after =
+    Takes (receive_by by port queue replied old) old new before after

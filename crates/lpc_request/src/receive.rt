@@ -1,17 +1,15 @@
 // The receive, which may make a reply first.
-ghost use Rattle.std.specs.Prelude.{◌≡◌, ◌≤◌, ◌<◌, ◌+◌, ◌*◌, [], ◌∷◌, ◌++◌, Ok, Err, Some, None, true, false, IfOk, MatchResult, option_copied};
-ghost use Rattle.lpc_base.specs.Rows.{first, has};
-ghost use Rattle.lpc_model.specs.Basics.{outcome_of};
-ghost use Rattle.lpc_model.specs.declared.entry.CallName.TheVariants as name;
-ghost use Rattle.lpc_model.specs.Found.{is_queued, is_thread, waits_as};
-ghost use Rattle.lpc_model.specs.Machine.{settled};
-ghost use Rattle.lpc_model.specs.Request as request;
-ghost use Rattle.lpc_world.specs.Does.{Does, Takes};
+ghost use Rattle.std.specs.Prelude.{◌≡◌, ◌≤◌, ◌<◌, ◌+◌, ◌*◌, Some, None, true, false};
+ghost use Rattle.lpc_base.specs.Rows.{has};
+ghost use Rattle.lpc_base.specs.declared.limits.TheConstants.{LINES_LIMIT};
+ghost use Rattle.lpc_model.specs.Found.{is_thread, waits_as};
+ghost use Rattle.lpc_request.specs.Called as steps;
+ghost use Rattle.lpc_request.specs.Called.{Ends, Received, Receives};
+ghost use Rattle.lpc_request.specs.Replied.{RepliesFirst, TakesOrWaits, may_be_told, receive_by};
+ghost use Rattle.lpc_request.specs.Rows.{name_at, row_at};
 ghost use Rattle.lpc_world.specs.Kept.{Roomy, StaysReady};
-ghost use Rattle.lpc_world.specs.Names.{name_of, stands};
-ghost use Rattle.lpc_world.specs.Ready.{caller, is_ready, port_of};
-ghost use Rattle.lpc_world.specs.Shown.{shown_thread};
-ghost use Rattle.lpc_request.specs.Replied.{may_be_told, replied_steps};
+ghost use Rattle.lpc_world.specs.Names.{stands};
+ghost use Rattle.lpc_world.specs.Ready.{is_ready};
 
 use crate::reply::{answered_test, as_reply};
 use lpc_base::Status;
@@ -37,7 +35,7 @@ pub struct Replied {
 fn make_reply(world: &mut World, replied: &Option<Replied>, out: &mut Entries)
     requires spare { 1 ≤ out.old.spare }
     requires told { may_be_told world.old.rows replied.now }
-    ensures takes { Takes (replied_steps world.old.rows replied.now) world.old world.new out.old out.new }
+    ensures takes { RepliesFirst replied.now world.old world.new out.old out.new }
     ensures spare { out.old.spare ≤ out.new.spare + 1 }
     ensures names { world.new.names ≡ world.old.names }
     ensures calls { world.new.calls ≡ world.old.calls }
@@ -71,10 +69,10 @@ fn take_or_wait(
     requires ready { has (waits_as by.now.number) world.old.rows.waits ≡ false }
     requires port { stands world.old.names.ports port ≡ true }
     requires queue { stands world.old.names.ports queue ≡ true }
-    requires name { let row = port_of world.old.rows (name_of world.old.names.ports port) in row.birth ≡ name_of world.old.names.ports port }
+    requires name { (row_at world.old port).birth ≡ name_at world.old port }
     requires told { may_be_told world.old.rows replied.now }
-    ensures takes { Takes (request.receive_steps (shown_thread by.now) (port_of world.old.rows (name_of world.old.names.ports port)) (name_of world.old.names.ports queue) (replied_steps world.old.rows replied.now) (first (is_queued (name_of world.old.names.ports queue)) world.old.rows.messages)) world.old world.new out.old out.new }
-    ensures outcome { result ≡ outcome_of (request.receive_steps (shown_thread by.now) (port_of world.old.rows (name_of world.old.names.ports port)) (name_of world.old.names.ports queue) (replied_steps world.old.rows replied.now) (first (is_queued (name_of world.old.names.ports queue)) world.old.rows.messages)) }
+    ensures takes { TakesOrWaits by.now port queue replied.now world.old world.new out.old out.new }
+    ensures outcome { Ends (receive_by by.now port queue replied.now world.old) result }
     ensures calls { world.new.calls ≡ world.old.calls }
     ensures spare { out.old.spare ≤ out.new.spare + 2 }
 {
@@ -89,7 +87,7 @@ fn take_or_wait(
             });
             make_reply(world, replied, out);
             if wants_answer(&message) {
-                world.waits_receive(message.header.client.thread);
+                world.waits_receive(message.header.client.thread, queue);
             }
             Outcome::Answered(SUCCESS)
         }
@@ -122,7 +120,7 @@ fn receive(world: &mut World, tid: u32, handle: u32, out: &mut Entries) -> Resul
     requires ready { is_ready world.old.rows tid ≡ true }
     requires spare { 2 ≤ out.old.spare }
     requires budget { world.old.made + 16 ≤ 16 * world.old.calls }
-    ensures does { Does result (request.nt_reply_wait_receive_port world.old.rows (caller world.old.rows tid) handle None) world.old world.new out.old out.new }
+    ensures does { Received result tid handle None world.old world.new out.old out.new }
     ensures calls { world.new.calls ≡ world.old.calls }
     ensures spare { out.old.spare ≤ out.new.spare + 2 }
 {
@@ -138,18 +136,18 @@ fn reply_and_receive(
     world: &mut World,
     tid: u32,
     handle: u32,
-    message: &[u8],
+    reply: &[u8],
     out: &mut Entries,
 ) -> Result<Outcome, Status>
     requires ready { is_ready world.old.rows tid ≡ true }
     requires spare { 2 ≤ out.old.spare }
     requires budget { world.old.made + 16 ≤ 16 * world.old.calls }
-    ensures does { Does result (request.nt_reply_wait_receive_port world.old.rows (caller world.old.rows tid) handle (Some message.now)) world.old world.new out.old out.new }
+    ensures does { Received result tid handle (Some reply.now) world.old world.new out.old out.new }
     ensures calls { world.new.calls ≡ world.old.calls }
     ensures spare { out.old.spare ≤ out.new.spare + 2 }
 {
     let port = world.port_at(tid, handle)?;
-    let message = kept(&world.read_message(message)?);
+    let message = kept(&world.read_message(reply)?);
     let queue = world.receive_test(port)?;
     let thread = answered_test(world, port, &message)?;
     let by = world.caller(tid);
@@ -173,9 +171,9 @@ pub fn nt_reply_wait_receive_port(
 ) -> Outcome
     requires ready { is_ready world.old.rows by ≡ true }
     requires spare { 2 ≤ out.old.spare }
-    requires calls { world.old.calls < 1000000 }
-    ensures takes { Takes (settled (caller world.old.rows by) name.NtReplyWaitReceivePort (request.nt_reply_wait_receive_port world.old.rows (caller world.old.rows by) handle (option_copied reply.entry))) world.old world.new out.old out.new }
-    ensures outcome { result ≡ outcome_of (settled (caller world.old.rows by) name.NtReplyWaitReceivePort (request.nt_reply_wait_receive_port world.old.rows (caller world.old.rows by) handle (option_copied reply.entry))) }
+    requires calls { world.old.calls < LINES_LIMIT }
+    ensures takes { Receives by handle reply.entry world.old world.new out.old out.new }
+    ensures outcome { Ends (steps.receive world.old.rows by handle reply.entry) result }
     ensures calls { world.new.calls ≡ world.old.calls + 1 }
     ensures spare { out.old.spare ≤ out.new.spare + 2 }
 {

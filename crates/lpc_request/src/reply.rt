@@ -1,18 +1,16 @@
 // The reply to a request.
-ghost use Rattle.std.specs.Prelude.{◌≡◌, ◌≤◌, ◌<◌, ◌+◌, [], ◌∷◌, Ok, Err, true, false, IfOk, MatchResult};
+ghost use Rattle.std.specs.Prelude.{◌≡◌, ◌≤◌, ◌<◌, ◌+◌, true, false, IfOk};
 ghost use Rattle.lpc_base.specs.Rows.{has};
-ghost use Rattle.lpc_base.specs.declared.status.TheConstants.{SUCCESS as STATUS_SUCCESS};
-ghost use Rattle.lpc_model.specs.Basics.{outcome_of, Tells};
-ghost use Rattle.lpc_model.specs.declared.entry.CallName.TheVariants as name;
-ghost use Rattle.lpc_model.specs.declared.entry.Entry.TheVariants.{Answer};
+ghost use Rattle.lpc_base.specs.declared.limits.TheConstants.{LINES_LIMIT};
 ghost use Rattle.lpc_model.specs.Found.{waits_as};
-ghost use Rattle.lpc_model.specs.Machine.{settled};
 ghost use Rattle.lpc_model.specs.Message as kept;
-ghost use Rattle.lpc_model.specs.Request as request;
-ghost use Rattle.lpc_world.specs.Does.{Does, Takes};
+ghost use Rattle.lpc_request.specs.Called as steps;
+ghost use Rattle.lpc_request.specs.Called.{Answered, Ends, Replies};
+ghost use Rattle.lpc_request.specs.Replied.{Returns, answered_by};
+ghost use Rattle.lpc_request.specs.Rows.{Finds, name_at, row_at};
 ghost use Rattle.lpc_world.specs.Kept.{is_pending_in};
-ghost use Rattle.lpc_world.specs.Names.{name_of, stands};
-ghost use Rattle.lpc_world.specs.Ready.{caller, is_ready, port_of, waiter};
+ghost use Rattle.lpc_world.specs.Names.{stands};
+ghost use Rattle.lpc_world.specs.Ready.{is_ready, waiter};
 
 use lpc_base::Status;
 use lpc_base::status::{REPLY_MESSAGE_MISMATCH, SUCCESS};
@@ -34,8 +32,8 @@ pub fn as_reply(message: &Message) -> Message
 /// The thread whose wait a reply fits through a port: no such client, a message that fits no wait.
 pub fn answered_test(world: &World, port: Key, message: &Message) -> Result<u32, Status>
     requires port { stands world.now.names.ports port ≡ true }
-    requires name { let row = port_of world.now.rows (name_of world.now.names.ports port) in row.birth ≡ name_of world.now.names.ports port }
-    ensures found { MatchResult result (λ tid. request.answered_test world.now.rows (port_of world.now.rows (name_of world.now.names.ports port)) message.now ≡ Ok (waiter world.now.rows tid)) (λ s. request.answered_test world.now.rows (port_of world.now.rows (name_of world.now.names.ports port)) message.now ≡ Err s) }
+    requires name { (row_at world.now port).birth ≡ name_at world.now port }
+    ensures found { Finds (waiter world.now.rows) result (answered_by world.now port message.now) }
     ensures waits { IfOk result (λ tid. has (waits_as tid) world.now.rows.waits ≡ true) }
     ensures idle { IfOk result (λ tid. is_pending_in world.now.rows tid ≡ false) }
 {
@@ -56,7 +54,7 @@ fn reply(
 ) -> Result<Outcome, Status>
     requires ready { is_ready world.old.rows tid ≡ true }
     requires spare { 2 ≤ out.old.spare }
-    ensures does { Does result (request.nt_reply_port world.old.rows (caller world.old.rows tid) handle message.now) world.old world.new out.old out.new }
+    ensures does { Answered result tid handle message.now world.old world.new out.old out.new }
     ensures calls { world.new.calls ≡ world.old.calls }
     ensures spare { out.old.spare ≤ out.new.spare + 2 }
 {
@@ -73,7 +71,7 @@ fn send_reply(world: &mut World, tid: u32, answered: u32, message: &Message, out
     requires ready { is_ready world.old.rows tid ≡ true }
     requires waits { has (waits_as answered) world.old.rows.waits ≡ true }
     requires idle { is_pending_in world.old.rows answered ≡ false }
-    ensures takes { Takes (request.reply_steps (caller world.old.rows tid) (waiter world.old.rows answered) message.now) world.old world.new out.old out.new }
+    ensures takes { Returns tid answered message.now world.old world.new out.old out.new }
     ensures calls { world.new.calls ≡ world.old.calls }
     ensures spare { out.old.spare ≤ out.new.spare + 2 }
 {
@@ -101,9 +99,9 @@ pub fn nt_reply_port(
 ) -> Outcome
     requires ready { is_ready world.old.rows by ≡ true }
     requires spare { 2 ≤ out.old.spare }
-    requires calls { world.old.calls < 1000000 }
-    ensures takes { Takes (settled (caller world.old.rows by) name.NtReplyPort (request.nt_reply_port world.old.rows (caller world.old.rows by) handle message.now)) world.old world.new out.old out.new }
-    ensures outcome { result ≡ outcome_of (settled (caller world.old.rows by) name.NtReplyPort (request.nt_reply_port world.old.rows (caller world.old.rows by) handle message.now)) }
+    requires calls { world.old.calls < LINES_LIMIT }
+    ensures takes { Replies by handle message.now world.old world.new out.old out.new }
+    ensures outcome { Ends (steps.reply world.old.rows by handle message.now) result }
     ensures calls { world.new.calls ≡ world.old.calls + 1 }
     ensures spare { out.old.spare ≤ out.new.spare + 2 }
 {

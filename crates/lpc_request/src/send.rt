@@ -1,16 +1,15 @@
 // The calls that send.
-ghost use Rattle.std.specs.Prelude.{◌≡◌, ◌≤◌, ◌<◌, ◌+◌, ◌*◌, Ok, Err, true, false, IfOk, IsOk, OnOk, OnErr, MatchResult};
+ghost use Rattle.std.specs.Prelude.{◌≡◌, ◌≤◌, ◌<◌, ◌+◌, ◌*◌, true, false, IfOk, OnOk, OnErr};
 ghost use Rattle.lpc_base.specs.Rows.{has};
-ghost use Rattle.lpc_message.specs.declared.kind.TheConstants.{DATAGRAM, REQUEST};
-ghost use Rattle.lpc_model.specs.Basics.{outcome_of};
-ghost use Rattle.lpc_model.specs.declared.entry.CallName.TheVariants as name;
+ghost use Rattle.lpc_base.specs.declared.limits.TheConstants.{LINES_LIMIT};
 ghost use Rattle.lpc_model.specs.Found.{is_thread, waits_as};
-ghost use Rattle.lpc_model.specs.Machine.{settled};
 ghost use Rattle.lpc_model.specs.Request as request;
-ghost use Rattle.lpc_world.specs.Does.{Does, Takes};
+ghost use Rattle.lpc_request.specs.Called.{Asked, Asks, CanPost, Ends, Posts, ask, post};
+ghost use Rattle.lpc_request.specs.Rows.{Finds, name_at, row_at};
+ghost use Rattle.lpc_request.specs.Sent.{Requests, Sends, may_post, may_send, shown};
 ghost use Rattle.lpc_world.specs.Kept.{Same};
-ghost use Rattle.lpc_world.specs.Names.{name_of, stands};
-ghost use Rattle.lpc_world.specs.Ready.{caller, is_ready, port_of};
+ghost use Rattle.lpc_world.specs.Names.{stands};
+ghost use Rattle.lpc_world.specs.Ready.{is_ready};
 ghost use Rattle.lpc_world.specs.Shown.{shown_thread};
 
 use lpc_base::status::{PORT_DISCONNECTED, SUCCESS};
@@ -36,10 +35,10 @@ pub struct Sendable {
 /// The tests of a message that is sent: the handle, the message, no route.
 fn send_test(world: &World, tid: u32, handle: u32, bytes: &[u8]) -> Result<Sendable, Status>
     requires { is_ready world.now.rows tid ≡ true }
-    ensures found { MatchResult result (λ s. request.send_test world.now.rows (caller world.now.rows tid) handle bytes.now ≡ Ok (record { port = port_of world.now.rows (name_of world.now.names.ports s.port); message = s.message; queue = name_of world.now.names.ports s.queue })) (λ e. request.send_test world.now.rows (caller world.now.rows tid) handle bytes.now ≡ Err e) }
+    ensures found { Finds (shown world.now) result (may_send world.now tid handle bytes.now) }
     ensures port { IfOk result (λ s. stands world.now.names.ports s.port ≡ true) }
     ensures queue { IfOk result (λ s. stands world.now.names.ports s.queue ≡ true) }
-    ensures name { IfOk result (λ s. let port = port_of world.now.rows (name_of world.now.names.ports s.port) in port.birth ≡ name_of world.now.names.ports s.port) }
+    ensures name { IfOk result (λ s. (row_at world.now s.port).birth ≡ name_at world.now s.port) }
 {
     let port = world.port_at(tid, handle)?;
     let message = kept(&world.read_message(bytes)?);
@@ -85,9 +84,9 @@ fn send_datagram(
     requires thread { has (is_thread by.now.number) world.old.rows.threads ≡ true }
     requires port { stands world.old.names.ports port ≡ true }
     requires queue { stands world.old.names.ports queue ≡ true }
-    requires name { let row = port_of world.old.rows (name_of world.old.names.ports port) in row.birth ≡ name_of world.old.names.ports port }
+    requires name { (row_at world.old port).birth ≡ name_at world.old port }
     requires room { 0 < world.old.room.messages }
-    ensures takes { Takes (request.datagram_steps (shown_thread by.now) (port_of world.old.rows (name_of world.old.names.ports port)) (name_of world.old.names.ports queue) (request.sent_by (shown_thread by.now) DATAGRAM message.now) world.old.rows) world.old world.new out.old out.new }
+    ensures takes { Sends by.now port queue message.now world.old world.new out.old out.new }
     ensures calls { world.new.calls ≡ world.old.calls }
     ensures spare { out.old.spare ≤ out.new.spare + 2 }
 {
@@ -106,10 +105,10 @@ fn send_datagram(
 /// The tests of a datagram: those of a message that is sent, and 32 datagrams that aren't received.
 fn datagram_test(world: &World, tid: u32, handle: u32, bytes: &[u8]) -> Result<Sendable, Status>
     requires { is_ready world.now.rows tid ≡ true }
-    ensures found { MatchResult result (λ s. request.datagram_send_test world.now.rows (caller world.now.rows tid) handle bytes.now ≡ Ok (record { port = port_of world.now.rows (name_of world.now.names.ports s.port); message = s.message; queue = name_of world.now.names.ports s.queue })) (λ e. request.datagram_send_test world.now.rows (caller world.now.rows tid) handle bytes.now ≡ Err e) }
+    ensures found { Finds (shown world.now) result (may_post world.now tid handle bytes.now) }
     ensures port { IfOk result (λ s. stands world.now.names.ports s.port ≡ true) }
     ensures queue { IfOk result (λ s. stands world.now.names.ports s.queue ≡ true) }
-    ensures name { IfOk result (λ s. let port = port_of world.now.rows (name_of world.now.names.ports s.port) in port.birth ≡ name_of world.now.names.ports s.port) }
+    ensures name { IfOk result (λ s. (row_at world.now s.port).birth ≡ name_at world.now s.port) }
 {
     let sent = send_test(world, tid, handle, bytes)?;
     world.datagram_test(sent.port)?;
@@ -119,8 +118,8 @@ fn datagram_test(world: &World, tid: u32, handle: u32, bytes: &[u8]) -> Result<S
 /// `NtRequestPort`: sends a datagram on the port of a handle, and goes on.
 ///
 /// Refusals in their order: no such handle, no port, no right; a message of wrong shape, one that is too long;
-/// PORT_DISCONNECTED where the port has no route; QUOTA_EXCEEDED where 32 datagrams of it aren't received. After want of
-/// memory nothing has changed but the room.
+/// PORT_DISCONNECTED where the port has no route; QUOTA_EXCEEDED where 32 datagrams of it aren't received. OutOfMemory
+/// comes only where it isn't refused and there is no room for its message; nothing has changed then but the room.
 #[tactic(auto, unfolding(lpc_model::specs::Request::nt_request_port))]
 pub fn nt_request_port(
     world: &mut World,
@@ -131,12 +130,13 @@ pub fn nt_request_port(
 ) -> Result<Outcome, OutOfMemory>
     requires ready { is_ready world.old.rows by ≡ true }
     requires spare { 2 ≤ out.old.spare }
-    requires calls { world.old.calls < 1000000 }
-    ensures takes { OnOk result (Takes (settled (caller world.old.rows by) name.NtRequestPort (request.nt_request_port world.old.rows (caller world.old.rows by) handle message.now)) world.old world.new out.old out.new) }
-    ensures outcome { IfOk result (λ o. o ≡ outcome_of (settled (caller world.old.rows by) name.NtRequestPort (request.nt_request_port world.old.rows (caller world.old.rows by) handle message.now))) }
+    requires calls { world.old.calls < LINES_LIMIT }
+    ensures takes { OnOk result (Posts by handle message.now world.old world.new out.old out.new) }
+    ensures outcome { IfOk result (Ends (post world.old.rows by handle message.now)) }
     ensures calls { OnOk result (world.new.calls ≡ world.old.calls + 1) }
     ensures spare { OnOk result (out.old.spare ≤ out.new.spare + 2) }
-    ensures late { OnErr result (IsOk (request.nt_request_port world.old.rows (caller world.old.rows by) handle message.now)) }
+    ensures late { OnErr result (CanPost world.old.rows by handle message.now) }
+    ensures wanting { OnErr result (world.old.room.messages < 1) }
     ensures memory { OnErr result (Same world.old world.new) }
     ensures silent { OnErr result (out.new ≡ out.old) }
 {
@@ -171,8 +171,8 @@ fn send_request(
     requires ready { has (waits_as by.now.number) world.old.rows.waits ≡ false }
     requires port { stands world.old.names.ports port ≡ true }
     requires queue { stands world.old.names.ports queue ≡ true }
-    requires name { let row = port_of world.old.rows (name_of world.old.names.ports port) in row.birth ≡ name_of world.old.names.ports port }
-    ensures takes { Takes (request.request_steps (shown_thread by.now) (port_of world.old.rows (name_of world.old.names.ports port)) (name_of world.old.names.ports queue) (request.sent_by (shown_thread by.now) REQUEST message.now) world.old.rows) world.old world.new out.old out.new }
+    requires name { (row_at world.old port).birth ≡ name_at world.old port }
+    ensures takes { Requests by.now port queue message.now world.old world.new out.old out.new }
     ensures calls { world.new.calls ≡ world.old.calls }
     ensures spare { out.old.spare ≤ out.new.spare + 2 }
 {
@@ -210,7 +210,7 @@ fn request(
     requires ready { is_ready world.old.rows tid ≡ true }
     requires spare { 2 ≤ out.old.spare }
     requires budget { world.old.made + 16 ≤ 16 * world.old.calls }
-    ensures does { Does result (request.nt_request_wait_reply_port world.old.rows (caller world.old.rows tid) handle message.now) world.old world.new out.old out.new }
+    ensures does { Asked result tid handle message.now world.old world.new out.old out.new }
     ensures calls { world.new.calls ≡ world.old.calls }
     ensures spare { out.old.spare ≤ out.new.spare + 2 }
 {
@@ -233,9 +233,9 @@ pub fn nt_request_wait_reply_port(
 ) -> Outcome
     requires ready { is_ready world.old.rows by ≡ true }
     requires spare { 2 ≤ out.old.spare }
-    requires calls { world.old.calls < 1000000 }
-    ensures takes { Takes (settled (caller world.old.rows by) name.NtRequestWaitReplyPort (request.nt_request_wait_reply_port world.old.rows (caller world.old.rows by) handle message.now)) world.old world.new out.old out.new }
-    ensures outcome { result ≡ outcome_of (settled (caller world.old.rows by) name.NtRequestWaitReplyPort (request.nt_request_wait_reply_port world.old.rows (caller world.old.rows by) handle message.now)) }
+    requires calls { world.old.calls < LINES_LIMIT }
+    ensures takes { Asks by handle message.now world.old world.new out.old out.new }
+    ensures outcome { Ends (ask world.old.rows by handle message.now) result }
     ensures calls { world.new.calls ≡ world.old.calls + 1 }
     ensures spare { out.old.spare ≤ out.new.spare + 2 }
 {

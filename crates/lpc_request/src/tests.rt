@@ -1,15 +1,18 @@
 // A datagram, and a request with its receipt and its reply, with ample memory. The entries are written out by hand.
-ghost use Rattle.std.specs.Prelude.{◌≡◌, ◌≤◌, ◌<◌, ◌+◌, ◌∷◌, [], true, OnOk};
+ghost use Rattle.std.specs.Prelude.{◌≡◌, ◌≤◌, ◌<◌, ◌+◌, ◌∷◌, [], true, IfOk, OnOk};
+ghost use Rattle.lpc_base.specs.declared.limits.TheConstants.{LINES_LIMIT};
+ghost use Rattle.lpc_world.specs.Names.{stands};
 ghost use Rattle.lpc_world.specs.Ready.{is_ready};
 
 use crate::{
     nt_reply_port, nt_reply_wait_receive_port, nt_request_port, nt_request_wait_reply_port,
 };
 use arrayvec::ArrayVec;
+use lpc_base::PortKind;
 use lpc_base::status::{REPLY_MESSAGE_MISMATCH, SUCCESS};
-use lpc_connect::nt_create_port;
 use lpc_model::{CallName, Entries, Entry, FieldName, Fields, Outcome, Value};
-use lpc_world::{Condition, World};
+use lpc_slots::Key;
+use lpc_world::{Condition, Object, World};
 use std::process::Abort;
 use std::test::Fail;
 
@@ -41,40 +44,128 @@ fn one(name: FieldName, value: Value) -> Fields
     fields
 }
 
+// The fields of a message that is received without a context.
 fn received(message: &[u8; 26]) -> Result<Fields, Fail> {
     let mut fields = one(FieldName::Ctx, Value::Hex(0));
-    fields.add(
-        FieldName::Msg,
-        Value::Bytes(ArrayVec::try_from(message.as_slice())?),
-    );
+    let bytes = ArrayVec::try_from(message.as_slice())?;
+    fields.add(FieldName::Msg, Value::Bytes(bytes));
     Ok(fields)
 }
 
-// The thread can call, and there is room for what it is told.
-fn begins(rt: &impl Abort, world: &World, tid: u32, out: &mut Entries) -> Result<(), Fail>
-    ensures ready { is_ready world.now.rows tid ≡ true }
-    ensures spare { OnOk result (2 ≤ out.new.spare) }
+// The thread can make a call.
+fn can_call(rt: &impl Abort, world: &World, tid: u32)
+    ensures { is_ready world.now.rows tid ≡ true }
 {
     let Condition::Ready = world.condition(tid) else {
         panic!(rt; "the thread can't call");
     };
+}
+
+// There is room for what one call tells, and nothing is told yet.
+fn makes_room(out: &mut Entries) -> Result<(), Fail>
+    ensures { OnOk result (2 ≤ out.new.spare) }
+{
     out.clear();
     out.reserve(2)?;
     Ok(())
 }
 
-// A port of process 20, whose threads are 24 and 28.
-fn port(rt: &impl Abort, world: &mut World, out: &mut Entries) -> Result<(), Fail>
-    requires first { world.old.calls ≡ 0 }
-    ensures calls { OnOk result (world.new.calls ≡ 3) }
+// The call tells this entry at a place.
+fn tells(rt: &impl Abort, out: &Entries, place: usize, entry: Entry) {
+    let Some(told) = out.list().get(place) else {
+        return assert!(rt; false);
+    };
+    assert!(rt; *told == entry);
+}
+
+// Process 20 begins, with threads 24 and 28.
+fn boots(rt: &impl Abort, world: &mut World) -> Result<(), Fail>
+    requires few { world.old.calls < 1000 }
+    ensures calls { world.new.calls ≤ world.old.calls + 2 }
 {
     let booted = world.boot(20, 24)?;
-    assert_eq!(rt; booted, SUCCESS);
+    assert!(rt; booted == SUCCESS);
     let joined = world.thread(28, 20)?;
-    assert_eq!(rt; joined, SUCCESS);
-    begins(rt, world, 24, out)?;
-    let made = nt_create_port(world, 24, None, out)?;
-    assert_eq!(rt; made, Outcome::Answered(SUCCESS));
+    assert!(rt; joined == SUCCESS);
+    Ok(())
+}
+
+// Thread 24 makes a port that no handle names.
+fn makes_a_port(world: &mut World) -> Result<Key, Fail>
+    requires few { world.old.calls < LINES_LIMIT }
+    requires ready { is_ready world.old.rows 24 ≡ true }
+    ensures calls { world.new.calls ≤ world.old.calls + 1 }
+    ensures stands { IfOk result (λ port. stands world.new.names.ports port ≡ true) }
+{
+    let by = world.caller(24);
+    world.ports_reserve(1)?;
+    world.begin_call();
+    let birth = world.procs_draw_birth(by.number);
+    Ok(world.ports_add(PortKind::Unnamed, birth, None, None))
+}
+
+// The process of thread 24 gets a handle of the port, its first.
+fn gets_a_handle(rt: &impl Abort, world: &mut World, port: Key) -> Result<(), Fail>
+    requires ready { is_ready world.old.rows 24 ≡ true }
+    requires stands { stands world.old.names.ports port ≡ true }
+    ensures calls { world.new.calls ≡ world.old.calls }
+{
+    let by = world.caller(24);
+    world.handles_reserve(by.process, 1)?;
+    let Ok(()) = world.handles_test(by.process) else {
+        return Ok(assert!(rt; false));
+    };
+    let value = world.give_handle(by.process, Object::Port(port), 1);
+    assert!(rt; value == 4);
+    Ok(())
+}
+
+// A process with two threads and a port.
+fn begins(rt: &impl Abort, world: &mut World) -> Result<(), Fail>
+    requires few { world.old.calls < 1000 }
+    ensures calls { world.new.calls ≤ world.old.calls + 3 }
+{
+    boots(rt, world)?;
+    can_call(rt, world, 24);
+    let port = makes_a_port(world)?;
+    can_call(rt, world, 24);
+    gets_a_handle(rt, world, port)
+}
+
+// Thread 24 sends a datagram to its own port.
+fn sends(rt: &impl Abort, world: &mut World, out: &mut Entries) -> Result<(), Fail>
+    requires few { world.old.calls < LINES_LIMIT }
+    ensures calls { world.new.calls ≤ world.old.calls + 1 }
+{
+    can_call(rt, world, 24);
+    makes_room(out)?;
+    let outcome = nt_request_port(world, 24, 4, &GIVEN, out)?;
+    assert!(rt; outcome == Outcome::Answered(SUCCESS));
+    let answer = Entry::Answer {
+        tid: 24,
+        call: CallName::NtRequestPort,
+        status: SUCCESS,
+        fields: one(FieldName::Id, Value::Number(1)),
+    };
+    tells(rt, out, 0, answer);
+    Ok(())
+}
+
+// Thread 24 asks, as its second message, and waits.
+fn asks(rt: &impl Abort, world: &mut World, out: &mut Entries) -> Result<(), Fail>
+    requires few { world.old.calls < LINES_LIMIT }
+    ensures calls { world.new.calls ≤ world.old.calls + 1 }
+{
+    can_call(rt, world, 24);
+    makes_room(out)?;
+    let outcome = nt_request_wait_reply_port(world, 24, 4, &GIVEN, out);
+    assert!(rt; outcome == Outcome::Waits);
+    let waits = Entry::Waits {
+        tid: 24,
+        call: CallName::NtRequestWaitReplyPort,
+        fields: one(FieldName::Id, Value::Number(2)),
+    };
+    tells(rt, out, 0, waits);
     Ok(())
 }
 
@@ -85,63 +176,43 @@ fn receives(
     out: &mut Entries,
     message: &[u8; 26],
 ) -> Result<(), Fail>
-    requires few { world.old.calls < 1000000 }
-    ensures calls { OnOk result (world.new.calls ≡ world.old.calls + 1) }
+    requires few { world.old.calls < LINES_LIMIT }
+    ensures calls { world.new.calls ≤ world.old.calls + 1 }
 {
-    begins(rt, world, 28, out)?;
+    can_call(rt, world, 28);
+    makes_room(out)?;
     let outcome = nt_reply_wait_receive_port(world, 28, 4, None, out);
-    assert_eq!(rt; outcome, Outcome::Answered(SUCCESS));
+    assert!(rt; outcome == Outcome::Answered(SUCCESS));
     let answer = Entry::Answer {
         tid: 28,
         call: CallName::NtReplyWaitReceivePort,
         status: SUCCESS,
         fields: received(message)?,
     };
-    assert_eq!(rt; out.list(), [answer].as_slice());
+    tells(rt, out, 0, answer);
     Ok(())
 }
 
-// Thread 24 sends a datagram to its own port.
-fn sends(rt: &impl Abort, world: &mut World, out: &mut Entries) -> Result<(), Fail>
-    requires few { world.old.calls < 1000000 }
-    ensures calls { OnOk result (world.new.calls ≡ world.old.calls + 1) }
-{
-    begins(rt, world, 24, out)?;
-    let outcome = nt_request_port(world, 24, 4, &GIVEN, out)?;
-    assert_eq!(rt; outcome, Outcome::Answered(SUCCESS));
-    let answer = Entry::Answer {
-        tid: 24,
-        call: CallName::NtRequestPort,
-        status: SUCCESS,
-        fields: one(FieldName::Id, Value::Number(1)),
-    };
-    assert_eq!(rt; out.list(), [answer].as_slice());
-    Ok(())
-}
-
-// Thread 24 asks, as its second message, and waits.
-fn asks(rt: &impl Abort, world: &mut World, out: &mut Entries) -> Result<(), Fail>
-    requires few { world.old.calls < 1000000 }
-    ensures calls { OnOk result (world.new.calls ≡ world.old.calls + 1) }
-{
-    begins(rt, world, 24, out)?;
-    let asked = nt_request_wait_reply_port(world, 24, 4, &GIVEN, out);
-    assert_eq!(rt; asked, Outcome::Waits);
-    let waits = Entry::Waits {
+// Thread 24 wakes with the reply.
+fn wakes(rt: &impl Abort, out: &Entries) -> Result<(), Fail> {
+    let bytes = ArrayVec::try_from(REPLY.as_slice())?;
+    let wake = Entry::Wakes {
         tid: 24,
         call: CallName::NtRequestWaitReplyPort,
-        fields: one(FieldName::Id, Value::Number(2)),
+        status: SUCCESS,
+        fields: one(FieldName::Msg, Value::Bytes(bytes)),
     };
-    assert_eq!(rt; out.list(), [waits].as_slice());
+    tells(rt, out, 1, wake);
     Ok(())
 }
 
 // Thread 28 replies, and thread 24 wakes.
 fn replies(rt: &impl Abort, world: &mut World, out: &mut Entries) -> Result<(), Fail>
-    requires few { world.old.calls < 1000000 }
-    ensures calls { OnOk result (world.new.calls ≡ world.old.calls + 1) }
+    requires few { world.old.calls < LINES_LIMIT }
+    ensures calls { world.new.calls ≤ world.old.calls + 1 }
 {
-    begins(rt, world, 28, out)?;
+    can_call(rt, world, 28);
+    makes_room(out)?;
     nt_reply_port(world, 28, 4, &REPLY, out);
     let answer = Entry::Answer {
         tid: 28,
@@ -149,25 +220,27 @@ fn replies(rt: &impl Abort, world: &mut World, out: &mut Entries) -> Result<(), 
         status: SUCCESS,
         fields: Fields::none(),
     };
-    let wake = Entry::Wakes {
-        tid: 24,
-        call: CallName::NtRequestWaitReplyPort,
-        status: SUCCESS,
-        fields: one(
-            FieldName::Msg,
-            Value::Bytes(ArrayVec::try_from(REPLY.as_slice())?),
-        ),
-    };
-    assert_eq!(rt; out.list(), [answer, wake].as_slice());
+    tells(rt, out, 0, answer);
+    wakes(rt, out)
+}
+
+// The same reply fits nothing any more.
+fn is_refused(rt: &impl Abort, world: &mut World, out: &mut Entries) -> Result<(), Fail>
+    requires few { world.old.calls < LINES_LIMIT }
+{
+    can_call(rt, world, 28);
+    makes_room(out)?;
+    let again = nt_reply_wait_receive_port(world, 28, 4, Some(&REPLY), out);
+    assert!(rt; again == Outcome::Answered(REPLY_MESSAGE_MISMATCH));
     Ok(())
 }
 
 // A datagram is sent and received.
 fn sends_and_receives(rt: &impl Abort, world: &mut World, out: &mut Entries) -> Result<(), Fail>
-    requires first { world.old.calls ≡ 0 }
-    ensures calls { OnOk result (world.new.calls ≡ 5) }
+    requires few { world.old.calls < 1000 }
+    ensures calls { world.new.calls ≤ world.old.calls + 5 }
 {
-    port(rt, world, out)?;
+    begins(rt, world)?;
     sends(rt, world, out)?;
     receives(rt, world, out, &DATAGRAM)
 }
@@ -180,17 +253,15 @@ fn datagram_is_received(rt: HostRuntime) -> Result<(), Fail> {
     sends_and_receives(&rt, &mut world, &mut out)
 }
 
-// A request is sent, received and replied to; the same reply fits nothing then.
+// A datagram is received, and then a request, which is replied to.
 fn asks_and_replies(rt: &impl Abort, world: &mut World, out: &mut Entries) -> Result<(), Fail>
     requires few { world.old.calls < 1000 }
 {
+    sends_and_receives(rt, world, out)?;
     asks(rt, world, out)?;
     receives(rt, world, out, &REQUEST)?;
     replies(rt, world, out)?;
-    begins(rt, world, 28, out)?;
-    let again = nt_reply_wait_receive_port(world, 28, 4, Some(&REPLY), out);
-    assert_eq!(rt; again, Outcome::Answered(REPLY_MESSAGE_MISMATCH));
-    Ok(())
+    is_refused(rt, world, out)
 }
 
 #[test]
@@ -198,6 +269,5 @@ fn request_returns_by_its_reply(rt: HostRuntime) -> Result<(), Fail> {
     let alloc = rt.alloc();
     let mut world = World::empty(alloc);
     let mut out = Entries::new(alloc)?;
-    sends_and_receives(&rt, &mut world, &mut out)?;
     asks_and_replies(&rt, &mut world, &mut out)
 }

@@ -9,5 +9,6 @@ pub returns-clause-takes : goal.returns-clause-takes
 returns-clause-takes c =
     let w : World = c.args.world.now.rows in
     let same : c.begin_call-2.new.self.rows ≡ w = c.begin_call-2.ensures.rows ∙ c.names_reserve.ensures.same.rows ∙ c.handles_reserve.ensures.same.rows ∙ c.ports_reserve.ensures.same.rows in
-    let made = rw (same) at c.create.ensures.takes in
-    rw (← c.caller-caller.ensures.row) (creates w (shown_thread c.caller-caller.result) c.args.out.now.list (record { world = c.create.new.world.rows; entries = c.create.new.out.list }) (option_copied c.args.name) c.in_default.ensures.name c.in_default.ensures.handles made)
+    let loose : c.begin_call-2.new.self.loose ≡ c.args.world.now.loose = c.begin_call-2.ensures.loose ∙ c.names_reserve.ensures.same.loose ∙ c.handles_reserve.ensures.same.loose ∙ c.ports_reserve.ensures.same.loose in
+    let made = rw (same, loose) at c.create.ensures.takes in
+    rw (← c.caller-caller.ensures.row) (creates w (shown_thread c.caller-caller.result) c.args.out.now.list c.args.world.now.loose (record { world = c.create.new.world.rows; entries = c.create.new.out.list; loose = c.create.new.world.loose }) (option_copied c.args.name) c.in_default.ensures.name c.in_default.ensures.handles made)

@@ -1,0 +1,93 @@
+-- A call of a thread, and what its parts find and do.
+use Rattle.std.specs.Prelude.{◌≡◌, ℕ, Bool, List, [], ◌∷◌, Some, Result}
+use Rattle.lpc_base.specs.Rows.{first}
+use Rattle.lpc_base.specs.declared.birth.Birth.{Birth}
+use Rattle.lpc_base.specs.declared.status.Status.{Status}
+use Rattle.lpc_connect.specs.declared.accept.ConnectAnswer.{ConnectAnswer}
+use Rattle.lpc_connect.specs.declared.complete.Connection.{Connection}
+use Rattle.lpc_model.specs.Basics.{Basic, DrawsIdentifier, DrawsOrdinal}
+use Rattle.lpc_model.specs.Connect as connect
+use Rattle.lpc_model.specs.Found.{free_handle, is_queued_connect, is_thread}
+use Rattle.lpc_model.specs.Lines.{ScriptCall, accept_connect_port}
+use Rattle.lpc_model.specs.Machine.{call_steps, service_of}
+use Rattle.lpc_model.specs.World.{ThreadRow, World}
+use Rattle.lpc_model.specs.declared.message.Message.{Message}
+use Rattle.lpc_slots.specs.declared.Key.{Key}
+use Rattle.lpc_world.specs.Kept.{Kept}
+use Rattle.lpc_world.specs.Names.{name_of}
+use Rattle.lpc_world.specs.Ready.{caller, port_of, waiter}
+
+-- what a thread's call is to do, or why it is refused
+abbrev pub service : World → ℕ → ScriptCall → Result (List Basic) Status
+service w tid call = service_of w (caller w tid) call
+
+-- the steps of a thread's call, or of its refusal
+abbrev pub called : World → ℕ → ScriptCall → List Basic
+called w tid call = call_steps (caller w tid) call w
+
+-- Rows
+-- the thread stands, with this row
+abbrev pub HasThread : World → ThreadRow → Type 0
+HasThread w t = first (is_thread t.number) w.threads ≡ Some t
+
+-- the wait of a thread is under its own number, and the message with which it waits was received
+abbrev pub IsOwnWait : World → ℕ → Type 0
+IsOwnWait w tid = let x = waiter w tid in x.thread ≡ tid
+
+abbrev pub was_received : World → ℕ → Bool
+was_received w tid = let x = waiter w tid in x.received
+
+-- the birth of the port at a key, and the one that its row has
+abbrev pub birth_at : Kept → Key → Birth
+birth_at w key = name_of w.names.ports key
+
+abbrev pub row_birth : Kept → Key → Birth
+row_birth w key = let p = port_of w.rows (birth_at w key) in p.birth
+
+-- Ports and connects
+-- a port is made by these steps, and gets the least free handle
+abbrev pub creating : World → ThreadRow → List Basic → List Basic
+creating w by made = connect.create_steps by made (free_handle w by.process)
+
+-- a thread draws the identifier of its connection request, and the birth of its client port
+abbrev pub draws : ℕ → List Basic
+draws tid = DrawsIdentifier tid ∷ DrawsOrdinal tid ∷ []
+
+-- a connect to the port at a key begins, with the bytes that go with its request
+abbrev pub connecting : Kept → ThreadRow → Key → List ℕ → List Basic
+connecting w by key info =
+    connect.connect_steps by (birth_at w key) (connect.connection_request by info) w.rows
+
+-- a thread takes the oldest connection request of a port, or waits for one
+abbrev pub listening : World → ThreadRow → Birth → List Basic
+listening w by port = connect.listen_steps by port (first (is_queued_connect port) w.messages)
+
+-- Answers
+-- the message that answers the connect of a thread, and that connect
+abbrev pub answer_with : World → ℕ → Message → connect.ConnectAnswer
+answer_with w tid m = record { message = m; wait = waiter w tid }
+
+abbrev pub shown_answer : World → ConnectAnswer → connect.ConnectAnswer
+shown_answer w a = answer_with w a.thread a.message
+
+-- whatever the context, the call that answers with these bytes does this
+abbrev pub Answering : World → ThreadRow → List ℕ → Bool → (ℕ → Result (List Basic) Status) → Type 0
+Answering w by bytes accept does =
+    (context : ℕ) → service_of w by (accept_connect_port context bytes accept) ≡ does context
+
+-- a connect is accepted, with the least free handle
+abbrev pub accepting : World → ThreadRow → connect.ConnectAnswer → ℕ → List Basic
+accepting w by a context = connect.accept_steps by context (free_handle w by.process) a
+
+-- Completions
+-- a connection that can be completed
+abbrev pub shown_connection : Kept → Connection → connect.Completable
+shown_connection w c = record {
+  server = birth_at w c.server;
+  client = birth_at w c.client;
+  wait = waiter w.rows c.thread;
+}
+
+-- it is completed, and its client gets the least free handle
+abbrev pub completing : World → ThreadRow → connect.Completable → List Basic
+completing w by c = connect.complete_steps by (free_handle w c.wait.process) c

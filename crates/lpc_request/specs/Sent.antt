@@ -1,0 +1,35 @@
+-- A message that is sent: its tests, and the steps that send it.
+use Rattle.std.specs.Prelude.{ℕ, List, Result}
+use Rattle.lpc_base.specs.declared.status.Status.{Status}
+use Rattle.lpc_message.specs.declared.kind.TheConstants.{DATAGRAM, REQUEST}
+use Rattle.lpc_model.specs.Listed.{Listed}
+use Rattle.lpc_model.specs.Request as request
+use Rattle.lpc_model.specs.declared.message.Message.{Message}
+use Rattle.lpc_procs.specs.declared.rows.ThreadRow.{ThreadRow}
+use Rattle.lpc_request.specs.Rows.{name_at, row_at}
+use Rattle.lpc_request.specs.declared.send.Sendable.{Sendable}
+use Rattle.lpc_slots.specs.declared.Key.{Key}
+use Rattle.lpc_world.specs.Does.{Takes}
+use Rattle.lpc_world.specs.Kept.{Kept}
+use Rattle.lpc_world.specs.Ready.{caller}
+use Rattle.lpc_world.specs.Shown.{shown_thread}
+
+-- a message that may be sent, with the rows of its port and its queue
+abbrev pub shown : Kept → Sendable → request.Sendable
+shown w s = record { port = row_at w s.port; message = s.message; queue = name_at w s.queue }
+
+-- the tests of a message that a thread sends on a handle, and those of a datagram
+abbrev pub may_send : Kept → ℕ → ℕ → List ℕ → Result request.Sendable Status
+may_send w tid handle bytes = request.send_test w.rows (caller w.rows tid) handle bytes
+
+abbrev pub may_post : Kept → ℕ → ℕ → List ℕ → Result request.Sendable Status
+may_post w tid handle bytes = request.datagram_send_test w.rows (caller w.rows tid) handle bytes
+
+-- a thread sends a message on a port to a queue as a datagram, and as a request
+abbrev pub Sends : ThreadRow → Key → Key → Message → Kept → Kept → Listed → Listed → Type 0
+Sends by port queue m old new before after =
+    Takes (request.datagram_steps (shown_thread by) (row_at old port) (name_at old queue) (request.sent_by (shown_thread by) DATAGRAM m) old.rows) old new before after
+
+abbrev pub Requests : ThreadRow → Key → Key → Message → Kept → Kept → Listed → Listed → Type 0
+Requests by port queue m old new before after =
+    Takes (request.request_steps (shown_thread by) (row_at old port) (name_at old queue) (request.sent_by (shown_thread by) REQUEST m) old.rows) old new before after
