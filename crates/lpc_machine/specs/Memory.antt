@@ -1,7 +1,9 @@
 -- Which lines may need memory, and which make a call.
-use Rattle.std.specs.Prelude.{◌≡◌, Bool, true, false, IsOk}
+use Rattle.std.specs.Prelude.{◌≡◌, ◌==◌, ℕ, Bool, true, false, IsOk}
+use Rattle.lpc_connect.specs.Room.{lacks_port_room, lacks_room_for}
 use Rattle.lpc_model.specs.World.{World}
 use Rattle.lpc_model.specs.Machine.{boot_line, dir_line, link_line, service_of, thread_line}
+use Rattle.lpc_world.specs.Kept.{Kept, lacks_name_room, lacks_process_room, lacks_thread_room}
 use Rattle.lpc_world.specs.Ready.{caller, is_ready}
 use Rattle.lpc_model.specs.Lines.{ScriptCall, ScriptLine, boot, thread, dir, link, run, accept_connect_port, connect_port, create_port, request_port}
 
@@ -37,3 +39,20 @@ GoesOn w (thread tid pid) = IsOk (thread_line w tid pid)
 GoesOn w (dir path) = IsOk (dir_line w path)
 GoesOn w (link path target) = IsOk (link_line w path target)
 GoesOn w (run tid call) = (is_ready w tid ≡ true) × IsOk (service_of w (caller w tid) call)
+
+-- There is no room for what a thread's call makes: a port with its handle, and its name; a port with a handle; a message
+-- that no thread waits with. What the other calls need was reserved when their threads were made.
+abbrev pub lacks_call_room : Kept → ℕ → ScriptCall → Bool
+lacks_call_room w tid (create_port name) = lacks_room_for w (caller w.rows tid) name
+lacks_call_room w tid (connect_port name info) = lacks_port_room w (caller w.rows tid)
+lacks_call_room w tid (accept_connect_port context message accept) = lacks_port_room w (caller w.rows tid)
+lacks_call_room w tid (request_port handle message) = w.room.messages == 0
+lacks_call_room w tid call = false
+
+-- there is no room for what a line makes
+abbrev pub lacks_room : Kept → ScriptLine → Bool
+lacks_room w (boot pid tid) = lacks_process_room w
+lacks_room w (thread tid pid) = lacks_thread_room w
+lacks_room w (dir path) = lacks_name_room w
+lacks_room w (link path target) = lacks_name_room w
+lacks_room w (run tid call) = lacks_call_room w tid call

@@ -5,15 +5,17 @@ ghost use Rattle.lpc_model.specs.Found as found;
 ghost use Rattle.lpc_model.specs.Found.{live_thread};
 ghost use Rattle.lpc_model.specs.Grammar.{has_ids};
 ghost use Rattle.lpc_model.specs.Lines.{call_of, line_of};
-ghost use Rattle.lpc_model.specs.Machine as model;
 ghost use Rattle.lpc_model.specs.Lines as script;
-ghost use Rattle.lpc_model.specs.Machine.{call_steps, service_of, thread_steps};
+ghost use Rattle.lpc_model.specs.Linked.{HasHeldRows};
+ghost use Rattle.lpc_base.specs.declared.limits.TheConstants.{LINES_LIMIT};
+ghost use Rattle.lpc_connect.specs.Calls.{called, service};
+ghost use Rattle.lpc_model.specs.Machine.{bare_steps, step, thread_steps};
 ghost use Rattle.lpc_model.specs.SoundWaits.{HasSoundWaits};
 ghost use Rattle.lpc_model.specs.declared.entry.Entry.TheVariants as entry;
-ghost use Rattle.lpc_machine.specs.Memory.{GoesOn, call_takes_memory, makes_call, takes_memory};
+ghost use Rattle.lpc_machine.specs.Memory.{GoesOn, call_takes_memory, lacks_call_room, lacks_room, makes_call, takes_memory};
 ghost use Rattle.lpc_world.specs.Does.{Takes};
 ghost use Rattle.lpc_world.specs.Kept.{Same};
-ghost use Rattle.lpc_world.specs.Ready.{caller, is_ready, room_needed};
+ghost use Rattle.lpc_world.specs.Ready.{is_ready, room_needed};
 
 use lpc_base::{OutOfMemory, Status};
 use lpc_connect::{
@@ -31,21 +33,22 @@ use std::marker::Model;
 /// The world of a run, and its step.
 ///
 /// A clause sees the rows that it stands for, in the definitions' words, and how many directive and service calls were
-/// made on it. Each of its waits is sound: what its thread waits for can still come, and hasn't come yet.
+/// made on it. Each of its waits is sound: what its thread waits for can still come, and hasn't come yet. Some row
+/// counts for each object that stands.
 #[derive(Drop)]
 pub struct Machine {
     world: World,
 }
 
 impl Model for Machine {
-    ghost use Rattle.lpc_model.specs.SoundWaits.{IsSoundWorld};
+    ghost use Rattle.lpc_machine.specs.Settled.{IsSettled};
     ghost use Rattle.lpc_world.specs.Kept.{Kept};
 
     ghost Value = { Kept };
 
     ghost view = { λ m. m.world };
 
-    ghost invariant = { λ m. IsSoundWorld m.world.rows };
+    ghost invariant = { λ m. IsSettled m.world };
 }
 
 /// Tells how a directive ended.
@@ -60,12 +63,14 @@ fn tell(word: Word, status: Status, out: &mut Entries)
 fn serve(world: &mut World, by: u32, call: &Call<'_>, out: &mut Entries) -> Result<(), OutOfMemory>
     requires ready { is_ready world.old.rows by ≡ true }
     requires spare { 2 ≤ out.old.spare }
-    requires calls { world.old.calls < 1000000 }
-    ensures takes { OnOk result (Takes (call_steps (caller world.old.rows by) (call_of call.now) world.old.rows) world.old world.new out.old out.new) }
+    requires calls { world.old.calls < LINES_LIMIT }
+    ensures takes { let steps = called world.old.rows by (call_of call.now) in
+        OnOk result (Takes steps world.old world.new out.old out.new) }
     ensures calls { OnOk result (world.new.calls ≡ world.old.calls + 1) }
     ensures memory { OnErr result (Same world.old world.new) }
     ensures silent { OnErr result (out.new ≡ out.old) }
-    ensures late { OnErr result (IsOk (service_of world.old.rows (caller world.old.rows by) (call_of call.now))) }
+    ensures late { OnErr result (IsOk (service world.old.rows by (call_of call.now))) }
+    ensures wanting { OnErr result (lacks_call_room world.old by (call_of call.now) ≡ true) }
     ensures free { call_takes_memory (call_of call.now) ≡ false → IsOk result }
 {
     match call {
@@ -107,13 +112,18 @@ fn serve(world: &mut World, by: u32, call: &Call<'_>, out: &mut Entries) -> Resu
 /// A call of a thread, which makes it where it lives and doesn't wait.
 fn run(world: &mut World, tid: u32, call: &Call<'_>, out: &mut Entries) -> Result<(), OutOfMemory>
     requires spare { room_needed world.old.rows ≤ out.old.spare }
-    requires calls { world.old.calls < 1000000 }
-    ensures takes { OnOk result (Takes (thread_steps tid (call_of call.now) (live_thread world.old.rows tid) world.old.rows) world.old world.new out.old out.new) }
-    ensures counted { OnOk result (is_ready world.old.rows tid ≡ true → world.new.calls ≡ world.old.calls + 1) }
-    ensures uncounted { OnOk result (is_ready world.old.rows tid ≡ false → world.new.calls ≡ world.old.calls) }
+    requires calls { world.old.calls < LINES_LIMIT }
+    ensures takes { let t = live_thread world.old.rows tid in
+        let steps = thread_steps tid (call_of call.now) t world.old.rows in
+        OnOk result (Takes steps world.old world.new out.old out.new) }
+    ensures counted { OnOk result (is_ready world.old.rows tid ≡ true →
+        world.new.calls ≡ world.old.calls + 1) }
+    ensures uncounted { OnOk result (is_ready world.old.rows tid ≡ false →
+        world.new.calls ≡ world.old.calls) }
     ensures memory { OnErr result (Same world.old world.new) }
     ensures silent { OnErr result (out.new ≡ out.old) }
     ensures late { OnErr result (GoesOn world.old.rows (script.run tid (call_of call.now))) }
+    ensures wanting { OnErr result (lacks_call_room world.old tid (call_of call.now) ≡ true) }
     ensures free { call_takes_memory (call_of call.now) ≡ false → IsOk result }
 {
     match world.condition(tid) {
@@ -124,19 +134,23 @@ fn run(world: &mut World, tid: u32, call: &Call<'_>, out: &mut Entries) -> Resul
     Ok(())
 }
 
-/// The step of a line on the world alone.
-#[tactic(auto, unfolding(lpc_model::specs::Machine::steps))]
+/// What a line does on the world alone, before rows go.
+#[tactic(auto, unfolding(lpc_model::specs::Machine::bare_steps))]
 fn take(world: &mut World, line: &Line<'_>, out: &mut Entries) -> Result<(), OutOfMemory>
     requires empty { out.old.list ≡ [] }
     requires spare { room_needed world.old.rows ≤ out.old.spare }
-    requires few { world.old.calls < 1000000 }
+    requires few { world.old.calls < LINES_LIMIT }
     requires ids { has_ids (line_of line.now) ≡ true }
-    ensures ok { OnOk result (record { world = world.new.rows; entries = out.new.list } ≡ model.step world.old.rows (line_of line.now)) }
+    ensures takes { let steps = bare_steps (line_of line.now) world.old.rows in
+        OnOk result (Takes steps world.old world.new out.old out.new) }
     ensures err { OnErr result (Same world.old world.new) }
     ensures silent { OnErr result (out.new.list ≡ []) }
-    ensures counted { OnOk result (makes_call world.old.rows (line_of line.now) ≡ true → world.new.calls ≡ world.old.calls + 1) }
-    ensures uncounted { OnOk result (makes_call world.old.rows (line_of line.now) ≡ false → world.new.calls ≡ world.old.calls) }
+    ensures counted { OnOk result (makes_call world.old.rows (line_of line.now) ≡ true →
+        world.new.calls ≡ world.old.calls + 1) }
+    ensures uncounted { OnOk result (makes_call world.old.rows (line_of line.now) ≡ false →
+        world.new.calls ≡ world.old.calls) }
     ensures late { OnErr result (GoesOn world.old.rows (line_of line.now)) }
+    ensures wanting { OnErr result (lacks_room world.old (line_of line.now) ≡ true) }
     ensures free { takes_memory (line_of line.now) ≡ false → IsOk result }
 {
     match line {
@@ -179,6 +193,7 @@ impl Machine {
     pub fn world(&self) -> &World
         ensures world { result.now ≡ self.now }
         ensures sound { HasSoundWaits result.now.rows }
+        ensures held { HasHeldRows result.now.rows }
     {
         &self.world
     }
@@ -197,26 +212,36 @@ impl Machine {
         self.world.objects()
     }
 
-    /// One line's step: its entries are added to `out`, which is empty and has room for [`Machine::room_needed`] more.
-    /// The line's process and thread numbers are from 1 to 2147483647.
+    /// One line's step: its call or directive, and then the objects go that no row counts for. Its entries are
+    /// added to `out`, which is empty and has room for [`Machine::room_needed`] more. The line's process and thread numbers are from 1 to
+    /// 2147483647, and fewer than 1,000,000 directives and service calls were made before it.
     ///
     /// After want of memory nothing has changed but the room. Only directives, `NtCreatePort`, `NtConnectPort`,
-    /// `NtAcceptConnectPort` to accept, and `NtRequestPort` take memory, and only where they aren't refused; every other
-    /// line is answered. A directive, and a call of a thread that lives and doesn't wait, counts as a call, refused or not.
+    /// `NtAcceptConnectPort` to accept, and `NtRequestPort` take memory, only where they aren't refused, and they want for
+    /// it only where the room for what they make wasn't there; every other line is answered. A directive, and a call of a thread that lives and doesn't wait, counts as a call, refused or not.
     pub fn step(&mut self, line: &Line<'_>, out: &mut Entries) -> Result<(), OutOfMemory>
         requires empty { out.old.list ≡ [] }
         requires spare { room_needed self.old.rows ≤ out.old.spare }
-        requires few { self.old.calls < 1000000 }
+        requires few { self.old.calls < LINES_LIMIT }
         requires ids { has_ids (line_of line.now) ≡ true }
-        ensures ok { OnOk result (record { world = self.new.rows; entries = out.new.list } ≡ model.step self.old.rows (line_of line.now)) }
+        ensures rows { OnOk result (let s = step self.old.rows (line_of line.now) in
+            self.new.rows ≡ s.world) }
+        ensures told { OnOk result (let s = step self.old.rows (line_of line.now) in
+            out.new.list ≡ s.entries) }
         ensures sound { HasSoundWaits self.new.rows }
+        ensures held { HasHeldRows self.new.rows }
         ensures err { OnErr result (Same self.old self.new) }
         ensures silent { OnErr result (out.new.list ≡ []) }
-        ensures counted { OnOk result (makes_call self.old.rows (line_of line.now) ≡ true → self.new.calls ≡ self.old.calls + 1) }
-        ensures uncounted { OnOk result (makes_call self.old.rows (line_of line.now) ≡ false → self.new.calls ≡ self.old.calls) }
+        ensures counted { OnOk result (makes_call self.old.rows (line_of line.now) ≡ true →
+            self.new.calls ≡ self.old.calls + 1) }
+        ensures uncounted { OnOk result (makes_call self.old.rows (line_of line.now) ≡ false →
+            self.new.calls ≡ self.old.calls) }
         ensures late { OnErr result (GoesOn self.old.rows (line_of line.now)) }
+        ensures wanting { OnErr result (lacks_room self.old (line_of line.now) ≡ true) }
         ensures free { takes_memory (line_of line.now) ≡ false → IsOk result }
     {
-        take(&mut self.world, line, out)
+        take(&mut self.world, line, out)?;
+        self.world.sweep();
+        Ok(())
     }
 }

@@ -25,7 +25,7 @@ fn makes(
     out.clear();
     out.reserve(machine.room_needed())?;
     machine.step(line, out)?;
-    assert_eq!(rt; out.list(), [entry].as_slice());
+    assert!(rt; out.list() == [entry].as_slice());
     Ok(())
 }
 

@@ -1,10 +1,25 @@
 use Rattle.lpc_model.specs.Lines.{line_of}
 use Rattle.lpc_model.proofs.SoundLines.{sound_waits}
-use Rattle.lpc_machine.proofs.Sound.{stays-sound}
+use Rattle.lpc_machine.proofs.Sound as sound
 use Rattle.lpc_machine.proofs.machine.Machine.step.Goals as goal
 
-pub invariant_of-self : goal.invariant_of-self
-invariant_of-self c = stays-sound c.take.result c.self.inside.world c.take.new.world c.take.new.out.list (line_of c.args.line.now) c.self.invariant c.take.ensures.ok c.take.ensures.err
+pub sweep-requires-clause-can : goal.sweep-requires-clause-can
+sweep-requires-clause-can c = sound.can_sweep c.self.inside.world c.take.new.world c.args.out.now.list c.take.new.out.list (line_of c.args.line.now) c.self.invariant c.requires.empty c.in_ok-take.ensures.takes
+
+pub sweep-requires-clause-still : goal.sweep-requires-clause-still
+sweep-requires-clause-still c = sound.is_still c.self.inside.world c.take.new.world c.args.out.now.list c.take.new.out.list (line_of c.args.line.now) c.self.invariant c.requires.empty c.in_ok-take.ensures.takes
+
+pub invariant_of-self-2 : goal.invariant_of-self-2
+invariant_of-self-2 c = sound.stays_settled c.self.inside.world c.take.new.world c.args.out.now.list c.take.new.out.list (line_of c.args.line.now) c.self.invariant c.requires.empty c.in_ok-take.ensures.takes c.sweep.new.self c.sweep.ensures.rows c.sweep.ensures.loose
+
+pub returns-clause-rows : goal.returns-clause-rows
+returns-clause-rows c = rw (← c.self.view_is) (sound.swept_is c.self.inside.world c.take.new.world c.args.out.now.list c.take.new.out.list (line_of c.args.line.now) c.self.invariant c.requires.empty c.in_ok-take.ensures.takes c.sweep.new.self.rows c.sweep.ensures.rows)
+
+pub returns-clause-told : goal.returns-clause-told
+returns-clause-told c = rw (← c.self.view_is) (sound.told_is c.self.inside.world c.take.new.world c.args.out.now.list c.take.new.out.list (line_of c.args.line.now) c.self.invariant c.requires.empty c.in_ok-take.ensures.takes)
 
 pub returns-clause-sound : goal.returns-clause-sound
-returns-clause-sound c = sound_waits c.take.new.world.rows (stays-sound c.take.result c.self.inside.world c.take.new.world c.take.new.out.list (line_of c.args.line.now) c.self.invariant c.take.ensures.ok c.take.ensures.err)
+returns-clause-sound c = sound_waits c.sweep.new.self.rows (sound.stays_settled c.self.inside.world c.take.new.world c.args.out.now.list c.take.new.out.list (line_of c.args.line.now) c.self.invariant c.requires.empty c.in_ok-take.ensures.takes c.sweep.new.self c.sweep.ensures.rows c.sweep.ensures.loose).sound
+
+pub returns-clause-held : goal.returns-clause-held
+returns-clause-held c = (sound.stays_settled c.self.inside.world c.take.new.world c.args.out.now.list c.take.new.out.list (line_of c.args.line.now) c.self.invariant c.requires.empty c.in_ok-take.ensures.takes c.sweep.new.self c.sweep.ensures.rows c.sweep.ensures.loose).held
