@@ -70,7 +70,7 @@ front_case : (b : ℕ) (bs part : List ℕ) (some : Bool) → ((rest : List ℕ)
 front_case b bs part true h = (h.0, ap (λ later. b ∷ later) h.1)
 front_case b bs part false h = (b ∷ bs, refl)
 
-ended_front : (bytes : List ℕ) → (rest : List ℕ) × (bytes ≡ ended_part bytes ++ rest)
+pub ended_front : (bytes : List ℕ) → (rest : List ℕ) × (bytes ≡ ended_part bytes ++ rest)
 unfolding ended_part
 ended_front [] = ([], refl)
 ended_front (b ∷ bs) = front_case b bs (ended_part bs) (has_end (b ∷ bs)) (ended_front bs)

@@ -1,13 +1,13 @@
 -- A script that is read whole, or to a limit, is formed as what is read of it.
 use Rattle.std.proofs.Common.{◌≡◌, ℕ, Bool, true, false, List, [], ◌++◌, refl, sym, subst, ◌∙◌}
-use Rattle.std.specs.Prelude.{IfSome, None, Option, Some}
+use Rattle.std.specs.Prelude.{◌||◌, IfSome, None, Option, Some}
 use Rattle.std.proofs.lemmas.List.{append-nil, append_cancel_right}
 use Rattle.lpc_base.specs.Streams.{Told}
 use Rattle.lpc_model.specs.Script.{script_lines}
 use Rattle.lpc_model.specs.Run.{is_well_formed}
 use Rattle.lpc_model.specs.Transcript.{transcript}
-use Rattle.lpc_replay.specs.Reading.{IsRead, IsTaken, ended_lines, has_fault, passes_limit}
-use Rattle.lpc_replay.specs.TopCall.{Begins, IsBegun, IsFormed, IsStopped, Replays, Stops, StopsAtFault}
+use Rattle.lpc_replay.specs.Reading.{IsRead, IsTaken, Reads, ended_lines, has_fault, passes_limit}
+use Rattle.lpc_replay.specs.TopCall.{Begins, IsBegun, IsFormed, IsStopped, Replays, Stops, StopsAtFault, StopsUnfailing}
 use Rattle.lpc_replay.proofs.Ended.{ended_faulty}
 use Rattle.lpc_replay.proofs.Limits.{limit_faulty, read_sound}
 use Rattle.lpc_replay.proofs.Tells.{front_none, told_weaker}
@@ -39,6 +39,21 @@ sound_read (Some old) (Some new) script status told sound within = λ read parts
     let none : has_fault script ≡ false = rw (within, sound) refl in
     let wrong : has_fault read ≡ false = rw same at none in
     absurd (cc)
+
+-- a failure was counted only where what was read holds no faulty line
+pub unfailed : (left left' : Option (List ℕ)) (script : List ℕ) (before now : ℕ) → Reads left left' script → (has_fault script ≡ false → now ≡ before) → StopsUnfailing left left' before now
+unfailed None left' script before now told still = tt
+unfailed (Some old) None script before now told still = tt
+unfailed (Some old) (Some new) script before now told still = λ read parts sound.
+    let same : read ≡ script = append_cancel_right read script new (sym parts ∙ told) in
+    still (rw same at sound)
+
+or_true : (a : Bool) → (a || true) ≡ true
+or_true true = refl
+or_true false = refl
+
+pub has_ended_fault : (script : List ℕ) → is_well_formed (ended_lines script) ≡ false → has_fault script ≡ true
+has_ended_fault script faulty = rw faulty (or_true (passes_limit script))
 
 -- and where one is
 pub stops_ended : (left left' sent sent' : Option (List ℕ)) (script : List ℕ) → Told left left' (λ old new. old ≡ script ++ new) → is_well_formed (ended_lines script) ≡ false → Told sent sent' (λ before now. now ≡ before ++ transcript script) → Stops left left' sent sent'

@@ -5,12 +5,13 @@ use Rattle.std.proofs.lemmas.Bool.Decides.{nat_tests}
 use Rattle.std.proofs.lemmas.List.{length-map, map-append}
 use Rattle.lpc_base.specs.declared.limits.TheConstants.{LINES_LIMIT}
 use Rattle.lpc_model.specs.declared.fault.LineFault.{LineFault}
-use Rattle.lpc_model.specs.World.{World, no_rows}
+use Rattle.lpc_model.specs.World.{World}
 use Rattle.lpc_model.specs.Lines.{ScriptLine}
 use Rattle.lpc_model.specs.Machine.{Stepped, step}
 use Rattle.lpc_model.specs.Grammar.{read_line}
-use Rattle.lpc_model.specs.Run.{faulty_or, first_fault, line_step, numbered_line, said_from, trace, unless_faulty, world_behind}
+use Rattle.lpc_model.specs.Run.{faulty_or, first_fault, first_state, line_step, numbered_line, said_from, trace, unless_faulty, world_behind}
 use Rattle.lpc_model.specs.Replies.{IsIdle, IsRefusedReplyAt, RefusedRepliesAreIdle}
+use Rattle.lpc_replay.proofs.HeldWorlds.{reached_behind, reached_first}
 use Rattle.lpc_replay.proofs.Refusing.{refusals_stay}
 
 -- the lines behind lines without a fault
@@ -71,24 +72,25 @@ told_append w front back = rw (trace_append w front back) (map-append (λ (s : S
 
 refusal_idle : (front : List (List ℕ)) (line : List ℕ) (back : List (List ℕ)) → IsRefusedReplyAt front line back → IsIdle front line back
 refusal_idle front line back r =
-    let w = world_behind no_rows (said_from 1 front) in
+    let w = world_behind first_state (said_from 1 front) in
     let n = 1 + length front in
     let long : length (front ++ line ∷ back) ≡ length front + length (line ∷ back) = length-append front (line ∷ back) in
     let more : length (line ∷ back) ≡ 1 + length back = omega arith in
     let few = r.few in
-    let nothing = refusals_stay w r.says r.reply r.is_reply r.refused in
+    let reached = reached_behind first_state (said_from 1 front) reached_first in
+    let nothing = refusals_stay w r.says reached.held r.reply r.is_reply r.refused in
     record {
-      before = map (λ (s : Stepped). s.entries) (trace no_rows (said_from 1 front));
+      before = map (λ (s : Stepped). s.entries) (trace first_state (said_from 1 front));
       own = (step w r.says).entries;
       after = map (λ (s : Stepped). s.entries) (trace w (said_from n back));
-      place = length-map (trace no_rows (said_from 1 front)) (λ (s : Stepped). s.entries) ∙ (trace_length no_rows (said_from 1 front) ∙ said_length 1 front r.sound);
+      place = length-map (trace first_state (said_from 1 front)) (λ (s : Stepped). s.entries) ∙ (trace_length first_state (said_from 1 front) ∙ said_length 1 front r.sound);
       with_it =
-          ap (λ lines. map (λ (s : Stepped). s.entries) (trace no_rows lines)) (said_append 1 front (line ∷ back) r.sound)
-          ∙ (told_append no_rows (said_from 1 front) (said_from n (line ∷ back))
+          ap (λ lines. map (λ (s : Stepped). s.entries) (trace first_state lines)) (said_append 1 front (line ∷ back) r.sound)
+          ∙ (told_append first_state (said_from 1 front) (said_from n (line ∷ back))
           ∙ rw (said_line n line back r.says (omega (arith, long, more, few)) r.reads, trace_line w r.says (said_from (n + 1) back) nothing.stays, said_shift n back (omega (arith, long, more, few))) refl);
       without_it =
-          ap (λ lines. map (λ (s : Stepped). s.entries) (trace no_rows lines)) (said_append 1 front back r.sound)
-          ∙ told_append no_rows (said_from 1 front) (said_from n back);
+          ap (λ lines. map (λ (s : Stepped). s.entries) (trace first_state lines)) (said_append 1 front back r.sound)
+          ∙ told_append first_state (said_from 1 front) (said_from n back);
     }
 
 pub refusals_idle : (lines : List (List ℕ)) → RefusedRepliesAreIdle lines

@@ -26,6 +26,10 @@ pub sent_more : (bytes rest : List ℕ) (n : ℕ) (a b c : Option (List ℕ)) �
 sent_more bytes rest n a b c p q = told_then a b c _ _ _
     (λ x y z s t. (s.0 ++ take n rest, s.1 ∙ rw (append_assoc, take-append-drop) refl, t ∙ rw (s.2, append_assoc) refl)) p q
 
+-- all is still to be sent
+pub sent_none : (a : Option (List ℕ)) (all : List ℕ) → Told a a (SentBut all all)
+sent_none a all = told_same a a (SentBut all all) (λ x. ([], refl, sym (append-nil x))) refl
+
 -- what is still to be sent, said in other words
 pub sent_as : (a b : Option (List ℕ)) (all rest same : List ℕ) → rest ≡ same → Told a b (SentBut all rest) → Told a b (SentBut all same)
 sent_as a b all rest same e p = subst (λ t. Told a b (SentBut all t)) e p

@@ -7,12 +7,12 @@ use Rattle.lpc_model.specs.declared.fault.LineFault.{LineFault}
 use Rattle.lpc_model.specs.Machine.{step}
 use Rattle.lpc_model.specs.Grammar.{read_line}
 use Rattle.lpc_replay.proofs.Removing.{numbered_reads}
-use Rattle.lpc_model.specs.World.{World, no_rows}
+use Rattle.lpc_model.specs.World.{World}
 use Rattle.lpc_model.specs.Found.{objects}
 use Rattle.lpc_model.specs.Lines.{ScriptLine}
 use Rattle.lpc_model.specs.Script.{kind_number, script_lines}
 use Rattle.lpc_model.specs.Text.{end_text, entries_text, stop_text}
-use Rattle.lpc_model.specs.Run.{FaultyLine, all_entries, faulty_or, first_fault, line_step, numbered_line, said_from, trace, unless_faulty, world_behind}
+use Rattle.lpc_model.specs.Run.{FaultyLine, all_entries, faulty_or, first_fault, first_state, line_step, numbered_line, said_from, trace, unless_faulty, world_behind}
 use Rattle.lpc_model.specs.Transcript.{body_from, last_line, transcript}
 use Rattle.lpc_replay.specs.Playing.{Progress, RunsLine, begin, behind_line, body_text, last_text, line_text, text_from}
 
@@ -115,7 +115,7 @@ last_is : (o : Option FaultyLine) (bytes : List ℕ) → last_from o begin (leng
 unfolding last_from
 last_is None bytes =
     let a : 0 + length (script_lines bytes) ≡ length (script_lines bytes) = omega arith in
-    let told = length (all_entries (trace no_rows (said_from 1 (script_lines bytes)))) in
+    let told = length (all_entries (trace first_state (said_from 1 (script_lines bytes)))) in
     let b : 0 + told ≡ told = omega arith in
     rw (a, b) refl
 last_is (Some f) bytes = refl
@@ -124,7 +124,7 @@ pub transcript_is : (bytes : List ℕ) → text_from begin (script_lines bytes) 
 unfolding transcript
 transcript_is bytes =
     let lines = script_lines bytes in
-    text_is begin lines ∙ ap (λ last. body_from 1 (trace no_rows (said_from 1 lines)) ++ last) (last_is (first_fault 1 lines) bytes)
+    text_is begin lines ∙ ap (λ last. body_from 1 (trace first_state (said_from 1 lines)) ++ last) (last_is (first_fault 1 lines) bytes)
 
 pub whole_body : (bytes : List ℕ) → (rest : List ℕ) × (transcript bytes ≡ body_text begin (script_lines bytes) ++ rest)
 whole_body bytes =

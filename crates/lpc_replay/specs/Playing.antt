@@ -1,13 +1,14 @@
 -- What is sent for lines, one after the other.
-use Rattle.std.specs.Prelude.{◌≡◌, ℕ, ◌+◌, ◌*◌, ◌^◌, ◌≤◌, List, [], ◌∷◌, ◌++◌, length, Option, Some, None, Result, Ok, Err}
+use Rattle.std.specs.Prelude.{◌≡◌, ℕ, ◌+◌, ◌*◌, ◌^◌, ◌≤◌, List, [], ◌∷◌, ◌++◌, length, Bool, Option, Some, None, is_none, Result, Ok, Err}
 use Rattle.lpc_base.specs.declared.limits.TheConstants.{LINES_LIMIT}
 use Rattle.lpc_model.specs.declared.fault.LineFault.{LineFault}
-use Rattle.lpc_model.specs.World.{World, no_rows}
+use Rattle.lpc_model.specs.World.{World}
 use Rattle.lpc_model.specs.Found.{objects}
 use Rattle.lpc_model.specs.Lines.{ScriptLine}
-use Rattle.lpc_model.specs.Script.{kind_number}
+use Rattle.lpc_model.specs.Machine.{Stepped}
+use Rattle.lpc_model.specs.Script.{kind_number, script_lines}
 use Rattle.lpc_model.specs.Text.{end_text, entries_text, stop_text}
-use Rattle.lpc_model.specs.Run.{line_step, numbered_line, said_from, trace}
+use Rattle.lpc_model.specs.Run.{first_fault, first_state, line_step, numbered_line, said_from, trace}
 use Rattle.lpc_model.specs.Transcript.{body_from}
 
 -- how far a script has run: the world that its lines so far left, how many they are, and how many entries they told
@@ -18,7 +19,7 @@ pub record Progress : Type 0 where
 
 -- before the first line
 abbrev pub begin : Progress
-begin = record { rows = no_rows; lines = 0; told = 0 }
+begin = record { rows = first_state; lines = 0; told = 0 }
 
 -- how far a script has run, and the text of what is to be sent next
 pub record Played : Type 0 where
@@ -51,9 +52,22 @@ unfoldable pub text_from : Progress → List (List ℕ) → List ℕ
 text_from p [] = last_text p None
 text_from p (line ∷ lines) = line_and_later p (numbered_line (p.lines + 1) line) (λ q. text_from q lines)
 
--- the same without the last line: what these lines tell up to the first faulty one
+-- the steps of these lines up to the first faulty one, and the text of what they tell
+abbrev pub steps_of : Progress → List (List ℕ) → List Stepped
+steps_of p lines = trace p.rows (said_from (p.lines + 1) lines)
+
 abbrev pub body_text : Progress → List (List ℕ) → List ℕ
-body_text p lines = body_from (p.lines + 1) (trace p.rows (said_from (p.lines + 1) lines))
+body_text p lines = body_from (p.lines + 1) (steps_of p lines)
+
+-- the same of the lines of a script, and whether none of them is faulty
+abbrev pub text_of : Progress → List ℕ → List ℕ
+text_of p script = text_from p (script_lines script)
+
+abbrev pub body_of : Progress → List ℕ → List ℕ
+body_of p script = body_text p (script_lines script)
+
+abbrev pub are_sound : Progress → List ℕ → Bool
+are_sound p script = is_none (first_fault (p.lines + 1) (script_lines script))
 
 -- A line was run and printed, or nothing was done where it is faulty.
 abbrev pub RunsLine : List ℕ → Option LineFault → Progress → Progress → List ℕ → Type 0

@@ -1,7 +1,9 @@
 -- How much of a script is read.
-use Rattle.std.specs.Prelude.{◌≡◌, ℕ, ◌+◌, ◌==◌, nat_le, Bool, false, not, ◌||◌, List, [], ◌∷◌, ◌++◌, Option, Some, None, is_none, option_and_then, if◌then◌else◌}
+use Rattle.std.specs.Prelude.{◌≡◌, ℕ, ◌+◌, ◌≤◌, ◌==◌, max, nat_le, Bool, true, false, not, ◌||◌, List, [], ◌∷◌, ◌++◌, Option, Some, None, is_none, option_and_then, if◌then◌else◌}
 use Rattle.std.specs.List.{list_any}
 use Rattle.lpc_base.specs.declared.limits.TheConstants.{LINE_LIMIT, LINES_LIMIT}
+use Rattle.lpc_base.specs.declared.streams.Asked.{Asked}
+use Rattle.lpc_base.specs.Streams.{Told}
 use Rattle.lpc_model.specs.Script.{script_lines}
 use Rattle.lpc_model.specs.Run.{is_well_formed}
 use Rattle.lpc_replay.specs.declared.reading.Place.{Place}
@@ -35,6 +37,19 @@ pub record IsRead (script old new : List ℕ) : Type 0 where
 -- the first of what was left is read, and new is the rest
 abbrev pub IsTaken : List ℕ → List ℕ → Type 0
 IsTaken old new = (read : List ℕ) × (old ≡ read ++ new)
+
+-- Of what a source had left and has left, where it tells its bytes: this script is read; and, unless it passes a limit, it
+-- is all.
+abbrev pub Reads : Option (List ℕ) → Option (List ℕ) → List ℕ → Type 0
+Reads left left' script = Told left left' (λ old new. old ≡ script ++ new)
+
+abbrev pub ReadsAll : Option (List ℕ) → Option (List ℕ) → List ℕ → Type 0
+ReadsAll left left' script = Told left left' (IsRead script)
+
+-- A source was asked for nothing behind its end or behind a failure, and for at most 4,096 bytes at once.
+pub record IsAskedForPieces (before now : Asked) : Type 0 where
+  pub late : before.running ≡ true → now.late ≡ before.late
+  pub widest : now.widest ≤ max before.widest 4096
 
 -- the bytes up to the last byte 10, that one too: a byte is among them where there is a byte 10 from it on
 unfoldable pub ended_part : List ℕ → List ℕ

@@ -1,17 +1,18 @@
 -- What the top call promises.
-use Rattle.std.specs.Prelude.{◌≡◌, ℕ, ◌==◌, Bool, true, false, List, [], ◌∷◌, ◌++◌, Option, IfSome, codes}
+use Rattle.std.specs.Prelude.{◌≡◌, ℕ, ◌==◌, Bool, true, false, List, [], ◌∷◌, ◌++◌, Option, IfSome, codes, string_bytes}
 use Rattle.std.specs.List.{list_any}
 use Rattle.std.specs.Str.{bytes_eq}
-use Rattle.lpc_base.specs.Streams.{Rose, Told}
+use Rattle.std.specs.declared.string.String.{String}
+use Rattle.lpc_base.specs.Streams.{Adds, Rose, Told}
 use Rattle.lpc_model.specs.Script.{script_lines}
-use Rattle.lpc_model.specs.Run.{is_well_formed}
+use Rattle.lpc_model.specs.Run.{is_well_formed, run_of}
 use Rattle.lpc_model.specs.Transcript.{body, transcript}
 use Rattle.lpc_replay.specs.Reading.{ended_lines, ended_part, has_fault, passes_limit}
-use Rattle.lpc_replay.specs.Sending.{IsFront}
+use Rattle.lpc_replay.specs.Sending.{AddsFront, TellsFirst}
 
 -- the words are `replay` alone
-abbrev pub is_replay : List (List ℕ) → Bool
-is_replay (word ∷ []) = bytes_eq word (codes "replay")
+abbrev pub is_replay : {A : Type 0} → List (String A) → Bool
+is_replay (word ∷ []) = bytes_eq (string_bytes word) (codes "replay")
 is_replay words = false
 
 -- what is sent where the words are none of the forms
@@ -36,7 +37,7 @@ Still before now = Rose before now → ⊥
 -- All of the script is read, and its transcript is sent.
 abbrev pub Replays : Option (List ℕ) → Option (List ℕ) → Option (List ℕ) → Option (List ℕ) → Type 0
 Replays left left' sent sent' =
-    Told left left' (λ script rest. (rest ≡ []) × Told sent sent' (λ before now. now ≡ before ++ transcript script))
+    Told left left' (λ script rest. (rest ≡ []) × Adds sent sent' (transcript script))
 
 -- What is read holds a faulty line, and its transcript, which ends with the stop at that line, is sent. The faulty line
 -- is ended by byte 10, unless what is read passes a limit or is all.
@@ -45,7 +46,7 @@ pub record IsStopped (sent sent' : Option (List ℕ)) (script rest : List ℕ) :
   pub parts : script ≡ read ++ rest
   pub faulty : is_well_formed (script_lines read) ≡ false
   pub counted : is_well_formed (ended_lines read) ≡ true → passes_limit read ≡ false → rest ≡ []
-  pub transcribed : Told sent sent' (λ before now. now ≡ before ++ transcript read)
+  pub transcribed : Adds sent sent' (transcript read)
 
 abbrev pub Stops : Option (List ℕ) → Option (List ℕ) → Option (List ℕ) → Option (List ℕ) → Type 0
 Stops left left' sent sent' = Told left left' (IsStopped sent sent')
@@ -57,7 +58,7 @@ pub record IsBrokenOff (sent sent' : Option (List ℕ)) (script rest : List ℕ)
   pub parts : script ≡ read ++ rest
   pub sound : is_well_formed (ended_lines read) ≡ true
   pub within : passes_limit read ≡ false
-  pub told : Told sent sent' (λ before now. now ≡ before ++ body (ended_part read))
+  pub told : Adds sent sent' (body (ended_part read))
 
 abbrev pub BreaksOff : Option (List ℕ) → Option (List ℕ) → Option (List ℕ) → Option (List ℕ) → Type 0
 BreaksOff left left' sent sent' = Told left left' (IsBrokenOff sent sent')
@@ -67,16 +68,31 @@ BreaksOff left left' sent sent' = Told left left' (IsBrokenOff sent sent')
 pub record IsBegun (sent sent' : Option (List ℕ)) (script rest : List ℕ) : Type 0 where
   pub read : List ℕ
   pub parts : script ≡ read ++ rest
-  pub begun : Told sent sent' (IsFront (transcript read))
+  pub begun : AddsFront sent sent' (transcript read)
 
 abbrev pub Begins : Option (List ℕ) → Option (List ℕ) → Option (List ℕ) → Option (List ℕ) → Type 0
 Begins left left' sent sent' = Told left left' (IsBegun sent sent')
+
+-- What is sent is what some first lines tell of those that are read, each whole, and no last line.
+pub record IsCutShort (sent sent' : Option (List ℕ)) (script rest : List ℕ) : Type 0 where
+  pub read : List ℕ
+  pub parts : script ≡ read ++ rest
+  pub told : TellsFirst sent sent' 1 (run_of read)
+
+abbrev pub CutsShort : Option (List ℕ) → Option (List ℕ) → Option (List ℕ) → Option (List ℕ) → Type 0
+CutsShort left left' sent sent' = Told left left' (IsCutShort sent sent')
 
 -- where the source tells its bytes, and what is read holds a faulty line, the replay stops at a faulty line, unless the
 -- sink fails or memory runs out
 abbrev pub StopsAtFault : Option (List ℕ) → Option (List ℕ) → ℕ → Type 0
 StopsAtFault left left' status =
     IfSome left (λ script. IfSome left' (λ rest. (read : List ℕ) → script ≡ read ++ rest → has_fault read ≡ true → is_one_of (2 ∷ 4 ∷ 5 ∷ []) status ≡ true))
+
+-- Where the source tells its bytes, a replay that stopped and read no fault whatever comes behind it counted no failure
+-- of the source: so a rest without byte 10 counts as a line only where the source answered its end.
+abbrev pub StopsUnfailing : Option (List ℕ) → Option (List ℕ) → ℕ → ℕ → Type 0
+StopsUnfailing left left' before now =
+    IfSome left (λ script. IfSome left' (λ rest. (read : List ℕ) → script ≡ read ++ rest → has_fault read ≡ false → now ≡ before))
 
 -- where the source tells its bytes, the script that it had left is well formed, or isn't
 abbrev pub IsFormed : Bool → Option (List ℕ) → Type 0

@@ -4,27 +4,23 @@ ghost use Rattle.lpc_model.specs.Worked.{WorkedTranscripts};
 ghost use Rattle.lpc_model.specs.WorkedConnections.{WorkedConnections};
 ghost use Rattle.lpc_replay.specs.Laws.{ConnectsReturn, MisfitsRefused, RefusalsIdle, RefusalsStay, RequestsReturn};
 
-/// Completion by a fitting reply, in every script.
+/// Completion by a fitting reply, and a connect's return by its answer, in every script.
 ///
 /// A request that returns with success does so by a wake, in the step of a reply call whose message fits its wait through
-/// the port that the call's handle names, and it shows that message. A reply call whose message fits no wait through that port,
-/// or whose handle names no port, is refused, by a status or because its thread can't call. A reply call that is refused
-/// for whatever cause changes nothing; without its line the others tell the same, in a script of at most 1,000,000 lines
-/// with no faulty line before it, line numbers aside.
+/// the port that the call's handle names, and it shows that call's own bytes with type 2 and SectionSize 0 and all others
+/// as they are. A reply call whose message fits no wait through that port, or whose handle names no port, is refused, by a
+/// status or because its thread can't call. A reply call that is refused for whatever cause changes nothing; without its
+/// line the others tell the same, in a script of at most 1,000,000 lines with no faulty line before it, line numbers aside.
+///
+/// A connect returns only by its answer: one that wakes does so in the step of the call that completes its connection,
+/// with success, or in the step of the call that refuses it and whose message names it, with PORT_CONNECTION_REFUSED. It
+/// is told what that call gives it. Its own call never answers success.
 pub fn law_completion()
     ensures returns { (script : List ℕ) → RequestsReturn script }
     ensures refused { (script : List ℕ) → MisfitsRefused script }
     ensures unchanged { (script : List ℕ) → RefusalsStay script }
     ensures idle { (script : List ℕ) → RefusalsIdle script }
-{}
-
-/// A connect returns only by its answer, in every script.
-///
-/// A connect that wakes does so in the step of the call that completes its connection, with success, or in the step of the
-/// call that refuses it and whose message names it, with PORT_CONNECTION_REFUSED. It is told what that call gives it. Its
-/// own call never answers success.
-pub fn law_connects()
-    ensures { (script : List ℕ) → ConnectsReturn script }
+    ensures answered { (script : List ℕ) → ConnectsReturn script }
 {}
 
 /// The definitions compute transcripts that were worked by hand, from the bytes of a script to the bytes sent for it.

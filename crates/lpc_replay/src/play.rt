@@ -1,12 +1,12 @@
 // A whole script is run, and its transcript sent.
-ghost use Rattle.std.specs.Prelude.{◌≡◌, ◌≤◌, ◌+◌, ◌++◌, true, false, IfOk, OnOk, IsErrOf, is_none};
-ghost use Rattle.lpc_base.specs.Streams.{Told, Rose};
+ghost use Rattle.std.specs.Prelude.{◌≡◌, ◌≤◌, ◌+◌, true, false, IfOk, OnOk, IsErrOf, is_none};
+ghost use Rattle.lpc_base.specs.Streams.{Adds, Rose, Told};
 ghost use Rattle.lpc_model.specs.Script.{script_lines};
-ghost use Rattle.lpc_model.specs.Run.{first_fault, is_well_formed};
+ghost use Rattle.lpc_model.specs.Run.{is_well_formed, run_of};
 ghost use Rattle.lpc_model.specs.Transcript.{body, transcript};
-ghost use Rattle.lpc_replay.specs.Playing.{begin, body_text, last_text, text_from};
+ghost use Rattle.lpc_replay.specs.Playing.{are_sound, begin, body_of, last_text, steps_of, text_of};
 ghost use Rattle.lpc_replay.specs.Reading.{ended_lines, ended_part};
-ghost use Rattle.lpc_replay.specs.Sending.{IsFront, SentBut};
+ghost use Rattle.lpc_replay.specs.Sending.{AddsFront, SentBut, TellsFirst};
 
 use crate::playback::Playback;
 use crate::reading::ended;
@@ -55,13 +55,21 @@ fn play_lines<K: Sink>(
     script: &[u8],
     sink: &mut K,
 ) -> Result<Option<LineFault>, PlayError>
-    ensures sent { IfOk result (λ fault. Told (K.sent sink.old) (K.sent sink.new) (SentBut (text_from playback.old.at (script_lines script.now)) (last_text playback.new.at fault))) }
-    ensures body { IfOk result (λ fault. Told (K.sent sink.old) (K.sent sink.new) (λ old new. new ≡ old ++ body_text playback.old.at (script_lines script.now))) }
-    ensures fault { IfOk result (λ fault. is_none fault ≡ is_none (first_fault (playback.old.at.lines + 1) (script_lines script.now))) }
-    ensures front { Told (K.sent sink.old) (K.sent sink.new) (IsFront (body_text playback.old.at (script_lines script.now))) }
-    ensures failed { IsErrOf result PlayError.SinkFailed → Rose (K.faults sink.old) (K.faults sink.new) }
+    ensures sent { IfOk result (λ fault. Told (K.sent sink.old) (K.sent sink.new)
+        (SentBut (text_of playback.old.at script.now) (last_text playback.new.at fault))) }
+    ensures body { IfOk result (λ _. Adds (K.sent sink.old) (K.sent sink.new)
+        (body_of playback.old.at script.now)) }
+    ensures fault { IfOk result (λ fault. is_none fault ≡ are_sound playback.old.at script.now) }
+    ensures front { AddsFront (K.sent sink.old) (K.sent sink.new)
+        (body_of playback.old.at script.now) }
+    ensures failed { IsErrOf result PlayError.SinkFailed →
+        Rose (K.faults sink.old) (K.faults sink.new) }
     ensures still { OnOk result (K.faults sink.new ≡ K.faults sink.old) }
-    ensures out_of_memory { IsErrOf result PlayError.OutOfMemory → K.faults sink.new ≡ K.faults sink.old }
+    ensures out_of_memory { IsErrOf result PlayError.OutOfMemory →
+        K.faults sink.new ≡ K.faults sink.old }
+    ensures cut { IsErrOf result PlayError.OutOfMemory →
+        TellsFirst (K.sent sink.old) (K.sent sink.new) (playback.old.at.lines + 1)
+        (steps_of playback.old.at (script_lines script.now)) }
     ensures later { K.faults sink.old ≤ K.faults sink.new }
 {
     let mut rest = script;
@@ -82,11 +90,17 @@ fn end<K: Sink>(
     fault: Option<LineFault>,
     sink: &mut K,
 ) -> Result<(), PlayError>
-    ensures sent { OnOk result (Told (K.sent sink.old) (K.sent sink.new) (λ old new. new ≡ old ++ last_text playback.old.at fault)) }
-    ensures front { Told (K.sent sink.old) (K.sent sink.new) (IsFront (last_text playback.old.at fault)) }
-    ensures failed { IsErrOf result PlayError.SinkFailed → Rose (K.faults sink.old) (K.faults sink.new) }
+    ensures sent { OnOk result (Adds (K.sent sink.old) (K.sent sink.new)
+        (last_text playback.old.at fault)) }
+    ensures front { AddsFront (K.sent sink.old) (K.sent sink.new)
+        (last_text playback.old.at fault) }
+    ensures failed { IsErrOf result PlayError.SinkFailed →
+        Rose (K.faults sink.old) (K.faults sink.new) }
     ensures still { OnOk result (K.faults sink.new ≡ K.faults sink.old) }
-    ensures out_of_memory { IsErrOf result PlayError.OutOfMemory → K.faults sink.new ≡ K.faults sink.old }
+    ensures out_of_memory { IsErrOf result PlayError.OutOfMemory →
+        K.faults sink.new ≡ K.faults sink.old }
+    ensures unsent { IsErrOf result PlayError.OutOfMemory →
+        K.sent sink.new ≡ K.sent sink.old }
     ensures later { K.faults sink.old ≤ K.faults sink.new }
 {
     playback.end(fault)?;
@@ -103,12 +117,16 @@ fn play_all<K: Sink>(
     sink: &mut K,
 ) -> Result<bool, PlayError>
     requires { playback.old.at ≡ begin }
-    ensures sent { OnOk result (Told (K.sent sink.old) (K.sent sink.new) (λ old new. new ≡ old ++ transcript script.now)) }
+    ensures sent { OnOk result (Adds (K.sent sink.old) (K.sent sink.new) (transcript script.now)) }
     ensures whole { IfOk result (λ whole. whole ≡ is_well_formed (script_lines script.now)) }
-    ensures front { Told (K.sent sink.old) (K.sent sink.new) (IsFront (transcript script.now)) }
-    ensures failed { IsErrOf result PlayError.SinkFailed → Rose (K.faults sink.old) (K.faults sink.new) }
+    ensures front { AddsFront (K.sent sink.old) (K.sent sink.new) (transcript script.now) }
+    ensures failed { IsErrOf result PlayError.SinkFailed →
+        Rose (K.faults sink.old) (K.faults sink.new) }
     ensures still { OnOk result (K.faults sink.new ≡ K.faults sink.old) }
-    ensures out_of_memory { IsErrOf result PlayError.OutOfMemory → K.faults sink.new ≡ K.faults sink.old }
+    ensures out_of_memory { IsErrOf result PlayError.OutOfMemory →
+        K.faults sink.new ≡ K.faults sink.old }
+    ensures cut { IsErrOf result PlayError.OutOfMemory →
+        TellsFirst (K.sent sink.old) (K.sent sink.new) 1 (run_of script.now) }
     ensures later { K.faults sink.old ≤ K.faults sink.new }
 {
     let fault = play_lines(alloc, playback, scratch, script, sink)?;
@@ -126,13 +144,19 @@ fn play_ended_lines<K: Sink>(
     sink: &mut K,
 ) -> Result<bool, PlayError>
     requires { playback.old.at ≡ begin }
-    ensures told { IfOk result (λ whole. whole ≡ true → Told (K.sent sink.old) (K.sent sink.new) (λ old new. new ≡ old ++ body (ended_part script.now))) }
-    ensures stopped { IfOk result (λ whole. whole ≡ false → Told (K.sent sink.old) (K.sent sink.new) (λ old new. new ≡ old ++ transcript script.now)) }
+    ensures told { IfOk result (λ whole. whole ≡ true →
+        Adds (K.sent sink.old) (K.sent sink.new) (body (ended_part script.now))) }
+    ensures stopped { IfOk result (λ whole. whole ≡ false →
+        Adds (K.sent sink.old) (K.sent sink.new) (transcript script.now)) }
     ensures whole { IfOk result (λ whole. whole ≡ is_well_formed (ended_lines script.now)) }
-    ensures front { Told (K.sent sink.old) (K.sent sink.new) (IsFront (transcript script.now)) }
-    ensures failed { IsErrOf result PlayError.SinkFailed → Rose (K.faults sink.old) (K.faults sink.new) }
+    ensures front { AddsFront (K.sent sink.old) (K.sent sink.new) (transcript script.now) }
+    ensures failed { IsErrOf result PlayError.SinkFailed →
+        Rose (K.faults sink.old) (K.faults sink.new) }
     ensures still { OnOk result (K.faults sink.new ≡ K.faults sink.old) }
-    ensures out_of_memory { IsErrOf result PlayError.OutOfMemory → K.faults sink.new ≡ K.faults sink.old }
+    ensures out_of_memory { IsErrOf result PlayError.OutOfMemory →
+        K.faults sink.new ≡ K.faults sink.old }
+    ensures cut { IsErrOf result PlayError.OutOfMemory →
+        TellsFirst (K.sent sink.old) (K.sent sink.new) 1 (run_of script.now) }
     ensures later { K.faults sink.old ≤ K.faults sink.new }
 {
     let fault = play_lines(alloc, playback, scratch, ended(script), sink)?;
@@ -145,12 +169,16 @@ fn play_ended_lines<K: Sink>(
 
 /// Sends the transcript of a script. Answers whether every line was well formed.
 pub fn play<K: Sink>(alloc: Global, script: &[u8], sink: &mut K) -> Result<bool, PlayError>
-    ensures sent { OnOk result (Told (K.sent sink.old) (K.sent sink.new) (λ old new. new ≡ old ++ transcript script.now)) }
+    ensures sent { OnOk result (Adds (K.sent sink.old) (K.sent sink.new) (transcript script.now)) }
     ensures whole { IfOk result (λ whole. whole ≡ is_well_formed (script_lines script.now)) }
-    ensures front { Told (K.sent sink.old) (K.sent sink.new) (IsFront (transcript script.now)) }
-    ensures failed { IsErrOf result PlayError.SinkFailed → Rose (K.faults sink.old) (K.faults sink.new) }
+    ensures front { AddsFront (K.sent sink.old) (K.sent sink.new) (transcript script.now) }
+    ensures failed { IsErrOf result PlayError.SinkFailed →
+        Rose (K.faults sink.old) (K.faults sink.new) }
     ensures still { OnOk result (K.faults sink.new ≡ K.faults sink.old) }
-    ensures out_of_memory { IsErrOf result PlayError.OutOfMemory → K.faults sink.new ≡ K.faults sink.old }
+    ensures out_of_memory { IsErrOf result PlayError.OutOfMemory →
+        K.faults sink.new ≡ K.faults sink.old }
+    ensures cut { IsErrOf result PlayError.OutOfMemory →
+        TellsFirst (K.sent sink.old) (K.sent sink.new) 1 (run_of script.now) }
     ensures later { K.faults sink.old ≤ K.faults sink.new }
 {
     let mut scratch = Scratch::new(alloc)?;
@@ -161,13 +189,19 @@ pub fn play<K: Sink>(alloc: Global, script: &[u8], sink: &mut K) -> Result<bool,
 /// Sends what the lines of a script tell that are ended by byte 10: of a script that was broken off. Where one of them is
 /// faulty, what is sent is the transcript. Answers whether each of them was well formed.
 pub fn play_ended<K: Sink>(alloc: Global, script: &[u8], sink: &mut K) -> Result<bool, PlayError>
-    ensures told { IfOk result (λ whole. whole ≡ true → Told (K.sent sink.old) (K.sent sink.new) (λ old new. new ≡ old ++ body (ended_part script.now))) }
-    ensures stopped { IfOk result (λ whole. whole ≡ false → Told (K.sent sink.old) (K.sent sink.new) (λ old new. new ≡ old ++ transcript script.now)) }
+    ensures told { IfOk result (λ whole. whole ≡ true →
+        Adds (K.sent sink.old) (K.sent sink.new) (body (ended_part script.now))) }
+    ensures stopped { IfOk result (λ whole. whole ≡ false →
+        Adds (K.sent sink.old) (K.sent sink.new) (transcript script.now)) }
     ensures whole { IfOk result (λ whole. whole ≡ is_well_formed (ended_lines script.now)) }
-    ensures front { Told (K.sent sink.old) (K.sent sink.new) (IsFront (transcript script.now)) }
-    ensures failed { IsErrOf result PlayError.SinkFailed → Rose (K.faults sink.old) (K.faults sink.new) }
+    ensures front { AddsFront (K.sent sink.old) (K.sent sink.new) (transcript script.now) }
+    ensures failed { IsErrOf result PlayError.SinkFailed →
+        Rose (K.faults sink.old) (K.faults sink.new) }
     ensures still { OnOk result (K.faults sink.new ≡ K.faults sink.old) }
-    ensures out_of_memory { IsErrOf result PlayError.OutOfMemory → K.faults sink.new ≡ K.faults sink.old }
+    ensures out_of_memory { IsErrOf result PlayError.OutOfMemory →
+        K.faults sink.new ≡ K.faults sink.old }
+    ensures cut { IsErrOf result PlayError.OutOfMemory →
+        TellsFirst (K.sent sink.old) (K.sent sink.new) 1 (run_of script.now) }
     ensures later { K.faults sink.old ≤ K.faults sink.new }
 {
     let mut scratch = Scratch::new(alloc)?;

@@ -31,7 +31,10 @@ impl Model for Playback {
 
     ghost Value = { Played };
 
-    ghost view = { λ p. record { at = record { rows = p.machine.rows; lines = p.lines; told = p.told }; text = p.text.items } };
+    ghost view = { λ p. record {
+      at = record { rows = p.machine.rows; lines = p.lines; told = p.told };
+      text = p.text.items;
+    } };
 
     ghost invariant = { λ p. AreCounted p.machine.calls p.lines p.told };
 }
@@ -65,7 +68,7 @@ impl Playback {
         scratch: &mut Scratch,
         line: &[u8],
     ) -> Result<Option<LineFault>, OutOfMemory>
-        ensures { IfOk result (λ fault. RunsLine line.now fault self.old.at self.new.at self.new.text) }
+        ensures { IfOk result (λ f. RunsLine line.now f self.old.at self.new.at self.new.text) }
     {
         self.text.clear();
         if self.lines >= LINES_LIMIT {
@@ -120,9 +123,12 @@ fn tell(
 ) -> Result<usize, OutOfMemory>
     requires few { machine.old.calls < LINES_LIMIT }
     requires ids { has_ids (line_of said.now) ≡ true }
-    ensures rows { OnOk result (machine.new.rows ≡ (model.step machine.old.rows (line_of said.now)).world) }
-    ensures text { OnOk result (text.new.items ≡ text.old.items ++ entries_text number (model.step machine.old.rows (line_of said.now)).entries) }
-    ensures told { IfOk result (λ told. told ≡ length (model.step machine.old.rows (line_of said.now)).entries) }
+    ensures rows { OnOk result (machine.new.rows ≡
+        (model.step machine.old.rows (line_of said.now)).world) }
+    ensures text { OnOk result (text.new.items ≡ text.old.items
+        ++ entries_text number (model.step machine.old.rows (line_of said.now)).entries) }
+    ensures told { IfOk result (λ told. told ≡
+        length (model.step machine.old.rows (line_of said.now)).entries) }
     ensures calls { machine.new.calls ≤ machine.old.calls + 1 }
 {
     out.clear();

@@ -1,8 +1,8 @@
 // A script is read to its end, until it passes a limit, or until the source fails.
-ghost use Rattle.std.specs.Prelude.{◌≡◌, ◌≤◌, ◌<◌, ◌+◌, ◌++◌, [], IfOk, OnErr, false};
+ghost use Rattle.std.specs.Prelude.{◌≡◌, ◌≤◌, IfOk, OnErr, false};
 ghost use Rattle.lpc_base.specs.Streams.{Told, Rose};
 ghost use Rattle.lpc_replay.specs.declared.reading.ReadEnd.TheVariants.{Finished, SourceFailed};
-ghost use Rattle.lpc_replay.specs.Reading.{IsRead, IsTaken, behind, ended_part, passes_limit};
+ghost use Rattle.lpc_replay.specs.Reading.{IsAskedForPieces, IsTaken, Reads, ReadsAll, behind, ended_part, passes_limit};
 
 use lpc_base::limits::{LINE_LIMIT, LINES_LIMIT};
 use lpc_base::{OutOfMemory, Source};
@@ -70,17 +70,22 @@ pub fn ended(script: &[u8]) -> &[u8]
     &script[..end]
 }
 
-/// Reads a script until the source's end or its first failure, in pieces of at most 4096 bytes.
+/// Reads a script until the source's end or its first failure, in pieces of at most 4096 bytes. Behind these the source
+/// is asked for nothing more.
 ///
 /// It ends early where the bytes read pass a limit: a byte is one too many of its line, or is of a line too many. So
 /// a script is at most as long as the limits allow, and one piece, and no failure comes behind a byte too many.
 pub fn read_script<S: Source>(alloc: Global, source: &mut S) -> Result<ReadScript, OutOfMemory>
-    ensures read { IfOk result (λ script. Told (S.left source.old) (S.left source.new) (λ old new. old ≡ script.bytes.items ++ new)) }
-    ensures finished { IfOk result (λ script. script.end ≡ Finished → Told (S.left source.old) (S.left source.new) (IsRead script.bytes.items)) }
-    ensures within { IfOk result (λ script. script.end ≡ SourceFailed → passes_limit script.bytes.items ≡ false) }
-    ensures failed { IfOk result (λ script. script.end ≡ SourceFailed → Rose (S.faults source.old) (S.faults source.new)) }
+    ensures read { IfOk result (λ s. Reads (S.left source.old) (S.left source.new) s.bytes.items) }
+    ensures finished { IfOk result (λ s. s.end ≡ Finished →
+        ReadsAll (S.left source.old) (S.left source.new) s.bytes.items) }
+    ensures within { IfOk result (λ s. s.end ≡ SourceFailed → passes_limit s.bytes.items ≡ false) }
+    ensures failed { IfOk result (λ s. s.end ≡ SourceFailed →
+        Rose (S.faults source.old) (S.faults source.new)) }
     ensures taken { OnErr result (Told (S.left source.old) (S.left source.new) IsTaken) }
-    ensures still { IfOk result (λ script. script.end ≡ Finished → S.faults source.new ≡ S.faults source.old) }
+    ensures asked { IsAskedForPieces (S.asked source.old) (S.asked source.new) }
+    ensures still { IfOk result (λ s. s.end ≡ Finished →
+        S.faults source.new ≡ S.faults source.old) }
     ensures out_of_memory { OnErr result (S.faults source.new ≡ S.faults source.old) }
     ensures later { S.faults source.old ≤ S.faults source.new }
 {

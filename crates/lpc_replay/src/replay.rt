@@ -1,9 +1,10 @@
 // The top call.
-ghost use Rattle.std.specs.Prelude.{◌≡◌, ◌⊎◌, ◌≤◌, ◌++◌, [], ◌∷◌, map, true, false, string_bytes, IfSome};
-ghost use Rattle.lpc_base.specs.Streams.{Told, Rose};
-ghost use Rattle.lpc_replay.specs.Laws.{MisfitsRefused, RefusalsIdle, RefusalsStay, RequestsReturn};
-ghost use Rattle.lpc_replay.specs.Sending.{IsFront};
-ghost use Rattle.lpc_replay.specs.TopCall.{Begins, BreaksOff, EndsAsFormed, IsFormed, Replays, Still, Stops, StopsAtFault, is_one_of, is_replay, usage};
+ghost use Rattle.std.specs.Prelude.{◌≡◌, ◌≤◌, [], ◌∷◌, true, false, IfSome};
+ghost use Rattle.lpc_base.specs.Streams.{Adds, Rose};
+ghost use Rattle.lpc_replay.specs.Laws.{ClientsApart, ConnectsReturn, MisfitsRefused, RefusalsIdle, RefusalsStay, RequestsReturn};
+ghost use Rattle.lpc_replay.specs.Reading.{IsAskedForPieces};
+ghost use Rattle.lpc_replay.specs.Sending.{AddsFront};
+ghost use Rattle.lpc_replay.specs.TopCall.{Begins, BreaksOff, CutsShort, EndsAsFormed, IsFormed, Replays, Still, Stops, StopsAtFault, StopsUnfailing, is_one_of, is_replay, usage};
 
 use crate::play::{PlayError, play, play_ended};
 use crate::reading::{ReadEnd, read_script};
@@ -30,7 +31,7 @@ const OUT_OF_MEMORY: u8 = 5;
 const NO_FORM: u8 = 64;
 
 fn is_replay(words: &[String]) -> bool
-    ensures { result ≡ is_replay (map (λ w. string_bytes w) words.now) }
+    ensures { result ≡ is_replay words.now }
 {
     match words {
         [word] => word.as_str() == "replay",
@@ -41,8 +42,8 @@ fn is_replay(words: &[String]) -> bool
 /// Says how the program is called.
 fn tell_usage<K: Sink>(sink: &mut K) -> u8
     ensures statuses { is_one_of (64 ∷ 4 ∷ []) result ≡ true }
-    ensures usage { result ≡ 64 → Told (K.sent sink.old) (K.sent sink.new) (λ old new. new ≡ old ++ usage) }
-    ensures front { Told (K.sent sink.old) (K.sent sink.new) (IsFront usage) }
+    ensures usage { result ≡ 64 → Adds (K.sent sink.old) (K.sent sink.new) usage }
+    ensures front { AddsFront (K.sent sink.old) (K.sent sink.new) usage }
     ensures sink_failed { result ≡ 4 → Rose (K.faults sink.old) (K.faults sink.new) }
     ensures sink_still { result ≡ 64 → K.faults sink.new ≡ K.faults sink.old }
     ensures sink_later { K.faults sink.old ≤ K.faults sink.new }
@@ -56,17 +57,28 @@ fn tell_usage<K: Sink>(sink: &mut K) -> u8
 /// Reads a script from the source and sends its transcript.
 fn replay<S: Source, K: Sink>(alloc: Global, source: &mut S, sink: &mut K) -> u8
     ensures statuses { is_one_of (0 ∷ 2 ∷ 3 ∷ 4 ∷ 5 ∷ []) result ≡ true }
-    ensures transcript { result ≡ 0 → Replays (S.left source.old) (S.left source.new) (K.sent sink.old) (K.sent sink.new) }
+    ensures transcript { result ≡ 0 →
+        Replays (S.left source.old) (S.left source.new) (K.sent sink.old) (K.sent sink.new) }
     ensures whole { result ≡ 0 → IsFormed true (S.left source.old) }
-    ensures stopped { result ≡ 2 → Stops (S.left source.old) (S.left source.new) (K.sent sink.old) (K.sent sink.new) }
+    ensures stopped { result ≡ 2 →
+        Stops (S.left source.old) (S.left source.new) (K.sent sink.old) (K.sent sink.new) }
     ensures faulty { result ≡ 2 → IsFormed false (S.left source.old) }
+    ensures unfailed { result ≡ 2 →
+        StopsUnfailing (S.left source.old) (S.left source.new)
+        (S.faults source.old) (S.faults source.new) }
     ensures faulty_read { StopsAtFault (S.left source.old) (S.left source.new) result }
-    ensures failed_text { result ≡ 3 → BreaksOff (S.left source.old) (S.left source.new) (K.sent sink.old) (K.sent sink.new) }
-    ensures begun { Begins (S.left source.old) (S.left source.new) (K.sent sink.old) (K.sent sink.new) }
+    ensures failed_text { result ≡ 3 →
+        BreaksOff (S.left source.old) (S.left source.new) (K.sent sink.old) (K.sent sink.new) }
+    ensures begun { Begins (S.left source.old) (S.left source.new)
+        (K.sent sink.old) (K.sent sink.new) }
+    ensures cut { result ≡ 5 →
+        CutsShort (S.left source.old) (S.left source.new) (K.sent sink.old) (K.sent sink.new) }
+    ensures asked { IsAskedForPieces (S.asked source.old) (S.asked source.new) }
     ensures source_failed { result ≡ 3 → Rose (S.faults source.old) (S.faults source.new) }
     ensures source_still { result ≡ 0 → S.faults source.new ≡ S.faults source.old }
     ensures sink_failed { result ≡ 4 → Rose (K.faults sink.old) (K.faults sink.new) }
-    ensures sink_still { is_one_of (0 ∷ 2 ∷ 3 ∷ 5 ∷ []) result ≡ true → K.faults sink.new ≡ K.faults sink.old }
+    ensures sink_still { is_one_of (0 ∷ 2 ∷ 3 ∷ 5 ∷ []) result ≡ true →
+        K.faults sink.new ≡ K.faults sink.old }
     ensures source_later { S.faults source.old ≤ S.faults source.new }
     ensures sink_later { K.faults sink.old ≤ K.faults sink.new }
 {
@@ -96,14 +108,15 @@ fn replay<S: Source, K: Sink>(alloc: Global, source: &mut S, sink: &mut K) -> u8
 /// to the sink. Status 0: the script was read to its end, every line was well formed, and all was sent. 2: a line was
 /// faulty; the lines before it were run, and `stop` with its number and its fault was sent. 3: the source failed, and
 /// no line read before was faulty; what the lines tell that are ended by byte 10 was sent, and no last line. 4: the sink
-/// failed. 5: memory ran out. Other words answer 64, send the usage line and read nothing.
+/// failed. 5: memory ran out; what some first lines tell was sent, each whole, and no last line. Other words answer 64,
+/// send the usage line and read nothing.
 ///
 /// Whatever the status, what was sent is a front of the transcript of what was read, or of the usage line: nothing else is
 /// sent, and nothing twice. Where a write failed the status is 4, and where a read failed it isn't 0.
 ///
 /// Where the source fails, a rest that isn't ended by byte 10 is no line, since more of it may have been left. But a rest
 /// that passes a limit is a faulty line, whatever comes behind it: once its byte 16,385 was read, or once a byte of line
-/// 1,000,001 was read. Then the script is read no further, and the status isn't 3.
+/// 1,000,001 was read. Then the status isn't 3.
 pub fn run_words<S: Source, K: Sink>(
     alloc: Global,
     words: &[String],
@@ -115,46 +128,76 @@ pub fn run_words<S: Source, K: Sink>(
 
     // The words are none of the forms: the usage line is sent, or a front of it where the sink fails, nothing is read, and
     // want of memory is no answer.
-    ensures words { result ≡ 64 → is_replay (map (λ w. string_bytes w) words.now) ≡ false }
-    ensures no_form { is_replay (map (λ w. string_bytes w) words.now) ≡ false → is_one_of (64 ∷ 4 ∷ []) result ≡ true }
-    ensures unread { is_replay (map (λ w. string_bytes w) words.now) ≡ false → source.new ≡ source.old }
-    ensures usage { result ≡ 64 → Told (K.sent sink.old) (K.sent sink.new) (λ old new. new ≡ old ++ usage) }
-    ensures usage_begun { is_replay (map (λ w. string_bytes w) words.now) ≡ false → Told (K.sent sink.old) (K.sent sink.new) (IsFront usage) }
+    ensures words { result ≡ 64 → is_replay words.now ≡ false }
+    ensures no_form { is_replay words.now ≡ false → is_one_of (64 ∷ 4 ∷ []) result ≡ true }
+    ensures unread { is_replay words.now ≡ false → source.new ≡ source.old }
+    ensures usage { result ≡ 64 → Adds (K.sent sink.old) (K.sent sink.new) usage }
+    ensures usage_begun { is_replay words.now ≡ false →
+        AddsFront (K.sent sink.old) (K.sent sink.new) usage }
 
     // The script is read to its end, is well formed, and its transcript is sent.
-    ensures transcript { result ≡ 0 → Replays (S.left source.old) (S.left source.new) (K.sent sink.old) (K.sent sink.new) }
+    ensures transcript { result ≡ 0 →
+        Replays (S.left source.old) (S.left source.new) (K.sent sink.old) (K.sent sink.new) }
     ensures whole { result ≡ 0 → IsFormed true (S.left source.old) }
 
-    // The script is read up to a faulty line, and its transcript is sent.
-    ensures stopped { result ≡ 2 → Stops (S.left source.old) (S.left source.new) (K.sent sink.old) (K.sent sink.new) }
+    // The script is read up to a faulty line, and its transcript is sent. A rest without byte 10 is such a line only where
+    // the source answered its end, or where the rest passes a limit.
+    ensures stopped { result ≡ 2 →
+        Stops (S.left source.old) (S.left source.new) (K.sent sink.old) (K.sent sink.new) }
     ensures faulty { result ≡ 2 → IsFormed false (S.left source.old) }
-    ensures faulty_read { is_replay (map (λ w. string_bytes w) words.now) ≡ true → StopsAtFault (S.left source.old) (S.left source.new) result }
+    ensures unfailed { result ≡ 2 →
+        StopsUnfailing (S.left source.old) (S.left source.new)
+        (S.faults source.old) (S.faults source.new) }
+    ensures faulty_read { is_replay words.now ≡ true →
+        StopsAtFault (S.left source.old) (S.left source.new) result }
 
     // The source failed before a faulty line was read: what the lines tell that are ended by byte 10 is sent.
-    ensures failed_text { result ≡ 3 → BreaksOff (S.left source.old) (S.left source.new) (K.sent sink.old) (K.sent sink.new) }
+    ensures failed_text { result ≡ 3 →
+        BreaksOff (S.left source.old) (S.left source.new) (K.sent sink.old) (K.sent sink.new) }
+
+    // Memory ran out: what some first lines tell is sent, each whole, and no last line.
+    ensures cut { result ≡ 5 →
+        CutsShort (S.left source.old) (S.left source.new) (K.sent sink.old) (K.sent sink.new) }
 
     // Whatever the status, what was sent begins the transcript of what was read.
-    ensures begun { is_replay (map (λ w. string_bytes w) words.now) ≡ true → Begins (S.left source.old) (S.left source.new) (K.sent sink.old) (K.sent sink.new) }
+    ensures begun { is_replay words.now ≡ true →
+        Begins (S.left source.old) (S.left source.new) (K.sent sink.old) (K.sent sink.new) }
+
+    // Behind its end or a failure the source is asked for nothing, and for at most 4,096 bytes at once before.
+    ensures asked { IsAskedForPieces (S.asked source.old) (S.asked source.new) }
 
     // A failure is answered only where it was counted, and no count falls. Where the sink counted one the status is 4, and
     // where the source did it isn't 0.
     ensures source_failed { result ≡ 3 → Rose (S.faults source.old) (S.faults source.new) }
     ensures source_still { result ≡ 0 → S.faults source.new ≡ S.faults source.old }
     ensures sink_failed { result ≡ 4 → Rose (K.faults sink.old) (K.faults sink.new) }
-    ensures sink_still { is_one_of (0 ∷ 2 ∷ 3 ∷ 5 ∷ 64 ∷ []) result ≡ true → K.faults sink.new ≡ K.faults sink.old }
+    ensures sink_still { is_one_of (0 ∷ 2 ∷ 3 ∷ 5 ∷ 64 ∷ []) result ≡ true →
+        K.faults sink.new ≡ K.faults sink.old }
     ensures source_later { S.faults source.old ≤ S.faults source.new }
     ensures sink_later { K.faults sink.old ≤ K.faults sink.new }
 
     // Without a failure a replay ends at the script's end or at its first faulty line, unless memory runs out.
-    ensures unfailing { is_replay (map (λ w. string_bytes w) words.now) ≡ true → Still (S.faults source.old) (S.faults source.new) → Still (K.faults sink.old) (K.faults sink.new) → is_one_of (0 ∷ 2 ∷ 5 ∷ []) result ≡ true }
-    ensures complete { is_replay (map (λ w. string_bytes w) words.now) ≡ true → Still (S.faults source.old) (S.faults source.new) → Still (K.faults sink.old) (K.faults sink.new) → EndsAsFormed (S.left source.old) result }
+    ensures unfailing { is_replay words.now ≡ true →
+        Still (S.faults source.old) (S.faults source.new) →
+        Still (K.faults sink.old) (K.faults sink.new) →
+        is_one_of (0 ∷ 2 ∷ 5 ∷ []) result ≡ true }
+    ensures complete { is_replay words.now ≡ true →
+        Still (S.faults source.old) (S.faults source.new) →
+        Still (K.faults sink.old) (K.faults sink.new) →
+        EndsAsFormed (S.left source.old) result }
 
     // In the script read a request returns with success only by a reply that fits it. A reply that fits no wait is
-    // refused, a refused reply changes nothing, and without its line the others tell the same.
+    // refused, a refused reply changes nothing, and without its line the others tell the same. A connect returns only by
+    // its answer.
     ensures returns { result ≡ 0 → IfSome (S.left source.old) RequestsReturn }
     ensures refused { result ≡ 0 → IfSome (S.left source.old) MisfitsRefused }
     ensures unchanged { result ≡ 0 → IfSome (S.left source.old) RefusalsStay }
     ensures idle { result ≡ 0 → IfSome (S.left source.old) RefusalsIdle }
+    ensures answered { result ≡ 0 → IfSome (S.left source.old) ConnectsReturn }
+
+    // In the script read and in any other in which a list of processes is a circle of a process too, and which has the same
+    // inputs of the two, the process does and is told the same.
+    ensures apart { result ≡ 0 → IfSome (S.left source.old) ClientsApart }
 {
     if !is_replay(words) {
         return tell_usage(sink);

@@ -25,7 +25,15 @@ fn answered(
     let answer = run_words(alloc, &given, &mut source, &mut sink);
     assert_eq!(rt; answer, status);
     assert_eq!(rt; sink.sent(), text.as_bytes());
+    asked_in_pieces(rt, &source);
     Ok(())
+}
+
+// Nothing was asked of the source behind its end or a failure, and 4,096 bytes at most before.
+fn asked_in_pieces(rt: &impl Abort, source: &MemSource) {
+    let asked = source.asked();
+    assert_eq!(rt; asked.late, 0);
+    assert!(rt; asked.widest <= 4096);
 }
 
 fn joined(alloc: Global, parts: &[&str]) -> Result<String, Fail> {
@@ -500,6 +508,7 @@ fn broken_off(
     let mut sink = MemSink::new(alloc, 4096, 5, Vec::new(alloc))?;
     assert_eq!(rt; run_words(alloc, &words, &mut source, &mut sink), status);
     assert_eq!(rt; sink.sent(), text.as_bytes());
+    asked_in_pieces(rt, &source);
     Ok(())
 }
 
@@ -525,17 +534,46 @@ fn a_faulty_line_read_before_a_failure_of_the_source_stops_the_replay(
 ) -> Result<(), Fail> {
     let alloc = rt.alloc();
     broken_off(&rt, alloc, "24 NtFoo\nboot 20 24\n", 15, 2, "stop 1 3\n")?;
-    broken_off(&rt, alloc, "24 NtFoo\n", 9, 3, "")
+    broken_off(&rt, alloc, "24 NtFoo\n", 10, 2, "stop 1 3\n")
+}
+
+#[test]
+fn a_faulty_rest_is_no_line_where_the_source_fails_in_it_or_at_its_end(
+    rt: HostRuntime,
+) -> Result<(), Fail> {
+    let alloc = rt.alloc();
+    broken_off(&rt, alloc, "24 NtFoo\n", 9, 3, "")?;
+    broken_off(&rt, alloc, "24 NtFoo", 9, 3, "")?;
+    broken_off(&rt, alloc, "24 NtFoo", 10, 2, "stop 1 3\n")
+}
+
+// One line for a sink of some room, whose calls of these numbers fail.
+fn cut_off(
+    rt: &impl Abort,
+    alloc: Global,
+    room: usize,
+    calls: Vec<u64>,
+    text: &str,
+) -> Result<(), Fail> {
+    let mut words = Vec::new(alloc);
+    words.push(String::from_str(alloc, "replay")?)?;
+    let mut source = MemSource::new(b"boot 20 24\n".to_vec(alloc)?, 7, Vec::new(alloc));
+    let mut sink = MemSink::new(alloc, room, 5, calls)?;
+    assert_eq!(rt; run_words(alloc, &words, &mut source, &mut sink), 4);
+    assert_eq!(rt; sink.sent(), text.as_bytes());
+    Ok(())
 }
 
 #[test]
 fn a_full_sink_has_its_status(rt: HostRuntime) -> Result<(), Fail> {
     let alloc = rt.alloc();
-    let mut words = Vec::new(alloc);
-    words.push(String::from_str(alloc, "replay")?)?;
-    let mut source = MemSource::new(b"boot 20 24\n".to_vec(alloc)?, 7, Vec::new(alloc));
-    let mut sink = MemSink::new(alloc, 20, 5, Vec::new(alloc))?;
-    assert_eq!(rt; run_words(alloc, &words, &mut source, &mut sink), 4);
-    assert_eq!(rt; sink.sent(), b"1 - boot 00000000\nen".as_slice());
-    Ok(())
+    cut_off(&rt, alloc, 20, Vec::new(alloc), "1 - boot 00000000\nen")
+}
+
+#[test]
+fn nothing_is_sent_behind_a_failed_write(rt: HostRuntime) -> Result<(), Fail> {
+    let alloc = rt.alloc();
+    let mut calls = Vec::new(alloc);
+    calls.push(2)?;
+    cut_off(&rt, alloc, 4096, calls, "1 - b")
 }

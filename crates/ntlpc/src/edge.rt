@@ -1,13 +1,16 @@
 // The adapters over the standard streams, the trusted edge. What they hold or sent isn't told to the replay; their
 // faults are counted. That no byte is lost or made between is said of every reader and writer that tells its bytes.
-ghost use Rattle.std.specs.Prelude.{◌≡◌, ◌<◌, ◌≤◌, length, None, IfOk};
+ghost use Rattle.std.specs.Prelude.{◌≡◌, ◌<◌, ◌≤◌, length, drop, None, IfOk, OnErr};
 ghost use Rattle.std.specs.Io.KnownBytes.{ReadConsumes, WriteAppends};
-ghost use Rattle.lpc_base.specs.Streams.{HasCause};
+ghost use Rattle.lpc_base.specs.Streams.{HasCause, raised, taken};
 ghost use Rattle.ntlpc.specs.Counted.{Counted};
 
 use lpc_base::{Failed, Sink, Source};
 use std::io::{Read, Write};
 use std::marker::Model;
+
+#[cfg(test)]
+mod tests;
 
 /// A source over a reader.
 #[derive(Drop)]
@@ -37,16 +40,26 @@ impl<R: Read> Source for Input<R> {
 
     ghost faults = { λ s. s.faults };
 
-    /// The bytes are the reader's next ones, and 0 comes only at its end. A read that fails takes none.
+    /// The bytes are the reader's next ones, and 0 comes only at its end. A read that fails takes none. It is counted
+    /// once, and not tried again.
     fn read(&mut self, into: &mut [u8]) -> Result<usize, Failed>
         requires { 0 < length into.old }
         ensures bound { IfOk result (λ n. n ≤ length into.new) }
-        ensures reader { ReadConsumes (R.remaining self.old.stream) (R.remaining self.new.stream) result into.new }
+        ensures rest { drop (taken result) into.new ≡ drop (taken result) into.old }
+        ensures reader { ReadConsumes (R.remaining self.old.stream) (R.remaining self.new.stream)
+            result into.new }
         ensures cause { HasCause self.old.faults self.new.faults result }
+        ensures once { OnErr result (self.new.faults ≡ raised self.old.faults) }
         ensures still { IfOk result (λ _. self.new.faults ≡ self.old.faults) }
     {
-        match self.reader.read(into) {
-            Ok(count) => Ok(count),
+        // A reader may write behind the bytes that it gives: it does so here, and not in what was lent.
+        let mut piece = [0u8; 4096];
+        let room = into.len().min(piece.len());
+        match self.reader.read(&mut piece[..room]) {
+            Ok(count) => {
+                into[..count].copy_from_slice(&piece[..count]);
+                Ok(count)
+            }
             Err(_) => {
                 self.faults = self.faults.saturating_add(1);
                 Err(Failed)
@@ -85,13 +98,16 @@ impl<W: Write> Sink for Output<W> {
 
     ghost sure = { λ _. 0 };
 
-    /// The writer then holds the bytes that are answered as sent, behind what it held. A write that fails adds none.
+    /// The writer then holds the bytes that are answered as sent, behind what it held. A write that fails adds none. It is
+    /// counted once, and not tried again.
     fn write(&mut self, from: &[u8]) -> Result<usize, Failed>
         requires { 0 < length from.now }
         ensures some { IfOk result (λ n. 1 ≤ n) }
         ensures bound { IfOk result (λ n. n ≤ length from.now) }
-        ensures writer { WriteAppends (W.contents self.old.stream) (W.contents self.new.stream) result from.now }
+        ensures writer { WriteAppends (W.contents self.old.stream) (W.contents self.new.stream)
+            result from.now }
         ensures cause { HasCause self.old.faults self.new.faults result }
+        ensures once { OnErr result (self.new.faults ≡ raised self.old.faults) }
         ensures still { IfOk result (λ _. self.new.faults ≡ self.old.faults) }
     {
         if let Ok(count) = self.writer.write(from) {

@@ -1,7 +1,8 @@
 use Rattle.std.proofs.Common.{sym, ◌∙◌}
+use Rattle.lpc_replay.proofs.Cut.{cuts_short, cuts_unsent}
 use Rattle.lpc_replay.proofs.Ended.{ended_sound}
 use Rattle.lpc_replay.proofs.Limits.{sound_within}
-use Rattle.lpc_replay.proofs.Formed.{begins_unsent, formed, formed_ended, replays, sound_read, stops_ended}
+use Rattle.lpc_replay.proofs.Formed.{begins_unsent, formed, formed_ended, has_ended_fault, replays, sound_read, stops_ended, unfailed}
 use Rattle.lpc_replay.proofs.replay.replay.Goals as goal
 
 pub returns-in_default-clause-begun : goal.returns-in_default-clause-begun
@@ -39,6 +40,22 @@ returns-in-Ok-false-clause-faulty g c =
     λ _. formed (left c.args.source.now) (left c.read_script.new.source) c.in-Ok.script.bytes.items _ (c.in-Ok.ensures.finished c.in-Finished.is)
     (sym (rw c.deref.ensures.value at ok.ensures.whole) ∙ ok.field-0-test)
 
+pub returns-in-Ok-false-clause-unfailed : goal.returns-in-Ok-false-clause-unfailed
+returns-in-Ok-false-clause-unfailed g c =
+    let left = g.S.Source.left in
+    let faults = g.S.Source.faults in
+    λ _. unfailed (left c.args.source.now) (left c.read_script.new.source) c.in-Ok.script.bytes.items (faults c.args.source.now) (faults c.read_script.new.source) c.in-Ok.ensures.read
+    (λ _. c.in-Ok.ensures.still c.in-Finished.is)
+
+pub returns-in-Ok-false-play_ended-clause-unfailed : goal.returns-in-Ok-false-play_ended-clause-unfailed
+returns-in-Ok-false-play_ended-clause-unfailed g c =
+    let left = g.S.Source.left in
+    let faults = g.S.Source.faults in
+    let ok = c.in-Ok-false-play_ended in
+    let faulty = has_ended_fault c.in-Ok.script.bytes.items (sym (rw c.deref-in-SourceFailed.ensures.value at ok.ensures.whole) ∙ ok.field-0-test) in
+    λ _. unfailed (left c.args.source.now) (left c.read_script.new.source) c.in-Ok.script.bytes.items (faults c.args.source.now) (faults c.read_script.new.source) c.in-Ok.ensures.read
+    (λ sound. absurd (cc))
+
 pub returns-in-Ok-true-play_ended-clause-faulty_read : goal.returns-in-Ok-true-play_ended-clause-faulty_read
 returns-in-Ok-true-play_ended-clause-faulty_read g c =
     let left = g.S.Source.left in
@@ -60,3 +77,8 @@ returns-in-Ok-false-play_ended-clause-faulty g c =
     let ok = c.in-Ok-false-play_ended in
     λ _. formed_ended (left c.args.source.now) (left c.read_script.new.source) c.in-Ok.script.bytes.items c.in-Ok.ensures.read
     (sym (rw c.deref-in-SourceFailed.ensures.value at ok.ensures.whole) ∙ ok.field-0-test)
+
+pub returns-in_default-clause-cut : goal.returns-in_default-clause-cut
+returns-in_default-clause-cut g c =
+    let left = g.S.Source.left in
+    λ _. cuts_unsent (left c.args.source.now) (left c.read_script.new.source) (g.K.Sink.sent c.args.sink.now) c.in_default.ensures.taken

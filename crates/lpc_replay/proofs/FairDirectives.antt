@@ -1,0 +1,33 @@
+-- What a directive tells is right.
+use Rattle.std.proofs.Common.{List, ℕ, ◌∷◌}
+use Rattle.lpc_base.specs.declared.status.TheConstants.{SUCCESS}
+use Rattle.lpc_model.specs.Basics.{Tells}
+use Rattle.lpc_model.specs.Lines.{ScriptLine}
+use Rattle.lpc_model.specs.Machine.{boot_line, dir_line, link_line, thread_line, thread_test, unused_test}
+use Rattle.lpc_model.specs.Named.{free_name, spelled_name}
+use Rattle.lpc_model.specs.World.{World}
+use Rattle.lpc_model.specs.declared.entry.Entry.TheVariants as entry
+use Rattle.lpc_model.specs.declared.entry.Word.TheVariants as word
+use Rattle.lpc_model.proofs.Holding.{Holds, bind_holds}
+use Rattle.lpc_replay.proofs.Fair.{AreFair}
+
+pub boot_fair : (w : World) (line : ScriptLine) (pid tid : ℕ) → Holds (λ bs. AreFair w line (Tells (entry.Directive word.Boot SUCCESS) ∷ bs)) (boot_line w pid tid)
+unfolding boot_line
+boot_fair w line pid tid =
+    bind_holds (unused_test w pid tid) _ (λ bs. AreFair w line (Tells (entry.Directive word.Boot SUCCESS) ∷ bs)) (λ _ _. ((tt, tt), (tt, (tt, tt))))
+
+pub further_fair : (w : World) (line : ScriptLine) (tid pid : ℕ) → Holds (λ bs. AreFair w line (Tells (entry.Directive word.Thread SUCCESS) ∷ bs)) (thread_line w tid pid)
+unfolding thread_line
+further_fair w line tid pid =
+    bind_holds (thread_test w tid pid) _ (λ bs. AreFair w line (Tells (entry.Directive word.Thread SUCCESS) ∷ bs)) (λ _ _. ((tt, tt), (tt, tt)))
+
+pub dir_fair : (w : World) (line : ScriptLine) (path : List ℕ) → Holds (λ bs. AreFair w line (Tells (entry.Directive word.Dir SUCCESS) ∷ bs)) (dir_line w path)
+unfolding dir_line
+dir_fair w line path =
+    bind_holds (free_name w path) _ (λ bs. AreFair w line (Tells (entry.Directive word.Dir SUCCESS) ∷ bs)) (λ _ _. ((tt, tt), (tt, tt)))
+
+pub link_fair : (w : World) (line : ScriptLine) (path target : List ℕ) → Holds (λ bs. AreFair w line (Tells (entry.Directive word.Link SUCCESS) ∷ bs)) (link_line w path target)
+unfolding link_line
+link_fair w line path target =
+    bind_holds (spelled_name target) _ (λ bs. AreFair w line (Tells (entry.Directive word.Link SUCCESS) ∷ bs)) (λ _ _.
+    bind_holds (free_name w path) _ (λ bs. AreFair w line (Tells (entry.Directive word.Link SUCCESS) ∷ bs)) (λ _ _. ((tt, tt), (tt, tt))))

@@ -1,0 +1,73 @@
+-- What each line tells is right: a call has a line for its service, and one for its refusal.
+use Rattle.std.proofs.Common.{[], refl, ℕ, ◌≡◌}
+use Rattle.std.specs.Prelude.{Err, None, Option, Some}
+use Rattle.lpc_base.specs.declared.status.Status.{Status}
+use Rattle.lpc_model.specs.Basics.{Tells}
+use Rattle.lpc_model.specs.Connect.{nt_connect_port}
+use Rattle.lpc_model.specs.Found.{live_thread, wait_of}
+use Rattle.lpc_model.specs.Lines.{ScriptCall, ScriptLine, accept_connect_port, boot, complete_connect_port, connect_port, create_port, dir, link, listen_port, reply_port, reply_wait_receive_port, request_port, request_wait_reply_port, run, thread}
+use Rattle.lpc_model.specs.Machine.{bare_steps, boot_line, dir_line, link_line, name_of_call, ready_steps, service_of, steps, thread_line, thread_steps}
+use Rattle.lpc_model.specs.Request.{nt_request_wait_reply_port}
+use Rattle.lpc_model.specs.World.{ThreadRow, WaitRow, World}
+use Rattle.lpc_model.specs.declared.entry.Entry.TheVariants as entry
+use Rattle.lpc_model.specs.declared.entry.Entry.TheVariants.{Answer}
+use Rattle.lpc_model.specs.declared.entry.Word.TheVariants as word
+use Rattle.lpc_model.proofs.GivenBytes.{GivesBytes, HasBytes}
+use Rattle.lpc_model.proofs.Holding.{Holds, directed_holds, settled_holds}
+use Rattle.lpc_replay.proofs.Failing.{fails_with}
+use Rattle.lpc_replay.proofs.Fair.{AreFair, HaveTheirCalls, IsFair, swept_fair}
+use Rattle.lpc_replay.proofs.FairAccept.{accept_fair}
+use Rattle.lpc_replay.proofs.FairComplete.{complete_fair}
+use Rattle.lpc_replay.proofs.FairConnect.{connect_fails, connect_fair}
+use Rattle.lpc_replay.proofs.FairCreate.{create_fair}
+use Rattle.lpc_replay.proofs.FairDatagram.{datagram_fair}
+use Rattle.lpc_replay.proofs.FairDirectives.{boot_fair, dir_fair, further_fair, link_fair}
+use Rattle.lpc_replay.proofs.FairListen.{listen_fair}
+use Rattle.lpc_replay.proofs.FairReceive.{receiving_fair}
+use Rattle.lpc_replay.proofs.FairReply.{reply_fair}
+use Rattle.lpc_replay.proofs.FairRequest.{request_fails, request_fair}
+
+-- a call that is served
+service_fair : (w : World) (tid : ℕ) (by : ThreadRow) (name : ScriptCall) → HasBytes name → live_thread w tid ≡ Some by → HaveTheirCalls w → Holds (AreFair w (run tid name)) (service_of w by name)
+service_fair w tid by (create_port text) are live h = create_fair w _ by text
+service_fair w tid by (connect_port text bytes) are live h = connect_fair w _ by text bytes h
+service_fair w tid by (listen_port handle) are live h = listen_fair w _ by handle
+service_fair w tid by (accept_connect_port context bytes accept) are live h = accept_fair w tid by context bytes accept live
+service_fair w tid by (complete_connect_port handle) are live h = complete_fair w tid by handle live h
+service_fair w tid by (request_port handle bytes) are live h = datagram_fair w _ by handle bytes h
+service_fair w tid by (request_wait_reply_port handle bytes) are live h = request_fair w _ by handle bytes h
+service_fair w tid by (reply_port handle bytes) are live h = reply_fair w tid by handle bytes are live h
+service_fair w tid by (reply_wait_receive_port handle bytes) are live h = receiving_fair w tid by handle bytes are live h
+
+-- a call that is refused
+refused_fair : (w : World) (line : ScriptLine) (by : ThreadRow) (name : ScriptCall) (s : Status) → service_of w by name ≡ Err s → IsFair w line (Tells (entry.Answer by.number (name_of_call name) s []))
+refused_fair w line by (create_port text) s is = (tt, tt)
+refused_fair w line by (connect_port text bytes) s is = (tt, fails_with (nt_connect_port w by text bytes) s (connect_fails w by text bytes) is)
+refused_fair w line by (listen_port handle) s is = (tt, tt)
+refused_fair w line by (accept_connect_port context bytes accept) s is = (tt, tt)
+refused_fair w line by (complete_connect_port handle) s is = (tt, tt)
+refused_fair w line by (request_port handle bytes) s is = (tt, tt)
+refused_fair w line by (request_wait_reply_port handle bytes) s is = (fails_with (nt_request_wait_reply_port w by handle bytes) s (request_fails w by handle bytes) is, tt)
+refused_fair w line by (reply_port handle bytes) s is = (tt, tt)
+refused_fair w line by (reply_wait_receive_port handle bytes) s is = (tt, tt)
+
+-- the lines
+ready_fair : (w : World) (tid : ℕ) (by : ThreadRow) (name : ScriptCall) (o : Option WaitRow) → HasBytes name → live_thread w tid ≡ Some by → HaveTheirCalls w → AreFair w (run tid name) (ready_steps by name o w)
+ready_fair w tid by name (Some x) are live h = ((tt, tt), tt)
+ready_fair w tid by name None are live h =
+    settled_holds (AreFair w (run tid name)) by (name_of_call name) (service_of w by name) (service_fair w tid by name are live h) (λ s is. (refused_fair w (run tid name) by name s is, tt))
+
+thread_fair : (w : World) (tid : ℕ) (name : ScriptCall) (o : Option ThreadRow) → HasBytes name → live_thread w tid ≡ o → HaveTheirCalls w → AreFair w (run tid name) (thread_steps tid name o w)
+thread_fair w tid name None are live h = ((tt, tt), tt)
+thread_fair w tid name (Some by) are live h = ready_fair w tid by name (wait_of w tid) are live h
+
+bare_fair : (w : World) (line : ScriptLine) → GivesBytes line → HaveTheirCalls w → AreFair w line (bare_steps line w)
+unfolding bare_steps
+bare_fair w (boot pid tid) are h = directed_holds (AreFair w (boot pid tid)) word.Boot (boot_line w pid tid) (boot_fair w _ pid tid) (λ s. ((tt, tt), tt))
+bare_fair w (thread tid pid) are h = directed_holds (AreFair w (thread tid pid)) word.Thread (thread_line w tid pid) (further_fair w _ tid pid) (λ s. ((tt, tt), tt))
+bare_fair w (dir path) are h = directed_holds (AreFair w (dir path)) word.Dir (dir_line w path) (dir_fair w _ path) (λ s. ((tt, tt), tt))
+bare_fair w (link path target) are h = directed_holds (AreFair w (link path target)) word.Link (link_line w path target) (link_fair w _ path target) (λ s. ((tt, tt), tt))
+bare_fair w (run tid name) are h = thread_fair w tid name (live_thread w tid) are refl h
+
+pub steps_fair : (w : World) (line : ScriptLine) → GivesBytes line → HaveTheirCalls w → AreFair w line (steps line w)
+steps_fair w line are h = swept_fair w line (bare_steps line w) (bare_fair w line are h)
