@@ -1,0 +1,380 @@
+#!/usr/bin/env python3
+"""Tries the program from outside: its words, its exit statuses, and inputs and outputs that fail.
+
+    tests/program.py PROGRAM [WORDS..]
+
+WORDS stand in front of the program's own. Each check that fails has a line, and the last line is `N passed, M failed`.
+The exit status is 0 where every check passed, 1 where not, and 64 without PROGRAM.
+"""
+import contextlib
+import os
+import pathlib
+import pty
+import shutil
+import socket
+import subprocess
+import sys
+import tempfile
+import threading
+import tty
+
+ROOT = pathlib.Path(__file__).resolve().parent.parent
+SECONDS = 60
+MIB = 1 << 20
+USAGE = b"usage: ntlpc COMMAND [WORDS]\n"
+FIRST, FIRST_TOLD = b"boot 20 24\n", b"1 - boot 00000000\n"
+LINES, TOLD = FIRST + b"24 NtCreatePort -\n", FIRST_TOLD + b"2 24 NtCreatePort 00000000 h=4\n"
+EXAMPLE = (ROOT / "examples" / "first-request.script").read_bytes()
+
+
+class Wrong(Exception):
+    """What a check found."""
+
+
+class LeftOut(Exception):
+    """Why a check can't be made on this system."""
+
+
+class Ended:
+    """How a run ended: its status (below 0: the signal that ended it), what it printed, and its standard error."""
+
+    def __init__(self, status, printed=b"", said=b""):
+        self.status = status
+        self.printed = printed or b""
+        self.said = said or b""
+
+    def should(self, status, printed=b""):
+        """Fails where the run ended otherwise."""
+        if self.status != status:
+            ended = f"status {self.status}" if self.status >= 0 else f"signal {-self.status}"
+            raise Wrong(f"it ended with {ended}, status {status} is wanted; it printed {brief(self.printed)}")
+        if self.printed != printed:
+            raise Wrong(f"it printed {brief(self.printed)}, wanted is {brief(printed)}")
+        if self.said:
+            raise Wrong(f"it wrote to its standard error: {brief(self.said)}")
+
+
+def brief(text):
+    """Bytes as they are shown in a message."""
+    return repr(text if len(text) <= 160 else text[:80] + b" .. " + text[-76:])[1:]
+
+
+class Program:
+    """The program that is tried."""
+
+    def __init__(self, command):
+        self.command = command
+
+    def run(self, *words, source=b"", sink=subprocess.PIPE, closed=""):
+        """Runs it with these words. `source` is bytes, or what has a file number; `closed` is `<&-` or `>&-`."""
+        command = [*self.command, *words]
+        if closed:
+            command = ["sh", "-c", f'exec "$@" {closed}', "sh", *command]
+        given = {"input": source} if isinstance(source, bytes) else {"stdin": source}
+        try:
+            ran = subprocess.run(command, stdout=sink, stderr=subprocess.PIPE, timeout=SECONDS, **given)
+        except subprocess.TimeoutExpired:
+            raise Wrong(f"it did not end within {SECONDS} seconds") from None
+        return Ended(ran.returncode, ran.stdout, ran.stderr)
+
+    def replay(self, source=b"", **how):
+        return self.run("replay", source=source, **how)
+
+    @contextlib.contextmanager
+    def started(self, script, sink):
+        """Starts it over a script in pieces, for as long as a check may take; gives the running program."""
+        with tempfile.TemporaryFile() as source:
+            source.writelines(script)
+            source.seek(0)
+            child = subprocess.Popen([*self.command, "replay"], stdin=source, stdout=sink)
+            watch = threading.Timer(SECONDS, child.kill)
+            watch.start()
+            try:
+                yield child
+            finally:
+                watch.cancel()
+                child.kill()
+                child.wait()
+
+
+def reset_after(script):
+    """The number of a socket that gives a script, fails once (its other side left a byte unread), and then ends."""
+    ours, theirs = socket.socketpair()
+    theirs.send(b"?")
+    ours.sendall(script)
+    ours.close()
+    return theirs.detach()
+
+
+def terminal_gone_after(script):
+    """The number of a pseudo terminal whose other side wrote a script and is closed: every read behind it fails."""
+    near, far = pty.openpty()
+    tty.setraw(far)
+    os.write(far, script)
+    os.close(far)
+    return near
+
+
+def sink_that_fails_at_times():
+    """A datagram socket to a port where nobody listens: it takes a write, fails the next, takes the third ..."""
+    try:
+        with socket.socket(socket.AF_INET, socket.SOCK_DGRAM) as nobody:
+            nobody.bind(("127.0.0.1", 0))
+            address = nobody.getsockname()
+        sink = socket.socket(socket.AF_INET, socket.SOCK_DGRAM)
+        sink.connect(address)
+        sink.send(b"?")
+    except OSError as error:
+        raise LeftOut(f"there is no loopback network here ({error.strerror})") from None
+    try:
+        sink.send(b"?")
+    except ConnectionRefusedError:
+        return sink
+    raise LeftOut("the loopback network does not tell that nobody listens")
+
+
+def filled_pipe():
+    """The side for writing of a pipe that is full, and fails instead of waiting, and its side for reading."""
+    far, near = os.pipe()
+    os.set_blocking(near, False)
+    try:
+        while True:
+            os.write(near, b"?" * 4096)
+    except BlockingIOError:
+        return near, far
+
+
+def replays(script, status, printed):
+    """The check that a script ends and prints so."""
+    return lambda program: program.replay(script).should(status, printed)
+
+
+def examples():
+    """Each example prints its transcript, with status 2 where that ends with `stop`."""
+    for script in sorted((ROOT / "examples").glob("*.script")):
+        transcript = script.with_suffix(".transcript").read_bytes()
+        status = 2 if transcript.splitlines()[-1].startswith(b"stop ") else 0
+        yield f"examples/{script.name}", replays(script.read_bytes(), status, transcript)
+
+
+def words():
+    """Other words than `replay` alone: the usage line, status 64, and nothing is read."""
+    others = {
+        "no word": [],
+        "an empty word": [""],
+        "an unknown word": ["unknown"],
+        "a capital letter": ["Replay"],
+        "a letter too few": ["repla"],
+        "a letter too many": ["replays"],
+        "a space behind it": ["replay "],
+        "a further word": ["replay", "unknown"],
+        "an empty further word": ["replay", ""],
+        "it twice": ["replay", "replay"],
+        "a word in front": ["unknown", "replay"],
+        "a word that is not UTF-8": [b"\xff"],
+        "a further word that is not UTF-8": ["replay", b"\xff"],
+        "it with a byte that is not UTF-8": [b"replay\xff"],
+    }
+    for name, given in others.items():
+
+        def check(program, given=given):
+            with tempfile.TemporaryFile() as source:
+                source.write(EXAMPLE)
+                source.seek(0)
+                program.run(*given, source=source).should(64, USAGE)
+                if os.lseek(source.fileno(), 0, os.SEEK_CUR):
+                    raise Wrong("it read its input")
+
+        yield f"words: {name}", check
+
+
+def ends_of_input():
+    """How the input ends and comes."""
+
+    def pieces(program):
+        ours, theirs = socket.socketpair(socket.AF_UNIX, socket.SOCK_SEQPACKET)
+        with theirs:
+            with ours:
+                for byte in EXAMPLE:
+                    ours.send(bytes([byte]))
+            program.replay(theirs).should(0, (ROOT / "examples" / "first-request.transcript").read_bytes())
+
+    yield "an empty input", replays(b"", 0, b"end 0 0 0\n")
+    yield "an input that ends inside a line", replays(LINES[:-1], 0, TOLD + b"end 2 2 3\n")
+    yield "an input that ends inside a faulty line", replays(LINES + b"thread 28", 2, TOLD + b"stop 3 4\n")
+    yield "an input that comes byte by byte", pieces
+
+
+def inputs_that_fail():
+    """Status 3, and what the whole lines tell, unless one of them is faulty or a line is too long."""
+
+    def fails(failing, script, status, printed):
+        def check(program):
+            with open(failing(script), "rb", buffering=0) as source:
+                program.replay(source).should(status, printed)
+
+        return check
+
+    for name, failing in ("reset", reset_after), ("terminal gone", terminal_gone_after):
+        yield f"{name}: at once", fails(failing, b"", 3, b"")
+        yield f"{name}: behind whole lines", fails(failing, LINES, 3, TOLD)
+        yield f"{name}: inside a line", fails(failing, LINES + b"thread 28 20", 3, TOLD)
+        yield f"{name}: inside a faulty line", fails(failing, LINES + b"thread\t", 3, TOLD)
+        yield f"{name}: behind a faulty line", fails(failing, LINES + b"thread\t\n", 2, TOLD + b"stop 3 1\n")
+    long = FIRST + b"#" * 16_384
+    yield "reset: inside a line of 16,384 bytes", fails(reset_after, long, 3, FIRST_TOLD)
+    yield "reset: inside a line of 16,385 bytes", fails(reset_after, long + b"#", 2, FIRST_TOLD + b"stop 2 9\n")
+
+    def directory(program):
+        number = os.open(ROOT, os.O_RDONLY)
+        try:
+            program.replay(number).should(3)
+        finally:
+            os.close(number)
+
+    def empty(program):
+        near, far = os.pipe()
+        os.set_blocking(near, False)
+        try:
+            program.replay(near).should(3)
+        finally:
+            os.close(near)
+            os.close(far)
+
+    def for_writing(program):
+        with open(os.devnull, "wb") as source:
+            program.replay(source).should(3)
+
+    yield "the input is closed", lambda program: program.replay(closed="<&-").should(3)
+    yield "the input is a directory", directory
+    yield "the input has nothing now and does not wait", empty
+    yield "the input is open for writing alone", for_writing
+
+
+def outputs_that_fail():
+    """Status 4, and no signal."""
+
+    def full(*given, source=EXAMPLE):
+        def check(program):
+            with open("/dev/full", "wb") as sink:
+                program.run(*given, source=source, sink=sink).should(4)
+
+        return check
+
+    def both_fail(program):
+        with open(reset_after(LINES), "rb", buffering=0) as source, open("/dev/full", "wb") as sink:
+            program.replay(source, sink=sink).should(4)
+
+    def reader_gone(program):
+        far, near = os.pipe()
+        os.close(far)
+        try:
+            program.replay(EXAMPLE, sink=near).should(4)
+        finally:
+            os.close(near)
+
+    def reader_goes(program):
+        with program.started([FIRST, b"28 NtListenPort 4\n" * 10_000], subprocess.PIPE) as child:
+            first = child.stdout.read(len(FIRST_TOLD))
+            child.stdout.close()
+            status = child.wait()
+        if first != FIRST_TOLD:
+            raise Wrong(f"it printed {brief(first)} first")
+        Ended(status).should(4)
+
+    def at_times(program):
+        with sink_that_fails_at_times() as sink:
+            program.replay(EXAMPLE, sink=sink).should(4)
+
+    def filled(program):
+        near, far = filled_pipe()
+        try:
+            program.replay(EXAMPLE, sink=near).should(4)
+        finally:
+            os.close(near)
+            os.close(far)
+
+    def for_reading(program):
+        with open(os.devnull, "rb") as sink:
+            program.replay(EXAMPLE, sink=sink).should(4)
+
+    yield "the output is closed", lambda program: program.replay(EXAMPLE, closed=">&-").should(4)
+    yield "the output is closed: other words", lambda program: program.run(closed=">&-").should(4)
+    yield "the disk is full", full("replay")
+    yield "the disk is full: the last line alone", full("replay", source=b"")
+    yield "the disk is full: a faulty line alone", full("replay", source=b"unknown\n")
+    yield "the disk is full: other words", full()
+    yield "the disk is full, and the input fails", both_fail
+    yield "the reader of the output is gone", reader_gone
+    yield "the reader of the output goes", reader_goes
+    yield "the output fails once and then takes more", at_times
+    yield "the output is full and does not wait", filled
+    yield "the output is open for reading alone", for_reading
+
+
+def limits():
+    """Long lines and many lines."""
+    call = b"24 NtCreatePort -"
+    for length, status, last in (16_384, 0, b"end 3 2 3\n"), (16_385, 2, b"stop 2 9\n"):
+        told = TOLD if status == 0 else FIRST_TOLD
+        yield f"a call of {length:,} bytes", replays(FIRST + call.ljust(length) + b"\n#\n", status, told + last)
+    for length, status, last in (16_384, 0, b"end 3 1 2\n"), (16_385, 2, b"stop 2 9\n"):
+        yield f"a comment of {length:,} bytes", replays(FIRST + b"#" * length + b"\n#\n", status, FIRST_TOLD + last)
+    most = FIRST + b"#\n" * 999_998 + call + b"\n"
+    told = FIRST_TOLD + b"1000000 24 NtCreatePort 00000000 h=4\n"
+    yield "1,000,000 lines", replays(most, 0, told + b"end 1000000 2 3\n")
+    yield "1,000,001 lines", replays(most + b"#\n", 2, told + b"stop 1000001 10\n")
+    yield "1,000,000 lines and a byte 10", replays(most + b"\n", 2, told + b"stop 1000001 10\n")
+    yield "1,000,000 lines and a byte", replays(most + b"#", 2, told + b"stop 1000001 10\n")
+    yield "a million comments in bounded memory", memory_of_comments
+    yield "memory runs out", memory_runs_out
+
+
+def memory_of_comments(program):
+    """The script is read whole before it is run, into room that may double as it grows: while it does, the old half and
+    both halves of the new one are there. So the bound is three times the script's size, and 32 MiB for all else."""
+    block = b"# a comment that says nothing at all.\n" * 1_000
+    with tempfile.TemporaryFile() as sink, program.started([block] * 1_000, sink) as child:
+        _, status, used = os.wait4(child.pid, 0)
+        child.returncode = os.waitstatus_to_exitcode(status)
+        sink.seek(0)
+        Ended(child.returncode, sink.read()).should(0, b"end 1000000 0 0\n")
+    size = 1_000 * len(block)
+    peak, most = used.ru_maxrss / 1024, 3 * size / MIB + 32
+    if peak > most:
+        raise Wrong(f"it took {peak:.0f} MiB for a script of {size / MIB:.0f} MiB, at most {most:.0f} are wanted")
+
+
+def memory_runs_out(program):
+    """Status 5, and the beginning of the transcript up to a line's end."""
+    limited = Program(["sh", "-c", 'ulimit -v 12000 && exec "$@"', "sh", *program.command])
+    if limited.replay().status:
+        raise LeftOut("the program does not start in 12,000 KiB")
+    numbers = range(1, 20_001)
+    ended = limited.replay(b"".join(b"boot %d %d\n" % (it, it) for it in numbers))
+    told = [b"%d - boot 00000000\n" % it for it in numbers]
+    ended.should(5, b"".join(told[: ended.printed.count(b"\n")]))
+
+
+def main(command):
+    if not command or not shutil.which(command[0]):
+        print("usage: tests/program.py PROGRAM [WORDS..]", file=sys.stderr)
+        return 64
+    program = Program(command)
+    passed = failed = 0
+    for group in (examples, words, ends_of_input, inputs_that_fail, outputs_that_fail, limits):
+        for name, check in group():
+            try:
+                check(program)
+                passed += 1
+            except LeftOut as why:
+                print(f"left out: {name}: {why}", flush=True)
+            except Wrong as why:
+                failed += 1
+                print(f"FAILED: {name}: {why}", flush=True)
+    print(f"{passed} passed, {failed} failed")
+    return 1 if failed else 0
+
+
+if __name__ == "__main__":
+    sys.exit(main(sys.argv[1:]))
