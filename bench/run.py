@@ -1,5 +1,5 @@
 #!/usr/bin/env python3
-"""How the program grows: lines a second and peak memory, for scripts of 1,000, 10,000 and 100,000 lines.
+"""How the program grows: lines a second and peak memory, for scripts of three lengths.
 
     bench/run.py [PROGRAM]
 
@@ -11,7 +11,9 @@ import sys
 import tempfile
 import time
 
-SIZES = (1_000, 10_000, 100_000)
+LONG = (1_000, 10_000, 100_000)
+# With each client objects are left behind, over which each later line takes longer.
+SHORT = (1_000, 3_000, 10_000)
 HERE = os.path.dirname(os.path.abspath(__file__))
 
 
@@ -97,8 +99,8 @@ def main():
     print("| Script | Lines | Seconds | Lines a second | Peak memory, MiB | Status |")
     print("|---|---|---|---|---|---|")
     with tempfile.TemporaryDirectory() as folder:
-        for kind in (requests, datagrams, connects):
-            for size in SIZES:
+        for kind, sizes in ((requests, LONG), (datagrams, LONG), (connects, SHORT)):
+            for size in sizes:
                 text = list(kind(size))
                 path = os.path.join(folder, "script")
                 with open(path, "w", encoding="ascii") as out:
