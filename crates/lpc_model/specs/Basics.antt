@@ -1,15 +1,16 @@
 -- The basic steps that each line's step is a list of, and what one does.
-use Rattle.std.specs.Prelude.{ℕ, ◌+◌, nat_lt, true, List, [], ◌∷◌, ◌++◌, map, Some, if◌then◌else◌}
+use Rattle.std.specs.Prelude.{ℕ, ◌+◌, ◌||◌, nat_lt, Bool, true, List, [], ◌∷◌, ◌++◌, map, None, Some, if◌then◌else◌}
 use Rattle.lpc_base.specs.declared.status.Status.{Status}
 use Rattle.lpc_model.specs.declared.entry.Entry.{Entry}
 use Rattle.lpc_model.specs.declared.entry.Entry.TheVariants as entry
 use Rattle.lpc_model.specs.declared.entry.Field.{Field}
 use Rattle.lpc_model.specs.declared.entry.Outcome.{Outcome}
 use Rattle.lpc_model.specs.declared.entry.Outcome.TheVariants as outcome
-use Rattle.lpc_base.specs.Rows.{change, which, without, without_first}
+use Rattle.lpc_base.specs.Rows.{change, each, when, which, without, without_first}
+use Rattle.lpc_names.specs.Binding.{is_name}
 use Rattle.lpc_model.specs.declared.entry.ObjectKind.TheVariants as kind
 use Rattle.lpc_model.specs.World.{World, Birth, CallName, ObjectKind, ObjectName, ProcessRow, ThreadRow, UsedThread, HandleRow, HandleTable, PortRow, MessageRow, WaitKind, WaitRow, Accepted, Connect, Node, Path}
-use Rattle.lpc_model.specs.Found.{is_own_of, is_port, is_queued, is_queued_connect, is_table, is_thread, same_birth, waits_as, waits_at}
+use Rattle.lpc_model.specs.Found.{has_value, is_own_of, is_paired_to, is_port, is_queued, is_queued_connect, is_table, is_thread, same_birth, waits_as, waits_at}
 
 -- An entry, or one change of the rows that belong together: a wait that ends, with its entry; the two ends of a pair; a
 -- process, with its number and its empty table of handles; a thread, with its number; or else one row.
@@ -27,8 +28,9 @@ pub data Basic : Type 0 where
   Enters : MessageRow → Basic
   Takes : Birth → Basic
   TakesConnect : Birth → Basic
-  -- the own message of a thread, a request or connection request, leaves its queue
+  -- the own message of a thread, a request or connection request, leaves its queue; all messages of a queue go
   Withdraws : ℕ → Basic
+  Empties : Birth → Basic
   -- a thread draws its next message identifier, and its next ordinal
   DrawsIdentifier : ℕ → Basic
   DrawsOrdinal : ℕ → Basic
@@ -38,14 +40,17 @@ pub data Basic : Type 0 where
   Makes : PortRow → Basic
   -- a client port and a server port become each other's pair, with a context
   Joins : Birth → Birth → ℕ → Basic
-  -- the connection of a port is completed
+  -- the connection of a port is completed; a port and its other end are cut off from each other
   Completes : Birth → Basic
+  Cuts : Birth → Basic
   -- the row of an object goes
   Frees : ObjectName → Basic
-  -- a path is bound to a directory, to a port, or as a link to another path
+  -- a path is bound to a directory, to a port, or as a link to another path; the names of a port go
   Binds : Path → Node Birth → Basic
-  -- a process gets a handle
+  Unbinds : Birth → Basic
+  -- a process gets a handle; a handle of a process goes
   AddsHandle : ℕ → HandleRow → Basic
+  DropsHandle : ℕ → ℕ → Basic
 
 -- a connect, accepted with the data of an answer
 abbrev pub accepted_as : List ℕ → WaitKind → WaitKind
@@ -64,6 +69,13 @@ abbrev pub joined : Birth → Birth → ℕ → PortRow → PortRow
 joined client server context p =
     if is_port client p then paired server context p
     else (if is_port server p then paired client context p else p)
+
+-- a port, or one whose other end it is; a port without its other end, which keeps what the server gave the connection
+abbrev pub is_end_of : Birth → PortRow → Bool
+is_end_of b p = is_port b p || is_paired_to b p
+
+abbrev pub cut : PortRow → PortRow
+cut p = record p { pair = None }
 
 -- a port whose connection is completed
 abbrev pub completed : PortRow → PortRow
@@ -92,6 +104,10 @@ put_handle h rows = which (λ r. nat_lt r.value h.value) rows ++ h ∷ which (λ
 abbrev pub with_handle : HandleRow → HandleTable → HandleTable
 with_handle h t = record t { rows = put_handle h t.rows }
 
+-- handles without the one of a value; a table has one at most
+abbrev pub without_handle : ℕ → HandleTable → HandleTable
+without_handle value t = record t { rows = without_first (has_value value) t.rows }
+
 -- a process without handles
 abbrev pub no_handles : ℕ → HandleTable
 no_handles pid = record { process = pid; rows = [] }
@@ -115,6 +131,7 @@ basic w (Enters m) = record w { messages = w.messages ++ m ∷ [] }
 basic w (Takes q) = record w { messages = without_first (is_queued q) w.messages }
 basic w (TakesConnect q) = record w { messages = without_first (is_queued_connect q) w.messages }
 basic w (Withdraws who) = record w { messages = without (is_own_of who) w.messages }
+basic w (Empties q) = record w { messages = without (is_queued q) w.messages }
 basic w (DrawsIdentifier who) = record w { threads = change (is_thread who) past_identifier w.threads }
 basic w (DrawsOrdinal who) = record w { threads = change (is_thread who) past_ordinal w.threads }
 basic w (AddsProcess p) =
@@ -128,9 +145,12 @@ basic w (AddsThread t) =
 basic w (Makes p) = record w { ports = w.ports ++ p ∷ [] }
 basic w (Joins client server context) = record w { ports = map (joined client server context) w.ports }
 basic w (Completes b) = record w { ports = change (is_port b) completed w.ports }
+basic w (Cuts b) = record w { ports = change (is_end_of b) cut w.ports }
 basic w (Frees o) = freed w o.kind o.birth
 basic w (Binds path node) = record w { bindings = w.bindings ++ (path, node) ∷ [] }
+basic w (Unbinds b) = record w { bindings = without (is_name same_birth b) w.bindings }
 basic w (AddsHandle pid h) = record w { handles = change (is_table pid) (with_handle h) w.handles }
+basic w (DropsHandle pid value) = record w { handles = change (is_table pid) (without_handle value) w.handles }
 
 -- the entries that a basic step makes
 abbrev pub told : Basic → List Entry
@@ -177,6 +197,14 @@ going_on w bs g = bs ++ g (world_after w bs)
 infixr 8 ◌▹◌
 abbrev pub ◌▹◌ : Steps → Steps → Steps
 ◌▹◌ f g = λ w. going_on w (f w) g
+
+-- steps only where a test of the world before them holds
+abbrev pub provided : (World → Bool) → Steps → Steps
+provided test f = λ w. when (test w) (f w)
+
+-- each wait that passes in the world before them ends, in the order of waiting
+abbrev pub end_each : (World → WaitRow → Bool) → (WaitRow → List Basic) → Steps
+end_each test ending = λ w. each ending (which (test w) w.waits)
 
 -- steps whatever the world
 abbrev pub doing : List Basic → Steps

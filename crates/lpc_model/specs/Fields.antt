@@ -2,9 +2,9 @@
 use Rattle.std.specs.Prelude.{ℕ, List, [], ◌∷◌}
 use Rattle.lpc_model.specs.declared.entry.Field.{Field}
 use Rattle.lpc_model.specs.declared.entry.FieldName.TheVariants as name
-use Rattle.lpc_model.specs.declared.entry.Value.TheVariants.{Number, Hex, Bytes}
+use Rattle.lpc_model.specs.declared.entry.Value.TheVariants.{Number, Hex, Kind, Bytes}
 use Rattle.lpc_model.specs.Message.{bytes_of}
-use Rattle.lpc_model.specs.World.{Message, MessageRow}
+use Rattle.lpc_model.specs.World.{Message, MessageRow, ObjectKind}
 
 -- a new handle
 abbrev pub h : ℕ → Field
@@ -33,3 +33,13 @@ msg m = record { name = name.Msg; value = Bytes (record { items = bytes_of m }) 
 -- what a receive shows of the message that it took
 abbrev pub receipt : MessageRow → List Field
 receipt m = ctx m.context ∷ msg m.message ∷ []
+
+-- what a query tells of an object: its kind, the rights of the handle, how many handles name it, and how many rows count
+-- for it
+abbrev pub object_fields : ObjectKind → ℕ → ℕ → ℕ → List Field
+object_fields kind access handles pointers =
+    record { name = name.ObjectType; value = Kind kind }
+    ∷ record { name = name.Access; value = Hex access }
+    ∷ record { name = name.Handles; value = Number handles }
+    ∷ record { name = name.Pointers; value = Number pointers }
+    ∷ []

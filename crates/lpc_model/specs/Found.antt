@@ -106,10 +106,16 @@ is_port b p = same_birth p.birth b
 abbrev pub port_row : World → Birth → Option PortRow
 port_row w b = first (is_port b) w.ports
 
--- a connection port, and a server port
+-- a connection port, a client port, and a server port
 abbrev pub is_connection_port : PortRow → Bool
 is_connection_port p = elim p.kind [
   | Connection ↦ true
+  | _ ↦ false
+]
+
+abbrev pub is_client_port : PortRow → Bool
+is_client_port p = elim p.kind [
+  | Client ↦ true
   | _ ↦ false
 ]
 

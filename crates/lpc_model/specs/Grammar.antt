@@ -6,12 +6,12 @@ use Rattle.std.specs.Option.{ok_or}
 use Rattle.std.specs.Str.{bytes_eq}
 use Rattle.lpc_base.specs.declared.limits.TheConstants.{LINE_LIMIT}
 use Rattle.lpc_model.specs.declared.entry.CallName.{CallName}
-use Rattle.lpc_model.specs.declared.entry.CallName.TheVariants.{NtCreatePort, NtConnectPort, NtListenPort, NtAcceptConnectPort, NtCompleteConnectPort, NtRequestPort, NtRequestWaitReplyPort, NtReplyPort, NtReplyWaitReceivePort}
+use Rattle.lpc_model.specs.declared.entry.CallName.TheVariants.{NtCreatePort, NtConnectPort, NtListenPort, NtAcceptConnectPort, NtCompleteConnectPort, NtRequestPort, NtRequestWaitReplyPort, NtReplyPort, NtReplyWaitReceivePort, NtClose, NtDuplicateObject, NtQueryObject}
 use Rattle.lpc_model.specs.declared.entry.Word.{Word}
 use Rattle.lpc_model.specs.declared.entry.Word.TheVariants.{Boot, Thread, Dir, Link}
 use Rattle.lpc_model.specs.declared.fault.LineFault.{LineFault}
 use Rattle.lpc_model.specs.declared.fault.LineFault.TheVariants as fault
-use Rattle.lpc_model.specs.Lines.{ScriptCall, create_port, connect_port, listen_port, accept_connect_port, complete_connect_port, request_port, request_wait_reply_port, reply_port, reply_wait_receive_port, ScriptLine, boot, thread, dir, link, run}
+use Rattle.lpc_model.specs.Lines.{ScriptCall, create_port, connect_port, listen_port, accept_connect_port, complete_connect_port, request_port, request_wait_reply_port, reply_port, reply_wait_receive_port, close, duplicate_object, query_object, ScriptLine, boot, thread, dir, link, run}
 use Rattle.lpc_model.specs.Words.{fault_if, words, begins, number_word, id_word, is_id, message_word, info_word}
 use Rattle.lpc_model.specs.Text.{call_text, word_text}
 use Rattle.lpc_model.specs.Then.{◌>>=◌}
@@ -28,6 +28,9 @@ calls =
     ∷ NtRequestWaitReplyPort
     ∷ NtReplyPort
     ∷ NtReplyWaitReceivePort
+    ∷ NtClose
+    ∷ NtDuplicateObject
+    ∷ NtQueryObject
     ∷ []
 
 -- the call whose name a word is
@@ -96,6 +99,14 @@ one_handle others = do
   word ← one_word others
   number_word word
 
+-- the rights of a further handle: a number, or `same` for those of the handle
+abbrev pub access_word : List ℕ → Result (Option ℕ) LineFault
+access_word word =
+    if bytes_eq word (codes "same") then Ok None
+    else (do
+      access ← number_word word
+      Ok (Some access))
+
 -- a handle and a message
 abbrev pub handle_and_message : List (List ℕ) → Result (ℕ × List ℕ) LineFault
 handle_and_message others = do
@@ -148,6 +159,17 @@ call_words NtReplyPort others = do
 call_words NtReplyWaitReceivePort others = do
   receive ← handle_and_reply others
   Ok (reply_wait_receive_port receive.0 receive.1)
+call_words NtClose others = do
+  handle ← one_handle others
+  Ok (close handle)
+call_words NtDuplicateObject others = do
+  two ← two_words others
+  handle ← number_word two.0
+  access ← access_word two.1
+  Ok (duplicate_object handle access)
+call_words NtQueryObject others = do
+  handle ← one_handle others
+  Ok (query_object handle)
 
 -- a directive by the words behind it; a path may be any word
 unfoldable pub directive_words : Word → List (List ℕ) → Result ScriptLine LineFault

@@ -12,6 +12,8 @@ pub mod Tests
 pub mod Named
 pub mod Connect
 pub mod Request
+pub mod Counts
+pub mod Close
 pub mod Sweep
 pub mod Machine
 pub mod Text
@@ -24,10 +26,15 @@ pub mod Circle
 pub mod Replies
 pub mod SoundWaits
 pub mod Linked
+pub mod Standing
 pub mod OpenQueues
 pub mod Limits
 pub mod Connected
 pub mod Queues
+pub mod Closings
+pub mod Creators
+pub mod Untold
 pub mod Transcript
 pub mod Worked
 pub mod WorkedConnections
+pub mod WorkedClosings

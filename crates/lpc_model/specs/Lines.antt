@@ -6,7 +6,8 @@ use Rattle.lpc_model.specs.declared.line.Call.TheVariants as call
 use Rattle.lpc_model.specs.declared.line.Line.{Line}
 use Rattle.lpc_model.specs.declared.line.Line.TheVariants as line
 
--- a system call with its arguments; a message and a name are their bytes, and an unnamed port has none
+-- a system call with its arguments; a message and a name are their bytes, and an unnamed port has none; a further handle
+-- without rights of its own has those of the handle
 pub data ScriptCall : Type 0 where
   create_port : Option (List ℕ) → ScriptCall
   connect_port : List ℕ → List ℕ → ScriptCall
@@ -17,6 +18,9 @@ pub data ScriptCall : Type 0 where
   request_wait_reply_port : ℕ → List ℕ → ScriptCall
   reply_port : ℕ → List ℕ → ScriptCall
   reply_wait_receive_port : ℕ → Option (List ℕ) → ScriptCall
+  close : ℕ → ScriptCall
+  duplicate_object : ℕ → Option ℕ → ScriptCall
+  query_object : ℕ → ScriptCall
 
 -- a directive, or a call of a thread; a path is its bytes
 pub data ScriptLine : Type 0 where
@@ -37,6 +41,9 @@ call_of (call.RequestPort handle message) = request_port handle message.now
 call_of (call.RequestWaitReplyPort handle message) = request_wait_reply_port handle message.now
 call_of (call.ReplyPort handle message) = reply_port handle message.now
 call_of (call.ReplyWaitReceivePort handle reply) = reply_wait_receive_port handle (option_copied reply)
+call_of (call.Close handle) = close handle
+call_of (call.DuplicateObject handle access) = duplicate_object handle access
+call_of (call.QueryObject handle) = query_object handle
 
 abbrev pub line_of : Line → ScriptLine
 line_of (line.Boot pid tid) = boot pid tid

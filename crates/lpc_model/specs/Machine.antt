@@ -7,7 +7,7 @@ use Rattle.lpc_model.specs.declared.entry.Entry.{Entry}
 use Rattle.lpc_model.specs.declared.entry.Entry.TheVariants.{Answer, Busy, Directive, NoThread}
 use Rattle.lpc_model.specs.declared.entry.Word.{Word}
 use Rattle.lpc_model.specs.declared.entry.Word.TheVariants as word
-use Rattle.lpc_model.specs.declared.entry.CallName.TheVariants.{NtAcceptConnectPort, NtCompleteConnectPort, NtConnectPort, NtCreatePort, NtListenPort, NtReplyPort, NtReplyWaitReceivePort, NtRequestPort, NtRequestWaitReplyPort}
+use Rattle.lpc_model.specs.declared.entry.CallName.TheVariants.{NtAcceptConnectPort, NtCompleteConnectPort, NtConnectPort, NtCreatePort, NtListenPort, NtReplyPort, NtReplyWaitReceivePort, NtRequestPort, NtRequestWaitReplyPort, NtClose, NtDuplicateObject, NtQueryObject}
 use Rattle.lpc_model.specs.Refusal.{refuse_if}
 use Rattle.lpc_model.specs.Then.{◌>>=◌}
 use Rattle.lpc_model.specs.World.{World, Birth, CallName, MessageRow, ProcessRow, ThreadRow, WaitRow}
@@ -15,11 +15,13 @@ use Rattle.lpc_model.specs.Found.{is_live, live_count, live_thread, wait_of, was
 use Rattle.lpc_model.specs.Basics.{AddsProcess, AddsThread, Basic, Binds, Steps, Tells, entries_of, posts_of, world_after, ◌▹◌}
 use Rattle.lpc_model.specs.Sweep.{sweep}
 use Rattle.lpc_model.specs.Connect.{nt_accept_connect_port, nt_complete_connect_port, nt_connect_port, nt_create_port, nt_listen_port}
+use Rattle.lpc_model.specs.Close.{nt_close}
+use Rattle.lpc_model.specs.Counts.{nt_duplicate_object, nt_query_object}
 use Rattle.lpc_model.specs.Named.{free_name, spelled_name}
 use Rattle.lpc_names.specs.Walk.{LinkTo, Stands}
 use Rattle.lpc_names.specs.declared.names.Found.TheVariants.{Directory}
 use Rattle.lpc_model.specs.Request.{nt_reply_port, nt_reply_wait_receive_port, nt_request_port, nt_request_wait_reply_port}
-use Rattle.lpc_model.specs.Lines.{ScriptCall, create_port, connect_port, listen_port, accept_connect_port, complete_connect_port, request_port, request_wait_reply_port, reply_port, reply_wait_receive_port, ScriptLine, boot, thread, dir, link, run}
+use Rattle.lpc_model.specs.Lines.{ScriptCall, create_port, connect_port, listen_port, accept_connect_port, complete_connect_port, request_port, request_wait_reply_port, reply_port, reply_wait_receive_port, close, duplicate_object, query_object, ScriptLine, boot, thread, dir, link, run}
 
 -- the name of a call
 abbrev pub name_of_call : ScriptCall → CallName
@@ -32,6 +34,9 @@ name_of_call (request_port handle message) = NtRequestPort
 name_of_call (request_wait_reply_port handle message) = NtRequestWaitReplyPort
 name_of_call (reply_port handle message) = NtReplyPort
 name_of_call (reply_wait_receive_port handle reply) = NtReplyWaitReceivePort
+name_of_call (close handle) = NtClose
+name_of_call (duplicate_object handle access) = NtDuplicateObject
+name_of_call (query_object handle) = NtQueryObject
 
 -- the service that serves a call
 abbrev pub service_of : World → ThreadRow → ScriptCall → Result (List Basic) Status
@@ -44,6 +49,9 @@ service_of w by (request_port handle message) = nt_request_port w by handle mess
 service_of w by (request_wait_reply_port handle message) = nt_request_wait_reply_port w by handle message
 service_of w by (reply_port handle message) = nt_reply_port w by handle message
 service_of w by (reply_wait_receive_port handle reply) = nt_reply_wait_receive_port w by handle reply
+service_of w by (close handle) = nt_close w by handle
+service_of w by (duplicate_object handle access) = nt_duplicate_object w by handle access
+service_of w by (query_object handle) = nt_query_object w by handle
 
 -- a refusal is one answer, and changes nothing
 abbrev pub settled : ThreadRow → CallName → Result (List Basic) Status → List Basic

@@ -3,7 +3,7 @@ use Rattle.std.specs.Prelude.{Bool, true, false, List, [], ◌∷◌, map, ◌==
 use Rattle.lpc_base.specs.Rows.{which}
 use Rattle.lpc_model.specs.World.{ObjectName, World}
 use Rattle.lpc_model.specs.Found.{object_names, pointer_count}
-use Rattle.lpc_model.specs.Basics.{Basic, Frees, Joins, Steps, Takes, TakesConnect, Wakes, Withdraws, ◌▹◌}
+use Rattle.lpc_model.specs.Basics.{Basic, Cuts, DropsHandle, Empties, Frees, Joins, Steps, Takes, TakesConnect, Wakes, Withdraws, ◌▹◌}
 
 -- no row counts for the object
 abbrev pub is_unheld : World → ObjectName → Bool
@@ -27,8 +27,11 @@ loosens (Wakes who call status fields) = true
 loosens (Takes q) = true
 loosens (TakesConnect q) = true
 loosens (Withdraws who) = true
+loosens (Empties q) = true
 loosens (Joins client server context) = true
+loosens (Cuts b) = true
 loosens (Frees o) = true
+loosens (DropsHandle pid value) = true
 loosens b = false
 
 -- one of the steps does, or one before them did

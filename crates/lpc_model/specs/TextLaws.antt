@@ -6,18 +6,19 @@ use Rattle.lpc_model.specs.declared.entry.Entry.{Entry}
 use Rattle.lpc_model.specs.declared.entry.Entry.TheVariants.{Answer, Waits, Wakes, Busy, NoThread, Died, Directive}
 use Rattle.lpc_model.specs.declared.entry.Field.{Field}
 use Rattle.lpc_model.specs.declared.entry.FieldName.{FieldName}
-use Rattle.lpc_model.specs.declared.entry.FieldName.TheVariants.{H, Id, Ctx, Msg, Data, Max, Info}
+use Rattle.lpc_model.specs.declared.entry.FieldName.TheVariants.{H, Id, Ctx, Msg, Data, Max, Info, ObjectType, Access, Handles, Pointers}
 use Rattle.lpc_model.specs.declared.entry.Value.{Value}
-use Rattle.lpc_model.specs.declared.entry.Value.TheVariants.{Number, Hex, Bytes}
+use Rattle.lpc_model.specs.declared.entry.Value.TheVariants.{Number, Hex, Kind, Bytes}
 
 -- how the values under a name are printed
 pub data Sort : Type 0 where
   in_decimal : Sort
   in_hexadecimal : Sort
+  as_kind : Sort
   as_bytes : Sort
 
--- handles, message identifiers and lengths are printed in decimal, contexts in hexadecimal, and messages, what was read
--- and what came with a connect as bytes
+-- handles, message identifiers, lengths and counts are printed in decimal, contexts and rights in hexadecimal, the kind of
+-- an object by its name, and messages, what was read and what came with a connect as bytes
 abbrev pub sort_of : FieldName → Sort
 sort_of H = in_decimal
 sort_of Id = in_decimal
@@ -26,6 +27,10 @@ sort_of Msg = as_bytes
 sort_of Data = as_bytes
 sort_of Max = in_decimal
 sort_of Info = as_bytes
+sort_of ObjectType = as_kind
+sort_of Access = in_hexadecimal
+sort_of Handles = in_decimal
+sort_of Pointers = in_decimal
 
 -- a number of 32 bits
 abbrev pub is_word : ℕ → Bool
@@ -35,6 +40,7 @@ is_word n = nat_lt n (2 ^ 32)
 abbrev pub is_of_sort : Sort → Value → Bool
 is_of_sort in_decimal (Number n) = nat_lt n (2 ^ 64)
 is_of_sort in_hexadecimal (Hex n) = is_word n
+is_of_sort as_kind (Kind kind) = true
 is_of_sort as_bytes (Bytes bytes) = every (λ byte. nat_lt byte 256) bytes.items
 is_of_sort sort value = false
 

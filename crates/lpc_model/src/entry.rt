@@ -22,11 +22,14 @@ pub enum CallName {
     NtRequestWaitReplyPort,
     NtReplyPort,
     NtReplyWaitReceivePort,
+    NtClose,
+    NtDuplicateObject,
+    NtQueryObject,
 }
 
 impl CallName {
     /// Each call, in the order in which the grammar lists them.
-    pub const ALL: [CallName; 9] = [
+    pub const ALL: [CallName; 12] = [
         CallName::NtCreatePort,
         CallName::NtConnectPort,
         CallName::NtListenPort,
@@ -36,6 +39,9 @@ impl CallName {
         CallName::NtRequestWaitReplyPort,
         CallName::NtReplyPort,
         CallName::NtReplyWaitReceivePort,
+        CallName::NtClose,
+        CallName::NtDuplicateObject,
+        CallName::NtQueryObject,
     ];
 
     /// The name of the call, as scripts and transcripts spell it.
@@ -52,6 +58,9 @@ impl CallName {
             CallName::NtRequestWaitReplyPort => b"NtRequestWaitReplyPort",
             CallName::NtReplyPort => b"NtReplyPort",
             CallName::NtReplyWaitReceivePort => b"NtReplyWaitReceivePort",
+            CallName::NtClose => b"NtClose",
+            CallName::NtDuplicateObject => b"NtDuplicateObject",
+            CallName::NtQueryObject => b"NtQueryObject",
         }
     }
 }
@@ -120,6 +129,14 @@ pub enum FieldName {
     Max,
     /// The data of the answer to a connect.
     Info,
+    /// The kind of an object.
+    ObjectType,
+    /// The rights that a handle grants.
+    Access,
+    /// How many handles name an object.
+    Handles,
+    /// How many rows count for an object, its handles among them.
+    Pointers,
 }
 
 /// The value of a field.
@@ -360,7 +377,9 @@ impl Entries {
         requires room { 0 < self.old.spare }
         requires few { length bytes.now ≤ 4096 }
         requires first { self.old.reads ≡ false }
-        ensures list { self.new.list ≡ self.old.list ++ Entry.Answer tid call SUCCESS ((record { name = FieldName.Data; value = Value.Bytes (record { items = bytes.now }) }) ∷ []) ∷ [] }
+        ensures list { self.new.list ≡ self.old.list ++ Entry.Answer tid call SUCCESS
+            ((record { name = FieldName.Data; value = Value.Bytes (record { items = bytes.now }) })
+            ∷ []) ∷ [] }
         ensures read { self.new.read ≡ bytes.now }
         ensures reads { self.new.reads ≡ true }
         ensures spare { self.new.spare + 1 ≡ self.old.spare }

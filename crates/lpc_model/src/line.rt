@@ -51,6 +51,20 @@ pub enum Call<'a> {
         handle: u32,
         reply: Option<&'a [u8]>,
     },
+    /// `NtClose H`: closes a handle, and a port with its last one.
+    Close {
+        handle: u32,
+    },
+    /// `NtDuplicateObject H ACCESS`: makes another handle to the object of a handle, with the rights of ACCESS, or where
+    /// that is `same` with those of the handle.
+    DuplicateObject {
+        handle: u32,
+        access: Option<u32>,
+    },
+    /// `NtQueryObject H`: tells of the object that a handle names, and how many handles and rows count for it.
+    QueryObject {
+        handle: u32,
+    },
 }
 
 /// What one line of a script says. Process and thread numbers are from 1 to 2147483647. A path is a word as it stands; it
