@@ -32,7 +32,7 @@ elsewhere w by x y own = by_kind (λ y. can_stay_sound w y ≡ true → not (wai
     right : (a : Bool) → (a || true) ≡ true
     right a = grind arith
 
-lone-parts : (w : World) (x : WaitRow) → is_offered x ≡ true → is_lone_offer w x ≡ true → (is_end_port w x.queue ≡ true) × (passes (port_row w x.port) is_unjoined ≡ true)
+pub lone-parts : (w : World) (x : WaitRow) → is_offered x ≡ true → is_lone_offer w x ≡ true → (is_end_port w x.queue ≡ true) × (passes (port_row w x.port) is_unjoined ≡ true)
 lone-parts w x of lone = (one _ _ _ of lone, two _ _ _ of lone)
   where
     one : (o a b : Bool) → o ≡ true → (not o || (a && b)) ≡ true → a ≡ true

@@ -6,7 +6,7 @@ use Rattle.lpc_model.proofs.Holding.{Holds, bind_holds}
 use Rattle.lpc_model.specs.Linked.{IsLinked}
 use Rattle.lpc_model.proofs.LinkedCalls.{ArePlain, KeepLinked, plain_holds}
 
-complete-plain : (w : World) (by : ThreadRow) (handle : ℕ) → Holds ArePlain (nt_complete_connect_port w by handle)
+pub complete-plain : (w : World) (by : ThreadRow) (handle : ℕ) → Holds ArePlain (nt_complete_connect_port w by handle)
 unfolding nt_complete_connect_port
 complete-plain w by handle = bind_holds (complete_test w by handle) _ ArePlain (λ c _. refl)
 

@@ -50,7 +50,7 @@ unjoined-other w d c r is here off = at (is_port d r) refl
         let was : is_unjoined r ≡ true = rw row at is in absurd (cc)
     at false same = refl
 
-row-joined : (w : World) (client server : Birth) (context : ℕ) (c : Birth) (p : PortRow) → port_row w c ≡ Some p → port_row (basic w (Joins client server context)) c ≡ Some (joined client server context p)
+pub row-joined : (w : World) (client server : Birth) (context : ℕ) (c : Birth) (p : PortRow) → port_row w c ≡ Some p → port_row (basic w (Joins client server context)) c ≡ Some (joined client server context p)
 row-joined w client server context c p here =
     first-map (is_port c) (joined client server context) (λ p. same-port c p (joined client server context p) (joined-birth client server context p)) w.ports p here
 
@@ -186,7 +186,7 @@ first-apart : {X : Type 0} (p test : X → Bool) → ((x : X) → p x ≡ true �
 first-apart p test apart [] = refl
 first-apart p test apart (x ∷ xs) = grind (arith, apart x, first-apart p test apart xs)
 
-row-freed : (w : World) (b c : Birth) → same_birth c b ≡ false → port_row (basic w (Frees (port_name b))) c ≡ port_row w c
+pub row-freed : (w : World) (b c : Birth) → same_birth c b ≡ false → port_row (basic w (Frees (port_name b))) c ≡ port_row w c
 row-freed w b c off = first-apart (is_port c) (is_port b) (λ p here. subst (λ d. same_birth d b ≡ false) (sym (birth-same p.birth c here)) off) w.ports
 
 flip : (a b : Birth) → same_birth a b ≡ false → same_birth b a ≡ false
@@ -196,7 +196,7 @@ freed-option : (w : World) (b : Birth) (t : World → Birth → Bool) → ((c : 
 freed-option w b t kept None off is = refl
 freed-option w b t kept (Some c) off is = kept c (flip b c off) is
 
-unopen : (w : World) (b : Birth) → pointer_count w (port_name b) ≤ 0 → is_open w b ≡ false
+pub unopen : (w : World) (b : Birth) → pointer_count w (port_name b) ≤ 0 → is_open w b ≡ false
 unopen w b few = at (is_open w b) refl
   where
     at : (o : Bool) → is_open w b ≡ o → o ≡ false

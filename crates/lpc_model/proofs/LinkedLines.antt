@@ -6,7 +6,7 @@ use Rattle.lpc_model.specs.World.{ThreadRow, WaitRow, World}
 use Rattle.lpc_model.specs.Found.{live_thread, wait_of}
 use Rattle.lpc_model.specs.Basics.{world_after}
 use Rattle.lpc_model.specs.Named.{free_name, spelled_name}
-use Rattle.lpc_model.specs.Lines.{ScriptCall, ScriptLine, accept_connect_port, boot, complete_connect_port, connect_port, create_port, dir, link, listen_port, reply_port, reply_wait_receive_port, request_port, request_wait_reply_port, run, thread}
+use Rattle.lpc_model.specs.Lines.{ScriptCall, ScriptLine, accept_connect_port, boot, close, complete_connect_port, connect_port, create_port, dir, duplicate_object, link, listen_port, query_object, reply_port, reply_wait_receive_port, request_port, request_wait_reply_port, run, thread}
 use Rattle.lpc_model.specs.Machine.{boot_line, dir_line, link_line, name_of_call, ready_steps, service_of, bare_steps, thread_line, thread_steps, thread_test, unused_test}
 use Rattle.lpc_model.specs.SoundWaits.{IsSoundWorld}
 use Rattle.lpc_model.proofs.Holding.{Holds, bind_holds, directed_holds, settled_holds}
@@ -23,6 +23,7 @@ use Rattle.lpc_model.proofs.SteadyDatagram.{datagram-steady}
 use Rattle.lpc_model.proofs.SteadyRequest.{request-steady}
 use Rattle.lpc_model.proofs.SteadyReply.{reply-steady}
 use Rattle.lpc_model.proofs.SteadyReceive.{receive-steady}
+use Rattle.lpc_model.proofs.SteadyQuery.{query-steady}
 use Rattle.lpc_model.proofs.LinkedJoins.{swept-linked}
 use Rattle.lpc_model.proofs.Swept.{two-passes}
 use Rattle.lpc_model.proofs.SweptLives.{processes-held, threads-held}
@@ -31,21 +32,23 @@ use Rattle.lpc_model.proofs.LinkedCreate.{create-linked}
 use Rattle.lpc_model.proofs.LinkedConnect.{connect-linked}
 use Rattle.lpc_model.proofs.LinkedAccept.{accept-linked}
 use Rattle.lpc_model.proofs.LinkedComplete.{complete-linked}
+use Rattle.lpc_model.proofs.LinkedClose.{close-linked}
+use Rattle.lpc_model.proofs.LinkedDuplicate.{duplicate-linked}
 
 -- Directives
-boot-plain : (w : World) (pid tid : ℕ) → Holds ArePlain (boot_line w pid tid)
+pub boot-plain : (w : World) (pid tid : ℕ) → Holds ArePlain (boot_line w pid tid)
 unfolding boot_line
 boot-plain w pid tid = bind_holds (unused_test w pid tid) _ ArePlain (λ _ _. refl)
 
-further-plain : (w : World) (tid pid : ℕ) → Holds ArePlain (thread_line w tid pid)
+pub further-plain : (w : World) (tid pid : ℕ) → Holds ArePlain (thread_line w tid pid)
 unfolding thread_line
 further-plain w tid pid = bind_holds (thread_test w tid pid) _ ArePlain (λ _ _. refl)
 
-dir-plain : (w : World) (text : List ℕ) → Holds ArePlain (dir_line w text)
+pub dir-plain : (w : World) (text : List ℕ) → Holds ArePlain (dir_line w text)
 unfolding dir_line
 dir-plain w text = bind_holds (free_name w text) _ ArePlain (λ path _. refl)
 
-link-plain : (w : World) (text target : List ℕ) → Holds ArePlain (link_line w text target)
+pub link-plain : (w : World) (text target : List ℕ) → Holds ArePlain (link_line w text target)
 unfolding link_line
 link-plain w text target =
     bind_holds (spelled_name target) _ ArePlain (λ to _.
@@ -62,6 +65,9 @@ service-linked w by (request_port handle bytes) c s l = steady_holds w _ l (data
 service-linked w by (request_wait_reply_port handle bytes) c s l = steady_holds w _ l (request-steady w by handle bytes)
 service-linked w by (reply_port handle bytes) c s l = steady_holds w _ l (reply-steady w by handle bytes)
 service-linked w by (reply_wait_receive_port handle bytes) c s l = steady_holds w _ l (receive-steady w by handle bytes)
+service-linked w by (close handle) c s l = close-linked w by handle l
+service-linked w by (duplicate_object handle access) c s l = duplicate-linked w by handle access l
+service-linked w by (query_object handle) c s l = steady_holds w _ l (query-steady w by handle)
 
 ready-linked : (w : World) (by : ThreadRow) (call : ScriptCall) (o : Option WaitRow) → (o ≡ None → CanCall w by) → IsSoundWorld w → IsLinked w → KeepLinked w (ready_steps by call o w)
 ready-linked w by call (Some x) c s l = l

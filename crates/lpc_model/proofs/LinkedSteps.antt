@@ -1,18 +1,20 @@
 -- Basic steps keep ports linked.
 use Rattle.std.proofs.Common.{◌≡◌, ℕ, ◌+◌, ◌≤◌, List, [], ◌∷◌, ◌++◌, Bool, true, false, cond, map, not, Option, Some, None, option_map, option_and_then, refl, sym, subst, arith}
-use Rattle.std.specs.Prelude.{◌&&◌, ◌||◌}
+use Rattle.std.specs.Prelude.{◌&&◌, ◌||◌, is_none, is_some}
 use Rattle.lpc_base.specs.Rows.{count, every, first, has, passes}
 use Rattle.lpc_base.proofs.RowWords.{count-push, count-none, every-change, every-more, every-push, every-without, first-kept, first-push}
-use Rattle.lpc_base.proofs.RowMaps.{every-map}
+use Rattle.lpc_base.proofs.RowMaps.{every-change_to, every-map}
+use Rattle.lpc_names.specs.Binding.{is_name}
 use Rattle.lpc_names.specs.Walk.{LinkTo, Stands}
 use Rattle.lpc_names.specs.declared.names.Found.TheVariants.{Directory, Item}
 use Rattle.lpc_model.specs.World.{Birth, Node, PortRow, WaitRow, World}
-use Rattle.lpc_model.specs.Found.{is_offered, is_port, is_the, pair_of, port_row, waits_as, waits_at}
-use Rattle.lpc_model.specs.Basics.{Accepts, AddsHandle, AddsProcess, AddsThread, Awaits, Basic, Binds, Completes, DrawsIdentifier, DrawsOrdinal, Enters, Frees, Joins, Makes, Receives, Takes, TakesConnect, Tells, Wakes, Withdraws, accepted, basic, completed, received, world_after}
+use Rattle.lpc_model.specs.Found.{is_offered, is_port, is_the, pair_of, port_row, same_birth, waits_as, waits_at}
+use Rattle.lpc_model.specs.Basics.{Accepts, AddsHandle, AddsProcess, AddsThread, Awaits, Basic, Binds, Completes, Cuts, DrawsIdentifier, DrawsOrdinal, DropsHandle, Empties, Enters, Frees, Joins, Makes, Receives, Takes, TakesConnect, Tells, Unbinds, Wakes, Withdraws, accepted, basic, completed, cut, is_end_of, received, world_after}
 use Rattle.lpc_model.specs.Linked.{IsLinked, is_end_port, is_lone_offer, is_mutual, is_rooted, is_unjoined, leads_to_end, names_nothing, passes_or_none}
 use Rattle.lpc_model.proofs.Births.{birth-same, birth-self}
 use Rattle.lpc_model.proofs.SoundPairs.{tied}
 use Rattle.lpc_model.proofs.SoundTies.{completed-birth}
+use Rattle.lpc_model.proofs.SoundCuts.{cut-birth, cut-row, other-end, same-row}
 use Rattle.lpc_model.proofs.SoundWorlds.{by_kind}
 
 -- A world whose ports stand alike
@@ -76,17 +78,19 @@ is_plain (Joins client server context) = false
 is_plain (Frees o) = false
 is_plain b = true
 
--- steps that do so, and make no process, thread or handle
+-- steps that do so, make no process, thread or handle, and let no handle go
 abbrev pub is_steady : Basic → Bool
 is_steady (AddsProcess p) = false
 is_steady (AddsThread t) = false
 is_steady (AddsHandle pid h) = false
+is_steady (DropsHandle pid value) = false
 is_steady b = is_plain b
 
 pub steady-plain : (b : Basic) → is_steady b ≡ true → is_plain b ≡ true
 steady-plain (AddsProcess p) is = refl
 steady-plain (AddsThread t) is = refl
 steady-plain (AddsHandle pid h) is = refl
+steady-plain (DropsHandle pid value) is = refl
 steady-plain b is = is
 
 -- Ports that change alike
@@ -155,6 +159,41 @@ completed-alike c = record {
     other true p = refl
     other false p = refl
 
+-- a connection that is cut
+cut-end : (c : Bool) (p : PortRow) → names_nothing p ≡ true → names_nothing (cond c (cut p) p) ≡ true
+cut-end true p is = second (is_none p.pair) (is_none p.connection) is
+  where
+    second : (a b : Bool) → (a && b) ≡ true → b ≡ true
+    second a b is = grind arith
+cut-end false p is = is
+
+cut-unjoined : (c : Bool) (p : PortRow) → is_unjoined p ≡ true → is_unjoined (cond c (cut p) p) ≡ true
+cut-unjoined true p is = second (is_none p.pair) (is_some p.connection) is
+  where
+    second : (a b : Bool) → (a && b) ≡ true → b ≡ true
+    second a b is = grind arith
+cut-unjoined false p is = is
+
+cut-connection : (c : Bool) (p : PortRow) → let q : PortRow = cond c (cut p) p in q.connection ≡ p.connection
+cut-connection true p = refl
+cut-connection false p = refl
+
+cut-mutual : (w : World) (b : Birth) (p : PortRow) → is_mutual w p ≡ true → is_end_of b p ≡ false → is_mutual (basic w (Cuts b)) p ≡ true
+cut-mutual w b p is off = at p.pair refl is
+  where
+    at : (o : Option Birth) → p.pair ≡ o → passes_or_none o (λ q. is_the p.birth (pair_of w q)) ≡ true → passes_or_none o (λ q. is_the p.birth (pair_of (basic w (Cuts b)) q)) ≡ true
+    at None none was = refl
+    at (Some q) some back =
+        let ends = other-end w b p q off some back in
+        let same : pair_of (basic w (Cuts b)) q ≡ pair_of w q = rw (same-row w b q ends.0 ends.1) refl in rw same back
+
+cut-passes : (w : World) (b c : Birth) (t : PortRow → Bool) → ((k : Bool) (p : PortRow) → t p ≡ true → t (cond k (cut p) p) ≡ true) → passes (port_row w c) t ≡ true → passes (port_row (basic w (Cuts b)) c) t ≡ true
+cut-passes w b c t more is = at (port_row w c) refl
+  where
+    at : (o : Option PortRow) → port_row w c ≡ o → passes (port_row (basic w (Cuts b)) c) t ≡ true
+    at None none = let never : false ≡ true = rw none at is in absurd (cc)
+    at (Some p) here = let was : t p ≡ true = rw here at is in rw (cut-row w b c p here) (more (is_end_of b p) p was)
+
 lone-parts : (n e u ee uu : Bool) → (e ≡ true → ee ≡ true) → (u ≡ true → uu ≡ true) → (n || (e && u)) ≡ true → (n || (ee && uu)) ≡ true
 lone-parts n e u ee uu one two is = grind (arith, one, two)
 
@@ -165,6 +204,18 @@ pub leads-kept : (w v : World) → ((c : Birth) → is_end_port w c ≡ true →
 leads-kept w v ends (LinkTo target) is = refl
 leads-kept w v ends (Stands Directory) is = refl
 leads-kept w v ends (Stands (Item port)) is = ends port is
+
+cut-linked : (w : World) (b : Birth) → IsLinked w → IsLinked (basic w (Cuts b))
+cut-linked w b l =
+    let v = basic w (Cuts b) in
+    let ends = λ (c : Birth) (is : is_end_port w c ≡ true). cut-passes w b c names_nothing cut-end is in
+    record {
+      births = λ c. rw (count-mapped (λ p. cond (is_end_of b p) (cut p) p) (λ p. cut-birth (is_end_of b p) p) c w.ports) (l.births c);
+      pairs = every-change_to (is_mutual w) (is_mutual v) (is_end_of b) cut (λ p was is. refl) (λ p was off. cut-mutual w b p was off) w.ports l.pairs;
+      rooted = every-change (is_rooted v) (is_end_of b) cut (λ p is. is) w.ports (every-more (is_rooted w) (is_rooted v) (λ p is. option-kept p.connection _ _ ends is) w.ports l.rooted);
+      offers = every-more (is_lone_offer w) (is_lone_offer v) (λ x. offer-kept w v ends x (λ is. cut-passes w b x.port is_unjoined cut-unjoined is)) w.waits l.offers;
+      targets = every-more (λ b. leads_to_end w b.1) (λ b. leads_to_end v b.1) (λ x. leads-kept w v ends x.1) w.bindings l.targets;
+    }
 
 -- Plain steps
 same-all : {X : Type 0} (p : X → Bool) (xs : List X) → every p xs ≡ true → every p xs ≡ true
@@ -193,6 +244,10 @@ plain-linked w (Frees o) is l = absurd (cc)
 plain-linked w (Binds path node) is l = linked-same w (basic w (Binds path node)) refl (λ all. all) (λ all. every-push (λ b. leads_to_end w b.1) w.bindings (path, node) all (portless-leads w node is)) l
 plain-linked w (AddsHandle pid h) is l = linked-same w (basic w (AddsHandle pid h)) refl (λ all. all) (λ all. all) l
 plain-linked w (Withdraws who) is l = linked-same w (basic w (Withdraws who)) refl (λ all. all) (λ all. all) l
+plain-linked w (Empties q) is l = linked-same w (basic w (Empties q)) refl (λ all. all) (λ all. all) l
+plain-linked w (Cuts b) is l = cut-linked w b l
+plain-linked w (Unbinds b) is l = linked-same w (basic w (Unbinds b)) refl (λ all. all) (every-without (λ b. leads_to_end w b.1) (is_name same_birth b) w.bindings) l
+plain-linked w (DropsHandle pid value) is l = linked-same w (basic w (DropsHandle pid value)) refl (λ all. all) (λ all. all) l
 
 pub plain-all : (w : World) (bs : List Basic) → every is_plain bs ≡ true → IsLinked w → IsLinked (world_after w bs)
 plain-all w [] all l = l

@@ -33,7 +33,7 @@ names-offered w by m x is = grind arith
 offered-quiet : (x : WaitRow) → is_offered x ≡ true → not (is_accepted x) ≡ true
 offered-quiet = by_kind (λ x. is_offered x ≡ true → not (is_accepted x) ≡ true) (λ x m is. refl) (λ x is. refl) (λ x is. refl) (λ x m is. refl) (λ x m reply is. absurd (cc))
 
-named-alone : (w : World) (by : ThreadRow) (m : Message) (x : WaitRow) (f : WaitRow → Bool) → first (names_connect w by m) w.waits ≡ Some x → f x ≡ true → IsSoundWorld w → every (λ y. not (waits_as x.thread y) || f y) w.waits ≡ true
+pub named-alone : (w : World) (by : ThreadRow) (m : Message) (x : WaitRow) (f : WaitRow → Bool) → first (names_connect w by m) w.waits ≡ Some x → f x ≡ true → IsSoundWorld w → every (λ y. not (waits_as x.thread y) || f y) w.waits ≡ true
 named-alone w by m x f at is s =
     let self : waits_as x.thread x ≡ true = grind (arith, nat_tests) in
     lone (waits_as x.thread) f (names_connect w by m) w.waits x (s.once x.thread) at self is
@@ -44,7 +44,7 @@ known-waits w by m x at c s =
     every-both (λ y. not (waits_as by.number y)) (λ y. not (waits_as x.thread y) || same_birth y.port x.port) _ (λ y one two. rw (one, two) refl) w.waits (every-none (waits_as by.number) w.waits c.idle) alone
 
 -- no connect waits on a port that a thread made which doesn't wait
-foreign-connect : (w : World) (b : Birth) (y : WaitRow) → can_stay_sound w y ≡ true → not (waits_as b.maker y) ≡ true → not (is_connect_on b y) ≡ true
+pub foreign-connect : (w : World) (b : Birth) (y : WaitRow) → can_stay_sound w y ≡ true → not (waits_as b.maker y) ≡ true → not (is_connect_on b y) ≡ true
 foreign-connect w b =
     by_kind (λ y. can_stay_sound w y ≡ true → not (waits_as b.maker y) ≡ true → not (is_connect_on b y) ≡ true)
     (λ y m is off. refl)
@@ -56,7 +56,7 @@ foreign-connect w b =
     foreign : (y : WaitRow) → has_client_port w y ≡ true → not (waits_as b.maker y) ≡ true → not (same_birth y.port b) ≡ true
     foreign y is off = grind (arith, nat_tests)
 
-unconnected : (w : World) (by : ThreadRow) → CanCall w by → IsSoundWorld w → has (is_connect_on (next_birth by)) w.waits ≡ false
+pub unconnected : (w : World) (by : ThreadRow) → CanCall w by → IsSoundWorld w → has (is_connect_on (next_birth by)) w.waits ≡ false
 unconnected w by c s =
     has-off (is_connect_on (next_birth by)) w.waits (every-both (can_stay_sound w) (λ y. not (waits_as by.number y)) (λ y. not (is_connect_on (next_birth by) y)) (foreign-connect w (next_birth by)) w.waits s.stay (every-none (waits_as by.number) w.waits c.idle))
 

@@ -26,9 +26,9 @@ use Rattle.lpc_model.proofs.SoundCalls.{LeaveSound}
 
 -- what the tests of a completion find: the client port's pair is the server port, and the connect's thread waits on the
 -- client port alone
-record CanComplete (w : World) (c : Completable) : Type 0 where
-  joined : is_the c.server (pair_of w c.client) ≡ true
-  on : every (is_on c.wait.thread c.client) w.waits ≡ true
+pub record CanComplete (w : World) (c : Completable) : Type 0 where
+  pub joined : is_the c.server (pair_of w c.client) ≡ true
+  pub on : every (is_on c.wait.thread c.client) w.waits ≡ true
 
 joined-parts : (s d a b : Bool) → not s ≡ false → d ≡ false → (not (s && not d) || (false || (a && b))) ≡ true → b ≡ true
 joined-parts s d a b one two is = grind arith
@@ -44,7 +44,7 @@ found-on w client x at s =
     let here = first-passes (is_accepted_on client) w.waits x at in
     lone (waits_as x.thread) (λ y. same_birth y.port client) (is_accepted_on client) w.waits x (s.once x.thread) at self (grind arith)
 
-can-complete : (w : World) (by : ThreadRow) (handle : ℕ) → IsSoundWorld w → Holds (CanComplete w) (complete_test w by handle)
+pub can-complete : (w : World) (by : ThreadRow) (handle : ℕ) → IsSoundWorld w → Holds (CanComplete w) (complete_test w by handle)
 can-complete w by handle s =
     bind_holds (port_test w by handle) _ (CanComplete w) (λ port at.
     let u = holds_ok (IsUsable w) (port_test w by handle) port (port-usable w by handle) at in

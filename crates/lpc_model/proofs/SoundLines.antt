@@ -15,7 +15,7 @@ use Rattle.lpc_model.specs.Basics.{AddsProcess, Basic, basic, no_handles, world_
 use Rattle.lpc_model.specs.Sweep.{sweep}
 use Rattle.lpc_model.proofs.SoundFrees.{swept-sound}
 use Rattle.lpc_model.proofs.SoundQueues.{after-append}
-use Rattle.lpc_model.specs.Lines.{ScriptCall, ScriptLine, accept_connect_port, boot, complete_connect_port, connect_port, create_port, listen_port, reply_port, reply_wait_receive_port, request_port, request_wait_reply_port, dir, link, run, thread}
+use Rattle.lpc_model.specs.Lines.{ScriptCall, ScriptLine, accept_connect_port, boot, close, complete_connect_port, connect_port, create_port, duplicate_object, listen_port, query_object, reply_port, reply_wait_receive_port, request_port, request_wait_reply_port, dir, link, run, thread}
 use Rattle.lpc_model.specs.Machine.{Stepped, boot_line, dir_line, directive_birth, link_line, live_test, name_of_call, new_process, new_thread, ready_steps, service_of, bare_steps, thread_count_test, thread_line, thread_steps, thread_test, unused_test, unused_thread_test}
 use Rattle.lpc_model.specs.Named.{free_name, spelled_name}
 use Rattle.lpc_names.specs.Walk.{LinkTo, Stands}
@@ -36,6 +36,9 @@ use Rattle.lpc_model.proofs.SoundDatagram.{datagram-sound}
 use Rattle.lpc_model.proofs.SoundRequest.{request-sound}
 use Rattle.lpc_model.proofs.SoundReply.{reply-sound}
 use Rattle.lpc_model.proofs.SoundReceive.{receive-sound}
+use Rattle.lpc_model.proofs.SoundClose.{close-sound}
+use Rattle.lpc_model.proofs.SoundDuplicate.{duplicate-sound}
+use Rattle.lpc_model.proofs.SoundQuery.{query-sound}
 
 -- Calls
 service-sound : (w : World) (by : ThreadRow) (call : ScriptCall) → CanCall w by → IsSoundWorld w → Holds (LeaveSound w) (service_of w by call)
@@ -48,6 +51,9 @@ service-sound w by (request_port handle bytes) c s = datagram-sound w by handle 
 service-sound w by (request_wait_reply_port handle bytes) c s = request-sound w by handle bytes c s
 service-sound w by (reply_port handle bytes) c s = reply-sound w by handle bytes s
 service-sound w by (reply_wait_receive_port handle bytes) c s = receive-sound w by handle bytes c s
+service-sound w by (close handle) c s = close-sound w by handle s
+service-sound w by (duplicate_object handle access) c s = duplicate-sound w by handle access s
+service-sound w by (query_object handle) c s = query-sound w by handle s
 
 ready-sound : (w : World) (by : ThreadRow) (call : ScriptCall) (o : Option WaitRow) → (o ≡ None → CanCall w by) → IsSoundWorld w → LeaveSound w (ready_steps by call o w)
 ready-sound w by call (Some x) c s = s

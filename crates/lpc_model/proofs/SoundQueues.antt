@@ -46,21 +46,21 @@ other-message : (x : WaitRow) (m : MessageRow) → (asks m.message && waits_at m
 other-message x m off = let same : same_birth m.queue x.queue ≡ same_birth x.queue m.queue = turned m.queue x.queue in grind arith
 
 -- the waits of each kind among sound ones
-abbrev is_sure_request : World → WaitRow → Bool
+abbrev pub is_sure_request : World → WaitRow → Bool
 is_sure_request w x = (is_client w (waiter_of x) && is_sound_request w x) && is_answerable w x
 
-abbrev is_sure_receive : World → WaitRow → Bool
+abbrev pub is_sure_receive : World → WaitRow → Bool
 is_sure_receive w x = (is_client w (waiter_of x) && is_sound_receive w x) && true
 
-abbrev is_sure_listen : World → WaitRow → Bool
+abbrev pub is_sure_listen : World → WaitRow → Bool
 is_sure_listen w x = (is_client w (waiter_of x) && is_sound_listen w x) && true
 
-abbrev is_sure_connect : World → WaitRow → Bool
+abbrev pub is_sure_connect : World → WaitRow → Bool
 is_sure_connect w x = (is_client w (waiter_of x) && is_sound_connect w x) && has_client_port w x
 
 -- other messages: a request or connect that is received can be answered, another one still has its message, and nothing
 -- has come for a receive or listen
-abbrev with_messages : World → List MessageRow → World
+abbrev pub with_messages : World → List MessageRow → World
 with_messages w ms = record w { messages = ms }
 
 received-sure : (w : World) (ms : List MessageRow) (x : WaitRow) → is_sure_request w x ≡ true → is_sure_request (with_messages w ms) (received x) ≡ true
@@ -82,10 +82,10 @@ connect-sure : (w : World) (ms : List MessageRow) (x : WaitRow) → (has (is_mes
 connect-sure w ms x still is =
     connect-parts (is_client w (waiter_of x)) _ x.received (has (is_message_of x) w.messages) (has (is_message_of x) ms) (has_client_port w x) still is
 
-receive-sure : (w : World) (ms : List MessageRow) (x : WaitRow) → (has (λ m. takes m x) w.messages ≡ false → has (λ m. takes m x) ms ≡ false) → is_sure_receive w x ≡ true → is_sure_receive (with_messages w ms) x ≡ true
+pub receive-sure : (w : World) (ms : List MessageRow) (x : WaitRow) → (has (λ m. takes m x) w.messages ≡ false → has (λ m. takes m x) ms ≡ false) → is_sure_receive w x ≡ true → is_sure_receive (with_messages w ms) x ≡ true
 receive-sure w ms x none is = grind (arith, none)
 
-listen-sure : (w : World) (ms : List MessageRow) (x : WaitRow) → (has (λ m. takes m x) w.messages ≡ false → has (λ m. takes m x) ms ≡ false) → is_sure_listen w x ≡ true → is_sure_listen (with_messages w ms) x ≡ true
+pub listen-sure : (w : World) (ms : List MessageRow) (x : WaitRow) → (has (λ m. takes m x) w.messages ≡ false → has (λ m. takes m x) ms ≡ false) → is_sure_listen w x ≡ true → is_sure_listen (with_messages w ms) x ≡ true
 listen-sure w ms x none is = grind (arith, none)
 
 -- A message that is taken
