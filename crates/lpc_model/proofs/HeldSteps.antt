@@ -8,7 +8,7 @@ use Rattle.lpc_base.specs.Rows.{change, count, each, every, has, which}
 use Rattle.lpc_base.proofs.RowWords.{count-push, every-change, every-more}
 use Rattle.lpc_model.specs.World.{Birth, HandleRow, HandleTable, ObjectName, PortRow, ProcessRow, ThreadRow, World}
 use Rattle.lpc_model.specs.Found.{free_handle, handle_count, has_value, is_connected_to, is_life, is_made_on, is_paired_to, is_port, is_sent_on, is_table, is_thread, lives_by, pointer_count, port_name, process_name, same_object, thread_name, waits_as, waits_at}
-use Rattle.lpc_model.specs.Basics.{Accepts, AddsHandle, AddsProcess, AddsThread, Awaits, Basic, Binds, Completes, DrawsIdentifier, DrawsOrdinal, Enters, Frees, Joins, Makes, Receives, Takes, TakesConnect, Tells, Wakes, Withdraws, accepted, basic, completed, past_identifier, past_ordinal, put_handle, received, with_handle, world_after}
+use Rattle.lpc_model.specs.Basics.{Accepts, AddsHandle, AddsProcess, AddsThread, Awaits, Basic, Binds, Completes, Cuts, DrawsIdentifier, DrawsOrdinal, DropsHandle, Empties, Enters, Frees, Joins, Makes, Receives, Takes, TakesConnect, Tells, Unbinds, Wakes, Withdraws, accepted, basic, completed, past_identifier, past_ordinal, put_handle, received, with_handle, world_after}
 use Rattle.lpc_model.specs.Sweep.{is_unheld, loosened, loosens}
 use Rattle.lpc_model.specs.Linked.{AreLivesHeld, HasHeldPorts}
 use Rattle.lpc_model.specs.Tests.{handle_row}
@@ -102,6 +102,7 @@ abbrev pub keeps_lives : Basic → Bool
 keeps_lives (AddsProcess p) = false
 keeps_lives (AddsThread t) = false
 keeps_lives (AddsHandle pid h) = false
+keeps_lives (DropsHandle pid value) = false
 keeps_lives (Frees o) = false
 keeps_lives b = true
 
@@ -109,6 +110,7 @@ pub steady-keeps : (b : Basic) → is_steady b ≡ true → keeps_lives b ≡ tr
 steady-keeps (AddsProcess p) is = absurd (cc)
 steady-keeps (AddsThread t) is = absurd (cc)
 steady-keeps (AddsHandle pid h) is = absurd (cc)
+steady-keeps (DropsHandle pid value) is = absurd (cc)
 steady-keeps (Frees o) is = absurd (cc)
 steady-keeps b is = refl
 
@@ -144,6 +146,7 @@ lives-step w (DrawsOrdinal who) is held = drawn-lives w who past_ordinal (λ t. 
 lives-step w (AddsProcess p) is held = absurd (cc)
 lives-step w (AddsThread t) is held = absurd (cc)
 lives-step w (AddsHandle pid h) is held = absurd (cc)
+lives-step w (DropsHandle pid value) is held = absurd (cc)
 lives-step w (Frees o) is held = absurd (cc)
 lives-step w b is held = record { threads = held.threads; processes = held.processes }
 
@@ -185,6 +188,7 @@ quiet-step w (Tells e) is quiet held = held
 quiet-step w (DrawsIdentifier who) is quiet held = held
 quiet-step w (DrawsOrdinal who) is quiet held = held
 quiet-step w (Binds path node) is quiet held = held
+quiet-step w (Unbinds b) is quiet held = held
 quiet-step w (Awaits x) is quiet held = ports-more w (basic w (Awaits x)) (λ b. counts-more (handle_count w (port_name b)) (count (is_paired_to b) w.ports) (count (is_connected_to b) w.ports) (count (is_sent_on b) w.messages) _ _ _ _ _ _ (omega arith) (omega arith) (omega arith) (omega arith) (push-more (is_made_on b) w.waits x)) held
 quiet-step w (Enters m) is quiet held = ports-more w (basic w (Enters m)) (λ b. counts-more (handle_count w (port_name b)) (count (is_paired_to b) w.ports) (count (is_connected_to b) w.ports) _ (count (is_made_on b) w.waits) _ _ _ _ _ (omega arith) (omega arith) (omega arith) (push-more (is_sent_on b) w.messages m) (omega arith)) held
 quiet-step w (Receives who queue) is quiet held = ports-more w (basic w (Receives who queue)) (λ b. counts-more (handle_count w (port_name b)) (count (is_paired_to b) w.ports) (count (is_connected_to b) w.ports) (count (is_sent_on b) w.messages) _ _ _ _ _ _ (omega arith) (omega arith) (omega arith) (omega arith) (not-less _ _ (count-change (is_made_on b) (waits_at who queue) received (λ x. refl) w.waits))) held
@@ -201,6 +205,9 @@ quiet-step w (Wakes who call status fields) is quiet held = absurd (cc)
 quiet-step w (Takes q) is quiet held = absurd (cc)
 quiet-step w (TakesConnect q) is quiet held = absurd (cc)
 quiet-step w (Withdraws who) is quiet held = absurd (cc)
+quiet-step w (Empties q) is quiet held = absurd (cc)
+quiet-step w (Cuts b) is quiet held = absurd (cc)
+quiet-step w (DropsHandle pid value) is quiet held = absurd (cc)
 quiet-step w (Joins client server context) is quiet held = absurd (cc)
 quiet-step w (Frees o) is quiet held = absurd (cc)
 

@@ -1,35 +1,38 @@
--- Each line keeps messages and waits in queues of open ports.
-use Rattle.std.proofs.Common.{◌≡◌, ℕ, ◌≤◌, List, [], ◌∷◌, ◌++◌, Bool, true, false, map, not, Option, Some, None, refl, arith}
-use Rattle.std.specs.Prelude.{◌&&◌, Result, Ok, Err}
+-- Each line keeps messages in queues of open ports, and what waits to be received.
+use Rattle.std.proofs.Common.{◌≡◌, ℕ, ◌≤◌, List, [], ◌∷◌, ◌++◌, Bool, true, false, map, not, Option, Some, None, refl, sym, subst, arith}
+use Rattle.std.specs.Prelude.{◌&&◌, ◌||◌, Result, Ok, Err}
 use Rattle.std.specs.List.{AllByRecursion}
 use Rattle.lpc_base.specs.Rows.{count, every, first, given, when}
-use Rattle.lpc_base.proofs.RowWords.{every-append, every-change, every-more, every-push, every-without, has-kept}
-use Rattle.lpc_base.proofs.RowMaps.{every-without_first}
+use Rattle.lpc_base.proofs.RowWords.{every-append, every-change, every-more, every-push, every-without, first-passes, has-kept}
+use Rattle.lpc_base.proofs.RowMaps.{every-both, every-change_to, every-without_first}
 use Rattle.lpc_base.specs.declared.limits.TheConstants.{MESSAGE_LIMIT}
 use Rattle.lpc_base.specs.declared.port_kind.PortKind.TheVariants.{Connection, Unnamed}
 use Rattle.lpc_base.specs.declared.status.Status.{Status}
-use Rattle.lpc_base.specs.declared.status.TheConstants.{INVALID_PORT_HANDLE, PORT_DISCONNECTED, SUCCESS}
+use Rattle.lpc_base.specs.declared.status.TheConstants.{INVALID_HANDLE, INVALID_PORT_HANDLE, PORT_DISCONNECTED, SUCCESS}
 use Rattle.lpc_message.specs.declared.kind.TheConstants.{DATAGRAM, REQUEST}
 use Rattle.lpc_names.specs.Walk.{Stands}
 use Rattle.lpc_names.specs.declared.names.Found.TheVariants.{Item}
 use Rattle.lpc_model.specs.declared.entry.ObjectKind.TheVariants as kind
 use Rattle.lpc_model.specs.declared.entry.Word.TheVariants as word
-use Rattle.lpc_model.specs.World.{Birth, Message, MessageRow, ObjectKind, ObjectName, PortRow, ThreadRow, WaitRow, World, no_rows}
-use Rattle.lpc_model.specs.Found.{free_handle, has_handle_to, is_connection_port, is_open, is_own_of, is_queued, is_queued_connect, is_table, live_thread, port_name, queue_of, wait_of, waits_as, waits_at}
-use Rattle.lpc_model.specs.Basics.{Accepts, AddsHandle, AddsProcess, AddsThread, Awaits, Basic, Binds, Completes, DrawsIdentifier, DrawsOrdinal, Enters, Frees, Joins, Makes, Receives, Takes, TakesConnect, Tells, Wakes, Withdraws, accepted, basic, freed, no_handles, received, world_after}
+use Rattle.lpc_model.specs.World.{Birth, HandleRow, Message, MessageRow, ObjectKind, ObjectName, PortRow, ThreadRow, WaitRow, World, no_rows}
+use Rattle.lpc_model.specs.Found.{free_handle, handle_at, has_handle_to, is_accepted, is_connection_port, is_open, is_own_of, is_queued, is_queued_connect, is_table, live_thread, port_name, queue_of, wait_of, waits_as, waits_at}
+use Rattle.lpc_model.specs.Basics.{Accepts, AddsHandle, AddsProcess, AddsThread, Awaits, Basic, Binds, Completes, Cuts, DrawsIdentifier, DrawsOrdinal, DropsHandle, Empties, Enters, Frees, Joins, Makes, Receives, Takes, TakesConnect, Tells, Unbinds, Wakes, Withdraws, accepted, basic, freed, no_handles, received, world_after}
 use Rattle.lpc_model.specs.Sweep.{free_unheld, sweep, unheld}
 use Rattle.lpc_model.specs.Message.{asks, message_test}
 use Rattle.lpc_model.specs.Fields.{h, info, max}
 use Rattle.lpc_model.specs.Entering.{enter, given_steps, receipt_steps, row_of, shown, takes, woken}
 use Rattle.lpc_model.specs.Named.{free_name, named_port, spelled_name}
 use Rattle.lpc_model.specs.Refusal.{found_or, refuse_if}
-use Rattle.lpc_model.specs.Tests.{PORT_ACCESS, handle_row, handles_test, next_birth, port_test}
-use Rattle.lpc_model.specs.Connect.{Completable, ConnectAnswer, accept_steps, answer_of, answer_test, answered_steps, client_port, complete_steps, complete_test, connect_start, connection_request, create_steps, info_test, listen_steps, making, new_port, nt_accept_connect_port, nt_complete_connect_port, nt_connect_port, nt_create_port, nt_listen_port, refuse_steps, server_port}
+use Rattle.lpc_model.specs.Tests.{PORT_ACCESS, handle_row, handles_test, next_birth, own_handle, port_test}
+use Rattle.lpc_model.specs.Connect.{Completable, ConnectAnswer, accept_steps, answer_of, answer_test, answered_steps, client_port, complete_steps, complete_test, connect_start, connection_request, create_steps, info_test, listen_steps, making, names_connect, new_port, nt_accept_connect_port, nt_complete_connect_port, nt_connect_port, nt_create_port, nt_listen_port, refuse_steps, server_port}
 use Rattle.lpc_model.specs.Request.{Sendable, answered_test, datagram_send_test, datagram_start, datagram_test, given_reply, is_spent, nt_reply_port, nt_reply_wait_receive_port, nt_request_port, nt_request_wait_reply_port, optional_message, receive_steps, receive_test, request_start, send_test, sent_by}
-use Rattle.lpc_model.specs.Lines.{ScriptCall, ScriptLine, accept_connect_port, boot, complete_connect_port, connect_port, create_port, dir, link, listen_port, reply_port, reply_wait_receive_port, request_port, request_wait_reply_port, run, thread}
+use Rattle.lpc_model.specs.Lines.{ScriptCall, ScriptLine, accept_connect_port, boot, close, complete_connect_port, connect_port, create_port, dir, duplicate_object, link, listen_port, query_object, reply_port, reply_wait_receive_port, request_port, request_wait_reply_port, run, thread}
 use Rattle.lpc_model.specs.Machine.{Stepped, bare_steps, boot_line, dir_line, link_line, name_of_call, ready_steps, service_of, step, thread_line, thread_steps, thread_test, unused_test}
 use Rattle.lpc_model.specs.Run.{said_in, trace}
-use Rattle.lpc_model.specs.SoundWaits.{IsSoundWorld}
+use Rattle.lpc_model.specs.Close.{close_handle, close_port, is_last, nt_close}
+use Rattle.lpc_model.specs.Counts.{asked, nt_duplicate_object, nt_query_object, rights_test}
+use Rattle.lpc_model.specs.Linked.{IsLinked}
+use Rattle.lpc_model.specs.SoundWaits.{IsSoundWorld, is_sound_wait}
 use Rattle.lpc_model.specs.OpenQueues.{HasOpenQueues, RunKeepsQueuesOpen, StepsKeepQueuesOpen}
 use Rattle.lpc_model.proofs.Holding.{Holds, bind_holds, directed_holds, found_ok, holds_ok, settled_holds}
 use Rattle.lpc_model.proofs.Handles.{open-add}
@@ -38,6 +41,11 @@ use Rattle.lpc_model.proofs.SoundWorlds.{by_kind}
 use Rattle.lpc_model.proofs.SoundQueues.{after-append}
 use Rattle.lpc_model.proofs.SoundCalls.{send-routed}
 use Rattle.lpc_model.proofs.SoundConnect.{name-open}
+use Rattle.lpc_model.proofs.SoundAccept.{named-alone, named-wait}
+use Rattle.lpc_model.proofs.SoundClosing.{close-shut}
+use Rattle.lpc_model.proofs.SoundClose.{but-opens, close_handle-sound, found-value, shut-found, still-open}
+use Rattle.lpc_model.proofs.OpenClose.{closed-messages, closed-waits, is_elsewhere}
+use Rattle.lpc_model.proofs.LinkedLines.{linked_none, linked_step}
 use Rattle.lpc_model.proofs.SoundLines.{sound_none, sound_step}
 
 -- What keeps queues open
@@ -49,68 +57,97 @@ abbrev enters_open : World → MessageRow → Bool
 enters_open w m = is_open w m.queue
 
 abbrev waits_open : World → WaitRow → Bool
-waits_open w x = is_open w x.queue
+waits_open w x = x.received || is_open w x.queue
+
+abbrev was_received : WaitRow → Bool
+was_received x = not (is_accepted x) || x.received
 
 -- one world behind another: open ports stay open, and so do the queues of messages and waits
 record KeepsOpen (w v : World) : Type 0 where
   opens : StayOpen w v
   queues : HasOpenQueues w → HasOpenQueues v
 
-kept : (w v : World) → StayOpen w v → (every (enters_open w) w.messages ≡ true → every (enters_open w) v.messages ≡ true) → (every (waits_open w) w.waits ≡ true → every (waits_open w) v.waits ≡ true) → KeepsOpen w v
-kept w v opens messages waits = record {
+either-more : (r a b : Bool) → (a ≡ true → b ≡ true) → (r || a) ≡ true → (r || b) ≡ true
+either-more r a b more is = grind (arith, more)
+
+kept : (w v : World) → StayOpen w v → (every (enters_open w) w.messages ≡ true → every (enters_open w) v.messages ≡ true) → (every (waits_open w) w.waits ≡ true → every (waits_open w) v.waits ≡ true)
+    → (every was_received w.waits ≡ true → every was_received v.waits ≡ true) → KeepsOpen w v
+kept w v opens messages waits accepts = record {
   opens = opens;
   queues = λ q. record {
     messages = every-more (enters_open w) (enters_open v) (λ m is. opens m.queue is) v.messages (messages q.messages);
-    waits = every-more (waits_open w) (waits_open v) (λ x is. opens x.queue is) v.waits (waits q.waits);
+    waits = every-more (waits_open w) (waits_open v) (λ x is. either-more x.received (is_open w x.queue) (is_open v x.queue) (opens x.queue) is) v.waits (waits q.waits);
+    accepts = accepts q.accepts;
   };
 }
 
 -- the messages change alone, and the waits alone, and neither does
 messages-kept : (w : World) (messages : List MessageRow) → (every (enters_open w) w.messages ≡ true → every (enters_open w) messages ≡ true) → KeepsOpen w (record w { messages = messages })
-messages-kept w messages all = kept w (record w { messages = messages }) (λ b is. is) all (λ all. all)
+messages-kept w messages all = kept w (record w { messages = messages }) (λ b is. is) all (λ all. all) (λ all. all)
 
-waits-kept : (w : World) (waits : List WaitRow) → (every (waits_open w) w.waits ≡ true → every (waits_open w) waits ≡ true) → KeepsOpen w (record w { waits = waits })
-waits-kept w waits all = kept w (record w { waits = waits }) (λ b is. is) (λ all. all) all
+waits-kept : (w : World) (waits : List WaitRow) → (every (waits_open w) w.waits ≡ true → every (waits_open w) waits ≡ true) → (every was_received w.waits ≡ true → every was_received waits ≡ true) → KeepsOpen w (record w { waits = waits })
+waits-kept w waits all accepts = kept w (record w { waits = waits }) (λ b is. is) (λ all. all) all accepts
 
--- a basic step that keeps queues open whatever stands behind it: it gives no handle, and what enters or waits does so in a
--- queue of an open port
+-- a basic step that keeps queues open whatever stands behind it: it gives and takes no handle and accepts nothing, and what
+-- enters or waits does so in a queue of an open port
 abbrev is_open_step : World → Basic → Bool
-is_open_step w (Awaits x) = is_open w x.queue
+is_open_step w (Awaits x) = is_open w x.queue && not (is_accepted x)
+is_open_step w (Accepts who reply) = false
 is_open_step w (Enters m) = is_open w m.queue
 is_open_step w (AddsHandle pid row) = false
+is_open_step w (DropsHandle pid value) = false
 is_open_step w b = true
 
 abbrev AreOpen : World → List Basic → Type 0
 AreOpen w bs = every (is_open_step w) bs ≡ true
 
 freed-kept : (w : World) (k : ObjectKind) (b : Birth) → KeepsOpen w (freed w k b)
-freed-kept w kind.Port b = kept w (freed w kind.Port b) (λ b is. is) (λ all. all) (λ all. all)
-freed-kept w kind.Section b = kept w w (λ b is. is) (λ all. all) (λ all. all)
-freed-kept w kind.Token b = kept w w (λ b is. is) (λ all. all) (λ all. all)
-freed-kept w kind.Process b = kept w (freed w kind.Process b) (λ b is. is) (λ all. all) (λ all. all)
-freed-kept w kind.Thread b = kept w (freed w kind.Thread b) (λ b is. is) (λ all. all) (λ all. all)
+freed-kept w kind.Port b = kept w (freed w kind.Port b) (λ b is. is) (λ all. all) (λ all. all) (λ all. all)
+freed-kept w kind.Section b = kept w w (λ b is. is) (λ all. all) (λ all. all) (λ all. all)
+freed-kept w kind.Token b = kept w w (λ b is. is) (λ all. all) (λ all. all) (λ all. all)
+freed-kept w kind.Process b = kept w (freed w kind.Process b) (λ b is. is) (λ all. all) (λ all. all) (λ all. all)
+freed-kept w kind.Thread b = kept w (freed w kind.Thread b) (λ b is. is) (λ all. all) (λ all. all) (λ all. all)
+
+first-true : (a b : Bool) → (a && b) ≡ true → a ≡ true
+first-true a b is = grind arith
+
+second-true : (a b : Bool) → (a && b) ≡ true → b ≡ true
+second-true a b is = grind arith
+
+not-true : (a : Bool) → not a ≡ true → a ≡ false
+not-true a is = grind arith
+
+left : (a b : Bool) → a ≡ true → (a || b) ≡ true
+left a b is = grind arith
+
+right : (a b : Bool) → b ≡ true → (a || b) ≡ true
+right a b is = grind arith
 
 -- a step that passes in a world keeps queues open in each later one
 step-kept : (w v : World) (b : Basic) → StayOpen w v → is_open_step w b ≡ true → KeepsOpen v (basic v b)
-step-kept w v (Tells e) stay is = kept v v (λ b is. is) (λ all. all) (λ all. all)
-step-kept w v (Wakes who call status fields) stay is = waits-kept v _ (every-without (waits_open v) (waits_as who) v.waits)
-step-kept w v (Awaits x) stay is = waits-kept v _ (λ all. every-push (waits_open v) v.waits x all (stay x.queue is))
-step-kept w v (Receives who queue) stay is = waits-kept v _ (every-change (waits_open v) (waits_at who queue) received (λ x is. is) v.waits)
-step-kept w v (Accepts who reply) stay is = waits-kept v _ (every-change (waits_open v) (waits_as who) (accepted reply) (λ x is. is) v.waits)
+step-kept w v (Tells e) stay is = kept v v (λ b is. is) (λ all. all) (λ all. all) (λ all. all)
+step-kept w v (Wakes who call status fields) stay is = waits-kept v _ (every-without (waits_open v) (waits_as who) v.waits) (every-without was_received (waits_as who) v.waits)
+step-kept w v (Awaits x) stay is = waits-kept v _ (λ all. every-push (waits_open v) v.waits x all (right x.received _ (stay x.queue (first-true (is_open w x.queue) _ is)))) (λ all. every-push was_received v.waits x all (left _ x.received (second-true (is_open w x.queue) _ is)))
+step-kept w v (Receives who queue) stay is = waits-kept v _ (every-change (waits_open v) (waits_at who queue) received (λ x is. refl) v.waits) (every-change was_received (waits_at who queue) received (λ x is. right (not (is_accepted x)) true refl) v.waits)
+step-kept w v (Accepts who reply) stay is = absurd (cc)
 step-kept w v (Enters m) stay is = messages-kept v _ (λ all. every-push (enters_open v) v.messages m all (stay m.queue is))
 step-kept w v (Takes q) stay is = messages-kept v _ (every-without_first (enters_open v) (is_queued q) v.messages)
 step-kept w v (TakesConnect q) stay is = messages-kept v _ (every-without_first (enters_open v) (is_queued_connect q) v.messages)
 step-kept w v (Withdraws who) stay is = messages-kept v _ (every-without (enters_open v) (is_own_of who) v.messages)
-step-kept w v (DrawsIdentifier who) stay is = kept v (basic v (DrawsIdentifier who)) (λ b is. is) (λ all. all) (λ all. all)
-step-kept w v (DrawsOrdinal who) stay is = kept v (basic v (DrawsOrdinal who)) (λ b is. is) (λ all. all) (λ all. all)
-step-kept w v (AddsProcess p) stay is = kept v (basic v (AddsProcess p)) (λ b is. has-kept (has_handle_to b) v.handles (no_handles p.number) is) (λ all. all) (λ all. all)
-step-kept w v (AddsThread t) stay is = kept v (basic v (AddsThread t)) (λ b is. is) (λ all. all) (λ all. all)
-step-kept w v (Makes p) stay is = kept v (basic v (Makes p)) (λ b is. is) (λ all. all) (λ all. all)
-step-kept w v (Joins client server context) stay is = kept v (basic v (Joins client server context)) (λ b is. is) (λ all. all) (λ all. all)
-step-kept w v (Completes b) stay is = kept v (basic v (Completes b)) (λ b is. is) (λ all. all) (λ all. all)
+step-kept w v (DrawsIdentifier who) stay is = kept v (basic v (DrawsIdentifier who)) (λ b is. is) (λ all. all) (λ all. all) (λ all. all)
+step-kept w v (DrawsOrdinal who) stay is = kept v (basic v (DrawsOrdinal who)) (λ b is. is) (λ all. all) (λ all. all) (λ all. all)
+step-kept w v (AddsProcess p) stay is = kept v (basic v (AddsProcess p)) (λ b is. has-kept (has_handle_to b) v.handles (no_handles p.number) is) (λ all. all) (λ all. all) (λ all. all)
+step-kept w v (AddsThread t) stay is = kept v (basic v (AddsThread t)) (λ b is. is) (λ all. all) (λ all. all) (λ all. all)
+step-kept w v (Makes p) stay is = kept v (basic v (Makes p)) (λ b is. is) (λ all. all) (λ all. all) (λ all. all)
+step-kept w v (Joins client server context) stay is = kept v (basic v (Joins client server context)) (λ b is. is) (λ all. all) (λ all. all) (λ all. all)
+step-kept w v (Completes b) stay is = kept v (basic v (Completes b)) (λ b is. is) (λ all. all) (λ all. all) (λ all. all)
 step-kept w v (Frees o) stay is = freed-kept v o.kind o.birth
-step-kept w v (Binds path node) stay is = kept v (basic v (Binds path node)) (λ b is. is) (λ all. all) (λ all. all)
+step-kept w v (Binds path node) stay is = kept v (basic v (Binds path node)) (λ b is. is) (λ all. all) (λ all. all) (λ all. all)
 step-kept w v (AddsHandle pid row) stay is = absurd (cc)
+step-kept w v (DropsHandle pid value) stay is = absurd (cc)
+step-kept w v (Empties q) stay is = messages-kept v _ (every-without (enters_open v) (is_queued q) v.messages)
+step-kept w v (Cuts b) stay is = kept v (basic v (Cuts b)) (λ b is. is) (λ all. all) (λ all. all) (λ all. all)
+step-kept w v (Unbinds b) stay is = kept v (basic v (Unbinds b)) (λ b is. is) (λ all. all) (λ all. all) (λ all. all)
 
 steps-kept : (w v : World) (bs : List Basic) → StayOpen w v → AreOpen w bs → HasOpenQueues v → HasOpenQueues (world_after v bs)
 steps-kept w v [] stay all q = q
@@ -125,10 +162,10 @@ open-all : (w : World) (bs : List Basic) → AreOpen w bs → HasOpenQueues w �
 open-all w bs all q = steps-kept w w bs (λ c is. is) all q
 
 -- a process gets a handle at a free value
-handled : (w : World) (pid : ℕ) (object : ObjectName) → count (is_table pid) w.handles ≤ 1 → HasOpenQueues w → HasOpenQueues (basic w (AddsHandle pid (handle_row (free_handle w pid) object PORT_ACCESS)))
-handled w pid object one q =
-    let v = basic w (AddsHandle pid (handle_row (free_handle w pid) object PORT_ACCESS)) in
-    let k = kept w v (λ b is. open-add w pid object PORT_ACCESS b one is) (λ all. all) (λ all. all) in
+handled : (w : World) (pid : ℕ) (object : ObjectName) (access : ℕ) → count (is_table pid) w.handles ≤ 1 → HasOpenQueues w → HasOpenQueues (basic w (AddsHandle pid (handle_row (free_handle w pid) object access)))
+handled w pid object access one q =
+    let v = basic w (AddsHandle pid (handle_row (free_handle w pid) object access)) in
+    let k = kept w v (λ b is. open-add w pid object access b one is) (λ all. all) (λ all. all) (λ all. all) in
     k.queues q
 
 -- Messages that enter
@@ -171,11 +208,11 @@ open_holds w (Err s) q all = tt
 making-open : (w : World) (by : ThreadRow) (name : Option (List ℕ)) → IsSoundWorld w → HasOpenQueues w → Holds (λ made. KeepOpen w (create_steps by made (free_handle w by.process))) (making w (next_birth by) name)
 making-open w by None s q =
     let bs = DrawsOrdinal by.number ∷ Makes (new_port (next_birth by) Unnamed) ∷ [] in
-    handled (world_after w bs) by.process (port_name (next_birth by)) (s.tables by.process) (open-all w bs refl q)
+    handled (world_after w bs) by.process (port_name (next_birth by)) PORT_ACCESS (s.tables by.process) (open-all w bs refl q)
 making-open w by (Some name) s q =
     bind_holds (free_name w name) _ (λ made. KeepOpen w (create_steps by made (free_handle w by.process))) (λ path _.
     let bs = DrawsOrdinal by.number ∷ Makes (new_port (next_birth by) Connection) ∷ Binds path (Stands (Item (next_birth by))) ∷ [] in
-    handled (world_after w bs) by.process (port_name (next_birth by)) (s.tables by.process) (open-all w bs refl q))
+    handled (world_after w bs) by.process (port_name (next_birth by)) PORT_ACCESS (s.tables by.process) (open-all w bs refl q))
 
 create-open : (w : World) (by : ThreadRow) (name : Option (List ℕ)) → IsSoundWorld w → HasOpenQueues w → Holds (KeepOpen w) (nt_create_port w by name)
 unfolding nt_create_port
@@ -195,12 +232,12 @@ connect-open w by name bytes s =
     bind_holds (handles_test w by.process 1) _ (AreOpen w) (λ _ _.
     let m = connection_request by bytes in
     let opens = holds_ok (λ port. is_open w port ≡ true) (named_port w name) connection (name-open w name s) at in
-    both-true (is_open w connection) _ opens (open-enter w (row_of connection (client_port by connection) m) (world_after w (connect_start by connection m)) opens))))
+    both-true (is_open w connection && true) _ (both-true (is_open w connection) true opens refl) (open-enter w (row_of connection (client_port by connection) m) (world_after w (connect_start by connection m)) opens))))
 
 -- NtListenPort
 listened-open : (w : World) (by : ThreadRow) (port : Birth) (o : Option MessageRow) → is_open w port ≡ true → AreOpen w (listen_steps by port o)
 listened-open w by port (Some m) opens = open-receipt w m
-listened-open w by port None opens = both-true (is_open w port) true opens refl
+listened-open w by port None opens = both-true (is_open w port && true) true (both-true (is_open w port) true opens refl) refl
 
 listen-open : (w : World) (by : ThreadRow) (handle : ℕ) → Holds (AreOpen w) (nt_listen_port w by handle)
 unfolding nt_listen_port
@@ -211,22 +248,44 @@ listen-open w by handle =
     listened-open w by port.birth (first (is_queued_connect port.birth) w.messages) u.opens))
 
 -- NtAcceptConnectPort
-accepted-open : (w : World) (by : ThreadRow) (context : ℕ) (a : ConnectAnswer) → IsSoundWorld w → HasOpenQueues w → KeepOpen w (accept_steps by context (free_handle w by.process) a)
-accepted-open w by context a s q =
+-- a connect that an answer names was received, and is its thread's only wait
+received-alone : (w : World) (by : ThreadRow) (m : Message) (x : WaitRow) → first (names_connect w by m) w.waits ≡ Some x → IsSoundWorld w → every (λ y. not (waits_as x.thread y) || y.received) w.waits ≡ true
+received-alone w by m x at s = named-alone w by m x (λ y. y.received) at (named x (first-passes (names_connect w by m) w.waits x at)) s
+  where
+    named : (x : WaitRow) → names_connect w by m x ≡ true → x.received ≡ true
+    named x is = grind arith
+
+accepted-alone : (w : World) (who : ℕ) (reply : List ℕ) → every (λ y. not (waits_as who y) || y.received) w.waits ≡ true → HasOpenQueues w → HasOpenQueues (basic w (Accepts who reply))
+accepted-alone w who reply alone q =
+    let both = every-both was_received (λ y. not (waits_as who y) || y.received) (λ y. was_received y && (not (waits_as who y) || y.received)) (λ y one two. both-true _ _ one two) w.waits q.accepts alone in
+    record {
+      messages = q.messages;
+      waits = every-change (waits_open w) (waits_as who) (accepted reply) (λ x is. is) w.waits q.waits;
+      accepts = every-change_to (λ y. was_received y && (not (waits_as who y) || y.received)) was_received (waits_as who) (accepted reply)
+          (λ y is own. right (not (is_accepted (accepted reply y))) y.received (its (waits_as who y) y.received own (second-true (was_received y) _ is))) (λ y is off. first-true (was_received y) _ is) w.waits both;
+    }
+  where
+    its : (a r : Bool) → a ≡ true → (not a || r) ≡ true → r ≡ true
+    its a r own is = grind arith
+
+accepted-open : (w : World) (by : ThreadRow) (context : ℕ) (m : Message) (x : WaitRow) → first (names_connect w by m) w.waits ≡ Some x → IsSoundWorld w → HasOpenQueues w → KeepOpen w (accept_steps by context (free_handle w by.process) (record { message = m; wait = x }))
+accepted-open w by context m x at s q =
     let server = next_birth by in
-    let bs = DrawsOrdinal by.number ∷ Makes (server_port server a.wait.queue) ∷ [] in
+    let bs = DrawsOrdinal by.number ∷ Makes (server_port server x.queue) ∷ [] in
     let made = world_after w bs in
     let held = basic made (AddsHandle by.process (handle_row (free_handle w by.process) (port_name server) PORT_ACCESS)) in
-    open-all held (Accepts a.wait.thread a.message.body ∷ Joins a.wait.port server context ∷ []) refl
-    (handled made by.process (port_name server) (s.tables by.process) (open-all w bs refl q))
+    let t = handled made by.process (port_name server) PORT_ACCESS (s.tables by.process) (open-all w bs refl q) in
+    open-all (basic held (Accepts x.thread m.body)) (Joins x.port server context ∷ []) refl (accepted-alone held x.thread m.body (received-alone w by m x at s) t)
 
 accept-open : (w : World) (by : ThreadRow) (context : ℕ) (bytes : List ℕ) (accept : Bool) → IsSoundWorld w → HasOpenQueues w → Holds (KeepOpen w) (nt_accept_connect_port w by context bytes accept)
 unfolding nt_accept_connect_port
-accept-open w by context bytes accept s q = bind_holds (answer_test w by bytes) _ (KeepOpen w) (λ a _. answered accept a)
+accept-open w by context bytes accept s q =
+    bind_holds (answer_test w by bytes) _ (KeepOpen w) (λ a is.
+    answered accept a (holds_ok (λ (a : ConnectAnswer). first (names_connect w by a.message) w.waits ≡ Some a.wait) (answer_test w by bytes) a (named-wait w by bytes) is))
   where
-    answered : (accept : Bool) (a : ConnectAnswer) → Holds (KeepOpen w) (answered_steps w by context accept a)
-    answered false a = open-all w (refuse_steps by a) refl q
-    answered true a = bind_holds (handles_test w by.process 1) _ (KeepOpen w) (λ _ _. accepted-open w by context a s q)
+    answered : (accept : Bool) (a : ConnectAnswer) → first (names_connect w by a.message) w.waits ≡ Some a.wait → Holds (KeepOpen w) (answered_steps w by context accept a)
+    answered false a at = open-all w (refuse_steps by a) refl q
+    answered true a at = bind_holds (handles_test w by.process 1) _ (KeepOpen w) (λ _ _. accepted-open w by context a.message a.wait at s q)
 
 -- NtCompleteConnectPort
 completed-open : (w : World) (by : ThreadRow) (c : Completable) → IsSoundWorld w → HasOpenQueues w → KeepOpen w (complete_steps by (free_handle w c.wait.process) c)
@@ -236,7 +295,7 @@ completed-open w by c s q =
     let bs = Completes c.server ∷ Completes c.client ∷ [] in
     let held = basic (world_after w bs) (AddsHandle pid (handle_row value (port_name c.client) PORT_ACCESS)) in
     open-all held (woken SUCCESS (h value ∷ max MESSAGE_LIMIT ∷ info (answer_of c.wait) ∷ []) c.wait ∷ []) refl
-    (handled (world_after w bs) pid (port_name c.client) (s.tables pid) (open-all w bs refl q))
+    (handled (world_after w bs) pid (port_name c.client) PORT_ACCESS (s.tables pid) (open-all w bs refl q))
 
 complete-open : (w : World) (by : ThreadRow) (handle : ℕ) → IsSoundWorld w → HasOpenQueues w → Holds (KeepOpen w) (nt_complete_connect_port w by handle)
 unfolding nt_complete_connect_port
@@ -268,7 +327,7 @@ request-open w by handle bytes =
     bind_holds (send_test w by handle bytes) _ (AreOpen w) (λ s at.
     let m = sent_by by REQUEST s.message in
     let opens = sent-open w by handle bytes s at in
-    both-true (is_open w s.queue) _ opens (open-enter w (row_of s.queue s.port m) (world_after w (request_start by s.port.birth s.queue m)) opens))
+    both-true (is_open w s.queue && true) _ (both-true (is_open w s.queue) true opens refl) (open-enter w (row_of s.queue s.port m) (world_after w (request_start by s.port.birth s.queue m)) opens))
 
 -- NtReplyPort
 reply-open : (w : World) (by : ThreadRow) (handle : ℕ) (bytes : List ℕ) → Holds (AreOpen w) (nt_reply_port w by handle bytes)
@@ -292,7 +351,7 @@ receive-at w port =
 
 received-open : (w : World) (by : ThreadRow) (port : PortRow) (queue : Birth) (replied : List Basic) (o : Option MessageRow) → AreOpen w replied → is_open w queue ≡ true → AreOpen w (receive_steps by port queue replied o)
 received-open w by port queue replied (Some m) all opens = every-append (is_open_step w) replied _ all (open-receipt w m)
-received-open w by port queue replied None all opens = every-append (is_open_step w) replied _ all (both-true (is_open w queue) true opens refl)
+received-open w by port queue replied None all opens = every-append (is_open_step w) replied _ all (both-true (is_open w queue && true) true (both-true (is_open w queue) true opens refl) refl)
 
 receive-open : (w : World) (by : ThreadRow) (handle : ℕ) (bytes : Option (List ℕ)) → Holds (AreOpen w) (nt_reply_wait_receive_port w by handle bytes)
 unfolding nt_reply_wait_receive_port
@@ -305,25 +364,81 @@ receive-open w by handle bytes =
     (holds_ok (AreOpen w) (given_reply w port m) replied (given-reply-open w port m) at)
     (holds_ok (λ queue. is_open w queue ≡ true) (receive_test w port) queue (receive-at w port) found)))))
 
+-- NtClose
+-- what waits to be received does so on the queue of an open port, in a sound world where accepted connects were received
+waits-open : (w : World) (x : WaitRow) → is_sound_wait w x ≡ true → was_received x ≡ true → waits_open w x ≡ true
+waits-open w =
+    by_kind (λ x. is_sound_wait w x ≡ true → was_received x ≡ true → waits_open w x ≡ true)
+    (λ x m is was. grind arith) (λ x is was. grind arith) (λ x is was. grind arith) (λ x m is was. grind arith) (λ x m reply is was. grind arith)
+
+from-sound : (w : World) → IsSoundWorld w → every (enters_open w) w.messages ≡ true → every was_received w.waits ≡ true → HasOpenQueues w
+from-sound w s messages accepts = record {
+  messages = messages;
+  waits = every-both (is_sound_wait w) was_received (waits_open w) (waits-open w) w.waits s.waits accepts;
+  accepts = accepts;
+}
+
+-- the handle that goes is the last one of a port that was closed, or leaves each port open
+closed-open : (w : World) (pid : ℕ) (r : HandleRow) → handle_at w pid r.value ≡ Some r → IsSoundWorld w → IsLinked w → HasOpenQueues w → KeepOpen w (close_handle pid r w)
+closed-open w pid r at s l q = by_last (is_last r w) refl (close_handle-sound w pid r at s)
+  where
+    by_last : (last : Bool) → is_last r w ≡ last → IsSoundWorld (world_after w (when last (close_port r.object.birth w) ++ DropsHandle pid r.value ∷ [])) → HasOpenQueues (world_after w (when last (close_port r.object.birth w) ++ DropsHandle pid r.value ∷ []))
+    by_last true is sound =
+        let b = r.object.birth in
+        let bs = close_port b w in
+        let v = world_after w bs in
+        let u = basic v (DropsHandle pid r.value) in
+        let shut = close-shut w b s in
+        let same : world_after w (bs ++ DropsHandle pid r.value ∷ []) ≡ u = after-append w bs (DropsHandle pid r.value ∷ []) in
+        let opens = but-opens v pid r (shut.sound.tables pid) (shut-found w v pid r shut.handles at) in
+        let elsewhere : every (is_elsewhere v b) v.messages ≡ true = subst (λ hs. every (is_elsewhere (record w { handles = hs }) b) v.messages ≡ true) (sym shut.handles) (closed-messages w b s l q.messages) in
+        let messages = every-more (is_elsewhere v b) (enters_open u) (λ m is. opens m.queue (not-true _ (second-true (is_open v m.queue) _ is)) (first-true (is_open v m.queue) _ is)) v.messages elsewhere in
+        subst HasOpenQueues (sym same) (from-sound u (subst IsSoundWorld same sound) messages (closed-waits w b s was_received q.accepts))
+    by_last false more sound =
+        let u = basic w (DropsHandle pid r.value) in
+        let opens = still-open w pid r (s.tables pid) at more in
+        from-sound u sound (every-more (enters_open w) (enters_open u) (λ m is. opens m.queue is) w.messages q.messages) q.accepts
+
+close-open : (w : World) (by : ThreadRow) (handle : ℕ) → IsSoundWorld w → IsLinked w → HasOpenQueues w → Holds (KeepOpen w) (nt_close w by handle)
+unfolding nt_close
+close-open w by handle s l q =
+    bind_holds (own_handle w by handle) _ (KeepOpen w) (λ r is.
+    closed-open w by.process r (found-value w by.process handle r (found_ok (handle_at w by.process handle) INVALID_HANDLE r is)) s l q)
+
+-- NtDuplicateObject and NtQueryObject
+duplicate-open : (w : World) (by : ThreadRow) (handle : ℕ) (access : Option ℕ) → IsSoundWorld w → HasOpenQueues w → Holds (KeepOpen w) (nt_duplicate_object w by handle access)
+unfolding nt_duplicate_object
+duplicate-open w by handle access s q =
+    bind_holds (own_handle w by handle) _ (KeepOpen w) (λ r _.
+    bind_holds (rights_test r (asked r access)) _ (KeepOpen w) (λ _ _.
+    bind_holds (handles_test w by.process 1) _ (KeepOpen w) (λ _ _. handled w by.process r.object (asked r access) (s.tables by.process) q)))
+
+query-open : (w : World) (by : ThreadRow) (handle : ℕ) → Holds (AreOpen w) (nt_query_object w by handle)
+unfolding nt_query_object
+query-open w by handle = bind_holds (own_handle w by handle) _ (AreOpen w) (λ r _. refl)
+
 -- Calls
-service-open : (w : World) (by : ThreadRow) (call : ScriptCall) → IsSoundWorld w → HasOpenQueues w → Holds (KeepOpen w) (service_of w by call)
-service-open w by (create_port name) s q = create-open w by name s q
-service-open w by (connect_port name info) s q = open_holds w _ q (connect-open w by name info s)
-service-open w by (listen_port handle) s q = open_holds w _ q (listen-open w by handle)
-service-open w by (accept_connect_port context message accept) s q = accept-open w by context message accept s q
-service-open w by (complete_connect_port handle) s q = complete-open w by handle s q
-service-open w by (request_port handle bytes) s q = open_holds w _ q (datagram-open w by handle bytes)
-service-open w by (request_wait_reply_port handle bytes) s q = open_holds w _ q (request-open w by handle bytes)
-service-open w by (reply_port handle bytes) s q = open_holds w _ q (reply-open w by handle bytes)
-service-open w by (reply_wait_receive_port handle bytes) s q = open_holds w _ q (receive-open w by handle bytes)
+service-open : (w : World) (by : ThreadRow) (call : ScriptCall) → IsSoundWorld w → IsLinked w → HasOpenQueues w → Holds (KeepOpen w) (service_of w by call)
+service-open w by (create_port name) s l q = create-open w by name s q
+service-open w by (connect_port name info) s l q = open_holds w _ q (connect-open w by name info s)
+service-open w by (listen_port handle) s l q = open_holds w _ q (listen-open w by handle)
+service-open w by (accept_connect_port context message accept) s l q = accept-open w by context message accept s q
+service-open w by (complete_connect_port handle) s l q = complete-open w by handle s q
+service-open w by (request_port handle bytes) s l q = open_holds w _ q (datagram-open w by handle bytes)
+service-open w by (request_wait_reply_port handle bytes) s l q = open_holds w _ q (request-open w by handle bytes)
+service-open w by (reply_port handle bytes) s l q = open_holds w _ q (reply-open w by handle bytes)
+service-open w by (reply_wait_receive_port handle bytes) s l q = open_holds w _ q (receive-open w by handle bytes)
+service-open w by (close handle) s l q = close-open w by handle s l q
+service-open w by (duplicate_object handle access) s l q = duplicate-open w by handle access s q
+service-open w by (query_object handle) s l q = open_holds w _ q (query-open w by handle)
 
-ready-open : (w : World) (by : ThreadRow) (call : ScriptCall) (o : Option WaitRow) → IsSoundWorld w → HasOpenQueues w → KeepOpen w (ready_steps by call o w)
-ready-open w by call (Some x) s q = q
-ready-open w by call None s q = settled_holds (KeepOpen w) by (name_of_call call) (service_of w by call) (service-open w by call s q) (λ _ _. q)
+ready-open : (w : World) (by : ThreadRow) (call : ScriptCall) (o : Option WaitRow) → IsSoundWorld w → IsLinked w → HasOpenQueues w → KeepOpen w (ready_steps by call o w)
+ready-open w by call (Some x) s l q = q
+ready-open w by call None s l q = settled_holds (KeepOpen w) by (name_of_call call) (service_of w by call) (service-open w by call s l q) (λ _ _. q)
 
-thread-open : (w : World) (tid : ℕ) (call : ScriptCall) (o : Option ThreadRow) → IsSoundWorld w → HasOpenQueues w → KeepOpen w (thread_steps tid call o w)
-thread-open w tid call None s q = q
-thread-open w tid call (Some by) s q = ready-open w by call (wait_of w tid) s q
+thread-open : (w : World) (tid : ℕ) (call : ScriptCall) (o : Option ThreadRow) → IsSoundWorld w → IsLinked w → HasOpenQueues w → KeepOpen w (thread_steps tid call o w)
+thread-open w tid call None s l q = q
+thread-open w tid call (Some by) s l q = ready-open w by call (wait_of w tid) s l q
 
 -- Directives
 boot-open : (w : World) (pid tid : ℕ) → Holds (AreOpen w) (boot_line w pid tid)
@@ -346,13 +461,13 @@ link-open w text target =
 
 -- Lines
 -- before rows go
-pub queues_line : (w : World) (line : ScriptLine) → IsSoundWorld w → HasOpenQueues w → HasOpenQueues (world_after w (bare_steps line w))
+pub queues_line : (w : World) (line : ScriptLine) → IsSoundWorld w → IsLinked w → HasOpenQueues w → HasOpenQueues (world_after w (bare_steps line w))
 unfolding bare_steps
-queues_line w (boot pid tid) s q = directed_holds (KeepOpen w) word.Boot (boot_line w pid tid) (open_holds w (boot_line w pid tid) q (boot-open w pid tid)) (λ _. q)
-queues_line w (thread tid pid) s q = directed_holds (KeepOpen w) word.Thread (thread_line w tid pid) (open_holds w (thread_line w tid pid) q (further-open w tid pid)) (λ _. q)
-queues_line w (dir path) s q = directed_holds (KeepOpen w) word.Dir (dir_line w path) (open_holds w (dir_line w path) q (dir-open w path)) (λ _. q)
-queues_line w (link path target) s q = directed_holds (KeepOpen w) word.Link (link_line w path target) (open_holds w (link_line w path target) q (link-open w path target)) (λ _. q)
-queues_line w (run tid call) s q = thread-open w tid call (live_thread w tid) s q
+queues_line w (boot pid tid) s l q = directed_holds (KeepOpen w) word.Boot (boot_line w pid tid) (open_holds w (boot_line w pid tid) q (boot-open w pid tid)) (λ _. q)
+queues_line w (thread tid pid) s l q = directed_holds (KeepOpen w) word.Thread (thread_line w tid pid) (open_holds w (thread_line w tid pid) q (further-open w tid pid)) (λ _. q)
+queues_line w (dir path) s l q = directed_holds (KeepOpen w) word.Dir (dir_line w path) (open_holds w (dir_line w path) q (dir-open w path)) (λ _. q)
+queues_line w (link path target) s l q = directed_holds (KeepOpen w) word.Link (link_line w path target) (open_holds w (link_line w path target) q (link-open w path target)) (λ _. q)
+queues_line w (run tid call) s l q = thread-open w tid call (live_thread w tid) s l q
 
 -- the row of an object that goes takes no handle, no message and no wait away
 pub queues_freed : (w : World) (o : ObjectName) → HasOpenQueues w → HasOpenQueues (basic w (Frees o))
@@ -370,22 +485,22 @@ queues_swept w q =
 
 -- the step of a line keeps queues open
 pub queues_step : StepsKeepQueuesOpen
-queues_step w line s q =
+queues_step w line s l q =
     let bs = bare_steps line w in
-    rw (after-append w bs (sweep (world_after w bs))) (queues_swept (world_after w bs) (queues_line w line s q))
+    rw (after-append w bs (sweep (world_after w bs))) (queues_swept (world_after w bs) (queues_line w line s l q))
 
 pub queues_none : HasOpenQueues no_rows
-queues_none = record { messages = refl; waits = refl }
+queues_none = record { messages = refl; waits = refl; accepts = refl }
 
 -- Runs
-trace-open : (w : World) (lines : List (Option ScriptLine)) → IsSoundWorld w → HasOpenQueues w → AllByRecursion (λ (s : Stepped). HasOpenQueues s.world) (trace w lines)
+trace-open : (w : World) (lines : List (Option ScriptLine)) → IsSoundWorld w → IsLinked w → HasOpenQueues w → AllByRecursion (λ (s : Stepped). HasOpenQueues s.world) (trace w lines)
 unfolding trace
-trace-open w [] s q = tt
-trace-open w (None ∷ later) s q = (q, trace-open w later s q)
-trace-open w (Some line ∷ later) s q =
-    let after = queues_step w line s q in
-    (after, trace-open (step w line).world later (sound_step w line s) after)
+trace-open w [] s l q = tt
+trace-open w (None ∷ later) s l q = (q, trace-open w later s l q)
+trace-open w (Some line ∷ later) s l q =
+    let after = queues_step w line s l q in
+    (after, trace-open (step w line).world later (sound_step w line s) (linked_step w line s l) after)
 
 -- each line of a script leaves a world whose queues are open
 pub queues_run : (bytes : List ℕ) → RunKeepsQueuesOpen bytes
-queues_run bytes = trace-open no_rows (said_in bytes) sound_none queues_none
+queues_run bytes = trace-open no_rows (said_in bytes) sound_none linked_none queues_none

@@ -8,13 +8,14 @@ use Rattle.lpc_model.specs.declared.entry.Word.TheVariants as word
 use Rattle.lpc_model.specs.World.{Birth, Node, ObjectName, Path, ProcessRow, ThreadRow, WaitRow, World}
 use Rattle.lpc_model.specs.Found.{handle_count, is_connected_to, is_life, is_made_on, is_paired_to, is_sent_on, live_thread, lives_by, port_name, process_name, same_birth, same_object, thread_name, wait_of}
 use Rattle.lpc_model.specs.Basics.{AddsProcess, AddsThread, Binds, basic, no_handles, world_after}
-use Rattle.lpc_model.specs.Lines.{ScriptCall, ScriptLine, accept_connect_port, boot, complete_connect_port, connect_port, create_port, dir, link, listen_port, reply_port, reply_wait_receive_port, request_port, request_wait_reply_port, run, thread}
+use Rattle.lpc_model.specs.Lines.{ScriptCall, ScriptLine, accept_connect_port, boot, close, complete_connect_port, connect_port, create_port, dir, duplicate_object, link, listen_port, query_object, reply_port, reply_wait_receive_port, request_port, request_wait_reply_port, run, thread}
 use Rattle.lpc_names.specs.Walk.{LinkTo, Stands}
 use Rattle.lpc_names.specs.declared.names.Found.TheVariants.{Directory}
 use Rattle.lpc_model.specs.Named.{free_name, spelled_name}
 use Rattle.lpc_model.specs.Machine.{bare_steps, boot_line, dir_line, directive_birth, link_line, name_of_call, new_process, new_thread, ready_steps, service_of, thread_line, thread_steps, thread_test, unused_test}
 use Rattle.lpc_model.specs.Sweep.{loosened, unheld}
 use Rattle.lpc_model.specs.Linked.{AreLivesHeld, HasHeldPorts, HasHeldRows}
+use Rattle.lpc_model.specs.Standing.{NamesWhatStands}
 use Rattle.lpc_model.specs.SoundWaits.{IsSoundWorld}
 use Rattle.lpc_model.proofs.Births.{birth-self}
 use Rattle.lpc_model.proofs.SoundFrees.{fewer-pass}
@@ -26,24 +27,30 @@ use Rattle.lpc_model.proofs.SteadyDatagram.{datagram-steady}
 use Rattle.lpc_model.proofs.SteadyRequest.{request-steady}
 use Rattle.lpc_model.proofs.SteadyReply.{reply-steady}
 use Rattle.lpc_model.proofs.SteadyReceive.{receive-steady}
+use Rattle.lpc_model.proofs.SteadyQuery.{query-steady}
 use Rattle.lpc_model.proofs.Sweeping.{unheld_ports}
 use Rattle.lpc_model.proofs.HeldSteps.{KeepLives, KeepQuiet, counts-more, handles-push, held-some, lives-more, ports-more, push-more, steady_lives, steady_quiet}
 use Rattle.lpc_model.proofs.HeldCreate.{create-lives, create-quiet}
 use Rattle.lpc_model.proofs.HeldConnect.{connect-lives, connect-quiet}
 use Rattle.lpc_model.proofs.HeldAccept.{accept-lives, accept-quiet}
 use Rattle.lpc_model.proofs.HeldComplete.{complete-lives, complete-quiet}
+use Rattle.lpc_model.proofs.HeldClose.{close-lives, close-quiet}
+use Rattle.lpc_model.proofs.HeldDuplicate.{duplicate-lives, duplicate-quiet}
 
 -- Calls
-service-lives : (w : World) (by : ThreadRow) (call : ScriptCall) → IsSoundWorld w → AreLivesHeld w → Holds (KeepLives w) (service_of w by call)
-service-lives w by (create_port name) s held = create-lives w by name s held
-service-lives w by (connect_port name info) s held = connect-lives w by name info held
-service-lives w by (listen_port handle) s held = steady_lives w _ held (listen-steady w by handle)
-service-lives w by (accept_connect_port context message accept) s held = accept-lives w by context message accept s held
-service-lives w by (complete_connect_port handle) s held = complete-lives w by handle s held
-service-lives w by (request_port handle bytes) s held = steady_lives w _ held (datagram-steady w by handle bytes)
-service-lives w by (request_wait_reply_port handle bytes) s held = steady_lives w _ held (request-steady w by handle bytes)
-service-lives w by (reply_port handle bytes) s held = steady_lives w _ held (reply-steady w by handle bytes)
-service-lives w by (reply_wait_receive_port handle bytes) s held = steady_lives w _ held (receive-steady w by handle bytes)
+service-lives : (w : World) (by : ThreadRow) (call : ScriptCall) → IsSoundWorld w → NamesWhatStands w → AreLivesHeld w → Holds (KeepLives w) (service_of w by call)
+service-lives w by (create_port name) s n held = create-lives w by name s held
+service-lives w by (connect_port name info) s n held = connect-lives w by name info held
+service-lives w by (listen_port handle) s n held = steady_lives w _ held (listen-steady w by handle)
+service-lives w by (accept_connect_port context message accept) s n held = accept-lives w by context message accept s held
+service-lives w by (complete_connect_port handle) s n held = complete-lives w by handle s held
+service-lives w by (request_port handle bytes) s n held = steady_lives w _ held (datagram-steady w by handle bytes)
+service-lives w by (request_wait_reply_port handle bytes) s n held = steady_lives w _ held (request-steady w by handle bytes)
+service-lives w by (reply_port handle bytes) s n held = steady_lives w _ held (reply-steady w by handle bytes)
+service-lives w by (reply_wait_receive_port handle bytes) s n held = steady_lives w _ held (receive-steady w by handle bytes)
+service-lives w by (close handle) s n held = close-lives w by handle s n held
+service-lives w by (duplicate_object handle access) s n held = duplicate-lives w by handle access s held
+service-lives w by (query_object handle) s n held = steady_lives w _ held (query-steady w by handle)
 
 service-quiet : (w : World) (by : ThreadRow) (call : ScriptCall) → CanCall w by → IsSoundWorld w → HasHeldPorts w → Holds (KeepQuiet w) (service_of w by call)
 service-quiet w by (create_port name) c s held = create-quiet w by name c s held
@@ -55,14 +62,17 @@ service-quiet w by (request_port handle bytes) c s held = steady_quiet w _ held 
 service-quiet w by (request_wait_reply_port handle bytes) c s held = steady_quiet w _ held (request-steady w by handle bytes)
 service-quiet w by (reply_port handle bytes) c s held = steady_quiet w _ held (reply-steady w by handle bytes)
 service-quiet w by (reply_wait_receive_port handle bytes) c s held = steady_quiet w _ held (receive-steady w by handle bytes)
+service-quiet w by (close handle) c s held = close-quiet w by handle
+service-quiet w by (duplicate_object handle access) c s held = duplicate-quiet w by handle access s held
+service-quiet w by (query_object handle) c s held = steady_quiet w _ held (query-steady w by handle)
 
-ready-lives : (w : World) (by : ThreadRow) (call : ScriptCall) (o : Option WaitRow) → IsSoundWorld w → AreLivesHeld w → KeepLives w (ready_steps by call o w)
-ready-lives w by call (Some x) s held = held
-ready-lives w by call None s held = settled_holds (KeepLives w) by (name_of_call call) (service_of w by call) (service-lives w by call s held) (λ _ _. held)
+ready-lives : (w : World) (by : ThreadRow) (call : ScriptCall) (o : Option WaitRow) → IsSoundWorld w → NamesWhatStands w → AreLivesHeld w → KeepLives w (ready_steps by call o w)
+ready-lives w by call (Some x) s n held = held
+ready-lives w by call None s n held = settled_holds (KeepLives w) by (name_of_call call) (service_of w by call) (service-lives w by call s n held) (λ _ _. held)
 
-thread-lives : (w : World) (tid : ℕ) (call : ScriptCall) (o : Option ThreadRow) → IsSoundWorld w → AreLivesHeld w → KeepLives w (thread_steps tid call o w)
-thread-lives w tid call None s held = held
-thread-lives w tid call (Some by) s held = ready-lives w by call (wait_of w tid) s held
+thread-lives : (w : World) (tid : ℕ) (call : ScriptCall) (o : Option ThreadRow) → IsSoundWorld w → NamesWhatStands w → AreLivesHeld w → KeepLives w (thread_steps tid call o w)
+thread-lives w tid call None s n held = held
+thread-lives w tid call (Some by) s n held = ready-lives w by call (wait_of w tid) s n held
 
 ready-quiet : (w : World) (by : ThreadRow) (call : ScriptCall) (o : Option WaitRow) → (o ≡ None → CanCall w by) → IsSoundWorld w → HasHeldPorts w → KeepQuiet w (ready_steps by call o w)
 ready-quiet w by call (Some x) c s held = λ _. held
@@ -177,13 +187,13 @@ link-quiet w text target held =
 
 -- Lines
 -- before rows go, each process and thread row is named by a row
-pub lives_kept : (w : World) (line : ScriptLine) → IsSoundWorld w → AreLivesHeld w → AreLivesHeld (world_after w (bare_steps line w))
+pub lives_kept : (w : World) (line : ScriptLine) → IsSoundWorld w → NamesWhatStands w → AreLivesHeld w → AreLivesHeld (world_after w (bare_steps line w))
 unfolding bare_steps
-lives_kept w (boot pid tid) s held = directed_holds (KeepLives w) word.Boot (boot_line w pid tid) (boot-lives w pid tid held) (λ _. held)
-lives_kept w (thread tid pid) s held = directed_holds (KeepLives w) word.Thread (thread_line w tid pid) (further-lives w tid pid held) (λ _. held)
-lives_kept w (dir path) s held = directed_holds (KeepLives w) word.Dir (dir_line w path) (dir-lives w path held) (λ _. held)
-lives_kept w (link path target) s held = directed_holds (KeepLives w) word.Link (link_line w path target) (link-lives w path target held) (λ _. held)
-lives_kept w (run tid call) s held = thread-lives w tid call (live_thread w tid) s held
+lives_kept w (boot pid tid) s n held = directed_holds (KeepLives w) word.Boot (boot_line w pid tid) (boot-lives w pid tid held) (λ _. held)
+lives_kept w (thread tid pid) s n held = directed_holds (KeepLives w) word.Thread (thread_line w tid pid) (further-lives w tid pid held) (λ _. held)
+lives_kept w (dir path) s n held = directed_holds (KeepLives w) word.Dir (dir_line w path) (dir-lives w path held) (λ _. held)
+lives_kept w (link path target) s n held = directed_holds (KeepLives w) word.Link (link_line w path target) (link-lives w path target held) (λ _. held)
+lives_kept w (run tid call) s n held = thread-lives w tid call (live_thread w tid) s n held
 
 -- and each port row, where the line lets no name go
 pub ports_kept : (w : World) (line : ScriptLine) → IsSoundWorld w → HasHeldPorts w → loosened false (bare_steps line w) ≡ false → HasHeldPorts (world_after w (bare_steps line w))
@@ -195,5 +205,5 @@ ports_kept w (link path target) s held = directed_holds (KeepQuiet w) word.Link 
 ports_kept w (run tid call) s held = thread-quiet w tid call (live_thread w tid) refl s held
 
 -- so such a line leaves no row that no row names
-pub quiet_line : (w : World) (line : ScriptLine) → IsSoundWorld w → HasHeldRows w → loosened false (bare_steps line w) ≡ false → unheld (world_after w (bare_steps line w)) ≡ []
-quiet_line w line s held quiet = unheld_ports (world_after w (bare_steps line w)) (lives_kept w line s held.lives) (ports_kept w line s held.ports quiet)
+pub quiet_line : (w : World) (line : ScriptLine) → IsSoundWorld w → NamesWhatStands w → HasHeldRows w → loosened false (bare_steps line w) ≡ false → unheld (world_after w (bare_steps line w)) ≡ []
+quiet_line w line s n held quiet = unheld_ports (world_after w (bare_steps line w)) (lives_kept w line s n held.lives) (ports_kept w line s held.ports quiet)

@@ -1,22 +1,26 @@
--- Open queues: messages stand, and threads wait, in queues of open ports alone.
-use Rattle.std.specs.Prelude.{◌≡◌, ℕ, true, List}
+-- Open queues: messages stand in queues of open ports alone, and what waits to be received waits there.
+use Rattle.std.specs.Prelude.{◌≡◌, ℕ, ◌||◌, not, true, List}
 use Rattle.std.specs.List.{AllByRecursion}
 use Rattle.lpc_base.specs.Rows.{every}
 use Rattle.lpc_model.specs.World.{World}
-use Rattle.lpc_model.specs.Found.{is_open}
+use Rattle.lpc_model.specs.Found.{is_accepted, is_open}
 use Rattle.lpc_model.specs.Lines.{ScriptLine}
 use Rattle.lpc_model.specs.Machine.{step}
 use Rattle.lpc_model.specs.Run.{run_of}
+use Rattle.lpc_model.specs.Linked.{IsLinked}
 use Rattle.lpc_model.specs.SoundWaits.{IsSoundWorld}
 
--- the queue of each message, and of each wait, is that of an open port
+-- the queue of each message is that of an open port, and so is that of each wait that isn't received; a connect that is
+-- accepted was received
 pub record HasOpenQueues (w : World) : Type 0 where
   pub messages : every (λ m. is_open w m.queue) w.messages ≡ true
-  pub waits : every (λ x. is_open w x.queue) w.waits ≡ true
+  pub waits : every (λ x. x.received || is_open w x.queue) w.waits ≡ true
+  pub accepts : every (λ x. not (is_accepted x) || x.received) w.waits ≡ true
 
--- the step of each line keeps that in a sound world
+-- the step of each line keeps that in a sound world whose ports are linked
 abbrev pub StepsKeepQueuesOpen : Type 0
-StepsKeepQueuesOpen = (w : World) (line : ScriptLine) → IsSoundWorld w → HasOpenQueues w → HasOpenQueues (step w line).world
+StepsKeepQueuesOpen =
+    (w : World) (line : ScriptLine) → IsSoundWorld w → IsLinked w → HasOpenQueues w → HasOpenQueues (step w line).world
 
 -- each line of a script leaves a world whose queues are open
 abbrev pub RunKeepsQueuesOpen : List ℕ → Type 0

@@ -1,0 +1,500 @@
+-- Each line keeps what rows name.
+use Rattle.std.proofs.Common.{◌≡◌, ◌∙◌, ℕ, List, [], ◌∷◌, ◌++◌, Bool, true, false, cond, map, not, Option, Some, None, refl, sym, subst, arith}
+use Rattle.std.specs.Prelude.{◌&&◌, ◌||◌, is_none, is_some, option_and_then, option_map, Result, Ok, Err, if◌then◌else◌}
+use Rattle.std.specs.List.{AllByRecursion}
+use Rattle.lpc_base.specs.Rows.{change, every, first, given, has, passes, when}
+use Rattle.lpc_base.proofs.RowWords.{every-append, first-passes, has-change}
+use Rattle.lpc_base.proofs.RowMaps.{every-first}
+use Rattle.lpc_base.specs.declared.limits.TheConstants.{MESSAGE_LIMIT}
+use Rattle.lpc_base.specs.declared.port_kind.PortKind.TheVariants.{Connection, Unnamed}
+use Rattle.lpc_base.specs.declared.status.Status.{Status}
+use Rattle.lpc_base.specs.declared.status.TheConstants.{INVALID_HANDLE, INVALID_PORT_HANDLE, PORT_DISCONNECTED, SUCCESS}
+use Rattle.lpc_message.specs.declared.kind.TheConstants.{DATAGRAM, REQUEST}
+use Rattle.lpc_names.specs.Walk.{Stands}
+use Rattle.lpc_names.specs.declared.names.Found.TheVariants.{Item}
+use Rattle.lpc_model.specs.declared.entry.Word.TheVariants as word
+use Rattle.lpc_model.specs.World.{Birth, Creator, HandleRow, HandleTable, Message, MessageRow, PortRow, ThreadRow, WaitRow, World, no_rows}
+use Rattle.lpc_model.specs.Found.{free_handle, handle_at, has_value, is_connected_to, is_connection_port, is_cut, is_request, is_paired_to, is_port, is_queued, is_queued_connect, is_table, is_the, live_thread, pair_of, port_name, port_row, queue_of, route, rows_in, same_birth, wait_of, way}
+use Rattle.lpc_model.specs.Basics.{Accepts, AddsHandle, Awaits, Basic, Binds, Completes, DrawsIdentifier, DrawsOrdinal, DropsHandle, Joins, Makes, Receives, basic, completed, joined, paired, world_after}
+use Rattle.lpc_model.specs.Sweep.{sweep}
+use Rattle.lpc_model.specs.Message.{asks, message_test}
+use Rattle.lpc_model.specs.Fields.{h, info, max}
+use Rattle.lpc_model.specs.Entering.{enter, given_steps, receipt_steps, row_of, shown, takes, woken}
+use Rattle.lpc_model.specs.Named.{free_name, named_port, spelled_name}
+use Rattle.lpc_model.specs.Refusal.{found_or, refuse_if}
+use Rattle.lpc_model.specs.Tests.{PORT_ACCESS, handle_row, handles_test, next_birth, own_handle, port_test}
+use Rattle.lpc_model.specs.Connect.{Completable, ConnectAnswer, accept_steps, answer_of, answer_test, answered_steps, client_port, complete_steps, complete_test, connect_steps, connect_wait, connection_request, create_steps, info_test, listen_steps, making, names_connect, new_port, nt_accept_connect_port, nt_complete_connect_port, nt_connect_port, nt_create_port, nt_listen_port, refuse_steps, server_port}
+use Rattle.lpc_model.specs.Request.{Sendable, answered_test, datagram_send_test, datagram_start, datagram_test, given_reply, is_spent, nt_reply_port, nt_reply_wait_receive_port, nt_request_port, nt_request_wait_reply_port, optional_message, receive_steps, receive_test, receive_wait, request_start, request_wait, send_test, sent_by}
+use Rattle.lpc_model.specs.Counts.{asked, nt_duplicate_object, nt_query_object, rights_test}
+use Rattle.lpc_model.specs.Close.{close_handle, close_port, closed_row, is_last, nt_close, post_closed, server_of, told_of}
+use Rattle.lpc_model.specs.Lines.{ScriptCall, ScriptLine, accept_connect_port, boot, close, complete_connect_port, connect_port, create_port, dir, duplicate_object, link, listen_port, query_object, reply_port, reply_wait_receive_port, request_port, request_wait_reply_port, run, thread}
+use Rattle.lpc_model.specs.Machine.{Stepped, bare_steps, boot_line, dir_line, link_line, name_of_call, ready_steps, service_of, step, thread_line, thread_steps, thread_test, unused_test}
+use Rattle.lpc_model.specs.Run.{said_in, trace}
+use Rattle.lpc_model.specs.SoundWaits.{IsSoundWorld}
+use Rattle.lpc_model.specs.Linked.{IsLinked, is_lone_offer, is_unjoined}
+use Rattle.lpc_model.specs.Standing.{NamesWhatStands, RunNamesWhatStands, StepsNameWhatStands, has_near_queue, is_near, is_to_port}
+use Rattle.lpc_model.proofs.Births.{birth-same, birth-self}
+use Rattle.lpc_model.proofs.Holding.{Holds, bind_holds, directed_holds, found_ok, holds_ok, settled_holds}
+use Rattle.lpc_model.proofs.Usable.{CanCall, IsUsable, by_port_kind, can-call, if-same, port-usable}
+use Rattle.lpc_model.proofs.SoundWorlds.{by_kind}
+use Rattle.lpc_model.proofs.SoundQueues.{after-append}
+use Rattle.lpc_model.proofs.SoundComplete.{CanComplete, can-complete}
+use Rattle.lpc_model.proofs.SoundAccept.{named-wait, names-offered}
+use Rattle.lpc_model.proofs.SoundClosing.{uncut-free}
+use Rattle.lpc_model.proofs.SoundLines.{sound_none, sound_step}
+use Rattle.lpc_model.proofs.Closing.{IsFewer, closed-is, cut-is, fewer-uncut, stage_five, uncut}
+use Rattle.lpc_model.proofs.SoundPairs.{tied}
+use Rattle.lpc_model.proofs.SoundTies.{joined-birth}
+use Rattle.lpc_model.proofs.LinkedAccept.{lone-parts}
+use Rattle.lpc_model.proofs.LinkedJoins.{row-joined}
+use Rattle.lpc_model.proofs.LinkedSteps.{made-found, push-passes}
+use Rattle.lpc_model.proofs.LinkedCalls.{unmade}
+use Rattle.lpc_model.proofs.LinkedLines.{linked_none, linked_step}
+use Rattle.lpc_model.proofs.Standing.{AreNaming, cut-names, is_naming, kept, naming-all, swept-names}
+
+-- the steps leave a world in which what rows name stands
+abbrev pub KeepNames : World → List Basic → Type 0
+KeepNames w bs = NamesWhatStands (world_after w bs)
+
+naming_holds : (w : World) (r : Result (List Basic) Status) → NamesWhatStands w → Holds (AreNaming w) r → Holds (KeepNames w) r
+naming_holds w (Ok bs) n all = naming-all w bs all n
+naming_holds w (Err s) n all = tt
+
+both-true : (a b : Bool) → a ≡ true → b ≡ true → (a && b) ≡ true
+both-true a b one two = grind arith
+
+-- Messages that enter
+naming-receipt : (w : World) (m : MessageRow) → AreNaming w (receipt_steps m)
+naming-receipt w m = at (asks m.message)
+  where
+    at : (a : Bool) → AreNaming w (when a (Receives m.message.header.client.thread m.queue ∷ []))
+    at true = refl
+    at false = refl
+
+naming-given : (w : World) (m : MessageRow) (x : WaitRow) → AreNaming w (given_steps x m ++ woken SUCCESS (shown x m) x ∷ [])
+naming-given w m x =
+    by_kind (λ x. AreNaming w (given_steps x m ++ woken SUCCESS (shown x m) x ∷ []))
+    (λ x r. every-append (is_naming w) (receipt_steps m) _ (naming-receipt w m) refl)
+    (λ x. every-append (is_naming w) (receipt_steps m) _ (naming-receipt w m) refl)
+    (λ x. every-append (is_naming w) (receipt_steps m) _ (naming-receipt w m) refl)
+    (λ x r. every-append (is_naming w) (receipt_steps m) _ (naming-receipt w m) refl)
+    (λ x r reply. every-append (is_naming w) (receipt_steps m) _ (naming-receipt w m) refl) x
+
+-- a message enters that was sent on a port that stands in one world, in a later one
+naming-enter : (w : World) (m : MessageRow) (v : World) → has (is_port m.sender) w.ports ≡ true → AreNaming w (enter m v)
+naming-enter w m v stands = both-true (has (is_port m.sender) w.ports) _ stands (at (first (takes m) v.waits))
+  where
+    at : (o : Option WaitRow) → AreNaming w (given o (λ x. given_steps x m ++ woken SUCCESS (shown x m) x ∷ []))
+    at None = refl
+    at (Some x) = naming-given w m x
+
+-- Ports that stand
+row-stands : (w : World) (b : Birth) (p : PortRow) → port_row w b ≡ Some p → has (is_port b) w.ports ≡ true
+row-stands w b p at = rw at refl
+
+usable-stands : (w : World) (port : PortRow) → IsUsable w port → has (is_port port.birth) w.ports ≡ true
+usable-stands w port u = row-stands w port.birth port u.stands
+
+-- a port's own queue is near it, and so is that which a message enters that is sent on it
+own-near : (x : WaitRow) (p : PortRow) → same_birth p.birth x.queue ≡ true → is_near x p ≡ true
+own-near x p is = rw is refl
+
+same-own : (b q : Birth) → Some b ≡ Some q → same_birth b q ≡ true
+same-own b q at = let same : b ≡ q = cc in subst (λ b. same_birth b q ≡ true) (sym same) (birth-self q)
+
+uncut-same : (q : Birth) (c : Bool) (o : Option Birth) → is_the q (if c then None else o) ≡ true → is_the q o ≡ true
+uncut-same q true o is = absurd (cc)
+uncut-same q false o is = is
+
+second-of : (a b c : Bool) → b ≡ true → (a || (b || c)) ≡ true
+second-of a b c is = grind arith
+
+third-of : (a b c : Bool) → c ≡ true → (a || (b || c)) ≡ true
+third-of a b c is = grind arith
+
+queue-near : (w : World) (x : WaitRow) (p : PortRow) → queue_of w p ≡ Some x.queue → is_near x p ≡ true
+queue-near w x =
+    by_port_kind (λ p. queue_of w p ≡ Some x.queue → is_near x p ≡ true)
+    (λ p at. own-near x p (turned x.queue p.birth (if-same w (Some p.birth) x.queue at)))
+    (λ p at. own-near x p (turned x.queue p.birth (if-same w (Some p.birth) x.queue at)))
+    (λ p at. own-near x p (turned x.queue p.birth (if-same w (Some p.birth) x.queue at)))
+    (λ p at. second-of (is_port x.queue p) (is_connected_to x.queue p) _ (if-same w p.connection x.queue at))
+  where
+    turned : (a b : Birth) → same_birth a b ≡ true → same_birth b a ≡ true
+    turned a b is = subst (λ c. same_birth b c ≡ true) (sym (birth-same a b is)) (birth-self b)
+
+way-near : (w : World) (by : ThreadRow) (port q : Birth) (m : Message) (p : PortRow) → way w p ≡ Some q → is_near (request_wait by port q m) p ≡ true
+way-near w by port q m =
+    by_port_kind (λ p. way w p ≡ Some q → is_near (request_wait by port q m) p ≡ true)
+    (λ p at. own-near (request_wait by port q m) p (same-own p.birth q at))
+    (λ p at. own-near (request_wait by port q m) p (same-own p.birth q at))
+    (λ p at. second-of (is_port q p) (is_connected_to q p) _ (uncut-same q (is_cut p) p.connection (if-same w (if is_cut p then None else p.connection) q at)))
+    (λ p at. third-of (is_port q p) (is_connected_to q p) (is_paired_to q p) (if-same w p.pair q at))
+
+-- Services
+-- NtCreatePort
+handled : (w : World) (pid : ℕ) (value access : ℕ) (b : Birth) → has (is_port b) w.ports ≡ true → NamesWhatStands w → NamesWhatStands (basic w (AddsHandle pid (handle_row value (port_name b) access)))
+handled w pid value access b stands n = naming-all w (AddsHandle pid (handle_row value (port_name b) access) ∷ []) (rw stands refl) n
+
+made-stands : (w : World) (p : PortRow) → has (is_port p.birth) w.ports ≡ false → has (is_port p.birth) (basic w (Makes p)).ports ≡ true
+made-stands w p new = row-stands (basic w (Makes p)) p.birth p (made-found w p new)
+
+making-names : (w : World) (by : ThreadRow) (name : Option (List ℕ)) (value : ℕ) → CanCall w by → IsSoundWorld w → NamesWhatStands w → Holds (λ made. KeepNames w (create_steps by made value)) (making w (next_birth by) name)
+making-names w by None value c s n =
+    let port = new_port (next_birth by) Unnamed in
+    let bs = DrawsOrdinal by.number ∷ Makes port ∷ [] in
+    handled (world_after w bs) by.process value PORT_ACCESS (next_birth by) (made-stands (basic w (DrawsOrdinal by.number)) port (unmade w by c s)) (naming-all w bs refl n)
+making-names w by (Some name) value c s n =
+    bind_holds (free_name w name) _ (λ made. KeepNames w (create_steps by made value)) (λ path _.
+    let port = new_port (next_birth by) Connection in
+    let bs = DrawsOrdinal by.number ∷ Makes port ∷ Binds path (Stands (Item (next_birth by))) ∷ [] in
+    handled (world_after w bs) by.process value PORT_ACCESS (next_birth by) (made-stands (basic w (DrawsOrdinal by.number)) port (unmade w by c s)) (naming-all w bs refl n))
+
+create-names : (w : World) (by : ThreadRow) (name : Option (List ℕ)) → CanCall w by → IsSoundWorld w → NamesWhatStands w → Holds (KeepNames w) (nt_create_port w by name)
+unfolding nt_create_port
+create-names w by name c s n =
+    let value = free_handle w by.process in
+    bind_holds (making w (next_birth by) name) _ (KeepNames w) (λ made at.
+    bind_holds (handles_test w by.process 1) _ (KeepNames w) (λ _ _.
+    holds_ok (λ made. KeepNames w (create_steps by made value)) (making w (next_birth by) name) made (making-names w by name value c s n) at))
+
+-- NtConnectPort
+connected-names : (w : World) (by : ThreadRow) (connection : Birth) (bytes : List ℕ) → CanCall w by → IsSoundWorld w → NamesWhatStands w → KeepNames w (connect_steps by connection (connection_request by bytes) w)
+connected-names w by connection bytes c s n =
+    let m = connection_request by bytes in
+    let port = client_port by connection in
+    let x = connect_wait by connection m in
+    let drawn = basic (basic w (DrawsIdentifier by.number)) (DrawsOrdinal by.number) in
+    let made = basic drawn (Makes port) in
+    let new = unmade w by c s in
+    let near : has_near_queue made x ≡ true = rw (made-found drawn port new) (second-of (same_birth (next_birth by) connection) (same_birth connection connection) false (birth-self connection)) in
+    naming-all made (Awaits x ∷ enter (row_of connection port m) (basic made (Awaits x))) (both-true (has_near_queue made x) _ near (naming-enter made (row_of connection port m) (basic made (Awaits x)) (made-stands drawn port new)))
+    (naming-all w (DrawsIdentifier by.number ∷ DrawsOrdinal by.number ∷ Makes port ∷ []) refl n)
+
+connect-names : (w : World) (by : ThreadRow) (name bytes : List ℕ) → CanCall w by → IsSoundWorld w → NamesWhatStands w → Holds (KeepNames w) (nt_connect_port w by name bytes)
+unfolding nt_connect_port
+connect-names w by name bytes c s n =
+    bind_holds (info_test bytes) _ (KeepNames w) (λ _ _.
+    bind_holds (named_port w name) _ (KeepNames w) (λ connection _.
+    bind_holds (handles_test w by.process 1) _ (KeepNames w) (λ _ _. connected-names w by connection bytes c s n)))
+
+-- NtListenPort
+listened-names : (w : World) (by : ThreadRow) (port : PortRow) (o : Option MessageRow) → IsUsable w port → AreNaming w (listen_steps by port.birth o)
+listened-names w by port (Some m) u = naming-receipt w m
+listened-names w by port None u = rw (u.stands, birth-self port.birth) refl
+
+listen-names : (w : World) (by : ThreadRow) (handle : ℕ) → Holds (AreNaming w) (nt_listen_port w by handle)
+unfolding nt_listen_port
+listen-names w by handle =
+    bind_holds (port_test w by handle) _ (AreNaming w) (λ port at.
+    bind_holds (refuse_if (not (is_connection_port port)) INVALID_PORT_HANDLE) _ (AreNaming w) (λ _ _.
+    listened-names w by port (first (is_queued_connect port.birth) w.messages) (holds_ok (IsUsable w) (port_test w by handle) port (port-usable w by handle) at)))
+
+-- NtAcceptConnectPort
+-- neither port had another end, so what is near a port stays near
+joined-near : (w : World) (client server : Birth) (context : ℕ) → passes (port_row w client) is_unjoined ≡ true → passes (port_row w server) is_unjoined ≡ true → NamesWhatStands w → NamesWhatStands (basic w (Joins client server context))
+joined-near w client server context one two n =
+    let v = basic w (Joins client server context) in
+    let k = kept w v (record {
+      ports = λ c is. rw (has-joined c) is;
+      queues = near;
+    }) (λ all. all) (λ all. all) (λ all. all) in
+    k.names n
+  where
+    has-mapped : (c : Birth) (ps : List PortRow) → has (is_port c) (map (joined client server context) ps) ≡ has (is_port c) ps
+    has-mapped c [] = refl
+    has-mapped c (p ∷ ps) = let same = joined-birth client server context p in grind (arith, has-mapped c ps)
+
+    has-joined : (c : Birth) → has (is_port c) (basic w (Joins client server context)).ports ≡ has (is_port c) w.ports
+    has-joined c = has-mapped c w.ports
+
+    lone : (x : WaitRow) (q : PortRow) (own connected asks paired : Bool) → (own || (connected || (asks && paired))) ≡ true → paired ≡ false → (own || (connected || asks && is_paired_to x.queue q)) ≡ true
+    lone x q own connected asks paired near off = grind arith
+
+    unpaired : (x : WaitRow) (p : PortRow) → is_unjoined p ≡ true → is_paired_to x.queue p ≡ false
+    unpaired x p is = of p.pair is
+      where
+        of : (o : Option Birth) → (is_none o && is_some p.connection) ≡ true → is_the x.queue o ≡ false
+        of None is = refl
+        of (Some d) is = absurd (cc)
+
+    -- the row of one of the two
+    its-row : (x : WaitRow) (p : PortRow) (b : Birth) → port_row w x.port ≡ Some p → is_port b p ≡ true → passes (port_row w b) is_unjoined ≡ true → is_unjoined p ≡ true
+    its-row x p b row is stands =
+        let own = birth-same p.birth x.port (first-passes (is_port x.port) w.ports p row) in
+        let its = birth-same p.birth b is in
+        let found : port_row w b ≡ Some p = subst (λ c. port_row w c ≡ Some p) (sym own ∙ its) row in rw found at stands
+
+    near : (x : WaitRow) → has_near_queue w x ≡ true → has_near_queue (basic w (Joins client server context)) x ≡ true
+    near x is = at (port_row w x.port) refl
+      where
+        here : (p : PortRow) (c s : Bool) → is_port client p ≡ c → is_port server p ≡ s → port_row w x.port ≡ Some p → is_near x p ≡ true → let q : PortRow = cond c (paired server context p) (cond s (paired client context p) p) in is_near x q ≡ true
+        here p true s is_client is_server row was = lone x (paired server context p) (is_port x.queue p) (is_connected_to x.queue p) (is_request x) (is_paired_to x.queue p) was (unpaired x p (its-row x p client row is_client one))
+        here p false true is_client is_server row was = lone x (paired client context p) (is_port x.queue p) (is_connected_to x.queue p) (is_request x) (is_paired_to x.queue p) was (unpaired x p (its-row x p server row is_server two))
+        here p false false is_client is_server row was = was
+
+        at : (o : Option PortRow) → port_row w x.port ≡ o → has_near_queue (basic w (Joins client server context)) x ≡ true
+        at None none = let never : false ≡ true = rw none at is in absurd (cc)
+        at (Some p) row = let was : is_near x p ≡ true = rw row at is in rw (row-joined w client server context x.port p row) (here p (is_port client p) (is_port server p) refl refl row was)
+
+accepted-names : (w : World) (by : ThreadRow) (context value : ℕ) (m : Message) (x : WaitRow) → first (names_connect w by m) w.waits ≡ Some x → CanCall w by → IsSoundWorld w → IsLinked w → NamesWhatStands w → KeepNames w (accept_steps by context value (record { message = m; wait = x }))
+accepted-names w by context value m x at c s l n =
+    let of = names-offered w by m x (first-passes (names_connect w by m) w.waits x at) in
+    let lone = lone-parts w x of (every-first (is_lone_offer w) (names_connect w by m) w.waits x l.offers at) in
+    let server = next_birth by in
+    let port = server_port server x.queue in
+    let drawn = basic w (DrawsOrdinal by.number) in
+    let new = unmade w by c s in
+    let made = basic drawn (Makes port) in
+    let t = naming-all w (DrawsOrdinal by.number ∷ Makes port ∷ []) refl n in
+    let held = basic made (AddsHandle by.process (handle_row value (port_name server) PORT_ACCESS)) in
+    let u = handled made by.process value PORT_ACCESS server (made-stands drawn port new) t in
+    let told = basic held (Accepts x.thread m.body) in
+    let server_row : passes (port_row made server) is_unjoined ≡ true = rw (made-found drawn port new) refl in
+    joined-near told x.port server context (push-passes drawn port x.port is_unjoined lone.1) server_row (naming-all held (Accepts x.thread m.body ∷ []) refl u)
+
+accept-names : (w : World) (by : ThreadRow) (context : ℕ) (bytes : List ℕ) (accept : Bool) → CanCall w by → IsSoundWorld w → IsLinked w → NamesWhatStands w → Holds (KeepNames w) (nt_accept_connect_port w by context bytes accept)
+unfolding nt_accept_connect_port
+accept-names w by context bytes accept c s l n =
+    bind_holds (answer_test w by bytes) _ (KeepNames w) (λ a is.
+    answered accept a (holds_ok (λ (a : ConnectAnswer). first (names_connect w by a.message) w.waits ≡ Some a.wait) (answer_test w by bytes) a (named-wait w by bytes) is))
+  where
+    answered : (accept : Bool) (a : ConnectAnswer) → first (names_connect w by a.message) w.waits ≡ Some a.wait → Holds (KeepNames w) (answered_steps w by context accept a)
+    answered false a at = naming-all w (refuse_steps by a) refl n
+    answered true a at = bind_holds (handles_test w by.process 1) _ (KeepNames w) (λ _ _. accepted-names w by context (free_handle w by.process) a.message a.wait at c s l n)
+
+-- NtCompleteConnectPort
+paired-stands : (w : World) (b c : Birth) → is_the b (pair_of w c) ≡ true → has (is_port c) w.ports ≡ true
+paired-stands w b c is = at (port_row w c) is
+  where
+    at : (o : Option PortRow) → is_the b (option_and_then (λ p. p.pair) o) ≡ true → is_some o ≡ true
+    at None is = absurd (cc)
+    at (Some p) is = refl
+
+completed-names : (w : World) (by : ThreadRow) (c : Completable) → CanComplete w c → NamesWhatStands w → KeepNames w (complete_steps by (free_handle w c.wait.process) c)
+completed-names w by c can n =
+    let pid = c.wait.process in
+    let value = free_handle w pid in
+    let bs = Completes c.server ∷ Completes c.client ∷ [] in
+    let two = world_after w bs in
+    let stands : has (is_port c.client) two.ports ≡ true = rw (has-change (is_port c.client) (is_port c.client) completed (λ p. refl) (change (is_port c.server) completed w.ports), has-change (is_port c.client) (is_port c.server) completed (λ p. refl) w.ports) (paired-stands w c.server c.client can.joined) in
+    let held = basic two (AddsHandle pid (handle_row value (port_name c.client) PORT_ACCESS)) in
+    naming-all held (woken SUCCESS (h value ∷ max MESSAGE_LIMIT ∷ info (answer_of c.wait) ∷ []) c.wait ∷ []) refl (handled two pid value PORT_ACCESS c.client stands (naming-all w bs refl n))
+
+complete-names : (w : World) (by : ThreadRow) (handle : ℕ) → IsSoundWorld w → NamesWhatStands w → Holds (KeepNames w) (nt_complete_connect_port w by handle)
+unfolding nt_complete_connect_port
+complete-names w by handle s n = bind_holds (complete_test w by handle) _ (KeepNames w) (λ c at. completed-names w by c (holds_ok (CanComplete w) (complete_test w by handle) c (can-complete w by handle s) at) n)
+
+-- NtRequestPort and NtRequestWaitReplyPort
+-- a message is sent on a port that stands, and its way is near
+record IsSent (w : World) (s : Sendable) : Type 0 where
+  usable : IsUsable w s.port
+  near : way w s.port ≡ Some s.queue
+
+way-of : (w : World) (port : PortRow) (queue : Birth) → IsUsable w port → route w port ≡ Some queue → way w port ≡ Some queue
+way-of w port queue u at = rw u.opens at at
+
+send-names : (w : World) (by : ThreadRow) (handle : ℕ) (bytes : List ℕ) → Holds (IsSent w) (send_test w by handle bytes)
+send-names w by handle bytes =
+    bind_holds (port_test w by handle) _ (IsSent w) (λ port at.
+    bind_holds (message_test bytes) _ (IsSent w) (λ m _.
+    bind_holds (found_or (route w port) PORT_DISCONNECTED) _ (IsSent w) (λ queue found.
+    let u = holds_ok (IsUsable w) (port_test w by handle) port (port-usable w by handle) at in
+    record { usable = u; near = way-of w port queue u (found_ok (route w port) PORT_DISCONNECTED queue found) })))
+
+datagram-sent : (w : World) (by : ThreadRow) (handle : ℕ) (bytes : List ℕ) → Holds (IsSent w) (datagram_send_test w by handle bytes)
+datagram-sent w by handle bytes =
+    bind_holds (send_test w by handle bytes) _ (IsSent w) (λ s at.
+    bind_holds (datagram_test w s.port) _ (IsSent w) (λ _ _. holds_ok (IsSent w) (send_test w by handle bytes) s (send-names w by handle bytes) at))
+
+datagram-names : (w : World) (by : ThreadRow) (handle : ℕ) (bytes : List ℕ) → Holds (AreNaming w) (nt_request_port w by handle bytes)
+unfolding nt_request_port
+datagram-names w by handle bytes =
+    bind_holds (datagram_send_test w by handle bytes) _ (AreNaming w) (λ s at.
+    let sent = holds_ok (IsSent w) (datagram_send_test w by handle bytes) s (datagram-sent w by handle bytes) at in
+    naming-enter w (row_of s.queue s.port (sent_by by DATAGRAM s.message)) (world_after w (datagram_start by)) (usable-stands w s.port sent.usable))
+
+request-names : (w : World) (by : ThreadRow) (handle : ℕ) (bytes : List ℕ) → Holds (AreNaming w) (nt_request_wait_reply_port w by handle bytes)
+unfolding nt_request_wait_reply_port
+request-names w by handle bytes =
+    bind_holds (send_test w by handle bytes) _ (AreNaming w) (λ s at.
+    let m = sent_by by REQUEST s.message in
+    let sent = holds_ok (IsSent w) (send_test w by handle bytes) s (send-names w by handle bytes) at in
+    let near : has_near_queue w (request_wait by s.port.birth s.queue m) ≡ true = rw sent.usable.stands (way-near w by s.port.birth s.queue m s.port sent.near) in
+    both-true (has_near_queue w (request_wait by s.port.birth s.queue m)) _ near (naming-enter w (row_of s.queue s.port m) (world_after w (request_start by s.port.birth s.queue m)) (usable-stands w s.port sent.usable)))
+
+-- NtReplyPort
+reply-names : (w : World) (by : ThreadRow) (handle : ℕ) (bytes : List ℕ) → Holds (AreNaming w) (nt_reply_port w by handle bytes)
+unfolding nt_reply_port
+reply-names w by handle bytes =
+    bind_holds (port_test w by handle) _ (AreNaming w) (λ port _.
+    bind_holds (message_test bytes) _ (AreNaming w) (λ m _.
+    bind_holds (answered_test w port m) _ (AreNaming w) (λ x _. refl)))
+
+-- NtReplyWaitReceivePort
+given-names : (w : World) (port : PortRow) (m : Option Message) → Holds (AreNaming w) (given_reply w port m)
+given-names w port None = refl
+given-names w port (Some m) = bind_holds (answered_test w port m) _ (AreNaming w) (λ x _. refl)
+
+receive-at : (w : World) (port : PortRow) → Holds (λ queue. queue_of w port ≡ Some queue) (receive_test w port)
+receive-at w port =
+    let P : Birth → Type 0 = λ queue. queue_of w port ≡ Some queue in
+    bind_holds (found_or (queue_of w port) PORT_DISCONNECTED) _ P (λ queue at.
+    bind_holds (refuse_if (is_spent w port queue) PORT_DISCONNECTED) _ P (λ _ _. found_ok (queue_of w port) PORT_DISCONNECTED queue at))
+
+received-names : (w : World) (by : ThreadRow) (port : PortRow) (queue : Birth) (replied : List Basic) (o : Option MessageRow) → AreNaming w replied → IsUsable w port → queue_of w port ≡ Some queue → AreNaming w (receive_steps by port queue replied o)
+received-names w by port queue replied (Some m) all u at = every-append (is_naming w) replied _ all (naming-receipt w m)
+received-names w by port queue replied None all u at =
+    let x = receive_wait by port.birth queue in
+    let near : has_near_queue w x ≡ true = rw u.stands (queue-near w x port at) in
+    every-append (is_naming w) replied _ all (both-true (has_near_queue w x) true near refl)
+
+receive-names : (w : World) (by : ThreadRow) (handle : ℕ) (bytes : Option (List ℕ)) → Holds (AreNaming w) (nt_reply_wait_receive_port w by handle bytes)
+unfolding nt_reply_wait_receive_port
+receive-names w by handle bytes =
+    bind_holds (port_test w by handle) _ (AreNaming w) (λ port usable.
+    bind_holds (optional_message bytes) _ (AreNaming w) (λ m _.
+    bind_holds (receive_test w port) _ (AreNaming w) (λ queue found.
+    bind_holds (given_reply w port m) _ (AreNaming w) (λ replied at.
+    received-names w by port queue replied (first (is_queued queue) w.messages)
+    (holds_ok (AreNaming w) (given_reply w port m) replied (given-names w port m) at)
+    (holds_ok (IsUsable w) (port_test w by handle) port (port-usable w by handle) usable)
+    (holds_ok (λ queue. queue_of w port ≡ Some queue) (receive_test w port) queue (receive-at w port) found)))))
+
+-- NtClose
+-- fewer rows name what stands
+fewer-names : (w v : World) → IsFewer w v → NamesWhatStands w → NamesWhatStands v
+fewer-names w v l n = record {
+  handles = rw (l.handles, l.ports) n.handles;
+  senders = rw l.ports (l.messages (λ m. has (is_port m.sender) w.ports) n.senders);
+  queues = subst (λ ps. every (has_near_queue (tied ps [])) v.waits ≡ true) (sym l.ports) (l.waits (has_near_queue w) n.queues);
+}
+
+posted-names : (b : Birth) (w : World) → AreNaming w (post_closed b w)
+posted-names b w = at (port_row w b) refl
+  where
+    by_creator : (p : PortRow) (queue : Birth) (o : Option Creator) → has (is_port p.birth) w.ports ≡ true → AreNaming w (given (option_map (closed_row p queue) o) (λ m. enter m w))
+    by_creator p queue None stands = refl
+    by_creator p queue (Some by) stands = naming-enter w (closed_row p queue by) w stands
+
+    queued : (p : PortRow) (o : Option Birth) → has (is_port p.birth) w.ports ≡ true → AreNaming w (given (option_and_then (λ queue. option_map (closed_row p queue) p.creator) o) (λ m. enter m w))
+    queued p None stands = refl
+    queued p (Some queue) stands = by_creator p queue p.creator stands
+
+    at : (o : Option PortRow) → port_row w b ≡ o → AreNaming w (given o (λ p. given (told_of w p) (λ m. enter m w)))
+    at None row = refl
+    at (Some p) row = queued p (server_of w p) (subst (λ c. has (is_port c) w.ports ≡ true) (sym (birth-same p.birth b (first-passes (is_port b) w.ports p row))) (row-stands w b p row))
+
+closed-names : (w : World) (b : Birth) → IsSoundWorld w → NamesWhatStands w → KeepNames w (close_port b w)
+closed-names w b s n =
+    let five = stage_five w b in
+    let t : NamesWhatStands five = subst NamesWhatStands (sym (cut-is w b)) (cut-names (uncut w b) b (uncut-free w b s) (fewer-names w (uncut w b) (fewer-uncut w b) n)) in
+    subst NamesWhatStands (sym (closed-is w b)) (naming-all five (post_closed b five) (posted-names b five) t)
+
+handle-names : (w : World) (pid : ℕ) (r : HandleRow) → IsSoundWorld w → NamesWhatStands w → KeepNames w (close_handle pid r w)
+handle-names w pid r s n = at (is_last r w)
+  where
+    at : (last : Bool) → NamesWhatStands (world_after w (when last (close_port r.object.birth w) ++ DropsHandle pid r.value ∷ []))
+    at true =
+        let bs = close_port r.object.birth w in
+        rw (after-append w bs (DropsHandle pid r.value ∷ [])) (naming-all (world_after w bs) (DropsHandle pid r.value ∷ []) refl (closed-names w r.object.birth s n))
+    at false = naming-all w (DropsHandle pid r.value ∷ []) refl n
+
+close-names : (w : World) (by : ThreadRow) (handle : ℕ) → IsSoundWorld w → NamesWhatStands w → Holds (KeepNames w) (nt_close w by handle)
+unfolding nt_close
+close-names w by handle s n = bind_holds (own_handle w by handle) _ (KeepNames w) (λ r _. handle-names w by.process r s n)
+
+-- NtDuplicateObject and NtQueryObject
+-- a handle of a process names a port that stands
+pub found-to-port : (w : World) (pid value : ℕ) (r : HandleRow) → NamesWhatStands w → handle_at w pid value ≡ Some r → is_to_port w r ≡ true
+found-to-port w pid value r n at = of (first (is_table pid) w.handles) refl at
+  where
+    of : (o : Option HandleTable) → first (is_table pid) w.handles ≡ o → first (has_value value) (rows_in o) ≡ Some r → is_to_port w r ≡ true
+    of None none at = absurd (cc)
+    of (Some t) found at = every-first (is_to_port w) (has_value value) t.rows r (every-first (λ t. every (is_to_port w) t.rows) (is_table pid) w.handles t n.handles found) at
+
+duplicate-names : (w : World) (by : ThreadRow) (handle : ℕ) (access : Option ℕ) → NamesWhatStands w → Holds (AreNaming w) (nt_duplicate_object w by handle access)
+unfolding nt_duplicate_object
+duplicate-names w by handle access n =
+    bind_holds (own_handle w by handle) _ (AreNaming w) (λ r at.
+    bind_holds (rights_test r (asked r access)) _ (AreNaming w) (λ _ _.
+    bind_holds (handles_test w by.process 1) _ (AreNaming w) (λ _ _.
+    both-true (is_to_port w r) true (found-to-port w by.process handle r n (found_ok (handle_at w by.process handle) INVALID_HANDLE r at)) refl)))
+
+query-names : (w : World) (by : ThreadRow) (handle : ℕ) → Holds (AreNaming w) (nt_query_object w by handle)
+unfolding nt_query_object
+query-names w by handle = bind_holds (own_handle w by handle) _ (AreNaming w) (λ r _. refl)
+
+-- Calls
+service-names : (w : World) (by : ThreadRow) (call : ScriptCall) → CanCall w by → IsSoundWorld w → IsLinked w → NamesWhatStands w → Holds (KeepNames w) (service_of w by call)
+service-names w by (create_port name) c s l n = create-names w by name c s n
+service-names w by (connect_port name info) c s l n = connect-names w by name info c s n
+service-names w by (listen_port handle) c s l n = naming_holds w _ n (listen-names w by handle)
+service-names w by (accept_connect_port context message accept) c s l n = accept-names w by context message accept c s l n
+service-names w by (complete_connect_port handle) c s l n = complete-names w by handle s n
+service-names w by (request_port handle bytes) c s l n = naming_holds w _ n (datagram-names w by handle bytes)
+service-names w by (request_wait_reply_port handle bytes) c s l n = naming_holds w _ n (request-names w by handle bytes)
+service-names w by (reply_port handle bytes) c s l n = naming_holds w _ n (reply-names w by handle bytes)
+service-names w by (reply_wait_receive_port handle bytes) c s l n = naming_holds w _ n (receive-names w by handle bytes)
+service-names w by (close handle) c s l n = close-names w by handle s n
+service-names w by (duplicate_object handle access) c s l n = naming_holds w _ n (duplicate-names w by handle access n)
+service-names w by (query_object handle) c s l n = naming_holds w _ n (query-names w by handle)
+
+ready-names : (w : World) (by : ThreadRow) (call : ScriptCall) (o : Option WaitRow) → (o ≡ None → CanCall w by) → IsSoundWorld w → IsLinked w → NamesWhatStands w → KeepNames w (ready_steps by call o w)
+ready-names w by call (Some x) c s l n = n
+ready-names w by call None c s l n = settled_holds (KeepNames w) by (name_of_call call) (service_of w by call) (service-names w by call (c refl) s l n) (λ _ _. n)
+
+thread-names : (w : World) (tid : ℕ) (call : ScriptCall) (o : Option ThreadRow) → live_thread w tid ≡ o → IsSoundWorld w → IsLinked w → NamesWhatStands w → KeepNames w (thread_steps tid call o w)
+thread-names w tid call None live s l n = n
+thread-names w tid call (Some by) live s l n = ready-names w by call (wait_of w tid) (λ idle. can-call w tid by live idle s) s l n
+
+-- Directives
+boot-names : (w : World) (pid tid : ℕ) → Holds (AreNaming w) (boot_line w pid tid)
+unfolding boot_line
+boot-names w pid tid = bind_holds (unused_test w pid tid) _ (AreNaming w) (λ _ _. refl)
+
+further-names : (w : World) (tid pid : ℕ) → Holds (AreNaming w) (thread_line w tid pid)
+unfolding thread_line
+further-names w tid pid = bind_holds (thread_test w tid pid) _ (AreNaming w) (λ _ _. refl)
+
+dir-names : (w : World) (text : List ℕ) → Holds (AreNaming w) (dir_line w text)
+unfolding dir_line
+dir-names w text = bind_holds (free_name w text) _ (AreNaming w) (λ path _. refl)
+
+link-names : (w : World) (text target : List ℕ) → Holds (AreNaming w) (link_line w text target)
+unfolding link_line
+link-names w text target =
+    bind_holds (spelled_name target) _ (AreNaming w) (λ to _.
+    bind_holds (free_name w text) _ (AreNaming w) (λ path _. refl))
+
+-- Lines
+-- before rows go
+pub names_line : (w : World) (line : ScriptLine) → IsSoundWorld w → IsLinked w → NamesWhatStands w → NamesWhatStands (world_after w (bare_steps line w))
+unfolding bare_steps
+names_line w (boot pid tid) s l n = directed_holds (KeepNames w) word.Boot (boot_line w pid tid) (naming_holds w (boot_line w pid tid) n (boot-names w pid tid)) (λ _. n)
+names_line w (thread tid pid) s l n = directed_holds (KeepNames w) word.Thread (thread_line w tid pid) (naming_holds w (thread_line w tid pid) n (further-names w tid pid)) (λ _. n)
+names_line w (dir path) s l n = directed_holds (KeepNames w) word.Dir (dir_line w path) (naming_holds w (dir_line w path) n (dir-names w path)) (λ _. n)
+names_line w (link path target) s l n = directed_holds (KeepNames w) word.Link (link_line w path target) (naming_holds w (link_line w path target) n (link-names w path target)) (λ _. n)
+names_line w (run tid call) s l n = thread-names w tid call (live_thread w tid) refl s l n
+
+-- the step of a line
+pub names_step : StepsNameWhatStands
+names_step w line s l n =
+    let bs = bare_steps line w in
+    rw (after-append w bs (sweep (world_after w bs))) (swept-names (world_after w bs) (names_line w line s l n))
+
+pub names_none : NamesWhatStands no_rows
+names_none = record { handles = refl; senders = refl; queues = refl }
+
+-- Runs
+trace-names : (w : World) (lines : List (Option ScriptLine)) → IsSoundWorld w → IsLinked w → NamesWhatStands w → AllByRecursion (λ (s : Stepped). NamesWhatStands s.world) (trace w lines)
+unfolding trace
+trace-names w [] s l n = tt
+trace-names w (None ∷ later) s l n = (n, trace-names w later s l n)
+trace-names w (Some line ∷ later) s l n =
+    let after = names_step w line s l n in
+    (after, trace-names (step w line).world later (sound_step w line s) (linked_step w line s l) after)
+
+-- each line of a script leaves such a world
+pub names_run : (bytes : List ℕ) → RunNamesWhatStands bytes
+names_run bytes = trace-names no_rows (said_in bytes) sound_none linked_none names_none
