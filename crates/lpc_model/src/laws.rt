@@ -2,7 +2,11 @@
 ghost use Rattle.std.specs.Prelude.{ℕ, List};
 ghost use Rattle.lpc_model.specs.World.{World};
 ghost use Rattle.lpc_model.specs.Linked.{IsLinked, RunHoldsRows, StepsHoldRows};
+ghost use Rattle.lpc_model.specs.Standing.{NamesWhatStands, RunNamesWhatStands, StepsNameWhatStands};
 ghost use Rattle.lpc_model.specs.OpenQueues.{HasOpenQueues, RunKeepsQueuesOpen, StepsKeepQueuesOpen};
+ghost use Rattle.lpc_model.specs.Closings.{RunTellsClosings};
+ghost use Rattle.lpc_model.specs.Creators.{RunKeepsConnects};
+ghost use Rattle.lpc_model.specs.Untold.{IsUntold, RunKeepsUntold, StepsKeepUntold};
 ghost use Rattle.lpc_model.specs.Limits.{LimitsDatagrams, LimitsHandles, LimitsInfo, LimitsMessages, LimitsThreads};
 ghost use Rattle.lpc_model.specs.Connected.{ConnectedPortsReachEachOther};
 ghost use Rattle.lpc_model.specs.Queues.{FirstWaiterTakes, QueuesAreFirstInFirstOut};
@@ -32,24 +36,51 @@ pub fn law_completion_refuses_cut_pairs()
     ensures runs { (script : List ℕ) → RunRefusesCutPairsAlone script }
 {}
 
-/// In every script some row counts for each object that stands behind a line, and before the first line none stands.
+/// In every script some row counts for each object that stands behind a line, and what rows name
+/// stands.
 ///
-/// An object that no row counts for any longer goes at the end of the line in two passes; two are enough.
+/// An object that no row counts for any longer goes at the end of the line in two passes; two are
+/// enough. Each handle names a port that stands, each queued message was sent on one, and each wait
+/// was made on one: its queue is that of this port, of its connection port or, for a request, of
+/// its other end. So no row is left that names a port that went. Before the first line none stands.
 pub fn law_held_objects()
     ensures first { IsLinked first_state }
     ensures steps { StepsHoldRows }
     ensures runs { (script : List ℕ) → RunHoldsRows script }
+    ensures named_first { NamesWhatStands first_state }
+    ensures named_steps { StepsNameWhatStands }
+    ensures named_runs { (script : List ℕ) → RunNamesWhatStands script }
 {}
 
-/// In every script messages stand, and threads wait, in queues of open ports alone.
+/// In every script messages stand in queues of open ports alone, and what waits to be received
+/// waits there.
 ///
-/// A port is open while a handle names it. A message enters a queue, and a thread begins to wait on one, only where the
-/// queue's port is open, and no line takes a handle away. So the queue of each message that stands, and of each wait,
-/// received or not, is that of an open port, before the first line and behind each line.
+/// A port is open while a handle names it. A message enters a queue, and a thread begins to wait on
+/// one, only where the queue's port is open. With its last handle a port is closed: its queue is
+/// emptied, and what waits there to be received ends. So the queue of each message that stands, and
+/// of each wait that isn't received, is that of an open port, before the first line and behind each
+/// line. Of a request that was received it says nothing: its queue's port may be closed.
 pub fn law_open_queues()
     ensures first { HasOpenQueues first_state }
     ensures steps { StepsKeepQueuesOpen }
     ensures runs { (script : List ℕ) → RunKeepsQueuesOpen script }
+{}
+
+/// In every script the messages that tell of closed ports are, line by line, those of the ports
+/// whose last handles go.
+///
+/// For each completed client port that loses its last handle while its connection port is open,
+/// exactly one such message enters the queue of that connection port, whose data are the maker and
+/// the ordinal of the port's birth, and no other does. It is in the name of the connect that the
+/// client port keeps: behind each line each has a connection port and such a connect, of the thread
+/// that made it. So of each closed port one message stands in a queue at most, and of an open port
+/// none does, before the first line and behind each line.
+pub fn law_closings_are_told()
+    ensures runs { (script : List ℕ) → RunTellsClosings script }
+    ensures creators { (script : List ℕ) → RunKeepsConnects script }
+    ensures untold_first { IsUntold first_state }
+    ensures untold_steps { StepsKeepUntold }
+    ensures untold_runs { (script : List ℕ) → RunKeepsUntold script }
 {}
 
 /// Five limits are tested exactly: below a limit its test grants one more, from there on it refuses.

@@ -14,15 +14,12 @@ pub use entry::{
 };
 pub use fault::LineFault;
 pub use fields::{
-    completion_fields, handle_field, identifier_field, info_field, kept, message_field, receipt,
-    refuse,
+    completion_fields, handle_field, identifier_field, info_field, kept, message_field,
+    object_fields, receipt, refuse,
 };
 pub use laws::{
-    law_completion_refuses_cut_pairs, law_connected_ports_reach_each_other, law_held_objects,
-    law_limits, law_open_queues, law_queues_keep_their_order, law_sound_waits,
+    law_closings_are_told, law_completion_refuses_cut_pairs, law_connected_ports_reach_each_other,
+    law_held_objects, law_limits, law_open_queues, law_queues_keep_their_order, law_sound_waits,
 };
 pub use line::{Call, Line};
 pub use message::{Body, Message};
-
-#[cfg(test)]
-mod tests;

@@ -1,0 +1,203 @@
+-- Each line tells of the closings that it brings, and of no other.
+use Rattle.std.proofs.Common.{◌∙◌, ℕ, List, [], ◌∷◌, Bool, true, false, not, Option, Some, None, refl, sym, ap}
+use Rattle.std.specs.Prelude.{Result, Ok, Err}
+use Rattle.lpc_base.specs.Rows.{each, first, which}
+use Rattle.lpc_base.proofs.RowWords.{every-append}
+use Rattle.lpc_base.specs.declared.status.Status.{Status}
+use Rattle.lpc_base.specs.declared.status.TheConstants.{INVALID_HANDLE, INVALID_PORT_HANDLE}
+use Rattle.lpc_message.specs.declared.kind.TheConstants.{DATAGRAM, REQUEST}
+use Rattle.lpc_model.specs.declared.entry.Word.TheVariants as word
+use Rattle.lpc_model.specs.World.{Birth, Message, MessageRow, PortRow, ThreadRow, WaitRow, World}
+use Rattle.lpc_model.specs.Found.{handle_at, is_connection_port, is_queued, is_queued_connect, live_thread, wait_of}
+use Rattle.lpc_model.specs.Basics.{AddsHandle, Basic, world_after}
+use Rattle.lpc_model.specs.Message.{message_test}
+use Rattle.lpc_model.specs.Entering.{enter, row_of}
+use Rattle.lpc_model.specs.Named.{free_name, named_port, spelled_name}
+use Rattle.lpc_model.specs.Refusal.{refuse_if}
+use Rattle.lpc_model.specs.Tests.{PORT_ACCESS, handle_row, handles_test, next_birth, own_handle, port_test}
+use Rattle.lpc_model.specs.Connect.{ConnectAnswer, answer_test, answered_steps, client_port, complete_test, connect_start, connection_request, info_test, listen_steps, making, nt_accept_connect_port, nt_complete_connect_port, nt_connect_port, nt_create_port, nt_listen_port}
+use Rattle.lpc_model.specs.Request.{answered_test, datagram_send_test, datagram_start, given_reply, nt_reply_port, nt_reply_wait_receive_port, nt_request_port, nt_request_wait_reply_port, optional_message, receive_steps, receive_test, request_start, send_test, sent_by}
+use Rattle.lpc_model.specs.Close.{nt_close}
+use Rattle.lpc_model.specs.Counts.{asked, nt_duplicate_object, nt_query_object, rights_test}
+use Rattle.lpc_model.specs.Sweep.{sweep}
+use Rattle.lpc_model.specs.Closings.{ClosingsAreTold, RunTellsClosings, is_closed_post, told_closed}
+use Rattle.lpc_model.specs.Run.{Along, said_in}
+use Rattle.lpc_model.proofs.SoundLines.{sound_none, sound_step}
+use Rattle.lpc_model.specs.World.{no_rows}
+use Rattle.lpc_model.specs.Machine.{step}
+use Rattle.lpc_model.specs.Lines.{ScriptCall, ScriptLine, accept_connect_port, boot, close, complete_connect_port, connect_port, create_port, dir, duplicate_object, link, listen_port, query_object, reply_port, reply_wait_receive_port, request_port, request_wait_reply_port, run, thread}
+use Rattle.lpc_model.specs.Machine.{Stepped, bare_steps, boot_line, dir_line, link_line, name_of_call, ready_steps, service_of, thread_line, thread_steps, thread_test, unused_test}
+use Rattle.lpc_model.specs.SoundWaits.{IsSoundWorld}
+use Rattle.lpc_model.proofs.Holding.{Holds, bind_holds, directed_holds, found_ok, holds_ok, settled_holds}
+use Rattle.lpc_model.proofs.Sweeping.{step_swept}
+use Rattle.lpc_model.proofs.SoundClose.{found-value}
+use Rattle.lpc_model.proofs.Told.{AreCalm, AreHushed, TellsClosings, calm-all, calm-tells, closings-before, handle-tells, hushed-enter, hushed-receipt, is_calm, is_hushed, sweep-dropless}
+
+-- Services
+making-calm : (w : World) (port : Birth) (name : Option (List ℕ)) → Holds AreCalm (making w port name)
+making-calm w port None = refl
+making-calm w port (Some name) = bind_holds (free_name w name) _ AreCalm (λ path _. refl)
+
+create-calm : (w : World) (by : ThreadRow) (name : Option (List ℕ)) → Holds AreCalm (nt_create_port w by name)
+unfolding nt_create_port
+create-calm w by name =
+    bind_holds (making w (next_birth by) name) _ AreCalm (λ made at.
+    bind_holds (handles_test w by.process 1) _ AreCalm (λ _ _. every-append is_calm made (AddsHandle by.process (handle_row _ _ PORT_ACCESS) ∷ []) (holds_ok AreCalm (making w (next_birth by) name) made (making-calm w (next_birth by) name) at) refl))
+
+connect-calm : (w : World) (by : ThreadRow) (name bytes : List ℕ) → Holds AreCalm (nt_connect_port w by name bytes)
+unfolding nt_connect_port
+connect-calm w by name bytes =
+    bind_holds (info_test bytes) _ AreCalm (λ _ _.
+    bind_holds (named_port w name) _ AreCalm (λ connection _.
+    bind_holds (handles_test w by.process 1) _ AreCalm (λ _ _.
+    calm-all (enter (row_of connection (client_port by connection) (connection_request by bytes)) (world_after w (connect_start by connection (connection_request by bytes)))) (hushed-enter (row_of connection (client_port by connection) (connection_request by bytes)) (world_after w (connect_start by connection (connection_request by bytes))) refl))))
+
+listened-hushed : (by : ThreadRow) (port : Birth) (o : Option MessageRow) → AreHushed (listen_steps by port o)
+listened-hushed by port (Some m) = hushed-receipt m
+listened-hushed by port None = refl
+
+pub listen-hushed : (w : World) (by : ThreadRow) (handle : ℕ) → Holds AreHushed (nt_listen_port w by handle)
+unfolding nt_listen_port
+listen-hushed w by handle =
+    bind_holds (port_test w by handle) _ AreHushed (λ port _.
+    bind_holds (refuse_if (not (is_connection_port port)) INVALID_PORT_HANDLE) _ AreHushed (λ _ _.
+    listened-hushed by port.birth (first (is_queued_connect port.birth) w.messages)))
+
+answered-calm : (w : World) (by : ThreadRow) (context : ℕ) (accept : Bool) (a : ConnectAnswer) → Holds AreCalm (answered_steps w by context accept a)
+answered-calm w by context false a = refl
+answered-calm w by context true a = bind_holds (handles_test w by.process 1) _ AreCalm (λ _ _. refl)
+
+accept-calm : (w : World) (by : ThreadRow) (context : ℕ) (bytes : List ℕ) (accept : Bool) → Holds AreCalm (nt_accept_connect_port w by context bytes accept)
+unfolding nt_accept_connect_port
+accept-calm w by context bytes accept = bind_holds (answer_test w by bytes) _ AreCalm (λ a _. answered-calm w by context accept a)
+
+complete-calm : (w : World) (by : ThreadRow) (handle : ℕ) → Holds AreCalm (nt_complete_connect_port w by handle)
+unfolding nt_complete_connect_port
+complete-calm w by handle = bind_holds (complete_test w by handle) _ AreCalm (λ c _. refl)
+
+pub datagram-hushed : (w : World) (by : ThreadRow) (handle : ℕ) (bytes : List ℕ) → Holds AreHushed (nt_request_port w by handle bytes)
+unfolding nt_request_port
+datagram-hushed w by handle bytes =
+    bind_holds (datagram_send_test w by handle bytes) _ AreHushed (λ s _. hushed-enter (row_of s.queue s.port (sent_by by DATAGRAM s.message)) (world_after w (datagram_start by)) refl)
+
+pub request-hushed : (w : World) (by : ThreadRow) (handle : ℕ) (bytes : List ℕ) → Holds AreHushed (nt_request_wait_reply_port w by handle bytes)
+unfolding nt_request_wait_reply_port
+request-hushed w by handle bytes =
+    bind_holds (send_test w by handle bytes) _ AreHushed (λ s _. hushed-enter (row_of s.queue s.port (sent_by by REQUEST s.message)) (world_after w (request_start by s.port.birth s.queue (sent_by by REQUEST s.message))) refl)
+
+pub reply-hushed : (w : World) (by : ThreadRow) (handle : ℕ) (bytes : List ℕ) → Holds AreHushed (nt_reply_port w by handle bytes)
+unfolding nt_reply_port
+reply-hushed w by handle bytes =
+    bind_holds (port_test w by handle) _ AreHushed (λ port _.
+    bind_holds (message_test bytes) _ AreHushed (λ m _.
+    bind_holds (answered_test w port m) _ AreHushed (λ x _. refl)))
+
+given-hushed : (w : World) (port : PortRow) (m : Option Message) → Holds AreHushed (given_reply w port m)
+given-hushed w port None = refl
+given-hushed w port (Some m) = bind_holds (answered_test w port m) _ AreHushed (λ x _. refl)
+
+received-hushed : (by : ThreadRow) (port : PortRow) (queue : Birth) (replied : List Basic) (o : Option MessageRow) → AreHushed replied → AreHushed (receive_steps by port queue replied o)
+received-hushed by port queue replied (Some m) hushed = every-append is_hushed replied _ hushed (hushed-receipt m)
+received-hushed by port queue replied None hushed = every-append is_hushed replied _ hushed refl
+
+pub receive-hushed : (w : World) (by : ThreadRow) (handle : ℕ) (bytes : Option (List ℕ)) → Holds AreHushed (nt_reply_wait_receive_port w by handle bytes)
+unfolding nt_reply_wait_receive_port
+receive-hushed w by handle bytes =
+    bind_holds (port_test w by handle) _ AreHushed (λ port _.
+    bind_holds (optional_message bytes) _ AreHushed (λ m _.
+    bind_holds (receive_test w port) _ AreHushed (λ queue _.
+    bind_holds (given_reply w port m) _ AreHushed (λ replied at.
+    received-hushed by port queue replied (first (is_queued queue) w.messages) (holds_ok AreHushed (given_reply w port m) replied (given-hushed w port m) at)))))
+
+duplicate-calm : (w : World) (by : ThreadRow) (value : ℕ) (access : Option ℕ) → Holds AreCalm (nt_duplicate_object w by value access)
+unfolding nt_duplicate_object
+duplicate-calm w by value access =
+    bind_holds (own_handle w by value) _ AreCalm (λ r _.
+    bind_holds (rights_test r (asked r access)) _ AreCalm (λ _ _.
+    bind_holds (handles_test w by.process 1) _ AreCalm (λ _ _. refl)))
+
+pub query-hushed : (w : World) (by : ThreadRow) (value : ℕ) → Holds AreHushed (nt_query_object w by value)
+unfolding nt_query_object
+query-hushed w by value = bind_holds (own_handle w by value) _ AreHushed (λ r _. refl)
+
+-- Calls
+-- what holds of calm steps
+calm_holds : (w : World) (r : Result (List Basic) Status) → Holds AreCalm r → Holds (TellsClosings w) r
+calm_holds w (Ok bs) calm = calm-tells w bs calm
+calm_holds w (Err s) calm = tt
+
+hushed_holds : (w : World) (r : Result (List Basic) Status) → Holds AreHushed r → Holds (TellsClosings w) r
+hushed_holds w (Ok bs) hushed = calm-tells w bs (calm-all bs hushed)
+hushed_holds w (Err s) hushed = tt
+
+close-tells : (w : World) (by : ThreadRow) (value : ℕ) → IsSoundWorld w → Holds (TellsClosings w) (nt_close w by value)
+unfolding nt_close
+close-tells w by value s =
+    bind_holds (own_handle w by value) _ (TellsClosings w) (λ r is.
+    handle-tells w by.process r (found-value w by.process value r (found_ok (handle_at w by.process value) INVALID_HANDLE r is)) s)
+
+service-tells : (w : World) (by : ThreadRow) (call : ScriptCall) → IsSoundWorld w → Holds (TellsClosings w) (service_of w by call)
+service-tells w by (create_port name) s = calm_holds w _ (create-calm w by name)
+service-tells w by (connect_port name info) s = calm_holds w _ (connect-calm w by name info)
+service-tells w by (listen_port handle) s = hushed_holds w _ (listen-hushed w by handle)
+service-tells w by (accept_connect_port context message accept) s = calm_holds w _ (accept-calm w by context message accept)
+service-tells w by (complete_connect_port handle) s = calm_holds w _ (complete-calm w by handle)
+service-tells w by (request_port handle bytes) s = hushed_holds w _ (datagram-hushed w by handle bytes)
+service-tells w by (request_wait_reply_port handle bytes) s = hushed_holds w _ (request-hushed w by handle bytes)
+service-tells w by (reply_port handle bytes) s = hushed_holds w _ (reply-hushed w by handle bytes)
+service-tells w by (reply_wait_receive_port handle bytes) s = hushed_holds w _ (receive-hushed w by handle bytes)
+service-tells w by (close handle) s = close-tells w by handle s
+service-tells w by (duplicate_object handle access) s = calm_holds w _ (duplicate-calm w by handle access)
+service-tells w by (query_object handle) s = hushed_holds w _ (query-hushed w by handle)
+
+ready-tells : (w : World) (by : ThreadRow) (call : ScriptCall) (o : Option WaitRow) → IsSoundWorld w → TellsClosings w (ready_steps by call o w)
+ready-tells w by call (Some x) s = refl
+ready-tells w by call None s = settled_holds (TellsClosings w) by (name_of_call call) (service_of w by call) (service-tells w by call s) (λ _ _. refl)
+
+thread-tells : (w : World) (tid : ℕ) (call : ScriptCall) (o : Option ThreadRow) → IsSoundWorld w → TellsClosings w (thread_steps tid call o w)
+thread-tells w tid call None s = refl
+thread-tells w tid call (Some by) s = ready-tells w by call (wait_of w tid) s
+
+-- Directives
+pub boot-hushed : (w : World) (pid tid : ℕ) → Holds AreHushed (boot_line w pid tid)
+unfolding boot_line
+boot-hushed w pid tid = bind_holds (unused_test w pid tid) _ AreHushed (λ _ _. refl)
+
+pub further-hushed : (w : World) (tid pid : ℕ) → Holds AreHushed (thread_line w tid pid)
+unfolding thread_line
+further-hushed w tid pid = bind_holds (thread_test w tid pid) _ AreHushed (λ _ _. refl)
+
+pub dir-hushed : (w : World) (text : List ℕ) → Holds AreHushed (dir_line w text)
+unfolding dir_line
+dir-hushed w text = bind_holds (free_name w text) _ AreHushed (λ path _. refl)
+
+pub link-hushed : (w : World) (text target : List ℕ) → Holds AreHushed (link_line w text target)
+unfolding link_line
+link-hushed w text target =
+    bind_holds (spelled_name target) _ AreHushed (λ to _.
+    bind_holds (free_name w text) _ AreHushed (λ path _. refl))
+
+-- Lines
+-- before rows go
+line-told : (w : World) (line : ScriptLine) → IsSoundWorld w → TellsClosings w (bare_steps line w)
+unfolding bare_steps
+line-told w (boot pid tid) s = directed_holds (TellsClosings w) word.Boot (boot_line w pid tid) (hushed_holds w (boot_line w pid tid) (boot-hushed w pid tid)) (λ _. refl)
+line-told w (thread tid pid) s = directed_holds (TellsClosings w) word.Thread (thread_line w tid pid) (hushed_holds w (thread_line w tid pid) (further-hushed w tid pid)) (λ _. refl)
+line-told w (dir path) s = directed_holds (TellsClosings w) word.Dir (dir_line w path) (hushed_holds w (dir_line w path) (dir-hushed w path)) (λ _. refl)
+line-told w (link path target) s = directed_holds (TellsClosings w) word.Link (link_line w path target) (hushed_holds w (link_line w path target) (link-hushed w path target)) (λ _. refl)
+line-told w (run tid call) s = thread-tells w tid call (live_thread w tid) s
+
+-- rows that go tell of nothing
+pub closings_told : (w : World) (line : ScriptLine) → IsSoundWorld w → ClosingsAreTold w line
+closings_told w line s =
+    let bs = bare_steps line w in
+    ap (λ (t : Stepped). which is_closed_post t.posts) (step_swept w line) ∙ (line-told w line s ∙ ap (each (told_closed w)) (sym (closings-before w bs (sweep (world_after w bs)) (sweep-dropless (world_after w bs)))))
+
+-- Runs
+told-along : (w : World) (lines : List (Option ScriptLine)) → IsSoundWorld w → Along ClosingsAreTold w lines
+told-along w [] s = tt
+told-along w (None ∷ later) s = told-along w later s
+told-along w (Some line ∷ later) s = (closings_told w line s, told-along (step w line).world later (sound_step w line s))
+
+pub closings_told_run : (bytes : List ℕ) → RunTellsClosings bytes
+closings_told_run bytes = told-along no_rows (said_in bytes) sound_none

@@ -1,0 +1,39 @@
+-- What is told of closings: each completed client port that loses its last handle is told of once.
+use Rattle.std.specs.Prelude.{◌≡◌, ℕ, ◌==◌, ◌++◌, Bool, List, [], ◌∷◌}
+use Rattle.lpc_base.specs.Rows.{each, given, when, which}
+use Rattle.lpc_message.specs.declared.kind.TheConstants.{PORT_CLOSED}
+use Rattle.lpc_model.specs.World.{Birth, MessageRow, World}
+use Rattle.lpc_model.specs.Found.{handle_at, port_row}
+use Rattle.lpc_model.specs.Basics.{Basic, DropsHandle, basic}
+use Rattle.lpc_model.specs.Close.{is_last, told_of}
+use Rattle.lpc_model.specs.Lines.{ScriptLine}
+use Rattle.lpc_model.specs.Machine.{step, steps}
+use Rattle.lpc_model.specs.Run.{Along, first_state, said_in}
+
+-- a message that tells of a closed port
+abbrev pub is_closed_post : MessageRow → Bool
+is_closed_post m = m.message.header.kind == PORT_CLOSED
+
+-- the port whose last handle goes by a step
+abbrev pub closes : World → Basic → List Birth
+closes w (DropsHandle pid value) = given (handle_at w pid value) (λ r. when (is_last r w) (r.object.birth ∷ []))
+closes w b = []
+
+-- the ports whose last handles go by some steps
+abbrev pub closings : World → List Basic → List Birth
+closings w [] = []
+closings w (b ∷ bs) = closes w b ++ closings (basic w b) bs
+
+-- what is told of a closed port: one message to its connection port, where it is a completed client port and the
+-- connection port is open
+abbrev pub told_closed : World → Birth → List MessageRow
+told_closed w b = given (port_row w b) (λ p. given (told_of w p) (λ m. m ∷ []))
+
+-- the messages of a line that tell of closed ports are those of the ports that lost their last handles, seen before the line
+abbrev pub ClosingsAreTold : World → ScriptLine → Type 0
+ClosingsAreTold w line =
+    which is_closed_post (step w line).posts ≡ each (told_closed w) (closings w (steps line w))
+
+-- each line of a script tells so
+abbrev pub RunTellsClosings : List ℕ → Type 0
+RunTellsClosings bytes = Along ClosingsAreTold first_state (said_in bytes)
