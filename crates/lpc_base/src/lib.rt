@@ -11,8 +11,6 @@ mod memory;
 mod port_kind;
 pub mod status;
 mod streams;
-#[cfg(test)]
-mod tests;
 
 pub use birth::Birth;
 pub use bytes::held;

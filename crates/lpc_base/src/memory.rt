@@ -128,7 +128,8 @@ impl Source for MemSource {
         ensures failed { OnErr result (self.new.left ≡ self.old.left) }
         ensures cause { HasCause self.old.faults self.new.faults result }
         ensures still { IfOk result (λ _. self.new.faults ≡ self.old.faults) }
-        ensures asked { self.new.asked ≡ asked_for self.old.asked (length into.old) (taken result) }
+        ensures asked { self.new.asked
+            ≡ asked_for self.old.asked (length into.old) (taken result) }
         ensures calls { self.new.calls ≡ raised self.old.calls }
         ensures fails { IsErr result ↔ Contains self.old.fails (raised self.old.calls) }
         ensures once { OnErr result (self.new.faults ≡ raised self.old.faults) }

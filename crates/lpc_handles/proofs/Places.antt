@@ -3,7 +3,7 @@ use Rattle.std.proofs.Common.{◌≡◌, ℕ, zero, suc, ◌+◌, ◌%◌, ◌<�
 use Rattle.std.specs.Prelude.{Option, Some, None, IfSome, IfNone, is_some, option_map, ◌==◌}
 use Rattle.std.proofs.lemmas.Bool.Decides.{nat_tests}
 use Rattle.lpc_base.specs.Places.{is_in, handle_from, least_handle}
-use Rattle.lpc_base.specs.Rows.{first, has, which, without}
+use Rattle.lpc_base.specs.Rows.{first, has, which, without, without_first}
 use Rattle.lpc_base.proofs.RowWords.{without-none}
 use Rattle.lpc_handles.specs.declared.table.Row.{Row}
 use Rattle.lpc_handles.specs.Handles.{at, are_rising, has_value, is_above, is_below, is_from, values, with_row, IsLeastFrom}
@@ -177,6 +177,11 @@ module _ {O : Type 0} where
   one-goes value least [] x rises is = grind arith
   one-goes value least (row ∷ rows) x rises is =
       grind (arith, nat_tests, one-goes value (row.0 + 4) rows x, absent value (row.0 + 4) rows, without-none (has_value value) rows)
+
+  pub only-goes : (value least : ℕ) (rows : List (ℕ × Row O)) → are_rising least rows ≡ true → without (has_value value) rows ≡ without_first (has_value value) rows
+  only-goes value least [] rises = refl
+  only-goes value least (row ∷ rows) rises =
+      grind (arith, nat_tests, only-goes value (row.0 + 4) rows, absent value (row.0 + 4) rows, without-none (has_value value) rows)
 
   -- the first row that isn't below
   pub first-none : (from other : ℕ) (rows : List (ℕ × Row O)) → first (is_from from) rows ≡ None → from ≤ other → at rows other ≡ None

@@ -1,7 +1,7 @@
 // The table of one process's handles, by rising value.
 ghost use Rattle.std.specs.Prelude.{◌≡◌, ◌+◌, ◌<◌, ◌≤◌, ◌↔◌, true, [], length, IsErr, IfOk, OnOk, OnErr, OnSome, IfSome, IfNone, vec_len, vec_capacity};
 ghost use Rattle.lpc_base.specs.Places.{least_handle};
-ghost use Rattle.lpc_base.specs.Rows.{has, without};
+ghost use Rattle.lpc_base.specs.Rows.{count, has, without, without_first};
 ghost use Rattle.lpc_base.specs.declared.limits.TheConstants.{HANDLE_LIMIT};
 ghost use Rattle.lpc_handles.specs.Handles.{Gains, HasNoneFrom, IsLeastFrom, IsPlaceOf, KeepsRising, are_rising, at, first_from, has_value, is_named, new_row, values};
 
@@ -118,6 +118,7 @@ impl<O: Copy> Table<O> {
     pub fn close(&mut self, value: u32) -> Option<Row<O>>
         ensures row { result ≡ at self.old.rows value }
         ensures rows { self.new.rows ≡ without (has_value value) self.old.rows }
+        ensures one { self.new.rows ≡ without_first (has_value value) self.old.rows }
         ensures spare { OnSome result (self.new.spare ≡ self.old.spare + 1) }
         ensures same { IfNone result (self.new ≡ self.old) }
     {
@@ -148,6 +149,20 @@ impl<O: Copy + Eq> Table<O> {
             }
         }
         false
+    }
+
+    /// How many handles name the object.
+    pub fn count_of(&self, object: O) -> usize
+        ensures count { result ≡ count (is_named O.eq object) self.now.rows }
+        ensures within { result ≤ HANDLE_LIMIT }
+    {
+        let mut named = 0;
+        for (_, row) in &self.rows {
+            if row.object == object {
+                named += 1;
+            }
+        }
+        named
     }
 }
 

@@ -1,10 +1,12 @@
 -- Bindings beside the entries of the table that keeps them.
-use Rattle.std.proofs.Common.{◌≡◌, ◌∙◌, refl, ap, ℕ, zero, suc, List, [], ◌∷◌, ◌++◌, cond, Bool, true, false, nat_eq, Option, Some, None, option_map, Result, Ok, Err, OnOk, is_err, remove}
+use Rattle.std.proofs.Common.{◌≡◌, ◌∙◌, refl, ap, ℕ, zero, suc, List, [], ◌∷◌, ◌++◌, cond, Bool, true, false, nat_eq, Option, Some, None, option_map, Result, Ok, Err, OnOk, is_err, remove, filter, not, arith}
 use Rattle.std.specs.Map.{lookup}
 use Rattle.std.specs.Cmp.Lexicographic.{pointwise}
 use Rattle.arrayvec.specs.ArrayVec.{ArrayVec}
 use Rattle.lpc_names.specs.declared.names.Node.{Node}
-use Rattle.lpc_names.specs.Path.{parts_of}
+use Rattle.lpc_base.specs.Rows.{without}
+use Rattle.lpc_names.specs.Path.{Path, parts_of}
+use Rattle.lpc_names.specs.Walk as names
 use Rattle.lpc_names.specs.Walk.{node_at}
 use Rattle.lpc_names.specs.Kept.{shown, shown_all, shown_node}
 use Rattle.lpc_names.proofs.Paths.{same-parts}
@@ -27,6 +29,11 @@ module _ {T : Type 0} where
   shown-remove [] (suc i) = refl
   shown-remove (e ∷ es) zero = refl
   shown-remove (e ∷ es) (suc i) = ap (λ rest. shown e ∷ rest) (shown-remove es i)
+
+  -- the entries whose bindings don't pass a test are the bindings that don't
+  pub shown-without : (test : Path × names.Node T → Bool) (es : List (ArrayVec ℕ × Node T)) → shown_all (filter (λ e. not (test (shown e))) es) ≡ without test (shown_all es)
+  shown-without test [] = refl
+  shown-without test (e ∷ es) = grind (arith, shown-without test es)
 
   pub none-shown : (node : Option (Node T)) → option_map (shown_node {T = T}) node ≡ None → node ≡ None
   none-shown None h = refl

@@ -1,6 +1,7 @@
--- What a name space is, and how it changes: one name comes, or one name goes.
+-- What a name space is, and how it changes: one name comes, one name goes, or all names of an item go.
 use Rattle.std.specs.Prelude.{◌≡◌, ℕ, Bool, true, false, if◌then◌else◌, List, [], ◌∷◌, ◌++◌, Result, Ok, Err, IfErr, IsOk, OnOk, slice_get}
 use Rattle.std.specs.Option.{option_map_or}
+use Rattle.lpc_base.specs.Rows.{without}
 use Rattle.lpc_names.specs.declared.fault.NameFault.{NameFault}
 use Rattle.lpc_names.specs.declared.fault.BindFault.{BindFault}
 use Rattle.lpc_names.specs.declared.fault.BindFault.TheVariants.{Name, OutOfMemory}
@@ -59,12 +60,16 @@ module _ {T : Type 0} where
   Leaves OutOfMemory old new = new.bindings ≡ old.bindings
 
   module _ (same : T → T → Bool) (item : T) where
-    -- a name of the item
-    abbrev pub is_name : Path × Node T → Bool
-    is_name binding = elim binding.1 [
+    -- the item stands there itself
+    abbrev pub is_item : Node T → Bool
+    is_item node = elim node [
       | LinkTo target ↦ false
       | Stands found ↦ elim found [ Directory ↦ false | Item other ↦ same other item ]
     ]
+
+    -- a name of the item
+    abbrev pub is_name : Path × Node T → Bool
+    is_name binding = is_item binding.1
 
     -- the binding at an index is a name of the item
     abbrev pub is_name_at : Bindings T → ℕ → Bool
@@ -79,3 +84,7 @@ module _ {T : Type 0} where
     abbrev pub without_name : Bindings T → Bindings T
     without_name [] = []
     without_name (binding ∷ rest) = if is_name binding then rest else binding ∷ without_name rest
+
+    -- the bindings without any name of the item
+    abbrev pub without_names : Bindings T → Bindings T
+    without_names bindings = without is_name bindings

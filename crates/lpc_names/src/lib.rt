@@ -4,8 +4,6 @@
 mod fault;
 mod laws;
 mod names;
-#[cfg(test)]
-mod tests;
 mod text;
 
 pub use fault::{BindFault, NameFault, status_of};

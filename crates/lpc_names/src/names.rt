@@ -1,5 +1,5 @@
 // The name space: a table from paths without links to what stands there, and the walk that finds them.
-ghost use Rattle.std.specs.Prelude.{◌≡◌, ◌≢◌, ◌+◌, ◌<◌, ◌≤◌, length, Err, None, IfErr, IfOk, IsOk, OnOk, OnErr, []};
+ghost use Rattle.std.specs.Prelude.{◌≡◌, ◌≢◌, ◌+◌, ◌<◌, ◌≤◌, length, Err, None, IfErr, IfOk, IsOk, OnOk, OnErr, [], not};
 ghost use Rattle.lpc_names.specs.Path.{IsWithinPath, parts_of};
 ghost use Rattle.lpc_names.specs.Walk as names;
 ghost use Rattle.lpc_names.specs.Binding as binding;
@@ -32,6 +32,18 @@ pub enum Node<T> {
     Stands(Found<T>),
     /// Another path, the target of a link.
     Link(Text),
+}
+
+impl<T: Copy + Eq> Node<T> {
+    // The item stands here itself.
+    fn is_item(&self, item: T) -> bool
+        ensures { result ≡ binding.is_item T.eq item (shown_node self.now) }
+    {
+        match self {
+            Node::Stands(Found::Item(other)) => *other == item,
+            _ => false,
+        }
+    }
 }
 
 /// Where a path without links ends, and what stands there.
@@ -199,6 +211,19 @@ impl<T: Copy + Eq> Names<T> {
         false
     }
 
+    /// Takes away all names of an item. The others stay in their order, and no room is lost.
+    pub fn unbind_all(&mut self, item: T)
+        ensures bindings { self.new.bindings ≡ binding.without_names T.eq item self.old.bindings }
+        ensures spare { self.old.spare ≤ self.new.spare }
+    {
+        self.nodes.retain(
+            |_path: &Text, node: &mut Node<T>| -> bool
+                ensures kept { result ≡ not (binding.is_item T.eq item (shown_node node.old)) }
+                ensures same { node.new ≡ node.old }
+            { !node.is_item(item) },
+        );
+    }
+
     /// Whether a name leads to an item.
     pub fn has_name(&self, item: T) -> bool
         ensures { result ≡ binding.has_name T.eq item self.now.bindings }
@@ -285,7 +310,8 @@ impl<T: Copy + Eq> Names<T> {
     fn put(&mut self, path: &Text, node: Node<T>) -> Result<(), OutOfMemory>
         requires some { 0 < length path.now.items }
         requires free { node_of self.old.bindings path.now.items ≡ None }
-        ensures bound { OnOk result (self.new.bindings ≡ with_node_at self.old.bindings path.now.items (shown_node node)) }
+        ensures bound { OnOk result (self.new.bindings
+            ≡ with_node_at self.old.bindings path.now.items (shown_node node)) }
         ensures left { OnErr result (self.new.bindings ≡ self.old.bindings) }
         ensures room { 0 < self.old.spare → IsOk result }
         ensures spare { self.old.spare ≤ self.new.spare + 1 }
@@ -313,8 +339,8 @@ impl<T: Copy + Eq> Names<T> {
         ensures { result ≡ binding.is_name_at T.eq item self.now.bindings index }
     {
         match self.nodes.get_index(index) {
-            Some((_, Node::Stands(Found::Item(other)))) => *other == item,
-            _ => false,
+            Some((_, node)) => node.is_item(item),
+            None => false,
         }
     }
 }

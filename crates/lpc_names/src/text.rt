@@ -40,7 +40,8 @@ fn has_empty_part(names: &[u8]) -> bool
 
 // What stands behind the backslash that a path begins with.
 fn behind_root(text: &[u8]) -> Option<&[u8]>
-    ensures { MatchOption result (spelled text.now ≡ Err NameFault.PathSyntax) (λ names. text.now ≡ 92 ∷ names.now) }
+    ensures { MatchOption result (spelled text.now ≡ Err NameFault.PathSyntax)
+        (λ names. text.now ≡ 92 ∷ names.now) }
 {
     match text {
         [b'\\', names @ ..] => Some(names),

@@ -9,7 +9,7 @@ use Rattle.lpc_ports.specs.declared.Port.{Port}
 use Rattle.lpc_ports.specs.declared.messages.QueuedMessage.{QueuedMessage}
 
 -- what contracts see of the two tables
-abbrev seen : Table Port → Table QueuedMessage → PortTable
+abbrev pub seen : Table Port → Table QueuedMessage → PortTable
 seen ports messages = record {
   ports = listed ports;
   messages = listed messages;

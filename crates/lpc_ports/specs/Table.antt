@@ -1,15 +1,16 @@
 -- What contracts see of ports and of the messages in their queues, each in the order of making.
-use Rattle.std.specs.Prelude.{◌≡◌, ◌+◌, ◌-◌, ◌==◌, ◌&&◌, ◌||◌, ◌++◌, ◌∷◌, ℕ, Bool, false, List, [], Option, Some, None, option_map, option_and_then, if◌then◌else◌}
+use Rattle.std.specs.Prelude.{◌≡◌, ◌+◌, ◌-◌, ◌==◌, ◌&&◌, ◌||◌, ◌++◌, ◌∷◌, ℕ, Bool, false, true, List, [], Option, Some, None, option_map, option_and_then, if◌then◌else◌}
 use Rattle.std.specs.Option.{option_map_or}
 use Rattle.lpc_base.specs.declared.birth.Birth.{Birth}
-use Rattle.lpc_base.specs.Rows.{change, first, has, passes, without, without_first}
-use Rattle.lpc_message.specs.declared.kind.TheConstants.{CONNECTION_REQUEST, DATAGRAM, REQUEST}
-use Rattle.lpc_message.specs.Layout.{half_at}
+use Rattle.lpc_base.specs.Rows.{change, count, first, has, passes, without, without_first}
+use Rattle.lpc_message.specs.declared.kind.TheConstants.{CONNECTION_REQUEST, DATAGRAM, PORT_CLOSED, REQUEST}
+use Rattle.lpc_message.specs.Layout.{half_at, word_at}
 use Rattle.lpc_slots.specs.Table.{at_key, is_key}
 use Rattle.lpc_slots.specs.declared.Key.{Key}
 use Rattle.lpc_ports.specs.declared.Creator.{Creator}
 use Rattle.lpc_ports.specs.declared.Port.{Port}
 use Rattle.lpc_base.specs.declared.port_kind.PortKind.{PortKind}
+use Rattle.lpc_base.specs.declared.port_kind.PortKind.TheVariants.{Client}
 use Rattle.lpc_ports.specs.declared.messages.Message.{Message}
 use Rattle.lpc_ports.specs.declared.messages.QueuedMessage.{QueuedMessage}
 
@@ -161,13 +162,34 @@ has_none_in messages queue = first_in messages queue ≡ None
 abbrev pub is_the : Key → Option Key → Bool
 is_the key other = passes other (λ k. is_key k key)
 
+-- a port has this one as its other end, and as its connection port
+abbrev pub is_paired_to : Key → Key × Port → Bool
+is_paired_to port row = is_the port row.1.pair
+
+abbrev pub is_connected_to : Key → Key × Port → Bool
+is_connected_to port row = is_the port row.1.connection
+
 -- a port has this one as its other end or as its connection port
 abbrev pub is_joined_to : Key → Key × Port → Bool
 is_joined_to port row = is_the port row.1.pair || is_the port row.1.connection
 
+-- a message was sent on this port
+abbrev pub is_sent_on : Key → Key × QueuedMessage → Bool
+is_sent_on sender row = is_key row.1.message.sender sender
+
 -- a message was sent on this port, or stands in its queue
 abbrev pub is_message_at : Key → Key × QueuedMessage → Bool
 is_message_at port row = is_key row.1.message.sender port || is_in port row
+
+-- the kind is that of a client port, and a port is one
+abbrev pub is_client_kind : PortKind → Bool
+is_client_kind kind = elim kind [
+  | Client ↦ true
+  | _ ↦ false
+]
+
+abbrev pub is_client : Key × Port → Bool
+is_client row = is_client_kind row.1.kind
 
 -- a row names this port: a port has it as its other end or its connection port, or a message was sent on it or stands
 -- in its queue
@@ -179,5 +201,43 @@ abbrev pub is_datagram_of : Key → Key × QueuedMessage → Bool
 is_datagram_of sender row = is_key row.1.message.sender sender && is_of_type DATAGRAM row.1.message
 
 -- a message asks for an answer: it is a request or a connection request
+abbrev pub asks : Message → Bool
+asks message = is_of_type REQUEST message || is_of_type CONNECTION_REQUEST message
+
 abbrev pub is_asking : Key × QueuedMessage → Bool
-is_asking row = is_of_type REQUEST row.1.message || is_of_type CONNECTION_REQUEST row.1.message
+is_asking row = asks row.1.message
+
+-- a message tells of the closing of the port on which it was sent
+abbrev pub is_closing : Key × QueuedMessage → Bool
+is_closing row = is_of_type PORT_CLOSED row.1.message
+
+-- the thread that a message's header names as its client
+abbrev pub client_thread : Message → ℕ
+client_thread message = word_at message.bytes.items 12
+
+-- a message asks for an answer, and names this thread as its client
+abbrev pub is_own_of : ℕ → Key × QueuedMessage → Bool
+is_own_of thread row = is_asking row && (client_thread row.1.message == thread)
+
+-- the key of the first message that asks for an answer to this thread
+abbrev pub first_own_of : List (Key × QueuedMessage) → ℕ → Option Key
+first_own_of messages thread = key_of_first (is_own_of thread) messages
+
+-- the table without the messages that pass, whose room is spare then, and without the first that passes
+abbrev pub without_messages : (Key × QueuedMessage → Bool) → PortTable → PortTable
+without_messages test s = record s {
+  messages = without test s.messages;
+  message_room = s.message_room + count test s.messages;
+}
+
+abbrev pub without_one : (Key × QueuedMessage → Bool) → PortTable → PortTable
+without_one test s = record s {
+  messages = without_first test s.messages;
+  message_room = s.message_room + 1;
+}
+
+-- where a message is the first that passes a test, the table is left without that one
+abbrev pub LosesFirst : PortTable → Key → PortTable → Type 0
+LosesFirst old key new =
+    (test : Key × QueuedMessage → Bool) → key_of_first test old.messages ≡ Some key
+    → new ≡ without_one test old

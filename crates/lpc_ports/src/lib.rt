@@ -5,11 +5,9 @@ ghost use Rattle.std.specs.Prelude.{◌≡◌, ◌||◌, ◌<◌, ◌-◌, ◌�
 ghost use Rattle.lpc_base.specs.Rows.{count, first, has};
 ghost use Rattle.lpc_base.specs.declared.limits.TheConstants.{MESSAGE_LIMIT};
 ghost use Rattle.lpc_slots.specs.Table.{at_key};
-ghost use Rattle.lpc_ports.specs.Table.{LeavesOthers, PullsFirst, first_connect_in, first_in, first_of, has_none_in, is_asking, is_connect_in, is_datagram_of, is_in, is_joined_to, is_message_at, is_named, is_the, message_at, new_port, nothing, pair_of, paired, parted, queue_at, queued, row_at, unpaired, with_changed, with_completed, with_creator, with_joined, with_port, with_room, with_sent, without_message, without_port};
+ghost use Rattle.lpc_ports.specs.Table.{LeavesOthers, LosesFirst, PullsFirst, first_connect_in, first_in, first_of, first_own_of, has_none_in, is_asking, is_client, is_client_kind, is_closing, is_connect_in, is_connected_to, is_datagram_of, is_in, is_joined_to, is_message_at, is_named, is_own_of, is_paired_to, is_sent_on, is_the, message_at, new_port, nothing, pair_of, paired, parted, queue_at, queued, row_at, unpaired, with_changed, with_completed, with_creator, with_joined, with_port, with_room, with_sent, without_message, without_messages, without_port};
 
 mod messages;
-#[cfg(test)]
-mod tests;
 
 pub use lpc_base::PortKind;
 use lpc_base::{Birth, OutOfMemory, held};
@@ -53,6 +51,16 @@ impl Port {
         ensures { result ≡ is_the port self.now.pair || is_the port self.now.connection }
     {
         is_the(port, self.pair) || is_the(port, self.connection)
+    }
+
+    // It is a client port.
+    fn is_client(&self) -> bool
+        ensures { result ≡ is_client_kind self.now.kind }
+    {
+        match self.kind {
+            PortKind::Client => true,
+            _ => false,
+        }
     }
 }
 
@@ -109,7 +117,8 @@ impl Ports {
     pub fn reserve(&mut self, ports: usize, blocks: usize) -> Result<(), OutOfMemory>
         ensures ports { OnOk result (ports ≤ self.new.port_room) }
         ensures messages { OnOk result (blocks ≤ self.new.message_room) }
-        ensures wanting { OnErr result (ports ≤ self.old.port_room → self.old.message_room < blocks) }
+        ensures wanting { OnErr result
+            (ports ≤ self.old.port_room → self.old.message_room < blocks) }
         ensures kept { self.new ≡ with_room self.old self.new.port_room self.new.message_room }
         ensures port_room { self.old.port_room ≤ self.new.port_room }
         ensures message_room { self.old.message_room ≤ self.new.message_room }
@@ -257,7 +266,8 @@ impl Ports {
         requires few { self.old.messages_made < 2 ^ 64 - 1 }
         requires bound { length bytes.now ≤ MESSAGE_LIMIT }
         ensures vacant { first (at_key result) self.old.messages ≡ None }
-        ensures table { self.new ≡ with_sent self.old result (queued queue sender context bytes.now) }
+        ensures table { self.new
+            ≡ with_sent self.old result (queued queue sender context bytes.now) }
     {
         self.messages.insert_reserved(QueuedMessage {
             queue,
@@ -308,6 +318,77 @@ impl Ports {
         asking
     }
 
+    /// How many ports have this one as their other end.
+    pub fn paired_to(&self, port: Key) -> usize
+        ensures { result ≡ count (is_paired_to port) self.now.ports }
+    {
+        let mut paired = 0;
+        for place in 0..self.ports.count() {
+            let (_, row) = self.ports.row(place);
+            if is_the(port, row.pair) {
+                paired += 1;
+            }
+        }
+        paired
+    }
+
+    /// How many ports have this one as their connection port.
+    pub fn connected_to(&self, port: Key) -> usize
+        ensures { result ≡ count (is_connected_to port) self.now.ports }
+    {
+        let mut connected = 0;
+        for place in 0..self.ports.count() {
+            let (_, row) = self.ports.row(place);
+            if is_the(port, row.connection) {
+                connected += 1;
+            }
+        }
+        connected
+    }
+
+    /// How many of the messages that stand in queues were sent on this port: no more than were ever made.
+    pub fn sent_on(&self, sender: Key) -> usize
+        ensures number { result ≡ count (is_sent_on sender) self.now.messages }
+        ensures most { result ≤ self.now.messages_made }
+    {
+        let mut sent = 0;
+        for place in 0..self.messages.count() {
+            let (_, row) = self.messages.row(place);
+            if row.message.sender == sender {
+                sent += 1;
+            }
+        }
+        sent
+    }
+
+    /// How many of the messages that stand in queues tell of the closing of the port on which they were sent.
+    pub fn closings(&self) -> usize
+        ensures { result ≡ count is_closing self.now.messages }
+    {
+        let mut closings = 0;
+        for place in 0..self.messages.count() {
+            let (_, row) = self.messages.row(place);
+            if row.message.tells_closing() {
+                closings += 1;
+            }
+        }
+        closings
+    }
+
+    /// How many ports are client ports.
+    pub fn clients(&self) -> usize
+        ensures { result ≡ count is_client self.now.ports }
+    {
+        let mut clients = 0;
+        for place in 0..self.ports.count() {
+            let (_, port) = self.ports.row(place);
+            if port.is_client() {
+                clients += 1;
+            }
+        }
+        clients
+    }
+
     /// A row names this port: a port has it as its other end or its connection port, or a message was sent on it or
     /// stands in its queue.
     pub fn is_named(&self, port: Key) -> bool
@@ -340,12 +421,40 @@ impl Ports {
         ensures first { PullsFirst is_in self.old.messages message result }
         ensures oldest { LeavesOthers is_in self.old.messages message self.new.messages }
         ensures first_connect { PullsFirst is_connect_in self.old.messages message result }
-        ensures oldest_connect { LeavesOthers is_connect_in self.old.messages message self.new.messages }
+        ensures oldest_connect { LeavesOthers is_connect_in
+            self.old.messages message self.new.messages }
     {
         match self.messages.remove(message) {
             Some(row) => row.message,
             None => unreachable!(),
         }
+    }
+
+    /// Takes the messages that ask for an answer and name this thread as their client from their queues, and answers
+    /// whether there was one. The room of each is spare then.
+    pub fn withdraw(&mut self, thread: u32) -> bool
+        ensures table { self.new ≡ without_messages (is_own_of thread) self.old }
+        ensures went { result ≡ has (is_own_of thread) self.old.messages }
+    {
+        let mut went = false;
+        while let Some(message) = self.first_own_of(thread) {
+            self.lose(message);
+            went = true;
+        }
+        went
+    }
+
+    /// Takes all messages from a queue, and answers whether there was one. The room of each is spare then.
+    pub fn empty(&mut self, queue: Key) -> bool
+        ensures table { self.new ≡ without_messages (is_in queue) self.old }
+        ensures went { result ≡ has (is_in queue) self.old.messages }
+    {
+        let mut went = false;
+        while let Some(message) = self.first_message(queue) {
+            self.lose(message);
+            went = true;
+        }
+        went
     }
 
     /// Makes a client and a server port the two ends of a connection, and gives both its context. What has no row gets
@@ -428,6 +537,26 @@ impl Ports {
             }
         }
         None
+    }
+
+    // The oldest message that asks for an answer and names this thread as its client.
+    fn first_own_of(&self, thread: u32) -> Option<Key>
+        ensures { result ≡ first_own_of self.now.messages thread }
+    {
+        for place in 0..self.messages.count() {
+            let (key, row) = self.messages.row(place);
+            if row.message.is_own_of(thread) {
+                return Some(key);
+            }
+        }
+        None
+    }
+
+    // Takes a message from its queue, where it stands in one. Its room is spare then.
+    fn lose(&mut self, message: Key)
+        ensures { LosesFirst self.old message self.new }
+    {
+        self.messages.remove(message);
     }
 
     // The row of a message that stands in a queue.

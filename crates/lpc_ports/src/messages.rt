@@ -1,16 +1,20 @@
 //! Messages as they stand in queues.
 
-ghost use Rattle.std.specs.Prelude.{◌≡◌, ◌&&◌, ◌||◌, slice_index};
+ghost use Rattle.std.specs.Prelude.{◌≡◌, ◌<◌, ◌==◌, ◌&&◌, ◌||◌, slice_index};
+ghost use Rattle.lpc_base.specs.declared.limits.TheConstants.{MESSAGE_LIMIT};
 ghost use Rattle.lpc_message.specs.Layout.{half_at};
 ghost use Rattle.lpc_slots.specs.Table.{is_key};
-ghost use Rattle.lpc_ports.specs.Table.{is_of_type};
+ghost use Rattle.lpc_ports.specs.Table.{asks, client_thread, is_of_type};
 
 use arrayvec::ArrayVec;
-use lpc_message::kind::{CONNECTION_REQUEST, DATAGRAM, REQUEST};
+use lpc_message::kind::{CONNECTION_REQUEST, DATAGRAM, PORT_CLOSED, REQUEST};
 use lpc_slots::Key;
 
 // Where a message has its type: the low byte, and the high one behind it.
 const KIND_OFFSET: usize = 4;
+
+// Where a message has the thread of its client, in four bytes with the low one first.
+const CLIENT_THREAD_OFFSET: usize = 12;
 
 /// A message.
 #[derive(Drop)]
@@ -40,18 +44,39 @@ impl Message {
 
     /// It asks for an answer: its type is that of a request or a connection request.
     pub(crate) fn asks(&self) -> bool
-        ensures { result ≡ is_of_type REQUEST self.now || is_of_type CONNECTION_REQUEST self.now }
+        ensures { result ≡ asks self.now }
     {
         self.kind() == REQUEST || self.is_connect()
+    }
+
+    /// It tells of the closing of the port on which it was sent: its type is that of a closed port.
+    pub(crate) fn tells_closing(&self) -> bool
+        ensures { result ≡ is_of_type PORT_CLOSED self.now }
+    {
+        self.kind() == PORT_CLOSED
+    }
+
+    /// It asks for an answer, and names this thread as its client.
+    pub(crate) fn is_own_of(&self, thread: u32) -> bool
+        ensures { result ≡ (asks self.now && (client_thread self.now == thread)) }
+    {
+        self.asks() && self.client_thread() == thread
+    }
+
+    // The thread of its client. What isn't there of the four bytes counts as 0.
+    fn client_thread(&self) -> u32
+        ensures { result ≡ client_thread self.now }
+    {
+        let low = half_at(&self.bytes, CLIENT_THREAD_OFFSET);
+        let high = half_at(&self.bytes, CLIENT_THREAD_OFFSET + 2);
+        u32::from(low) + 65_536 * u32::from(high)
     }
 
     // Its type. What isn't there of the two bytes counts as 0.
     fn kind(&self) -> u16
         ensures { result ≡ half_at self.now.bytes.items 4 }
     {
-        let low = byte_at(&self.bytes, KIND_OFFSET);
-        let high = byte_at(&self.bytes, KIND_OFFSET + 1);
-        u16::from(low) + 256 * u16::from(high)
+        half_at(&self.bytes, KIND_OFFSET)
     }
 }
 
@@ -67,7 +92,8 @@ pub struct QueuedMessage {
 impl QueuedMessage {
     /// It stands in this queue, and is a connection request.
     pub(crate) fn is_connect_in(&self, queue: Key) -> bool
-        ensures { result ≡ is_key self.now.queue queue && is_of_type CONNECTION_REQUEST self.now.message }
+        ensures { result
+            ≡ is_key self.now.queue queue && is_of_type CONNECTION_REQUEST self.now.message }
     {
         self.queue == queue && self.message.is_connect()
     }
@@ -78,6 +104,16 @@ impl QueuedMessage {
     {
         self.message.sender == port || self.queue == port
     }
+}
+
+// The number in the two bytes from a place on, the low one first. What isn't there of them counts as 0.
+fn half_at(bytes: &[u8], place: usize) -> u16
+    requires { place < MESSAGE_LIMIT }
+    ensures { result ≡ half_at bytes.now place }
+{
+    let low = byte_at(bytes, place);
+    let high = byte_at(bytes, place + 1);
+    u16::from(low) + 256 * u16::from(high)
 }
 
 // The byte at a place, and 0 from the end on.

@@ -4,8 +4,6 @@
 mod lists;
 mod procs;
 mod rows;
-#[cfg(test)]
-mod tests;
 
 pub use procs::Procs;
 pub use rows::{Number, ProcessRow, ThreadRow, UsedThread};

@@ -61,7 +61,8 @@ impl Procs {
     pub fn reserve(&mut self, processes: usize, threads: usize) -> Result<(), OutOfMemory>
         ensures processes { OnOk result (processes ≤ self.new.process_room) }
         ensures threads { OnOk result (threads ≤ self.new.thread_room) }
-        ensures wanting { OnErr result (processes ≤ self.old.process_room → self.old.thread_room < threads) }
+        ensures wanting { OnErr result
+            (processes ≤ self.old.process_room → self.old.thread_room < threads) }
         ensures same { self.new ≡ with_room self.old self.new.process_room self.new.thread_room }
         ensures process_room { self.old.process_room ≤ self.new.process_room }
         ensures thread_room { self.old.thread_room ≤ self.new.thread_room }
@@ -196,7 +197,8 @@ impl Procs {
     /// and has drawn fewer than 2^32 - 2 before.
     pub fn draw_identifier(&mut self, tid: u32) -> u32
         requires identifier_left { IsSomeAnd (thread_at self.old tid) HasIdentifierLeft }
-        ensures identifier { option_map (λ t. t.next_identifier) (thread_at self.old tid) ≡ Some result }
+        ensures identifier { option_map (λ t. t.next_identifier) (thread_at self.old tid)
+            ≡ Some result }
         ensures table { self.new ≡ with_thread self.old tid past_identifier }
     {
         let row = self.thread(tid);

@@ -9,9 +9,6 @@ ghost use Rattle.lpc_base.specs.Rows.{without};
 ghost use Rattle.lpc_slots.specs.Table.{at, at_key, listed, IsYoung, inserted, removed};
 ghost use Rattle.lpc_slots.specs.Layout.{StandsAt};
 
-#[cfg(test)]
-mod tests;
-
 use lpc_base::OutOfMemory;
 use std::alloc::Global;
 use std::marker::Model;
@@ -130,9 +127,10 @@ impl<T> Slots<T> {
         }
     }
 
-    /// How many rows there are.
+    /// How many rows there are: no more than were ever made.
     pub fn count(&self) -> usize
-        ensures { result ≡ length (listed self.now) }
+        ensures number { result ≡ length (listed self.now) }
+        ensures most { result ≤ self.now.made }
     {
         self.rows.len()
     }

@@ -1,6 +1,6 @@
 -- What contracts see of the waits: the rows in the order of waiting.
-use Rattle.std.specs.Prelude.{ℕ, ◌+◌, ◌-◌, ◌==◌, ◌&&◌, ◌||◌, ◌++◌, ◌∷◌, Bool, true, false, List, [], Option, None, is_some, option_map}
-use Rattle.lpc_base.specs.Rows.{change, differ_by, first}
+use Rattle.std.specs.Prelude.{ℕ, ◌+◌, ◌-◌, ◌==◌, ◌&&◌, ◌||◌, ◌++◌, ◌∷◌, Bool, true, false, List, [], Option, None, is_some, not, option_map}
+use Rattle.lpc_base.specs.Rows.{change, differ_by, first, passes}
 use Rattle.lpc_slots.specs.Table.{is_key}
 use Rattle.lpc_slots.specs.declared.Key.{Key}
 use Rattle.lpc_waits.specs.declared.Accepted.{Accepted}
@@ -85,12 +85,48 @@ is_taker_on queue with_listens row = takes with_listens row.wait.kind && is_key 
 abbrev pub is_wait_at : Key → WaitRow → Bool
 is_wait_at port row = is_key row.wait.port port || is_key row.wait.queue port
 
+-- a wait was made on this port
+abbrev pub is_made_on : Key → WaitRow → Bool
+is_made_on port row = is_key row.wait.port port
+
+-- a wait was made on this port, or on the other, where there is one
+abbrev pub is_made_at : Key → Option Key → WaitRow → Bool
+is_made_at port other row = is_made_on port row || passes other (is_key row.wait.port)
+
 -- a connect that was accepted, and one that was made on this port
 abbrev pub is_accepted : WaitRow → Bool
 is_accepted row = is_connect row.wait.kind && is_some row.accepted
 
 abbrev pub is_accepted_on : Key → WaitRow → Bool
 is_accepted_on port row = is_accepted row && is_key row.wait.port port
+
+-- an accepted connect that was made on this port, or on the other, where there is one
+abbrev pub is_accepted_at : Key → Option Key → WaitRow → Bool
+is_accepted_at port other row = is_accepted row && is_made_at port other row
+
+-- a receive or a listen that was made on this port, or waits on the queue that the port is
+abbrev pub is_receiver_at : Key → WaitRow → Bool
+is_receiver_at port row = takes true row.wait.kind && is_wait_at port row
+
+-- a receive that was made on this port
+abbrev pub is_receive_on : Key → WaitRow → Bool
+is_receive_on port row = is_receive row.wait.kind && is_key row.wait.port port
+
+-- a request that was made on this port
+abbrev pub is_request_on : Key → WaitRow → Bool
+is_request_on port row = is_request row.wait.kind && is_key row.wait.port port
+
+-- a request on this queue that isn't received
+abbrev pub is_unreceived_request_in : Key → WaitRow → Bool
+is_unreceived_request_in queue row =
+    is_request row.wait.kind && (is_key row.wait.queue queue && not row.wait.received)
+
+-- a connect that isn't accepted, and one that is on this queue
+abbrev pub is_offered : WaitRow → Bool
+is_offered row = is_connect row.wait.kind && not (is_some row.accepted)
+
+abbrev pub is_offered_to : Key → WaitRow → Bool
+is_offered_to queue row = is_offered row && is_key row.wait.queue queue
 
 -- a thread's wait begins, without a message and not accepted: it takes one place of the spare room, and counts as made
 abbrev pub begun : WaitTable → ℕ → Wait → WaitTable

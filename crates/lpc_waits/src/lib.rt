@@ -5,10 +5,7 @@ ghost use Rattle.std.specs.Prelude.{◌≡◌, ◌+◌, ◌<◌, ◌-◌, ◌≤
 ghost use Rattle.std.specs.List.{position};
 ghost use Rattle.lpc_base.specs.Rows.{count, without, has};
 ghost use Rattle.lpc_base.specs.declared.limits.TheConstants.{MESSAGE_LIMIT};
-ghost use Rattle.lpc_waits.specs.Table.{accepted_of, begun, first_thread, is_accepted, is_accepted_on, is_connect, is_connect_of, is_of, is_taker_on, is_wait_at, message_of, received, row_of, takes, with_accepted, with_message, with_queue, with_row};
-
-#[cfg(test)]
-mod tests;
+ghost use Rattle.lpc_waits.specs.Table.{accepted_of, begun, first_thread, is_accepted, is_accepted_at, is_accepted_on, is_connect, is_connect_of, is_made_at, is_made_on, is_of, is_offered, is_offered_to, is_receive_on, is_receiver_at, is_request_on, is_taker_on, is_unreceived_request_in, is_wait_at, message_of, received, row_of, takes, with_accepted, with_message, with_queue, with_row};
 
 use arrayvec::ArrayVec;
 use lpc_base::{OutOfMemory, held};
@@ -177,7 +174,8 @@ impl Waits {
     pub fn end(&mut self, tid: u32) -> Option<Wait>
         ensures value { result ≡ option_map (λ row. row.wait) (row_of self.old tid) }
         ensures rows { self.new.rows ≡ without (is_of tid) self.old.rows }
-        ensures spare { self.new.spare ≡ (if is_some result then self.old.spare + 1 else self.old.spare) }
+        ensures spare { self.new.spare
+            ≡ (if is_some result then self.old.spare + 1 else self.old.spare) }
         ensures made { self.new.made ≡ self.old.made }
     {
         let index = self.position(tid)?;
@@ -235,6 +233,84 @@ impl Waits {
         None
     }
 
+    /// The thread that waits with an accepted connect made on a port, or on the other, where there is one, the one that has
+    /// waited longest: None exactly where there is none.
+    pub fn accepted_at(&self, port: Key, other: Option<Key>) -> Option<u32>
+        ensures { result ≡ first_thread (is_accepted_at port other) self.now }
+    {
+        for row in &self.rows {
+            if is_accepted(row) && is_made_at(row, port, other) {
+                return Some(row.thread);
+            }
+        }
+        None
+    }
+
+    /// The thread that waits with a receive or a listen made on a port, or on the queue that the port is, the one that
+    /// has waited longest: None exactly where there is none.
+    pub fn receiver_at(&self, port: Key) -> Option<u32>
+        ensures { result ≡ first_thread (is_receiver_at port) self.now }
+    {
+        for row in &self.rows {
+            if row.wait.kind.takes(true) && (row.wait.port == port || row.wait.queue == port) {
+                return Some(row.thread);
+            }
+        }
+        None
+    }
+
+    /// The thread that waits with a receive made on a port, the one that has waited longest: None exactly where there is
+    /// none.
+    pub fn receive_on(&self, port: Key) -> Option<u32>
+        ensures { result ≡ first_thread (is_receive_on port) self.now }
+    {
+        for row in &self.rows {
+            if row.wait.kind == WaitKind::Receive && row.wait.port == port {
+                return Some(row.thread);
+            }
+        }
+        None
+    }
+
+    /// The thread that waits with a request made on a port, received or not, the one that has waited longest: None
+    /// exactly where there is none.
+    pub fn request_on(&self, port: Key) -> Option<u32>
+        ensures { result ≡ first_thread (is_request_on port) self.now }
+    {
+        for row in &self.rows {
+            if row.wait.kind == WaitKind::Request && row.wait.port == port {
+                return Some(row.thread);
+            }
+        }
+        None
+    }
+
+    /// The thread that waits with a request on a queue that isn't received, the one that has waited longest: None exactly
+    /// where there is none.
+    pub fn unreceived_request_in(&self, queue: Key) -> Option<u32>
+        ensures { result ≡ first_thread (is_unreceived_request_in queue) self.now }
+    {
+        for row in &self.rows {
+            if row.wait.kind == WaitKind::Request && row.wait.queue == queue && !row.wait.received {
+                return Some(row.thread);
+            }
+        }
+        None
+    }
+
+    /// The thread that waits with a connect on a queue that isn't accepted, received or not, the one that has waited
+    /// longest: None exactly where there is none.
+    pub fn offered_to(&self, queue: Key) -> Option<u32>
+        ensures { result ≡ first_thread (is_offered_to queue) self.now }
+    {
+        for row in &self.rows {
+            if is_offered(row) && row.wait.queue == queue {
+                return Some(row.thread);
+            }
+        }
+        None
+    }
+
     /// The bytes of the message with which a waiting thread waits; none until they are set.
     pub fn message(&self, tid: u32) -> &[u8]
         requires waits { IsSome (row_of self.now tid) }
@@ -262,6 +338,13 @@ impl Waits {
             .iter()
             .filter(|row| row.wait.kind == WaitKind::Connect && row.wait.process == process)
             .count()
+    }
+
+    /// How many waits were made on a port.
+    pub fn made_on(&self, port: Key) -> usize
+        ensures { result ≡ count (is_made_on port) self.now.rows }
+    {
+        self.rows.iter().filter(|row| row.wait.port == port).count()
     }
 
     /// What a waiting thread's connect was accepted with: None until it is set.
@@ -314,4 +397,21 @@ fn is_accepted(row: &WaitRow) -> bool
     ensures { result ≡ is_accepted row.now }
 {
     row.wait.kind.is_connect() && row.accepted.is_some()
+}
+
+// The row is of a connect that isn't accepted.
+fn is_offered(row: &WaitRow) -> bool
+    ensures { result ≡ is_offered row.now }
+{
+    row.wait.kind.is_connect() && row.accepted.is_none()
+}
+
+// The row's wait was made on this port, or on the other, where there is one.
+fn is_made_at(row: &WaitRow, port: Key, other: Option<Key>) -> bool
+    ensures { result ≡ is_made_at port other row.now }
+{
+    match other {
+        Some(other) => row.wait.port == port || row.wait.port == other,
+        None => row.wait.port == port,
+    }
 }

@@ -9,7 +9,7 @@ pub overflow_add-asking : goal.overflow_add-asking
 overflow_add-asking c =
     let so_far = rw (← c.self.view_is) at c.loop-place.invariant in
     let fits = count_fits is_asking (listed c.self.inside.messages) c.loop-place.place (c.row.result.0, c.row.result.1.now) c.loop-place.asking c.row.ensures so_far (sym c.asks.ensures ∙ c.if-asks.true) in
-    omega (arith, fits, c.count-place-end.ensures)
+    omega (arith, fits, c.count-place-end.ensures.number)
 
 pub loop-place-preserved : goal.loop-place-preserved
 loop-place-preserved c =

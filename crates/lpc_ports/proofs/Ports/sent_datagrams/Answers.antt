@@ -9,7 +9,7 @@ pub overflow_add-sent : goal.overflow_add-sent
 overflow_add-sent c =
     let so_far = rw (← c.self.view_is) at c.loop-place.invariant in
     let fits = count_fits (is_datagram_of c.args.sender) (listed c.self.inside.messages) c.loop-place.place (c.row.result.0, c.row.result.1.now) c.loop-place.sent c.row.ensures so_far (sym c.is_datagram_of.ensures ∙ c.if-is_datagram_of.true) in
-    omega (arith, fits, c.count-place-end.ensures)
+    omega (arith, fits, c.count-place-end.ensures.number)
 
 pub loop-place-preserved : goal.loop-place-preserved
 loop-place-preserved c =

@@ -1,0 +1,74 @@
+-- What is left where the messages that pass a test go one after the other.
+use Rattle.std.proofs.Common.{◌≡◌, ◌+◌, ◌<◌, ◌||◌, ℕ, List, [], ◌∷◌, Bool, true, false, Option, Some, None, OnSome, is_some, if◌then◌else◌, length, option_map, refl, sym, ap, subst, ◌∙◌, true≢false, arith}
+use Rattle.lpc_base.specs.Rows.{count, first, has, without, without_first}
+use Rattle.lpc_base.proofs.RowWords.{count-none, without-none}
+use Rattle.lpc_slots.specs.Table.{Table, at, at_key, listed, removed}
+use Rattle.lpc_slots.specs.declared.Key.{Key}
+use Rattle.lpc_slots.proofs.Same.{first_stands, listed_apart, vacant, without_first_same}
+use Rattle.lpc_ports.specs.Table.{PortTable, key_of_first, without_messages, without_one}
+use Rattle.lpc_ports.specs.declared.Port.{Port}
+use Rattle.lpc_ports.specs.declared.messages.QueuedMessage.{QueuedMessage}
+use Rattle.lpc_ports.proofs.Seen.{seen}
+
+module _ {X : Type 0} (test : X → Bool) where
+  without-rest : (xs : List X) → without test (without_first test xs) ≡ without test xs
+  without-rest [] = refl
+  without-rest (x ∷ xs) = grind (arith, without-rest xs)
+
+  count-rest : (xs : List X) → has test xs ≡ true → count test (without_first test xs) + 1 ≡ count test xs
+  count-rest [] some = grind arith
+  count-rest (x ∷ xs) some = grind (arith, count-rest xs)
+
+  length-rest : (xs : List X) → has test xs ≡ true → length (without_first test xs) < length xs
+  length-rest [] some = grind arith
+  length-rest (x ∷ xs) some = grind (arith, length-rest xs)
+
+mapped : (o : Option (Key × QueuedMessage)) → is_some (option_map (λ (row : Key × QueuedMessage). row.0) o) ≡ is_some o
+mapped None = refl
+mapped (Some row) = refl
+
+with-none : (room n : ℕ) → n ≡ 0 → room + n ≡ room
+with-none room n none = omega arith
+
+with-one : (room n m : ℕ) → n + 1 ≡ m → (room + 1) + n ≡ room + m
+with-one room n m is = omega arith
+
+-- one went, or another one before
+pub one_went : (went one all : Bool) → one ≡ true → (went || one) ≡ all → true ≡ all
+one_went true one all is some = some
+one_went false one all is some = sym is ∙ some
+
+module _ (test : Key × QueuedMessage → Bool) where
+  -- a message passes where the first that does has a key
+  pub has_key : (rows : List (Key × QueuedMessage)) → is_some (key_of_first test rows) ≡ has test rows
+  has_key rows = mapped (first test rows)
+
+  -- where none passes, the table stays
+  pub none_goes : (s : PortTable) → has test s.messages ≡ false → without_messages test s ≡ s
+  none_goes s none i = record s {
+    messages = without-none test s.messages none i;
+    message_room = with-none s.message_room (count test s.messages) (count-none test s.messages none) i;
+  }
+
+  -- one goes that passes, and then the rest; there are fewer then
+  module _ (s new : PortTable) (left : new ≡ without_one test s) (one : has test s.messages ≡ true) where
+    rest_goes : without_messages test (without_one test s) ≡ without_messages test s
+    rest_goes i = record s {
+      messages = without-rest test s.messages i;
+      message_room = with-one s.message_room (count test (without_first test s.messages)) (count test s.messages) (count-rest test s.messages one) i;
+    }
+
+    pub one_goes : without_messages test new ≡ without_messages test s
+    one_goes = ap (without_messages test) left ∙ rest_goes
+
+    pub fewer : length new.messages < length s.messages
+    fewer = subst (λ (t : PortTable). length t.messages < length s.messages) (sym left) (length-rest test s.messages one)
+
+  -- the first message that passes goes
+  pub lost : (ports : Table Port) (s new : Table QueuedMessage) (key : Key) (value : Option QueuedMessage) → value ≡ at s key → new ≡ (if is_some value then removed s key else s) → OnSome value (listed new ≡ without (at_key key) (listed s)) → key_of_first test (listed s) ≡ Some key → seen ports new ≡ without_one test (seen ports s)
+  lost ports s new key None is table left oldest = absurd (true≢false (sym (first_stands test (listed s) key oldest) ∙ ap is_some (vacant s key (sym is))))
+  lost ports s new key (Some value) is table left oldest = λ i. record (seen ports s) {
+    messages = (left ∙ without_first_same test (listed s) key (listed_apart s) oldest) i;
+    message_room = ap (λ (t : Table QueuedMessage). t.spare) table i;
+    messages_made = ap (λ (t : Table QueuedMessage). t.made) table i;
+  }
