@@ -1,0 +1,12 @@
+//! Tests of whole replays: scripts, and what is sent for them. They stand in a crate of their own, so that the crate that
+//! they test is proved once.
+#![tactic(auto)]
+
+#[cfg(test)]
+mod closings;
+#[cfg(test)]
+mod common;
+#[cfg(test)]
+mod connections;
+#[cfg(test)]
+mod replay;

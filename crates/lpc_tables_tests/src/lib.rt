@@ -1,0 +1,22 @@
+//! Tests of the tables and of what stands below them, call by call: what no clause says. They stand in a crate of their
+//! own, so that each crate that they test is proved once.
+#![tactic(auto)]
+
+#[cfg(test)]
+mod base;
+#[cfg(test)]
+mod common;
+#[cfg(test)]
+mod handles;
+#[cfg(test)]
+mod message;
+#[cfg(test)]
+mod names;
+#[cfg(test)]
+mod ports;
+#[cfg(test)]
+mod procs;
+#[cfg(test)]
+mod slots;
+#[cfg(test)]
+mod waits;

@@ -1,0 +1,133 @@
+// The calls with ample memory, over rows written out by hand.
+ghost use Rattle.std.specs.Prelude.{◌≡◌, IsSomeAnd, is_some, true};
+ghost use Rattle.lpc_procs.specs.Procs.{HasOrdinalLeft, birth_of, process_at, thread_at};
+ghost use Rattle.lpc_procs.specs.declared.rows.Number.TheVariants as number;
+
+use lpc_base::Birth;
+use lpc_message::ClientId;
+use lpc_procs::{Number, Procs};
+use std::process::Abort;
+use std::test::Fail;
+
+// The name of what a directive makes.
+fn made(number: u32) -> Birth {
+    Birth {
+        maker: 0,
+        ordinal: number,
+        process: 0,
+    }
+}
+
+// These numbers were used, and are of one process.
+fn shows_used(rt: &impl Abort, procs: &Procs, pid: u32, tid: u32) {
+    assert!(rt; procs.was_used(Number::Process(pid)));
+    assert!(rt; procs.was_used(Number::Thread(tid)));
+    assert!(rt; procs.process_of(tid) == Some(pid));
+}
+
+// How many rows there are, and how many live threads, in process 20 and in all.
+fn counts(rt: &impl Abort, procs: &Procs, rows: (usize, usize), live: (usize, usize)) {
+    assert!(rt; (procs.processes(), procs.threads()) == rows);
+    assert!(rt; (procs.live_count(20), procs.alive()) == live);
+}
+
+// A process has a number that no thread has.
+fn shows_a_process_alone(rt: &impl Abort, procs: &Procs) {
+    assert!(rt; procs.was_used(Number::Process(20)));
+    assert!(rt; !procs.was_used(Number::Thread(20)));
+}
+
+// Thread 20 draws its first birth.
+fn draws_a_birth(rt: &impl Abort, procs: &mut Procs)
+    requires present { is_some (thread_at procs.old 20) ≡ true }
+    requires left { IsSomeAnd (thread_at procs.old 20) HasOrdinalLeft }
+{
+    let first = Birth {
+        maker: 20,
+        ordinal: 1,
+        process: 20,
+    };
+    assert!(rt; procs.next_birth(20) == first);
+    assert!(rt; procs.draw_birth(20) == first);
+}
+
+#[test]
+fn thread_of_a_directive_draws_from_one(rt: HostRuntime) -> Result<(), Fail> {
+    let mut procs = Procs::new(rt.alloc());
+    procs.reserve(1, 1)?;
+    procs.add_process(20, None, made(20));
+    shows_a_process_alone(&rt, &procs);
+    procs.add_thread(20, 20, made(20));
+    let first = procs.draw_identifier(20);
+    let second = procs.draw_identifier(20);
+    assert!(rt; (first, second) == (1, 2));
+    shows_used(&rt, &procs, 20, 20);
+    draws_a_birth(&rt, &mut procs);
+    Ok(())
+}
+
+// The thread 24 of process 20 is live or not.
+fn lives(rt: &impl Abort, procs: &Procs, live: bool)
+    requires { is_some (thread_at procs.now 24) ≡ true }
+{
+    let client = ClientId {
+        process: 20,
+        thread: 24,
+    };
+    assert!(rt; procs.live_thread(client) == live);
+    assert!(rt; procs.live(24) == live);
+    assert!(rt; procs.live_row(24).is_some() == live);
+    assert!(rt; procs.is_live(20) && !procs.is_live(24));
+}
+
+// What the row of thread 24 shows.
+fn shows_its_row(rt: &impl Abort, procs: &Procs) {
+    let Some(row) = procs.live_row(24) else {
+        assert!(rt; false);
+        return;
+    };
+    assert!(rt; (row.number, row.process, row.live) == (24, 20, true));
+    assert!(rt; (row.next_identifier, row.next_ordinal) == (1, 1));
+    assert!(rt; row.birth == made(24));
+}
+
+#[test]
+fn thread_lives_until_it_ends(rt: HostRuntime) -> Result<(), Fail> {
+    let mut procs = Procs::new(rt.alloc());
+    procs.reserve(1, 2)?;
+    procs.add_process(20, Some(16), made(20));
+    procs.add_thread(24, 20, made(24));
+    procs.add_thread(28, 20, made(28));
+    shows_its_row(&rt, &procs);
+    lives(&rt, &procs, true);
+    counts(&rt, &procs, (1, 2), (2, 2));
+    procs.end_thread(24);
+    lives(&rt, &procs, false);
+    counts(&rt, &procs, (1, 2), (1, 1));
+    Ok(())
+}
+
+// Who made process 20, and the births of its row and its thread's.
+fn shows_births(rt: &impl Abort, procs: &Procs)
+    requires maker { is_some (process_at procs.now 20) ≡ true }
+    requires process { is_some (birth_of procs.now (number.Process 20)) ≡ true }
+    requires thread { is_some (birth_of procs.now (number.Thread 24)) ≡ true }
+{
+    assert!(rt; procs.maker(20) == Some(16));
+    assert!(rt; procs.birth(Number::Process(20)) == made(20));
+    assert!(rt; procs.birth(Number::Thread(24)) == made(24));
+}
+
+#[test]
+fn number_of_a_row_that_goes_stays_used(rt: HostRuntime) -> Result<(), Fail> {
+    let mut procs = Procs::new(rt.alloc());
+    procs.reserve(1, 1)?;
+    procs.add_process(20, Some(16), made(20));
+    procs.add_thread(24, 20, made(24));
+    shows_births(&rt, &procs);
+    procs.free_thread(24);
+    procs.free_process(20);
+    counts(&rt, &procs, (0, 0), (0, 0));
+    shows_used(&rt, &procs, 20, 24);
+    Ok(())
+}

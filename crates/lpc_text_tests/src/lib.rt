@@ -1,0 +1,10 @@
+//! Tests of the lists of entries, of the lines of a script and of the text of a transcript: what no clause says. They
+//! stand in a crate of their own, so that each crate that they test is proved once.
+#![tactic(auto)]
+
+#[cfg(test)]
+mod model;
+#[cfg(test)]
+mod script;
+#[cfg(test)]
+mod transcript;
