@@ -14,6 +14,3 @@ pub use lines::next_line;
 pub use lpc_model::LineFault;
 pub use read::read_line;
 pub use scratch::Scratch;
-
-#[cfg(test)]
-mod tests;

@@ -3,7 +3,7 @@ ghost use Rattle.std.specs.Prelude.{◌≡◌, ◌≤◌, codes, length, IfOk, I
 ghost use Rattle.std.specs.List.{list_all};
 ghost use Rattle.std.specs.Option.{option_copied, option_map};
 ghost use Rattle.lpc_base.specs.declared.limits.TheConstants.{LINE_LIMIT};
-ghost use Rattle.lpc_model.specs.declared.entry.CallName.TheVariants.{NtAcceptConnectPort, NtConnectPort, NtCreatePort};
+ghost use Rattle.lpc_model.specs.declared.entry.CallName.TheVariants.{NtAcceptConnectPort, NtConnectPort, NtCreatePort, NtDuplicateObject};
 ghost use Rattle.lpc_model.specs.declared.entry.Word.TheVariants.{Boot, Thread};
 ghost use Rattle.lpc_model.specs.Lines.{call_of, line_of};
 ghost use Rattle.lpc_model.specs.Words.{words};
@@ -49,6 +49,16 @@ fn one_handle(text: &[u8]) -> Result<u32, LineFault>
     number(word)
 }
 
+/// The rights of a further handle: a number, or none for `same`.
+fn access(word: &[u8]) -> Result<Option<u32>, LineFault>
+    ensures { Gives (λ access. access) result (grammar.access_word word.now) }
+{
+    if word == b"same".as_slice() {
+        return Ok(None);
+    }
+    Ok(Some(number(word)?))
+}
+
 fn handle_and_message<'a>(
     text: &[u8],
     scratch: &'a mut Scratch,
@@ -84,7 +94,8 @@ fn handle_and_reply<'a>(
     scratch: &'a mut Scratch,
 ) -> Result<(u32, Option<&'a [u8]>), LineFault>
     requires { length text.now ≤ LINE_LIMIT }
-    ensures { Gives (λ p. (p.0, option_copied p.1)) result (grammar.handle_and_reply (words text.now)) }
+    ensures { Gives (λ p. (p.0, option_copied p.1)) result
+        (grammar.handle_and_reply (words text.now)) }
 {
     let (handle, reply) = one_or_two_words(text)?;
     let handle = number(handle)?;
@@ -113,6 +124,16 @@ fn connect_port<'a>(text: &'a [u8], scratch: &'a mut Scratch) -> Result<Call<'a>
     dash(view)?;
     let info = scratch.info(info)?;
     Ok(Call::ConnectPort { name, info })
+}
+
+#[tactic(auto, unfolding(lpc_model::specs::Grammar::call_words))]
+fn duplicate_object<'a>(text: &[u8]) -> Result<Call<'a>, LineFault>
+    ensures { Gives call_of result (call_words NtDuplicateObject (words text.now)) }
+{
+    let (handle, rights) = two_words(text)?;
+    let handle = number(handle)?;
+    let access = access(rights)?;
+    Ok(Call::DuplicateObject { handle, access })
 }
 
 #[tactic(auto, unfolding(lpc_model::specs::Grammar::call_words))]
@@ -165,6 +186,15 @@ fn call<'a>(name: CallName, text: &'a [u8], scratch: &'a mut Scratch) -> Result<
         CallName::NtReplyWaitReceivePort => {
             let (handle, reply) = handle_and_reply(text, scratch)?;
             Ok(Call::ReplyWaitReceivePort { handle, reply })
+        }
+        CallName::NtClose => {
+            let handle = one_handle(text)?;
+            Ok(Call::Close { handle })
+        }
+        CallName::NtDuplicateObject => duplicate_object(text),
+        CallName::NtQueryObject => {
+            let handle = one_handle(text)?;
+            Ok(Call::QueryObject { handle })
         }
     }
 }

@@ -136,7 +136,8 @@ impl Scratch {
 /// Writes a front over room, and behind it the bytes that digits stand for; how many bytes there are then.
 fn fill(room: &mut [u8], front: &[u8], digits: &[u8]) -> Result<usize, LineFault>
     requires { length front.now + length digits.now / 2 ≤ length room.old }
-    ensures value { Gives (λ end. take end room.new) result (behind front.now (hex_word digits.now)) }
+    ensures value { Gives (λ end. take end room.new) result
+        (behind front.now (hex_word digits.now)) }
     ensures end { IfOk result (λ end. end ≤ length room.old) }
 {
     let (head, tail) = room.split_at_mut(front.len());

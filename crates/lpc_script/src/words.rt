@@ -41,7 +41,8 @@ fn trimmed(text: &[u8]) -> &[u8]
 
 /// The first word of a text and what stands behind it, none where there is no word.
 pub fn next_word(text: &[u8]) -> Option<(&[u8], &[u8])>
-    ensures words { MatchOption result (words text.now ≡ []) (λ p. words text.now ≡ p.0.now ∷ words p.1.now) }
+    ensures words { MatchOption result (words text.now ≡ [])
+        (λ p. words text.now ≡ p.0.now ∷ words p.1.now) }
     ensures word { IfSome result (λ p. length p.0.now ≤ length text.now) }
     ensures rest { IfSome result (λ p. length p.1.now ≤ length text.now) }
 {
@@ -103,7 +104,8 @@ pub fn four_words(text: &[u8]) -> Result<(&[u8], &[u8], &[u8], &[u8]), LineFault
 #[tactic(auto, unfolding(lpc_model::specs::Grammar::one_or_two_words))]
 pub fn one_or_two_words(text: &[u8]) -> Result<(&[u8], Option<&[u8]>), LineFault>
     ensures value { Gives seen_one_or_two result (grammar.one_or_two_words (words text.now)) }
-    ensures length { IfOk result (λ two. IfSome two.1 (λ word. length word.now ≤ length text.now)) }
+    ensures length { IfOk result
+        (λ two. IfSome two.1 (λ word. length word.now ≤ length text.now)) }
 {
     let (first, rest) = next_word(text).ok_or(LineFault::Count)?;
     let Some((second, rest)) = next_word(rest) else {

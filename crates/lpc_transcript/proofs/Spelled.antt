@@ -5,17 +5,19 @@ use Rattle.std.specs.Str.{bytes_eq}
 use Rattle.std.proofs.lemmas.Fmt.{decimal_injective}
 use Rattle.hex.specs.Hex.{encode_lower}
 use Rattle.lpc_model.specs.Grammar.{call_named, directive_named}
-use Rattle.lpc_model.specs.Text.{eight_digits, call_text, word_text, name_text, value_text, fields_text, by_text, rest_text}
-use Rattle.lpc_model.specs.TextLaws.{Sort, in_decimal, in_hexadecimal, as_bytes, is_of_sort}
+use Rattle.lpc_model.specs.Text.{eight_digits, call_text, word_text, name_text, kind_text, value_text, fields_text, by_text, rest_text}
+use Rattle.lpc_model.specs.TextLaws.{Sort, in_decimal, in_hexadecimal, as_kind, as_bytes, is_of_sort}
 use Rattle.lpc_model.specs.declared.entry.CallName.{CallName}
-use Rattle.lpc_model.specs.declared.entry.CallName.TheVariants.{NtCreatePort, NtConnectPort, NtListenPort, NtAcceptConnectPort, NtCompleteConnectPort, NtRequestPort, NtRequestWaitReplyPort, NtReplyPort, NtReplyWaitReceivePort}
+use Rattle.lpc_model.specs.declared.entry.CallName.TheVariants.{NtCreatePort, NtConnectPort, NtListenPort, NtAcceptConnectPort, NtCompleteConnectPort, NtRequestPort, NtRequestWaitReplyPort, NtReplyPort, NtReplyWaitReceivePort, NtClose, NtDuplicateObject, NtQueryObject}
 use Rattle.lpc_model.specs.declared.entry.Entry.{Entry}
 use Rattle.lpc_model.specs.declared.entry.Entry.TheVariants.{Answer, Waits, Wakes, Busy, NoThread, Died, Directive}
 use Rattle.lpc_model.specs.declared.entry.Field.{Field}
 use Rattle.lpc_model.specs.declared.entry.FieldName.{FieldName}
-use Rattle.lpc_model.specs.declared.entry.FieldName.TheVariants.{H, Id, Ctx, Msg, Data, Max, Info}
+use Rattle.lpc_model.specs.declared.entry.FieldName.TheVariants.{H, Id, Ctx, Msg, Data, Max, Info, ObjectType, Access, Handles, Pointers}
 use Rattle.lpc_model.specs.declared.entry.Value.{Value}
-use Rattle.lpc_model.specs.declared.entry.Value.TheVariants.{Number, Hex, Bytes}
+use Rattle.lpc_model.specs.declared.entry.Value.TheVariants.{Number, Hex, Kind, Bytes}
+use Rattle.lpc_model.specs.declared.entry.ObjectKind.{ObjectKind}
+use Rattle.lpc_model.specs.declared.entry.ObjectKind.TheVariants as kind
 use Rattle.lpc_model.specs.declared.entry.Word.{Word}
 use Rattle.lpc_model.specs.declared.entry.Word.TheVariants as word
 use Rattle.lpc_transcript.proofs.Parts.{is_plain, Part, joined}
@@ -85,6 +87,9 @@ call_named-text NtRequestPort = refl
 call_named-text NtRequestWaitReplyPort = refl
 call_named-text NtReplyPort = refl
 call_named-text NtReplyWaitReceivePort = refl
+call_named-text NtClose = refl
+call_named-text NtDuplicateObject = refl
+call_named-text NtQueryObject = refl
 
 pub call_unique : (a b : CallName) → call_text a ≡ call_text b → a ≡ b
 call_unique a b e =
@@ -101,6 +106,9 @@ call_plain NtRequestPort = refl
 call_plain NtRequestWaitReplyPort = refl
 call_plain NtReplyPort = refl
 call_plain NtReplyWaitReceivePort = refl
+call_plain NtClose = refl
+call_plain NtDuplicateObject = refl
+call_plain NtQueryObject = refl
 
 -- a directive is found by its name
 directive_named-text : (w : Word) → directive_named (word_text w) ≡ Some w
@@ -128,7 +136,11 @@ read_name text =
     else (if bytes_eq text (codes "ctx") then Ctx
     else (if bytes_eq text (codes "msg") then Msg
     else (if bytes_eq text (codes "max") then Max
-    else (if bytes_eq text (codes "info") then Info else Data)))))
+    else (if bytes_eq text (codes "info") then Info
+    else (if bytes_eq text (codes "type") then ObjectType
+    else (if bytes_eq text (codes "access") then Access
+    else (if bytes_eq text (codes "handles") then Handles
+    else (if bytes_eq text (codes "pointers") then Pointers else Data)))))))))
 
 read_name-text : (name : FieldName) → read_name (name_text name) ≡ name
 unfolding read_name
@@ -139,6 +151,10 @@ read_name-text Msg = refl
 read_name-text Data = refl
 read_name-text Max = refl
 read_name-text Info = refl
+read_name-text ObjectType = refl
+read_name-text Access = refl
+read_name-text Handles = refl
+read_name-text Pointers = refl
 
 pub name_unique : (a b : FieldName) → name_text a ≡ name_text b → a ≡ b
 name_unique a b e = sym (read_name-text a) ∙ ap read_name e ∙ read_name-text b
@@ -151,18 +167,49 @@ name_plain Msg = refl
 name_plain Data = refl
 name_plain Max = refl
 name_plain Info = refl
+name_plain ObjectType = refl
+name_plain Access = refl
+name_plain Handles = refl
+name_plain Pointers = refl
+
+read_kind : List ℕ → ObjectKind
+read_kind text =
+    if bytes_eq text (codes "port") then kind.Port
+    else (if bytes_eq text (codes "section") then kind.Section
+    else (if bytes_eq text (codes "token") then kind.Token
+    else (if bytes_eq text (codes "process") then kind.Process else kind.Thread)))
+
+read_kind-text : (k : ObjectKind) → read_kind (kind_text k) ≡ k
+unfolding read_kind
+read_kind-text kind.Port = refl
+read_kind-text kind.Section = refl
+read_kind-text kind.Token = refl
+read_kind-text kind.Process = refl
+read_kind-text kind.Thread = refl
+
+kind_unique : (a b : ObjectKind) → kind_text a ≡ kind_text b → a ≡ b
+kind_unique a b e = sym (read_kind-text a) ∙ ap read_kind e ∙ read_kind-text b
+
+kind_plain : (k : ObjectKind) → is_plain (kind_text k) ≡ true
+kind_plain kind.Port = refl
+kind_plain kind.Section = refl
+kind_plain kind.Token = refl
+kind_plain kind.Process = refl
+kind_plain kind.Thread = refl
 
 -- ---- values can be read back
 
 pub value_plain : (sort : Sort) (value : Value) → is_of_sort sort value ≡ true → is_plain (value_text value) ≡ true
 value_plain in_decimal (Number n) h = figures_plain (decimal n) (decimal_figures n (ltb-true n (2 ^ 64) h))
 value_plain in_hexadecimal (Hex n) h = figures_plain (eight_digits n) (word_figures n)
+value_plain as_kind (Kind k) h = kind_plain k
 value_plain as_bytes (Bytes bytes) h = figures_plain (encode_lower bytes.items) (encode_figures bytes.items (bytes_from_every bytes.items h))
 value_plain sort value h = absurd (cc)
 
 pub value_unique : (sort : Sort) (v w : Value) → is_of_sort sort v ≡ true → is_of_sort sort w ≡ true → value_text v ≡ value_text w → v ≡ w
 value_unique in_decimal (Number m) (Number n) p q e = ap Number (decimal_injective m n (ltb-true m (2 ^ 64) p) (ltb-true n (2 ^ 64) q) e)
 value_unique in_hexadecimal (Hex m) (Hex n) p q e = ap Hex (word_unique m n (ltb-true m (2 ^ 32) p) (ltb-true n (2 ^ 32) q) e)
+value_unique as_kind (Kind a) (Kind b) p q e = ap Kind (kind_unique a b e)
 value_unique as_bytes (Bytes a) (Bytes b) p q e =
     let items = encode_unique a.items b.items (bytes_from_every a.items p) (bytes_from_every b.items q) e in
     λ i. Bytes (record { items = items i })

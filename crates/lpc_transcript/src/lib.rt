@@ -8,6 +8,3 @@ mod words;
 
 pub use laws::law_text_is_unique;
 pub use text::{print, print_end, print_stop};
-
-#[cfg(test)]
-mod tests;

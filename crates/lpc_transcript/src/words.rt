@@ -89,6 +89,10 @@ pub(crate) fn field_name(name: FieldName) -> &'static [u8]
         FieldName::Data => b"data",
         FieldName::Max => b"max",
         FieldName::Info => b"info",
+        FieldName::ObjectType => b"type",
+        FieldName::Access => b"access",
+        FieldName::Handles => b"handles",
+        FieldName::Pointers => b"pointers",
     }
 }
 
