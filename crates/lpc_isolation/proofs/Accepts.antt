@@ -1,6 +1,6 @@
 -- NtAcceptConnectPort in a view.
-use Rattle.std.proofs.Common.{◌≡◌, ℕ, List, [], ◌∷◌, ◌++◌, Bool, true, false, cond, not, Option, Some, None, refl, ap, sym, subst, ◌∙◌, arith}
-use Rattle.std.specs.Prelude.{◌&&◌, ◌||◌, ◌==◌, Ok, is_none, nat_lt}
+use Rattle.std.proofs.Common.{◌≡◌, ℕ, List, [], ◌∷◌, ◌++◌, Bool, true, false, cond, map, not, Option, Some, None, refl, ap, sym, subst, ◌∙◌, arith}
+use Rattle.std.specs.Prelude.{◌&&◌, ◌||◌, ◌==◌, Ok, nat_lt}
 use Rattle.std.proofs.lemmas.Bool.{eqb-true}
 use Rattle.std.proofs.lemmas.Bool.Decides.{nat_tests}
 use Rattle.lpc_base.specs.Rows.{every, first, given, has}
@@ -13,17 +13,17 @@ use Rattle.lpc_model.specs.Fields.{info}
 use Rattle.lpc_model.specs.Refusal.{found_or}
 use Rattle.lpc_model.specs.World.{Birth, HandleTable, PortRow, ThreadRow, WaitKind, WaitRow, World, Accepted, Connect, Listen, Receive, Request}
 use Rattle.lpc_model.specs.Found.{free_handle, wait_of, is_connect, is_offered, is_port, is_server_port, is_table, names_port, names_wait, port_name, rows_in, same_birth, waits_as}
-use Rattle.lpc_model.specs.Basics.{Accepts, AddsHandle, Basic, DrawsOrdinal, Joins, Makes, basic, world_after}
+use Rattle.lpc_model.specs.Basics.{Accepts, AddsHandle, Basic, DrawsOrdinal, Makes, joined, world_after}
 use Rattle.lpc_model.specs.Connect.{ConnectAnswer, accept_steps, answer_test, names_connect, nt_accept_connect_port, reaches, refuse_steps, server_port}
 use Rattle.lpc_model.specs.SoundWaits.{is_connect_on, is_past, lacks_connects, can_stay_as, can_stay_sound}
 use Rattle.lpc_model.specs.Entering.{woken}
 use Rattle.lpc_model.specs.Tests.{PORT_ACCESS, client_test, handle_row, handles_test, next_birth}
-use Rattle.lpc_model.proofs.Births.{birth-same}
+use Rattle.lpc_model.proofs.Births.{birth-same, birth-self}
 use Rattle.lpc_model.proofs.Holding.{Holds, bind_holds, found_ok, holds_ok}
 use Rattle.lpc_model.specs.Circle.{Group, Whose, names_no_outsider}
-use Rattle.lpc_isolation.proofs.Filters.{first-kept, first-where}
-use Rattle.lpc_isolation.proofs.View.{both, one_of, our_wait, same-number, seen_pair, view}
-use Rattle.lpc_isolation.proofs.Basics.{are_ours, basic-unseen, is_apart, is_regular, run-ours, sees}
+use Rattle.lpc_isolation.proofs.Filters.{first-kept, first-where, shown, shown-push}
+use Rattle.lpc_isolation.proofs.View.{both, one_of, our_port, our_wait, same-number, seen_port, view}
+use Rattle.lpc_isolation.proofs.Basics.{are_ours, basic-unseen, joins-new, run-ours}
 use Rattle.lpc_isolation.proofs.Fair.{Fair, are_fair, implies, is_fair_port, is_fair_table, is_fair_wait, is_no_server_at, is_server_at}
 use Rattle.lpc_isolation.proofs.Seen.{bind-same, free-view, handles-view, named-own}
 use Rattle.lpc_isolation.proofs.Apart.{are_apart, end-apart, is_owned, wait-gone}
@@ -151,7 +151,6 @@ other-port ports b client new there = at (same_birth b client) refl
 pub record Joinable (m : Group) (c : ℕ) (by : ThreadRow) (x : WaitRow) (ports : List PortRow) : Type 0 where
   pub clients : every (is_no_server_at x.port) ports ≡ true
   pub servers : every (is_server_at (next_birth by)) ports ≡ true
-  pub apart : every (is_apart m (next_birth by)) ports ≡ true
 
 joinable : (m : Group) (c : ℕ) (u w : World) (by : ThreadRow) (bytes : List ℕ) (a : ConnectAnswer) → Caller m c u w by → IsAnswer m c w by bytes a → Joinable m c by a.wait (w.ports ++ server_port (next_birth by) a.wait.queue ∷ [])
 joinable m c u w by bytes a k is =
@@ -163,7 +162,6 @@ joinable m c u w by bytes a k is =
     record {
       clients = every-push (is_no_server_at x.port) w.ports (server_port (next_birth by) x.queue) (no-servers m c u w by x k is.offered here) (rw other refl);
       servers = every-push (is_server_at (next_birth by)) w.ports (server_port (next_birth by) x.queue) (every-more (λ p. not (is_port (next_birth by) p)) (is_server_at (next_birth by)) (λ p off. or-left (not (is_port (next_birth by) p)) (is_server_port p) off) w.ports new) (or-right (not (is_port (next_birth by) (server_port (next_birth by) x.queue))));
-      apart = every-push (is_apart m (next_birth by)) w.ports (server_port (next_birth by) x.queue) (every-more (λ p. not (is_port (next_birth by) p)) (is_apart m (next_birth by)) (λ p off. or-left (not (is_port (next_birth by) p)) (is_none (seen_pair m p.pair)) off) w.ports new) (or-right (not (is_port (next_birth by) (server_port (next_birth by) x.queue))));
     }
   where
     or-left : (a b : Bool) → a ≡ true → (a || b) ≡ true
@@ -213,35 +211,33 @@ accept-apart m c u d w by context value bytes a k is out =
     other-side a b off is = grind arith
 
 -- the steps of an accept whose client is a member
-accept-regular : (m : Group) (c : ℕ) (by : ThreadRow) (x : WaitRow) (ports : List PortRow) → Sides m c by x → Joinable m c by x ports → ((not (m x.port.process) || m by.process) && (m x.port.process || (not (m by.process) || every (is_apart m (next_birth by)) ports))) ≡ true
-accept-regular m c by x ports s j = let one = s.in_only in let two = j.apart in grind arith
-
 accept-ours : (m : Group) (c : ℕ) (u w : World) (by : ThreadRow) (context value : ℕ) (bytes : List ℕ) (a : ConnectAnswer) → Caller m c u w by → IsAnswer m c w by bytes a → m by.process ≡ true → m a.wait.process ≡ true → are_ours m w (accept_steps by context value a) ≡ true
 accept-ours m c u w by context value bytes a k is by_in x_in =
     let s = sides m c by a.wait is.fair is.offered is.queue in
     let p_in : m a.wait.port.process ≡ true = ap m s.port ∙ x_in in
     rw (by_in, p_in) refl
 
--- without the client, what a member makes
-abbrev pub lone_steps : ThreadRow → ℕ → Birth → List Basic
-lone_steps by value queue =
-    DrawsOrdinal by.number ∷ Makes (server_port (next_birth by) queue) ∷ AddsHandle by.process (handle_row value (port_name (next_birth by)) PORT_ACCESS) ∷ []
+-- without the client, what a member makes: the port has what the server gave the connection at once
+abbrev pub lone_steps : ThreadRow → ℕ → ℕ → Birth → List Basic
+lone_steps by context value queue =
+    DrawsOrdinal by.number ∷ Makes (record (server_port (next_birth by) queue) { context = context }) ∷ AddsHandle by.process (handle_row value (port_name (next_birth by)) PORT_ACCESS) ∷ []
 
 accept-lost : (m : Group) (c : ℕ) (u : World) (d : Whose) (w : World) (by : ThreadRow) (context value : ℕ) (bytes : List ℕ) (a : ConnectAnswer) → Caller m c u w by → IsAnswer m c w by bytes a → m by.process ≡ true → (by.process == c) ≡ false → m a.wait.process ≡ false
-    → Led m c u d w (accept_steps by context value a) (lone_steps by value a.wait.queue)
+    → Led m c u d w (accept_steps by context value a) (lone_steps by context value a.wait.queue)
 accept-lost m c u d w by context value bytes a k is by_in other out =
     let s = sides m c by a.wait is.fair is.offered is.queue in
-    let j = joinable m c u w by bytes a k is in
     let client_out : m a.wait.port.process ≡ false = ap m s.port ∙ out in
     let owned : is_owned u a.wait ≡ true = every-first (is_owned u) (names_connect w by a.message) w.waits a.wait k.owned is.found in
-    let w4 : World = world_after w (lone_steps by value a.wait.queue) in
-    let w5 : World = basic w4 (Joins a.wait.port (next_birth by) context) in
-    let regular : is_regular m w4 (Joins a.wait.port (next_birth by) context) ≡ true = accept-regular m c by a.wait w4.ports s j in
-    let unseen : sees m w4 (Joins a.wait.port (next_birth by) context) ≡ false = rw client_out refl in
+    let made : PortRow = server_port (next_birth by) a.wait.queue in
+    let v : World = world_after w (lone_steps by context value a.wait.queue) in
+    let w5 : World = record v { ports = map (joined a.wait.port (next_birth by) context) (w.ports ++ made ∷ []) } in
+    let ports : shown (our_port m) (seen_port m) w5.ports ≡ shown (our_port m) (seen_port m) v.ports =
+    joins-new m a.wait.port (next_birth by) context w.ports made client_out (none-new m c u w by k) (birth-self (next_birth by)) by_in refl
+    ∙ sym (shown-push (our_port m) (seen_port m) w.ports (record made { context = context }) by_in) in
     record {
       world = basic-unseen m w5 (Accepts a.wait.thread a.message.body) (wait-gone m u w a.wait k.owned owned out) refl
-          ∙ basic-unseen m w4 (Joins a.wait.port (next_birth by) context) unseen regular
-          ∙ run-ours m w (lone_steps by value a.wait.queue) (rw by_in refl);
+          ∙ ap (λ ps. record (view m v) { ports = ps }) ports
+          ∙ run-ours m w (lone_steps by context value a.wait.queue) (rw by_in refl);
       told = rw (k.here, other) refl;
     }
 
@@ -249,7 +245,7 @@ accept-lost m c u d w by context value bytes a k is by_in other out =
 abbrev pub led_accept : Group → World → ThreadRow → ℕ → List ℕ → Birth → List Basic
 led_accept m v by context bytes queue = on_ok (message_test bytes) (λ b. cond (m b.header.client.process)
     (given (wait_of v b.header.client.thread) (λ x. accept_steps by context (free_handle v by.process) (record { message = b; wait = x })))
-    (lone_steps by (free_handle v by.process) queue))
+    (lone_steps by context (free_handle v by.process) queue))
 
 names-thread : (a b c : Bool) → (a && (b && c)) ≡ true → b ≡ true
 names-thread a b c is = grind arith
@@ -263,12 +259,12 @@ accept-led m c u d w by context bytes a queue known k is by_in other =
     let client : m a.message.header.client.process ≡ m a.wait.process = ap m (sym (answered-client m c w by bytes a is)) in
     rw (is.message, client, free-view m w by.process by_in) (at (m a.wait.process) refl)
   where
-    at : (b : Bool) → m a.wait.process ≡ b → Led m c u d w (accept_steps by context (free_handle w by.process) a) (cond b (given (wait_of (view m w) a.message.header.client.thread) (λ x. accept_steps by context (free_handle w by.process) (record { message = a.message; wait = x }))) (lone_steps by (free_handle w by.process) queue))
+    at : (b : Bool) → m a.wait.process ≡ b → Led m c u d w (accept_steps by context (free_handle w by.process) a) (cond b (given (wait_of (view m w) a.message.header.client.thread) (λ x. accept_steps by context (free_handle w by.process) (record { message = a.message; wait = x }))) (lone_steps by context (free_handle w by.process) queue))
     at true x_in =
         let ours : our_wait m a.wait ≡ true = both _ _ x_in (ap m is.queue ∙ by_in) in
         let there : wait_of w a.message.header.client.thread ≡ Some a.wait = once-first (names_connect w by a.message) (waits_as a.message.header.client.thread) (λ y passed. one_of _ _ (one_of _ _ passed)) w.waits a.wait (k.once a.message.header.client.thread) is.found in
         rw (first-kept (our_wait m) (waits_as a.message.header.client.thread) w.waits a.wait there ours) (led-same m c u d w (accept_steps by context (free_handle w by.process) a) (accept-ours m c u w by context (free_handle w by.process) bytes a k is by_in x_in))
-    at false out = subst (λ q. Led m c u d w (accept_steps by context (free_handle w by.process) a) (lone_steps by (free_handle w by.process) q)) (sym (known out)) (accept-lost m c u d w by context (free_handle w by.process) bytes a k is by_in other out)
+    at false out = subst (λ q. Led m c u d w (accept_steps by context (free_handle w by.process) a) (lone_steps by context (free_handle w by.process) q)) (sym (known out)) (accept-lost m c u d w by context (free_handle w by.process) bytes a k is by_in other out)
 
 -- of c
 c-connects : (m : Group) (c : ℕ) (w : World) (by : ThreadRow) (a : Message) → m c ≡ true → by.process ≡ c → Fair m c w → first (names_connect (view m w) by a) (view m w).waits ≡ first (names_connect w by a) w.waits

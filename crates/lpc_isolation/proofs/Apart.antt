@@ -15,7 +15,7 @@ use Rattle.lpc_model.specs.declared.entry.Field.{Field}
 use Rattle.lpc_model.specs.Message.{asks}
 use Rattle.lpc_model.specs.World.{Accepted, Birth, Connect, Listen, MessageRow, Receive, Request, WaitKind, WaitRow, World}
 use Rattle.lpc_model.specs.Found.{same_birth, waits_as, waits_at}
-use Rattle.lpc_model.specs.Basics.{Accepts, AddsHandle, AddsProcess, AddsThread, Awaits, Basic, Binds, Completes, DrawsIdentifier, DrawsOrdinal, Enters, Frees, Joins, Makes, Receives, Takes, TakesConnect, Tells, Wakes, Withdraws, basic, entries_of, received, told, world_after}
+use Rattle.lpc_model.specs.Basics.{Accepts, AddsHandle, AddsProcess, AddsThread, Awaits, Basic, Binds, Completes, Cuts, DrawsIdentifier, DrawsOrdinal, DropsHandle, Empties, Enters, Frees, Joins, Makes, Receives, Takes, TakesConnect, Tells, Unbinds, Wakes, Withdraws, basic, entries_of, received, told, world_after}
 use Rattle.lpc_model.specs.Entering.{enter, given_steps, shown, takes, woken}
 use Rattle.lpc_model.specs.Circle.{Everyone, Group, Nobody, Of, Whose, entry_whose, is_seen, owned, owner, thread_whose}
 use Rattle.lpc_isolation.proofs.Alone.{alone}
@@ -72,6 +72,10 @@ is_apart m c u d w (Completes b) = not (sees m w (Completes b))
 is_apart m c u d w (Frees b) = not (sees m w (Frees b))
 is_apart m c u d w (Binds path node) = not (sees m w (Binds path node))
 is_apart m c u d w (AddsHandle pid h) = not (sees m w (AddsHandle pid h))
+is_apart m c u d w (Empties q) = not (sees m w (Empties q))
+is_apart m c u d w (Cuts b) = not (sees m w (Cuts b))
+is_apart m c u d w (Unbinds b) = not (sees m w (Unbinds b))
+is_apart m c u d w (DropsHandle pid value) = not (sees m w (DropsHandle pid value))
 
 from_not : (b : Bool) → not b ≡ true → b ≡ false
 from_not b is = grind arith
@@ -101,6 +105,10 @@ basic-apart m c u d w (Completes b) is ok = basic-unseen m w (Completes b) (from
 basic-apart m c u d w (Frees b) is ok = basic-unseen m w (Frees b) (from_not _ is) ok
 basic-apart m c u d w (Binds path node) is ok = basic-unseen m w (Binds path node) (from_not _ is) ok
 basic-apart m c u d w (AddsHandle pid h) is ok = basic-unseen m w (AddsHandle pid h) (from_not _ is) ok
+basic-apart m c u d w (Empties q) is ok = basic-unseen m w (Empties q) (from_not _ is) ok
+basic-apart m c u d w (Cuts b) is ok = basic-unseen m w (Cuts b) (from_not _ is) ok
+basic-apart m c u d w (Unbinds b) is ok = basic-unseen m w (Unbinds b) (from_not _ is) ok
+basic-apart m c u d w (DropsHandle pid value) is ok = basic-unseen m w (DropsHandle pid value) (from_not _ is) ok
 
 -- a list of such steps
 abbrev pub are_apart : Group → ℕ → World → Whose → World → List Basic → Bool
@@ -149,6 +157,10 @@ basic-quiet m c u d w (Completes b) c_in is = refl
 basic-quiet m c u d w (Frees b) c_in is = refl
 basic-quiet m c u d w (Binds path node) c_in is = refl
 basic-quiet m c u d w (AddsHandle pid h) c_in is = refl
+basic-quiet m c u d w (Empties q) c_in is = refl
+basic-quiet m c u d w (Cuts b) c_in is = refl
+basic-quiet m c u d w (Unbinds b) c_in is = refl
+basic-quiet m c u d w (DropsHandle pid value) c_in is = refl
 
 pub run-quiet : (m : Group) (c : ℕ) (u : World) (d : Whose) (w : World) (bs : List Basic) → m c ≡ true → are_apart m c u d w bs ≡ true → heard (alone c) u d (entries_of bs) ≡ []
 run-quiet m c u d w [] c_in ok = refl

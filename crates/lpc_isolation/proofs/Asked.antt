@@ -9,11 +9,11 @@ use Rattle.lpc_base.specs.declared.status.TheConstants.{SUCCESS}
 use Rattle.lpc_model.specs.declared.entry.CallName.{CallName}
 use Rattle.lpc_model.specs.declared.entry.Field.{Field}
 use Rattle.lpc_model.specs.Fields.{msg, receipt}
-use Rattle.lpc_message.specs.declared.kind.TheConstants.{DATAGRAM}
+use Rattle.lpc_message.specs.declared.kind.TheConstants.{DATAGRAM, PORT_CLOSED}
 use Rattle.lpc_model.specs.Message.{asks}
 use Rattle.lpc_model.specs.World.{Accepted, Connect, Listen, MessageRow, Receive, Request, WaitKind, WaitRow, World}
 use Rattle.lpc_model.specs.Found.{is_offered, is_own_of, is_queued, is_queued_connect, is_request, same_birth, wait_of, waits_as, waits_at}
-use Rattle.lpc_model.specs.Basics.{Accepts, AddsHandle, AddsProcess, AddsThread, Awaits, Basic, Binds, Completes, DrawsIdentifier, DrawsOrdinal, Enters, Frees, Joins, Makes, Receives, Takes, TakesConnect, Tells, Wakes, Withdraws, accepted, basic, received, world_after}
+use Rattle.lpc_model.specs.Basics.{Accepts, AddsHandle, AddsProcess, AddsThread, Awaits, Basic, Binds, Completes, Cuts, DrawsIdentifier, DrawsOrdinal, DropsHandle, Empties, Enters, Frees, Joins, Makes, Receives, Takes, TakesConnect, Tells, Unbinds, Wakes, Withdraws, accepted, basic, received, world_after}
 use Rattle.lpc_model.specs.Entering.{enter, given_steps, shown, take_connect_steps, take_steps, takes, woken}
 use Rattle.lpc_model.proofs.Rows.{count-less}
 use Rattle.lpc_isolation.proofs.View.{both, one_of, other_of, same-number}
@@ -32,9 +32,9 @@ is_own y x = waits_as (sender_of y) x && (same_birth x.queue y.queue && (not x.r
 abbrev pub has_own : List WaitRow → MessageRow → Bool
 has_own waits y = not (asks y.message) || has (is_own y) waits
 
--- a message is a request, a connection request or a datagram
+-- a message is a request, a connection request or a datagram, or tells of a closed port
 abbrev pub is_sort : MessageRow → Bool
-is_sort y = asks y.message || (y.message.header.kind == DATAGRAM)
+is_sort y = asks y.message || ((y.message.header.kind == DATAGRAM) || (y.message.header.kind == PORT_CLOSED))
 
 pub record Asked (w : World) : Type 0 where
   pub sorts : every is_sort w.messages ≡ true
@@ -108,7 +108,7 @@ other-sender who y x asked off own =
     let same : x.thread ≡ sender_of y = eqb-true _ _ (one_of _ _ own) in
     let other : (sender_of y == who) ≡ false = grind arith in subst (λ t. (t == who) ≡ false) (sym same) other
 
-still-own : (who : ℕ) (ws vs : List WaitRow) → ((y : MessageRow) → ((x : WaitRow) → is_own y x ≡ true → (x.thread == who) ≡ false) → has (is_own y) ws ≡ true → has (is_own y) vs ≡ true) → (ys : List MessageRow) → every (has_own ws) ys ≡ true → is_quiet ys who ≡ true → every (has_own vs) ys ≡ true
+pub still-own : (who : ℕ) (ws vs : List WaitRow) → ((y : MessageRow) → ((x : WaitRow) → is_own y x ≡ true → (x.thread == who) ≡ false) → has (is_own y) ws ≡ true → has (is_own y) vs ≡ true) → (ys : List MessageRow) → every (has_own ws) ys ≡ true → is_quiet ys who ≡ true → every (has_own vs) ys ≡ true
 still-own who ws vs keeps ys all quiet = every-quiet (has_own ws) (has_own vs) (asks_of who) (λ y own off. at y (asks y.message) refl own off) ys all (not_of _ quiet)
   where
     at : (y : MessageRow) (b : Bool) → asks y.message ≡ b → has_own ws y ≡ true → asks_of who y ≡ false → has_own vs y ≡ true
@@ -130,7 +130,7 @@ entered-one who ys y ok few = rw (count-push (asks_of who) ys y) (at (asks_of wh
         rw (count-none (asks_of who) ys none) (omega arith)
     at false off = omega (arith, few)
 
-basic-asked : (w : World) (b : Basic) → keeps_asked w b ≡ true → Asked w → Asked (basic w b)
+pub basic-asked : (w : World) (b : Basic) → keeps_asked w b ≡ true → Asked w → Asked (basic w b)
 basic-asked w (Wakes who call status fields) ok a = record { sorts = a.sorts; own = still-own who w.waits (without (waits_as who) w.waits) (λ y other. has-off (is_own y) (waits_as who) other w.waits) w.messages a.own ok; one = a.one }
 basic-asked w (Receives who q) ok a = record { sorts = a.sorts; own = still-own who w.waits (change (waits_at who q) received w.waits) (λ y other. has-changed (is_own y) (waits_at who q) received (λ x is. let off = other x is in grind arith) w.waits) w.messages a.own ok; one = a.one }
 basic-asked w (Accepts who reply) ok a = record { sorts = a.sorts; own = still-own who w.waits (change (waits_as who) (accepted reply) w.waits) (λ y other. has-changed (is_own y) (waits_as who) (accepted reply) other w.waits) w.messages a.own ok; one = a.one }
@@ -145,6 +145,10 @@ basic-asked w (Frees o) ok a = absurd (cc)
 basic-asked w (Withdraws who) ok a = record { sorts = every-without is_sort (is_own_of who) w.messages a.sorts; own = every-without (has_own w.waits) (is_own_of who) w.messages a.own; one = λ tid. count-less (asks_of tid) (is_own_of who) w.messages 1 (a.one tid) }
 basic-asked w (Binds path node) ok a = record { sorts = a.sorts; own = a.own; one = a.one }
 basic-asked w (AddsHandle pid h) ok a = record { sorts = a.sorts; own = a.own; one = a.one }
+basic-asked w (Empties q) ok a = record { sorts = every-without is_sort (is_queued q) w.messages a.sorts; own = every-without (has_own w.waits) (is_queued q) w.messages a.own; one = λ tid. count-less (asks_of tid) (is_queued q) w.messages 1 (a.one tid) }
+basic-asked w (Cuts b) ok a = record { sorts = a.sorts; own = a.own; one = a.one }
+basic-asked w (Unbinds b) ok a = record { sorts = a.sorts; own = a.own; one = a.one }
+basic-asked w (DropsHandle pid value) ok a = record { sorts = a.sorts; own = a.own; one = a.one }
 basic-asked w (Tells e) ok a = a
 basic-asked w (DrawsIdentifier who) ok a = record { sorts = a.sorts; own = a.own; one = a.one }
 basic-asked w (DrawsOrdinal who) ok a = record { sorts = a.sorts; own = a.own; one = a.one }
@@ -163,7 +167,7 @@ append-asked w (b ∷ bs) cs one two = both _ _ (one_of _ _ one) (append-asked (
 abbrev pub is_settled : WaitRow → Bool
 is_settled x = x.received || not (is_request x || is_offered x)
 
-found-some : {X : Type 0} (p : X → Bool) (xs : List X) → (o : Option X) → first p xs ≡ o → ((y : X) → first p xs ≡ Some y → ⊥) → not (has p xs) ≡ true
+pub found-some : {X : Type 0} (p : X → Bool) (xs : List X) → (o : Option X) → first p xs ≡ o → ((y : X) → first p xs ≡ Some y → ⊥) → not (has p xs) ≡ true
 found-some p xs None at never = rw at refl
 found-some p xs (Some y) at never = absurd (never y at)
 

@@ -19,7 +19,7 @@ use Rattle.lpc_model.specs.Entering.{enter, row_of, take_steps, takes}
 use Rattle.lpc_model.specs.Found.{same_birth}
 use Rattle.lpc_model.specs.Found.{is_queued, is_queued_connect, waits_as}
 use Rattle.lpc_model.specs.Lines.{accept_connect_port, complete_connect_port, connect_port, create_port, listen_port, reply_port, reply_wait_receive_port, request_port, request_wait_reply_port}
-use Rattle.lpc_model.specs.Machine.{service_of}
+use Rattle.lpc_isolation.proofs.Served.{served}
 use Rattle.lpc_model.specs.Message.{message_test}
 use Rattle.lpc_model.specs.Request.{answered_test, datagram_start, nt_reply_port, nt_reply_wait_receive_port, nt_request_port, nt_request_wait_reply_port, receive_steps, receive_wait, request_start, sent_by}
 use Rattle.lpc_model.specs.Request.{request_wait}
@@ -27,7 +27,8 @@ use Rattle.lpc_model.specs.Tests.{port_test}
 use Rattle.lpc_model.specs.World.{Accepted, Birth, Connect, Listen, MessageRow, PortRow, Receive, Request, ThreadRow, WaitKind, WaitRow, World}
 use Rattle.lpc_model.specs.declared.message.Message.{Message}
 use Rattle.std.proofs.Common.{◌≡◌, ◌≤◌, ℕ, List, [], ◌∷◌, ◌++◌, Bool, true, false, not, Option, Some, None, refl, sym, subst, arith}
-use Rattle.std.specs.Prelude.{◌&&◌, ◌||◌, Ok}
+use Rattle.lpc_base.specs.declared.status.Status.{Status}
+use Rattle.std.specs.Prelude.{◌&&◌, ◌||◌, Result, Ok, Err}
 use Rattle.lpc_base.specs.Rows.{count}
 use Rattle.lpc_model.specs.Request.{reply, request_start}
 use Rattle.lpc_model.specs.Found.{fits, is_listen, is_receive}
@@ -139,29 +140,34 @@ receive-asked m c w by handle bytes a k = on-receive (AskedBy w) m c w w by hand
     (λ none. receive-parts w by p q [] (first (is_queued q) w.messages) refl (taken-asked w w by p q (first (is_queued q) w.messages) refl refl a))
     (λ d x some at. receive-parts w by p q (reply x d ∷ []) (first (is_queued q) w.messages) (rw (fit-quiet m c w by p d x a k at) refl) (taken-asked w (world_after w (reply x d ∷ [])) by p q (first (is_queued q) w.messages) refl refl a)))
 
-pub asked-create : (m : Group) (c : ℕ) (w : World) (by : ThreadRow) (name : Option (List ℕ)) → Asked w → Caller m c w w by → Holds (λ bs. are_asked w bs ≡ true) (service_of w by (create_port name))
-asked-create m c w by name a k = made-holds (AskedBy w) w by name (λ value. refl) (λ path value. refl)
+-- such steps leave it so
+pub asked-after : (w : World) → Asked w → (r : Result (List Basic) Status) → Holds (AskedBy w) r → Holds (λ bs. Asked (world_after w bs)) r
+asked-after w a (Ok bs) is = run-asked w bs is a
+asked-after w a (Err s) is = tt
 
-pub asked-connect : (m : Group) (c : ℕ) (w : World) (by : ThreadRow) (name bytes : List ℕ) → Asked w → Caller m c w w by → Holds (λ bs. are_asked w bs ≡ true) (service_of w by (connect_port name bytes))
-asked-connect m c w by name bytes a k = connect-asked m c w by name bytes a k
+pub asked-create : (m : Group) (c : ℕ) (w : World) (by : ThreadRow) (name : Option (List ℕ)) → Asked w → Caller m c w w by → Holds (λ bs. Asked (world_after w bs)) (served w by (create_port name))
+asked-create m c w by name a k = asked-after w a _ (made-holds (AskedBy w) w by name (λ value. refl) (λ path value. refl))
 
-pub asked-listen : (m : Group) (c : ℕ) (w : World) (by : ThreadRow) (handle : ℕ) → Asked w → Caller m c w w by → Holds (λ bs. are_asked w bs ≡ true) (service_of w by (listen_port handle))
-asked-listen m c w by handle a k = on-port (AskedBy w) m c w w by handle k (λ p at n. listened-asked w by p.birth (first (is_queued_connect p.birth) w.messages) refl a)
+pub asked-connect : (m : Group) (c : ℕ) (w : World) (by : ThreadRow) (name bytes : List ℕ) → Asked w → Caller m c w w by → Holds (λ bs. Asked (world_after w bs)) (served w by (connect_port name bytes))
+asked-connect m c w by name bytes a k = asked-after w a _ (connect-asked m c w by name bytes a k)
 
-pub asked-accept : (m : Group) (c : ℕ) (w : World) (by : ThreadRow) (context : ℕ) (message : List ℕ) (accept : Bool) → Asked w → Caller m c w w by → Holds (λ bs. are_asked w bs ≡ true) (service_of w by (accept_connect_port context message accept))
-asked-accept m c w by context message accept a k = accept-asked m c w by context message accept a k
+pub asked-listen : (m : Group) (c : ℕ) (w : World) (by : ThreadRow) (handle : ℕ) → Asked w → Caller m c w w by → Holds (λ bs. Asked (world_after w bs)) (served w by (listen_port handle))
+asked-listen m c w by handle a k = asked-after w a _ (on-port (AskedBy w) m c w w by handle k (λ p at n. listened-asked w by p.birth (first (is_queued_connect p.birth) w.messages) refl a))
 
-pub asked-complete : (m : Group) (c : ℕ) (w : World) (by : ThreadRow) (handle : ℕ) → Asked w → Caller m c w w by → Holds (λ bs. are_asked w bs ≡ true) (service_of w by (complete_connect_port handle))
-asked-complete m c w by handle a k = complete-asked m c w by handle a k
+pub asked-accept : (m : Group) (c : ℕ) (w : World) (by : ThreadRow) (context : ℕ) (message : List ℕ) (accept : Bool) → Asked w → Caller m c w w by → Holds (λ bs. Asked (world_after w bs)) (served w by (accept_connect_port context message accept))
+asked-accept m c w by context message accept a k = asked-after w a _ (accept-asked m c w by context message accept a k)
 
-pub asked-datagram : (m : Group) (c : ℕ) (w : World) (by : ThreadRow) (handle : ℕ) (message : List ℕ) → Asked w → Caller m c w w by → Holds (λ bs. are_asked w bs ≡ true) (service_of w by (request_port handle message))
-asked-datagram m c w by handle message a k = datagram-asked m c w by handle message a k
+pub asked-complete : (m : Group) (c : ℕ) (w : World) (by : ThreadRow) (handle : ℕ) → Asked w → Caller m c w w by → Holds (λ bs. Asked (world_after w bs)) (served w by (complete_connect_port handle))
+asked-complete m c w by handle a k = asked-after w a _ (complete-asked m c w by handle a k)
 
-pub asked-request : (m : Group) (c : ℕ) (w : World) (by : ThreadRow) (handle : ℕ) (message : List ℕ) → Asked w → Caller m c w w by → Holds (λ bs. are_asked w bs ≡ true) (service_of w by (request_wait_reply_port handle message))
-asked-request m c w by handle message a k = request-asked m c w by handle message a k
+pub asked-datagram : (m : Group) (c : ℕ) (w : World) (by : ThreadRow) (handle : ℕ) (message : List ℕ) → Asked w → Caller m c w w by → Holds (λ bs. Asked (world_after w bs)) (served w by (request_port handle message))
+asked-datagram m c w by handle message a k = asked-after w a _ (datagram-asked m c w by handle message a k)
 
-pub asked-reply : (m : Group) (c : ℕ) (w : World) (by : ThreadRow) (handle : ℕ) (message : List ℕ) → Asked w → Caller m c w w by → Holds (λ bs. are_asked w bs ≡ true) (service_of w by (reply_port handle message))
-asked-reply m c w by handle message a k = reply-asked m c w by handle message a k
+pub asked-request : (m : Group) (c : ℕ) (w : World) (by : ThreadRow) (handle : ℕ) (message : List ℕ) → Asked w → Caller m c w w by → Holds (λ bs. Asked (world_after w bs)) (served w by (request_wait_reply_port handle message))
+asked-request m c w by handle message a k = asked-after w a _ (request-asked m c w by handle message a k)
 
-pub asked-receive : (m : Group) (c : ℕ) (w : World) (by : ThreadRow) (handle : ℕ) (message : Option (List ℕ)) → Asked w → Caller m c w w by → Holds (λ bs. are_asked w bs ≡ true) (service_of w by (reply_wait_receive_port handle message))
-asked-receive m c w by handle message a k = receive-asked m c w by handle message a k
+pub asked-reply : (m : Group) (c : ℕ) (w : World) (by : ThreadRow) (handle : ℕ) (message : List ℕ) → Asked w → Caller m c w w by → Holds (λ bs. Asked (world_after w bs)) (served w by (reply_port handle message))
+asked-reply m c w by handle message a k = asked-after w a _ (reply-asked m c w by handle message a k)
+
+pub asked-receive : (m : Group) (c : ℕ) (w : World) (by : ThreadRow) (handle : ℕ) (message : Option (List ℕ)) → Asked w → Caller m c w w by → Holds (λ bs. Asked (world_after w bs)) (served w by (reply_wait_receive_port handle message))
+asked-receive m c w by handle message a k = asked-after w a _ (receive-asked m c w by handle message a k)

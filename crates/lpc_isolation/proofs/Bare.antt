@@ -2,7 +2,7 @@
 use Rattle.std.specs.Prelude.{◌≡◌, ℕ, true, List, [], ◌∷◌, ◌++◌, map, Option, Some, None}
 use Rattle.lpc_model.specs.World.{World, no_rows}
 use Rattle.lpc_model.specs.Lines.{ScriptLine}
-use Rattle.lpc_model.specs.Machine.{bare_step}
+use Rattle.lpc_isolation.proofs.Served.{served_step}
 use Rattle.lpc_model.specs.Run.{said_in}
 use Rattle.lpc_model.specs.Circle.{Event, Group, Ran, inputs, is_fine_line, items, line_whose, told_event, members}
 use Rattle.lpc_isolation.proofs.Alone.{HasFinePorts, alone}
@@ -11,20 +11,20 @@ use Rattle.lpc_isolation.proofs.Alone.{HasFinePorts, alone}
 abbrev pub bare_line_events : World → ScriptLine → List Event
 bare_line_events w line =
     record { whose = line_whose w line; item = Ran line }
-    ∷ map (told_event (bare_step w line).world (line_whose w line)) (bare_step w line).entries
+    ∷ map (told_event (served_step w line).world (line_whose w line)) (served_step w line).entries
 
 -- what happens in a run from a world on
 abbrev pub bare_events : World → List (Option ScriptLine) → List Event
 bare_events w [] = []
 bare_events w (None ∷ later) = bare_events w later
-bare_events w (Some line ∷ later) = bare_line_events w line ++ bare_events (bare_step w line).world later
+bare_events w (Some line ∷ later) = bare_line_events w line ++ bare_events (served_step w line).world later
 
 -- the group is a circle of c in such a run
 abbrev pub IsBareCircle : Group → ℕ → World → List (Option ScriptLine) → Type 0
 IsBareCircle group c w [] = HasFinePorts group c w
 IsBareCircle group c w (None ∷ later) = IsBareCircle group c w later
 IsBareCircle group c w (Some line ∷ later) =
-    HasFinePorts group c w × (is_fine_line group c w line ≡ true) × IsBareCircle group c (bare_step w line).world later
+    HasFinePorts group c w × (is_fine_line group c w line ≡ true) × IsBareCircle group c (served_step w line).world later
 
 -- The law
 -- what happens in the run of a script

@@ -2,8 +2,9 @@
 use Rattle.std.proofs.Common.{◌≡◌, ℕ, ◌≤◌, List, [], ◌++◌, Bool, true, false, refl, sym, subst, ◌∙◌, arith}
 use Rattle.lpc_model.specs.World.{World, no_rows}
 use Rattle.lpc_model.specs.Lines.{ScriptLine}
-use Rattle.lpc_model.specs.Machine.{bare_step}
-use Rattle.lpc_model.proofs.SoundLines.{line-sound, sound_none}
+use Rattle.lpc_isolation.proofs.Served.{served_step}
+use Rattle.lpc_model.proofs.SoundLines.{sound_none}
+use Rattle.lpc_isolation.proofs.Sweeps.{served-sound}
 use Rattle.lpc_model.specs.Circle.{Group, is_fine_line, is_seen, line_whose}
 use Rattle.lpc_isolation.proofs.Alone.{HasFinePorts}
 use Rattle.lpc_isolation.proofs.Bare.{BareIsolation}
@@ -16,14 +17,14 @@ use Rattle.lpc_isolation.proofs.Nexts.{line-next}
 use Rattle.lpc_isolation.proofs.KnownLines.{Known, line-known}
 use Rattle.lpc_isolation.proofs.Heard.{Heard}
 
-keeps-view : (m : Group) (c : ℕ) → m c ≡ true → (w : World) (t : List Heard) (line : ScriptLine) → Stood m c w (record { seen = view m w; memo = t }) → HasFinePorts m c w → HasFinePorts m c (bare_step w line).world → is_fine_line m c w line ≡ true → has_ids line ≡ true
+keeps-view : (m : Group) (c : ℕ) → m c ≡ true → (w : World) (t : List Heard) (line : ScriptLine) → Stood m c w (record { seen = view m w; memo = t }) → HasFinePorts m c w → HasFinePorts m c (served_step w line).world → is_fine_line m c w line ≡ true → has_ids line ≡ true
     → Played (player m c) (Stood m c) m c w (record { seen = view m w; memo = t }) line
 keeps-view m c c_in w t line st fine next ok fits = at (is_seen m (line_whose w line)) refl
   where
     s : State
     s = record { seen = view m w; memo = t }
 
-    n : Kept m c (bare_step w line).world
+    n : Kept m c (served_step w line).world
     n = line-next m c w s line fits c_in st fine next
 
     l : Line m c w s line
@@ -36,14 +37,14 @@ keeps-view m c c_in w t line st fine next ok fits = at (is_seen m (line_whose w 
     at false out = hidden (record {
       unseen = out;
       silent = (l.hides out).1;
-      stands = record { seen = absorbed-view m c s (told_at m c w line) ∙ sym (l.hides out).0; sound = line-sound w line st.sound; kept = n; known = k.hides out };
+      stands = record { seen = absorbed-view m c s (told_at m c w line) ∙ sym (l.hides out).0; sound = served-sound w line st.sound; kept = n; known = k.hides out };
     })
     at true seen = visible (record {
       seen = seen;
       shown = λ is. (l.shows seen is).1;
       stands = λ is. record {
         seen = absorbed-view m c ((player m c).after s line (told_items (told_at m c w line) ++ is)) (told_at m c w line) ∙ sym (l.shows seen is).0;
-        sound = line-sound w line st.sound;
+        sound = served-sound w line st.sound;
         kept = n;
         known = k.shows seen is;
       };
@@ -64,9 +65,9 @@ stood_none m c = record {
   seen = refl;
   sound = sound_none;
   kept = record {
-    fair = record { tables = refl; ports = refl; messages = refl; waits = refl; threads = refl; senders = refl };
+    fair = record { tables = refl; ports = refl; messages = refl; waits = refl; threads = refl; senders = refl; creators = refl };
     once = none-once;
-    names = λ path. refl;
+    names = λ path. omega arith;
     paths = refl;
     numbered = refl;
     asked = record { sorts = refl; own = refl; one = none-once };

@@ -11,21 +11,21 @@ use Rattle.lpc_model.specs.Named.{as_status, free_name}
 use Rattle.lpc_model.specs.Then.{◌>>=◌}
 use Rattle.lpc_model.specs.World.{Accepted, Birth, Connect, Listen, MessageRow, Path, PortRow, Receive, Request, ThreadRow, WaitKind, WaitRow, World}
 use Rattle.lpc_model.specs.Found.{free_handle, is_queued, is_queued_connect}
-use Rattle.lpc_model.specs.Basics.{Accepts, AddsHandle, AddsProcess, AddsThread, Awaits, Basic, Binds, Completes, DrawsIdentifier, DrawsOrdinal, Enters, Frees, Joins, Makes, Receives, Takes, TakesConnect, Tells, Wakes, Withdraws, basic, world_after}
+use Rattle.lpc_model.specs.Basics.{Accepts, AddsHandle, AddsProcess, AddsThread, Awaits, Basic, Binds, Completes, Cuts, DrawsIdentifier, DrawsOrdinal, DropsHandle, Empties, Enters, Frees, Joins, Makes, Receives, Takes, TakesConnect, Tells, Unbinds, Wakes, Withdraws, basic, world_after}
 use Rattle.lpc_model.specs.Entering.{given_steps, row_of, shown, take_connect_steps, take_steps, takes, woken}
 use Rattle.lpc_model.specs.Connect.{client_port, connect_start, connection_request, create_steps, listen_steps, making, named_steps, nt_create_port}
 use Rattle.lpc_model.specs.Request.{answered_test, datagram_start, nt_reply_port, receive_steps, reply, request_start, sent_by}
 use Rattle.lpc_model.specs.Tests.{handles_test, next_birth, port_test}
 use Rattle.lpc_model.specs.Lines.{accept_connect_port, complete_connect_port, connect_port, create_port, listen_port, reply_port, reply_wait_receive_port, request_port, request_wait_reply_port}
-use Rattle.lpc_model.specs.Machine.{service_of}
+use Rattle.lpc_isolation.proofs.Served.{served}
 use Rattle.lpc_model.proofs.Holding.{Holds, bind_holds}
 use Rattle.lpc_names.specs.Walk.{Place, free_at, free_path, node_at, unless_taken, walk}
 use Rattle.lpc_names.specs.declared.fault.NameFault.{NameFault}
 use Rattle.lpc_names.specs.declared.names.Found.{Found}
 use Rattle.lpc_names.proofs.Walks.{text-free}
 use Rattle.lpc_model.specs.Circle.{Group}
-use Rattle.lpc_isolation.proofs.Names.{Names, SeenNames}
-use Rattle.lpc_isolation.proofs.Kept.{names-bound}
+use Rattle.lpc_isolation.proofs.Names.{Names}
+use Rattle.lpc_isolation.proofs.Bound.{OnceBound, once-bound}
 use Rattle.lpc_isolation.proofs.Sends.{Caller, sent-datagram}
 use Rattle.lpc_isolation.proofs.Requests.{sent-request}
 use Rattle.lpc_isolation.proofs.Listens.{on-port}
@@ -57,6 +57,7 @@ free-unbound w text path is = at (free_path w.bindings text) refl is
 abbrev pub binds_none : Basic → Bool
 binds_none (Binds path node) = false
 binds_none (Frees o) = false
+binds_none (Unbinds b) = false
 binds_none b = true
 
 basic-bindings : (w : World) (b : Basic) → binds_none b ≡ true → (basic w b).bindings ≡ w.bindings
@@ -79,6 +80,10 @@ basic-bindings w (Completes b) ok = refl
 basic-bindings w (Withdraws who) ok = refl
 basic-bindings w (Frees o) ok = absurd (cc)
 basic-bindings w (AddsHandle pid h) ok = refl
+basic-bindings w (Empties q) ok = refl
+basic-bindings w (Cuts b) ok = refl
+basic-bindings w (DropsHandle pid value) ok = refl
+basic-bindings w (Unbinds b) ok = absurd (cc)
 
 pub run-bindings : (w : World) (bs : List Basic) → every binds_none bs ≡ true → (world_after w bs).bindings ≡ w.bindings
 run-bindings w [] ok = refl
@@ -129,50 +134,50 @@ reply-none w by handle bytes =
     bind_holds (port_test w by handle) _ P (λ p _. bind_holds (message_test bytes) _ P (λ a _. bind_holds (answered_test w p a) _ P (λ x _. refl)))
 
 -- what each call leaves of the names
-abbrev Seen : Group → World → List Basic → Type 0
-Seen m w bs = SeenNames m (world_after w bs).bindings
+abbrev Bound : World → List Basic → Type 0
+Bound w bs = OnceBound (world_after w bs).bindings
 
-seen-still : (m : Group) (w : World) → SeenNames m w.bindings → (r : Result (List Basic) Status) → Holds (λ bs. every binds_none bs ≡ true) r → Holds (Seen m w) r
-seen-still m w s (Ok bs) none = subst (SeenNames m) (sym (run-bindings w bs none)) s
-seen-still m w s (Err e) none = tt
+bound-still : (w : World) → OnceBound w.bindings → (r : Result (List Basic) Status) → Holds (λ bs. every binds_none bs ≡ true) r → Holds (Bound w) r
+bound-still w s (Ok bs) none = subst OnceBound (sym (run-bindings w bs none)) s
+bound-still w s (Err e) none = tt
 
-create-seen : (m : Group) (w : World) (by : ThreadRow) (name : Option (List ℕ)) → SeenNames m w.bindings → Holds (Seen m w) (nt_create_port w by name)
+create-bound : (w : World) (by : ThreadRow) (name : Option (List ℕ)) → OnceBound w.bindings → Holds (Bound w) (nt_create_port w by name)
 unfolding nt_create_port
-create-seen m w by None s = bind_holds (handles_test w by.process 1) _ (Seen m w) (λ _ _. s)
-create-seen m w by (Some name) s =
-    bind_holds (making w (next_birth by) (Some name)) _ (Seen m w) (λ made is. bind_holds (handles_test w by.process 1) _ (Seen m w) (λ _ _. at (free_name w name) refl made is))
+create-bound w by None s = bind_holds (handles_test w by.process 1) _ (Bound w) (λ _ _. s)
+create-bound w by (Some name) s =
+    bind_holds (making w (next_birth by) (Some name)) _ (Bound w) (λ made is. bind_holds (handles_test w by.process 1) _ (Bound w) (λ _ _. at (free_name w name) refl made is))
   where
-    at : (r : Result Path Status) → free_name w name ≡ r → (made : List Basic) → (r >>= (λ path. Ok (named_steps (next_birth by) path))) ≡ Ok made → Seen m w (create_steps by made (free_handle w by.process))
+    at : (r : Result Path Status) → free_name w name ≡ r → (made : List Basic) → (r >>= (λ path. Ok (named_steps (next_birth by) path))) ≡ Ok made → Bound w (create_steps by made (free_handle w by.process))
     at (Ok path) r made is =
         let same : named_steps (next_birth by) path ≡ made = cc in
-        subst (λ made. Seen m w (create_steps by made (free_handle w by.process))) same (names-bound m w.bindings path _ s (free-unbound w name path r))
+        subst (λ made. Bound w (create_steps by made (free_handle w by.process))) same (once-bound w.bindings path _ s (free-unbound w name path r))
     at (Err e) r made is = absurd (cc)
 
-pub names-create : (m : Group) (c : ℕ) (u w : World) (by : ThreadRow) (name : Option (List ℕ)) → Caller m c u w by → Holds (Seen m w) (service_of w by (create_port name))
-names-create m c u w by name k = create-seen m w by name k.names
+pub names-create : (m : Group) (c : ℕ) (u w : World) (by : ThreadRow) (name : Option (List ℕ)) → Caller m c u w by → Holds (Bound w) (served w by (create_port name))
+names-create m c u w by name k = create-bound w by name k.bound
 
-pub names-connect : (m : Group) (c : ℕ) (u w : World) (by : ThreadRow) (name bytes : List ℕ) → Caller m c u w by → Holds (Seen m w) (service_of w by (connect_port name bytes))
-names-connect m c u w by name bytes k = seen-still m w k.names (service_of w by (connect_port name bytes)) (on-connect (λ bs. every binds_none bs ≡ true) w by name bytes (λ q at. entered-none (row_of q (client_port by q) (connection_request by bytes)) (first (takes (row_of q (client_port by q) (connection_request by bytes))) (world_after w (connect_start by q (connection_request by bytes))).waits)))
+pub names-connect : (m : Group) (c : ℕ) (u w : World) (by : ThreadRow) (name bytes : List ℕ) → Caller m c u w by → Holds (Bound w) (served w by (connect_port name bytes))
+names-connect m c u w by name bytes k = bound-still w k.bound (served w by (connect_port name bytes)) (on-connect (λ bs. every binds_none bs ≡ true) w by name bytes (λ q at. entered-none (row_of q (client_port by q) (connection_request by bytes)) (first (takes (row_of q (client_port by q) (connection_request by bytes))) (world_after w (connect_start by q (connection_request by bytes))).waits)))
 
-pub names-listen : (m : Group) (c : ℕ) (u w : World) (by : ThreadRow) (handle : ℕ) → Caller m c u w by → Holds (Seen m w) (service_of w by (listen_port handle))
-names-listen m c u w by handle k = seen-still m w k.names (service_of w by (listen_port handle)) (on-port (λ bs. every binds_none bs ≡ true) m c u w by handle k (λ p at n. listen-none by p.birth (first (is_queued_connect p.birth) w.messages)))
+pub names-listen : (m : Group) (c : ℕ) (u w : World) (by : ThreadRow) (handle : ℕ) → Caller m c u w by → Holds (Bound w) (served w by (listen_port handle))
+names-listen m c u w by handle k = bound-still w k.bound (served w by (listen_port handle)) (on-port (λ bs. every binds_none bs ≡ true) m c u w by handle k (λ p at n. listen-none by p.birth (first (is_queued_connect p.birth) w.messages)))
 
-pub names-accept : (m : Group) (c : ℕ) (u w : World) (by : ThreadRow) (context : ℕ) (message : List ℕ) (accept : Bool) → Caller m c u w by → Holds (Seen m w) (service_of w by (accept_connect_port context message accept))
-names-accept m c u w by context bytes accept k = seen-still m w k.names (service_of w by (accept_connect_port context bytes accept)) (on-answer (λ bs. every binds_none bs ≡ true) m c u w by context bytes accept k (λ a is. refl) (λ a is. refl))
+pub names-accept : (m : Group) (c : ℕ) (u w : World) (by : ThreadRow) (context : ℕ) (message : List ℕ) (accept : Bool) → Caller m c u w by → Holds (Bound w) (served w by (accept_connect_port context message accept))
+names-accept m c u w by context bytes accept k = bound-still w k.bound (served w by (accept_connect_port context bytes accept)) (on-answer (λ bs. every binds_none bs ≡ true) m c u w by context bytes accept k (λ a is. refl) (λ a is. refl))
 
-pub names-complete : (m : Group) (c : ℕ) (u w : World) (by : ThreadRow) (handle : ℕ) → Caller m c u w by → Holds (Seen m w) (service_of w by (complete_connect_port handle))
-names-complete m c u w by handle k = seen-still m w k.names (service_of w by (complete_connect_port handle)) (on-complete (λ bs. every binds_none bs ≡ true) m c u w by handle k (λ r is. refl))
+pub names-complete : (m : Group) (c : ℕ) (u w : World) (by : ThreadRow) (handle : ℕ) → Caller m c u w by → Holds (Bound w) (served w by (complete_connect_port handle))
+names-complete m c u w by handle k = bound-still w k.bound (served w by (complete_connect_port handle)) (on-complete (λ bs. every binds_none bs ≡ true) m c u w by handle k (λ r is. refl))
 
-pub names-datagram : (m : Group) (c : ℕ) (u w : World) (by : ThreadRow) (handle : ℕ) (message : List ℕ) → Caller m c u w by → Holds (Seen m w) (service_of w by (request_port handle message))
-names-datagram m c u w by handle bytes k = seen-still m w k.names (service_of w by (request_port handle bytes)) (sent-datagram (λ bs. every binds_none bs ≡ true) m c u w by handle bytes k (λ s is. entered-none (row_of s.queue s.port (sent_by by DATAGRAM s.message)) (first (takes (row_of s.queue s.port (sent_by by DATAGRAM s.message))) (world_after w (datagram_start by)).waits)))
+pub names-datagram : (m : Group) (c : ℕ) (u w : World) (by : ThreadRow) (handle : ℕ) (message : List ℕ) → Caller m c u w by → Holds (Bound w) (served w by (request_port handle message))
+names-datagram m c u w by handle bytes k = bound-still w k.bound (served w by (request_port handle bytes)) (sent-datagram (λ bs. every binds_none bs ≡ true) m c u w by handle bytes k (λ s is. entered-none (row_of s.queue s.port (sent_by by DATAGRAM s.message)) (first (takes (row_of s.queue s.port (sent_by by DATAGRAM s.message))) (world_after w (datagram_start by)).waits)))
 
-pub names-request : (m : Group) (c : ℕ) (u w : World) (by : ThreadRow) (handle : ℕ) (message : List ℕ) → Caller m c u w by → Holds (Seen m w) (service_of w by (request_wait_reply_port handle message))
-names-request m c u w by handle bytes k = seen-still m w k.names (service_of w by (request_wait_reply_port handle bytes)) (sent-request (λ bs. every binds_none bs ≡ true) m c u w by handle bytes k (λ s is. entered-none (row_of s.queue s.port (sent_by by REQUEST s.message)) (first (takes (row_of s.queue s.port (sent_by by REQUEST s.message))) (world_after w (request_start by s.port.birth s.queue (sent_by by REQUEST s.message))).waits)))
+pub names-request : (m : Group) (c : ℕ) (u w : World) (by : ThreadRow) (handle : ℕ) (message : List ℕ) → Caller m c u w by → Holds (Bound w) (served w by (request_wait_reply_port handle message))
+names-request m c u w by handle bytes k = bound-still w k.bound (served w by (request_wait_reply_port handle bytes)) (sent-request (λ bs. every binds_none bs ≡ true) m c u w by handle bytes k (λ s is. entered-none (row_of s.queue s.port (sent_by by REQUEST s.message)) (first (takes (row_of s.queue s.port (sent_by by REQUEST s.message))) (world_after w (request_start by s.port.birth s.queue (sent_by by REQUEST s.message))).waits)))
 
-pub names-reply : (m : Group) (c : ℕ) (u w : World) (by : ThreadRow) (handle : ℕ) (message : List ℕ) → Caller m c u w by → Holds (Seen m w) (service_of w by (reply_port handle message))
-names-reply m c u w by handle bytes k = seen-still m w k.names (service_of w by (reply_port handle bytes)) (reply-none w by handle bytes)
+pub names-reply : (m : Group) (c : ℕ) (u w : World) (by : ThreadRow) (handle : ℕ) (message : List ℕ) → Caller m c u w by → Holds (Bound w) (served w by (reply_port handle message))
+names-reply m c u w by handle bytes k = bound-still w k.bound (served w by (reply_port handle bytes)) (reply-none w by handle bytes)
 
-pub names-receive : (m : Group) (c : ℕ) (u w : World) (by : ThreadRow) (handle : ℕ) (message : Option (List ℕ)) → Caller m c u w by → Holds (Seen m w) (service_of w by (reply_wait_receive_port handle message))
-names-receive m c u w by handle bytes k = seen-still m w k.names (service_of w by (reply_wait_receive_port handle bytes)) (on-receive (λ bs. every binds_none bs ≡ true) m c u w by handle bytes k (λ a p q replied is r.
+pub names-receive : (m : Group) (c : ℕ) (u w : World) (by : ThreadRow) (handle : ℕ) (message : Option (List ℕ)) → Caller m c u w by → Holds (Bound w) (served w by (reply_wait_receive_port handle message))
+names-receive m c u w by handle bytes k = bound-still w k.bound (served w by (reply_wait_receive_port handle bytes)) (on-receive (λ bs. every binds_none bs ≡ true) m c u w by handle bytes k (λ a p q replied is r.
     replied-as (λ rs. every binds_none (receive_steps by p q rs (first (is_queued q) w.messages)) ≡ true) w p a replied r.replies
     (λ none. received-none by p q (first (is_queued q) w.messages)) (λ b y some at. replied-none by p q y b (first (is_queued q) w.messages))))

@@ -11,9 +11,10 @@ use Rattle.lpc_model.specs.declared.entry.Entry.{Entry}
 use Rattle.lpc_model.specs.declared.entry.Entry.TheVariants as entry
 use Rattle.lpc_model.specs.World.{ThreadRow, WaitRow, World}
 use Rattle.lpc_model.specs.Found.{live_thread, wait_of, waits_as}
-use Rattle.lpc_model.specs.Basics.{Accepts, AddsHandle, AddsProcess, AddsThread, Awaits, Basic, Binds, Completes, DrawsIdentifier, DrawsOrdinal, Enters, Frees, Joins, Makes, Receives, Takes, TakesConnect, Tells, Wakes, Withdraws, entries_of, world_after}
+use Rattle.lpc_model.specs.Basics.{Accepts, AddsHandle, AddsProcess, AddsThread, Awaits, Basic, Binds, Completes, Cuts, DrawsIdentifier, DrawsOrdinal, DropsHandle, Empties, Enters, Frees, Joins, Makes, Receives, Takes, TakesConnect, Tells, Unbinds, Wakes, Withdraws, entries_of, world_after}
 use Rattle.lpc_model.specs.Lines.{ScriptCall, run}
-use Rattle.lpc_model.specs.Machine.{name_of_call, service_of, settled, bare_step, bare_steps}
+use Rattle.lpc_model.specs.Machine.{name_of_call, settled, bare_steps}
+use Rattle.lpc_isolation.proofs.Served.{served, served_step, served_steps}
 use Rattle.lpc_model.proofs.Holding.{Holds, holds_ok}
 use Rattle.lpc_model.proofs.Usable.{live-number}
 use Rattle.lpc_model.specs.Circle.{Everyone, Group, Item, Nobody, Of, Told, Whose, entry_whose, is_seen, is_told_to, owned, owner, thread_whose}
@@ -32,26 +33,26 @@ use Rattle.lpc_isolation.proofs.Serves.{is_call_of, is_orderly, orderly-done, or
 
 -- what a service owes to the call of a thread that waits for nothing
 pub record Serves (led : Leads) (m : Group) (c : ℕ) (w : World) (by : ThreadRow) (call : ScriptCall) : Type 0 where
-  pub apart : (u : World) (d : Whose) → u.used_threads ≡ w.used_threads → m by.process ≡ false → Holds (λ bs. HasFinePorts m c (world_after w bs) → are_apart m c u d w bs ≡ true) (service_of w by call)
-  pub same : by.process ≡ c → service_of (view m w) by call ≡ service_of w by call
-  pub ours : by.process ≡ c → Holds (λ bs. HasFinePorts m c (world_after w bs) → are_ours m w bs ≡ true) (service_of w by call)
-  pub leads : (u : World) (d : Whose) → u.used_threads ≡ w.used_threads → m by.process ≡ true → (by.process == c) ≡ false → Holds (λ bs. HasFinePorts m c (world_after w bs) → Led m c u d w bs (led (view m w) by call (own_entry bs))) (service_of w by call)
-  pub orderly : Holds (λ bs. is_call_of by.number bs ≡ true) (service_of w by call)
-  pub refuses : (s : Status) → service_of w by call ≡ Err s → (s.0 == SUCCESS.0) ≡ false
+  pub apart : (u : World) (d : Whose) → u.used_threads ≡ w.used_threads → m by.process ≡ false → Holds (λ bs. HasFinePorts m c (world_after w bs) → are_apart m c u d w bs ≡ true) (served w by call)
+  pub same : by.process ≡ c → served (view m w) by call ≡ served w by call
+  pub ours : by.process ≡ c → Holds (λ bs. HasFinePorts m c (world_after w bs) → are_ours m w bs ≡ true) (served w by call)
+  pub leads : (u : World) (d : Whose) → u.used_threads ≡ w.used_threads → m by.process ≡ true → (by.process == c) ≡ false → Holds (λ bs. HasFinePorts m c (world_after w bs) → Led m c u d w bs (led (view m w) by call (own_entry bs))) (served w by call)
+  pub orderly : Holds (λ bs. is_call_of by.number bs ≡ true) (served w by call)
+  pub refuses : (s : Status) → served w by call ≡ Err s → (s.0 == SUCCESS.0) ≡ false
 
 -- what the list of a line owes
 record OwesAt (led : Leads) (m : Group) (c : ℕ) (w : World) (tid : ℕ) (call : ScriptCall) (bs : List Basic) : Type 0 where
   apart : is_seen m (thread_whose w tid) ≡ false → are_apart m c (world_after w bs) (thread_whose w tid) w bs ≡ true
-  same : is_seen (alone c) (thread_whose w tid) ≡ true → bare_steps (run tid call) (view m w) ≡ bs
+  same : is_seen (alone c) (thread_whose w tid) ≡ true → served_steps (run tid call) (view m w) ≡ bs
   ours : is_seen (alone c) (thread_whose w tid) ≡ true → are_ours m w bs ≡ true
   leads : is_seen m (thread_whose w tid) ≡ true → is_seen (alone c) (thread_whose w tid) ≡ false → Led m c (world_after w bs) (thread_whose w tid) w bs (led_line led (view m w) tid call (own_entry bs))
   first : is_seen m (thread_whose w tid) ≡ true → is_seen (alone c) (thread_whose w tid) ≡ false → (is : List Item) → next_entry (told_items (told_inputs m c (world_after w bs) (thread_whose w tid) (entries_of bs)) ++ is) ≡ own_entry bs
   done : every (is_done (world_after w bs)) (entries_of bs) ≡ true
 
-owes-of : (led : Leads) (m : Group) (c : ℕ) (w : World) (tid : ℕ) (call : ScriptCall) (bs : List Basic) → bare_steps (run tid call) w ≡ bs → OwesAt led m c w tid call bs → Owes led m c w tid call
+owes-of : (led : Leads) (m : Group) (c : ℕ) (w : World) (tid : ℕ) (call : ScriptCall) (bs : List Basic) → served_steps (run tid call) w ≡ bs → OwesAt led m c w tid call bs → Owes led m c w tid call
 owes-of led m c w tid call bs is o = from (subst (OwesAt led m c w tid call) (sym is) o)
   where
-    from : OwesAt led m c w tid call (bare_steps (run tid call) w) → Owes led m c w tid call
+    from : OwesAt led m c w tid call (served_steps (run tid call) w) → Owes led m c w tid call
     from o = record { apart = o.apart; same = o.same; ours = o.ours; leads = o.leads; first = o.first; done = o.done }
 
 -- a member's entry, other than c's, is the next of its inputs
@@ -69,7 +70,7 @@ next-is m c u d e es is seen off =
     keeps a b one off = grind arith
 
 -- a line that tells one entry, which accepts nothing
-owes-lone : (led : Leads) (m : Group) (c : ℕ) (w : World) (tid : ℕ) (call : ScriptCall) (e : Entry) → entry_whose w (thread_whose w tid) e ≡ thread_whose w tid → accepts e ≡ false → is_done w e ≡ true → (is_seen (alone c) (thread_whose w tid) ≡ true → bare_steps (run tid call) (view m w) ≡ Tells e ∷ []) → OwesAt led m c w tid call (Tells e ∷ [])
+owes-lone : (led : Leads) (m : Group) (c : ℕ) (w : World) (tid : ℕ) (call : ScriptCall) (e : Entry) → entry_whose w (thread_whose w tid) e ≡ thread_whose w tid → accepts e ≡ false → is_done w e ≡ true → (is_seen (alone c) (thread_whose w tid) ≡ true → served_steps (run tid call) (view m w) ≡ Tells e ∷ []) → OwesAt led m c w tid call (Tells e ∷ [])
 owes-lone led m c w tid call e whose off done same = record {
   apart = λ out. let gone : is_heard m w (thread_whose w tid) e ≡ false = ap (is_seen m) whose ∙ out in rw gone refl;
   same = same;
@@ -158,6 +159,10 @@ headed tid (Withdraws a ∷ bs) is = absurd (cc)
 headed tid (Frees o ∷ bs) is = absurd (cc)
 headed tid (Binds a b ∷ bs) is = absurd (cc)
 headed tid (AddsHandle a b ∷ bs) is = absurd (cc)
+headed tid (Empties q ∷ bs) is = absurd (cc)
+headed tid (Cuts b ∷ bs) is = absurd (cc)
+headed tid (Unbinds b ∷ bs) is = absurd (cc)
+headed tid (DropsHandle a b ∷ bs) is = absurd (cc)
 
 own-is : (tid : ℕ) (bs : List Basic) (h : Headed tid bs) → own_entry bs ≡ h.entry
 own-is tid bs h = ap own_entry h.is
@@ -170,12 +175,12 @@ pub record Ready (m : Group) (c : ℕ) (w : World) (tid : ℕ) (by : ThreadRow) 
   pub live : live_thread w tid ≡ Some by
   pub idle : wait_of w tid ≡ None
 
-pub called : (w : World) (tid : ℕ) (call : ScriptCall) (by : ThreadRow) → live_thread w tid ≡ Some by → wait_of w tid ≡ None → bare_steps (run tid call) w ≡ settled by (name_of_call call) (service_of w by call)
+pub called : (w : World) (tid : ℕ) (call : ScriptCall) (by : ThreadRow) → live_thread w tid ≡ Some by → wait_of w tid ≡ None → served_steps (run tid call) w ≡ settled by (name_of_call call) (served w by call)
 unfolding bare_steps
 called w tid call by live idle = rw (live, idle) refl
 
 -- c's call in the view
-c-called : (led : Leads) (m : Group) (c : ℕ) (w : World) (tid : ℕ) (call : ScriptCall) (by : ThreadRow) → Ready m c w tid by → Serves led m c w by call → is_seen (alone c) (thread_whose w tid) ≡ true → bare_steps (run tid call) (view m w) ≡ settled by (name_of_call call) (service_of w by call)
+c-called : (led : Leads) (m : Group) (c : ℕ) (w : World) (tid : ℕ) (call : ScriptCall) (by : ThreadRow) → Ready m c w tid by → Serves led m c w by call → is_seen (alone c) (thread_whose w tid) ≡ true → served_steps (run tid call) (view m w) ≡ settled by (name_of_call call) (served w by call)
 c-called led m c w tid call by r s is =
     let own : owner w tid ≡ Some c = owner-c c w tid is in
     let both_own : Some by.process ≡ Some c = sym (live-owner m c w tid by r.fair r.live) ∙ own in
@@ -183,27 +188,27 @@ c-called led m c w tid call by r s is =
     called (view m w) tid call by (live-view m c w tid c r.fair own r.c_in ∙ r.live) (c-idle m c w tid r.c_in r.fair r.owned own ∙ r.idle)
     ∙ ap (settled by (name_of_call call)) (s.same mine)
 
-owes-ok : (led : Leads) (m : Group) (c : ℕ) (w : World) (tid : ℕ) (call : ScriptCall) (by : ThreadRow) (bs : List Basic) → Ready m c w tid by → Serves led m c w by call → service_of w by call ≡ Ok bs → HasFinePorts m c (world_after w bs) → OwesAt led m c w tid call bs
+owes-ok : (led : Leads) (m : Group) (c : ℕ) (w : World) (tid : ℕ) (call : ScriptCall) (by : ThreadRow) (bs : List Basic) → Ready m c w tid by → Serves led m c w by call → served w by call ≡ Ok bs → HasFinePorts m c (world_after w bs) → OwesAt led m c w tid call bs
 owes-ok led m c w tid call by bs r s at fine =
     let number : by.number ≡ tid = live-number w tid by r.live in
     let own : owner w tid ≡ Some by.process = live-owner m c w tid by r.fair r.live in
     let u : World = world_after w bs in
     let d : Whose = thread_whose w tid in
-    let head : Headed tid bs = subst (λ n. Headed n bs) number (headed by.number bs (holds_ok (λ bs. is_call_of by.number bs ≡ true) (service_of w by call) bs s.orderly at)) in
+    let head : Headed tid bs = subst (λ n. Headed n bs) number (headed by.number bs (holds_ok (λ bs. is_call_of by.number bs ≡ true) (served w by call) bs s.orderly at)) in
     let used : u.used_threads ≡ w.used_threads = orderly-used w bs head.orderly in
     let whose : entry_whose u d head.entry ≡ d = own-whose u d tid head.entry head.own ∙ rw used refl in
     record {
-      apart = λ out. holds_ok (λ bs. HasFinePorts m c (world_after w bs) → are_apart m c u d w bs ≡ true) (service_of w by call) bs (s.apart u d used (sym (owner-in m w tid by own) ∙ out)) at fine;
+      apart = λ out. holds_ok (λ bs. HasFinePorts m c (world_after w bs) → are_apart m c u d w bs ≡ true) (served w by call) bs (s.apart u d used (sym (owner-in m w tid by own) ∙ out)) at fine;
       same = λ is. c-called led m c w tid call by r s is ∙ ap (settled by (name_of_call call)) at;
       ours = λ is.
           let both_own : Some by.process ≡ Some c = sym own ∙ owner-c c w tid is in
           let mine : by.process ≡ c = cc in
-          holds_ok (λ bs. HasFinePorts m c (world_after w bs) → are_ours m w bs ≡ true) (service_of w by call) bs (s.ours mine) at fine;
+          holds_ok (λ bs. HasFinePorts m c (world_after w bs) → are_ours m w bs ≡ true) (served w by call) bs (s.ours mine) at fine;
       leads = λ seen other.
           let by_in : m by.process ≡ true = sym (owner-in m w tid by own) ∙ seen in
           let by_other : (by.process == c) ≡ false = sym (owner-in (alone c) w tid by own) ∙ other in
           let accepted : accepts (own_entry bs) ≡ true = ap accepts (own-is tid bs head) ∙ tells-accepts tid head.entry head.own in
-          rw (accepted, live-view m c w tid by.process r.fair own by_in, r.live) (holds_ok (λ bs. HasFinePorts m c (world_after w bs) → Led m c u d w bs (led (view m w) by call (own_entry bs))) (service_of w by call) bs (s.leads u d used by_in by_other) at fine);
+          rw (accepted, live-view m c w tid by.process r.fair own by_in, r.live) (holds_ok (λ bs. HasFinePorts m c (world_after w bs) → Led m c u d w bs (led (view m w) by call (own_entry bs))) (served w by call) bs (s.leads u d used by_in by_other) at fine);
       first = λ seen other is.
           ap (λ bs'. next_entry (told_items (told_inputs m c u d (entries_of bs')) ++ is)) head.is
           ∙ next-is m c u d head.entry (entries_of head.rest) is (ap (is_seen m) whose ∙ seen) (ap (is_seen (alone c)) whose ∙ other)
@@ -211,21 +216,21 @@ owes-ok led m c w tid call by bs r s at fine =
       done = orderly-done w bs head.orderly;
     }
 
-owes-settled : (led : Leads) (m : Group) (c : ℕ) (w : World) (tid : ℕ) (call : ScriptCall) (by : ThreadRow) (t : Result (List Basic) Status) → Ready m c w tid by → Serves led m c w by call → service_of w by call ≡ t → HasFinePorts m c (world_after w (settled by (name_of_call call) t)) → OwesAt led m c w tid call (settled by (name_of_call call) t)
+owes-settled : (led : Leads) (m : Group) (c : ℕ) (w : World) (tid : ℕ) (call : ScriptCall) (by : ThreadRow) (t : Result (List Basic) Status) → Ready m c w tid by → Serves led m c w by call → served w by call ≡ t → HasFinePorts m c (world_after w (settled by (name_of_call call) t)) → OwesAt led m c w tid call (settled by (name_of_call call) t)
 owes-settled led m c w tid call by (Ok bs) r s at fine = owes-ok led m c w tid call by bs r s at fine
 owes-settled led m c w tid call by (Err e) r s at fine =
     let number : by.number ≡ tid = live-number w tid by r.live in
     owes-lone led m c w tid call (entry.Answer by.number (name_of_call call) e []) (ap (thread_whose w) number) (s.refuses e at) refl (λ is. c-called led m c w tid call by r s is ∙ ap (settled by (name_of_call call)) at)
 
 -- the line of a call
-pub owes-call : (led : Leads) (m : Group) (c : ℕ) (w : World) (tid : ℕ) (call : ScriptCall) (by : ThreadRow) → Ready m c w tid by → Serves led m c w by call → HasFinePorts m c (bare_step w (run tid call)).world → Owes led m c w tid call
+pub owes-call : (led : Leads) (m : Group) (c : ℕ) (w : World) (tid : ℕ) (call : ScriptCall) (by : ThreadRow) → Ready m c w tid by → Serves led m c w by call → HasFinePorts m c (served_step w (run tid call)).world → Owes led m c w tid call
 owes-call led m c w tid call by r s fine =
-    let is : bare_steps (run tid call) w ≡ settled by (name_of_call call) (service_of w by call) = called w tid call by r.live r.idle in
-    owes-of led m c w tid call (settled by (name_of_call call) (service_of w by call)) is
-    (owes-settled led m c w tid call by (service_of w by call) r s refl (subst (λ bs. HasFinePorts m c (world_after w bs)) is fine))
+    let is : served_steps (run tid call) w ≡ settled by (name_of_call call) (served w by call) = called w tid call by r.live r.idle in
+    owes-of led m c w tid call (settled by (name_of_call call) (served w by call)) is
+    (owes-settled led m c w tid call by (served w by call) r s refl (subst (λ bs. HasFinePorts m c (world_after w bs)) is fine))
 
 -- a line of a number that no live thread has, and one of a thread that waits
-pub nobody : (w : World) (tid : ℕ) (call : ScriptCall) → live_thread w tid ≡ None → bare_steps (run tid call) w ≡ Tells (entry.NoThread tid) ∷ []
+pub nobody : (w : World) (tid : ℕ) (call : ScriptCall) → live_thread w tid ≡ None → served_steps (run tid call) w ≡ Tells (entry.NoThread tid) ∷ []
 unfolding bare_steps
 nobody w tid call none = rw none refl
 
@@ -234,7 +239,7 @@ owes-none led m c w tid call c_in f none =
     owes-of led m c w tid call (Tells (entry.NoThread tid) ∷ []) (nobody w tid call none)
     (owes-lone led m c w tid call (entry.NoThread tid) refl refl refl (λ is. nobody (view m w) tid call (live-view m c w tid c f (owner-c c w tid is) c_in ∙ none)))
 
-pub busy : (w : World) (tid : ℕ) (call : ScriptCall) (by : ThreadRow) (x : WaitRow) → live_thread w tid ≡ Some by → wait_of w tid ≡ Some x → bare_steps (run tid call) w ≡ Tells (entry.Busy by.number) ∷ []
+pub busy : (w : World) (tid : ℕ) (call : ScriptCall) (by : ThreadRow) (x : WaitRow) → live_thread w tid ≡ Some by → wait_of w tid ≡ Some x → served_steps (run tid call) w ≡ Tells (entry.Busy by.number) ∷ []
 unfolding bare_steps
 busy w tid call by x live waits = rw (live, waits) refl
 

@@ -1,6 +1,6 @@
 -- NtCompleteConnectPort in a view.
 use Rattle.std.proofs.Common.{◌≡◌, ℕ, List, [], ◌∷◌, Bool, true, false, cond, not, Option, Some, None, refl, ap, sym, subst, ◌∙◌, arith}
-use Rattle.std.specs.Prelude.{◌&&◌, ◌==◌, Ok, is_none}
+use Rattle.std.specs.Prelude.{◌&&◌, ◌==◌, Ok}
 use Rattle.std.proofs.lemmas.Bool.{eqb-true}
 use Rattle.lpc_base.specs.Rows.{first, given, passes}
 use Rattle.lpc_base.proofs.RowWords.{first-passes}
@@ -73,7 +73,7 @@ wait-client m c w by handle r f is =
     sym (eqb-true _ _ (one_of _ _ fair)) ∙ eqb-true _ _ process
 
 -- a server port's pair
-server-pair : (m : Group) (c : ℕ) (p : PortRow) (o : Option Birth) (b : Birth) → o ≡ Some b → (is_home p && (implies (is_none o) (p.context == 0) && all_of o (is_fair_pair m c p))) ≡ true → is_server_port p ≡ true → (implies (m b.process) (m p.birth.process) && implies (p.birth.process == c) (m b.process)) ≡ true
+server-pair : (m : Group) (c : ℕ) (p : PortRow) (o : Option Birth) (b : Birth) → o ≡ Some b → (is_home p && all_of o (is_fair_pair m c p)) ≡ true → is_server_port p ≡ true → (implies (m b.process) (m p.birth.process) && implies (p.birth.process == c) (m b.process)) ≡ true
 server-pair m c p None b is fair kind = absurd (cc)
 server-pair m c p (Some q) b is fair kind =
     let same : q ≡ b = cc in

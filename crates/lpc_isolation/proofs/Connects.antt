@@ -19,11 +19,11 @@ use Rattle.lpc_names.specs.Path.{Path}
 use Rattle.lpc_names.specs.Walk.{lookup, free_path}
 use Rattle.lpc_model.specs.Tests.{handles_test, next_birth}
 use Rattle.lpc_model.proofs.Holding.{Holds, bind_holds}
-use Rattle.lpc_model.specs.Circle.{Group, Whose, is_fine_client, leads_inside, is_fine_port, names_inside}
+use Rattle.lpc_model.specs.Circle.{Group, Whose, is_fine_client, leads_inside, is_fine_port, names_inside, owner}
 use Rattle.lpc_isolation.proofs.Alone.{HasFinePorts}
 use Rattle.lpc_isolation.proofs.View.{both, same-number, view}
 use Rattle.lpc_isolation.proofs.Basics.{are_ours, ours-append, run-ours}
-use Rattle.lpc_isolation.proofs.Fair.{Fair, are_fair, fair-append, is_fair_message, is_fair_wait, owner-sent, run-fair}
+use Rattle.lpc_isolation.proofs.Fair.{Fair, are_fair, fair-append, is_fair_message, is_fair_wait, owner-sent, owner-used, run-fair}
 use Rattle.lpc_isolation.proofs.Seen.{bind-same}
 use Rattle.lpc_isolation.proofs.Enter.{Patient, is_patient, enter-fair, enter-ours, enter-view}
 use Rattle.lpc_isolation.proofs.Apart.{Owned, apart-append, are_apart, enter-apart, is_owned, unseen-at, unseen-wait}
@@ -81,8 +81,9 @@ row-fair m c by q bytes c_in fine =
     let self = same-number by.process in
     let mine : (by.process == c) ≡ true → m by.process ≡ true = λ is. ap m (eqb-true _ _ is) ∙ c_in in grind arith
 
-start-fair : (m : Group) (c : ℕ) (w : World) (by : ThreadRow) (q : Birth) (bytes : List ℕ) → m c ≡ true → is_fine_client m c (next_birth by) q ≡ true → are_fair m c w (starting by q bytes) ≡ true
-start-fair m c w by q bytes c_in fine = rw (connect_wait-fair m c by q bytes c_in fine) refl
+start-fair : (m : Group) (c : ℕ) (w : World) (by : ThreadRow) (q : Birth) (bytes : List ℕ) → m c ≡ true → owner w by.number ≡ Some by.process → is_fine_client m c (next_birth by) q ≡ true → are_fair m c w (starting by q bytes) ≡ true
+start-fair m c w by q bytes c_in own fine =
+    both _ _ (both _ _ (both _ _ (same-number by.process) (owner-used w by.number by.process own)) refl) (both _ _ (connect_wait-fair m c by q bytes c_in fine) refl)
 
 pub record Begun (m : Group) (c : ℕ) (u w : World) : Type 0 where
   pub fair : Fair m c w
@@ -91,14 +92,14 @@ pub record Begun (m : Group) (c : ℕ) (u w : World) : Type 0 where
 
 begun : (m : Group) (c : ℕ) (u w : World) (by : ThreadRow) (q : Birth) (bytes : List ℕ) → Caller m c u w by → is_fine_client m c (next_birth by) q ≡ true → Begun m c u (world_after w (starting by q bytes))
 begun m c u w by q bytes k fine = record {
-  fair = run-fair m c w (starting by q bytes) (start-fair m c w by q bytes k.c_in fine) k.fair;
+  fair = run-fair m c w (starting by q bytes) (start-fair m c w by q bytes k.c_in k.own fine) k.fair;
   patient = every-push (is_patient w) w.waits (connect_wait by q (connection_request by bytes)) k.patient refl;
   owned = every-push (is_owned u) w.waits (connect_wait by q (connection_request by bytes)) k.owned (rw k.here (same-number by.process));
 }
 
 connect-fair : (m : Group) (c : ℕ) (u w : World) (by : ThreadRow) (q : Birth) (bytes : List ℕ) → Caller m c u w by → is_fine_client m c (next_birth by) q ≡ true → are_fair m c w (steps_of w by q bytes) ≡ true
 connect-fair m c u w by q bytes k fine =
-    fair-append m c w (starting by q bytes) (enter (row by q bytes) (world_after w (starting by q bytes))) (start-fair m c w by q bytes k.c_in fine)
+    fair-append m c w (starting by q bytes) (enter (row by q bytes) (world_after w (starting by q bytes))) (start-fair m c w by q bytes k.c_in k.own fine)
     (enter-fair m c (world_after w (starting by q bytes)) (row by q bytes) (both _ _ (row-fair m c by q bytes k.c_in fine) (owner-sent w (row by q bytes) by.process k.own refl)))
 
 -- apart

@@ -10,7 +10,8 @@ use Rattle.lpc_model.specs.declared.entry.Word.TheVariants as word
 use Rattle.lpc_model.specs.World.{Path, World}
 use Rattle.lpc_model.specs.Basics.{AddsProcess, AddsThread, Basic, Binds, basic, entries_of, world_after}
 use Rattle.lpc_model.specs.Lines.{ScriptLine, boot, dir, link, run, thread}
-use Rattle.lpc_model.specs.Machine.{boot_line, dir_line, directed, directive_birth, link_line, new_process, new_thread, live_test, bare_step, bare_steps, thread_line, thread_test, unused_test, unused_thread_test}
+use Rattle.lpc_model.specs.Machine.{boot_line, dir_line, directed, directive_birth, link_line, new_process, new_thread, live_test, bare_steps, thread_line, thread_test, unused_test, unused_thread_test}
+use Rattle.lpc_isolation.proofs.Served.{served_step, served_steps}
 use Rattle.lpc_model.specs.Named.{as_status, free_name, spelled_name}
 use Rattle.lpc_model.specs.Found.{is_live, live_count, was_process, was_thread}
 use Rattle.lpc_base.specs.declared.limits.TheConstants.{THREAD_LIMIT}
@@ -56,7 +57,7 @@ directive_shown c v line is = cond (is_seen (alone c) (line_whose v line)) (Ran 
 
 -- what each directive owes
 pub record Directs (m : Group) (w : World) (line : ScriptLine) (name : Word) (d : Whose) (r : Result (List Basic) Status) : Type 0 where
-  pub is : bare_steps line w ≡ directed name r
+  pub is : served_steps line w ≡ directed name r
   pub whose : (v : World) → line_whose v line ≡ d
   pub silent : Holds (λ bs. entries_of bs ≡ []) r
   pub refuses : Refuses r
@@ -96,26 +97,26 @@ told-directive m c u Nobody name status = refl
 -- what is told of it, and what c sees
 directive-told : (m : Group) (c : ℕ) (w : World) (line : ScriptLine) (name : Word) (d : Whose) (r : Result (List Basic) Status) → Directs m w line name d r → told_at m c w line ≡ cond (is_seen m d) (entry.Directive name (status_of r) ∷ []) []
 directive-told m c w line name d r o =
-    ap (λ d. told_inputs m c (bare_step w line).world d (bare_step w line).entries) (o.whose w)
-    ∙ ap (λ es. told_inputs m c (bare_step w line).world d es) (ap entries_of o.is ∙ directed-entries name r o.silent)
-    ∙ told-directive m c (bare_step w line).world d name (status_of r)
+    ap (λ d. told_inputs m c (served_step w line).world d (served_step w line).entries) (o.whose w)
+    ∙ ap (λ es. told_inputs m c (served_step w line).world d es) (ap entries_of o.is ∙ directed-entries name r o.silent)
+    ∙ told-directive m c (served_step w line).world d name (status_of r)
 
 directive-items : (m : Group) (c : ℕ) (w : World) (line : ScriptLine) (name : Word) (d : Whose) (r : Result (List Basic) Status) → Directs m w line name d r → items (alone c) (bare_line_events w line) ≡ cond (is_seen (alone c) d) (Ran line ∷ Told (entry.Directive name (status_of r)) ∷ []) []
 directive-items m c w line name d r o =
-    ap (λ d. items (alone c) (record { whose = d; item = Ran line } ∷ map (told_event (bare_step w line).world d) (bare_step w line).entries)) (o.whose w)
-    ∙ ap (λ es. items (alone c) (record { whose = d; item = Ran line } ∷ map (told_event (bare_step w line).world d) es)) (ap entries_of o.is ∙ directed-entries name r o.silent)
+    ap (λ d. items (alone c) (record { whose = d; item = Ran line } ∷ map (told_event (served_step w line).world d) (served_step w line).entries)) (o.whose w)
+    ∙ ap (λ es. items (alone c) (record { whose = d; item = Ran line } ∷ map (told_event (served_step w line).world d) es)) (ap entries_of o.is ∙ directed-entries name r o.silent)
     ∙ at (is_seen (alone c) d)
   where
-    at : (b : Bool) → map item_of (cond b (record { whose = d; item = Ran line } ∷ cond b (told_event (bare_step w line).world d (entry.Directive name (status_of r)) ∷ []) []) (cond b (told_event (bare_step w line).world d (entry.Directive name (status_of r)) ∷ []) [])) ≡ cond b (Ran line ∷ Told (entry.Directive name (status_of r)) ∷ []) []
+    at : (b : Bool) → map item_of (cond b (record { whose = d; item = Ran line } ∷ cond b (told_event (served_step w line).world d (entry.Directive name (status_of r)) ∷ []) []) (cond b (told_event (served_step w line).world d (entry.Directive name (status_of r)) ∷ []) [])) ≡ cond b (Ran line ∷ Told (entry.Directive name (status_of r)) ∷ []) []
     at true = refl
     at false = refl
 
-directive-world : (m : Group) (w : World) (line : ScriptLine) (name : Word) (d : Whose) (r : Result (List Basic) Status) → Directs m w line name d r → (bare_step w line).world ≡ world_of w r
+directive-world : (m : Group) (w : World) (line : ScriptLine) (name : Word) (d : Whose) (r : Result (List Basic) Status) → Directs m w line name d r → (served_step w line).world ≡ world_of w r
 directive-world m w line name d r o = ap (world_after w) o.is ∙ directed-world w name r
 
 -- hidden, where it is an outsider's
 pub directive-hidden : (m : Group) (c : ℕ) (w : World) (line : ScriptLine) (name : Word) (d : Whose) (r : Result (List Basic) Status) → m c ≡ true → Directs m w line name d r → is_seen m d ≡ false
-    → (view m (bare_step w line).world ≡ absorb_all (view m w) (told_at m c w line)) × (items (alone c) (bare_line_events w line) ≡ [])
+    → (view m (served_step w line).world ≡ absorb_all (view m w) (told_at m c w line)) × (items (alone c) (bare_line_events w line) ≡ [])
 directive-hidden m c w line name d r c_in o out = (
   ap (view m) (directive-world m w line name d r o) ∙ world r (o.hidden out)
       ∙ sym (ap (absorb_all (view m w)) (directive-told m c w line name d r o ∙ ap (λ b. cond b (entry.Directive name (status_of r) ∷ []) []) out)),
@@ -128,10 +129,10 @@ directive-hidden m c w line name d r c_in o out = (
 
 -- visible, where it is a member's or everyone's
 pub directive-visible : (m : Group) (c : ℕ) (w : World) (line : ScriptLine) (name : Word) (d : Whose) (r : Result (List Basic) Status) (is : List Item) → Directs m w line name d r → is_seen m d ≡ true
-    → (view m (bare_step w line).world ≡ absorb_all (world_after (view m w) (directive_turn (view m w) line (told_items (told_at m c w line) ++ is))) (told_at m c w line))
+    → (view m (served_step w line).world ≡ absorb_all (world_after (view m w) (directive_turn (view m w) line (told_items (told_at m c w line) ++ is))) (told_at m c w line))
     × (items (alone c) (bare_line_events w line) ≡ directive_shown c (view m w) line (told_items (told_at m c w line) ++ is))
 directive-visible m c w line name d r is o seen =
-    subst (λ es. (view m (bare_step w line).world ≡ absorb_all (world_after (view m w) (directive_turn (view m w) line (told_items es ++ is))) es) × (items (alone c) (bare_line_events w line) ≡ directive_shown c (view m w) line (told_items es ++ is))) (sym told) (
+    subst (λ es. (view m (served_step w line).world ≡ absorb_all (world_after (view m w) (directive_turn (view m w) line (told_items es ++ is))) es) × (items (alone c) (bare_line_events w line) ≡ directive_shown c (view m w) line (told_items es ++ is))) (sym told) (
       ap (view m) (directive-world m w line name d r o) ∙ world r o.refuses (o.seen seen),
       directive-items m c w line name d r o ∙ ap (λ d. cond (is_seen (alone c) d) (Ran line ∷ Told (entry.Directive name (status_of r)) ∷ []) []) (sym (o.whose (view m w))),
     )

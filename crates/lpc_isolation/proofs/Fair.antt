@@ -5,9 +5,9 @@ use Rattle.std.proofs.lemmas.Bool.{eqb-true}
 use Rattle.lpc_base.specs.Rows.{every, first, has, passes}
 use Rattle.lpc_base.proofs.RowWords.{every-append, every-change, every-more, every-push, every-which, every-without, first-kept, first-push}
 use Rattle.lpc_base.proofs.RowMaps.{every-both, every-change_to, every-map, every-without_first}
-use Rattle.lpc_model.specs.World.{Accepted, Birth, Connect, HandleRow, HandleTable, Listen, MessageRow, PortRow, Receive, Request, ThreadRow, UsedThread, WaitKind, WaitRow, World}
-use Rattle.lpc_model.specs.Found.{is_connect, is_listen, is_own_of, is_port, is_receive, is_server_port, is_table, is_thread, waits_as, waits_at}
-use Rattle.lpc_model.specs.Basics.{Accepts, AddsHandle, AddsProcess, AddsThread, Awaits, Basic, Binds, Completes, DrawsIdentifier, DrawsOrdinal, Enters, Frees, Joins, Makes, Receives, Takes, TakesConnect, Tells, Wakes, Withdraws, accepted, accepted_as, basic, completed, joined, no_handles, past_identifier, past_ordinal, received, used, with_handle, world_after}
+use Rattle.lpc_model.specs.World.{Accepted, Birth, Connect, Creator, HandleRow, HandleTable, Listen, MessageRow, PortRow, Receive, Request, ThreadRow, UsedThread, WaitKind, WaitRow, World}
+use Rattle.lpc_model.specs.Found.{has_value, is_client_port, is_connect, is_listen, is_own_of, is_port, is_queued, is_receive, is_server_port, is_table, is_thread, waits_as, waits_at}
+use Rattle.lpc_model.specs.Basics.{Accepts, AddsHandle, AddsProcess, AddsThread, Awaits, Basic, Binds, Completes, Cuts, DrawsIdentifier, DrawsOrdinal, DropsHandle, Empties, Enters, Frees, Joins, Makes, Receives, Takes, TakesConnect, Tells, Unbinds, Wakes, Withdraws, accepted, accepted_as, basic, completed, cut, is_end_of, joined, no_handles, past_identifier, past_ordinal, received, used, with_handle, without_handle, world_after}
 use Rattle.lpc_model.specs.Circle.{Group, is_number, owner}
 use Rattle.lpc_isolation.proofs.View.{both, of_birth, one_of, other_of, same-number}
 
@@ -25,16 +25,20 @@ is_own pid h = h.object.birth.process == pid
 abbrev pub is_fair_table : HandleTable → Bool
 is_fair_table t = every (is_own t.process) t.rows
 
--- a server port and its connection port are of one process; of a pair, the client's is a member only where the server's is
+-- A server port and its connection port are of one process, and only client and server ports have one. Of a pair, the client's is a member where the server's is c, and
+-- only where the server's is a member.
 abbrev pub is_home : PortRow → Bool
-is_home p = implies (is_server_port p) (all_of p.connection (λ q. q.process == p.birth.process))
+is_home p =
+    implies (is_server_port p) (all_of p.connection (λ q. q.process == p.birth.process))
+    && (is_server_port p || (is_client_port p || is_none p.connection))
 
 abbrev pub is_fair_pair : Group → ℕ → PortRow → Birth → Bool
 is_fair_pair m c p o =
-    cond (is_server_port p) (implies (m o.process) (m p.birth.process) && implies (p.birth.process == c) (m o.process)) (implies (m p.birth.process) (m o.process))
+    cond (is_server_port p) (implies (m o.process) (m p.birth.process) && implies (p.birth.process == c) (m o.process))
+    (implies (m p.birth.process) (m o.process) && implies (o.process == c) (m p.birth.process))
 
 abbrev pub is_fair_port : Group → ℕ → PortRow → Bool
-is_fair_port m c p = is_home p && (implies (is_none p.pair) (p.context == 0) && all_of p.pair (is_fair_pair m c p))
+is_fair_port m c p = is_home p && all_of p.pair (is_fair_pair m c p)
 
 -- between c and others than members goes no message
 abbrev pub is_fair_message : Group → ℕ → MessageRow → Bool
@@ -57,6 +61,10 @@ is_homed used t = passes (first (is_number t.number) used) (λ u. u.process == t
 abbrev pub is_sent : List UsedThread → MessageRow → Bool
 is_sent used x = passes (first (is_number x.message.header.client.thread) used) (λ u. u.process == x.message.header.client.process)
 
+-- the client of the connect that made a port is a thread of the port's process
+abbrev pub is_created : List UsedThread → PortRow → Bool
+is_created used p = all_of p.creator (λ by. (by.client.process == p.birth.process) && passes (first (is_number by.client.thread) used) (λ u. u.process == by.client.process))
+
 pub record Fair (m : Group) (c : ℕ) (w : World) : Type 0 where
   pub tables : every is_fair_table w.handles ≡ true
   pub ports : every (is_fair_port m c) w.ports ≡ true
@@ -64,6 +72,7 @@ pub record Fair (m : Group) (c : ℕ) (w : World) : Type 0 where
   pub waits : every (is_fair_wait m c) w.waits ≡ true
   pub threads : every (is_homed w.used_threads) w.threads ≡ true
   pub senders : every (is_sent w.used_threads) w.messages ≡ true
+  pub creators : every (is_created w.used_threads) w.ports ≡ true
 
 -- what a step must be, so that it stays so
 abbrev pub is_server_at : Birth → PortRow → Bool
@@ -75,7 +84,7 @@ is_no_server_at b p = not (is_port b p && is_server_port p)
 abbrev pub is_fair_step : Group → ℕ → World → Basic → Bool
 is_fair_step m c w (Awaits x) = is_fair_wait m c x
 is_fair_step m c w (Enters x) = is_fair_message m c x && is_sent w.used_threads x
-is_fair_step m c w (Makes p) = is_fair_port m c p
+is_fair_step m c w (Makes p) = is_created w.used_threads p && is_fair_port m c p
 is_fair_step m c w (AddsThread t) = not (has (is_number t.number) w.used_threads)
 is_fair_step m c w (AddsHandle pid h) = is_own pid h
 is_fair_step m c w (Joins client server context) =
@@ -93,6 +102,10 @@ is_fair_step m c w (AddsProcess p) = true
 is_fair_step m c w (Completes b) = true
 is_fair_step m c w (Withdraws who) = true
 is_fair_step m c w (Frees o) = false
+is_fair_step m c w (Empties q) = true
+is_fair_step m c w (Cuts b) = true
+is_fair_step m c w (Unbinds b) = true
+is_fair_step m c w (DropsHandle pid value) = true
 is_fair_step m c w (Binds path node) = true
 
 -- what changes a row keeps it
@@ -141,6 +154,31 @@ added-sent us u x is = at (first (is_number x.message.header.client.thread) us) 
     at None none is = absurd (cc)
     at (Some y) some is = rw (first-kept (is_number x.message.header.client.thread) us u y some) is
 
+added-created : (us : List UsedThread) (u : UsedThread) (p : PortRow) → is_created us p ≡ true → is_created (us ++ u ∷ []) p ≡ true
+added-created us u p is = at p.creator refl
+  where
+    at : (o : Option Creator) → p.creator ≡ o → is_created (us ++ u ∷ []) p ≡ true
+    at None none = rw none refl
+    at (Some by) some = rw some (both _ _ (one_of _ _ own) (found (first (is_number by.client.thread) us) refl (other_of (by.client.process == p.birth.process) _ own)))
+      where
+        own : ((by.client.process == p.birth.process) && passes (first (is_number by.client.thread) us) (λ u. u.process == by.client.process)) ≡ true
+        own = rw some at is
+
+        found : (o : Option UsedThread) → first (is_number by.client.thread) us ≡ o → passes o (λ u. u.process == by.client.process) ≡ true → passes (first (is_number by.client.thread) (us ++ u ∷ [])) (λ u. u.process == by.client.process) ≡ true
+        found None none is = absurd (cc)
+        found (Some x) some is = rw (first-kept (is_number by.client.thread) us u x some) is
+
+joined-created : (us : List UsedThread) (client server : Birth) (context : ℕ) (p : PortRow) → is_created us p ≡ true → is_created us (joined client server context p) ≡ true
+joined-created us client server context p is = at (is_port client p) (is_port server p) refl refl
+  where
+    at : (a b : Bool) → is_port client p ≡ a → is_port server p ≡ b → is_created us (joined client server context p) ≡ true
+    at true b here it = rw here is
+    at false true here it = rw (here, it) is
+    at false false here it = rw (here, it) is
+
+cut-fair : (m : Group) (c : ℕ) (p : PortRow) → is_fair_port m c p ≡ true → is_fair_port m c (cut p) ≡ true
+cut-fair m c p is = both _ _ (one_of _ _ is) refl
+
 -- the message of an owner
 pub owner-sent : (w : World) (x : MessageRow) (pid : ℕ) → owner w x.message.header.client.thread ≡ Some pid → x.message.header.client.process ≡ pid → is_sent w.used_threads x ≡ true
 owner-sent w x pid own same = at (first (is_number x.message.header.client.thread) w.used_threads) own
@@ -151,6 +189,14 @@ owner-sent w x pid own same = at (first (is_number x.message.header.client.threa
       where
         pid-same : (u : UsedThread) → Some u.process ≡ Some pid → u.process ≡ pid
         pid-same u own = cc
+
+-- a thread's number was used for its owner
+pub owner-used : (w : World) (tid pid : ℕ) → owner w tid ≡ Some pid → passes (first (is_number tid) w.used_threads) (λ u. u.process == pid) ≡ true
+owner-used w tid pid own = at (first (is_number tid) w.used_threads) own
+  where
+    at : (o : Option UsedThread) → option_map (λ (u : UsedThread). u.process) o ≡ Some pid → passes o (λ u. u.process == pid) ≡ true
+    at None own = absurd (cc)
+    at (Some u) own = let its : u.process ≡ pid = cc in rw its (same-number pid)
 
 -- and the owner of a message
 pub sent-owner : (w : World) (x : MessageRow) → is_sent w.used_threads x ≡ true → owner w x.message.header.client.thread ≡ Some x.message.header.client.process
@@ -163,41 +209,47 @@ sent-owner w x is = at (first (is_number x.message.header.client.thread) w.used_
 -- a step that is fair leaves a fair world
 pub keeps-fair : (m : Group) (c : ℕ) (w : World) (b : Basic) → is_fair_step m c w b ≡ true → Fair m c w → Fair m c (basic w b)
 keeps-fair m c w (Tells e) ok f = f
-keeps-fair m c w (Wakes who call status fields) ok f = record { tables = f.tables; ports = f.ports; messages = f.messages; waits = every-without (is_fair_wait m c) (waits_as who) w.waits f.waits; threads = f.threads; senders = f.senders }
-keeps-fair m c w (Awaits x) ok f = record { tables = f.tables; ports = f.ports; messages = f.messages; waits = every-push (is_fair_wait m c) w.waits x f.waits ok; threads = f.threads; senders = f.senders }
-keeps-fair m c w (Receives who q) ok f = record { tables = f.tables; ports = f.ports; messages = f.messages; waits = every-change (is_fair_wait m c) (waits_at who q) received (λ x is. is) w.waits f.waits; threads = f.threads; senders = f.senders }
-keeps-fair m c w (Accepts who reply) ok f = record { tables = f.tables; ports = f.ports; messages = f.messages; waits = every-change (is_fair_wait m c) (waits_as who) (accepted reply) (accepted-fair m c reply) w.waits f.waits; threads = f.threads; senders = f.senders }
-keeps-fair m c w (Enters x) ok f = record { tables = f.tables; ports = f.ports; messages = every-push (is_fair_message m c) w.messages x f.messages (one_of _ _ ok); waits = f.waits; threads = f.threads; senders = every-push (is_sent w.used_threads) w.messages x f.senders (other_of _ _ ok) }
-keeps-fair m c w (Takes q) ok f = record { tables = f.tables; ports = f.ports; messages = every-without_first (is_fair_message m c) _ w.messages f.messages; waits = f.waits; threads = f.threads; senders = every-without_first (is_sent w.used_threads) _ w.messages f.senders }
-keeps-fair m c w (TakesConnect q) ok f = record { tables = f.tables; ports = f.ports; messages = every-without_first (is_fair_message m c) _ w.messages f.messages; waits = f.waits; threads = f.threads; senders = every-without_first (is_sent w.used_threads) _ w.messages f.senders }
-keeps-fair m c w (DrawsIdentifier who) ok f = record { tables = f.tables; ports = f.ports; messages = f.messages; waits = f.waits; threads = every-change (is_homed w.used_threads) (is_thread who) past_identifier (λ t is. is) w.threads f.threads; senders = f.senders }
-keeps-fair m c w (DrawsOrdinal who) ok f = record { tables = f.tables; ports = f.ports; messages = f.messages; waits = f.waits; threads = every-change (is_homed w.used_threads) (is_thread who) past_ordinal (λ t is. is) w.threads f.threads; senders = f.senders }
-keeps-fair m c w (AddsProcess p) ok f = record { tables = every-push is_fair_table w.handles (no_handles p.number) f.tables refl; ports = f.ports; messages = f.messages; waits = f.waits; threads = f.threads; senders = f.senders }
+keeps-fair m c w (Wakes who call status fields) ok f = record { tables = f.tables; ports = f.ports; messages = f.messages; waits = every-without (is_fair_wait m c) (waits_as who) w.waits f.waits; threads = f.threads; senders = f.senders; creators = f.creators }
+keeps-fair m c w (Awaits x) ok f = record { tables = f.tables; ports = f.ports; messages = f.messages; waits = every-push (is_fair_wait m c) w.waits x f.waits ok; threads = f.threads; senders = f.senders; creators = f.creators }
+keeps-fair m c w (Receives who q) ok f = record { tables = f.tables; ports = f.ports; messages = f.messages; waits = every-change (is_fair_wait m c) (waits_at who q) received (λ x is. is) w.waits f.waits; threads = f.threads; senders = f.senders; creators = f.creators }
+keeps-fair m c w (Accepts who reply) ok f = record { tables = f.tables; ports = f.ports; messages = f.messages; waits = every-change (is_fair_wait m c) (waits_as who) (accepted reply) (accepted-fair m c reply) w.waits f.waits; threads = f.threads; senders = f.senders; creators = f.creators }
+keeps-fair m c w (Enters x) ok f = record { tables = f.tables; ports = f.ports; messages = every-push (is_fair_message m c) w.messages x f.messages (one_of _ _ ok); waits = f.waits; threads = f.threads; senders = every-push (is_sent w.used_threads) w.messages x f.senders (other_of _ _ ok); creators = f.creators }
+keeps-fair m c w (Takes q) ok f = record { tables = f.tables; ports = f.ports; messages = every-without_first (is_fair_message m c) _ w.messages f.messages; waits = f.waits; threads = f.threads; senders = every-without_first (is_sent w.used_threads) _ w.messages f.senders; creators = f.creators }
+keeps-fair m c w (TakesConnect q) ok f = record { tables = f.tables; ports = f.ports; messages = every-without_first (is_fair_message m c) _ w.messages f.messages; waits = f.waits; threads = f.threads; senders = every-without_first (is_sent w.used_threads) _ w.messages f.senders; creators = f.creators }
+keeps-fair m c w (DrawsIdentifier who) ok f = record { tables = f.tables; ports = f.ports; messages = f.messages; waits = f.waits; threads = every-change (is_homed w.used_threads) (is_thread who) past_identifier (λ t is. is) w.threads f.threads; senders = f.senders; creators = f.creators }
+keeps-fair m c w (DrawsOrdinal who) ok f = record { tables = f.tables; ports = f.ports; messages = f.messages; waits = f.waits; threads = every-change (is_homed w.used_threads) (is_thread who) past_ordinal (λ t is. is) w.threads f.threads; senders = f.senders; creators = f.creators }
+keeps-fair m c w (AddsProcess p) ok f = record { tables = every-push is_fair_table w.handles (no_handles p.number) f.tables refl; ports = f.ports; messages = f.messages; waits = f.waits; threads = f.threads; senders = f.senders; creators = f.creators }
 keeps-fair m c w (AddsThread t) ok f = record {
   tables = f.tables;
   ports = f.ports;
   messages = f.messages;
   waits = f.waits;
   senders = every-more (is_sent w.used_threads) _ (added-sent w.used_threads (used t)) w.messages f.senders;
+  creators = every-more (is_created w.used_threads) _ (added-created w.used_threads (used t)) w.ports f.creators;
   threads = every-push (is_homed (w.used_threads ++ used t ∷ [])) w.threads t (every-more (is_homed w.used_threads) _ (added-home w.used_threads (used t)) w.threads f.threads)
       (rw (first-push (is_number t.number) w.used_threads (used t) (grind arith) (same-number t.number)) (same-number t.process));
 }
-keeps-fair m c w (Makes p) ok f = record { tables = f.tables; ports = every-push (is_fair_port m c) w.ports p f.ports ok; messages = f.messages; waits = f.waits; threads = f.threads; senders = f.senders }
+keeps-fair m c w (Makes p) ok f = record { tables = f.tables; ports = every-push (is_fair_port m c) w.ports p f.ports (other_of _ _ ok); messages = f.messages; waits = f.waits; threads = f.threads; senders = f.senders; creators = every-push (is_created w.used_threads) w.ports p f.creators (one_of _ _ ok) }
 keeps-fair m c w (Joins client server context) ok f = record {
   tables = f.tables;
   messages = f.messages;
   waits = f.waits;
   threads = f.threads;
   senders = f.senders;
+  creators = rw (every-map (is_created w.used_threads) (joined client server context) w.ports) (every-more (is_created w.used_threads) _ (joined-created w.used_threads client server context) w.ports f.creators);
   ports = rw (every-map (is_fair_port m c) (joined client server context) w.ports)
       (every-both (λ p. is_no_server_at client p && is_server_at server p) (is_fair_port m c) _ (joined-fair m c client server context (grind arith) (grind arith)) w.ports
       (every-both (is_no_server_at client) (is_server_at server) _ (λ p a b. both _ _ a b) w.ports (grind arith) (grind arith)) f.ports);
 }
-keeps-fair m c w (Completes b) ok f = record { tables = f.tables; ports = every-change (is_fair_port m c) (is_port b) completed (λ p is. is) w.ports f.ports; messages = f.messages; waits = f.waits; threads = f.threads; senders = f.senders }
-keeps-fair m c w (Withdraws who) ok f = record { tables = f.tables; ports = f.ports; messages = every-without (is_fair_message m c) (is_own_of who) w.messages f.messages; waits = f.waits; threads = f.threads; senders = every-without (is_sent w.used_threads) (is_own_of who) w.messages f.senders }
+keeps-fair m c w (Completes b) ok f = record { tables = f.tables; ports = every-change (is_fair_port m c) (is_port b) completed (λ p is. is) w.ports f.ports; messages = f.messages; waits = f.waits; threads = f.threads; senders = f.senders; creators = every-change (is_created w.used_threads) (is_port b) completed (λ p is. is) w.ports f.creators }
+keeps-fair m c w (Withdraws who) ok f = record { tables = f.tables; ports = f.ports; messages = every-without (is_fair_message m c) (is_own_of who) w.messages f.messages; waits = f.waits; threads = f.threads; senders = every-without (is_sent w.used_threads) (is_own_of who) w.messages f.senders; creators = f.creators }
 keeps-fair m c w (Frees o) ok f = absurd (cc)
-keeps-fair m c w (Binds path node) ok f = record { tables = f.tables; ports = f.ports; messages = f.messages; waits = f.waits; threads = f.threads; senders = f.senders }
-keeps-fair m c w (AddsHandle pid h) ok f = record { tables = every-change_to is_fair_table is_fair_table (is_table pid) (with_handle h) (λ t is its. with-handle pid h ok t is its) (λ t is off. is) w.handles f.tables; ports = f.ports; messages = f.messages; waits = f.waits; threads = f.threads; senders = f.senders }
+keeps-fair m c w (Binds path node) ok f = record { tables = f.tables; ports = f.ports; messages = f.messages; waits = f.waits; threads = f.threads; senders = f.senders; creators = f.creators }
+keeps-fair m c w (AddsHandle pid h) ok f = record { tables = every-change_to is_fair_table is_fair_table (is_table pid) (with_handle h) (λ t is its. with-handle pid h ok t is its) (λ t is off. is) w.handles f.tables; ports = f.ports; messages = f.messages; waits = f.waits; threads = f.threads; senders = f.senders; creators = f.creators }
+keeps-fair m c w (Empties q) ok f = record { tables = f.tables; ports = f.ports; messages = every-without (is_fair_message m c) (is_queued q) w.messages f.messages; waits = f.waits; threads = f.threads; senders = every-without (is_sent w.used_threads) (is_queued q) w.messages f.senders; creators = f.creators }
+keeps-fair m c w (Cuts b) ok f = record { tables = f.tables; ports = every-change (is_fair_port m c) (is_end_of b) cut (cut-fair m c) w.ports f.ports; messages = f.messages; waits = f.waits; threads = f.threads; senders = f.senders; creators = every-change (is_created w.used_threads) (is_end_of b) cut (λ p is. is) w.ports f.creators }
+keeps-fair m c w (Unbinds b) ok f = record { tables = f.tables; ports = f.ports; messages = f.messages; waits = f.waits; threads = f.threads; senders = f.senders; creators = f.creators }
+keeps-fair m c w (DropsHandle pid value) ok f = record { tables = every-change is_fair_table (is_table pid) (without_handle value) (λ t is. every-without_first (is_own t.process) (has_value value) t.rows is) w.handles f.tables; ports = f.ports; messages = f.messages; waits = f.waits; threads = f.threads; senders = f.senders; creators = f.creators }
 
 abbrev pub are_fair : Group → ℕ → World → List Basic → Bool
 are_fair m c w [] = true

@@ -9,7 +9,7 @@ use Rattle.lpc_base.specs.declared.status.TheConstants.{INVALID_PORT_HANDLE, SUC
 use Rattle.lpc_model.specs.Message.{asks, message_test}
 use Rattle.lpc_model.specs.World.{Accepted, Birth, Connect, Listen, MessageRow, PortRow, Receive, Request, ThreadRow, WaitKind, WaitRow, World}
 use Rattle.lpc_model.specs.Found.{is_connection_port, is_made_on, is_port, is_queued, is_queued_connect, wait_of, waits_as, waits_at}
-use Rattle.lpc_model.specs.Basics.{Accepts, AddsHandle, AddsProcess, AddsThread, Awaits, Basic, Binds, Completes, DrawsIdentifier, DrawsOrdinal, Enters, Frees, Joins, Makes, Receives, Takes, TakesConnect, Tells, Wakes, Withdraws, basic, completed, joined, received, world_after}
+use Rattle.lpc_model.specs.Basics.{Accepts, AddsHandle, AddsProcess, AddsThread, Awaits, Basic, Binds, Completes, Cuts, DrawsIdentifier, DrawsOrdinal, DropsHandle, Empties, Enters, Frees, Joins, Makes, Receives, Takes, TakesConnect, Tells, Unbinds, Wakes, Withdraws, basic, completed, cut, is_end_of, joined, received, world_after}
 use Rattle.lpc_model.specs.Entering.{enter, given_steps, row_of, shown, take_connect_steps, take_steps, takes, woken}
 use Rattle.lpc_model.specs.Refusal.{refuse_if}
 use Rattle.lpc_model.specs.declared.message.Message.{Message}
@@ -18,7 +18,7 @@ use Rattle.lpc_model.specs.Request.{answered_test, datagram_send_test, datagram_
 use Rattle.lpc_model.specs.Tests.{handles_test, next_birth, port_test}
 use Rattle.lpc_model.specs.Connect.{answer_test, complete_test, nt_accept_connect_port, nt_complete_connect_port, nt_listen_port, client_port, connect_wait, connection_request, listen_steps}
 use Rattle.lpc_model.specs.Lines.{accept_connect_port, complete_connect_port, connect_port, create_port, listen_port, reply_port, reply_wait_receive_port, request_port, request_wait_reply_port}
-use Rattle.lpc_model.specs.Machine.{service_of}
+use Rattle.lpc_isolation.proofs.Served.{served}
 use Rattle.lpc_model.specs.Circle.{Group, is_fine_client, is_fine_port}
 use Rattle.lpc_isolation.proofs.Alone.{HasFinePorts}
 use Rattle.lpc_model.proofs.Births.{birth-same, birth-self}
@@ -57,6 +57,10 @@ basic-fine m c u (Awaits x) ok f = f
 basic-fine m c u (Enters x) ok f = f
 basic-fine m c u (Binds path node) ok f = f
 basic-fine m c u (AddsHandle pid h) ok f = f
+basic-fine m c u (Cuts b) ok f = every-change (is_fine_port m c) (is_end_of b) cut (λ p is. is) u.ports f
+basic-fine m c u (Empties q) ok f = f
+basic-fine m c u (Unbinds b) ok f = f
+basic-fine m c u (DropsHandle pid value) ok f = f
 basic-fine m c u (Tells e) ok f = f
 basic-fine m c u (Wakes who call status fields) ok f = f
 basic-fine m c u (Receives who q) ok f = f
@@ -213,29 +217,29 @@ anyway : (m : Group) (c : ℕ) (after u : World) (r : Result (List Basic) Status
 anyway m c after u (Ok bs) is = λ _. is
 anyway m c after u (Err s) is = tt
 
-pub fine-create : (m : Group) (c : ℕ) (after u : World) (by : ThreadRow) (name : Option (List ℕ)) → wait_of u by.number ≡ None → HasFinePorts m c after → Holds (FineAfter m c after u) (service_of u by (create_port name))
-fine-create m c after u by name idle f = anyway m c after u (service_of u by (create_port name)) (made-holds (AreFine m c) u by name (λ value. refl) (λ path value. refl))
+pub fine-create : (m : Group) (c : ℕ) (after u : World) (by : ThreadRow) (name : Option (List ℕ)) → wait_of u by.number ≡ None → HasFinePorts m c after → Holds (FineAfter m c after u) (served u by (create_port name))
+fine-create m c after u by name idle f = anyway m c after u (served u by (create_port name)) (made-holds (AreFine m c) u by name (λ value. refl) (λ path value. refl))
 
-pub fine-connect : (m : Group) (c : ℕ) (after u : World) (by : ThreadRow) (name bytes : List ℕ) → wait_of u by.number ≡ None → HasFinePorts m c after → Holds (FineAfter m c after u) (service_of u by (connect_port name bytes))
+pub fine-connect : (m : Group) (c : ℕ) (after u : World) (by : ThreadRow) (name bytes : List ℕ) → wait_of u by.number ≡ None → HasFinePorts m c after → Holds (FineAfter m c after u) (served u by (connect_port name bytes))
 fine-connect m c after u by name bytes idle f = on-connect (FineAfter m c after u) u by name bytes (λ q at r. let new = connect-new m c after u by q bytes idle f r in then-fine m c u (starting by q bytes) (row by q bytes) (rw new refl))
 
-pub fine-listen : (m : Group) (c : ℕ) (after u : World) (by : ThreadRow) (handle : ℕ) → wait_of u by.number ≡ None → HasFinePorts m c after → Holds (FineAfter m c after u) (service_of u by (listen_port handle))
-fine-listen m c after u by handle idle f = anyway m c after u (service_of u by (listen_port handle)) (listen-fine m c u by handle)
+pub fine-listen : (m : Group) (c : ℕ) (after u : World) (by : ThreadRow) (handle : ℕ) → wait_of u by.number ≡ None → HasFinePorts m c after → Holds (FineAfter m c after u) (served u by (listen_port handle))
+fine-listen m c after u by handle idle f = anyway m c after u (served u by (listen_port handle)) (listen-fine m c u by handle)
 
-pub fine-accept : (m : Group) (c : ℕ) (after u : World) (by : ThreadRow) (context : ℕ) (message : List ℕ) (accept : Bool) → wait_of u by.number ≡ None → HasFinePorts m c after → Holds (FineAfter m c after u) (service_of u by (accept_connect_port context message accept))
-fine-accept m c after u by context message accept idle f = anyway m c after u (service_of u by (accept_connect_port context message accept)) (accept-fine m c u by context message accept)
+pub fine-accept : (m : Group) (c : ℕ) (after u : World) (by : ThreadRow) (context : ℕ) (message : List ℕ) (accept : Bool) → wait_of u by.number ≡ None → HasFinePorts m c after → Holds (FineAfter m c after u) (served u by (accept_connect_port context message accept))
+fine-accept m c after u by context message accept idle f = anyway m c after u (served u by (accept_connect_port context message accept)) (accept-fine m c u by context message accept)
 
-pub fine-complete : (m : Group) (c : ℕ) (after u : World) (by : ThreadRow) (handle : ℕ) → wait_of u by.number ≡ None → HasFinePorts m c after → Holds (FineAfter m c after u) (service_of u by (complete_connect_port handle))
-fine-complete m c after u by handle idle f = anyway m c after u (service_of u by (complete_connect_port handle)) (complete-fine m c u by handle)
+pub fine-complete : (m : Group) (c : ℕ) (after u : World) (by : ThreadRow) (handle : ℕ) → wait_of u by.number ≡ None → HasFinePorts m c after → Holds (FineAfter m c after u) (served u by (complete_connect_port handle))
+fine-complete m c after u by handle idle f = anyway m c after u (served u by (complete_connect_port handle)) (complete-fine m c u by handle)
 
-pub fine-datagram : (m : Group) (c : ℕ) (after u : World) (by : ThreadRow) (handle : ℕ) (message : List ℕ) → wait_of u by.number ≡ None → HasFinePorts m c after → Holds (FineAfter m c after u) (service_of u by (request_port handle message))
-fine-datagram m c after u by handle message idle f = anyway m c after u (service_of u by (request_port handle message)) (datagram-fine m c u by handle message)
+pub fine-datagram : (m : Group) (c : ℕ) (after u : World) (by : ThreadRow) (handle : ℕ) (message : List ℕ) → wait_of u by.number ≡ None → HasFinePorts m c after → Holds (FineAfter m c after u) (served u by (request_port handle message))
+fine-datagram m c after u by handle message idle f = anyway m c after u (served u by (request_port handle message)) (datagram-fine m c u by handle message)
 
-pub fine-request : (m : Group) (c : ℕ) (after u : World) (by : ThreadRow) (handle : ℕ) (message : List ℕ) → wait_of u by.number ≡ None → HasFinePorts m c after → Holds (FineAfter m c after u) (service_of u by (request_wait_reply_port handle message))
-fine-request m c after u by handle message idle f = anyway m c after u (service_of u by (request_wait_reply_port handle message)) (request-fine m c u by handle message)
+pub fine-request : (m : Group) (c : ℕ) (after u : World) (by : ThreadRow) (handle : ℕ) (message : List ℕ) → wait_of u by.number ≡ None → HasFinePorts m c after → Holds (FineAfter m c after u) (served u by (request_wait_reply_port handle message))
+fine-request m c after u by handle message idle f = anyway m c after u (served u by (request_wait_reply_port handle message)) (request-fine m c u by handle message)
 
-pub fine-reply : (m : Group) (c : ℕ) (after u : World) (by : ThreadRow) (handle : ℕ) (message : List ℕ) → wait_of u by.number ≡ None → HasFinePorts m c after → Holds (FineAfter m c after u) (service_of u by (reply_port handle message))
-fine-reply m c after u by handle message idle f = anyway m c after u (service_of u by (reply_port handle message)) (reply-fine m c u by handle message)
+pub fine-reply : (m : Group) (c : ℕ) (after u : World) (by : ThreadRow) (handle : ℕ) (message : List ℕ) → wait_of u by.number ≡ None → HasFinePorts m c after → Holds (FineAfter m c after u) (served u by (reply_port handle message))
+fine-reply m c after u by handle message idle f = anyway m c after u (served u by (reply_port handle message)) (reply-fine m c u by handle message)
 
-pub fine-receive : (m : Group) (c : ℕ) (after u : World) (by : ThreadRow) (handle : ℕ) (message : Option (List ℕ)) → wait_of u by.number ≡ None → HasFinePorts m c after → Holds (FineAfter m c after u) (service_of u by (reply_wait_receive_port handle message))
-fine-receive m c after u by handle message idle f = anyway m c after u (service_of u by (reply_wait_receive_port handle message)) (receive-fine m c u by handle message)
+pub fine-receive : (m : Group) (c : ℕ) (after u : World) (by : ThreadRow) (handle : ℕ) (message : Option (List ℕ)) → wait_of u by.number ≡ None → HasFinePorts m c after → Holds (FineAfter m c after u) (served u by (reply_wait_receive_port handle message))
+fine-receive m c after u by handle message idle f = anyway m c after u (served u by (reply_wait_receive_port handle message)) (receive-fine m c u by handle message)

@@ -1,15 +1,17 @@
 -- Each service owes what its calls' lines need.
-use Rattle.std.proofs.Common.{◌≡◌, ℕ, List, true, false, Option, Some, None, refl, ap, subst, ◌∙◌, Bool}
+use Rattle.std.proofs.Common.{◌≡◌, ℕ, List, [], true, false, Option, Some, None, refl, ap, subst, ◌∙◌, Bool}
 use Rattle.std.specs.Prelude.{◌==◌, Result, Ok, Err}
 use Rattle.lpc_base.specs.Rows.{every}
 use Rattle.lpc_base.specs.declared.status.Status.{Status}
 use Rattle.lpc_model.specs.World.{Birth, ThreadRow, World}
-use Rattle.lpc_model.specs.Found.{live_thread, wait_of}
+use Rattle.lpc_model.specs.Found.{free_handle, live_thread, wait_of}
 use Rattle.lpc_model.specs.Basics.{Basic, world_after}
 use Rattle.lpc_model.specs.Connect.{ConnectAnswer, answer_test}
-use Rattle.lpc_model.specs.Tests.{next_birth}
-use Rattle.lpc_model.specs.Lines.{ScriptCall, accept_connect_port, complete_connect_port, connect_port, create_port, listen_port, reply_port, reply_wait_receive_port, request_port, request_wait_reply_port}
-use Rattle.lpc_model.specs.Machine.{service_of}
+use Rattle.lpc_model.specs.Tests.{next_birth, own_handle}
+use Rattle.lpc_model.specs.Lines.{ScriptCall, accept_connect_port, close, complete_connect_port, connect_port, create_port, duplicate_object, listen_port, query_object, reply_port, reply_wait_receive_port, request_port, request_wait_reply_port}
+use Rattle.lpc_model.specs.Close.{close_steps}
+use Rattle.lpc_model.specs.Counts.{asked, duplicate_steps}
+use Rattle.lpc_isolation.proofs.Served.{served}
 use Rattle.lpc_model.specs.SoundWaits.{IsSoundWorld}
 use Rattle.lpc_model.proofs.Holding.{Holds}
 use Rattle.lpc_model.specs.Circle.{Group, Whose, is_fine_call, owner}
@@ -18,12 +20,15 @@ use Rattle.lpc_isolation.proofs.View.{view}
 use Rattle.lpc_isolation.proofs.Basics.{are_ours}
 use Rattle.lpc_isolation.proofs.Fair.{Fair}
 use Rattle.lpc_isolation.proofs.Apart.{Owned, are_apart}
-use Rattle.lpc_isolation.proofs.Callers.{Led, led-same}
+use Rattle.lpc_isolation.proofs.Callers.{Led, led-same, on_ok}
 use Rattle.lpc_isolation.proofs.Enter.{sound-patient}
 use Rattle.lpc_isolation.proofs.Create.{create-apart, create-c, create-led, create-ours, led_create}
 use Rattle.lpc_isolation.proofs.Reply.{led_reply_port, reply-apart, reply-call-led}
 use Rattle.lpc_isolation.proofs.Mine.{Ways, c-reply, c-reply-ours, holds-more}
 use Rattle.lpc_isolation.proofs.Names.{SeenNames}
+use Rattle.lpc_isolation.proofs.Bound.{OnceBound}
+use Rattle.lpc_isolation.proofs.Paths.{Paths}
+use Rattle.lpc_isolation.proofs.Asked.{Asked}
 use Rattle.lpc_isolation.proofs.Sends.{Caller, c-request_port, c-request_port-ours, led_datagram, request_port-apart, request_port-led}
 use Rattle.lpc_isolation.proofs.Requests.{c-request, c-request-ours, led_request, request-call-apart, request-call-led}
 use Rattle.lpc_isolation.proofs.Takes.{is_readable}
@@ -33,6 +38,13 @@ use Rattle.lpc_isolation.proofs.Connects.{c-connect, c-connect-ours, c-making, c
 use Rattle.lpc_isolation.proofs.Completes.{c-complete, c-complete-ours, complete-call-apart, complete-call-led, led_complete}
 use Rattle.lpc_isolation.proofs.Accepts.{accept-call-apart, accept-call-led, c-accept-ours, c-answer, led_answer}
 use Rattle.lpc_isolation.proofs.Lines.{Leads}
+
+-- by its answer alone
+abbrev led_close : World → ThreadRow → ℕ → List Basic
+led_close v by handle = on_ok (own_handle v by handle) (λ r. close_steps by r v)
+
+abbrev led_duplicate : World → ThreadRow → ℕ → Option ℕ → List Basic
+led_duplicate v by handle access = on_ok (own_handle v by handle) (λ r. duplicate_steps by (free_handle v by.process) r (asked r access))
 
 -- what a member other than c does in a view, by what it was told; the queue of an outsider's connect is known from before
 abbrev pub leads_by : Group → (List ℕ → Birth) → Leads
@@ -45,6 +57,9 @@ leads_by m known v by (request_port handle bytes) e = led_datagram v by handle b
 leads_by m known v by (request_wait_reply_port handle bytes) e = led_request v by handle bytes
 leads_by m known v by (reply_port handle bytes) e = led_reply_port v bytes
 leads_by m known v by (reply_wait_receive_port handle bytes) e = led_receive m v by handle bytes e
+leads_by m known v by (close handle) e = led_close v by handle
+leads_by m known v by (duplicate_object handle access) e = led_duplicate v by handle access
+leads_by m known v by (query_object handle) e = []
 
 -- what holds where a thread that waits for nothing calls
 pub record At (m : Group) (c : ℕ) (w : World) (by : ThreadRow) (known : List ℕ → Birth) : Type 0 where
@@ -56,6 +71,9 @@ pub record At (m : Group) (c : ℕ) (w : World) (by : ThreadRow) (known : List �
   pub names : SeenNames m w.bindings
   pub ways : Ways m w
   pub readable : every is_readable w.messages ≡ true
+  pub bound : OnceBound w.bindings
+  pub paths : Paths w
+  pub asked : Asked w
   pub live : live_thread w by.number ≡ Some by
   pub own : owner w by.number ≡ Some by.process
   pub idle : wait_of w by.number ≡ None
@@ -76,101 +94,104 @@ caller m c w by known u a used = record {
   names = a.names;
   sound = a.sound;
   live = a.live;
+  bound = a.bound;
+  paths = a.paths;
+  asked = a.asked;
 }
 
 -- whatever the circle says of the next world
 pub later : (P : List Basic → Type 0) (m : Group) (c : ℕ) (w : World) (r : Result (List Basic) Status) → Holds P r → Holds (λ bs. HasFinePorts m c (world_after w bs) → P bs) r
 later P m c w r h = holds-more P (λ bs. HasFinePorts m c (world_after w bs) → P bs) r (λ bs p fine. p) h
 
-pub apart-create : (m : Group) (c : ℕ) (u : World) (d : Whose) (w : World) (by : ThreadRow) (known : List ℕ → Birth) (name : Option (List ℕ)) → At m c w by known → u.used_threads ≡ w.used_threads → m by.process ≡ false → Holds (λ bs. HasFinePorts m c (world_after w bs) → are_apart m c u d w bs ≡ true) (service_of w by (create_port name))
-apart-create m c u d w by known name a used out = later (λ bs. are_apart m c u d w bs ≡ true) m c w (service_of w by (create_port name)) (create-apart m c u d w by name a.fair a.own (caller m c w by known u a used).here out)
+pub apart-create : (m : Group) (c : ℕ) (u : World) (d : Whose) (w : World) (by : ThreadRow) (known : List ℕ → Birth) (name : Option (List ℕ)) → At m c w by known → u.used_threads ≡ w.used_threads → m by.process ≡ false → Holds (λ bs. HasFinePorts m c (world_after w bs) → are_apart m c u d w bs ≡ true) (served w by (create_port name))
+apart-create m c u d w by known name a used out = later (λ bs. are_apart m c u d w bs ≡ true) m c w (served w by (create_port name)) (create-apart m c u d w by name a.fair a.own (caller m c w by known u a used).here out)
 
-pub apart-connect : (m : Group) (c : ℕ) (u : World) (d : Whose) (w : World) (by : ThreadRow) (known : List ℕ → Birth) (name bytes : List ℕ) → At m c w by known → u.used_threads ≡ w.used_threads → m by.process ≡ false → Holds (λ bs. HasFinePorts m c (world_after w bs) → are_apart m c u d w bs ≡ true) (service_of w by (connect_port name bytes))
+pub apart-connect : (m : Group) (c : ℕ) (u : World) (d : Whose) (w : World) (by : ThreadRow) (known : List ℕ → Birth) (name bytes : List ℕ) → At m c w by known → u.used_threads ≡ w.used_threads → m by.process ≡ false → Holds (λ bs. HasFinePorts m c (world_after w bs) → are_apart m c u d w bs ≡ true) (served w by (connect_port name bytes))
 apart-connect m c u d w by known name info a used out = connect-call-apart m c u d w by name info (caller m c w by known u a used) out
 
-pub apart-listen : (m : Group) (c : ℕ) (u : World) (d : Whose) (w : World) (by : ThreadRow) (known : List ℕ → Birth) (handle : ℕ) → At m c w by known → u.used_threads ≡ w.used_threads → m by.process ≡ false → Holds (λ bs. HasFinePorts m c (world_after w bs) → are_apart m c u d w bs ≡ true) (service_of w by (listen_port handle))
-apart-listen m c u d w by known handle a used out = later (λ bs. are_apart m c u d w bs ≡ true) m c w (service_of w by (listen_port handle)) (listen-call-apart m c u d w by handle (caller m c w by known u a used) out)
+pub apart-listen : (m : Group) (c : ℕ) (u : World) (d : Whose) (w : World) (by : ThreadRow) (known : List ℕ → Birth) (handle : ℕ) → At m c w by known → u.used_threads ≡ w.used_threads → m by.process ≡ false → Holds (λ bs. HasFinePorts m c (world_after w bs) → are_apart m c u d w bs ≡ true) (served w by (listen_port handle))
+apart-listen m c u d w by known handle a used out = later (λ bs. are_apart m c u d w bs ≡ true) m c w (served w by (listen_port handle)) (listen-call-apart m c u d w by handle (caller m c w by known u a used) out)
 
-pub apart-accept : (m : Group) (c : ℕ) (u : World) (d : Whose) (w : World) (by : ThreadRow) (known : List ℕ → Birth) (context : ℕ) (message : List ℕ) (accept : Bool) → At m c w by known → u.used_threads ≡ w.used_threads → m by.process ≡ false → Holds (λ bs. HasFinePorts m c (world_after w bs) → are_apart m c u d w bs ≡ true) (service_of w by (accept_connect_port context message accept))
-apart-accept m c u d w by known context bytes accept a used out = later (λ bs. are_apart m c u d w bs ≡ true) m c w (service_of w by (accept_connect_port context bytes accept)) (accept-call-apart m c u d w by context bytes accept (caller m c w by known u a used) out)
+pub apart-accept : (m : Group) (c : ℕ) (u : World) (d : Whose) (w : World) (by : ThreadRow) (known : List ℕ → Birth) (context : ℕ) (message : List ℕ) (accept : Bool) → At m c w by known → u.used_threads ≡ w.used_threads → m by.process ≡ false → Holds (λ bs. HasFinePorts m c (world_after w bs) → are_apart m c u d w bs ≡ true) (served w by (accept_connect_port context message accept))
+apart-accept m c u d w by known context bytes accept a used out = later (λ bs. are_apart m c u d w bs ≡ true) m c w (served w by (accept_connect_port context bytes accept)) (accept-call-apart m c u d w by context bytes accept (caller m c w by known u a used) out)
 
-pub apart-complete : (m : Group) (c : ℕ) (u : World) (d : Whose) (w : World) (by : ThreadRow) (known : List ℕ → Birth) (handle : ℕ) → At m c w by known → u.used_threads ≡ w.used_threads → m by.process ≡ false → Holds (λ bs. HasFinePorts m c (world_after w bs) → are_apart m c u d w bs ≡ true) (service_of w by (complete_connect_port handle))
-apart-complete m c u d w by known handle a used out = later (λ bs. are_apart m c u d w bs ≡ true) m c w (service_of w by (complete_connect_port handle)) (complete-call-apart m c u d w by handle (caller m c w by known u a used) out)
+pub apart-complete : (m : Group) (c : ℕ) (u : World) (d : Whose) (w : World) (by : ThreadRow) (known : List ℕ → Birth) (handle : ℕ) → At m c w by known → u.used_threads ≡ w.used_threads → m by.process ≡ false → Holds (λ bs. HasFinePorts m c (world_after w bs) → are_apart m c u d w bs ≡ true) (served w by (complete_connect_port handle))
+apart-complete m c u d w by known handle a used out = later (λ bs. are_apart m c u d w bs ≡ true) m c w (served w by (complete_connect_port handle)) (complete-call-apart m c u d w by handle (caller m c w by known u a used) out)
 
-pub apart-datagram : (m : Group) (c : ℕ) (u : World) (d : Whose) (w : World) (by : ThreadRow) (known : List ℕ → Birth) (handle : ℕ) (message : List ℕ) → At m c w by known → u.used_threads ≡ w.used_threads → m by.process ≡ false → Holds (λ bs. HasFinePorts m c (world_after w bs) → are_apart m c u d w bs ≡ true) (service_of w by (request_port handle message))
-apart-datagram m c u d w by known handle bytes a used out = later (λ bs. are_apart m c u d w bs ≡ true) m c w (service_of w by (request_port handle bytes)) (request_port-apart m c u d w by handle bytes (caller m c w by known u a used) out)
+pub apart-datagram : (m : Group) (c : ℕ) (u : World) (d : Whose) (w : World) (by : ThreadRow) (known : List ℕ → Birth) (handle : ℕ) (message : List ℕ) → At m c w by known → u.used_threads ≡ w.used_threads → m by.process ≡ false → Holds (λ bs. HasFinePorts m c (world_after w bs) → are_apart m c u d w bs ≡ true) (served w by (request_port handle message))
+apart-datagram m c u d w by known handle bytes a used out = later (λ bs. are_apart m c u d w bs ≡ true) m c w (served w by (request_port handle bytes)) (request_port-apart m c u d w by handle bytes (caller m c w by known u a used) out)
 
-pub apart-request : (m : Group) (c : ℕ) (u : World) (d : Whose) (w : World) (by : ThreadRow) (known : List ℕ → Birth) (handle : ℕ) (message : List ℕ) → At m c w by known → u.used_threads ≡ w.used_threads → m by.process ≡ false → Holds (λ bs. HasFinePorts m c (world_after w bs) → are_apart m c u d w bs ≡ true) (service_of w by (request_wait_reply_port handle message))
-apart-request m c u d w by known handle bytes a used out = later (λ bs. are_apart m c u d w bs ≡ true) m c w (service_of w by (request_wait_reply_port handle bytes)) (request-call-apart m c u d w by handle bytes (caller m c w by known u a used) out)
+pub apart-request : (m : Group) (c : ℕ) (u : World) (d : Whose) (w : World) (by : ThreadRow) (known : List ℕ → Birth) (handle : ℕ) (message : List ℕ) → At m c w by known → u.used_threads ≡ w.used_threads → m by.process ≡ false → Holds (λ bs. HasFinePorts m c (world_after w bs) → are_apart m c u d w bs ≡ true) (served w by (request_wait_reply_port handle message))
+apart-request m c u d w by known handle bytes a used out = later (λ bs. are_apart m c u d w bs ≡ true) m c w (served w by (request_wait_reply_port handle bytes)) (request-call-apart m c u d w by handle bytes (caller m c w by known u a used) out)
 
-pub apart-reply : (m : Group) (c : ℕ) (u : World) (d : Whose) (w : World) (by : ThreadRow) (known : List ℕ → Birth) (handle : ℕ) (message : List ℕ) → At m c w by known → u.used_threads ≡ w.used_threads → m by.process ≡ false → Holds (λ bs. HasFinePorts m c (world_after w bs) → are_apart m c u d w bs ≡ true) (service_of w by (reply_port handle message))
-apart-reply m c u d w by known handle bytes a used out = let k = caller m c w by known u a used in later (λ bs. are_apart m c u d w bs ≡ true) m c w (service_of w by (reply_port handle bytes)) (reply-apart m c u d w by handle bytes a.c_in a.fair k.owned k.here out)
+pub apart-reply : (m : Group) (c : ℕ) (u : World) (d : Whose) (w : World) (by : ThreadRow) (known : List ℕ → Birth) (handle : ℕ) (message : List ℕ) → At m c w by known → u.used_threads ≡ w.used_threads → m by.process ≡ false → Holds (λ bs. HasFinePorts m c (world_after w bs) → are_apart m c u d w bs ≡ true) (served w by (reply_port handle message))
+apart-reply m c u d w by known handle bytes a used out = let k = caller m c w by known u a used in later (λ bs. are_apart m c u d w bs ≡ true) m c w (served w by (reply_port handle bytes)) (reply-apart m c u d w by handle bytes a.c_in a.fair k.owned k.here out)
 
-pub apart-receive : (m : Group) (c : ℕ) (u : World) (d : Whose) (w : World) (by : ThreadRow) (known : List ℕ → Birth) (handle : ℕ) (message : Option (List ℕ)) → At m c w by known → u.used_threads ≡ w.used_threads → m by.process ≡ false → Holds (λ bs. HasFinePorts m c (world_after w bs) → are_apart m c u d w bs ≡ true) (service_of w by (reply_wait_receive_port handle message))
-apart-receive m c u d w by known handle bytes a used out = later (λ bs. are_apart m c u d w bs ≡ true) m c w (service_of w by (reply_wait_receive_port handle bytes)) (receive-call-apart m c u d w by handle bytes (caller m c w by known u a used) out)
+pub apart-receive : (m : Group) (c : ℕ) (u : World) (d : Whose) (w : World) (by : ThreadRow) (known : List ℕ → Birth) (handle : ℕ) (message : Option (List ℕ)) → At m c w by known → u.used_threads ≡ w.used_threads → m by.process ≡ false → Holds (λ bs. HasFinePorts m c (world_after w bs) → are_apart m c u d w bs ≡ true) (served w by (reply_wait_receive_port handle message))
+apart-receive m c u d w by known handle bytes a used out = later (λ bs. are_apart m c u d w bs ≡ true) m c w (served w by (reply_wait_receive_port handle bytes)) (receive-call-apart m c u d w by handle bytes (caller m c w by known u a used) out)
 
-pub same-create : (m : Group) (c : ℕ) (w : World) (by : ThreadRow) (known : List ℕ → Birth) (name : Option (List ℕ)) → At m c w by known → by.process ≡ c → is_fine_call m w (create_port name) ≡ true → service_of (view m w) by (create_port name) ≡ service_of w by (create_port name)
+pub same-create : (m : Group) (c : ℕ) (w : World) (by : ThreadRow) (known : List ℕ → Birth) (name : Option (List ℕ)) → At m c w by known → by.process ≡ c → is_fine_call m w (create_port name) ≡ true → served (view m w) by (create_port name) ≡ served w by (create_port name)
 same-create m c w by known None a mine fine = create-c m c w by None a.c_in mine a.fair refl
 same-create m c w by known (Some name) a mine fine = create-c m c w by (Some name) a.c_in mine a.fair (c-making m w (next_birth by) name a.names fine)
 
-pub same-connect : (m : Group) (c : ℕ) (w : World) (by : ThreadRow) (known : List ℕ → Birth) (name bytes : List ℕ) → At m c w by known → by.process ≡ c → is_fine_call m w (connect_port name bytes) ≡ true → service_of (view m w) by (connect_port name bytes) ≡ service_of w by (connect_port name bytes)
+pub same-connect : (m : Group) (c : ℕ) (w : World) (by : ThreadRow) (known : List ℕ → Birth) (name bytes : List ℕ) → At m c w by known → by.process ≡ c → is_fine_call m w (connect_port name bytes) ≡ true → served (view m w) by (connect_port name bytes) ≡ served w by (connect_port name bytes)
 same-connect m c w by known name info a mine fine = c-connect m c w w by name info (caller m c w by known w a refl) mine fine
 
-pub same-listen : (m : Group) (c : ℕ) (w : World) (by : ThreadRow) (known : List ℕ → Birth) (handle : ℕ) → At m c w by known → by.process ≡ c → is_fine_call m w (listen_port handle) ≡ true → service_of (view m w) by (listen_port handle) ≡ service_of w by (listen_port handle)
+pub same-listen : (m : Group) (c : ℕ) (w : World) (by : ThreadRow) (known : List ℕ → Birth) (handle : ℕ) → At m c w by known → by.process ≡ c → is_fine_call m w (listen_port handle) ≡ true → served (view m w) by (listen_port handle) ≡ served w by (listen_port handle)
 same-listen m c w by known handle a mine fine = c-listen m c w w by handle (caller m c w by known w a refl) mine
 
-pub same-accept : (m : Group) (c : ℕ) (w : World) (by : ThreadRow) (known : List ℕ → Birth) (context : ℕ) (message : List ℕ) (accept : Bool) → At m c w by known → by.process ≡ c → is_fine_call m w (accept_connect_port context message accept) ≡ true → service_of (view m w) by (accept_connect_port context message accept) ≡ service_of w by (accept_connect_port context message accept)
+pub same-accept : (m : Group) (c : ℕ) (w : World) (by : ThreadRow) (known : List ℕ → Birth) (context : ℕ) (message : List ℕ) (accept : Bool) → At m c w by known → by.process ≡ c → is_fine_call m w (accept_connect_port context message accept) ≡ true → served (view m w) by (accept_connect_port context message accept) ≡ served w by (accept_connect_port context message accept)
 same-accept m c w by known context bytes accept a mine fine = c-answer m c w w by context bytes accept (caller m c w by known w a refl) mine fine
 
-pub same-complete : (m : Group) (c : ℕ) (w : World) (by : ThreadRow) (known : List ℕ → Birth) (handle : ℕ) → At m c w by known → by.process ≡ c → is_fine_call m w (complete_connect_port handle) ≡ true → service_of (view m w) by (complete_connect_port handle) ≡ service_of w by (complete_connect_port handle)
+pub same-complete : (m : Group) (c : ℕ) (w : World) (by : ThreadRow) (known : List ℕ → Birth) (handle : ℕ) → At m c w by known → by.process ≡ c → is_fine_call m w (complete_connect_port handle) ≡ true → served (view m w) by (complete_connect_port handle) ≡ served w by (complete_connect_port handle)
 same-complete m c w by known handle a mine fine = c-complete m c w w by handle (caller m c w by known w a refl) mine
 
-pub same-datagram : (m : Group) (c : ℕ) (w : World) (by : ThreadRow) (known : List ℕ → Birth) (handle : ℕ) (message : List ℕ) → At m c w by known → by.process ≡ c → is_fine_call m w (request_port handle message) ≡ true → service_of (view m w) by (request_port handle message) ≡ service_of w by (request_port handle message)
+pub same-datagram : (m : Group) (c : ℕ) (w : World) (by : ThreadRow) (known : List ℕ → Birth) (handle : ℕ) (message : List ℕ) → At m c w by known → by.process ≡ c → is_fine_call m w (request_port handle message) ≡ true → served (view m w) by (request_port handle message) ≡ served w by (request_port handle message)
 same-datagram m c w by known handle bytes a mine fine = c-request_port m c w w by handle bytes (caller m c w by known w a refl) mine
 
-pub same-request : (m : Group) (c : ℕ) (w : World) (by : ThreadRow) (known : List ℕ → Birth) (handle : ℕ) (message : List ℕ) → At m c w by known → by.process ≡ c → is_fine_call m w (request_wait_reply_port handle message) ≡ true → service_of (view m w) by (request_wait_reply_port handle message) ≡ service_of w by (request_wait_reply_port handle message)
+pub same-request : (m : Group) (c : ℕ) (w : World) (by : ThreadRow) (known : List ℕ → Birth) (handle : ℕ) (message : List ℕ) → At m c w by known → by.process ≡ c → is_fine_call m w (request_wait_reply_port handle message) ≡ true → served (view m w) by (request_wait_reply_port handle message) ≡ served w by (request_wait_reply_port handle message)
 same-request m c w by known handle bytes a mine fine = c-request m c w w by handle bytes (caller m c w by known w a refl) mine
 
-pub same-reply : (m : Group) (c : ℕ) (w : World) (by : ThreadRow) (known : List ℕ → Birth) (handle : ℕ) (message : List ℕ) → At m c w by known → by.process ≡ c → is_fine_call m w (reply_port handle message) ≡ true → service_of (view m w) by (reply_port handle message) ≡ service_of w by (reply_port handle message)
+pub same-reply : (m : Group) (c : ℕ) (w : World) (by : ThreadRow) (known : List ℕ → Birth) (handle : ℕ) (message : List ℕ) → At m c w by known → by.process ≡ c → is_fine_call m w (reply_port handle message) ≡ true → served (view m w) by (reply_port handle message) ≡ served w by (reply_port handle message)
 same-reply m c w by known handle bytes a mine fine = c-reply m c w by handle bytes a.c_in mine a.fair a.ways fine
 
-pub same-receive : (m : Group) (c : ℕ) (w : World) (by : ThreadRow) (known : List ℕ → Birth) (handle : ℕ) (message : Option (List ℕ)) → At m c w by known → by.process ≡ c → is_fine_call m w (reply_wait_receive_port handle message) ≡ true → service_of (view m w) by (reply_wait_receive_port handle message) ≡ service_of w by (reply_wait_receive_port handle message)
+pub same-receive : (m : Group) (c : ℕ) (w : World) (by : ThreadRow) (known : List ℕ → Birth) (handle : ℕ) (message : Option (List ℕ)) → At m c w by known → by.process ≡ c → is_fine_call m w (reply_wait_receive_port handle message) ≡ true → served (view m w) by (reply_wait_receive_port handle message) ≡ served w by (reply_wait_receive_port handle message)
 same-receive m c w by known handle None a mine fine = c-receive m c w w by handle None (caller m c w by known w a refl) mine a.ways refl
 same-receive m c w by known handle (Some bytes) a mine fine = c-receive m c w w by handle (Some bytes) (caller m c w by known w a refl) mine a.ways fine
 
-pub ours-create : (m : Group) (c : ℕ) (w : World) (by : ThreadRow) (known : List ℕ → Birth) (name : Option (List ℕ)) → At m c w by known → by.process ≡ c → Holds (λ bs. HasFinePorts m c (world_after w bs) → are_ours m w bs ≡ true) (service_of w by (create_port name))
-ours-create m c w by known name a mine = later (λ bs. are_ours m w bs ≡ true) m c w (service_of w by (create_port name)) (create-ours m w by name (ap m mine ∙ a.c_in))
+pub ours-create : (m : Group) (c : ℕ) (w : World) (by : ThreadRow) (known : List ℕ → Birth) (name : Option (List ℕ)) → At m c w by known → by.process ≡ c → Holds (λ bs. HasFinePorts m c (world_after w bs) → are_ours m w bs ≡ true) (served w by (create_port name))
+ours-create m c w by known name a mine = later (λ bs. are_ours m w bs ≡ true) m c w (served w by (create_port name)) (create-ours m w by name (ap m mine ∙ a.c_in))
 
-pub ours-connect : (m : Group) (c : ℕ) (w : World) (by : ThreadRow) (known : List ℕ → Birth) (name bytes : List ℕ) → At m c w by known → by.process ≡ c → Holds (λ bs. HasFinePorts m c (world_after w bs) → are_ours m w bs ≡ true) (service_of w by (connect_port name bytes))
+pub ours-connect : (m : Group) (c : ℕ) (w : World) (by : ThreadRow) (known : List ℕ → Birth) (name bytes : List ℕ) → At m c w by known → by.process ≡ c → Holds (λ bs. HasFinePorts m c (world_after w bs) → are_ours m w bs ≡ true) (served w by (connect_port name bytes))
 ours-connect m c w by known name info a mine = c-connect-ours m c w w by name info (caller m c w by known w a refl) mine
 
-pub ours-listen : (m : Group) (c : ℕ) (w : World) (by : ThreadRow) (known : List ℕ → Birth) (handle : ℕ) → At m c w by known → by.process ≡ c → Holds (λ bs. HasFinePorts m c (world_after w bs) → are_ours m w bs ≡ true) (service_of w by (listen_port handle))
-ours-listen m c w by known handle a mine = later (λ bs. are_ours m w bs ≡ true) m c w (service_of w by (listen_port handle)) (c-listen-ours m c w w by handle (caller m c w by known w a refl) mine)
+pub ours-listen : (m : Group) (c : ℕ) (w : World) (by : ThreadRow) (known : List ℕ → Birth) (handle : ℕ) → At m c w by known → by.process ≡ c → Holds (λ bs. HasFinePorts m c (world_after w bs) → are_ours m w bs ≡ true) (served w by (listen_port handle))
+ours-listen m c w by known handle a mine = later (λ bs. are_ours m w bs ≡ true) m c w (served w by (listen_port handle)) (c-listen-ours m c w w by handle (caller m c w by known w a refl) mine)
 
-pub ours-accept : (m : Group) (c : ℕ) (w : World) (by : ThreadRow) (known : List ℕ → Birth) (context : ℕ) (message : List ℕ) (accept : Bool) → At m c w by known → by.process ≡ c → Holds (λ bs. HasFinePorts m c (world_after w bs) → are_ours m w bs ≡ true) (service_of w by (accept_connect_port context message accept))
-ours-accept m c w by known context bytes accept a mine = later (λ bs. are_ours m w bs ≡ true) m c w (service_of w by (accept_connect_port context bytes accept)) (c-accept-ours m c w w by context bytes accept (caller m c w by known w a refl) mine)
+pub ours-accept : (m : Group) (c : ℕ) (w : World) (by : ThreadRow) (known : List ℕ → Birth) (context : ℕ) (message : List ℕ) (accept : Bool) → At m c w by known → by.process ≡ c → Holds (λ bs. HasFinePorts m c (world_after w bs) → are_ours m w bs ≡ true) (served w by (accept_connect_port context message accept))
+ours-accept m c w by known context bytes accept a mine = later (λ bs. are_ours m w bs ≡ true) m c w (served w by (accept_connect_port context bytes accept)) (c-accept-ours m c w w by context bytes accept (caller m c w by known w a refl) mine)
 
-pub ours-complete : (m : Group) (c : ℕ) (w : World) (by : ThreadRow) (known : List ℕ → Birth) (handle : ℕ) → At m c w by known → by.process ≡ c → Holds (λ bs. HasFinePorts m c (world_after w bs) → are_ours m w bs ≡ true) (service_of w by (complete_connect_port handle))
-ours-complete m c w by known handle a mine = later (λ bs. are_ours m w bs ≡ true) m c w (service_of w by (complete_connect_port handle)) (c-complete-ours m c w w by handle (caller m c w by known w a refl))
+pub ours-complete : (m : Group) (c : ℕ) (w : World) (by : ThreadRow) (known : List ℕ → Birth) (handle : ℕ) → At m c w by known → by.process ≡ c → Holds (λ bs. HasFinePorts m c (world_after w bs) → are_ours m w bs ≡ true) (served w by (complete_connect_port handle))
+ours-complete m c w by known handle a mine = later (λ bs. are_ours m w bs ≡ true) m c w (served w by (complete_connect_port handle)) (c-complete-ours m c w w by handle (caller m c w by known w a refl))
 
-pub ours-datagram : (m : Group) (c : ℕ) (w : World) (by : ThreadRow) (known : List ℕ → Birth) (handle : ℕ) (message : List ℕ) → At m c w by known → by.process ≡ c → Holds (λ bs. HasFinePorts m c (world_after w bs) → are_ours m w bs ≡ true) (service_of w by (request_port handle message))
-ours-datagram m c w by known handle bytes a mine = later (λ bs. are_ours m w bs ≡ true) m c w (service_of w by (request_port handle bytes)) (c-request_port-ours m c w w by handle bytes (caller m c w by known w a refl) mine)
+pub ours-datagram : (m : Group) (c : ℕ) (w : World) (by : ThreadRow) (known : List ℕ → Birth) (handle : ℕ) (message : List ℕ) → At m c w by known → by.process ≡ c → Holds (λ bs. HasFinePorts m c (world_after w bs) → are_ours m w bs ≡ true) (served w by (request_port handle message))
+ours-datagram m c w by known handle bytes a mine = later (λ bs. are_ours m w bs ≡ true) m c w (served w by (request_port handle bytes)) (c-request_port-ours m c w w by handle bytes (caller m c w by known w a refl) mine)
 
-pub ours-request : (m : Group) (c : ℕ) (w : World) (by : ThreadRow) (known : List ℕ → Birth) (handle : ℕ) (message : List ℕ) → At m c w by known → by.process ≡ c → Holds (λ bs. HasFinePorts m c (world_after w bs) → are_ours m w bs ≡ true) (service_of w by (request_wait_reply_port handle message))
-ours-request m c w by known handle bytes a mine = later (λ bs. are_ours m w bs ≡ true) m c w (service_of w by (request_wait_reply_port handle bytes)) (c-request-ours m c w w by handle bytes (caller m c w by known w a refl) mine)
+pub ours-request : (m : Group) (c : ℕ) (w : World) (by : ThreadRow) (known : List ℕ → Birth) (handle : ℕ) (message : List ℕ) → At m c w by known → by.process ≡ c → Holds (λ bs. HasFinePorts m c (world_after w bs) → are_ours m w bs ≡ true) (served w by (request_wait_reply_port handle message))
+ours-request m c w by known handle bytes a mine = later (λ bs. are_ours m w bs ≡ true) m c w (served w by (request_wait_reply_port handle bytes)) (c-request-ours m c w w by handle bytes (caller m c w by known w a refl) mine)
 
-pub ours-reply : (m : Group) (c : ℕ) (w : World) (by : ThreadRow) (known : List ℕ → Birth) (handle : ℕ) (message : List ℕ) → At m c w by known → by.process ≡ c → Holds (λ bs. HasFinePorts m c (world_after w bs) → are_ours m w bs ≡ true) (service_of w by (reply_port handle message))
-ours-reply m c w by known handle bytes a mine = later (λ bs. are_ours m w bs ≡ true) m c w (service_of w by (reply_port handle bytes)) (c-reply-ours m w by handle bytes)
+pub ours-reply : (m : Group) (c : ℕ) (w : World) (by : ThreadRow) (known : List ℕ → Birth) (handle : ℕ) (message : List ℕ) → At m c w by known → by.process ≡ c → Holds (λ bs. HasFinePorts m c (world_after w bs) → are_ours m w bs ≡ true) (served w by (reply_port handle message))
+ours-reply m c w by known handle bytes a mine = later (λ bs. are_ours m w bs ≡ true) m c w (served w by (reply_port handle bytes)) (c-reply-ours m w by handle bytes)
 
-pub ours-receive : (m : Group) (c : ℕ) (w : World) (by : ThreadRow) (known : List ℕ → Birth) (handle : ℕ) (message : Option (List ℕ)) → At m c w by known → by.process ≡ c → Holds (λ bs. HasFinePorts m c (world_after w bs) → are_ours m w bs ≡ true) (service_of w by (reply_wait_receive_port handle message))
-ours-receive m c w by known handle bytes a mine = later (λ bs. are_ours m w bs ≡ true) m c w (service_of w by (reply_wait_receive_port handle bytes)) (c-receive-ours m c w w by handle bytes (caller m c w by known w a refl) mine)
+pub ours-receive : (m : Group) (c : ℕ) (w : World) (by : ThreadRow) (known : List ℕ → Birth) (handle : ℕ) (message : Option (List ℕ)) → At m c w by known → by.process ≡ c → Holds (λ bs. HasFinePorts m c (world_after w bs) → are_ours m w bs ≡ true) (served w by (reply_wait_receive_port handle message))
+ours-receive m c w by known handle bytes a mine = later (λ bs. are_ours m w bs ≡ true) m c w (served w by (reply_wait_receive_port handle bytes)) (c-receive-ours m c w w by handle bytes (caller m c w by known w a refl) mine)
 
 abbrev pub Leading : Group → ℕ → World → Whose → World → ThreadRow → (List ℕ → Birth) → ScriptCall → List Basic → Type 0
 Leading m c u d w by known call bs = Led m c u d w bs (leads_by m known (view m w) by call (own_entry bs))
 
-create-leads : (m : Group) (c : ℕ) (u : World) (d : Whose) (w : World) (by : ThreadRow) (known : List ℕ → Birth) (name : Option (List ℕ)) → At m c w by known → m by.process ≡ true → Holds (Leading m c u d w by known (create_port name)) (service_of w by (create_port name))
+create-leads : (m : Group) (c : ℕ) (u : World) (d : Whose) (w : World) (by : ThreadRow) (known : List ℕ → Birth) (name : Option (List ℕ)) → At m c w by known → m by.process ≡ true → Holds (Leading m c u d w by known (create_port name)) (served w by (create_port name))
 create-leads m c u d w by known name a by_in =
-    both-hold (λ bs. bs ≡ led_create (view m w) by name) (λ bs. are_ours m w bs ≡ true) (Leading m c u d w by known (create_port name)) (service_of w by (create_port name))
+    both-hold (λ bs. bs ≡ led_create (view m w) by name) (λ bs. are_ours m w bs ≡ true) (Leading m c u d w by known (create_port name)) (served w by (create_port name))
     (λ bs same ours. subst (Led m c u d w bs) same (led-same m c u d w bs ours))
     (create-led m w by name by_in (λ made is. making-view m w (next_birth by) name made a.names is)) (create-ours m w by name by_in)
   where
@@ -178,29 +199,29 @@ create-leads m c u d w by known name a by_in =
     both-hold P Q R (Ok bs) k p q = k bs p q
     both-hold P Q R (Err s) k p q = tt
 
-pub leads-create : (m : Group) (c : ℕ) (u : World) (d : Whose) (w : World) (by : ThreadRow) (known : List ℕ → Birth) (name : Option (List ℕ)) → At m c w by known → u.used_threads ≡ w.used_threads → m by.process ≡ true → (by.process == c) ≡ false → Holds (λ bs. HasFinePorts m c (world_after w bs) → Leading m c u d w by known (create_port name) bs) (service_of w by (create_port name))
-leads-create m c u d w by known name a used by_in other = later (Leading m c u d w by known (create_port name)) m c w (service_of w by (create_port name)) (create-leads m c u d w by known name a by_in)
+pub leads-create : (m : Group) (c : ℕ) (u : World) (d : Whose) (w : World) (by : ThreadRow) (known : List ℕ → Birth) (name : Option (List ℕ)) → At m c w by known → u.used_threads ≡ w.used_threads → m by.process ≡ true → (by.process == c) ≡ false → Holds (λ bs. HasFinePorts m c (world_after w bs) → Leading m c u d w by known (create_port name) bs) (served w by (create_port name))
+leads-create m c u d w by known name a used by_in other = later (Leading m c u d w by known (create_port name)) m c w (served w by (create_port name)) (create-leads m c u d w by known name a by_in)
 
-pub leads-connect : (m : Group) (c : ℕ) (u : World) (d : Whose) (w : World) (by : ThreadRow) (known : List ℕ → Birth) (name bytes : List ℕ) → At m c w by known → u.used_threads ≡ w.used_threads → m by.process ≡ true → (by.process == c) ≡ false → Holds (λ bs. HasFinePorts m c (world_after w bs) → Leading m c u d w by known (connect_port name bytes) bs) (service_of w by (connect_port name bytes))
+pub leads-connect : (m : Group) (c : ℕ) (u : World) (d : Whose) (w : World) (by : ThreadRow) (known : List ℕ → Birth) (name bytes : List ℕ) → At m c w by known → u.used_threads ≡ w.used_threads → m by.process ≡ true → (by.process == c) ≡ false → Holds (λ bs. HasFinePorts m c (world_after w bs) → Leading m c u d w by known (connect_port name bytes) bs) (served w by (connect_port name bytes))
 leads-connect m c u d w by known name info a used by_in other = connect-call-led m c u d w by name info (caller m c w by known u a used) by_in
 
-pub leads-listen : (m : Group) (c : ℕ) (u : World) (d : Whose) (w : World) (by : ThreadRow) (known : List ℕ → Birth) (handle : ℕ) → At m c w by known → u.used_threads ≡ w.used_threads → m by.process ≡ true → (by.process == c) ≡ false → Holds (λ bs. HasFinePorts m c (world_after w bs) → Leading m c u d w by known (listen_port handle) bs) (service_of w by (listen_port handle))
-leads-listen m c u d w by known handle a used by_in other = later (Leading m c u d w by known (listen_port handle)) m c w (service_of w by (listen_port handle)) (listen-call-led m c u d w by handle (caller m c w by known u a used) a.readable by_in other)
+pub leads-listen : (m : Group) (c : ℕ) (u : World) (d : Whose) (w : World) (by : ThreadRow) (known : List ℕ → Birth) (handle : ℕ) → At m c w by known → u.used_threads ≡ w.used_threads → m by.process ≡ true → (by.process == c) ≡ false → Holds (λ bs. HasFinePorts m c (world_after w bs) → Leading m c u d w by known (listen_port handle) bs) (served w by (listen_port handle))
+leads-listen m c u d w by known handle a used by_in other = later (Leading m c u d w by known (listen_port handle)) m c w (served w by (listen_port handle)) (listen-call-led m c u d w by handle (caller m c w by known u a used) a.readable by_in other)
 
-pub leads-accept : (m : Group) (c : ℕ) (u : World) (d : Whose) (w : World) (by : ThreadRow) (known : List ℕ → Birth) (context : ℕ) (message : List ℕ) (accept : Bool) → At m c w by known → u.used_threads ≡ w.used_threads → m by.process ≡ true → (by.process == c) ≡ false → Holds (λ bs. HasFinePorts m c (world_after w bs) → Leading m c u d w by known (accept_connect_port context message accept) bs) (service_of w by (accept_connect_port context message accept))
-leads-accept m c u d w by known context bytes accept a used by_in other = later (Leading m c u d w by known (accept_connect_port context bytes accept)) m c w (service_of w by (accept_connect_port context bytes accept)) (accept-call-led m c u d w by context bytes accept (known bytes) (caller m c w by known u a used) (λ b is. a.knows bytes b by_in is) by_in other)
+pub leads-accept : (m : Group) (c : ℕ) (u : World) (d : Whose) (w : World) (by : ThreadRow) (known : List ℕ → Birth) (context : ℕ) (message : List ℕ) (accept : Bool) → At m c w by known → u.used_threads ≡ w.used_threads → m by.process ≡ true → (by.process == c) ≡ false → Holds (λ bs. HasFinePorts m c (world_after w bs) → Leading m c u d w by known (accept_connect_port context message accept) bs) (served w by (accept_connect_port context message accept))
+leads-accept m c u d w by known context bytes accept a used by_in other = later (Leading m c u d w by known (accept_connect_port context bytes accept)) m c w (served w by (accept_connect_port context bytes accept)) (accept-call-led m c u d w by context bytes accept (known bytes) (caller m c w by known u a used) (λ b is. a.knows bytes b by_in is) by_in other)
 
-pub leads-complete : (m : Group) (c : ℕ) (u : World) (d : Whose) (w : World) (by : ThreadRow) (known : List ℕ → Birth) (handle : ℕ) → At m c w by known → u.used_threads ≡ w.used_threads → m by.process ≡ true → (by.process == c) ≡ false → Holds (λ bs. HasFinePorts m c (world_after w bs) → Leading m c u d w by known (complete_connect_port handle) bs) (service_of w by (complete_connect_port handle))
-leads-complete m c u d w by known handle a used by_in other = later (Leading m c u d w by known (complete_connect_port handle)) m c w (service_of w by (complete_connect_port handle)) (complete-call-led m c u d w by handle (caller m c w by known u a used) by_in other)
+pub leads-complete : (m : Group) (c : ℕ) (u : World) (d : Whose) (w : World) (by : ThreadRow) (known : List ℕ → Birth) (handle : ℕ) → At m c w by known → u.used_threads ≡ w.used_threads → m by.process ≡ true → (by.process == c) ≡ false → Holds (λ bs. HasFinePorts m c (world_after w bs) → Leading m c u d w by known (complete_connect_port handle) bs) (served w by (complete_connect_port handle))
+leads-complete m c u d w by known handle a used by_in other = later (Leading m c u d w by known (complete_connect_port handle)) m c w (served w by (complete_connect_port handle)) (complete-call-led m c u d w by handle (caller m c w by known u a used) by_in other)
 
-pub leads-datagram : (m : Group) (c : ℕ) (u : World) (d : Whose) (w : World) (by : ThreadRow) (known : List ℕ → Birth) (handle : ℕ) (message : List ℕ) → At m c w by known → u.used_threads ≡ w.used_threads → m by.process ≡ true → (by.process == c) ≡ false → Holds (λ bs. HasFinePorts m c (world_after w bs) → Leading m c u d w by known (request_port handle message) bs) (service_of w by (request_port handle message))
-leads-datagram m c u d w by known handle bytes a used by_in other = later (Leading m c u d w by known (request_port handle bytes)) m c w (service_of w by (request_port handle bytes)) (request_port-led m c u d w by handle bytes (caller m c w by known u a used) by_in)
+pub leads-datagram : (m : Group) (c : ℕ) (u : World) (d : Whose) (w : World) (by : ThreadRow) (known : List ℕ → Birth) (handle : ℕ) (message : List ℕ) → At m c w by known → u.used_threads ≡ w.used_threads → m by.process ≡ true → (by.process == c) ≡ false → Holds (λ bs. HasFinePorts m c (world_after w bs) → Leading m c u d w by known (request_port handle message) bs) (served w by (request_port handle message))
+leads-datagram m c u d w by known handle bytes a used by_in other = later (Leading m c u d w by known (request_port handle bytes)) m c w (served w by (request_port handle bytes)) (request_port-led m c u d w by handle bytes (caller m c w by known u a used) by_in)
 
-pub leads-request : (m : Group) (c : ℕ) (u : World) (d : Whose) (w : World) (by : ThreadRow) (known : List ℕ → Birth) (handle : ℕ) (message : List ℕ) → At m c w by known → u.used_threads ≡ w.used_threads → m by.process ≡ true → (by.process == c) ≡ false → Holds (λ bs. HasFinePorts m c (world_after w bs) → Leading m c u d w by known (request_wait_reply_port handle message) bs) (service_of w by (request_wait_reply_port handle message))
-leads-request m c u d w by known handle bytes a used by_in other = later (Leading m c u d w by known (request_wait_reply_port handle bytes)) m c w (service_of w by (request_wait_reply_port handle bytes)) (request-call-led m c u d w by handle bytes (caller m c w by known u a used) by_in)
+pub leads-request : (m : Group) (c : ℕ) (u : World) (d : Whose) (w : World) (by : ThreadRow) (known : List ℕ → Birth) (handle : ℕ) (message : List ℕ) → At m c w by known → u.used_threads ≡ w.used_threads → m by.process ≡ true → (by.process == c) ≡ false → Holds (λ bs. HasFinePorts m c (world_after w bs) → Leading m c u d w by known (request_wait_reply_port handle message) bs) (served w by (request_wait_reply_port handle message))
+leads-request m c u d w by known handle bytes a used by_in other = later (Leading m c u d w by known (request_wait_reply_port handle bytes)) m c w (served w by (request_wait_reply_port handle bytes)) (request-call-led m c u d w by handle bytes (caller m c w by known u a used) by_in)
 
-pub leads-reply : (m : Group) (c : ℕ) (u : World) (d : Whose) (w : World) (by : ThreadRow) (known : List ℕ → Birth) (handle : ℕ) (message : List ℕ) → At m c w by known → u.used_threads ≡ w.used_threads → m by.process ≡ true → (by.process == c) ≡ false → Holds (λ bs. HasFinePorts m c (world_after w bs) → Leading m c u d w by known (reply_port handle message) bs) (service_of w by (reply_port handle message))
-leads-reply m c u d w by known handle bytes a used by_in other = let k = caller m c w by known u a used in later (Leading m c u d w by known (reply_port handle bytes)) m c w (service_of w by (reply_port handle bytes)) (reply-call-led m c u d w by handle bytes a.c_in a.fair k.owned k.once k.here other)
+pub leads-reply : (m : Group) (c : ℕ) (u : World) (d : Whose) (w : World) (by : ThreadRow) (known : List ℕ → Birth) (handle : ℕ) (message : List ℕ) → At m c w by known → u.used_threads ≡ w.used_threads → m by.process ≡ true → (by.process == c) ≡ false → Holds (λ bs. HasFinePorts m c (world_after w bs) → Leading m c u d w by known (reply_port handle message) bs) (served w by (reply_port handle message))
+leads-reply m c u d w by known handle bytes a used by_in other = let k = caller m c w by known u a used in later (Leading m c u d w by known (reply_port handle bytes)) m c w (served w by (reply_port handle bytes)) (reply-call-led m c u d w by handle bytes a.c_in a.fair k.owned k.once k.here other)
 
-pub leads-receive : (m : Group) (c : ℕ) (u : World) (d : Whose) (w : World) (by : ThreadRow) (known : List ℕ → Birth) (handle : ℕ) (message : Option (List ℕ)) → At m c w by known → u.used_threads ≡ w.used_threads → m by.process ≡ true → (by.process == c) ≡ false → Holds (λ bs. HasFinePorts m c (world_after w bs) → Leading m c u d w by known (reply_wait_receive_port handle message) bs) (service_of w by (reply_wait_receive_port handle message))
-leads-receive m c u d w by known handle bytes a used by_in other = later (Leading m c u d w by known (reply_wait_receive_port handle bytes)) m c w (service_of w by (reply_wait_receive_port handle bytes)) (receive-call-led m c u d w by handle bytes (caller m c w by known u a used) a.readable by_in other)
+pub leads-receive : (m : Group) (c : ℕ) (u : World) (d : Whose) (w : World) (by : ThreadRow) (known : List ℕ → Birth) (handle : ℕ) (message : Option (List ℕ)) → At m c w by known → u.used_threads ≡ w.used_threads → m by.process ≡ true → (by.process == c) ≡ false → Holds (λ bs. HasFinePorts m c (world_after w bs) → Leading m c u d w by known (reply_wait_receive_port handle message) bs) (served w by (reply_wait_receive_port handle message))
+leads-receive m c u d w by known handle bytes a used by_in other = later (Leading m c u d w by known (reply_wait_receive_port handle bytes)) m c w (served w by (reply_wait_receive_port handle bytes)) (receive-call-led m c u d w by handle bytes (caller m c w by known u a used) a.readable by_in other)

@@ -24,7 +24,7 @@ use Rattle.lpc_model.specs.Connect.{connect_wait, connection_request, is_accepte
 use Rattle.lpc_model.specs.Request.{answered_test, datagram_start, datagram_steps, nt_reply_port, receive_steps, receive_wait, reply, request_start, request_steps, request_wait, sent_by}
 use Rattle.lpc_model.specs.Tests.{port_test}
 use Rattle.lpc_model.specs.Lines.{ScriptCall, accept_connect_port, complete_connect_port, connect_port, create_port, listen_port, reply_port, reply_wait_receive_port, request_port, request_wait_reply_port}
-use Rattle.lpc_model.specs.Machine.{service_of}
+use Rattle.lpc_isolation.proofs.Served.{served}
 use Rattle.lpc_model.proofs.Births.{birth-same, birth-self}
 use Rattle.lpc_model.proofs.Holding.{Holds, bind_holds}
 use Rattle.lpc_model.proofs.Rows.{lone}
@@ -61,7 +61,7 @@ not-taker x (Accepted a r) is on = rw is refl
 not-taker x Receive is on = let off : false ≡ true = rw is at on in absurd (cc)
 not-taker x Listen is on = let off : false ≡ true = rw is at on in absurd (cc)
 
-none-takes : (k t f : WaitRow → Bool) (xs : List WaitRow) → every (λ y. not (t y) || not (f y)) xs ≡ true → not (passes (first t (which k xs)) f) ≡ true
+pub none-takes : (k t f : WaitRow → Bool) (xs : List WaitRow) → every (λ y. not (t y) || not (f y)) xs ≡ true → not (passes (first t (which k xs)) f) ≡ true
 none-takes k t f [] all = refl
 none-takes k t f (x ∷ xs) all = grind (arith, none-takes k t f xs)
 
@@ -96,7 +96,7 @@ reply-still m c u w by memo handle bytes k =
     bind_holds (port_test w by handle) _ (Still m memo w) (λ p _. bind_holds (message_test bytes) _ (Still m memo w) (λ b _. bind_holds (answered_test w p b) _ (Still m memo w) (λ x at.
     (refl, rw (answer-silent m c u w by p b x k at) refl))))
 
-create-still : (m : Group) (w : World) (by : ThreadRow) (memo : List Heard) (name : Option (List ℕ)) → Holds (Still m memo w) (service_of w by (create_port name))
+create-still : (m : Group) (w : World) (by : ThreadRow) (memo : List Heard) (name : Option (List ℕ)) → Holds (Still m memo w) (served w by (create_port name))
 create-still m w by memo name = made-holds (Still m memo w) w by name (λ value. (refl, refl)) (λ path value. (refl, refl))
 
 -- A message that is sent
@@ -155,7 +155,7 @@ still-hears m c u d w memo bs all still =
     let silent : every (is_silent (view m w)) (told_inputs m c u d (entries_of bs)) ≡ true = every-which (is_silent (view m w)) (is_told_input m c u d) (entries_of bs) (steps-silent (view m w) bs still.1) in
     subst (λ memo. AllKnown m memo (world_after w bs)) (sym (entries-silent m (view m w) memo (told_inputs m c u d (entries_of bs)) silent)) (run-known m memo w bs still.0 all)
 
-shown-heard : (m : Group) (y : MessageRow) (z : WaitRow) (sort : WaitKind) (memo : List Heard) → z.kind ≡ sort → takes y z ≡ true → Reads y → woken_memo m (Some z) (shown z y) memo ≡ noted_of m y z.queue memo
+pub shown-heard : (m : Group) (y : MessageRow) (z : WaitRow) (sort : WaitKind) (memo : List Heard) → z.kind ≡ sort → takes y z ≡ true → Reads y → woken_memo m (Some z) (shown z y) memo ≡ noted_of m y z.queue memo
 shown-heard m y z Receive memo is takes r = rw is (heard-receipt m y z.queue memo r)
 shown-heard m y z Listen memo is takes r = rw is (heard-message m y z.queue memo r)
 shown-heard m y z (Request a) memo is takes r = let off : (false && same_birth z.queue y.queue) ≡ true = rw is at takes in absurd (cc)
@@ -163,7 +163,7 @@ shown-heard m y z (Connect a) memo is takes r = let off : (false && same_birth z
 shown-heard m y z (Accepted a b) memo is takes r = let off : (false && same_birth z.queue y.queue) ≡ true = rw is at takes in absurd (cc)
 
 -- of the one wait of a thread
-own-first : (p q : WaitRow → Bool) (xs : List WaitRow) (x : WaitRow) → count q xs ≤ 1 → first p xs ≡ Some x → q x ≡ true → first q xs ≡ Some x
+pub own-first : (p q : WaitRow → Bool) (xs : List WaitRow) (x : WaitRow) → count q xs ≤ 1 → first p xs ≡ Some x → q x ≡ true → first q xs ≡ Some x
 own-first p q [] x few at is = absurd (cc)
 own-first p q (z ∷ zs) x few at is = grind (arith, own-first p q zs x, counted q p zs x)
 
@@ -343,26 +343,26 @@ module _ (m : Group) (c : ℕ) (u w : World) (by : ThreadRow) (d : Whose) (memo 
   unheard-answer : (call : CallName) (status : Status) (fields : List Field) (es : List Entry) → told_inputs m c u d (entry.Answer by.number call status fields ∷ es) ≡ told_inputs m c u d es
   unheard-answer call status fields es = rw (k.here, out) refl
 
-  pub hears-create : (name : Option (List ℕ)) → Holds Next (service_of w by (create_port name))
-  hears-create name = anyway (service_of w by (create_port name)) (create-still m w by memo name)
+  pub hears-create : (name : Option (List ℕ)) → Holds Next (served w by (create_port name))
+  hears-create name = anyway (served w by (create_port name)) (create-still m w by memo name)
 
-  pub hears-accept : (context : ℕ) (message : List ℕ) (accept : Bool) → Holds Next (service_of w by (accept_connect_port context message accept))
-  hears-accept context message accept = anyway (service_of w by (accept_connect_port context message accept)) (accept-still m c u w by memo context message accept k)
+  pub hears-accept : (context : ℕ) (message : List ℕ) (accept : Bool) → Holds Next (served w by (accept_connect_port context message accept))
+  hears-accept context message accept = anyway (served w by (accept_connect_port context message accept)) (accept-still m c u w by memo context message accept k)
 
-  pub hears-complete : (handle : ℕ) → Holds Next (service_of w by (complete_connect_port handle))
-  hears-complete handle = anyway (service_of w by (complete_connect_port handle)) (complete-still m c u w by memo handle k)
+  pub hears-complete : (handle : ℕ) → Holds Next (served w by (complete_connect_port handle))
+  hears-complete handle = anyway (served w by (complete_connect_port handle)) (complete-still m c u w by memo handle k)
 
-  pub hears-reply : (handle : ℕ) (message : List ℕ) → Holds Next (service_of w by (reply_port handle message))
-  hears-reply handle message = anyway (service_of w by (reply_port handle message)) (reply-still m c u w by memo handle message k)
+  pub hears-reply : (handle : ℕ) (message : List ℕ) → Holds Next (served w by (reply_port handle message))
+  hears-reply handle message = anyway (served w by (reply_port handle message)) (reply-still m c u w by memo handle message k)
 
-  pub hears-listen : (handle : ℕ) → Holds Next (service_of w by (listen_port handle))
+  pub hears-listen : (handle : ℕ) → Holds Next (served w by (listen_port handle))
   hears-listen handle = on-port Next m c u w by handle k (λ p at named _.
       still-hears m c u d w memo (listen_steps by p.birth (first (is_queued_connect p.birth) w.messages)) all (
         listened-known m w by p.birth memo (first (is_queued_connect p.birth) w.messages) (λ y there. fits-outside m memo w (is_queued_connect p.birth) y a k.once there (ap (λ (b : Birth). m b.process) (listen-queue p.birth w y there) ∙ ap m named.process ∙ out)),
         listened-silent (view m w) by p.birth (first (is_queued_connect p.birth) w.messages),
       ))
 
-  pub hears-receive : (handle : ℕ) (message : Option (List ℕ)) → Holds Next (service_of w by (reply_wait_receive_port handle message))
+  pub hears-receive : (handle : ℕ) (message : Option (List ℕ)) → Holds Next (served w by (reply_wait_receive_port handle message))
   hears-receive handle bytes = on-receive Next m c u w by handle bytes k (λ b p q replied is r _.
       let q_out : m q.process ≡ false = ap m (queue-own m c w p q r.named.right r.queue ∙ r.named.process) ∙ out in
       let fits : (y : MessageRow) → first (is_queued q) w.messages ≡ Some y → Fits m memo w y = λ y there. fits-outside m memo w (is_queued q) y a k.once there (ap (λ (b : Birth). m b.process) (receive-queue q w y there) ∙ q_out) in
@@ -370,18 +370,18 @@ module _ (m : Group) (c : ℕ) (u w : World) (by : ThreadRow) (d : Whose) (memo 
       (λ none. still-hears m c u d w memo (receive_steps by p q [] (first (is_queued q) w.messages)) all (received-known m w by p q memo [] (first (is_queued q) w.messages) no-reply fits, received-silent (view m w) by p q [] (first (is_queued q) w.messages) refl))
       (λ e x some at. still-hears m c u d w memo (receive_steps by p q (reply x e ∷ []) (first (is_queued q) w.messages)) all (received-known m w by p q memo (reply x e ∷ []) (first (is_queued q) w.messages) (one-reply x e) fits, received-silent (view m w) by p q (reply x e ∷ []) (first (is_queued q) w.messages) (rw (answer-silent m c u w by p e x k at) refl))))
 
-  pub hears-connect : (name bytes : List ℕ) → Holds Next (service_of w by (connect_port name bytes))
+  pub hears-connect : (name bytes : List ℕ) → Holds Next (served w by (connect_port name bytes))
   hears-connect name bytes = on-connect Next w by name bytes (λ q at fine.
       subst (λ es. AllKnown m (entries_memo m (view m w) memo es) (world_after w (steps_of w by q bytes))) (sym (unheard-waits NtConnectPort (id by.next_identifier ∷ []) (entries_of (enter (row by q bytes) (world_after w (starting by q bytes))))))
       (sent-hears m c u w by d memo (starting by q bytes) (row by q bytes) k all (connect-sent m c u w by q bytes k) (reads (row by q bytes) refl refl) out (fine-other m c by q (connect-fine m c w by q bytes fine) out)))
 
-  pub hears-datagram : (handle : ℕ) (message : List ℕ) → Holds Next (service_of w by (request_port handle message))
+  pub hears-datagram : (handle : ℕ) (message : List ℕ) → Holds Next (served w by (request_port handle message))
   hears-datagram handle bytes = sent-datagram Next m c u w by handle bytes k (λ s is _.
       subst (λ es. AllKnown m (entries_memo m (view m w) memo es) (world_after w (datagram_steps by s.port s.queue (sent_by by DATAGRAM s.message) w))) (sym (unheard-answer NtRequestPort SUCCESS (id by.next_identifier ∷ []) (entries_of (enter (row_of s.queue s.port (sent_by by DATAGRAM s.message)) (world_after w (datagram_start by))))))
       (sent-hears m c u w by d memo (datagram_start by) (row_of s.queue s.port (sent_by by DATAGRAM s.message)) k all (datagram-sent m c u w by s.port s.queue s.message k) (reads (row_of s.queue s.port (sent_by by DATAGRAM s.message)) refl refl) out
       (routed-out m c w s.port s.queue is.named.right k.c_in (ap m is.named.process ∙ out) is.to)))
 
-  pub hears-request : (handle : ℕ) (message : List ℕ) → Holds Next (service_of w by (request_wait_reply_port handle message))
+  pub hears-request : (handle : ℕ) (message : List ℕ) → Holds Next (served w by (request_wait_reply_port handle message))
   hears-request handle bytes = sent-request Next m c u w by handle bytes k (λ s is _.
       subst (λ es. AllKnown m (entries_memo m (view m w) memo es) (world_after w (request_steps by s.port s.queue (sent_by by REQUEST s.message) w))) (sym (unheard-waits NtRequestWaitReplyPort (id by.next_identifier ∷ []) (entries_of (enter (row_of s.queue s.port (sent_by by REQUEST s.message)) (world_after w (request_start by s.port.birth s.queue (sent_by by REQUEST s.message)))))))
       (sent-hears m c u w by d memo (request_start by s.port.birth s.queue (sent_by by REQUEST s.message)) (row_of s.queue s.port (sent_by by REQUEST s.message)) k all (request-sent m c u w by s.port s.queue s.message k) (reads (row_of s.queue s.port (sent_by by REQUEST s.message)) refl refl) out
@@ -468,31 +468,31 @@ module _ (m : Group) (c : ℕ) (u w : World) (by : ThreadRow) (memo : List Heard
           let t = noted m c u w by memo (is_queued q) y k owned a all some in
           subst (λ memo. AllKnown m memo (world_after w (receive_steps by p q rs (Some y)))) (sym shows) (run-known m (noted_of m y y.queue memo) w (receive_steps by p q rs (Some y)) (received-known m w by p q (noted_of m y y.queue memo) rs (Some y) is (same (noted_of m y y.queue memo) t.fits)) t.all)
 
-  pub notes-create : (name : Option (List ℕ)) → Holds (λ bs. AllKnown m (cond (by.process == c) memo (call_memo m (view m w) by (create_port name) (own_entry bs) memo)) (world_after w bs)) (service_of w by (create_port name))
-  notes-create name = unnoted (create_port name) (λ e. refl) (service_of w by (create_port name)) (first-still _ (create-still m w by memo name))
+  pub notes-create : (name : Option (List ℕ)) → Holds (λ bs. AllKnown m (cond (by.process == c) memo (call_memo m (view m w) by (create_port name) (own_entry bs) memo)) (world_after w bs)) (served w by (create_port name))
+  notes-create name = unnoted (create_port name) (λ e. refl) (served w by (create_port name)) (first-still _ (create-still m w by memo name))
 
-  pub notes-accept : (context : ℕ) (message : List ℕ) (accept : Bool) → Holds (λ bs. AllKnown m (cond (by.process == c) memo (call_memo m (view m w) by (accept_connect_port context message accept) (own_entry bs) memo)) (world_after w bs)) (service_of w by (accept_connect_port context message accept))
-  notes-accept context message accept = unnoted (accept_connect_port context message accept) (λ e. refl) (service_of w by (accept_connect_port context message accept)) (first-still _ (accept-still m c u w by memo context message accept k))
+  pub notes-accept : (context : ℕ) (message : List ℕ) (accept : Bool) → Holds (λ bs. AllKnown m (cond (by.process == c) memo (call_memo m (view m w) by (accept_connect_port context message accept) (own_entry bs) memo)) (world_after w bs)) (served w by (accept_connect_port context message accept))
+  notes-accept context message accept = unnoted (accept_connect_port context message accept) (λ e. refl) (served w by (accept_connect_port context message accept)) (first-still _ (accept-still m c u w by memo context message accept k))
 
-  pub notes-complete : (handle : ℕ) → Holds (λ bs. AllKnown m (cond (by.process == c) memo (call_memo m (view m w) by (complete_connect_port handle) (own_entry bs) memo)) (world_after w bs)) (service_of w by (complete_connect_port handle))
-  notes-complete handle = unnoted (complete_connect_port handle) (λ e. refl) (service_of w by (complete_connect_port handle)) (first-still _ (complete-still m c u w by memo handle k))
+  pub notes-complete : (handle : ℕ) → Holds (λ bs. AllKnown m (cond (by.process == c) memo (call_memo m (view m w) by (complete_connect_port handle) (own_entry bs) memo)) (world_after w bs)) (served w by (complete_connect_port handle))
+  notes-complete handle = unnoted (complete_connect_port handle) (λ e. refl) (served w by (complete_connect_port handle)) (first-still _ (complete-still m c u w by memo handle k))
 
-  pub notes-reply : (handle : ℕ) (message : List ℕ) → Holds (λ bs. AllKnown m (cond (by.process == c) memo (call_memo m (view m w) by (reply_port handle message) (own_entry bs) memo)) (world_after w bs)) (service_of w by (reply_port handle message))
-  notes-reply handle message = unnoted (reply_port handle message) (λ e. refl) (service_of w by (reply_port handle message)) (first-still _ (reply-still m c u w by memo handle message k))
+  pub notes-reply : (handle : ℕ) (message : List ℕ) → Holds (λ bs. AllKnown m (cond (by.process == c) memo (call_memo m (view m w) by (reply_port handle message) (own_entry bs) memo)) (world_after w bs)) (served w by (reply_port handle message))
+  notes-reply handle message = unnoted (reply_port handle message) (λ e. refl) (served w by (reply_port handle message)) (first-still _ (reply-still m c u w by memo handle message k))
 
-  pub notes-connect : (name bytes : List ℕ) → Holds (λ bs. AllKnown m (cond (by.process == c) memo (call_memo m (view m w) by (connect_port name bytes) (own_entry bs) memo)) (world_after w bs)) (service_of w by (connect_port name bytes))
-  notes-connect name bytes = unnoted (connect_port name bytes) (λ e. refl) (service_of w by (connect_port name bytes)) (on-connect (λ bs. are_known m memo w bs ≡ true) w by name bytes (λ q at. sent-known m w by memo (starting by q bytes) (row by q bytes) (connect-sent m c u w by q bytes k) by_in))
+  pub notes-connect : (name bytes : List ℕ) → Holds (λ bs. AllKnown m (cond (by.process == c) memo (call_memo m (view m w) by (connect_port name bytes) (own_entry bs) memo)) (world_after w bs)) (served w by (connect_port name bytes))
+  notes-connect name bytes = unnoted (connect_port name bytes) (λ e. refl) (served w by (connect_port name bytes)) (on-connect (λ bs. are_known m memo w bs ≡ true) w by name bytes (λ q at. sent-known m w by memo (starting by q bytes) (row by q bytes) (connect-sent m c u w by q bytes k) by_in))
 
-  pub notes-datagram : (handle : ℕ) (message : List ℕ) → Holds (λ bs. AllKnown m (cond (by.process == c) memo (call_memo m (view m w) by (request_port handle message) (own_entry bs) memo)) (world_after w bs)) (service_of w by (request_port handle message))
-  notes-datagram handle bytes = unnoted (request_port handle bytes) (λ e. refl) (service_of w by (request_port handle bytes)) (sent-datagram (λ bs. are_known m memo w bs ≡ true) m c u w by handle bytes k (λ s is. sent-known m w by memo (datagram_start by) (row_of s.queue s.port (sent_by by DATAGRAM s.message)) (datagram-sent m c u w by s.port s.queue s.message k) by_in))
+  pub notes-datagram : (handle : ℕ) (message : List ℕ) → Holds (λ bs. AllKnown m (cond (by.process == c) memo (call_memo m (view m w) by (request_port handle message) (own_entry bs) memo)) (world_after w bs)) (served w by (request_port handle message))
+  notes-datagram handle bytes = unnoted (request_port handle bytes) (λ e. refl) (served w by (request_port handle bytes)) (sent-datagram (λ bs. are_known m memo w bs ≡ true) m c u w by handle bytes k (λ s is. sent-known m w by memo (datagram_start by) (row_of s.queue s.port (sent_by by DATAGRAM s.message)) (datagram-sent m c u w by s.port s.queue s.message k) by_in))
 
-  pub notes-request : (handle : ℕ) (message : List ℕ) → Holds (λ bs. AllKnown m (cond (by.process == c) memo (call_memo m (view m w) by (request_wait_reply_port handle message) (own_entry bs) memo)) (world_after w bs)) (service_of w by (request_wait_reply_port handle message))
-  notes-request handle bytes = unnoted (request_wait_reply_port handle bytes) (λ e. refl) (service_of w by (request_wait_reply_port handle bytes)) (sent-request (λ bs. are_known m memo w bs ≡ true) m c u w by handle bytes k (λ s is. sent-known m w by memo (request_start by s.port.birth s.queue (sent_by by REQUEST s.message)) (row_of s.queue s.port (sent_by by REQUEST s.message)) (request-sent m c u w by s.port s.queue s.message k) by_in))
+  pub notes-request : (handle : ℕ) (message : List ℕ) → Holds (λ bs. AllKnown m (cond (by.process == c) memo (call_memo m (view m w) by (request_wait_reply_port handle message) (own_entry bs) memo)) (world_after w bs)) (served w by (request_wait_reply_port handle message))
+  notes-request handle bytes = unnoted (request_wait_reply_port handle bytes) (λ e. refl) (served w by (request_wait_reply_port handle bytes)) (sent-request (λ bs. are_known m memo w bs ≡ true) m c u w by handle bytes k (λ s is. sent-known m w by memo (request_start by s.port.birth s.queue (sent_by by REQUEST s.message)) (row_of s.queue s.port (sent_by by REQUEST s.message)) (request-sent m c u w by s.port s.queue s.message k) by_in))
 
-  pub notes-listen : (handle : ℕ) → Holds (λ bs. AllKnown m (cond (by.process == c) memo (call_memo m (view m w) by (listen_port handle) (own_entry bs) memo)) (world_after w bs)) (service_of w by (listen_port handle))
+  pub notes-listen : (handle : ℕ) → Holds (λ bs. AllKnown m (cond (by.process == c) memo (call_memo m (view m w) by (listen_port handle) (own_entry bs) memo)) (world_after w bs)) (served w by (listen_port handle))
   notes-listen handle = on-port (Notes (listen_port handle)) m c u w by handle k (λ p at named. listens handle p at named.process (first (is_queued_connect p.birth) w.messages) refl)
 
-  pub notes-receive : (handle : ℕ) (message : Option (List ℕ)) → Holds (λ bs. AllKnown m (cond (by.process == c) memo (call_memo m (view m w) by (reply_wait_receive_port handle message) (own_entry bs) memo)) (world_after w bs)) (service_of w by (reply_wait_receive_port handle message))
+  pub notes-receive : (handle : ℕ) (message : Option (List ℕ)) → Holds (λ bs. AllKnown m (cond (by.process == c) memo (call_memo m (view m w) by (reply_wait_receive_port handle message) (own_entry bs) memo)) (world_after w bs)) (served w by (reply_wait_receive_port handle message))
   notes-receive handle bytes = on-receive (Notes (reply_wait_receive_port handle bytes)) m c u w by handle bytes k (λ b p q replied is r.
       replied-as (λ rs. Notes (reply_wait_receive_port handle bytes) (receive_steps by p q rs (first (is_queued q) w.messages))) w p b replied r.replies
       (λ none. receives handle bytes b p q replied [] r no-reply (first (is_queued q) w.messages) refl)

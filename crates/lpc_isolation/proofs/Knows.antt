@@ -12,7 +12,7 @@ use Rattle.lpc_model.specs.Message.{message_test}
 use Rattle.lpc_model.specs.Refusal.{found_or}
 use Rattle.lpc_model.specs.World.{Accepted, Birth, Connect, Listen, Receive, Request, ThreadRow, WaitKind, WaitRow, World}
 use Rattle.lpc_model.specs.Found.{is_offered, is_the, waits_as, waits_at}
-use Rattle.lpc_model.specs.Basics.{Accepts, AddsHandle, AddsProcess, AddsThread, Awaits, Basic, Binds, Completes, DrawsIdentifier, DrawsOrdinal, Enters, Frees, Joins, Makes, Receives, Takes, TakesConnect, Tells, Wakes, Withdraws, accepted, basic, received, world_after}
+use Rattle.lpc_model.specs.Basics.{Accepts, AddsHandle, AddsProcess, AddsThread, Awaits, Basic, Binds, Completes, Cuts, DrawsIdentifier, DrawsOrdinal, DropsHandle, Empties, Enters, Frees, Joins, Makes, Receives, Takes, TakesConnect, Tells, Unbinds, Wakes, Withdraws, accepted, basic, received, world_after}
 use Rattle.lpc_model.specs.Tests.{client_test}
 use Rattle.lpc_model.specs.Connect.{ConnectAnswer, answer_test, names_connect}
 use Rattle.lpc_model.proofs.Births.{birth-same}
@@ -69,6 +69,10 @@ basic-known m memo w (Frees o) ok all = absurd (cc)
 basic-known m memo w (Enters x) ok all = all
 basic-known m memo w (Binds path node) ok all = all
 basic-known m memo w (AddsHandle pid h) ok all = all
+basic-known m memo w (Empties q) ok all = all
+basic-known m memo w (Cuts b) ok all = all
+basic-known m memo w (Unbinds b) ok all = all
+basic-known m memo w (DropsHandle pid value) ok all = all
 basic-known m memo w (Tells e) ok all = all
 basic-known m memo w (Takes q) ok all = all
 basic-known m memo w (TakesConnect q) ok all = all

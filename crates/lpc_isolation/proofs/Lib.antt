@@ -1,4 +1,5 @@
 pub mod Alone
+pub mod Served
 pub mod Bare
 pub mod Filters
 pub mod View
@@ -18,6 +19,7 @@ pub mod Takes
 pub mod Listens
 pub mod Receive
 pub mod Names
+pub mod Bound
 pub mod Connects
 pub mod Completes
 pub mod Accepts
@@ -34,10 +36,23 @@ pub mod Directives
 pub mod Thin
 pub mod Fresh
 pub mod Fine
+pub mod Duplicates
+pub mod Mild
+pub mod Lone
+pub mod Stages
+pub mod Ends
+pub mod Posts
+pub mod Closings
+pub mod Closes
+pub mod Counted
+pub mod Queries
+pub mod Held
 pub mod Services
 pub mod ThinCalls
 pub mod Sweeps
 pub mod Swept
+pub mod Paths
+pub mod Sent
 pub mod Ways
 pub mod Ids
 pub mod Asked

@@ -11,7 +11,7 @@ use Rattle.lpc_model.specs.World.{ThreadRow, UsedThread, WaitRow, World}
 use Rattle.lpc_model.specs.Found.{live_thread, waits_as}
 use Rattle.lpc_model.specs.Basics.{Basic, entries_of, world_after}
 use Rattle.lpc_model.specs.Lines.{ScriptCall, run}
-use Rattle.lpc_model.specs.Machine.{bare_step, bare_steps}
+use Rattle.lpc_isolation.proofs.Served.{served_step, served_steps}
 use Rattle.lpc_model.specs.Circle.{Everyone, Event, Group, Item, Nobody, Of, Ran, Told, Whose, entry_whose, is_item, is_number, is_seen, is_told_to, item_of, items, owned, owner, thread_whose, told_event}
 use Rattle.lpc_isolation.proofs.Alone.{alone}
 use Rattle.lpc_isolation.proofs.Bare.{bare_line_events}
@@ -170,7 +170,7 @@ abbrev pub led_line : Leads → World → ℕ → ScriptCall → Entry → List 
 led_line led v tid call e = cond (accepts e) (given (live_thread v tid) (λ by. led v by call e)) []
 
 abbrev pub turn : Leads → ℕ → World → ℕ → ScriptCall → List Item → List Basic
-turn led c v tid call is = cond (is_seen (alone c) (thread_whose v tid)) (bare_steps (run tid call) v) (led_line led v tid call (next_entry is))
+turn led c v tid call is = cond (is_seen (alone c) (thread_whose v tid)) (served_steps (run tid call) v) (led_line led v tid call (next_entry is))
 
 abbrev pub shown_run : Leads → ℕ → World → ℕ → ScriptCall → List Item → List Item
 shown_run led c v tid call is =
@@ -179,25 +179,25 @@ shown_run led c v tid call is =
 
 -- what a call's line owes: of an outsider, of c, of another member
 pub record Owes (led : Leads) (m : Group) (c : ℕ) (w : World) (tid : ℕ) (call : ScriptCall) : Type 0 where
-  pub apart : is_seen m (thread_whose w tid) ≡ false → are_apart m c (bare_step w (run tid call)).world (thread_whose w tid) w (bare_steps (run tid call) w) ≡ true
-  pub same : is_seen (alone c) (thread_whose w tid) ≡ true → bare_steps (run tid call) (view m w) ≡ bare_steps (run tid call) w
-  pub ours : is_seen (alone c) (thread_whose w tid) ≡ true → are_ours m w (bare_steps (run tid call) w) ≡ true
+  pub apart : is_seen m (thread_whose w tid) ≡ false → are_apart m c (served_step w (run tid call)).world (thread_whose w tid) w (served_steps (run tid call) w) ≡ true
+  pub same : is_seen (alone c) (thread_whose w tid) ≡ true → served_steps (run tid call) (view m w) ≡ served_steps (run tid call) w
+  pub ours : is_seen (alone c) (thread_whose w tid) ≡ true → are_ours m w (served_steps (run tid call) w) ≡ true
   pub leads : is_seen m (thread_whose w tid) ≡ true → is_seen (alone c) (thread_whose w tid) ≡ false
-      → Led m c (bare_step w (run tid call)).world (thread_whose w tid) w (bare_steps (run tid call) w) (led_line led (view m w) tid call (own_entry (bare_steps (run tid call) w)))
+      → Led m c (served_step w (run tid call)).world (thread_whose w tid) w (served_steps (run tid call) w) (led_line led (view m w) tid call (own_entry (served_steps (run tid call) w)))
   pub first : is_seen m (thread_whose w tid) ≡ true → is_seen (alone c) (thread_whose w tid) ≡ false
-      → (is : List Item) → next_entry (told_items (told_at m c w (run tid call)) ++ is) ≡ own_entry (bare_steps (run tid call) w)
-  pub done : every (is_done (bare_step w (run tid call)).world) (bare_step w (run tid call)).entries ≡ true
+      → (is : List Item) → next_entry (told_items (told_at m c w (run tid call)) ++ is) ≡ own_entry (served_steps (run tid call) w)
+  pub done : every (is_done (served_step w (run tid call)).world) (served_step w (run tid call)).entries ≡ true
 
 -- c's items of the line
 ran-own : (c : ℕ) (w : World) (tid : ℕ) (call : ScriptCall) → items (alone c) (bare_line_events w (run tid call))
-    ≡ cond (is_seen (alone c) (thread_whose w tid)) (Ran (run tid call) ∷ []) [] ++ told_items (heard (alone c) (bare_step w (run tid call)).world (thread_whose w tid) (bare_step w (run tid call)).entries)
-ran-own c w tid call = at (is_seen (alone c) (thread_whose w tid)) (own-told c (bare_step w (run tid call)).world (thread_whose w tid) (bare_step w (run tid call)).entries)
+    ≡ cond (is_seen (alone c) (thread_whose w tid)) (Ran (run tid call) ∷ []) [] ++ told_items (heard (alone c) (served_step w (run tid call)).world (thread_whose w tid) (served_step w (run tid call)).entries)
+ran-own c w tid call = at (is_seen (alone c) (thread_whose w tid)) (own-told c (served_step w (run tid call)).world (thread_whose w tid) (served_step w (run tid call)).entries)
   where
     es : List Event
-    es = map (told_event (bare_step w (run tid call)).world (thread_whose w tid)) (bare_step w (run tid call)).entries
+    es = map (told_event (served_step w (run tid call)).world (thread_whose w tid)) (served_step w (run tid call)).entries
 
     told : List Item
-    told = told_items (heard (alone c) (bare_step w (run tid call)).world (thread_whose w tid) (bare_step w (run tid call)).entries)
+    told = told_items (heard (alone c) (served_step w (run tid call)).world (thread_whose w tid) (served_step w (run tid call)).entries)
 
     at : (b : Bool) → map item_of (which (is_item (alone c)) es) ≡ told
         → map item_of (cond b (record { whose = thread_whose w tid; item = Ran (run tid call) } ∷ which (is_item (alone c)) es) (which (is_item (alone c)) es)) ≡ cond b (Ran (run tid call) ∷ []) [] ++ told
@@ -206,11 +206,11 @@ ran-own c w tid call = at (is_seen (alone c) (thread_whose w tid)) (own-told c (
 
 -- an outsider's line is hidden
 pub run-hidden : (led : Leads) (m : Group) (c : ℕ) (w : World) (tid : ℕ) (call : ScriptCall) → m c ≡ true → Owes led m c w tid call → is_seen m (thread_whose w tid) ≡ false
-    → (view m (bare_step w (run tid call)).world ≡ absorb_all (view m w) (told_at m c w (run tid call))) × (items (alone c) (bare_line_events w (run tid call)) ≡ [])
+    → (view m (served_step w (run tid call)).world ≡ absorb_all (view m w) (told_at m c w (run tid call))) × (items (alone c) (bare_line_events w (run tid call)) ≡ [])
 run-hidden led m c w tid call c_in o out =
-    let u : World = (bare_step w (run tid call)).world in
+    let u : World = (served_step w (run tid call)).world in
     let d : Whose = thread_whose w tid in
-    let bs : List Basic = bare_steps (run tid call) w in
+    let bs : List Basic = served_steps (run tid call) w in
     let quiet : heard (alone c) u d (entries_of bs) ≡ [] = run-quiet m c u d w bs c_in (o.apart out) in
     let off : is_seen (alone c) d ≡ false = c_seen m c d c_in out in (
       run-apart m c u d w bs (o.apart out) ∙ sym (ap (absorb_all (view m w)) (quiet-inputs m c u d (entries_of bs) quiet)),
@@ -227,31 +227,31 @@ thread-same m w tid once is = ap owned (owner-view m w tid once) ∙ whose-same 
 
 -- what a turn leaves, and tells c
 pub record Turned (m : Group) (c : ℕ) (w : World) (tid : ℕ) (call : ScriptCall) (taken : List Basic) : Type 0 where
-  pub world : world_after (view m w) taken ≡ view m (bare_step w (run tid call)).world
-  pub told : heard (alone c) (bare_step w (run tid call)).world (thread_whose w tid) (entries_of taken) ≡ heard (alone c) (bare_step w (run tid call)).world (thread_whose w tid) (bare_step w (run tid call)).entries
+  pub world : world_after (view m w) taken ≡ view m (served_step w (run tid call)).world
+  pub told : heard (alone c) (served_step w (run tid call)).world (thread_whose w tid) (entries_of taken) ≡ heard (alone c) (served_step w (run tid call)).world (thread_whose w tid) (served_step w (run tid call)).entries
 
 pub turned : (led : Leads) (m : Group) (c : ℕ) (w : World) (tid : ℕ) (call : ScriptCall) (is : List Item) → Owes led m c w tid call → OnceUsed w → is_seen m (thread_whose w tid) ≡ true → Turned m c w tid call (turn led c (view m w) tid call (told_items (told_at m c w (run tid call)) ++ is))
-turned led m c w tid call is o once seen = subst (λ b. Turned m c w tid call (cond b (bare_steps (run tid call) (view m w)) (led_line led (view m w) tid call (next_entry (told_items (told_at m c w (run tid call)) ++ is))))) (sym mine) (at (is_seen (alone c) (thread_whose w tid)) refl)
+turned led m c w tid call is o once seen = subst (λ b. Turned m c w tid call (cond b (served_steps (run tid call) (view m w)) (led_line led (view m w) tid call (next_entry (told_items (told_at m c w (run tid call)) ++ is))))) (sym mine) (at (is_seen (alone c) (thread_whose w tid)) refl)
   where
     mine : is_seen (alone c) (thread_whose (view m w) tid) ≡ is_seen (alone c) (thread_whose w tid)
     mine = ap (is_seen (alone c)) (thread-same m w tid once seen)
 
-    at : (b : Bool) → is_seen (alone c) (thread_whose w tid) ≡ b → Turned m c w tid call (cond b (bare_steps (run tid call) (view m w)) (led_line led (view m w) tid call (next_entry (told_items (told_at m c w (run tid call)) ++ is))))
-    at true is_c = subst (Turned m c w tid call) (sym (o.same is_c)) (record { world = sym (run-ours m w (bare_steps (run tid call) w) (o.ours is_c)); told = refl })
+    at : (b : Bool) → is_seen (alone c) (thread_whose w tid) ≡ b → Turned m c w tid call (cond b (served_steps (run tid call) (view m w)) (led_line led (view m w) tid call (next_entry (told_items (told_at m c w (run tid call)) ++ is))))
+    at true is_c = subst (Turned m c w tid call) (sym (o.same is_c)) (record { world = sym (run-ours m w (served_steps (run tid call) w) (o.ours is_c)); told = refl })
     at false other =
         let l = o.leads seen other in
         subst (λ e. Turned m c w tid call (led_line led (view m w) tid call e)) (sym (o.first seen other is)) (record { world = sym l.world; told = sym l.told })
 
-pub run-visible : (led : Leads) (m : Group) (c : ℕ) (w : World) (tid : ℕ) (call : ScriptCall) (is : List Item) → m c ≡ true → Owes led m c w tid call → OnceUsed w → OnceUsed (bare_step w (run tid call)).world → is_seen m (thread_whose w tid) ≡ true
-    → (view m (bare_step w (run tid call)).world ≡ absorb_all (world_after (view m w) (turn led c (view m w) tid call (told_items (told_at m c w (run tid call)) ++ is))) (told_at m c w (run tid call)))
+pub run-visible : (led : Leads) (m : Group) (c : ℕ) (w : World) (tid : ℕ) (call : ScriptCall) (is : List Item) → m c ≡ true → Owes led m c w tid call → OnceUsed w → OnceUsed (served_step w (run tid call)).world → is_seen m (thread_whose w tid) ≡ true
+    → (view m (served_step w (run tid call)).world ≡ absorb_all (world_after (view m w) (turn led c (view m w) tid call (told_items (told_at m c w (run tid call)) ++ is))) (told_at m c w (run tid call)))
     × (items (alone c) (bare_line_events w (run tid call)) ≡ shown_run led c (view m w) tid call (told_items (told_at m c w (run tid call)) ++ is))
 run-visible led m c w tid call is c_in o once next seen =
-    let u : World = (bare_step w (run tid call)).world in
+    let u : World = (served_step w (run tid call)).world in
     let d : Whose = thread_whose w tid in
     let taken : List Basic = turn led c (view m w) tid call (told_items (told_at m c w (run tid call)) ++ is) in
     let t : Turned m c w tid call taken = turned led m c w tid call is o once seen in
     let same : thread_whose (view m w) tid ≡ d = thread-same m w tid once seen in (
-      sym (ap (λ v. absorb_all v (told_at m c w (run tid call))) t.world ∙ absorbed-done m u (is_told_input m c u d) (bare_step w (run tid call)).entries o.done),
+      sym (ap (λ v. absorb_all v (told_at m c w (run tid call))) t.world ∙ absorbed-done m u (is_told_input m c u d) (served_step w (run tid call)).entries o.done),
       ran-own c w tid call
           ∙ ap (λ is. cond (is_seen (alone c) d) (Ran (run tid call) ∷ []) [] ++ told_items is) (sym t.told ∙ sym (heard-view m c u d (entries_of taken) c_in next))
           ∙ ap (λ v. cond (is_seen (alone c) d) (Ran (run tid call) ∷ []) [] ++ told_items (heard (alone c) v d (entries_of taken))) (sym t.world)

@@ -1,6 +1,6 @@
 -- What the tests of c's own calls find: the same in the view as in the world.
 use Rattle.std.proofs.Common.{◌≡◌, ℕ, List, Bool, true, false, cond, not, length, Option, Some, None, refl, ap, sym, subst, ◌∙◌, arith}
-use Rattle.std.specs.Prelude.{◌&&◌, ◌||◌, ◌==◌, Result, Ok, Err, is_some, nat_lt, option_and_then, option_map}
+use Rattle.std.specs.Prelude.{◌&&◌, ◌||◌, ◌==◌, Result, Ok, Err, is_none, is_some, nat_lt, option_and_then, option_map}
 use Rattle.std.proofs.lemmas.Bool.{eqb-true}
 use Rattle.lpc_base.specs.Rows.{every, passes}
 use Rattle.lpc_base.proofs.RowMaps.{every-both, every-first}
@@ -88,9 +88,10 @@ the-seen m port (Some q) is = at (m q.process) (same_birth port q) refl refl
     at false true q_in its = let k : m port.process ≡ m q.process = of_birth m port q its in absurd (cc)
     at false false q_in its = sym its
 
--- a request of a member goes to a member, or to the other end of the port on which it was sent
+-- a request of a member goes to a member, or to the other end of the port on which it was sent, unless that is cut off
 abbrev pub is_way : Group → World → WaitRow → Bool
-is_way m w x = implies (is_request x && m x.process) (m x.queue.process || is_the x.queue (pair_of w x.port))
+is_way m w x =
+    implies (is_request x && m x.process) (m x.queue.process || (is_none (pair_of w x.port) || is_the x.queue (pair_of w x.port)))
 
 abbrev pub Ways : Group → World → Type 0
 Ways m w = every (is_way m w) w.waits ≡ true
@@ -132,14 +133,18 @@ fit-queue m w port a x way port_in x_in is = at (same_birth x.queue port) (m x.q
     at false true here is = refl
     at false false here is =
         let there : is_the port (pair_of w x.port) ≡ true = other-way (same_birth x.queue port) (is_the port (pair_of w x.port)) here last in
-        let to : is_the x.queue (pair_of w x.port) ≡ true = way-to (is_request x) (m x.process) (m x.queue.process) (is_the x.queue (pair_of w x.port)) request x_in is way in
+        let to : is_the x.queue (pair_of w x.port) ≡ true = way-to (is_request x) (m x.process) (m x.queue.process) (is_none (pair_of w x.port)) (is_the x.queue (pair_of w x.port)) request x_in is (the-some port (pair_of w x.port) there) way in
         sym is ∙ two-the m x.queue port (pair_of w x.port) to there ∙ port_in
       where
         other-way : (a b : Bool) → a ≡ false → (a || b) ≡ true → b ≡ true
         other-way a b off either = grind arith
 
-        way-to : (a b c d : Bool) → a ≡ true → b ≡ true → c ≡ false → implies (a && b) (c || d) ≡ true → d ≡ true
-        way-to a b c d one two off is = grind arith
+        way-to : (a b c n d : Bool) → a ≡ true → b ≡ true → c ≡ false → n ≡ false → implies (a && b) (c || (n || d)) ≡ true → d ≡ true
+        way-to a b c n d one two off some is = grind arith
+
+        the-some : (b : Birth) (o : Option Birth) → is_the b o ≡ true → is_none o ≡ false
+        the-some b None is = absurd (cc)
+        the-some b (Some q) is = refl
 
 off-and : (b : Bool) → false ≡ (b && false)
 off-and true = refl

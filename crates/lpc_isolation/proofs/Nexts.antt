@@ -18,25 +18,25 @@ use Rattle.lpc_model.specs.declared.entry.Word.TheVariants.{Boot, Dir, Link, Thr
 use Rattle.lpc_names.specs.Walk.{LinkTo, Stands}
 use Rattle.lpc_names.specs.declared.names.Found.TheVariants.{Directory}
 use Rattle.lpc_model.specs.Lines.{ScriptCall, ScriptLine, boot, dir, link, run, thread}
-use Rattle.lpc_model.specs.Machine.{boot_line, dir_line, directed, directive_birth, link_line, live_test, name_of_call, new_process, new_thread, service_of, settled, bare_step, thread_count_test, thread_line, thread_test, unused_thread_test}
+use Rattle.lpc_model.specs.Machine.{boot_line, dir_line, directed, directive_birth, link_line, live_test, name_of_call, new_process, new_thread, settled, thread_count_test, thread_line, thread_test, unused_thread_test}
+use Rattle.lpc_isolation.proofs.Served.{served, served_step}
 use Rattle.lpc_model.proofs.Holding.{Holds, bind_holds, holds_any, holds_ok, not_refused}
 use Rattle.lpc_model.specs.Circle.{Group, is_number}
 use Rattle.lpc_isolation.proofs.Alone.{HasFinePorts}
 use Rattle.lpc_isolation.proofs.Fair.{are_fair, run-fair}
-use Rattle.lpc_isolation.proofs.Names.{SeenNames}
 use Rattle.lpc_base.proofs.RowWords.{every-push}
 use Rattle.std.specs.Prelude.{nat_le}
 use Rattle.lpc_model.specs.Words.{is_id}
 use Rattle.lpc_model.specs.Grammar.{has_ids}
 use Rattle.lpc_isolation.proofs.View.{both, one_of, other_of}
-use Rattle.lpc_isolation.proofs.Asked.{are_asked, run-asked}
+use Rattle.lpc_isolation.proofs.Asked.{Asked}
 use Rattle.lpc_isolation.proofs.Ids.{of_number}
-use Rattle.lpc_isolation.proofs.Ways.{are_paths, run-paths}
+use Rattle.lpc_isolation.proofs.Paths.{are_paths, run-paths}
 use Rattle.lpc_isolation.proofs.Lines.{OnceUsed}
 use Rattle.lpc_isolation.proofs.Calls.{busy, called, headed, nobody}
 use Rattle.lpc_isolation.proofs.Serves.{is_call_of, orderly-used}
 use Rattle.lpc_isolation.proofs.Instances.{At, caller}
-use Rattle.lpc_isolation.proofs.Kept.{names-bound}
+use Rattle.lpc_isolation.proofs.Bound.{OnceBound, once-bound, seen-names}
 use Rattle.lpc_isolation.proofs.Bindings.{free-unbound}
 use Rattle.lpc_isolation.proofs.Directives.{boot-directs, dir-directs, link-directs, thread-directs}
 use Rattle.lpc_isolation.proofs.Stands.{Kept, State, Stood, ready-at}
@@ -107,46 +107,46 @@ thread-next m c w tid pid ids n (Ok bs) is = holds_ok (λ bs. Kept m c (world_af
 
 dir-next : (m : Group) (c : ℕ) (w : World) (text : List ℕ) → Kept m c w → Holds (λ bs. Kept m c (world_after w bs)) (dir_line w text)
 unfolding dir_line
-dir-next m c w text n = bind_holds (free_name w text) _ (λ bs. Kept m c (world_after w bs)) (λ path is. record { fair = run-fair m c w (Binds path (Stands Directory) ∷ []) refl n.fair; once = n.once; names = names-bound m w.bindings path (Stands Directory) n.names (free-unbound w text path is); paths = n.paths; numbered = n.numbered; asked = record { sorts = n.asked.sorts; own = n.asked.own; one = n.asked.one } })
+dir-next m c w text n = bind_holds (free_name w text) _ (λ bs. Kept m c (world_after w bs)) (λ path is. record { fair = run-fair m c w (Binds path (Stands Directory) ∷ []) refl n.fair; once = n.once; names = once-bound w.bindings path (Stands Directory) n.names (free-unbound w text path is); paths = n.paths; numbered = n.numbered; asked = record { sorts = n.asked.sorts; own = n.asked.own; one = n.asked.one } })
 
 link-next : (m : Group) (c : ℕ) (w : World) (text target : List ℕ) → Kept m c w → Holds (λ bs. Kept m c (world_after w bs)) (link_line w text target)
 unfolding link_line
-link-next m c w text target n = bind_holds (spelled_name target) _ (λ bs. Kept m c (world_after w bs)) (λ to _. bind_holds (free_name w text) _ (λ bs. Kept m c (world_after w bs)) (λ path is. record { fair = run-fair m c w (Binds path (LinkTo to) ∷ []) refl n.fair; once = n.once; names = names-bound m w.bindings path (LinkTo to) n.names (free-unbound w text path is); paths = n.paths; numbered = n.numbered; asked = record { sorts = n.asked.sorts; own = n.asked.own; one = n.asked.one } }))
+link-next m c w text target n = bind_holds (spelled_name target) _ (λ bs. Kept m c (world_after w bs)) (λ to _. bind_holds (free_name w text) _ (λ bs. Kept m c (world_after w bs)) (λ path is. record { fair = run-fair m c w (Binds path (LinkTo to) ∷ []) refl n.fair; once = n.once; names = once-bound w.bindings path (LinkTo to) n.names (free-unbound w text path is); paths = n.paths; numbered = n.numbered; asked = record { sorts = n.asked.sorts; own = n.asked.own; one = n.asked.one } }))
 
 directed-next : (m : Group) (c : ℕ) (w : World) (name : Word) (r : Result (List Basic) Status) → Kept m c w → Holds (λ bs. Kept m c (world_after w bs)) r → Kept m c (world_after w (directed name r))
 directed-next m c w name (Ok bs) n h = h
 directed-next m c w name (Err s) n h = n
 
-ok-next : (m : Group) (c : ℕ) (w : World) (by : ThreadRow) (known : List ℕ → Birth) (call : ScriptCall) (t : Result (List Basic) Status) → At m c w by known → Kept m c w → service_of w by call ≡ t → HasFinePorts m c (world_after w (settled by (name_of_call call) t)) → Kept m c (world_after w (settled by (name_of_call call) t))
+ok-next : (m : Group) (c : ℕ) (w : World) (by : ThreadRow) (known : List ℕ → Birth) (call : ScriptCall) (t : Result (List Basic) Status) → At m c w by known → Kept m c w → served w by call ≡ t → HasFinePorts m c (world_after w (settled by (name_of_call call) t)) → Kept m c (world_after w (settled by (name_of_call call) t))
 ok-next m c w by known call (Err s) a n is fine = n
 ok-next m c w by known call (Ok bs) a n is fine =
-    let head = headed by.number bs (holds_ok (λ bs. is_call_of by.number bs ≡ true) (service_of w by call) bs ((lawful call).orderly m c w w by (caller m c w by known w a refl)) is) in
+    let head = headed by.number bs (holds_ok (λ bs. is_call_of by.number bs ≡ true) (served w by call) bs ((lawful call).orderly m c w w by (caller m c w by known w a refl)) is) in
     record {
-      fair = run-fair m c w bs (holds_ok (λ bs. HasFinePorts m c (world_after w bs) → are_fair m c w bs ≡ true) (service_of w by call) bs ((lawful call).fair m c w by known a) is fine) n.fair;
+      fair = run-fair m c w bs (holds_ok (λ bs. HasFinePorts m c (world_after w bs) → are_fair m c w bs ≡ true) (served w by call) bs ((lawful call).fair m c w by known a) is fine) n.fair;
       once = same-used w (world_after w bs) (orderly-used w bs head.orderly) n.once;
-      names = holds_ok (λ bs. SeenNames m (world_after w bs).bindings) (service_of w by call) bs ((lawful call).names m c w w by (caller m c w by known w a refl)) is;
-      paths = run-paths m w bs (holds_ok (λ bs. are_paths m w bs ≡ true) (service_of w by call) bs ((lawful call).paths m c w by n.paths (caller m c w by known w a refl)) is) n.paths;
+      names = holds_ok (λ bs. OnceBound (world_after w bs).bindings) (served w by call) bs ((lawful call).names m c w w by (caller m c w by known w a refl)) is;
+      paths = run-paths w bs (holds_ok (λ bs. are_paths w bs ≡ true) (served w by call) bs ((lawful call).paths m c w by n.paths (caller m c w by known w a refl)) is) n.paths;
       numbered = subst (λ us. every of_number us ≡ true) (sym (orderly-used w bs head.orderly)) n.numbered;
-      asked = run-asked w bs (holds_ok (λ bs. are_asked w bs ≡ true) (service_of w by call) bs ((lawful call).asked m c w by n.asked (caller m c w by known w a refl)) is) n.asked;
+      asked = holds_ok (λ bs. Asked (world_after w bs)) (served w by call) bs ((lawful call).asked m c w by n.asked (caller m c w by known w a refl)) is;
     }
 
-run-next : (m : Group) (c : ℕ) (w : World) (s : State) (tid : ℕ) (call : ScriptCall) → m c ≡ true → Stood m c w s → HasFinePorts m c w → HasFinePorts m c (bare_step w (run tid call)).world → Kept m c (bare_step w (run tid call)).world
+run-next : (m : Group) (c : ℕ) (w : World) (s : State) (tid : ℕ) (call : ScriptCall) → m c ≡ true → Stood m c w s → HasFinePorts m c w → HasFinePorts m c (served_step w (run tid call)).world → Kept m c (served_step w (run tid call)).world
 run-next m c w s tid call c_in st fine next = at (live_thread w tid) refl
   where
-    ready : (by : ThreadRow) → live_thread w tid ≡ Some by → (o : Option WaitRow) → wait_of w tid ≡ o → Kept m c (bare_step w (run tid call)).world
+    ready : (by : ThreadRow) → live_thread w tid ≡ Some by → (o : Option WaitRow) → wait_of w tid ≡ o → Kept m c (served_step w (run tid call)).world
     ready by live (Some x) waits = subst (λ bs. Kept m c (world_after w bs)) (sym (busy w tid call by x live waits)) st.kept
     ready by live None idle =
         let is = called w tid call by live idle in
         subst (λ bs. Kept m c (world_after w bs)) (sym is)
-        (ok-next m c w by (known_queue s.memo) call (service_of w by call) (ready-at m c w s tid by c_in st fine live idle) st.kept refl (subst (λ bs. HasFinePorts m c (world_after w bs)) is next))
+        (ok-next m c w by (known_queue s.memo) call (served w by call) (ready-at m c w s tid by c_in st fine live idle) st.kept refl (subst (λ bs. HasFinePorts m c (world_after w bs)) is next))
 
-    at : (o : Option ThreadRow) → live_thread w tid ≡ o → Kept m c (bare_step w (run tid call)).world
+    at : (o : Option ThreadRow) → live_thread w tid ≡ o → Kept m c (served_step w (run tid call)).world
     at None none = subst (λ bs. Kept m c (world_after w bs)) (sym (nobody w tid call none)) st.kept
     at (Some by) live = ready by live (wait_of w tid) refl
 
-pub line-next : (m : Group) (c : ℕ) (w : World) (s : State) (line : ScriptLine) → has_ids line ≡ true → m c ≡ true → Stood m c w s → HasFinePorts m c w → HasFinePorts m c (bare_step w line).world → Kept m c (bare_step w line).world
+pub line-next : (m : Group) (c : ℕ) (w : World) (s : State) (line : ScriptLine) → has_ids line ≡ true → m c ≡ true → Stood m c w s → HasFinePorts m c w → HasFinePorts m c (served_step w line).world → Kept m c (served_step w line).world
 line-next m c w s (run tid call) ids c_in st fine next = run-next m c w s tid call c_in st fine next
 line-next m c w s (boot pid tid) ids c_in st fine next = subst (λ bs. Kept m c (world_after w bs)) (sym (boot-directs m w pid tid).is) (boot-next m c w pid tid ids st.kept (boot_line w pid tid) refl)
 line-next m c w s (thread tid pid) ids c_in st fine next = subst (λ bs. Kept m c (world_after w bs)) (sym (thread-directs m w tid pid).is) (thread-next m c w tid pid ids st.kept (thread_line w tid pid) refl)
-line-next m c w s (dir path) ids c_in st fine next = subst (λ bs. Kept m c (world_after w bs)) (sym (dir-directs m w path st.kept.names).is) (directed-next m c w Dir (dir_line w path) st.kept (dir-next m c w path st.kept))
-line-next m c w s (link path target) ids c_in st fine next = subst (λ bs. Kept m c (world_after w bs)) (sym (link-directs m w path target st.kept.names).is) (directed-next m c w Link (link_line w path target) st.kept (link-next m c w path target st.kept))
+line-next m c w s (dir path) ids c_in st fine next = subst (λ bs. Kept m c (world_after w bs)) (sym (dir-directs m w path (seen-names m w.bindings st.kept.names)).is) (directed-next m c w Dir (dir_line w path) st.kept (dir-next m c w path st.kept))
+line-next m c w s (link path target) ids c_in st fine next = subst (λ bs. Kept m c (world_after w bs)) (sym (link-directs m w path target (seen-names m w.bindings st.kept.names)).is) (directed-next m c w Link (link_line w path target) st.kept (link-next m c w path target st.kept))

@@ -14,7 +14,7 @@ use Rattle.lpc_model.specs.Entering.{enter, given_steps, row_of, shown, take_con
 use Rattle.lpc_model.specs.Connect.{client_port, connect_start, connection_request, listen_steps}
 use Rattle.lpc_model.specs.Request.{answered_test, datagram_start, request_start, nt_reply_port, receive_steps, reply, sent_by}
 use Rattle.lpc_model.specs.Lines.{accept_connect_port, complete_connect_port, connect_port, create_port, listen_port, reply_port, reply_wait_receive_port, request_port, request_wait_reply_port}
-use Rattle.lpc_model.specs.Machine.{service_of}
+use Rattle.lpc_isolation.proofs.Served.{served}
 use Rattle.lpc_model.specs.Message.{message_test}
 use Rattle.lpc_model.specs.Tests.{port_test}
 use Rattle.lpc_model.proofs.Holding.{Holds, bind_holds}
@@ -92,32 +92,32 @@ reply-orderly w by handle bytes =
     bind_holds (port_test w by handle) _ P (λ p _. bind_holds (message_test bytes) _ P (λ a _. bind_holds (answered_test w p a) _ P (λ x _. rw (same-number by.number) refl)))
 
 -- of each call
-pub orderly-create : (m : Group) (c : ℕ) (u w : World) (by : ThreadRow) (name : Option (List ℕ)) → Caller m c u w by → Holds (λ bs. is_call_of by.number bs ≡ true) (service_of w by (create_port name))
+pub orderly-create : (m : Group) (c : ℕ) (u w : World) (by : ThreadRow) (name : Option (List ℕ)) → Caller m c u w by → Holds (λ bs. is_call_of by.number bs ≡ true) (served w by (create_port name))
 orderly-create m c u w by name k = made-holds (λ bs. is_call_of by.number bs ≡ true) w by name (λ value. rw (same-number by.number) refl) (λ path value. rw (same-number by.number) refl)
 
-pub orderly-connect : (m : Group) (c : ℕ) (u w : World) (by : ThreadRow) (name bytes : List ℕ) → Caller m c u w by → Holds (λ bs. is_call_of by.number bs ≡ true) (service_of w by (connect_port name bytes))
+pub orderly-connect : (m : Group) (c : ℕ) (u w : World) (by : ThreadRow) (name bytes : List ℕ) → Caller m c u w by → Holds (λ bs. is_call_of by.number bs ≡ true) (served w by (connect_port name bytes))
 orderly-connect m c u w by name bytes k = on-connect (λ bs. is_call_of by.number bs ≡ true) w by name bytes (λ q at. rw (same-number by.number) (enter-orderly (world_after w (connect_start by q (connection_request by bytes))) (row_of q (client_port by q) (connection_request by bytes))))
 
-pub orderly-listen : (m : Group) (c : ℕ) (u w : World) (by : ThreadRow) (handle : ℕ) → Caller m c u w by → Holds (λ bs. is_call_of by.number bs ≡ true) (service_of w by (listen_port handle))
+pub orderly-listen : (m : Group) (c : ℕ) (u w : World) (by : ThreadRow) (handle : ℕ) → Caller m c u w by → Holds (λ bs. is_call_of by.number bs ≡ true) (served w by (listen_port handle))
 orderly-listen m c u w by handle k = on-port (λ bs. is_call_of by.number bs ≡ true) m c u w by handle k (λ p at n. listen-orderly by p.birth (first (is_queued_connect p.birth) w.messages))
 
-pub orderly-accept : (m : Group) (c : ℕ) (u w : World) (by : ThreadRow) (context : ℕ) (message : List ℕ) (accept : Bool) → Caller m c u w by → Holds (λ bs. is_call_of by.number bs ≡ true) (service_of w by (accept_connect_port context message accept))
+pub orderly-accept : (m : Group) (c : ℕ) (u w : World) (by : ThreadRow) (context : ℕ) (message : List ℕ) (accept : Bool) → Caller m c u w by → Holds (λ bs. is_call_of by.number bs ≡ true) (served w by (accept_connect_port context message accept))
 orderly-accept m c u w by context bytes accept k = on-answer (λ bs. is_call_of by.number bs ≡ true) m c u w by context bytes accept k (λ a is. rw (same-number by.number) refl)
     (λ a is. rw (same-number by.number) refl)
 
-pub orderly-complete : (m : Group) (c : ℕ) (u w : World) (by : ThreadRow) (handle : ℕ) → Caller m c u w by → Holds (λ bs. is_call_of by.number bs ≡ true) (service_of w by (complete_connect_port handle))
+pub orderly-complete : (m : Group) (c : ℕ) (u w : World) (by : ThreadRow) (handle : ℕ) → Caller m c u w by → Holds (λ bs. is_call_of by.number bs ≡ true) (served w by (complete_connect_port handle))
 orderly-complete m c u w by handle k = on-complete (λ bs. is_call_of by.number bs ≡ true) m c u w by handle k (λ r is. rw (same-number by.number) refl)
 
-pub orderly-datagram : (m : Group) (c : ℕ) (u w : World) (by : ThreadRow) (handle : ℕ) (message : List ℕ) → Caller m c u w by → Holds (λ bs. is_call_of by.number bs ≡ true) (service_of w by (request_port handle message))
+pub orderly-datagram : (m : Group) (c : ℕ) (u w : World) (by : ThreadRow) (handle : ℕ) (message : List ℕ) → Caller m c u w by → Holds (λ bs. is_call_of by.number bs ≡ true) (served w by (request_port handle message))
 orderly-datagram m c u w by handle bytes k = sent-datagram (λ bs. is_call_of by.number bs ≡ true) m c u w by handle bytes k (λ s is. rw (same-number by.number) (enter-orderly (world_after w (datagram_start by)) (row_of s.queue s.port (sent_by by DATAGRAM s.message))))
 
-pub orderly-request : (m : Group) (c : ℕ) (u w : World) (by : ThreadRow) (handle : ℕ) (message : List ℕ) → Caller m c u w by → Holds (λ bs. is_call_of by.number bs ≡ true) (service_of w by (request_wait_reply_port handle message))
+pub orderly-request : (m : Group) (c : ℕ) (u w : World) (by : ThreadRow) (handle : ℕ) (message : List ℕ) → Caller m c u w by → Holds (λ bs. is_call_of by.number bs ≡ true) (served w by (request_wait_reply_port handle message))
 orderly-request m c u w by handle bytes k = sent-request (λ bs. is_call_of by.number bs ≡ true) m c u w by handle bytes k (λ s is. rw (same-number by.number) (enter-orderly (world_after w (request_start by s.port.birth s.queue (sent_by by REQUEST s.message))) (row_of s.queue s.port (sent_by by REQUEST s.message))))
 
-pub orderly-reply : (m : Group) (c : ℕ) (u w : World) (by : ThreadRow) (handle : ℕ) (message : List ℕ) → Caller m c u w by → Holds (λ bs. is_call_of by.number bs ≡ true) (service_of w by (reply_port handle message))
+pub orderly-reply : (m : Group) (c : ℕ) (u w : World) (by : ThreadRow) (handle : ℕ) (message : List ℕ) → Caller m c u w by → Holds (λ bs. is_call_of by.number bs ≡ true) (served w by (reply_port handle message))
 orderly-reply m c u w by handle bytes k = reply-orderly w by handle bytes
 
-pub orderly-receive : (m : Group) (c : ℕ) (u w : World) (by : ThreadRow) (handle : ℕ) (message : Option (List ℕ)) → Caller m c u w by → Holds (λ bs. is_call_of by.number bs ≡ true) (service_of w by (reply_wait_receive_port handle message))
+pub orderly-receive : (m : Group) (c : ℕ) (u w : World) (by : ThreadRow) (handle : ℕ) (message : Option (List ℕ)) → Caller m c u w by → Holds (λ bs. is_call_of by.number bs ≡ true) (served w by (reply_wait_receive_port handle message))
 orderly-receive m c u w by handle bytes k = on-receive (λ bs. is_call_of by.number bs ≡ true) m c u w by handle bytes k (λ a p q replied is r.
     replied-as (λ rs. is_call_of by.number (receive_steps by p q rs (first (is_queued q) w.messages)) ≡ true) w p a replied r.replies
     (λ none. received-orderly by p q (first (is_queued q) w.messages))

@@ -7,7 +7,7 @@ use Rattle.lpc_base.specs.Rows.{which}
 use Rattle.lpc_model.specs.declared.entry.Entry.{Entry}
 use Rattle.lpc_model.specs.World.{World, no_rows}
 use Rattle.lpc_model.specs.Lines.{ScriptLine}
-use Rattle.lpc_model.specs.Machine.{bare_step}
+use Rattle.lpc_isolation.proofs.Served.{served_step}
 use Rattle.lpc_model.specs.Run.{said_in}
 use Rattle.lpc_model.specs.Circle.{Event, Everyone, Group, Item, Nobody, Of, Ran, Told, Whose, entry_whose, inputs, is_fine_line, is_input, is_item, is_seen, is_told_to, item_of, items, line_whose, members, told_event}
 use Rattle.lpc_isolation.proofs.Alone.{HasFinePorts, alone}
@@ -45,17 +45,17 @@ told_inputs m c u d es = which (is_told_input m c u d) es
 
 -- what of a line's entries is told in the inputs
 abbrev pub told_at : Group → ℕ → World → ScriptLine → List Entry
-told_at m c w line = told_inputs m c (bare_step w line).world (line_whose w line) (bare_step w line).entries
+told_at m c w line = told_inputs m c (served_step w line).world (line_whose w line) (served_step w line).entries
 
 -- a line that the group doesn't see, and one that it sees, where a state stands for a world
 pub record Hidden {S : Type 0} (p : Player S) (Stands : World → S → Type 0) (m : Group) (c : ℕ) (w : World) (v : S) (line : ScriptLine) : Type 0 where
   pub unseen : is_seen m (line_whose w line) ≡ false
-  pub stands : Stands (bare_step w line).world (absorbed p v (told_at m c w line))
+  pub stands : Stands (served_step w line).world (absorbed p v (told_at m c w line))
   pub silent : items (alone c) (bare_line_events w line) ≡ []
 
 pub record Visible {S : Type 0} (p : Player S) (Stands : World → S → Type 0) (m : Group) (c : ℕ) (w : World) (v : S) (line : ScriptLine) : Type 0 where
   pub seen : is_seen m (line_whose w line) ≡ true
-  pub stands : (is : List Item) → Stands (bare_step w line).world (absorbed p (p.after v line (told_items (told_at m c w line) ++ is)) (told_at m c w line))
+  pub stands : (is : List Item) → Stands (served_step w line).world (absorbed p (p.after v line (told_items (told_at m c w line) ++ is)) (told_at m c w line))
   pub shown : (is : List Item) → items (alone c) (bare_line_events w line) ≡ p.shown_at v line (told_items (told_at m c w line) ++ is)
 
 pub data Played {S : Type 0} (p : Player S) (Stands : World → S → Type 0) (m : Group) (c : ℕ) (w : World) (v : S) (line : ScriptLine) : Type 0 where
@@ -88,14 +88,14 @@ ran-input m c Everyone line = refl
 ran-input m c Nobody line = refl
 
 -- the inputs of a line
-line-inputs : (m : Group) (c : ℕ) (w : World) (line : ScriptLine) → inputs m c (bare_line_events w line) ≡ cond (is_seen m (line_whose w line)) (Ran line ∷ told_items (told_inputs m c (bare_step w line).world (line_whose w line) (bare_step w line).entries)) (told_items (told_inputs m c (bare_step w line).world (line_whose w line) (bare_step w line).entries))
-line-inputs m c w line = subst (λ b. map item_of (cond b (record { whose = line_whose w line; item = Ran line } ∷ which (is_input m c) es) (which (is_input m c) es)) ≡ cond (is_seen m (line_whose w line)) (Ran line ∷ told) told) (sym (ran-input m c (line_whose w line) line)) (at (is_seen m (line_whose w line)) (told-inputs m c (bare_step w line).world (line_whose w line) (bare_step w line).entries))
+line-inputs : (m : Group) (c : ℕ) (w : World) (line : ScriptLine) → inputs m c (bare_line_events w line) ≡ cond (is_seen m (line_whose w line)) (Ran line ∷ told_items (told_inputs m c (served_step w line).world (line_whose w line) (served_step w line).entries)) (told_items (told_inputs m c (served_step w line).world (line_whose w line) (served_step w line).entries))
+line-inputs m c w line = subst (λ b. map item_of (cond b (record { whose = line_whose w line; item = Ran line } ∷ which (is_input m c) es) (which (is_input m c) es)) ≡ cond (is_seen m (line_whose w line)) (Ran line ∷ told) told) (sym (ran-input m c (line_whose w line) line)) (at (is_seen m (line_whose w line)) (told-inputs m c (served_step w line).world (line_whose w line) (served_step w line).entries))
   where
     es : List Event
-    es = map (told_event (bare_step w line).world (line_whose w line)) (bare_step w line).entries
+    es = map (told_event (served_step w line).world (line_whose w line)) (served_step w line).entries
 
     told : List Item
-    told = told_items (told_inputs m c (bare_step w line).world (line_whose w line) (bare_step w line).entries)
+    told = told_items (told_inputs m c (served_step w line).world (line_whose w line) (served_step w line).entries)
 
     at : (b : Bool) → map item_of (which (is_input m c) es) ≡ told → map item_of (cond b (record { whose = line_whose w line; item = Ran line } ∷ which (is_input m c) es) (which (is_input m c) es)) ≡ cond b (Ran line ∷ told) told
     at true rest = ap (λ is. Ran line ∷ is) rest
@@ -103,7 +103,7 @@ line-inputs m c w line = subst (λ b. map item_of (cond b (record { whose = line
 
 -- what each line of a circle's run owes
 abbrev pub Keeps : {S : Type 0} → Player S → (World → S → Type 0) → (ScriptLine → Bool) → Group → ℕ → Type 0
-Keeps {S} p Stands ok m c = (w : World) (v : S) (line : ScriptLine) → Stands w v → HasFinePorts m c w → HasFinePorts m c (bare_step w line).world → is_fine_line m c w line ≡ true → ok line ≡ true → Played p Stands m c w v line
+Keeps {S} p Stands ok m c = (w : World) (v : S) (line : ScriptLine) → Stands w v → HasFinePorts m c w → HasFinePorts m c (served_step w line).world → is_fine_line m c w line ≡ true → ok line ≡ true → Played p Stands m c w v line
 
 -- every line that says something is as it must be
 abbrev pub are_ok : (ScriptLine → Bool) → List (Option ScriptLine) → Bool
@@ -117,7 +117,7 @@ head-fine m c w (None ∷ later) is = head-fine m c w later is
 head-fine m c w (Some line ∷ later) is = is.0
 
 -- one line, and then the rest
-played-line : {S : Type 0} (p : Player S) (Stands : World → S → Type 0) (m : Group) (c : ℕ) (w : World) (v : S) (line : ScriptLine) (own rest : List Item) → Played p Stands m c w v line → ((v : S) → Stands (bare_step w line).world v → own ≡ play p v rest)
+played-line : {S : Type 0} (p : Player S) (Stands : World → S → Type 0) (m : Group) (c : ℕ) (w : World) (v : S) (line : ScriptLine) (own rest : List Item) → Played p Stands m c w v line → ((v : S) → Stands (served_step w line).world v → own ≡ play p v rest)
     → items (alone c) (bare_line_events w line) ++ own ≡ play p v (inputs m c (bare_line_events w line) ++ rest)
 played-line p Stands m c w v line own rest (hidden h) later =
     let told = told_at m c w line in
@@ -135,11 +135,11 @@ pub plays : {S : Type 0} (p : Player S) (Stands : World → S → Type 0) (ok : 
 plays p Stands ok m c k w v [] is circle fit = refl
 plays p Stands ok m c k w v (None ∷ later) is circle fit = plays p Stands ok m c k w v later is circle fit
 plays p Stands ok m c k w v (Some line ∷ later) is circle fit =
-    let next : HasFinePorts m c (bare_step w line).world = head-fine m c (bare_step w line).world later circle.2 in
-    items-append (alone c) (bare_line_events w line) (bare_events (bare_step w line).world later)
-    ∙ played-line p Stands m c w v line (items (alone c) (bare_events (bare_step w line).world later)) (inputs m c (bare_events (bare_step w line).world later)) (k w v line is circle.0 next circle.1 (one_of _ _ fit))
-    (λ v is. plays p Stands ok m c k (bare_step w line).world v later is circle.2 (other_of _ _ fit))
-    ∙ ap (play p v) (sym (inputs-append m c (bare_line_events w line) (bare_events (bare_step w line).world later)))
+    let next : HasFinePorts m c (served_step w line).world = head-fine m c (served_step w line).world later circle.2 in
+    items-append (alone c) (bare_line_events w line) (bare_events (served_step w line).world later)
+    ∙ played-line p Stands m c w v line (items (alone c) (bare_events (served_step w line).world later)) (inputs m c (bare_events (served_step w line).world later)) (k w v line is circle.0 next circle.1 (one_of _ _ fit))
+    (λ v is. plays p Stands ok m c k (served_step w line).world v later is circle.2 (other_of _ _ fit))
+    ∙ ap (play p v) (sym (inputs-append m c (bare_line_events w line) (bare_events (served_step w line).world later)))
 
 -- the law on two scripts
 pub isolation : {S : Type 0} (p : Group → ℕ → Player S) (Stands : Group → ℕ → World → S → Type 0) (start : S) (ok : ScriptLine → Bool) → ((script : List ℕ) → are_ok ok (said_in script) ≡ true) → ((m : Group) (c : ℕ) → m c ≡ true → Keeps (p m c) (Stands m c) ok m c) → ((m : Group) (c : ℕ) → Stands m c no_rows start) → BareIsolation

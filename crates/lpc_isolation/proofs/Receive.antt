@@ -29,7 +29,7 @@ use Rattle.lpc_isolation.proofs.Alone.{alone}
 use Rattle.lpc_isolation.proofs.Filters.{first-kept}
 use Rattle.lpc_isolation.proofs.View.{both, one_of, other_of, our_message, same-number, seen_port, view}
 use Rattle.lpc_isolation.proofs.Basics.{are_ours, basic-ours, run-ours}
-use Rattle.lpc_isolation.proofs.Fair.{Fair, all_of, are_fair, is_fair_message, is_home, is_sent}
+use Rattle.lpc_isolation.proofs.Fair.{Fair, all_of, are_fair, implies, is_fair_message, is_home, is_sent}
 use Rattle.lpc_isolation.proofs.Seen.{bind-same, c-port, open-view, port_test-view}
 use Rattle.lpc_isolation.proofs.Apart.{Owned, are_apart, heard, is_heard, is_owned}
 use Rattle.std.proofs.lemmas.List.{append_assoc}
@@ -44,7 +44,7 @@ use Rattle.lpc_isolation.proofs.Listens.{own-wait-fair, own_entry}
 use Rattle.lpc_isolation.proofs.Routes.{Right}
 
 -- The queue of a port is of the port's process, and is seen
-home-queue : (p : PortRow) (o : Option Birth) → is_home p ≡ true → is_server_port p ≡ true → p.connection ≡ o → all_of o (λ q. q.process == p.birth.process) ≡ true
+home-queue : (p : PortRow) (o : Option Birth) → implies (is_server_port p) (all_of p.connection (λ q. q.process == p.birth.process)) ≡ true → is_server_port p ≡ true → p.connection ≡ o → all_of o (λ q. q.process == p.birth.process) ≡ true
 home-queue p None home kind at = refl
 home-queue p (Some q) home kind at = rw (kind, at) at home
 
@@ -60,7 +60,7 @@ queue-kind : (m : Group) (c : ℕ) (w : World) (p : PortRow) (q : Birth) (k : Po
 queue-kind m c w p q Unnamed k r at = open-at w (Some p.birth) q p.birth.process (same-number p.birth.process) (rw k at at)
 queue-kind m c w p q Connection k r at = open-at w (Some p.birth) q p.birth.process (same-number p.birth.process) (rw k at at)
 queue-kind m c w p q Client k r at = open-at w (Some p.birth) q p.birth.process (same-number p.birth.process) (rw k at at)
-queue-kind m c w p q Server k r at = open-at w p.connection q p.birth.process (home-queue p p.connection (one_of _ _ r.fair) (rw k refl) refl) (rw k at at)
+queue-kind m c w p q Server k r at = open-at w p.connection q p.birth.process (home-queue p p.connection (one_of _ _ (one_of (is_home p) _ r.fair)) (rw k refl) refl) (rw k at at)
 
 pub queue-own : (m : Group) (c : ℕ) (w : World) (p : PortRow) (q : Birth) → Right m c w p → queue_of w p ≡ Some q → q.process ≡ p.birth.process
 queue-own m c w p q r at = queue-kind m c w p q p.kind refl r at
@@ -73,7 +73,7 @@ queue-view-kind : (m : Group) (c : ℕ) (w : World) (p : PortRow) (k : PortKind)
 queue-view-kind m c w p Unnamed k f r is = rw k (member-open m c w p.birth.process (Some p.birth) f is (same-number p.birth.process))
 queue-view-kind m c w p Connection k f r is = rw k (member-open m c w p.birth.process (Some p.birth) f is (same-number p.birth.process))
 queue-view-kind m c w p Client k f r is = rw k (member-open m c w p.birth.process (Some p.birth) f is (same-number p.birth.process))
-queue-view-kind m c w p Server k f r is = rw k (member-open m c w p.birth.process p.connection f is (home-queue p p.connection (one_of _ _ r.fair) (rw k refl) refl))
+queue-view-kind m c w p Server k f r is = rw k (member-open m c w p.birth.process p.connection f is (home-queue p p.connection (one_of _ _ (one_of (is_home p) _ r.fair)) (rw k refl) refl))
 
 pub queue-view : (m : Group) (c : ℕ) (w : World) (p : PortRow) → Fair m c w → Right m c w p → m p.birth.process ≡ true → queue_of (view m w) (seen_port m p) ≡ queue_of w p
 queue-view m c w p f r is = queue-view-kind m c w p p.kind refl f r is
@@ -169,7 +169,7 @@ abbrev pub led_receive : Group → World → ThreadRow → ℕ → Option (List 
 led_receive m v by handle bytes e = on_ok (port_test v by handle) (λ p. given (queue_of v p) (λ q. led_replied v bytes ++ led_received m v by p.birth q e))
 
 -- steps in turn
-entries-append : (bs cs : List Basic) → entries_of (bs ++ cs) ≡ entries_of bs ++ entries_of cs
+pub entries-append : (bs cs : List Basic) → entries_of (bs ++ cs) ≡ entries_of bs ++ entries_of cs
 entries-append [] cs = refl
 entries-append (b ∷ bs) cs = ap (λ es. told b ++ es) (entries-append bs cs) ∙ sym (append_assoc (told b) (entries_of bs) (entries_of cs))
 

@@ -24,7 +24,7 @@ use Rattle.lpc_model.specs.Connect.{ConnectAnswer, is_accepted_on, names_connect
 use Rattle.lpc_model.specs.Request.{answered_test, is_spent, datagram_send_test, datagram_test, given_reply, nt_reply_port, nt_reply_wait_receive_port, nt_request_port, nt_request_wait_reply_port, optional_message, receive_test, send_test}
 use Rattle.lpc_model.specs.Tests.{PORT_RIGHT, client_test, handle_load, includes, is_client, next_birth, handles_test, object_test, own_handle, port_test}
 use Rattle.lpc_model.specs.Lines.{accept_connect_port, complete_connect_port, connect_port, create_port, listen_port, reply_port, reply_wait_receive_port, request_port, request_wait_reply_port}
-use Rattle.lpc_model.specs.Machine.{service_of}
+use Rattle.lpc_isolation.proofs.Served.{served}
 
 abbrev pub Refuses : {A : Type 0} → Result A Status → Type 0
 Refuses (Ok x) = Unit {0}
@@ -38,7 +38,7 @@ pub if_refuses : (b : Bool) (s : Status) → (s.0 == SUCCESS.0) ≡ false → Re
 if_refuses true s off = off
 if_refuses false s off = tt
 
-found : {A : Type 0} (o : Option A) (s : Status) → (s.0 == SUCCESS.0) ≡ false → Refuses (found_or o s)
+pub found : {A : Type 0} (o : Option A) (s : Status) → (s.0 == SUCCESS.0) ≡ false → Refuses (found_or o s)
 found None s off = off
 found (Some x) s off = tt
 
@@ -70,7 +70,7 @@ object w by value =
 port : (w : World) (by : ThreadRow) (value : ℕ) → Refuses (port_test w by value)
 port w by value = bind (object_test w by kind.Port PORT_RIGHT value) _ (object w by value) (λ b. found (port_row w b) INVALID_HANDLE refl)
 
-handles : (w : World) (pid more : ℕ) → Refuses (handles_test w pid more)
+pub handles : (w : World) (pid more : ℕ) → Refuses (handles_test w pid more)
 handles w pid more = if_refuses (nat_lt HANDLE_LIMIT (handle_load w pid + more)) QUOTA_EXCEEDED refl
 
 client : (w : World) (c : ClientId) → Refuses (client_test w c)
@@ -118,38 +118,38 @@ given w p None = tt
 given w p (Some a) = bind (answered_test w p a) _ (answered w p a) (λ x. tt)
 
 -- the services
-pub refuses-create : (w : World) (by : ThreadRow) (name : Option (List ℕ)) → Refuses (service_of w by (create_port name))
+pub refuses-create : (w : World) (by : ThreadRow) (name : Option (List ℕ)) → Refuses (served w by (create_port name))
 unfolding nt_create_port
 refuses-create w by name = bind (making w (next_birth by) name) _ (made w (next_birth by) name) (λ m. bind (handles_test w by.process 1) _ (handles w by.process 1) (λ _. tt))
 
-pub refuses-connect : (w : World) (by : ThreadRow) (name bytes : List ℕ) → Refuses (service_of w by (connect_port name bytes))
+pub refuses-connect : (w : World) (by : ThreadRow) (name bytes : List ℕ) → Refuses (served w by (connect_port name bytes))
 unfolding nt_connect_port
 refuses-connect w by name info = bind (info_test info) _ (if_refuses (nat_lt MESSAGE_LIMIT (HEADER_SIZE + length info)) PORT_MESSAGE_TOO_LONG refl) (λ _. bind (named_port w name) _ (to-port w name) (λ q. bind (handles_test w by.process 1) _ (handles w by.process 1) (λ _. tt)))
 
-pub refuses-listen : (w : World) (by : ThreadRow) (handle : ℕ) → Refuses (service_of w by (listen_port handle))
+pub refuses-listen : (w : World) (by : ThreadRow) (handle : ℕ) → Refuses (served w by (listen_port handle))
 unfolding nt_listen_port
 refuses-listen w by handle = bind (port_test w by handle) _ (port w by handle) (λ p. bind (refuse_if (not (is_connection_port p)) INVALID_PORT_HANDLE) _ (if_refuses (not (is_connection_port p)) INVALID_PORT_HANDLE refl) (λ _. tt))
 
-pub refuses-accept : (w : World) (by : ThreadRow) (context : ℕ) (message : List ℕ) (accept : Bool) → Refuses (service_of w by (accept_connect_port context message accept))
+pub refuses-accept : (w : World) (by : ThreadRow) (context : ℕ) (message : List ℕ) (accept : Bool) → Refuses (served w by (accept_connect_port context message accept))
 unfolding nt_accept_connect_port
 refuses-accept w by context bytes accept = bind (answer_test w by bytes) _ (answer w by bytes) (answered-as w by context accept)
 
-pub refuses-complete : (w : World) (by : ThreadRow) (handle : ℕ) → Refuses (service_of w by (complete_connect_port handle))
+pub refuses-complete : (w : World) (by : ThreadRow) (handle : ℕ) → Refuses (served w by (complete_connect_port handle))
 unfolding nt_complete_connect_port
 refuses-complete w by handle = bind (complete_test w by handle) _ (bind (port_test w by handle) _ (port w by handle) (completion w)) (λ c. tt)
 
-pub refuses-datagram : (w : World) (by : ThreadRow) (handle : ℕ) (message : List ℕ) → Refuses (service_of w by (request_port handle message))
+pub refuses-datagram : (w : World) (by : ThreadRow) (handle : ℕ) (message : List ℕ) → Refuses (served w by (request_port handle message))
 unfolding nt_request_port
 refuses-datagram w by handle bytes = bind (datagram_send_test w by handle bytes) _ (bind (send_test w by handle bytes) _ (send w by handle bytes) (λ s. bind (datagram_test w s.port) _ (if_refuses (nat_le DATAGRAM_LIMIT (datagrams w s.port.birth)) QUOTA_EXCEEDED refl) (λ _. tt))) (λ s. tt)
 
-pub refuses-request : (w : World) (by : ThreadRow) (handle : ℕ) (message : List ℕ) → Refuses (service_of w by (request_wait_reply_port handle message))
+pub refuses-request : (w : World) (by : ThreadRow) (handle : ℕ) (message : List ℕ) → Refuses (served w by (request_wait_reply_port handle message))
 unfolding nt_request_wait_reply_port
 refuses-request w by handle bytes = bind (send_test w by handle bytes) _ (send w by handle bytes) (λ s. tt)
 
-pub refuses-reply : (w : World) (by : ThreadRow) (handle : ℕ) (message : List ℕ) → Refuses (service_of w by (reply_port handle message))
+pub refuses-reply : (w : World) (by : ThreadRow) (handle : ℕ) (message : List ℕ) → Refuses (served w by (reply_port handle message))
 unfolding nt_reply_port
 refuses-reply w by handle bytes = bind (port_test w by handle) _ (port w by handle) (λ p. bind (message_test bytes) _ (message bytes) (λ m. bind (answered_test w p m) _ (answered w p m) (λ x. tt)))
 
-pub refuses-receive : (w : World) (by : ThreadRow) (handle : ℕ) (message : Option (List ℕ)) → Refuses (service_of w by (reply_wait_receive_port handle message))
+pub refuses-receive : (w : World) (by : ThreadRow) (handle : ℕ) (message : Option (List ℕ)) → Refuses (served w by (reply_wait_receive_port handle message))
 unfolding nt_reply_wait_receive_port
 refuses-receive w by handle bytes = bind (port_test w by handle) _ (port w by handle) (λ p. bind (optional_message bytes) _ (optional bytes) (λ m. bind (receive_test w p) _ (receive w p) (λ q. bind (given_reply w p m) _ (given w p m) (λ r. tt))))

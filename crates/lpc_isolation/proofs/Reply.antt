@@ -1,6 +1,6 @@
 -- NtReplyPort in a view.
 use Rattle.std.proofs.Common.{◌≡◌, ℕ, ◌≤◌, List, [], ◌∷◌, Bool, true, false, Option, Some, None, refl, ap, sym, ◌∙◌, arith}
-use Rattle.std.specs.Prelude.{◌&&◌, ◌||◌, ◌==◌, Ok, is_none, option_and_then}
+use Rattle.std.specs.Prelude.{◌&&◌, ◌||◌, ◌==◌, Ok, option_and_then}
 use Rattle.std.proofs.lemmas.Bool.{eqb-true}
 use Rattle.lpc_base.specs.Rows.{count, first, given, passes, which}
 use Rattle.lpc_base.proofs.RowWords.{first-passes}
@@ -26,13 +26,13 @@ use Rattle.lpc_isolation.proofs.Alone.{alone}
 use Rattle.lpc_isolation.proofs.Filters.{first-kept}
 use Rattle.lpc_isolation.proofs.View.{both, of_birth, one_of, our_wait, view}
 use Rattle.lpc_isolation.proofs.Basics.{basic-unseen, run-ours, sees_wait}
-use Rattle.lpc_isolation.proofs.Fair.{Fair, all_of, are_fair, implies, is_fair_pair, is_fair_port, is_fair_wait, is_home}
+use Rattle.lpc_isolation.proofs.Fair.{Fair, all_of, are_fair, is_fair_pair, is_fair_port, is_fair_wait, is_home}
 use Rattle.lpc_isolation.proofs.Seen.{port-own}
 use Rattle.lpc_isolation.proofs.Apart.{Owned, are_apart, end-apart, is_heard, is_owned, owned-by}
 use Rattle.lpc_isolation.proofs.Callers.{Led, c-wait, on_ok}
 
 -- The pair of a port of c is a member's.
-pair-in : (m : Group) (c : ℕ) (p : PortRow) (o : Option Birth) (b : Birth) → (is_home p && (implies (is_none o) (p.context == 0) && all_of o (is_fair_pair m c p))) ≡ true → is_the b o ≡ true → m p.birth.process ≡ true → (p.birth.process == c) ≡ true → m b.process ≡ true
+pair-in : (m : Group) (c : ℕ) (p : PortRow) (o : Option Birth) (b : Birth) → (is_home p && all_of o (is_fair_pair m c p)) ≡ true → is_the b o ≡ true → m p.birth.process ≡ true → (p.birth.process == c) ≡ true → m b.process ≡ true
 pair-in m c p None b fair is own mine = absurd (cc)
 pair-in m c p (Some q) b fair is own mine =
     let q_in : m q.process ≡ true = grind arith in of_birth m b q is ∙ q_in

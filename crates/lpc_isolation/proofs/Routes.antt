@@ -9,8 +9,8 @@ use Rattle.lpc_model.specs.World.{Birth, PortKind, PortRow, World}
 use Rattle.lpc_model.specs.Found.{context_of, if_open, is_open, is_port, is_server_port, port_row, route, way}
 use Rattle.lpc_model.specs.Circle.{Group, is_fine_client, is_fine_port}
 use Rattle.lpc_isolation.proofs.Alone.{HasFinePorts}
-use Rattle.lpc_isolation.proofs.View.{seen_context, seen_pair, seen_port, view}
-use Rattle.lpc_isolation.proofs.Fair.{Fair, all_of, implies, is_fair_pair, is_fair_port, is_home}
+use Rattle.lpc_isolation.proofs.View.{seen_pair, seen_port, view}
+use Rattle.lpc_isolation.proofs.Fair.{Fair, all_of, is_fair_pair, is_fair_port, is_home}
 use Rattle.lpc_isolation.proofs.Seen.{open-view}
 
 abbrev inside : Group → Birth → Bool
@@ -41,11 +41,11 @@ fine-out m c b None is out = refl
 fine-out m c b (Some q) is out = grind arith
 
 -- the pairs
-client-pair : (m : Group) (c : ℕ) (p : PortRow) (o : Option Birth) → (is_home p && (implies (is_none o) (p.context == 0) && all_of o (is_fair_pair m c p))) ≡ true → is_server_port p ≡ false → m p.birth.process ≡ true → all_of o (inside m) ≡ true
+client-pair : (m : Group) (c : ℕ) (p : PortRow) (o : Option Birth) → (is_home p && all_of o (is_fair_pair m c p)) ≡ true → is_server_port p ≡ false → m p.birth.process ≡ true → all_of o (inside m) ≡ true
 client-pair m c p None fair kind own = refl
 client-pair m c p (Some q) fair kind own = grind arith
 
-c-pair : (m : Group) (c : ℕ) (p : PortRow) (o : Option Birth) → (is_home p && (implies (is_none o) (p.context == 0) && all_of o (is_fair_pair m c p))) ≡ true → (p.birth.process == c) ≡ true → m p.birth.process ≡ true → all_of o (inside m) ≡ true
+c-pair : (m : Group) (c : ℕ) (p : PortRow) (o : Option Birth) → (is_home p && all_of o (is_fair_pair m c p)) ≡ true → (p.birth.process == c) ≡ true → m p.birth.process ≡ true → all_of o (inside m) ≡ true
 c-pair m c p None fair mine own = refl
 c-pair m c p (Some q) fair mine own = grind arith
 
@@ -56,7 +56,7 @@ c-other m c q c_in out = at (q.process == c) refl
     at true is = let k : m q.process ≡ m c = ap m (eqb-true _ _ is) in absurd (cc)
     at false is = refl
 
-server-pair : (m : Group) (c : ℕ) (p : PortRow) (o : Option Birth) → (is_home p && (implies (is_none o) (p.context == 0) && all_of o (is_fair_pair m c p))) ≡ true → is_server_port p ≡ true → m c ≡ true → m p.birth.process ≡ false → all_of o (not_of c) ≡ true
+server-pair : (m : Group) (c : ℕ) (p : PortRow) (o : Option Birth) → (is_home p && all_of o (is_fair_pair m c p)) ≡ true → is_server_port p ≡ true → m c ≡ true → m p.birth.process ≡ false → all_of o (not_of c) ≡ true
 server-pair m c p None fair kind c_in out = refl
 server-pair m c p (Some q) fair kind c_in out = let q_out : m q.process ≡ false = grind arith in c-other m c q c_in q_out
 
@@ -144,7 +144,7 @@ routed-out m c w p q r c_in out at =
     let k : not (q.process == c) ≡ true = rw at at (route-keeps w (not_of c) p (out-way m c w p p.kind refl r c_in out)) in grind arith
 
 -- the context that a member's message keeps
-context-at : (m : Group) (p : PortRow) (o : Option Birth) → all_of o (inside m) ≡ true → cond (is_none (seen_pair m o)) 0 (seen_context m o p.context) ≡ cond (is_none o) 0 p.context
+context-at : (m : Group) (p : PortRow) (o : Option Birth) → all_of o (inside m) ≡ true → cond (is_none (seen_pair m o)) 0 p.context ≡ cond (is_none o) 0 p.context
 context-at m p None is = refl
 context-at m p (Some b) is = rw is refl
 

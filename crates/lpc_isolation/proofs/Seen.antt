@@ -1,6 +1,6 @@
 -- What the tests of calls find in a view.
 use Rattle.std.proofs.Common.{◌≡◌, ℕ, List, [], ◌∷◌, true, false, not, Option, Some, None, refl, ap, sym, subst, ◌∙◌, arith}
-use Rattle.std.specs.Prelude.{◌&&◌, ◌==◌, is_none, option_map, Result, Ok, Err}
+use Rattle.std.specs.Prelude.{◌&&◌, ◌==◌, option_map, Result, Ok, Err}
 use Rattle.std.proofs.lemmas.Bool.{eqb-true}
 use Rattle.lpc_base.specs.Rows.{every, first, has, passes}
 use Rattle.lpc_base.proofs.RowWords.{first-passes}
@@ -18,7 +18,7 @@ use Rattle.lpc_model.proofs.Holding.{Holds, bind_holds, found_holds, found_ok, h
 use Rattle.lpc_model.specs.Circle.{Group, is_number, owner}
 use Rattle.lpc_isolation.proofs.Filters.{first-inside, first-nowhere, first-shown, first-where, has-inside}
 use Rattle.lpc_isolation.proofs.View.{of_birth, one_of, our_port, our_table, our_thread, same-number, seen_port, view}
-use Rattle.lpc_isolation.proofs.Fair.{Fair, all_of, implies, is_fair_pair, is_fair_port, is_fair_table, is_home, is_homed, is_own}
+use Rattle.lpc_isolation.proofs.Fair.{Fair, is_fair_pair, is_fair_port, is_fair_table, is_home, is_homed, is_own}
 
 -- Handles
 pub handles-view : (m : Group) (w : World) (pid : ℕ) → m pid ≡ true → handles_of (view m w) pid ≡ handles_of w pid
@@ -115,17 +115,14 @@ port_test-view m c w by value f is =
     ∙ bind-map (object_test w by kind.Port PORT_RIGHT value) (λ b. found_or (port_row w b) INVALID_HANDLE) (seen_port m)
 
 -- c's ports are seen as they are
-fair-context : (m : Group) (c : ℕ) (p : PortRow) (o : Option Birth) → (is_home p && (implies (is_none o) (p.context == 0) && all_of o (is_fair_pair m c p))) ≡ true → is_none o ≡ true → (p.context == 0) ≡ true
-fair-context m c p o is none = grind arith
-
-fair-pair : (m : Group) (c : ℕ) (p : PortRow) (b : Birth) → (is_home p && (implies (is_none (Some b)) (p.context == 0) && is_fair_pair m c p b)) ≡ true → m p.birth.process ≡ true → (p.birth.process == c) ≡ true → m b.process ≡ true
+fair-pair : (m : Group) (c : ℕ) (p : PortRow) (b : Birth) → (is_home p && is_fair_pair m c p b) ≡ true → m p.birth.process ≡ true → (p.birth.process == c) ≡ true → m b.process ≡ true
 fair-pair m c p b is own mine = grind arith
 
 pub c-port : (m : Group) (c : ℕ) (p : PortRow) → m c ≡ true → p.birth.process ≡ c → is_fair_port m c p ≡ true → seen_port m p ≡ p
 c-port m c p c_in own fair = at p.pair refl
   where
     at : (o : Option Birth) → p.pair ≡ o → seen_port m p ≡ p
-    at None none = let zero : (p.context == 0) ≡ true = fair-context m c p None (rw none at fair) refl in rw (none, eqb-true _ _ zero) refl
+    at None none = rw none refl
     at (Some b) some =
         let b_in : m b.process ≡ true = fair-pair m c p b (rw some at fair) (ap m own ∙ c_in) (ap (λ n. n == c) own ∙ same-number c) in
         rw (some, b_in) refl

@@ -30,6 +30,9 @@ use Rattle.lpc_isolation.proofs.Apart.{Owned, are_apart, enter-apart, enter-gone
 use Rattle.lpc_isolation.proofs.Callers.{Led, led-same, on_ok, unseen-thread}
 use Rattle.lpc_isolation.proofs.Mine.{c-port_test, holds-more}
 use Rattle.lpc_isolation.proofs.Names.{SeenNames}
+use Rattle.lpc_isolation.proofs.Bound.{OnceBound}
+use Rattle.lpc_isolation.proofs.Paths.{Paths}
+use Rattle.lpc_isolation.proofs.Asked.{Asked}
 use Rattle.lpc_isolation.proofs.Routes.{Right, context-view, right-row, route-view, routed-in, routed-out}
 
 -- a call of a thread that waits for nothing, in a world of a run
@@ -47,6 +50,9 @@ pub record Caller (m : Group) (c : ℕ) (u w : World) (by : ThreadRow) : Type 0 
   pub names : SeenNames m w.bindings
   pub sound : IsSoundWorld w
   pub live : live_thread w by.number ≡ Some by
+  pub bound : OnceBound w.bindings
+  pub paths : Paths w
+  pub asked : Asked w
 
 -- what a port that a handle names is
 pub record Named (m : Group) (c : ℕ) (w : World) (by : ThreadRow) (p : PortRow) : Type 0 where

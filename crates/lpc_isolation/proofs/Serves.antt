@@ -8,7 +8,7 @@ use Rattle.lpc_model.specs.declared.entry.Entry.TheVariants as entry
 use Rattle.lpc_model.specs.World.{WaitRow, World}
 use Rattle.lpc_model.specs.Found.{waits_as, waits_at}
 use Rattle.lpc_base.proofs.RowWords.{has-change}
-use Rattle.lpc_model.specs.Basics.{accepted, received, Accepts, AddsHandle, AddsProcess, AddsThread, Awaits, Basic, Binds, Completes, DrawsIdentifier, DrawsOrdinal, Enters, Frees, Joins, Makes, Receives, Takes, TakesConnect, Tells, Wakes, Withdraws, basic, entries_of, world_after}
+use Rattle.lpc_model.specs.Basics.{Accepts, AddsHandle, AddsProcess, AddsThread, Awaits, Basic, Binds, Completes, Cuts, DrawsIdentifier, DrawsOrdinal, DropsHandle, Empties, Enters, Frees, Joins, Makes, Receives, Takes, TakesConnect, Tells, Unbinds, Wakes, Withdraws, accepted, received, basic, entries_of, world_after}
 use Rattle.lpc_isolation.proofs.View.{both, one_of, other_of}
 use Rattle.lpc_isolation.proofs.Lines.{is_done}
 
@@ -71,6 +71,10 @@ basic-free w (Withdraws other) who calm none = none
 basic-free w (Frees o) who calm none = absurd (cc)
 basic-free w (Binds path node) who calm none = none
 basic-free w (AddsHandle pid h) who calm none = none
+basic-free w (Empties q) who calm none = none
+basic-free w (Cuts b) who calm none = none
+basic-free w (Unbinds b) who calm none = none
+basic-free w (DropsHandle pid value) who calm none = none
 
 run-free : (w : World) (bs : List Basic) (who : ℕ) → every (is_calm who) bs ≡ true → has (waits_as who) w.waits ≡ false → has (waits_as who) (world_after w bs).waits ≡ false
 run-free w [] who calm none = none
@@ -106,6 +110,10 @@ orderly-done w (Withdraws who ∷ bs) ok = orderly-done (basic w (Withdraws who)
 orderly-done w (Frees o ∷ bs) ok = absurd (cc)
 orderly-done w (Binds path node ∷ bs) ok = orderly-done (basic w (Binds path node)) bs ok
 orderly-done w (AddsHandle pid h ∷ bs) ok = orderly-done (basic w (AddsHandle pid h)) bs ok
+orderly-done w (Empties q ∷ bs) ok = orderly-done (basic w (Empties q)) bs ok
+orderly-done w (Cuts b ∷ bs) ok = orderly-done (basic w (Cuts b)) bs ok
+orderly-done w (Unbinds b ∷ bs) ok = orderly-done (basic w (Unbinds b)) bs ok
+orderly-done w (DropsHandle pid value ∷ bs) ok = orderly-done (basic w (DropsHandle pid value)) bs ok
 
 -- no number is used for a thread
 pub orderly-used : (w : World) (bs : List Basic) → is_orderly bs ≡ true → (world_after w bs).used_threads ≡ w.used_threads
@@ -135,3 +143,7 @@ orderly-used w (Withdraws who ∷ bs) ok = orderly-used (basic w (Withdraws who)
 orderly-used w (Frees o ∷ bs) ok = absurd (cc)
 orderly-used w (Binds path node ∷ bs) ok = orderly-used (basic w (Binds path node)) bs ok
 orderly-used w (AddsHandle pid h ∷ bs) ok = orderly-used (basic w (AddsHandle pid h)) bs ok
+orderly-used w (Empties q ∷ bs) ok = orderly-used (basic w (Empties q)) bs ok
+orderly-used w (Cuts b ∷ bs) ok = orderly-used (basic w (Cuts b)) bs ok
+orderly-used w (Unbinds b ∷ bs) ok = orderly-used (basic w (Unbinds b)) bs ok
+orderly-used w (DropsHandle pid value ∷ bs) ok = orderly-used (basic w (DropsHandle pid value)) bs ok

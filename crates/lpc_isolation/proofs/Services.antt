@@ -1,13 +1,13 @@
 -- What each call owes the law, and that each does so. A further call adds a file with its own such lemmas, and its value and
 -- its line here.
-use Rattle.std.specs.Prelude.{◌≡◌, ℕ, ◌==◌, Bool, true, false, cond, List, Option, None}
+use Rattle.std.specs.Prelude.{◌≡◌, ℕ, ◌==◌, Bool, true, false, cond, List, Option, None, Some}
 use Rattle.std.proofs.Common.{refl, subst}
 use Rattle.lpc_model.specs.World.{Birth, ProcessRow, ThreadRow, World}
-use Rattle.lpc_model.specs.Found.{wait_of}
+use Rattle.lpc_model.specs.Found.{live_thread, wait_of}
 use Rattle.lpc_model.specs.Basics.{world_after}
 use Rattle.lpc_model.specs.Tests.{next_birth}
-use Rattle.lpc_model.specs.Lines.{ScriptCall, accept_connect_port, complete_connect_port, connect_port, create_port, listen_port, reply_port, reply_wait_receive_port, request_port, request_wait_reply_port}
-use Rattle.lpc_model.specs.Machine.{service_of}
+use Rattle.lpc_model.specs.Lines.{ScriptCall, accept_connect_port, close, complete_connect_port, connect_port, create_port, duplicate_object, listen_port, query_object, reply_port, reply_wait_receive_port, request_port, request_wait_reply_port}
+use Rattle.lpc_isolation.proofs.Served.{served}
 use Rattle.lpc_model.specs.SoundWaits.{IsSoundWorld}
 use Rattle.lpc_model.specs.Circle.{Group, Whose, is_fine_call}
 use Rattle.lpc_model.proofs.Holding.{Holds}
@@ -16,19 +16,21 @@ use Rattle.lpc_isolation.proofs.View.{view}
 use Rattle.lpc_isolation.proofs.Basics.{are_ours}
 use Rattle.lpc_isolation.proofs.Fair.{are_fair}
 use Rattle.lpc_isolation.proofs.Apart.{Owned, are_apart}
-use Rattle.lpc_isolation.proofs.Names.{SeenNames}
+use Rattle.lpc_isolation.proofs.Bound.{OnceBound}
 use Rattle.lpc_isolation.proofs.Sends.{Caller}
 use Rattle.lpc_isolation.proofs.Serves.{is_call_of}
 use Rattle.lpc_isolation.proofs.Calls.{Serves}
 use Rattle.lpc_isolation.proofs.Listens.{own_entry}
 use Rattle.lpc_isolation.proofs.Ids.{Numbered}
-use Rattle.lpc_isolation.proofs.Asked.{Asked, are_asked}
+use Rattle.lpc_isolation.proofs.Asked.{Asked}
 use Rattle.lpc_isolation.proofs.Thin.{Alive, Closed, thin}
 use Rattle.lpc_isolation.proofs.Heard.{Heard, call_memo}
 use Rattle.lpc_isolation.proofs.Knows.{AllKnown}
 use Rattle.lpc_isolation.proofs.ThinCalls.{AreClosed, alike-create, alike-connect, alike-listen, alike-accept, alike-complete, alike-datagram, alike-request, alike-reply, alike-receive, stands-create, stands-connect, stands-listen, stands-accept, stands-complete, stands-datagram, stands-request, stands-reply, stands-receive}
 use Rattle.lpc_isolation.proofs.Fine.{FineAfter, fine-create, fine-connect, fine-listen, fine-accept, fine-complete, fine-datagram, fine-request, fine-reply, fine-receive}
-use Rattle.lpc_isolation.proofs.Ways.{Paths, are_paths, paths-create, paths-connect, paths-listen, paths-accept, paths-complete, paths-datagram, paths-request, paths-reply, paths-receive}
+use Rattle.lpc_isolation.proofs.Paths.{Paths, are_paths}
+use Rattle.lpc_isolation.proofs.Sent.{are_sent}
+use Rattle.lpc_isolation.proofs.Ways.{sends-create, sends-connect, sends-listen, sends-accept, sends-complete, sends-datagram, sends-request, sends-reply, sends-receive, paths-create, paths-connect, paths-listen, paths-accept, paths-complete, paths-datagram, paths-request, paths-reply, paths-receive}
 use Rattle.lpc_isolation.proofs.AskedCalls.{asked-create, asked-connect, asked-listen, asked-accept, asked-complete, asked-datagram, asked-request, asked-reply, asked-receive}
 use Rattle.lpc_isolation.proofs.Orderly.{orderly-create, orderly-connect, orderly-listen, orderly-accept, orderly-complete, orderly-datagram, orderly-request, orderly-reply, orderly-receive}
 use Rattle.lpc_isolation.proofs.Refuses.{Refuses, refuses-create, refuses-connect, refuses-listen, refuses-accept, refuses-complete, refuses-datagram, refuses-request, refuses-reply, refuses-receive}
@@ -36,30 +38,34 @@ use Rattle.lpc_isolation.proofs.Bindings.{names-create, names-connect, names-lis
 use Rattle.lpc_isolation.proofs.Kept.{fair-create, fair-connect, fair-listen, fair-accept, fair-complete, fair-datagram, fair-request, fair-reply, fair-receive}
 use Rattle.lpc_isolation.proofs.Instances.{At, Leading, caller, leads_by, apart-create, apart-connect, apart-listen, apart-accept, apart-complete, apart-datagram, apart-request, apart-reply, apart-receive, same-create, same-connect, same-listen, same-accept, same-complete, same-datagram, same-request, same-reply, same-receive, ours-create, ours-connect, ours-listen, ours-accept, ours-complete, ours-datagram, ours-request, ours-reply, ours-receive, leads-create, leads-connect, leads-listen, leads-accept, leads-complete, leads-datagram, leads-request, leads-reply, leads-receive}
 use Rattle.lpc_isolation.proofs.KnownCalls.{Hears, hears-create, hears-connect, hears-listen, hears-accept, hears-complete, hears-datagram, hears-request, hears-reply, hears-receive, notes-create, notes-connect, notes-listen, notes-accept, notes-complete, notes-datagram, notes-request, notes-reply, notes-receive}
+use Rattle.lpc_isolation.proofs.Closes.{sends-close, orderly-close, refuses-close, fair-close, names-close, paths-close, asked-close, apart-close, same-close, ours-close, leads-close, hears-close, notes-close, alike-close, stands-close, fine-close}
+use Rattle.lpc_isolation.proofs.Queries.{orderly-query, refuses-query, fair-query, names-query, paths-query, sends-query, asked-query, apart-query, same-query, ours-query, leads-query, hears-query, notes-query, alike-query, stands-query, fine-query}
+use Rattle.lpc_isolation.proofs.Duplicates.{sends-duplicate, orderly-duplicate, refuses-duplicate, fair-duplicate, names-duplicate, paths-duplicate, asked-duplicate, apart-duplicate, same-duplicate, ours-duplicate, leads-duplicate, hears-duplicate, notes-duplicate, alike-duplicate, stands-duplicate, fine-duplicate}
 
 pub record Lawful (call : ScriptCall) : Type 0 where
   -- the call tells its caller first, adds no thread, and begins no wait of a thread that it woke; no refusal is a success
-  pub orderly : (m : Group) (c : ℕ) (u w : World) (by : ThreadRow) → Caller m c u w by → Holds (λ bs. is_call_of by.number bs ≡ true) (service_of w by call)
-  pub refuses : (w : World) (by : ThreadRow) → Refuses (service_of w by call)
+  pub orderly : (m : Group) (c : ℕ) (u w : World) (by : ThreadRow) → Caller m c u w by → Holds (λ bs. is_call_of by.number bs ≡ true) (served w by call)
+  pub refuses : (w : World) (by : ThreadRow) → Refuses (served w by call)
   -- what it keeps: rows that are fair, names, the ways of requests, the waits of those who asked
-  pub fair : (m : Group) (c : ℕ) (w : World) (by : ThreadRow) (known : List ℕ → Birth) → At m c w by known → Holds (λ bs. HasFinePorts m c (world_after w bs) → are_fair m c w bs ≡ true) (service_of w by call)
-  pub names : (m : Group) (c : ℕ) (u w : World) (by : ThreadRow) → Caller m c u w by → Holds (λ bs. SeenNames m (world_after w bs).bindings) (service_of w by call)
-  pub paths : (m : Group) (c : ℕ) (w : World) (by : ThreadRow) → Paths m w → Caller m c w w by → Holds (λ bs. are_paths m w bs ≡ true) (service_of w by call)
-  pub asked : (m : Group) (c : ℕ) (w : World) (by : ThreadRow) → Asked w → Caller m c w w by → Holds (λ bs. are_asked w bs ≡ true) (service_of w by call)
+  pub fair : (m : Group) (c : ℕ) (w : World) (by : ThreadRow) (known : List ℕ → Birth) → At m c w by known → Holds (λ bs. HasFinePorts m c (world_after w bs) → are_fair m c w bs ≡ true) (served w by call)
+  pub names : (m : Group) (c : ℕ) (u w : World) (by : ThreadRow) → Caller m c u w by → Holds (λ bs. OnceBound (world_after w bs).bindings) (served w by call)
+  pub paths : (m : Group) (c : ℕ) (w : World) (by : ThreadRow) → Paths w → Caller m c w w by → Holds (λ bs. are_paths w bs ≡ true) (served w by call)
+  pub asked : (m : Group) (c : ℕ) (w : World) (by : ThreadRow) → Asked w → Caller m c w w by → Holds (λ bs. Asked (world_after w bs)) (served w by call)
+  pub sent : (u : World) (by : ThreadRow) → IsSoundWorld u → live_thread u by.number ≡ Some by → Holds (λ bs. are_sent u bs ≡ true) (served u by call)
   -- of an outsider: the view loses only waits whose wakes are told
-  pub apart : (m : Group) (c : ℕ) (u : World) (d : Whose) (w : World) (by : ThreadRow) (known : List ℕ → Birth) → At m c w by known → u.used_threads ≡ w.used_threads → m by.process ≡ false → Holds (λ bs. HasFinePorts m c (world_after w bs) → are_apart m c u d w bs ≡ true) (service_of w by call)
+  pub apart : (m : Group) (c : ℕ) (u : World) (d : Whose) (w : World) (by : ThreadRow) (known : List ℕ → Birth) → At m c w by known → u.used_threads ≡ w.used_threads → m by.process ≡ false → Holds (λ bs. HasFinePorts m c (world_after w bs) → are_apart m c u d w bs ≡ true) (served w by call)
   -- of c: the view answers as the world does, and changes as it does
-  pub same : (m : Group) (c : ℕ) (w : World) (by : ThreadRow) (known : List ℕ → Birth) → At m c w by known → by.process ≡ c → is_fine_call m w call ≡ true → service_of (view m w) by call ≡ service_of w by call
-  pub ours : (m : Group) (c : ℕ) (w : World) (by : ThreadRow) (known : List ℕ → Birth) → At m c w by known → by.process ≡ c → Holds (λ bs. HasFinePorts m c (world_after w bs) → are_ours m w bs ≡ true) (service_of w by call)
+  pub same : (m : Group) (c : ℕ) (w : World) (by : ThreadRow) (known : List ℕ → Birth) → At m c w by known → by.process ≡ c → is_fine_call m w call ≡ true → served (view m w) by call ≡ served w by call
+  pub ours : (m : Group) (c : ℕ) (w : World) (by : ThreadRow) (known : List ℕ → Birth) → At m c w by known → by.process ≡ c → Holds (λ bs. HasFinePorts m c (world_after w bs) → are_ours m w bs ≡ true) (served w by call)
   -- of another member: the view and what c is told follow from the view and the member's own answer
-  pub leads : (m : Group) (c : ℕ) (u : World) (d : Whose) (w : World) (by : ThreadRow) (known : List ℕ → Birth) → At m c w by known → u.used_threads ≡ w.used_threads → m by.process ≡ true → (by.process == c) ≡ false → Holds (λ bs. HasFinePorts m c (world_after w bs) → Leading m c u d w by known call bs) (service_of w by call)
+  pub leads : (m : Group) (c : ℕ) (u : World) (d : Whose) (w : World) (by : ThreadRow) (known : List ℕ → Birth) → At m c w by known → u.used_threads ≡ w.used_threads → m by.process ≡ true → (by.process == c) ≡ false → Holds (λ bs. HasFinePorts m c (world_after w bs) → Leading m c u d w by known call bs) (served w by call)
   -- what is remembered of outsiders' connects stays right, by the wakes of an outsider's call and by a member's answer
-  pub hears : (m : Group) (c : ℕ) (u w : World) (by : ThreadRow) (d : Whose) (memo : List Heard) → Caller m c u w by → Owned w w → Numbered w → Asked w → AllKnown m memo w → m by.process ≡ false → Holds (λ bs. HasFinePorts m c (world_after w bs) → Hears m c u d w memo bs) (service_of w by call)
-  pub notes : (m : Group) (c : ℕ) (u w : World) (by : ThreadRow) (memo : List Heard) → Caller m c u w by → Owned w w → Numbered w → Asked w → AllKnown m memo w → m by.process ≡ true → Holds (λ bs. AllKnown m (cond (by.process == c) memo (call_memo m (view m w) by call (own_entry bs) memo)) (world_after w bs)) (service_of w by call)
+  pub hears : (m : Group) (c : ℕ) (u w : World) (by : ThreadRow) (d : Whose) (memo : List Heard) → Caller m c u w by → Owned w w → Numbered w → Asked w → AllKnown m memo w → m by.process ≡ false → Holds (λ bs. HasFinePorts m c (world_after w bs) → Hears m c u d w memo bs) (served w by call)
+  pub notes : (m : Group) (c : ℕ) (u w : World) (by : ThreadRow) (memo : List Heard) → Caller m c u w by → Owned w w → Numbered w → Asked w → AllKnown m memo w → m by.process ≡ true → Holds (λ bs. AllKnown m (cond (by.process == c) memo (call_memo m (view m w) by call (own_entry bs) memo)) (world_after w bs)) (served w by call)
   -- it answers alike where rows that nothing names have gone, names what stands alone, and makes ports as the circle has them
-  pub alike : (k : Alive) (ps : List ProcessRow) (u : World) (by : ThreadRow) → Closed k u → service_of (thin k ps u) by call ≡ service_of u by call
-  pub stands : (k : Alive) (u : World) (by : ThreadRow) → IsSoundWorld u → Closed k u → k (next_birth by) ≡ true → Holds (AreClosed k) (service_of u by call)
-  pub fine : (m : Group) (c : ℕ) (after u : World) (by : ThreadRow) → wait_of u by.number ≡ None → HasFinePorts m c after → Holds (FineAfter m c after u) (service_of u by call)
+  pub alike : (k : Alive) (ps : List ProcessRow) (u : World) (by : ThreadRow) → Closed k u → served (thin k ps u) by call ≡ served u by call
+  pub stands : (k : Alive) (u : World) (by : ThreadRow) → IsSoundWorld u → Closed k u → k (next_birth by) ≡ true → Holds (AreClosed k) (served u by call)
+  pub fine : (m : Group) (c : ℕ) (after u : World) (by : ThreadRow) → wait_of u by.number ≡ None → HasFinePorts m c after → Holds (FineAfter m c after u) (served u by call)
 
 create-lawful : (name : Option (List ℕ)) → Lawful (create_port name)
 create-lawful name = record {
@@ -68,6 +74,7 @@ create-lawful name = record {
   fair = λ m c w by known a. fair-create m c w by known name a;
   names = λ m c u w by k. names-create m c u w by name k;
   paths = λ m c w by all k. paths-create m c w by name all k;
+  sent = λ u by s live. sends-create u by name;
   asked = λ m c w by a k. asked-create m c w by name a k;
   apart = λ m c u d w by known a used out. apart-create m c u d w by known name a used out;
   same = λ m c w by known a mine fine. same-create m c w by known name a mine fine;
@@ -87,6 +94,7 @@ connect-lawful name bytes = record {
   fair = λ m c w by known a. fair-connect m c w by known name bytes a;
   names = λ m c u w by k. names-connect m c u w by name bytes k;
   paths = λ m c w by all k. paths-connect m c w by name bytes all k;
+  sent = λ u by s live. sends-connect u by name bytes s live;
   asked = λ m c w by a k. asked-connect m c w by name bytes a k;
   apart = λ m c u d w by known a used out. apart-connect m c u d w by known name bytes a used out;
   same = λ m c w by known a mine fine. same-connect m c w by known name bytes a mine fine;
@@ -106,6 +114,7 @@ listen-lawful handle = record {
   fair = λ m c w by known a. fair-listen m c w by known handle a;
   names = λ m c u w by k. names-listen m c u w by handle k;
   paths = λ m c w by all k. paths-listen m c w by handle all k;
+  sent = λ u by s live. sends-listen u by handle;
   asked = λ m c w by a k. asked-listen m c w by handle a k;
   apart = λ m c u d w by known a used out. apart-listen m c u d w by known handle a used out;
   same = λ m c w by known a mine fine. same-listen m c w by known handle a mine fine;
@@ -125,6 +134,7 @@ accept-lawful context message accept = record {
   fair = λ m c w by known a. fair-accept m c w by known context message accept a;
   names = λ m c u w by k. names-accept m c u w by context message accept k;
   paths = λ m c w by all k. paths-accept m c w by context message accept all k;
+  sent = λ u by s live. sends-accept u by context message accept;
   asked = λ m c w by a k. asked-accept m c w by context message accept a k;
   apart = λ m c u d w by known a used out. apart-accept m c u d w by known context message accept a used out;
   same = λ m c w by known a mine fine. same-accept m c w by known context message accept a mine fine;
@@ -144,6 +154,7 @@ complete-lawful handle = record {
   fair = λ m c w by known a. fair-complete m c w by known handle a;
   names = λ m c u w by k. names-complete m c u w by handle k;
   paths = λ m c w by all k. paths-complete m c w by handle all k;
+  sent = λ u by s live. sends-complete u by handle;
   asked = λ m c w by a k. asked-complete m c w by handle a k;
   apart = λ m c u d w by known a used out. apart-complete m c u d w by known handle a used out;
   same = λ m c w by known a mine fine. same-complete m c w by known handle a mine fine;
@@ -163,6 +174,7 @@ datagram-lawful handle message = record {
   fair = λ m c w by known a. fair-datagram m c w by known handle message a;
   names = λ m c u w by k. names-datagram m c u w by handle message k;
   paths = λ m c w by all k. paths-datagram m c w by handle message all k;
+  sent = λ u by s live. sends-datagram u by handle message;
   asked = λ m c w by a k. asked-datagram m c w by handle message a k;
   apart = λ m c u d w by known a used out. apart-datagram m c u d w by known handle message a used out;
   same = λ m c w by known a mine fine. same-datagram m c w by known handle message a mine fine;
@@ -182,6 +194,7 @@ request-lawful handle message = record {
   fair = λ m c w by known a. fair-request m c w by known handle message a;
   names = λ m c u w by k. names-request m c u w by handle message k;
   paths = λ m c w by all k. paths-request m c w by handle message all k;
+  sent = λ u by s live. sends-request u by handle message;
   asked = λ m c w by a k. asked-request m c w by handle message a k;
   apart = λ m c u d w by known a used out. apart-request m c u d w by known handle message a used out;
   same = λ m c w by known a mine fine. same-request m c w by known handle message a mine fine;
@@ -201,6 +214,7 @@ reply-lawful handle message = record {
   fair = λ m c w by known a. fair-reply m c w by known handle message a;
   names = λ m c u w by k. names-reply m c u w by handle message k;
   paths = λ m c w by all k. paths-reply m c w by handle message all k;
+  sent = λ u by s live. sends-reply u by handle message;
   asked = λ m c w by a k. asked-reply m c w by handle message a k;
   apart = λ m c u d w by known a used out. apart-reply m c u d w by known handle message a used out;
   same = λ m c w by known a mine fine. same-reply m c w by known handle message a mine fine;
@@ -220,6 +234,7 @@ receive-lawful handle message = record {
   fair = λ m c w by known a. fair-receive m c w by known handle message a;
   names = λ m c u w by k. names-receive m c u w by handle message k;
   paths = λ m c w by all k. paths-receive m c w by handle message all k;
+  sent = λ u by s live. sends-receive u by handle message;
   asked = λ m c w by a k. asked-receive m c w by handle message a k;
   apart = λ m c u d w by known a used out. apart-receive m c u d w by known handle message a used out;
   same = λ m c w by known a mine fine. same-receive m c w by known handle message a mine fine;
@@ -232,6 +247,66 @@ receive-lawful handle message = record {
   fine = λ m c after u by idle f. fine-receive m c after u by handle message idle f;
 }
 
+close-lawful : (handle : ℕ) → Lawful (close handle)
+close-lawful handle = record {
+  orderly = λ m c u w by k. orderly-close m c u w by handle k;
+  refuses = λ w by. refuses-close w by handle;
+  fair = λ m c w by known a. fair-close m c w by known handle a;
+  names = λ m c u w by k. names-close m c u w by handle k;
+  paths = λ m c w by all k. paths-close m c w by handle all k;
+  sent = λ u by s live. sends-close u by handle;
+  asked = λ m c w by a k. asked-close m c w by handle a k;
+  apart = λ m c u d w by known a used out. apart-close m c u d w by known handle a used out;
+  same = λ m c w by known a mine fine. same-close m c w by known handle a mine fine;
+  ours = λ m c w by known a mine. ours-close m c w by known handle a mine;
+  leads = λ m c u d w by known a used by_in other. leads-close m c u d w by known handle a used by_in other;
+  hears = λ m c u w by d memo k owned n a all out. hears-close m c u w by d memo k owned n a all out handle;
+  notes = λ m c u w by memo k owned n a all by_in. notes-close m c u w by memo k owned n a all by_in handle;
+  alike = λ k ps u by c. alike-close k ps u by handle c;
+  stands = λ k u by s c new. stands-close k u by handle s c new;
+  fine = λ m c after u by idle f. fine-close m c after u by handle idle f;
+}
+
+duplicate-lawful : (handle : ℕ) (access : Option ℕ) → Lawful (duplicate_object handle access)
+duplicate-lawful handle access = record {
+  orderly = λ m c u w by k. orderly-duplicate m c u w by handle access k;
+  refuses = λ w by. refuses-duplicate w by handle access;
+  fair = λ m c w by known a. fair-duplicate m c w by known handle access a;
+  names = λ m c u w by k. names-duplicate m c u w by handle access k;
+  paths = λ m c w by all k. paths-duplicate m c w by handle access all k;
+  sent = λ u by s live. sends-duplicate u by handle access;
+  asked = λ m c w by a k. asked-duplicate m c w by handle access a k;
+  apart = λ m c u d w by known a used out. apart-duplicate m c u d w by known handle access a used out;
+  same = λ m c w by known a mine fine. same-duplicate m c w by known handle access a mine fine;
+  ours = λ m c w by known a mine. ours-duplicate m c w by known handle access a mine;
+  leads = λ m c u d w by known a used by_in other. leads-duplicate m c u d w by known handle access a used by_in other;
+  hears = λ m c u w by d memo k owned n a all out. hears-duplicate m c u w by d memo k owned n a all out handle access;
+  notes = λ m c u w by memo k owned n a all by_in. notes-duplicate m c u w by memo k owned n a all by_in handle access;
+  alike = λ k ps u by c. alike-duplicate k ps u by handle access c;
+  stands = λ k u by s c new. stands-duplicate k u by handle access s c new;
+  fine = λ m c after u by idle f. fine-duplicate m c after u by handle access idle f;
+}
+
+query-lawful : (handle : ℕ) → Lawful (query_object handle)
+query-lawful handle = record {
+  orderly = λ m c u w by k. orderly-query m c u w by handle k;
+  refuses = λ w by. refuses-query w by handle;
+  fair = λ m c w by known a. fair-query m c w by known handle a;
+  names = λ m c u w by k. names-query m c u w by handle k;
+  paths = λ m c w by all k. paths-query m c w by handle all k;
+  sent = λ u by s live. sends-query u by handle;
+  asked = λ m c w by a k. asked-query m c w by handle a k;
+  apart = λ m c u d w by known a used out. apart-query m c u d w by known handle a used out;
+  same = λ m c w by known a mine fine. same-query m c w by known handle a mine fine;
+  ours = λ m c w by known a mine. ours-query m c w by known handle a mine;
+  leads = λ m c u d w by known a used by_in other. leads-query m c u d w by known handle a used by_in other;
+  hears = λ m c u w by d memo k owned n a all out. hears-query m c u w by d memo k owned n a all out handle;
+  notes = λ m c u w by memo k owned n a all by_in. notes-query m c u w by memo k owned n a all by_in handle;
+  alike = λ k ps u by c. alike-query k ps u by handle c;
+  stands = λ k u by s c new. stands-query k u by handle s c new;
+  fine = λ m c after u by idle f. fine-query m c after u by handle idle f;
+}
+
 pub lawful : (call : ScriptCall) → Lawful call
 lawful (create_port name) = create-lawful name
 lawful (connect_port name bytes) = connect-lawful name bytes
@@ -242,6 +317,9 @@ lawful (request_port handle message) = datagram-lawful handle message
 lawful (request_wait_reply_port handle message) = request-lawful handle message
 lawful (reply_port handle message) = reply-lawful handle message
 lawful (reply_wait_receive_port handle message) = receive-lawful handle message
+lawful (close handle) = close-lawful handle
+lawful (duplicate_object handle access) = duplicate-lawful handle access
+lawful (query_object handle) = query-lawful handle
 
 -- all that a call owes
 pub serves : (m : Group) (c : ℕ) (w : World) (by : ThreadRow) (known : List ℕ → Birth) (call : ScriptCall) → At m c w by known → (by.process ≡ c → is_fine_call m w call ≡ true) → Serves (leads_by m known) m c w by call

@@ -10,7 +10,8 @@ use Rattle.lpc_model.specs.Found.{live_thread, wait_of}
 use Rattle.lpc_model.specs.Basics.{world_after}
 use Rattle.lpc_model.specs.Connect.{ConnectAnswer, answer_test}
 use Rattle.lpc_model.specs.Lines.{ScriptCall, ScriptLine, boot, dir, link, run, thread}
-use Rattle.lpc_model.specs.Machine.{boot_line, dir_line, link_line, bare_step, thread_line}
+use Rattle.lpc_model.specs.Machine.{boot_line, dir_line, link_line, thread_line}
+use Rattle.lpc_isolation.proofs.Served.{served_step}
 use Rattle.lpc_model.specs.SoundWaits.{IsSoundWorld}
 use Rattle.lpc_model.proofs.Holding.{holds_ok}
 use Rattle.lpc_model.proofs.Usable.{live-number}
@@ -21,10 +22,10 @@ use Rattle.lpc_isolation.proofs.View.{view}
 use Rattle.lpc_isolation.proofs.Fair.{Fair}
 use Rattle.lpc_isolation.proofs.Seen.{live-owner}
 use Rattle.lpc_isolation.proofs.Apart.{Owned, absorb, absorb_all}
-use Rattle.lpc_isolation.proofs.Names.{SeenNames}
+use Rattle.lpc_isolation.proofs.Bound.{OnceBound, seen-names}
 use Rattle.lpc_isolation.proofs.Asked.{Asked}
 use Rattle.lpc_isolation.proofs.Ids.{Numbered, all-readable}
-use Rattle.lpc_isolation.proofs.Ways.{Paths, paths-ways}
+use Rattle.lpc_isolation.proofs.Paths.{Paths, paths-ways}
 use Rattle.lpc_isolation.proofs.Play.{Player, absorbed, told_at, told_items}
 use Rattle.lpc_isolation.proofs.Lines.{OnceUsed, Owes, run-hidden, run-visible, shown_run, turn}
 use Rattle.lpc_isolation.proofs.Calls.{owes-busy, owes-call, owes-none}
@@ -75,8 +76,8 @@ absorbed-memo m c s (e ∷ es) = absorbed-memo m c (record { seen = absorb s.see
 pub record Kept (m : Group) (c : ℕ) (w : World) : Type 0 where
   pub fair : Fair m c w
   pub once : OnceUsed w
-  pub names : SeenNames m w.bindings
-  pub paths : Paths m w
+  pub names : OnceBound w.bindings
+  pub paths : Paths w
   pub numbered : Numbered w
   pub asked : Asked w
 
@@ -102,8 +103,11 @@ ready-at m c w s tid by c_in st fine live idle =
       fine = fine;
       sound = st.sound;
       owned = owned-sound m c w st.kept.fair st.sound.waits;
-      names = st.kept.names;
-      ways = paths-ways m w st.kept.paths;
+      names = seen-names m w.bindings st.kept.names;
+      bound = st.kept.names;
+      paths = st.kept.paths;
+      asked = st.kept.asked;
+      ways = paths-ways m c w st.kept.fair fine st.kept.paths;
       readable = all-readable w st.kept.numbered st.kept.fair.senders;
       live = subst (λ n. live_thread w n ≡ Some by) (sym number) live;
       own = subst (λ n. owner w n ≡ Some by.process) (sym number) (live-owner m c w tid by st.kept.fair live);
@@ -119,7 +123,7 @@ line-call m c w tid call fine by own mine =
     same : (n : ℕ) → (n == n) ≡ true
     same n = grind (arith, nat_tests)
 
-pub owes-line : (m : Group) (c : ℕ) (w : World) (s : State) (tid : ℕ) (call : ScriptCall) → m c ≡ true → Stood m c w s → HasFinePorts m c w → HasFinePorts m c (bare_step w (run tid call)).world → is_fine_line m c w (run tid call) ≡ true → Owes (leads_by m (known_queue s.memo)) m c w tid call
+pub owes-line : (m : Group) (c : ℕ) (w : World) (s : State) (tid : ℕ) (call : ScriptCall) → m c ≡ true → Stood m c w s → HasFinePorts m c w → HasFinePorts m c (served_step w (run tid call)).world → is_fine_line m c w (run tid call) ≡ true → Owes (leads_by m (known_queue s.memo)) m c w tid call
 owes-line m c w s tid call c_in st fine next line = at (live_thread w tid) refl
   where
     owned : Owned w w
@@ -139,11 +143,11 @@ owes-line m c w s tid call c_in st fine next line = at (live_thread w tid) refl
 
 -- What each line leaves of a view, and what c sees of it
 pub record Line (m : Group) (c : ℕ) (w : World) (s : State) (line : ScriptLine) : Type 0 where
-  pub hides : is_seen m (line_whose w line) ≡ false → (view m (bare_step w line).world ≡ absorb_all s.seen (told_at m c w line)) × (items (alone c) (bare_line_events w line) ≡ [])
-  pub shows : is_seen m (line_whose w line) ≡ true → (is : List Item) → (view m (bare_step w line).world ≡ absorb_all (played_view m c s line (told_items (told_at m c w line) ++ is)) (told_at m c w line))
+  pub hides : is_seen m (line_whose w line) ≡ false → (view m (served_step w line).world ≡ absorb_all s.seen (told_at m c w line)) × (items (alone c) (bare_line_events w line) ≡ [])
+  pub shows : is_seen m (line_whose w line) ≡ true → (is : List Item) → (view m (served_step w line).world ≡ absorb_all (played_view m c s line (told_items (told_at m c w line) ++ is)) (told_at m c w line))
       × (items (alone c) (bare_line_events w line) ≡ played_items m c s line (told_items (told_at m c w line) ++ is))
 
-pub of-line : (m : Group) (c : ℕ) (w : World) (t : List Heard) (line : ScriptLine) → m c ≡ true → Stood m c w (record { seen = view m w; memo = t }) → HasFinePorts m c w → HasFinePorts m c (bare_step w line).world → OnceUsed (bare_step w line).world → is_fine_line m c w line ≡ true → Line m c w (record { seen = view m w; memo = t }) line
+pub of-line : (m : Group) (c : ℕ) (w : World) (t : List Heard) (line : ScriptLine) → m c ≡ true → Stood m c w (record { seen = view m w; memo = t }) → HasFinePorts m c w → HasFinePorts m c (served_step w line).world → OnceUsed (served_step w line).world → is_fine_line m c w line ≡ true → Line m c w (record { seen = view m w; memo = t }) line
 of-line m c w t (run tid call) c_in st fine next once line =
     let o = owes-line m c w (record { seen = view m w; memo = t }) tid call c_in st fine next line in
     record { hides = λ out. run-hidden (leads_by m (known_queue t)) m c w tid call c_in o out; shows = λ seen is. run-visible (leads_by m (known_queue t)) m c w tid call is c_in o st.kept.once once seen }
@@ -154,8 +158,8 @@ of-line m c w t (thread tid pid) c_in st fine next once line =
     let o = thread-directs m w tid pid in
     record { hides = λ out. directive-hidden m c w (thread tid pid) _ (Of pid) (thread_line w tid pid) c_in o out; shows = λ seen is. directive-visible m c w (thread tid pid) _ (Of pid) (thread_line w tid pid) is o seen }
 of-line m c w t (dir path) c_in st fine next once line =
-    let o = dir-directs m w path st.kept.names in
+    let o = dir-directs m w path (seen-names m w.bindings st.kept.names) in
     record { hides = λ out. directive-hidden m c w (dir path) _ Everyone (dir_line w path) c_in o out; shows = λ seen is. directive-visible m c w (dir path) _ Everyone (dir_line w path) is o seen }
 of-line m c w t (link path target) c_in st fine next once line =
-    let o = link-directs m w path target st.kept.names in
+    let o = link-directs m w path target (seen-names m w.bindings st.kept.names) in
     record { hides = λ out. directive-hidden m c w (link path target) _ Everyone (link_line w path target) c_in o out; shows = λ seen is. directive-visible m c w (link path target) _ Everyone (link_line w path target) is o seen }

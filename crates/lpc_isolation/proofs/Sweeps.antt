@@ -3,37 +3,55 @@ use Rattle.lpc_isolation.proofs.Fresh.{is_new, next-new}
 use Rattle.lpc_isolation.proofs.Services.{lawful}
 use Rattle.std.proofs.Common.{◌≡◌, ℕ, List, [], ◌∷◌, ◌++◌, Bool, true, false, map, Option, Some, None, refl, ap, sym, subst, ◌∙◌, arith}
 use Rattle.std.proofs.lemmas.List.{append_assoc}
-use Rattle.std.specs.Prelude.{◌||◌}
+use Rattle.std.specs.Prelude.{◌||◌, Result, Ok, Err}
 use Rattle.lpc_base.specs.Rows.{every, which}
 use Rattle.lpc_base.proofs.RowWords.{every-more}
+use Rattle.lpc_base.proofs.RowMaps.{every-both}
 use Rattle.lpc_model.specs.declared.entry.Entry.{Entry}
 use Rattle.lpc_model.specs.declared.entry.Word.TheVariants as word
 use Rattle.lpc_model.specs.World.{Birth, HandleRow, HandleTable, ObjectName, PortRow, ProcessRow, ThreadRow, WaitRow, World}
-use Rattle.lpc_model.specs.Found.{live_thread, same_birth, wait_of}
-use Rattle.lpc_model.specs.Basics.{Basic, Frees, entries_of, told, world_after}
-use Rattle.lpc_model.specs.Tests.{next_birth}
+use Rattle.lpc_model.specs.Found.{handle_at, handle_count, live_thread, same_birth, wait_of}
+use Rattle.lpc_model.specs.Basics.{Basic, Frees, Tells, entries_of, told, world_after}
+use Rattle.lpc_model.specs.Tests.{next_birth, own_handle}
 use Rattle.lpc_model.specs.Named.{free_name, spelled_name}
-use Rattle.lpc_model.specs.Lines.{ScriptCall, ScriptLine, boot, dir, link, run, thread}
+use Rattle.lpc_model.specs.Lines.{ScriptCall, ScriptLine, accept_connect_port, boot, close, complete_connect_port, connect_port, create_port, dir, duplicate_object, link, listen_port, query_object, reply_port, reply_wait_receive_port, request_port, request_wait_reply_port, run, thread}
 use Rattle.lpc_model.specs.Machine.{bare_step, bare_steps, boot_line, dir_line, link_line, name_of_call, ready_steps, service_of, settled, step, thread_line, thread_steps, thread_test, unused_test}
+use Rattle.lpc_isolation.proofs.Served.{query_steps, served, served_ready, served_step, served_steps, served_thread}
 use Rattle.lpc_model.specs.Sweep.{free_unheld, sweep, unheld}
 use Rattle.lpc_model.specs.SoundWaits.{IsSoundWorld}
+use Rattle.lpc_model.specs.Linked.{HasHeldPorts, IsLinked}
+use Rattle.lpc_model.specs.Standing.{NamesWhatStands, is_to_port}
+use Rattle.lpc_model.specs.Counts.{counts_of, nt_query_object}
+use Rattle.lpc_model.specs.Fields.{object_fields}
+use Rattle.lpc_model.specs.Then.{◌>>=◌}
+use Rattle.lpc_base.specs.declared.status.Status.{Status}
+use Rattle.lpc_base.specs.declared.status.TheConstants.{INVALID_HANDLE, SUCCESS}
+use Rattle.lpc_model.specs.declared.entry.CallName.TheVariants.{NtQueryObject}
+use Rattle.lpc_model.specs.declared.entry.Entry.TheVariants.{Answer}
+use Rattle.lpc_model.proofs.SoundLines.{line-sound, sound_step}
+use Rattle.lpc_model.proofs.LinkedLines.{held_step, line_linked, linked_step}
+use Rattle.lpc_model.proofs.StandingCalls.{found-to-port, names_step}
+use Rattle.lpc_model.proofs.Usable.{live-number}
+use Rattle.lpc_isolation.proofs.Seen.{bind-same}
+use Rattle.lpc_isolation.proofs.Sent.{Sent, are_sent, is_sent_home, run-sent}
+use Rattle.lpc_isolation.proofs.Held.{Held, held-counts}
 use Rattle.lpc_model.proofs.Births.{birth-self}
-use Rattle.lpc_model.proofs.Holding.{bind_holds, directed_holds, settled_holds}
+use Rattle.lpc_model.proofs.Holding.{bind_holds, directed_holds, found_ok, settled_holds}
 use Rattle.lpc_model.proofs.SoundQueues.{after-append}
 use Rattle.lpc_isolation.proofs.View.{both, one_of, other_of}
-use Rattle.lpc_isolation.proofs.Thin.{Alive, Behind, Closed, all_alive, all_joining, behind-sweep, closed-run, handle_closed, message_closed, port_alive, port_closed, table_closed, thin, thin-run, wait_closed}
-use Rattle.lpc_isolation.proofs.ThinCalls.{AreClosed}
+use Rattle.lpc_isolation.proofs.Thin.{Alive, Behind, Closed, all_alive, all_joining, behind-sweep, closed-run, handle_closed, message_closed, port_alive, port_closed, port_cut, table_closed, thin, thin-run, wait_closed}
+use Rattle.lpc_isolation.proofs.ThinCalls.{AreClosed, row-thin}
 
 -- Lines
-ready-thin : (k : Alive) (ps : List ProcessRow) (u : World) (by : ThreadRow) (call : ScriptCall) (o : Option WaitRow) → Closed k u → ready_steps by call o (thin k ps u) ≡ ready_steps by call o u
+ready-thin : (k : Alive) (ps : List ProcessRow) (u : World) (by : ThreadRow) (call : ScriptCall) (o : Option WaitRow) → Closed k u → served_ready by call o (thin k ps u) ≡ served_ready by call o u
 ready-thin k ps u by call (Some x) c = refl
 ready-thin k ps u by call None c = ap (settled by (name_of_call call)) ((lawful call).alike k ps u by c)
 
-thread-thin : (k : Alive) (ps : List ProcessRow) (u : World) (tid : ℕ) (call : ScriptCall) (o : Option ThreadRow) → Closed k u → thread_steps tid call o (thin k ps u) ≡ thread_steps tid call o u
+thread-thin : (k : Alive) (ps : List ProcessRow) (u : World) (tid : ℕ) (call : ScriptCall) (o : Option ThreadRow) → Closed k u → served_thread tid call o (thin k ps u) ≡ served_thread tid call o u
 thread-thin k ps u tid call None c = refl
 thread-thin k ps u tid call (Some by) c = ready-thin k ps u by call (wait_of u tid) c
 
-pub line-thin : (k : Alive) (ps : List ProcessRow) (u : World) (line : ScriptLine) → Closed k u → bare_steps line (thin k ps u) ≡ bare_steps line u
+pub line-thin : (k : Alive) (ps : List ProcessRow) (u : World) (line : ScriptLine) → Closed k u → served_steps line (thin k ps u) ≡ served_steps line u
 unfolding bare_steps boot_line thread_line dir_line link_line
 line-thin k ps u (boot pid tid) c = refl
 line-thin k ps u (thread tid pid) c = refl
@@ -41,9 +59,9 @@ line-thin k ps u (dir path) c = refl
 line-thin k ps u (link path target) c = refl
 line-thin k ps u (run tid call) c = thread-thin k ps u tid call (live_thread u tid) c
 
-ready-closed : (k : Alive) (u : World) (by : ThreadRow) (call : ScriptCall) (o : Option WaitRow) → IsSoundWorld u → Closed k u → k (next_birth by) ≡ true → AreClosed k (ready_steps by call o u)
+ready-closed : (k : Alive) (u : World) (by : ThreadRow) (call : ScriptCall) (o : Option WaitRow) → IsSoundWorld u → Closed k u → k (next_birth by) ≡ true → AreClosed k (served_ready by call o u)
 ready-closed k u by call (Some x) s c new = refl
-ready-closed k u by call None s c new = settled_holds (AreClosed k) by (name_of_call call) (service_of u by call) ((lawful call).stands k u by s c new) (λ _ _. refl)
+ready-closed k u by call None s c new = settled_holds (AreClosed k) by (name_of_call call) (served u by call) ((lawful call).stands k u by s c new) (λ _ _. refl)
 
 -- the births that a line may use are alive with the others
 abbrev pub and : Birth → Alive → Alive
@@ -79,6 +97,7 @@ and-closed k u n new c = record {
   messages = every-more (message_closed k) (message_closed (and n k)) (λ x is. more k n x.sender is) u.messages c.messages;
   waits = every-more (wait_closed k) (wait_closed (and n k)) (λ x is. more k n x.port is) u.waits c.waits;
   lives = c.lives;
+  cuts = every-more (port_cut k) (port_cut (and n k)) (λ p is. grind arith) u.ports c.cuts;
 }
   where
     every-two : {X : Type 0} (p q r : X → Bool) → ((x : X) → p x ≡ true → q x ≡ true → r x ≡ true) → (xs : List X) → every p xs ≡ true → every q xs ≡ true → every r xs ≡ true
@@ -97,9 +116,9 @@ record Ready (k : Alive) (ps : List ProcessRow) (u : World) (line : ScriptLine) 
   alive : Alive
   same : thin k ps u ≡ thin alive ps u
   closed : Closed alive u
-  names : AreClosed alive (bare_steps line u)
+  names : AreClosed alive (served_steps line u)
 
-run-ready : (k : Alive) (ps : List ProcessRow) (u : World) (tid : ℕ) (call : ScriptCall) (o : Option ThreadRow) → live_thread u tid ≡ o → bare_steps (run tid call) u ≡ thread_steps tid call o u → IsSoundWorld u → Closed k u → Ready k ps u (run tid call)
+run-ready : (k : Alive) (ps : List ProcessRow) (u : World) (tid : ℕ) (call : ScriptCall) (o : Option ThreadRow) → live_thread u tid ≡ o → served_steps (run tid call) u ≡ served_thread tid call o u → IsSoundWorld u → Closed k u → Ready k ps u (run tid call)
 run-ready k ps u tid call None live is s c = record { alive = k; same = refl; closed = c; names = subst (AreClosed k) (sym is) refl }
 run-ready k ps u tid call (Some by) live is s c =
     let n : Birth = next_birth by in
@@ -118,33 +137,164 @@ line-ready k ps u (dir path) s c = record { alive = k; same = refl; closed = c; 
 line-ready k ps u (link path target) s c = record { alive = k; same = refl; closed = c; names = directed_holds (AreClosed k) word.Link (link_line u path target) (bind_holds (spelled_name target) _ (AreClosed k) (λ _ _. bind_holds (free_name u path) _ (AreClosed k) (λ _ _. refl))) (λ _. refl) }
 line-ready k ps u (run tid call) s c = run-ready k ps u tid call (live_thread u tid) refl refl s c
 
--- One line, in the two worlds
-pub record InStep (w u : World) (line : ScriptLine) : Type 0 where
-  pub same : bare_steps line w ≡ bare_steps line u
-  pub behind : Behind (step w line).world (bare_step u line).world
+-- What a query is told where each row is named by a row
+query-held : (w : World) (by : ThreadRow) (handle : ℕ) → Held w → service_of w by (query_object handle) ≡ served w by (query_object handle)
+unfolding nt_query_object
+query-held w by handle h = bind-same (own_handle w by handle) _ _ (λ r at.
+    let port : is_to_port w r ≡ true = found-to-port w by.process handle r h.names (found_ok (handle_at w by.process handle) INVALID_HANDLE r at) in
+    ap (λ n. Ok (Tells (Answer by.number NtQueryObject SUCCESS (object_fields r.object.kind r.access (handle_count w r.object) n)) ∷ [])) (sym (held-counts w r.object h (one_of _ _ port))))
 
-pub line-behind : (w u : World) (line : ScriptLine) → IsSoundWorld u → Behind w u → InStep w u line
-line-behind w u line s r = record { same = same; behind = swept }
+call-held : (w : World) (by : ThreadRow) (call : ScriptCall) → Held w → service_of w by call ≡ served w by call
+call-held w by (query_object handle) h = query-held w by handle h
+call-held w by (create_port name) h = refl
+call-held w by (connect_port name info) h = refl
+call-held w by (listen_port handle) h = refl
+call-held w by (accept_connect_port context message accept) h = refl
+call-held w by (complete_connect_port handle) h = refl
+call-held w by (request_port handle message) h = refl
+call-held w by (request_wait_reply_port handle message) h = refl
+call-held w by (reply_port handle message) h = refl
+call-held w by (reply_wait_receive_port handle reply) h = refl
+call-held w by (close handle) h = refl
+call-held w by (duplicate_object handle access) h = refl
+
+thread-held : (w : World) (tid : ℕ) (call : ScriptCall) (o : Option ThreadRow) → Held w → thread_steps tid call o w ≡ served_thread tid call o w
+thread-held w tid call None h = refl
+thread-held w tid call (Some by) h = at (wait_of w tid)
   where
+    at : (o : Option WaitRow) → ready_steps by call o w ≡ served_ready by call o w
+    at (Some x) = refl
+    at None = ap (settled by (name_of_call call)) (call-held w by call h)
+
+line-held : (w : World) (line : ScriptLine) → Held w → bare_steps line w ≡ served_steps line w
+unfolding bare_steps
+line-held w (boot pid tid) h = refl
+line-held w (thread tid pid) h = refl
+line-held w (dir path) h = refl
+line-held w (link path target) h = refl
+line-held w (run tid call) h = thread-held w tid call (live_thread w tid) h
+
+-- The two machines leave a world alike
+query-world : (u : World) (by : ThreadRow) (handle : ℕ) → world_after u (settled by NtQueryObject (served u by (query_object handle))) ≡ world_after u (settled by NtQueryObject (service_of u by (query_object handle)))
+unfolding nt_query_object
+query-world u by handle = at (own_handle u by handle)
+  where
+    at : (r : Result HandleRow Status) → world_after u (settled by NtQueryObject (r >>= (λ r. Ok (query_steps u by r)))) ≡ world_after u (settled by NtQueryObject (r >>= (λ r. Ok (Tells (Answer by.number NtQueryObject SUCCESS (counts_of u r)) ∷ []))))
+    at (Ok r) = refl
+    at (Err s) = refl
+
+call-world : (u : World) (by : ThreadRow) (call : ScriptCall) → world_after u (settled by (name_of_call call) (served u by call)) ≡ world_after u (settled by (name_of_call call) (service_of u by call))
+call-world u by (query_object handle) = query-world u by handle
+call-world u by (create_port name) = refl
+call-world u by (connect_port name info) = refl
+call-world u by (listen_port handle) = refl
+call-world u by (accept_connect_port context message accept) = refl
+call-world u by (complete_connect_port handle) = refl
+call-world u by (request_port handle message) = refl
+call-world u by (request_wait_reply_port handle message) = refl
+call-world u by (reply_port handle message) = refl
+call-world u by (reply_wait_receive_port handle reply) = refl
+call-world u by (close handle) = refl
+call-world u by (duplicate_object handle access) = refl
+
+thread-world : (u : World) (tid : ℕ) (call : ScriptCall) (o : Option ThreadRow) → world_after u (served_thread tid call o u) ≡ world_after u (thread_steps tid call o u)
+thread-world u tid call None = refl
+thread-world u tid call (Some by) = at (wait_of u tid)
+  where
+    at : (o : Option WaitRow) → world_after u (served_ready by call o u) ≡ world_after u (ready_steps by call o u)
+    at (Some x) = refl
+    at None = call-world u by call
+
+served-world : (u : World) (line : ScriptLine) → (served_step u line).world ≡ (bare_step u line).world
+unfolding bare_steps
+served-world u (boot pid tid) = refl
+served-world u (thread tid pid) = refl
+served-world u (dir path) = refl
+served-world u (link path target) = refl
+served-world u (run tid call) = thread-world u tid call (live_thread u tid)
+
+pub served-sound : (u : World) (line : ScriptLine) → IsSoundWorld u → IsSoundWorld (served_step u line).world
+served-sound u line s = subst IsSoundWorld (sym (served-world u line)) (line-sound u line s)
+
+-- What a line sends
+thread-sends : (u : World) (tid : ℕ) (call : ScriptCall) (o : Option ThreadRow) → live_thread u tid ≡ o → IsSoundWorld u → are_sent u (served_thread tid call o u) ≡ true
+thread-sends u tid call None live s = refl
+thread-sends u tid call (Some by) live s = at (wait_of u tid)
+  where
+    own : live_thread u by.number ≡ Some by
+    own = subst (λ n. live_thread u n ≡ Some by) (sym (live-number u tid by live)) live
+
+    at : (o : Option WaitRow) → are_sent u (served_ready by call o u) ≡ true
+    at (Some x) = refl
+    at None = settled_holds (λ bs. are_sent u bs ≡ true) by (name_of_call call) (served u by call) ((lawful call).sent u by s own) (λ _ _. refl)
+
+line-sends : (u : World) (line : ScriptLine) → IsSoundWorld u → are_sent u (served_steps line u) ≡ true
+unfolding bare_steps boot_line thread_line dir_line link_line
+line-sends u (boot pid tid) s = directed_holds (λ bs. are_sent u bs ≡ true) word.Boot (boot_line u pid tid) (bind_holds (unused_test u pid tid) _ (λ bs. are_sent u bs ≡ true) (λ _ _. refl)) (λ _. refl)
+line-sends u (thread tid pid) s = directed_holds (λ bs. are_sent u bs ≡ true) word.Thread (thread_line u tid pid) (bind_holds (thread_test u tid pid) _ (λ bs. are_sent u bs ≡ true) (λ _ _. refl)) (λ _. refl)
+line-sends u (dir path) s = directed_holds (λ bs. are_sent u bs ≡ true) word.Dir (dir_line u path) (bind_holds (free_name u path) _ (λ bs. are_sent u bs ≡ true) (λ _ _. refl)) (λ _. refl)
+line-sends u (link path target) s = directed_holds (λ bs. are_sent u bs ≡ true) word.Link (link_line u path target) (bind_holds (spelled_name target) _ (λ bs. are_sent u bs ≡ true) (λ _ _. bind_holds (free_name u path) _ (λ bs. are_sent u bs ≡ true) (λ _ _. refl))) (λ _. refl)
+line-sends u (run tid call) s = thread-sends u tid call (live_thread u tid) refl s
+
+-- where rows have gone, a message still was sent on a port that stands
+sent-thin : (k : Alive) (ps : List ProcessRow) (u : World) → Closed k u → Sent u → Sent (thin k ps u)
+sent-thin k ps u c sent = every-both (message_closed k) (is_sent_home u) (is_sent_home (thin k ps u)) (λ x live home. rw (row-thin k ps u x.sender live) home) u.messages c.messages sent
+
+-- One line, in the two worlds
+-- a world between two lines, and that of the machine whose rows never go
+pub record Sides (w u : World) : Type 0 where
+  pub sound : IsSoundWorld w
+  pub linked : IsLinked w
+  pub ports : HasHeldPorts w
+  pub names : NamesWhatStands w
+  pub bare_sound : IsSoundWorld u
+  pub sent : Sent u
+  pub behind : Behind w u
+
+pub record InStep (w u : World) (line : ScriptLine) : Type 0 where
+  pub same : bare_steps line w ≡ served_steps line u
+  pub sides : Sides (step w line).world (served_step u line).world
+
+pub line-behind : (w u : World) (line : ScriptLine) → Sides w u → InStep w u line
+line-behind w u line t = record {
+  same = same;
+  sides = record {
+    sound = sound_step w line t.sound;
+    linked = linked_step w line t.sound t.linked;
+    ports = (held_step w line t.sound t.linked).ports;
+    names = names_step w line t.sound t.linked t.names;
+    bare_sound = served-sound u line t.bare_sound;
+    sent = run-sent u (served_steps line u) (line-sends u line t.bare_sound) t.sent;
+    behind = swept;
+  };
+}
+  where
+    r : Behind w u
+    r = t.behind
+
     ready : Ready r.alive r.stood u line
-    ready = line-ready r.alive r.stood u line s r.closed
+    ready = line-ready r.alive r.stood u line t.bare_sound r.closed
 
     here : w ≡ thin ready.alive r.stood u
     here = r.same ∙ ready.same
 
-    same : bare_steps line w ≡ bare_steps line u
-    same = ap (bare_steps line) here ∙ line-thin ready.alive r.stood u line ready.closed
+    held : Held w
+    held = record { linked = t.linked; ports = t.ports; names = t.names; sent = subst Sent (sym r.same) (sent-thin r.alive r.stood u r.closed t.sent) }
 
-    bare : Behind (world_after w (bare_steps line w)) (bare_step u line).world
+    same : bare_steps line w ≡ served_steps line u
+    same = line-held w line held ∙ ap (served_steps line) here ∙ line-thin ready.alive r.stood u line ready.closed
+
+    bare : Behind (world_after w (bare_steps line w)) (served_step u line).world
     bare = record {
       alive = ready.alive;
-      stood = all_joining r.stood (bare_steps line u);
-      same = ap (λ bs. world_after w bs) same ∙ ap (λ v. world_after v (bare_steps line u)) here ∙ sym (thin-run ready.alive r.stood u (bare_steps line u) ready.names);
-      closed = closed-run ready.alive u (bare_steps line u) ready.names ready.closed;
+      stood = all_joining r.stood (served_steps line u);
+      same = ap (λ bs. world_after w bs) same ∙ ap (λ v. world_after v (served_steps line u)) here ∙ sym (thin-run ready.alive r.stood u (served_steps line u) ready.names);
+      closed = closed-run ready.alive u (served_steps line u) ready.names ready.closed;
     }
 
-    swept : Behind (step w line).world (bare_step u line).world
-    swept = subst (λ v. Behind v (bare_step u line).world) (sym (after-append w (bare_steps line w) (sweep (world_after w (bare_steps line w))))) (behind-sweep (world_after w (bare_steps line w)) (bare_step u line).world bare)
+    swept : Behind (step w line).world (served_step u line).world
+    swept = subst (λ v. Behind v (served_step u line).world) (sym (after-append w (bare_steps line w) (sweep (world_after w (bare_steps line w)))))
+        (behind-sweep (world_after w (bare_steps line w)) (served_step u line).world (line-sound w line t.sound) (line_linked w line t.sound t.linked) bare)
 
 -- the sweep tells nothing
 entries-append : (bs cs : List Basic) → entries_of (bs ++ cs) ≡ entries_of bs ++ entries_of cs
@@ -165,7 +315,7 @@ append-none : (es : List Entry) → es ++ [] ≡ es
 append-none [] = refl
 append-none (e ∷ es) = ap (λ es. e ∷ es) (append-none es)
 
-pub entries-same : (w u : World) (line : ScriptLine) → InStep w u line → (step w line).entries ≡ (bare_step u line).entries
+pub entries-same : (w u : World) (line : ScriptLine) → InStep w u line → (step w line).entries ≡ (served_step u line).entries
 entries-same w u line a =
     entries-append (bare_steps line w) (sweep (world_after w (bare_steps line w)))
     ∙ ap (λ es. entries_of (bare_steps line w) ++ es) (sweep-silent (world_after w (bare_steps line w)))

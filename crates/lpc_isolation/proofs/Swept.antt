@@ -11,11 +11,13 @@ use Rattle.lpc_model.specs.declared.entry.Word.TheVariants as word
 use Rattle.lpc_model.specs.World.{ProcessRow, ThreadRow, WaitRow, World, no_rows}
 use Rattle.lpc_model.specs.Found.{live_thread, wait_of}
 use Rattle.lpc_model.specs.Named.{free_name, spelled_name}
-use Rattle.lpc_model.specs.Lines.{ScriptCall, ScriptLine, accept_connect_port, boot, complete_connect_port, connect_port, create_port, dir, link, listen_port, reply_port, reply_wait_receive_port, request_port, request_wait_reply_port, run, thread}
-use Rattle.lpc_model.specs.Machine.{bare_step, bare_steps, boot_line, dir_line, link_line, name_of_call, ready_steps, service_of, step, thread_line, thread_steps, thread_test, unused_test}
+use Rattle.lpc_model.specs.Lines.{ScriptCall, ScriptLine, accept_connect_port, boot, close, complete_connect_port, connect_port, create_port, dir, duplicate_object, link, listen_port, query_object, reply_port, reply_wait_receive_port, request_port, request_wait_reply_port, run, thread}
+use Rattle.lpc_model.specs.Machine.{bare_steps, boot_line, dir_line, link_line, name_of_call, step, thread_line, thread_test, unused_test}
+use Rattle.lpc_isolation.proofs.Served.{served, served_ready, served_step, served_steps, served_thread}
 use Rattle.lpc_model.specs.Run.{Along, said_in, world_behind}
-use Rattle.lpc_model.specs.SoundWaits.{IsSoundWorld}
-use Rattle.lpc_model.proofs.SoundLines.{line-sound, sound_none}
+use Rattle.lpc_model.proofs.SoundLines.{sound_none}
+use Rattle.lpc_model.proofs.LinkedLines.{linked_none}
+use Rattle.lpc_model.proofs.StandingCalls.{names_none}
 use Rattle.lpc_model.specs.Circle.{Event, Everyone, Group, IsCircleIn, IsFineAt, IsFineWorld, Isolation, Nobody, Of, Ran, Told, Whose, entry_whose, events, inputs, is_fine_call, is_fine_line, is_item, is_seen, item_of, items, line_events, line_whose, members, owner, told_event}
 use Rattle.lpc_isolation.proofs.Alone.{HasFinePorts, alone}
 use Rattle.lpc_isolation.proofs.Bare.{BareIsolation, IsBareCircle, bare_events, bare_line_events}
@@ -23,7 +25,7 @@ use Rattle.lpc_model.proofs.Holding.{bind_holds, directed_holds, settled_holds}
 use Rattle.lpc_model.proofs.Usable.{live-number}
 use Rattle.lpc_isolation.proofs.BareLaw.{bare-isolation}
 use Rattle.lpc_isolation.proofs.Thin.{Alive, Behind, thin}
-use Rattle.lpc_isolation.proofs.Sweeps.{InStep, entries-same, line-behind}
+use Rattle.lpc_isolation.proofs.Sweeps.{InStep, Sides, entries-same, line-behind}
 
 -- What happens is the same
 map-same : {X Y : Type 0} (f g : X → Y) → ((x : X) → f x ≡ g x) → (xs : List X) → map f xs ≡ map g xs
@@ -49,30 +51,30 @@ entry-thin k ps u d (entry.Directive word status) = refl
 line-same : (w u : World) (line : ScriptLine) → Behind w u → InStep w u line → line_events w line ≡ bare_line_events u line
 line-same w u line r a =
     let whose : line_whose w line ≡ line_whose u line = ap (λ v. line_whose v line) r.same ∙ whose-thin r.alive r.stood u line in
-    let told : (e : Entry) → told_event (step w line).world (line_whose u line) e ≡ told_event (bare_step u line).world (line_whose u line) e
-    = λ e. ap (λ x. record { whose = x; item = Told e }) (ap (λ v. entry_whose v (line_whose u line) e) a.behind.same ∙ entry-thin a.behind.alive a.behind.stood (bare_step u line).world (line_whose u line) e) in
+    let told : (e : Entry) → told_event (step w line).world (line_whose u line) e ≡ told_event (served_step u line).world (line_whose u line) e
+    = λ e. ap (λ x. record { whose = x; item = Told e }) (ap (λ v. entry_whose v (line_whose u line) e) a.sides.behind.same ∙ entry-thin a.sides.behind.alive a.sides.behind.stood (served_step u line).world (line_whose u line) e) in
     ap (λ d. record { whose = d; item = Ran line } ∷ map (told_event (step w line).world d) (step w line).entries) whose
     ∙ ap (λ es. record { whose = line_whose u line; item = Ran line } ∷ map (told_event (step w line).world (line_whose u line)) es) (entries-same w u line a)
-    ∙ ap (λ es. record { whose = line_whose u line; item = Ran line } ∷ es) (map-same (told_event (step w line).world (line_whose u line)) (told_event (bare_step u line).world (line_whose u line)) told (bare_step u line).entries)
+    ∙ ap (λ es. record { whose = line_whose u line; item = Ran line } ∷ es) (map-same (told_event (step w line).world (line_whose u line)) (told_event (served_step u line).world (line_whose u line)) told (served_step u line).entries)
 
-pub events-same : (w u : World) (lines : List (Option ScriptLine)) → IsSoundWorld u → Behind w u → events w lines ≡ bare_events u lines
-events-same w u [] s r = refl
-events-same w u (None ∷ later) s r = events-same w u later s r
-events-same w u (Some line ∷ later) s r =
-    let a = line-behind w u line s r in
-    ap (λ es. es ++ events (step w line).world later) (line-same w u line r a)
-    ∙ ap (λ es. bare_line_events u line ++ es) (events-same (step w line).world (bare_step u line).world later (line-sound u line s) a.behind)
+pub events-same : (w u : World) (lines : List (Option ScriptLine)) → Sides w u → events w lines ≡ bare_events u lines
+events-same w u [] t = refl
+events-same w u (None ∷ later) t = events-same w u later t
+events-same w u (Some line ∷ later) t =
+    let a = line-behind w u line t in
+    ap (λ es. es ++ events (step w line).world later) (line-same w u line t.behind a)
+    ∙ ap (λ es. bare_line_events u line ++ es) (events-same (step w line).world (served_step u line).world later a.sides)
 
 -- of each line
-ready-fine : (m : Group) (c : ℕ) (after u : World) (by : ThreadRow) (call : ScriptCall) (o : Option WaitRow) → wait_of u by.number ≡ o → HasFinePorts m c after → FineAfter m c after u (ready_steps by call o u)
+ready-fine : (m : Group) (c : ℕ) (after u : World) (by : ThreadRow) (call : ScriptCall) (o : Option WaitRow) → wait_of u by.number ≡ o → HasFinePorts m c after → FineAfter m c after u (served_ready by call o u)
 ready-fine m c after u by call (Some x) is f = λ _. refl
-ready-fine m c after u by call None idle f = settled_holds (FineAfter m c after u) by (name_of_call call) (service_of u by call) ((lawful call).fine m c after u by idle f) (λ _ _ _. refl)
+ready-fine m c after u by call None idle f = settled_holds (FineAfter m c after u) by (name_of_call call) (served u by call) ((lawful call).fine m c after u by idle f) (λ _ _ _. refl)
 
-thread-fine : (m : Group) (c : ℕ) (after u : World) (tid : ℕ) (call : ScriptCall) (o : Option ThreadRow) → live_thread u tid ≡ o → HasFinePorts m c after → FineAfter m c after u (thread_steps tid call o u)
+thread-fine : (m : Group) (c : ℕ) (after u : World) (tid : ℕ) (call : ScriptCall) (o : Option ThreadRow) → live_thread u tid ≡ o → HasFinePorts m c after → FineAfter m c after u (served_thread tid call o u)
 thread-fine m c after u tid call None live f = λ _. refl
 thread-fine m c after u tid call (Some by) live f = ready-fine m c after u by call (wait_of u tid) (ap (wait_of u) (live-number u tid by live)) f
 
-line-fine : (m : Group) (c : ℕ) (after u : World) (line : ScriptLine) → HasFinePorts m c after → FineAfter m c after u (bare_steps line u)
+line-fine : (m : Group) (c : ℕ) (after u : World) (line : ScriptLine) → HasFinePorts m c after → FineAfter m c after u (served_steps line u)
 unfolding bare_steps boot_line thread_line dir_line link_line
 line-fine m c after u (boot pid tid) f = λ _. directed_holds (AreFine m c) word.Boot (boot_line u pid tid) (bind_holds (unused_test u pid tid) _ (AreFine m c) (λ _ _. refl)) (λ _. refl)
 line-fine m c after u (thread tid pid) f = λ _. directed_holds (AreFine m c) word.Thread (thread_line u tid pid) (bind_holds (thread_test u tid pid) _ (AreFine m c) (λ _ _. refl)) (λ _. refl)
@@ -93,6 +95,9 @@ call-inside m k ps u (request_wait_reply_port handle message) = refl
 call-inside m k ps u (reply_port handle message) = refl
 call-inside m k ps u (reply_wait_receive_port handle None) = refl
 call-inside m k ps u (reply_wait_receive_port handle (Some message)) = refl
+call-inside m k ps u (close handle) = refl
+call-inside m k ps u (duplicate_object handle access) = refl
+call-inside m k ps u (query_object handle) = refl
 
 line-inside : (m : Group) (c : ℕ) (k : Alive) (ps : List ProcessRow) (u : World) (line : ScriptLine) → is_fine_line m c (thin k ps u) line ≡ is_fine_line m c u line
 line-inside m c k ps u (boot pid tid) = refl
@@ -107,22 +112,26 @@ first-fine m c w [] along last = last.ports
 first-fine m c w (None ∷ later) along last = first-fine m c w later along last
 first-fine m c w (Some line ∷ later) along last = along.0.0.ports
 
-circle-same : (m : Group) (c : ℕ) (w u : World) (lines : List (Option ScriptLine)) → IsSoundWorld u → Behind w u → HasFinePorts m c u → Along (IsFineAt m c) w lines → IsFineWorld m c (world_behind w lines) → IsBareCircle m c u lines
+circle-same : (m : Group) (c : ℕ) (w u : World) (lines : List (Option ScriptLine)) → Sides w u → HasFinePorts m c u → Along (IsFineAt m c) w lines → IsFineWorld m c (world_behind w lines) → IsBareCircle m c u lines
 unfolding world_behind
-circle-same m c w u [] s r fine along last = fine
-circle-same m c w u (None ∷ later) s r fine along last = circle-same m c w u later s r fine along last
-circle-same m c w u (Some line ∷ later) s r fine along last =
-    let a = line-behind w u line s r in
+circle-same m c w u [] t fine along last = fine
+circle-same m c w u (None ∷ later) t fine along last = circle-same m c w u later t fine along last
+circle-same m c w u (Some line ∷ later) t fine along last =
+    let r = t.behind in
+    let a = line-behind w u line t in
     let next : HasFinePorts m c (step w line).world = first-fine m c (step w line).world later along.1 last in
-    let after : HasFinePorts m c (bare_step u line).world = run-fine m c u (bare_steps line u) (line-fine m c (step w line).world u line next a.behind) fine in (
+    let after : HasFinePorts m c (served_step u line).world = run-fine m c u (served_steps line u) (line-fine m c (step w line).world u line next a.sides.behind) fine in (
       fine,
       sym (line-inside m c r.alive r.stood u line) ∙ sym (ap (λ v. is_fine_line m c v line) r.same) ∙ along.0.1,
-      circle-same m c (step w line).world (bare_step u line).world later (line-sound u line s) a.behind after along.1 last,
+      circle-same m c (step w line).world (served_step u line).world later a.sides after along.1 last,
     )
 
 -- The law
 behind_none : Behind no_rows no_rows
-behind_none = record { alive = λ b. true; stood = []; same = refl; closed = record { tables = refl; ports = refl; messages = refl; waits = refl; lives = refl } }
+behind_none = record { alive = λ b. true; stood = []; same = refl; closed = record { tables = refl; ports = refl; messages = refl; waits = refl; lives = refl; cuts = refl } }
+
+sides_none : Sides no_rows no_rows
+sides_none = record { sound = sound_none; linked = linked_none; ports = refl; names = names_none; bare_sound = sound_none; sent = refl; behind = behind_none }
 
 -- the items of a list of one process are those of that process alone
 one-member : (c pid : ℕ) → members (c ∷ []) pid ≡ alone c pid
@@ -146,9 +155,9 @@ items-same m k same (e ∷ es) = at (is_item m e) (is_item k e) (seen e.whose) (
 isolation_from : BareIsolation → Isolation
 isolation_from bare group c one two circle_one circle_two same =
     let m : Group = members group in
-    let first_run : events no_rows (said_in one) ≡ bare_events no_rows (said_in one) = events-same no_rows no_rows (said_in one) sound_none behind_none in
-    let second_run : events no_rows (said_in two) ≡ bare_events no_rows (said_in two) = events-same no_rows no_rows (said_in two) sound_none behind_none in
-    let inside : (script : List ℕ) → IsCircleIn group c script → IsBareCircle m c no_rows (said_in script) = λ script circle. circle-same m c no_rows no_rows (said_in script) sound_none behind_none refl circle.1.0 circle.1.1 in
+    let first_run : events no_rows (said_in one) ≡ bare_events no_rows (said_in one) = events-same no_rows no_rows (said_in one) sides_none in
+    let second_run : events no_rows (said_in two) ≡ bare_events no_rows (said_in two) = events-same no_rows no_rows (said_in two) sides_none in
+    let inside : (script : List ℕ) → IsCircleIn group c script → IsBareCircle m c no_rows (said_in script) = λ script circle. circle-same m c no_rows no_rows (said_in script) sides_none refl circle.1.0 circle.1.1 in
     items-same (members (c ∷ [])) (alone c) (one-member c) (events no_rows (said_in one))
     ∙ ap (items (alone c)) first_run
     ∙ bare group c one two circle_one.0 (inside one circle_one) (inside two circle_two) (sym (ap (inputs m c) first_run) ∙ same ∙ ap (inputs m c) second_run)

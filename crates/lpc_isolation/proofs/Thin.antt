@@ -7,11 +7,15 @@ use Rattle.lpc_base.proofs.RowMaps.{every-both, every-without_first}
 use Rattle.lpc_model.specs.declared.entry.ObjectKind.{ObjectKind}
 use Rattle.lpc_model.specs.declared.entry.ObjectKind.TheVariants as kind
 use Rattle.lpc_model.specs.World.{Birth, HandleRow, HandleTable, MessageRow, ObjectName, PortRow, ProcessRow, ThreadRow, WaitRow, World}
-use Rattle.lpc_model.specs.Found.{all_handles, handle_count, is_connected_to, is_life, is_made_on, is_own_of, is_paired_to, is_port, is_sent_on, is_table, is_the, is_thread, port_name, same_birth, same_kind, same_object, thread_name, waits_as, waits_at}
-use Rattle.lpc_model.specs.Basics.{Accepts, AddsHandle, AddsProcess, AddsThread, Awaits, Basic, Binds, Completes, DrawsIdentifier, DrawsOrdinal, Enters, Frees, Joins, Makes, Receives, Takes, TakesConnect, Tells, Wakes, Withdraws, accepted, basic, completed, freed, joined, no_handles, past_identifier, past_ordinal, received, with_handle, world_after}
+use Rattle.lpc_model.specs.Found.{all_handles, handle_count, has_value, is_connected_to, is_cut, is_life, is_made_on, is_own_of, is_paired_to, is_port, is_queued, is_sent_on, is_table, is_the, is_thread, port_name, same_birth, same_kind, same_object, thread_name, waits_as, waits_at}
+use Rattle.lpc_model.specs.Basics.{Accepts, AddsHandle, AddsProcess, AddsThread, Awaits, Basic, Binds, Completes, Cuts, DrawsIdentifier, DrawsOrdinal, DropsHandle, Empties, Enters, Frees, Joins, Makes, Receives, Takes, TakesConnect, Tells, Unbinds, Wakes, Withdraws, accepted, basic, completed, cut, freed, is_end_of, joined, no_handles, past_identifier, past_ordinal, received, with_handle, without_handle, world_after}
 use Rattle.lpc_model.specs.Sweep.{free_unheld, is_unheld, sweep, unheld}
 use Rattle.lpc_model.proofs.Births.{birth-same}
-use Rattle.lpc_model.proofs.SoundFrees.{is-zero, less-held, none-pass, sum-first, sum-second, which-all}
+use Rattle.lpc_model.specs.SoundWaits.{IsSoundWorld}
+use Rattle.lpc_model.specs.Linked.{IsLinked}
+use Rattle.lpc_model.proofs.LinkedJoins.{gone-linked}
+use Rattle.lpc_model.proofs.Swept.{lonely}
+use Rattle.lpc_model.proofs.SoundFrees.{freed-sound, is-zero, less-held, none-pass, sum-first, sum-second, which-all}
 use Rattle.lpc_model.proofs.SoundQueues.{after-append}
 use Rattle.lpc_isolation.proofs.Filters.{kept-change, kept-push}
 use Rattle.lpc_isolation.proofs.View.{both, one_of, other_of}
@@ -50,6 +54,10 @@ message_closed k x = k x.sender
 abbrev pub wait_closed : Alive → WaitRow → Bool
 wait_closed k x = k x.port
 
+-- a port that has gone has no other end
+abbrev pub port_cut : Alive → PortRow → Bool
+port_cut k p = k p.birth || is_cut p
+
 -- what the rows that stand name, stands; and each thread lives
 pub record Closed (k : Alive) (u : World) : Type 0 where
   pub tables : every (table_closed k) u.handles ≡ true
@@ -57,6 +65,7 @@ pub record Closed (k : Alive) (u : World) : Type 0 where
   pub messages : every (message_closed k) u.messages ≡ true
   pub waits : every (wait_closed k) u.waits ≡ true
   pub lives : every (λ t. t.live) u.threads ≡ true
+  pub cuts : every (port_cut k) u.ports ≡ true
 
 -- a step that names what is alive alone
 abbrev pub is_closed : Alive → Basic → Bool
@@ -79,6 +88,10 @@ is_closed k (AddsThread t) = t.live
 is_closed k (Completes b) = true
 is_closed k (Withdraws who) = true
 is_closed k (Frees o) = false
+is_closed k (Empties q) = true
+is_closed k (Cuts b) = true
+is_closed k (Unbinds b) = true
+is_closed k (DropsHandle pid value) = true
 
 -- Lists
 which-map : {X : Type 0} (k : X → Bool) (f : X → X) → ((x : X) → k (f x) ≡ k x) → (xs : List X) → which k (map f xs) ≡ map f (which k xs)
@@ -139,6 +152,10 @@ thin-basic k ps u (Awaits x) ok = refl
 thin-basic k ps u (Enters x) ok = refl
 thin-basic k ps u (Binds path node) ok = refl
 thin-basic k ps u (AddsHandle pid h) ok = refl
+thin-basic k ps u (Cuts b) ok = rw (kept-change (port_alive k) (is_end_of b) cut (λ p. refl) u.ports) refl
+thin-basic k ps u (Empties q) ok = refl
+thin-basic k ps u (Unbinds b) ok = refl
+thin-basic k ps u (DropsHandle pid value) ok = refl
 thin-basic k ps u (Tells e) ok = refl
 thin-basic k ps u (Wakes who call status fields) ok = refl
 thin-basic k ps u (Receives who q) ok = refl
@@ -164,24 +181,39 @@ joined-closed k client server context one two p ok = at (is_port client p) (is_p
     at false true is it = rw (is, it, one) (grind arith)
     at false false is it = rw (is, it) ok
 
+or-first : (a b : Bool) → a ≡ true → (a || b) ≡ true
+or-first a b is = grind arith
+
+joined-cut : (k : Alive) (client server : Birth) (context : ℕ) → k client ≡ true → k server ≡ true → (p : PortRow) → port_cut k p ≡ true → port_cut k (joined client server context p) ≡ true
+joined-cut k client server context one two p ok = at (is_port client p) (is_port server p) refl refl
+  where
+    at : (a b : Bool) → is_port client p ≡ a → is_port server p ≡ b → port_cut k (joined client server context p) ≡ true
+    at true b is it = rw (is, ap k (birth-same p.birth client is) ∙ one) refl
+    at false true is it = rw (is, it, ap k (birth-same p.birth server it) ∙ two) refl
+    at false false is it = rw (is, it) ok
+
 pub keeps-closed : (k : Alive) (u : World) (b : Basic) → is_closed k b ≡ true → Closed k u → Closed k (basic u b)
-keeps-closed k u (Awaits x) ok c = record { tables = c.tables; ports = c.ports; messages = c.messages; waits = every-push (wait_closed k) u.waits x c.waits ok; lives = c.lives }
-keeps-closed k u (Enters x) ok c = record { tables = c.tables; ports = c.ports; messages = every-push (message_closed k) u.messages x c.messages ok; waits = c.waits; lives = c.lives }
-keeps-closed k u (Makes p) ok c = record { tables = c.tables; ports = every-push (port_closed k) u.ports p c.ports (other_of _ _ ok); messages = c.messages; waits = c.waits; lives = c.lives }
-keeps-closed k u (Joins client server context) ok c = record { tables = c.tables; ports = every-mapped (port_closed k) (joined client server context) (joined-closed k client server context (one_of _ _ ok) (other_of _ _ ok)) u.ports c.ports; messages = c.messages; waits = c.waits; lives = c.lives }
-keeps-closed k u (Binds path node) ok c = record { tables = c.tables; ports = c.ports; messages = c.messages; waits = c.waits; lives = c.lives }
-keeps-closed k u (AddsHandle pid h) ok c = record { tables = every-change (table_closed k) (is_table pid) (with_handle h) (λ t all. put-closed k h t ok all) u.handles c.tables; ports = c.ports; messages = c.messages; waits = c.waits; lives = c.lives }
-keeps-closed k u (AddsProcess p) ok c = record { tables = every-push (table_closed k) u.handles (no_handles p.number) c.tables refl; ports = c.ports; messages = c.messages; waits = c.waits; lives = c.lives }
-keeps-closed k u (AddsThread t) ok c = record { tables = c.tables; ports = c.ports; messages = c.messages; waits = c.waits; lives = every-push (λ t. t.live) u.threads t c.lives ok }
-keeps-closed k u (Wakes who call status fields) ok c = record { tables = c.tables; ports = c.ports; messages = c.messages; waits = every-without (wait_closed k) (waits_as who) u.waits c.waits; lives = c.lives }
-keeps-closed k u (Receives who q) ok c = record { tables = c.tables; ports = c.ports; messages = c.messages; waits = every-change (wait_closed k) (waits_at who q) received (λ x is. is) u.waits c.waits; lives = c.lives }
-keeps-closed k u (Accepts who reply) ok c = record { tables = c.tables; ports = c.ports; messages = c.messages; waits = every-change (wait_closed k) (waits_as who) (accepted reply) (λ x is. is) u.waits c.waits; lives = c.lives }
-keeps-closed k u (Takes q) ok c = record { tables = c.tables; ports = c.ports; messages = every-without_first (message_closed k) _ u.messages c.messages; waits = c.waits; lives = c.lives }
-keeps-closed k u (TakesConnect q) ok c = record { tables = c.tables; ports = c.ports; messages = every-without_first (message_closed k) _ u.messages c.messages; waits = c.waits; lives = c.lives }
-keeps-closed k u (Withdraws who) ok c = record { tables = c.tables; ports = c.ports; messages = every-without (message_closed k) (is_own_of who) u.messages c.messages; waits = c.waits; lives = c.lives }
-keeps-closed k u (Completes b) ok c = record { tables = c.tables; ports = every-change (port_closed k) (is_port b) completed (λ p is. is) u.ports c.ports; messages = c.messages; waits = c.waits; lives = c.lives }
-keeps-closed k u (DrawsIdentifier who) ok c = record { tables = c.tables; ports = c.ports; messages = c.messages; waits = c.waits; lives = every-change (λ t. t.live) (is_thread who) past_identifier (λ t is. is) u.threads c.lives }
-keeps-closed k u (DrawsOrdinal who) ok c = record { tables = c.tables; ports = c.ports; messages = c.messages; waits = c.waits; lives = every-change (λ t. t.live) (is_thread who) past_ordinal (λ t is. is) u.threads c.lives }
+keeps-closed k u (Awaits x) ok c = record { tables = c.tables; ports = c.ports; messages = c.messages; waits = every-push (wait_closed k) u.waits x c.waits ok; lives = c.lives; cuts = c.cuts }
+keeps-closed k u (Enters x) ok c = record { tables = c.tables; ports = c.ports; messages = every-push (message_closed k) u.messages x c.messages ok; waits = c.waits; lives = c.lives; cuts = c.cuts }
+keeps-closed k u (Makes p) ok c = record { tables = c.tables; ports = every-push (port_closed k) u.ports p c.ports (other_of _ _ ok); messages = c.messages; waits = c.waits; lives = c.lives; cuts = every-push (port_cut k) u.ports p c.cuts (or-first (k p.birth) (is_cut p) (one_of _ _ ok)) }
+keeps-closed k u (Joins client server context) ok c = record { tables = c.tables; ports = every-mapped (port_closed k) (joined client server context) (joined-closed k client server context (one_of _ _ ok) (other_of _ _ ok)) u.ports c.ports; messages = c.messages; waits = c.waits; lives = c.lives; cuts = every-mapped (port_cut k) (joined client server context) (joined-cut k client server context (one_of _ _ ok) (other_of _ _ ok)) u.ports c.cuts }
+keeps-closed k u (Binds path node) ok c = record { tables = c.tables; ports = c.ports; messages = c.messages; waits = c.waits; lives = c.lives; cuts = c.cuts }
+keeps-closed k u (AddsHandle pid h) ok c = record { tables = every-change (table_closed k) (is_table pid) (with_handle h) (λ t all. put-closed k h t ok all) u.handles c.tables; ports = c.ports; messages = c.messages; waits = c.waits; lives = c.lives; cuts = c.cuts }
+keeps-closed k u (Empties q) ok c = record { tables = c.tables; ports = c.ports; messages = every-without (message_closed k) (is_queued q) u.messages c.messages; waits = c.waits; lives = c.lives; cuts = c.cuts }
+keeps-closed k u (Cuts b) ok c = record { tables = c.tables; ports = every-change (port_closed k) (is_end_of b) cut (λ p is. grind arith) u.ports c.ports; messages = c.messages; waits = c.waits; lives = c.lives; cuts = every-change (port_cut k) (is_end_of b) cut (λ p is. grind arith) u.ports c.cuts }
+keeps-closed k u (Unbinds b) ok c = record { tables = c.tables; ports = c.ports; messages = c.messages; waits = c.waits; lives = c.lives; cuts = c.cuts }
+keeps-closed k u (DropsHandle pid value) ok c = record { tables = every-change (table_closed k) (is_table pid) (without_handle value) (λ t all. every-without_first (handle_closed k) (has_value value) t.rows all) u.handles c.tables; ports = c.ports; messages = c.messages; waits = c.waits; lives = c.lives; cuts = c.cuts }
+keeps-closed k u (AddsProcess p) ok c = record { tables = every-push (table_closed k) u.handles (no_handles p.number) c.tables refl; ports = c.ports; messages = c.messages; waits = c.waits; lives = c.lives; cuts = c.cuts }
+keeps-closed k u (AddsThread t) ok c = record { tables = c.tables; ports = c.ports; messages = c.messages; waits = c.waits; lives = every-push (λ t. t.live) u.threads t c.lives ok; cuts = c.cuts }
+keeps-closed k u (Wakes who call status fields) ok c = record { tables = c.tables; ports = c.ports; messages = c.messages; waits = every-without (wait_closed k) (waits_as who) u.waits c.waits; lives = c.lives; cuts = c.cuts }
+keeps-closed k u (Receives who q) ok c = record { tables = c.tables; ports = c.ports; messages = c.messages; waits = every-change (wait_closed k) (waits_at who q) received (λ x is. is) u.waits c.waits; lives = c.lives; cuts = c.cuts }
+keeps-closed k u (Accepts who reply) ok c = record { tables = c.tables; ports = c.ports; messages = c.messages; waits = every-change (wait_closed k) (waits_as who) (accepted reply) (λ x is. is) u.waits c.waits; lives = c.lives; cuts = c.cuts }
+keeps-closed k u (Takes q) ok c = record { tables = c.tables; ports = c.ports; messages = every-without_first (message_closed k) _ u.messages c.messages; waits = c.waits; lives = c.lives; cuts = c.cuts }
+keeps-closed k u (TakesConnect q) ok c = record { tables = c.tables; ports = c.ports; messages = every-without_first (message_closed k) _ u.messages c.messages; waits = c.waits; lives = c.lives; cuts = c.cuts }
+keeps-closed k u (Withdraws who) ok c = record { tables = c.tables; ports = c.ports; messages = every-without (message_closed k) (is_own_of who) u.messages c.messages; waits = c.waits; lives = c.lives; cuts = c.cuts }
+keeps-closed k u (Completes b) ok c = record { tables = c.tables; ports = every-change (port_closed k) (is_port b) completed (λ p is. is) u.ports c.ports; messages = c.messages; waits = c.waits; lives = c.lives; cuts = every-change (port_cut k) (is_port b) completed (λ p is. is) u.ports c.cuts }
+keeps-closed k u (DrawsIdentifier who) ok c = record { tables = c.tables; ports = c.ports; messages = c.messages; waits = c.waits; lives = every-change (λ t. t.live) (is_thread who) past_identifier (λ t is. is) u.threads c.lives; cuts = c.cuts }
+keeps-closed k u (DrawsOrdinal who) ok c = record { tables = c.tables; ports = c.ports; messages = c.messages; waits = c.waits; lives = every-change (λ t. t.live) (is_thread who) past_ordinal (λ t is. is) u.threads c.lives; cuts = c.cuts }
 keeps-closed k u (Tells e) ok c = c
 keeps-closed k u (Frees o) ok c = absurd (cc)
 
@@ -275,8 +307,16 @@ of-kept : {X : Type 0} (k s t : X → Bool) (xs : List X) → every (λ x. not (
 of-kept k s t [] one two = refl
 of-kept k s t (x ∷ xs) one two = grind (arith, of-kept k s t xs)
 
-pub frees-one : (k : Alive) (ps : List ProcessRow) (u : World) (b : Birth) → is_unheld (thin k ps u) (port_name b) ≡ true → Closed k u → Closed (but b k) u
-frees-one k ps u b none c =
+-- ports of a birth are cut
+abbrev pub is_lonely : Birth → PortRow → Bool
+is_lonely b p = not (is_port b p) || is_cut p
+
+cut-but : (k : Alive) (b : Birth) (ps : List PortRow) → every (is_lonely b) (which (port_alive k) ps) ≡ true → every (port_cut k) ps ≡ true → every (port_cut (but b k)) ps ≡ true
+cut-but k b [] lonely cuts = refl
+cut-but k b (p ∷ ps) lonely cuts = grind (arith, cut-but k b ps)
+
+pub frees-one : (k : Alive) (ps : List ProcessRow) (u : World) (b : Birth) → is_unheld (thin k ps u) (port_name b) ≡ true → every (is_lonely b) (thin k ps u).ports ≡ true → Closed k u → Closed (but b k) u
+frees-one k ps u b none lonely c =
     let n = unnamed-of (thin k ps u) b none in
     record {
       tables = every-both (table_closed k) (λ t. every (λ h. not (same_object h.object (port_name b))) t.rows) (table_closed (but b k)) (table-off k b) u.handles c.tables n.handles;
@@ -284,6 +324,7 @@ frees-one k ps u b none c =
       messages = every-both (message_closed k) (λ x. not (is_sent_on b x)) (message_closed (but b k)) (λ x ok off. grind arith) u.messages c.messages n.messages;
       waits = every-both (wait_closed k) (λ x. not (is_made_on b x)) (wait_closed (but b k)) (λ x ok off. grind arith) u.waits c.waits n.waits;
       lives = c.lives;
+      cuts = cut-but k b u.ports lonely c.cuts;
     }
 
 -- each thread lives, so no row of a thread goes
@@ -291,20 +332,27 @@ lives-stay : (b : Birth) (ts : List ThreadRow) → every (λ t. t.live) ts ≡ t
 lives-stay b [] lives none = refl
 lives-stay b (t ∷ ts) lives none = grind (arith, lives-stay b ts)
 
-behind-one : (w u : World) (o : ObjectName) → is_unheld w o ≡ true → Behind w u → Behind (basic w (Frees o)) u
-behind-one w u o none r = at o.kind o.birth (subst (λ v. is_unheld v o ≡ true) r.same none)
+lonely-at : (w : World) (b : Birth) → IsLinked w → is_unheld w (port_name b) ≡ true → every (is_lonely b) w.ports ≡ true
+lonely-at w b l none = every-more (λ p. not (is_unheld w (port_name p.birth)) || is_cut p) (is_lonely b) (λ p is. at p (is_port b p) refl is) w.ports (lonely w l)
   where
-    at : (s : ObjectKind) (b : Birth) → is_unheld (thin r.alive r.stood u) (record { kind = s; birth = b }) ≡ true → Behind (freed w s b) u
-    at kind.Port b off = record {
+    at : (p : PortRow) (e : Bool) → is_port b p ≡ e → (not (is_unheld w (port_name p.birth)) || is_cut p) ≡ true → is_lonely b p ≡ true
+    at p true its is = let unheld : is_unheld w (port_name p.birth) ≡ true = subst (λ b. is_unheld w (port_name b) ≡ true) (sym (birth-same p.birth b its)) none in let off : (not true || is_cut p) ≡ true = subst (λ e. (not e || is_cut p) ≡ true) unheld is in rw off (grind arith)
+    at p false off is = rw off refl
+
+behind-one : (w u : World) (o : ObjectName) → IsLinked w → is_unheld w o ≡ true → Behind w u → Behind (basic w (Frees o)) u
+behind-one w u o l none r = at o.kind o.birth (subst (λ v. IsLinked v) r.same l) (subst (λ v. is_unheld v o ≡ true) r.same none)
+  where
+    at : (s : ObjectKind) (b : Birth) → IsLinked (thin r.alive r.stood u) → is_unheld (thin r.alive r.stood u) (record { kind = s; birth = b }) ≡ true → Behind (freed w s b) u
+    at kind.Port b linked off = record {
       alive = but b r.alive;
       stood = r.stood;
       same = ap (λ v. freed v kind.Port b) r.same ∙ ap (λ ps. record u { processes = r.stood; ports = ps }) (sym (which-but (port_alive r.alive) (is_port b) u.ports));
-      closed = frees-one r.alive r.stood u b off r.closed;
+      closed = frees-one r.alive r.stood u b off (lonely-at (thin r.alive r.stood u) b linked off) r.closed;
     }
-    at kind.Section b off = r
-    at kind.Token b off = r
-    at kind.Process b off = record { alive = r.alive; stood = without (λ p. same_birth p.birth b) r.stood; same = ap (λ v. freed v kind.Process b) r.same; closed = r.closed }
-    at kind.Thread b off =
+    at kind.Section b linked off = r
+    at kind.Token b linked off = r
+    at kind.Process b linked off = record { alive = r.alive; stood = without (λ p. same_birth p.birth b) r.stood; same = ap (λ v. freed v kind.Process b) r.same; closed = r.closed }
+    at kind.Thread b linked off =
         let v : World = thin r.alive r.stood u in
         let handles = handle_count v (thread_name b) in
         let lives = count (is_life b) u.threads in
@@ -312,17 +360,26 @@ behind-one w u o none r = at o.kind o.birth (subst (λ v. is_unheld v o ≡ true
         let stay = lives-stay b u.threads r.closed.lives (none-pass (is_life b) u.threads few) in
         record { alive = r.alive; stood = r.stood; same = ap (λ v. freed v kind.Thread b) r.same ∙ ap (λ ts. record v { threads = ts }) stay; closed = r.closed }
 
-behind-all : (w u : World) (os : List ObjectName) → every (is_unheld w) os ≡ true → Behind w u → Behind (world_after w (map Frees os)) u
-behind-all w u [] all r = r
-behind-all w u (o ∷ os) all r =
-    behind-all (basic w (Frees o)) u os (every-more (is_unheld w) (is_unheld (basic w (Frees o))) (less-held w o) os (other_of _ _ all)) (behind-one w u o (one_of _ _ all) r)
+behind-all : (w u : World) (os : List ObjectName) → IsSoundWorld w → IsLinked w → every (is_unheld w) os ≡ true → Behind w u → Behind (world_after w (map Frees os)) u
+behind-all w u [] s l all r = r
+behind-all w u (o ∷ os) s l all r =
+    let none : is_unheld w o ≡ true = one_of _ _ all in
+    behind-all (basic w (Frees o)) u os (freed-sound w o none s) (gone-linked w o none s l) (every-more (is_unheld w) (is_unheld (basic w (Frees o))) (less-held w o) os (other_of _ _ all)) (behind-one w u o l none r)
 
-behind-unheld : (w u : World) → Behind w u → Behind (world_after w (free_unheld w)) u
-behind-unheld w u r = behind-all w u (unheld w) (which-all (is_unheld w) _) r
+-- a pass leaves a sound world whose ports are linked
+pass-kept : (w : World) (os : List ObjectName) → IsSoundWorld w → IsLinked w → every (is_unheld w) os ≡ true → IsSoundWorld (world_after w (map Frees os)) × IsLinked (world_after w (map Frees os))
+pass-kept w [] s l all = (s, l)
+pass-kept w (o ∷ os) s l all =
+    let none : is_unheld w o ≡ true = one_of _ _ all in
+    pass-kept (basic w (Frees o)) os (freed-sound w o none s) (gone-linked w o none s l) (every-more (is_unheld w) (is_unheld (basic w (Frees o))) (less-held w o) os (other_of _ _ all))
+
+behind-unheld : (w u : World) → IsSoundWorld w → IsLinked w → Behind w u → Behind (world_after w (free_unheld w)) u
+behind-unheld w u s l r = behind-all w u (unheld w) s l (which-all (is_unheld w) _) r
 
 -- rows that nothing names go: a world is behind as before
-pub behind-sweep : (w u : World) → Behind w u → Behind (world_after w (sweep w)) u
+pub behind-sweep : (w u : World) → IsSoundWorld w → IsLinked w → Behind w u → Behind (world_after w (sweep w)) u
 unfolding sweep
-behind-sweep w u r =
+behind-sweep w u s l r =
     let v : World = world_after w (free_unheld w) in
-    subst (λ x. Behind x u) (sym (after-append w (free_unheld w) (free_unheld v))) (behind-unheld v u (behind-unheld w u r))
+    let next = pass-kept w (unheld w) s l (which-all (is_unheld w) _) in
+    subst (λ x. Behind x u) (sym (after-append w (free_unheld w) (free_unheld v))) (behind-unheld v u next.0 next.1 (behind-unheld w u s l r))

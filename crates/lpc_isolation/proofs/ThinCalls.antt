@@ -1,6 +1,6 @@
 -- What each call does in a world without some ports that no row names: the same, and it names none of them.
 use Rattle.lpc_model.specs.Lines.{accept_connect_port, complete_connect_port, connect_port, create_port, listen_port, reply_port, reply_wait_receive_port, request_port, request_wait_reply_port}
-use Rattle.lpc_model.specs.Machine.{service_of}
+use Rattle.lpc_isolation.proofs.Served.{served}
 use Rattle.std.proofs.Common.{◌≡◌, ℕ, List, [], ◌∷◌, ◌++◌, Bool, true, false, not, Option, Some, None, refl, ap, sym, subst, ◌∙◌, arith}
 use Rattle.std.specs.Prelude.{◌&&◌, Result, Ok, Err}
 use Rattle.lpc_base.specs.Rows.{every, first, given, has}
@@ -41,7 +41,7 @@ use Rattle.lpc_isolation.proofs.Thin.{Alive, Closed, all_alive, handle_closed, i
 pub row-thin : (k : Alive) (ps : List ProcessRow) (u : World) (b : Birth) → k b ≡ true → port_row (thin k ps u) b ≡ port_row u b
 row-thin k ps u b live = first-inside (port_alive k) (is_port b) (λ p its. ap k (birth-same p.birth b its) ∙ live) u.ports
 
-rows-closed : (k : Alive) (pid : ℕ) (ts : List HandleTable) (o : Option HandleTable) → first (is_table pid) ts ≡ o → every (table_closed k) ts ≡ true → every (handle_closed k) (rows_in o) ≡ true
+pub rows-closed : (k : Alive) (pid : ℕ) (ts : List HandleTable) (o : Option HandleTable) → first (is_table pid) ts ≡ o → every (table_closed k) ts ≡ true → every (handle_closed k) (rows_in o) ≡ true
 rows-closed k pid ts None is all = refl
 rows-closed k pid ts (Some t) is all = every-first (table_closed k) (is_table pid) ts t all is
 
@@ -135,7 +135,7 @@ entered-closed : (k : Alive) (x : MessageRow) (o : Option WaitRow) → AreClosed
 entered-closed k x None = refl
 entered-closed k x (Some y) = given-closed k x y y.kind (asks x.message) refl refl
 
-enter-closed : (k : Alive) (u : World) (x : MessageRow) → message_closed k x ≡ true → AreClosed k (enter x u)
+pub enter-closed : (k : Alive) (u : World) (x : MessageRow) → message_closed k x ≡ true → AreClosed k (enter x u)
 enter-closed k u x ok = both _ _ ok (entered-closed k x (first (takes x) u.waits))
 
 then-closed : (k : Alive) (u : World) (start : List Basic) (x : MessageRow) → AreClosed k start → message_closed k x ≡ true → AreClosed k (start ++ enter x (world_after u start))
@@ -305,56 +305,56 @@ receive-closed k u by handle bytes c =
     received-closed k by p q rs (first (is_queued q) u.messages) s.here (holds_ok (AreClosed k) (given_reply u p m) rs (replied-closed k u p m) replied)))))
 
 -- Each call, by its name
-pub alike-create : (k : Alive) (ps : List ProcessRow) (u : World) (by : ThreadRow) (name : Option (List ℕ)) → Closed k u → service_of (thin k ps u) by (create_port name) ≡ service_of u by (create_port name)
+pub alike-create : (k : Alive) (ps : List ProcessRow) (u : World) (by : ThreadRow) (name : Option (List ℕ)) → Closed k u → served (thin k ps u) by (create_port name) ≡ served u by (create_port name)
 alike-create k ps u by name c = create-thin k ps u by name
 
-pub alike-connect : (k : Alive) (ps : List ProcessRow) (u : World) (by : ThreadRow) (name bytes : List ℕ) → Closed k u → service_of (thin k ps u) by (connect_port name bytes) ≡ service_of u by (connect_port name bytes)
+pub alike-connect : (k : Alive) (ps : List ProcessRow) (u : World) (by : ThreadRow) (name bytes : List ℕ) → Closed k u → served (thin k ps u) by (connect_port name bytes) ≡ served u by (connect_port name bytes)
 alike-connect k ps u by name info c = connect-thin k ps u by name info
 
-pub alike-listen : (k : Alive) (ps : List ProcessRow) (u : World) (by : ThreadRow) (handle : ℕ) → Closed k u → service_of (thin k ps u) by (listen_port handle) ≡ service_of u by (listen_port handle)
+pub alike-listen : (k : Alive) (ps : List ProcessRow) (u : World) (by : ThreadRow) (handle : ℕ) → Closed k u → served (thin k ps u) by (listen_port handle) ≡ served u by (listen_port handle)
 alike-listen k ps u by handle c = listen-thin k ps u by handle c
 
-pub alike-accept : (k : Alive) (ps : List ProcessRow) (u : World) (by : ThreadRow) (context : ℕ) (message : List ℕ) (accept : Bool) → Closed k u → service_of (thin k ps u) by (accept_connect_port context message accept) ≡ service_of u by (accept_connect_port context message accept)
+pub alike-accept : (k : Alive) (ps : List ProcessRow) (u : World) (by : ThreadRow) (context : ℕ) (message : List ℕ) (accept : Bool) → Closed k u → served (thin k ps u) by (accept_connect_port context message accept) ≡ served u by (accept_connect_port context message accept)
 alike-accept k ps u by context message accept c = accept-thin k ps u by context message accept
 
-pub alike-complete : (k : Alive) (ps : List ProcessRow) (u : World) (by : ThreadRow) (handle : ℕ) → Closed k u → service_of (thin k ps u) by (complete_connect_port handle) ≡ service_of u by (complete_connect_port handle)
+pub alike-complete : (k : Alive) (ps : List ProcessRow) (u : World) (by : ThreadRow) (handle : ℕ) → Closed k u → served (thin k ps u) by (complete_connect_port handle) ≡ served u by (complete_connect_port handle)
 alike-complete k ps u by handle c = complete-thin k ps u by handle c
 
-pub alike-datagram : (k : Alive) (ps : List ProcessRow) (u : World) (by : ThreadRow) (handle : ℕ) (message : List ℕ) → Closed k u → service_of (thin k ps u) by (request_port handle message) ≡ service_of u by (request_port handle message)
+pub alike-datagram : (k : Alive) (ps : List ProcessRow) (u : World) (by : ThreadRow) (handle : ℕ) (message : List ℕ) → Closed k u → served (thin k ps u) by (request_port handle message) ≡ served u by (request_port handle message)
 alike-datagram k ps u by handle message c = datagram-thin k ps u by handle message c
 
-pub alike-request : (k : Alive) (ps : List ProcessRow) (u : World) (by : ThreadRow) (handle : ℕ) (message : List ℕ) → Closed k u → service_of (thin k ps u) by (request_wait_reply_port handle message) ≡ service_of u by (request_wait_reply_port handle message)
+pub alike-request : (k : Alive) (ps : List ProcessRow) (u : World) (by : ThreadRow) (handle : ℕ) (message : List ℕ) → Closed k u → served (thin k ps u) by (request_wait_reply_port handle message) ≡ served u by (request_wait_reply_port handle message)
 alike-request k ps u by handle message c = request-thin k ps u by handle message c
 
-pub alike-reply : (k : Alive) (ps : List ProcessRow) (u : World) (by : ThreadRow) (handle : ℕ) (message : List ℕ) → Closed k u → service_of (thin k ps u) by (reply_port handle message) ≡ service_of u by (reply_port handle message)
+pub alike-reply : (k : Alive) (ps : List ProcessRow) (u : World) (by : ThreadRow) (handle : ℕ) (message : List ℕ) → Closed k u → served (thin k ps u) by (reply_port handle message) ≡ served u by (reply_port handle message)
 alike-reply k ps u by handle message c = reply-thin k ps u by handle message c
 
-pub alike-receive : (k : Alive) (ps : List ProcessRow) (u : World) (by : ThreadRow) (handle : ℕ) (message : Option (List ℕ)) → Closed k u → service_of (thin k ps u) by (reply_wait_receive_port handle message) ≡ service_of u by (reply_wait_receive_port handle message)
+pub alike-receive : (k : Alive) (ps : List ProcessRow) (u : World) (by : ThreadRow) (handle : ℕ) (message : Option (List ℕ)) → Closed k u → served (thin k ps u) by (reply_wait_receive_port handle message) ≡ served u by (reply_wait_receive_port handle message)
 alike-receive k ps u by handle message c = receive-thin k ps u by handle message c
 
-pub stands-create : (k : Alive) (u : World) (by : ThreadRow) (name : Option (List ℕ)) → IsSoundWorld u → Closed k u → k (next_birth by) ≡ true → Holds (AreClosed k) (service_of u by (create_port name))
+pub stands-create : (k : Alive) (u : World) (by : ThreadRow) (name : Option (List ℕ)) → IsSoundWorld u → Closed k u → k (next_birth by) ≡ true → Holds (AreClosed k) (served u by (create_port name))
 stands-create k u by name s c new = create-closed k u by name new
 
-pub stands-connect : (k : Alive) (u : World) (by : ThreadRow) (name bytes : List ℕ) → IsSoundWorld u → Closed k u → k (next_birth by) ≡ true → Holds (AreClosed k) (service_of u by (connect_port name bytes))
+pub stands-connect : (k : Alive) (u : World) (by : ThreadRow) (name bytes : List ℕ) → IsSoundWorld u → Closed k u → k (next_birth by) ≡ true → Holds (AreClosed k) (served u by (connect_port name bytes))
 stands-connect k u by name info s c new = connect-closed k u by name info s c new
 
-pub stands-listen : (k : Alive) (u : World) (by : ThreadRow) (handle : ℕ) → IsSoundWorld u → Closed k u → k (next_birth by) ≡ true → Holds (AreClosed k) (service_of u by (listen_port handle))
+pub stands-listen : (k : Alive) (u : World) (by : ThreadRow) (handle : ℕ) → IsSoundWorld u → Closed k u → k (next_birth by) ≡ true → Holds (AreClosed k) (served u by (listen_port handle))
 stands-listen k u by handle s c new = listen-closed k u by handle c
 
-pub stands-accept : (k : Alive) (u : World) (by : ThreadRow) (context : ℕ) (message : List ℕ) (accept : Bool) → IsSoundWorld u → Closed k u → k (next_birth by) ≡ true → Holds (AreClosed k) (service_of u by (accept_connect_port context message accept))
+pub stands-accept : (k : Alive) (u : World) (by : ThreadRow) (context : ℕ) (message : List ℕ) (accept : Bool) → IsSoundWorld u → Closed k u → k (next_birth by) ≡ true → Holds (AreClosed k) (served u by (accept_connect_port context message accept))
 stands-accept k u by context message accept s c new = accept-closed k u by context message accept s c new
 
-pub stands-complete : (k : Alive) (u : World) (by : ThreadRow) (handle : ℕ) → IsSoundWorld u → Closed k u → k (next_birth by) ≡ true → Holds (AreClosed k) (service_of u by (complete_connect_port handle))
+pub stands-complete : (k : Alive) (u : World) (by : ThreadRow) (handle : ℕ) → IsSoundWorld u → Closed k u → k (next_birth by) ≡ true → Holds (AreClosed k) (served u by (complete_connect_port handle))
 stands-complete k u by handle s c new = complete-closed k u by handle c
 
-pub stands-datagram : (k : Alive) (u : World) (by : ThreadRow) (handle : ℕ) (message : List ℕ) → IsSoundWorld u → Closed k u → k (next_birth by) ≡ true → Holds (AreClosed k) (service_of u by (request_port handle message))
+pub stands-datagram : (k : Alive) (u : World) (by : ThreadRow) (handle : ℕ) (message : List ℕ) → IsSoundWorld u → Closed k u → k (next_birth by) ≡ true → Holds (AreClosed k) (served u by (request_port handle message))
 stands-datagram k u by handle message s c new = datagram-closed k u by handle message c
 
-pub stands-request : (k : Alive) (u : World) (by : ThreadRow) (handle : ℕ) (message : List ℕ) → IsSoundWorld u → Closed k u → k (next_birth by) ≡ true → Holds (AreClosed k) (service_of u by (request_wait_reply_port handle message))
+pub stands-request : (k : Alive) (u : World) (by : ThreadRow) (handle : ℕ) (message : List ℕ) → IsSoundWorld u → Closed k u → k (next_birth by) ≡ true → Holds (AreClosed k) (served u by (request_wait_reply_port handle message))
 stands-request k u by handle message s c new = request-closed k u by handle message c
 
-pub stands-reply : (k : Alive) (u : World) (by : ThreadRow) (handle : ℕ) (message : List ℕ) → IsSoundWorld u → Closed k u → k (next_birth by) ≡ true → Holds (AreClosed k) (service_of u by (reply_port handle message))
+pub stands-reply : (k : Alive) (u : World) (by : ThreadRow) (handle : ℕ) (message : List ℕ) → IsSoundWorld u → Closed k u → k (next_birth by) ≡ true → Holds (AreClosed k) (served u by (reply_port handle message))
 stands-reply k u by handle message s c new = reply-closed k u by handle message
 
-pub stands-receive : (k : Alive) (u : World) (by : ThreadRow) (handle : ℕ) (message : Option (List ℕ)) → IsSoundWorld u → Closed k u → k (next_birth by) ≡ true → Holds (AreClosed k) (service_of u by (reply_wait_receive_port handle message))
+pub stands-receive : (k : Alive) (u : World) (by : ThreadRow) (handle : ℕ) (message : Option (List ℕ)) → IsSoundWorld u → Closed k u → k (next_birth by) ≡ true → Holds (AreClosed k) (served u by (reply_wait_receive_port handle message))
 stands-receive k u by handle message s c new = receive-closed k u by handle message c

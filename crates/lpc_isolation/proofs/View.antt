@@ -26,17 +26,13 @@ our_table m t = m t.process
 abbrev pub our_port : Group → PortRow → Bool
 our_port m p = m p.birth.process
 
--- an outsider's pair isn't seen, nor what the server gave its connection
+-- An outsider's pair isn't seen. What a server gave a connection is: a member's ports have it of members alone.
 abbrev pub seen_pair : Group → Option Birth → Option Birth
 seen_pair m None = None
 seen_pair m (Some b) = cond (m b.process) (Some b) None
 
-abbrev pub seen_context : Group → Option Birth → ℕ → ℕ
-seen_context m None context = 0
-seen_context m (Some b) context = cond (m b.process) context 0
-
 abbrev pub seen_port : Group → PortRow → PortRow
-seen_port m p = record p { pair = seen_pair m p.pair; context = seen_context m p.pair p.context }
+seen_port m p = record p { pair = seen_pair m p.pair }
 
 -- from a member to a member
 abbrev pub our_message : Group → MessageRow → Bool

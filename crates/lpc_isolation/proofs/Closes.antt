@@ -1,0 +1,274 @@
+-- NtClose in a view.
+use Rattle.std.proofs.Common.{◌≡◌, ℕ, List, [], ◌∷◌, ◌++◌, Bool, true, false, cond, Some, None, refl, ap, sym, subst, ◌∙◌, arith}
+use Rattle.std.specs.Prelude.{◌&&◌, ◌==◌, length, Ok}
+use Rattle.std.proofs.lemmas.Bool.{eqb-true}
+use Rattle.std.proofs.lemmas.List.Elements.{filter-append}
+use Rattle.lpc_base.specs.Rows.{each, every, first, when, which}
+use Rattle.lpc_base.proofs.RowWords.{every-append, every-more}
+use Rattle.lpc_base.proofs.RowMaps.{every-first}
+use Rattle.lpc_base.specs.declared.status.TheConstants.{INVALID_HANDLE, SUCCESS}
+use Rattle.lpc_model.specs.declared.entry.CallName.TheVariants.{NtClose}
+use Rattle.lpc_model.specs.declared.entry.Entry.{Entry}
+use Rattle.lpc_model.specs.declared.entry.Entry.TheVariants.{Answer}
+use Rattle.lpc_model.specs.declared.entry.ObjectKind.TheVariants as kind
+use Rattle.lpc_model.specs.World.{Birth, HandleRow, HandleTable, ObjectName, ProcessRow, ThreadRow, World}
+use Rattle.lpc_model.specs.Found.{handle_at, handle_count, handles_of, has_value, is_table, same_kind, same_object, wait_of}
+use Rattle.lpc_model.specs.Basics.{Basic, DropsHandle, Steps, Tells, doing, entries_of, provided, world_after, ◌▹◌}
+use Rattle.lpc_model.specs.Tests.{next_birth, own_handle}
+use Rattle.lpc_model.specs.Close.{close_handle, close_port, is_last, nt_close}
+use Rattle.lpc_model.specs.Lines.{close}
+use Rattle.lpc_isolation.proofs.Served.{served}
+use Rattle.lpc_model.specs.SoundWaits.{IsSoundWorld}
+use Rattle.lpc_model.specs.Circle.{Group, Whose, is_fine_call}
+use Rattle.lpc_model.proofs.Holding.{Holds, bind_holds, found_ok}
+use Rattle.lpc_model.proofs.SoundQueues.{after-append}
+use Rattle.lpc_isolation.proofs.Alone.{HasFinePorts, alone}
+use Rattle.lpc_isolation.proofs.View.{both, other_of, our_table, same-number, view}
+use Rattle.lpc_isolation.proofs.Basics.{are_ours, ours-append}
+use Rattle.lpc_isolation.proofs.Fair.{are_fair, fair-append, is_fair_table, is_own}
+use Rattle.lpc_isolation.proofs.Seen.{bind-same, handle-own, handle-view}
+use Rattle.lpc_isolation.proofs.Apart.{Owned, apart-append, are_apart, is_heard}
+use Rattle.lpc_isolation.proofs.Callers.{Led, led-same}
+use Rattle.lpc_isolation.proofs.Receive.{led-append}
+use Rattle.lpc_isolation.proofs.Play.{told_inputs}
+use Rattle.lpc_isolation.proofs.Sends.{Caller}
+use Rattle.lpc_isolation.proofs.Bound.{OnceBound}
+use Rattle.lpc_isolation.proofs.Paths.{Paths, are_paths}
+use Rattle.lpc_isolation.proofs.Sent.{append-sent, are_sent}
+use Rattle.lpc_isolation.proofs.Asked.{Asked, basic-asked}
+use Rattle.lpc_isolation.proofs.Ids.{Numbered, of_number}
+use Rattle.lpc_isolation.proofs.Serves.{is_call_of}
+use Rattle.lpc_isolation.proofs.Listens.{own_entry}
+use Rattle.lpc_isolation.proofs.Refuses.{Refuses, bind, found}
+use Rattle.lpc_isolation.proofs.Heard.{Heard, call_memo, entries_memo}
+use Rattle.lpc_isolation.proofs.Knows.{AllKnown, run-known}
+use Rattle.lpc_isolation.proofs.KnownCalls.{Hears}
+use Rattle.lpc_isolation.proofs.Instances.{At, Leading, caller}
+use Rattle.lpc_isolation.proofs.Thin.{Alive, Closed, handle_closed, thin}
+use Rattle.lpc_isolation.proofs.ThinCalls.{AreClosed, rows-closed}
+use Rattle.lpc_isolation.proofs.Fine.{FineAfter, makes_fine}
+use Rattle.lpc_isolation.proofs.Duplicates.{unnoted}
+use Rattle.lpc_isolation.proofs.Mild.{AreMild, Sure, mild-bound, mild-fine, mild-known, mild-orderly, mild-paths}
+use Rattle.lpc_isolation.proofs.Stages.{Good, mute-append}
+use Rattle.lpc_isolation.proofs.Closings.{close-good}
+
+-- The handles to an object of a member's are in the view
+none-named : (o : ObjectName) (pid : ℕ) (rows : List HandleRow) → every (is_own pid) rows ≡ true → (o.birth.process == pid) ≡ false → which (λ h. same_object h.object o) rows ≡ []
+none-named o pid [] own other = refl
+none-named o pid (h ∷ rows) own other = at (same_object h.object o) refl (none-named o pid rows (other_of _ _ own) other)
+  where
+    at : (e : Bool) → same_object h.object o ≡ e → which (λ h. same_object h.object o) rows ≡ [] → which (λ h. same_object h.object o) (h ∷ rows) ≡ []
+    at true same rest = absurd (grind arith)
+    at false off rest = rw off rest
+
+named-same : (m : Group) (o : ObjectName) (ts : List HandleTable) → m o.birth.process ≡ true → every is_fair_table ts ≡ true → which (λ h. same_object h.object o) (each (λ t. t.rows) (which (our_table m) ts)) ≡ which (λ h. same_object h.object o) (each (λ t. t.rows) ts)
+named-same m o [] inside fair = refl
+named-same m o (t ∷ ts) inside fair = at (m t.process) refl (named-same m o ts inside (other_of _ _ fair))
+  where
+    test : HandleRow → Bool
+    test = λ h. same_object h.object o
+
+    off : m t.process ≡ false → (o.birth.process == t.process) ≡ false
+    off out = by (o.birth.process == t.process) refl
+      where
+        by : (e : Bool) → (o.birth.process == t.process) ≡ e → e ≡ false
+        by true same = let k : m o.birth.process ≡ m t.process = ap m (eqb-true _ _ same) in absurd (cc)
+        by false other = refl
+
+    at : (e : Bool) → m t.process ≡ e → which test (each (λ t. t.rows) (which (our_table m) ts)) ≡ which test (each (λ t. t.rows) ts) → which test (each (λ t. t.rows) (which (our_table m) (t ∷ ts))) ≡ which test (each (λ t. t.rows) (t ∷ ts))
+    at true is rest = rw is (filter-append test t.rows (each (λ t. t.rows) (which (our_table m) ts)) ∙ ap (λ hs. which test t.rows ++ hs) rest ∙ sym (filter-append test t.rows (each (λ t. t.rows) ts)))
+    at false out rest = rw out (rest ∙ sym (filter-append test t.rows (each (λ t. t.rows) ts) ∙ ap (λ hs. hs ++ which test (each (λ t. t.rows) ts)) (none-named o t.process t.rows (first-fair t ts fair) (off out))))
+      where
+        first-fair : (t : HandleTable) (ts : List HandleTable) → every is_fair_table (t ∷ ts) ≡ true → is_fair_table t ≡ true
+        first-fair t ts is = grind arith
+
+pub handle_count-view : (m : Group) (c : ℕ) (w : World) (o : ObjectName) → every is_fair_table w.handles ≡ true → m o.birth.process ≡ true → handle_count (view m w) o ≡ handle_count w o
+handle_count-view m c w o fair inside = ap length (named-same m o w.handles inside fair)
+
+-- A handle goes
+-- steps where a test holds
+provided-good : (m : Group) (c : ℕ) (b : Birth) (test : World → Bool) (f : Steps) → Good m c b f → ((u w : World) → Sure m c u w → m b.process ≡ true → test (view m w) ≡ test w) → ((k : Alive) (ps : List ProcessRow) (u : World) → test (thin k ps u) ≡ test u) → Good m c b (provided test f)
+provided-good m c b test f g seen thinly = record {
+  mild = λ w. at AreMild w refl (g.mild w);
+  sent = λ w. at (λ bs. are_sent w bs ≡ true) w refl (g.sent w);
+  fair = λ u w s. at (λ bs. are_fair m c w bs ≡ true) w refl (g.fair u w s);
+  asked = λ u w s. at (λ bs. Asked (world_after w bs)) w s.asked (g.asked u w s);
+  apart = λ u d w s out. at (λ bs. are_apart m c u d w bs ≡ true) w refl (g.apart u d w s out);
+  mute = λ u d w memo s n out. at (λ bs. entries_memo m (view m w) memo (told_inputs m c u d (entries_of bs)) ≡ memo) w refl (g.mute u d w memo s n out);
+  ours = λ u w s inside. at (λ bs. are_ours m w bs ≡ true) w refl (g.ours u w s inside);
+  led = λ u d w s inside. ap-led u d w (test (view m w)) (seen u w s inside) (g.led u d w s inside);
+  same = λ u w s mine. ap (λ e. when e (f (view m w))) (seen u w s (ap m mine ∙ s.c_in)) ∙ ap (λ bs. when (test w) bs) (g.same u w s mine);
+  alike = λ k ps u closed live. ap (λ e. when e (f (thin k ps u))) (thinly k ps u) ∙ ap (λ bs. when (test u) bs) (g.alike k ps u closed live);
+  stands = λ k u closed live. at (AreClosed k) u refl (g.stands k u closed live);
+}
+  where
+    by : (P : List Basic → Type 0) (bs : List Basic) (e : Bool) → P [] → P bs → P (when e bs)
+    by P bs true none some = some
+    by P bs false none some = none
+
+    at : (P : List Basic → Type 0) (w : World) → P [] → P (f w) → P (provided test f w)
+    at P w none some = by P (f w) (test w) none some
+
+    ap-led : (u : World) (d : Whose) (w : World) (e : Bool) → e ≡ test w → Led m c u d w (f w) (f (view m w)) → Led m c u d w (when (test w) (f w)) (when e (f (view m w)))
+    ap-led u d w e same l = subst (λ e. Led m c u d w (when (test w) (f w)) (when e (f (view m w)))) (sym same) (both-led (test w))
+      where
+        both-led : (e : Bool) → Led m c u d w (when e (f w)) (when e (f (view m w)))
+        both-led true = l
+        both-led false = record { world = refl; told = refl }
+
+-- and then the handle
+drops-good : (m : Group) (c : ℕ) (b : Birth) (pid value : ℕ) (f : Steps) → b.process ≡ pid → Good m c b f → Good m c b (f ▹ doing (DropsHandle pid value ∷ []))
+drops-good m c b pid value f own g = record {
+  mild = λ w. every-append _ (f w) (DropsHandle pid value ∷ []) (g.mild w) refl;
+  sent = λ w. append-sent w (f w) (DropsHandle pid value ∷ []) (g.sent w) refl;
+  fair = λ u w s. fair-append m c w (f w) (DropsHandle pid value ∷ []) (g.fair u w s) refl;
+  asked = λ u w s. subst Asked (sym (after-append w (f w) (DropsHandle pid value ∷ []))) (basic-asked (world_after w (f w)) (DropsHandle pid value) refl (g.asked u w s));
+  apart = λ u d w s out. apart-append m c u d w (f w) (DropsHandle pid value ∷ []) (g.apart u d w s out) (rw (sym (ap m own) ∙ out) refl);
+  mute = λ u d w memo s n out. mute-append m c u d w memo (f w) (DropsHandle pid value ∷ []) s.c_in (g.apart u d w s out) (g.mute u d w memo s n out) refl;
+  ours = λ u w s inside. ours-append m w (f w) (DropsHandle pid value ∷ []) (g.ours u w s inside) refl;
+  led = λ u d w s inside. led-append m c u d w (f w) (f (view m w)) (DropsHandle pid value ∷ []) (DropsHandle pid value ∷ []) (g.led u d w s inside) (led-same m c u d (world_after w (f w)) (DropsHandle pid value ∷ []) refl);
+  same = λ u w s mine. ap (λ bs. bs ++ DropsHandle pid value ∷ []) (g.same u w s mine);
+  alike = λ k ps u closed live. ap (λ bs. bs ++ DropsHandle pid value ∷ []) (g.alike k ps u closed live);
+  stands = λ k u closed live. every-append _ (f u) (DropsHandle pid value ∷ []) (g.stands k u closed live) refl;
+}
+
+handle-good : (m : Group) (c : ℕ) (pid : ℕ) (r : HandleRow) → r.object.birth.process ≡ pid → Good m c r.object.birth (close_handle pid r)
+handle-good m c pid r own =
+    drops-good m c r.object.birth pid r.value (provided (is_last r) (close_port r.object.birth)) own
+    (provided-good m c r.object.birth (is_last r) (close_port r.object.birth) (close-good m c r.object.birth)
+    (λ u w s inside. ap (λ n. same_kind r.object.kind kind.Port && (n == 1)) (handle_count-view m c w r.object s.fair.tables inside)) (λ k ps u. refl))
+
+-- The call
+abbrev told_first : ThreadRow → Entry
+told_first by = Answer by.number NtClose SUCCESS []
+
+-- whatever holds for the handle that is found holds of the call
+on-close : (P : List Basic → Type 0) (w : World) (by : ThreadRow) (value : ℕ) → ((r : HandleRow) → handle_at w by.process value ≡ Some r → P (Tells (told_first by) ∷ close_handle by.process r w)) → Holds P (nt_close w by value)
+unfolding nt_close
+on-close P w by value then_ = bind_holds (own_handle w by value) _ P (λ r at. then_ r (found_ok (handle_at w by.process value) INVALID_HANDLE r at))
+
+sure : (m : Group) (c : ℕ) (u w : World) (by : ThreadRow) → Caller m c u w by → Sure m c u w
+sure m c u w by k = record { c_in = k.c_in; used = k.used; fair = k.fair; fine = k.fine; owned = k.owned; patient = k.patient; once = k.once; paths = k.paths; asked = k.asked }
+
+-- what the handle's going owes
+good : (m : Group) (c : ℕ) (u w : World) (by : ThreadRow) (value : ℕ) (r : HandleRow) → Caller m c u w by → handle_at w by.process value ≡ Some r → Good m c r.object.birth (close_handle by.process r)
+good m c u w by value r k at = handle-good m c by.process r (handle-own m c w by.process value r k.fair at)
+
+whose : (m : Group) (c : ℕ) (u w : World) (by : ThreadRow) (value : ℕ) (r : HandleRow) → Caller m c u w by → handle_at w by.process value ≡ Some r → r.object.birth.process ≡ by.process
+whose m c u w by value r k at = handle-own m c w by.process value r k.fair at
+
+pub orderly-close : (m : Group) (c : ℕ) (u w : World) (by : ThreadRow) (handle : ℕ) → Caller m c u w by → Holds (λ bs. is_call_of by.number bs ≡ true) (served w by (close handle))
+orderly-close m c u w by handle k = on-close (λ bs. is_call_of by.number bs ≡ true) w by handle (λ r at.
+    both _ _ (both _ _ (same-number by.number) refl) (mild-orderly (close_handle by.process r w) ((good m c u w by handle r k at).mild w)))
+
+pub refuses-close : (w : World) (by : ThreadRow) (handle : ℕ) → Refuses (served w by (close handle))
+unfolding nt_close
+refuses-close w by handle = bind (own_handle w by handle) _ (found (handle_at w by.process handle) INVALID_HANDLE refl) (λ r. tt)
+
+pub fair-close : (m : Group) (c : ℕ) (w : World) (by : ThreadRow) (known : List ℕ → Birth) (handle : ℕ) → At m c w by known → Holds (λ bs. HasFinePorts m c (world_after w bs) → are_fair m c w bs ≡ true) (served w by (close handle))
+fair-close m c w by known handle a =
+    let k = caller m c w by known w a refl in
+    on-close (λ bs. HasFinePorts m c (world_after w bs) → are_fair m c w bs ≡ true) w by handle (λ r at fine. (good m c w w by handle r k at).fair w w (sure m c w w by k))
+
+pub names-close : (m : Group) (c : ℕ) (u w : World) (by : ThreadRow) (handle : ℕ) → Caller m c u w by → Holds (λ bs. OnceBound (world_after w bs).bindings) (served w by (close handle))
+names-close m c u w by handle k = on-close (λ bs. OnceBound (world_after w bs).bindings) w by handle (λ r at. mild-bound w (close_handle by.process r w) ((good m c u w by handle r k at).mild w) k.bound)
+
+pub paths-close : (m : Group) (c : ℕ) (w : World) (by : ThreadRow) (handle : ℕ) → Paths w → Caller m c w w by → Holds (λ bs. are_paths w bs ≡ true) (served w by (close handle))
+paths-close m c w by handle all k = on-close (λ bs. are_paths w bs ≡ true) w by handle (λ r at. mild-paths w (close_handle by.process r w) ((good m c w w by handle r k at).mild w))
+
+pub sends-close : (u : World) (by : ThreadRow) (handle : ℕ) → Holds (λ bs. are_sent u bs ≡ true) (served u by (close handle))
+sends-close u by handle = on-close (λ bs. are_sent u bs ≡ true) u by handle (λ r at. append-sent u (provided (is_last r) (close_port r.object.birth) u) (DropsHandle by.process r.value ∷ []) (sent r (is_last r u)) refl)
+  where
+    sent : (r : HandleRow) (e : Bool) → are_sent u (when e (close_port r.object.birth u)) ≡ true
+    sent r true = (close-good (λ p. true) 0 r.object.birth).sent u
+    sent r false = refl
+
+pub asked-close : (m : Group) (c : ℕ) (w : World) (by : ThreadRow) (handle : ℕ) → Asked w → Caller m c w w by → Holds (λ bs. Asked (world_after w bs)) (served w by (close handle))
+asked-close m c w by handle a k = on-close (λ bs. Asked (world_after w bs)) w by handle (λ r at. (good m c w w by handle r k at).asked w w (sure m c w w by k))
+
+pub apart-close : (m : Group) (c : ℕ) (u : World) (d : Whose) (w : World) (by : ThreadRow) (known : List ℕ → Birth) (handle : ℕ) → At m c w by known → u.used_threads ≡ w.used_threads → m by.process ≡ false → Holds (λ bs. HasFinePorts m c (world_after w bs) → are_apart m c u d w bs ≡ true) (served w by (close handle))
+apart-close m c u d w by known handle a used out =
+    let k = caller m c w by known u a used in
+    on-close (λ bs. HasFinePorts m c (world_after w bs) → are_apart m c u d w bs ≡ true) w by handle (λ r at fine.
+    let b_out : m r.object.birth.process ≡ false = ap m (whose m c u w by handle r k at) ∙ out in
+    both _ _ (rw (k.here, out) refl) ((good m c u w by handle r k at).apart u d w (sure m c u w by k) b_out))
+
+pub same-close : (m : Group) (c : ℕ) (w : World) (by : ThreadRow) (known : List ℕ → Birth) (handle : ℕ) → At m c w by known → by.process ≡ c → is_fine_call m w (close handle) ≡ true → served (view m w) by (close handle) ≡ served w by (close handle)
+unfolding nt_close
+same-close m c w by known handle a mine fine =
+    let k = caller m c w by known w a refl in
+    rw (handle-view m w by.process handle (ap m mine ∙ a.c_in)) (bind-same (own_handle w by handle) _ _ (λ r at.
+    let here = found_ok (handle_at w by.process handle) INVALID_HANDLE r at in
+    ap (λ bs. Ok (Tells (told_first by) ∷ bs)) ((good m c w w by handle r k here).same w w (sure m c w w by k) (whose m c w w by handle r k here ∙ mine))))
+
+pub ours-close : (m : Group) (c : ℕ) (w : World) (by : ThreadRow) (known : List ℕ → Birth) (handle : ℕ) → At m c w by known → by.process ≡ c → Holds (λ bs. HasFinePorts m c (world_after w bs) → are_ours m w bs ≡ true) (served w by (close handle))
+ours-close m c w by known handle a mine =
+    let k = caller m c w by known w a refl in
+    on-close (λ bs. HasFinePorts m c (world_after w bs) → are_ours m w bs ≡ true) w by handle (λ r at fine.
+    (good m c w w by handle r k at).ours w w (sure m c w w by k) (ap m (whose m c w w by handle r k at ∙ mine) ∙ a.c_in))
+
+-- the same steps behind an entry
+tells-led : (m : Group) (c : ℕ) (u : World) (d : Whose) (w : World) (e : Entry) (bs led : List Basic) → Led m c u d w bs led → Led m c u d w (Tells e ∷ bs) (Tells e ∷ led)
+tells-led m c u d w e bs led l = record { world = l.world; told = ap (λ es. cond (is_heard (alone c) u d e) (e ∷ es) es) l.told }
+
+pub leads-close : (m : Group) (c : ℕ) (u : World) (d : Whose) (w : World) (by : ThreadRow) (known : List ℕ → Birth) (handle : ℕ) → At m c w by known → u.used_threads ≡ w.used_threads → m by.process ≡ true → (by.process == c) ≡ false → Holds (λ bs. HasFinePorts m c (world_after w bs) → Leading m c u d w by known (close handle) bs) (served w by (close handle))
+leads-close m c u d w by known handle a used by_in other =
+    let k = caller m c w by known u a used in
+    on-close (λ bs. HasFinePorts m c (world_after w bs) → Leading m c u d w by known (close handle) bs) w by handle (λ r at fine.
+    rw (handle-view m w by.process handle by_in, at) (tells-led m c u d w (told_first by) (close_handle by.process r w) (close_handle by.process r (view m w))
+    ((good m c u w by handle r k at).led u d w (sure m c u w by k) (ap m (whose m c u w by handle r k at) ∙ by_in))))
+
+pub hears-close : (m : Group) (c : ℕ) (u w : World) (by : ThreadRow) (d : Whose) (memo : List Heard) → Caller m c u w by → Owned w w → Numbered w → Asked w → AllKnown m memo w → m by.process ≡ false → (handle : ℕ) → Holds (λ bs. HasFinePorts m c (world_after w bs) → Hears m c u d w memo bs) (served w by (close handle))
+hears-close m c u w by d memo k owned n a all out handle = on-close (λ bs. HasFinePorts m c (world_after w bs) → Hears m c u d w memo bs) w by handle (λ r at fine.
+    let g = good m c u w by handle r k at in
+    let s = sure m c u w by k in
+    let b_out : m r.object.birth.process ≡ false = ap m (whose m c u w by handle r k at) ∙ out in
+    let numbers : Numbered u = subst (λ us. every of_number us ≡ true) (sym k.used) n in
+    let mute : entries_memo m (view m w) memo (told_inputs m c u d (entries_of (close_handle by.process r w))) ≡ memo = g.mute u d w memo s numbers b_out in
+    let behind : AllKnown m memo (world_after w (close_handle by.process r w)) = run-known m memo w (close_handle by.process r w) (mild-known m memo w (close_handle by.process r w) (g.mild w)) all in
+    rw (k.here, out) (subst (λ n. AllKnown m n (world_after w (close_handle by.process r w))) (sym mute) behind))
+
+pub notes-close : (m : Group) (c : ℕ) (u w : World) (by : ThreadRow) (memo : List Heard) → Caller m c u w by → Owned w w → Numbered w → Asked w → AllKnown m memo w → m by.process ≡ true → (handle : ℕ) → Holds (λ bs. AllKnown m (cond (by.process == c) memo (call_memo m (view m w) by (close handle) (own_entry bs) memo)) (world_after w bs)) (served w by (close handle))
+notes-close m c u w by memo k owned n a all by_in handle = on-close (λ bs. AllKnown m (cond (by.process == c) memo (call_memo m (view m w) by (close handle) (own_entry bs) memo)) (world_after w bs)) w by handle (λ r at.
+    unnoted m memo (world_after w (close_handle by.process r w)) (by.process == c) (run-known m memo w (close_handle by.process r w) (mild-known m memo w (close_handle by.process r w) ((good m c u w by handle r k at).mild w)) all))
+
+-- where rows have gone
+live-object : (k : Alive) (r : HandleRow) → handle_closed k r ≡ true → same_kind r.object.kind kind.Port ≡ true → k r.object.birth ≡ true
+live-object k r live is = grind arith
+
+thin-handle : (k : Alive) (ps : List ProcessRow) (u : World) (pid : ℕ) (r : HandleRow) → Closed k u → handle_closed k r ≡ true → close_handle pid r (thin k ps u) ≡ close_handle pid r u
+thin-handle k ps u pid r closed live = at (same_kind r.object.kind kind.Port) refl
+  where
+    at : (e : Bool) → same_kind r.object.kind kind.Port ≡ e → close_handle pid r (thin k ps u) ≡ close_handle pid r u
+    at true is = ap (λ bs. when (is_last r u) bs ++ DropsHandle pid r.value ∷ []) ((close-good (λ p. true) 0 r.object.birth).alike k ps u closed (live-object k r live is))
+    at false is = rw is refl
+
+pub alike-close : (k : Alive) (ps : List ProcessRow) (u : World) (by : ThreadRow) (handle : ℕ) → Closed k u → served (thin k ps u) by (close handle) ≡ served u by (close handle)
+unfolding nt_close
+alike-close k ps u by handle c = bind-same (own_handle u by handle) _ _ (λ r at.
+    let live : handle_closed k r ≡ true = every-first (handle_closed k) (has_value handle) (handles_of u by.process) r (rows-closed k by.process u.handles (first (is_table by.process) u.handles) refl c.tables) (found_ok (handle_at u by.process handle) INVALID_HANDLE r at) in
+    ap (λ bs. Ok (Tells (told_first by) ∷ bs)) (thin-handle k ps u by.process r c live))
+
+pub stands-close : (k : Alive) (u : World) (by : ThreadRow) (handle : ℕ) → IsSoundWorld u → Closed k u → k (next_birth by) ≡ true → Holds (AreClosed k) (served u by (close handle))
+stands-close k u by handle s c new = on-close (AreClosed k) u by handle (λ r at. closed r (every-first (handle_closed k) (has_value handle) (handles_of u by.process) r (rows-closed k by.process u.handles (first (is_table by.process) u.handles) refl c.tables) at))
+  where
+    closed : (r : HandleRow) → handle_closed k r ≡ true → AreClosed k (close_handle by.process r u)
+    closed r live = at (same_kind r.object.kind kind.Port) refl
+      where
+        gone : k r.object.birth ≡ true → (e : Bool) → AreClosed k (when e (close_port r.object.birth u))
+        gone there true = (close-good (λ p. true) 0 r.object.birth).stands k u c there
+        gone there false = refl
+
+        at : (e : Bool) → same_kind r.object.kind kind.Port ≡ e → AreClosed k (close_handle by.process r u)
+        at true is = every-append _ (provided (is_last r) (close_port r.object.birth) u) (DropsHandle by.process r.value ∷ []) (gone (live-object k r live is) (is_last r u)) refl
+        at false is = rw is refl
+
+pub fine-close : (m : Group) (c : ℕ) (after u : World) (by : ThreadRow) (handle : ℕ) → wait_of u by.number ≡ None → HasFinePorts m c after → Holds (FineAfter m c after u) (served u by (close handle))
+fine-close m c after u by handle idle f = on-close (FineAfter m c after u) u by handle (λ r at _. every-more _ (makes_fine m c) (mild-fine m c) (close_handle by.process r u) (mild r))
+  where
+    when-mild : (e : Bool) (bs : List Basic) → AreMild bs → AreMild (when e bs)
+    when-mild true bs is = is
+    when-mild false bs is = refl
+
+    mild : (r : HandleRow) → AreMild (close_handle by.process r u)
+    mild r = every-append _ (provided (is_last r) (close_port r.object.birth) u) (DropsHandle by.process r.value ∷ []) (when-mild (is_last r u) (close_port r.object.birth u) ((close-good m c r.object.birth).mild u)) refl

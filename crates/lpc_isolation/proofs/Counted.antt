@@ -1,0 +1,263 @@
+-- What counts for an object: for c's own ports in a view as in the world, and where rows that nothing names have gone.
+use Rattle.std.proofs.Common.{◌≡◌, ℕ, List, [], ◌∷◌, ◌++◌, Bool, true, false, cond, not, map, Option, Some, None, refl, ap, sym, subst, ◌∙◌, arith}
+use Rattle.std.specs.Prelude.{◌&&◌, ◌||◌, ◌==◌, ◌+◌, is_none, length}
+use Rattle.std.proofs.lemmas.Bool.{eqb-true}
+use Rattle.std.proofs.lemmas.List.Elements.{filter-append}
+use Rattle.lpc_base.specs.Rows.{count, each, every, has, which}
+use Rattle.lpc_base.proofs.RowMaps.{every-both}
+use Rattle.lpc_base.specs.declared.port_kind.PortKind.TheVariants.{Client, Connection, Server, Unnamed}
+use Rattle.lpc_model.specs.declared.entry.ObjectKind.TheVariants as kind
+use Rattle.lpc_model.specs.World.{Birth, HandleRow, HandleTable, MessageRow, ObjectName, PortKind, PortRow, ProcessRow, WaitRow, World}
+use Rattle.lpc_model.specs.Found.{handle_count, is_client_port, is_connected_to, is_cut, is_made_on, is_paired_to, is_port, is_request, is_sent_on, is_server_port, is_the, port_name, same_birth, same_kind, same_object}
+use Rattle.lpc_model.specs.Standing.{is_near}
+use Rattle.lpc_model.proofs.Births.{birth-same}
+use Rattle.lpc_model.specs.Circle.{Group, is_fine_client, is_fine_port}
+use Rattle.lpc_isolation.proofs.Alone.{HasFinePorts}
+use Rattle.lpc_isolation.proofs.Served.{is_made_to, is_sent_to, is_standing, standing_count}
+use Rattle.lpc_isolation.proofs.View.{both, of_birth, one_of, other_of, our_message, our_port, our_wait, same-number, seen_pair, seen_port, view}
+use Rattle.lpc_isolation.proofs.Filters.{has-inside, which-where}
+use Rattle.lpc_isolation.proofs.Fair.{Fair, all_of, is_fair_message, is_fair_pair, is_fair_port, is_fair_wait, is_home}
+use Rattle.lpc_isolation.proofs.Callers.{c-wait}
+use Rattle.lpc_isolation.proofs.Mine.{the-seen}
+use Rattle.lpc_isolation.proofs.Thin.{Alive, Closed, handle_closed, message_closed, port_alive, port_cut, table_closed, thin, wait_closed}
+use Rattle.lpc_isolation.proofs.Closings.{member-in}
+use Rattle.lpc_isolation.proofs.Closes.{handle_count-view}
+
+-- Lists
+count-shown : {X : Type 0} (p k test other : X → Bool) (e : X → X) → ((x : X) → p x ≡ true → k x ≡ true → other (e x) ≡ test x) → ((x : X) → p x ≡ true → test x ≡ true → k x ≡ true) → (xs : List X) → every p xs ≡ true → count other (map e (which k xs)) ≡ count test xs
+count-shown p k test other e same inside [] all = refl
+count-shown p k test other e same inside (x ∷ xs) all = grind (arith, same x, inside x, count-shown p k test other e same inside xs)
+
+-- In a view
+-- a port that is connected to c's, and a member's pair
+record Near (m : Group) (c : ℕ) (b : Birth) (p : PortRow) : Type 0 where
+  inside : m p.birth.process ≡ true
+  pair : seen_pair m p.pair ≡ p.pair
+  -- a client port, or c's own
+  own : (is_client_port p || (p.birth.process == c)) ≡ true
+
+pair-seen : (m : Group) (c : ℕ) (p : PortRow) (o : Option Birth) → all_of o (is_fair_pair m c p) ≡ true → m p.birth.process ≡ true → (not (is_server_port p) || (p.birth.process == c)) ≡ true → seen_pair m o ≡ o
+pair-seen m c p None fair inside own = refl
+pair-seen m c p (Some q) fair inside own = rw (at (is_server_port p) refl) refl
+  where
+    at : (e : Bool) → is_server_port p ≡ e → m q.process ≡ true
+    at true server =
+        let mine : (p.birth.process == c) ≡ true = last (is_server_port p) (p.birth.process == c) server own in
+        let it : ((not (m q.process) || m p.birth.process) && (not true || m q.process)) ≡ true = rw (server, mine) at fair in other_of (not (m q.process) || m p.birth.process) _ it
+      where
+        last : (a b : Bool) → a ≡ true → (not a || b) ≡ true → b ≡ true
+        last a b is it = grind arith
+    at false off =
+        let it : ((not true || m q.process) && (not (q.process == c) || true)) ≡ true = rw (off, inside) at fair in one_of (not true || m q.process) _ it
+
+near-kind : (m : Group) (c : ℕ) (b : Birth) (p : PortRow) (k : PortKind) → p.kind ≡ k → m c ≡ true → b.process ≡ c → is_fair_port m c p ≡ true → is_fine_port m c p ≡ true → p.connection ≡ Some b → Near m c b p
+near-kind m c b p Client k c_in mine fair fine to =
+    let it : is_fine_client m c p.birth b ≡ true = rw (k, to) at fine in
+    let b_c : (b.process == c) ≡ true = ap (λ n. n == c) mine ∙ same-number c in
+    let inside : m p.birth.process ≡ true = last (m p.birth.process) (m b.process) (b.process == c) b_c it in
+    record { inside = inside; pair = pair-seen m c p p.pair (other_of (is_home p) _ fair) inside (rw k refl); own = rw k refl }
+  where
+    last : (a d e : Bool) → e ≡ true → ((not a || d) && (not e || a)) ≡ true → a ≡ true
+    last a d e is it = grind arith
+near-kind m c b p Server k c_in mine fair fine to =
+    let home : is_home p ≡ true = one_of (is_home p) _ fair in
+    let it : (((not true || (b.process == p.birth.process)) && (true || (false || is_none (Some b))))) ≡ true = rw (k, to) at home in
+    let same : b.process ≡ p.birth.process = eqb-true _ _ (one_of (b.process == p.birth.process) _ it) in
+    let p_c : (p.birth.process == c) ≡ true = ap (λ n. n == c) (sym same ∙ mine) ∙ same-number c in
+    let inside : m p.birth.process ≡ true = ap m (sym same ∙ mine) ∙ c_in in
+    record { inside = inside; pair = pair-seen m c p p.pair (other_of (is_home p) _ fair) inside (rw p_c (or-true (not (is_server_port p)))); own = rw p_c (or-true (is_client_port p)) }
+  where
+    or-true : (a : Bool) → (a || true) ≡ true
+    or-true true = refl
+    or-true false = refl
+near-kind m c b p Connection k c_in mine fair fine to = let home : is_home p ≡ true = one_of (is_home p) _ fair in let off : (true && (false || (false || false))) ≡ true = rw (k, to) at home in absurd (cc)
+near-kind m c b p Unnamed k c_in mine fair fine to = let home : is_home p ≡ true = one_of (is_home p) _ fair in let off : (true && (false || (false || false))) ≡ true = rw (k, to) at home in absurd (cc)
+
+near : (m : Group) (c : ℕ) (b : Birth) (p : PortRow) → m c ≡ true → b.process ≡ c → is_fair_port m c p ≡ true → is_fine_port m c p ≡ true → is_connected_to b p ≡ true → Near m c b p
+near m c b p c_in mine fair fine is = at p.connection refl is
+  where
+    at : (o : Option Birth) → p.connection ≡ o → is_the b o ≡ true → Near m c b p
+    at None none is = absurd (cc)
+    at (Some q) some is = near-kind m c b p p.kind refl c_in mine fair fine (some ∙ ap (λ q. Some q) (sym (birth-same b q is)))
+
+-- messages and waits of such a port are in the view
+sent-seen : (m : Group) (c : ℕ) (w : World) (b : Birth) (p : PortRow) → m c ≡ true → b.process ≡ c → Fair m c w → Near m c b p → has (is_sent_to b p) (view m w).messages ≡ has (is_sent_to b p) w.messages
+sent-seen m c w b p c_in mine f n = has-inside (is_fair_message m c) (our_message m) (is_sent_to b p) (λ x fair is.
+    let sender : m x.sender.process ≡ true = of_birth m x.sender p.birth (one_of _ _ is) ∙ n.inside in
+    both _ _ sender (queue x fair is (same_birth x.queue b) refl)) w.messages f.messages
+  where
+    fair-queue : (x : MessageRow) → is_fair_message m c x ≡ true → (x.sender.process == c) ≡ true → m x.queue.process ≡ true
+    fair-queue x fair is = grind arith
+
+    queue : (x : MessageRow) → is_fair_message m c x ≡ true → is_sent_to b p x ≡ true → (e : Bool) → same_birth x.queue b ≡ e → m x.queue.process ≡ true
+    queue x fair is true here = of_birth m x.queue b here ∙ ap m mine ∙ c_in
+    queue x fair is false off =
+        let rest : (same_birth x.queue b || not (is_client_port p)) ≡ true = other_of (is_sent_on p.birth x) _ is in
+        let p_c : (p.birth.process == c) ≡ true = last (same_birth x.queue b) (is_client_port p) (p.birth.process == c) off rest n.own in
+        let sender : (x.sender.process == c) ≡ true = ap (λ (b : Birth). b.process == c) (birth-same x.sender p.birth (one_of _ _ is)) ∙ p_c in
+        fair-queue x fair sender
+      where
+        last : (a d e : Bool) → a ≡ false → (a || not d) ≡ true → (d || e) ≡ true → e ≡ true
+        last a d e off one two = grind arith
+
+made-seen : (m : Group) (c : ℕ) (w : World) (b : Birth) (p : PortRow) → m c ≡ true → b.process ≡ c → p.connection ≡ Some b → Fair m c w → Near m c b p → has (is_made_to p) (view m w).waits ≡ has (is_made_to p) w.waits
+made-seen m c w b p c_in mine to f n = has-inside (is_fair_wait m c) (our_wait m) (is_made_to p) (λ x fair is. at x fair is) w.waits f.waits
+  where
+    near-in : (x : WaitRow) → is_near x p ≡ true → m x.queue.process ≡ true
+    near-in x is = first (is_port x.queue p) refl
+      where
+        paired : (o : Option Birth) → seen_pair m o ≡ o → is_the x.queue o ≡ true → m x.queue.process ≡ true
+        paired None seen is = absurd (cc)
+        paired (Some q) seen is = of_birth m x.queue q is ∙ member (m q.process) refl seen
+          where
+            member : (e : Bool) → m q.process ≡ e → cond (m q.process) (Some q) None ≡ Some q → e ≡ true
+            member true inside seen = refl
+            member false out seen = let never : None ≡ Some q = rw out at seen in absurd (cc)
+
+        second : (e : Bool) → is_port x.queue p ≡ false → is_connected_to x.queue p ≡ e → m x.queue.process ≡ true
+        second true off here = let same : same_birth x.queue b ≡ true = rw to at here in of_birth m x.queue b same ∙ ap m mine ∙ c_in
+        second false off none = paired p.pair n.pair (third (is_port x.queue p) (is_connected_to x.queue p) (is_request x) (is_paired_to x.queue p) off none is)
+          where
+            third : (a d e g : Bool) → a ≡ false → d ≡ false → (a || (d || (e && g))) ≡ true → g ≡ true
+            third a d e g one two is = grind arith
+
+        first : (e : Bool) → is_port x.queue p ≡ e → m x.queue.process ≡ true
+        first true here = sym (of_birth m p.birth x.queue here) ∙ n.inside
+        first false off = second (is_connected_to x.queue p) off refl
+
+    at : (x : WaitRow) → is_fair_wait m c x ≡ true → is_made_to p x ≡ true → our_wait m x ≡ true
+    at x fair is = by (is_near x p) refl
+      where
+        own : x.process ≡ p.birth.process
+        own = sym (eqb-true _ _ (one_of _ _ fair)) ∙ ap (λ (b : Birth). b.process) (birth-same x.port p.birth (one_of _ _ is))
+
+        by : (e : Bool) → is_near x p ≡ e → our_wait m x ≡ true
+        by true here = both _ _ (ap m own ∙ n.inside) (near-in x here)
+        by false off =
+            let rest : (is_near x p || not (is_client_port p)) ≡ true = other_of (is_made_on p.birth x) _ is in
+            let p_c : (p.birth.process == c) ≡ true = last (is_near x p) (is_client_port p) (p.birth.process == c) off rest n.own in
+            c-wait m c x c_in fair (ap (λ n. n == c) own ∙ p_c)
+          where
+            last : (a d e : Bool) → a ≡ false → (a || not d) ≡ true → (d || e) ≡ true → e ≡ true
+            last a d e off one two = grind arith
+
+standing-seen : (m : Group) (c : ℕ) (w : World) (b : Birth) (p : PortRow) → m c ≡ true → b.process ≡ c → Fair m c w → (is_fair_port m c p && is_fine_port m c p) ≡ true → is_standing (view m w) b (seen_port m p) ≡ is_standing w b p
+standing-seen m c w b p c_in mine f ok = at (is_connected_to b p) refl
+  where
+    to-of : is_connected_to b p ≡ true → p.connection ≡ Some b
+    to-of is = found p.connection refl is
+      where
+        found : (o : Option Birth) → p.connection ≡ o → is_the b o ≡ true → p.connection ≡ Some b
+        found None none is = absurd (cc)
+        found (Some q) some is = some ∙ ap (λ q. Some q) (sym (birth-same b q is))
+
+    at : (e : Bool) → is_connected_to b p ≡ e → is_standing (view m w) b (seen_port m p) ≡ is_standing w b p
+    at false off = rw off refl
+    at true here =
+        let n : Near m c b p = near m c b p c_in mine (one_of _ _ ok) (other_of (is_fair_port m c p) _ ok) here in
+        let same : seen_port m p ≡ p = rw n.pair refl in
+        ap (is_standing (view m w) b) same
+        ∙ rw (handle_count-view m c w (port_name p.birth) f.tables n.inside, sent-seen m c w b p c_in mine f n, made-seen m c w b p c_in mine (to-of here) f n) refl
+
+-- what counts for c's port
+fair-pair-in : (m : Group) (c : ℕ) (b : Birth) (p : PortRow) → m c ≡ true → b.process ≡ c → is_fair_port m c p ≡ true → is_paired_to b p ≡ true → m p.birth.process ≡ true
+fair-pair-in m c b p c_in mine fair is = at p.pair refl is
+  where
+    at : (o : Option Birth) → p.pair ≡ o → is_the b o ≡ true → m p.birth.process ≡ true
+    at None none is = absurd (cc)
+    at (Some q) some is =
+        let same : b ≡ q = birth-same b q is in
+        let it : (is_home p && is_fair_pair m c p q) ≡ true = rw some at fair in
+        member-in m c p b (subst (λ q. is_fair_pair m c p q ≡ true) (sym same) (other_of (is_home p) _ it)) c_in mine
+
+sent-in : (m : Group) (c : ℕ) (b : Birth) (x : MessageRow) → m c ≡ true → b.process ≡ c → is_fair_message m c x ≡ true → is_sent_on b x ≡ true → our_message m x ≡ true
+sent-in m c b x c_in mine fair is =
+    let sender : x.sender.process ≡ c = ap (λ (b : Birth). b.process) (birth-same x.sender b is) ∙ mine in
+    let s_c : (x.sender.process == c) ≡ true = ap (λ n. n == c) sender ∙ same-number c in
+    let s_in : m x.sender.process ≡ true = ap m sender ∙ c_in in
+    grind arith
+
+pub standing-view : (m : Group) (c : ℕ) (w : World) (o : ObjectName) → m c ≡ true → o.birth.process ≡ c → Fair m c w → HasFinePorts m c w → standing_count (view m w) o ≡ standing_count w o
+standing-view m c w o c_in mine f fine =
+    let b : Birth = o.birth in
+    let pairs : count (is_paired_to b) (view m w).ports ≡ count (is_paired_to b) w.ports = count-shown (is_fair_port m c) (our_port m) (is_paired_to b) (is_paired_to b) (seen_port m) (λ p fair ours. the-seen m b p.pair (ap m mine ∙ c_in)) (λ p fair is. fair-pair-in m c b p c_in mine fair is) w.ports f.ports in
+    let ports : every (λ p. is_fair_port m c p && is_fine_port m c p) w.ports ≡ true = every-both (is_fair_port m c) (is_fine_port m c) _ (λ p a b. both _ _ a b) w.ports f.ports fine in
+    let standing : count (is_standing (view m w) b) (view m w).ports ≡ count (is_standing w b) w.ports = count-shown (λ p. is_fair_port m c p && is_fine_port m c p) (our_port m) (is_standing w b) (is_standing (view m w) b) (seen_port m) (λ p ok ours. standing-seen m c w b p c_in mine f ok) (λ p ok is. (near m c b p c_in mine (one_of _ _ ok) (other_of (is_fair_port m c p) _ ok) (one_of _ _ is)).inside) w.ports ports in
+    let messages : count (is_sent_on b) (view m w).messages ≡ count (is_sent_on b) w.messages = ap length (which-where (is_fair_message m c) (our_message m) (is_sent_on b) (λ x fair is. sent-in m c b x c_in mine fair is) w.messages f.messages) in
+    let waits : count (is_made_on b) (view m w).waits ≡ count (is_made_on b) w.waits = ap length (which-where (is_fair_wait m c) (our_wait m) (is_made_on b) (λ x fair is. c-wait m c x c_in fair (ap (λ n. n == c) (sym (eqb-true _ _ (one_of _ _ fair)) ∙ ap (λ (b : Birth). b.process) (birth-same x.port b is) ∙ mine) ∙ same-number c)) w.waits f.waits) in
+    rw (handle_count-view m c w o f.tables (ap m mine ∙ c_in), pairs, standing, messages, waits) refl
+
+-- Where rows have gone
+-- what a row names is alive
+handle-live : (k : Alive) (b : Birth) (hs : List HandleRow) → every (handle_closed k) hs ≡ true → k b ≡ false → which (λ h. same_object h.object (port_name b)) hs ≡ []
+handle-live k b [] all dead = refl
+handle-live k b (h ∷ hs) all dead = at (same_object h.object (port_name b)) refl (handle-live k b hs (other_of _ _ all) dead)
+  where
+    at : (e : Bool) → same_object h.object (port_name b) ≡ e → which (λ h. same_object h.object (port_name b)) hs ≡ [] → which (λ h. same_object h.object (port_name b)) (h ∷ hs) ≡ []
+    at true is rest =
+        let live : k h.object.birth ≡ true = named h (one_of _ _ all) (one_of _ _ is) in
+        let same : k h.object.birth ≡ k b = ap k (birth-same h.object.birth b (other_of (same_kind h.object.kind kind.Port) _ is)) in absurd (cc)
+      where
+        named : (h : HandleRow) → handle_closed k h ≡ true → same_kind h.object.kind kind.Port ≡ true → k h.object.birth ≡ true
+        named h closed is = grind arith
+    at false off rest = rw off rest
+
+handles-live : (k : Alive) (b : Birth) (ts : List HandleTable) → every (table_closed k) ts ≡ true → k b ≡ false → which (λ h. same_object h.object (port_name b)) (each (λ t. t.rows) ts) ≡ []
+handles-live k b [] all dead = refl
+handles-live k b (t ∷ ts) all dead =
+    filter-append (λ h. same_object h.object (port_name b)) t.rows (each (λ t. t.rows) ts)
+    ∙ ap (λ hs. hs ++ which (λ h. same_object h.object (port_name b)) (each (λ t. t.rows) ts)) (handle-live k b t.rows (one_of _ _ all) dead)
+    ∙ handles-live k b ts (other_of _ _ all) dead
+
+none-of : {X : Type 0} (p t : X → Bool) → ((x : X) → p x ≡ true → t x ≡ false) → (xs : List X) → every p xs ≡ true → has t xs ≡ false
+none-of p t off [] all = refl
+none-of p t off (x ∷ xs) all = grind (arith, off x, none-of p t off xs)
+
+standing-live : (k : Alive) (u : World) (b : Birth) (p : PortRow) → Closed k u → port_cut k p ≡ true → is_standing u b p ≡ true → k p.birth ≡ true
+standing-live k u b p c cut is = at (k p.birth) refl
+  where
+    off-sent : (x : MessageRow) → k p.birth ≡ false → message_closed k x ≡ true → is_sent_to b p x ≡ false
+    off-sent x dead closed = by (is_sent_to b p x) refl
+      where
+        by : (e : Bool) → is_sent_to b p x ≡ e → e ≡ false
+        by true here = let same : k x.sender ≡ k p.birth = ap k (birth-same x.sender p.birth (one_of _ _ here)) in absurd (cc)
+        by false off = refl
+
+    off-made : (x : WaitRow) → k p.birth ≡ false → wait_closed k x ≡ true → is_made_to p x ≡ false
+    off-made x dead closed = by (is_made_to p x) refl
+      where
+        by : (e : Bool) → is_made_to p x ≡ e → e ≡ false
+        by true here = let same : k x.port ≡ k p.birth = ap k (birth-same x.port p.birth (one_of _ _ here)) in absurd (cc)
+        by false off = refl
+
+    at : (e : Bool) → k p.birth ≡ e → e ≡ true
+    at true live = refl
+    at false dead =
+        let handles : handle_count u (port_name p.birth) ≡ 0 = ap length (handles-live k p.birth u.handles c.tables dead) in
+        let sent : has (is_sent_to b p) u.messages ≡ false = none-of (message_closed k) (is_sent_to b p) (λ x closed. off-sent x dead closed) u.messages c.messages in
+        let made : has (is_made_to p) u.waits ≡ false = none-of (wait_closed k) (is_made_to p) (λ x closed. off-made x dead closed) u.waits c.waits in
+        let gone : is_cut p ≡ true = or-last (k p.birth) (is_cut p) dead cut in
+        let never : (is_connected_to b p && (false || not true)) ≡ true = rw (handles, sent, made, gone) at is in
+        absurd (never-is (is_connected_to b p) never)
+      where
+        or-last : (a d : Bool) → a ≡ false → (a || d) ≡ true → d ≡ true
+        or-last a d off is = grind arith
+
+        never-is : (a : Bool) → (a && false) ≡ true → ⊥
+        never-is true is = cc
+        never-is false is = cc
+
+paired-live : (k : Alive) (b : Birth) (p : PortRow) → port_cut k p ≡ true → is_paired_to b p ≡ true → k p.birth ≡ true
+paired-live k b p cut is = at p.pair refl is
+  where
+    at : (o : Option Birth) → p.pair ≡ o → is_the b o ≡ true → k p.birth ≡ true
+    at None none is = absurd (cc)
+    at (Some q) some is = let it : (k p.birth || false) ≡ true = rw some at cut in grind arith
+
+pub standing-thin : (k : Alive) (ps : List ProcessRow) (u : World) (o : ObjectName) → Closed k u → standing_count (thin k ps u) o ≡ standing_count u o
+standing-thin k ps u o c =
+    let b : Birth = o.birth in
+    let pairs : count (is_paired_to b) (which (port_alive k) u.ports) ≡ count (is_paired_to b) u.ports = ap length (which-where (port_cut k) (port_alive k) (is_paired_to b) (λ p cut is. paired-live k b p cut is) u.ports c.cuts) in
+    let standing : count (is_standing u b) (which (port_alive k) u.ports) ≡ count (is_standing u b) u.ports = ap length (which-where (port_cut k) (port_alive k) (is_standing u b) (λ p cut is. standing-live k u b p c cut is) u.ports c.cuts) in
+    ap (λ n. handle_count u o + cond (same_kind o.kind kind.Port) (n + (count (is_standing u b) (which (port_alive k) u.ports) + (count (is_sent_on b) u.messages + count (is_made_on b) u.waits))) 0) pairs
+    ∙ ap (λ n. handle_count u o + cond (same_kind o.kind kind.Port) (count (is_paired_to b) u.ports + (n + (count (is_sent_on b) u.messages + count (is_made_on b) u.waits))) 0) standing

@@ -1,0 +1,87 @@
+-- The machine whose rows never go: it counts for an object what counts for it once rows that nothing names have gone.
+use Rattle.std.specs.Prelude.{ℕ, ◌+◌, ◌==◌, ◌&&◌, ◌||◌, Bool, cond, not, List, [], ◌∷◌, Option, None, Some, Result, Ok}
+use Rattle.lpc_base.specs.Rows.{count, has}
+use Rattle.lpc_base.specs.declared.status.Status.{Status}
+use Rattle.lpc_base.specs.declared.status.TheConstants.{SUCCESS}
+use Rattle.lpc_model.specs.declared.entry.CallName.TheVariants.{NtQueryObject}
+use Rattle.lpc_model.specs.declared.entry.Entry.TheVariants.{Answer, Busy, NoThread}
+use Rattle.lpc_model.specs.declared.entry.Field.{Field}
+use Rattle.lpc_model.specs.declared.entry.ObjectKind.TheVariants as kind
+use Rattle.lpc_model.specs.Then.{◌>>=◌}
+use Rattle.lpc_model.specs.World.{Birth, HandleRow, MessageRow, ObjectName, PortRow, ThreadRow, WaitRow, World}
+use Rattle.lpc_model.specs.Found.{handle_count, is_client_port, is_connected_to, is_cut, is_made_on, is_paired_to, is_queued, is_sent_on, live_thread, port_name, same_kind, wait_of}
+use Rattle.lpc_model.specs.Basics.{Basic, Steps, Tells}
+use Rattle.lpc_model.specs.Fields.{object_fields}
+use Rattle.lpc_model.specs.Standing.{is_near}
+use Rattle.lpc_model.specs.Tests.{own_handle}
+use Rattle.lpc_model.specs.Lines.{ScriptCall, ScriptLine, accept_connect_port, boot, close, complete_connect_port, connect_port, create_port, dir, duplicate_object, link, listen_port, query_object, reply_port, reply_wait_receive_port, request_port, request_wait_reply_port, run, thread}
+use Rattle.lpc_model.specs.Machine.{Stepped, bare_steps, landed, name_of_call, service_of, settled}
+
+-- What counts for an object
+-- A handle to a client or server port; a message that was sent on it, which is a client port's in the queue of its connection
+-- port; or a wait that was made on it, which is a client port's on a queue near it.
+abbrev pub is_sent_to : Birth → PortRow → MessageRow → Bool
+is_sent_to b p x = is_sent_on p.birth x && (is_queued b x || not (is_client_port p))
+
+abbrev pub is_made_to : PortRow → WaitRow → Bool
+is_made_to p x = is_made_on p.birth x && (is_near x p || not (is_client_port p))
+
+abbrev pub is_aside : World → Birth → PortRow → Bool
+is_aside v b p =
+    not (handle_count v (port_name p.birth) == 0) || (has (is_sent_to b p) v.messages || has (is_made_to p) v.waits)
+
+-- a port connected to this one, for which such a row or its other end counts
+abbrev pub is_standing : World → Birth → PortRow → Bool
+is_standing v b p = is_connected_to b p && (is_aside v b p || not (is_cut p))
+
+-- the rows but handles that count for a port
+abbrev pub standing_holders : World → Birth → ℕ
+standing_holders v b =
+    count (is_paired_to b) v.ports + (count (is_standing v b) v.ports + (count (is_sent_on b) v.messages + count (is_made_on b) v.waits))
+
+abbrev pub standing_count : World → ObjectName → ℕ
+standing_count v o = handle_count v o + cond (same_kind o.kind kind.Port) (standing_holders v o.birth) 0
+
+-- NtQueryObject
+abbrev pub standing_counts : World → HandleRow → List Field
+standing_counts v r = object_fields r.object.kind r.access (handle_count v r.object) (standing_count v r.object)
+
+abbrev pub query_steps : World → ThreadRow → HandleRow → List Basic
+query_steps v by r = Tells (Answer by.number NtQueryObject SUCCESS (standing_counts v r)) ∷ []
+
+abbrev pub standing_query : World → ThreadRow → ℕ → Result (List Basic) Status
+standing_query v by value = own_handle v by value >>= (λ r. Ok (query_steps v by r))
+
+-- Calls and lines
+-- every other call is served as it is
+abbrev pub served : World → ThreadRow → ScriptCall → Result (List Basic) Status
+served w by (query_object handle) = standing_query w by handle
+served w by (create_port name) = service_of w by (create_port name)
+served w by (connect_port name info) = service_of w by (connect_port name info)
+served w by (listen_port handle) = service_of w by (listen_port handle)
+served w by (accept_connect_port context message accept) = service_of w by (accept_connect_port context message accept)
+served w by (complete_connect_port handle) = service_of w by (complete_connect_port handle)
+served w by (request_port handle message) = service_of w by (request_port handle message)
+served w by (request_wait_reply_port handle message) = service_of w by (request_wait_reply_port handle message)
+served w by (reply_port handle message) = service_of w by (reply_port handle message)
+served w by (reply_wait_receive_port handle reply) = service_of w by (reply_wait_receive_port handle reply)
+served w by (close handle) = service_of w by (close handle)
+served w by (duplicate_object handle access) = service_of w by (duplicate_object handle access)
+
+abbrev pub served_ready : ThreadRow → ScriptCall → Option WaitRow → Steps
+served_ready by call (Some x) w = Tells (Busy by.number) ∷ []
+served_ready by call None w = settled by (name_of_call call) (served w by call)
+
+abbrev pub served_thread : ℕ → ScriptCall → Option ThreadRow → Steps
+served_thread tid call None w = Tells (NoThread tid) ∷ []
+served_thread tid call (Some by) w = served_ready by call (wait_of w tid) w
+
+abbrev pub served_steps : ScriptLine → Steps
+served_steps (boot pid tid) w = bare_steps (boot pid tid) w
+served_steps (thread tid pid) w = bare_steps (thread tid pid) w
+served_steps (dir path) w = bare_steps (dir path) w
+served_steps (link path target) w = bare_steps (link path target) w
+served_steps (run tid call) w = served_thread tid call (live_thread w tid) w
+
+abbrev pub served_step : World → ScriptLine → Stepped
+served_step w line = landed w (served_steps line w)
