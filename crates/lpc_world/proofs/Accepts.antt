@@ -3,7 +3,7 @@ use Rattle.std.proofs.Common.{◌≡◌, ℕ, List, [], ◌∷◌, Bool, true, f
 use Rattle.std.specs.Prelude.{IfNone, IfSome}
 use Rattle.std.proofs.lemmas.Bool.{eqb-true}
 use Rattle.lpc_base.specs.declared.birth.Birth.{Birth}
-use Rattle.lpc_base.specs.Rows.{change, count, every, first, has}
+use Rattle.lpc_base.specs.Rows.{change, every, first, has}
 use Rattle.lpc_base.proofs.RowMaps.{every-map}
 use Rattle.lpc_model.specs.Basics as basics
 use Rattle.lpc_model.specs.Basics.{Accepts, basic}
@@ -15,7 +15,7 @@ use Rattle.lpc_waits.specs.declared.Accepted.{Accepted}
 use Rattle.lpc_waits.specs.declared.WaitKind.{WaitKind}
 use Rattle.lpc_waits.specs.declared.WaitKind.TheVariants as wait
 use Rattle.lpc_waits.specs.declared.WaitRow.{WaitRow}
-use Rattle.lpc_world.specs.Kept.{IsIdleAfter, Roomy, StaysReady, is_pending, pends_as, room_by, rows_by}
+use Rattle.lpc_world.specs.Kept.{Roomy, StaysReady, StaysUnqueued, is_pending, room_by, rows_by}
 use Rattle.lpc_world.specs.Lawful.{AreLawful, IsLawful, are_single, is_quiet, IsPromised}
 use Rattle.lpc_world.specs.Ready.{wait_in, waiter}
 use Rattle.lpc_world.specs.Shown.{Tables, birth_of, births_of, shown_wait}
@@ -40,10 +40,6 @@ module _ {X Y : Type 0} (g : X → Y) (s : X → Bool) (h : X → X) where
   pub has-changed : (p : Y → Bool) → ((x : X) → p (g (h x)) ≡ p (g x)) → (xs : List X) → has p (map g (change s h xs)) ≡ has p (map g xs)
   has-changed p same [] = refl
   has-changed p same (x ∷ xs) = grind (arith, same x, has-changed p same xs)
-
-  pub count-changed : (p : Y → Bool) → ((x : X) → p (g (h x)) ≡ p (g x)) → (xs : List X) → count p (map g (change s h xs)) ≡ count p (map g xs)
-  count-changed p same [] = refl
-  count-changed p same (x ∷ xs) = grind (arith, same x, count-changed p same xs)
 
   pub length-changed : (xs : List X) → length (map g (change s h xs)) ≡ length (map g xs)
   length-changed [] = refl
@@ -89,18 +85,6 @@ module _ (f : Object → Birth) where
       by wait.Listen old off = refl
       by wait.Connect None off = refl
       by wait.Connect (Some b) off = absurd (cc)
-
-  pending_row : (new : Option Accepted) (row : WaitRow) → is_pending (shown_wait f (waits.with_accepted new row)) ≡ is_pending (shown_wait f row)
-  pending_row new row = by row.wait.kind row.accepted new
-    where
-      by : (kind : WaitKind) (old new : Option Accepted) → let before : WaitRow = record row { wait = record row.wait { kind = kind }; accepted = old } in is_pending (shown_wait f (waits.with_accepted new before)) ≡ is_pending (shown_wait f before)
-      by wait.Request old new = refl
-      by wait.Receive old new = refl
-      by wait.Listen old new = refl
-      by wait.Connect None None = refl
-      by wait.Connect None (Some b) = refl
-      by wait.Connect (Some a) None = refl
-      by wait.Connect (Some a) (Some b) = refl
 
 -- and as the definitions have it
 accepted_pends : (reply : List ℕ) (x : model.WaitRow) → is_pending (basics.accepted reply x) ≡ is_pending x
@@ -196,9 +180,9 @@ module _ (it : Tables) (calls made who : ℕ) (is : AreLawful it calls made) whe
       promised = rows_promised new took there;
     }
 
-  -- who waits, and who waits for an answer, is as it was
-  pub accepted_idle : (new : Option Accepted) → IsIdleAfter rows (rows_by (after new))
-  accepted_idle new = record { idle = λ tid none. has-changed (shown_wait f) (waits.is_of who) (waits.with_accepted new) (pends_as tid) (λ row. ap (λ b. (row.thread == tid) && b) (pending_row f new row)) it.waits.rows ∙ none }
+  -- who waits is as it was, and so are the messages
+  pub accepted_unqueued : (new : Option Accepted) → StaysUnqueued rows (rows_by (after new))
+  accepted_unqueued new = record { unqueued = λ tid none. none }
 
   pub accepted_ready : (new : Option Accepted) → StaysReady rows (rows_by (after new))
   accepted_ready new = record { ready = λ tid none. has-changed (shown_wait f) (waits.is_of who) (waits.with_accepted new) (waits_as tid) (λ row. refl) it.waits.rows ∙ none }
@@ -208,4 +192,3 @@ module _ (it : Tables) (calls made who : ℕ) (is : AreLawful it calls made) whe
       let waiting = rows_by (after new) in
       rooms.room_keep _ _ _ _ _ _ rows _ waiting.waits
       (length-changed (shown_wait f) (waits.is_of who) (waits.with_accepted new) it.waits.rows)
-      (count-changed (shown_wait f) (waits.is_of who) (waits.with_accepted new) is_pending (pending_row f new) it.waits.rows)

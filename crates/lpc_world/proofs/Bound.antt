@@ -106,10 +106,12 @@ lawful-names w v calls made a b same h = rw same (record {
   housed = h.housed;
   tables_used = h.tables_used;
   tables_single = h.tables_single;
+  tables_few = h.tables_few;
   single = h.single;
   threads = h.threads;
   quiet = h.quiet;
-  requests = h.requests;
+  own = h.own;
+  told = h.told;
   waits_fit = h.waits_fit;
   messages_fit = h.messages_fit;
 })

@@ -58,6 +58,10 @@ not_ready w tid ready none =
     let some : is_some (live_thread w tid) ≡ true = (lives _ _ ready).0 in
     absurd (cc)
 
+-- and lives
+pub lives_ready : (w : World) (tid : ℕ) → is_ready w tid ≡ true → has (is_live_thread tid) w.threads ≡ true
+lives_ready w tid ready = (lives _ _ ready).0
+
 -- the process of a live thread stands, and has a table of handles
 pub live_process : (w : World) (pid : ℕ) → every (is_housed w) w.threads ≡ true → has (lives_in pid) w.threads ≡ true → (has (is_process pid) w.processes ≡ true) × (has (is_table pid) w.handles ≡ true)
 live_process w pid all live = of_first (first (lives_in pid) w.threads) refl live

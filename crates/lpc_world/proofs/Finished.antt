@@ -12,7 +12,7 @@ use Rattle.lpc_model.specs.Found.{handles_of, is_accepted, is_connect, is_table,
 use Rattle.lpc_model.specs.Tests.{is_connect_of}
 use Rattle.lpc_waits.specs.Table as waits
 use Rattle.lpc_waits.specs.Table.{WaitTable}
-use Rattle.lpc_world.specs.Kept.{is_pending_in, pends_as, rows_by}
+use Rattle.lpc_world.specs.Kept.{has_queued, is_pending_in, rows_by}
 use Rattle.lpc_world.specs.Lawful.{AreLawful, IsPromised, is_taken}
 use Rattle.lpc_world.specs.Parts.{handed, is_part, rows_at, spare_at}
 use Rattle.lpc_world.specs.Ready.{wait_in, waiter}
@@ -88,10 +88,10 @@ module _ (it : Tables) (calls made : ℕ) (is : AreLawful it calls made) (tid pi
     pub rows_after : rows_by after ≡ record (basic rows (AddsHandle pid (shown_handle (birth_of n) (value, row)))) { waits = without (waits_as tid) rows.waits }
     rows_after = changes.ends given named_given tid less.spare less.made ∙ ap left (changes.hands it is.named pid value row)
 
-    pub finished : has (pends_as tid) rows.waits ≡ false → AreLawful after calls made
-    finished idle = record {
+    pub finished : has_queued rows tid ≡ false → AreLawful after calls made
+    finished none = record {
       named = changes.ended given named_given tid less.spare less.made;
-      lawful = rw (rows_after, ← steps.has_wait it calls made is tid) (lawful.lawful-end (record rows { handles = change (is_table pid) _ rows.handles }) calls made it.waits.spare it.ports.message_room tid (lawful.lawful-handle rows calls made it.waits.spare it.ports.message_room pid (shown_handle (birth_of n) (value, row)) is.lawful) idle);
+      lawful = rw (rows_after, ← steps.has_wait it calls made is tid) (lawful.lawful-end (record rows { handles = change (is_table pid) _ rows.handles }) calls made it.waits.spare it.ports.message_room tid (lawful.lawful-handle rows calls made it.waits.spare it.ports.message_room pid (shown_handle (birth_of n) (value, row)) is.lawful) none);
       counted = record { ports_made = is.counted.ports_made; messages_made = is.counted.messages_made; waits_made = is.counted.waits_made };
       headed = is.headed;
       drawn = drawn.same-drawn rows _ refl refl refl is.drawn;

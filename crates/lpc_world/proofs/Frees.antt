@@ -2,17 +2,19 @@
 -- the tables stood for.
 use Rattle.std.proofs.Common.{◌≡◌, ℕ, ◌+◌, List, Bool, true, false, not, map, refl, ◌∙◌, arith, subst, sym}
 use Rattle.std.specs.Prelude.{◌&&◌}
-use Rattle.lpc_base.specs.Rows.{every, without}
+use Rattle.lpc_base.specs.declared.birth.Birth.{Birth}
+use Rattle.lpc_base.specs.Rows.{every, has, without}
 use Rattle.lpc_base.proofs.RowMaps.{every-both, without-map}
-use Rattle.lpc_base.proofs.RowWords.{count-bound, every-without}
+use Rattle.lpc_base.proofs.RowWords.{count-bound, every-without, has_none-more}
 use Rattle.lpc_model.specs.Basics.{Frees, basic}
-use Rattle.lpc_model.specs.Found.{is_port, port_name}
+use Rattle.lpc_model.specs.Found.{is_client_port, is_port, is_sent_on, port_name}
 use Rattle.lpc_model.specs.World as model
 use Rattle.lpc_model.specs.World.{World}
 use Rattle.lpc_ports.specs.Table.{PortTable}
 use Rattle.lpc_ports.specs.declared.Port.{Port}
 use Rattle.lpc_slots.specs.Table.{at_key}
 use Rattle.lpc_slots.specs.declared.Key.{Key}
+use Rattle.lpc_world.specs.Held.{is_message_at, is_named}
 use Rattle.lpc_world.specs.Kept.{HandleRoom, Roomy, rows_by}
 use Rattle.lpc_world.specs.Lawful.{AreDrawn, AreLawful, IsLawful, was_drawn, IsPromised}
 use Rattle.lpc_world.specs.Names.{KeepsOthers, name_of, stands}
@@ -24,7 +26,9 @@ use Rattle.lpc_world.proofs.Follows as follows
 use Rattle.lpc_world.proofs.Follows.{is_own}
 use Rattle.lpc_world.proofs.Makes.{bindings_shape, messages_shape, parts_shape, ports_shape, rows_more, shown_same, waits_shape}
 use Rattle.lpc_world.proofs.Naming.{apart-without, name-without, stands-without}
+use Rattle.lpc_world.proofs.OwnMessages.{count-left}
 use Rattle.lpc_world.proofs.Rooms.{room}
+use Rattle.lpc_world.proofs.Untold.{told-free}
 use Rattle.lpc_world.proofs.Unheld.{is_named_in, is_other, others_pass}
 
 -- rows whose objects pass two tests
@@ -101,32 +105,38 @@ module _ (it : Tables) (is : AreNamed (births_of it.ports) it) (key : Key) (room
           shown_same binding_refs shown_binding bindings_shape ok (birth_of m) (birth_of n) name_less it.space.bindings pass.in_names,
         ) refl
 
+-- no message was sent on a port that no row names
+pub none_sent : (w : World) (b : Birth) → is_named w b ≡ false → has (is_sent_on b) w.messages ≡ false
+none_sent w b off = has_none-more (is_message_at b) (is_sent_on b) (λ m none. grind arith) w.messages (grind (arith, off))
+
 -- The rows stay lawful
-lawful-free : (w : World) (calls made a b : ℕ) (p : model.PortRow → Bool) → IsLawful w calls made a b → IsLawful (record w { ports = without p w.ports }) calls made a b
-lawful-free w calls made a b p h = record {
+lawful-free : (w : World) (calls made a b : ℕ) (c : Birth) → has (is_sent_on c) w.messages ≡ false → IsLawful w calls made a b → IsLawful (record w { ports = without (is_port c) w.ports }) calls made a b
+lawful-free w calls made a b c none h = record {
   few = h.few;
   budget = h.budget;
-  rows = grind (arith, h.rows, count-bound (λ x. not (p x)) w.ports);
+  rows = grind (arith, h.rows, count-bound (λ x. not (is_port c x)) w.ports);
   draws = h.draws;
   housed = h.housed;
   tables_used = h.tables_used;
   tables_single = h.tables_single;
+  tables_few = h.tables_few;
   single = h.single;
   threads = h.threads;
   quiet = h.quiet;
-  requests = h.requests;
+  own = h.own;
+  told = told-free c w.messages w.ports none h.told;
   waits_fit = h.waits_fit;
-  messages_fit = h.messages_fit;
+  messages_fit = let clients = count-left is_client_port (is_port c) w.ports in let fit = h.messages_fit in omega (arith, clients, fit);
 }
 
 drawn-free : (w : World) (p : model.PortRow → Bool) → AreDrawn w → AreDrawn (record w { ports = without p w.ports })
 drawn-free w p h = record { threads_single = h.threads_single; threads_noted = h.threads_noted; ports_drawn = every-without (was_drawn w.threads) p w.ports h.ports_drawn }
 
 pub freed_lawful : (it : Tables) (calls made : ℕ) (key : Key) (room : ℕ) → AreLawful it calls made → stands (births_of it.ports).ports key ≡ true → is_named_in it key ≡ false
-    → AreLawful (record it { ports = record it.ports { ports = without (at_key key) it.ports.ports; port_room = room } }) calls made
-freed_lawful it calls made key room is there none = record {
+    → has (is_sent_on (name_of (births_of it.ports).ports key)) (rows_by it).messages ≡ false → AreLawful (record it { ports = record it.ports { ports = without (at_key key) it.ports.ports; port_room = room } }) calls made
+freed_lawful it calls made key room is there none unsent = record {
   named = freed_named it is.named key room none;
-  lawful = rw (frees it is.named key room none there) (lawful-free (rows_by it) calls made it.waits.spare it.ports.message_room (is_port (name_of (births_of it.ports).ports key)) is.lawful);
+  lawful = rw (frees it is.named key room none there) (lawful-free (rows_by it) calls made it.waits.spare it.ports.message_room (name_of (births_of it.ports).ports key) unsent is.lawful);
   counted = record { ports_made = is.counted.ports_made; messages_made = is.counted.messages_made; waits_made = is.counted.waits_made };
   headed = is.headed;
   drawn = rw (frees it is.named key room none there) (drawn-free (rows_by it) (is_port (name_of (births_of it.ports).ports key)) is.drawn);
@@ -134,13 +144,12 @@ freed_lawful it calls made key room is there none = record {
 }
 
 -- The room
-pub room_freed : (a b c d e g : ℕ) (w : World) (hs : List HandleRoom) (ps : List model.PortRow) → Roomy (room a b c d e g w hs) (room a b c d (e + 1) g (record w { ports = ps }) hs)
-room_freed a b c d e g w hs ps = record {
+pub room_freed : (a b c d e g : ℕ) (w : World) (hs : List HandleRoom) (p : model.PortRow → Bool) → Roomy (room a b c d e g w hs) (room a b c d (e + 1) g (record w { ports = without p w.ports }) hs)
+room_freed a b c d e g w hs p = let clients = count-left is_client_port p w.ports in record {
   for_processes = omega arith;
   for_threads = omega arith;
   for_waits = omega arith;
-  for_messages = omega arith;
-  for_requests = omega arith;
+  for_messages = omega (arith, clients);
   for_ports = omega arith;
   for_names = omega arith;
   for_handles = λ pid. omega arith;

@@ -16,6 +16,7 @@ use Rattle.lpc_base.proofs.RowMaps.{every-first}
 use Rattle.lpc_model.proofs.Births.{birth-same, birth-self}
 use Rattle.lpc_model.proofs.OpenQueues.{queues_freed}
 use Rattle.lpc_model.proofs.Rows.{has-append, has-found}
+use Rattle.lpc_model.proofs.Standing.{gone-names, unheld_no_queue}
 use Rattle.lpc_model.proofs.Sweeping.{free_kept, lives_freed}
 use Rattle.lpc_model.proofs.Swept.{unheld-parts}
 use Rattle.lpc_ports.specs.declared.Port.{Port}
@@ -49,7 +50,7 @@ zero_has p (x ∷ xs) = at (p x) refl (zero_has p xs)
 counted : (w : World) (b : Birth) → not (handle_count w (port_name b) == 0) ≡ is_open w b
 counted w b = zero_has (λ (h : HandleRow). names_port b h.object) (all_handles w) ∙ has_in (λ (h : HandleRow). names_port b h.object) (λ t. t.rows) w.handles
 
--- What is open is what queues and names are of
+-- What is open is what names, and the queues of messages, are of
 module _ (w : World) (b : Birth) (off : is_open w b ≡ false) where
   apart : (c : Birth) → is_open w c ≡ true → same_birth c b ≡ false
   apart c there = at (same_birth c b) refl
@@ -62,15 +63,19 @@ module _ (w : World) (b : Birth) (off : is_open w b ≡ false) where
   no_queued [] all = refl
   no_queued (m ∷ ms) all = grind (arith, apart m.queue, no_queued ms)
 
-  no_waiting : (xs : List WaitRow) → every (λ x. is_open w x.queue) xs ≡ true → has (λ x. same_birth x.queue b) xs ≡ false
-  no_waiting [] all = refl
-  no_waiting (x ∷ xs) all = grind (arith, apart x.queue, no_waiting xs)
-
   no_named : (bs : Bindings Birth) → every (λ x. leads_open w x.1) bs ≡ true → has_name same_birth b bs ≡ false
   no_named [] all = refl
   no_named ((path, LinkTo target) ∷ bs) all = no_named bs all
   no_named ((path, Stands Directory) ∷ bs) all = no_named bs all
   no_named ((path, Stands (Item port)) ∷ bs) all = grind (arith, apart port, no_named bs)
+
+-- The queue of no wait is that of a port that no row counts for
+none_on : (b : Birth) (xs : List WaitRow) → every (λ x. not (same_birth x.queue b)) xs ≡ true → has (λ x. same_birth x.queue b) xs ≡ false
+none_on b [] all = refl
+none_on b (x ∷ xs) all = grind (arith, none_on b xs)
+
+no_waiting : (w : World) (b : Birth) (held : Bool) → CanSweep w → is_unheld w (port_name b) ≡ not held → held ≡ false → has (λ x. same_birth x.queue b) w.waits ≡ false
+no_waiting w b held can is none = none_on b w.waits (unheld_no_queue w b can.standing (is ∙ ap not none))
 
 -- some row names the port exactly where one counts for it
 pub held_as : (w : World) (b : Birth) → CanSweep w → is_named w b ≡ not (is_unheld w (port_name b))
@@ -79,16 +84,19 @@ held_as w b can = at (is_open w b) refl
     parts : (h s m p q : Bool) → not (not ((h || (s || m)) || (p || q))) ≡ ((h || (s || m)) || (p || q))
     parts h s m p q = grind arith
 
-    joins : (o p q s u m v n h : Bool) → h ≡ o → (o ≡ false → (u ≡ false) × ((v ≡ false) × (n ≡ false))) → (o || ((p || q) || ((s || u) || ((m || v) || n)))) ≡ ((h || (s || m)) || (p || q))
-    joins true p q s u m v n h same off = grind arith
-    joins false p q s u m v n h same off = let none = off refl in grind (arith, none.0, none.1.0, none.1.1)
+    joins : (o p q s u m v n h k : Bool) → h ≡ o → ((h || (s || m)) || (p || q)) ≡ k → (o ≡ false → (u ≡ false) × (n ≡ false)) → (k ≡ false → v ≡ false)
+        → (o || ((p || q) || ((s || u) || ((m || v) || n)))) ≡ ((h || (s || m)) || (p || q))
+    joins true p q s u m v n h k same held off quiet = grind arith
+    joins false p q s u m v n h true same held off quiet = let none = off refl in grind (arith, none.0, none.1)
+    joins false p q s u m v n h false same held off quiet = let none = off refl in grind (arith, none.0, none.1, quiet refl)
 
     at : (o : Bool) → is_open w b ≡ o → is_named w b ≡ not (is_unheld w (port_name b))
     at o is =
         let hs = not (handle_count w (port_name b) == 0) in
+        let held = (hs || (has (is_sent_on b) w.messages || has (is_made_on b) w.waits)) || (has (is_paired_to b) w.ports || has (is_connected_to b) w.ports) in
         rw (has_or (is_paired_to b) (is_connected_to b) w.ports, has_or (is_sent_on b) (is_queued b) w.messages, has_or (is_made_on b) (λ x. same_birth x.queue b) w.waits, unheld-parts w b)
-        (joins (is_open w b) (has (is_paired_to b) w.ports) (has (is_connected_to b) w.ports) (has (is_sent_on b) w.messages) (has (is_queued b) w.messages) (has (is_made_on b) w.waits) (has (λ x. same_birth x.queue b) w.waits) (has_name same_birth b w.bindings) hs (counted w b)
-        (λ off. (no_queued w b off w.messages can.queues.messages, (no_waiting w b off w.waits can.queues.waits, no_named w b off w.bindings can.sound.names)))
+        (joins (is_open w b) (has (is_paired_to b) w.ports) (has (is_connected_to b) w.ports) (has (is_sent_on b) w.messages) (has (is_queued b) w.messages) (has (is_made_on b) w.waits) (has (λ x. same_birth x.queue b) w.waits) (has_name same_birth b w.bindings) hs held (counted w b) refl
+        (λ off. (no_queued w b off w.messages can.queues.messages, no_named w b off w.bindings can.sound.names)) (no_waiting w b held can (unheld-parts w b))
         ∙ sym (parts hs (has (is_sent_on b) w.messages) (has (is_made_on b) w.waits) (has (is_paired_to b) w.ports) (has (is_connected_to b) w.ports)))
 
 -- a port with another end is held by it
@@ -110,16 +118,16 @@ paired_held w b q p can found own pair =
     not_true false h = refl
 
 -- so the port that no row counts for can go
-pub free_port : (w : Kept) (o : Object) (key : Key) → object.Port key ≡ o → CanSweep w.rows → is_unheld w.rows (name_by (birth_of w.names) o) ≡ true → is_named w.rows (name_of w.names.ports key) ≡ false
+pub free_port : (w : Kept) (o : Object) (key : Key) → object.Port key ≡ o → CanSweep w.rows → is_unheld w.rows (name_by (birth_of w.births) o) ≡ true → is_named w.rows (name_of w.births.ports key) ≡ false
 free_port w o key is can none =
-    let here : is_unheld w.rows (port_name (name_of w.names.ports key)) ≡ true = subst (λ q. is_unheld w.rows (name_by (birth_of w.names) q) ≡ true) (sym is) none in
-    held_as w.rows (name_of w.names.ports key) can ∙ ap not here
+    let here : is_unheld w.rows (port_name (name_of w.births.ports key)) ≡ true = subst (λ q. is_unheld w.rows (name_by (birth_of w.births) q) ≡ true) (sym is) none in
+    held_as w.rows (name_of w.births.ports key) can ∙ ap not here
 
 -- a port that goes leaves a world that can be swept
 pub can_freed : (w : World) (b : Birth) → CanSweep w → is_unheld w (port_name b) ≡ true → CanSweep (basic w (Frees (port_name b)))
 can_freed w b can none =
     let kept = free_kept w b can.sound can.linked none in
-    record { sound = kept.0; linked = kept.1; queues = queues_freed w (port_name b) can.queues; lives = lives_freed w b can.lives }
+    record { sound = kept.0; linked = kept.1; queues = queues_freed w (port_name b) can.queues; standing = gone-names w (port_name b) none can.standing; lives = lives_freed w b can.lives }
 
 -- The port at a place
 every_at : {X : Type 0} (p : X → Bool) (xs : List X) (place : ℕ) (x : X) → every p xs ≡ true → slice_get xs place ≡ Some x → p x ≡ true
@@ -211,7 +219,6 @@ roomy_same a = record {
   for_threads = omega arith;
   for_waits = omega arith;
   for_messages = omega arith;
-  for_requests = omega arith;
   for_ports = omega arith;
   for_names = omega arith;
   for_handles = λ pid. omega arith;
@@ -223,7 +230,6 @@ roomy_then a b c one two = record {
   for_threads = omega (arith, one.for_threads, two.for_threads);
   for_waits = omega (arith, one.for_waits, two.for_waits);
   for_messages = omega (arith, one.for_messages, two.for_messages);
-  for_requests = omega (arith, one.for_requests, two.for_requests);
   for_ports = omega (arith, one.for_ports, two.for_ports);
   for_names = omega (arith, one.for_names, two.for_names);
   for_handles = λ pid. omega (arith, one.for_handles pid, two.for_handles pid);

@@ -2,10 +2,10 @@
 -- stood for, and stay lawful.
 use Rattle.std.proofs.Common.{◌≡◌, ℕ, List, [], ◌∷◌, ◌++◌, Bool, true, false, cond, map, Option, Some, None, refl, ap, sym, ◌∙◌, arith, subst}
 use Rattle.std.proofs.lemmas.List.{length-map}
-use Rattle.lpc_base.specs.Rows.{change, every}
+use Rattle.lpc_base.specs.Rows.{change, count, every}
 use Rattle.lpc_model.specs.Basics as basics
 use Rattle.lpc_model.specs.Basics.{Joins, basic}
-use Rattle.lpc_model.specs.Found.{is_port}
+use Rattle.lpc_model.specs.Found.{is_client_port, is_port}
 use Rattle.lpc_model.specs.World as model
 use Rattle.lpc_model.specs.World.{World}
 use Rattle.lpc_ports.specs.Table as ports
@@ -23,6 +23,7 @@ use Rattle.lpc_world.specs.declared.object.Object.TheVariants as object
 use Rattle.lpc_world.proofs.Follows as follows
 use Rattle.lpc_world.proofs.Naming.{key_is}
 use Rattle.lpc_world.proofs.Rooms.{room}
+use Rattle.lpc_world.proofs.Untold.{told-map}
 
 -- rows that all pass a test, changed by a map that the shown rows follow
 pub map-follows : {X Y : Type 0} (g : X → Y) (ok : X → Bool) (h : X → X) (k : Y → Y) → ((x : X) → ok x ≡ true → g (h x) ≡ k (g x)) → (xs : List X) → every ok xs ≡ true → map g (map h xs) ≡ map k (map g xs)
@@ -33,22 +34,28 @@ pub every-mapped : {X : Type 0} (p : X → Bool) (h : X → X) → ((x : X) → 
 every-mapped p h same [] all = refl
 every-mapped p h same (x ∷ xs) all = grind (arith, same x, every-mapped p h same xs)
 
--- the room is of the threads, messages and waits alone
-pub room_ports : (a b c d e g : ℕ) (w : World) (hs : List HandleRoom) (v : World) → v.threads ≡ w.threads → v.messages ≡ w.messages → v.waits ≡ w.waits → Roomy (room a b c d e g w hs) (room a b c d e g v hs)
-room_ports a b c d e g w hs v ts ms xs = rw (ts, ms, xs) (record {
+-- the room is of the threads, messages and waits alone, where ports keep their kinds
+pub clients_same : (k : model.PortRow → model.PortRow) → ((p : model.PortRow) → (k p).kind ≡ p.kind) → (ps : List model.PortRow) → count is_client_port (map k ps) ≡ count is_client_port ps
+clients_same k kinds [] = refl
+clients_same k kinds (p ∷ ps) =
+    let one : is_client_port (k p) ≡ is_client_port p = rw (kinds p) refl in
+    grind (arith, one, clients_same k kinds ps)
+
+pub room_ports : (a b c d e g : ℕ) (w : World) (hs : List HandleRoom) (k : model.PortRow → model.PortRow) → ((p : model.PortRow) → (k p).kind ≡ p.kind)
+    → (v : World) → v.threads ≡ w.threads → v.messages ≡ w.messages → v.waits ≡ w.waits → v.ports ≡ map k w.ports → Roomy (room a b c d e g w hs) (room a b c d e g v hs)
+room_ports a b c d e g w hs k kinds v ts ms xs ps = let clients = clients_same k kinds w.ports in rw (ts, ms, xs, ps) (record {
   for_processes = omega arith;
   for_threads = omega arith;
   for_waits = omega arith;
-  for_messages = omega arith;
-  for_requests = omega arith;
+  for_messages = omega (arith, clients);
   for_ports = omega arith;
   for_names = omega arith;
   for_handles = λ pid. omega arith;
 })
 
 -- the definitions' ports, changed
-lawful-ports : (w : World) (calls made a b : ℕ) (k : model.PortRow → model.PortRow) → IsLawful w calls made a b → IsLawful (record w { ports = map k w.ports }) calls made a b
-lawful-ports w calls made a b k h = record {
+lawful-ports : (w : World) (calls made a b : ℕ) (k : model.PortRow → model.PortRow) → ((p : model.PortRow) → (k p).birth ≡ p.birth) → ((p : model.PortRow) → (k p).kind ≡ p.kind) → IsLawful w calls made a b → IsLawful (record w { ports = map k w.ports }) calls made a b
+lawful-ports w calls made a b k same kinds h = record {
   few = h.few;
   budget = h.budget;
   rows = grind (arith, h.rows, length-map w.ports k);
@@ -56,12 +63,14 @@ lawful-ports w calls made a b k h = record {
   housed = h.housed;
   tables_used = h.tables_used;
   tables_single = h.tables_single;
+  tables_few = h.tables_few;
   single = h.single;
   threads = h.threads;
   quiet = h.quiet;
-  requests = h.requests;
+  own = h.own;
+  told = told-map k same kinds w.messages w.ports h.told;
   waits_fit = h.waits_fit;
-  messages_fit = h.messages_fit;
+  messages_fit = let clients = clients_same k kinds w.ports in let fit = h.messages_fit in omega (arith, clients, fit);
 }
 
 drawn-ports : (w : World) (k : model.PortRow → model.PortRow) → ((p : model.PortRow) → (k p).birth ≡ p.birth) → AreDrawn w → AreDrawn (record w { ports = map k w.ports })
@@ -88,9 +97,9 @@ module _ (change_row : Key × Port → Key × Port) (same_key : (row : Key × Po
     births_same = ap (λ names. record { ports = names }) (names_same it.ports.ports)
 
     module _ (k : model.PortRow → model.PortRow) (kept : (row : Key × Port) → all_pass port_refs (object_stands n) row ≡ true → all_pass port_refs (object_stands n) (change_row row) ≡ true)
-        (shows : (row : Key × Port) → follows.is_own (λ (r : Port). r.birth) it.ports.ports row ≡ true → shown_port (birth_of n) (change_row row) ≡ k (shown_port (birth_of n) row)) where
+        (ok : Key × Port → Bool) (all_ok : every ok it.ports.ports ≡ true) (shows : (row : Key × Port) → ok row ≡ true → shown_port (birth_of n) (change_row row) ≡ k (shown_port (birth_of n) row)) where
       pub changes : shown_by (births_of after) (record it { ports = after }) ≡ record (shown_by n it) { ports = map k (shown_by n it).ports }
-      changes = rw births_same (ap (λ ps. record (shown_by n it) { ports = ps }) (map-follows (shown_port (birth_of n)) (follows.is_own (λ (r : Port). r.birth) it.ports.ports) change_row k shows it.ports.ports (follows.own_ports it is)))
+      changes = rw births_same (ap (λ ps. record (shown_by n it) { ports = ps }) (map-follows (shown_port (birth_of n)) ok change_row k shows it.ports.ports all_ok))
 
       named : AreNamed (births_of after) (record it { ports = after })
       named = rw births_same (record {
@@ -104,10 +113,10 @@ module _ (change_row : Key × Port → Key × Port) (same_key : (row : Key × Po
         };
       })
 
-      pub lawful : (calls made : ℕ) → AreLawful it calls made → ((p : model.PortRow) → (k p).birth ≡ p.birth) → AreLawful (record it { ports = after }) calls made
-      lawful calls made all same = record {
+      pub lawful : (calls made : ℕ) → AreLawful it calls made → ((p : model.PortRow) → (k p).birth ≡ p.birth) → ((p : model.PortRow) → (k p).kind ≡ p.kind) → AreLawful (record it { ports = after }) calls made
+      lawful calls made all same kinds = record {
         named = named;
-        lawful = rw changes (lawful-ports (rows_by it) calls made it.waits.spare it.ports.message_room k all.lawful);
+        lawful = rw changes (lawful-ports (rows_by it) calls made it.waits.spare it.ports.message_room k same kinds all.lawful);
         counted = record { ports_made = all.counted.ports_made; messages_made = all.counted.messages_made; waits_made = all.counted.waits_made };
         headed = all.headed;
         drawn = rw changes (drawn-ports (rows_by it) k same all.drawn);
@@ -117,20 +126,20 @@ module _ (change_row : Key × Port → Key × Port) (same_key : (row : Key × Po
       abbrev all_after : Tables
       all_after = record it { ports = after }
 
-      pub roomy : (places : ℕ) → Roomy (room_by (rows_by it) it places) (room_by (rows_by all_after) all_after places)
-      roomy places = room_ports _ _ _ _ _ _ (rows_by it) _ (rows_by all_after) (ap (λ (v : World). v.threads) changes) (ap (λ (v : World). v.messages) changes) (ap (λ (v : World). v.waits) changes)
+      pub roomy : (places : ℕ) → ((p : model.PortRow) → (k p).kind ≡ p.kind) → Roomy (room_by (rows_by it) it places) (room_by (rows_by all_after) all_after places)
+      roomy places kinds = room_ports _ _ _ _ _ _ (rows_by it) _ k kinds (rows_by all_after) (ap (λ (v : World). v.threads) changes) (ap (λ (v : World). v.messages) changes) (ap (λ (v : World). v.waits) changes) (ap (λ (v : World). v.ports) changes)
 
 -- the row of a key, changed
 abbrev pub at_row : Key → (Port → Port) → Key × Port → Key × Port
 at_row key change_port row = cond (at_key key row) (row.0, change_port row.1) row
 
-key_at : (key : Key) (change_port : Port → Port) (row : Key × Port) → (at_row key change_port row).0 ≡ row.0
+pub key_at : (key : Key) (change_port : Port → Port) (row : Key × Port) → (at_row key change_port row).0 ≡ row.0
 key_at key change_port row = elim (at_key key row) as (λ b. (cond b (row.0, change_port row.1) row).0 ≡ row.0) [ true ↦ refl | false ↦ refl ]
 
-own_at : (key : Key) (change_port : Port → Port) → ((p : Port) → (change_port p).birth ≡ p.birth) → (row : Key × Port) → (at_row key change_port row).1.birth ≡ row.1.birth
+pub own_at : (key : Key) (change_port : Port → Port) → ((p : Port) → (change_port p).birth ≡ p.birth) → (row : Key × Port) → (at_row key change_port row).1.birth ≡ row.1.birth
 own_at key change_port same row = elim (at_key key row) as (λ b. (cond b (row.0, change_port row.1) row).1.birth ≡ row.1.birth) [ true ↦ same row.1 | false ↦ refl ]
 
-map-twice : {X : Type 0} (g h : X → X) (xs : List X) → map g (map h xs) ≡ map (λ x. g (h x)) xs
+pub map-twice : {X : Type 0} (g h : X → X) (xs : List X) → map g (map h xs) ≡ map (λ x. g (h x)) xs
 map-twice g h [] = refl
 map-twice g h (x ∷ xs) = ap (λ ys. g (h x) ∷ ys) (map-twice g h xs)
 
@@ -195,20 +204,28 @@ module _ (it : Tables) (is : AreNamed (births_of it.ports) it) (client server : 
       by false true = refl
       by false false = refl
 
+  joined_kind : (p : model.PortRow) → (shown_joined p).kind ≡ p.kind
+  joined_kind p = by (is_port (name_of names.ports client) p) (is_port (name_of names.ports server) p)
+    where
+      by : (a b : Bool) → let q = cond a (basics.paired (name_of names.ports server) context p) (cond b (basics.paired (name_of names.ports client) context p) p) in q.kind ≡ p.kind
+      by true b = refl
+      by false true = refl
+      by false false = refl
+
   pub joined_names : births_of joined_table ≡ names
   joined_names = rw joined_rows (births_same join_row join_key join_own it is)
 
   pub joins : shown_by (births_of joined_table) (record it { ports = joined_table }) ≡ basic (rows_by it) (Joins (name_of names.ports client) (name_of names.ports server) context)
-  joins = rw joined_rows (changes join_row join_key join_own it is shown_joined join_kept join_shows)
+  joins = rw joined_rows (changes join_row join_key join_own it is shown_joined join_kept (follows.is_own (λ (r : Port). r.birth) it.ports.ports) (follows.own_ports it is) join_shows)
 
   pub joined_lawful : (calls made : ℕ) → AreLawful it calls made → AreLawful (record it { ports = joined_table }) calls made
-  joined_lawful calls made all = rw joined_rows (lawful join_row join_key join_own it is shown_joined join_kept join_shows calls made all joined_birth)
+  joined_lawful calls made all = rw joined_rows (lawful join_row join_key join_own it is shown_joined join_kept (follows.is_own (λ (r : Port). r.birth) it.ports.ports) (follows.own_ports it is) join_shows calls made all joined_birth joined_kind)
 
   abbrev joined_all : Tables
   joined_all = record it { ports = joined_table }
 
   pub joined_room : (places : ℕ) → Roomy (room_by (rows_by it) it places) (room_by (rows_by joined_all) joined_all places)
-  joined_room places = rw joined_rows (roomy join_row join_key join_own it is shown_joined join_kept join_shows places)
+  joined_room places = rw joined_rows (roomy join_row join_key join_own it is shown_joined join_kept (follows.is_own (λ (r : Port). r.birth) it.ports.ports) (follows.own_ports it is) join_shows places joined_kind)
 
 -- the connection of a port is completed or not
 module _ (it : Tables) (is : AreNamed (births_of it.ports) it) (key : Key) (completed : Bool) (key_stands : stands (births_of it.ports).ports key ≡ true) where
@@ -237,17 +254,20 @@ module _ (it : Tables) (is : AreNamed (births_of it.ports) it) (key : Key) (comp
   completed_birth : (p : model.PortRow) → (shown_completed p).birth ≡ p.birth
   completed_birth p = elim (is_port (name_of named_by.ports key) p) as (λ b. (cond b (with_completed completed p) p).birth ≡ p.birth) [ true ↦ refl | false ↦ refl ]
 
+  completed_kind : (p : model.PortRow) → (shown_completed p).kind ≡ p.kind
+  completed_kind p = elim (is_port (name_of named_by.ports key) p) as (λ b. (cond b (with_completed completed p) p).kind ≡ p.kind) [ true ↦ refl | false ↦ refl ]
+
   pub completed_names : births_of completed_table ≡ named_by
   completed_names = births_same complete_row (key_at key (ports.with_completed completed)) (own_at key (ports.with_completed completed) (λ p. refl)) it is
 
   pub completes : shown_by (births_of completed_table) (record it { ports = completed_table }) ≡ record (rows_by it) { ports = change (is_port (name_of named_by.ports key)) (with_completed completed) (rows_by it).ports }
-  completes = changes complete_row (key_at key (ports.with_completed completed)) (own_at key (ports.with_completed completed) (λ p. refl)) it is shown_completed complete_kept complete_shows
+  completes = changes complete_row (key_at key (ports.with_completed completed)) (own_at key (ports.with_completed completed) (λ p. refl)) it is shown_completed complete_kept (follows.is_own (λ (r : Port). r.birth) it.ports.ports) (follows.own_ports it is) complete_shows
 
   pub completed_lawful : (calls made : ℕ) → AreLawful it calls made → AreLawful (record it { ports = completed_table }) calls made
-  completed_lawful calls made all = lawful complete_row (key_at key (ports.with_completed completed)) (own_at key (ports.with_completed completed) (λ p. refl)) it is shown_completed complete_kept complete_shows calls made all completed_birth
+  completed_lawful calls made all = lawful complete_row (key_at key (ports.with_completed completed)) (own_at key (ports.with_completed completed) (λ p. refl)) it is shown_completed complete_kept (follows.is_own (λ (r : Port). r.birth) it.ports.ports) (follows.own_ports it is) complete_shows calls made all completed_birth completed_kind
 
   abbrev completed_all : Tables
   completed_all = record it { ports = completed_table }
 
   pub completed_room : (places : ℕ) → Roomy (room_by (rows_by it) it places) (room_by (rows_by completed_all) completed_all places)
-  completed_room places = roomy complete_row (key_at key (ports.with_completed completed)) (own_at key (ports.with_completed completed) (λ p. refl)) it is shown_completed complete_kept complete_shows places
+  completed_room places = roomy complete_row (key_at key (ports.with_completed completed)) (own_at key (ports.with_completed completed) (λ p. refl)) it is shown_completed complete_kept (follows.is_own (λ (r : Port). r.birth) it.ports.ports) (follows.own_ports it is) complete_shows places completed_kind

@@ -1,5 +1,5 @@
 -- What each basic step leaves of a lawful world.
-use Rattle.std.proofs.Common.{◌≡◌, ℕ, ◌+◌, ◌*◌, ◌<◌, ◌≤◌, List, [], ◌∷◌, ◌++◌, Bool, true, false, cond, length, map, Some, None, refl, ap, sym, subst, ◌∙◌, arith, eqb}
+use Rattle.std.proofs.Common.{◌≡◌, ℕ, ◌+◌, ◌*◌, ◌<◌, ◌≤◌, List, [], ◌∷◌, ◌++◌, Bool, true, false, cond, length, map, Some, None, refl, sym, subst, ◌∙◌, arith, eqb}
 use Rattle.std.specs.Prelude.{◌==◌, ◌-◌}
 use Rattle.std.specs.List.{AllByRecursion, IsDistinct}
 use Rattle.std.specs.Cmp.{nat_eq_equiv}
@@ -10,15 +10,22 @@ use Rattle.std.proofs.lemmas.List.{length-map, length_push}
 use Rattle.std.proofs.lemmas.Map.Keys.{IsDistinct-cons}
 use Rattle.std.proofs.lemmas.Map.Made.{length-le_from_is_member}
 use Rattle.lpc_base.specs.declared.birth.Birth.{Birth}
-use Rattle.lpc_base.specs.Rows.{change, count, every, first, has, without, without_first}
-use Rattle.lpc_base.proofs.RowWords.{change-none, count-bound, count-push, count-without, every-change, every-more, every-push, every-without, has-change, has-kept, has-push, has_none-change, has_none-push, length-change}
-use Rattle.lpc_base.proofs.Differ.{differ-change, differ-push, differ-without, length-ended, rest-none}
+use Rattle.lpc_base.specs.declared.port_kind.PortKind.TheVariants.{Client, Connection, Server, Unnamed}
+use Rattle.lpc_base.specs.declared.limits.TheConstants.{LINES_LIMIT}
+use Rattle.lpc_base.specs.Rows.{change, count, every, first, has, which, without, without_first}
+use Rattle.lpc_base.proofs.RowWords.{count-bound, count-push, every-change, every-more, every-push, every-without, has-change, has-kept, has-push, has_none-push, has_none-without, length-change}
+use Rattle.lpc_base.proofs.Differ.{differ-change, differ-push, differ-without, length-ended}
 use Rattle.lpc_base.proofs.RowMaps.{every-first}
 use Rattle.lpc_model.specs.World.{World, HandleRow, HandleTable, MessageRow, PortRow, ProcessRow, ThreadRow, UsedThread, WaitRow}
-use Rattle.lpc_model.specs.Found.{is_process, is_queued, is_queued_connect, is_table, is_thread, same_birth, waits_as}
+use Rattle.lpc_model.specs.Closings.{is_closed_post}
+use Rattle.lpc_model.specs.Message.{asks}
+use Rattle.lpc_model.specs.Found.{is_client_port, is_live_thread, is_own_of, is_process, is_queued, is_queued_connect, is_table, is_thread, same_birth, waits_as}
 use Rattle.lpc_model.specs.Entering.{takes}
 use Rattle.lpc_model.specs.Basics.{no_handles, past_identifier, past_ordinal, received, with_handle}
-use Rattle.lpc_world.specs.Kept.{is_asking, is_pending, pends_as}
+use Rattle.lpc_world.specs.Kept.{is_alive, is_asking, is_pending, is_unsent, owed_closings, owed_messages, owed_requests, owed_waits}
+use Rattle.lpc_world.proofs.OwnMessages.{asking-pending, count-left, count-taken_by, own-change, own-end, own-enter, own-keep, own-take, own-wait, own-withdraw}
+use Rattle.lpc_world.proofs.Untold.{asks_no_closing, closings-fit, one-place, told-enter, told-make, told-take, told-withdraw}
+use Rattle.lpc_world.specs.Untold.{TellsOnce, closing_places, is_owed}
 use Rattle.lpc_world.specs.Lawful.{IsLawful, are_single, draws_at_most, is_housed, is_of, is_quiet, is_used}
 
 turned : (a b : ℕ) → (a == b) ≡ (b == a)
@@ -27,24 +34,13 @@ turned a b = grind (arith, nat_tests)
 abbrev thread : WaitRow → ℕ
 thread x = x.thread
 
--- Requests that aren't received
-pub idle-receive : (tid who : ℕ) (xs : List WaitRow) → has (pends_as tid) xs ≡ false → has (pends_as tid) (change (waits_as who) received xs) ≡ false
-idle-receive tid who xs none = has_none-change (pends_as tid) (waits_as who) received (λ x h. grind arith) xs none
-
-pub pending-receive : (who : ℕ) (xs : List WaitRow) → are_single xs ≡ true → count is_pending xs ≤ count is_pending (change (waits_as who) received xs) + 1
-pending-receive who [] one = grind arith
-pending-receive who (x ∷ xs) one =
-    elim (x.thread == who) as (λ b. (x.thread == who) ≡ b → count is_pending (x ∷ xs) ≤ count is_pending (change (waits_as who) received (x ∷ xs)) + 1) [
-      | true ↦ λ here.
-          let same = change-none (waits_as who) received xs (rest-none thread x xs who one (eqb-true x.thread who here)) in
-          grind (arith, same)
-      | false ↦ λ off. grind (arith, pending-receive who xs)
-    ] refl
-
--- A thread that doesn't wait finds a place for its wait: waiting threads are fewer than threads
-member-number : (q : ℕ) (ts : List ThreadRow) → is_member eqb (map (λ t. t.number) ts) q ≡ has (is_thread q) ts
+-- A live thread that doesn't wait finds a place for its wait: waiting threads are fewer than live threads
+member-number : (q : ℕ) (ts : List ThreadRow) → is_member eqb (map (λ t. t.number) (which is_alive ts)) q ≡ has (is_live_thread q) ts
 member-number q [] = refl
-member-number q (t ∷ ts) = grind (arith, member-number q ts, turned q t.number)
+member-number q (t ∷ ts) = elim (is_alive t) as (λ b. is_alive t ≡ b → is_member eqb (map (λ t. t.number) (which is_alive (t ∷ ts))) q ≡ has (is_live_thread q) (t ∷ ts)) [
+  | true ↦ λ live. grind (arith, live, member-number q ts, turned q t.number)
+  | false ↦ λ dead. grind (arith, dead, member-number q ts)
+] refl
 
 member-waiter : (q : ℕ) (xs : List WaitRow) → is_member eqb (map (λ x. x.thread) xs) q ≡ has (waits_as q) xs
 member-waiter q [] = refl
@@ -59,23 +55,23 @@ unfolding IsDistinct
 distinct [] one = tt
 distinct (x ∷ xs) one = IsDistinct-cons eqb x.thread (map (λ y. y.thread) xs) (apart x.thread xs (grind arith)) (distinct xs (grind arith))
 
-among : (q : ℕ) (ts : List ThreadRow) (xs : List WaitRow) → every (is_of ts) xs ≡ true → has (waits_as q) xs ≡ true → has (is_thread q) ts ≡ true
+among : (q : ℕ) (ts : List ThreadRow) (xs : List WaitRow) → every (is_of ts) xs ≡ true → has (waits_as q) xs ≡ true → has (is_live_thread q) ts ≡ true
 among q ts [] all there = cc
-among q ts (x ∷ xs) all there = elim (x.thread == q) as (λ b. (x.thread == q) ≡ b → has (is_thread q) ts ≡ true) [
+among q ts (x ∷ xs) all there = elim (x.thread == q) as (λ b. (x.thread == q) ≡ b → has (is_live_thread q) ts ≡ true) [
   | true ↦ λ here. let same : x.thread ≡ q = eqb-true x.thread q here in
-      let P : ℕ → Type 0 = λ n. has (is_thread n) ts ≡ true in subst P same (grind arith)
+      let P : ℕ → Type 0 = λ n. has (is_live_thread n) ts ≡ true in subst P same (grind arith)
   | false ↦ λ off. among q ts xs (grind arith) (grind arith)
 ] refl
 
-pub place-left : (ts : List ThreadRow) (xs : List WaitRow) (q : ℕ) → are_single xs ≡ true → every (is_of ts) xs ≡ true → has (is_thread q) ts ≡ true → has (waits_as q) xs ≡ false → length xs < length ts
+pub place-left : (ts : List ThreadRow) (xs : List WaitRow) (q : ℕ) → are_single xs ≡ true → every (is_of ts) xs ≡ true → has (is_live_thread q) ts ≡ true → has (waits_as q) xs ≡ false → length xs < count is_alive ts
 place-left ts xs q one all in_ts out =
     let d : IsDistinct eqb (q ∷ map (λ x. x.thread) xs) = IsDistinct-cons eqb q (map (λ x. x.thread) xs) (apart q xs out) (distinct xs one) in
-    let n = length-le_from_is_member nat_eq_equiv (q ∷ map (λ x. x.thread) xs) (map (λ t. t.number) ts) d (λ r m.
+    let n = length-le_from_is_member nat_eq_equiv (q ∷ map (λ x. x.thread) xs) (map (λ t. t.number) (which is_alive ts)) d (λ r m.
     member-number r ts ∙ inside r (r == q) refl m) in
-    grind (arith, n, length-map xs (λ (x : WaitRow). x.thread), length-map ts (λ (t : ThreadRow). t.number))
+    grind (arith, n, length-map xs (λ (x : WaitRow). x.thread), length-map (which is_alive ts) (λ (t : ThreadRow). t.number))
   where
-    inside : (r : ℕ) (b : Bool) → (r == q) ≡ b → is_member eqb (q ∷ map (λ x. x.thread) xs) r ≡ true → has (is_thread r) ts ≡ true
-    inside r true here m = let P : ℕ → Type 0 = λ k. has (is_thread k) ts ≡ true in subst P (sym (eqb-true r q here)) in_ts
+    inside : (r : ℕ) (b : Bool) → (r == q) ≡ b → is_member eqb (q ∷ map (λ x. x.thread) xs) r ≡ true → has (is_live_thread r) ts ≡ true
+    inside r true here m = let P : ℕ → Type 0 = λ k. has (is_live_thread k) ts ≡ true in subst P (sym (eqb-true r q here)) in_ts
     inside r false off m = among r ts xs all (sym (member-waiter r xs) ∙ grind arith)
 
 -- Draws
@@ -96,11 +92,16 @@ draws-ordinals : (n who : ℕ) (ts : List ThreadRow) → every (draws_at_most n)
 draws-ordinals n who [] all = refl
 draws-ordinals n who (t ∷ ts) all = grind (arith, draws-past_ordinal n who t, draws-ordinals n who ts)
 
-of-change : (f : ThreadRow → ThreadRow) → ((t : ThreadRow) → (f t).number ≡ t.number) → (who : ℕ) (ts : List ThreadRow) (xs : List WaitRow) → every (is_of ts) xs ≡ true → every (is_of (change (is_thread who) f ts)) xs ≡ true
-of-change f same who ts xs all = every-more (is_of ts) (is_of (change (is_thread who) f ts)) (λ x h. has-change (is_thread x.thread) (is_thread who) f (λ t. ap (λ n. n == x.thread) (same t)) ts ∙ h) xs all
+of-change : (f : ThreadRow → ThreadRow) → ((t : ThreadRow) → (f t).number ≡ t.number) → ((t : ThreadRow) → (f t).live ≡ t.live) → (who : ℕ) (ts : List ThreadRow) (xs : List WaitRow) → every (is_of ts) xs ≡ true → every (is_of (change (is_thread who) f ts)) xs ≡ true
+of-change f same lives who ts xs all = every-more (is_of ts) (is_of (change (is_thread who) f ts)) (λ x h. has-change (is_live_thread x.thread) (is_thread who) f (λ t. rw (same t, lives t) refl) ts ∙ h) xs all
+
+-- and so many threads live as before
+pub alive-change : (f : ThreadRow → ThreadRow) → ((t : ThreadRow) → (f t).live ≡ t.live) → (who : ℕ) (ts : List ThreadRow) → count is_alive (change (is_thread who) f ts) ≡ count is_alive ts
+alive-change f lives who [] = refl
+alive-change f lives who (t ∷ ts) = grind (arith, lives t, alive-change f lives who ts)
 
 -- The steps
-pub lawful-call : (w : World) (calls made a b : ℕ) → IsLawful w calls made a b → calls < 1000000 → IsLawful w (calls + 1) made a b
+pub lawful-call : (w : World) (calls made a b : ℕ) → IsLawful w calls made a b → calls < LINES_LIMIT → IsLawful w (calls + 1) made a b
 lawful-call w calls made a b h lt = record {
   few = omega arith;
   budget = grind (arith, h.budget);
@@ -109,10 +110,12 @@ lawful-call w calls made a b h lt = record {
   housed = h.housed;
   tables_used = h.tables_used;
   tables_single = h.tables_single;
+  tables_few = h.tables_few;
   single = h.single;
   threads = h.threads;
   quiet = h.quiet;
-  requests = h.requests;
+  own = h.own;
+  told = h.told;
   waits_fit = h.waits_fit;
   messages_fit = h.messages_fit;
 }
@@ -126,16 +129,18 @@ lawful-room w calls made a b c d h more most = record {
   housed = h.housed;
   tables_used = h.tables_used;
   tables_single = h.tables_single;
+  tables_few = h.tables_few;
   single = h.single;
   threads = h.threads;
   quiet = h.quiet;
-  requests = h.requests;
+  own = h.own;
+  told = h.told;
   waits_fit = grind (arith, h.waits_fit);
   messages_fit = grind (arith, h.messages_fit);
 }
 
 -- a thread that draws
-module _ (f : ThreadRow → ThreadRow) (same : (t : ThreadRow) → (f t).number ≡ t.number) (home : (t : ThreadRow) → (f t).process ≡ t.process) where
+module _ (f : ThreadRow → ThreadRow) (same : (t : ThreadRow) → (f t).number ≡ t.number) (home : (t : ThreadRow) → (f t).process ≡ t.process) (lives : (t : ThreadRow) → (f t).live ≡ t.live) where
   housed-drawn : (w : World) (who : ℕ) (ts : List ThreadRow) (v : World) → v.processes ≡ w.processes → v.handles ≡ w.handles → every (is_housed w) ts ≡ true → every (is_housed v) (change (is_thread who) f ts) ≡ true
   housed-drawn w who ts v ps hs all =
       every-change (is_housed v) (is_thread who) f (λ t there. rw (home t) there) ts
@@ -151,21 +156,23 @@ module _ (f : ThreadRow → ThreadRow) (same : (t : ThreadRow) → (f t).number 
     housed = housed-drawn w who w.threads (record w { threads = change (is_thread who) f w.threads }) refl refl h.housed;
     tables_used = h.tables_used;
     tables_single = h.tables_single;
+    tables_few = omega (arith, h.tables_few);
     single = h.single;
-    threads = of-change f same who w.threads w.waits h.threads;
+    threads = of-change f same lives who w.threads w.waits h.threads;
     quiet = h.quiet;
-    requests = h.requests;
-    waits_fit = grind (arith, h.waits_fit, length-change (is_thread who) f w.threads);
-    messages_fit = grind (arith, h.messages_fit, length-change (is_thread who) f w.threads);
+    own = h.own;
+    told = h.told;
+    waits_fit = rw (alive-change f lives who w.threads) h.waits_fit;
+    messages_fit = rw (alive-change f lives who w.threads) h.messages_fit;
   }
 
 pub lawful-identifier : (w : World) (calls made a b who : ℕ) → IsLawful w calls made a b → made < 16 * calls
     → IsLawful (record w { threads = change (is_thread who) past_identifier w.threads }) calls (made + 1) a b
-lawful-identifier w calls made a b who h lt = lawful-drawn past_identifier (λ t. refl) (λ t. refl) w calls made a b who h lt (draws-identifiers (made + 1) who w.threads h.draws)
+lawful-identifier w calls made a b who h lt = lawful-drawn past_identifier (λ t. refl) (λ t. refl) (λ t. refl) w calls made a b who h lt (draws-identifiers (made + 1) who w.threads h.draws)
 
 pub lawful-ordinal : (w : World) (calls made a b who : ℕ) → IsLawful w calls made a b → made < 16 * calls
     → IsLawful (record w { threads = change (is_thread who) past_ordinal w.threads }) calls (made + 1) a b
-lawful-ordinal w calls made a b who h lt = lawful-drawn past_ordinal (λ t. refl) (λ t. refl) w calls made a b who h lt (draws-ordinals (made + 1) who w.threads h.draws)
+lawful-ordinal w calls made a b who h lt = lawful-drawn past_ordinal (λ t. refl) (λ t. refl) (λ t. refl) w calls made a b who h lt (draws-ordinals (made + 1) who w.threads h.draws)
 
 -- a process and its table of handles
 pub unused-table : (used : List ℕ) (pid : ℕ) (ts : List HandleTable) → every (is_used used) ts ≡ true → has (λ n. n == pid) used ≡ false → has (is_table pid) ts ≡ false
@@ -195,16 +202,22 @@ lawful-process w calls made a b p h lt new = record {
   housed = every-more (is_housed w) _ (λ t there. grind (arith, has-kept (is_process t.process) w.processes p, has-kept (is_table t.process) w.handles (no_handles p.number))) w.threads h.housed;
   tables_used = every-push (is_used (w.used_processes ++ p.number ∷ [])) w.handles (no_handles p.number) (used-more w.used_processes p.number w.handles h.tables_used) (used-self w.used_processes p.number);
   tables_single = differ-push (λ (t : HandleTable). t.process) w.handles (no_handles p.number) h.tables_single (unused-table w.used_processes p.number w.handles h.tables_used new);
+  tables_few = grind (arith, h.tables_few, length_push w.handles (no_handles p.number));
   single = h.single;
   threads = h.threads;
   quiet = h.quiet;
-  requests = h.requests;
+  own = h.own;
+  told = h.told;
   waits_fit = h.waits_fit;
   messages_fit = h.messages_fit;
 }
 
+at-most-one : (b : Bool) → cond b 1 0 ≤ 1
+at-most-one true = omega arith
+at-most-one false = omega arith
+
 pub lawful-thread : (w : World) (calls made a b : ℕ) (t : ThreadRow) (used : List UsedThread) → IsLawful w calls made a b → made < 16 * calls
-    → draws_at_most 1 t ≡ true → is_housed w t ≡ true → length w.threads < a + length w.waits → length w.threads < b + count is_asking w.messages
+    → draws_at_most 1 t ≡ true → is_housed w t ≡ true → owed_waits w < a → owed_messages w < b
     → IsLawful (record w { threads = w.threads ++ t ∷ []; used_threads = used }) calls (made + 1) a b
 lawful-thread w calls made a b t used h lt young home room place = record {
   few = h.few;
@@ -216,17 +229,26 @@ lawful-thread w calls made a b t used h lt young home room place = record {
   housed = every-push (is_housed w) w.threads t h.housed home;
   tables_used = h.tables_used;
   tables_single = h.tables_single;
+  tables_few = omega (arith, h.tables_few);
   single = h.single;
-  threads = every-more (is_of w.threads) (is_of (w.threads ++ t ∷ [])) (λ x there. has-kept (is_thread x.thread) w.threads t there) w.waits h.threads;
+  threads = every-more (is_of w.threads) (is_of (w.threads ++ t ∷ [])) (λ x there. has-kept (is_live_thread x.thread) w.threads t there) w.waits h.threads;
   quiet = h.quiet;
-  requests = h.requests;
-  waits_fit = grind (arith, length_push w.threads t);
-  messages_fit = grind (arith, length_push w.threads t);
+  own = h.own;
+  told = h.told;
+  waits_fit = let more = count-push is_alive w.threads t in let one = at-most-one (is_alive t) in omega (arith, more, one, room);
+  messages_fit = let more = count-push is_alive w.threads t in let one = at-most-one (is_alive t) in omega (arith, more, one, place);
 }
 
-pub lawful-port : (w : World) (calls made a b : ℕ) (p : PortRow) → IsLawful w calls made a b → made < 16 * calls
+-- a port more
+kind-places : (p : PortRow) → cond (is_client_port p) 1 0 ≡ closing_places p.kind
+kind-places p = elim p.kind as (λ k. cond (elim k [ Client ↦ true | _ ↦ false ]) 1 0 ≡ closing_places k) [ Unnamed ↦ refl | Connection ↦ refl | Client ↦ refl | Server ↦ refl ]
+
+pub owed-port : (w : World) (p : PortRow) → owed_messages (record w { ports = w.ports ++ p ∷ [] }) ≤ owed_messages w + closing_places p.kind
+owed-port w p = let more = count-push is_client_port w.ports p in let places = kind-places p in omega (arith, more, places)
+
+pub lawful-port : (w : World) (calls made a b : ℕ) (p : PortRow) → IsLawful w calls made a b → made < 16 * calls → closing_places p.kind ≤ b - owed_messages w
     → IsLawful (record w { ports = w.ports ++ p ∷ [] }) calls (made + 1) a b
-lawful-port w calls made a b p h lt = record {
+lawful-port w calls made a b p h lt place = record {
   few = h.few;
   budget = omega arith;
   rows = grind (arith, h.rows, length_push w.ports p);
@@ -234,34 +256,42 @@ lawful-port w calls made a b p h lt = record {
   housed = h.housed;
   tables_used = h.tables_used;
   tables_single = h.tables_single;
+  tables_few = omega (arith, h.tables_few);
   single = h.single;
   threads = h.threads;
   quiet = h.quiet;
-  requests = h.requests;
+  own = h.own;
+  told = told-make p w.messages w.ports h.told;
+  waits_fit = h.waits_fit;
+  messages_fit = let more = owed-port w p in let fit = h.messages_fit in omega (arith, more, fit, place);
+}
+
+pub lawful-handles : (w : World) (calls made a b pid : ℕ) (g : HandleTable → HandleTable) → ((t : HandleTable) → (g t).process ≡ t.process) → IsLawful w calls made a b
+    → IsLawful (record w { handles = change (is_table pid) g w.handles }) calls made a b
+lawful-handles w calls made a b pid g same h = record {
+  few = h.few;
+  budget = h.budget;
+  rows = h.rows;
+  draws = h.draws;
+  housed = every-more (is_housed w) _ (λ t there. grind (arith, has-change (is_table t.process) (is_table pid) g (λ u. grind (arith, same u)) w.handles)) w.threads h.housed;
+  tables_used = every-change (is_used w.used_processes) (is_table pid) g (λ t there. rw (same t) there) w.handles h.tables_used;
+  tables_single = differ-change (λ (t : HandleTable). t.process) (is_table pid) g same w.handles h.tables_single;
+  tables_few = grind (arith, h.tables_few, length-change (is_table pid) g w.handles);
+  single = h.single;
+  threads = h.threads;
+  quiet = h.quiet;
+  own = h.own;
+  told = h.told;
   waits_fit = h.waits_fit;
   messages_fit = h.messages_fit;
 }
 
 pub lawful-handle : (w : World) (calls made a b pid : ℕ) (row : HandleRow) → IsLawful w calls made a b
     → IsLawful (record w { handles = change (is_table pid) (with_handle row) w.handles }) calls made a b
-lawful-handle w calls made a b pid row h = record {
-  few = h.few;
-  budget = h.budget;
-  rows = h.rows;
-  draws = h.draws;
-  housed = every-more (is_housed w) _ (λ t there. grind (arith, has-change (is_table t.process) (is_table pid) (with_handle row) (λ u. refl) w.handles)) w.threads h.housed;
-  tables_used = every-change (is_used w.used_processes) (is_table pid) (with_handle row) (λ t there. there) w.handles h.tables_used;
-  tables_single = differ-change (λ (t : HandleTable). t.process) (is_table pid) (with_handle row) (λ t. refl) w.handles h.tables_single;
-  single = h.single;
-  threads = h.threads;
-  quiet = h.quiet;
-  requests = h.requests;
-  waits_fit = h.waits_fit;
-  messages_fit = h.messages_fit;
-}
+lawful-handle w calls made a b pid row h = lawful-handles w calls made a b pid (with_handle row) (λ t. refl) h
 
 pub lawful-wait : (w : World) (calls made a b : ℕ) (x : WaitRow) → IsLawful w calls made a b → made < 16 * calls
-    → has (is_thread x.thread) w.threads ≡ true → has (waits_as x.thread) w.waits ≡ false → is_quiet w.messages x ≡ true → 0 < a
+    → has (is_live_thread x.thread) w.threads ≡ true → has (waits_as x.thread) w.waits ≡ false → is_quiet w.messages x ≡ true → 0 < a
     → IsLawful (record w { waits = w.waits ++ x ∷ [] }) calls (made + 1) (a - 1) b
 lawful-wait w calls made a b x h lt there none still place = record {
   few = h.few;
@@ -271,18 +301,17 @@ lawful-wait w calls made a b x h lt there none still place = record {
   housed = h.housed;
   tables_used = h.tables_used;
   tables_single = h.tables_single;
+  tables_few = omega (arith, h.tables_few);
   single = differ-push thread w.waits x h.single none;
   threads = every-push (is_of w.threads) w.waits x h.threads there;
   quiet = every-push (is_quiet w.messages) w.waits x h.quiet still;
-  requests = grind (arith, h.requests, count-push is_pending w.waits x);
+  own = own-wait w.messages w.waits x h.own;
+  told = h.told;
   waits_fit = grind (arith, h.waits_fit, length_push w.waits x);
   messages_fit = h.messages_fit;
 }
 
-pub pending-without : (tid : ℕ) (xs : List WaitRow) → has (pends_as tid) xs ≡ false → count is_pending (without (waits_as tid) xs) ≡ count is_pending xs
-pending-without tid xs none = count-without is_pending (waits_as tid) (pends_as tid) (λ x here off. grind arith) xs none
-
-pub lawful-end : (w : World) (calls made a b tid : ℕ) → IsLawful w calls made a b → has (pends_as tid) w.waits ≡ false
+pub lawful-end : (w : World) (calls made a b tid : ℕ) → IsLawful w calls made a b → has (is_own_of tid) w.messages ≡ false
     → IsLawful (record w { waits = without (waits_as tid) w.waits }) calls made (cond (has (waits_as tid) w.waits) (a + 1) a) b
 lawful-end w calls made a b tid h none = record {
   few = h.few;
@@ -292,17 +321,19 @@ lawful-end w calls made a b tid h none = record {
   housed = h.housed;
   tables_used = h.tables_used;
   tables_single = h.tables_single;
+  tables_few = h.tables_few;
   single = differ-without thread (waits_as tid) w.waits h.single;
   threads = every-without (is_of w.threads) (waits_as tid) w.waits h.threads;
   quiet = every-without (is_quiet w.messages) (waits_as tid) w.waits h.quiet;
-  requests = grind (arith, h.requests, pending-without tid w.waits);
+  own = own-end tid w.messages w.waits none h.own;
+  told = h.told;
   waits_fit = grind (arith, h.waits_fit, length-ended thread tid w.waits h.single);
   messages_fit = h.messages_fit;
 }
 
-pub lawful-receive : (w : World) (calls made a b tid : ℕ) → IsLawful w calls made a b → count is_asking w.messages < count is_pending w.waits
+pub lawful-receive : (w : World) (calls made a b tid : ℕ) → IsLawful w calls made a b → has (is_own_of tid) w.messages ≡ false
     → IsLawful (record w { waits = change (waits_as tid) received w.waits }) calls made a b
-lawful-receive w calls made a b tid h lt = record {
+lawful-receive w calls made a b tid h none = record {
   few = h.few;
   budget = h.budget;
   rows = h.rows;
@@ -310,10 +341,12 @@ lawful-receive w calls made a b tid h lt = record {
   housed = h.housed;
   tables_used = h.tables_used;
   tables_single = h.tables_single;
+  tables_few = h.tables_few;
   single = differ-change thread (waits_as tid) received (λ x. refl) w.waits h.single;
   threads = every-change (is_of w.threads) (waits_as tid) received (λ x there. there) w.waits h.threads;
   quiet = every-change (is_quiet w.messages) (waits_as tid) received (λ x there. there) w.waits h.quiet;
-  requests = grind (arith, pending-receive tid w.waits h.single);
+  own = own-change tid received (λ x. refl) w.messages w.waits none h.own;
+  told = h.told;
   waits_fit = grind (arith, h.waits_fit, length-change (waits_as tid) received w.waits);
   messages_fit = h.messages_fit;
 }
@@ -329,17 +362,15 @@ lawful-keep w calls made a b tid g same pends stills h = record {
   housed = h.housed;
   tables_used = h.tables_used;
   tables_single = h.tables_single;
+  tables_few = h.tables_few;
   single = differ-change thread (waits_as tid) g same w.waits h.single;
   threads = every-change (is_of w.threads) (waits_as tid) g (λ x there. rw (same x) there) w.waits h.threads;
   quiet = every-change (is_quiet w.messages) (waits_as tid) g (λ x there. stills x ∙ there) w.waits h.quiet;
-  requests = rw (count-keep w.waits) h.requests;
+  own = own-keep tid g same pends w.messages w.waits h.own;
+  told = h.told;
   waits_fit = grind (arith, h.waits_fit, length-change (waits_as tid) g w.waits);
   messages_fit = h.messages_fit;
 }
-  where
-    count-keep : (xs : List WaitRow) → count is_pending (change (waits_as tid) g xs) ≡ count is_pending xs
-    count-keep [] = refl
-    count-keep (x ∷ xs) = grind (arith, pends x, count-keep xs)
 
 births-turned : (a b : Birth) → same_birth a b ≡ same_birth b a
 births-turned a b = grind (arith, nat_tests)
@@ -350,10 +381,37 @@ quiet-enter m ms [] all none = refl
 quiet-enter m ms (x ∷ xs) all none =
     grind (arith, has_none-push (is_queued x.queue) ms m, has_none-push (is_queued_connect x.queue) ms m, births-turned m.queue x.queue, quiet-enter m ms xs)
 
+-- waiting threads are no more than live threads
+pub waits-fit : (ts : List ThreadRow) (xs : List WaitRow) → are_single xs ≡ true → every (is_of ts) xs ≡ true → length xs ≤ count is_alive ts
+waits-fit ts [] one all = grind arith
+waits-fit ts (x ∷ xs) one all =
+    let n = place-left ts xs x.thread (grind arith) (grind arith) (grind arith) (grind arith) in
+    grind (arith, n)
+
+-- Messages that ask are no more than live threads, and those that tell of closings no more than client ports, with one too
+-- that enters
+pub places : (w : World) (calls made a b : ℕ) (m : MessageRow) → IsLawful w calls made a b → (is_asking m ≡ true → is_unsent w m.message.header.client.thread ≡ true) → TellsOnce w m.message m.sender
+    → (count is_asking w.messages + cond (is_asking m) 1 0 ≤ count is_alive w.threads) × (count is_closed_post w.messages + cond (is_closed_post m) 1 0 ≤ count is_client_port w.ports)
+places w calls made a b m h asks once =
+    let ask = asking-pending w.waits (w.messages ++ m ∷ []) (own-enter m w.messages w.waits asks h.own) in
+    let pending = count-bound is_pending w.waits in
+    let few = waits-fit w.threads w.waits h.single h.threads in
+    let asked = count-push is_asking w.messages m in
+    let tell = closings-fit w.ports (w.messages ++ m ∷ []) (told-enter m w.messages w.ports once h.told) in
+    let told = count-push is_closed_post w.messages m in
+    (omega (arith, ask, pending, few, asked), omega (arith, tell, told))
+
+-- so a message whose place is owed finds it
+pub message-place : (w : World) (calls made a b : ℕ) (m : MessageRow) → IsLawful w calls made a b → (is_asking m ≡ true → is_unsent w m.message.header.client.thread ≡ true) → TellsOnce w m.message m.sender → is_owed m.message ≡ true → 0 < b
+message-place w calls made a b m h asks once owed =
+    let there = places w calls made a b m h asks once in
+    let one : cond (is_asking m) 1 0 + cond (is_closed_post m) 1 0 ≡ 1 = rw (one-place m.message, owed) refl in
+    omega (arith, there.0, there.1, one, h.messages_fit)
+
 pub lawful-enter : (w : World) (calls made a b : ℕ) (m : MessageRow) → IsLawful w calls made a b → made < 16 * calls → 0 < b → has (takes m) w.waits ≡ false
-    → (is_asking m ≡ true → count is_asking w.messages < count is_pending w.waits) → (is_asking m ≡ false → length w.threads < b + count is_asking w.messages)
+    → (is_asking m ≡ true → is_unsent w m.message.header.client.thread ≡ true) → TellsOnce w m.message m.sender → (is_owed m.message ≡ false → owed_messages w < b)
     → IsLawful (record w { messages = w.messages ++ m ∷ [] }) calls (made + 1) a (b - 1)
-lawful-enter w calls made a b m h lt place none asks other = record {
+lawful-enter w calls made a b m h lt place none asks once other = record {
   few = h.few;
   budget = omega arith;
   rows = grind (arith, h.rows);
@@ -361,28 +419,31 @@ lawful-enter w calls made a b m h lt place none asks other = record {
   housed = h.housed;
   tables_used = h.tables_used;
   tables_single = h.tables_single;
+  tables_few = omega (arith, h.tables_few);
   single = h.single;
   threads = h.threads;
   quiet = quiet-enter m w.messages w.waits h.quiet none;
-  requests = elim (is_asking m) as (λ c. is_asking m ≡ c → count is_asking (w.messages ++ m ∷ []) ≤ count is_pending w.waits) [
-    | true ↦ λ e. grind (arith, asks e, count-push is_asking w.messages m)
-    | false ↦ λ e. grind (arith, h.requests, count-push is_asking w.messages m)
-  ] refl;
+  own = own-enter m w.messages w.waits asks h.own;
+  told = told-enter m w.messages w.ports once h.told;
   waits_fit = h.waits_fit;
-  messages_fit = elim (is_asking m) as (λ c. is_asking m ≡ c → length w.threads ≤ b - 1 + count is_asking (w.messages ++ m ∷ [])) [
-    | true ↦ λ e. grind (arith, h.messages_fit, count-push is_asking w.messages m)
-    | false ↦ λ e. grind (arith, other e, count-push is_asking w.messages m)
-  ] refl;
+  messages_fit =
+      let there = places w calls made a b m h asks once in
+      let asked = count-push is_asking w.messages m in
+      let told = count-push is_closed_post w.messages m in
+      elim (is_owed m.message) as (λ c. is_owed m.message ≡ c → owed_requests (record w { messages = w.messages ++ m ∷ [] }) + owed_closings (record w { messages = w.messages ++ m ∷ [] }) ≤ b - 1) [
+        | true ↦ λ e. let one : cond (is_asking m) 1 0 + cond (is_closed_post m) 1 0 ≡ 1 = rw (one-place m.message, e) refl in omega (arith, there.0, there.1, asked, told, one, h.messages_fit)
+        | false ↦ λ e. let none : cond (is_asking m) 1 0 + cond (is_closed_post m) 1 0 ≡ 0 = rw (one-place m.message, e) refl in let spare = other e in omega (arith, asked, told, none, spare)
+      ] refl;
 }
 
 -- one message less
-count-less : (q : MessageRow → Bool) (ms : List MessageRow) → count is_asking (without_first q ms) ≤ count is_asking ms
-count-less q [] = grind arith
-count-less q (m ∷ ms) = grind (arith, count-less q ms)
-
-pub count-taken : (q : MessageRow → Bool) (ms : List MessageRow) (m : MessageRow) → first q ms ≡ Some m → count is_asking (without_first q ms) + cond (is_asking m) 1 0 ≡ count is_asking ms
-count-taken q [] y is = grind arith
-count-taken q (m ∷ ms) y is = grind (arith, count-taken q ms y)
+pub owed-taken : (q : MessageRow → Bool) (w : World) (m : MessageRow) → first q w.messages ≡ Some m → owed_messages (record w { messages = without_first q w.messages }) ≤ owed_messages w + 1
+owed-taken q w m is =
+    let asked = count-taken_by is_asking q w.messages m is in
+    let told = count-taken_by is_closed_post q w.messages m is in
+    let one = one-place m.message in
+    let most = at-most-one (is_owed m.message) in
+    omega (arith, asked, told, one, most)
 
 none-taken : (q p : MessageRow → Bool) (ms : List MessageRow) → has p ms ≡ false → has p (without_first q ms) ≡ false
 none-taken q p [] none = refl
@@ -401,28 +462,63 @@ lawful-take w calls made a b p m is h = record {
   housed = h.housed;
   tables_used = h.tables_used;
   tables_single = h.tables_single;
+  tables_few = h.tables_few;
   single = h.single;
   threads = h.threads;
   quiet = every-more (is_quiet w.messages) (is_quiet (without_first p w.messages)) (λ x still. quiet-take p w.messages x still) w.waits h.quiet;
-  requests = grind (arith, h.requests, count-less p w.messages);
+  own = own-take p w.messages w.waits h.own;
+  told = told-take p w.messages w.ports h.told;
   waits_fit = h.waits_fit;
-  messages_fit = grind (arith, h.messages_fit, count-taken p w.messages m is);
+  messages_fit = let more = owed-taken p w m is in let fit = h.messages_fit in omega (arith, more, fit);
+}
+
+-- messages leave their queues
+owed-passed : (p : MessageRow → Bool) (ms : List MessageRow) → count is_asking ms + count is_closed_post ms ≤ count is_asking (without p ms) + count is_closed_post (without p ms) + count p ms
+owed-passed p [] = omega arith
+owed-passed p (m ∷ ms) =
+    let rest = owed-passed p ms in
+    elim (p m) as (λ c. p m ≡ c → count is_asking (m ∷ ms) + count is_closed_post (m ∷ ms) ≤ count is_asking (without p (m ∷ ms)) + count is_closed_post (without p (m ∷ ms)) + count p (m ∷ ms)) [
+      | true ↦ λ e. elim (asks m.message) as (λ k. asks m.message ≡ k → count is_asking (m ∷ ms) + count is_closed_post (m ∷ ms) ≤ count is_asking (without p (m ∷ ms)) + count is_closed_post (without p (m ∷ ms)) + count p (m ∷ ms)) [
+        | true ↦ λ k. grind (arith, e, k, asks_no_closing m.message k, rest)
+        | false ↦ λ k. grind (arith, e, k, rest)
+      ] refl
+      | false ↦ λ e. grind (arith, e, rest)
+    ] refl
+
+pub owed-withdrawn : (p : MessageRow → Bool) (w : World) → owed_messages (record w { messages = without p w.messages }) ≤ owed_messages w + count p w.messages
+owed-withdrawn p w =
+    let passed = owed-passed p w.messages in
+    let asked = count-left is_asking p w.messages in
+    let told = count-left is_closed_post p w.messages in
+    omega (arith, passed, asked, told)
+
+quiet-withdraw : (p : MessageRow → Bool) (ms : List MessageRow) (x : WaitRow) → is_quiet ms x ≡ true → is_quiet (without p ms) x ≡ true
+quiet-withdraw p ms x still = grind (arith, has_none-without (is_queued x.queue) p ms, has_none-without (is_queued_connect x.queue) p ms)
+
+pub lawful-withdraw : (w : World) (calls made a b : ℕ) (p : MessageRow → Bool) → IsLawful w calls made a b
+    → IsLawful (record w { messages = without p w.messages }) calls made a (b + count p w.messages)
+lawful-withdraw w calls made a b p h = record {
+  few = h.few;
+  budget = h.budget;
+  rows = h.rows;
+  draws = h.draws;
+  housed = h.housed;
+  tables_used = h.tables_used;
+  tables_single = h.tables_single;
+  tables_few = h.tables_few;
+  single = h.single;
+  threads = h.threads;
+  quiet = every-more (is_quiet w.messages) (is_quiet (without p w.messages)) (λ x still. quiet-withdraw p w.messages x still) w.waits h.quiet;
+  own = own-withdraw p w.messages w.waits h.own;
+  told = told-withdraw p w.messages w.ports h.told;
+  waits_fit = h.waits_fit;
+  messages_fit = let more = owed-withdrawn p w in let fit = h.messages_fit in omega (arith, more, fit);
 }
 
 -- Places
--- a thread that doesn't wait has a place for its wait
-pub wait-place : (w : World) (calls made a b q : ℕ) → IsLawful w calls made a b → has (is_thread q) w.threads ≡ true → has (waits_as q) w.waits ≡ false → 0 < a
+-- a live thread that doesn't wait has a place for its wait
+pub wait-place : (w : World) (calls made a b q : ℕ) → IsLawful w calls made a b → has (is_live_thread q) w.threads ≡ true → has (waits_as q) w.waits ≡ false → 0 < a
 wait-place w calls made a b q h there none = grind (arith, h.waits_fit, place-left w.threads w.waits q h.single h.threads there none)
-
-pub waits-fit : (ts : List ThreadRow) (xs : List WaitRow) → are_single xs ≡ true → every (is_of ts) xs ≡ true → length xs ≤ length ts
-waits-fit ts [] one all = grind arith
-waits-fit ts (x ∷ xs) one all =
-    let n = place-left ts xs x.thread (grind arith) (grind arith) (grind arith) (grind arith) in
-    grind (arith, n)
-
--- a request that isn't received has a place for its message
-pub message-place : (w : World) (calls made a b : ℕ) → IsLawful w calls made a b → count is_asking w.messages < count is_pending w.waits → 0 < b
-message-place w calls made a b h lt = grind (arith, h.messages_fit, count-bound is_pending w.waits, waits-fit w.threads w.waits h.single h.threads)
 
 -- numbers that may be drawn
 pub drawn-numbers : (n who : ℕ) (ts : List ThreadRow) (t : ThreadRow) → every (draws_at_most n) ts ≡ true → first (is_thread who) ts ≡ Some t → (t.next_identifier ≤ n) × (t.next_ordinal ≤ n)

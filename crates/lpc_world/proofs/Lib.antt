@@ -1,6 +1,10 @@
+pub mod OwnMessages
+pub mod Untold
 pub mod Changes
+pub mod Composed
 pub mod Connecting
 pub mod Delivered
+pub mod Endings
 pub mod Finds
 pub mod Follows
 pub mod Lawful
@@ -9,6 +13,7 @@ pub mod Bound
 pub mod Promised
 pub mod Finished
 pub mod Naming
+pub mod NextEnding
 pub mod OnePart
 pub mod Readings
 pub mod Rooms
@@ -22,3 +27,10 @@ pub mod Unheld
 pub mod Frees
 pub mod ReceivesAt
 pub mod HeldPorts
+pub mod Withdrawn
+pub mod Counted
+pub mod Cut
+pub mod Emptied
+pub mod Unbound
+pub mod Dropped
+pub mod Told

@@ -1,15 +1,16 @@
 -- The part of a process: where it stands, and what a change of it leaves.
-use Rattle.std.proofs.Common.{◌≡◌, ◌+◌, ◌-◌, ℕ, true, false, refl, ap, ◌∙◌, arith, List, [], ◌∷◌, get_or, set, Some, None}
-use Rattle.std.specs.Prelude.{is_some, ◌==◌, Result, Ok, Err, IfOk, OnOk}
+use Rattle.std.proofs.Common.{◌≡◌, ◌+◌, ◌-◌, ℕ, true, false, cond, refl, ap, ◌∙◌, arith, List, [], ◌∷◌, get_or, set, Option, Some, None}
+use Rattle.std.specs.Prelude.{is_some, option_map, ◌==◌, Result, Ok, Err, IfNone, IfOk, OnOk, OnSome}
 use Rattle.std.specs.List.{position}
 use Rattle.std.proofs.lemmas.Bool.Decides.{nat_tests}
-use Rattle.lpc_base.specs.Rows.{change, first, has}
+use Rattle.lpc_base.specs.Rows.{change, first, has, without_first}
 use Rattle.lpc_base.proofs.Differ.{IsRowAt, row-at, set-change}
 use Rattle.lpc_base.proofs.Positions.{none_first}
+use Rattle.lpc_handles.specs.Handles as handles
 use Rattle.lpc_handles.specs.Handles.{Handles, with_row}
 use Rattle.lpc_handles.specs.declared.table.Row.{Row}
 use Rattle.lpc_handles.specs.declared.table.TableFault.{TableFault}
-use Rattle.lpc_world.specs.Parts.{are_single_parts, handed, is_part, roomed, spare_at, spare_in}
+use Rattle.lpc_world.specs.Parts.{are_single_parts, closed, handed, is_part, roomed, spare_at, spare_in}
 use Rattle.lpc_world.specs.declared.object.Object.{Object}
 use Rattle.lpc_world.specs.declared.parts.Part.{Part}
 
@@ -56,6 +57,34 @@ handed_part parts pid index part row (Ok v) new one at rows spare =
     let same : new ≡ (handed v row part).handles = λ i. record { rows = rows i; spare = less i } in
     ap (λ (h : Handles Object). set parts index (record { process = part.process; handles = h })) same
     ∙ set-change process (handed v row) parts index pid part one at.here at.own
+
+-- A handle less in the part of a process, where it has one of the value
+mapped : {X Y : Type 0} (g : X → Y) (o : Option X) → is_some (option_map g o) ≡ is_some o
+mapped g None = refl
+mapped g (Some x) = refl
+
+closed_spare : (value spare : ℕ) (part : Part) (r : Option (Row Object)) → r ≡ handles.at part.handles.rows value → OnSome r (spare ≡ part.handles.spare + 1) → IfNone r (spare ≡ part.handles.spare)
+    → spare ≡ cond (has (handles.has_value value) part.handles.rows) (part.handles.spare + 1) part.handles.spare
+closed_spare value spare part r at more same =
+    by_result r more same
+    ∙ ap (λ b. cond b (part.handles.spare + 1) part.handles.spare) (ap is_some at ∙ mapped (λ (row : ℕ × Row Object). row.1) (first (handles.has_value value) part.handles.rows))
+  where
+    by_result : (o : Option (Row Object)) → OnSome o (spare ≡ part.handles.spare + 1) → IfNone o (spare ≡ part.handles.spare) → spare ≡ cond (is_some o) (part.handles.spare + 1) part.handles.spare
+    by_result None a b = b
+    by_result (Some row) a b = a
+
+none_same : (r : Option (Row Object)) (new old : Handles Object) → IfNone r (new ≡ old) → IfNone r (new.spare ≡ old.spare)
+none_same None new old same = ap (λ (h : Handles Object). h.spare) same
+none_same (Some row) new old same = tt
+
+pub closed_part : (parts : List Part) (pid index value : ℕ) (part : Part) (r : Option (Row Object)) (new : Handles Object) → are_single_parts parts ≡ true → IsAt parts pid index part
+    → r ≡ handles.at part.handles.rows value → new.rows ≡ without_first (handles.has_value value) part.handles.rows → OnSome r (new.spare ≡ part.handles.spare + 1) → IfNone r (new ≡ part.handles)
+    → set parts index (record { process = part.process; handles = new }) ≡ change (is_part pid) (closed value) parts
+closed_part parts pid index value part r new one at found rows more kept =
+    let spare = closed_spare value new.spare part r found more (none_same r new part.handles kept) in
+    let same : new ≡ (closed value part).handles = λ i. record { rows = rows i; spare = spare i } in
+    ap (λ (h : Handles Object). set parts index (record { process = part.process; handles = h })) same
+    ∙ set-change process (closed value) parts index pid part one at.here at.own
 
 -- more room in the part of a process
 pub record IsRoomed (parts after : List Part) (pid spare : ℕ) : Type 0 where

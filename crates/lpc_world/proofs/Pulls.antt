@@ -1,10 +1,10 @@
 -- The oldest connection request of a queue is taken: what is found in the table is what is found in the rows, the new rows
 -- are the step of those that stood, and stay lawful.
-use Rattle.std.proofs.Common.{◌≡◌, ℕ, ◌+◌, ◌<◌, ◌≤◌, ◌&&◌, ◌==◌, List, [], ◌∷◌, Bool, true, false, cond, length, Option, Some, None, option_map, refl, ap, sym, subst, ◌∙◌, arith}
+use Rattle.std.proofs.Common.{◌≡◌, ℕ, ◌+◌, ◌≤◌, ◌&&◌, ◌==◌, List, [], ◌∷◌, Bool, true, false, cond, length, Option, Some, None, option_map, refl, ap, sym, subst, ◌∙◌, arith}
 use Rattle.std.specs.Prelude.{IsSome, is_some}
 use Rattle.std.proofs.lemmas.Bool.Decides.{nat_tests}
 use Rattle.lpc_base.specs.declared.birth.Birth.{Birth}
-use Rattle.lpc_base.specs.Rows.{count, first, without, without_first}
+use Rattle.lpc_base.specs.Rows.{first, without, without_first}
 use Rattle.lpc_base.proofs.RowMaps.{every-first, every-without_first, first-map, without_first-map}
 use Rattle.lpc_base.proofs.RowWords.{first-passes}
 use Rattle.lpc_message.specs.Layout.{half_at}
@@ -20,7 +20,8 @@ use Rattle.lpc_ports.specs.declared.messages.Message.{Message}
 use Rattle.lpc_ports.specs.declared.messages.QueuedMessage.{QueuedMessage}
 use Rattle.lpc_slots.specs.Table.{at_key, is_key}
 use Rattle.lpc_slots.specs.declared.Key.{Key}
-use Rattle.lpc_world.specs.Kept.{Roomy, is_asking, room_by, rows_by}
+use Rattle.lpc_world.specs.Clauses.{HasLeft}
+use Rattle.lpc_world.specs.Kept.{Roomy, StaysUnqueued, room_by, rows_by}
 use Rattle.lpc_world.specs.Lawful.{AreLawful, has_header}
 use Rattle.lpc_world.specs.Names.{name_of, stands}
 use Rattle.lpc_world.specs.Shown.{Tables, AreNamed, Births, all_pass, birth_of, births_of, message_refs, object_stands, pulled_row, shown_message}
@@ -29,25 +30,20 @@ use Rattle.lpc_world.proofs.Drawn as drawn
 use Rattle.lpc_world.proofs.Follows as follows
 use Rattle.lpc_world.proofs.Lawful as lawful
 use Rattle.lpc_world.proofs.Naming.{key_is, key_itself}
+use Rattle.lpc_world.proofs.OwnMessages.{left-pulled, unqueued-pulled}
 use Rattle.lpc_world.proofs.Rooms.{room}
 use Rattle.lpc_world.specs.Kept.{HandleRoom}
 
 -- the room that a message leaves which is taken
-at_most_one : (q : Bool) → cond q 1 0 ≤ 1
-at_most_one true = omega arith
-at_most_one false = omega arith
-
-room_taken : (a b c d e g : ℕ) (w : World) (hs : List HandleRoom) (p : model.MessageRow → Bool) (m : model.MessageRow) → first p w.messages ≡ Some m → (v : World) → v.threads ≡ w.threads → v.waits ≡ w.waits → v.messages ≡ without_first p w.messages
+room_taken : (a b c d e g : ℕ) (w : World) (hs : List HandleRoom) (p : model.MessageRow → Bool) (m : model.MessageRow) → first p w.messages ≡ Some m → (v : World) → v.threads ≡ w.threads → v.waits ≡ w.waits → v.ports ≡ w.ports → v.messages ≡ without_first p w.messages
     → Roomy (room a b c d e g w hs) (room a b c (d + 1) e g v hs)
-room_taken a b c d e g w hs p m at v ts xs ms =
-    let less = lawful.count-taken p w.messages m at in
-    let one : cond (is_asking m) 1 0 ≤ 1 = at_most_one (is_asking m) in
-    rw (ts, xs, ms) (record {
+room_taken a b c d e g w hs p m at v ts xs ps ms =
+    let less = lawful.owed-taken p w m at in
+    rw (ts, xs, ps, ms) (record {
       for_processes = omega arith;
       for_threads = omega arith;
       for_waits = omega arith;
-      for_messages = omega (arith, less, one);
-      for_requests = omega (arith, less);
+      for_messages = omega (arith, less);
       for_ports = omega arith;
       for_names = omega arith;
       for_handles = λ pid. omega arith;
@@ -174,11 +170,10 @@ module _ (it : Tables) (calls made : ℕ) (is : AreLawful it calls made) (queue 
     }
 
     pub pulled_room : (places : ℕ) → Roomy (room_by rows it places) (room_by (rows_by after) after places)
-    pulled_room places = room_taken _ _ _ _ _ _ rows _ in_rows m at (rows_by after) refl refl (ap (λ (v : World). v.messages) pulls)
+    pulled_room places = room_taken _ _ _ _ _ _ rows _ in_rows m at (rows_by after) refl refl refl (ap (λ (v : World). v.messages) pulls)
 
-    pub pulled_owed : (places : ℕ) → is_asking m ≡ true → (let r = room_by rows it places in r.requests) < (let r = room_by (rows_by after) after places in r.requests)
-    pulled_owed places asks =
-        let less = lawful.count-taken in_rows rows.messages m at in
-        let one : 1 ≤ cond (is_asking m) 1 0 = rw asks (omega arith) in
-        let fewer : count is_asking (without_first in_rows rows.messages) + 1 ≤ count is_asking rows.messages = omega (arith, less, one) in
-        rw (ap (λ (v : World). v.messages) pulls) (omega (arith, fewer, is.lawful.requests))
+    pub pulled_left : HasLeft (rows_by after) m.message
+    pulled_left = subst (λ (v : World). HasLeft v m.message) (sym pulls) (left-pulled in_rows rows m is.lawful.own is.lawful.single at)
+
+    pub pulled_unqueued : StaysUnqueued rows (rows_by after)
+    pulled_unqueued = subst (λ (v : World). StaysUnqueued rows v) (sym pulls) (unqueued-pulled in_rows rows)

@@ -12,6 +12,7 @@ use Rattle.lpc_handles.specs.declared.table.Row.{Row}
 use Rattle.lpc_message.specs.Layout.{half_at}
 use Rattle.lpc_message.specs.declared.kind.TheConstants.{DATAGRAM}
 use Rattle.lpc_model.specs.World as model
+use Rattle.lpc_model.specs.Closings.{is_closed_post}
 use Rattle.lpc_model.specs.Found as found
 use Rattle.lpc_model.specs.Found.{has_handle_to, is_port, is_table, names_port, port_row, same_birth, wait_of, waits_as}
 use Rattle.lpc_model.specs.Tests.{handle_row}
@@ -29,7 +30,7 @@ use Rattle.lpc_waits.specs.declared.WaitKind.{WaitKind}
 use Rattle.lpc_waits.specs.declared.WaitKind.TheVariants as wait
 use Rattle.lpc_waits.specs.declared.WaitRow.{WaitRow}
 use Rattle.lpc_world.specs.Names.{name_of, names_of, some_stands, stands}
-use Rattle.lpc_world.specs.Kept.{Kept, is_asking, kept, rows_by}
+use Rattle.lpc_world.specs.Kept.{Kept, is_asking, kept_by, rows_by}
 use Rattle.lpc_world.specs.Parts.{has_name_of, is_part, is_the_port, names_it, rows_at, rows_in}
 use Rattle.lpc_world.specs.Ready.{HasRow, IsStanding, IsWait, port_in, port_of, wait_in, waiter}
 use Rattle.lpc_world.specs.Shown.{Tables, AreNamed, Births, all_pass, birth_of, births_of, message_refs, name_by, object_stands, part_refs, port_refs, ports_in, shown_handle, shown_kind, shown_message, shown_part, shown_port, shown_wait, wait_refs}
@@ -157,7 +158,7 @@ module _ (it : Tables) (is : AreNamed (births_of it.ports) it) where
   -- what stands is found under its name
   module _ (places calls made : ℕ) (loose : Bool) where
     abbrev k : Kept
-    k = kept it places calls made loose
+    k = kept_by it places calls made loose
 
     standing_by : (key : Key) → stands n.ports key ≡ true → (o : Option Port) → row_at it.ports.ports key ≡ o → is_some o ≡ true → IsStanding k key
     standing_by key stand None at some = absurd (cc)
@@ -186,12 +187,19 @@ module _ (it : Tables) (is : AreNamed (births_of it.ports) it) where
   pub asking_are : count is_asking rows.messages ≡ count ports.is_asking it.ports.messages
   asking_are = count-shown (shown_message f) ports.is_asking is_asking (λ row. refl) it.ports.messages
 
+  -- those that tell of closings, and the client ports
+  pub closings_are : count is_closed_post rows.messages ≡ count ports.is_closing it.ports.messages
+  closings_are = count-shown (shown_message f) ports.is_closing is_closed_post (λ row. refl) it.ports.messages
+
+  pub clients_are : count found.is_client_port rows.ports ≡ count ports.is_client it.ports.ports
+  clients_are = count-shown (shown_port f) ports.is_client found.is_client_port (λ row. refl) it.ports.ports
+
   -- Waits
   pub wait_is : (tid : ℕ) (row : WaitRow) → row_of it.waits tid ≡ Some row → waiter rows tid ≡ shown_wait f row
   unfolding waiter
   wait_is tid row at = ap wait_in (first-shown (shown_wait f) (waits.is_of tid) (waits_as tid) (λ r. refl) it.waits.rows ∙ ap (λ o. option_map (shown_wait f) o) at)
 
-  pub is_wait : (places calls made : ℕ) (loose : Bool) (tid : ℕ) (x : Wait) → option_map (λ row. row.wait) (row_of it.waits tid) ≡ Some x → IsWait (kept it places calls made loose) tid x
+  pub is_wait : (places calls made : ℕ) (loose : Bool) (tid : ℕ) (x : Wait) → option_map (λ row. row.wait) (row_of it.waits tid) ≡ Some x → IsWait (kept_by it places calls made loose) tid x
   is_wait places calls made loose tid x at =
       let held = holds (λ (r : WaitRow). r.wait) (row_of it.waits tid) x at in
       let same : waiter rows tid ≡ shown_wait f (record { thread = held.row.thread; wait = x; message = held.row.message; accepted = held.row.accepted }) =
@@ -212,7 +220,7 @@ module _ (it : Tables) (is : AreNamed (births_of it.ports) it) where
         queue_stands = grind arith;
       }
 
-  pub wait_if : (places calls made : ℕ) (loose : Bool) (tid : ℕ) (r : Option Wait) → r ≡ option_map (λ row. row.wait) (row_of it.waits tid) → IfSome r (λ x. IsWait (kept it places calls made loose) tid x)
+  pub wait_if : (places calls made : ℕ) (loose : Bool) (tid : ℕ) (r : Option Wait) → r ≡ option_map (λ row. row.wait) (row_of it.waits tid) → IfSome r (λ x. IsWait (kept_by it places calls made loose) tid x)
   wait_if places calls made loose tid None at = tt
   wait_if places calls made loose tid (Some x) at = is_wait places calls made loose tid x (sym at)
 

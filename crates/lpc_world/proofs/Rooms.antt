@@ -2,28 +2,32 @@
 use Rattle.std.proofs.Common.{◌≡◌, ℕ, ◌+◌, ◌-◌, ◌<◌, ◌≤◌, List, [], ◌∷◌, ◌++◌, Bool, true, false, cond, length, min, Some, arith}
 use Rattle.std.proofs.lemmas.List.{length_push}
 use Rattle.lpc_base.specs.declared.birth.Birth.{Birth}
-use Rattle.lpc_base.specs.Rows.{change, count, first, has, without, without_first}
+use Rattle.lpc_base.specs.Rows.{count, first, has, without, without_first}
 use Rattle.lpc_base.proofs.Differ.{length-ended}
-use Rattle.lpc_base.proofs.RowWords.{count-push, length-change}
+use Rattle.lpc_base.proofs.RowWords.{count-push}
 use Rattle.lpc_model.specs.World.{World, MessageRow, PortRow, ThreadRow, WaitRow}
-use Rattle.lpc_model.specs.Basics.{received}
+use Rattle.lpc_model.specs.Closings.{is_closed_post}
 use Rattle.lpc_model.specs.Found.{is_queued, waits_as}
-use Rattle.lpc_world.specs.Kept.{HandleRoom, Room, Roomy, is_asking, is_pending, is_room, pends_as, room_in}
+use Rattle.lpc_world.specs.Kept.{HandleRoom, Room, Roomy, is_alive, is_asking, is_room, owed_messages, owed_waits, room_in}
 use Rattle.lpc_world.specs.Lawful.{are_single}
-use Rattle.lpc_world.proofs.Lawful.{count-taken, pending-receive, pending-without}
+use Rattle.lpc_world.specs.Untold.{closing_places}
+use Rattle.lpc_world.proofs.Lawful.{owed-port, owed-taken, owed-withdrawn}
 
 -- the room by its numbers
 abbrev pub room : ℕ → ℕ → ℕ → ℕ → ℕ → ℕ → World → List HandleRoom → Room
 room processes threads waits messages ports names w handles = record {
   processes = processes;
   threads = threads;
-  waits = waits + length w.waits - length w.threads;
-  messages = messages + count is_asking w.messages - length w.threads;
-  requests = count is_pending w.waits - count is_asking w.messages;
+  waits = waits - owed_waits w;
+  messages = messages - owed_messages w;
   ports = ports;
   names = names;
   handles = handles;
 }
+
+at_most_one : (q : Bool) → cond q 1 0 ≤ 1
+at_most_one true = omega arith
+at_most_one false = omega arith
 
 -- a room for handles more, behind the others
 pub handles_more : (rooms : List HandleRoom) (r : HandleRoom) (pid : ℕ) → room_in (first (is_room pid) rooms) ≤ room_in (first (is_room pid) (rooms ++ r ∷ []))
@@ -31,163 +35,126 @@ handles_more [] r pid = grind arith
 handles_more (s ∷ rooms) r pid = grind (arith, handles_more rooms r pid)
 
 module _ (a b c d e g : ℕ) (w : World) (hs : List HandleRoom) where
-  pub room_threads : (ts : List ThreadRow) → length ts ≡ length w.threads → Roomy (room a b c d e g w hs) (room a b c d e g (record w { threads = ts }) hs)
+  pub room_threads : (ts : List ThreadRow) → count is_alive ts ≡ count is_alive w.threads → Roomy (room a b c d e g w hs) (room a b c d e g (record w { threads = ts }) hs)
   room_threads ts same = record {
     for_processes = omega arith;
     for_threads = omega arith;
     for_waits = omega (arith, same);
     for_messages = omega (arith, same);
-    for_requests = omega arith;
     for_ports = omega arith;
     for_names = omega arith;
     for_handles = λ pid. omega arith;
   }
 
-  pub room_process : (v : World) (less : ℕ) (r : HandleRoom) → v.threads ≡ w.threads → v.waits ≡ w.waits → v.messages ≡ w.messages → a ≤ less + 1
+  pub room_process : (v : World) (less : ℕ) (r : HandleRoom) → v.threads ≡ w.threads → v.waits ≡ w.waits → v.messages ≡ w.messages → v.ports ≡ w.ports → a ≤ less + 1
       → Roomy (room a b c d e g w hs) (record (room less b c d e g v (hs ++ r ∷ [])) { processes = less + 1 })
-  room_process v less r ts ws ms le = rw (ts, ws, ms) (record {
+  room_process v less r ts ws ms ps le = rw (ts, ws, ms, ps) (record {
     for_processes = le;
     for_threads = omega arith;
     for_waits = omega arith;
     for_messages = omega arith;
-    for_requests = omega arith;
     for_ports = omega arith;
     for_names = omega arith;
     for_handles = handles_more hs r;
   })
 
-  pub room_thread : (v : World) (t : ThreadRow) → v.threads ≡ w.threads ++ t ∷ [] → v.waits ≡ w.waits → v.messages ≡ w.messages
+  pub room_thread : (v : World) (t : ThreadRow) → v.threads ≡ w.threads ++ t ∷ [] → v.waits ≡ w.waits → v.messages ≡ w.messages → v.ports ≡ w.ports
       → let after = room a (b - 1) c d e g v hs in Roomy (room a b c d e g w hs) (record after { threads = after.threads + 1; waits = after.waits + 1; messages = after.messages + 1 })
-  room_thread v t ts ws ms = rw (ts, ws, ms) (let more = length_push w.threads t in record {
+  room_thread v t ts ws ms ps = rw (ts, ws, ms, ps) (let more = count-push is_alive w.threads t in let one = at_most_one (is_alive t) in record {
     for_processes = omega arith;
     for_threads = omega arith;
-    for_waits = omega (arith, more);
-    for_messages = omega (arith, more);
-    for_requests = omega arith;
+    for_waits = omega (arith, more, one);
+    for_messages = omega (arith, more, one);
     for_ports = omega arith;
     for_names = omega arith;
     for_handles = λ pid. omega arith;
   })
 
-  pub room_port : (p : PortRow) → let after = room a b c d (e - 1) g (record w { ports = w.ports ++ p ∷ [] }) hs in Roomy (room a b c d e g w hs) (record after { ports = after.ports + 1 })
-  room_port p = record {
+  pub room_port : (p : PortRow) → let after = room a b c d (e - 1) g (record w { ports = w.ports ++ p ∷ [] }) hs in Roomy (room a b c d e g w hs) (record after { ports = after.ports + 1; messages = after.messages + closing_places p.kind })
+  room_port p = let more = owed-port w p in record {
     for_processes = omega arith;
     for_threads = omega arith;
     for_waits = omega arith;
-    for_messages = omega arith;
-    for_requests = omega arith;
+    for_messages = omega (arith, more);
     for_ports = omega arith;
     for_names = omega arith;
     for_handles = λ pid. omega arith;
   }
 
-  pub room_enter : (m : MessageRow) → 0 < d → let after = room a b c (d - 1) e g (record w { messages = w.messages ++ m ∷ [] }) hs in Roomy (room a b c d e g w hs) (record after { messages = after.messages + 1; requests = after.requests + 1 })
-  room_enter m place =
-      let more : count is_asking (w.messages ++ m ∷ []) ≡ count is_asking w.messages + cond (is_asking m) 1 0 = count-push is_asking w.messages m in
-      let one : cond (is_asking m) 1 0 ≤ 1 = at_most (is_asking m) in
+  pub room_enter : (m : MessageRow) → let after = room a b c (d - 1) e g (record w { messages = w.messages ++ m ∷ [] }) hs in Roomy (room a b c d e g w hs) (record after { messages = after.messages + 1 })
+  room_enter m =
+      let asked = count-push is_asking w.messages m in
+      let told = count-push is_closed_post w.messages m in
       record {
         for_processes = omega arith;
         for_threads = omega arith;
         for_waits = omega arith;
-        for_messages = omega (arith, more, one, place);
-        for_requests = omega (arith, more, one);
+        for_messages = omega (arith, asked, told);
         for_ports = omega arith;
         for_names = omega arith;
         for_handles = λ pid. omega arith;
       }
-    where
-      at_most : (q : Bool) → cond q 1 0 ≤ 1
-      at_most true = omega arith
-      at_most false = omega arith
 
   pub room_take : (q : Birth) (m : MessageRow) → first (is_queued q) w.messages ≡ Some m → Roomy (room a b c d e g w hs) (room a b c (d + 1) e g (record w { messages = without_first (is_queued q) w.messages }) hs)
   room_take q m at =
-      let less = count-taken (is_queued q) w.messages m at in
-      let one : cond (is_asking m) 1 0 ≤ 1 = at_most (is_asking m) in
+      let less = owed-taken (is_queued q) w m at in
       record {
         for_processes = omega arith;
         for_threads = omega arith;
         for_waits = omega arith;
-        for_messages = omega (arith, less, one);
-        for_requests = omega (arith, less);
+        for_messages = omega (arith, less);
         for_ports = omega arith;
         for_names = omega arith;
         for_handles = λ pid. omega arith;
       }
-    where
-      at_most : (q : Bool) → cond q 1 0 ≤ 1
-      at_most true = omega arith
-      at_most false = omega arith
 
-  pub owed_take : (q : Birth) (m : MessageRow) → first (is_queued q) w.messages ≡ Some m → count is_asking w.messages ≤ count is_pending w.waits → is_asking m ≡ true
-      → count is_pending w.waits - count is_asking w.messages < count is_pending w.waits - count is_asking (without_first (is_queued q) w.messages)
-  owed_take q m at le asks =
-      let less = count-taken (is_queued q) w.messages m at in
-      let one : 1 ≤ cond (is_asking m) 1 0 = rw asks (omega arith) in
-      omega (arith, less, one, le)
+  pub room_withdraw : (p : MessageRow → Bool) → Roomy (room a b c d e g w hs) (room a b c (d + count p w.messages) e g (record w { messages = without p w.messages }) hs)
+  room_withdraw p = let less = owed-withdrawn p w in record {
+    for_processes = omega arith;
+    for_threads = omega arith;
+    for_waits = omega arith;
+    for_messages = omega (arith, less);
+    for_ports = omega arith;
+    for_names = omega arith;
+    for_handles = λ pid. omega arith;
+  }
 
-  pub room_wait : (x : WaitRow) → 0 < c → Roomy (room a b c d e g w hs) (room a b (c - 1) d e g (record w { waits = w.waits ++ x ∷ [] }) hs)
+  pub room_wait : (x : WaitRow) → length w.waits < count is_alive w.threads → Roomy (room a b c d e g w hs) (room a b (c - 1) d e g (record w { waits = w.waits ++ x ∷ [] }) hs)
   room_wait x place =
       let more = length_push w.waits x in
-      let pending : count is_pending (w.waits ++ x ∷ []) ≡ count is_pending w.waits + cond (is_pending x) 1 0 = count-push is_pending w.waits x in
       record {
         for_processes = omega arith;
         for_threads = omega arith;
         for_waits = omega (arith, more, place);
         for_messages = omega arith;
-        for_requests = omega (arith, pending);
         for_ports = omega arith;
         for_names = omega arith;
         for_handles = λ pid. omega arith;
       }
 
-  pub owed_wait : (x : WaitRow) → count is_asking w.messages ≤ count is_pending w.waits → is_pending x ≡ true → 0 < count is_pending (w.waits ++ x ∷ []) - count is_asking w.messages
-  owed_wait x le pends =
-      let pending : count is_pending (w.waits ++ x ∷ []) ≡ count is_pending w.waits + cond (is_pending x) 1 0 = count-push is_pending w.waits x in
-      let one : 1 ≤ cond (is_pending x) 1 0 = rw pends (omega arith) in
-      omega (arith, pending, one, le)
-
-  pub room_end : (who : ℕ) → are_single w.waits ≡ true → has (pends_as who) w.waits ≡ false → Roomy (room a b c d e g w hs) (room a b (cond (has (waits_as who) w.waits) (c + 1) c) d e g (record w { waits = without (waits_as who) w.waits }) hs)
-  room_end who one idle =
+  pub room_end : (who : ℕ) → are_single w.waits ≡ true → Roomy (room a b c d e g w hs) (room a b (cond (has (waits_as who) w.waits) (c + 1) c) d e g (record w { waits = without (waits_as who) w.waits }) hs)
+  room_end who one =
       let less = length-ended (λ (x : WaitRow). x.thread) who w.waits one in
-      let same = pending-without who w.waits idle in
       record {
         for_processes = omega arith;
         for_threads = omega arith;
         for_waits = ended (has (waits_as who) w.waits) (length (without (waits_as who) w.waits)) less;
         for_messages = omega arith;
-        for_requests = omega (arith, same);
         for_ports = omega arith;
         for_names = omega arith;
         for_handles = λ pid. omega arith;
       }
     where
-      ended : (q : Bool) (m : ℕ) → m + cond q 1 0 ≡ length w.waits → c + length w.waits - length w.threads ≤ cond q (c + 1) c + m - length w.threads
+      ended : (q : Bool) (m : ℕ) → m + cond q 1 0 ≡ length w.waits → c - (count is_alive w.threads - length w.waits) ≤ cond q (c + 1) c - (count is_alive w.threads - m)
       ended true m eq = omega (arith, eq)
       ended false m eq = omega (arith, eq)
 
-  pub room_receive : (who : ℕ) → are_single w.waits ≡ true → let after = room a b c d e g (record w { waits = change (waits_as who) received w.waits }) hs in Roomy (room a b c d e g w hs) (record after { requests = after.requests + 1 })
-  room_receive who one =
-      let fewer = pending-receive who w.waits one in
-      let same = length-change (waits_as who) received w.waits in
-      record {
-        for_processes = omega arith;
-        for_threads = omega arith;
-        for_waits = omega (arith, same);
-        for_messages = omega arith;
-        for_requests = omega (arith, fewer);
-        for_ports = omega arith;
-        for_names = omega arith;
-        for_handles = λ pid. omega arith;
-      }
-
-  pub room_keep : (xs : List WaitRow) → length xs ≡ length w.waits → count is_pending xs ≡ count is_pending w.waits → Roomy (room a b c d e g w hs) (room a b c d e g (record w { waits = xs }) hs)
-  room_keep xs long same = record {
+  pub room_keep : (xs : List WaitRow) → length xs ≡ length w.waits → Roomy (room a b c d e g w hs) (room a b c d e g (record w { waits = xs }) hs)
+  room_keep xs long = record {
     for_processes = omega arith;
     for_threads = omega arith;
     for_waits = omega (arith, long);
     for_messages = omega arith;
-    for_requests = omega (arith, same);
     for_ports = omega arith;
     for_names = omega arith;
     for_handles = λ pid. omega arith;
@@ -199,7 +166,6 @@ module _ (a b c d e g : ℕ) (w : World) (hs : List HandleRoom) where
     for_threads = lb;
     for_waits = omega (arith, lc);
     for_messages = omega (arith, ld);
-    for_requests = omega arith;
     for_ports = le;
     for_names = lg;
     for_handles = λ pid. omega arith;

@@ -1,18 +1,18 @@
 -- For each changing call: the tables stay lawful.
-use Rattle.std.proofs.Common.{◌≡◌, ℕ, ◌+◌, ◌*◌, ◌-◌, ◌<◌, ◌≤◌, ◌^◌, List, [], ◌∷◌, ◌++◌, Bool, true, false, cond, length, Option, Some, None, refl, ap, sym, subst, ◌∙◌, arith}
+use Rattle.std.proofs.Common.{◌≡◌, ℕ, ◌+◌, ◌*◌, ◌-◌, ◌<◌, ◌≤◌, ◌^◌, List, [], ◌∷◌, ◌++◌, true, false, cond, length, Option, Some, None, refl, ap, sym, subst, ◌∙◌, arith}
 use Rattle.std.specs.Prelude.{IsSome, IsSomeAnd, is_some, nat_le, option_map, ◌==◌}
 use Rattle.std.proofs.lemmas.Bool.{eqb-true}
 use Rattle.std.proofs.lemmas.Bool.Decides.{nat_tests}
 use Rattle.lpc_base.specs.declared.birth.Birth.{Birth}
 use Rattle.lpc_base.specs.Rows.{change, count, every, first, has, without, without_first}
 use Rattle.lpc_base.proofs.RowMaps.{every-first, every-without_first, first-map, has-map, mapped-twice}
-use Rattle.lpc_base.proofs.RowWords.{count-bound, every-push, first-passes}
+use Rattle.lpc_base.proofs.RowWords.{every-push, first-passes}
 use Rattle.lpc_handles.specs.declared.table.Row.{Row}
 use Rattle.lpc_model.specs.World as model
 use Rattle.lpc_model.specs.World.{World}
 use Rattle.lpc_model.specs.Basics as basics
 use Rattle.lpc_model.specs.Basics.{AddsHandle, AddsProcess, AddsThread, Awaits, DrawsIdentifier, DrawsOrdinal, Enters, Makes, Receives, Takes, basic}
-use Rattle.lpc_model.specs.Found.{is_port, is_process, is_queued, is_thread, waits_as}
+use Rattle.lpc_model.specs.Found.{is_port, is_live_thread, is_process, is_queued, is_thread, waits_as}
 use Rattle.lpc_model.specs.Entering.{takes}
 use Rattle.lpc_model.specs.Message.{message_of}
 use Rattle.lpc_model.specs.Tests.{next_birth}
@@ -34,7 +34,8 @@ use Rattle.lpc_waits.specs.declared.WaitRow.{WaitRow}
 use Rattle.lpc_world.specs.Names.{are_apart, name_of, stands}
 use Rattle.lpc_world.specs.Shown.{Tables, Births, all_pass, birth_of, births_of, message_refs, object_stands, port_refs, pulled_row, shown_handle, shown_message, shown_port, shown_process, shown_thread, shown_used, shown_wait, tables_of, wait_refs, with_message}
 use Rattle.lpc_world.specs.Parts.{are_single_parts, handed, is_part, roomed, spare_at}
-use Rattle.lpc_world.specs.Kept.{is_asking, is_pending, pends_as, rows_by}
+use Rattle.lpc_world.specs.Kept.{has_queued, is_alive, is_asking, is_unsent, owed_messages, owed_waits, rows_by}
+use Rattle.lpc_world.specs.Untold.{TellsOnce, closing_places, is_owed}
 use Rattle.lpc_world.specs.Lawful.{AreLawful, IsCounted, draws_at_most, drew, IsPromised, has_header, is_housed, is_quiet}
 use Rattle.lpc_world.specs.declared.object.Object.{Object}
 use Rattle.lpc_world.specs.declared.object.Object.TheVariants as object
@@ -129,7 +130,7 @@ module _ (it : Tables) (calls made : ℕ) (is : AreLawful it calls made) where
   }
 
   pub added_thread : (row : ThreadRow) (room : ℕ) → has (λ u. u.number == row.number) rows.used_threads ≡ false → made < 16 * calls → draws_at_most 1 (shown_thread row) ≡ true → is_housed rows (shown_thread row) ≡ true
-      → length rows.threads < it.waits.spare + length rows.waits → length rows.threads < it.ports.message_room + count is_asking rows.messages
+      → owed_waits rows < it.waits.spare → owed_messages rows < it.ports.message_room
       → AreLawful (record it { procs = record it.procs { threads = it.procs.threads ++ row ∷ []; used_threads = it.procs.used_threads ++ (record { number = row.number; process = row.process }) ∷ []; thread_room = room } }) calls (made + 1)
   added_thread row room unused lt young home wait_room message_room = record {
     named = changes.threaded it is.named _;
@@ -142,12 +143,12 @@ module _ (it : Tables) (calls made : ℕ) (is : AreLawful it calls made) where
 
   -- messages
   pub entered : (row : Key × QueuedMessage) → all_pass message_refs (object_stands n) row ≡ true → has_header row ≡ true → made < 16 * calls → 0 < it.ports.message_room → has (takes (shown_message (birth_of n) row)) rows.waits ≡ false
-      → (is_asking (shown_message (birth_of n) row) ≡ true → count is_asking rows.messages < count is_pending rows.waits)
-      → (is_asking (shown_message (birth_of n) row) ≡ false → length rows.threads < it.ports.message_room + count is_asking rows.messages)
+      → (let m = shown_message (birth_of n) row in is_asking m ≡ true → is_unsent rows m.message.header.client.thread ≡ true) → (let m = shown_message (birth_of n) row in TellsOnce rows m.message m.sender)
+      → (let m = shown_message (birth_of n) row in is_owed m.message ≡ false → owed_messages rows < it.ports.message_room)
       → AreLawful (record it { ports = record it.ports { messages = it.ports.messages ++ row ∷ []; message_room = it.ports.message_room - 1; messages_made = it.ports.messages_made + 1 } }) calls (made + 1)
-  entered row there long lt place none asks other = record {
+  entered row there long lt place none asks once other = record {
     named = changes.entered it is.named row (it.ports.message_room - 1) (it.ports.messages_made + 1) there;
-    lawful = rw (changes.enters it is.named row (it.ports.message_room - 1) (it.ports.messages_made + 1)) (lawful.lawful-enter rows calls made it.waits.spare it.ports.message_room (shown_message (birth_of n) row) is.lawful lt place none asks other);
+    lawful = rw (changes.enters it is.named row (it.ports.message_room - 1) (it.ports.messages_made + 1)) (lawful.lawful-enter rows calls made it.waits.spare it.ports.message_room (shown_message (birth_of n) row) is.lawful lt place none asks once other);
     counted = record { ports_made = omega (arith, is.counted.ports_made); messages_made = omega (arith, is.counted.messages_made); waits_made = omega (arith, is.counted.waits_made) };
     headed = every-push has_header it.ports.messages row is.headed long;
     drawn = drawn.same-drawn rows _ refl refl refl is.drawn;
@@ -166,7 +167,7 @@ module _ (it : Tables) (calls made : ℕ) (is : AreLawful it calls made) where
   }
 
   -- waits
-  pub awaited : (row : WaitRow) → all_pass wait_refs (object_stands n) row ≡ true → made < 16 * calls → has (is_thread row.thread) rows.threads ≡ true → has (waits_as row.thread) rows.waits ≡ false → is_quiet rows.messages (shown_wait (birth_of n) row) ≡ true
+  pub awaited : (row : WaitRow) → all_pass wait_refs (object_stands n) row ≡ true → made < 16 * calls → has (is_live_thread row.thread) rows.threads ≡ true → has (waits_as row.thread) rows.waits ≡ false → is_quiet rows.messages (shown_wait (birth_of n) row) ≡ true
       → IsPromised (rows.waits ++ shown_wait (birth_of n) row ∷ []) rows.handles it.parts
       → AreLawful (record it { waits = record { rows = it.waits.rows ++ row ∷ []; spare = it.waits.spare - 1; made = it.waits.made + 1 } }) calls (made + 1)
   awaited row there lt thread ready still owed = record {
@@ -181,10 +182,10 @@ module _ (it : Tables) (calls made : ℕ) (is : AreLawful it calls made) where
   pub has_wait : (who : ℕ) → has (waits_as who) rows.waits ≡ has (waits.is_of who) it.waits.rows
   has_wait who = has-map (shown_wait (birth_of n)) (all_pass wait_refs (object_stands n)) (waits.is_of who) (waits_as who) (λ row _. refl) it.waits.rows is.named.refs.in_waits
 
-  pub ended : (who : ℕ) → has (pends_as who) rows.waits ≡ false → AreLawful (record it { waits = record { rows = without (waits.is_of who) it.waits.rows; spare = cond (has (waits.is_of who) it.waits.rows) (it.waits.spare + 1) it.waits.spare; made = it.waits.made } }) calls made
-  ended who idle = record {
+  pub ended : (who : ℕ) → has_queued rows who ≡ false → AreLawful (record it { waits = record { rows = without (waits.is_of who) it.waits.rows; spare = cond (has (waits.is_of who) it.waits.rows) (it.waits.spare + 1) it.waits.spare; made = it.waits.made } }) calls made
+  ended who none = record {
     named = changes.ended it is.named who (cond (has (waits.is_of who) it.waits.rows) (it.waits.spare + 1) it.waits.spare) it.waits.made;
-    lawful = rw (changes.ends it is.named who (cond (has (waits.is_of who) it.waits.rows) (it.waits.spare + 1) it.waits.spare) it.waits.made, ← has_wait who) (lawful.lawful-end rows calls made it.waits.spare it.ports.message_room who is.lawful idle);
+    lawful = rw (changes.ends it is.named who (cond (has (waits.is_of who) it.waits.rows) (it.waits.spare + 1) it.waits.spare) it.waits.made, ← has_wait who) (lawful.lawful-end rows calls made it.waits.spare it.ports.message_room who is.lawful none);
     counted = record { ports_made = is.counted.ports_made; messages_made = is.counted.messages_made; waits_made = is.counted.waits_made };
     headed = is.headed;
     drawn = drawn.same-drawn rows _ refl refl refl is.drawn;
@@ -192,10 +193,10 @@ module _ (it : Tables) (calls made : ℕ) (is : AreLawful it calls made) where
   }
 
   -- a wait whose request is received
-  pub received : (who : ℕ) → count is_asking rows.messages < count is_pending rows.waits → AreLawful (record it { waits = record it.waits { rows = change (waits.is_of who) waits.received it.waits.rows } }) calls made
-  received who lt = record {
+  pub received : (who : ℕ) → has_queued rows who ≡ false → AreLawful (record it { waits = record it.waits { rows = change (waits.is_of who) waits.received it.waits.rows } }) calls made
+  received who none = record {
     named = changes.waiting it is.named who it.waits.spare it.waits.made waits.received (λ row. refl);
-    lawful = rw (changes.receives it is.named who) (lawful.lawful-receive rows calls made it.waits.spare it.ports.message_room who is.lawful lt);
+    lawful = rw (changes.receives it is.named who) (lawful.lawful-receive rows calls made it.waits.spare it.ports.message_room who is.lawful none);
     counted = record { ports_made = is.counted.ports_made; messages_made = is.counted.messages_made; waits_made = is.counted.waits_made };
     headed = is.headed;
     drawn = drawn.same-drawn rows _ refl refl refl is.drawn;
@@ -235,11 +236,11 @@ module _ (it : Tables) (calls made : ℕ) (is : AreLawful it calls made) where
   }
 
   -- a port more
-  pub made_lawful : (key : Key) (row : Port) → stands n.ports key ≡ false → first (is_port row.birth) rows.ports ≡ None → every (object_stands n) (port_refs (key, row)) ≡ true → has (drew row.birth) rows.threads ≡ true → made < 16 * calls
+  pub made_lawful : (key : Key) (row : Port) → stands n.ports key ≡ false → first (is_port row.birth) rows.ports ≡ None → every (object_stands n) (port_refs (key, row)) ≡ true → has (drew row.birth) rows.threads ≡ true → made < 16 * calls → closing_places row.kind ≤ it.ports.message_room - owed_messages rows
       → AreLawful (record it { ports = record it.ports { ports = it.ports.ports ++ (key, row) ∷ []; port_room = it.ports.port_room - 1; ports_made = it.ports.ports_made + 1 } }) calls (made + 1)
-  made_lawful key row absent fresh refs was lt = record {
+  made_lawful key row absent fresh refs was lt place = record {
     named = makes.made_named it is.named key row (it.ports.port_room - 1) (it.ports.ports_made + 1) absent fresh refs;
-    lawful = rw (makes.makes it is.named key row (it.ports.port_room - 1) (it.ports.ports_made + 1) refs) (lawful.lawful-port rows calls made it.waits.spare it.ports.message_room (shown_port (birth_of n) (key, row)) is.lawful lt);
+    lawful = rw (makes.makes it is.named key row (it.ports.port_room - 1) (it.ports.ports_made + 1) refs) (lawful.lawful-port rows calls made it.waits.spare it.ports.message_room (shown_port (birth_of n) (key, row)) is.lawful lt place);
     counted = record { ports_made = omega (arith, is.counted.ports_made); messages_made = omega (arith, is.counted.messages_made); waits_made = omega (arith, is.counted.waits_made) };
     headed = is.headed;
     drawn = rw (makes.makes it is.named key row (it.ports.port_room - 1) (it.ports.ports_made + 1) refs) (drawn.drawn-port rows (shown_port (birth_of n) (key, row)) was is.drawn);
@@ -259,10 +260,12 @@ none_lawful space none = record {
     housed = refl;
     tables_used = refl;
     tables_single = refl;
+    tables_few = omega arith;
     single = refl;
     threads = refl;
     quiet = refl;
-    requests = omega arith;
+    own = λ tid. omega arith;
+    told = λ b. omega arith;
     waits_fit = omega arith;
     messages_fit = omega arith;
   };
@@ -299,18 +302,21 @@ module _ (it : Tables) (calls made : ℕ) (is : AreLawful it calls made) where
   pub some_wait : (who : ℕ) → has (waits_as who) all.waits ≡ true → IsSome (first (waits.is_of who) it.waits.rows)
   some_wait who there = some_of (first (waits.is_of who) it.waits.rows) (sym (has_wait it calls made is who) ∙ there)
 
-  pub wait_place : (who : ℕ) → has (is_thread who) all.threads ≡ true → has (waits_as who) all.waits ≡ false → 0 < it.waits.spare
+  -- and more threads live than wait
+  pub more_alive : (who : ℕ) → has (is_live_thread who) all.threads ≡ true → has (waits_as who) all.waits ≡ false → length all.waits < count is_alive all.threads
+  more_alive who there none = lawful.place-left all.threads all.waits who is.lawful.single is.lawful.threads there none
+
+  pub wait_place : (who : ℕ) → has (is_live_thread who) all.threads ≡ true → has (waits_as who) all.waits ≡ false → 0 < it.waits.spare
   wait_place who there none = lawful.wait-place all calls made it.waits.spare it.ports.message_room who is.lawful there none
 
   -- a place for a message
-  pub message_place : (ask : Bool) → (ask ≡ true → 0 < count is_pending all.waits - count is_asking all.messages) → (ask ≡ false → 0 < it.ports.message_room + count is_asking all.messages - length all.threads) → 0 < it.ports.message_room
-  message_place true asks other = let h = asks refl in lawful.message-place all calls made it.waits.spare it.ports.message_room is.lawful (omega (arith, h))
-  message_place false asks other =
-      let h = other refl in
-      let pending = count-bound is_pending all.waits in
-      let fit = lawful.waits-fit all.threads all.waits is.lawful.single is.lawful.threads in
-      let asked = is.lawful.requests in
-      omega (arith, h, pending, fit, asked)
+  pub message_place : (m : model.MessageRow) → (is_asking m ≡ true → is_unsent all m.message.header.client.thread ≡ true) → TellsOnce all m.message m.sender → (is_owed m.message ≡ false → 0 < it.ports.message_room - owed_messages all) → 0 < it.ports.message_room
+  message_place m asks once other = elim (is_owed m.message) as (λ b. is_owed m.message ≡ b → 0 < it.ports.message_room) [
+    | true ↦ λ e. lawful.message-place all calls made it.waits.spare it.ports.message_room m is.lawful asks once e
+    | false ↦ λ e.
+        let h = other e in
+        omega (arith, h)
+  ] refl
 
   -- the table that the end of a wait leaves
   pub end_is : (who : ℕ) (new : WaitTable) (result : Option Wait) → result ≡ option_map (λ row. row.wait) (first (waits.is_of who) it.waits.rows) → new.rows ≡ without (waits.is_of who) it.waits.rows → new.spare ≡ cond (is_some result) (it.waits.spare + 1) it.waits.spare → new.made ≡ it.waits.made

@@ -111,7 +111,7 @@ module _ (it : Tables) (calls made : ℕ) (is : AreLawful it calls made) where
       ] refl
 
   -- a process has room for a handle beside those that are promised
-  pub welcome : (pid : ℕ) → has (is_table pid) rows.handles ≡ true → handle_load rows pid < 256 → kept.promised rows pid < kept.room_in (first (is_room pid) (map room_of_part it.parts)) → IsWelcome rows.waits rows.handles it.parts pid
+  pub welcome : (pid : ℕ) → has (is_table pid) rows.handles ≡ true → handle_load rows pid < 256 → kept.owed_handles rows pid < kept.room_in (first (is_room pid) (map room_of_part it.parts)) → IsWelcome rows.waits rows.handles it.parts pid
   welcome pid there load room = record { place = rw (← room_at it.parts pid) room; load = load; table = there }
 
   -- how many of a process's threads wait in a connect
@@ -126,7 +126,7 @@ module _ (it : Tables) (calls made : ℕ) (is : AreLawful it calls made) where
   pub connect_same : (row : WaitRow) → found.is_connect (shown_wait (birth_of (births_of it.ports)) row) ≡ waits.is_connect row.wait.kind
   connect_same row = connect_is row.wait.kind row.message.items row.accepted
 
-  pub promised_are : (pid : ℕ) → kept.promised rows pid ≡ count (waits.is_connect_of pid) it.waits.rows
+  pub promised_are : (pid : ℕ) → kept.owed_handles rows pid ≡ count (waits.is_connect_of pid) it.waits.rows
   promised_are pid = count-map (shown_wait (birth_of (births_of it.ports))) (λ _. true) (waits.is_connect_of pid) (is_connect_of pid) (λ row _. ap (λ b. b && (row.wait.process == pid)) (connect_same row)) it.waits.rows (all_true it.waits.rows)
 
   pub load_bound : (pid : ℕ) → has (is_table pid) rows.handles ≡ true → handle_load rows pid ≤ 256

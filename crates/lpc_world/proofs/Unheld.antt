@@ -47,7 +47,7 @@ module _ (it : Tables) (is : AreNamed (births_of it.ports) it) (key : Key) (ther
   abbrev b : Birth
   b = name_of n.ports key
 
-  the_same : (o : Option Key) → every ok (ports_in o) ≡ true → found.is_the b (birth_in f o) ≡ ports.is_the key o
+  pub the_same : (o : Option Key) → every ok (ports_in o) ≡ true → found.is_the b (birth_in f o) ≡ ports.is_the key o
   the_same None all = refl
   the_same (Some other) all = follows.agree it is key other there (grind arith) ∙ key_turned key other
 
@@ -64,7 +64,7 @@ module _ (it : Tables) (is : AreNamed (births_of it.ports) it) (key : Key) (ther
   wait_same : (row : WaitRow) → all_pass wait_refs ok row ≡ true → held.is_wait_at b (shown_wait f row) ≡ waits.is_wait_at key row
   wait_same row all = rw (follows.agree it is row.wait.port key (grind arith) there, follows.agree it is row.wait.queue key (grind arith) there) refl
 
-  node_same : (path : Path) (node : Node Key) → every ok (node_refs node) ≡ true → is_name same_birth b (shown_binding f (path, node)) ≡ is_name is_key key (path, node)
+  pub node_same : (path : Path) (node : Node Key) → every ok (node_refs node) ≡ true → is_name same_birth b (shown_binding f (path, node)) ≡ is_name is_key key (path, node)
   node_same path (LinkTo target) all = refl
   node_same path (Stands Directory) all = refl
   node_same path (Stands (Item other)) all = follows.agree it is other key (grind arith) there

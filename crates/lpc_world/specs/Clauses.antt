@@ -1,5 +1,5 @@
 -- Words of the world's clauses: what stands at a key, what a call leaves of the rows, and the room that it takes.
-use Rattle.std.specs.Prelude.{◌≡◌, ℕ, ◌+◌, ◌<◌, ◌≤◌, ◌∷◌, Bool, true, List, [], map, Option, option_map, is_some, slice_get, IfErr, MatchOption, None, Some, MatchResult, Result, Ok, Err, length}
+use Rattle.std.specs.Prelude.{◌≡◌, ℕ, ◌+◌, ◌<◌, ◌≤◌, ◌∷◌, Bool, false, true, List, [], map, Option, option_map, is_some, slice_get, IfErr, MatchOption, None, Some, MatchResult, Result, Ok, Err, length}
 use Rattle.lpc_base.specs.declared.birth.Birth.{Birth}
 use Rattle.lpc_base.specs.declared.limits.TheConstants.{HANDLE_LIMIT}
 use Rattle.lpc_base.specs.declared.port_kind.PortKind.{PortKind}
@@ -11,10 +11,10 @@ use Rattle.lpc_model.specs.Connect as connect
 use Rattle.lpc_model.specs.Connect.{names_connect}
 use Rattle.lpc_model.specs.Entering.{given_steps, takes, takes_from, woken}
 use Rattle.lpc_model.specs.Found.{fits_as, handles_of, is_port, is_process, is_queued, is_queued_connect, is_table, is_thread, pair_of, port_name, port_row, queue_of, route, waits_as}
-use Rattle.lpc_model.specs.Message.{asks, message_of}
+use Rattle.lpc_model.specs.Message.{asks}
 use Rattle.lpc_model.specs.Request.{receive_test}
 use Rattle.lpc_model.specs.Sweep.{is_unheld}
-use Rattle.lpc_model.specs.Tests.{handle_load, handle_row, next_birth, object_test, port_test}
+use Rattle.lpc_model.specs.Tests.{handle_load, handle_row, next_birth, object_test, own_handle, port_test}
 use Rattle.lpc_model.specs.World as model
 use Rattle.lpc_model.specs.World.{ObjectName, World}
 use Rattle.lpc_model.specs.declared.entry.ObjectKind.{ObjectKind}
@@ -33,11 +33,12 @@ use Rattle.lpc_waits.specs.Table as table
 use Rattle.lpc_waits.specs.declared.Wait.{Wait}
 use Rattle.lpc_world.specs.Bound.{with_name}
 use Rattle.lpc_world.specs.Joined.{with_completed}
-use Rattle.lpc_world.specs.Kept.{Kept, Room, handle_room, is_pending, promised}
+use Rattle.lpc_world.specs.Kept.{Kept, Room, handle_room, has_queued, is_pending, is_unsent, owed_handles}
 use Rattle.lpc_world.specs.Lawful.{is_quiet}
 use Rattle.lpc_world.specs.Names.{name_of}
 use Rattle.lpc_world.specs.Ready.{caller, port_of, waiter}
 use Rattle.lpc_world.specs.Shown.{birth_of, name_by, port_with, pulled_row, row_with, waiting_row, with_message}
+use Rattle.lpc_world.specs.Untold.{TellsOnce, closing_places}
 use Rattle.lpc_world.specs.declared.completable.Completable.{Completable}
 use Rattle.lpc_world.specs.declared.object.Object.{Object}
 
@@ -52,7 +53,7 @@ Finds result seen found = MatchOption result (found ≡ None) (λ x. found ≡ S
 
 -- the birth and the row of the port at a key, and the birth of an optional one
 abbrev pub birth_at : Kept → Key → Birth
-birth_at w = name_of w.names.ports
+birth_at w = name_of w.births.ports
 
 abbrev pub port_at : Kept → Key → model.PortRow
 port_at w key = port_of w.rows (birth_at w key)
@@ -93,11 +94,11 @@ receive_at w key = receive_test w.rows (port_at w key)
 
 -- the name of an object
 abbrev pub name_at : Kept → Object → ObjectName
-name_at w object = name_by (birth_of w.names) object
+name_at w object = name_by (birth_of w.births) object
 
 -- the rows of a table as the definitions have them
 abbrev pub shown_in : {R S : Type 0} → Kept → ((Object → Birth) → R → S) → List R → List S
-shown_in w show rows = map (show (birth_of w.names)) rows
+shown_in w show rows = map (show (birth_of w.births)) rows
 
 -- the row of a thread, and what the thread draws next: an identifier, a birth
 abbrev pub thread_row : World → ℕ → Option model.ThreadRow
@@ -118,7 +119,7 @@ oldest_connect w queue = first (is_queued_connect (birth_at w queue)) w.rows.mes
 
 -- a message that was taken from a queue
 abbrev pub pulled : Kept → Key → Option Message → Option model.MessageRow
-pulled w queue message = option_map (pulled_row w.names queue) message
+pulled w queue message = option_map (pulled_row w.births queue) message
 
 -- a message stands in a queue
 abbrev pub has_message : World → Birth → Bool
@@ -126,7 +127,7 @@ has_message w queue = is_some (first (is_queued queue) w.messages)
 
 -- a thread waits that takes a message which enters a queue
 abbrev pub has_taker : Kept → Key → Key → ℕ → whole.Message → Bool
-has_taker w queue sender context message = has (takes (row_with w.names queue sender context message)) w.rows.waits
+has_taker w queue sender context message = has (takes (row_with w.births queue sender context message)) w.rows.waits
 
 -- the thread whose wait passes a test first
 abbrev pub FindsWait : Kept → (model.WaitRow → Bool) → Option ℕ → Type 0
@@ -138,6 +139,18 @@ fits_at w port client identifier = fits_as w.rows (birth_at w port) client ident
 
 abbrev pub takes_at : Kept → Key → Bool → model.WaitRow → Bool
 takes_at w queue is_connection_request = takes_from (birth_at w queue) is_connection_request
+
+-- a message that asks is the one with which its sender waits, and stands in no queue yet
+abbrev pub IsAwaited : World → whole.Message → Type 0
+IsAwaited w m = asks m ≡ true → is_unsent w m.header.client.thread ≡ true
+
+-- a message that tells of a closing is sent on a client port of which none in a queue tells yet
+abbrev pub TellsOnceOn : Kept → Key → whole.Message → Type 0
+TellsOnceOn w sender m = TellsOnce w.rows m (birth_at w sender)
+
+-- where a message asks, no message of its sender's own stands in a queue
+abbrev pub HasLeft : World → whole.Message → Type 0
+HasLeft w m = asks m ≡ true → has_queued w m.header.client.thread ≡ false
 
 -- what the thread waits for doesn't stand in the queue
 abbrev pub is_quiet_for : World → ℕ → Bool
@@ -151,7 +164,10 @@ FindsConnect w by m result = FindsWait w (names_connect w.rows (caller w.rows by
 abbrev pub IsOwnWait : World → ℕ → Type 0
 IsOwnWait w tid = let x = waiter w tid in x.thread ≡ tid
 
--- the object that a handle of a thread's process names, and the port that it names
+-- a handle of a thread's process, the object that it names, and the port that it names
+abbrev pub handle_for : World → ℕ → ℕ → Result model.HandleRow Status
+handle_for w tid value = own_handle w (caller w tid) value
+
 abbrev pub object_for : World → ℕ → ObjectKind → ℕ → ℕ → Result Birth Status
 object_for w tid kind right handle = object_test w (caller w tid) kind right handle
 
@@ -173,7 +189,7 @@ after w b = basic w.rows b
 
 -- a wait that a thread begins, as yet without a message: it is for the answer to a request or connect, or to a connect
 abbrev pub new_wait : Kept → ℕ → Wait → model.WaitRow
-new_wait w tid wait = waiting_row w.names tid wait []
+new_wait w tid wait = waiting_row w.births tid wait []
 
 abbrev pub pends : Kept → ℕ → Wait → Bool
 pends w tid wait = is_pending (new_wait w tid wait)
@@ -183,10 +199,10 @@ connects wait = table.is_connect wait.kind
 
 -- a port more, a message more in a queue, a handle more
 abbrev pub with_port : Kept → PortKind → Birth → Option Key → Option Creator → World
-with_port w kind birth connection creator = after w (Makes (port_with (birth_of w.names) kind birth connection creator))
+with_port w kind birth connection creator = after w (Makes (port_with (birth_of w.births) kind birth connection creator))
 
 abbrev pub sent : Kept → Key → Key → ℕ → whole.Message → World
-sent w queue sender context message = after w (Enters (row_with w.names queue sender context message))
+sent w queue sender context message = after w (Enters (row_with w.births queue sender context message))
 
 abbrev pub with_handle : Kept → ℕ → ℕ → Object → ℕ → World
 with_handle w pid value object access = after w (AddsHandle pid (handle_row value (name_at w object) access))
@@ -238,21 +254,14 @@ and_process r = record r { processes = r.processes + 1 }
 abbrev pub and_thread : Room → Room
 and_thread r = record r { threads = r.threads + 1; waits = r.waits + 1; messages = r.messages + 1 }
 
-abbrev pub and_port : Room → Room
-and_port r = record r { ports = r.ports + 1 }
+abbrev pub and_port : PortKind → Room → Room
+and_port kind r = record r { ports = r.ports + 1; messages = r.messages + closing_places kind }
 
 abbrev pub and_message : Room → Room
-and_message r = record r { messages = r.messages + 1; requests = r.requests + 1 }
-
-abbrev pub and_request : Room → Room
-and_request r = record r { requests = r.requests + 1 }
+and_message r = record r { messages = r.messages + 1 }
 
 abbrev pub and_name : Room → Room
 and_name r = record r { names = r.names + 1 }
-
--- a message that asks was taken, and its place is kept for its request or connect
-abbrev pub IsOwed : Message → Room → Room → Type 0
-IsOwed m old new = asks (message_of m.bytes.items) ≡ true → old.requests < new.requests
 
 -- a process stands, and has a table of handles, with fewer than it may have
 abbrev pub has_process : World → ℕ → Bool
@@ -270,7 +279,7 @@ HasSmallLoad w pid = handle_load w pid < HANDLE_LIMIT
 
 -- there is room for one more handle, or for so many, beside those
 abbrev pub HasHandleRoom : Kept → ℕ → Type 0
-HasHandleRoom w pid = promised w.rows pid < handle_room w.room pid
+HasHandleRoom w pid = owed_handles w.rows pid < handle_room w.room pid
 
 abbrev pub HasHandlePlaces : Kept → ℕ → ℕ → Type 0
-HasHandlePlaces w pid more = promised w.rows pid + more ≤ handle_room w.room pid
+HasHandlePlaces w pid more = owed_handles w.rows pid + more ≤ handle_room w.room pid

@@ -23,8 +23,8 @@ abbrev pub left_by : World → List Entry → Bool → List Basic → Left
 left_by w es loose bs = record { world = world_after w bs; entries = es ++ entries_of bs; loose = loosened loose bs }
 
 -- these steps were taken
-abbrev pub Takes : List Basic → Kept → Kept → Listed → Listed → Type 0
-Takes bs old new before after =
+abbrev pub Took : List Basic → Kept → Kept → Listed → Listed → Type 0
+Took bs old new before after =
     record { world = new.rows; entries = after.list; loose = new.loose } ≡ left_by old.rows before.list old.loose bs
 
 -- what a call leaves, and how it ended

@@ -7,6 +7,7 @@ use Rattle.lpc_model.specs.Found.{is_connected_to, is_made_on, is_open, is_paire
 use Rattle.lpc_model.specs.Linked.{AreLivesHeld, IsLinked}
 use Rattle.lpc_model.specs.OpenQueues.{HasOpenQueues}
 use Rattle.lpc_model.specs.SoundWaits.{IsSoundWorld}
+use Rattle.lpc_model.specs.Standing.{NamesWhatStands}
 
 -- a port has this one as its other end or as its connection port
 abbrev pub is_joined_to : Birth → PortRow → Bool
@@ -21,7 +22,8 @@ abbrev pub is_wait_at : Birth → WaitRow → Bool
 is_wait_at b x = is_made_on b x || same_birth x.queue b
 
 -- Some row names the port: a handle, another port, a message, a wait, or a name. That is more than what counts: a queue
--- and a name don't hold a port. But the ports of queues and names are open.
+-- and a name don't hold a port. But the ports of messages' queues and of names are open, and the queue of a wait is near
+-- the port on which the wait was made, which counts for it.
 abbrev pub is_named : World → Birth → Bool
 is_named w b =
     is_open w b || (has (is_joined_to b) w.ports || (has (is_message_at b) w.messages
@@ -32,4 +34,5 @@ pub record CanSweep (w : World) : Type 0 where
   pub sound : IsSoundWorld w
   pub linked : IsLinked w
   pub queues : HasOpenQueues w
+  pub standing : NamesWhatStands w
   pub lives : AreLivesHeld w

@@ -1,8 +1,9 @@
 -- What contracts see of the world: the definitions' rows, the births of keys, the calls so far, and the room.
-use Rattle.std.specs.Prelude.{◌≡◌, ℕ, ◌+◌, ◌-◌, ◌≤◌, ◌==◌, ◌&&◌, ◌||◌, Bool, false, not, List, length, map, min, Option, Some, None}
+use Rattle.std.specs.Prelude.{◌≡◌, ℕ, ◌+◌, ◌-◌, ◌*◌, ◌<◌, ◌≤◌, ◌==◌, ◌&&◌, ◌||◌, Bool, false, not, List, length, map, min, Option, Some, None}
 use Rattle.lpc_base.specs.Rows.{count, first, has}
 use Rattle.lpc_model.specs.World.{World, MessageRow, WaitRow, ThreadRow}
-use Rattle.lpc_model.specs.Found.{is_connect, is_request, waits_as}
+use Rattle.lpc_model.specs.Closings.{is_closed_post}
+use Rattle.lpc_model.specs.Found.{is_client_port, is_connect, is_own_of, is_request, waits_as}
 use Rattle.lpc_model.specs.Message.{asks}
 use Rattle.lpc_model.specs.Tests.{is_connect_of}
 use Rattle.lpc_world.specs.Shown.{Births, Tables, births_of, shown_by}
@@ -15,23 +16,43 @@ is_asking m = asks m.message
 abbrev pub is_pending : WaitRow → Bool
 is_pending x = (is_request x || is_connect x) && not x.received
 
--- how many handles a process's waiting connects are to get
-abbrev pub promised : World → ℕ → ℕ
-promised w pid = count (is_connect_of pid) w.waits
+abbrev pub is_alive : ThreadRow → Bool
+is_alive t = t.live
+
+-- What is owed: the places of rows that must go in later without memory
+-- Each live thread that doesn't wait has a place for its wait. Only a live thread waits, and once, so those are the live
+-- threads less the waits.
+abbrev pub owed_waits : World → ℕ
+owed_waits w = count is_alive w.threads - length w.waits
+
+-- Each live thread without a message of its own in a queue has a place for it. A thread has at most one there, and waits
+-- with it, so those are the live threads less the messages that ask.
+abbrev pub owed_requests : World → ℕ
+owed_requests w = count is_alive w.threads - count is_asking w.messages
+
+-- Each client port of whose closing no message in a queue tells has a place for that message, which NtClose posts. One tells
+-- of each such port at most, and none of another, so those are the client ports less the messages that tell of closings.
+abbrev pub owed_closings : World → ℕ
+owed_closings w = count is_client_port w.ports - count is_closed_post w.messages
+
+abbrev pub owed_messages : World → ℕ
+owed_messages w = owed_requests w + owed_closings w
+
+-- Each waiting connect of a process has a place for the handle that it is to get.
+abbrev pub owed_handles : World → ℕ → ℕ
+owed_handles w pid = count (is_connect_of pid) w.waits
 
 -- how many more handles go into a process's table without memory, with those that its waiting connects are to get
 pub record HandleRoom : Type 0 where
   pub process : ℕ
   pub spare : ℕ
 
--- How many more rows go in without memory. Each thread has a place for its wait and one for its request's message; the
--- places beyond those are counted here. A request or connect that waits and whose message stands in no queue has its place still.
+-- How many more rows go in without memory. Of waits and messages it counts the places beyond those that are owed.
 pub record Room : Type 0 where
   pub processes : ℕ
   pub threads : ℕ
   pub waits : ℕ
   pub messages : ℕ
-  pub requests : ℕ
   pub ports : ℕ
   pub names : ℕ
   pub handles : List HandleRoom
@@ -40,7 +61,7 @@ pub record Room : Type 0 where
 -- whether a row went since the last sweep that may have named an object; the room
 pub record Kept : Type 0 where
   pub rows : World
-  pub names : Births
+  pub births : Births
   pub calls : ℕ
   pub made : ℕ
   pub loose : Bool
@@ -54,9 +75,8 @@ abbrev pub room_by : World → Tables → ℕ → Room
 room_by rows it places = record {
   processes = min it.procs.process_room places;
   threads = it.procs.thread_room;
-  waits = it.waits.spare + length rows.waits - length rows.threads;
-  messages = it.ports.message_room + count is_asking rows.messages - length rows.threads;
-  requests = count is_pending rows.waits - count is_asking rows.messages;
+  waits = it.waits.spare - owed_waits rows;
+  messages = it.ports.message_room - owed_messages rows;
   ports = it.ports.port_room;
   names = it.space.spare;
   handles = map room_of_part it.parts;
@@ -65,10 +85,10 @@ room_by rows it places = record {
 abbrev pub rows_by : Tables → World
 rows_by it = shown_by (births_of it.ports) it
 
-abbrev pub kept : Tables → ℕ → ℕ → ℕ → Bool → Kept
-kept it places calls made loose = record {
+abbrev pub kept_by : Tables → ℕ → ℕ → ℕ → Bool → Kept
+kept_by it places calls made loose = record {
   rows = rows_by it;
-  names = births_of it.ports;
+  births = births_of it.ports;
   calls = calls;
   made = made;
   loose = loose;
@@ -78,7 +98,7 @@ kept it places calls made loose = record {
 -- nothing changed but the room
 pub record Same (old new : Kept) : Type 0 where
   pub rows : new.rows ≡ old.rows
-  pub names : new.names ≡ old.names
+  pub births : new.births ≡ old.births
   pub calls : new.calls ≡ old.calls
   pub made : new.made ≡ old.made
   pub loose : new.loose ≡ old.loose
@@ -100,7 +120,6 @@ pub record Roomy (old new : Room) : Type 0 where
   pub for_threads : old.threads ≤ new.threads
   pub for_waits : old.waits ≤ new.waits
   pub for_messages : old.messages ≤ new.messages
-  pub for_requests : old.requests ≤ new.requests
   pub for_ports : old.ports ≤ new.ports
   pub for_names : old.names ≤ new.names
   pub for_handles : (pid : ℕ) → handle_room old pid ≤ handle_room new pid
@@ -112,12 +131,21 @@ pends_as tid x = waits_as tid x && is_pending x
 abbrev pub is_pending_in : World → ℕ → Bool
 is_pending_in w tid = has (pends_as tid) w.waits
 
--- a thread that waits for no answer to a request or connect that isn't received still waits for none
-pub record IsIdleAfter (old new : World) : Type 0 where
-  pub idle : (tid : ℕ) → is_pending_in old tid ≡ false → is_pending_in new tid ≡ false
+-- a message of the thread's own stands in a queue: the request or connection request with which it waits
+abbrev pub has_queued : World → ℕ → Bool
+has_queued w tid = has (is_own_of tid) w.messages
 
-abbrev pub is_alive : ThreadRow → Bool
-is_alive t = t.live
+-- the thread waits for the answer to a request or connect whose message stands in no queue
+abbrev pub is_unsent : World → ℕ → Bool
+is_unsent w tid = is_pending_in w tid && not (has_queued w tid)
+
+-- only a thread that pends has a message of its own in a queue
+pub record OwnPend (w : World) : Type 0 where
+  pub left : (tid : ℕ) → is_pending_in w tid ≡ false → has_queued w tid ≡ false
+
+-- a thread without a message of its own in a queue still has none there
+pub record StaysUnqueued (old new : World) : Type 0 where
+  pub unqueued : (tid : ℕ) → has_queued old tid ≡ false → has_queued new tid ≡ false
 
 -- a thread that doesn't wait still doesn't
 pub record StaysReady (old new : World) : Type 0 where
@@ -136,3 +164,13 @@ lacks_process_room w = lacks_thread_room w || (w.room.processes == 0)
 
 abbrev pub lacks_name_room : Kept → Bool
 lacks_name_room w = w.room.names == 0
+
+-- Counters: how many rows and numbers a call may make, a call may make one more, and a call has made none yet
+abbrev pub CALL_BUDGET : ℕ
+CALL_BUDGET = 16
+
+abbrev pub CanMake : Kept → Type 0
+CanMake w = w.made < CALL_BUDGET * w.calls
+
+abbrev pub HasWholeBudget : Kept → Type 0
+HasWholeBudget w = w.made + CALL_BUDGET ≤ CALL_BUDGET * w.calls

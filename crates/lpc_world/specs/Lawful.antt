@@ -1,17 +1,20 @@
 -- What the world keeps of its rows, its numbers and its room.
 use Rattle.std.specs.Prelude.{◌≡◌, ℕ, ◌+◌, ◌*◌, ◌==◌, ◌&&◌, ◌||◌, ◌≤◌, nat_le, nat_lt, Bool, true, not, List, length}
 use Rattle.lpc_base.specs.declared.birth.Birth.{Birth}
+use Rattle.lpc_base.specs.declared.limits.TheConstants.{HANDLE_LIMIT, HEADER_SIZE, LINES_LIMIT}
 use Rattle.lpc_base.specs.Rows.{count, differ_by, every, has}
 use Rattle.lpc_model.specs.World.{World, HandleTable, MessageRow, PortRow, ThreadRow, UsedThread, WaitRow}
-use Rattle.lpc_model.specs.Found.{is_accepted, is_connect, is_listen, is_process, is_queued, is_queued_connect, is_receive, is_table, is_thread}
+use Rattle.lpc_model.specs.Found.{is_accepted, is_connect, is_listen, is_live_thread, is_own_of, is_process, is_queued, is_queued_connect, is_receive, is_table}
 use Rattle.lpc_model.specs.Tests.{is_connect_of}
+use Rattle.lpc_model.specs.Untold.{is_closing_of}
 use Rattle.lpc_ports.specs.Table.{PortTable}
 use Rattle.lpc_ports.specs.declared.messages.QueuedMessage.{QueuedMessage}
 use Rattle.lpc_slots.specs.declared.Key.{Key}
 use Rattle.lpc_waits.specs.Table.{WaitTable}
 use Rattle.lpc_world.specs.declared.parts.Part.{Part}
-use Rattle.lpc_world.specs.Kept.{is_asking, is_pending, rows_by}
+use Rattle.lpc_world.specs.Kept.{CALL_BUDGET, owed_messages, owed_waits, pends_as, rows_by}
 use Rattle.lpc_world.specs.Shown.{AreNamed, Tables, births_of}
+use Rattle.lpc_world.specs.Untold.{is_client_of}
 
 -- no thread waits twice
 abbrev pub are_single : List WaitRow → Bool
@@ -21,9 +24,9 @@ are_single waits = differ_by (λ x. x.thread) waits
 abbrev pub are_single_tables : List HandleTable → Bool
 are_single_tables tables = differ_by (λ t. t.process) tables
 
--- the waiting thread is one of the threads
+-- the waiting thread is one of the live threads
 abbrev pub is_of : List ThreadRow → WaitRow → Bool
-is_of threads x = has (is_thread x.thread) threads
+is_of threads x = has (is_live_thread x.thread) threads
 
 -- the numbers that a thread draws next are at most this
 abbrev pub draws_at_most : ℕ → ThreadRow → Bool
@@ -44,24 +47,27 @@ is_used used t = has (λ n. n == t.process) used
 
 pub record IsLawful (w : World) (calls made waits messages : ℕ) : Type 0 where
   -- so no counter reaches its end
-  pub few : calls ≤ 1000000
-  pub budget : made ≤ 16 * calls
+  pub few : calls ≤ LINES_LIMIT
+  pub budget : made ≤ CALL_BUDGET * calls
   pub rows : length w.processes + length w.threads + length w.ports ≤ made
   pub draws : every (draws_at_most (made + 1)) w.threads ≡ true
   -- each thread's process stands, and has one table of handles
   pub housed : every (is_housed w) w.threads ≡ true
   pub tables_used : every (is_used w.used_processes) w.handles ≡ true
   pub tables_single : are_single_tables w.handles ≡ true
-  -- only a thread waits, and once
+  pub tables_few : length w.handles ≤ made
+  -- only a live thread waits, and once
   pub single : are_single w.waits ≡ true
   pub threads : every (is_of w.threads) w.waits ≡ true
   -- what a receive or listen waits for doesn't stand in its queue
   pub quiet : every (is_quiet w.messages) w.waits ≡ true
-  -- a queued request is one that waits and isn't received, as a connection request is, and each thread has a place for its
-  -- wait and one for its request
-  pub requests : count is_asking w.messages ≤ count is_pending w.waits
-  pub waits_fit : length w.threads ≤ waits + length w.waits
-  pub messages_fit : length w.threads ≤ messages + count is_asking w.messages
+  -- a thread's own message in a queue is that of a request or connect with which it waits, and which isn't received
+  pub own : (tid : ℕ) → count (is_own_of tid) w.messages ≤ count (pends_as tid) w.waits
+  -- of each client port's closing one message tells at most, and of no other port's
+  pub told : (b : Birth) → count (is_closing_of b) w.messages ≤ count (is_client_of b) w.ports
+  -- what is owed finds its place
+  pub waits_fit : owed_waits w ≤ waits
+  pub messages_fit : owed_messages w ≤ messages
 
 -- what was inserted into the tables is counted
 pub record IsCounted (ports : PortTable) (waits : WaitTable) (made : ℕ) : Type 0 where
@@ -95,7 +101,7 @@ abbrev pub has_places : List WaitRow → Part → Bool
 has_places waits part = nat_le (count (is_connect_of part.process) waits) part.handles.spare
 
 abbrev pub is_within : List WaitRow → HandleTable → Bool
-is_within waits t = nat_le (length t.rows + count (is_connect_of t.process) waits) 256
+is_within waits t = nat_le (length t.rows + count (is_connect_of t.process) waits) HANDLE_LIMIT
 
 -- the process of a connect has a table of handles
 abbrev pub is_at_home : List HandleTable → WaitRow → Bool
@@ -114,7 +120,7 @@ pub record IsPromised (waits : List WaitRow) (handles : List HandleTable) (parts
 
 -- a message's bytes begin with a header
 abbrev pub has_header : Key × QueuedMessage → Bool
-has_header row = nat_le 24 (length row.1.message.bytes.items)
+has_header row = nat_le HEADER_SIZE (length row.1.message.bytes.items)
 
 -- The tables name what stands, and their rows are lawful.
 pub record AreLawful (it : Tables) (calls made : ℕ) : Type 0 where

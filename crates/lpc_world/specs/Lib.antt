@@ -1,12 +1,15 @@
 pub mod Names
 pub mod Shown
 pub mod Parts
+pub mod Untold
 pub mod Kept
 pub mod Lawful
 pub mod Ready
 pub mod Does
 pub mod Held
+pub mod Called
 pub mod Bound
 pub mod Joined
 pub mod Connecting
 pub mod Clauses
+pub mod Closing

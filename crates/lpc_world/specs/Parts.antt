@@ -1,6 +1,6 @@
 -- The handles of each process: which part of the world they stand in.
-use Rattle.std.specs.Prelude.{ℕ, ◌-◌, ◌<◌, ◌==◌, Bool, List, [], length, Option, Some, None}
-use Rattle.lpc_base.specs.Rows.{change, differ_by, first, has}
+use Rattle.std.specs.Prelude.{ℕ, ◌+◌, ◌-◌, ◌<◌, ◌==◌, Bool, List, [], length, Option, Some, None, if◌then◌else◌}
+use Rattle.lpc_base.specs.Rows.{change, differ_by, each, first, has, without_first}
 use Rattle.lpc_base.specs.declared.limits.TheConstants.{HANDLE_LIMIT}
 use Rattle.lpc_handles.specs.Handles as handles
 use Rattle.lpc_handles.specs.declared.table.Row.{Row}
@@ -42,12 +42,24 @@ handed value row part = record part { handles = record { rows = handles.with_row
 abbrev pub roomed : ℕ → Part → Part
 roomed spare part = record part { handles = record part.handles { spare = spare } }
 
--- the parts of all processes, with one more handle, or with so much room, in that of a process
+-- a part without the handle of a value, whose room is spare then
+abbrev pub closed : ℕ → Part → Part
+closed value part = record part {
+  handles = record {
+    rows = without_first (handles.has_value value) part.handles.rows;
+    spare = if has (handles.has_value value) part.handles.rows then part.handles.spare + 1 else part.handles.spare;
+  };
+}
+
+-- the parts of all processes, with one more handle, with so much room, or without the handle of a value, in that of a process
 abbrev pub handing : ℕ → ℕ → Object → ℕ → List Part → List Part
 handing pid value object access parts = change (is_part pid) (handed value (record { object = object; access = access })) parts
 
 abbrev pub rooming : ℕ → ℕ → List Part → List Part
 rooming pid spare parts = change (is_part pid) (roomed spare) parts
+
+abbrev pub closing : ℕ → ℕ → List Part → List Part
+closing pid value parts = change (is_part pid) (closed value) parts
 
 -- a process has fewer handles than it may have
 abbrev pub HasFew : List Part → ℕ → Type 0
@@ -62,3 +74,7 @@ names_it port row = is_the_port port row.1.object
 
 abbrev pub has_name_of : Key → Part → Bool
 has_name_of port part = has (names_it port) part.handles.rows
+
+-- the handles of all processes
+abbrev pub all_rows : List Part → List (ℕ × Row Object)
+all_rows parts = each (λ part. part.handles.rows) parts

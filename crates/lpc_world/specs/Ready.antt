@@ -56,8 +56,8 @@ port_of w b = port_in (port_row w b)
 
 -- a port that stands is found under its name, and an object that stands has its row
 pub record IsStanding (w : Kept) (key : Key) : Type 0 where
-  pub found : port_row w.rows (name_of w.names.ports key) ≡ Some (port_of w.rows (name_of w.names.ports key))
-  pub birth : let p = port_of w.rows (name_of w.names.ports key) in p.birth ≡ name_of w.names.ports key
+  pub found : port_row w.rows (name_of w.births.ports key) ≡ Some (port_of w.rows (name_of w.births.ports key))
+  pub birth : let p = port_of w.rows (name_of w.births.ports key) in p.birth ≡ name_of w.births.ports key
 
 abbrev pub HasRow : Kept → Object → Type 0
 HasRow w (object.Port key) = IsStanding w key
@@ -80,12 +80,12 @@ pub record IsWait (w : Kept) (tid : ℕ) (x : Wait) : Type 0 where
   pub process : let y = waiter w.rows tid in y.process ≡ x.process
   pub request : is_request (waiter w.rows tid) ≡ table.is_request x.kind
   pub listen : is_listen (waiter w.rows tid) ≡ table.is_listen x.kind
-  pub port : let y = waiter w.rows tid in y.port ≡ name_of w.names.ports x.port
-  pub queue : let y = waiter w.rows tid in y.queue ≡ name_of w.names.ports x.queue
+  pub port : let y = waiter w.rows tid in y.port ≡ name_of w.births.ports x.port
+  pub queue : let y = waiter w.rows tid in y.queue ≡ name_of w.births.ports x.queue
   pub identifier : let y = waiter w.rows tid in y.identifier ≡ x.identifier
   pub received : let y = waiter w.rows tid in y.received ≡ x.received
-  pub port_stands : stands w.names.ports x.port ≡ true
-  pub queue_stands : stands w.names.ports x.queue ≡ true
+  pub port_stands : stands w.births.ports x.port ≡ true
+  pub queue_stands : stands w.births.ports x.queue ≡ true
 
 -- how many entries one step makes at most: three for each live thread, and one
 abbrev pub room_needed : World → ℕ

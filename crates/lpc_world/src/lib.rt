@@ -1,15 +1,17 @@
 //! The composed world: the tables together, seen as the rows of the definitions.
 #![tactic(auto)]
 
+mod closed;
 mod completable;
 mod condition;
+mod ending;
 mod object;
 mod parts;
-#[cfg(test)]
-mod tests;
 mod world;
 
+pub use closed::Closed;
 pub use completable::Completable;
 pub use condition::Condition;
+pub use ending::Ending;
 pub use object::Object;
 pub use world::{World, wants_answer};

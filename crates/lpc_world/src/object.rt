@@ -12,7 +12,7 @@ pub enum Object {
 
 impl Object {
     /// The key of the port that the object is.
-    pub(crate) fn port(self) -> Key
+    pub fn port(self) -> Key
         ensures { object.Port result ≡ self }
     {
         match self {

@@ -1,11 +1,11 @@
 // The handles of each process.
-ghost use Rattle.std.specs.Prelude.{◌≡◌, ◌+◌, ◌-◌, ◌<◌, ◌≤◌, ◌↔◌, true, Some, None, IsErr, IfOk, OnOk, OnErr, length, vec_len, vec_capacity};
+ghost use Rattle.std.specs.Prelude.{◌≡◌, ◌+◌, ◌*◌, ◌-◌, ◌<◌, ◌≤◌, ◌↔◌, true, Some, None, IsErr, IfOk, OnOk, OnErr, length, vec_len, vec_capacity};
 ghost use Rattle.std.specs.List.{position};
 ghost use Rattle.lpc_base.specs.Places.{least_handle};
-ghost use Rattle.lpc_base.specs.Rows.{has};
+ghost use Rattle.lpc_base.specs.Rows.{count, has};
 ghost use Rattle.lpc_handles.specs.Handles.{values};
-ghost use Rattle.lpc_world.specs.Parts.{HasFew, are_single_parts, handing, has_name_of, is_part, rooming, rows_at, spare_at};
-ghost use Rattle.lpc_base.specs.declared.limits.TheConstants.{HANDLE_LIMIT};
+ghost use Rattle.lpc_world.specs.Parts.{HasFew, all_rows, are_single_parts, closing, handing, has_name_of, is_part, names_it, rooming, rows_at, spare_at};
+ghost use Rattle.lpc_base.specs.declared.limits.TheConstants.{HANDLE_LIMIT, LINES_LIMIT};
 
 use crate::Object;
 use lpc_base::OutOfMemory;
@@ -59,7 +59,8 @@ pub fn add_handle(
     requires room { HasFew parts.old.items pid → 0 < spare_at parts.old.items pid }
     ensures quota { IsErr result ↔ (length (rows_at parts.old.items pid) ≡ HANDLE_LIMIT) }
     ensures value { IfOk result (λ v. v ≡ least_handle (values (rows_at parts.old.items pid))) }
-    ensures parts { IfOk result (λ v. parts.new.items ≡ handing pid v object access parts.old.items) }
+    ensures parts { IfOk result
+        (λ v. parts.new.items ≡ handing pid v object access parts.old.items) }
     ensures same { OnErr result (parts.new.items ≡ parts.old.items) }
     ensures len { vec_len parts.new ≡ vec_len parts.old }
     ensures capacity { vec_capacity parts.new ≡ vec_capacity parts.old }
@@ -81,6 +82,31 @@ pub fn reserve_handles(parts: &mut Vec<Part>, pid: u32, more: usize) -> Result<(
 {
     let index = place_of(parts, pid);
     parts[index].handles.reserve(more)
+}
+
+/// Takes the handle of a process with a value away, where there is one.
+pub fn close_handle(parts: &mut Vec<Part>, pid: u32, value: u32)
+    requires one { are_single_parts parts.old.items ≡ true }
+    requires part { has (is_part pid) parts.old.items ≡ true }
+    ensures parts { parts.new.items ≡ closing pid value parts.old.items }
+    ensures len { vec_len parts.new ≡ vec_len parts.old }
+    ensures capacity { vec_capacity parts.new ≡ vec_capacity parts.old }
+{
+    let index = place_of(parts, pid);
+    parts[index].handles.close(value);
+}
+
+/// How many handles of all processes name the port.
+pub fn handles_to(parts: &[Part], port: Key) -> usize
+    requires few { length parts.now ≤ 16 * LINES_LIMIT }
+    ensures count { result ≡ count (names_it port) (all_rows parts.now) }
+    ensures bound { result ≤ HANDLE_LIMIT * length parts.now }
+{
+    let mut named = 0;
+    for part in parts {
+        named += part.handles.count_of(Object::Port(port));
+    }
+    named
 }
 
 /// A handle of some process names the port.

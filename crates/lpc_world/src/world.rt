@@ -7,8 +7,8 @@
 ghost use Rattle.std.specs.Prelude.{◌≡◌, ◌+◌, ◌*◌, ◌<◌, ◌≤◌, ◌↔◌, ◌||◌, [], None, Some, true, false, IfSome, IfNone, IfOk, IsErr, OnOk, OnErr, is_some, length};
 ghost use Rattle.lpc_base.specs.Rows.{first, has, without};
 ghost use Rattle.lpc_model.specs.World.{no_rows};
-ghost use Rattle.lpc_model.specs.Found.{free_handle, handles_of, is_process, is_table, is_thread, port_row, was_process, was_thread, waits_as};
-ghost use Rattle.lpc_model.specs.Basics.{basic, AddsProcess, AddsThread, Awaits, DrawsIdentifier, DrawsOrdinal, Makes, Receives, Takes};
+ghost use Rattle.lpc_model.specs.Found.{free_handle, handles_of, is_live_thread, is_process, is_table, is_thread, port_row, was_process, was_thread, waits_as};
+ghost use Rattle.lpc_model.specs.Basics.{basic, AddsProcess, AddsThread, Awaits, DrawsIdentifier, DrawsOrdinal, Makes, Receives, Takes, Withdraws};
 ghost use Rattle.lpc_model.specs.Entering.{takes};
 ghost use Rattle.lpc_model.specs.Machine.{new_process, new_thread};
 ghost use Rattle.lpc_model.specs.Message.{asks, message_of};
@@ -17,15 +17,18 @@ ghost use Rattle.lpc_procs.specs.Procs.{IsNumber};
 ghost use Rattle.lpc_world.specs.Names.{KeepsNames, name_of, some_stands, stands};
 ghost use Rattle.lpc_world.specs.Shown.{object_stands};
 ghost use Rattle.lpc_world.specs.Lawful.{drew, is_quiet};
-ghost use Rattle.lpc_world.specs.Kept.{IsIdleAfter, Roomy, Same, StaysReady, handle_room, is_pending_in, promised};
+ghost use Rattle.lpc_world.specs.Kept.{CanMake, HasWholeBudget, Roomy, Same, StaysReady, StaysUnqueued, handle_room, has_queued, is_unsent, owed_handles, owed_messages, owed_waits};
 ghost use Rattle.lpc_world.specs.Ready.{IsWait};
+ghost use Rattle.lpc_world.specs.Untold.{closing_places, is_owed};
 ghost use Rattle.lpc_base.specs.declared.limits.TheConstants.{HANDLE_LIMIT, HEADER_SIZE, LINES_LIMIT, MESSAGE_LIMIT};
-ghost use Rattle.lpc_world.specs.Clauses.{HasFewHandles, HasHandlePlaces, HasHandleRoom, HasSmallLoad, IsOwed, after, and_message, and_port, and_process, and_request, and_thread, birth_at, birth_next, connects, has_message, has_table, has_taker, identifier_next, new_wait, oldest, pends, pulled, sent, waiting_with, with_handle, with_port, without_wait};
+ghost use Rattle.lpc_world.specs.Clauses.{HasFewHandles, HasHandlePlaces, HasHandleRoom, HasLeft, HasSmallLoad, IsAwaited, TellsOnceOn, after, and_message, and_port, and_process, and_thread, birth_at, birth_next, connects, has_message, has_table, has_taker, identifier_next, new_wait, oldest, pends, pulled, sent, waiting_with, with_handle, with_port, without_wait};
 
+mod closing;
 mod completing;
 mod connecting;
 mod connections;
 mod directives;
+mod ending;
 mod freeing;
 mod lending;
 mod names;
@@ -64,13 +67,13 @@ pub struct World {
 
 impl Model for World {
     ghost use Rattle.std.specs.Prelude.{◌-◌, vec_len, vec_capacity};
-    ghost use Rattle.lpc_world.specs.Kept.{Kept, kept};
+    ghost use Rattle.lpc_world.specs.Kept.{Kept, kept_by};
     ghost use Rattle.lpc_world.specs.Lawful.{AreLawful};
     ghost use Rattle.lpc_world.specs.Shown.{tables_of};
 
     ghost Value = { Kept };
 
-    ghost view = { λ w. kept (tables_of w.procs w.parts.items w.ports w.waits w.names) (vec_capacity w.parts - vec_len w.parts) w.calls w.made w.loose };
+    ghost view = { λ w. kept_by (tables_of w.procs w.parts.items w.ports w.waits w.names) (vec_capacity w.parts - vec_len w.parts) w.calls w.made w.loose };
 
     ghost invariant = { λ w. AreLawful (tables_of w.procs w.parts.items w.ports w.waits w.names) w.calls w.made };
 }
@@ -79,7 +82,7 @@ impl World {
     /// A world without a row. What it keeps later takes memory from `alloc`.
     pub fn empty(alloc: Global) -> World
         ensures rows { result.rows ≡ no_rows }
-        ensures births { result.names.ports ≡ [] }
+        ensures births { result.births.ports ≡ [] }
         ensures calls { result.calls ≡ 0 }
         ensures made { result.made ≡ 0 }
         ensures loose { result.loose ≡ false }
@@ -108,12 +111,12 @@ impl World {
     pub fn begin_call(&mut self)
         requires { self.old.calls < LINES_LIMIT }
         ensures rows { self.new.rows ≡ self.old.rows }
-        ensures names { self.new.names ≡ self.old.names }
+        ensures births { self.new.births ≡ self.old.births }
         ensures calls { self.new.calls ≡ self.old.calls + 1 }
         ensures made { self.new.made ≡ self.old.made }
         ensures loose { self.new.loose ≡ self.old.loose }
         ensures room { self.new.room ≡ self.old.room }
-        ensures budget { self.new.made + 16 ≤ 16 * self.new.calls }
+        ensures budget { HasWholeBudget self.new }
     {
         self.calls += 1;
     }
@@ -123,10 +126,10 @@ impl World {
     /// A thread draws its next message identifier, which is answered.
     pub fn procs_draw_identifier(&mut self, tid: u32) -> u32
         requires stands { has (is_thread tid) self.old.rows.threads ≡ true }
-        requires budget { self.old.made < 16 * self.old.calls }
+        requires budget { CanMake self.old }
         ensures number { identifier_next self.old.rows tid ≡ Some result }
         ensures rows { self.new.rows ≡ after self.old (DrawsIdentifier tid) }
-        ensures names { self.new.names ≡ self.old.names }
+        ensures births { self.new.births ≡ self.old.births }
         ensures calls { self.new.calls ≡ self.old.calls }
         ensures loose { self.new.loose ≡ self.old.loose }
         ensures made { self.new.made ≡ self.old.made + 1 }
@@ -139,12 +142,12 @@ impl World {
     /// A thread draws the birth of what it makes next, which is answered.
     pub fn procs_draw_birth(&mut self, tid: u32) -> Birth
         requires stands { has (is_thread tid) self.old.rows.threads ≡ true }
-        requires budget { self.old.made < 16 * self.old.calls }
+        requires budget { CanMake self.old }
         ensures birth { birth_next self.old.rows tid ≡ Some result }
         ensures fresh { port_row self.new.rows result ≡ None }
         ensures drawn { has (drew result) self.new.rows.threads ≡ true }
         ensures rows { self.new.rows ≡ after self.old (DrawsOrdinal tid) }
-        ensures names { self.new.names ≡ self.old.names }
+        ensures births { self.new.births ≡ self.old.births }
         ensures calls { self.new.calls ≡ self.old.calls }
         ensures loose { self.new.loose ≡ self.old.loose }
         ensures made { self.new.made ≡ self.old.made + 1 }
@@ -157,11 +160,12 @@ impl World {
     /// Adds a process, without threads and handles. Its number is from 1 to 2,147,483,647 and was never used.
     pub fn procs_add_process(&mut self, pid: u32, maker: Option<u32>, birth: Birth)
         requires room { 0 < self.old.room.processes }
-        requires budget { self.old.made < 16 * self.old.calls }
+        requires budget { CanMake self.old }
         requires number { IsNumber pid }
         requires new { was_process self.old.rows pid ≡ false }
-        ensures rows { self.new.rows ≡ after self.old (AddsProcess (new_process pid maker birth)) }
-        ensures names { self.new.names ≡ self.old.names }
+        ensures rows { self.new.rows
+            ≡ after self.old (AddsProcess (new_process pid maker birth)) }
+        ensures births { self.new.births ≡ self.old.births }
         ensures calls { self.new.calls ≡ self.old.calls }
         ensures loose { self.new.loose ≡ self.old.loose }
         ensures made { self.new.made ≡ self.old.made + 1 }
@@ -181,13 +185,13 @@ impl World {
         requires room { 0 < self.old.room.threads }
         requires wait_room { 0 < self.old.room.waits }
         requires message_room { 0 < self.old.room.messages }
-        requires budget { self.old.made < 16 * self.old.calls }
+        requires budget { CanMake self.old }
         requires number { IsNumber tid }
         requires new { was_thread self.old.rows tid ≡ false }
         requires process { has (is_process pid) self.old.rows.processes ≡ true }
         requires table { has (is_table pid) self.old.rows.handles ≡ true }
         ensures rows { self.new.rows ≡ after self.old (AddsThread (new_thread tid pid birth)) }
-        ensures names { self.new.names ≡ self.old.names }
+        ensures births { self.new.births ≡ self.old.births }
         ensures calls { self.new.calls ≡ self.old.calls }
         ensures loose { self.new.loose ≡ self.old.loose }
         ensures made { self.new.made ≡ self.old.made + 1 }
@@ -198,7 +202,8 @@ impl World {
     }
 
     /// Adds a port, and answers its key. It has no pair yet, and its context is 0. Its birth was drawn, and no port has it.
-    /// `creator` is the connect that makes a client port.
+    /// `creator` is the connect that makes a client port. A client port takes a place for the message that is to tell that
+    /// it is closed.
     pub fn ports_add(
         &mut self,
         kind: PortKind,
@@ -207,18 +212,19 @@ impl World {
         creator: Option<Creator>,
     ) -> Key
         requires room { 0 < self.old.room.ports }
-        requires budget { self.old.made < 16 * self.old.calls }
-        requires connection { some_stands self.old.names.ports connection ≡ true }
+        requires place { closing_places kind ≤ self.old.room.messages }
+        requires budget { CanMake self.old }
+        requires connection { some_stands self.old.births.ports connection ≡ true }
         requires fresh { port_row self.old.rows birth ≡ None }
         requires drawn { has (drew birth) self.old.rows.threads ≡ true }
         ensures rows { self.new.rows ≡ with_port self.old kind birth connection creator }
-        ensures name { name_of self.new.names.ports result ≡ birth }
-        ensures stands { stands self.new.names.ports result ≡ true }
-        ensures others { KeepsNames self.old.names.ports self.new.names.ports }
+        ensures name { name_of self.new.births.ports result ≡ birth }
+        ensures stands { stands self.new.births.ports result ≡ true }
+        ensures others { KeepsNames self.old.births.ports self.new.births.ports }
         ensures calls { self.new.calls ≡ self.old.calls }
         ensures loose { self.new.loose ≡ self.old.loose }
         ensures made { self.new.made ≡ self.old.made + 1 }
-        ensures room { Roomy self.old.room (and_port self.new.room) }
+        ensures room { Roomy self.old.room (and_port kind self.new.room) }
     {
         self.made += 1;
         let port = self.ports.add(kind, birth, connection);
@@ -227,18 +233,21 @@ impl World {
     }
 
     /// A message enters the queue of a port, on which no thread waits that takes it. A request or connection request has
-    /// its place, every other message the room that was made for it.
+    /// its place: its sender waits with it, and it stands in no queue yet. So has one that tells that a client port is
+    /// closed: it is sent on that port, and none in a queue tells so yet. Every other message has the room that was made
+    /// for it.
     pub fn ports_send(&mut self, queue: Key, sender: Key, context: u32, bytes: &[u8])
-        requires queue { stands self.old.names.ports queue ≡ true }
-        requires sender { stands self.old.names.ports sender ≡ true }
+        requires queue { stands self.old.births.ports queue ≡ true }
+        requires sender { stands self.old.births.ports sender ≡ true }
         requires long { HEADER_SIZE ≤ length bytes.now }
         requires bound { length bytes.now ≤ MESSAGE_LIMIT }
         requires quiet { has_taker self.old queue sender context (message_of bytes.now) ≡ false }
-        requires budget { self.old.made < 16 * self.old.calls }
-        requires request { asks (message_of bytes.now) ≡ true → 0 < self.old.room.requests }
-        requires other { asks (message_of bytes.now) ≡ false → 0 < self.old.room.messages }
+        requires budget { CanMake self.old }
+        requires request { IsAwaited self.old.rows (message_of bytes.now) }
+        requires closing { TellsOnceOn self.old sender (message_of bytes.now) }
+        requires other { is_owed (message_of bytes.now) ≡ false → 0 < self.old.room.messages }
         ensures rows { self.new.rows ≡ sent self.old queue sender context (message_of bytes.now) }
-        ensures names { self.new.names ≡ self.old.names }
+        ensures births { self.new.births ≡ self.old.births }
         ensures queued { has_message self.new.rows (birth_at self.old queue) ≡ true }
         ensures calls { self.new.calls ≡ self.old.calls }
         ensures loose { self.new.loose ≡ self.old.loose }
@@ -251,43 +260,59 @@ impl World {
 
     /// Takes the oldest message of a queue: None exactly where the queue is empty.
     pub fn ports_pull(&mut self, queue: Key) -> Option<Message>
-        requires { stands self.old.names.ports queue ≡ true }
+        requires { stands self.old.births.ports queue ≡ true }
         ensures message { pulled self.old queue result ≡ oldest self.old queue }
         ensures rows { self.new.rows ≡ after self.old (Takes (birth_at self.old queue)) }
         ensures none { IfNone result (self.new.rows ≡ self.old.rows) }
-        ensures names { self.new.names ≡ self.old.names }
+        ensures births { self.new.births ≡ self.old.births }
         ensures long { IfSome result (λ m. HEADER_SIZE ≤ length m.bytes.items) }
         ensures bound { IfSome result (λ m. length m.bytes.items ≤ MESSAGE_LIMIT) }
         ensures calls { self.new.calls ≡ self.old.calls }
         ensures loose { self.new.loose ≡ (is_some result || self.old.loose) }
         ensures made { self.new.made ≡ self.old.made }
         ensures room { Roomy self.old.room self.new.room }
-        ensures owed { IfSome result (λ m. IsOwed m self.old.room self.new.room) }
+        ensures left { IfSome result (λ m. HasLeft self.new.rows (message_of m.bytes.items)) }
+        ensures unqueued { StaysUnqueued self.old.rows self.new.rows }
     {
         let message = self.ports.first(queue, false)?;
         self.loose = true;
         Some(self.ports.pull(message))
     }
 
-    /// A thread that doesn't wait begins to wait, and what it waits for doesn't stand in the queue. Its place was made with
+    /// The thread's own messages leave their queues: the request or connection request with which it waits, where it isn't
+    /// received yet. Nothing changes where there is none.
+    pub fn messages_withdraw(&mut self, tid: u32)
+        ensures rows { self.new.rows ≡ after self.old (Withdraws tid) }
+        ensures births { self.new.births ≡ self.old.births }
+        ensures calls { self.new.calls ≡ self.old.calls }
+        ensures loose { self.new.loose ≡ (has_queued self.old.rows tid || self.old.loose) }
+        ensures made { self.new.made ≡ self.old.made }
+        ensures room { Roomy self.old.room self.new.room }
+        ensures left { has_queued self.new.rows tid ≡ false }
+        ensures unqueued { StaysUnqueued self.old.rows self.new.rows }
+    {
+        self.loose |= self.ports.withdraw(tid);
+    }
+
+    /// A live thread that doesn't wait begins to wait, and what it waits for doesn't stand in the queue. Its place was made with
     /// the thread. A connect of a process finds room for the handle that it is to get, within its number of handles.
     pub fn waits_add(&mut self, tid: u32, wait: Wait)
-        requires thread { has (is_thread tid) self.old.rows.threads ≡ true }
+        requires live { has (is_live_thread tid) self.old.rows.threads ≡ true }
         requires ready { has (waits_as tid) self.old.rows.waits ≡ false }
-        requires budget { self.old.made < 16 * self.old.calls }
-        requires port { stands self.old.names.ports wait.port ≡ true }
-        requires queue { stands self.old.names.ports wait.queue ≡ true }
+        requires budget { CanMake self.old }
+        requires port { stands self.old.births.ports wait.port ≡ true }
+        requires queue { stands self.old.births.ports wait.queue ≡ true }
         requires quiet { is_quiet self.old.rows.messages (new_wait self.old tid wait) ≡ true }
         requires table { connects wait ≡ true → has_table self.old.rows wait.process ≡ true }
         requires load { connects wait ≡ true → HasSmallLoad self.old.rows wait.process }
         requires handles { connects wait ≡ true → HasHandleRoom self.old wait.process }
         ensures rows { self.new.rows ≡ after self.old (Awaits (new_wait self.old tid wait)) }
-        ensures names { self.new.names ≡ self.old.names }
+        ensures births { self.new.births ≡ self.old.births }
         ensures calls { self.new.calls ≡ self.old.calls }
         ensures loose { self.new.loose ≡ self.old.loose }
         ensures made { self.new.made ≡ self.old.made + 1 }
         ensures room { Roomy self.old.room self.new.room }
-        ensures owed { pends self.old tid wait ≡ true → 0 < self.new.room.requests }
+        ensures unsent { pends self.old tid wait ≡ true → is_unsent self.new.rows tid ≡ true }
     {
         self.made += 1;
         self.waits.add(tid, wait);
@@ -298,7 +323,7 @@ impl World {
         requires waits { has (waits_as tid) self.old.rows.waits ≡ true }
         requires bound { length bytes.now ≤ MESSAGE_LIMIT }
         ensures rows { self.new.rows ≡ waiting_with self.old.rows tid (message_of bytes.now) }
-        ensures names { self.new.names ≡ self.old.names }
+        ensures births { self.new.births ≡ self.old.births }
         ensures calls { self.new.calls ≡ self.old.calls }
         ensures loose { self.new.loose ≡ self.old.loose }
         ensures made { self.new.made ≡ self.old.made }
@@ -307,19 +332,20 @@ impl World {
         self.waits.set_message(tid, bytes);
     }
 
-    /// Ends the wait of a thread, which isn't for the answer to a request or connect that isn't received, and answers it:
-    /// None exactly where the thread doesn't wait.
+    /// Ends the wait of a thread of which no own message stands in a queue, and answers it: None exactly where the thread
+    /// doesn't wait.
     pub fn waits_end(&mut self, tid: u32) -> Option<Wait>
-        requires { is_pending_in self.old.rows tid ≡ false }
+        requires { has_queued self.old.rows tid ≡ false }
         ensures some { is_some result ≡ has (waits_as tid) self.old.rows.waits }
         ensures wait { IfSome result (λ wait. IsWait self.old tid wait) }
         ensures rows { self.new.rows ≡ without_wait self.old.rows tid }
-        ensures names { self.new.names ≡ self.old.names }
+        ensures births { self.new.births ≡ self.old.births }
         ensures calls { self.new.calls ≡ self.old.calls }
         ensures loose { self.new.loose ≡ true }
         ensures made { self.new.made ≡ self.old.made }
         ensures room { Roomy self.old.room self.new.room }
         ensures still { StaysReady self.old.rows self.new.rows }
+        ensures unqueued { StaysUnqueued self.old.rows self.new.rows }
     {
         self.loose = true;
         self.waits.end(tid)
@@ -328,15 +354,15 @@ impl World {
     /// The request or connect of a thread to a queue is received, where it waits there. Its message stands in no queue any
     /// more.
     pub fn waits_receive(&mut self, tid: u32, queue: Key)
-        requires queue { stands self.old.names.ports queue ≡ true }
-        requires owed { 0 < self.old.room.requests }
+        requires queue { stands self.old.births.ports queue ≡ true }
+        requires left { has_queued self.old.rows tid ≡ false }
         ensures rows { self.new.rows ≡ after self.old (Receives tid (birth_at self.old queue)) }
-        ensures names { self.new.names ≡ self.old.names }
+        ensures births { self.new.births ≡ self.old.births }
         ensures calls { self.new.calls ≡ self.old.calls }
         ensures loose { self.new.loose ≡ self.old.loose }
         ensures made { self.new.made ≡ self.old.made }
-        ensures room { Roomy self.old.room (and_request self.new.room) }
-        ensures idle { IsIdleAfter self.old.rows self.new.rows }
+        ensures room { Roomy self.old.room self.new.room }
+        ensures unqueued { StaysUnqueued self.old.rows self.new.rows }
     {
         if self.waits_on(tid, queue) {
             self.waits.receive(tid);
@@ -350,11 +376,12 @@ impl World {
         requires table { has (is_table pid) self.old.rows.handles ≡ true }
         requires load { HasFewHandles self.old.rows pid → HasSmallLoad self.old.rows pid }
         requires room { HasFewHandles self.old.rows pid → HasHandleRoom self.old pid }
-        requires object { object_stands self.old.names object ≡ true }
+        requires object { object_stands self.old.births object ≡ true }
         ensures quota { IsErr result ↔ (length (handles_of self.old.rows pid) ≡ HANDLE_LIMIT) }
         ensures value { IfOk result (λ v. v ≡ free_handle self.old.rows pid) }
-        ensures rows { IfOk result (λ v. self.new.rows ≡ with_handle self.old pid v object access) }
-        ensures names { self.new.names ≡ self.old.names }
+        ensures rows { IfOk result
+            (λ v. self.new.rows ≡ with_handle self.old pid v object access) }
+        ensures births { self.new.births ≡ self.old.births }
         ensures calls { self.new.calls ≡ self.old.calls }
         ensures loose { self.new.loose ≡ self.old.loose }
         ensures made { self.new.made ≡ self.old.made }
@@ -371,7 +398,8 @@ impl World {
         ensures room { Roomy self.old.room self.new.room }
         ensures processes { OnOk result (processes ≤ self.new.room.processes) }
         ensures threads { OnOk result (threads ≤ self.new.room.threads) }
-        ensures wanting { OnErr result (processes ≤ self.old.room.processes → self.old.room.threads < threads) }
+        ensures wanting { OnErr result
+            (processes ≤ self.old.room.processes → self.old.room.threads < threads) }
     {
         self.procs.reserve(processes, threads)?;
         if self.parts.reserve(processes).is_err() {
@@ -390,28 +418,44 @@ impl World {
         self.ports.reserve(more, 0)
     }
 
-    /// Makes room for so many messages beyond the one that each thread may ask with.
+    /// How many places for messages are owed.
+    fn owed_messages(&self) -> usize
+        ensures owed { result ≡ owed_messages self.now.rows }
+        ensures few { result ≤ self.now.made }
+    {
+        let requests = self.procs.alive().saturating_sub(self.ports.asking());
+        let closings = self.ports.clients().saturating_sub(self.ports.closings());
+        requests + closings
+    }
+
+    /// How many places for waits are owed.
+    fn owed_waits(&self) -> usize
+        ensures owed { result ≡ owed_waits self.now.rows }
+        ensures few { result ≤ self.now.made }
+    {
+        self.procs.alive().saturating_sub(self.waits.count())
+    }
+
+    /// Makes room for so many messages beyond those that are owed.
     pub fn messages_reserve(&mut self, more: u32) -> Result<(), OutOfMemory>
         ensures same { Same self.old self.new }
         ensures room { Roomy self.old.room self.new.room }
         ensures messages { OnOk result (more ≤ self.new.room.messages) }
         ensures wanting { OnErr result (self.old.room.messages < more) }
     {
-        let wanted = self.procs.threads() + more as usize;
-        self.ports
-            .reserve(0, wanted.saturating_sub(self.ports.asking()))
+        let wanted = self.owed_messages() + more as usize;
+        self.ports.reserve(0, wanted)
     }
 
-    /// Makes room for so many waits beyond the one that each thread may have.
+    /// Makes room for so many waits beyond those that are owed.
     pub fn waits_reserve(&mut self, more: u32) -> Result<(), OutOfMemory>
         ensures same { Same self.old self.new }
         ensures room { Roomy self.old.room self.new.room }
         ensures waits { OnOk result (more ≤ self.new.room.waits) }
         ensures wanting { OnErr result (self.old.room.waits < more) }
     {
-        let wanted = self.procs.threads() + more as usize;
-        self.waits
-            .reserve(wanted.saturating_sub(self.waits.count()))
+        let wanted = self.owed_waits() + more as usize;
+        self.waits.reserve(wanted)
     }
 
     /// Makes room for so many further handles of a process, beside those that its waiting connects are to get.
@@ -420,7 +464,8 @@ impl World {
         ensures same { Same self.old self.new }
         ensures room { Roomy self.old.room self.new.room }
         ensures handles { OnOk result (HasHandlePlaces self.new pid more) }
-        ensures wanting { OnErr result (handle_room self.old.room pid < promised self.old.rows pid + more) }
+        ensures wanting { OnErr result
+            (handle_room self.old.room pid < owed_handles self.old.rows pid + more) }
     {
         let places = self.waits.connects_of(pid) + more as usize;
         parts::reserve_handles(&mut self.parts, pid, places)

@@ -2,7 +2,7 @@
 ghost use Rattle.std.specs.Prelude.{◌≡◌, true, false};
 ghost use Rattle.lpc_base.specs.Rows.{has};
 ghost use Rattle.lpc_model.specs.Found.{free_handle, is_connect, waits_as};
-ghost use Rattle.lpc_world.specs.Kept.{is_pending_in};
+ghost use Rattle.lpc_world.specs.Kept.{has_queued};
 ghost use Rattle.lpc_world.specs.Ready.{waiter};
 ghost use Rattle.lpc_world.specs.Shown.{object_stands};
 ghost use Rattle.lpc_world.specs.Clauses.{finished};
@@ -12,15 +12,16 @@ use crate::{Object, parts};
 
 impl World {
     /// Gives the process of a thread that waits in a connect the least free handle, which was promised to it, and ends
-    /// the wait. Answers the handle's value. The connect was received.
+    /// the wait. Answers the handle's value. The connection request stands in no queue.
     pub fn connects_finish(&mut self, tid: u32, object: Object, access: u32) -> u32
         requires waits { has (waits_as tid) self.old.rows.waits ≡ true }
         requires connect { is_connect (waiter self.old.rows tid) ≡ true }
-        requires idle { is_pending_in self.old.rows tid ≡ false }
-        requires object { object_stands self.old.names object ≡ true }
-        ensures value { let x = waiter self.old.rows tid in result ≡ free_handle self.old.rows x.process }
+        requires left { has_queued self.old.rows tid ≡ false }
+        requires object { object_stands self.old.births object ≡ true }
+        ensures value { let x = waiter self.old.rows tid in
+            result ≡ free_handle self.old.rows x.process }
         ensures rows { self.new.rows ≡ finished self.old tid result object access }
-        ensures names { self.new.names ≡ self.old.names }
+        ensures births { self.new.births ≡ self.old.births }
         ensures calls { self.new.calls ≡ self.old.calls }
         ensures loose { self.new.loose ≡ true }
         ensures made { self.new.made ≡ self.old.made }

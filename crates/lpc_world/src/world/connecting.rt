@@ -8,7 +8,7 @@ ghost use Rattle.lpc_model.specs.Found.{is_accepted, is_connection_port, is_offe
 ghost use Rattle.lpc_model.specs.Named.{named_port};
 ghost use Rattle.lpc_model.specs.declared.message.Message.{Message};
 ghost use Rattle.lpc_world.specs.Connecting.{is_answered};
-ghost use Rattle.lpc_world.specs.Kept.{is_pending_in};
+ghost use Rattle.lpc_world.specs.Kept.{has_queued, is_pending_in};
 ghost use Rattle.lpc_world.specs.Names.{are_apart, stands};
 ghost use Rattle.lpc_world.specs.Ready.{IsWait, caller, is_ready, waiter};
 ghost use Rattle.lpc_world.specs.Clauses.{Answers, FindsConnect, FindsWait, IsOwnWait, birth_at, completion_at, port_at};
@@ -30,7 +30,7 @@ impl World {
     /// there.
     pub fn named_port(&self, path: &[u8]) -> Result<Key, Status>
         ensures port { Answers result (birth_at self.now) (named_port self.now.rows path.now) }
-        ensures stands { IfOk result (λ key. stands self.now.names.ports key ≡ true) }
+        ensures stands { IfOk result (λ key. stands self.now.births.ports key ≡ true) }
     {
         match self.names.lookup(path) {
             Ok(Found::Item(port)) => Ok(port),
@@ -41,7 +41,7 @@ impl World {
 
     /// The port is a connection port.
     pub fn is_connection(&self, port: Key) -> bool
-        requires { stands self.now.names.ports port ≡ true }
+        requires { stands self.now.births.ports port ≡ true }
         ensures { result ≡ is_connection_port (port_at self.now port) }
     {
         matches!(self.port(port).kind, PortKind::Connection)
@@ -51,7 +51,7 @@ impl World {
     pub fn waiting(&self, tid: u32) -> Wait
         requires { has (waits_as tid) self.now.rows.waits ≡ true }
         ensures wait { IsWait self.now tid result }
-        ensures apart { are_apart self.now.names.ports ≡ true }
+        ensures apart { are_apart self.now.births.ports ≡ true }
     {
         self.wait(tid)
     }
@@ -60,10 +60,12 @@ impl World {
     /// accepted, and the caller's process has a handle to its connection port. None exactly where there is none.
     pub fn answered_connect(&self, by: u32, client: ClientId, identifier: u32) -> Option<u32>
         requires { is_ready self.now.rows by ≡ true }
-        ensures found { (m : Message) → m.header.client ≡ client → m.header.message_id ≡ identifier → FindsConnect self.now by m result }
+        ensures found { (m : Message) → m.header.client ≡ client →
+            m.header.message_id ≡ identifier → FindsConnect self.now by m result }
         ensures waits { IfSome result (λ tid. has (waits_as tid) self.now.rows.waits ≡ true) }
         ensures thread { IfSome result (λ tid. IsOwnWait self.now.rows tid) }
         ensures idle { IfSome result (λ tid. is_pending_in self.now.rows tid ≡ false) }
+        ensures left { IfSome result (λ tid. has_queued self.now.rows tid ≡ false) }
         ensures offered { IfSome result (λ tid. is_offered (waiter self.now.rows tid) ≡ true) }
     {
         let process = self.caller(by).process;
@@ -81,7 +83,8 @@ impl World {
     fn is_answered(&self, pid: u32, client: ClientId, identifier: u32) -> bool
         requires waits { has (waits_as client.thread) self.now.rows.waits ≡ true }
         requires table { has (is_table pid) self.now.rows.handles ≡ true }
-        ensures { result ≡ is_answered self.now.rows pid client identifier (waiter self.now.rows client.thread) }
+        ensures { result ≡ is_answered self.now.rows pid client identifier
+            (waiter self.now.rows client.thread) }
     {
         let wait = self.wait(client.thread);
         if wait.process != client.process || wait.identifier != identifier {
@@ -104,7 +107,7 @@ impl World {
     /// A handle of the process names the port.
     fn reaches(&self, pid: u32, port: Key) -> bool
         requires table { has (is_table pid) self.now.rows.handles ≡ true }
-        requires port { stands self.now.names.ports port ≡ true }
+        requires port { stands self.now.births.ports port ≡ true }
         ensures { result ≡ connect.reaches self.now.rows pid (birth_at self.now port) }
     {
         parts::handles_of(&self.parts, pid).names(Object::Port(port))
@@ -125,13 +128,16 @@ impl World {
     /// The connection of a server port, where it can be completed: INVALID_PORT_HANDLE for another kind of port,
     /// INVALID_PARAMETER where it was completed, PORT_DISCONNECTED where its pair is cut or no accepted connect waits there.
     pub fn completable(&self, port: Key) -> Result<Completable, Status>
-        requires { stands self.now.names.ports port ≡ true }
-        ensures test { Answers result (completion_at self.now port) (completion_test self.now.rows (port_at self.now port)) }
-        ensures stands { IfOk result (λ c. stands self.now.names.ports c.client ≡ true) }
+        requires { stands self.now.births.ports port ≡ true }
+        ensures test { Answers result (completion_at self.now port)
+            (completion_test self.now.rows (port_at self.now port)) }
+        ensures stands { IfOk result (λ c. stands self.now.births.ports c.client ≡ true) }
         ensures waits { IfOk result (λ c. has (waits_as c.thread) self.now.rows.waits ≡ true) }
         ensures thread { IfOk result (λ c. IsOwnWait self.now.rows c.thread) }
-        ensures accepted { IfOk result (λ c. is_accepted (waiter self.now.rows c.thread) ≡ true) }
+        ensures accepted { IfOk result
+            (λ c. is_accepted (waiter self.now.rows c.thread) ≡ true) }
         ensures idle { IfOk result (λ c. is_pending_in self.now.rows c.thread ≡ false) }
+        ensures left { IfOk result (λ c. has_queued self.now.rows c.thread ≡ false) }
     {
         let row = self.port(port);
         if !matches!(row.kind, PortKind::Server) {
@@ -151,12 +157,13 @@ impl World {
 
     /// The thread whose accepted connect waits on a client port: None exactly where there is none.
     fn accepted_on(&self, client: Key) -> Option<u32>
-        requires { stands self.now.names.ports client ≡ true }
+        requires { stands self.now.births.ports client ≡ true }
         ensures found { FindsWait self.now (is_accepted_on (birth_at self.now client)) result }
         ensures waits { IfSome result (λ tid. has (waits_as tid) self.now.rows.waits ≡ true) }
         ensures thread { IfSome result (λ tid. IsOwnWait self.now.rows tid) }
         ensures accepted { IfSome result (λ tid. is_accepted (waiter self.now.rows tid) ≡ true) }
         ensures idle { IfSome result (λ tid. is_pending_in self.now.rows tid ≡ false) }
+        ensures left { IfSome result (λ tid. has_queued self.now.rows tid ≡ false) }
     {
         self.waits.accepted_on(client)
     }

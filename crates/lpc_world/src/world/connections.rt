@@ -4,11 +4,12 @@ ghost use Rattle.std.specs.Prelude.{◌≡◌, ◌≤◌, ◌<◌, ◌||◌, tru
 ghost use Rattle.lpc_base.specs.Rows.{first, has};
 ghost use Rattle.lpc_model.specs.Basics.{Accepts, TakesConnect};
 ghost use Rattle.lpc_model.specs.Found.{is_accepted, waits_as};
-ghost use Rattle.lpc_world.specs.Kept.{IsIdleAfter, Roomy, StaysReady};
+ghost use Rattle.lpc_model.specs.Message.{message_of};
+ghost use Rattle.lpc_world.specs.Kept.{Roomy, StaysReady, StaysUnqueued};
 ghost use Rattle.lpc_world.specs.Names.{stands};
 ghost use Rattle.lpc_world.specs.Ready.{waiter};
 ghost use Rattle.lpc_base.specs.declared.limits.TheConstants.{HEADER_SIZE, MESSAGE_LIMIT};
-ghost use Rattle.lpc_world.specs.Clauses.{IsOwed, after, birth_at, joined, oldest_connect, pulled, with_completion};
+ghost use Rattle.lpc_world.specs.Clauses.{HasLeft, after, birth_at, joined, oldest_connect, pulled, with_completion};
 
 use crate::world::World;
 use lpc_ports::Message;
@@ -18,10 +19,10 @@ use lpc_waits::Accepted;
 impl World {
     /// A client port and a server port become the two ends of a connection, and both get its context.
     pub fn ports_join(&mut self, client: Key, server: Key, context: u32)
-        requires client { stands self.old.names.ports client ≡ true }
-        requires server { stands self.old.names.ports server ≡ true }
+        requires client { stands self.old.births.ports client ≡ true }
+        requires server { stands self.old.births.ports server ≡ true }
         ensures rows { self.new.rows ≡ joined self.old client server context }
-        ensures names { self.new.names ≡ self.old.names }
+        ensures births { self.new.births ≡ self.old.births }
         ensures calls { self.new.calls ≡ self.old.calls }
         ensures loose { self.new.loose ≡ true }
         ensures made { self.new.made ≡ self.old.made }
@@ -33,9 +34,9 @@ impl World {
 
     /// The connection of a port is completed, or isn't any more.
     pub fn ports_set_completed(&mut self, port: Key, completed: bool)
-        requires { stands self.old.names.ports port ≡ true }
+        requires { stands self.old.births.ports port ≡ true }
         ensures rows { self.new.rows ≡ with_completion self.old port completed }
-        ensures names { self.new.names ≡ self.old.names }
+        ensures births { self.new.births ≡ self.old.births }
         ensures calls { self.new.calls ≡ self.old.calls }
         ensures loose { self.new.loose ≡ self.old.loose }
         ensures made { self.new.made ≡ self.old.made }
@@ -44,20 +45,21 @@ impl World {
         self.ports.set_completed(port, completed);
     }
 
-    /// A waiting thread's connect, which was received and isn't accepted yet, is accepted with the data of an answer. With None, and where
-    /// the thread waits for something else, nothing changes.
+    /// A waiting thread's connect, which was received and isn't accepted yet, is accepted with the data of an answer. With
+    /// None, and where the thread waits for something else, nothing changes.
     pub fn waits_set_accepted(&mut self, tid: u32, accepted: Option<Accepted>)
         requires waits { has (waits_as tid) self.old.rows.waits ≡ true }
         requires offered { is_accepted (waiter self.old.rows tid) ≡ false }
         requires received { let x = waiter self.old.rows tid in x.received ≡ true }
-        ensures some { IfSome accepted (λ a. self.new.rows ≡ after self.old (Accepts tid a.reply.items)) }
+        ensures some { IfSome accepted
+            (λ a. self.new.rows ≡ after self.old (Accepts tid a.reply.items)) }
         ensures none { IfNone accepted (self.new.rows ≡ self.old.rows) }
-        ensures names { self.new.names ≡ self.old.names }
+        ensures births { self.new.births ≡ self.old.births }
         ensures calls { self.new.calls ≡ self.old.calls }
         ensures loose { self.new.loose ≡ self.old.loose }
         ensures made { self.new.made ≡ self.old.made }
         ensures room { Roomy self.old.room self.new.room }
-        ensures idle { IsIdleAfter self.old.rows self.new.rows }
+        ensures unqueued { StaysUnqueued self.old.rows self.new.rows }
         ensures still { StaysReady self.old.rows self.new.rows }
     {
         self.waits.set_accepted(tid, accepted);
@@ -65,18 +67,19 @@ impl World {
 
     /// Takes the oldest connection request of a queue: None exactly where no connection request stands in it.
     pub fn ports_pull_connect(&mut self, queue: Key) -> Option<Message>
-        requires { stands self.old.names.ports queue ≡ true }
+        requires { stands self.old.births.ports queue ≡ true }
         ensures message { pulled self.old queue result ≡ oldest_connect self.old queue }
         ensures rows { self.new.rows ≡ after self.old (TakesConnect (birth_at self.old queue)) }
         ensures none { IfNone result (self.new.rows ≡ self.old.rows) }
-        ensures names { self.new.names ≡ self.old.names }
+        ensures births { self.new.births ≡ self.old.births }
         ensures long { IfSome result (λ m. HEADER_SIZE ≤ length m.bytes.items) }
         ensures bound { IfSome result (λ m. length m.bytes.items ≤ MESSAGE_LIMIT) }
         ensures calls { self.new.calls ≡ self.old.calls }
         ensures loose { self.new.loose ≡ (is_some result || self.old.loose) }
         ensures made { self.new.made ≡ self.old.made }
         ensures room { Roomy self.old.room self.new.room }
-        ensures owed { IfSome result (λ m. IsOwed m self.old.room self.new.room) }
+        ensures left { IfSome result (λ m. HasLeft self.new.rows (message_of m.bytes.items)) }
+        ensures unqueued { StaysUnqueued self.old.rows self.new.rows }
     {
         let message = self.ports.first(queue, true)?;
         self.loose = true;

@@ -95,7 +95,7 @@ impl World {
         requires calls { self.old.calls < LINES_LIMIT }
         ensures directs { Directs result (dir_line self.old.rows path.now) self.old self.new }
         ensures wanting { OnErr result (lacks_name_room self.old ≡ true) }
-        ensures names { self.new.names ≡ self.old.names }
+        ensures births { self.new.births ≡ self.old.births }
     {
         let status = bound_status(self.names_add_directory(path))?;
         self.begin_call();
@@ -110,9 +110,10 @@ impl World {
     #[tactic(auto, unfolding(lpc_model::specs::Machine::link_line))]
     pub fn link(&mut self, path: &[u8], target: &[u8]) -> Result<Status, OutOfMemory>
         requires calls { self.old.calls < LINES_LIMIT }
-        ensures directs { Directs result (link_line self.old.rows path.now target.now) self.old self.new }
+        ensures directs { Directs result
+            (link_line self.old.rows path.now target.now) self.old self.new }
         ensures wanting { OnErr result (lacks_name_room self.old ≡ true) }
-        ensures names { self.new.names ≡ self.old.names }
+        ensures births { self.new.births ≡ self.old.births }
     {
         let status = bound_status(self.names_add_link(path, target))?;
         self.begin_call();

@@ -19,7 +19,7 @@ use lpc_slots::Key;
 impl World {
     /// Some row names the port: a handle, another port, a message, a wait, or a name.
     fn is_named(&self, port: Key) -> bool
-        requires { stands self.now.names.ports port ≡ true }
+        requires { stands self.now.births.ports port ≡ true }
         ensures { result ≡ held.is_named self.now.rows (birth_at self.now port) }
     {
         parts::names_port(&self.parts, port)
@@ -31,7 +31,7 @@ impl World {
     /// A row counts for the port. The other end of a pair counts, so that of most ports the row alone tells it.
     fn is_held(&self, port: Key) -> bool
         requires can { CanSweep self.now.rows }
-        requires stands { stands self.now.names.ports port ≡ true }
+        requires stands { stands self.now.births.ports port ≡ true }
         ensures { result ≡ not (is_unheld_at self.now port) }
     {
         if let Some(_) = self.port(port).pair {
@@ -43,7 +43,7 @@ impl World {
     /// The port at a place, in the order of making.
     fn port_key(&self, place: usize) -> Key
         requires { place < length self.now.rows.ports }
-        ensures stands { stands self.now.names.ports result ≡ true }
+        ensures stands { stands self.now.births.ports result ≡ true }
         ensures port { birth_in_place self.now place ≡ Some (birth_at self.now result) }
     {
         self.ports.key_at(place)
@@ -60,7 +60,7 @@ impl World {
     fn unheld_port(&self) -> Option<Key>
         requires { CanSweep self.now.rows }
         ensures none { IfNone result (HasHeldPorts self.now.rows) }
-        ensures stands { IfSome result (λ key. stands self.now.names.ports key ≡ true) }
+        ensures stands { IfSome result (λ key. stands self.now.births.ports key ≡ true) }
         ensures row { IfSome result (λ key. has_port self.now key ≡ true) }
         ensures unheld { IfSome result (λ key. is_unheld_at self.now key ≡ true) }
     {
@@ -75,7 +75,7 @@ impl World {
 
     /// The row of an object that no row counts for goes. Its room is spare then.
     pub fn free(&mut self, object: Object)
-        requires stands { object_stands self.old.names object ≡ true }
+        requires stands { object_stands self.old.births object ≡ true }
         requires can { CanSweep self.old.rows }
         requires unheld { is_unheld self.old.rows (name_at self.old object) ≡ true }
         ensures rows { self.new.rows ≡ after self.old (Frees (name_at self.old object)) }
@@ -124,10 +124,11 @@ impl World {
 
     /// A port that no row names goes. Its room is spare then.
     fn ports_free(&mut self, port: Key)
-        requires stands { stands self.old.names.ports port ≡ true }
+        requires stands { stands self.old.births.ports port ≡ true }
         requires free { held.is_named self.old.rows (birth_at self.old port) ≡ false }
-        ensures rows { self.new.rows ≡ after self.old (Frees (port_name (birth_at self.old port))) }
-        ensures others { KeepsOthers port self.old.names.ports self.new.names.ports }
+        ensures rows { self.new.rows
+            ≡ after self.old (Frees (port_name (birth_at self.old port))) }
+        ensures others { KeepsOthers port self.old.births.ports self.new.births.ports }
         ensures calls { self.new.calls ≡ self.old.calls }
         ensures made { self.new.made ≡ self.old.made }
         ensures loose { self.new.loose ≡ self.old.loose }

@@ -20,16 +20,18 @@ impl World {
         ensures processes { self.now.rows.processes ≡ map shown_process result.now.processes }
         ensures threads { self.now.rows.threads ≡ map shown_thread result.now.threads }
         ensures used_processes { self.now.rows.used_processes ≡ result.now.used_processes }
-        ensures used_threads { self.now.rows.used_threads ≡ map shown_used result.now.used_threads }
+        ensures used_threads { self.now.rows.used_threads
+            ≡ map shown_used result.now.used_threads }
     {
         &self.procs
     }
 
     /// Ports, and the messages in their queues.
     pub fn ports(&self) -> &Ports
-        ensures births { self.now.names ≡ births_of result.now }
+        ensures births { self.now.births ≡ births_of result.now }
         ensures ports { self.now.rows.ports ≡ shown_in self.now shown_port result.now.ports }
-        ensures messages { self.now.rows.messages ≡ shown_in self.now shown_message result.now.messages }
+        ensures messages { self.now.rows.messages
+            ≡ shown_in self.now shown_message result.now.messages }
     {
         &self.ports
     }
@@ -43,7 +45,8 @@ impl World {
 
     /// The name space: directories, links, and ports.
     pub fn names(&self) -> &Names<Key>
-        ensures bindings { self.now.rows.bindings ≡ shown_in self.now shown_binding result.now.bindings }
+        ensures bindings { self.now.rows.bindings
+            ≡ shown_in self.now shown_binding result.now.bindings }
     {
         &self.names
     }
@@ -51,7 +54,8 @@ impl World {
     /// The handles of a process that stands.
     pub fn handles(&self, pid: u32) -> &Table<Object>
         requires { has (is_table pid) self.now.rows.handles ≡ true }
-        ensures rows { handles_of self.now.rows pid ≡ shown_in self.now shown_handle result.now.rows }
+        ensures rows { handles_of self.now.rows pid
+            ≡ shown_in self.now shown_handle result.now.rows }
     {
         parts::handles_of(&self.parts, pid)
     }

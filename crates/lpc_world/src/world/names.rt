@@ -28,11 +28,11 @@ impl World {
     /// `Name`: the path's fault. `OutOfMemory`: there was no room for a name, and memory ran out. In both cases nothing but
     /// the room may change.
     pub fn names_bind(&mut self, path: &[u8], port: Key) -> Result<(), BindFault>
-        requires stands { stands self.old.names.ports port ≡ true }
+        requires stands { stands self.old.births.ports port ≡ true }
         ensures bound { OnOk result (with_port_name self.old path.now port ≡ Ok self.new.rows) }
         ensures refused { RefusedAs result (with_port_name self.old path.now port) }
         ensures same { OnErr result (Same self.old self.new) }
-        ensures names { self.new.names ≡ self.old.names }
+        ensures births { self.new.births ≡ self.old.births }
         ensures calls { self.new.calls ≡ self.old.calls }
         ensures loose { self.new.loose ≡ self.old.loose }
         ensures made { self.new.made ≡ self.old.made }
@@ -47,7 +47,7 @@ impl World {
         ensures bound { OnOk result (with_directory self.old.rows path.now ≡ Ok self.new.rows) }
         ensures refused { RefusedAs result (with_directory self.old.rows path.now) }
         ensures same { OnErr result (Same self.old self.new) }
-        ensures names { self.new.names ≡ self.old.names }
+        ensures births { self.new.births ≡ self.old.births }
         ensures calls { self.new.calls ≡ self.old.calls }
         ensures loose { self.new.loose ≡ self.old.loose }
         ensures made { self.new.made ≡ self.old.made }
@@ -60,10 +60,11 @@ impl World {
     /// Makes a link where a path leads, to a target, which need not stand. Faults as for `names_bind`; those of the
     /// target's form come first.
     pub fn names_add_link(&mut self, path: &[u8], target: &[u8]) -> Result<(), BindFault>
-        ensures bound { OnOk result (with_link self.old.rows path.now target.now ≡ Ok self.new.rows) }
+        ensures bound { OnOk result
+            (with_link self.old.rows path.now target.now ≡ Ok self.new.rows) }
         ensures refused { RefusedAs result (with_link self.old.rows path.now target.now) }
         ensures same { OnErr result (Same self.old self.new) }
-        ensures names { self.new.names ≡ self.old.names }
+        ensures births { self.new.births ≡ self.old.births }
         ensures calls { self.new.calls ≡ self.old.calls }
         ensures loose { self.new.loose ≡ self.old.loose }
         ensures made { self.new.made ≡ self.old.made }

@@ -2,7 +2,7 @@
 ghost use Rattle.std.specs.Prelude.{◌≡◌, ◌<◌, ◌≤◌, ◌&&◌, None, Some, Ok, Err, true, false, is_none, IfSome, IfOk, OnOk, length, option_map};
 ghost use Rattle.lpc_base.specs.Rows.{count, first, has};
 ghost use Rattle.lpc_model.specs.Found as found;
-ghost use Rattle.lpc_model.specs.Found.{datagrams, handle_at, handles_of, is_table, is_the, is_thread, live_count, objects, same_birth, waits_as, waits_at, was_process, was_thread};
+ghost use Rattle.lpc_model.specs.Found.{datagrams, handle_at, handles_of, is_live_thread, is_table, is_the, is_thread, live_count, objects, same_birth, waits_as, waits_at, was_process, was_thread};
 ghost use Rattle.lpc_model.specs.Request as request;
 ghost use Rattle.lpc_model.specs.Tests as tests;
 ghost use Rattle.lpc_model.specs.Entering.{shown as shown_to};
@@ -10,9 +10,9 @@ ghost use Rattle.lpc_world.specs.Does.{has_no_read};
 ghost use Rattle.lpc_world.specs.Lawful.{are_single};
 ghost use Rattle.lpc_world.specs.Names.{are_apart, some_stands, stands};
 ghost use Rattle.lpc_world.specs.Shown as shown;
-ghost use Rattle.lpc_world.specs.Shown.{Births, birth_of, kind_of, object_stands, row_with, shown_thread};
+ghost use Rattle.lpc_world.specs.Shown.{Births, birth_of, kind_of, object_stands, row_with, shown_creator, shown_thread};
 ghost use Rattle.lpc_waits.specs.Table.{is_request};
-ghost use Rattle.lpc_world.specs.Kept.{is_alive, is_pending_in};
+ghost use Rattle.lpc_world.specs.Kept.{OwnPend, has_queued, is_alive, is_pending_in};
 ghost use Rattle.lpc_world.specs.Ready.{HasRow, IsWait, caller, condition_of, is_ready, room_needed, waiter};
 ghost use Rattle.lpc_world.specs.Clauses.{Answers, Finds, FindsWait, HasSmallLoad, IsOwnWait, IsUnderName, birth_at, fits_at, has_process, has_table, is_quiet_for, object_for, oldest, pair_at, port_at, port_for, queue_at, receive_at, route_at, row_at, row_shown, some_birth, takes_at, thread_row};
 
@@ -64,6 +64,7 @@ impl World {
         ensures number { result.number ≡ tid }
         ensures found { thread_row self.now.rows result.number ≡ Some (shown_thread result) }
         ensures stands { has (is_thread tid) self.now.rows.threads ≡ true }
+        ensures live { has (is_live_thread tid) self.now.rows.threads ≡ true }
         ensures ready { has (waits_as tid) self.now.rows.waits ≡ false }
         ensures table { has (is_table result.process) self.now.rows.handles ≡ true }
         ensures alive { 1 ≤ count is_alive self.now.rows.threads }
@@ -146,15 +147,13 @@ impl World {
         right: u32,
     ) -> Result<Object, Status>
         requires { is_ready self.now.rows tid ≡ true }
-        ensures object { Answers result (birth_of self.now.names) (object_for self.now.rows tid kind right handle) }
-        ensures stands { IfOk result (λ o. object_stands self.now.names o ≡ true) }
+        ensures object { Answers result (birth_of self.now.births)
+            (object_for self.now.rows tid kind right handle) }
+        ensures stands { IfOk result (λ o. object_stands self.now.births o ≡ true) }
         ensures kind { IfOk result (λ o. found.same_kind (kind_of o) kind ≡ true) }
         ensures row { IfOk result (λ o. HasRow self.now o) }
     {
-        let by = self.caller(tid);
-        let Some(row) = self.handle(by.process, handle) else {
-            return Err(INVALID_HANDLE);
-        };
+        let row = self.own_handle(tid, handle)?;
         if !is_of_kind(row.object, kind) {
             return Err(OBJECT_TYPE_MISMATCH);
         }
@@ -164,10 +163,10 @@ impl World {
         Ok(row.object)
     }
 
-    fn handle(&self, pid: u32, value: u32) -> Option<Row<Object>>
+    pub(crate) fn handle(&self, pid: u32, value: u32) -> Option<Row<Object>>
         requires { has (is_table pid) self.now.rows.handles ≡ true }
         ensures row { Finds result (row_shown self.now value) (handle_at self.now.rows pid value) }
-        ensures stands { IfSome result (λ row. object_stands self.now.names row.object ≡ true) }
+        ensures stands { IfSome result (λ row. object_stands self.now.births row.object ≡ true) }
         ensures object { IfSome result (λ row. HasRow self.now row.object) }
     {
         parts::handles_of(&self.parts, pid).get(value)
@@ -192,7 +191,7 @@ impl World {
     pub fn port_at(&self, tid: u32, handle: u32) -> Result<Key, Status>
         requires { is_ready self.now.rows tid ≡ true }
         ensures port { Answers result (port_at self.now) (port_for self.now.rows tid handle) }
-        ensures stands { IfOk result (λ key. stands self.now.names.ports key ≡ true) }
+        ensures stands { IfOk result (λ key. stands self.now.births.ports key ≡ true) }
         ensures name { IfOk result (λ key. IsUnderName self.now key) }
     {
         let object = self.object_at(tid, handle, ObjectKind::Port, 1)?;
@@ -213,7 +212,7 @@ impl World {
 
     /// A handle names the port.
     fn is_open(&self, port: Key) -> bool
-        requires { stands self.now.names.ports port ≡ true }
+        requires { stands self.now.births.ports port ≡ true }
         ensures { result ≡ found.is_open self.now.rows (birth_at self.now port) }
     {
         parts::names_port(&self.parts, port)
@@ -223,17 +222,21 @@ impl World {
 
     /// The row of a port that stands.
     pub(crate) fn port(&self, port: Key) -> Port
-        requires { stands self.now.names.ports port ≡ true }
+        requires { stands self.now.births.ports port ≡ true }
         ensures found { row_at self.now port ≡ Some (port_at self.now port) }
         ensures birth { let p = port_at self.now port in p.birth ≡ birth_at self.now port }
+        ensures own { let p = port_at self.now port in p.birth ≡ result.birth }
         ensures kind { let p = port_at self.now port in p.kind ≡ result.kind }
         ensures pair { let p = port_at self.now port in p.pair ≡ some_birth self.now result.pair }
-        ensures connection { let p = port_at self.now port in p.connection ≡ some_birth self.now result.connection }
+        ensures connection { let p = port_at self.now port in
+            p.connection ≡ some_birth self.now result.connection }
         ensures context { let p = port_at self.now port in p.context ≡ result.context }
         ensures completed { let p = port_at self.now port in p.completed ≡ result.completed }
-        ensures apart { are_apart self.now.names.ports ≡ true }
-        ensures pair_stands { some_stands self.now.names.ports result.pair ≡ true }
-        ensures connection_stands { some_stands self.now.names.ports result.connection ≡ true }
+        ensures creator { let p = port_at self.now port in
+            p.creator ≡ option_map shown_creator result.creator }
+        ensures apart { are_apart self.now.births.ports ≡ true }
+        ensures pair_stands { some_stands self.now.births.ports result.pair ≡ true }
+        ensures connection_stands { some_stands self.now.births.ports result.connection ≡ true }
     {
         match self.ports.get(port) {
             Some(row) => *row,
@@ -243,7 +246,7 @@ impl World {
 
     /// No message stands in the queue.
     fn is_empty(&self, queue: Key) -> bool
-        requires { stands self.now.names.ports queue ≡ true }
+        requires { stands self.now.births.ports queue ≡ true }
         ensures { result ≡ is_none (oldest self.now queue) }
     {
         match self.ports.first(queue, false) {
@@ -253,16 +256,17 @@ impl World {
     }
 
     fn datagrams(&self, port: Key) -> usize
-        requires { stands self.now.names.ports port ≡ true }
+        requires { stands self.now.births.ports port ≡ true }
         ensures { let p = port_at self.now port in result ≡ datagrams self.now.rows p.birth }
     {
         self.ports.sent_datagrams(port)
     }
 
-    fn if_open(&self, port: Option<Key>) -> Option<Key>
-        requires { some_stands self.now.names.ports port ≡ true }
-        ensures name { some_birth self.now result ≡ found.if_open self.now.rows (some_birth self.now port) }
-        ensures stands { some_stands self.now.names.ports result ≡ true }
+    pub(crate) fn if_open(&self, port: Option<Key>) -> Option<Key>
+        requires { some_stands self.now.births.ports port ≡ true }
+        ensures name { some_birth self.now result
+            ≡ found.if_open self.now.rows (some_birth self.now port) }
+        ensures stands { some_stands self.now.births.ports result ≡ true }
     {
         match port {
             Some(key) => { if self.is_open(key) { Some(key) } else { None } }
@@ -272,9 +276,9 @@ impl World {
 
     /// The queue that a message sent on a port enters: none where the port isn't open, or has no way.
     pub fn route(&self, port: Key) -> Option<Key>
-        requires { stands self.now.names.ports port ≡ true }
+        requires { stands self.now.births.ports port ≡ true }
         ensures queue { some_birth self.now result ≡ route_at self.now port }
-        ensures stands { some_stands self.now.names.ports result ≡ true }
+        ensures stands { some_stands self.now.births.ports result ≡ true }
     {
         let row = self.port(port);
         if !self.is_open(port) {
@@ -292,9 +296,9 @@ impl World {
     }
 
     fn queue_of(&self, port: Key) -> Option<Key>
-        requires { stands self.now.names.ports port ≡ true }
+        requires { stands self.now.births.ports port ≡ true }
         ensures queue { some_birth self.now result ≡ queue_at self.now port }
-        ensures stands { some_stands self.now.names.ports result ≡ true }
+        ensures stands { some_stands self.now.births.ports result ≡ true }
     {
         let row = self.port(port);
         match row.kind {
@@ -304,9 +308,10 @@ impl World {
     }
 
     fn is_spent(&self, port: Key, queue: Key) -> bool
-        requires port { stands self.now.names.ports port ≡ true }
-        requires queue { stands self.now.names.ports queue ≡ true }
-        ensures { result ≡ request.is_spent self.now.rows (port_at self.now port) (birth_at self.now queue) }
+        requires port { stands self.now.births.ports port ≡ true }
+        requires queue { stands self.now.births.ports queue ≡ true }
+        ensures { result ≡ request.is_spent self.now.rows (port_at self.now port)
+            (birth_at self.now queue) }
     {
         let row = self.port(port);
         match row.kind {
@@ -321,9 +326,9 @@ impl World {
     /// The queue on which a receive on a port is made: PORT_DISCONNECTED where it isn't open, or where nothing will ever
     /// come.
     pub fn receive_test(&self, port: Key) -> Result<Key, Status>
-        requires { stands self.now.names.ports port ≡ true }
+        requires { stands self.now.births.ports port ≡ true }
         ensures queue { Answers result (birth_at self.now) (receive_at self.now port) }
-        ensures stands { IfOk result (λ q. stands self.now.names.ports q ≡ true) }
+        ensures stands { IfOk result (λ q. stands self.now.births.ports q ≡ true) }
     {
         let Some(queue) = self.queue_of(port) else {
             return Err(PORT_DISCONNECTED);
@@ -336,7 +341,7 @@ impl World {
 
     /// The context that a message sent on a port keeps: that of the pair for a client port, else 0.
     pub fn context(&self, port: Key) -> u32
-        requires { stands self.now.names.ports port ≡ true }
+        requires { stands self.now.births.ports port ≡ true }
         ensures { result ≡ found.context_of (port_at self.now port) }
     {
         let row = self.port(port);
@@ -351,7 +356,7 @@ impl World {
 
     /// Fewer than 32 datagrams of the port stand in queues.
     pub fn datagram_test(&self, port: Key) -> Result<(), Status>
-        requires { stands self.now.names.ports port ≡ true }
+        requires { stands self.now.births.ports port ≡ true }
         ensures { result ≡ request.datagram_test self.now.rows (port_at self.now port) }
     {
         if self.datagrams(port) >= DATAGRAM_LIMIT {
@@ -365,11 +370,12 @@ impl World {
     /// The thread whose wait a message fits through a port, by the client and the identifier that it names: None exactly
     /// where it fits none.
     pub fn fitted(&self, port: Key, client: ClientId, identifier: u32) -> Option<u32>
-        requires { stands self.now.names.ports port ≡ true }
+        requires { stands self.now.births.ports port ≡ true }
         ensures found { FindsWait self.now (fits_at self.now port client identifier) result }
         ensures waits { IfSome result (λ tid. has (waits_as tid) self.now.rows.waits ≡ true) }
         ensures thread { IfSome result (λ tid. IsOwnWait self.now.rows tid) }
         ensures idle { IfSome result (λ tid. is_pending_in self.now.rows tid ≡ false) }
+        ensures left { IfSome result (λ tid. has_queued self.now.rows tid ≡ false) }
     {
         if !self.is_waiting(client.thread) {
             return None;
@@ -385,6 +391,7 @@ impl World {
     pub(crate) fn is_waiting(&self, tid: u32) -> bool
         ensures waits { result ≡ has (waits_as tid) self.now.rows.waits }
         ensures single { are_single self.now.rows.waits ≡ true }
+        ensures own { OwnPend self.now.rows }
     {
         match self.waits.of(tid) {
             Some(_) => true,
@@ -394,7 +401,7 @@ impl World {
 
     /// The thread waits on the queue.
     pub(crate) fn waits_on(&self, tid: u32, queue: Key) -> bool
-        requires { stands self.now.names.ports queue ≡ true }
+        requires { stands self.now.births.ports queue ≡ true }
         ensures { result ≡ has (waits_at tid (birth_at self.now queue)) self.now.rows.waits }
     {
         if !self.is_waiting(tid) {
@@ -407,7 +414,7 @@ impl World {
     pub(crate) fn wait(&self, tid: u32) -> Wait
         requires { has (waits_as tid) self.now.rows.waits ≡ true }
         ensures wait { IsWait self.now tid result }
-        ensures apart { are_apart self.now.names.ports ≡ true }
+        ensures apart { are_apart self.now.births.ports ≡ true }
     {
         match self.waits.of(tid) {
             Some(wait) => *wait,
@@ -417,9 +424,10 @@ impl World {
 
     /// The client and the identifier fit the wait of the client's thread through the port.
     fn fits(&self, port: Key, client: ClientId, identifier: u32) -> bool
-        requires port { stands self.now.names.ports port ≡ true }
+        requires port { stands self.now.births.ports port ≡ true }
         requires waits { has (waits_as client.thread) self.now.rows.waits ≡ true }
-        ensures { result ≡ fits_at self.now port client identifier (waiter self.now.rows client.thread) }
+        ensures { result ≡ fits_at self.now port client identifier
+            (waiter self.now.rows client.thread) }
     {
         let wait = self.wait(client.thread);
         if wait.process != client.process || wait.identifier != identifier {
@@ -430,9 +438,9 @@ impl World {
 
     /// The two ports are one.
     fn is_same(&self, one: Key, other: Key) -> bool
-        requires apart { are_apart self.now.names.ports ≡ true }
-        requires one { stands self.now.names.ports one ≡ true }
-        requires other { stands self.now.names.ports other ≡ true }
+        requires apart { are_apart self.now.births.ports ≡ true }
+        requires one { stands self.now.births.ports one ≡ true }
+        requires other { stands self.now.births.ports other ≡ true }
         ensures { result ≡ same_birth (birth_at self.now one) (birth_at self.now other) }
     {
         one == other
@@ -440,8 +448,8 @@ impl World {
 
     /// The other port is the pair of the first.
     fn is_pair(&self, port: Key, other: Key) -> bool
-        requires port { stands self.now.names.ports port ≡ true }
-        requires other { stands self.now.names.ports other ≡ true }
+        requires port { stands self.now.births.ports port ≡ true }
+        requires other { stands self.now.births.ports other ≡ true }
         ensures { result ≡ is_the (birth_at self.now other) (pair_at self.now port) }
     {
         match self.port(port).pair {
@@ -453,12 +461,14 @@ impl World {
     /// The thread that takes a message which enters a queue: the one whose receive has waited longest there, or for a
     /// connection request whose receive or listen has. None exactly where none waits there.
     pub fn receiver(&self, queue: Key, is_connection_request: bool) -> Option<u32>
-        requires { stands self.now.names.ports queue ≡ true }
+        requires { stands self.now.births.ports queue ≡ true }
         ensures found { FindsWait self.now (takes_at self.now queue is_connection_request) result }
         ensures waits { IfSome result (λ tid. has (waits_as tid) self.now.rows.waits ≡ true) }
         ensures thread { IfSome result (λ tid. IsOwnWait self.now.rows tid) }
         ensures idle { IfSome result (λ tid. is_pending_in self.now.rows tid ≡ false) }
-        ensures takes { IfSome result (λ tid. takes_at self.now queue is_connection_request (waiter self.now.rows tid) ≡ true) }
+        ensures left { IfSome result (λ tid. has_queued self.now.rows tid ≡ false) }
+        ensures takes { IfSome result (λ tid.
+            takes_at self.now queue is_connection_request (waiter self.now.rows tid) ≡ true) }
         ensures quiet { IfSome result (λ tid. is_quiet_for self.now.rows tid ≡ true) }
     {
         self.waits.first_on(queue, is_connection_request)
@@ -468,7 +478,8 @@ impl World {
     pub fn taken_fields(&self, tid: u32, context: u32, message: &Message) -> Fields
         requires waits { has (waits_as tid) self.now.rows.waits ≡ true }
         ensures plain { has_no_read result ≡ true }
-        ensures fields { (n : Births) (queue sender : Key) → result ≡ shown_to (waiter self.now.rows tid) (row_with n queue sender context message.now) }
+        ensures fields { (n : Births) (queue sender : Key) → result ≡ shown_to
+            (waiter self.now.rows tid) (row_with n queue sender context message.now) }
     {
         match self.wait(tid).kind {
             WaitKind::Listen => message_field(message),

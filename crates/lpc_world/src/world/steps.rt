@@ -4,19 +4,20 @@ ghost use Rattle.lpc_base.specs.Rows.{has};
 ghost use Rattle.lpc_base.specs.declared.status.TheConstants.{SUCCESS};
 ghost use Rattle.lpc_model.specs.Basics.{told, Awaits, Wakes};
 ghost use Rattle.lpc_model.specs.Entering.{end_connect, enter, takes};
-ghost use Rattle.lpc_model.specs.Found.{free_handle, is_connect, is_table, is_thread, waits_as};
+ghost use Rattle.lpc_model.specs.Found.{free_handle, is_connect, is_live_thread, is_table, waits_as};
 ghost use Rattle.lpc_world.specs.Does.{has_no_read};
 ghost use Rattle.lpc_model.specs.Message.{asks, is_connection_request, message_of, message_test};
 ghost use Rattle.lpc_model.specs.Tests as tests;
 ghost use Rattle.lpc_waits.specs.Table as waits;
-ghost use Rattle.lpc_world.specs.Does.{Takes};
-ghost use Rattle.lpc_world.specs.Kept.{IsIdleAfter, Roomy, StaysReady, is_pending_in};
+ghost use Rattle.lpc_world.specs.Does.{Took};
+ghost use Rattle.lpc_world.specs.Kept.{CanMake, Roomy, StaysReady, StaysUnqueued, has_queued, is_unsent};
 ghost use Rattle.lpc_world.specs.Lawful.{is_quiet};
 ghost use Rattle.lpc_world.specs.Names.{stands};
 ghost use Rattle.lpc_world.specs.Ready.{waiter};
+ghost use Rattle.lpc_world.specs.Untold.{is_owed};
 ghost use Rattle.lpc_world.specs.Shown.{object_stands, row_with, with_message};
 ghost use Rattle.lpc_base.specs.declared.limits.TheConstants.{MESSAGE_LIMIT};
-ghost use Rattle.lpc_world.specs.Clauses.{Answers, HasHandleRoom, HasSmallLoad, after, and_message, birth_at, connects, has_message, has_table, has_taker, is_quiet_for, new_wait, passed, pends, sent, waking, with_handle};
+ghost use Rattle.lpc_world.specs.Clauses.{Answers, HasHandleRoom, HasSmallLoad, IsAwaited, TellsOnceOn, after, and_message, birth_at, connects, has_message, has_table, has_taker, is_quiet_for, new_wait, passed, pends, sent, waking, with_handle};
 
 use crate::Object;
 use crate::world::World;
@@ -54,10 +55,10 @@ impl World {
         requires table { has (is_table pid) self.old.rows.handles ≡ true }
         requires room { HasHandleRoom self.old pid }
         requires load { HasSmallLoad self.old.rows pid }
-        requires object { object_stands self.old.names object ≡ true }
+        requires object { object_stands self.old.births object ≡ true }
         ensures value { result ≡ free_handle self.old.rows pid }
         ensures rows { self.new.rows ≡ with_handle self.old pid result object access }
-        ensures names { self.new.names ≡ self.old.names }
+        ensures births { self.new.births ≡ self.old.births }
         ensures calls { self.new.calls ≡ self.old.calls }
         ensures loose { self.new.loose ≡ self.old.loose }
         ensures made { self.new.made ≡ self.old.made }
@@ -68,37 +69,38 @@ impl World {
         }
     }
 
-    /// A thread that doesn't wait begins to wait with a message, which its wait keeps.
+    /// A live thread that doesn't wait begins to wait with a message, which its wait keeps.
     pub fn wait_with(&mut self, tid: u32, wait: Wait, message: &Message)
-        requires thread { has (is_thread tid) self.old.rows.threads ≡ true }
+        requires live { has (is_live_thread tid) self.old.rows.threads ≡ true }
         requires ready { has (waits_as tid) self.old.rows.waits ≡ false }
-        requires budget { self.old.made < 16 * self.old.calls }
-        requires port { stands self.old.names.ports wait.port ≡ true }
-        requires queue { stands self.old.names.ports wait.queue ≡ true }
+        requires budget { CanMake self.old }
+        requires port { stands self.old.births.ports wait.port ≡ true }
+        requires queue { stands self.old.births.ports wait.queue ≡ true }
         requires quiet { is_quiet self.old.rows.messages (new_wait self.old tid wait) ≡ true }
         requires table { connects wait ≡ true → has_table self.old.rows wait.process ≡ true }
         requires load { connects wait ≡ true → HasSmallLoad self.old.rows wait.process }
         requires handles { connects wait ≡ true → HasHandleRoom self.old wait.process }
-        ensures rows { self.new.rows ≡ after self.old (Awaits (with_message message.now (new_wait self.old tid wait))) }
-        ensures names { self.new.names ≡ self.old.names }
+        ensures rows { self.new.rows
+            ≡ after self.old (Awaits (with_message message.now (new_wait self.old tid wait))) }
+        ensures births { self.new.births ≡ self.old.births }
         ensures calls { self.new.calls ≡ self.old.calls }
         ensures loose { self.new.loose ≡ self.old.loose }
         ensures made { self.new.made ≡ self.old.made + 1 }
         ensures room { Roomy self.old.room self.new.room }
-        ensures owed { pends self.old tid wait ≡ true → 0 < self.new.room.requests }
+        ensures unsent { pends self.old tid wait ≡ true → is_unsent self.new.rows tid ≡ true }
     {
         self.waits_add(tid, wait);
         self.waits_set_message(tid, message.bytes().as_slice());
     }
 
-    /// A thread's wait ends, and it is told so. The wait isn't for the answer to a request or connect that isn't received.
+    /// A thread's wait ends, and it is told so. No message of the thread's own stands in a queue.
     pub fn wake(&mut self, tid: u32, status: Status, fields: Fields, out: &mut Entries)
         requires spare { 1 ≤ out.old.spare }
         requires waits { has (waits_as tid) self.old.rows.waits ≡ true }
         requires plain { has_no_read fields ≡ true }
-        requires idle { is_pending_in self.old.rows tid ≡ false }
+        requires left { has_queued self.old.rows tid ≡ false }
         ensures rows { self.new.rows ≡ after self.old (waking self.old tid status fields) }
-        ensures names { self.new.names ≡ self.old.names }
+        ensures births { self.new.births ≡ self.old.births }
         ensures calls { self.new.calls ≡ self.old.calls }
         ensures loose { self.new.loose ≡ true }
         ensures made { self.new.made ≡ self.old.made }
@@ -106,6 +108,7 @@ impl World {
         ensures list { out.new.list ≡ out.old.list ++ told (waking self.old tid status fields) }
         ensures spare { out.new.spare + 1 ≡ out.old.spare }
         ensures still { StaysReady self.old.rows self.new.rows }
+        ensures unqueued { StaysUnqueued self.old.rows self.new.rows }
     {
         let call = self.waiting_call(tid);
         self.tell_wake(tid, call, status, fields, out);
@@ -122,9 +125,9 @@ impl World {
     )
         requires spare { 1 ≤ out.old.spare }
         requires plain { has_no_read fields ≡ true }
-        requires idle { is_pending_in self.old.rows tid ≡ false }
+        requires left { has_queued self.old.rows tid ≡ false }
         ensures rows { self.new.rows ≡ after self.old (Wakes tid call status fields) }
-        ensures names { self.new.names ≡ self.old.names }
+        ensures births { self.new.births ≡ self.old.births }
         ensures calls { self.new.calls ≡ self.old.calls }
         ensures loose { self.new.loose ≡ true }
         ensures made { self.new.made ≡ self.old.made }
@@ -132,6 +135,7 @@ impl World {
         ensures list { out.new.list ≡ out.old.list ++ told (Wakes tid call status fields) }
         ensures spare { out.new.spare + 1 ≡ out.old.spare }
         ensures still { StaysReady self.old.rows self.new.rows }
+        ensures unqueued { StaysUnqueued self.old.rows self.new.rows }
     {
         self.waits_end(tid);
         out.push(Entry::Wakes {
@@ -143,15 +147,16 @@ impl World {
     }
 
     /// A waiting connect ends unsuccessfully: its thread is told PORT_CONNECTION_REFUSED, with the bytes of a refusal, at
-    /// most 232. The connect was received.
+    /// most 232. Its connection request stands in no queue.
     pub fn end_connect(&mut self, tid: u32, info: &[u8], out: &mut Entries)
         requires spare { 1 ≤ out.old.spare }
         requires waits { has (waits_as tid) self.old.rows.waits ≡ true }
         requires connect { is_connect (waiter self.old.rows tid) ≡ true }
-        requires idle { is_pending_in self.old.rows tid ≡ false }
+        requires left { has_queued self.old.rows tid ≡ false }
         requires info { length info.now ≤ 232 }
-        ensures takes { Takes (end_connect info.now (waiter self.old.rows tid) ∷ []) self.old self.new out.old out.new }
-        ensures names { self.new.names ≡ self.old.names }
+        ensures takes { Took (end_connect info.now
+            (waiter self.old.rows tid) ∷ []) self.old self.new out.old out.new }
+        ensures births { self.new.births ≡ self.old.births }
         ensures calls { self.new.calls ≡ self.old.calls }
         ensures made { self.new.made ≡ self.old.made }
         ensures spare { out.new.spare + 1 ≡ out.old.spare }
@@ -160,7 +165,9 @@ impl World {
     }
 
     /// A message enters the queue of a port, and where a thread waits there that takes it, the one that has waited longest
-    /// does so at once. A request or connection request has its place, every other message the room that was made for it.
+    /// does so at once. A request or connection request has its place: its sender waits with it, and it stands in no queue
+    /// yet. So has one that tells that a client port is closed: it is sent on that port, and none in a queue tells so yet.
+    /// Every other message has the room that was made for it.
     pub fn deliver(
         &mut self,
         queue: Key,
@@ -170,14 +177,16 @@ impl World {
         out: &mut Entries,
     )
         requires spare { 1 ≤ out.old.spare }
-        requires queue { stands self.old.names.ports queue ≡ true }
-        requires sender { stands self.old.names.ports sender ≡ true }
-        requires budget { self.old.made < 16 * self.old.calls }
-        requires request { asks message.now ≡ true → 0 < self.old.room.requests }
-        requires other { asks message.now ≡ false → 0 < self.old.room.messages }
-        ensures takes { Takes (enter (row_with self.old.names queue sender context message.now) self.old.rows) self.old self.new out.old out.new }
+        requires queue { stands self.old.births.ports queue ≡ true }
+        requires sender { stands self.old.births.ports sender ≡ true }
+        requires budget { CanMake self.old }
+        requires request { IsAwaited self.old.rows message.now }
+        requires closing { TellsOnceOn self.old sender message.now }
+        requires other { is_owed message.now ≡ false → 0 < self.old.room.messages }
+        ensures takes { let m = row_with self.old.births queue sender context message.now in
+            Took (enter m self.old.rows) self.old self.new out.old out.new }
         ensures spare { out.old.spare ≤ out.new.spare + 1 }
-        ensures names { self.new.names ≡ self.old.names }
+        ensures births { self.new.births ≡ self.old.births }
         ensures calls { self.new.calls ≡ self.old.calls }
     {
         match self.receiver(queue, asks_to_connect(message)) {
@@ -193,14 +202,15 @@ impl World {
 
     /// A message enters its queue, on which no thread waits that takes it.
     fn enter(&mut self, queue: Key, sender: Key, context: u32, message: &Message)
-        requires queue { stands self.old.names.ports queue ≡ true }
-        requires sender { stands self.old.names.ports sender ≡ true }
+        requires queue { stands self.old.births.ports queue ≡ true }
+        requires sender { stands self.old.births.ports sender ≡ true }
         requires quiet { has_taker self.old queue sender context message.now ≡ false }
-        requires budget { self.old.made < 16 * self.old.calls }
-        requires request { asks message.now ≡ true → 0 < self.old.room.requests }
-        requires other { asks message.now ≡ false → 0 < self.old.room.messages }
+        requires budget { CanMake self.old }
+        requires request { IsAwaited self.old.rows message.now }
+        requires closing { TellsOnceOn self.old sender message.now }
+        requires other { is_owed message.now ≡ false → 0 < self.old.room.messages }
         ensures rows { self.new.rows ≡ sent self.old queue sender context message.now }
-        ensures names { self.new.names ≡ self.old.names }
+        ensures births { self.new.births ≡ self.old.births }
         ensures queued { has_message self.new.rows (birth_at self.old queue) ≡ true }
         ensures calls { self.new.calls ≡ self.old.calls }
         ensures loose { self.new.loose ≡ self.old.loose }
@@ -213,13 +223,15 @@ impl World {
     /// A message enters a queue, and the thread that waits there takes it at once, so that it needs no place there. Where
     /// its sender waits for an answer, it is received.
     fn pass(&mut self, tid: u32, queue: Key, sender: Key, context: u32, message: &Message)
-        requires queue { stands self.old.names.ports queue ≡ true }
-        requires takes { takes (row_with self.old.names queue sender context message.now) (waiter self.old.rows tid) ≡ true }
+        requires queue { stands self.old.births.ports queue ≡ true }
+        requires takes { takes (row_with self.old.births queue sender context message.now)
+            (waiter self.old.rows tid) ≡ true }
         requires quiet { is_quiet_for self.old.rows tid ≡ true }
-        requires request { asks message.now ≡ true → 0 < self.old.room.requests }
-        ensures rows { self.new.rows ≡ passed self.old.rows tid (row_with self.old.names queue sender context message.now) }
-        ensures names { self.new.names ≡ self.old.names }
-        ensures idle { IsIdleAfter self.old.rows self.new.rows }
+        requires request { IsAwaited self.old.rows message.now }
+        ensures rows { self.new.rows ≡ passed self.old.rows tid
+            (row_with self.old.births queue sender context message.now) }
+        ensures births { self.new.births ≡ self.old.births }
+        ensures unqueued { StaysUnqueued self.old.rows self.new.rows }
         ensures calls { self.new.calls ≡ self.old.calls }
         ensures loose { self.new.loose ≡ self.old.loose }
     {

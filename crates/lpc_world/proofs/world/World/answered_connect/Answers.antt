@@ -25,6 +25,9 @@ returns-then-is_answered-clause-found c =
 pub returns-then-is_answered-clause-idle : goal.returns-then-is_answered-clause-idle
 returns-then-is_answered-clause-idle c = (found_as c.args.self.now.rows (caller c.args.self.now.rows c.args.by) c.caller-process.result.process c.args.client c.args.identifier c.is_waiting.ensures.single (sym c.is_waiting.ensures.waits ∙ search (rules, c.if-not-is_waiting.false)) (ap (λ (t : ThreadRow). t.process) c.caller-process.ensures.row) true (sym c.if-is_answered.true ∙ c.is_answered.ensures)).idle
 
+pub returns-then-is_answered-clause-left : goal.returns-then-is_answered-clause-left
+returns-then-is_answered-clause-left c = c.is_waiting.ensures.own.left c.args.client.thread (returns-then-is_answered-clause-idle c)
+
 pub returns-else-is_answered-clause-found : goal.returns-else-is_answered-clause-found
 returns-else-is_answered-clause-found c =
     connecting.for_message c.args.self.now.rows (caller c.args.self.now.rows c.args.by) c.args.client c.args.identifier None (found_as c.args.self.now.rows (caller c.args.self.now.rows c.args.by) c.caller-process.result.process c.args.client c.args.identifier c.is_waiting.ensures.single (sym c.is_waiting.ensures.waits ∙ search (rules, c.if-not-is_waiting.false)) (ap (λ (t : ThreadRow). t.process) c.caller-process.ensures.row) false (sym c.if-is_answered.false ∙ c.is_answered.ensures))

@@ -39,3 +39,8 @@ returns-clause-found c =
     let live = readings.first-shown shown_thread (procs.is_live_thread c.args.tid) (found.is_live_thread c.args.tid) (λ t. refl) c.self.inside.procs.threads ∙ ap (λ o. option_map shown_thread o) (sym c.live_row.ensures.row ∙ c.in-Some.is) in
     let number = (finds.is_caller (rows_by (tables_of c.self.inside.procs c.self.inside.parts.items c.self.inside.ports c.self.inside.waits c.self.inside.names)) c.args.tid (shown_thread c.in-Some.row) c.self.invariant.lawful.housed live).number in
     rw (← c.self.view_is) (live-found c.args.tid (rows_by (tables_of c.self.inside.procs c.self.inside.parts.items c.self.inside.ports c.self.inside.waits c.self.inside.names)).threads (shown_thread c.in-Some.row) c.self.invariant.drawn.threads_single number live)
+
+pub returns-clause-live : goal.returns-clause-live
+returns-clause-live c =
+    let ready = rw (← c.self.view_is) at c.requires in
+    rw (← c.self.view_is) (finds.lives_ready (rows_by (tables_of c.self.inside.procs c.self.inside.parts.items c.self.inside.ports c.self.inside.waits c.self.inside.names)) c.args.tid ready)

@@ -30,7 +30,7 @@ invariant_of-self c =
     let there = rw (← c.self.view_is) at c.requires in
     let own = rw (← c.self.view_is) at c.wait-wait.ensures.wait.process in
     rw (c.in-Ok.ensures.parts, steps.end_is (tables_of c.self.inside.procs c.self.inside.parts.items c.self.inside.ports c.self.inside.waits c.self.inside.names) c.self.inside.calls c.self.inside.made c.self.invariant c.args.tid c.end.new.self c.end.result c.end.ensures.value c.end.ensures.rows c.end.ensures.spare c.end.ensures.made)
-    (finished.finished (tables_of c.self.inside.procs c.self.inside.parts.items c.self.inside.ports c.self.inside.waits c.self.inside.names) c.self.inside.calls c.self.inside.made c.self.invariant c.args.tid c.wait-wait.result.process there.waits there.connect own c.in-Ok.value (record { object = c.args.object; access = c.args.access }) there.object there.idle)
+    (finished.finished (tables_of c.self.inside.procs c.self.inside.parts.items c.self.inside.ports c.self.inside.waits c.self.inside.names) c.self.inside.calls c.self.inside.made c.self.invariant c.args.tid c.wait-wait.result.process there.waits there.connect own c.in-Ok.value (record { object = c.args.object; access = c.args.access }) there.object there.left)
 
 pub unreachable-requires : goal.unreachable-requires
 unreachable-requires c =

@@ -17,17 +17,20 @@ found_as w port client identifier one there b is =
 
 pub returns-then-not-is_waiting-clause-found : goal.returns-then-not-is_waiting-clause-found
 returns-then-not-is_waiting-clause-found c =
-    (finds.found_wait c.args.self.now.rows (fits_as c.args.self.now.rows (name_of c.args.self.now.names.ports c.args.port) c.args.client c.args.identifier) None c.is_waiting.ensures.single (finds.fit_off c.args.self.now.rows (name_of c.args.self.now.names.ports c.args.port) c.args.client c.args.identifier)
-    (finds.fits_none c.args.self.now.rows (name_of c.args.self.now.names.ports c.args.port) c.args.client c.args.identifier (sym c.is_waiting.ensures.waits ∙ search (rules, c.if-not-is_waiting.true)))).found
+    (finds.found_wait c.args.self.now.rows (fits_as c.args.self.now.rows (name_of c.args.self.now.births.ports c.args.port) c.args.client c.args.identifier) None c.is_waiting.ensures.single (finds.fit_off c.args.self.now.rows (name_of c.args.self.now.births.ports c.args.port) c.args.client c.args.identifier)
+    (finds.fits_none c.args.self.now.rows (name_of c.args.self.now.births.ports c.args.port) c.args.client c.args.identifier (sym c.is_waiting.ensures.waits ∙ search (rules, c.if-not-is_waiting.true)))).found
 
 pub returns-then-fits-clause-found : goal.returns-then-fits-clause-found
 returns-then-fits-clause-found c =
-    (found_as c.args.self.now.rows (name_of c.args.self.now.names.ports c.args.port) c.args.client c.args.identifier c.is_waiting.ensures.single (sym c.is_waiting.ensures.waits ∙ search (rules, c.if-not-is_waiting.false)) true (sym c.if-fits.true ∙ c.fits.ensures)).found
+    (found_as c.args.self.now.rows (name_of c.args.self.now.births.ports c.args.port) c.args.client c.args.identifier c.is_waiting.ensures.single (sym c.is_waiting.ensures.waits ∙ search (rules, c.if-not-is_waiting.false)) true (sym c.if-fits.true ∙ c.fits.ensures)).found
 
 pub returns-then-fits-clause-idle : goal.returns-then-fits-clause-idle
 returns-then-fits-clause-idle c =
-    (found_as c.args.self.now.rows (name_of c.args.self.now.names.ports c.args.port) c.args.client c.args.identifier c.is_waiting.ensures.single (sym c.is_waiting.ensures.waits ∙ search (rules, c.if-not-is_waiting.false)) true (sym c.if-fits.true ∙ c.fits.ensures)).idle
+    (found_as c.args.self.now.rows (name_of c.args.self.now.births.ports c.args.port) c.args.client c.args.identifier c.is_waiting.ensures.single (sym c.is_waiting.ensures.waits ∙ search (rules, c.if-not-is_waiting.false)) true (sym c.if-fits.true ∙ c.fits.ensures)).idle
+
+pub returns-then-fits-clause-left : goal.returns-then-fits-clause-left
+returns-then-fits-clause-left c = c.is_waiting.ensures.own.left c.args.client.thread (returns-then-fits-clause-idle c)
 
 pub returns-else-fits-clause-found : goal.returns-else-fits-clause-found
 returns-else-fits-clause-found c =
-    (found_as c.args.self.now.rows (name_of c.args.self.now.names.ports c.args.port) c.args.client c.args.identifier c.is_waiting.ensures.single (sym c.is_waiting.ensures.waits ∙ search (rules, c.if-not-is_waiting.false)) false (sym c.if-fits.false ∙ c.fits.ensures)).found
+    (found_as c.args.self.now.rows (name_of c.args.self.now.births.ports c.args.port) c.args.client c.args.identifier c.is_waiting.ensures.single (sym c.is_waiting.ensures.waits ∙ search (rules, c.if-not-is_waiting.false)) false (sym c.if-fits.false ∙ c.fits.ensures)).found

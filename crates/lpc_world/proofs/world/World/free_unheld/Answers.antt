@@ -28,7 +28,7 @@ free-requires-clause-can c = c.loop-freed.invariant.can
 pub loop-freed-preserved : goal.loop-freed-preserved
 loop-freed-preserved c =
     let w = c.loop-freed.self.rows in
-    let b = name_of c.loop-freed.self.names.ports c.in-Some.port in
+    let b = name_of c.loop-freed.self.births.ports c.in-Some.port in
     let went : c.free.new.self.rows ≡ basic w (Frees (port_name b)) = c.free.ensures.rows in
     let less = length_less (is_port b) w.ports c.in-Some.ensures.row in
     record {

@@ -13,7 +13,7 @@ pub invariant_of-self : goal.invariant_of-self
 invariant_of-self c = tables.roomed_lawful (tables_of c.self.inside.procs c.self.inside.parts.items c.self.inside.ports c.self.inside.waits c.self.inside.names) c.self.inside.calls c.self.inside.made c.self.invariant c.args.pid c.reserve_handles.new.parts.items c.reserve_handles.ensures.parts c.reserve_handles.ensures.spare
 
 pub returns-clause-same : goal.returns-clause-same
-returns-clause-same c = rw (← c.self.view_is) (record { rows = tables.roomed_rows (tables_of c.self.inside.procs c.self.inside.parts.items c.self.inside.ports c.self.inside.waits c.self.inside.names) c.self.inside.calls c.self.inside.made c.self.invariant c.args.pid c.reserve_handles.new.parts.items c.reserve_handles.ensures.parts; names = refl; calls = refl; made = refl; loose = refl })
+returns-clause-same c = rw (← c.self.view_is) (record { rows = tables.roomed_rows (tables_of c.self.inside.procs c.self.inside.parts.items c.self.inside.ports c.self.inside.waits c.self.inside.names) c.self.inside.calls c.self.inside.made c.self.invariant c.args.pid c.reserve_handles.new.parts.items c.reserve_handles.ensures.parts; births = refl; calls = refl; made = refl; loose = refl })
 
 pub returns-clause-room : goal.returns-clause-room
 returns-clause-room c =
@@ -25,7 +25,6 @@ returns-clause-room c =
       for_threads = omega arith;
       for_waits = omega arith;
       for_messages = omega arith;
-      for_requests = omega arith;
       for_ports = omega arith;
       for_names = omega arith;
       for_handles = λ pid. rw (tables.room_at c.self.inside.parts.items pid, tables.room_at c.reserve_handles.new.parts.items pid) (more pid);

@@ -1,4 +1,4 @@
-use Rattle.std.proofs.Common.{◌≡◌, true, not, ap, sym, ◌∙◌}
+use Rattle.std.proofs.Common.{not, ap, sym, ◌∙◌}
 use Rattle.lpc_world.specs.Clauses.{birth_at, port_at}
 use Rattle.lpc_world.specs.Names.{name_of}
 use Rattle.lpc_world.proofs.HeldPorts.{held_as, paired_held}
@@ -12,4 +12,4 @@ returns-in-Some c =
     sym (ap not (paired_held w.rows (birth_at w port) (birth_at w c.in-Some.field-0) (port_at w port) c.requires.can c.port.ensures.found c.port.ensures.birth pair))
 
 pub returns : goal.returns
-returns c = c.is_named.ensures ∙ held_as c.args.self.now.rows (name_of c.args.self.now.names.ports c.args.port) c.requires.can
+returns c = c.is_named.ensures ∙ held_as c.args.self.now.rows (name_of c.args.self.now.births.ports c.args.port) c.requires.can

@@ -2,7 +2,9 @@ use Rattle.std.proofs.Common.{ap, sym, ◌∙◌}
 use Rattle.std.specs.Prelude.{is_some, option_copied}
 use Rattle.lpc_waits.specs.Table.{row_of}
 use Rattle.lpc_waits.specs.declared.WaitRow.{WaitRow}
+use Rattle.lpc_world.specs.Kept.{rows_by}
 use Rattle.lpc_world.specs.Shown.{tables_of}
+use Rattle.lpc_world.proofs.OwnMessages.{none-queued}
 use Rattle.lpc_world.proofs.Readings as readings
 use Rattle.lpc_world.proofs.world.World.is_waiting.Goals as goal
 
@@ -21,3 +23,9 @@ returns-in-None-clause-waits c =
 pub returns-in-None-clause-single : goal.returns-in-None-clause-single
 returns-in-None-clause-single c =
     rw (← c.self.view_is) c.self.invariant.lawful.single
+
+pub returns-in-Some-clause-own : goal.returns-in-Some-clause-own
+returns-in-Some-clause-own c = rw (← c.self.view_is) (record { left = λ who idle. none-queued (rows_by (tables_of c.self.inside.procs c.self.inside.parts.items c.self.inside.ports c.self.inside.waits c.self.inside.names)) who c.self.invariant.lawful.own idle })
+
+pub returns-in-None-clause-own : goal.returns-in-None-clause-own
+returns-in-None-clause-own c = rw (← c.self.view_is) (record { left = λ who idle. none-queued (rows_by (tables_of c.self.inside.procs c.self.inside.parts.items c.self.inside.ports c.self.inside.waits c.self.inside.names)) who c.self.invariant.lawful.own idle })

@@ -1,9 +1,7 @@
-use Rattle.std.proofs.Common.{◌≤◌, ◌<◌, refl, arith}
-use Rattle.std.proofs.lemmas.List.{length-map}
+use Rattle.std.proofs.Common.{◌+◌, ◌≤◌, ◌<◌, refl, arith}
 use Rattle.std.proofs.lemmas.Result.{on_err_weaker, on_ok_weaker}
-use Rattle.lpc_world.specs.Shown.{shown_thread, tables_of}
+use Rattle.lpc_world.specs.Shown.{tables_of}
 use Rattle.lpc_world.specs.Kept.{rows_by}
-use Rattle.lpc_world.proofs.Readings as readings
 use Rattle.lpc_world.proofs.Rooms as rooms
 use Rattle.lpc_world.proofs.Steps as steps
 use Rattle.lpc_world.proofs.world.World.messages_reserve.Goals as goal
@@ -12,7 +10,7 @@ pub invariant_of-self : goal.invariant_of-self
 invariant_of-self c = rw c.reserve.ensures.kept (steps.roomed_ports (tables_of c.self.inside.procs c.self.inside.parts.items c.self.inside.ports c.self.inside.waits c.self.inside.names) c.self.inside.calls c.self.inside.made c.self.invariant c.reserve.new.self.port_room c.reserve.new.self.message_room c.reserve.ensures.message_room)
 
 pub returns-clause-same : goal.returns-clause-same
-returns-clause-same c = rw (← c.self.view_is, c.reserve.ensures.kept) (record { rows = refl; names = refl; calls = refl; made = refl; loose = refl })
+returns-clause-same c = rw (← c.self.view_is, c.reserve.ensures.kept) (record { rows = refl; births = refl; calls = refl; made = refl; loose = refl })
 
 pub returns-clause-room : goal.returns-clause-room
 returns-clause-room c =
@@ -22,12 +20,10 @@ returns-clause-room c =
 
 pub returns-clause-messages : goal.returns-clause-messages
 returns-clause-messages c =
-    let asking = readings.asking_are (tables_of c.self.inside.procs c.self.inside.parts.items c.self.inside.ports c.self.inside.waits c.self.inside.names) c.self.invariant.named in
-    let threads = length-map c.self.inside.procs.threads shown_thread in
-    rw c.reserve.ensures.kept (on_ok_weaker c.reserve.result (λ (made : c.saturating_sub.result ≤ c.reserve.new.self.message_room). omega (arith, made, asking, threads, c.asking.ensures, c.threads.ensures.count, c.saturating_sub.ensures)) c.reserve.ensures.messages)
+    let owed = rw (← c.self.view_is) at c.owed_messages.ensures.owed in
+    rw c.reserve.ensures.kept (on_ok_weaker c.reserve.result (λ (made : c.owed_messages.result + c.args.more ≤ c.reserve.new.self.message_room). omega (arith, made, owed)) c.reserve.ensures.messages)
 
 pub returns-clause-wanting : goal.returns-clause-wanting
 returns-clause-wanting c =
-    let asking = readings.asking_are (tables_of c.self.inside.procs c.self.inside.parts.items c.self.inside.ports c.self.inside.waits c.self.inside.names) c.self.invariant.named in
-    let threads = length-map c.self.inside.procs.threads shown_thread in
-    rw (← c.self.view_is) (on_err_weaker c.reserve.result (λ (less : 0 ≤ c.self.inside.ports.port_room → c.self.inside.ports.message_room < c.saturating_sub.result). let less_still = less (omega arith) in omega (arith, less_still, asking, threads, c.self.invariant.lawful.messages_fit, c.asking.ensures, c.threads.ensures.count, c.saturating_sub.ensures)) c.reserve.ensures.wanting)
+    let owed = rw (← c.self.view_is) at c.owed_messages.ensures.owed in
+    rw (← c.self.view_is) (on_err_weaker c.reserve.result (λ (less : 0 ≤ c.self.inside.ports.port_room → c.self.inside.ports.message_room < c.owed_messages.result + c.args.more). let less_still = less (omega arith) in omega (arith, less_still, owed, c.self.invariant.lawful.messages_fit)) c.reserve.ensures.wanting)

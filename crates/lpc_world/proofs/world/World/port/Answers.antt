@@ -25,6 +25,12 @@ returns-clause-birth c =
     let is = (readings.is_row (tables_of c.self.inside.procs c.self.inside.parts.items c.self.inside.ports c.self.inside.waits c.self.inside.names) c.self.invariant.named c.args.port c.in-Some.row.now there (sym c.get.ensures ∙ ap (λ o. option_copied o) c.in-Some.is)) in
     rw (← c.self.view_is) (ap (λ (q : model.PortRow). q.birth) is.port_is ∙ is.own)
 
+pub returns-clause-own : goal.returns-clause-own
+returns-clause-own c =
+    let there = rw (← c.self.view_is) at c.requires in
+    let is = (readings.is_row (tables_of c.self.inside.procs c.self.inside.parts.items c.self.inside.ports c.self.inside.waits c.self.inside.names) c.self.invariant.named c.args.port c.in-Some.row.now there (sym c.get.ensures ∙ ap (λ o. option_copied o) c.in-Some.is)) in
+    rw (← c.self.view_is) (ap (λ (q : model.PortRow). q.birth) is.port_is)
+
 pub returns-clause-kind : goal.returns-clause-kind
 returns-clause-kind c =
     let there = rw (← c.self.view_is) at c.requires in
@@ -54,6 +60,12 @@ returns-clause-completed c =
     let there = rw (← c.self.view_is) at c.requires in
     let is = (readings.is_row (tables_of c.self.inside.procs c.self.inside.parts.items c.self.inside.ports c.self.inside.waits c.self.inside.names) c.self.invariant.named c.args.port c.in-Some.row.now there (sym c.get.ensures ∙ ap (λ o. option_copied o) c.in-Some.is)) in
     rw (← c.self.view_is) (ap (λ (q : model.PortRow). q.completed) is.port_is)
+
+pub returns-clause-creator : goal.returns-clause-creator
+returns-clause-creator c =
+    let there = rw (← c.self.view_is) at c.requires in
+    let is = (readings.is_row (tables_of c.self.inside.procs c.self.inside.parts.items c.self.inside.ports c.self.inside.waits c.self.inside.names) c.self.invariant.named c.args.port c.in-Some.row.now there (sym c.get.ensures ∙ ap (λ o. option_copied o) c.in-Some.is)) in
+    rw (← c.self.view_is) (ap (λ (q : model.PortRow). q.creator) is.port_is)
 
 pub returns-clause-pair_stands : goal.returns-clause-pair_stands
 returns-clause-pair_stands c =

@@ -1,7 +1,9 @@
 use Rattle.std.proofs.Common.{◌+◌, sym, ap, ◌∙◌}
+use Rattle.lpc_model.specs.Found.{is_port}
 use Rattle.lpc_model.specs.World.{World}
 use Rattle.lpc_world.specs.Kept.{rows_by}
-use Rattle.lpc_world.specs.Shown.{tables_of}
+use Rattle.lpc_world.specs.Names.{name_of}
+use Rattle.lpc_world.specs.Shown.{births_of, tables_of}
 use Rattle.lpc_world.proofs.Frees as frees
 use Rattle.lpc_world.proofs.Unheld as unheld
 use Rattle.lpc_world.proofs.world.World.ports_free.Goals as goal
@@ -16,7 +18,7 @@ pub invariant_of-self : goal.invariant_of-self
 invariant_of-self c =
     let h = rw (← c.self.view_is) at c.requires in
     let none = sym (unheld.held_is (tables_of c.self.inside.procs c.self.inside.parts.items c.self.inside.ports c.self.inside.waits c.self.inside.names) c.self.invariant.named c.args.port h.stands) ∙ h.free in
-    rw c.free.ensures.table (frees.freed_lawful (tables_of c.self.inside.procs c.self.inside.parts.items c.self.inside.ports c.self.inside.waits c.self.inside.names) c.self.inside.calls c.self.inside.made c.args.port (c.self.inside.ports.port_room + 1) c.self.invariant h.stands none)
+    rw c.free.ensures.table (frees.freed_lawful (tables_of c.self.inside.procs c.self.inside.parts.items c.self.inside.ports c.self.inside.waits c.self.inside.names) c.self.inside.calls c.self.inside.made c.args.port (c.self.inside.ports.port_room + 1) c.self.invariant h.stands none (frees.none_sent (rows_by (tables_of c.self.inside.procs c.self.inside.parts.items c.self.inside.ports c.self.inside.waits c.self.inside.names)) (name_of (births_of c.self.inside.ports).ports c.args.port) h.free))
 
 pub returns-clause-rows : goal.returns-clause-rows
 returns-clause-rows c =
@@ -32,4 +34,4 @@ returns-clause-room c =
     let h = rw (← c.self.view_is) at c.requires in
     let none = sym (unheld.held_is (tables_of c.self.inside.procs c.self.inside.parts.items c.self.inside.ports c.self.inside.waits c.self.inside.names) c.self.invariant.named c.args.port h.stands) ∙ h.free in
     let freed = frees.frees (tables_of c.self.inside.procs c.self.inside.parts.items c.self.inside.ports c.self.inside.waits c.self.inside.names) c.self.invariant.named c.args.port (c.self.inside.ports.port_room + 1) none h.stands in
-    rw (← c.self.view_is, c.free.ensures.table, ap (λ (v : World). v.waits) freed, ap (λ (v : World). v.messages) freed) (frees.room_freed _ _ _ _ _ _ (rows_by (tables_of c.self.inside.procs c.self.inside.parts.items c.self.inside.ports c.self.inside.waits c.self.inside.names)) _ (rows_by (tables_of c.self.inside.procs c.self.inside.parts.items c.self.inside.ports c.self.inside.waits c.self.inside.names)).ports)
+    rw (← c.self.view_is, c.free.ensures.table, ap (λ (v : World). v.waits) freed, ap (λ (v : World). v.messages) freed, ap (λ (v : World). v.ports) freed) (frees.room_freed _ _ _ _ _ _ (rows_by (tables_of c.self.inside.procs c.self.inside.parts.items c.self.inside.ports c.self.inside.waits c.self.inside.names)) _ (is_port (name_of (births_of c.self.inside.ports).ports c.args.port)))

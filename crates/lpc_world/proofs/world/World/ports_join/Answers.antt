@@ -13,8 +13,8 @@ returns-clause-rows c =
     let there = rw (← c.self.view_is) at c.requires in
     rw (← c.self.view_is, c.join.ensures) (joins.joins (tables_of c.self.inside.procs c.self.inside.parts.items c.self.inside.ports c.self.inside.waits c.self.inside.names) c.self.invariant.named c.args.client c.args.server c.args.context there.client there.server)
 
-pub returns-clause-names : goal.returns-clause-names
-returns-clause-names c =
+pub returns-clause-births : goal.returns-clause-births
+returns-clause-births c =
     let there = rw (← c.self.view_is) at c.requires in
     rw (← c.self.view_is, c.join.ensures) (joins.joined_names (tables_of c.self.inside.procs c.self.inside.parts.items c.self.inside.ports c.self.inside.waits c.self.inside.names) c.self.invariant.named c.args.client c.args.server c.args.context there.client there.server)
 

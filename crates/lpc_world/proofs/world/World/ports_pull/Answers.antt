@@ -1,10 +1,12 @@
-use Rattle.std.proofs.Common.{rules, ◌+◌, sym, ap, []}
+use Rattle.std.proofs.Common.{rules, ◌+◌, sym, ap}
+use Rattle.lpc_model.specs.Found.{is_queued}
 use Rattle.lpc_model.specs.World.{World}
 use Rattle.lpc_world.specs.Kept.{rows_by}
 use Rattle.lpc_world.specs.Names.{name_of}
 use Rattle.lpc_world.specs.Shown.{births_of, pulled_row, tables_of}
 use Rattle.lpc_world.proofs.Changes as changes
 use Rattle.lpc_world.proofs.Lawful as lawful
+use Rattle.lpc_world.proofs.OwnMessages.{left-pulled, unqueued-pulled}
 use Rattle.lpc_world.proofs.Rooms as rooms
 use Rattle.lpc_world.proofs.Steps as steps
 use Rattle.lpc_world.proofs.world.World.ports_pull.Goals as goal
@@ -50,13 +52,20 @@ returns-clause-room c =
     rw (← c.self.view_is, steps.oldest (tables_of c.self.inside.procs c.self.inside.parts.items c.self.inside.ports c.self.inside.waits c.self.inside.names) c.self.inside.calls c.self.inside.made c.self.invariant c.args.queue c.in_ok-message.message c.pull.new.self c.pull.ensures.table (c.pull.ensures.oldest c.args.queue at), ap (λ (v : World). v.messages) (changes.takes (tables_of c.self.inside.procs c.self.inside.parts.items c.self.inside.ports c.self.inside.waits c.self.inside.names) c.self.invariant.named c.args.queue (c.self.inside.ports.message_room + 1) there))
     (rooms.room_take _ _ _ _ _ _ (rows_by (tables_of c.self.inside.procs c.self.inside.parts.items c.self.inside.ports c.self.inside.waits c.self.inside.names)) _ (name_of (births_of c.self.inside.ports).ports c.args.queue) (pulled_row (births_of c.self.inside.ports) c.args.queue c.pull.result) found)
 
-pub returns-clause-owed : goal.returns-clause-owed
-returns-clause-owed c =
+pub returns-clause-left : goal.returns-clause-left
+returns-clause-left c =
     let there = rw (← c.self.view_is) at c.requires in
     let at = sym c.in_ok-message.ensures in
     let found = steps.first_message (tables_of c.self.inside.procs c.self.inside.parts.items c.self.inside.ports c.self.inside.waits c.self.inside.names) c.self.inside.calls c.self.inside.made c.self.invariant c.args.queue c.pull.result there (c.pull.ensures.first c.args.queue at) in
+    rw (steps.oldest (tables_of c.self.inside.procs c.self.inside.parts.items c.self.inside.ports c.self.inside.waits c.self.inside.names) c.self.inside.calls c.self.inside.made c.self.invariant c.args.queue c.in_ok-message.message c.pull.new.self c.pull.ensures.table (c.pull.ensures.oldest c.args.queue at), ap (λ (v : World). v.messages) (changes.takes (tables_of c.self.inside.procs c.self.inside.parts.items c.self.inside.ports c.self.inside.waits c.self.inside.names) c.self.invariant.named c.args.queue (c.self.inside.ports.message_room + 1) there))
+    (left-pulled (is_queued (name_of (births_of c.self.inside.ports).ports c.args.queue)) (rows_by (tables_of c.self.inside.procs c.self.inside.parts.items c.self.inside.ports c.self.inside.waits c.self.inside.names)) (pulled_row (births_of c.self.inside.ports) c.args.queue c.pull.result) c.self.invariant.lawful.own c.self.invariant.lawful.single found)
+
+pub returns-clause-unqueued : goal.returns-clause-unqueued
+returns-clause-unqueued c =
+    let there = rw (← c.self.view_is) at c.requires in
+    let at = sym c.in_ok-message.ensures in
     rw (← c.self.view_is, steps.oldest (tables_of c.self.inside.procs c.self.inside.parts.items c.self.inside.ports c.self.inside.waits c.self.inside.names) c.self.inside.calls c.self.inside.made c.self.invariant c.args.queue c.in_ok-message.message c.pull.new.self c.pull.ensures.table (c.pull.ensures.oldest c.args.queue at), ap (λ (v : World). v.messages) (changes.takes (tables_of c.self.inside.procs c.self.inside.parts.items c.self.inside.ports c.self.inside.waits c.self.inside.names) c.self.invariant.named c.args.queue (c.self.inside.ports.message_room + 1) there))
-    (λ asks. rooms.owed_take 0 0 0 0 0 0 (rows_by (tables_of c.self.inside.procs c.self.inside.parts.items c.self.inside.ports c.self.inside.waits c.self.inside.names)) [] (name_of (births_of c.self.inside.ports).ports c.args.queue) (pulled_row (births_of c.self.inside.ports) c.args.queue c.pull.result) found c.self.invariant.lawful.requests asks)
+    (unqueued-pulled (is_queued (name_of (births_of c.self.inside.ports).ports c.args.queue)) (rows_by (tables_of c.self.inside.procs c.self.inside.parts.items c.self.inside.ports c.self.inside.waits c.self.inside.names)))
 
 pub returns-clause-long : goal.returns-clause-long
 returns-clause-long c = steps.long_message (tables_of c.self.inside.procs c.self.inside.parts.items c.self.inside.ports c.self.inside.waits c.self.inside.names) c.self.inside.calls c.self.inside.made c.self.invariant c.args.queue c.pull.result (c.pull.ensures.first c.args.queue (sym c.in_ok-message.ensures))

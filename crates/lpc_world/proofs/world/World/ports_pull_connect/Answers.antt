@@ -46,13 +46,21 @@ returns-clause-room c =
     rw (← c.self.view_is, pulls.pulled (tables_of c.self.inside.procs c.self.inside.parts.items c.self.inside.ports c.self.inside.waits c.self.inside.names) c.self.inside.calls c.self.inside.made c.self.invariant c.args.queue there c.in_ok-message.message c.pull.new.self c.pull.ensures.table (c.pull.ensures.oldest_connect c.args.queue at))
     (pulls.pulled_room (tables_of c.self.inside.procs c.self.inside.parts.items c.self.inside.ports c.self.inside.waits c.self.inside.names) c.self.inside.calls c.self.inside.made c.self.invariant c.args.queue there (pulled_row (births_of c.self.inside.ports) c.args.queue c.pull.result) found (vec_capacity c.self.inside.parts - vec_len c.self.inside.parts))
 
-pub returns-clause-owed : goal.returns-clause-owed
-returns-clause-owed c =
+pub returns-clause-left : goal.returns-clause-left
+returns-clause-left c =
+    let there = rw (← c.self.view_is) at c.requires in
+    let at = sym c.in_ok-message.ensures in
+    let found = pulls.found (tables_of c.self.inside.procs c.self.inside.parts.items c.self.inside.ports c.self.inside.waits c.self.inside.names) c.self.inside.calls c.self.inside.made c.self.invariant c.args.queue there c.pull.result (c.pull.ensures.first_connect c.args.queue at) in
+    rw (pulls.pulled (tables_of c.self.inside.procs c.self.inside.parts.items c.self.inside.ports c.self.inside.waits c.self.inside.names) c.self.inside.calls c.self.inside.made c.self.invariant c.args.queue there c.in_ok-message.message c.pull.new.self c.pull.ensures.table (c.pull.ensures.oldest_connect c.args.queue at))
+    (pulls.pulled_left (tables_of c.self.inside.procs c.self.inside.parts.items c.self.inside.ports c.self.inside.waits c.self.inside.names) c.self.inside.calls c.self.inside.made c.self.invariant c.args.queue there (pulled_row (births_of c.self.inside.ports) c.args.queue c.pull.result) found)
+
+pub returns-clause-unqueued : goal.returns-clause-unqueued
+returns-clause-unqueued c =
     let there = rw (← c.self.view_is) at c.requires in
     let at = sym c.in_ok-message.ensures in
     let found = pulls.found (tables_of c.self.inside.procs c.self.inside.parts.items c.self.inside.ports c.self.inside.waits c.self.inside.names) c.self.inside.calls c.self.inside.made c.self.invariant c.args.queue there c.pull.result (c.pull.ensures.first_connect c.args.queue at) in
     rw (← c.self.view_is, pulls.pulled (tables_of c.self.inside.procs c.self.inside.parts.items c.self.inside.ports c.self.inside.waits c.self.inside.names) c.self.inside.calls c.self.inside.made c.self.invariant c.args.queue there c.in_ok-message.message c.pull.new.self c.pull.ensures.table (c.pull.ensures.oldest_connect c.args.queue at))
-    (pulls.pulled_owed (tables_of c.self.inside.procs c.self.inside.parts.items c.self.inside.ports c.self.inside.waits c.self.inside.names) c.self.inside.calls c.self.inside.made c.self.invariant c.args.queue there (pulled_row (births_of c.self.inside.ports) c.args.queue c.pull.result) found (vec_capacity c.self.inside.parts - vec_len c.self.inside.parts))
+    (pulls.pulled_unqueued (tables_of c.self.inside.procs c.self.inside.parts.items c.self.inside.ports c.self.inside.waits c.self.inside.names) c.self.inside.calls c.self.inside.made c.self.invariant c.args.queue there (pulled_row (births_of c.self.inside.ports) c.args.queue c.pull.result) found)
 
 pub returns-clause-long : goal.returns-clause-long
 returns-clause-long c =

@@ -4,8 +4,7 @@ use Rattle.lpc_ports.specs.Table as ports
 use Rattle.lpc_slots.specs.declared.Key.{Key}
 use Rattle.lpc_ports.specs.declared.messages.QueuedMessage.{QueuedMessage}
 use Rattle.lpc_world.specs.Kept.{rows_by}
-use Rattle.lpc_world.specs.Shown.{birth_of, births_of, shown_message, tables_of}
-use Rattle.lpc_model.specs.Message.{asks, message_of}
+use Rattle.lpc_world.specs.Shown.{birth_of, births_of, sent_row, shown_message, tables_of}
 use Rattle.lpc_world.proofs.Changes as changes
 use Rattle.lpc_world.proofs.Lawful as lawful
 use Rattle.lpc_world.proofs.Rooms as rooms
@@ -15,14 +14,14 @@ use Rattle.lpc_world.proofs.world.World.ports_send.Goals as goal
 pub send-requires-clause-room : goal.send-requires-clause-room
 send-requires-clause-room c =
     let there = rw (← c.self.view_is) at c.requires in
-    steps.message_place (tables_of c.self.inside.procs c.self.inside.parts.items c.self.inside.ports c.self.inside.waits c.self.inside.names) c.self.inside.calls c.self.inside.made c.self.invariant (asks (message_of c.args.bytes.now)) there.request there.other
+    steps.message_place (tables_of c.self.inside.procs c.self.inside.parts.items c.self.inside.ports c.self.inside.waits c.self.inside.names) c.self.inside.calls c.self.inside.made c.self.invariant (sent_row (births_of c.self.inside.ports) c.args.queue c.args.sender c.args.context c.args.bytes.now) there.request there.closing there.other
 
 pub invariant_of-self : goal.invariant_of-self
 invariant_of-self c =
     let there = rw (← c.self.view_is) at c.requires in
-    let place = steps.message_place (tables_of c.self.inside.procs c.self.inside.parts.items c.self.inside.ports c.self.inside.waits c.self.inside.names) c.self.inside.calls c.self.inside.made c.self.invariant (asks (message_of c.args.bytes.now)) there.request there.other in
+    let place = steps.message_place (tables_of c.self.inside.procs c.self.inside.parts.items c.self.inside.ports c.self.inside.waits c.self.inside.names) c.self.inside.calls c.self.inside.made c.self.invariant (sent_row (births_of c.self.inside.ports) c.args.queue c.args.sender c.args.context c.args.bytes.now) there.request there.closing there.other in
     rw c.send.ensures.table (steps.entered (tables_of c.self.inside.procs c.self.inside.parts.items c.self.inside.ports c.self.inside.waits c.self.inside.names) c.self.inside.calls c.self.inside.made c.self.invariant (c.send.result, ports.queued c.args.queue c.args.sender c.args.context c.args.bytes.now) (steps.two_stand (tables_of c.self.inside.procs c.self.inside.parts.items c.self.inside.ports c.self.inside.waits c.self.inside.names) c.self.inside.calls c.self.inside.made c.self.invariant c.args.queue c.args.sender there.queue there.sender) (steps.long_is c.args.bytes.now c.requires.long) there.budget place there.quiet
-    (λ e. let h = there.request e in omega (arith, h)) (λ e. let h = there.other e in omega (arith, h)))
+    there.request there.closing (λ e. let h = there.other e in omega (arith, h)))
 
 pub returns-clause-rows : goal.returns-clause-rows
 returns-clause-rows c = rw (← c.self.view_is, c.send.ensures.table) (changes.enters (tables_of c.self.inside.procs c.self.inside.parts.items c.self.inside.ports c.self.inside.waits c.self.inside.names) c.self.invariant.named (c.send.result, ports.queued c.args.queue c.args.sender c.args.context c.args.bytes.now) (c.self.inside.ports.message_room - 1) (c.self.inside.ports.messages_made + 1))
@@ -35,6 +34,4 @@ returns-clause-queued c =
 pub returns-clause-room : goal.returns-clause-room
 returns-clause-room c =
     let m : Key × QueuedMessage = (c.send.result, ports.queued c.args.queue c.args.sender c.args.context c.args.bytes.now) in
-    let there = rw (← c.self.view_is) at c.requires in
-    let place = steps.message_place (tables_of c.self.inside.procs c.self.inside.parts.items c.self.inside.ports c.self.inside.waits c.self.inside.names) c.self.inside.calls c.self.inside.made c.self.invariant (asks (message_of c.args.bytes.now)) there.request there.other in
-    rw (← c.self.view_is, c.send.ensures.table, ap (λ (v : World). v.messages) (changes.enters (tables_of c.self.inside.procs c.self.inside.parts.items c.self.inside.ports c.self.inside.waits c.self.inside.names) c.self.invariant.named m (c.self.inside.ports.message_room - 1) (c.self.inside.ports.messages_made + 1))) (rooms.room_enter _ _ _ _ _ _ (rows_by (tables_of c.self.inside.procs c.self.inside.parts.items c.self.inside.ports c.self.inside.waits c.self.inside.names)) _ (shown_message (birth_of (births_of c.self.inside.ports)) m) place)
+    rw (← c.self.view_is, c.send.ensures.table, ap (λ (v : World). v.messages) (changes.enters (tables_of c.self.inside.procs c.self.inside.parts.items c.self.inside.ports c.self.inside.waits c.self.inside.names) c.self.invariant.named m (c.self.inside.ports.message_room - 1) (c.self.inside.ports.messages_made + 1))) (rooms.room_enter _ _ _ _ _ _ (rows_by (tables_of c.self.inside.procs c.self.inside.parts.items c.self.inside.ports c.self.inside.waits c.self.inside.names)) _ (shown_message (birth_of (births_of c.self.inside.ports)) m))

@@ -13,8 +13,8 @@ returns-clause-rows c =
     let there = rw (← c.self.view_is) at c.requires in
     rw (← c.self.view_is, c.set_completed.ensures) (joins.completes (tables_of c.self.inside.procs c.self.inside.parts.items c.self.inside.ports c.self.inside.waits c.self.inside.names) c.self.invariant.named c.args.port c.args.completed there)
 
-pub returns-clause-names : goal.returns-clause-names
-returns-clause-names c =
+pub returns-clause-births : goal.returns-clause-births
+returns-clause-births c =
     let there = rw (← c.self.view_is) at c.requires in
     rw (← c.self.view_is, c.set_completed.ensures) (joins.completed_names (tables_of c.self.inside.procs c.self.inside.parts.items c.self.inside.ports c.self.inside.waits c.self.inside.names) c.self.invariant.named c.args.port c.args.completed there)
 

@@ -23,7 +23,6 @@ returns-clause-room c =
       for_threads = omega arith;
       for_waits = omega arith;
       for_messages = omega arith;
-      for_requests = omega arith;
       for_ports = omega arith;
       for_names = omega arith;
       for_handles = rooms.handles_more _ _;

@@ -1,7 +1,13 @@
-use Rattle.std.proofs.Common.{ap}
+use Rattle.std.proofs.Common.{ap, refl}
 use Rattle.lpc_model.specs.World.{World}
+use Rattle.lpc_base.specs.Rows.{change}
+use Rattle.lpc_model.specs.Found.{is_thread}
+use Rattle.lpc_model.specs.Basics.{past_ordinal}
+use Rattle.lpc_world.specs.Kept.{rows_by}
 use Rattle.lpc_world.specs.Shown.{tables_of}
 use Rattle.lpc_world.proofs.Changes as changes
+use Rattle.lpc_world.proofs.Lawful.{alive-change}
+use Rattle.lpc_world.proofs.Rooms as rooms
 use Rattle.lpc_world.proofs.Steps as steps
 use Rattle.lpc_world.proofs.world.World.procs_draw_birth.Goals as goal
 
@@ -22,3 +28,8 @@ returns-clause-fresh c = steps.fresh_birth (tables_of c.self.inside.procs c.self
 
 pub returns-clause-drawn : goal.returns-clause-drawn
 returns-clause-drawn c = rw (c.draw_birth.ensures.table, ap (λ (v : World). v.threads) (changes.draws_ordinal (tables_of c.self.inside.procs c.self.inside.parts.items c.self.inside.ports c.self.inside.waits c.self.inside.names) c.self.invariant.named c.args.tid)) (steps.now_drawn (tables_of c.self.inside.procs c.self.inside.parts.items c.self.inside.ports c.self.inside.waits c.self.inside.names) c.self.inside.calls c.self.inside.made c.self.invariant c.args.tid c.draw_birth.result (steps.drawn_birth (tables_of c.self.inside.procs c.self.inside.parts.items c.self.inside.ports c.self.inside.waits c.self.inside.names) c.self.inside.calls c.self.inside.made c.self.invariant c.args.tid c.draw_birth.result c.draw_birth.ensures.birth))
+
+pub returns-clause-room : goal.returns-clause-room
+returns-clause-room c =
+    rw (← c.self.view_is, c.draw_birth.ensures.table, ap (λ (v : World). v.threads) (changes.draws_ordinal (tables_of c.self.inside.procs c.self.inside.parts.items c.self.inside.ports c.self.inside.waits c.self.inside.names) c.self.invariant.named c.args.tid))
+    (rooms.room_threads _ _ _ _ _ _ (rows_by (tables_of c.self.inside.procs c.self.inside.parts.items c.self.inside.ports c.self.inside.waits c.self.inside.names)) _ (change (is_thread c.args.tid) past_ordinal (rows_by (tables_of c.self.inside.procs c.self.inside.parts.items c.self.inside.ports c.self.inside.waits c.self.inside.names)).threads) (alive-change past_ordinal (λ t. refl) c.args.tid (rows_by (tables_of c.self.inside.procs c.self.inside.parts.items c.self.inside.ports c.self.inside.waits c.self.inside.names)).threads))

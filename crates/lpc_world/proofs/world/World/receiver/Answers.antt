@@ -7,6 +7,7 @@ use Rattle.lpc_waits.specs.Table as waits
 use Rattle.lpc_world.specs.Kept.{rows_by}
 use Rattle.lpc_world.specs.Names.{name_of}
 use Rattle.lpc_world.specs.Shown.{birth_of, births_of, shown_wait, tables_of}
+use Rattle.lpc_world.proofs.OwnMessages.{none-queued_if}
 use Rattle.lpc_world.proofs.Finds as finds
 use Rattle.lpc_world.proofs.Follows as follows
 use Rattle.lpc_world.proofs.world.World.receiver.Goals as goal
@@ -30,6 +31,11 @@ pub returns-clause-idle : goal.returns-clause-idle
 returns-clause-idle c =
     let there = rw (← c.self.view_is) at c.requires in
     rw (← c.self.view_is) (finds.found_wait (rows_by (tables_of c.self.inside.procs c.self.inside.parts.items c.self.inside.ports c.self.inside.waits c.self.inside.names)) (takes_from (name_of (births_of c.self.inside.ports).ports c.args.queue) c.args.is_connection_request) c.first_on.result c.self.invariant.lawful.single (finds.taker_off (name_of (births_of c.self.inside.ports).ports c.args.queue) c.args.is_connection_request) (c.first_on.ensures ∙ sym (ap (λ o. option_map (λ (x : model.WaitRow). x.thread) o) (follows.first_taker (tables_of c.self.inside.procs c.self.inside.parts.items c.self.inside.ports c.self.inside.waits c.self.inside.names) c.self.invariant.named c.args.queue c.args.is_connection_request there) ∙ mapped-twice (shown_wait (birth_of (births_of c.self.inside.ports))) (λ (x : model.WaitRow). x.thread) (first (waits.is_taker_on c.args.queue c.args.is_connection_request) c.self.inside.waits.rows)))).idle
+
+pub returns-clause-left : goal.returns-clause-left
+returns-clause-left c =
+    let there = rw (← c.self.view_is) at c.requires in
+    rw (← c.self.view_is) (none-queued_if (rows_by (tables_of c.self.inside.procs c.self.inside.parts.items c.self.inside.ports c.self.inside.waits c.self.inside.names)) c.first_on.result c.self.invariant.lawful.own ((finds.found_wait (rows_by (tables_of c.self.inside.procs c.self.inside.parts.items c.self.inside.ports c.self.inside.waits c.self.inside.names)) (takes_from (name_of (births_of c.self.inside.ports).ports c.args.queue) c.args.is_connection_request) c.first_on.result c.self.invariant.lawful.single (finds.taker_off (name_of (births_of c.self.inside.ports).ports c.args.queue) c.args.is_connection_request) (c.first_on.ensures ∙ sym (ap (λ o. option_map (λ (x : model.WaitRow). x.thread) o) (follows.first_taker (tables_of c.self.inside.procs c.self.inside.parts.items c.self.inside.ports c.self.inside.waits c.self.inside.names) c.self.invariant.named c.args.queue c.args.is_connection_request there) ∙ mapped-twice (shown_wait (birth_of (births_of c.self.inside.ports))) (λ (x : model.WaitRow). x.thread) (first (waits.is_taker_on c.args.queue c.args.is_connection_request) c.self.inside.waits.rows)))).idle))
 
 pub returns-clause-takes : goal.returns-clause-takes
 returns-clause-takes c =

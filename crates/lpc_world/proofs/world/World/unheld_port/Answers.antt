@@ -9,7 +9,7 @@ use Rattle.lpc_world.proofs.world.World.unheld_port.Goals as goal
 pub loop-place-preserved : goal.loop-place-preserved
 loop-place-preserved c =
     let w = c.args.self.now.rows in
-    let b = name_of c.args.self.now.names.ports c.port_key-port.result in
+    let b = name_of c.args.self.now.births.ports c.port_key-port.result in
     let off : is_unheld w (port_name b) ≡ false = grind (arith, c.is_held.ensures, c.if-not-is_held.false) in
     sym (held_on w w.ports c.loop-place.place b c.port_key-port.ensures.port off) ∙ c.loop-place.invariant
 
@@ -20,4 +20,4 @@ returns-clause-none c =
     ∙ ap (every (λ p. not (is_unheld w (port_name p.birth)))) (drop_all w.ports c.loop-place.place (omega (arith, c.loop-place-test.false, c.port_count-place-end.ensures)))
 
 pub returns-then-not-is_held-clause-row : goal.returns-then-not-is_held-clause-row
-returns-then-not-is_held-clause-row c = row_at_place c.args.self.now.rows.ports c.loop-place.place (name_of c.args.self.now.names.ports c.port_key-port.result) c.port_key-port.ensures.port
+returns-then-not-is_held-clause-row c = row_at_place c.args.self.now.rows.ports c.loop-place.place (name_of c.args.self.now.births.ports c.port_key-port.result) c.port_key-port.ensures.port

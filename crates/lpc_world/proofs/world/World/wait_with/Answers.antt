@@ -5,18 +5,25 @@ use Rattle.lpc_model.specs.Message.{message_of}
 use Rattle.lpc_model.specs.declared.message.Message.{Message}
 use Rattle.lpc_model.specs.World.{World, WaitRow}
 use Rattle.lpc_world.specs.Shown.{waiting_row, with_message}
+use Rattle.lpc_world.specs.Kept.{is_unsent}
+use Rattle.lpc_world.proofs.Changes.{unsent-message}
 use Rattle.lpc_world.proofs.Delivered.{begun-change, begun-waits}
 use Rattle.lpc_world.proofs.world.World.wait_with.Goals as goal
 
 pub waits_set_message-requires-clause-waits : goal.waits_set_message-requires-clause-waits
-waits_set_message-requires-clause-waits c = rw c.waits_add.ensures.rows (begun-waits (waiting_row c.args.self.now.names c.args.tid c.args.wait []) c.args.self.now.rows.waits)
+waits_set_message-requires-clause-waits c = rw c.waits_add.ensures.rows (begun-waits (waiting_row c.args.self.now.births c.args.tid c.args.wait []) c.args.self.now.rows.waits)
 
 pub returns-clause-rows : goal.returns-clause-rows
 returns-clause-rows c =
     let old : World = c.args.self.now.rows in
-    let x : WaitRow = waiting_row c.args.self.now.names c.args.tid c.args.wait [] in
+    let x : WaitRow = waiting_row c.args.self.now.births c.args.tid c.args.wait [] in
     let kept : message_of c.as_slice.result.now ≡ c.args.message.now = ap message_of c.as_slice.ensures.value ∙ c.bytes.ensures.again in
     c.waits_set_message.ensures.rows
     ∙ ap (λ (v : World). record v { waits = change (waits_as c.args.tid) (with_message (message_of c.as_slice.result.now)) v.waits }) c.waits_add.ensures.rows
     ∙ ap (λ (m : Message). record old { waits = change (waits_as c.args.tid) (with_message m) (old.waits ++ x ∷ []) }) kept
     ∙ ap (λ (xs : List WaitRow). record old { waits = xs }) (begun-change (with_message c.args.message.now) x old.waits c.requires.ready)
+
+pub returns-clause-unsent : goal.returns-clause-unsent
+returns-clause-unsent c = λ pends.
+    ap (λ (v : World). is_unsent v c.args.tid) c.waits_set_message.ensures.rows
+    ∙ unsent-message c.waits_add.new.self.rows c.args.tid (message_of c.as_slice.result.now) ∙ c.waits_add.ensures.unsent pends

@@ -4,6 +4,7 @@ use Rattle.lpc_waits.specs.declared.WaitRow.{WaitRow}
 use Rattle.lpc_world.specs.Kept.{rows_by}
 use Rattle.lpc_world.specs.Shown.{birth_of, births_of, shown_wait, tables_of}
 use Rattle.lpc_world.proofs.Changes as changes
+use Rattle.lpc_world.proofs.OwnMessages.{unsent-begun}
 use Rattle.lpc_world.proofs.Promised as promised
 use Rattle.lpc_world.proofs.Rooms as rooms
 use Rattle.lpc_world.proofs.Steps as steps
@@ -14,12 +15,12 @@ pub add-requires-clause-alone : goal.add-requires-clause-alone
 add-requires-clause-alone c = steps.no_wait (tables_of c.self.inside.procs c.self.inside.parts.items c.self.inside.ports c.self.inside.waits c.self.inside.names) c.self.inside.calls c.self.inside.made c.self.invariant c.args.tid (rw (← c.self.view_is) at c.requires.ready)
 
 pub add-requires-clause-room : goal.add-requires-clause-room
-add-requires-clause-room c = steps.wait_place (tables_of c.self.inside.procs c.self.inside.parts.items c.self.inside.ports c.self.inside.waits c.self.inside.names) c.self.inside.calls c.self.inside.made c.self.invariant c.args.tid (rw (← c.self.view_is) at c.requires.thread) (rw (← c.self.view_is) at c.requires.ready)
+add-requires-clause-room c = steps.wait_place (tables_of c.self.inside.procs c.self.inside.parts.items c.self.inside.ports c.self.inside.waits c.self.inside.names) c.self.inside.calls c.self.inside.made c.self.invariant c.args.tid (rw (← c.self.view_is) at c.requires.live) (rw (← c.self.view_is) at c.requires.ready)
 
 pub invariant_of-self : goal.invariant_of-self
 invariant_of-self c =
     let there = rw (← c.self.view_is) at c.requires in
-    rw c.add.ensures.table (steps.awaited (tables_of c.self.inside.procs c.self.inside.parts.items c.self.inside.ports c.self.inside.waits c.self.inside.names) c.self.inside.calls c.self.inside.made c.self.invariant (record { thread = c.args.tid; wait = c.args.wait; message = record { items = [] }; accepted = None }) (steps.two_stand (tables_of c.self.inside.procs c.self.inside.parts.items c.self.inside.ports c.self.inside.waits c.self.inside.names) c.self.inside.calls c.self.inside.made c.self.invariant c.args.wait.port c.args.wait.queue there.port there.queue) there.budget there.thread there.ready there.quiet
+    rw c.add.ensures.table (steps.awaited (tables_of c.self.inside.procs c.self.inside.parts.items c.self.inside.ports c.self.inside.waits c.self.inside.names) c.self.inside.calls c.self.inside.made c.self.invariant (record { thread = c.args.tid; wait = c.args.wait; message = record { items = [] }; accepted = None }) (steps.two_stand (tables_of c.self.inside.procs c.self.inside.parts.items c.self.inside.ports c.self.inside.waits c.self.inside.names) c.self.inside.calls c.self.inside.made c.self.invariant c.args.wait.port c.args.wait.queue there.port there.queue) there.budget there.live there.ready there.quiet
     (promised.begins (rows_by (tables_of c.self.inside.procs c.self.inside.parts.items c.self.inside.ports c.self.inside.waits c.self.inside.names)).waits (rows_by (tables_of c.self.inside.procs c.self.inside.parts.items c.self.inside.ports c.self.inside.waits c.self.inside.names)).handles c.self.inside.parts.items c.self.invariant.promised (shown_wait (birth_of (births_of c.self.inside.ports)) (record { thread = c.args.tid; wait = c.args.wait; message = record { items = [] }; accepted = None })) (tables.single (tables_of c.self.inside.procs c.self.inside.parts.items c.self.inside.ports c.self.inside.waits c.self.inside.names) c.self.inside.calls c.self.inside.made c.self.invariant) c.self.invariant.lawful.tables_single (tables.fresh_taken (tables_of c.self.inside.procs c.self.inside.parts.items c.self.inside.ports c.self.inside.waits c.self.inside.names) c.self.inside.calls c.self.inside.made c.self.invariant c.args.tid c.args.wait)
     (λ connects. let is = sym (tables.connect_same (tables_of c.self.inside.procs c.self.inside.parts.items c.self.inside.ports c.self.inside.waits c.self.inside.names) c.self.inside.calls c.self.inside.made c.self.invariant (record { thread = c.args.tid; wait = c.args.wait; message = record { items = [] }; accepted = None })) ∙ connects in tables.welcome (tables_of c.self.inside.procs c.self.inside.parts.items c.self.inside.ports c.self.inside.waits c.self.inside.names) c.self.inside.calls c.self.inside.made c.self.invariant c.args.wait.process (there.table is) (there.load is) (there.handles is))))
 
@@ -29,10 +30,11 @@ returns-clause-rows c = rw (← c.self.view_is, c.add.ensures.table) (changes.aw
 pub returns-clause-room : goal.returns-clause-room
 returns-clause-room c =
     let x : WaitRow = record { thread = c.args.tid; wait = c.args.wait; message = record { items = [] }; accepted = None } in
-    let place = steps.wait_place (tables_of c.self.inside.procs c.self.inside.parts.items c.self.inside.ports c.self.inside.waits c.self.inside.names) c.self.inside.calls c.self.inside.made c.self.invariant c.args.tid (rw (← c.self.view_is) at c.requires.thread) (rw (← c.self.view_is) at c.requires.ready) in
+    let place = steps.more_alive (tables_of c.self.inside.procs c.self.inside.parts.items c.self.inside.ports c.self.inside.waits c.self.inside.names) c.self.inside.calls c.self.inside.made c.self.invariant c.args.tid (rw (← c.self.view_is) at c.requires.live) (rw (← c.self.view_is) at c.requires.ready) in
     rw (← c.self.view_is, c.add.ensures.table, ap (λ (v : World). v.waits) (changes.awaits (tables_of c.self.inside.procs c.self.inside.parts.items c.self.inside.ports c.self.inside.waits c.self.inside.names) c.self.invariant.named x (c.self.inside.waits.spare - 1) (c.self.inside.waits.made + 1))) (rooms.room_wait _ _ _ _ _ _ (rows_by (tables_of c.self.inside.procs c.self.inside.parts.items c.self.inside.ports c.self.inside.waits c.self.inside.names)) _ (shown_wait (birth_of (births_of c.self.inside.ports)) x) place)
 
-pub returns-clause-owed : goal.returns-clause-owed
-returns-clause-owed c =
+pub returns-clause-unsent : goal.returns-clause-unsent
+returns-clause-unsent c =
     let x : WaitRow = record { thread = c.args.tid; wait = c.args.wait; message = record { items = [] }; accepted = None } in
-    rw (c.add.ensures.table, ap (λ (v : World). v.waits) (changes.awaits (tables_of c.self.inside.procs c.self.inside.parts.items c.self.inside.ports c.self.inside.waits c.self.inside.names) c.self.invariant.named x (c.self.inside.waits.spare - 1) (c.self.inside.waits.made + 1))) (λ pends. rooms.owed_wait 0 0 0 0 0 0 (rows_by (tables_of c.self.inside.procs c.self.inside.parts.items c.self.inside.ports c.self.inside.waits c.self.inside.names)) [] (shown_wait (birth_of (births_of c.self.inside.ports)) x) c.self.invariant.lawful.requests pends)
+    let ready = rw (← c.self.view_is) at c.requires.ready in
+    rw (c.add.ensures.table, ap (λ (v : World). v.waits) (changes.awaits (tables_of c.self.inside.procs c.self.inside.parts.items c.self.inside.ports c.self.inside.waits c.self.inside.names) c.self.invariant.named x (c.self.inside.waits.spare - 1) (c.self.inside.waits.made + 1))) (λ pends. unsent-begun (rows_by (tables_of c.self.inside.procs c.self.inside.parts.items c.self.inside.ports c.self.inside.waits c.self.inside.names)) (shown_wait (birth_of (births_of c.self.inside.ports)) x) c.self.invariant.lawful.own ready pends)

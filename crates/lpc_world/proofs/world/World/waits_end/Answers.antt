@@ -25,7 +25,7 @@ pub returns-clause-room : goal.returns-clause-room
 returns-clause-room c =
     let spare = cond (has (waits.is_of c.args.tid) c.self.inside.waits.rows) (c.self.inside.waits.spare + 1) c.self.inside.waits.spare in
     rw (← c.self.view_is, steps.end_is (tables_of c.self.inside.procs c.self.inside.parts.items c.self.inside.ports c.self.inside.waits c.self.inside.names) c.self.inside.calls c.self.inside.made c.self.invariant c.args.tid c.end.new.self c.end.result c.end.ensures.value c.end.ensures.rows c.end.ensures.spare c.end.ensures.made, ap (λ (v : World). v.waits) (changes.ends (tables_of c.self.inside.procs c.self.inside.parts.items c.self.inside.ports c.self.inside.waits c.self.inside.names) c.self.invariant.named c.args.tid spare c.self.inside.waits.made), ← steps.has_wait (tables_of c.self.inside.procs c.self.inside.parts.items c.self.inside.ports c.self.inside.waits c.self.inside.names) c.self.inside.calls c.self.inside.made c.self.invariant c.args.tid)
-    (rooms.room_end _ _ _ _ _ _ (rows_by (tables_of c.self.inside.procs c.self.inside.parts.items c.self.inside.ports c.self.inside.waits c.self.inside.names)) _ c.args.tid c.self.invariant.lawful.single (rw (← c.self.view_is) at c.requires))
+    (rooms.room_end _ _ _ _ _ _ (rows_by (tables_of c.self.inside.procs c.self.inside.parts.items c.self.inside.ports c.self.inside.waits c.self.inside.names)) _ c.args.tid c.self.invariant.lawful.single)
 
 pub returns-clause-still : goal.returns-clause-still
 returns-clause-still c =

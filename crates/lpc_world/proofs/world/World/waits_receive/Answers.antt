@@ -1,11 +1,13 @@
-use Rattle.std.proofs.Common.{sym, ap, ◌∙◌, arith}
+use Rattle.std.proofs.Common.{sym, ap, ◌∙◌}
+use Rattle.lpc_base.proofs.RowWords.{length-change}
+use Rattle.lpc_model.specs.Basics.{received}
+use Rattle.lpc_model.specs.Found.{waits_as}
 use Rattle.lpc_model.specs.World.{World}
 use Rattle.lpc_world.specs.Names.{name_of}
 use Rattle.lpc_world.specs.Shown.{births_of, tables_of}
 use Rattle.lpc_world.specs.Kept.{rows_by}
 use Rattle.lpc_world.proofs.Changes as changes
 use Rattle.lpc_world.proofs.Connecting as connecting
-use Rattle.lpc_world.proofs.Lawful as lawful
 use Rattle.lpc_world.proofs.ReceivesAt as at
 use Rattle.lpc_world.proofs.Rooms as rooms
 use Rattle.lpc_world.proofs.Steps as steps
@@ -18,8 +20,8 @@ receive-requires c =
 
 pub invariant_of-self : goal.invariant_of-self
 invariant_of-self c =
-    let owed = rw (← c.self.view_is) at c.requires.owed in
-    rw c.receive.ensures.table (steps.received (tables_of c.self.inside.procs c.self.inside.parts.items c.self.inside.ports c.self.inside.waits c.self.inside.names) c.self.inside.calls c.self.inside.made c.self.invariant c.args.tid (omega (arith, owed)))
+    let left = rw (← c.self.view_is) at c.requires.left in
+    rw c.receive.ensures.table (steps.received (tables_of c.self.inside.procs c.self.inside.parts.items c.self.inside.ports c.self.inside.waits c.self.inside.names) c.self.inside.calls c.self.inside.made c.self.invariant c.args.tid left)
 
 pub returns-then-waits_on-clause-rows : goal.returns-then-waits_on-clause-rows
 returns-then-waits_on-clause-rows c =
@@ -27,10 +29,7 @@ returns-then-waits_on-clause-rows c =
     rw (← c.self.view_is, c.receive.ensures.table) (changes.receives (tables_of c.self.inside.procs c.self.inside.parts.items c.self.inside.ports c.self.inside.waits c.self.inside.names) c.self.invariant.named c.args.tid ∙ at.receives_there (rows_by (tables_of c.self.inside.procs c.self.inside.parts.items c.self.inside.ports c.self.inside.waits c.self.inside.names)) c.args.tid (name_of (births_of c.self.inside.ports).ports c.args.queue) c.self.invariant.lawful.single there)
 
 pub returns-then-waits_on-clause-room : goal.returns-then-waits_on-clause-room
-returns-then-waits_on-clause-room c = rw (← c.self.view_is, c.receive.ensures.table, ap (λ (v : World). v.waits) (changes.receives (tables_of c.self.inside.procs c.self.inside.parts.items c.self.inside.ports c.self.inside.waits c.self.inside.names) c.self.invariant.named c.args.tid)) (rooms.room_receive _ _ _ _ _ _ (rows_by (tables_of c.self.inside.procs c.self.inside.parts.items c.self.inside.ports c.self.inside.waits c.self.inside.names)) _ c.args.tid c.self.invariant.lawful.single)
-
-pub returns-then-waits_on-clause-idle : goal.returns-then-waits_on-clause-idle
-returns-then-waits_on-clause-idle c = rw (← c.self.view_is, c.receive.ensures.table, changes.receives (tables_of c.self.inside.procs c.self.inside.parts.items c.self.inside.ports c.self.inside.waits c.self.inside.names) c.self.invariant.named c.args.tid) (record { idle = λ tid none. lawful.idle-receive tid c.args.tid _ none })
+returns-then-waits_on-clause-room c = rw (← c.self.view_is, c.receive.ensures.table, ap (λ (v : World). v.waits) (changes.receives (tables_of c.self.inside.procs c.self.inside.parts.items c.self.inside.ports c.self.inside.waits c.self.inside.names) c.self.invariant.named c.args.tid)) (rooms.room_keep _ _ _ _ _ _ (rows_by (tables_of c.self.inside.procs c.self.inside.parts.items c.self.inside.ports c.self.inside.waits c.self.inside.names)) _ _ (length-change (waits_as c.args.tid) received (rows_by (tables_of c.self.inside.procs c.self.inside.parts.items c.self.inside.ports c.self.inside.waits c.self.inside.names)).waits))
 
 pub returns-else-waits_on-clause-rows : goal.returns-else-waits_on-clause-rows
 returns-else-waits_on-clause-rows c =

@@ -25,8 +25,8 @@ returns-clause-none c =
 pub returns-clause-room : goal.returns-clause-room
 returns-clause-room c = rw (← c.self.view_is, c.set_accepted.ensures.table) (accepts.accepted_room (tables_of c.self.inside.procs c.self.inside.parts.items c.self.inside.ports c.self.inside.waits c.self.inside.names) c.self.inside.calls c.self.inside.made c.args.tid c.self.invariant c.args.accepted (vec_capacity c.self.inside.parts - vec_len c.self.inside.parts))
 
-pub returns-clause-idle : goal.returns-clause-idle
-returns-clause-idle c = rw (← c.self.view_is, c.set_accepted.ensures.table) (accepts.accepted_idle (tables_of c.self.inside.procs c.self.inside.parts.items c.self.inside.ports c.self.inside.waits c.self.inside.names) c.self.inside.calls c.self.inside.made c.args.tid c.self.invariant c.args.accepted)
+pub returns-clause-unqueued : goal.returns-clause-unqueued
+returns-clause-unqueued c = rw (← c.self.view_is, c.set_accepted.ensures.table) (accepts.accepted_unqueued (tables_of c.self.inside.procs c.self.inside.parts.items c.self.inside.ports c.self.inside.waits c.self.inside.names) c.self.inside.calls c.self.inside.made c.args.tid c.self.invariant c.args.accepted)
 
 pub returns-clause-still : goal.returns-clause-still
 returns-clause-still c = rw (← c.self.view_is, c.set_accepted.ensures.table) (accepts.accepted_ready (tables_of c.self.inside.procs c.self.inside.parts.items c.self.inside.ports c.self.inside.waits c.self.inside.names) c.self.inside.calls c.self.inside.made c.args.tid c.self.invariant c.args.accepted)

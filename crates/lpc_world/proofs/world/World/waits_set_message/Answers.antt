@@ -20,4 +20,4 @@ pub returns-clause-rows : goal.returns-clause-rows
 returns-clause-rows c = rw (← c.self.view_is, c.set_message.ensures.table) (changes.keeps_message (tables_of c.self.inside.procs c.self.inside.parts.items c.self.inside.ports c.self.inside.waits c.self.inside.names) c.self.invariant.named c.args.tid c.args.bytes.now)
 
 pub returns-clause-room : goal.returns-clause-room
-returns-clause-room c = rw (← c.self.view_is, c.set_message.ensures.table, ap (λ (v : World). v.waits) (changes.keeps_message (tables_of c.self.inside.procs c.self.inside.parts.items c.self.inside.ports c.self.inside.waits c.self.inside.names) c.self.invariant.named c.args.tid c.args.bytes.now)) (rooms.room_keep _ _ _ _ _ _ (rows_by (tables_of c.self.inside.procs c.self.inside.parts.items c.self.inside.ports c.self.inside.waits c.self.inside.names)) _ (change (waits_as c.args.tid) (with_message (message_of c.args.bytes.now)) (rows_by (tables_of c.self.inside.procs c.self.inside.parts.items c.self.inside.ports c.self.inside.waits c.self.inside.names)).waits) (changes.length-message c.args.tid c.args.bytes.now (rows_by (tables_of c.self.inside.procs c.self.inside.parts.items c.self.inside.ports c.self.inside.waits c.self.inside.names)).waits) (changes.count-message c.args.tid c.args.bytes.now (rows_by (tables_of c.self.inside.procs c.self.inside.parts.items c.self.inside.ports c.self.inside.waits c.self.inside.names)).waits))
+returns-clause-room c = rw (← c.self.view_is, c.set_message.ensures.table, ap (λ (v : World). v.waits) (changes.keeps_message (tables_of c.self.inside.procs c.self.inside.parts.items c.self.inside.ports c.self.inside.waits c.self.inside.names) c.self.invariant.named c.args.tid c.args.bytes.now)) (rooms.room_keep _ _ _ _ _ _ (rows_by (tables_of c.self.inside.procs c.self.inside.parts.items c.self.inside.ports c.self.inside.waits c.self.inside.names)) _ (change (waits_as c.args.tid) (with_message (message_of c.args.bytes.now)) (rows_by (tables_of c.self.inside.procs c.self.inside.parts.items c.self.inside.ports c.self.inside.waits c.self.inside.names)).waits) (changes.length-message c.args.tid c.args.bytes.now (rows_by (tables_of c.self.inside.procs c.self.inside.parts.items c.self.inside.ports c.self.inside.waits c.self.inside.names)).waits))

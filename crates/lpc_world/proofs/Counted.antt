@@ -1,0 +1,121 @@
+-- How many rows count for a port: the tables count what the definitions count.
+use Rattle.std.proofs.Common.{◌≡◌, ◌+◌, ◌<◌, ◌≤◌, ℕ, List, [], ◌∷◌, ◌++◌, Bool, true, drop, get_or, length, map, refl, ap, sym, ◌∙◌, arith}
+use Rattle.std.proofs.lemmas.List.{at_drop_more, length-map, map-append}
+use Rattle.lpc_base.specs.declared.birth.Birth.{Birth}
+use Rattle.lpc_base.specs.Rows.{count, each, every}
+use Rattle.lpc_base.proofs.RowMaps.{count-map, every-map}
+use Rattle.lpc_base.proofs.RowWords.{count-bound, every-append, every-back, every-front}
+use Rattle.lpc_handles.specs.declared.table.Row.{Row}
+use Rattle.lpc_model.specs.Found as found
+use Rattle.lpc_model.specs.Found.{port_name}
+use Rattle.lpc_ports.specs.Table as ports
+use Rattle.lpc_ports.specs.declared.Port.{Port}
+use Rattle.lpc_ports.specs.declared.messages.QueuedMessage.{QueuedMessage}
+use Rattle.lpc_slots.specs.declared.Key.{Key}
+use Rattle.lpc_waits.specs.Table as waits
+use Rattle.lpc_waits.specs.declared.WaitRow.{WaitRow}
+use Rattle.lpc_world.specs.Kept.{is_alive, rows_by}
+use Rattle.lpc_world.specs.Lawful.{AreLawful}
+use Rattle.lpc_world.specs.Names.{name_of, stands}
+use Rattle.lpc_world.specs.Parts.{all_rows, is_the_port, names_it}
+use Rattle.lpc_world.specs.Shown.{Tables, AreNamed, Births, all_pass, birth_of, births_of, message_refs, name_by, object_stands, part_refs, port_refs, ports_in, shown_handle, shown_message, shown_part, shown_port, shown_wait, wait_refs}
+use Rattle.lpc_world.specs.declared.object.Object.{Object}
+use Rattle.lpc_world.specs.declared.object.Object.TheVariants as object
+use Rattle.lpc_world.specs.declared.parts.Part.{Part}
+use Rattle.lpc_world.proofs.Follows as follows
+use Rattle.lpc_world.proofs.Lawful.{waits-fit}
+use Rattle.lpc_world.proofs.Unheld.{the_same}
+
+count-append : {X : Type 0} (p : X → Bool) (xs ys : List X) → count p (xs ++ ys) ≡ count p xs + count p ys
+count-append p [] ys = grind arith
+count-append p (x ∷ xs) ys = grind (arith, count-append p xs ys)
+
+-- the handles of a part that were counted, and those of the parts behind it
+pub counted_part : (p : ℕ × Row Object → Bool) (parts : List Part) (i so_far : ℕ) (part : Part) → i < length parts → part ≡ get_or parts i part
+    → so_far + count p (all_rows (drop i parts)) ≡ count p (all_rows parts) → (so_far + count p part.handles.rows) + count p (all_rows (drop (i + 1) parts)) ≡ count p (all_rows parts)
+counted_part p parts i so_far part lt is sum =
+    let here : count p (all_rows (drop i parts)) ≡ count p (all_rows (part ∷ drop (i + 1) parts)) =
+    at_drop_more (λ (ps : List Part). count p (all_rows ps)) parts i part lt ∙ ap (λ q. count p (all_rows (q ∷ drop (i + 1) parts))) (sym is) in
+    omega (arith, sum, here, count-append p part.handles.rows (all_rows (drop (i + 1) parts)))
+
+-- handles named by a test of objects are those that name the port
+pub count_same : {X : Type 0} (p q : X → Bool) → ((x : X) → p x ≡ q x) → (xs : List X) → count p xs ≡ count q xs
+count_same p q same [] = refl
+count_same p q same (x ∷ xs) = grind (arith, same x, count_same p q same xs)
+
+module _ (it : Tables) (is : AreNamed (births_of it.ports) it) (key : Key) (there : stands (births_of it.ports).ports key ≡ true) where
+  abbrev n : Births
+  n = births_of it.ports
+
+  abbrev f : Object → Birth
+  f = birth_of n
+
+  abbrev ok : Object → Bool
+  ok = object_stands n
+
+  abbrev b : Birth
+  b = name_of n.ports key
+
+  rows_shown : (parts : List Part) → each (λ t. t.rows) (map (shown_part f) parts) ≡ map (shown_handle f) (all_rows parts)
+  rows_shown [] = refl
+  rows_shown (part ∷ parts) =
+      ap (λ hs. map (shown_handle f) part.handles.rows ++ hs) (rows_shown parts) ∙ sym (map-append (shown_handle f) part.handles.rows (all_rows parts))
+
+  rows_stand : (parts : List Part) → every (all_pass part_refs ok) parts ≡ true → every (λ row. ok row.1.object) (all_rows parts) ≡ true
+  rows_stand [] all = refl
+  rows_stand (part ∷ parts) all =
+      every-append (λ (row : ℕ × Row Object). ok row.1.object) part.handles.rows (all_rows parts)
+      (sym (every-map ok (λ (row : ℕ × Row Object). row.1.object) part.handles.rows) ∙ grind arith) (rows_stand parts (grind arith))
+
+  handle_same : (row : ℕ × Row Object) → ok row.1.object ≡ true → found.same_object (name_by f row.1.object) (port_name b) ≡ names_it key row
+  handle_same row stand = named row.1.object stand
+    where
+      named : (o : Object) → ok o ≡ true → found.same_object (name_by f o) (port_name b) ≡ is_the_port key o
+      named (object.Port other) one = follows.agree it is other key one there
+
+  pub handles_counted : found.handle_count (rows_by it) (port_name b) ≡ count (names_it key) (all_rows it.parts)
+  handles_counted =
+      ap (count (λ h. found.same_object h.object (port_name b))) (rows_shown it.parts)
+      ∙ count-map (shown_handle f) (λ row. ok row.1.object) (names_it key) (λ h. found.same_object h.object (port_name b)) handle_same (all_rows it.parts) (rows_stand it.parts is.refs.in_handles)
+
+  paired_same : (row : Key × Port) → all_pass port_refs ok row ≡ true → found.is_paired_to b (shown_port f row) ≡ ports.is_paired_to key row
+  paired_same row all = the_same it is key there row.1.pair (every-front ok (ports_in row.1.pair) (ports_in row.1.connection) all)
+
+  connected_same : (row : Key × Port) → all_pass port_refs ok row ≡ true → found.is_connected_to b (shown_port f row) ≡ ports.is_connected_to key row
+  connected_same row all = the_same it is key there row.1.connection (every-back ok (ports_in row.1.pair) (ports_in row.1.connection) all)
+
+  sent_same : (row : Key × QueuedMessage) → all_pass message_refs ok row ≡ true → found.is_sent_on b (shown_message f row) ≡ ports.is_sent_on key row
+  sent_same row all = follows.agree it is row.1.message.sender key (grind arith) there
+
+  made_same : (row : WaitRow) → all_pass wait_refs ok row ≡ true → found.is_made_on b (shown_wait f row) ≡ waits.is_made_on key row
+  made_same row all = follows.agree it is row.wait.port key (grind arith) there
+
+  pub paired_counted : count (found.is_paired_to b) (rows_by it).ports ≡ count (ports.is_paired_to key) it.ports.ports
+  paired_counted = count-map (shown_port f) (all_pass port_refs ok) (ports.is_paired_to key) (found.is_paired_to b) paired_same it.ports.ports is.refs.in_ports
+
+  pub connected_counted : count (found.is_connected_to b) (rows_by it).ports ≡ count (ports.is_connected_to key) it.ports.ports
+  connected_counted = count-map (shown_port f) (all_pass port_refs ok) (ports.is_connected_to key) (found.is_connected_to b) connected_same it.ports.ports is.refs.in_ports
+
+  pub sent_counted : count (found.is_sent_on b) (rows_by it).messages ≡ count (ports.is_sent_on key) it.ports.messages
+  sent_counted = count-map (shown_message f) (all_pass message_refs ok) (ports.is_sent_on key) (found.is_sent_on b) sent_same it.ports.messages is.refs.in_messages
+
+  pub made_counted : count (found.is_made_on b) (rows_by it).waits ≡ count (waits.is_made_on key) it.waits.rows
+  made_counted = count-map (shown_wait f) (all_pass wait_refs ok) (waits.is_made_on key) (found.is_made_on b) made_same it.waits.rows is.refs.in_waits
+
+-- each of these counts is no more than was made
+module _ (it : Tables) (calls made : ℕ) (is : AreLawful it calls made) (key : Key) (there : stands (births_of it.ports).ports key ≡ true) where
+  ports_few : length it.ports.ports ≤ made
+  ports_few = omega (arith, is.lawful.rows, length-map it.ports.ports (shown_port (birth_of (births_of it.ports))))
+
+  pub paired_few : count (ports.is_paired_to key) it.ports.ports ≤ made
+  paired_few = omega (arith, ports_few, count-bound (ports.is_paired_to key) it.ports.ports)
+
+  pub connected_few : count (ports.is_connected_to key) it.ports.ports ≤ made
+  connected_few = omega (arith, ports_few, count-bound (ports.is_connected_to key) it.ports.ports)
+
+  pub made_few : count (waits.is_made_on key) it.waits.rows ≤ made
+  made_few =
+      omega (arith, made_counted it is.named key there, count-bound (found.is_made_on (name_of (births_of it.ports).ports key)) (rows_by it).waits, waits-fit (rows_by it).threads (rows_by it).waits is.lawful.single is.lawful.threads, count-bound is_alive (rows_by it).threads, is.lawful.rows)
+
+  pub parts_few : length it.parts ≤ made
+  parts_few = omega (arith, is.lawful.tables_few, length-map it.parts (shown_part (birth_of (births_of it.ports))))

@@ -1,0 +1,30 @@
+use Rattle.std.proofs.Common.{sym, ◌∙◌, arith}
+use Rattle.lpc_world.specs.Parts.{closing}
+use Rattle.lpc_world.specs.Shown.{tables_of}
+use Rattle.lpc_world.proofs.Dropped as dropped
+use Rattle.lpc_world.proofs.Tables as tables
+use Rattle.lpc_world.proofs.world.World.handles_close.Goals as goal
+
+pub close_handle-requires-clause-one : goal.close_handle-requires-clause-one
+close_handle-requires-clause-one c = tables.single (tables_of c.self.inside.procs c.self.inside.parts.items c.self.inside.ports c.self.inside.waits c.self.inside.names) c.self.inside.calls c.self.inside.made c.self.invariant
+
+pub close_handle-requires-clause-part : goal.close_handle-requires-clause-part
+close_handle-requires-clause-part c = sym (tables.has_table (tables_of c.self.inside.procs c.self.inside.parts.items c.self.inside.ports c.self.inside.waits c.self.inside.names) c.self.inside.calls c.self.inside.made c.self.invariant c.args.pid) ∙ (rw (← c.self.view_is) at c.requires.table)
+
+pub invariant_of-self : goal.invariant_of-self
+invariant_of-self c = rw c.close_handle.ensures.parts (dropped.dropped_lawful (tables_of c.self.inside.procs c.self.inside.parts.items c.self.inside.ports c.self.inside.waits c.self.inside.names) c.self.inside.calls c.self.inside.made c.self.invariant c.args.pid c.args.value)
+
+pub returns-clause-rows : goal.returns-clause-rows
+returns-clause-rows c = rw (← c.self.view_is, c.close_handle.ensures.parts) (dropped.drops (tables_of c.self.inside.procs c.self.inside.parts.items c.self.inside.ports c.self.inside.waits c.self.inside.names) c.self.inside.calls c.self.inside.made c.self.invariant c.args.pid c.args.value)
+
+pub returns-clause-room : goal.returns-clause-room
+returns-clause-room c =
+    rw (← c.self.view_is, c.close_handle.ensures.len, c.close_handle.ensures.capacity, c.close_handle.ensures.parts) (record {
+      for_processes = omega arith;
+      for_threads = omega arith;
+      for_waits = omega arith;
+      for_messages = omega arith;
+      for_ports = omega arith;
+      for_names = omega arith;
+      for_handles = λ pid. rw (tables.room_at c.self.inside.parts.items pid, tables.room_at (closing c.args.pid c.args.value c.self.inside.parts.items) pid) (dropped.spare_kept c.args.pid c.args.value c.self.inside.parts.items pid);
+    })

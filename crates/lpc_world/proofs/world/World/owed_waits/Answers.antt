@@ -1,0 +1,17 @@
+use Rattle.std.proofs.Common.{refl, sym, ◌∙◌, arith}
+use Rattle.lpc_world.specs.Kept.{is_alive}
+use Rattle.std.proofs.lemmas.List.{length-map}
+use Rattle.lpc_world.specs.Shown.{birth_of, births_of, shown_thread, shown_wait}
+use Rattle.lpc_world.proofs.Readings as readings
+use Rattle.lpc_world.proofs.world.World.owed_waits.Goals as goal
+
+pub returns-clause-owed : goal.returns-clause-owed
+returns-clause-owed c =
+    let alive = c.alive.ensures.count ∙ sym (readings.count-shown shown_thread (λ t. t.live) is_alive (λ t. refl) c.self.inside.procs.threads) in
+    let other = length-map c.self.inside.waits.rows (shown_wait (birth_of (births_of c.self.inside.ports))) in
+    rw (← c.self.view_is) (omega (arith, alive, other, c.count.ensures, c.saturating_sub.ensures))
+
+pub returns-clause-few : goal.returns-clause-few
+returns-clause-few c =
+    let threads = length-map c.self.inside.procs.threads shown_thread in
+    rw (← c.self.view_is) (omega (arith, threads, c.alive.ensures.bound, c.self.invariant.lawful.rows, c.saturating_sub.ensures))

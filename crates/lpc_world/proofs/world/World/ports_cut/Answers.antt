@@ -1,0 +1,24 @@
+use Rattle.std.proofs.Common.{◌-◌, vec_len, vec_capacity}
+use Rattle.lpc_world.specs.Shown.{tables_of}
+use Rattle.lpc_world.proofs.Cut as cut
+use Rattle.lpc_world.proofs.world.World.ports_cut.Goals as goal
+
+pub invariant_of-self : goal.invariant_of-self
+invariant_of-self c =
+    let there = rw (← c.self.view_is) at c.requires in
+    rw c.cut.ensures (cut.cut_lawful (tables_of c.self.inside.procs c.self.inside.parts.items c.self.inside.ports c.self.inside.waits c.self.inside.names) c.self.invariant.named c.args.port there.port there.pairs c.self.inside.calls c.self.inside.made c.self.invariant)
+
+pub returns-clause-rows : goal.returns-clause-rows
+returns-clause-rows c =
+    let there = rw (← c.self.view_is) at c.requires in
+    rw (← c.self.view_is, c.cut.ensures) (cut.cuts (tables_of c.self.inside.procs c.self.inside.parts.items c.self.inside.ports c.self.inside.waits c.self.inside.names) c.self.invariant.named c.args.port there.port there.pairs)
+
+pub returns-clause-births : goal.returns-clause-births
+returns-clause-births c =
+    let there = rw (← c.self.view_is) at c.requires in
+    rw (← c.self.view_is, c.cut.ensures) (cut.cut_names (tables_of c.self.inside.procs c.self.inside.parts.items c.self.inside.ports c.self.inside.waits c.self.inside.names) c.self.invariant.named c.args.port there.port there.pairs)
+
+pub returns-clause-room : goal.returns-clause-room
+returns-clause-room c =
+    let there = rw (← c.self.view_is) at c.requires in
+    rw (← c.self.view_is, c.cut.ensures) (cut.cut_room (tables_of c.self.inside.procs c.self.inside.parts.items c.self.inside.ports c.self.inside.waits c.self.inside.names) c.self.invariant.named c.args.port there.port there.pairs (vec_capacity c.self.inside.parts - vec_len c.self.inside.parts))
