@@ -3,7 +3,7 @@ use Rattle.std.proofs.Common.{◌≡◌, ℕ, List, [], ◌∷◌, option_map, r
 use Rattle.lpc_base.specs.Rows.{change, first, has}
 use Rattle.lpc_base.proofs.RowWords.{has-change}
 use Rattle.lpc_model.specs.Basics.{past_identifier, past_ordinal}
-use Rattle.lpc_model.specs.Found.{is_thread}
+use Rattle.lpc_model.specs.Found.{is_live_thread, is_thread}
 use Rattle.lpc_model.specs.Tests.{next_birth}
 use Rattle.lpc_model.specs.World.{ThreadRow}
 
@@ -12,6 +12,12 @@ stands_behind_identifier n ts = has-change (is_thread n) (is_thread n) past_iden
 
 pub stands_behind_ordinal : (n : ℕ) (ts : List ThreadRow) → has (is_thread n) (change (is_thread n) past_ordinal ts) ≡ has (is_thread n) ts
 stands_behind_ordinal n ts = has-change (is_thread n) (is_thread n) past_ordinal (λ t. refl) ts
+
+pub lives_behind_identifier : (n : ℕ) (ts : List ThreadRow) → has (is_live_thread n) (change (is_thread n) past_identifier ts) ≡ has (is_live_thread n) ts
+lives_behind_identifier n ts = has-change (is_live_thread n) (is_thread n) past_identifier (λ t. refl) ts
+
+pub lives_behind_ordinal : (n : ℕ) (ts : List ThreadRow) → has (is_live_thread n) (change (is_thread n) past_ordinal ts) ≡ has (is_live_thread n) ts
+lives_behind_ordinal n ts = has-change (is_live_thread n) (is_thread n) past_ordinal (λ t. refl) ts
 
 pub birth_behind_identifier : (n : ℕ) (ts : List ThreadRow) → option_map next_birth (first (is_thread n) (change (is_thread n) past_identifier ts)) ≡ option_map next_birth (first (is_thread n) ts)
 birth_behind_identifier n [] = refl

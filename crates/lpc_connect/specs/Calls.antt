@@ -1,4 +1,4 @@
--- A call of a thread, and what its parts find and do.
+-- What the parts of the calls find and do.
 use Rattle.std.specs.Prelude.{◌≡◌, ℕ, Bool, List, [], ◌∷◌, Some, Result}
 use Rattle.lpc_base.specs.Rows.{first}
 use Rattle.lpc_base.specs.declared.birth.Birth.{Birth}
@@ -8,22 +8,14 @@ use Rattle.lpc_connect.specs.declared.complete.Connection.{Connection}
 use Rattle.lpc_model.specs.Basics.{Basic, DrawsIdentifier, DrawsOrdinal}
 use Rattle.lpc_model.specs.Connect as connect
 use Rattle.lpc_model.specs.Found.{free_handle, is_queued_connect, is_thread}
-use Rattle.lpc_model.specs.Lines.{ScriptCall, accept_connect_port}
-use Rattle.lpc_model.specs.Machine.{call_steps, service_of}
+use Rattle.lpc_model.specs.Lines.{accept_connect_port}
+use Rattle.lpc_model.specs.Machine.{service_of}
 use Rattle.lpc_model.specs.World.{ThreadRow, World}
 use Rattle.lpc_model.specs.declared.message.Message.{Message}
 use Rattle.lpc_slots.specs.declared.Key.{Key}
 use Rattle.lpc_world.specs.Kept.{Kept}
 use Rattle.lpc_world.specs.Names.{name_of}
-use Rattle.lpc_world.specs.Ready.{caller, port_of, waiter}
-
--- what a thread's call is to do, or why it is refused
-abbrev pub service : World → ℕ → ScriptCall → Result (List Basic) Status
-service w tid call = service_of w (caller w tid) call
-
--- the steps of a thread's call, or of its refusal
-abbrev pub called : World → ℕ → ScriptCall → List Basic
-called w tid call = call_steps (caller w tid) call w
+use Rattle.lpc_world.specs.Ready.{port_of, waiter}
 
 -- Rows
 -- the thread stands, with this row
@@ -39,7 +31,7 @@ was_received w tid = let x = waiter w tid in x.received
 
 -- the birth of the port at a key, and the one that its row has
 abbrev pub birth_at : Kept → Key → Birth
-birth_at w key = name_of w.names.ports key
+birth_at w key = name_of w.births.ports key
 
 abbrev pub row_birth : Kept → Key → Birth
 row_birth w key = let p = port_of w.rows (birth_at w key) in p.birth

@@ -1,12 +1,12 @@
 -- The room that the calls need, and the room that they keep.
 use Rattle.std.specs.Prelude.{ℕ, ◌≤◌, ◌<◌, ◌==◌, ◌&&◌, ◌||◌, Bool, nat_le, is_some, List, Option}
 use Rattle.lpc_model.specs.World.{ThreadRow}
-use Rattle.lpc_world.specs.Kept.{Kept, handle_room, promised}
+use Rattle.lpc_world.specs.Kept.{Kept, handle_room, owed_handles}
 
 -- a further handle goes into the table of a process, beside those that its waiting connects are
 -- to get
 abbrev pub HasHandleRoom : Kept → ℕ → Type 0
-HasHandleRoom w pid = promised w.rows pid < handle_room w.room pid
+HasHandleRoom w pid = owed_handles w.rows pid < handle_room w.room pid
 
 -- no process lost room for handles
 abbrev pub KeepsHandleRoom : Kept → Kept → Type 0
@@ -15,7 +15,11 @@ KeepsHandleRoom old new = (pid : ℕ) → handle_room old.room pid ≤ handle_ro
 -- without memory there is no room for a further port, or for a thread's handle to it
 abbrev pub lacks_port_room : Kept → ThreadRow → Bool
 lacks_port_room w by =
-    (w.room.ports == 0) || nat_le (handle_room w.room by.process) (promised w.rows by.process)
+    (w.room.ports == 0) || nat_le (handle_room w.room by.process) (owed_handles w.rows by.process)
+
+-- nor for a client port and the message that is to tell that it is closed
+abbrev pub lacks_connect_room : Kept → ThreadRow → Bool
+lacks_connect_room w by = lacks_port_room w by || (w.room.messages == 0)
 
 -- nor for a port that may get a name
 abbrev pub lacks_room_for : Kept → ThreadRow → Option (List ℕ) → Bool

@@ -2,15 +2,16 @@
 ghost use Rattle.std.specs.Prelude.{ℕ, ◌≡◌, ◌≤◌, ◌<◌, ◌+◌, ◌*◌, Ok, Err, true, false, IfErr, IfOk, IsOk, OnOk, OnErr, MatchResult};
 ghost use Rattle.lpc_base.specs.Rows.{has};
 ghost use Rattle.lpc_base.specs.declared.limits.TheConstants.{HANDLE_LIMIT, LINES_LIMIT};
-ghost use Rattle.lpc_connect.specs.Calls.{Answering, HasThread, IsOwnWait, accepting, answer_with, called, service, shown_answer, was_received};
+ghost use Rattle.lpc_connect.specs.Calls.{Answering, HasThread, IsOwnWait, accepting, answer_with, shown_answer, was_received};
 ghost use Rattle.lpc_connect.specs.Room.{HasHandleRoom, lacks_port_room};
 ghost use Rattle.lpc_model.specs.Basics.{outcome_of};
 ghost use Rattle.lpc_model.specs.Connect as connect;
 ghost use Rattle.lpc_model.specs.Found.{is_offered, is_table, waits_as};
 ghost use Rattle.lpc_model.specs.Lines.{accept_connect_port};
 ghost use Rattle.lpc_model.specs.Tests as tests;
-ghost use Rattle.lpc_world.specs.Does.{Takes};
-ghost use Rattle.lpc_world.specs.Kept.{Same, is_pending_in};
+ghost use Rattle.lpc_world.specs.Called.{called, service};
+ghost use Rattle.lpc_world.specs.Does.{Took};
+ghost use Rattle.lpc_world.specs.Kept.{HasWholeBudget, Same, has_queued, is_pending_in};
 ghost use Rattle.lpc_world.specs.Ready.{caller, is_ready, waiter};
 ghost use Rattle.lpc_world.specs.Shown.{shown_thread};
 
@@ -41,6 +42,7 @@ fn answer_test(world: &World, by: u32, bytes: &[u8]) -> Result<ConnectAnswer, St
     ensures waits { IfOk result (λ a. has (waits_as a.thread) world.now.rows.waits ≡ true) }
     ensures thread { IfOk result (λ a. IsOwnWait world.now.rows a.thread) }
     ensures idle { IfOk result (λ a. is_pending_in world.now.rows a.thread ≡ false) }
+    ensures left { IfOk result (λ a. has_queued world.now.rows a.thread ≡ false) }
     ensures offered { IfOk result (λ a. is_offered (waiter world.now.rows a.thread) ≡ true) }
     ensures received { IfOk result (λ a. was_received world.now.rows a.thread ≡ true) }
 {
@@ -77,6 +79,7 @@ fn accept_test(
     ensures waits { IfOk result (λ a. has (waits_as a.thread) world.now.rows.waits ≡ true) }
     ensures thread { IfOk result (λ a. IsOwnWait world.now.rows a.thread) }
     ensures idle { IfOk result (λ a. is_pending_in world.now.rows a.thread ≡ false) }
+    ensures left { IfOk result (λ a. has_queued world.now.rows a.thread ≡ false) }
     ensures offered { IfOk result (λ a. is_offered (waiter world.now.rows a.thread) ≡ true) }
     ensures received { IfOk result (λ a. was_received world.now.rows a.thread ≡ true) }
 {
@@ -97,11 +100,11 @@ fn refuse_connect(
 )
     requires spare { 2 ≤ out.old.spare }
     requires waits { has (waits_as thread) world.old.rows.waits ≡ true }
-    requires idle { is_pending_in world.old.rows thread ≡ false }
+    requires left { has_queued world.old.rows thread ≡ false }
     requires offered { is_offered (waiter world.old.rows thread) ≡ true }
     ensures takes { let a = answer_with world.old.rows thread message.now in
         let steps = connect.refuse_steps (shown_thread by.now) a in
-        Takes steps world.old world.new out.old out.new }
+        Took steps world.old world.new out.old out.new }
     ensures calls { world.new.calls ≡ world.old.calls }
     ensures spare { out.old.spare ≤ out.new.spare + 2 }
 {
@@ -128,7 +131,7 @@ fn accept_connect(
     requires ports { 0 < world.old.room.ports }
     requires handles { HasHandleRoom world.old by.now.process }
     requires load { tests.handle_load world.old.rows by.now.process < HANDLE_LIMIT }
-    requires budget { world.old.made + 16 ≤ 16 * world.old.calls }
+    requires budget { HasWholeBudget world.old }
     requires row { HasThread world.old.rows (shown_thread by.now) }
     requires table { has (is_table by.now.process) world.old.rows.handles ≡ true }
     requires waits { has (waits_as thread) world.old.rows.waits ≡ true }
@@ -137,7 +140,7 @@ fn accept_connect(
     requires thread { IsOwnWait world.old.rows thread }
     ensures takes { let a = answer_with world.old.rows thread message.now in
         let steps = accepting world.old.rows (shown_thread by.now) a context in
-        Takes steps world.old world.new out.old out.new }
+        Took steps world.old world.new out.old out.new }
     ensures calls { world.new.calls ≡ world.old.calls }
     ensures spare { out.old.spare ≤ out.new.spare + 2 }
 {
@@ -177,7 +180,7 @@ pub fn nt_accept_connect_port(
     requires spare { 2 ≤ out.old.spare }
     requires calls { world.old.calls < LINES_LIMIT }
     ensures takes { let call = accept_connect_port context message.now accept in
-        OnOk result (Takes (called world.old.rows by call) world.old world.new out.old out.new) }
+        OnOk result (Took (called world.old.rows by call) world.old world.new out.old out.new) }
     ensures outcome { let call = accept_connect_port context message.now accept in
         IfOk result (λ o. o ≡ outcome_of (called world.old.rows by call)) }
     ensures calls { OnOk result (world.new.calls ≡ world.old.calls + 1) }

@@ -2,13 +2,14 @@
 ghost use Rattle.std.specs.Prelude.{◌≡◌, ◌≤◌, ◌<◌, ◌+◌, Ok, Err, IfErr, IfOk, MatchResult, true, false};
 ghost use Rattle.lpc_base.specs.Rows.{has};
 ghost use Rattle.lpc_base.specs.declared.limits.TheConstants.{LINES_LIMIT};
-ghost use Rattle.lpc_connect.specs.Calls.{IsOwnWait, called, completing, shown_connection};
+ghost use Rattle.lpc_connect.specs.Calls.{IsOwnWait, completing, shown_connection};
 ghost use Rattle.lpc_model.specs.Basics.{outcome_of};
 ghost use Rattle.lpc_model.specs.Connect as connect;
 ghost use Rattle.lpc_model.specs.Found.{is_accepted, waits_as};
 ghost use Rattle.lpc_model.specs.Lines.{complete_connect_port};
-ghost use Rattle.lpc_world.specs.Does.{Takes};
-ghost use Rattle.lpc_world.specs.Kept.{is_pending_in};
+ghost use Rattle.lpc_world.specs.Called.{called};
+ghost use Rattle.lpc_world.specs.Does.{Took};
+ghost use Rattle.lpc_world.specs.Kept.{has_queued};
 ghost use Rattle.lpc_world.specs.Names.{stands};
 ghost use Rattle.lpc_world.specs.Ready.{caller, is_ready, waiter};
 ghost use Rattle.lpc_world.specs.Shown.{shown_thread};
@@ -35,12 +36,12 @@ fn complete_test(world: &World, tid: u32, handle: u32) -> Result<Connection, Sta
     ensures test { let by = caller world.now.rows tid in
         let test = connect.complete_test world.now.rows by handle in
         MatchResult result (λ c. test ≡ Ok (shown_connection world.now c)) (λ s. test ≡ Err s) }
-    ensures server { IfOk result (λ c. stands world.now.names.ports c.server ≡ true) }
-    ensures client { IfOk result (λ c. stands world.now.names.ports c.client ≡ true) }
+    ensures server { IfOk result (λ c. stands world.now.births.ports c.server ≡ true) }
+    ensures client { IfOk result (λ c. stands world.now.births.ports c.client ≡ true) }
     ensures waits { IfOk result (λ c. has (waits_as c.thread) world.now.rows.waits ≡ true) }
     ensures thread { IfOk result (λ c. IsOwnWait world.now.rows c.thread) }
     ensures accepted { IfOk result (λ c. is_accepted (waiter world.now.rows c.thread) ≡ true) }
-    ensures idle { IfOk result (λ c. is_pending_in world.now.rows c.thread ≡ false) }
+    ensures left { IfOk result (λ c. has_queued world.now.rows c.thread ≡ false) }
 {
     let server = world.port_at(tid, handle)?;
     let found = world.completable(server)?;
@@ -55,15 +56,15 @@ fn complete_test(world: &World, tid: u32, handle: u32) -> Result<Connection, Sta
 #[tactic(auto, unfolding(lpc_world::specs::Ready::waiter))]
 fn complete(world: &mut World, by: &ThreadRow, connection: Connection, out: &mut Entries)
     requires spare { 2 ≤ out.old.spare }
-    requires server { stands world.old.names.ports connection.server ≡ true }
-    requires client { stands world.old.names.ports connection.client ≡ true }
+    requires server { stands world.old.births.ports connection.server ≡ true }
+    requires client { stands world.old.births.ports connection.client ≡ true }
     requires waits { has (waits_as connection.thread) world.old.rows.waits ≡ true }
     requires thread { IsOwnWait world.old.rows connection.thread }
     requires accepted { is_accepted (waiter world.old.rows connection.thread) ≡ true }
-    requires idle { is_pending_in world.old.rows connection.thread ≡ false }
+    requires left { has_queued world.old.rows connection.thread ≡ false }
     ensures takes { let c = shown_connection world.old connection in
         let steps = completing world.old.rows (shown_thread by.now) c in
-        Takes steps world.old world.new out.old out.new }
+        Took steps world.old world.new out.old out.new }
     ensures calls { world.new.calls ≡ world.old.calls }
     ensures spare { out.old.spare ≤ out.new.spare + 2 }
 {
@@ -107,7 +108,7 @@ pub fn nt_complete_connect_port(
     requires spare { 2 ≤ out.old.spare }
     requires calls { world.old.calls < LINES_LIMIT }
     ensures takes { let steps = called world.old.rows by (complete_connect_port handle) in
-        Takes steps world.old world.new out.old out.new }
+        Took steps world.old world.new out.old out.new }
     ensures outcome { let steps = called world.old.rows by (complete_connect_port handle) in
         result ≡ outcome_of steps }
     ensures calls { world.new.calls ≡ world.old.calls + 1 }

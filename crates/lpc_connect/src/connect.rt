@@ -2,18 +2,19 @@
 ghost use Rattle.std.specs.Prelude.{ℕ, ◌≡◌, ◌≤◌, ◌<◌, ◌+◌, ◌*◌, [], ◌∷◌, Ok, Err, None, Some, IfErr, IfOk, IsOk, OnOk, OnErr, false, length, true};
 ghost use Rattle.lpc_base.specs.Rows.{first, has};
 ghost use Rattle.lpc_base.specs.declared.limits.TheConstants.{HANDLE_LIMIT, HEADER_SIZE, LINES_LIMIT, MESSAGE_LIMIT};
-ghost use Rattle.lpc_connect.specs.Calls.{HasThread, birth_at, called, connecting, draws, service};
-ghost use Rattle.lpc_connect.specs.Room.{HasHandleRoom, KeepsHandleRoom, lacks_port_room};
+ghost use Rattle.lpc_connect.specs.Calls.{HasThread, birth_at, connecting, draws};
+ghost use Rattle.lpc_connect.specs.Room.{HasHandleRoom, KeepsHandleRoom, lacks_connect_room};
 ghost use Rattle.lpc_model.specs.Basics.{basic, outcome_of, world_after, Makes};
 ghost use Rattle.lpc_model.specs.Connect as connect;
-ghost use Rattle.lpc_model.specs.Found.{is_table, is_thread, port_row, waits_as};
+ghost use Rattle.lpc_model.specs.Found.{is_live_thread, is_table, is_thread, port_row, waits_as};
 ghost use Rattle.lpc_model.specs.Lines.{connect_port};
 ghost use Rattle.lpc_model.specs.Machine.{service_of};
 ghost use Rattle.lpc_model.specs.Message.{asks};
 ghost use Rattle.lpc_model.specs.Tests as tests;
 ghost use Rattle.lpc_model.specs.Tests.{next_birth};
-ghost use Rattle.lpc_world.specs.Does.{Takes};
-ghost use Rattle.lpc_world.specs.Kept.{Same};
+ghost use Rattle.lpc_world.specs.Called.{called, service};
+ghost use Rattle.lpc_world.specs.Does.{Took};
+ghost use Rattle.lpc_world.specs.Kept.{CanMake, HasWholeBudget, Same};
 ghost use Rattle.lpc_world.specs.Lawful.{drew};
 ghost use Rattle.lpc_world.specs.Names.{name_of, stands};
 ghost use Rattle.lpc_world.specs.Ready.{caller, is_ready};
@@ -50,7 +51,7 @@ fn connect_test(world: &World, by: &ThreadRow, name: &[u8], info: &[u8]) -> Resu
     ensures steps { let call = connect_port name.now info.now in
         IfOk result (λ key. service_of world.now.rows (shown_thread by.now) call
         ≡ Ok (connecting world.now (shown_thread by.now) key info.now)) }
-    ensures stands { IfOk result (λ key. stands world.now.names.ports key ≡ true) }
+    ensures stands { IfOk result (λ key. stands world.now.births.ports key ≡ true) }
     ensures few { OnOk result (tests.handle_load world.now.rows by.now.process < HANDLE_LIMIT) }
     ensures bound { OnOk result (HEADER_SIZE + length info.now ≤ MESSAGE_LIMIT) }
 {
@@ -90,20 +91,23 @@ fn connection_request(by: &ThreadRow, info: &[u8]) -> Message
 }
 
 /// A thread draws the identifier of its connection request, and the birth of its client port, which is answered.
-#[tactic(auto, using(crate::proofs::Drawn::stands_behind_identifier, crate::proofs::Drawn::stands_behind_ordinal, crate::proofs::Drawn::birth_behind_identifier))]
+#[tactic(auto, using(crate::proofs::Drawn::stands_behind_identifier, crate::proofs::Drawn::stands_behind_ordinal, crate::proofs::Drawn::lives_behind_identifier, crate::proofs::Drawn::lives_behind_ordinal, crate::proofs::Drawn::birth_behind_identifier))]
 fn draw(world: &mut World, by: &ThreadRow) -> Birth
-    requires budget { world.old.made + 16 ≤ 16 * world.old.calls }
+    requires budget { HasWholeBudget world.old }
     requires thread { HasThread world.old.rows (shown_thread by.now) }
+    requires live { has (is_live_thread by.now.number) world.old.rows.threads ≡ true }
     ensures birth { result ≡ next_birth (shown_thread by.now) }
     ensures fresh { port_row world.new.rows result ≡ None }
     ensures drawn { has (drew result) world.new.rows.threads ≡ true }
     ensures rows { world.new.rows ≡ world_after world.old.rows (draws by.now.number) }
     ensures thread { has (is_thread by.now.number) world.new.rows.threads ≡ true }
-    ensures names { world.new.names ≡ world.old.names }
+    ensures live { has (is_live_thread by.now.number) world.new.rows.threads ≡ true }
+    ensures births { world.new.births ≡ world.old.births }
     ensures calls { world.new.calls ≡ world.old.calls }
     ensures loose { world.new.loose ≡ world.old.loose }
     ensures made { world.new.made ≡ world.old.made + 2 }
     ensures ports { world.old.room.ports ≤ world.new.room.ports }
+    ensures messages { world.old.room.messages ≤ world.new.room.messages }
     ensures handles { KeepsHandleRoom world.old world.new }
 {
     world.procs_draw_identifier(by.number);
@@ -111,21 +115,22 @@ fn draw(world: &mut World, by: &ThreadRow) -> Birth
 }
 
 /// A client port of a connection port is made, which isn't joined yet and keeps the connect that makes it; its key is
-/// answered.
+/// answered. It takes a place for the message that is to tell that it is closed.
 fn make_client(world: &mut World, by: &ThreadRow, birth: Birth, connection: Key) -> Key
     requires ports { 0 < world.old.room.ports }
-    requires budget { world.old.made < 16 * world.old.calls }
-    requires connection { stands world.old.names.ports connection ≡ true }
+    requires messages { 0 < world.old.room.messages }
+    requires budget { CanMake world.old }
+    requires connection { stands world.old.births.ports connection ≡ true }
     requires birth { birth ≡ next_birth (shown_thread by.now) }
     requires fresh { port_row world.old.rows birth ≡ None }
     requires drawn { has (drew birth) world.old.rows.threads ≡ true }
     ensures rows { let queue = birth_at world.old connection in
         let port = connect.client_port (shown_thread by.now) queue in
         world.new.rows ≡ basic world.old.rows (Makes port) }
-    ensures name { name_of world.new.names.ports result ≡ birth }
-    ensures stands { stands world.new.names.ports result ≡ true }
+    ensures name { name_of world.new.births.ports result ≡ birth }
+    ensures stands { stands world.new.births.ports result ≡ true }
     ensures connection { birth_at world.new connection ≡ birth_at world.old connection }
-    ensures connection_stands { stands world.new.names.ports connection ≡ true }
+    ensures connection_stands { stands world.new.births.ports connection ≡ true }
     ensures calls { world.new.calls ≡ world.old.calls }
     ensures loose { world.new.loose ≡ world.old.loose }
     ensures made { world.new.made ≡ world.old.made + 1 }
@@ -143,17 +148,20 @@ fn make_client(world: &mut World, by: &ThreadRow, birth: Birth, connection: Key)
 fn start(world: &mut World, by: &ThreadRow, connection: Key, message: &Message, out: &mut Entries)
     requires spare { 2 ≤ out.old.spare }
     requires ports { 0 < world.old.room.ports }
+    requires messages { 0 < world.old.room.messages }
     requires handles { HasHandleRoom world.old by.now.process }
-    requires budget { world.old.made + 16 ≤ 16 * world.old.calls }
+    requires budget { HasWholeBudget world.old }
     requires thread { HasThread world.old.rows (shown_thread by.now) }
+    requires live { has (is_live_thread by.now.number) world.old.rows.threads ≡ true }
     requires ready { has (waits_as by.now.number) world.old.rows.waits ≡ false }
     requires table { has (is_table by.now.process) world.old.rows.handles ≡ true }
     requires few { tests.handle_load world.old.rows by.now.process < HANDLE_LIMIT }
-    requires connection { stands world.old.names.ports connection ≡ true }
+    requires connection { stands world.old.births.ports connection ≡ true }
     requires asks { asks message.now ≡ true }
+    requires client { message.now.header.client.thread ≡ by.now.number }
     ensures takes { let queue = birth_at world.old connection in
         let steps = connect.connect_steps (shown_thread by.now) queue message.now world.old.rows in
-        Takes steps world.old world.new out.old out.new }
+        Took steps world.old world.new out.old out.new }
     ensures calls { world.new.calls ≡ world.old.calls }
     ensures spare { out.old.spare ≤ out.new.spare + 2 }
 {
@@ -180,7 +188,8 @@ fn start(world: &mut World, by: &ThreadRow, connection: Key, message: &Message, 
 }
 
 /// `NtConnectPort`: asks for a connection to the port that a path leads to, with bytes that go with the request, and waits
-/// for the end of the connect. The caller's process is to get a handle to the client port, for which there is room then.
+/// for the end of the connect. The caller's process is to get a handle to the client port, for which there is room then,
+/// as there is for the message that is to tell that the port is closed.
 ///
 /// Refusals, in this order: PORT_MESSAGE_TOO_LONG where there are more than 232 bytes; the fault of the name, or
 /// OBJECT_TYPE_MISMATCH where a directory stands there; QUOTA_EXCEEDED where the process has 256 handles, with those that
@@ -196,14 +205,15 @@ pub fn nt_connect_port(
     requires spare { 2 ≤ out.old.spare }
     requires calls { world.old.calls < LINES_LIMIT }
     ensures takes { let steps = called world.old.rows by (connect_port name.now info.now) in
-        OnOk result (Takes steps world.old world.new out.old out.new) }
+        OnOk result (Took steps world.old world.new out.old out.new) }
     ensures outcome { let steps = called world.old.rows by (connect_port name.now info.now) in
         IfOk result (λ o. o ≡ outcome_of steps) }
     ensures calls { OnOk result (world.new.calls ≡ world.old.calls + 1) }
     ensures spare { OnOk result (out.old.spare ≤ out.new.spare + 2) }
     ensures late { let call = connect_port name.now info.now in
         OnErr result (IsOk (service world.old.rows by call)) }
-    ensures wanting { OnErr result (lacks_port_room world.old (caller world.old.rows by) ≡ true) }
+    ensures wanting { let row = caller world.old.rows by in
+        OnErr result (lacks_connect_room world.old row ≡ true) }
     ensures memory { OnErr result (Same world.old world.new) }
     ensures silent { OnErr result (out.new ≡ out.old) }
 {
@@ -216,6 +226,7 @@ pub fn nt_connect_port(
         }
     };
     world.ports_reserve(1)?;
+    world.messages_reserve(1)?;
     world.handles_reserve(caller.process, 1)?;
     world.begin_call();
     let message = connection_request(&caller, info);

@@ -2,7 +2,7 @@
 ghost use Rattle.std.specs.Prelude.{ℕ, ◌≡◌, ◌≤◌, ◌<◌, ◌+◌, ◌*◌, Ok, Err, None, Some, IfErr, IfOk, IsOk, OnOk, OnErr, is_some, length, option_copied, true};
 ghost use Rattle.lpc_base.specs.Rows.{first, has};
 ghost use Rattle.lpc_base.specs.declared.limits.TheConstants.{HANDLE_LIMIT, LINES_LIMIT};
-ghost use Rattle.lpc_connect.specs.Calls.{HasThread, called, creating, service};
+ghost use Rattle.lpc_connect.specs.Calls.{HasThread, creating};
 ghost use Rattle.lpc_connect.specs.Room.{HasHandleRoom, KeepsHandleRoom, lacks_room_for};
 ghost use Rattle.lpc_model.specs.Basics.{outcome_of, world_after};
 ghost use Rattle.lpc_model.specs.Connect as connect;
@@ -12,8 +12,9 @@ ghost use Rattle.lpc_model.specs.Machine.{service_of};
 ghost use Rattle.lpc_model.specs.Named.{free_name};
 ghost use Rattle.lpc_model.specs.Tests as tests;
 ghost use Rattle.lpc_model.specs.Tests.{next_birth};
-ghost use Rattle.lpc_world.specs.Does.{Takes};
-ghost use Rattle.lpc_world.specs.Kept.{Same};
+ghost use Rattle.lpc_world.specs.Called.{called, service};
+ghost use Rattle.lpc_world.specs.Does.{Took};
+ghost use Rattle.lpc_world.specs.Kept.{CanMake, HasWholeBudget, Same};
 ghost use Rattle.lpc_world.specs.Lawful.{drew};
 ghost use Rattle.lpc_world.specs.Names.{name_of, stands};
 ghost use Rattle.lpc_world.specs.Ready.{caller, is_ready};
@@ -50,14 +51,14 @@ fn create_test(world: &World, by: &ThreadRow, name: Option<&[u8]>) -> Result<(),
 fn make_named(world: &mut World, path: &[u8], birth: Birth) -> Key
     requires ports { 0 < world.old.room.ports }
     requires names { 0 < world.old.room.names }
-    requires budget { world.old.made < 16 * world.old.calls }
+    requires budget { CanMake world.old }
     requires fresh { port_row world.old.rows birth ≡ None }
     requires drawn { has (drew birth) world.old.rows.threads ≡ true }
     requires free { IsOk (free_name world.old.rows path.now) }
     ensures rows { IfOk (free_name world.old.rows path.now) (λ place.
         world.new.rows ≡ world_after world.old.rows (connect.named_steps birth place)) }
-    ensures name { name_of world.new.names.ports result ≡ birth }
-    ensures stands { stands world.new.names.ports result ≡ true }
+    ensures name { name_of world.new.births.ports result ≡ birth }
+    ensures stands { stands world.new.births.ports result ≡ true }
     ensures calls { world.new.calls ≡ world.old.calls }
     ensures loose { world.new.loose ≡ world.old.loose }
     ensures made { world.new.made ≡ world.old.made + 1 }
@@ -74,14 +75,14 @@ fn make_named(world: &mut World, path: &[u8], birth: Birth) -> Key
 fn make(world: &mut World, name: Option<&[u8]>, birth: Birth) -> Key
     requires ports { 0 < world.old.room.ports }
     requires names { is_some name ≡ true → 0 < world.old.room.names }
-    requires budget { world.old.made < 16 * world.old.calls }
+    requires budget { CanMake world.old }
     requires fresh { port_row world.old.rows birth ≡ None }
     requires drawn { has (drew birth) world.old.rows.threads ≡ true }
     requires free { IsOk (connect.making world.old.rows birth (option_copied name)) }
     ensures rows { IfOk (connect.making world.old.rows birth (option_copied name.entry)) (λ made.
         world.new.rows ≡ world_after world.old.rows made) }
-    ensures name { name_of world.new.names.ports result ≡ birth }
-    ensures stands { stands world.new.names.ports result ≡ true }
+    ensures name { name_of world.new.births.ports result ≡ birth }
+    ensures stands { stands world.new.births.ports result ≡ true }
     ensures calls { world.new.calls ≡ world.old.calls }
     ensures loose { world.new.loose ≡ world.old.loose }
     ensures made { world.new.made ≡ world.old.made + 1 }
@@ -99,7 +100,7 @@ fn create(world: &mut World, by: &ThreadRow, name: Option<&[u8]>, out: &mut Entr
     requires ports { 0 < world.old.room.ports }
     requires names { is_some name ≡ true → 0 < world.old.room.names }
     requires handles { HasHandleRoom world.old by.now.process }
-    requires budget { world.old.made + 16 ≤ 16 * world.old.calls }
+    requires budget { HasWholeBudget world.old }
     requires thread { HasThread world.old.rows (shown_thread by.now) }
     requires table { has (is_table by.now.process) world.old.rows.handles ≡ true }
     requires few { tests.handle_load world.old.rows by.now.process < HANDLE_LIMIT }
@@ -108,7 +109,7 @@ fn create(world: &mut World, by: &ThreadRow, name: Option<&[u8]>, out: &mut Entr
     ensures takes { let port = next_birth (shown_thread by.now) in
         IfOk (connect.making world.old.rows port (option_copied name.entry)) (λ made.
         let steps = creating world.old.rows (shown_thread by.now) made in
-        Takes steps world.old world.new out.old out.new) }
+        Took steps world.old world.new out.old out.new) }
     ensures calls { world.new.calls ≡ world.old.calls }
     ensures spare { out.new.spare + 1 ≡ out.old.spare }
 {
@@ -140,7 +141,7 @@ pub fn nt_create_port(
     requires spare { 2 ≤ out.old.spare }
     requires calls { world.old.calls < LINES_LIMIT }
     ensures takes { let call = create_port (option_copied name.entry) in
-        OnOk result (Takes (called world.old.rows by call) world.old world.new out.old out.new) }
+        OnOk result (Took (called world.old.rows by call) world.old world.new out.old out.new) }
     ensures outcome { let call = create_port (option_copied name.entry) in
         IfOk result (λ o. o ≡ outcome_of (called world.old.rows by call)) }
     ensures calls { OnOk result (world.new.calls ≡ world.old.calls + 1) }

@@ -12,6 +12,3 @@ pub use complete::nt_complete_connect_port;
 pub use connect::nt_connect_port;
 pub use create::nt_create_port;
 pub use listen::nt_listen_port;
-
-#[cfg(test)]
-mod tests;

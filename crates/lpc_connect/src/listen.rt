@@ -2,11 +2,13 @@
 ghost use Rattle.std.specs.Prelude.{◌≡◌, ◌≤◌, ◌<◌, ◌+◌, ◌*◌, Ok, Err, true, false, IfOk, MatchResult};
 ghost use Rattle.lpc_base.specs.Rows.{has};
 ghost use Rattle.lpc_base.specs.declared.limits.TheConstants.{LINES_LIMIT};
-ghost use Rattle.lpc_connect.specs.Calls.{birth_at, called, listening, row_birth, service};
+ghost use Rattle.lpc_connect.specs.Calls.{birth_at, listening, row_birth};
 ghost use Rattle.lpc_model.specs.Basics.{outcome_of};
-ghost use Rattle.lpc_model.specs.Found.{is_thread, waits_as};
+ghost use Rattle.lpc_model.specs.Found.{is_live_thread, waits_as};
 ghost use Rattle.lpc_model.specs.Lines.{listen_port};
-ghost use Rattle.lpc_world.specs.Does.{Does, Takes};
+ghost use Rattle.lpc_world.specs.Called.{called, service};
+ghost use Rattle.lpc_world.specs.Does.{Does, Took};
+ghost use Rattle.lpc_world.specs.Kept.{HasWholeBudget};
 ghost use Rattle.lpc_world.specs.Names.{stands};
 ghost use Rattle.lpc_world.specs.Ready.{caller, is_ready};
 ghost use Rattle.lpc_world.specs.Shown.{shown_thread};
@@ -28,7 +30,7 @@ fn listen_test(world: &World, tid: u32, handle: u32) -> Result<Key, Status>
         MatchResult result
         (λ key. found ≡ Ok (listening world.now.rows by (row_birth world.now key)))
         (λ s. found ≡ Err s) }
-    ensures stands { IfOk result (λ key. stands world.now.names.ports key ≡ true) }
+    ensures stands { IfOk result (λ key. stands world.now.births.ports key ≡ true) }
     ensures name { IfOk result (λ key. row_birth world.now key ≡ birth_at world.now key) }
 {
     let port = world.port_at(tid, handle)?;
@@ -41,13 +43,13 @@ fn listen_test(world: &World, tid: u32, handle: u32) -> Result<Key, Status>
 /// The oldest connection request of the port is taken, or the thread waits for one.
 fn take_or_wait(world: &mut World, by: &ThreadRow, port: Key, out: &mut Entries) -> Outcome
     requires spare { 1 ≤ out.old.spare }
-    requires budget { world.old.made + 16 ≤ 16 * world.old.calls }
-    requires thread { has (is_thread by.now.number) world.old.rows.threads ≡ true }
+    requires budget { HasWholeBudget world.old }
+    requires live { has (is_live_thread by.now.number) world.old.rows.threads ≡ true }
     requires ready { has (waits_as by.now.number) world.old.rows.waits ≡ false }
-    requires port { stands world.old.names.ports port ≡ true }
+    requires port { stands world.old.births.ports port ≡ true }
     ensures takes { let port = birth_at world.old port in
         let steps = listening world.old.rows (shown_thread by.now) port in
-        Takes steps world.old world.new out.old out.new }
+        Took steps world.old world.new out.old out.new }
     ensures outcome { let port = birth_at world.old port in
         result ≡ outcome_of (listening world.old.rows (shown_thread by.now) port) }
     ensures calls { world.new.calls ≡ world.old.calls }
@@ -92,7 +94,7 @@ fn take_or_wait(world: &mut World, by: &ThreadRow, port: Key, out: &mut Entries)
 fn listen(world: &mut World, tid: u32, handle: u32, out: &mut Entries) -> Result<Outcome, Status>
     requires ready { is_ready world.old.rows tid ≡ true }
     requires spare { 2 ≤ out.old.spare }
-    requires budget { world.old.made + 16 ≤ 16 * world.old.calls }
+    requires budget { HasWholeBudget world.old }
     ensures does { let does = service world.old.rows tid (listen_port handle) in
         Does result does world.old world.new out.old out.new }
     ensures calls { world.new.calls ≡ world.old.calls }
@@ -112,7 +114,7 @@ pub fn nt_listen_port(world: &mut World, by: u32, handle: u32, out: &mut Entries
     requires spare { 2 ≤ out.old.spare }
     requires calls { world.old.calls < LINES_LIMIT }
     ensures takes { let steps = called world.old.rows by (listen_port handle) in
-        Takes steps world.old world.new out.old out.new }
+        Took steps world.old world.new out.old out.new }
     ensures outcome { result ≡ outcome_of (called world.old.rows by (listen_port handle)) }
     ensures calls { world.new.calls ≡ world.old.calls + 1 }
     ensures spare { out.old.spare ≤ out.new.spare + 2 }

@@ -10,7 +10,7 @@ use Rattle.lpc_model.specs.Request.{nt_reply_port, nt_reply_wait_receive_port, n
 use Rattle.lpc_model.specs.World.{World}
 use Rattle.lpc_model.specs.declared.entry.CallName.TheVariants as name
 use Rattle.lpc_model.specs.declared.entry.Outcome.{Outcome}
-use Rattle.lpc_world.specs.Does.{Does, Takes}
+use Rattle.lpc_world.specs.Does.{Does, Took}
 use Rattle.lpc_world.specs.Kept.{Kept}
 use Rattle.lpc_world.specs.Ready.{caller}
 
@@ -26,7 +26,7 @@ abbrev pub CanPost : World → ℕ → ℕ → List ℕ → Type 0
 CanPost w tid handle bytes = IsOk (nt_request_port w (caller w tid) handle bytes)
 
 abbrev pub Posts : ℕ → ℕ → List ℕ → Kept → Kept → Listed → Listed → Type 0
-Posts tid handle bytes old new before after = Takes (post old.rows tid handle bytes) old new before after
+Posts tid handle bytes old new before after = Took (post old.rows tid handle bytes) old new before after
 
 -- NtRequestWaitReplyPort; it was made; its own function made it, or left its refusal to be told
 abbrev pub ask : World → ℕ → ℕ → List ℕ → List Basic
@@ -34,7 +34,7 @@ ask w tid handle bytes =
     settled (caller w tid) name.NtRequestWaitReplyPort (nt_request_wait_reply_port w (caller w tid) handle bytes)
 
 abbrev pub Asks : ℕ → ℕ → List ℕ → Kept → Kept → Listed → Listed → Type 0
-Asks tid handle bytes old new before after = Takes (ask old.rows tid handle bytes) old new before after
+Asks tid handle bytes old new before after = Took (ask old.rows tid handle bytes) old new before after
 
 abbrev pub Asked : Result Outcome Status → ℕ → ℕ → List ℕ → Kept → Kept → Listed → Listed → Type 0
 Asked result tid handle bytes old new before after =
@@ -45,7 +45,7 @@ abbrev pub reply : World → ℕ → ℕ → List ℕ → List Basic
 reply w tid handle bytes = settled (caller w tid) name.NtReplyPort (nt_reply_port w (caller w tid) handle bytes)
 
 abbrev pub Replies : ℕ → ℕ → List ℕ → Kept → Kept → Listed → Listed → Type 0
-Replies tid handle bytes old new before after = Takes (reply old.rows tid handle bytes) old new before after
+Replies tid handle bytes old new before after = Took (reply old.rows tid handle bytes) old new before after
 
 abbrev pub Answered : Result Outcome Status → ℕ → ℕ → List ℕ → Kept → Kept → Listed → Listed → Type 0
 Answered result tid handle bytes old new before after =
@@ -57,7 +57,7 @@ receive w tid handle bytes =
     settled (caller w tid) name.NtReplyWaitReceivePort (nt_reply_wait_receive_port w (caller w tid) handle (option_copied bytes))
 
 abbrev pub Receives : ℕ → ℕ → Option (Bor (List ℕ)) → Kept → Kept → Listed → Listed → Type 0
-Receives tid handle bytes old new before after = Takes (receive old.rows tid handle bytes) old new before after
+Receives tid handle bytes old new before after = Took (receive old.rows tid handle bytes) old new before after
 
 abbrev pub Received : Result Outcome Status → ℕ → ℕ → Option (List ℕ) → Kept → Kept → Listed → Listed → Type 0
 Received result tid handle bytes old new before after =

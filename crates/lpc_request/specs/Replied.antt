@@ -13,8 +13,8 @@ use Rattle.lpc_procs.specs.declared.rows.ThreadRow.{ThreadRow}
 use Rattle.lpc_request.specs.Rows.{name_at, row_at}
 use Rattle.lpc_request.specs.declared.receive.Replied.{Replied}
 use Rattle.lpc_slots.specs.declared.Key.{Key}
-use Rattle.lpc_world.specs.Does.{Takes}
-use Rattle.lpc_world.specs.Kept.{Kept, is_pending_in}
+use Rattle.lpc_world.specs.Does.{Took}
+use Rattle.lpc_world.specs.Kept.{Kept, has_queued}
 use Rattle.lpc_world.specs.Ready.{caller, waiter}
 use Rattle.lpc_world.specs.Shown.{shown_thread}
 
@@ -25,7 +25,7 @@ answered_by w port m = request.answered_test w.rows (row_at w port) m
 -- a thread's reply wakes the thread that asked
 abbrev pub Returns : ℕ → ℕ → Message → Kept → Kept → Listed → Listed → Type 0
 Returns tid answered m old new before after =
-    Takes (request.reply_steps (caller old.rows tid) (waiter old.rows answered) m) old new before after
+    Took (request.reply_steps (caller old.rows tid) (waiter old.rows answered) m) old new before after
 
 -- the steps of a reply that is made, none where there is none
 abbrev pub replied_steps : World → Option Replied → List Basic
@@ -33,12 +33,12 @@ replied_steps w None = []
 replied_steps w (Some r) = reply (waiter w r.thread) r.message ∷ []
 
 abbrev pub RepliesFirst : Option Replied → Kept → Kept → Listed → Listed → Type 0
-RepliesFirst replied old new before after = Takes (replied_steps old.rows replied) old new before after
+RepliesFirst replied old new before after = Took (replied_steps old.rows replied) old new before after
 
--- the thread waits, and its wait isn't for the answer to a request or connect that isn't received
+-- the thread waits, and no message of its own stands in a queue
 abbrev pub may_be_told : World → Option Replied → Type 0
 may_be_told w None = Unit {0}
-may_be_told w (Some r) = (has (waits_as r.thread) w.waits ≡ true) × (is_pending_in w r.thread ≡ false)
+may_be_told w (Some r) = (has (waits_as r.thread) w.waits ≡ true) × (has_queued w r.thread ≡ false)
 
 -- a thread's receive on a port, behind a reply: the oldest message of the queue is taken, or the thread waits
 abbrev pub receive_by : ThreadRow → Key → Key → Option Replied → Kept → List Basic
@@ -47,4 +47,4 @@ receive_by by port queue replied w =
 
 abbrev pub TakesOrWaits : ThreadRow → Key → Key → Option Replied → Kept → Kept → Listed → Listed → Type 0
 TakesOrWaits by port queue replied old new before after =
-    Takes (receive_by by port queue replied old) old new before after
+    Took (receive_by by port queue replied old) old new before after

@@ -10,7 +10,7 @@ use Rattle.lpc_world.specs.Ready.{port_of}
 
 -- the birth of the port at a key, and its row
 abbrev pub name_at : Kept → Key → Birth
-name_at w key = name_of w.names.ports key
+name_at w key = name_of w.births.ports key
 
 abbrev pub row_at : Kept → Key → PortRow
 row_at w key = port_of w.rows (name_at w key)

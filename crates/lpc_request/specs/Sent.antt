@@ -9,7 +9,7 @@ use Rattle.lpc_procs.specs.declared.rows.ThreadRow.{ThreadRow}
 use Rattle.lpc_request.specs.Rows.{name_at, row_at}
 use Rattle.lpc_request.specs.declared.send.Sendable.{Sendable}
 use Rattle.lpc_slots.specs.declared.Key.{Key}
-use Rattle.lpc_world.specs.Does.{Takes}
+use Rattle.lpc_world.specs.Does.{Took}
 use Rattle.lpc_world.specs.Kept.{Kept}
 use Rattle.lpc_world.specs.Ready.{caller}
 use Rattle.lpc_world.specs.Shown.{shown_thread}
@@ -28,8 +28,8 @@ may_post w tid handle bytes = request.datagram_send_test w.rows (caller w.rows t
 -- a thread sends a message on a port to a queue as a datagram, and as a request
 abbrev pub Sends : ThreadRow → Key → Key → Message → Kept → Kept → Listed → Listed → Type 0
 Sends by port queue m old new before after =
-    Takes (request.datagram_steps (shown_thread by) (row_at old port) (name_at old queue) (request.sent_by (shown_thread by) DATAGRAM m) old.rows) old new before after
+    Took (request.datagram_steps (shown_thread by) (row_at old port) (name_at old queue) (request.sent_by (shown_thread by) DATAGRAM m) old.rows) old new before after
 
 abbrev pub Requests : ThreadRow → Key → Key → Message → Kept → Kept → Listed → Listed → Type 0
 Requests by port queue m old new before after =
-    Takes (request.request_steps (shown_thread by) (row_at old port) (name_at old queue) (request.sent_by (shown_thread by) REQUEST m) old.rows) old new before after
+    Took (request.request_steps (shown_thread by) (row_at old port) (name_at old queue) (request.sent_by (shown_thread by) REQUEST m) old.rows) old new before after

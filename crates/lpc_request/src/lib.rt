@@ -8,6 +8,3 @@ mod send;
 pub use receive::nt_reply_wait_receive_port;
 pub use reply::nt_reply_port;
 pub use send::{nt_request_port, nt_request_wait_reply_port};
-
-#[cfg(test)]
-mod tests;

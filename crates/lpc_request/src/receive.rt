@@ -2,12 +2,12 @@
 ghost use Rattle.std.specs.Prelude.{◌≡◌, ◌≤◌, ◌<◌, ◌+◌, ◌*◌, Some, None, true, false};
 ghost use Rattle.lpc_base.specs.Rows.{has};
 ghost use Rattle.lpc_base.specs.declared.limits.TheConstants.{LINES_LIMIT};
-ghost use Rattle.lpc_model.specs.Found.{is_thread, waits_as};
+ghost use Rattle.lpc_model.specs.Found.{is_live_thread, waits_as};
 ghost use Rattle.lpc_request.specs.Called as steps;
 ghost use Rattle.lpc_request.specs.Called.{Ends, Received, Receives};
 ghost use Rattle.lpc_request.specs.Replied.{RepliesFirst, TakesOrWaits, may_be_told, receive_by};
 ghost use Rattle.lpc_request.specs.Rows.{name_at, row_at};
-ghost use Rattle.lpc_world.specs.Kept.{Roomy, StaysReady};
+ghost use Rattle.lpc_world.specs.Kept.{HasWholeBudget, Roomy, StaysReady};
 ghost use Rattle.lpc_world.specs.Names.{stands};
 ghost use Rattle.lpc_world.specs.Ready.{is_ready};
 
@@ -37,7 +37,7 @@ fn make_reply(world: &mut World, replied: &Option<Replied>, out: &mut Entries)
     requires told { may_be_told world.old.rows replied.now }
     ensures takes { RepliesFirst replied.now world.old world.new out.old out.new }
     ensures spare { out.old.spare ≤ out.new.spare + 1 }
-    ensures names { world.new.names ≡ world.old.names }
+    ensures births { world.new.births ≡ world.old.births }
     ensures calls { world.new.calls ≡ world.old.calls }
     ensures made { world.new.made ≡ world.old.made }
     ensures room { Roomy world.old.room world.new.room }
@@ -64,11 +64,11 @@ fn take_or_wait(
     out: &mut Entries,
 ) -> Outcome
     requires spare { 2 ≤ out.old.spare }
-    requires budget { world.old.made + 16 ≤ 16 * world.old.calls }
-    requires thread { has (is_thread by.now.number) world.old.rows.threads ≡ true }
+    requires budget { HasWholeBudget world.old }
+    requires live { has (is_live_thread by.now.number) world.old.rows.threads ≡ true }
     requires ready { has (waits_as by.now.number) world.old.rows.waits ≡ false }
-    requires port { stands world.old.names.ports port ≡ true }
-    requires queue { stands world.old.names.ports queue ≡ true }
+    requires port { stands world.old.births.ports port ≡ true }
+    requires queue { stands world.old.births.ports queue ≡ true }
     requires name { (row_at world.old port).birth ≡ name_at world.old port }
     requires told { may_be_told world.old.rows replied.now }
     ensures takes { TakesOrWaits by.now port queue replied.now world.old world.new out.old out.new }
@@ -119,7 +119,7 @@ fn take_or_wait(
 fn receive(world: &mut World, tid: u32, handle: u32, out: &mut Entries) -> Result<Outcome, Status>
     requires ready { is_ready world.old.rows tid ≡ true }
     requires spare { 2 ≤ out.old.spare }
-    requires budget { world.old.made + 16 ≤ 16 * world.old.calls }
+    requires budget { HasWholeBudget world.old }
     ensures does { Received result tid handle None world.old world.new out.old out.new }
     ensures calls { world.new.calls ≡ world.old.calls }
     ensures spare { out.old.spare ≤ out.new.spare + 2 }
@@ -141,7 +141,7 @@ fn reply_and_receive(
 ) -> Result<Outcome, Status>
     requires ready { is_ready world.old.rows tid ≡ true }
     requires spare { 2 ≤ out.old.spare }
-    requires budget { world.old.made + 16 ≤ 16 * world.old.calls }
+    requires budget { HasWholeBudget world.old }
     ensures does { Received result tid handle (Some reply.now) world.old world.new out.old out.new }
     ensures calls { world.new.calls ≡ world.old.calls }
     ensures spare { out.old.spare ≤ out.new.spare + 2 }

@@ -8,7 +8,7 @@ ghost use Rattle.lpc_request.specs.Called as steps;
 ghost use Rattle.lpc_request.specs.Called.{Answered, Ends, Replies};
 ghost use Rattle.lpc_request.specs.Replied.{Returns, answered_by};
 ghost use Rattle.lpc_request.specs.Rows.{Finds, name_at, row_at};
-ghost use Rattle.lpc_world.specs.Kept.{is_pending_in};
+ghost use Rattle.lpc_world.specs.Kept.{has_queued};
 ghost use Rattle.lpc_world.specs.Names.{stands};
 ghost use Rattle.lpc_world.specs.Ready.{is_ready, waiter};
 
@@ -31,11 +31,11 @@ pub fn as_reply(message: &Message) -> Message
 
 /// The thread whose wait a reply fits through a port: no such client, a message that fits no wait.
 pub fn answered_test(world: &World, port: Key, message: &Message) -> Result<u32, Status>
-    requires port { stands world.now.names.ports port ≡ true }
+    requires port { stands world.now.births.ports port ≡ true }
     requires name { (row_at world.now port).birth ≡ name_at world.now port }
     ensures found { Finds (waiter world.now.rows) result (answered_by world.now port message.now) }
     ensures waits { IfOk result (λ tid. has (waits_as tid) world.now.rows.waits ≡ true) }
-    ensures idle { IfOk result (λ tid. is_pending_in world.now.rows tid ≡ false) }
+    ensures left { IfOk result (λ tid. has_queued world.now.rows tid ≡ false) }
 {
     world.client_test(message.header.client)?;
     match world.fitted(port, message.header.client, message.header.message_id) {
@@ -70,7 +70,7 @@ fn send_reply(world: &mut World, tid: u32, answered: u32, message: &Message, out
     requires spare { 2 ≤ out.old.spare }
     requires ready { is_ready world.old.rows tid ≡ true }
     requires waits { has (waits_as answered) world.old.rows.waits ≡ true }
-    requires idle { is_pending_in world.old.rows answered ≡ false }
+    requires left { has_queued world.old.rows answered ≡ false }
     ensures takes { Returns tid answered message.now world.old world.new out.old out.new }
     ensures calls { world.new.calls ≡ world.old.calls }
     ensures spare { out.old.spare ≤ out.new.spare + 2 }

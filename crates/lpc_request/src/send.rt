@@ -2,12 +2,12 @@
 ghost use Rattle.std.specs.Prelude.{◌≡◌, ◌≤◌, ◌<◌, ◌+◌, ◌*◌, true, false, IfOk, OnOk, OnErr};
 ghost use Rattle.lpc_base.specs.Rows.{has};
 ghost use Rattle.lpc_base.specs.declared.limits.TheConstants.{LINES_LIMIT};
-ghost use Rattle.lpc_model.specs.Found.{is_thread, waits_as};
+ghost use Rattle.lpc_model.specs.Found.{is_live_thread, is_thread, waits_as};
 ghost use Rattle.lpc_model.specs.Request as request;
 ghost use Rattle.lpc_request.specs.Called.{Asked, Asks, CanPost, Ends, Posts, ask, post};
 ghost use Rattle.lpc_request.specs.Rows.{Finds, name_at, row_at};
 ghost use Rattle.lpc_request.specs.Sent.{Requests, Sends, may_post, may_send, shown};
-ghost use Rattle.lpc_world.specs.Kept.{Same};
+ghost use Rattle.lpc_world.specs.Kept.{HasWholeBudget, Same};
 ghost use Rattle.lpc_world.specs.Names.{stands};
 ghost use Rattle.lpc_world.specs.Ready.{is_ready};
 ghost use Rattle.lpc_world.specs.Shown.{shown_thread};
@@ -36,9 +36,10 @@ pub struct Sendable {
 fn send_test(world: &World, tid: u32, handle: u32, bytes: &[u8]) -> Result<Sendable, Status>
     requires { is_ready world.now.rows tid ≡ true }
     ensures found { Finds (shown world.now) result (may_send world.now tid handle bytes.now) }
-    ensures port { IfOk result (λ s. stands world.now.names.ports s.port ≡ true) }
-    ensures queue { IfOk result (λ s. stands world.now.names.ports s.queue ≡ true) }
-    ensures name { IfOk result (λ s. (row_at world.now s.port).birth ≡ name_at world.now s.port) }
+    ensures port { IfOk result (λ s. stands world.now.births.ports s.port ≡ true) }
+    ensures queue { IfOk result (λ s. stands world.now.births.ports s.queue ≡ true) }
+    ensures name { IfOk result
+        (λ s. (row_at world.now s.port).birth ≡ name_at world.now s.port) }
 {
     let port = world.port_at(tid, handle)?;
     let message = kept(&world.read_message(bytes)?);
@@ -80,10 +81,10 @@ fn send_datagram(
     out: &mut Entries,
 )
     requires spare { 2 ≤ out.old.spare }
-    requires budget { world.old.made + 16 ≤ 16 * world.old.calls }
+    requires budget { HasWholeBudget world.old }
     requires thread { has (is_thread by.now.number) world.old.rows.threads ≡ true }
-    requires port { stands world.old.names.ports port ≡ true }
-    requires queue { stands world.old.names.ports queue ≡ true }
+    requires port { stands world.old.births.ports port ≡ true }
+    requires queue { stands world.old.births.ports queue ≡ true }
     requires name { (row_at world.old port).birth ≡ name_at world.old port }
     requires room { 0 < world.old.room.messages }
     ensures takes { Sends by.now port queue message.now world.old world.new out.old out.new }
@@ -106,9 +107,10 @@ fn send_datagram(
 fn datagram_test(world: &World, tid: u32, handle: u32, bytes: &[u8]) -> Result<Sendable, Status>
     requires { is_ready world.now.rows tid ≡ true }
     ensures found { Finds (shown world.now) result (may_post world.now tid handle bytes.now) }
-    ensures port { IfOk result (λ s. stands world.now.names.ports s.port ≡ true) }
-    ensures queue { IfOk result (λ s. stands world.now.names.ports s.queue ≡ true) }
-    ensures name { IfOk result (λ s. (row_at world.now s.port).birth ≡ name_at world.now s.port) }
+    ensures port { IfOk result (λ s. stands world.now.births.ports s.port ≡ true) }
+    ensures queue { IfOk result (λ s. stands world.now.births.ports s.queue ≡ true) }
+    ensures name { IfOk result
+        (λ s. (row_at world.now s.port).birth ≡ name_at world.now s.port) }
 {
     let sent = send_test(world, tid, handle, bytes)?;
     world.datagram_test(sent.port)?;
@@ -166,11 +168,12 @@ fn send_request(
     out: &mut Entries,
 )
     requires spare { 2 ≤ out.old.spare }
-    requires budget { world.old.made + 16 ≤ 16 * world.old.calls }
+    requires budget { HasWholeBudget world.old }
     requires thread { has (is_thread by.now.number) world.old.rows.threads ≡ true }
+    requires live { has (is_live_thread by.now.number) world.old.rows.threads ≡ true }
     requires ready { has (waits_as by.now.number) world.old.rows.waits ≡ false }
-    requires port { stands world.old.names.ports port ≡ true }
-    requires queue { stands world.old.names.ports queue ≡ true }
+    requires port { stands world.old.births.ports port ≡ true }
+    requires queue { stands world.old.births.ports queue ≡ true }
     requires name { (row_at world.old port).birth ≡ name_at world.old port }
     ensures takes { Requests by.now port queue message.now world.old world.new out.old out.new }
     ensures calls { world.new.calls ≡ world.old.calls }
@@ -209,7 +212,7 @@ fn request(
 ) -> Result<Outcome, Status>
     requires ready { is_ready world.old.rows tid ≡ true }
     requires spare { 2 ≤ out.old.spare }
-    requires budget { world.old.made + 16 ≤ 16 * world.old.calls }
+    requires budget { HasWholeBudget world.old }
     ensures does { Asked result tid handle message.now world.old world.new out.old out.new }
     ensures calls { world.new.calls ≡ world.old.calls }
     ensures spare { out.old.spare ≤ out.new.spare + 2 }

@@ -10,7 +10,7 @@ use Rattle.lpc_connect.proofs.complete.nt_complete_connect_port.Goals as goal
 pub returns-in-Ok-clause-takes : goal.returns-in-Ok-clause-takes
 returns-in-Ok-clause-takes c =
     let w : World = c.args.world.now.rows in
-    let found : Completable = record { server = name_of c.begin_call.new.self.names.ports c.in-Ok.connection.server; client = name_of c.begin_call.new.self.names.ports c.in-Ok.connection.client; wait = waiter w c.in-Ok.connection.thread } in
+    let found : Completable = record { server = name_of c.begin_call.new.self.births.ports c.in-Ok.connection.server; client = name_of c.begin_call.new.self.births.ports c.in-Ok.connection.client; wait = waiter w c.in-Ok.connection.thread } in
     let does = rw (c.begin_call.ensures.rows) at c.complete.ensures.takes in
     let test = rw (c.begin_call.ensures.rows, ← c.caller-caller.ensures.row) at c.in-Ok.ensures.test in
     rw (← c.caller-caller.ensures.row) (does ∙ completes w (shown_thread c.caller-caller.result) c.args.handle c.args.out.now.list c.args.world.now.loose found test)

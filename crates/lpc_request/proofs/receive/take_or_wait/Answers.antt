@@ -18,11 +18,11 @@ waits_add-requires-clause-ready c = c.make_reply-in-None.ensures.still.ready c.a
 pub returns-then-wants_answer-clause-takes : goal.returns-then-wants_answer-clause-takes
 returns-then-wants_answer-clause-takes c =
     let w : World = c.args.world.now.rows in
-    let m : MessageRow = pulled_row c.args.world.now.names c.args.queue c.in-Some.taken in
+    let m : MessageRow = pulled_row c.args.world.now.births c.args.queue c.in-Some.taken in
     let kept : c.from_bytes-message.result ≡ m.message = c.from_bytes-message.ensures ∙ ap message_of c.as_slice.ensures.value in
     let own : Entry = entry.Answer c.args.by.now.number NtReplyWaitReceivePort SUCCESS (receipt m) in
     let made = rw (c.push.ensures.list, c.receipt.ensures, kept, c.in-Some.ensures.loose) at c.make_reply.ensures.takes in
-    let marked = rw (c.make_reply.ensures.names, c.in-Some.ensures.names) at c.waits_receive.ensures.rows in
+    let marked = rw (c.make_reply.ensures.births, c.in-Some.ensures.births) at c.waits_receive.ensures.rows in
     rw (← c.in-Some.ensures.message)
     (taken w c.args.out.now.list c.args.world.now.loose own c.args.replied.now m true c.ports_pull.new.self.rows c.make_reply.new.world.rows c.waits_receive.new.self.rows c.make_reply.new.out.list c.make_reply.new.world.loose c.waits_receive.new.self.loose
     (ap asks (sym kept) ∙ sym c.wants_answer.ensures ∙ c.if-wants_answer.true) c.in-Some.ensures.rows made
@@ -31,7 +31,7 @@ returns-then-wants_answer-clause-takes c =
 pub returns-else-wants_answer-clause-takes : goal.returns-else-wants_answer-clause-takes
 returns-else-wants_answer-clause-takes c =
     let w : World = c.args.world.now.rows in
-    let m : MessageRow = pulled_row c.args.world.now.names c.args.queue c.in-Some.taken in
+    let m : MessageRow = pulled_row c.args.world.now.births c.args.queue c.in-Some.taken in
     let kept : c.from_bytes-message.result ≡ m.message = c.from_bytes-message.ensures ∙ ap message_of c.as_slice.ensures.value in
     let own : Entry = entry.Answer c.args.by.now.number NtReplyWaitReceivePort SUCCESS (receipt m) in
     let made = rw (c.push.ensures.list, c.receipt.ensures, kept, c.in-Some.ensures.loose) at c.make_reply.ensures.takes in
