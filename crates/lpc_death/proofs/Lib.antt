@@ -1,0 +1,4 @@
+pub mod Steps
+pub mod Posted
+pub mod HandlesKept
+pub mod Untold

@@ -1,0 +1,64 @@
+use Rattle.std.proofs.Common.{◌≡◌, [], ◌∷◌, ap, refl, ◌∙◌}
+use Rattle.lpc_model.specs.Basics.{Steps, Unbinds, doing, ◌▹◌}
+use Rattle.lpc_model.specs.Close.{close_port, cut_pair, empty_queue, end_receives, end_requests, post_closed}
+use Rattle.lpc_model.proofs.Closing.{behind, stage_five, stage_four, stage_one, stage_three, stage_two}
+use Rattle.lpc_world.specs.Closing.{end_all}
+use Rattle.lpc_world.specs.Does.{Left}
+use Rattle.lpc_world.specs.Names.{name_of}
+use Rattle.lpc_world.specs.declared.ending.Ending.TheVariants.{Receives, Requests}
+use Rattle.lpc_world.proofs.Composed.{took-then}
+use Rattle.lpc_death.proofs.HandlesKept.{handles-kept}
+use Rattle.lpc_death.proofs.Steps.{took-one}
+use Rattle.lpc_death.proofs.Untold.{five-untold}
+use Rattle.lpc_death.proofs.close.close_port.Goals as goal
+
+-- the world before the post is that behind the first five steps
+pub post_closed-requires-clause-untold : goal.post_closed-requires-clause-untold
+post_closed-requires-clause-untold c =
+    let w = c.args.world.now.rows in
+    let b = name_of c.args.world.now.births.ports c.args.port in
+    let one = c.names_unbind.ensures.births in
+    let two = c.end_all.ensures.births ∙ one in
+    let three = c.end_all-2.ensures.births ∙ two in
+    let four = c.empty_queue.ensures.births ∙ three in
+    let five = c.cut_pair.ensures.births ∙ four in
+    let unbound : c.names_unbind.new.self.rows ≡ stage_one w b = c.names_unbind.ensures.rows in
+    let received : c.end_all.new.self.rows ≡ stage_two w b = ap (λ (l : Left). l.world) (rw one at c.end_all.ensures.took) ∙ ap (behind (end_receives b)) unbound in
+    let requested : c.end_all-2.new.self.rows ≡ stage_three w b = ap (λ (l : Left). l.world) (rw two at c.end_all-2.ensures.took) ∙ ap (behind (end_requests b)) received in
+    let emptied : c.empty_queue.new.world.rows ≡ stage_four w b = ap (λ (l : Left). l.world) (rw three at c.empty_queue.ensures.takes) ∙ ap (behind (empty_queue b)) requested in
+    let cut : c.cut_pair.new.world.rows ≡ stage_five w b = ap (λ (l : Left). l.world) (rw four at c.cut_pair.ensures.takes) ∙ ap (behind (cut_pair b)) emptied in
+    rw (five, cut) (five-untold w b c.requires.untold)
+
+pub returns-clause-takes : goal.returns-clause-takes
+unfolding close_port
+returns-clause-takes c =
+    let w = c.args.world.now in
+    let one = c.names_unbind.new.self in
+    let two = c.end_all.new.self in
+    let three = c.end_all-2.new.self in
+    let four = c.empty_queue.new.world in
+    let five = c.cut_pair.new.world in
+    let end = c.post_closed.new.world in
+    let out = c.args.out.now in
+    let last = c.post_closed.new.out in
+    let b = name_of w.births.ports c.args.port in
+    let names : Steps = doing (Unbinds b ∷ []) in
+    let receives : Steps = end_all Receives b in
+    let requests : Steps = end_all Requests b in
+    let unbound = took-one (Unbinds b) w one out refl c.names_unbind.ensures.rows c.names_unbind.ensures.loose in
+    let received = rw (c.names_unbind.ensures.births) at c.end_all.ensures.took in
+    let requested = rw (c.end_all.ensures.births, c.names_unbind.ensures.births) at c.end_all-2.ensures.took in
+    let emptied = rw (c.end_all-2.ensures.births, c.end_all.ensures.births, c.names_unbind.ensures.births) at c.empty_queue.ensures.takes in
+    let cut = rw (c.empty_queue.ensures.births, c.end_all-2.ensures.births, c.end_all.ensures.births, c.names_unbind.ensures.births) at c.cut_pair.ensures.takes in
+    let posted = rw (c.cut_pair.ensures.births, c.empty_queue.ensures.births, c.end_all-2.ensures.births, c.end_all.ensures.births, c.names_unbind.ensures.births) at c.post_closed.ensures.takes in
+    took-then names (receives ▹ (requests ▹ (empty_queue b ▹ (cut_pair b ▹ post_closed b)))) w one end out out last unbound
+    (took-then receives (requests ▹ (empty_queue b ▹ (cut_pair b ▹ post_closed b))) one two end out c.end_all.new.out last received
+    (took-then requests (empty_queue b ▹ (cut_pair b ▹ post_closed b)) two three end c.end_all.new.out c.end_all-2.new.out last requested
+    (took-then (empty_queue b) (cut_pair b ▹ post_closed b) three four end c.end_all-2.new.out c.empty_queue.new.out last emptied
+    (took-then (cut_pair b) (post_closed b) four five end c.empty_queue.new.out c.cut_pair.new.out last cut posted))))
+
+pub returns-clause-handles : goal.returns-clause-handles
+returns-clause-handles c =
+    let w = c.args.world.now in
+    let b = name_of w.births.ports c.args.port in
+    ap (λ (l : Left). l.world.handles) (returns-clause-takes c) ∙ handles-kept w.rows b

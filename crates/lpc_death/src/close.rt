@@ -1,0 +1,215 @@
+// The call that closes a handle, and a port with its last one.
+ghost use Rattle.std.specs.Prelude.{◌≡◌, ◌≤◌, ◌<◌, ◌+◌, ◌++◌, true, false, length};
+ghost use Rattle.byteorder.specs.Endian.{little_bytes};
+ghost use Rattle.lpc_base.specs.Rows.{has};
+ghost use Rattle.lpc_base.specs.declared.limits.TheConstants.{LINES_LIMIT};
+ghost use Rattle.lpc_death.specs.Calls.{creator_of};
+ghost use Rattle.lpc_death.specs.Closing.{CanClose, closes_last, has_one_handle, is_told};
+ghost use Rattle.lpc_model.specs.Basics.{outcome_of};
+ghost use Rattle.lpc_model.specs.Close as model;
+ghost use Rattle.lpc_model.specs.Found.{is_table};
+ghost use Rattle.lpc_model.specs.Lines.{close};
+ghost use Rattle.lpc_world.specs.Called.{called};
+ghost use Rattle.lpc_world.specs.Clauses.{birth_at, name_at, row_shown};
+ghost use Rattle.lpc_world.specs.Closing.{HasMutualPairs};
+ghost use Rattle.lpc_world.specs.Does.{Took};
+ghost use Rattle.lpc_world.specs.Kept.{CanMake};
+ghost use Rattle.lpc_world.specs.Names.{stands};
+ghost use Rattle.lpc_world.specs.Ready.{is_ready};
+ghost use Rattle.lpc_world.specs.Shown.{object_stands};
+
+use byteorder::{ByteOrder, LittleEndian};
+use lpc_base::Birth;
+use lpc_base::limits::HEADER_SIZE;
+use lpc_base::status::SUCCESS;
+use lpc_handles::Row;
+use lpc_message::{Header, kind};
+use lpc_model::{Body, CallName, Entries, Entry, Fields, Message, Outcome, refuse};
+use lpc_slots::Key;
+use lpc_world::{Closed, Ending, Object, World};
+
+/// The data of a message that tells of a closed port: the maker and the ordinal of its birth, 4 bytes each.
+fn closed_data(birth: Birth) -> [u8; 8]
+    ensures { result ≡ little_bytes 4 birth.maker ++ little_bytes 4 birth.ordinal }
+{
+    let mut data = [0u8; 8];
+    LittleEndian::write_u32(&mut data, birth.maker);
+    LittleEndian::write_u32(&mut data[4..], birth.ordinal);
+    data
+}
+
+/// The message that tells of a closed port: it is of the connect that made the port, and names the port by its birth.
+fn closed_message(closed: &Closed) -> Message
+    ensures { result ≡ model.closed_message (creator_of closed.now) closed.now.birth }
+{
+    let data = closed_data(closed.birth);
+    Message {
+        header: Header {
+            data_size: data.len() as u16,
+            message_size: (HEADER_SIZE + data.len()) as u16,
+            kind: kind::PORT_CLOSED,
+            ranges_offset: 0,
+            client: closed.client,
+            message_id: closed.message_id,
+            section_size: 0,
+        },
+        body: Body::from_slice(&data),
+    }
+}
+
+/// That a completed client port is closed is posted to its connection port, where that is open.
+fn post_closed(world: &mut World, port: Key, out: &mut Entries)
+    requires port { stands world.old.births.ports port ≡ true }
+    requires untold { is_told world.old.rows (birth_at world.old port) ≡ false }
+    requires spare { 1 ≤ out.old.spare }
+    requires budget { CanMake world.old }
+    ensures takes { let steps = model.post_closed (birth_at world.old port) world.old.rows in
+        Took steps world.old world.new out.old out.new }
+    ensures births { world.new.births ≡ world.old.births }
+    ensures calls { world.new.calls ≡ world.old.calls }
+    ensures spare { out.old.spare ≤ out.new.spare + 1 }
+{
+    if let Some(closed) = world.told_of(port) {
+        let message = closed_message(&closed);
+        world.deliver(closed.queue, port, closed.context, &message, out);
+    }
+}
+
+/// The queue of a port is emptied: the requests in it end, and the connects to it that aren't accepted; its other messages
+/// go.
+fn empty_queue(world: &mut World, port: Key, out: &mut Entries)
+    requires port { stands world.old.births.ports port ≡ true }
+    requires pairs { HasMutualPairs world.old.rows }
+    requires spare { length world.old.rows.waits ≤ out.old.spare }
+    ensures takes { let steps = model.empty_queue (birth_at world.old port) world.old.rows in
+        Took steps world.old world.new out.old out.new }
+    ensures ports { world.new.rows.ports ≡ world.old.rows.ports }
+    ensures births { world.new.births ≡ world.old.births }
+    ensures calls { world.new.calls ≡ world.old.calls }
+    ensures made { world.new.made ≡ world.old.made }
+    ensures spare { out.new.spare + length world.old.rows.waits
+        ≡ out.old.spare + length world.new.rows.waits }
+{
+    world.end_all(port, Ending::QueuedRequests, out);
+    world.end_all(port, Ending::Offers, out);
+    world.messages_empty(port);
+}
+
+/// A port is cut off from its other end: requests that were sent there end, receives that wait there on a client port, and
+/// the connect that was accepted and isn't completed.
+fn cut_pair(world: &mut World, port: Key, out: &mut Entries)
+    requires port { stands world.old.births.ports port ≡ true }
+    requires pairs { HasMutualPairs world.old.rows }
+    requires spare { length world.old.rows.waits ≤ out.old.spare }
+    ensures takes { let steps = model.cut_pair (birth_at world.old port) world.old.rows in
+        Took steps world.old world.new out.old out.new }
+    ensures births { world.new.births ≡ world.old.births }
+    ensures calls { world.new.calls ≡ world.old.calls }
+    ensures made { world.new.made ≡ world.old.made }
+    ensures spare { out.new.spare + length world.old.rows.waits
+        ≡ out.old.spare + length world.new.rows.waits }
+{
+    world.end_all(port, Ending::RequestsAcross, out);
+    world.end_all(port, Ending::ReceivesAcross, out);
+    world.end_all(port, Ending::AcceptedAcross, out);
+    world.ports_cut(port);
+}
+
+/// A port is closed, in six steps; its last handle still names it.
+#[tactic(auto, unfolding(lpc_model::specs::Close::close_port))]
+fn close_port(world: &mut World, port: Key, out: &mut Entries)
+    requires port { stands world.old.births.ports port ≡ true }
+    requires pairs { HasMutualPairs world.old.rows }
+    requires untold { is_told world.old.rows (birth_at world.old port) ≡ false }
+    requires spare { length world.old.rows.waits + 1 ≤ out.old.spare }
+    requires budget { CanMake world.old }
+    ensures takes { let steps = model.close_port (birth_at world.old port) world.old.rows in
+        Took steps world.old world.new out.old out.new }
+    ensures handles { world.new.rows.handles ≡ world.old.rows.handles }
+    ensures calls { world.new.calls ≡ world.old.calls }
+    ensures spare { out.old.spare ≤ out.new.spare + length world.old.rows.waits + 1 }
+{
+    world.names_unbind(port);
+    world.end_all(port, Ending::Receives, out);
+    world.end_all(port, Ending::Requests, out);
+    empty_queue(world, port, out);
+    cut_pair(world, port, out);
+    post_closed(world, port, out);
+}
+
+/// One handle alone names the object.
+fn has_one_handle(world: &World, object: Object) -> bool
+    requires { object_stands world.now.births object ≡ true }
+    ensures { result ≡ has_one_handle world.now.rows (name_at world.now object) }
+{
+    world.handles_to(object) == 1
+}
+
+/// A port is closed where one handle alone names it.
+fn close_last(world: &mut World, object: Object, out: &mut Entries)
+    requires object { object_stands world.old.births object ≡ true }
+    requires can { CanClose world.old.rows }
+    requires spare { length world.old.rows.waits + 1 ≤ out.old.spare }
+    requires budget { CanMake world.old }
+    ensures takes { let steps = closes_last (name_at world.old object) world.old.rows in
+        Took steps world.old world.new out.old out.new }
+    ensures handles { world.new.rows.handles ≡ world.old.rows.handles }
+    ensures calls { world.new.calls ≡ world.old.calls }
+    ensures spare { out.old.spare ≤ out.new.spare + length world.old.rows.waits + 1 }
+{
+    if has_one_handle(world, object) {
+        close_port(world, object.port(), out);
+    }
+}
+
+/// A handle of a process goes, and the port with its last one.
+fn close_handle(world: &mut World, pid: u32, value: u32, row: Row<Object>, out: &mut Entries)
+    requires object { object_stands world.old.births row.object ≡ true }
+    requires table { has (is_table pid) world.old.rows.handles ≡ true }
+    requires can { CanClose world.old.rows }
+    requires spare { length world.old.rows.waits + 1 ≤ out.old.spare }
+    requires budget { CanMake world.old }
+    ensures takes { let handle = row_shown world.old value row in
+        let steps = model.close_handle pid handle world.old.rows in
+        Took steps world.old world.new out.old out.new }
+    ensures calls { world.new.calls ≡ world.old.calls }
+    ensures spare { out.old.spare ≤ out.new.spare + length world.old.rows.waits + 1 }
+{
+    close_last(world, row.object, out);
+    world.handles_close(pid, value);
+}
+
+/// `NtClose`: a handle goes. With the last handle of a port the port is closed: its name goes; receives and listens made
+/// on it or waiting on its queue end; requests sent on it end; its queue is emptied, and the connects that wait on it end;
+/// it is cut off from its other end, whose requests and receives end; and that a completed client port is closed is posted
+/// to its connection port.
+///
+/// Refusal: INVALID_HANDLE where no handle of the caller's process has the value. It takes no memory.
+#[tactic(auto, unfolding(lpc_model::specs::Close::nt_close))]
+pub fn nt_close(world: &mut World, by: u32, handle: u32, out: &mut Entries) -> Outcome
+    requires ready { is_ready world.old.rows by ≡ true }
+    requires spare { length world.old.rows.waits + 2 ≤ out.old.spare }
+    requires calls { world.old.calls < LINES_LIMIT }
+    requires can { CanClose world.old.rows }
+    ensures takes { let steps = called world.old.rows by (close handle) in
+        Took steps world.old world.new out.old out.new }
+    ensures outcome { result ≡ outcome_of (called world.old.rows by (close handle)) }
+    ensures calls { world.new.calls ≡ world.old.calls + 1 }
+    ensures spare { out.old.spare ≤ out.new.spare + length world.old.rows.waits + 2 }
+{
+    let caller = world.caller(by);
+    world.begin_call();
+    match world.own_handle(by, handle) {
+        Ok(row) => {
+            out.push(Entry::Answer {
+                tid: caller.number,
+                call: CallName::NtClose,
+                status: SUCCESS,
+                fields: Fields::none(),
+            });
+            close_handle(world, caller.process, handle, row, out);
+            Outcome::Answered(SUCCESS)
+        }
+        Err(status) => refuse(caller.number, CallName::NtClose, status, out),
+    }
+}
