@@ -9,7 +9,7 @@ use Rattle.lpc_model.specs.Lines.{ScriptCall}
 use Rattle.lpc_model.specs.Machine.{call_steps, ready_steps, thread_steps}
 use Rattle.lpc_model.specs.World.{ThreadRow, WaitRow, World}
 use Rattle.lpc_world.specs.Kept.{is_alive}
-use Rattle.lpc_world.specs.Ready.{caller, condition_by, condition_of, is_ready, room_needed, thread_in}
+use Rattle.lpc_world.specs.Ready.{caller, condition_by, condition_of, is_ready, thread_in}
 use Rattle.lpc_world.specs.declared.condition.Condition.TheVariants.{Absent, Ready, Waits}
 
 -- a live thread of a number has it
@@ -62,6 +62,6 @@ live-by : (t : Option ThreadRow) (x : Option WaitRow) → condition_by t (is_som
 live-by None x is = grind (arith, is)
 live-by (Some t) x is = refl
 
--- a step of a thread that can call has room for its own entry and another's
-pub has-room : (w : World) (tid : ℕ) → condition_of w tid ≡ Ready → 2 ≤ room_needed w
-has-room w tid is = grind (arith, live-counted tid w.threads (live-by (live_thread w tid) (wait_of w tid) is))
+-- a live thread is counted
+pub one-lives : (w : World) (tid : ℕ) → condition_of w tid ≡ Ready → 1 ≤ count is_alive w.threads
+one-lives w tid is = live-counted tid w.threads (live-by (live_thread w tid) (wait_of w tid) is)

@@ -1,7 +1,6 @@
 -- A step leaves a settled world where it begins in one.
-use Rattle.std.proofs.Common.{◌≡◌, List, [], Bool, false, Result, Ok, Err, OnOk, OnErr, refl, ap, sym, subst, ◌∙◌}
+use Rattle.std.proofs.Common.{◌≡◌, List, [], false, refl, ap, sym, subst, ◌∙◌}
 use Rattle.std.specs.Prelude.{◌++◌}
-use Rattle.lpc_base.specs.declared.error.OutOfMemory.{OutOfMemory}
 use Rattle.lpc_model.specs.declared.entry.Entry.{Entry}
 use Rattle.lpc_model.specs.World.{World, no_rows}
 use Rattle.lpc_model.specs.Basics.{entries_of, world_after}
@@ -10,6 +9,8 @@ use Rattle.lpc_model.specs.OpenQueues.{HasOpenQueues}
 use Rattle.lpc_model.specs.Lines.{ScriptLine}
 use Rattle.lpc_model.specs.Machine.{Stepped, bare_steps, step}
 use Rattle.lpc_model.specs.SoundWaits.{IsSoundWorld}
+use Rattle.lpc_model.specs.Standing.{NamesWhatStands}
+use Rattle.lpc_model.specs.Untold.{IsUntold}
 use Rattle.lpc_model.specs.Sweep.{loosened, sweep, unheld}
 use Rattle.lpc_model.proofs.LinkedLines.{held_step, line_linked, linked_none, linked_step}
 use Rattle.lpc_model.proofs.OpenQueues.{queues_line, queues_none, queues_step}
@@ -17,6 +18,8 @@ use Rattle.lpc_model.proofs.Quiet.{lives_kept, quiet_line}
 use Rattle.lpc_model.proofs.SoundLines.{line-sound, sound_none, sound_step}
 use Rattle.lpc_model.proofs.SoundQueues.{after-append}
 use Rattle.lpc_model.proofs.Sweeping.{step_swept}
+use Rattle.lpc_model.proofs.StandingCalls.{names_line, names_none, names_step}
+use Rattle.lpc_model.proofs.UntoldLines.{untold_none, untold_step}
 use Rattle.lpc_world.specs.Does.{Left, left_by}
 use Rattle.lpc_world.specs.Held.{CanSweep}
 use Rattle.lpc_world.specs.Kept.{Kept, Same}
@@ -32,14 +35,15 @@ module _ (old taken : Kept) (before list : List Entry) (line : ScriptLine) (s : 
   can_sweep = subst CanSweep (sym rows_are) (record {
     sound = line-sound old.rows line s.sound;
     linked = line_linked old.rows line s.sound s.linked;
-    queues = queues_line old.rows line s.sound s.queues;
-    lives = lives_kept old.rows line s.sound s.held.lives;
+    queues = queues_line old.rows line s.sound s.linked s.queues;
+    standing = names_line old.rows line s.sound s.linked s.standing;
+    lives = lives_kept old.rows line s.sound s.standing s.held.lives;
   })
 
   pub is_still : taken.loose ≡ false → unheld taken.rows ≡ []
   is_still none =
       let loose_is : taken.loose ≡ loosened false (bare_steps line old.rows) = ap (λ (l : Left). l.loose) takes ∙ ap (λ b. loosened b (bare_steps line old.rows)) s.still in
-      ap unheld rows_are ∙ quiet_line old.rows line s.sound s.held (sym loose_is ∙ none)
+      ap unheld rows_are ∙ quiet_line old.rows line s.sound s.standing s.held (sym loose_is ∙ none)
 
   -- the sweep leaves the world of the line's step
   pub swept_is : (new : World) → new ≡ world_after taken.rows (sweep taken.rows) → new ≡ (let e = step old.rows line in e.world)
@@ -54,7 +58,9 @@ module _ (old taken : Kept) (before list : List Entry) (line : ScriptLine) (s : 
       record {
         sound = subst IsSoundWorld (sym at) (sound_step old.rows line s.sound);
         linked = subst IsLinked (sym at) (linked_step old.rows line s.sound s.linked);
-        queues = subst HasOpenQueues (sym at) (queues_step old.rows line s.sound s.queues);
+        queues = subst HasOpenQueues (sym at) (queues_step old.rows line s.sound s.linked s.queues);
+        standing = subst NamesWhatStands (sym at) (names_step old.rows line s.sound s.linked s.standing);
+        untold = subst IsUntold (sym at) (untold_step old.rows line s.sound s.standing s.untold);
         held = subst HasHeldRows (sym at) (held_step old.rows line s.sound s.linked);
         still = still;
       }
@@ -65,6 +71,8 @@ stays_same old new same s = record {
   sound = subst IsSoundWorld (sym same.rows) s.sound;
   linked = subst IsLinked (sym same.rows) s.linked;
   queues = subst HasOpenQueues (sym same.rows) s.queues;
+  standing = subst NamesWhatStands (sym same.rows) s.standing;
+  untold = subst IsUntold (sym same.rows) s.untold;
   held = subst HasHeldRows (sym same.rows) s.held;
   still = same.loose ∙ s.still;
 }
@@ -75,6 +83,8 @@ settled_none new is still = record {
   sound = subst IsSoundWorld (sym is) sound_none;
   linked = subst IsLinked (sym is) linked_none;
   queues = subst HasOpenQueues (sym is) queues_none;
+  standing = subst NamesWhatStands (sym is) names_none;
+  untold = subst IsUntold (sym is) untold_none;
   held = subst HasHeldRows (sym is) (record { ports = refl; lives = record { threads = refl; processes = refl } });
   still = still;
 }

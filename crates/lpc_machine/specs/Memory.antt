@@ -1,19 +1,21 @@
 -- Which lines may need memory, and which make a call.
 use Rattle.std.specs.Prelude.{◌≡◌, ◌==◌, ℕ, Bool, true, false, IsOk}
-use Rattle.lpc_connect.specs.Room.{lacks_port_room, lacks_room_for}
+use Rattle.lpc_connect.specs.Room.{lacks_connect_room, lacks_port_room, lacks_room_for}
+use Rattle.lpc_death.specs.Calls.{lacks_handle_room}
 use Rattle.lpc_model.specs.World.{World}
 use Rattle.lpc_model.specs.Machine.{boot_line, dir_line, link_line, service_of, thread_line}
 use Rattle.lpc_world.specs.Kept.{Kept, lacks_name_room, lacks_process_room, lacks_thread_room}
 use Rattle.lpc_world.specs.Ready.{caller, is_ready}
-use Rattle.lpc_model.specs.Lines.{ScriptCall, ScriptLine, boot, thread, dir, link, run, accept_connect_port, connect_port, create_port, request_port}
+use Rattle.lpc_model.specs.Lines.{ScriptCall, ScriptLine, boot, thread, dir, link, run, accept_connect_port, connect_port, create_port, duplicate_object, request_port}
 
--- the calls whose step may take memory: they make a port, or a message that no thread waits with; a refusal of a connect
--- makes neither
+-- the calls whose step may take memory: they make a port, a further handle, or a message that no thread waits with; a
+-- refusal of a connect makes none of these
 abbrev pub call_takes_memory : ScriptCall → Bool
 call_takes_memory (create_port name) = true
 call_takes_memory (connect_port name info) = true
 call_takes_memory (accept_connect_port context message accept) = accept
 call_takes_memory (request_port handle message) = true
+call_takes_memory (duplicate_object handle access) = true
 call_takes_memory call = false
 
 -- the lines whose step may take memory; every other step always answers
@@ -40,13 +42,15 @@ GoesOn w (dir path) = IsOk (dir_line w path)
 GoesOn w (link path target) = IsOk (link_line w path target)
 GoesOn w (run tid call) = (is_ready w tid ≡ true) × IsOk (service_of w (caller w tid) call)
 
--- There is no room for what a thread's call makes: a port with its handle, and its name; a port with a handle; a message
--- that no thread waits with. What the other calls need was reserved when their threads were made.
+-- There is no room for what a thread's call makes: a port with its handle, and its name; a client port with its handle and
+-- the message that is to tell that it is closed; a server port with its handle; a message that no thread waits with; a
+-- further handle. What the other calls need was reserved when their threads were made.
 abbrev pub lacks_call_room : Kept → ℕ → ScriptCall → Bool
 lacks_call_room w tid (create_port name) = lacks_room_for w (caller w.rows tid) name
-lacks_call_room w tid (connect_port name info) = lacks_port_room w (caller w.rows tid)
+lacks_call_room w tid (connect_port name info) = lacks_connect_room w (caller w.rows tid)
 lacks_call_room w tid (accept_connect_port context message accept) = lacks_port_room w (caller w.rows tid)
 lacks_call_room w tid (request_port handle message) = w.room.messages == 0
+lacks_call_room w tid (duplicate_object handle access) = lacks_handle_room w (caller w.rows tid)
 lacks_call_room w tid call = false
 
 -- there is no room for what a line makes

@@ -1,5 +1,5 @@
 // The machine, and one line's step.
-ghost use Rattle.std.specs.Prelude.{◌≡◌, ◌≤◌, ◌<◌, ◌+◌, [], ◌∷◌, ◌++◌, true, false, IsOk, OnOk, OnErr};
+ghost use Rattle.std.specs.Prelude.{◌≡◌, ◌≤◌, ◌<◌, ◌+◌, [], ◌∷◌, ◌++◌, true, false, length, IfOk, IsOk, OnOk, OnErr};
 ghost use Rattle.lpc_model.specs.World.{no_rows};
 ghost use Rattle.lpc_model.specs.Found as found;
 ghost use Rattle.lpc_model.specs.Found.{live_thread};
@@ -7,13 +7,19 @@ ghost use Rattle.lpc_model.specs.Grammar.{has_ids};
 ghost use Rattle.lpc_model.specs.Lines.{call_of, line_of};
 ghost use Rattle.lpc_model.specs.Lines as script;
 ghost use Rattle.lpc_model.specs.Linked.{HasHeldRows};
+ghost use Rattle.lpc_model.specs.Standing.{NamesWhatStands};
+ghost use Rattle.lpc_model.specs.Closings.{ClosingsAreTold};
+ghost use Rattle.lpc_model.specs.Untold.{IsUntold};
 ghost use Rattle.lpc_base.specs.declared.limits.TheConstants.{LINES_LIMIT};
-ghost use Rattle.lpc_connect.specs.Calls.{called, service};
 ghost use Rattle.lpc_model.specs.Machine.{bare_steps, step, thread_steps};
 ghost use Rattle.lpc_model.specs.SoundWaits.{HasSoundWaits};
 ghost use Rattle.lpc_model.specs.declared.entry.Entry.TheVariants as entry;
+ghost use Rattle.lpc_death.specs.Closing.{CanClose};
+ghost use Rattle.lpc_model.specs.Basics.{outcome_of};
+ghost use Rattle.lpc_machine.specs.Settled.{IsSettled};
 ghost use Rattle.lpc_machine.specs.Memory.{GoesOn, call_takes_memory, lacks_call_room, lacks_room, makes_call, takes_memory};
-ghost use Rattle.lpc_world.specs.Does.{Takes};
+ghost use Rattle.lpc_world.specs.Called.{called, service};
+ghost use Rattle.lpc_world.specs.Does.{Took};
 ghost use Rattle.lpc_world.specs.Kept.{Same};
 ghost use Rattle.lpc_world.specs.Ready.{is_ready, room_needed};
 
@@ -22,7 +28,8 @@ use lpc_connect::{
     nt_accept_connect_port, nt_complete_connect_port, nt_connect_port, nt_create_port,
     nt_listen_port,
 };
-use lpc_model::{Call, Entries, Entry, Line, Word};
+use lpc_death::{nt_close, nt_duplicate_object, nt_query_object};
+use lpc_model::{Call, Entries, Entry, Line, Outcome, Word};
 use lpc_request::{
     nt_reply_port, nt_reply_wait_receive_port, nt_request_port, nt_request_wait_reply_port,
 };
@@ -60,12 +67,20 @@ fn tell(word: Word, status: Status, out: &mut Entries)
 }
 
 /// A call of a thread that can make it.
-fn serve(world: &mut World, by: u32, call: &Call<'_>, out: &mut Entries) -> Result<(), OutOfMemory>
+fn serve(
+    world: &mut World,
+    by: u32,
+    call: &Call<'_>,
+    out: &mut Entries,
+) -> Result<Outcome, OutOfMemory>
     requires ready { is_ready world.old.rows by ≡ true }
-    requires spare { 2 ≤ out.old.spare }
+    requires spare { length world.old.rows.waits + 2 ≤ out.old.spare }
     requires calls { world.old.calls < LINES_LIMIT }
+    requires can { CanClose world.old.rows }
     ensures takes { let steps = called world.old.rows by (call_of call.now) in
-        OnOk result (Takes steps world.old world.new out.old out.new) }
+        OnOk result (Took steps world.old world.new out.old out.new) }
+    ensures outcome { let steps = called world.old.rows by (call_of call.now) in
+        IfOk result (λ outcome. outcome ≡ outcome_of steps) }
     ensures calls { OnOk result (world.new.calls ≡ world.old.calls + 1) }
     ensures memory { OnErr result (Same world.old world.new) }
     ensures silent { OnErr result (out.new ≡ out.old) }
@@ -74,48 +89,41 @@ fn serve(world: &mut World, by: u32, call: &Call<'_>, out: &mut Entries) -> Resu
     ensures free { call_takes_memory (call_of call.now) ≡ false → IsOk result }
 {
     match call {
-        Call::CreatePort { name } => {
-            nt_create_port(world, by, *name, out)?;
-        }
-        Call::ConnectPort { name, info } => {
-            nt_connect_port(world, by, name, info, out)?;
-        }
-        Call::ListenPort { handle } => {
-            nt_listen_port(world, by, *handle, out);
-        }
+        Call::CreatePort { name } => nt_create_port(world, by, *name, out),
+        Call::ConnectPort { name, info } => nt_connect_port(world, by, name, info, out),
+        Call::ListenPort { handle } => Ok(nt_listen_port(world, by, *handle, out)),
         Call::AcceptConnectPort {
             context,
             message,
             accept,
-        } => {
-            nt_accept_connect_port(world, by, *context, message, *accept, out)?;
-        }
+        } => nt_accept_connect_port(world, by, *context, message, *accept, out),
         Call::CompleteConnectPort { handle } => {
-            nt_complete_connect_port(world, by, *handle, out);
+            Ok(nt_complete_connect_port(world, by, *handle, out))
         }
-        Call::RequestPort { handle, message } => {
-            nt_request_port(world, by, *handle, message, out)?;
-        }
+        Call::RequestPort { handle, message } => nt_request_port(world, by, *handle, message, out),
         Call::RequestWaitReplyPort { handle, message } => {
-            nt_request_wait_reply_port(world, by, *handle, message, out);
+            Ok(nt_request_wait_reply_port(world, by, *handle, message, out))
         }
-        Call::ReplyPort { handle, message } => {
-            nt_reply_port(world, by, *handle, message, out);
-        }
+        Call::ReplyPort { handle, message } => Ok(nt_reply_port(world, by, *handle, message, out)),
         Call::ReplyWaitReceivePort { handle, reply } => {
-            nt_reply_wait_receive_port(world, by, *handle, *reply, out);
+            Ok(nt_reply_wait_receive_port(world, by, *handle, *reply, out))
         }
+        Call::Close { handle } => Ok(nt_close(world, by, *handle, out)),
+        Call::DuplicateObject { handle, access } => {
+            nt_duplicate_object(world, by, *handle, *access, out)
+        }
+        Call::QueryObject { handle } => Ok(nt_query_object(world, by, *handle, out)),
     }
-    Ok(())
 }
 
 /// A call of a thread, which makes it where it lives and doesn't wait.
 fn run(world: &mut World, tid: u32, call: &Call<'_>, out: &mut Entries) -> Result<(), OutOfMemory>
     requires spare { room_needed world.old.rows ≤ out.old.spare }
     requires calls { world.old.calls < LINES_LIMIT }
+    requires settled { IsSettled world.old }
     ensures takes { let t = live_thread world.old.rows tid in
         let steps = thread_steps tid (call_of call.now) t world.old.rows in
-        OnOk result (Takes steps world.old world.new out.old out.new) }
+        OnOk result (Took steps world.old world.new out.old out.new) }
     ensures counted { OnOk result (is_ready world.old.rows tid ≡ true →
         world.new.calls ≡ world.old.calls + 1) }
     ensures uncounted { OnOk result (is_ready world.old.rows tid ≡ false →
@@ -129,7 +137,9 @@ fn run(world: &mut World, tid: u32, call: &Call<'_>, out: &mut Entries) -> Resul
     match world.condition(tid) {
         Condition::Absent => out.push(Entry::NoThread { tid }),
         Condition::Waits => out.push(Entry::Busy { tid }),
-        Condition::Ready => serve(world, tid, call, out)?,
+        Condition::Ready => {
+            serve(world, tid, call, out)?;
+        }
     }
     Ok(())
 }
@@ -141,8 +151,9 @@ fn take(world: &mut World, line: &Line<'_>, out: &mut Entries) -> Result<(), Out
     requires spare { room_needed world.old.rows ≤ out.old.spare }
     requires few { world.old.calls < LINES_LIMIT }
     requires ids { has_ids (line_of line.now) ≡ true }
+    requires settled { IsSettled world.old }
     ensures takes { let steps = bare_steps (line_of line.now) world.old.rows in
-        OnOk result (Takes steps world.old world.new out.old out.new) }
+        OnOk result (Took steps world.old world.new out.old out.new) }
     ensures err { OnErr result (Same world.old world.new) }
     ensures silent { OnErr result (out.new.list ≡ []) }
     ensures counted { OnOk result (makes_call world.old.rows (line_of line.now) ≡ true →
@@ -194,6 +205,7 @@ impl Machine {
         ensures world { result.now ≡ self.now }
         ensures sound { HasSoundWaits result.now.rows }
         ensures held { HasHeldRows result.now.rows }
+        ensures named { NamesWhatStands result.now.rows }
     {
         &self.world
     }
@@ -212,13 +224,14 @@ impl Machine {
         self.world.objects()
     }
 
-    /// One line's step: its call or directive, and then the objects go that no row counts for. Its entries are
-    /// added to `out`, which is empty and has room for [`Machine::room_needed`] more. The line's process and thread numbers are from 1 to
-    /// 2147483647, and fewer than 1,000,000 directives and service calls were made before it.
+    /// One line's step: its call or directive, and then the objects go that no row counts for. Its entries are added to
+    /// `out`, which is empty and has room for [`Machine::room_needed`] more. The line's process and thread numbers are
+    /// from 1 to 2147483647, and fewer than 1,000,000 directives and service calls were made before it.
     ///
     /// After want of memory nothing has changed but the room. Only directives, `NtCreatePort`, `NtConnectPort`,
-    /// `NtAcceptConnectPort` to accept, and `NtRequestPort` take memory, only where they aren't refused, and they want for
-    /// it only where the room for what they make wasn't there; every other line is answered. A directive, and a call of a thread that lives and doesn't wait, counts as a call, refused or not.
+    /// `NtAcceptConnectPort` to accept, `NtRequestPort`, and `NtDuplicateObject` take memory, only where they aren't
+    /// refused, and they want for it only where the room for what they make wasn't there; every other line is answered.
+    /// A directive, and a call of a thread that lives and doesn't wait, counts as a call, refused or not.
     pub fn step(&mut self, line: &Line<'_>, out: &mut Entries) -> Result<(), OutOfMemory>
         requires empty { out.old.list ≡ [] }
         requires spare { room_needed self.old.rows ≤ out.old.spare }
@@ -230,6 +243,9 @@ impl Machine {
             out.new.list ≡ s.entries) }
         ensures sound { HasSoundWaits self.new.rows }
         ensures held { HasHeldRows self.new.rows }
+        ensures named { NamesWhatStands self.new.rows }
+        ensures closings { OnOk result (ClosingsAreTold self.old.rows (line_of line.now)) }
+        ensures untold { IsUntold self.new.rows }
         ensures err { OnErr result (Same self.old self.new) }
         ensures silent { OnErr result (out.new.list ≡ []) }
         ensures counted { OnOk result (makes_call self.old.rows (line_of line.now) ≡ true →

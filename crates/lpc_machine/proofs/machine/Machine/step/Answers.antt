@@ -1,5 +1,6 @@
 use Rattle.lpc_model.specs.Lines.{line_of}
 use Rattle.lpc_model.proofs.SoundLines.{sound_waits}
+use Rattle.lpc_model.proofs.ToldLines.{closings_told}
 use Rattle.lpc_machine.proofs.Sound as sound
 use Rattle.lpc_machine.proofs.machine.Machine.step.Goals as goal
 
@@ -23,3 +24,12 @@ returns-clause-sound c = sound_waits c.sweep.new.self.rows (sound.stays_settled 
 
 pub returns-clause-held : goal.returns-clause-held
 returns-clause-held c = (sound.stays_settled c.self.inside.world c.take.new.world c.args.out.now.list c.take.new.out.list (line_of c.args.line.now) c.self.invariant c.requires.empty c.in_ok-take.ensures.takes c.sweep.new.self c.sweep.ensures.rows c.sweep.ensures.loose).held
+
+pub returns-clause-named : goal.returns-clause-named
+returns-clause-named c = (sound.stays_settled c.self.inside.world c.take.new.world c.args.out.now.list c.take.new.out.list (line_of c.args.line.now) c.self.invariant c.requires.empty c.in_ok-take.ensures.takes c.sweep.new.self c.sweep.ensures.rows c.sweep.ensures.loose).standing
+
+pub returns-clause-untold : goal.returns-clause-untold
+returns-clause-untold c = (sound.stays_settled c.self.inside.world c.take.new.world c.args.out.now.list c.take.new.out.list (line_of c.args.line.now) c.self.invariant c.requires.empty c.in_ok-take.ensures.takes c.sweep.new.self c.sweep.ensures.rows c.sweep.ensures.loose).untold
+
+pub returns-clause-closings : goal.returns-clause-closings
+returns-clause-closings c = rw (← c.self.view_is) (closings_told c.self.inside.world.rows (line_of c.args.line.now) c.self.invariant.sound)

@@ -1,17 +1,18 @@
 // A request and its receipt, line by line. The entries are written out by hand.
-ghost use Rattle.std.specs.Prelude.{◌≡◌, ◌≤◌, ◌<◌, ◌+◌, ◌∷◌, [], true};
+ghost use Rattle.std.specs.Prelude.{◌≡◌, ◌≤◌, ◌<◌, ◌+◌, true};
 ghost use Rattle.lpc_model.specs.Grammar.{has_ids};
 ghost use Rattle.lpc_model.specs.Lines.{line_of};
 
-use crate::Machine;
+use crate::common::{GIVEN, one};
 use arrayvec::ArrayVec;
 use lpc_base::status::SUCCESS;
-use lpc_model::{Call, CallName, Entries, Entry, FieldName, Fields, Line, Value, Word};
+use lpc_machine::Machine;
+use lpc_model::{Call, CallName, Entries, Entry, FieldName, Line, Value, Word};
 use std::process::Abort;
 use std::test::Fail;
 
-// The line makes this one entry.
-fn makes(
+/// The line makes this one entry.
+pub fn makes(
     rt: &impl Abort,
     machine: &mut Machine,
     out: &mut Entries,
@@ -36,25 +37,13 @@ fn directive(word: Word) -> Entry {
     }
 }
 
-fn one(name: FieldName, value: Value) -> Fields
-    ensures { result ≡ (record { name = name; value = value }) ∷ [] }
-{
-    let mut fields = Fields::none();
-    fields.add(name, value);
-    fields
-}
-
-// A message of two bytes of data, as the thread gives it, and as the server receives it from thread 24 of process 20.
-const GIVEN: [u8; 26] = [
-    2, 0, 26, 0, 0, 0, 0, 0, 0, 0, 0, 0, 0, 0, 0, 0, 0, 0, 0, 0, 0, 0, 0, 0, 0x41, 0x42,
-];
-
+// The message that is given, as the server receives it from thread 24 of process 20.
 const RECEIVED: [u8; 26] = [
     2, 0, 26, 0, 1, 0, 0, 0, 20, 0, 0, 0, 24, 0, 0, 0, 1, 0, 0, 0, 0, 0, 0, 0, 0x41, 0x42,
 ];
 
-// A process with two threads, the first of which makes a port.
-fn begins(rt: &impl Abort, machine: &mut Machine, out: &mut Entries) -> Result<(), Fail>
+/// A process with two threads, the first of which makes a port.
+pub fn begins(rt: &impl Abort, machine: &mut Machine, out: &mut Entries) -> Result<(), Fail>
     requires few { machine.old.calls < 1000 }
     ensures calls { machine.new.calls ≤ machine.old.calls + 3 }
 {
@@ -124,14 +113,14 @@ fn receives(rt: &impl Abort, machine: &mut Machine, out: &mut Entries) -> Result
 fn runs(rt: &impl Abort, machine: &mut Machine, out: &mut Entries) -> Result<(), Fail>
     requires few { machine.old.calls < 1000 }
 {
-    assert_eq!(rt; machine.room_needed(), 1);
-    assert_eq!(rt; machine.objects(), 0);
+    assert!(rt; machine.room_needed() == 1);
+    assert!(rt; machine.objects() == 0);
     begins(rt, machine, out)?;
     asks(rt, machine, out)?;
     receives(rt, machine, out)?;
-    assert_eq!(rt; machine.room_needed(), 7);
-    assert_eq!(rt; machine.objects(), 4);
-    assert_eq!(rt; machine.world().calls(), 5);
+    assert!(rt; machine.room_needed() == 7);
+    assert!(rt; machine.objects() == 4);
+    assert!(rt; machine.world().calls() == 5);
     Ok(())
 }
 
