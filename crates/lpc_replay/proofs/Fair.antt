@@ -106,7 +106,7 @@ waiter_call w line tid Listen status fields is = (tt, tt)
 waiter_call w line tid (Connect m) status fields is = absurd (cc)
 waiter_call w line tid (Accepted m answer) status fields is = absurd (cc)
 
-waiter_wakes : (w : World) (line : ScriptLine) (x : WaitRow) (status : Status) (fields : List Field) → (is_receive x || is_listen x) ≡ true → HasItsCall x → IsRight w line (entry.Wakes x.thread x.call status fields)
+pub waiter_wakes : (w : World) (line : ScriptLine) (x : WaitRow) (status : Status) (fields : List Field) → (is_receive x || is_listen x) ≡ true → HasItsCall x → IsRight w line (entry.Wakes x.thread x.call status fields)
 waiter_wakes w line x status fields is h = rw h (waiter_call w line x.thread x.kind status fields is)
 
 -- an accepted connect is no request, and a request no connect
@@ -181,7 +181,7 @@ given_fair w line m (Some x) h =
     all_append (IsFair w line) (given_steps x m) (woken SUCCESS (shown x m) x ∷ []) (waiter_takes_fair w line m x.kind)
     (waiter_wakes w line x SUCCESS (shown x m) waits known.1, tt)
 
-enter_fair : (w : World) (line : ScriptLine) (m : MessageRow) (v : World) → HaveTheirCalls v → AreFair w line (enter m v)
+pub enter_fair : (w : World) (line : ScriptLine) (m : MessageRow) (v : World) → HaveTheirCalls v → AreFair w line (enter m v)
 enter_fair w line m v h =
     (tt, given_fair w line m (first (takes m) v.waits) (λ x is. (first-passes (takes m) v.waits x is, find_all HasItsCall (takes m) v.waits x h is)))
 

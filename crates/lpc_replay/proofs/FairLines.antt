@@ -5,7 +5,7 @@ use Rattle.lpc_base.specs.declared.status.Status.{Status}
 use Rattle.lpc_model.specs.Basics.{Tells}
 use Rattle.lpc_model.specs.Connect.{nt_connect_port}
 use Rattle.lpc_model.specs.Found.{live_thread, wait_of}
-use Rattle.lpc_model.specs.Lines.{ScriptCall, ScriptLine, accept_connect_port, boot, complete_connect_port, connect_port, create_port, dir, link, listen_port, reply_port, reply_wait_receive_port, request_port, request_wait_reply_port, run, thread}
+use Rattle.lpc_model.specs.Lines.{ScriptCall, ScriptLine, accept_connect_port, boot, close, complete_connect_port, connect_port, create_port, dir, duplicate_object, link, listen_port, query_object, reply_port, reply_wait_receive_port, request_port, request_wait_reply_port, run, thread}
 use Rattle.lpc_model.specs.Machine.{bare_steps, boot_line, dir_line, link_line, name_of_call, ready_steps, service_of, steps, thread_line, thread_steps}
 use Rattle.lpc_model.specs.Request.{nt_request_wait_reply_port}
 use Rattle.lpc_model.specs.World.{ThreadRow, WaitRow, World}
@@ -17,8 +17,10 @@ use Rattle.lpc_model.proofs.Holding.{Holds, directed_holds, settled_holds}
 use Rattle.lpc_replay.proofs.Failing.{fails_with}
 use Rattle.lpc_replay.proofs.Fair.{AreFair, HaveTheirCalls, IsFair, swept_fair}
 use Rattle.lpc_replay.proofs.FairAccept.{accept_fair}
+use Rattle.lpc_replay.proofs.FairClose.{close_fair}
 use Rattle.lpc_replay.proofs.FairComplete.{complete_fair}
 use Rattle.lpc_replay.proofs.FairConnect.{connect_fails, connect_fair}
+use Rattle.lpc_replay.proofs.FairCounts.{duplicate_fair, query_fair}
 use Rattle.lpc_replay.proofs.FairCreate.{create_fair}
 use Rattle.lpc_replay.proofs.FairDatagram.{datagram_fair}
 use Rattle.lpc_replay.proofs.FairDirectives.{boot_fair, dir_fair, further_fair, link_fair}
@@ -38,6 +40,9 @@ service_fair w tid by (request_port handle bytes) are live h = datagram_fair w _
 service_fair w tid by (request_wait_reply_port handle bytes) are live h = request_fair w _ by handle bytes h
 service_fair w tid by (reply_port handle bytes) are live h = reply_fair w tid by handle bytes are live h
 service_fair w tid by (reply_wait_receive_port handle bytes) are live h = receiving_fair w tid by handle bytes are live h
+service_fair w tid by (close handle) are live h = close_fair w tid by handle live h
+service_fair w tid by (duplicate_object handle access) are live h = duplicate_fair w _ by handle access
+service_fair w tid by (query_object handle) are live h = query_fair w _ by handle
 
 -- a call that is refused
 refused_fair : (w : World) (line : ScriptLine) (by : ThreadRow) (name : ScriptCall) (s : Status) → service_of w by name ≡ Err s → IsFair w line (Tells (entry.Answer by.number (name_of_call name) s []))
@@ -50,6 +55,9 @@ refused_fair w line by (request_port handle bytes) s is = (tt, tt)
 refused_fair w line by (request_wait_reply_port handle bytes) s is = (fails_with (nt_request_wait_reply_port w by handle bytes) s (request_fails w by handle bytes) is, tt)
 refused_fair w line by (reply_port handle bytes) s is = (tt, tt)
 refused_fair w line by (reply_wait_receive_port handle bytes) s is = (tt, tt)
+refused_fair w line by (close handle) s is = (tt, tt)
+refused_fair w line by (duplicate_object handle access) s is = (tt, tt)
+refused_fair w line by (query_object handle) s is = (tt, tt)
 
 -- the lines
 ready_fair : (w : World) (tid : ℕ) (by : ThreadRow) (name : ScriptCall) (o : Option WaitRow) → HasBytes name → live_thread w tid ≡ Some by → HaveTheirCalls w → AreFair w (run tid name) (ready_steps by name o w)

@@ -6,6 +6,8 @@ pub mod FairConnect
 pub mod FairListen
 pub mod FairAccept
 pub mod FairComplete
+pub mod FairClose
+pub mod FairCounts
 pub mod FairDatagram
 pub mod FairRequest
 pub mod FairReplies

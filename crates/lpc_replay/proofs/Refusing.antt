@@ -4,10 +4,10 @@ use Rattle.std.proofs.lemmas.Bool.{eq-eqb}
 use Rattle.std.specs.Prelude.{Err, None, Ok, Option, Result, Some, ◌==◌}
 use Rattle.lpc_base.proofs.RowWords.{first-passes}
 use Rattle.lpc_base.specs.declared.status.Status.{Status}
-use Rattle.lpc_model.specs.Basics.{Basic, Tells, entries_of, going_on, world_after}
+use Rattle.lpc_model.specs.Basics.{Basic, Tells, entries_of, going_on, posts_of, world_after}
 use Rattle.lpc_model.specs.Fields.{info}
 use Rattle.lpc_model.specs.Found.{is_live_thread, live_thread, wait_of}
-use Rattle.lpc_model.specs.Lines.{ScriptCall, ScriptLine, accept_connect_port, boot, complete_connect_port, connect_port, create_port, dir, link, listen_port, reply_port, reply_wait_receive_port, request_port, request_wait_reply_port, run, thread}
+use Rattle.lpc_model.specs.Lines.{ScriptCall, ScriptLine, accept_connect_port, boot, close, complete_connect_port, connect_port, create_port, dir, duplicate_object, link, listen_port, query_object, reply_port, reply_wait_receive_port, request_port, request_wait_reply_port, run, thread}
 use Rattle.lpc_model.specs.Linked.{HasHeldRows}
 use Rattle.lpc_model.specs.Machine.{bare_steps, name_of_call, ready_steps, service_of, settled, step, thread_steps}
 use Rattle.lpc_model.specs.Replies.{ChangesNothing, IsRefused, MisfitsAreRefused, RefusedRepliesChangeNothing, Reply, fitted_wait, reply_of}
@@ -76,6 +76,9 @@ each_reply P h (run tid (accept_connect_port context bytes accept)) r is = absur
 each_reply P h (run tid (complete_connect_port handle)) r is = absurd (cc)
 each_reply P h (run tid (request_port handle bytes)) r is = absurd (cc)
 each_reply P h (run tid (request_wait_reply_port handle bytes)) r is = absurd (cc)
+each_reply P h (run tid (close handle)) r is = absurd (cc)
+each_reply P h (run tid (duplicate_object handle access)) r is = absurd (cc)
+each_reply P h (run tid (query_object handle)) r is = absurd (cc)
 each_reply P h (boot pid tid) r is = absurd (cc)
 each_reply P h (thread tid pid) r is = absurd (cc)
 each_reply P h (dir path) r is = absurd (cc)
@@ -115,7 +118,7 @@ one_step w bs e held is = rw (is, held_sweep w held) refl
 one_changes_nothing : (w : World) (line : ScriptLine) → HasHeldRows w → (e : Entry) × (bare_steps line w ≡ Tells e ∷ []) → ChangesNothing w line
 one_changes_nothing w line held one =
     let all = one_step w (bare_steps line w) one.0 held one.1 in
-    record { stays = ap (world_after w) all; alone = ap (λ bs. length (entries_of bs)) all }
+    record { stays = ap (world_after w) all; silent = ap posts_of all; alone = ap (λ bs. length (entries_of bs)) all }
 
 refused_bare : (w : World) (line : ScriptLine) (tid : ℕ) → IsRefused tid (step w line).entries → IsRefused tid (entries_of (bare_steps line w))
 refused_bare w line tid refused = subst (IsRefused tid) (step_tells w line) refused

@@ -1,5 +1,5 @@
--- A connect returns only by its answer: the completion of its connection, or the refusal that names it.
-use Rattle.std.specs.Prelude.{◌≡◌, ℕ, ◌==◌, true, false, not, List, [], ◌∷◌, Some, Ok}
+-- A connect returns only by its answer, the completion of its connection or the refusal that names it, or by a closing.
+use Rattle.std.specs.Prelude.{◌≡◌, ℕ, ◌==◌, ◌||◌, true, false, not, Contains, List, [], ◌∷◌, Some, Ok}
 use Rattle.std.specs.List.{AllByRecursion}
 use Rattle.lpc_base.specs.declared.limits.TheConstants.{MESSAGE_LIMIT}
 use Rattle.lpc_base.specs.declared.status.Status.{Status}
@@ -8,10 +8,12 @@ use Rattle.lpc_model.specs.declared.entry.CallName.TheVariants.{NtConnectPort}
 use Rattle.lpc_model.specs.declared.entry.Entry.{Entry}
 use Rattle.lpc_model.specs.declared.entry.Entry.TheVariants.{Answer, Wakes}
 use Rattle.lpc_model.specs.declared.entry.Field.{Field}
-use Rattle.lpc_model.specs.World.{ThreadRow, World}
+use Rattle.lpc_model.specs.World.{HandleRow, ThreadRow, WaitRow, World}
 use Rattle.lpc_model.specs.Found.{free_handle, live_thread}
 use Rattle.lpc_model.specs.Fields.{h, info, max}
-use Rattle.lpc_model.specs.Lines.{ScriptLine, accept_connect_port, complete_connect_port, run}
+use Rattle.lpc_model.specs.Lines.{ScriptLine, accept_connect_port, close, complete_connect_port, run}
+use Rattle.lpc_model.specs.Close.{is_accepted_across, is_last, is_offered_to}
+use Rattle.lpc_model.specs.Tests.{own_handle}
 use Rattle.lpc_model.specs.Connect.{Completable, ConnectAnswer, answer_of, answer_test, complete_test}
 use Rattle.lpc_model.specs.Machine.{step}
 
@@ -38,10 +40,26 @@ pub record IsRefusedBy (w : World) (by : ℕ) (bytes : List ℕ) (tid : ℕ) (st
   pub refuses : status ≡ PORT_CONNECTION_REFUSED
   pub shows : fields ≡ info found.message.body ∷ []
 
+-- A closing wakes the thread: the call's handle is the last one of a port. The thread's connect isn't accepted and is to
+-- that port, or it is accepted and its connection isn't completed, and the port is an end of it. The thread is told no data.
+pub record IsClosedBy (w : World) (by handle tid : ℕ) (status : Status) (fields : List Field) : Type 0 where
+  pub caller : ThreadRow
+  pub row : HandleRow
+  pub wait : WaitRow
+  pub calls : live_thread w by ≡ Some caller
+  pub names : own_handle w caller handle ≡ Ok row
+  pub last : is_last row w ≡ true
+  pub waits : Contains w.waits wait
+  pub ends : (is_offered_to row.object.birth wait || is_accepted_across row.object.birth w wait) ≡ true
+  pub its_wait : wait.thread ≡ tid
+  pub refuses : status ≡ PORT_CONNECTION_REFUSED
+  pub shows : fields ≡ info [] ∷ []
+
 -- the line ends the thread's connect so: no other line does
 abbrev pub IsAnsweredBy : World → ScriptLine → ℕ → Status → List Field → Type 0
 IsAnsweredBy w (run by (complete_connect_port handle)) tid status fields = IsCompletedBy w by handle tid status fields
 IsAnsweredBy w (run by (accept_connect_port context bytes false)) tid status fields = IsRefusedBy w by bytes tid status fields
+IsAnsweredBy w (run by (close handle)) tid status fields = IsClosedBy w by handle tid status fields
 IsAnsweredBy w line tid status fields = ⊥
 
 -- a connect that wakes is answered so by its line; its own call answers no success

@@ -22,7 +22,7 @@ RefusalsStay script = Along RefusedRepliesChangeNothing first_state (said_in scr
 unfoldable pub RefusalsIdle : List ℕ → Type 0
 RefusalsIdle script = RefusedRepliesAreIdle (script_lines script)
 
--- each connect returns only by its answer
+-- each connect returns only by its answer or by a closing
 unfoldable pub ConnectsReturn : List ℕ → Type 0
 ConnectsReturn script = Along ConnectsReturnByAnswer first_state (said_in script)
 

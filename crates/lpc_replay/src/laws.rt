@@ -2,6 +2,7 @@
 ghost use Rattle.std.specs.Prelude.{ℕ, List};
 ghost use Rattle.lpc_model.specs.Worked.{WorkedTranscripts};
 ghost use Rattle.lpc_model.specs.WorkedConnections.{WorkedConnections};
+ghost use Rattle.lpc_model.specs.WorkedClosings.{WorkedClosings};
 ghost use Rattle.lpc_replay.specs.Laws.{ConnectsReturn, MisfitsRefused, RefusalsIdle, RefusalsStay, RequestsReturn};
 
 /// Completion by a fitting reply, and a connect's return by its answer, in every script.
@@ -12,9 +13,11 @@ ghost use Rattle.lpc_replay.specs.Laws.{ConnectsReturn, MisfitsRefused, Refusals
 /// status or because its thread can't call. A reply call that is refused for whatever cause changes nothing; without its
 /// line the others tell the same, in a script of at most 1,000,000 lines with no faulty line before it, line numbers aside.
 ///
-/// A connect returns only by its answer: one that wakes does so in the step of the call that completes its connection,
-/// with success, or in the step of the call that refuses it and whose message names it, with PORT_CONNECTION_REFUSED. It
-/// is told what that call gives it. Its own call never answers success.
+/// A connect returns only by its answer or by a closing: one that wakes does so in the step of the call that completes its
+/// connection, with success; or in the step of the call that refuses it and whose message names it, with
+/// PORT_CONNECTION_REFUSED; or with the same status in the step that closes the last handle of the port that it is to, or,
+/// once it is accepted, of an end of its connection. It is told what that call gives it, which is no data where a port is
+/// closed. Its own call never answers success.
 pub fn law_completion()
     ensures returns { (script : List ℕ) → RequestsReturn script }
     ensures refused { (script : List ℕ) → MisfitsRefused script }
@@ -27,4 +30,5 @@ pub fn law_completion()
 pub fn law_worked_transcripts()
     ensures transcripts { WorkedTranscripts }
     ensures connections { WorkedConnections }
+    ensures closings { WorkedClosings }
 {}

@@ -11,6 +11,3 @@ mod sending;
 pub use laws::{law_completion, law_worked_transcripts};
 pub use lpc_isolation::law_isolation;
 pub use replay::run_words;
-
-#[cfg(test)]
-mod tests;

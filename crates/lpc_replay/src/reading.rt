@@ -79,7 +79,8 @@ pub fn read_script<S: Source>(alloc: Global, source: &mut S) -> Result<ReadScrip
     ensures read { IfOk result (λ s. Reads (S.left source.old) (S.left source.new) s.bytes.items) }
     ensures finished { IfOk result (λ s. s.end ≡ Finished →
         ReadsAll (S.left source.old) (S.left source.new) s.bytes.items) }
-    ensures within { IfOk result (λ s. s.end ≡ SourceFailed → passes_limit s.bytes.items ≡ false) }
+    ensures within { IfOk result
+        (λ s. s.end ≡ SourceFailed → passes_limit s.bytes.items ≡ false) }
     ensures failed { IfOk result (λ s. s.end ≡ SourceFailed →
         Rose (S.faults source.old) (S.faults source.new)) }
     ensures taken { OnErr result (Told (S.left source.old) (S.left source.new) IsTaken) }

@@ -129,7 +129,8 @@ pub fn run_words<S: Source, K: Sink>(
     // The words are none of the forms: the usage line is sent, or a front of it where the sink fails, nothing is read, and
     // want of memory is no answer.
     ensures words { result ≡ 64 → is_replay words.now ≡ false }
-    ensures no_form { is_replay words.now ≡ false → is_one_of (64 ∷ 4 ∷ []) result ≡ true }
+    ensures no_form { is_replay words.now ≡ false →
+        is_one_of (64 ∷ 4 ∷ []) result ≡ true }
     ensures unread { is_replay words.now ≡ false → source.new ≡ source.old }
     ensures usage { result ≡ 64 → Adds (K.sent sink.old) (K.sent sink.new) usage }
     ensures usage_begun { is_replay words.now ≡ false →
@@ -188,7 +189,7 @@ pub fn run_words<S: Source, K: Sink>(
 
     // In the script read a request returns with success only by a reply that fits it. A reply that fits no wait is
     // refused, a refused reply changes nothing, and without its line the others tell the same. A connect returns only by
-    // its answer.
+    // its answer or by a closing.
     ensures returns { result ≡ 0 → IfSome (S.left source.old) RequestsReturn }
     ensures refused { result ≡ 0 → IfSome (S.left source.old) MisfitsRefused }
     ensures unchanged { result ≡ 0 → IfSome (S.left source.old) RefusalsStay }

@@ -1,3 +1,4 @@
+use Rattle.lpc_model.proofs.WorkedClosings.{worked_closings}
 use Rattle.lpc_model.proofs.WorkedConnections.{worked_connections}
 use Rattle.lpc_model.proofs.WorkedTranscripts.{worked_transcripts}
 use Rattle.lpc_replay.proofs.laws.law_worked_transcripts.Goals as goal
@@ -7,3 +8,6 @@ returns-clause-transcripts c = worked_transcripts
 
 pub returns-clause-connections : goal.returns-clause-connections
 returns-clause-connections c = worked_connections
+
+pub returns-clause-closings : goal.returns-clause-closings
+returns-clause-closings c = worked_closings

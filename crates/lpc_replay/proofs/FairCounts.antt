@@ -1,0 +1,21 @@
+-- What NtDuplicateObject and NtQueryObject tell is right.
+use Rattle.std.proofs.Common.{ℕ}
+use Rattle.std.specs.Prelude.{Option}
+use Rattle.lpc_model.specs.Counts.{asked, nt_duplicate_object, nt_query_object, rights_test}
+use Rattle.lpc_model.specs.Lines.{ScriptLine}
+use Rattle.lpc_model.specs.Tests.{handles_test, own_handle}
+use Rattle.lpc_model.specs.World.{ThreadRow, World}
+use Rattle.lpc_model.proofs.Holding.{Holds, bind_holds}
+use Rattle.lpc_replay.proofs.Fair.{AreFair}
+
+pub duplicate_fair : (w : World) (line : ScriptLine) (by : ThreadRow) (handle : ℕ) (access : Option ℕ) → Holds (AreFair w line) (nt_duplicate_object w by handle access)
+unfolding nt_duplicate_object
+duplicate_fair w line by handle access =
+    let P = AreFair w line in
+    bind_holds (own_handle w by handle) _ P (λ r _.
+    bind_holds (rights_test r (asked r access)) _ P (λ _ _.
+    bind_holds (handles_test w by.process 1) _ P (λ _ _. ((tt, tt), (tt, tt)))))
+
+pub query_fair : (w : World) (line : ScriptLine) (by : ThreadRow) (handle : ℕ) → Holds (AreFair w line) (nt_query_object w by handle)
+unfolding nt_query_object
+query_fair w line by handle = bind_holds (own_handle w by handle) _ (AreFair w line) (λ r _. ((tt, tt), tt))
