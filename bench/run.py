@@ -68,6 +68,19 @@ def connects(lines):
         yield from block
 
 
+def closings(lines):
+    """A client connects and closes its port; the server receives what tells so, and closes its own; over and over."""
+    yield from ("boot 20 24", "boot 32 36", "24 NtCreatePort \\S")
+    for identifier in range(1, (lines - 3) // 7 + 1):
+        yield "36 NtConnectPort \\S - - -"
+        yield "24 NtListenPort 4"
+        yield f"24 NtAcceptConnectPort 7 r:32.36.{identifier}: accept -"
+        yield "24 NtCompleteConnectPort 8"
+        yield "36 NtClose 4"
+        yield "24 NtReplyWaitReceivePort 4"
+        yield "24 NtClose 8"
+
+
 def peak(process):
     """The highest resident size of a running process so far, in MiB; 0 where it has ended."""
     try:
@@ -99,7 +112,7 @@ def main():
     print("| Script | Lines | Seconds | Lines a second | Peak memory, MiB | Status |")
     print("|---|---|---|---|---|---|")
     with tempfile.TemporaryDirectory() as folder:
-        for kind, sizes in ((requests, LONG), (datagrams, LONG), (connects, SHORT)):
+        for kind, sizes in ((requests, LONG), (datagrams, LONG), (closings, LONG), (connects, SHORT)):
             for size in sizes:
                 text = list(kind(size))
                 path = os.path.join(folder, "script")
