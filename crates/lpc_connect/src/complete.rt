@@ -1,5 +1,5 @@
 // The call that completes a connection.
-ghost use Rattle.std.specs.Prelude.{◌≡◌, ◌≤◌, ◌<◌, ◌+◌, Ok, Err, IfErr, IfOk, MatchResult, true, false};
+ghost use Rattle.std.specs.Prelude.{◌≡◌, ◌≤◌, ◌<◌, ◌+◌, ◌*◌, Ok, Err, IfErr, IfOk, MatchResult, true, false};
 ghost use Rattle.lpc_base.specs.Rows.{has};
 ghost use Rattle.lpc_base.specs.declared.limits.TheConstants.{LINES_LIMIT};
 ghost use Rattle.lpc_connect.specs.Calls.{IsOwnWait, completing, shown_connection};
@@ -9,7 +9,7 @@ ghost use Rattle.lpc_model.specs.Found.{is_accepted, waits_as};
 ghost use Rattle.lpc_model.specs.Lines.{complete_connect_port};
 ghost use Rattle.lpc_world.specs.Called.{called};
 ghost use Rattle.lpc_world.specs.Does.{Took};
-ghost use Rattle.lpc_world.specs.Kept.{has_queued};
+ghost use Rattle.lpc_world.specs.Kept.{CanMake, has_queued};
 ghost use Rattle.lpc_world.specs.Names.{stands};
 ghost use Rattle.lpc_world.specs.Ready.{caller, is_ready, waiter};
 ghost use Rattle.lpc_world.specs.Shown.{shown_thread};
@@ -62,6 +62,7 @@ fn complete(world: &mut World, by: &ThreadRow, connection: Connection, out: &mut
     requires thread { IsOwnWait world.old.rows connection.thread }
     requires accepted { is_accepted (waiter world.old.rows connection.thread) ≡ true }
     requires left { has_queued world.old.rows connection.thread ≡ false }
+    requires budget { CanMake world.old }
     ensures takes { let c = shown_connection world.old connection in
         let steps = completing world.old.rows (shown_thread by.now) c in
         Took steps world.old world.new out.old out.new }

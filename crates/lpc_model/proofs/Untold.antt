@@ -190,7 +190,7 @@ open-stands w b n is = at (first (has_handle_to b) w.handles) refl
     at (Some t) found = named t (every-first (λ t. every (is_to_port w) t.rows) (has_handle_to b) w.handles t n.handles found) (first (λ h. names_port b h.object) t.rows) refl (first-passes (has_handle_to b) w.handles t found)
 
 -- Handles
-put-none : (p : HandleRow → Bool) (h : HandleRow) (rows : List HandleRow) → p h ≡ false → has p rows ≡ false → has p (put_handle h rows) ≡ false
+pub put-none : (p : HandleRow → Bool) (h : HandleRow) (rows : List HandleRow) → p h ≡ false → has p rows ≡ false → has p (put_handle h rows) ≡ false
 put-none p h rows own none =
     let low = which (λ (r : HandleRow). nat_lt r.value h.value) rows in
     let high = which (λ (r : HandleRow). nat_lt h.value r.value) rows in

@@ -19,7 +19,7 @@ use Rattle.lpc_ports.specs.Table.{PortTable}
 use Rattle.lpc_ports.specs.declared.Port.{Port}
 use Rattle.lpc_slots.specs.Table.{at_key, is_key}
 use Rattle.lpc_slots.specs.declared.Key.{Key}
-use Rattle.lpc_world.specs.Kept.{Roomy, room_by, rows_by}
+use Rattle.lpc_world.specs.Kept.{Roomy, owed_rows, room_by, rows_by}
 use Rattle.lpc_world.specs.Lawful.{AreLawful}
 use Rattle.lpc_world.specs.Names.{are_apart, differs, name_of, names_of, some_stands, stands}
 use Rattle.lpc_world.specs.Shown.{Tables, AreNamed, Births, all_pass, birth_in, birth_of, births_of, object_stands, port_refs, ports_in, shown_by, shown_port}
@@ -275,6 +275,9 @@ module _ (it : Tables) (is : AreNamed (births_of it.ports) it) where
 
     pub cut_lawful : (calls made : ℕ) → AreLawful it calls made → AreLawful (record it { ports = cut_table }) calls made
     cut_lawful calls made all = rw cut_rows (joins.lawful cut_row cut_key cut_own it is shown_cut cut_kept fit all_fit cut_shows calls made all cut_birth cut_kind)
+
+    pub cut_owed : owed_rows (rows_by (record it { ports = cut_table })) ≡ owed_rows w
+    cut_owed = rw cut_rows (joins.owes cut_row cut_key cut_own it is shown_cut cut_kept fit all_fit cut_shows cut_birth cut_kind)
 
     abbrev cut_all : Tables
     cut_all = record it { ports = cut_table }

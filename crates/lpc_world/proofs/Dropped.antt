@@ -12,7 +12,7 @@ use Rattle.lpc_model.specs.Basics.{DropsHandle, basic, without_handle}
 use Rattle.lpc_model.specs.Found.{has_value, is_connect, is_table}
 use Rattle.lpc_model.specs.Tests.{is_connect_of}
 use Rattle.lpc_model.specs.World.{HandleRow, HandleTable, WaitRow, World}
-use Rattle.lpc_world.specs.Kept.{rows_by}
+use Rattle.lpc_world.specs.Kept.{owed_rows, rows_by}
 use Rattle.lpc_world.specs.Lawful.{AreLawful, IsPromised, has_places, is_at_home, is_within}
 use Rattle.lpc_world.specs.Parts.{closed, closing, is_part, spare_at}
 use Rattle.lpc_world.specs.Shown.{Births, Tables, all_pass, birth_of, births_of, object_stands, part_refs, shown_handle, shown_part}
@@ -21,6 +21,7 @@ use Rattle.lpc_world.specs.declared.parts.Part.{Part}
 use Rattle.lpc_world.proofs.Changes as changes
 use Rattle.lpc_world.proofs.Drawn as drawn
 use Rattle.lpc_world.proofs.Lawful as lawful
+use Rattle.lpc_world.proofs.Owed.{owed-drop}
 
 -- the room of a part that loses a handle, or has none of the value
 closed_more : (value : ℕ) (part : Part) → part.handles.spare ≤ (closed value part).handles.spare
@@ -83,6 +84,9 @@ module _ (it : Tables) (calls made : ℕ) (is : AreLawful it calls made) (pid va
       rw (every-map (object_stands n) (λ (row : ℕ × Row Object). row.1.object) (without_first (handles.has_value value) hs))
       (every-without_first (λ row. object_stands n row.1.object) (handles.has_value value) hs (sym (every-map (object_stands n) (λ (row : ℕ × Row Object). row.1.object) hs) ∙ all))
 
+  pub dropped_owed : owed_rows (rows_by after) ≤ owed_rows rows
+  dropped_owed = rw drops (owed-drop rows pid value)
+
   pub dropped_lawful : AreLawful after calls made
   dropped_lawful = record {
     named = record {
@@ -95,7 +99,7 @@ module _ (it : Tables) (calls made : ℕ) (is : AreLawful it calls made) (pid va
         in_names = is.named.refs.in_names;
       };
     };
-    lawful = rw drops (lawful.lawful-handles rows calls made it.waits.spare it.ports.message_room pid (without_handle value) (λ t. refl) is.lawful);
+    lawful = rw drops (lawful.lawful-drop rows calls made it.waits.spare it.ports.message_room pid value is.lawful);
     counted = is.counted;
     headed = is.headed;
     drawn = drawn.same-drawn rows _ refl refl refl is.drawn;

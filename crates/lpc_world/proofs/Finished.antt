@@ -1,5 +1,5 @@
 -- A connect that is completed: the handle that was promised to it is given, and its wait ends.
-use Rattle.std.proofs.Common.{◌≡◌, ℕ, ◌+◌, ◌<◌, List, true, false, cond, not, ◌&&◌, ◌||◌, ◌==◌, length, Option, Some, None, refl, ap, sym, subst, ◌∙◌, arith, Bool}
+use Rattle.std.proofs.Common.{◌≡◌, ℕ, ◌+◌, ◌*◌, ◌<◌, ◌≤◌, List, true, false, cond, not, ◌&&◌, ◌||◌, ◌==◌, length, Option, Some, None, refl, ap, sym, subst, ◌∙◌, arith, Bool}
 use Rattle.std.specs.Prelude.{IfSome, is_some}
 use Rattle.std.proofs.lemmas.Bool.Decides.{nat_tests}
 use Rattle.lpc_base.specs.Rows.{change, first, has, without}
@@ -12,7 +12,7 @@ use Rattle.lpc_model.specs.Found.{handles_of, is_accepted, is_connect, is_table,
 use Rattle.lpc_model.specs.Tests.{is_connect_of}
 use Rattle.lpc_waits.specs.Table as waits
 use Rattle.lpc_waits.specs.Table.{WaitTable}
-use Rattle.lpc_world.specs.Kept.{has_queued, is_pending_in, rows_by}
+use Rattle.lpc_world.specs.Kept.{has_queued, is_pending_in, owed_rows, rows_by}
 use Rattle.lpc_world.specs.Lawful.{AreLawful, IsPromised, is_taken}
 use Rattle.lpc_world.specs.Parts.{handed, is_part, rows_at, spare_at}
 use Rattle.lpc_world.specs.Ready.{wait_in, waiter}
@@ -22,6 +22,7 @@ use Rattle.lpc_world.specs.declared.parts.Part.{Part}
 use Rattle.lpc_world.proofs.Changes as changes
 use Rattle.lpc_world.proofs.Drawn as drawn
 use Rattle.lpc_world.proofs.Lawful as lawful
+use Rattle.lpc_world.proofs.Owed.{owed-handle}
 use Rattle.lpc_world.proofs.Promised as promised
 use Rattle.lpc_world.proofs.Promised.{IsKept}
 use Rattle.lpc_world.proofs.Steps as steps
@@ -88,15 +89,19 @@ module _ (it : Tables) (calls made : ℕ) (is : AreLawful it calls made) (tid pi
     pub rows_after : rows_by after ≡ record (basic rows (AddsHandle pid (shown_handle (birth_of n) (value, row)))) { waits = without (waits_as tid) rows.waits }
     rows_after = changes.ends given named_given tid less.spare less.made ∙ ap left (changes.hands it is.named pid value row)
 
-    pub finished : has_queued rows tid ≡ false → AreLawful after calls made
-    finished none = record {
+    pub finished : has_queued rows tid ≡ false → made + owed_rows rows < 16 * calls → AreLawful after calls made
+    finished none lt = record {
       named = changes.ended given named_given tid less.spare less.made;
-      lawful = rw (rows_after, ← steps.has_wait it calls made is tid) (lawful.lawful-end (record rows { handles = change (is_table pid) _ rows.handles }) calls made it.waits.spare it.ports.message_room tid (lawful.lawful-handle rows calls made it.waits.spare it.ports.message_room pid (shown_handle (birth_of n) (value, row)) is.lawful) none);
+      lawful = rw (rows_after, ← steps.has_wait it calls made is tid) (lawful.lawful-end (record rows { handles = change (is_table pid) _ rows.handles }) calls made it.waits.spare it.ports.message_room tid (lawful.lawful-handle rows calls made it.waits.spare it.ports.message_room pid (shown_handle (birth_of n) (value, row)) is.lawful lt (steps.single_object it calls made is row.object)) none);
       counted = record { ports_made = is.counted.ports_made; messages_made = is.counted.messages_made; waits_made = is.counted.waits_made };
       headed = is.headed;
       drawn = drawn.same-drawn rows _ refl refl refl is.drawn;
       promised = subst (λ (v : World). IsPromised v.waits v.handles more) (sym rows_after) (promised.connect-finishes rows.waits rows.handles it.parts tid pid value (shown_handle (birth_of n) (value, row)) row (waiter rows tid) is.promised is.lawful.single found mine);
     }
+
+    -- and one row more is owed at most
+    pub finished_owed : owed_rows (rows_by after) ≤ owed_rows rows + 1
+    finished_owed = let less = ap owed_rows rows_after in omega (arith, less, owed-handle rows pid (shown_handle (birth_of n) (value, row)) (steps.single_object it calls made is row.object))
 
 -- a connect that is accepted was received, so it isn't pending
 module _ (it : Tables) (calls made : ℕ) (is : AreLawful it calls made) where

@@ -1,6 +1,6 @@
 -- A port less, which no row names: what else stood stands under its name, and the new rows are the step of the rows that
 -- the tables stood for.
-use Rattle.std.proofs.Common.{◌≡◌, ℕ, ◌+◌, List, Bool, true, false, not, map, refl, ◌∙◌, arith, subst, sym}
+use Rattle.std.proofs.Common.{◌≡◌, ℕ, ◌+◌, ◌≤◌, List, Bool, true, false, not, map, refl, ap, ◌∙◌, arith, subst, sym}
 use Rattle.std.specs.Prelude.{◌&&◌}
 use Rattle.lpc_base.specs.declared.birth.Birth.{Birth}
 use Rattle.lpc_base.specs.Rows.{every, has, without}
@@ -15,7 +15,7 @@ use Rattle.lpc_ports.specs.declared.Port.{Port}
 use Rattle.lpc_slots.specs.Table.{at_key}
 use Rattle.lpc_slots.specs.declared.Key.{Key}
 use Rattle.lpc_world.specs.Held.{is_message_at, is_named}
-use Rattle.lpc_world.specs.Kept.{HandleRoom, Roomy, rows_by}
+use Rattle.lpc_world.specs.Kept.{HandleRoom, Roomy, owed_rows, rows_by}
 use Rattle.lpc_world.specs.Lawful.{AreDrawn, AreLawful, IsLawful, was_drawn, IsPromised}
 use Rattle.lpc_world.specs.Names.{KeepsOthers, name_of, stands}
 use Rattle.lpc_world.specs.Shown.{AllPass, AreNamed, Births, Tables, all_pass, binding_refs, birth_of, births_of, message_refs, object_stands, part_refs, port_refs, shown_binding, shown_by, shown_message, shown_part, shown_port, shown_wait, wait_refs}
@@ -26,6 +26,7 @@ use Rattle.lpc_world.proofs.Follows as follows
 use Rattle.lpc_world.proofs.Follows.{is_own}
 use Rattle.lpc_world.proofs.Makes.{bindings_shape, messages_shape, parts_shape, ports_shape, rows_more, shown_same, waits_shape}
 use Rattle.lpc_world.proofs.Naming.{apart-without, name-without, stands-without}
+use Rattle.lpc_world.proofs.Owed.{owed-free}
 use Rattle.lpc_world.proofs.OwnMessages.{count-left}
 use Rattle.lpc_world.proofs.Rooms.{room}
 use Rattle.lpc_world.proofs.Untold.{told-free}
@@ -105,6 +106,9 @@ module _ (it : Tables) (is : AreNamed (births_of it.ports) it) (key : Key) (room
           shown_same binding_refs shown_binding bindings_shape ok (birth_of m) (birth_of n) name_less it.space.bindings pass.in_names,
         ) refl
 
+    pub freed_owed : stands n.ports key ≡ true → owed_rows (shown_by m (record it { ports = after })) ≤ owed_rows (shown_by n it)
+    freed_owed there = let same = ap owed_rows (frees there) in omega (arith, same, owed-free (shown_by n it) (name_of n.ports key))
+
 -- no message was sent on a port that no row names
 pub none_sent : (w : World) (b : Birth) → is_named w b ≡ false → has (is_sent_on b) w.messages ≡ false
 none_sent w b off = has_none-more (is_message_at b) (is_sent_on b) (λ m none. grind arith) w.messages (grind (arith, off))
@@ -113,7 +117,7 @@ none_sent w b off = has_none-more (is_message_at b) (is_sent_on b) (λ m none. g
 lawful-free : (w : World) (calls made a b : ℕ) (c : Birth) → has (is_sent_on c) w.messages ≡ false → IsLawful w calls made a b → IsLawful (record w { ports = without (is_port c) w.ports }) calls made a b
 lawful-free w calls made a b c none h = record {
   few = h.few;
-  budget = h.budget;
+  budget = omega (arith, h.budget, owed-free w c);
   rows = grind (arith, h.rows, count-bound (λ x. not (is_port c x)) w.ports);
   draws = h.draws;
   housed = h.housed;

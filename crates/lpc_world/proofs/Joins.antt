@@ -14,12 +14,13 @@ use Rattle.lpc_ports.specs.declared.Port.{Port}
 use Rattle.lpc_slots.specs.Table.{at_key}
 use Rattle.lpc_slots.specs.declared.Key.{Key}
 use Rattle.lpc_world.specs.Joined.{with_completed}
-use Rattle.lpc_world.specs.Kept.{HandleRoom, Roomy, room_by, rows_by}
+use Rattle.lpc_world.specs.Kept.{HandleRoom, Roomy, owed_rows, room_by, rows_by}
 use Rattle.lpc_world.specs.Lawful.{AreDrawn, AreLawful, IsLawful, was_drawn, IsPromised}
 use Rattle.lpc_world.specs.Names.{name_of, names_of, stands}
 use Rattle.lpc_world.specs.Shown.{Tables, AreNamed, Births, all_pass, birth_of, births_of, object_stands, port_refs, ports_in, shown_by, shown_port}
 use Rattle.lpc_world.specs.declared.object.Object.{Object}
 use Rattle.lpc_world.specs.declared.object.Object.TheVariants as object
+use Rattle.lpc_world.proofs.Owed.{owed-map}
 use Rattle.lpc_world.proofs.Follows as follows
 use Rattle.lpc_world.proofs.Naming.{key_is}
 use Rattle.lpc_world.proofs.Rooms.{room}
@@ -57,7 +58,7 @@ room_ports a b c d e g w hs k kinds v ts ms xs ps = let clients = clients_same k
 lawful-ports : (w : World) (calls made a b : ℕ) (k : model.PortRow → model.PortRow) → ((p : model.PortRow) → (k p).birth ≡ p.birth) → ((p : model.PortRow) → (k p).kind ≡ p.kind) → IsLawful w calls made a b → IsLawful (record w { ports = map k w.ports }) calls made a b
 lawful-ports w calls made a b k same kinds h = record {
   few = h.few;
-  budget = h.budget;
+  budget = omega (arith, h.budget, owed-map w k same kinds);
   rows = grind (arith, h.rows, length-map w.ports k);
   draws = h.draws;
   housed = h.housed;
@@ -122,6 +123,9 @@ module _ (change_row : Key × Port → Key × Port) (same_key : (row : Key × Po
         drawn = rw changes (drawn-ports (rows_by it) k same all.drawn);
         promised = subst (λ (v : World). IsPromised v.waits v.handles it.parts) (sym changes) all.promised;
       }
+
+      pub owes : ((p : model.PortRow) → (k p).birth ≡ p.birth) → ((p : model.PortRow) → (k p).kind ≡ p.kind) → owed_rows (rows_by (record it { ports = after })) ≡ owed_rows (rows_by it)
+      owes same kinds = ap owed_rows changes ∙ owed-map (rows_by it) k same kinds
 
       abbrev all_after : Tables
       all_after = record it { ports = after }
@@ -221,6 +225,9 @@ module _ (it : Tables) (is : AreNamed (births_of it.ports) it) (client server : 
   pub joined_lawful : (calls made : ℕ) → AreLawful it calls made → AreLawful (record it { ports = joined_table }) calls made
   joined_lawful calls made all = rw joined_rows (lawful join_row join_key join_own it is shown_joined join_kept (follows.is_own (λ (r : Port). r.birth) it.ports.ports) (follows.own_ports it is) join_shows calls made all joined_birth joined_kind)
 
+  pub joined_owed : owed_rows (rows_by (record it { ports = joined_table })) ≡ owed_rows (rows_by it)
+  joined_owed = rw joined_rows (owes join_row join_key join_own it is shown_joined join_kept (follows.is_own (λ (r : Port). r.birth) it.ports.ports) (follows.own_ports it is) join_shows joined_birth joined_kind)
+
   abbrev joined_all : Tables
   joined_all = record it { ports = joined_table }
 
@@ -265,6 +272,9 @@ module _ (it : Tables) (is : AreNamed (births_of it.ports) it) (key : Key) (comp
 
   pub completed_lawful : (calls made : ℕ) → AreLawful it calls made → AreLawful (record it { ports = completed_table }) calls made
   completed_lawful calls made all = lawful complete_row (key_at key (ports.with_completed completed)) (own_at key (ports.with_completed completed) (λ p. refl)) it is shown_completed complete_kept (follows.is_own (λ (r : Port). r.birth) it.ports.ports) (follows.own_ports it is) complete_shows calls made all completed_birth completed_kind
+
+  pub completed_owed : owed_rows (rows_by (record it { ports = completed_table })) ≡ owed_rows (rows_by it)
+  completed_owed = owes complete_row (key_at key (ports.with_completed completed)) (own_at key (ports.with_completed completed) (λ p. refl)) it is shown_completed complete_kept (follows.is_own (λ (r : Port). r.birth) it.ports.ports) (follows.own_ports it is) complete_shows completed_birth completed_kind
 
   abbrev completed_all : Tables
   completed_all = record it { ports = completed_table }

@@ -19,10 +19,11 @@ use Rattle.lpc_base.proofs.RowMaps.{every-first}
 use Rattle.lpc_model.specs.World.{World, HandleRow, HandleTable, MessageRow, PortRow, ProcessRow, ThreadRow, UsedThread, WaitRow}
 use Rattle.lpc_model.specs.Closings.{is_closed_post}
 use Rattle.lpc_model.specs.Message.{asks}
-use Rattle.lpc_model.specs.Found.{is_client_port, is_live_thread, is_own_of, is_process, is_queued, is_queued_connect, is_table, is_thread, same_birth, waits_as}
+use Rattle.lpc_model.specs.Found.{is_client_port, is_live_thread, is_open, is_own_of, is_port, is_process, is_queued, is_queued_connect, is_table, is_thread, same_birth, waits_as}
 use Rattle.lpc_model.specs.Entering.{takes}
-use Rattle.lpc_model.specs.Basics.{no_handles, past_identifier, past_ordinal, received, with_handle}
-use Rattle.lpc_world.specs.Kept.{is_alive, is_asking, is_pending, is_unsent, owed_closings, owed_messages, owed_requests, owed_waits}
+use Rattle.lpc_model.specs.Basics.{no_handles, past_identifier, past_ordinal, received, with_handle, without_handle}
+use Rattle.lpc_world.specs.Kept.{is_alive, is_asking, is_pending, is_unsent, owed_closings, owed_messages, owed_requests, owed_rows, owed_waits}
+use Rattle.lpc_world.proofs.Owed.{none-taken, owed-drop, owed-handle, owed-process, owed-shut}
 use Rattle.lpc_world.proofs.OwnMessages.{asking-pending, count-left, count-taken_by, own-change, own-end, own-enter, own-keep, own-take, own-wait, own-withdraw}
 use Rattle.lpc_world.proofs.Untold.{asks_no_closing, closings-fit, one-place, told-enter, told-make, told-take, told-withdraw}
 use Rattle.lpc_world.specs.Untold.{TellsOnce, closing_places, is_owed}
@@ -146,7 +147,7 @@ module _ (f : ThreadRow → ThreadRow) (same : (t : ThreadRow) → (f t).number 
       every-change (is_housed v) (is_thread who) f (λ t there. rw (home t) there) ts
       (every-more (is_housed w) (is_housed v) (λ t there. rw (ps, hs) there) ts all)
 
-  pub lawful-drawn : (w : World) (calls made a b who : ℕ) → IsLawful w calls made a b → made < 16 * calls → every (draws_at_most (made + 1 + 1)) (change (is_thread who) f w.threads) ≡ true
+  pub lawful-drawn : (w : World) (calls made a b who : ℕ) → IsLawful w calls made a b → made + owed_rows w < 16 * calls → every (draws_at_most (made + 1 + 1)) (change (is_thread who) f w.threads) ≡ true
       → IsLawful (record w { threads = change (is_thread who) f w.threads }) calls (made + 1) a b
   lawful-drawn w calls made a b who h lt draws = record {
     few = h.few;
@@ -166,11 +167,11 @@ module _ (f : ThreadRow → ThreadRow) (same : (t : ThreadRow) → (f t).number 
     messages_fit = rw (alive-change f lives who w.threads) h.messages_fit;
   }
 
-pub lawful-identifier : (w : World) (calls made a b who : ℕ) → IsLawful w calls made a b → made < 16 * calls
+pub lawful-identifier : (w : World) (calls made a b who : ℕ) → IsLawful w calls made a b → made + owed_rows w < 16 * calls
     → IsLawful (record w { threads = change (is_thread who) past_identifier w.threads }) calls (made + 1) a b
 lawful-identifier w calls made a b who h lt = lawful-drawn past_identifier (λ t. refl) (λ t. refl) (λ t. refl) w calls made a b who h lt (draws-identifiers (made + 1) who w.threads h.draws)
 
-pub lawful-ordinal : (w : World) (calls made a b who : ℕ) → IsLawful w calls made a b → made < 16 * calls
+pub lawful-ordinal : (w : World) (calls made a b who : ℕ) → IsLawful w calls made a b → made + owed_rows w < 16 * calls
     → IsLawful (record w { threads = change (is_thread who) past_ordinal w.threads }) calls (made + 1) a b
 lawful-ordinal w calls made a b who h lt = lawful-drawn past_ordinal (λ t. refl) (λ t. refl) (λ t. refl) w calls made a b who h lt (draws-ordinals (made + 1) who w.threads h.draws)
 
@@ -192,11 +193,11 @@ used-more used pid ts all = every-more (is_used used) (is_used (used ++ pid ∷ 
 used-self : (used : List ℕ) (pid : ℕ) → is_used (used ++ pid ∷ []) (no_handles pid) ≡ true
 used-self used pid = has-push (λ n. n == pid) used pid (grind (arith, nat_tests))
 
-pub lawful-process : (w : World) (calls made a b : ℕ) (p : ProcessRow) → IsLawful w calls made a b → made < 16 * calls → has (λ n. n == p.number) w.used_processes ≡ false
+pub lawful-process : (w : World) (calls made a b : ℕ) (p : ProcessRow) → IsLawful w calls made a b → made + owed_rows w < 16 * calls → has (λ n. n == p.number) w.used_processes ≡ false
     → IsLawful (record w { processes = w.processes ++ p ∷ []; used_processes = w.used_processes ++ p.number ∷ []; handles = w.handles ++ no_handles p.number ∷ [] }) calls (made + 1) a b
 lawful-process w calls made a b p h lt new = record {
   few = h.few;
-  budget = omega arith;
+  budget = omega (arith, lt, owed-process w p.number);
   rows = grind (arith, h.rows, length_push w.processes p);
   draws = every-more (draws_at_most (made + 1)) (draws_at_most (made + 1 + 1)) (draws-more (made + 1) (made + 1 + 1) (omega arith)) w.threads h.draws;
   housed = every-more (is_housed w) _ (λ t there. grind (arith, has-kept (is_process t.process) w.processes p, has-kept (is_table t.process) w.handles (no_handles p.number))) w.threads h.housed;
@@ -216,7 +217,7 @@ at-most-one : (b : Bool) → cond b 1 0 ≤ 1
 at-most-one true = omega arith
 at-most-one false = omega arith
 
-pub lawful-thread : (w : World) (calls made a b : ℕ) (t : ThreadRow) (used : List UsedThread) → IsLawful w calls made a b → made < 16 * calls
+pub lawful-thread : (w : World) (calls made a b : ℕ) (t : ThreadRow) (used : List UsedThread) → IsLawful w calls made a b → made + owed_rows w < 16 * calls
     → draws_at_most 1 t ≡ true → is_housed w t ≡ true → owed_waits w < a → owed_messages w < b
     → IsLawful (record w { threads = w.threads ++ t ∷ []; used_threads = used }) calls (made + 1) a b
 lawful-thread w calls made a b t used h lt young home room place = record {
@@ -246,11 +247,11 @@ kind-places p = elim p.kind as (λ k. cond (elim k [ Client ↦ true | _ ↦ fal
 pub owed-port : (w : World) (p : PortRow) → owed_messages (record w { ports = w.ports ++ p ∷ [] }) ≤ owed_messages w + closing_places p.kind
 owed-port w p = let more = count-push is_client_port w.ports p in let places = kind-places p in omega (arith, more, places)
 
-pub lawful-port : (w : World) (calls made a b : ℕ) (p : PortRow) → IsLawful w calls made a b → made < 16 * calls → closing_places p.kind ≤ b - owed_messages w
+pub lawful-port : (w : World) (calls made a b : ℕ) (p : PortRow) → IsLawful w calls made a b → made + owed_rows w < 16 * calls → is_open w p.birth ≡ false → closing_places p.kind ≤ b - owed_messages w
     → IsLawful (record w { ports = w.ports ++ p ∷ [] }) calls (made + 1) a b
-lawful-port w calls made a b p h lt place = record {
+lawful-port w calls made a b p h lt shut place = record {
   few = h.few;
-  budget = omega arith;
+  budget = omega (arith, lt, owed-shut w p shut);
   rows = grind (arith, h.rows, length_push w.ports p);
   draws = every-more (draws_at_most (made + 1)) (draws_at_most (made + 1 + 1)) (draws-more (made + 1) (made + 1 + 1) (omega arith)) w.threads h.draws;
   housed = h.housed;
@@ -266,11 +267,12 @@ lawful-port w calls made a b p h lt place = record {
   messages_fit = let more = owed-port w p in let fit = h.messages_fit in omega (arith, more, fit, place);
 }
 
-pub lawful-handles : (w : World) (calls made a b pid : ℕ) (g : HandleTable → HandleTable) → ((t : HandleTable) → (g t).process ≡ t.process) → IsLawful w calls made a b
+lawful-handles : (w : World) (calls made a b pid : ℕ) (g : HandleTable → HandleTable) → ((t : HandleTable) → (g t).process ≡ t.process) → IsLawful w calls made a b
+    → made + owed_rows (record w { handles = change (is_table pid) g w.handles }) ≤ 16 * calls
     → IsLawful (record w { handles = change (is_table pid) g w.handles }) calls made a b
-lawful-handles w calls made a b pid g same h = record {
+lawful-handles w calls made a b pid g same h few = record {
   few = h.few;
-  budget = h.budget;
+  budget = few;
   rows = h.rows;
   draws = h.draws;
   housed = every-more (is_housed w) _ (λ t there. grind (arith, has-change (is_table t.process) (is_table pid) g (λ u. grind (arith, same u)) w.handles)) w.threads h.housed;
@@ -286,11 +288,15 @@ lawful-handles w calls made a b pid g same h = record {
   messages_fit = h.messages_fit;
 }
 
-pub lawful-handle : (w : World) (calls made a b pid : ℕ) (row : HandleRow) → IsLawful w calls made a b
+pub lawful-handle : (w : World) (calls made a b pid : ℕ) (row : HandleRow) → IsLawful w calls made a b → made + owed_rows w < 16 * calls → count (is_port row.object.birth) w.ports ≤ 1
     → IsLawful (record w { handles = change (is_table pid) (with_handle row) w.handles }) calls made a b
-lawful-handle w calls made a b pid row h = lawful-handles w calls made a b pid (with_handle row) (λ t. refl) h
+lawful-handle w calls made a b pid row h lt one = lawful-handles w calls made a b pid (with_handle row) (λ t. refl) h (omega (arith, lt, owed-handle w pid row one))
 
-pub lawful-wait : (w : World) (calls made a b : ℕ) (x : WaitRow) → IsLawful w calls made a b → made < 16 * calls
+pub lawful-drop : (w : World) (calls made a b pid value : ℕ) → IsLawful w calls made a b
+    → IsLawful (record w { handles = change (is_table pid) (without_handle value) w.handles }) calls made a b
+lawful-drop w calls made a b pid value h = lawful-handles w calls made a b pid (without_handle value) (λ t. refl) h (omega (arith, h.budget, owed-drop w pid value))
+
+pub lawful-wait : (w : World) (calls made a b : ℕ) (x : WaitRow) → IsLawful w calls made a b → made + owed_rows w < 16 * calls
     → has (is_live_thread x.thread) w.threads ≡ true → has (waits_as x.thread) w.waits ≡ false → is_quiet w.messages x ≡ true → 0 < a
     → IsLawful (record w { waits = w.waits ++ x ∷ [] }) calls (made + 1) (a - 1) b
 lawful-wait w calls made a b x h lt there none still place = record {
@@ -408,7 +414,7 @@ message-place w calls made a b m h asks once owed =
     let one : cond (is_asking m) 1 0 + cond (is_closed_post m) 1 0 ≡ 1 = rw (one-place m.message, owed) refl in
     omega (arith, there.0, there.1, one, h.messages_fit)
 
-pub lawful-enter : (w : World) (calls made a b : ℕ) (m : MessageRow) → IsLawful w calls made a b → made < 16 * calls → 0 < b → has (takes m) w.waits ≡ false
+pub lawful-enter : (w : World) (calls made a b : ℕ) (m : MessageRow) → IsLawful w calls made a b → made + owed_rows w < 16 * calls → 0 < b → has (takes m) w.waits ≡ false
     → (is_asking m ≡ true → is_unsent w m.message.header.client.thread ≡ true) → TellsOnce w m.message m.sender → (is_owed m.message ≡ false → owed_messages w < b)
     → IsLawful (record w { messages = w.messages ++ m ∷ [] }) calls (made + 1) a (b - 1)
 lawful-enter w calls made a b m h lt place none asks once other = record {
@@ -444,10 +450,6 @@ owed-taken q w m is =
     let one = one-place m.message in
     let most = at-most-one (is_owed m.message) in
     omega (arith, asked, told, one, most)
-
-none-taken : (q p : MessageRow → Bool) (ms : List MessageRow) → has p ms ≡ false → has p (without_first q ms) ≡ false
-none-taken q p [] none = refl
-none-taken q p (m ∷ ms) none = grind (arith, none-taken q p ms)
 
 quiet-take : (p : MessageRow → Bool) (ms : List MessageRow) (x : WaitRow) → is_quiet ms x ≡ true → is_quiet (without_first p ms) x ≡ true
 quiet-take p ms x still = grind (arith, none-taken p (is_queued x.queue) ms, none-taken p (is_queued_connect x.queue) ms)

@@ -1,3 +1,4 @@
+pub mod Owed
 pub mod OwnMessages
 pub mod Untold
 pub mod Changes

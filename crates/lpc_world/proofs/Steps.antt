@@ -34,7 +34,7 @@ use Rattle.lpc_waits.specs.declared.WaitRow.{WaitRow}
 use Rattle.lpc_world.specs.Names.{are_apart, name_of, stands}
 use Rattle.lpc_world.specs.Shown.{Tables, Births, all_pass, birth_of, births_of, message_refs, object_stands, port_refs, pulled_row, shown_handle, shown_message, shown_port, shown_process, shown_thread, shown_used, shown_wait, tables_of, wait_refs, with_message}
 use Rattle.lpc_world.specs.Parts.{are_single_parts, handed, is_part, roomed, spare_at}
-use Rattle.lpc_world.specs.Kept.{has_queued, is_alive, is_asking, is_unsent, owed_messages, owed_waits, rows_by}
+use Rattle.lpc_world.specs.Kept.{has_queued, is_alive, is_asking, is_unsent, owed_messages, owed_rows, owed_waits, rows_by}
 use Rattle.lpc_world.specs.Untold.{TellsOnce, closing_places, is_owed}
 use Rattle.lpc_world.specs.Lawful.{AreLawful, IsCounted, draws_at_most, drew, IsPromised, has_header, is_housed, is_quiet}
 use Rattle.lpc_world.specs.declared.object.Object.{Object}
@@ -46,6 +46,7 @@ use Rattle.lpc_world.proofs.Follows.{first_queued}
 use Rattle.lpc_world.proofs.Lawful as lawful
 use Rattle.lpc_world.proofs.Makes as makes
 use Rattle.lpc_world.proofs.Naming.{key_is, key_itself}
+use Rattle.lpc_world.proofs.Owed as owed
 use Rattle.lpc_world.proofs.Promised as promised
 use Rattle.lpc_world.proofs.Promised.{IsWelcome}
 
@@ -97,7 +98,7 @@ module _ (it : Tables) (calls made : ℕ) (is : AreLawful it calls made) where
   drawn_birth who result at = ap (option_map next_birth) (first_thread who) ∙ mapped-twice shown_thread next_birth (first (procs.is_thread who) it.procs.threads) ∙ at
 
   -- draws
-  pub drew_identifier : (who : ℕ) → made < 16 * calls → AreLawful (record it { procs = procs.with_thread it.procs who procs.past_identifier }) calls (made + 1)
+  pub drew_identifier : (who : ℕ) → made + owed_rows rows < 16 * calls → AreLawful (record it { procs = procs.with_thread it.procs who procs.past_identifier }) calls (made + 1)
   drew_identifier who lt = record {
     named = changes.threaded it is.named _;
     lawful = rw (changes.draws_identifier it is.named who) (lawful.lawful-identifier rows calls made it.waits.spare it.ports.message_room who is.lawful lt);
@@ -107,7 +108,7 @@ module _ (it : Tables) (calls made : ℕ) (is : AreLawful it calls made) where
     promised = is.promised;
   }
 
-  pub drew_birth : (who : ℕ) → made < 16 * calls → AreLawful (record it { procs = procs.with_thread it.procs who procs.past_birth }) calls (made + 1)
+  pub drew_birth : (who : ℕ) → made + owed_rows rows < 16 * calls → AreLawful (record it { procs = procs.with_thread it.procs who procs.past_birth }) calls (made + 1)
   drew_birth who lt = record {
     named = changes.threaded it is.named _;
     lawful = rw (changes.draws_ordinal it is.named who) (lawful.lawful-ordinal rows calls made it.waits.spare it.ports.message_room who is.lawful lt);
@@ -118,7 +119,7 @@ module _ (it : Tables) (calls made : ℕ) (is : AreLawful it calls made) where
   }
 
   -- processes and threads
-  pub added_process : (row : ProcessRow) (part : Part) (room : ℕ) → part.handles.rows ≡ [] → part.process ≡ row.number → made < 16 * calls → has (λ m. m == row.number) it.procs.used_processes ≡ false
+  pub added_process : (row : ProcessRow) (part : Part) (room : ℕ) → part.handles.rows ≡ [] → part.process ≡ row.number → made + owed_rows rows < 16 * calls → has (λ m. m == row.number) it.procs.used_processes ≡ false
       → AreLawful (record it { procs = record it.procs { processes = it.procs.processes ++ row ∷ []; used_processes = it.procs.used_processes ++ row.number ∷ []; process_room = room }; parts = it.parts ++ part ∷ [] }) calls (made + 1)
   added_process row part room none same lt new = record {
     named = changes.processed it is.named _ part none;
@@ -129,7 +130,11 @@ module _ (it : Tables) (calls made : ℕ) (is : AreLawful it calls made) where
     promised = subst (λ (v : World). IsPromised v.waits v.handles (it.parts ++ part ∷ [])) (sym (changes.adds_process it is.named row part room none same)) (promised.process-comes rows.waits rows.handles it.parts is.promised row.number part same (lawful.unused-table rows.used_processes row.number rows.handles is.lawful.tables_used new));
   }
 
-  pub added_thread : (row : ThreadRow) (room : ℕ) → has (λ u. u.number == row.number) rows.used_threads ≡ false → made < 16 * calls → draws_at_most 1 (shown_thread row) ≡ true → is_housed rows (shown_thread row) ≡ true
+  pub process_owed : (row : ProcessRow) (part : Part) (room : ℕ) → part.handles.rows ≡ [] → part.process ≡ row.number
+      → owed_rows (rows_by (record it { procs = record it.procs { processes = it.procs.processes ++ row ∷ []; used_processes = it.procs.used_processes ++ row.number ∷ []; process_room = room }; parts = it.parts ++ part ∷ [] })) ≡ owed_rows rows
+  process_owed row part room none same = rw (changes.adds_process it is.named row part room none same) (owed.owed-process rows row.number)
+
+  pub added_thread : (row : ThreadRow) (room : ℕ) → has (λ u. u.number == row.number) rows.used_threads ≡ false → made + owed_rows rows < 16 * calls → draws_at_most 1 (shown_thread row) ≡ true → is_housed rows (shown_thread row) ≡ true
       → owed_waits rows < it.waits.spare → owed_messages rows < it.ports.message_room
       → AreLawful (record it { procs = record it.procs { threads = it.procs.threads ++ row ∷ []; used_threads = it.procs.used_threads ++ (record { number = row.number; process = row.process }) ∷ []; thread_room = room } }) calls (made + 1)
   added_thread row room unused lt young home wait_room message_room = record {
@@ -142,7 +147,7 @@ module _ (it : Tables) (calls made : ℕ) (is : AreLawful it calls made) where
   }
 
   -- messages
-  pub entered : (row : Key × QueuedMessage) → all_pass message_refs (object_stands n) row ≡ true → has_header row ≡ true → made < 16 * calls → 0 < it.ports.message_room → has (takes (shown_message (birth_of n) row)) rows.waits ≡ false
+  pub entered : (row : Key × QueuedMessage) → all_pass message_refs (object_stands n) row ≡ true → has_header row ≡ true → made + owed_rows rows < 16 * calls → 0 < it.ports.message_room → has (takes (shown_message (birth_of n) row)) rows.waits ≡ false
       → (let m = shown_message (birth_of n) row in is_asking m ≡ true → is_unsent rows m.message.header.client.thread ≡ true) → (let m = shown_message (birth_of n) row in TellsOnce rows m.message m.sender)
       → (let m = shown_message (birth_of n) row in is_owed m.message ≡ false → owed_messages rows < it.ports.message_room)
       → AreLawful (record it { ports = record it.ports { messages = it.ports.messages ++ row ∷ []; message_room = it.ports.message_room - 1; messages_made = it.ports.messages_made + 1 } }) calls (made + 1)
@@ -167,7 +172,7 @@ module _ (it : Tables) (calls made : ℕ) (is : AreLawful it calls made) where
   }
 
   -- waits
-  pub awaited : (row : WaitRow) → all_pass wait_refs (object_stands n) row ≡ true → made < 16 * calls → has (is_live_thread row.thread) rows.threads ≡ true → has (waits_as row.thread) rows.waits ≡ false → is_quiet rows.messages (shown_wait (birth_of n) row) ≡ true
+  pub awaited : (row : WaitRow) → all_pass wait_refs (object_stands n) row ≡ true → made + owed_rows rows < 16 * calls → has (is_live_thread row.thread) rows.threads ≡ true → has (waits_as row.thread) rows.waits ≡ false → is_quiet rows.messages (shown_wait (birth_of n) row) ≡ true
       → IsPromised (rows.waits ++ shown_wait (birth_of n) row ∷ []) rows.handles it.parts
       → AreLawful (record it { waits = record { rows = it.waits.rows ++ row ∷ []; spare = it.waits.spare - 1; made = it.waits.made + 1 } }) calls (made + 1)
   awaited row there lt thread ready still owed = record {
@@ -214,11 +219,15 @@ module _ (it : Tables) (calls made : ℕ) (is : AreLawful it calls made) where
     promised = subst (λ (v : World). IsPromised v.waits v.handles it.parts) (sym (changes.keeps_message it is.named who bytes)) (promised.wait-stays rows.waits rows.handles it.parts is.promised (waits_as who) (with_message (message_of bytes)) (changes.connect_kept (message_of bytes)) (λ x. refl) (promised.kept-taken who (with_message (message_of bytes)) (changes.accepted_kept (message_of bytes)) (λ x. refl) rows.waits is.promised.taken));
   }
 
+  -- no two ports have the birth of a handle's object
+  pub single_object : (o : Object) → count (is_port (birth_of n o)) rows.ports ≤ 1
+  single_object o = owed.single-port (birth_of n) it.ports.ports (birth_of n o) is.named.ports_apart
+
   -- handles
-  pub handed_lawful : (pid value : ℕ) (row : Row Object) → object_stands n row.object ≡ true → are_single_parts it.parts ≡ true → IsWelcome rows.waits rows.handles it.parts pid → AreLawful (record it { parts = change (is_part pid) (handed value row) it.parts }) calls made
-  handed_lawful pid value row there one welcome = record {
+  pub handed_lawful : (pid value : ℕ) (row : Row Object) → object_stands n row.object ≡ true → made + owed_rows rows < 16 * calls → are_single_parts it.parts ≡ true → IsWelcome rows.waits rows.handles it.parts pid → AreLawful (record it { parts = change (is_part pid) (handed value row) it.parts }) calls made
+  handed_lawful pid value row there lt one welcome = record {
     named = changes.handed_named it is.named pid value row there;
-    lawful = rw (changes.hands it is.named pid value row) (lawful.lawful-handle rows calls made it.waits.spare it.ports.message_room pid _ is.lawful);
+    lawful = rw (changes.hands it is.named pid value row) (lawful.lawful-handle rows calls made it.waits.spare it.ports.message_room pid _ is.lawful lt (single_object row.object));
     counted = is.counted;
     headed = is.headed;
     drawn = drawn.same-drawn rows _ refl refl refl is.drawn;
@@ -236,11 +245,15 @@ module _ (it : Tables) (calls made : ℕ) (is : AreLawful it calls made) where
   }
 
   -- a port more
-  pub made_lawful : (key : Key) (row : Port) → stands n.ports key ≡ false → first (is_port row.birth) rows.ports ≡ None → every (object_stands n) (port_refs (key, row)) ≡ true → has (drew row.birth) rows.threads ≡ true → made < 16 * calls → closing_places row.kind ≤ it.ports.message_room - owed_messages rows
+  pub made_owed : (key : Key) (row : Port) → every (object_stands n) (port_refs (key, row)) ≡ true → first (is_port row.birth) rows.ports ≡ None
+      → owed_rows (rows_by (record it { ports = record it.ports { ports = it.ports.ports ++ (key, row) ∷ []; port_room = it.ports.port_room - 1; ports_made = it.ports.ports_made + 1 } })) ≡ owed_rows rows
+  made_owed key row refs fresh = ap owed_rows (makes.makes it is.named key row (it.ports.port_room - 1) (it.ports.ports_made + 1) refs) ∙ (owed.owed-shut rows (shown_port (birth_of n) (key, row)) (owed.fresh-shut it is.named row.birth fresh))
+
+  pub made_lawful : (key : Key) (row : Port) → stands n.ports key ≡ false → first (is_port row.birth) rows.ports ≡ None → every (object_stands n) (port_refs (key, row)) ≡ true → has (drew row.birth) rows.threads ≡ true → made + owed_rows rows < 16 * calls → closing_places row.kind ≤ it.ports.message_room - owed_messages rows
       → AreLawful (record it { ports = record it.ports { ports = it.ports.ports ++ (key, row) ∷ []; port_room = it.ports.port_room - 1; ports_made = it.ports.ports_made + 1 } }) calls (made + 1)
   made_lawful key row absent fresh refs was lt place = record {
     named = makes.made_named it is.named key row (it.ports.port_room - 1) (it.ports.ports_made + 1) absent fresh refs;
-    lawful = rw (makes.makes it is.named key row (it.ports.port_room - 1) (it.ports.ports_made + 1) refs) (lawful.lawful-port rows calls made it.waits.spare it.ports.message_room (shown_port (birth_of n) (key, row)) is.lawful lt place);
+    lawful = rw (makes.makes it is.named key row (it.ports.port_room - 1) (it.ports.ports_made + 1) refs) (lawful.lawful-port rows calls made it.waits.spare it.ports.message_room (shown_port (birth_of n) (key, row)) is.lawful lt (owed.fresh-shut it is.named row.birth fresh) place);
     counted = record { ports_made = omega (arith, is.counted.ports_made); messages_made = omega (arith, is.counted.messages_made); waits_made = omega (arith, is.counted.waits_made) };
     headed = is.headed;
     drawn = rw (makes.makes it is.named key row (it.ports.port_room - 1) (it.ports.ports_made + 1) refs) (drawn.drawn-port rows (shown_port (birth_of n) (key, row)) was is.drawn);

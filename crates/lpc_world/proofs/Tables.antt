@@ -1,5 +1,5 @@
 -- The handles of each process, as the definitions have them.
-use Rattle.std.proofs.Common.{◌≡◌, ℕ, ◌<◌, ◌≤◌, ◌&&◌, ◌||◌, List, [], ◌∷◌, true, false, length, map, Option, Some, None, option_map, refl, ap, sym, subst, ◌∙◌, arith}
+use Rattle.std.proofs.Common.{◌≡◌, ℕ, ◌*◌, ◌<◌, ◌≤◌, ◌&&◌, ◌||◌, List, [], ◌∷◌, true, false, length, map, Option, Some, None, option_map, refl, ap, sym, subst, ◌∙◌, arith}
 use Rattle.std.specs.Prelude.{Result, Ok, Err, IfOk, OnErr, OnOk, is_some, nat_le, ◌==◌, ◌+◌}
 use Rattle.std.proofs.lemmas.Bool.{eqb-true}
 use Rattle.std.proofs.lemmas.List.{length-map}
@@ -33,6 +33,7 @@ use Rattle.lpc_world.specs.declared.object.Object.{Object}
 use Rattle.lpc_world.specs.declared.parts.Part.{Part}
 use Rattle.lpc_world.proofs.Changes as changes
 use Rattle.lpc_world.proofs.OnePart.{first_other}
+use Rattle.lpc_world.proofs.Owed as owed
 use Rattle.lpc_world.proofs.Promised.{IsWelcome}
 use Rattle.lpc_world.proofs.Steps as steps
 
@@ -86,9 +87,14 @@ module _ (it : Tables) (calls made : ℕ) (is : AreLawful it calls made) where
   single = single_by it.parts is.lawful.tables_single
 
   -- a handle more, or none
-  pub handed_or_same : (pid : ℕ) (row : Row Object) (r : Result ℕ TableFault) (new : List Part) → object_stands (births_of it.ports) row.object ≡ true → IfOk r (λ v. new ≡ change (is_part pid) (handed v row) it.parts) → OnErr r (new ≡ it.parts) → OnOk r (IsWelcome rows.waits rows.handles it.parts pid) → AreLawful (record it { parts = new }) calls made
-  handed_or_same pid row (Ok v) new there more same welcome = rw more (steps.handed_lawful it calls made is pid v row there single welcome)
-  handed_or_same pid row (Err e) new there more same welcome = rw same is
+  pub handed_or_same : (pid : ℕ) (row : Row Object) (r : Result ℕ TableFault) (new : List Part) → object_stands (births_of it.ports) row.object ≡ true → IfOk r (λ v. new ≡ change (is_part pid) (handed v row) it.parts) → OnErr r (new ≡ it.parts) → made + kept.owed_rows rows < 16 * calls → OnOk r (IsWelcome rows.waits rows.handles it.parts pid) → AreLawful (record it { parts = new }) calls made
+  handed_or_same pid row (Ok v) new there more same lt welcome = rw more (steps.handed_lawful it calls made is pid v row there lt single welcome)
+  handed_or_same pid row (Err e) new there more same lt welcome = rw same is
+
+  -- and one row more is owed at most
+  pub handed_owed : (pid : ℕ) (row : Row Object) (r : Result ℕ TableFault) (new : List Part) → IfOk r (λ v. new ≡ change (is_part pid) (handed v row) it.parts) → OnErr r (new ≡ it.parts) → kept.owed_rows (rows_by (record it { parts = new })) ≤ kept.owed_rows rows + 1
+  handed_owed pid row (Ok v) new more same = rw (more, changes.hands it is.named pid v row) (owed.owed-handle rows pid (shown_handle (birth_of (births_of it.ports)) (v, row)) (steps.single_object it calls made is row.object))
+  handed_owed pid row (Err e) new more same = rw same (omega arith)
 
   pub hands_or_not : (pid : ℕ) (row : Row Object) (r : Result ℕ TableFault) (new : List Part) → IfOk r (λ v. new ≡ change (is_part pid) (handed v row) it.parts) → IfOk r (λ v. rows_by (record it { parts = new }) ≡ basic rows (AddsHandle pid (shown_handle (birth_of (births_of it.ports)) (v, row))))
   hands_or_not pid row (Ok v) new more = rw more (changes.hands it is.named pid v row)

@@ -1,9 +1,9 @@
 -- What contracts see of the world: the definitions' rows, the births of keys, the calls so far, and the room.
 use Rattle.std.specs.Prelude.{◌≡◌, ℕ, ◌+◌, ◌-◌, ◌*◌, ◌<◌, ◌≤◌, ◌==◌, ◌&&◌, ◌||◌, Bool, false, not, List, length, map, min, Option, Some, None}
 use Rattle.lpc_base.specs.Rows.{count, first, has}
-use Rattle.lpc_model.specs.World.{World, MessageRow, WaitRow, ThreadRow}
+use Rattle.lpc_model.specs.World.{World, MessageRow, PortRow, WaitRow, ThreadRow}
 use Rattle.lpc_model.specs.Closings.{is_closed_post}
-use Rattle.lpc_model.specs.Found.{is_client_port, is_connect, is_own_of, is_request, waits_as}
+use Rattle.lpc_model.specs.Found.{is_client_port, is_connect, is_open, is_own_of, is_request, waits_as}
 use Rattle.lpc_model.specs.Message.{asks}
 use Rattle.lpc_model.specs.Tests.{is_connect_of}
 use Rattle.lpc_world.specs.Shown.{Births, Tables, births_of, shown_by}
@@ -42,6 +42,13 @@ owed_messages w = owed_requests w + owed_closings w
 abbrev pub owed_handles : World → ℕ → ℕ
 owed_handles w pid = count (is_connect_of pid) w.waits
 
+-- Each open client port may still cause one row to be made: the message that tells that the port is closed.
+abbrev pub is_open_client : World → PortRow → Bool
+is_open_client w p = is_client_port p && is_open w p.birth
+
+abbrev pub owed_rows : World → ℕ
+owed_rows w = count (is_open_client w) w.ports
+
 -- how many more handles go into a process's table without memory, with those that its waiting connects are to get
 pub record HandleRoom : Type 0 where
   pub process : ℕ
@@ -57,8 +64,8 @@ pub record Room : Type 0 where
   pub names : ℕ
   pub handles : List HandleRoom
 
--- the rows; the births of keys; how many directive and service calls were made; how many rows and numbers were made;
--- whether a row went since the last sweep that may have named an object; the room
+-- the rows; the births of keys; how many directive and service calls were made; how many rows and numbers were made, with
+-- the rows that are owed; whether a row went since the last sweep that may have named an object; the room
 pub record Kept : Type 0 where
   pub rows : World
   pub births : Births
@@ -90,7 +97,7 @@ kept_by it places calls made loose = record {
   rows = rows_by it;
   births = births_of it.ports;
   calls = calls;
-  made = made;
+  made = made + owed_rows (rows_by it);
   loose = loose;
   room = room_by (rows_by it) it places;
 }
@@ -165,7 +172,8 @@ lacks_process_room w = lacks_thread_room w || (w.room.processes == 0)
 abbrev pub lacks_name_room : Kept → Bool
 lacks_name_room w = w.room.names == 0
 
--- Counters: how many rows and numbers a call may make, a call may make one more, and a call has made none yet
+-- Counters: how many rows and numbers a call may make, those among them that it owes; a call may make one more; and it
+-- has made none yet
 abbrev pub CALL_BUDGET : ℕ
 CALL_BUDGET = 16
 

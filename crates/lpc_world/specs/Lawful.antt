@@ -12,7 +12,7 @@ use Rattle.lpc_ports.specs.declared.messages.QueuedMessage.{QueuedMessage}
 use Rattle.lpc_slots.specs.declared.Key.{Key}
 use Rattle.lpc_waits.specs.Table.{WaitTable}
 use Rattle.lpc_world.specs.declared.parts.Part.{Part}
-use Rattle.lpc_world.specs.Kept.{CALL_BUDGET, owed_messages, owed_waits, pends_as, rows_by}
+use Rattle.lpc_world.specs.Kept.{CALL_BUDGET, owed_messages, owed_rows, owed_waits, pends_as, rows_by}
 use Rattle.lpc_world.specs.Shown.{AreNamed, Tables, births_of}
 use Rattle.lpc_world.specs.Untold.{is_client_of}
 
@@ -48,7 +48,7 @@ is_used used t = has (λ n. n == t.process) used
 pub record IsLawful (w : World) (calls made waits messages : ℕ) : Type 0 where
   -- so no counter reaches its end
   pub few : calls ≤ LINES_LIMIT
-  pub budget : made ≤ CALL_BUDGET * calls
+  pub budget : made + owed_rows w ≤ CALL_BUDGET * calls
   pub rows : length w.processes + length w.threads + length w.ports ≤ made
   pub draws : every (draws_at_most (made + 1)) w.threads ≡ true
   -- each thread's process stands, and has one table of handles

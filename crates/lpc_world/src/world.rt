@@ -2,8 +2,8 @@
 // and takes no memory, and a reserving call makes room and changes nothing else. Directives, and the binding of a name
 // where there is no spare room, take memory.
 //
-// Each call that adds a row or draws a number asks for the spare room, and that fewer than 16 rows and numbers were made
-// for each call so far.
+// Each call that adds a row or draws a number asks for the spare room, and that fewer than 16 rows and numbers were made for
+// each call so far, with those that are owed: each open client port owes the message that tells that it is closed.
 ghost use Rattle.std.specs.Prelude.{◌≡◌, ◌+◌, ◌*◌, ◌<◌, ◌≤◌, ◌↔◌, ◌||◌, [], None, Some, true, false, IfSome, IfNone, IfOk, IsErr, OnOk, OnErr, is_some, length};
 ghost use Rattle.lpc_base.specs.Rows.{first, has, without};
 ghost use Rattle.lpc_model.specs.World.{no_rows};
@@ -107,7 +107,7 @@ impl World {
         self.calls
     }
 
-    /// One more directive or service call, which may make up to 16 rows and numbers.
+    /// One more directive or service call, which may make up to 16 rows and numbers, those among them that it owes.
     pub fn begin_call(&mut self)
         requires { self.old.calls < LINES_LIMIT }
         ensures rows { self.new.rows ≡ self.old.rows }
@@ -371,11 +371,13 @@ impl World {
 
     /// Gives a process the least free handle, and answers its value; Quota exactly where the process has 256 handles,
     /// and then nothing changes. Where it has fewer, it has fewer than 256 with those that its waiting connects are to get
-    /// too, and there is room for one more beside them.
+    /// too, and there is room for one more beside them. With its first handle a client port owes the message that is to
+    /// tell that it is closed.
     pub fn handles_add(&mut self, pid: u32, object: Object, access: u32) -> Result<u32, TableFault>
         requires table { has (is_table pid) self.old.rows.handles ≡ true }
         requires load { HasFewHandles self.old.rows pid → HasSmallLoad self.old.rows pid }
         requires room { HasFewHandles self.old.rows pid → HasHandleRoom self.old pid }
+        requires budget { CanMake self.old }
         requires object { object_stands self.old.births object ≡ true }
         ensures quota { IsErr result ↔ (length (handles_of self.old.rows pid) ≡ HANDLE_LIMIT) }
         ensures value { IfOk result (λ v. v ≡ free_handle self.old.rows pid) }
@@ -384,7 +386,7 @@ impl World {
         ensures births { self.new.births ≡ self.old.births }
         ensures calls { self.new.calls ≡ self.old.calls }
         ensures loose { self.new.loose ≡ self.old.loose }
-        ensures made { self.new.made ≡ self.old.made }
+        ensures made { self.new.made ≤ self.old.made + 1 }
         ensures same { OnErr result (self.new ≡ self.old) }
     {
         parts::add_handle(&mut self.parts, pid, object, access)

@@ -68,7 +68,7 @@ impl World {
         ensures births { self.new.births ≡ self.old.births }
         ensures calls { self.new.calls ≡ self.old.calls }
         ensures loose { self.new.loose ≡ true }
-        ensures made { self.new.made ≡ self.old.made }
+        ensures made { self.new.made ≤ self.old.made }
         ensures room { Roomy self.old.room self.new.room }
     {
         self.loose = true;

@@ -1,8 +1,8 @@
 // The end of a connect that is completed: it gets the handle that it was promised.
-ghost use Rattle.std.specs.Prelude.{◌≡◌, true, false};
+ghost use Rattle.std.specs.Prelude.{◌≡◌, ◌+◌, ◌*◌, ◌<◌, ◌≤◌, true, false};
 ghost use Rattle.lpc_base.specs.Rows.{has};
 ghost use Rattle.lpc_model.specs.Found.{free_handle, is_connect, waits_as};
-ghost use Rattle.lpc_world.specs.Kept.{has_queued};
+ghost use Rattle.lpc_world.specs.Kept.{CanMake, has_queued};
 ghost use Rattle.lpc_world.specs.Ready.{waiter};
 ghost use Rattle.lpc_world.specs.Shown.{object_stands};
 ghost use Rattle.lpc_world.specs.Clauses.{finished};
@@ -17,6 +17,7 @@ impl World {
         requires waits { has (waits_as tid) self.old.rows.waits ≡ true }
         requires connect { is_connect (waiter self.old.rows tid) ≡ true }
         requires left { has_queued self.old.rows tid ≡ false }
+        requires budget { CanMake self.old }
         requires object { object_stands self.old.births object ≡ true }
         ensures value { let x = waiter self.old.rows tid in
             result ≡ free_handle self.old.rows x.process }
@@ -24,7 +25,7 @@ impl World {
         ensures births { self.new.births ≡ self.old.births }
         ensures calls { self.new.calls ≡ self.old.calls }
         ensures loose { self.new.loose ≡ true }
-        ensures made { self.new.made ≡ self.old.made }
+        ensures made { self.new.made ≤ self.old.made + 1 }
     {
         let wait = self.wait(tid);
         match parts::add_handle(&mut self.parts, wait.process, object, access) {

@@ -1,5 +1,5 @@
 // Objects that no row counts for go.
-ghost use Rattle.std.specs.Prelude.{◌≡◌, ◌<◌, [], true, false, IfNone, IfSome, Some, length, not};
+ghost use Rattle.std.specs.Prelude.{◌≡◌, ◌<◌, ◌≤◌, [], true, false, IfNone, IfSome, Some, length, not};
 ghost use Rattle.lpc_model.specs.Basics.{world_after, Frees};
 ghost use Rattle.lpc_model.specs.Found.{port_name};
 ghost use Rattle.lpc_model.specs.Linked.{HasHeldPorts};
@@ -80,7 +80,7 @@ impl World {
         requires unheld { is_unheld self.old.rows (name_at self.old object) ≡ true }
         ensures rows { self.new.rows ≡ after self.old (Frees (name_at self.old object)) }
         ensures calls { self.new.calls ≡ self.old.calls }
-        ensures made { self.new.made ≡ self.old.made }
+        ensures made { self.new.made ≤ self.old.made }
         ensures loose { self.new.loose ≡ true }
         ensures room { Roomy self.old.room self.new.room }
     {
@@ -95,7 +95,7 @@ impl World {
         requires still { self.old.loose ≡ false → model.unheld self.old.rows ≡ [] }
         ensures rows { self.new.rows ≡ world_after self.old.rows (model.sweep self.old.rows) }
         ensures calls { self.new.calls ≡ self.old.calls }
-        ensures made { self.new.made ≡ self.old.made }
+        ensures made { self.new.made ≤ self.old.made }
         ensures loose { self.new.loose ≡ false }
         ensures room { Roomy self.old.room self.new.room }
     {
@@ -110,7 +110,7 @@ impl World {
         requires can { CanSweep self.old.rows }
         ensures rows { self.new.rows ≡ world_after self.old.rows (model.sweep self.old.rows) }
         ensures calls { self.new.calls ≡ self.old.calls }
-        ensures made { self.new.made ≡ self.old.made }
+        ensures made { self.new.made ≤ self.old.made }
         ensures room { Roomy self.old.room self.new.room }
     {
         for freed in 0..self.port_count() {
@@ -130,7 +130,7 @@ impl World {
             ≡ after self.old (Frees (port_name (birth_at self.old port))) }
         ensures others { KeepsOthers port self.old.births.ports self.new.births.ports }
         ensures calls { self.new.calls ≡ self.old.calls }
-        ensures made { self.new.made ≡ self.old.made }
+        ensures made { self.new.made ≤ self.old.made }
         ensures loose { self.new.loose ≡ self.old.loose }
         ensures room { Roomy self.old.room self.new.room }
     {

@@ -55,13 +55,14 @@ impl World {
         requires table { has (is_table pid) self.old.rows.handles ≡ true }
         requires room { HasHandleRoom self.old pid }
         requires load { HasSmallLoad self.old.rows pid }
+        requires budget { CanMake self.old }
         requires object { object_stands self.old.births object ≡ true }
         ensures value { result ≡ free_handle self.old.rows pid }
         ensures rows { self.new.rows ≡ with_handle self.old pid result object access }
         ensures births { self.new.births ≡ self.old.births }
         ensures calls { self.new.calls ≡ self.old.calls }
         ensures loose { self.new.loose ≡ self.old.loose }
-        ensures made { self.new.made ≡ self.old.made }
+        ensures made { self.new.made ≤ self.old.made + 1 }
     {
         match self.handles_add(pid, object, access) {
             Ok(value) => value,

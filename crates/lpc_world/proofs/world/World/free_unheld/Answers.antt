@@ -14,7 +14,7 @@ loop-freed-init c = record {
   can = c.requires.can;
   leaves = refl;
   calls = refl;
-  made = refl;
+  made = omega arith;
   room = roomy_same c.args.self.now.room;
   fewer = omega arith;
 }
@@ -35,7 +35,7 @@ loop-freed-preserved c =
       can = subst CanSweep (sym went) (can_freed w b c.loop-freed.invariant.can c.in-Some.ensures.unheld);
       leaves = ap (λ (v : World). world_after v (sweep v)) went ∙ free_one w b c.loop-freed.invariant.can.linked c.in-Some.ensures.unheld ∙ c.loop-freed.invariant.leaves;
       calls = c.free.ensures.calls ∙ c.loop-freed.invariant.calls;
-      made = c.free.ensures.made ∙ c.loop-freed.invariant.made;
+      made = omega (arith, c.free.ensures.made, c.loop-freed.invariant.made);
       room = roomy_then _ _ _ c.loop-freed.invariant.room c.free.ensures.room;
       fewer = omega (arith, less, ap (λ (v : World). length v.ports) went, c.loop-freed.invariant.fewer);
     }

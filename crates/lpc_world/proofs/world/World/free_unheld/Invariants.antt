@@ -11,7 +11,7 @@ invariant-loop-freed l = record {
   can : CanSweep l.self.rows;
   leaves : world_after l.self.rows (sweep l.self.rows) ≡ world_after l.fn.self.rows (sweep l.fn.self.rows);
   calls : l.self.calls ≡ l.fn.self.calls;
-  made : l.self.made ≡ l.fn.self.made;
+  made : l.self.made ≤ l.fn.self.made;
   room : Roomy l.fn.self.room l.self.room;
   fewer : length l.self.rows.ports + l.freed ≤ length l.fn.self.rows.ports;
 }

@@ -25,7 +25,7 @@ add_handle-requires-clause-room c =
 
 pub invariant_of-self : goal.invariant_of-self
 invariant_of-self c =
-    tables.handed_or_same (tables_of c.self.inside.procs c.self.inside.parts.items c.self.inside.ports c.self.inside.waits c.self.inside.names) c.self.inside.calls c.self.inside.made c.self.invariant c.args.pid (record { object = c.args.object; access = c.args.access }) c.add_handle.result c.add_handle.new.parts.items (rw (← c.self.view_is) at c.requires.object) c.add_handle.ensures.parts c.add_handle.ensures.same
+    tables.handed_or_same (tables_of c.self.inside.procs c.self.inside.parts.items c.self.inside.ports c.self.inside.waits c.self.inside.names) c.self.inside.calls c.self.inside.made c.self.invariant c.args.pid (record { object = c.args.object; access = c.args.access }) c.add_handle.result c.add_handle.new.parts.items (rw (← c.self.view_is) at c.requires.object) c.add_handle.ensures.parts c.add_handle.ensures.same (rw (← c.self.view_is) at c.requires.budget)
     (let there = rw (← c.self.view_is) at c.requires in
     let number = tables.handle_number (tables_of c.self.inside.procs c.self.inside.parts.items c.self.inside.ports c.self.inside.waits c.self.inside.names) c.self.inside.calls c.self.inside.made c.self.invariant c.args.pid in
     let bound = tables.load_bound (tables_of c.self.inside.procs c.self.inside.parts.items c.self.inside.ports c.self.inside.waits c.self.inside.names) c.self.inside.calls c.self.inside.made c.self.invariant c.args.pid there.table in
@@ -41,3 +41,8 @@ returns-clause-value c = rw (← c.self.view_is, tables.free_value (tables_of c.
 
 pub returns-clause-rows : goal.returns-clause-rows
 returns-clause-rows c = rw (← c.self.view_is) (tables.hands_or_not (tables_of c.self.inside.procs c.self.inside.parts.items c.self.inside.ports c.self.inside.waits c.self.inside.names) c.self.inside.calls c.self.inside.made c.self.invariant c.args.pid (record { object = c.args.object; access = c.args.access }) c.add_handle.result c.add_handle.new.parts.items c.add_handle.ensures.parts)
+
+pub returns-clause-made : goal.returns-clause-made
+returns-clause-made c =
+    let owed = tables.handed_owed (tables_of c.self.inside.procs c.self.inside.parts.items c.self.inside.ports c.self.inside.waits c.self.inside.names) c.self.inside.calls c.self.inside.made c.self.invariant c.args.pid (record { object = c.args.object; access = c.args.access }) c.add_handle.result c.add_handle.new.parts.items c.add_handle.ensures.parts c.add_handle.ensures.same in
+    rw (← c.self.view_is) (omega (arith, owed))

@@ -28,3 +28,8 @@ returns-clause-room c =
       for_names = omega arith;
       for_handles = λ pid. rw (tables.room_at c.self.inside.parts.items pid, tables.room_at (closing c.args.pid c.args.value c.self.inside.parts.items) pid) (dropped.spare_kept c.args.pid c.args.value c.self.inside.parts.items pid);
     })
+
+pub returns-clause-made : goal.returns-clause-made
+returns-clause-made c =
+    let owed = dropped.dropped_owed (tables_of c.self.inside.procs c.self.inside.parts.items c.self.inside.ports c.self.inside.waits c.self.inside.names) c.self.inside.calls c.self.inside.made c.self.invariant c.args.pid c.args.value in
+    rw (← c.self.view_is, c.close_handle.ensures.parts) (omega (arith, owed))

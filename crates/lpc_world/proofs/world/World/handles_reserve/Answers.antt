@@ -1,4 +1,5 @@
-use Rattle.std.proofs.Common.{refl, sym, ◌∙◌, arith}
+use Rattle.std.proofs.Common.{◌+◌, refl, ap, sym, ◌∙◌, arith}
+use Rattle.lpc_world.specs.Kept.{owed_rows}
 use Rattle.lpc_world.specs.Shown.{tables_of}
 use Rattle.lpc_world.proofs.Tables as tables
 use Rattle.lpc_world.proofs.world.World.handles_reserve.Goals as goal
@@ -13,7 +14,7 @@ pub invariant_of-self : goal.invariant_of-self
 invariant_of-self c = tables.roomed_lawful (tables_of c.self.inside.procs c.self.inside.parts.items c.self.inside.ports c.self.inside.waits c.self.inside.names) c.self.inside.calls c.self.inside.made c.self.invariant c.args.pid c.reserve_handles.new.parts.items c.reserve_handles.ensures.parts c.reserve_handles.ensures.spare
 
 pub returns-clause-same : goal.returns-clause-same
-returns-clause-same c = rw (← c.self.view_is) (record { rows = tables.roomed_rows (tables_of c.self.inside.procs c.self.inside.parts.items c.self.inside.ports c.self.inside.waits c.self.inside.names) c.self.inside.calls c.self.inside.made c.self.invariant c.args.pid c.reserve_handles.new.parts.items c.reserve_handles.ensures.parts; births = refl; calls = refl; made = refl; loose = refl })
+returns-clause-same c = rw (← c.self.view_is) (record { rows = tables.roomed_rows (tables_of c.self.inside.procs c.self.inside.parts.items c.self.inside.ports c.self.inside.waits c.self.inside.names) c.self.inside.calls c.self.inside.made c.self.invariant c.args.pid c.reserve_handles.new.parts.items c.reserve_handles.ensures.parts; births = refl; calls = refl; made = ap (λ w. c.self.inside.made + owed_rows w) (tables.roomed_rows (tables_of c.self.inside.procs c.self.inside.parts.items c.self.inside.ports c.self.inside.waits c.self.inside.names) c.self.inside.calls c.self.inside.made c.self.invariant c.args.pid c.reserve_handles.new.parts.items c.reserve_handles.ensures.parts); loose = refl })
 
 pub returns-clause-room : goal.returns-clause-room
 returns-clause-room c =

@@ -1,3 +1,4 @@
+use Rattle.std.proofs.Common.{refl}
 use Rattle.std.proofs.Common.{◌-◌, vec_len, vec_capacity}
 use Rattle.lpc_world.specs.Shown.{tables_of}
 use Rattle.lpc_world.proofs.Emptied as emptied
@@ -17,3 +18,6 @@ pub returns-clause-room : goal.returns-clause-room
 returns-clause-room c =
     let there = rw (← c.self.view_is) at c.requires.port in
     rw (← c.self.view_is, c.empty.ensures.table) (emptied.emptied_room (tables_of c.self.inside.procs c.self.inside.parts.items c.self.inside.ports c.self.inside.waits c.self.inside.names) c.self.inside.calls c.self.inside.made c.self.invariant c.args.port there (vec_capacity c.self.inside.parts - vec_len c.self.inside.parts))
+
+pub returns-clause-made : goal.returns-clause-made
+returns-clause-made c = rw (← c.self.view_is, c.empty.ensures.table) refl

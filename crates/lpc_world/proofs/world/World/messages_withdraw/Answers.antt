@@ -1,3 +1,4 @@
+use Rattle.std.proofs.Common.{refl}
 use Rattle.std.proofs.Common.{◌-◌, ◌||◌, ap, sym, ◌∙◌, vec_len, vec_capacity}
 use Rattle.lpc_world.specs.Shown.{tables_of}
 use Rattle.lpc_world.proofs.Withdrawn as withdrawn
@@ -20,3 +21,6 @@ returns-clause-left c = rw c.withdraw.ensures.table (withdrawn.withdrawn_left (t
 
 pub returns-clause-unqueued : goal.returns-clause-unqueued
 returns-clause-unqueued c = rw (← c.self.view_is, c.withdraw.ensures.table) (withdrawn.withdrawn_unqueued (tables_of c.self.inside.procs c.self.inside.parts.items c.self.inside.ports c.self.inside.waits c.self.inside.names) c.self.inside.calls c.self.inside.made c.self.invariant c.args.tid)
+
+pub returns-clause-made : goal.returns-clause-made
+returns-clause-made c = rw (← c.self.view_is, c.withdraw.ensures.table) refl

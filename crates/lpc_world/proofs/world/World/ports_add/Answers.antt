@@ -1,3 +1,4 @@
+use Rattle.std.proofs.Common.{arith}
 use Rattle.std.proofs.Common.{◌+◌, ◌-◌, None, false, refl, ap}
 use Rattle.lpc_model.specs.World.{World}
 use Rattle.lpc_world.specs.Kept.{rows_by}
@@ -31,3 +32,9 @@ returns-clause-room c =
     let there = rw (← c.self.view_is) at c.requires in
     let made = makes.makes (tables_of c.self.inside.procs c.self.inside.parts.items c.self.inside.ports c.self.inside.waits c.self.inside.names) c.self.invariant.named c.«add-port».result (record { birth = c.args.birth; kind = c.args.kind; pair = None; connection = c.args.connection; context = 0; creator = c.args.creator; completed = false }) (c.self.inside.ports.port_room - 1) (c.self.inside.ports.ports_made + 1) (makes.refs_stand c.self.inside.ports c.«add-port».result (record { birth = c.args.birth; kind = c.args.kind; pair = None; connection = c.args.connection; context = 0; creator = c.args.creator; completed = false }) refl there.connection) in
     rw (← c.self.view_is, (makes.created c.self.inside.ports c.«add-port».new.self c.set_creator.new.self c.«add-port».result c.args.kind c.args.birth c.args.connection c.args.creator c.«add-port».ensures.vacant c.«add-port».ensures.table c.set_creator.ensures), ap (λ (v : World). v.waits) made, ap (λ (v : World). v.messages) made, ap (λ (v : World). v.ports) made) (rooms.room_port _ _ _ _ _ _ (rows_by (tables_of c.self.inside.procs c.self.inside.parts.items c.self.inside.ports c.self.inside.waits c.self.inside.names)) _ (shown_port (birth_of (births_of c.self.inside.ports)) (c.«add-port».result, (record { birth = c.args.birth; kind = c.args.kind; pair = None; connection = c.args.connection; context = 0; creator = c.args.creator; completed = false }))))
+
+pub returns-clause-made : goal.returns-clause-made
+returns-clause-made c =
+    let there = rw (← c.self.view_is) at c.requires in
+    let owed = steps.made_owed (tables_of c.self.inside.procs c.self.inside.parts.items c.self.inside.ports c.self.inside.waits c.self.inside.names) c.self.inside.calls c.self.inside.made c.self.invariant c.«add-port».result (record { birth = c.args.birth; kind = c.args.kind; pair = None; connection = c.args.connection; context = 0; creator = c.args.creator; completed = false }) (makes.refs_stand c.self.inside.ports c.«add-port».result (record { birth = c.args.birth; kind = c.args.kind; pair = None; connection = c.args.connection; context = 0; creator = c.args.creator; completed = false }) refl there.connection) there.fresh in
+    rw (← c.self.view_is, (makes.created c.self.inside.ports c.«add-port».new.self c.set_creator.new.self c.«add-port».result c.args.kind c.args.birth c.args.connection c.args.creator c.«add-port».ensures.vacant c.«add-port».ensures.table c.set_creator.ensures)) (omega (arith, owed))

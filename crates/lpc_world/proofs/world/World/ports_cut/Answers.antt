@@ -1,3 +1,4 @@
+use Rattle.std.proofs.Common.{arith}
 use Rattle.std.proofs.Common.{◌-◌, vec_len, vec_capacity}
 use Rattle.lpc_world.specs.Shown.{tables_of}
 use Rattle.lpc_world.proofs.Cut as cut
@@ -22,3 +23,9 @@ pub returns-clause-room : goal.returns-clause-room
 returns-clause-room c =
     let there = rw (← c.self.view_is) at c.requires in
     rw (← c.self.view_is, c.cut.ensures) (cut.cut_room (tables_of c.self.inside.procs c.self.inside.parts.items c.self.inside.ports c.self.inside.waits c.self.inside.names) c.self.invariant.named c.args.port there.port there.pairs (vec_capacity c.self.inside.parts - vec_len c.self.inside.parts))
+
+pub returns-clause-made : goal.returns-clause-made
+returns-clause-made c =
+    let there = rw (← c.self.view_is) at c.requires in
+    let owed = cut.cut_owed (tables_of c.self.inside.procs c.self.inside.parts.items c.self.inside.ports c.self.inside.waits c.self.inside.names) c.self.invariant.named c.args.port there.port there.pairs in
+    rw (← c.self.view_is, c.cut.ensures) (omega (arith, owed))

@@ -1,3 +1,4 @@
+use Rattle.std.proofs.Common.{arith}
 use Rattle.std.proofs.Common.{◌+◌, sym, ap, ◌∙◌}
 use Rattle.lpc_model.specs.Found.{is_port}
 use Rattle.lpc_model.specs.World.{World}
@@ -35,3 +36,10 @@ returns-clause-room c =
     let none = sym (unheld.held_is (tables_of c.self.inside.procs c.self.inside.parts.items c.self.inside.ports c.self.inside.waits c.self.inside.names) c.self.invariant.named c.args.port h.stands) ∙ h.free in
     let freed = frees.frees (tables_of c.self.inside.procs c.self.inside.parts.items c.self.inside.ports c.self.inside.waits c.self.inside.names) c.self.invariant.named c.args.port (c.self.inside.ports.port_room + 1) none h.stands in
     rw (← c.self.view_is, c.free.ensures.table, ap (λ (v : World). v.waits) freed, ap (λ (v : World). v.messages) freed, ap (λ (v : World). v.ports) freed) (frees.room_freed _ _ _ _ _ _ (rows_by (tables_of c.self.inside.procs c.self.inside.parts.items c.self.inside.ports c.self.inside.waits c.self.inside.names)) _ (is_port (name_of (births_of c.self.inside.ports).ports c.args.port)))
+
+pub returns-clause-made : goal.returns-clause-made
+returns-clause-made c =
+    let h = rw (← c.self.view_is) at c.requires in
+    let none = sym (unheld.held_is (tables_of c.self.inside.procs c.self.inside.parts.items c.self.inside.ports c.self.inside.waits c.self.inside.names) c.self.invariant.named c.args.port h.stands) ∙ h.free in
+    let owed = frees.freed_owed (tables_of c.self.inside.procs c.self.inside.parts.items c.self.inside.ports c.self.inside.waits c.self.inside.names) c.self.invariant.named c.args.port (c.self.inside.ports.port_room + 1) none h.stands in
+    rw (← c.self.view_is, c.free.ensures.table) (omega (arith, owed))

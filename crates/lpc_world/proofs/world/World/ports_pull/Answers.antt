@@ -1,4 +1,4 @@
-use Rattle.std.proofs.Common.{rules, ◌+◌, sym, ap}
+use Rattle.std.proofs.Common.{rules, refl, ◌+◌, sym, ap}
 use Rattle.lpc_model.specs.Found.{is_queued}
 use Rattle.lpc_model.specs.World.{World}
 use Rattle.lpc_world.specs.Kept.{rows_by}
@@ -69,3 +69,8 @@ returns-clause-unqueued c =
 
 pub returns-clause-long : goal.returns-clause-long
 returns-clause-long c = steps.long_message (tables_of c.self.inside.procs c.self.inside.parts.items c.self.inside.ports c.self.inside.waits c.self.inside.names) c.self.inside.calls c.self.inside.made c.self.invariant c.args.queue c.pull.result (c.pull.ensures.first c.args.queue (sym c.in_ok-message.ensures))
+
+pub returns-clause-made : goal.returns-clause-made
+returns-clause-made c =
+    let at = sym c.in_ok-message.ensures in
+    rw (← c.self.view_is, steps.oldest (tables_of c.self.inside.procs c.self.inside.parts.items c.self.inside.ports c.self.inside.waits c.self.inside.names) c.self.inside.calls c.self.inside.made c.self.invariant c.args.queue c.in_ok-message.message c.pull.new.self c.pull.ensures.table (c.pull.ensures.oldest c.args.queue at)) refl

@@ -1,4 +1,4 @@
-use Rattle.std.proofs.Common.{rules, ◌-◌, sym, vec_len, vec_capacity}
+use Rattle.std.proofs.Common.{rules, refl, ◌-◌, sym, vec_len, vec_capacity}
 use Rattle.lpc_world.specs.Shown.{births_of, pulled_row, tables_of}
 use Rattle.lpc_world.proofs.Pulls as pulls
 use Rattle.lpc_world.proofs.world.World.ports_pull_connect.Goals as goal
@@ -66,3 +66,9 @@ pub returns-clause-long : goal.returns-clause-long
 returns-clause-long c =
     let there = rw (← c.self.view_is) at c.requires in
     pulls.long_connect (tables_of c.self.inside.procs c.self.inside.parts.items c.self.inside.ports c.self.inside.waits c.self.inside.names) c.self.inside.calls c.self.inside.made c.self.invariant c.args.queue there c.pull.result (c.pull.ensures.first_connect c.args.queue (sym c.in_ok-message.ensures))
+
+pub returns-clause-made : goal.returns-clause-made
+returns-clause-made c =
+    let there = rw (← c.self.view_is) at c.requires in
+    let at = sym c.in_ok-message.ensures in
+    rw (← c.self.view_is, pulls.pulled (tables_of c.self.inside.procs c.self.inside.parts.items c.self.inside.ports c.self.inside.waits c.self.inside.names) c.self.inside.calls c.self.inside.made c.self.invariant c.args.queue there c.in_ok-message.message c.pull.new.self c.pull.ensures.table (c.pull.ensures.oldest_connect c.args.queue at)) refl

@@ -35,3 +35,6 @@ pub returns-clause-room : goal.returns-clause-room
 returns-clause-room c =
     let m : Key × QueuedMessage = (c.send.result, ports.queued c.args.queue c.args.sender c.args.context c.args.bytes.now) in
     rw (← c.self.view_is, c.send.ensures.table, ap (λ (v : World). v.messages) (changes.enters (tables_of c.self.inside.procs c.self.inside.parts.items c.self.inside.ports c.self.inside.waits c.self.inside.names) c.self.invariant.named m (c.self.inside.ports.message_room - 1) (c.self.inside.ports.messages_made + 1))) (rooms.room_enter _ _ _ _ _ _ (rows_by (tables_of c.self.inside.procs c.self.inside.parts.items c.self.inside.ports c.self.inside.waits c.self.inside.names)) _ (shown_message (birth_of (births_of c.self.inside.ports)) m))
+
+pub returns-clause-made : goal.returns-clause-made
+returns-clause-made c = rw (← c.self.view_is, c.send.ensures.table) (omega arith)

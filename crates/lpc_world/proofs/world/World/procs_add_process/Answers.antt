@@ -27,3 +27,8 @@ returns-clause-room c =
       for_names = omega arith;
       for_handles = rooms.handles_more _ _;
     })
+
+pub returns-clause-made : goal.returns-clause-made
+returns-clause-made c =
+    let owed = steps.process_owed (tables_of c.self.inside.procs c.self.inside.parts.items c.self.inside.ports c.self.inside.waits c.self.inside.names) c.self.inside.calls c.self.inside.made c.self.invariant (record { number = c.args.pid; maker = c.args.maker; birth = c.args.birth }) (record { process = c.args.pid; handles = c.new.result }) (c.self.inside.procs.process_room - 1) (rw c.new.ensures refl) refl in
+    rw (← c.self.view_is, c.add_process.ensures.table, c.push_reserved.ensures.items) (omega (arith, owed))
