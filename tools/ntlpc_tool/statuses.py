@@ -1,0 +1,50 @@
+"""The names of statuses."""
+
+# Those of docs/SERVICES.md, "The statuses".
+PROFILE = {
+    "00000000": "SUCCESS",
+    "c0000008": "INVALID_HANDLE",
+    "c000000b": "INVALID_CID",
+    "c000000d": "INVALID_PARAMETER",
+    "c0000022": "ACCESS_DENIED",
+    "c0000024": "OBJECT_TYPE_MISMATCH",
+    "c000002f": "PORT_MESSAGE_TOO_LONG",
+    "c0000033": "OBJECT_NAME_INVALID",
+    "c0000034": "OBJECT_NAME_NOT_FOUND",
+    "c0000035": "OBJECT_NAME_COLLISION",
+    "c0000037": "PORT_DISCONNECTED",
+    "c000003a": "OBJECT_PATH_NOT_FOUND",
+    "c000003b": "OBJECT_PATH_SYNTAX_BAD",
+    "c0000041": "PORT_CONNECTION_REFUSED",
+    "c0000042": "INVALID_PORT_HANDLE",
+    "c0000044": "QUOTA_EXCEEDED",
+    "c000021f": "REPLY_MESSAGE_MISMATCH",
+    "c0000253": "LPC_REPLY_LOST",
+}
+# Windows NT's names for what another implementation may print in the place of one of these.
+OTHERS = {
+    "00000102": "TIMEOUT",
+    "00000103": "PENDING",
+    "c0000001": "UNSUCCESSFUL",
+    "c0000002": "NOT_IMPLEMENTED",
+    "c0000005": "ACCESS_VIOLATION",
+    "c0000017": "NO_MEMORY",
+    "c0000030": "INVALID_PARAMETER_MIX",
+    "c0000039": "OBJECT_PATH_INVALID",
+    "c000009a": "INSUFFICIENT_RESOURCES",
+    "c00000bb": "NOT_SUPPORTED",
+    "c0000120": "CANCELLED",
+}
+NAMES = {**OTHERS, **PROFILE}
+SUCCESS = "00000000"
+
+
+def name_of(status):
+    """The name of a status of 8 hexadecimal digits, None where it has none here."""
+    return NAMES.get(status.lower())
+
+
+def with_name(status):
+    """A status and its name, as far as it has one."""
+    name = name_of(status)
+    return f"{status} {name}" if name else f"{status} (a status without a name here)"

@@ -1,0 +1,47 @@
+"""What the unit tests of the tools share."""
+import os
+import pathlib
+import subprocess
+import sys
+import tempfile
+import unittest
+
+sys.dont_write_bytecode = True
+TOOLS = pathlib.Path(__file__).resolve().parent.parent
+sys.path.insert(0, str(TOOLS))
+from ntlpc_tool import program
+
+ROOT = TOOLS.parent
+EXAMPLES = sorted((ROOT / "examples").rglob("*.script"))
+
+
+def run(*words, source=b"", **environment):
+    """Runs `ntlpc-tool` with these words over an input; the result has `returncode`, `stdout` and `stderr` as text."""
+    ran = subprocess.run(
+        [sys.executable, TOOLS / "ntlpc-tool", *words],
+        input=source,
+        capture_output=True,
+        env={**os.environ, "PYTHONUTF8": "1", **environment},
+        timeout=60,
+    )
+    ran.stdout, ran.stderr = ran.stdout.decode(), ran.stderr.decode()
+    return ran
+
+
+def needs_program(test):
+    """Marks a test that needs the program `ntlpc`; tests/companions.py sees to it that there is one."""
+    return unittest.skipUnless(program.is_there(), "there is no program")(test)
+
+
+class WithFolder(unittest.TestCase):
+    """A test that writes files into a folder of its own."""
+
+    def setUp(self):
+        self.folder = tempfile.TemporaryDirectory()
+        self.addCleanup(self.folder.cleanup)
+
+    def file(self, name, content):
+        """Writes a file, and returns its path."""
+        path = pathlib.Path(self.folder.name) / name
+        path.write_bytes(content)
+        return str(path)
