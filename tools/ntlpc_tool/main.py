@@ -1,0 +1,55 @@
+"""The companion tools of ntlpc, which reads scripts of local procedure calls and prints transcripts.
+
+Exit status: 0 where all is well, 1 where a difference or a fault was found, 2 where the words of this call are wrong or
+something can't be read; 141 where whoever reads the output has gone, as a shell shows it for other commands.
+"""
+import argparse
+import importlib
+import os
+import pkgutil
+import sys
+
+import ntlpc_tool
+from ntlpc_tool import inputs, words
+
+FINE, FOUND, MISUSE, READER_GONE = 0, 1, 2, 141
+
+
+def all_words():
+    """The module of each word, by the word."""
+    found = (importlib.import_module(f"{words.__name__}.{it.name}") for it in pkgutil.iter_modules(words.__path__))
+    return {module.NAME: module for module in found}
+
+
+def parser_of(modules):
+    """The parser of all words."""
+    how = {"formatter_class": lambda prog: argparse.RawDescriptionHelpFormatter(prog, max_help_position=16, width=120)}
+    parser = argparse.ArgumentParser(prog="ntlpc-tool", description=__doc__, **how)
+    parser.add_argument("--version", action="version", version=f"ntlpc-tool {ntlpc_tool.VERSION}")
+    group = parser.add_subparsers(dest="word", metavar="WORD", required=True, title="words")
+    for name, module in sorted(modules.items()):
+        about = module.__doc__.strip()
+        module.add_arguments(group.add_parser(name, help=about.splitlines()[0], description=about, **how))
+    return parser
+
+
+def main(given):
+    """Runs a word, and returns the exit status."""
+    modules = all_words()
+    sys.stdout.reconfigure(errors="backslashreplace")
+    try:
+        status = _run(modules, given)
+        sys.stdout.flush()
+        return status
+    except BrokenPipeError:
+        os.dup2(os.open(os.devnull, os.O_WRONLY), sys.stdout.fileno())
+        return READER_GONE
+
+
+def _run(modules, given):
+    arguments = parser_of(modules).parse_args(given)
+    try:
+        return modules[arguments.word].run(arguments)
+    except inputs.Misuse as wrong:
+        print(f"ntlpc-tool {arguments.word}: {wrong}", file=sys.stderr)
+        return MISUSE
