@@ -38,4 +38,5 @@ def shown(line):
 
 def cut(text, most=700):
     """A text with its middle left out where it is long."""
-    return text if len(text) <= most else f"{text[: most - 100]} .. {text[-90:]}"
+    tail = min(90, most // 3)
+    return text if len(text) <= most else f"{text[: most - tail - 10]} .. {text[-tail:]}"

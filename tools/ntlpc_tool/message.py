@@ -15,6 +15,7 @@ TYPES = {
     9: "error event",
     10: "connection request",
 }
+PORT_CLOSED = 5
 LAYOUT = struct.Struct("<HHHHIIII")
 HEADER_SIZE = LAYOUT.size
 RANGE = struct.Struct("<II")

@@ -1,0 +1,117 @@
+"""How an entry of a transcript, its fields and its message are told in words, a list of lines each."""
+import struct
+
+from ntlpc_tool import message, statuses
+
+ROW = 16
+CLOSED = struct.Struct("<II")
+USE_RIGHT = 1
+LATIN = 0x100
+# The fields that show a number: what the number is.
+NUMBERS = {
+    "h": "handle",
+    "id": "identifier",
+    "max": "longest message",
+    "handles": "handles",
+    "pointers": "rows that count",
+}
+LABEL = 19
+
+
+def encoding_of(data):
+    """How bytes spell text: `ascii` or `utf-16-le`, perhaps with zeros behind it; None where they spell none.
+
+    Some numbers spell characters too. So UTF-16 has to have two characters at least, and half of them Latin.
+    """
+    plain = data.rstrip(b"\0")
+    if plain and all(32 <= it <= 126 for it in plain):
+        return "ascii"
+    try:
+        text = data.decode("utf-16-le").rstrip("\0")
+    except UnicodeDecodeError:
+        return None
+    latin = sum(ord(it) < LATIN for it in text)
+    return "utf-16-le" if len(text) > 1 and text.isprintable() and 2 * latin >= len(text) else None
+
+
+def text_of(data):
+    """The text that bytes spell, None where they spell none."""
+    encoding = encoding_of(data)
+    return data.decode(encoding).rstrip("\0") if encoding else None
+
+
+def of_entry(found):
+    """An entry in words: who, which call, and how it went; then its fields."""
+    who = "directive" if found.thread is None else f"thread {found.thread}"
+    if found.kind == "busy":
+        return [f"{who} is busy: it waits in an earlier call, so this line has no effect"]
+    if found.kind == "nothread":
+        return [f"{who} isn't there: no live thread has this number, so this line has no effect"]
+    if found.kind == "wait":
+        head = f"{who} waits in {found.call}"
+    elif found.kind == "wake":
+        head = f"{who} wakes from {found.call}: {statuses.with_name(found.status)}"
+    else:
+        head = f"{who} {found.call}: {statuses.with_name(found.status)}"
+    return [head, *(f"    {line}" for name, value in found.fields for line in of_field(found, name, value))]
+
+
+def of_field(found, name, value):
+    """A field of an entry in words."""
+    if name == "msg":
+        return of_message(found.message())
+    if name == "info":
+        return of_data(bytes.fromhex(value), "info")
+    if name == "ctx":
+        return [_row("context", f"{value} ({int(value, 16)})")]
+    if name == "access":
+        use = "with" if int(value, 16) & USE_RIGHT else "without"
+        return [_row("access", f"{value}, {use} the right to use the port")]
+    if name == "type":
+        return [_row("kind of object", value)]
+    return [_row(NUMBERS[name], f"{value} bytes with its header" if name == "max" else value)]
+
+
+def of_message(found):
+    """A message in words: its header field by field, then its data."""
+    rows = [
+        _row("DataSize", found.data_size),
+        _row("MessageSize", found.message_size),
+        _row("type", f"{found.type} ({found.type_name() or 'no type'})"),
+        _row("VirtualRangesOffset", f"{found.ranges_offset}{'' if found.ranges_offset else ' (no range table)'}"),
+    ]
+    if found.ranges_offset:
+        rows += _ranges(found.ranges())
+    rows += [
+        _row("ClientId", f"{found.process}.{found.thread} (process {found.process}, thread {found.thread})"),
+        _row("MessageId", found.message_id),
+        _row("SectionSize", found.section_size),
+    ]
+    rows += of_data(found.data, "data")
+    if found.type == message.PORT_CLOSED and len(found.data) == CLOSED.size:
+        thread, number = CLOSED.unpack(found.data)
+        rows.append(_row("", f"(thread {thread}, the port that it made as number {number})"))
+    return ["message", *(f"  {it}" for it in rows)]
+
+
+def of_data(found, label):
+    """Bytes as rows of hexadecimal digits, with the text beside them where they are text."""
+    if not found:
+        return [_row(label, "none")]
+    encoding, rows = encoding_of(found), []
+    for at in range(0, len(found), ROW):
+        part = found[at : at + ROW]
+        beside = part.decode(encoding, "replace").rstrip("\0") if encoding else ""
+        digits = part.hex(" ").ljust(3 * min(len(found), ROW) + 1)
+        rows.append(_row(label if not at else "", f'{digits}"{beside}"' if beside else digits.rstrip()))
+    return rows
+
+
+def _ranges(found):
+    if found is None:
+        return ["  the range table doesn't lie in the data"]
+    return [f"  range {number}: base {base:08x}, size {size}" for number, (base, size) in enumerate(found)]
+
+
+def _row(label, value):
+    return f"{label:{LABEL}} {value}"
