@@ -39,8 +39,8 @@ class Ran:
 
 def add_option(parser):
     """Adds the option that names the program."""
-    told = f"the program; without it that which {VARIABLE} names, the one built in this checkout, or `{INSTALLED}` on the path"
-    parser.add_argument("--program", metavar="PATH", help=told)
+    others = f"that which {VARIABLE} names, the one built in this checkout, or `{INSTALLED}` on the path"
+    parser.add_argument("--program", metavar="PATH", help=f"the program; where it isn't given, {others}")
 
 
 def find(given=None):
@@ -51,8 +51,8 @@ def find(given=None):
     found = shutil.which(str(BUILT)) or shutil.which(INSTALLED)
     if not found:
         raise inputs.Misuse(
-            f"there is no program: --program and {VARIABLE} name none, {BUILT} isn't built (`rt run` in crates/ntlpc leaves "
-            f"it there), and no `{INSTALLED}` is on the path"
+            f"there is no program: --program and {VARIABLE} name none, {BUILT} isn't built "
+            f"(`rt run` in crates/ntlpc leaves it there), and no `{INSTALLED}` is on the path"
         )
     return found
 

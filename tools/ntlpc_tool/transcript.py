@@ -10,6 +10,7 @@ from typing import Optional, Tuple
 
 from ntlpc_tool import inputs, message
 
+FILE = "a transcript's file, or - for the standard input"
 OUTLINE = re.compile(r"(\d{1,19}) (\*?)(\d{1,19}|-) (\w+)(?: (\w+))?((?: \w+=\w*)*)")
 CLOSING = re.compile(r"(end|stop)((?: (?:0|[1-9][0-9]{0,18}))*)")
 CLOSING_NUMBERS = {"end": ("LINES", "ENTRIES", "OBJECTS"), "stop": ("LINE", "KIND")}
@@ -29,13 +30,13 @@ FIELDS = {
     "handles": (DECIMAL, "a decimal number"),
     "pointers": (DECIMAL, "a decimal number"),
 }
-MOST_LINES = 1_000_000
+MOST_LINE = 1_000_000
 MOST_THREAD = 2_147_483_647
 MOST_NUMBER = 4_294_967_295
 BEGINNINGS = {
-    b"\xff\xfe": "it begins with the byte order mark of UTF-16 (as `>` of some shells writes); a transcript is ASCII text",
-    b"\xfe\xff": "it begins with the byte order mark of UTF-16; a transcript is ASCII text",
-    b"\xef\xbb\xbf": "it begins with the byte order mark of UTF-8; a transcript is ASCII text without one",
+    b"\xff\xfe": "the byte order mark of UTF-16, as `>` of some shells writes it; a transcript is ASCII text",
+    b"\xfe\xff": "the byte order mark of UTF-16; a transcript is ASCII text",
+    b"\xef\xbb\xbf": "the byte order mark of UTF-8; a transcript is ASCII text without one",
 }
 
 
@@ -56,9 +57,9 @@ class _Wrong(Exception):
 class Entry:
     """One line of a transcript that a line of the script made.
 
-    `kind` is one of KINDS. `thread` is None in a directive's entry, whose `call` is the directive's word. `call` is None
-    where the thread was busy or is none. `status` is 8 hexadecimal digits in an answer, a wake and a directive, else
-    None. `fields` are pairs of a name and a value as they are printed. `raw` is the line without its end.
+    `kind` is one of KINDS. `thread` is None in a directive's entry, whose `call` is the directive's word. `call` is
+    None where the thread was busy or is none. `status` is 8 hexadecimal digits in an answer, a wake and a directive,
+    else None. `fields` are pairs of a name and a value as they are printed. `raw` is the line without its end.
     """
 
     line: int
@@ -114,7 +115,7 @@ def read(data):
     """The transcript that bytes are; a line of no form raises Malformed."""
     for mark, reason in BEGINNINGS.items():
         if data.startswith(mark):
-            raise Malformed(1, reason)
+            raise Malformed(1, f"it begins with {reason}")
     lines = inputs.lines_of(data)
     entries, closing, last = [], None, 0
     for number, line in enumerate(lines, 1):
@@ -183,11 +184,11 @@ def _entry(text, last):
     if not entry:
         raise _Wrong(_why_no_entry(text))
     words = text.split(" ")
-    _number(words[0], "the number of the script's line", 1, MOST_LINES)
+    _number(words[0], "the number of the script's line", 1, MOST_LINE)
     if entry.line < last:
-        raise _Wrong(f"the line above is of line {last} of the script; entries stand in the order of the script's lines")
+        raise _Wrong(f"the line above is of line {last} of the script, and entries stand in the order of its lines")
     if entry.kind not in KINDS:
-        raise _Wrong(f"behind `{entry.kind}` stands neither a status nor `wait`, and it is neither `busy` nor `nothread`")
+        raise _Wrong(f"`{entry.kind}` has neither a status nor `wait` behind it, and is neither `busy` nor `nothread`")
     if entry.thread is not None:
         _number(words[1].lstrip("*"), "the number of the thread", 1, MOST_THREAD)
     if words[1].startswith("*") and entry.kind != "wake":
@@ -229,7 +230,8 @@ def _why_no_entry(text):
     if "" in words:
         return "its words aren't parted by single spaces, or a space stands at its front or end"
     if not words[0].isdigit():
-        return f"it begins with `{inputs.cut(words[0], 40)}`, neither with the number of a script's line nor with `end` or `stop`"
+        word = inputs.cut(words[0], 40)
+        return f"it begins with `{word}`, neither with the number of a script's line nor with `end` or `stop`"
     if len(words) < 3:
         return "it ends too soon: an entry has a line's number, a thread or `-`, and what it was told"
     if not re.fullmatch(r"\*?\d+|-", words[1]):

@@ -7,7 +7,8 @@ from ntlpc_tool import message, pages, statuses
 # DataSize 1, MessageSize 25, type 2, no table, client 20.24, MessageId 1, SectionSize 0, and the byte 43.
 REPLY = bytes.fromhex("0100" "1900" "0200" "0000" "14000000" "18000000" "01000000" "00000000" "43")
 # 12 bytes of data, all a table at 24: one entry, base 0x10000, size 16.
-RANGES = bytes.fromhex("0c00" "2400" "0100" "1800" "20000000" "24000000" "02000000" "00000000" "01000000" "00000100" "10000000")
+RANGES = bytes.fromhex("0c00" "2400" "0100" "1800" "20000000" "24000000" "02000000" "00000000")
+RANGES += bytes.fromhex("01000000" "00000100" "10000000")
 
 
 class Messages(unittest.TestCase):

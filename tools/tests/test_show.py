@@ -90,7 +90,8 @@ class Show(support.WithFolder):
 
     def test_the_end_of_a_client_port(self):
         data = "2400000001000000"
-        text = f"1 24 NtReplyWaitReceivePort 00000000 ctx=00000007 msg=0800200005000000200000002400000001000000{data:0>24}\n"
+        head = "0800200005000000200000002400000001000000"
+        text = f"1 24 NtReplyWaitReceivePort 00000000 ctx=00000007 msg={head}{data:0>24}\n"
         told = support.run("show", source=text.encode()).stdout
         self.assertIn("type                5 (port closed)", told)
         self.assertIn("(thread 36, the port that it made as number 1)", told)

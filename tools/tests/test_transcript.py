@@ -41,7 +41,8 @@ class Entries(unittest.TestCase):
         self.assertEqual((found.type, found.process, found.thread, found.message_id, found.data), (2, 20, 24, 1, b"C"))
 
     def test_the_fields_are_those_of_the_page(self):
-        rows = [rows for _, head, rows in pages.tables(pages.text_of("SCRIPTS.md")) if head[0] == "Field" and len(head) == 3]
+        tables = pages.tables(pages.text_of("SCRIPTS.md"))
+        rows = [rows for _, head, rows in tables if head[0] == "Field" and len(head) == 3]
         named = [row[0].strip("`") for it in rows for row in it]
         self.assertEqual(list(transcript.FIELDS), named)
 
@@ -82,7 +83,7 @@ class MalformedLines(unittest.TestCase):
             b"1000001 24 busy": "outside 1 to 1000000",
             b"1 0 busy": "outside 1 to 2147483647",
             b"1 2147483648 nothread": "outside 1 to 2147483647",
-            b"1 24 NtCreatePort": "neither a status nor `wait`",
+            b"1 24 NtCreatePort": "`NtCreatePort` has neither a status nor `wait`",
             b"1 *24 busy": "a star",
             b"1 *24 NtListenPort wait": "the status `wait`",
             b"1 24 NtCreatePort C0000035": "the status `C0000035`",
@@ -132,7 +133,8 @@ class MalformedLines(unittest.TestCase):
 
 class Waits(unittest.TestCase):
     def test_those_are_left_that_nothing_ended(self):
-        text = b"1 24 NtListenPort wait\n2 28 NtListenPort wait\n3 28 busy\n4 *24 NtListenPort c0000037\n4 *28 NtListenPort c0000037\n5 28 NtListenPort wait\n"
+        text = b"1 24 NtListenPort wait\n2 28 NtListenPort wait\n3 28 busy\n"
+        text += b"4 *24 NtListenPort c0000037\n4 *28 NtListenPort c0000037\n5 28 NtListenPort wait\n"
         self.assertEqual([it.raw for it in transcript.still_waiting(transcript.read(text))], ["5 28 NtListenPort wait"])
 
 

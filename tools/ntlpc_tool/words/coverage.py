@@ -1,8 +1,9 @@
 """Tells which statuses of which calls a set of transcripts reaches, and which of docs/SERVICES.md it doesn't.
 
-For each call and directive of docs/SERVICES.md it lists the statuses that the tables there name, and in how many of the
-transcripts each one is printed: a status alone is an answer, `wait` a wait, a star before the status a wake. MISSING
-stands where none prints it. Then come the kinds of faults and entries, the fields and the last lines of docs/SCRIPTS.md.
+For each call and directive of docs/SERVICES.md it lists the statuses that the tables there name, and in how many of
+the transcripts each one is printed: a status alone is an answer, `wait` a wait, a star before the status a wake.
+MISSING stands where none prints it. Then come the kinds of faults and entries, the fields and the last lines of
+docs/SCRIPTS.md.
 
 The exit status is 0 where all that can come about is reached and nothing else is, and 1 where not.
 """
@@ -12,7 +13,7 @@ NAME = "coverage"
 
 
 def add_arguments(parser):
-    parser.add_argument("transcripts", metavar="TRANSCRIPT", nargs="+", help="a transcript's file, or - for the standard input")
+    parser.add_argument("transcripts", metavar="TRANSCRIPT", nargs="+", help=transcript.FILE)
     parser.add_argument("--missing", action="store_true", help="lists what isn't reached alone")
 
 

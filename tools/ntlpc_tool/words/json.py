@@ -27,7 +27,7 @@ CLOSING_KEYS = {"end": ("lines", "entries", "objects"), "stop": ("line", "fault"
 
 
 def add_arguments(parser):
-    parser.add_argument("transcript", metavar="TRANSCRIPT", nargs="?", default="-", help="a transcript's file, or - for the standard input")
+    parser.add_argument("transcript", metavar="TRANSCRIPT", nargs="?", default="-", help=transcript.FILE)
 
 
 def run(arguments):

@@ -18,7 +18,7 @@ WIDTH = 88
 
 
 def add_arguments(parser):
-    parser.add_argument("transcript", metavar="TRANSCRIPT", nargs="?", help="a transcript's file, or - for the standard input")
+    parser.add_argument("transcript", metavar="TRANSCRIPT", nargs="?", help=transcript.FILE)
     parser.add_argument("--script", metavar="FILE", help="the script of the transcript; without TRANSCRIPT it is run")
     program.add_option(parser)
 
