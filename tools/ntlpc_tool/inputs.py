@@ -10,6 +10,8 @@ def read(path):
     """The bytes of a file; `-` is standard input."""
     try:
         if path == "-":
+            if sys.stdin is None:
+                raise Misuse("the standard input is closed")
             return sys.stdin.buffer.read()
         with open(path, "rb") as file:
             return file.read()

@@ -1,7 +1,7 @@
 """The companion tools of ntlpc, which reads scripts of local procedure calls and prints transcripts.
 
 Exit status: 0 where all is well, 1 where a difference or a fault was found, 2 where the words of this call are wrong or
-something can't be read; 141 where whoever reads the output has gone, as a shell shows it for other commands.
+something can't be read or written; 141 where whoever reads the output has gone, as a shell shows it for other commands.
 """
 import argparse
 import importlib
@@ -12,7 +12,7 @@ import sys
 import ntlpc_tool
 from ntlpc_tool import inputs, words
 
-FINE, FOUND, MISUSE, READER_GONE = 0, 1, 2, 141
+FINE, FOUND, MISUSE, INTERRUPTED, READER_GONE = 0, 1, 2, 130, 141
 
 
 def all_words():
@@ -35,15 +35,24 @@ def parser_of(modules):
 
 def main(given):
     """Runs a word, and returns the exit status."""
+    if sys.stdout is None:
+        print("ntlpc-tool: the standard output is closed", file=sys.stderr)
+        return MISUSE
     modules = all_words()
     sys.stdout.reconfigure(errors="backslashreplace")
     try:
         status = _run(modules, given)
         sys.stdout.flush()
         return status
-    except BrokenPipeError:
+    except KeyboardInterrupt:
+        return INTERRUPTED
+    except OSError as error:
+        # Nothing more can be written, also not what Python has kept until it ends.
         os.dup2(os.open(os.devnull, os.O_WRONLY), sys.stdout.fileno())
-        return READER_GONE
+        if isinstance(error, BrokenPipeError):
+            return READER_GONE
+        print(f"ntlpc-tool: the output can't be written: {error.strerror}", file=sys.stderr)
+        return MISUSE
 
 
 def _run(modules, given):

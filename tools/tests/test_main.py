@@ -1,5 +1,8 @@
 """What all words of `ntlpc-tool` have in common: help, version, exit statuses, and inputs and outputs that fail."""
+import gzip
 import os
+import pathlib
+import shutil
 import subprocess
 import sys
 import unittest
@@ -50,6 +53,70 @@ class Words(support.WithFolder):
             child.stdout.close()
             said = child.stderr.read()
         self.assertEqual((child.returncode, said), (main.READER_GONE, b""))
+
+    def test_an_input_or_output_that_is_closed_has_one_line(self):
+        for closed, words in (("<&-", "the standard input is closed"), (">&-", "the standard output is closed")):
+            command = f'exec "$@" {closed}'
+            tool = [sys.executable, support.TOOLS / "ntlpc-tool", "coverage", "-"]
+            ran = subprocess.run(["sh", "-c", command, "sh", *tool], capture_output=True, text=True, timeout=60)
+            self.assertEqual(ran.returncode, 2)
+            self.assertRegex(ran.stderr, rf"\Antlpc-tool.*: {words}\n\Z")
+
+    @unittest.skipUnless(os.path.exists("/dev/full"), "this system has no /dev/full")
+    def test_a_disk_that_is_full_has_one_line(self):
+        with open("/dev/full", "wb") as sink:
+            tool = [sys.executable, support.TOOLS / "ntlpc-tool", "json", TRANSCRIPT]
+            ran = subprocess.run(tool, stdout=sink, stderr=subprocess.PIPE, text=True, timeout=60)
+        self.assertEqual(ran.returncode, 2)
+        self.assertRegex(ran.stderr, r"\Antlpc-tool: the output can't be written: .+\n\Z")
+
+
+class Installed(support.WithFolder):
+    """The tools without a checkout: the package, the command and the version in one folder, the pages in another."""
+
+    def setUp(self):
+        super().setUp()
+        top = pathlib.Path(self.folder.name)
+        self.share, self.pages, path = top / "share" / "ntlpc", top / "share" / "doc" / "ntlpc", top / "bin"
+        shutil.copytree(support.TOOLS / "ntlpc_tool", self.share / "ntlpc_tool")
+        shutil.copy(support.TOOLS / "ntlpc-tool", self.share)
+        shutil.copy(support.ROOT / "VERSION", self.share)
+        shutil.copytree(support.ROOT / "docs", self.pages)
+        path.mkdir()
+        self.command = path / "ntlpc-tool"
+        self.command.symlink_to(self.share / "ntlpc-tool")
+
+    def run_it(self, *words):
+        """Runs the installed command."""
+        environment = {it: value for it, value in os.environ.items() if it != program.VARIABLE}
+        environment["PATH"] = str(self.command.parent)
+        tool = [sys.executable, self.command, *words]
+        return subprocess.run(tool, capture_output=True, text=True, env=environment, timeout=60)
+
+    def test_the_version_is_known(self):
+        self.assertRegex(self.run_it("--version").stdout, r"\Antlpc-tool [0-9.]+\n\Z")
+
+    def test_the_pages_are_found(self):
+        wanted = support.run("coverage", TRANSCRIPT)
+        self.assertEqual(self.run_it("coverage", TRANSCRIPT).stdout, wanted.stdout)
+        for page in self.pages.glob("*.md"):
+            page.with_suffix(".md.gz").write_bytes(gzip.compress(page.read_bytes()))
+            page.unlink()
+        self.assertEqual(self.run_it("coverage", TRANSCRIPT).stdout, wanted.stdout)
+        shutil.rmtree(self.pages)
+        ran = self.run_it("coverage", TRANSCRIPT)
+        self.assertEqual(ran.returncode, 2)
+        self.assertRegex(ran.stderr, r"\Antlpc-tool coverage: the page SERVICES.md is missing; .+\n\Z")
+
+    def test_the_program_on_the_path_is_run(self):
+        script = self.file("script", b"boot 20 24\n")
+        ran = self.run_it("why", script)
+        self.assertEqual(ran.returncode, 2)
+        self.assertRegex(ran.stderr, r"\Antlpc-tool why: there is no program: .+\n\Z")
+        fake = self.command.parent / "ntlpc"
+        fake.write_bytes(b"#!/bin/sh\necho 1 - boot 00000000\necho end 1 1 2\n")
+        fake.chmod(0o755)
+        self.assertEqual(self.run_it("why", script).stdout, "the script is well formed: lines 1, entries 1\n")
 
 
 class Programs(support.WithFolder):
