@@ -1,4 +1,6 @@
 """What the unit tests of the tools share."""
+import contextlib
+import io
 import os
 import pathlib
 import subprocess
@@ -9,7 +11,7 @@ import unittest
 sys.dont_write_bytecode = True
 TOOLS = pathlib.Path(__file__).resolve().parent.parent
 sys.path.insert(0, str(TOOLS))
-from ntlpc_tool import program
+from ntlpc_tool import main, program
 
 ROOT = TOOLS.parent
 EXAMPLES = sorted((ROOT / "examples").rglob("*.script"))
@@ -26,6 +28,14 @@ def run(*words, source=b"", **environment):
     )
     ran.stdout, ran.stderr = ran.stdout.decode(), ran.stderr.decode()
     return ran
+
+
+def inside(*words):
+    """As `run`, in this process: for tests that run a tool many times."""
+    told = [io.TextIOWrapper(io.BytesIO(), encoding="utf-8", write_through=True) for _ in range(2)]
+    with contextlib.redirect_stdout(told[0]), contextlib.redirect_stderr(told[1]):
+        status = main.main([str(it) for it in words])
+    return subprocess.CompletedProcess(words, status, *(it.buffer.getvalue().decode() for it in told))
 
 
 def needs_program(test):

@@ -1,0 +1,395 @@
+"""Why an answer is right: the rules of docs/SERVICES.md, a sentence each, by call and by what of an entry they rule.
+
+`REFUSALS` has for each call and directive its refusals in the order in which they are tested, and `RULES` all else.
+A key of `RULES` is a call (or `*` for all) and what is ruled. A value is the sentence, and the heading of its page.
+"""
+
+# A refusal: the status, and what has to hold for it.
+HANDLE = (
+    ("c0000008", "no handle of the caller's process has the value"),
+    ("c0000024", "the handle is one to something that is no port"),
+    ("c0000022", "the handle doesn't grant the right to use the port"),
+)
+MESSAGE = (
+    ("c000000d", "the bytes are no message of lawful shape"),
+    ("c000002f", "the MessageSize is above 256"),
+)
+CLIENT = (("c000000b", "no live thread has the thread number and the process number that the message names"),)
+PATH = (
+    ("c000003b", "the path doesn't begin with a backslash"),
+    ("c0000033", "a component of the path is empty, or it has more than 256 bytes"),
+    ("c000003a", "an inner component of the path is missing, or is no directory"),
+    ("c0000033", "a link gives way to a path of more than 256 bytes, or is the 33rd on the way"),
+)
+ROOM = (("c0000044", "the process has 256 handles, its threads that wait in a connect counted among them"),)
+CLOSED = "c0000037"
+NO_HANDLE, NO_RIGHT = HANDLE[0], ("c0000022", "ACCESS has a bit that the handle's own access lacks")
+NO_WAY = (CLOSED, "the pair of the port is cut or was never made, or the port to which the message would go isn't open")
+
+REFUSALS = {
+    "boot": (("c0000035", "the number of the process or of the thread was used before"),),
+    "thread": (
+        ("c000000b", "no live process has the number"),
+        ("c0000035", "the number of the thread was used before"),
+        ("c0000044", "the process has 64 live threads"),
+    ),
+    "dir": (*PATH, ("c0000035", "something stands there already")),
+    "link": (
+        ("c000003b", "the target doesn't begin with a backslash"),
+        ("c0000033", "a component of the target is empty, or it has more than 256 bytes"),
+        *PATH,
+        ("c0000035", "something stands at the path already"),
+    ),
+    "NtCreatePort": (*PATH, ("c0000035", "something stands there already"), *ROOM),
+    "NtConnectPort": (
+        ("c000002f", "INFO has more than 232 bytes"),
+        *PATH,
+        ("c0000034", "nothing stands there"),
+        ("c0000024", "a directory stands there"),
+        *ROOM,
+    ),
+    "NtListenPort": (*HANDLE, ("c0000042", "the port is no connection port")),
+    "NtAcceptConnectPort": (
+        *MESSAGE,
+        *CLIENT,
+        (
+            "c000021f",
+            "the message names no connect that was received, isn't accepted, and went to a port of the caller's "
+            "process",
+        ),
+        *ROOM,
+    ),
+    "NtCompleteConnectPort": (
+        *HANDLE,
+        ("c0000042", "the port is no server port"),
+        ("c000000d", "its connection is completed already"),
+        (CLOSED, "the pair of the port is cut"),
+    ),
+    "NtRequestPort": (
+        *HANDLE,
+        *MESSAGE,
+        NO_WAY,
+        ("c0000044", "32 datagrams that were sent on the port aren't received"),
+    ),
+    "NtRequestWaitReplyPort": (*HANDLE, *MESSAGE, NO_WAY),
+    "NtReplyPort": (*HANDLE, *MESSAGE, *CLIENT, ("c000021f", "the message fits no request through this port")),
+    "NtReplyWaitReceivePort": (
+        *HANDLE,
+        *MESSAGE,
+        (CLOSED, "the queue isn't open, or the port is a client port with a cut pair and an empty queue"),
+        *CLIENT,
+        ("c000021f", "the message fits no request through this port"),
+    ),
+    "NtClose": (NO_HANDLE,),
+    "NtDuplicateObject": (NO_HANDLE, NO_RIGHT, *ROOM),
+    "NtQueryObject": (NO_HANDLE,),
+}
+
+SERVICES, SCRIPTS = "SERVICES.md", "SCRIPTS.md"
+SHARED = f"{SERVICES}, Rules that all calls share"
+KINDS = f"{SERVICES}, The four kinds of port"
+WRITTEN = f"{SERVICES}, What the machine writes over"
+TAKERS = f"{SERVICES}, Who takes a message"
+FITS = f"{SERVICES}, What fits a reply"
+CLOSING = f"{SERVICES}, Closing a port"
+TOLD = f"{SERVICES}, Port closed"
+TRANSCRIPT = f"{SCRIPTS}, The transcript"
+FAULTS = f"{SCRIPTS}, Faulty lines"
+
+
+def of_call(call):
+    """The heading of a call or directive."""
+    return f"{SERVICES}, {'Directives' if call in ('boot', 'thread', 'dir', 'link') else call}"
+
+
+_OLDEST_TAKER = (
+    "A message that enters a queue goes at once to the thread that has waited longest there: any message to a receive,"
+    " a connection request also to a listen."
+)
+_STEPS = (
+    "What a closing port ends, it ends in this order: receives and listens; requests that were sent on the port; "
+    "requests that stand in its queue; connects that wait for it and aren't accepted; then at its other end a connect "
+    "that isn't completed, requests that were sent there, and receives there. Inside a step the one that has waited "
+    "longest is first."
+)
+_REPLY_WAKES = "A reply that fits wakes the thread that asked, and nobody else."
+_AS_GIVEN = "DataSize, MessageSize, VirtualRangesOffset and the data stay as the caller gave them"
+_SENT = f"{_AS_GIVEN}; a message that the machine makes has MessageSize 24 + DataSize and no range table."
+
+RULES = {
+    # The caller's own entry.
+    ("*", "own"): (
+        "Each line that makes a call, or is a directive, has one entry of its own, and a wake for each wait that it "
+        "ends; a comment and a line without a word have none.",
+        TRANSCRIPT,
+    ),
+    ("*", "first"): (
+        "The entry of the line's own thread is the first of its step, and the wakes follow it.",
+        TRANSCRIPT,
+    ),
+    ("*", "thread"): (
+        "The entry names the thread of the script's line, or `-` where the line is a directive.",
+        TRANSCRIPT,
+    ),
+    ("*", "call"): ("An answer and a wait name the call of the line; a wake names the call that waited.", TRANSCRIPT),
+    ("*", "busy"): (
+        "A thread that waits can make no call: its line is answered `busy`, and nothing changes. Once its wait ended "
+        "it can.",
+        SHARED,
+    ),
+    ("*", "nothread"): (
+        "A line whose number is that of no live thread is answered `nothread`, and nothing changes.",
+        SHARED,
+    ),
+    ("*", "waits"): (
+        "Only NtConnectPort, NtListenPort, NtRequestWaitReplyPort and NtReplyWaitReceivePort can wait.",
+        f"{SERVICES}, Ports and connections, and Messages",
+    ),
+    ("NtConnectPort", "waits"): (
+        "A connect that isn't refused always waits: it returns when the connection is completed or refused, or a "
+        "closing ends it.",
+        of_call("NtConnectPort"),
+    ),
+    ("NtListenPort", "waits"): (
+        "A listen takes the oldest connection request of the port's queue at once, and waits only where none stands "
+        "there; other messages don't count.",
+        of_call("NtListenPort"),
+    ),
+    ("NtRequestWaitReplyPort", "waits"): (
+        "A request that isn't refused always waits: it returns with the reply, or when a closing ends it.",
+        of_call("NtRequestWaitReplyPort"),
+    ),
+    ("NtReplyWaitReceivePort", "waits"): (
+        "A receive takes the oldest message of the queue at once, and waits only where the queue is empty.",
+        of_call("NtReplyWaitReceivePort"),
+    ),
+    ("*", "port closed"): (
+        "When a client port of a completed connection closes and its connection port is open, a message of type 5 "
+        "enters the connection port's queue, once for each such port.",
+        TOLD,
+    ),
+    # Fields.
+    ("*", "fields"): (
+        "Each answer has the fields of its call in the order of its page, and a refused call has none.",
+        SERVICES,
+    ),
+    ("*", "h"): (
+        "A new handle is the least multiple of 4, from 4, that no handle of the process has; a value is free again "
+        "once its handle is closed.",
+        SHARED,
+    ),
+    ("NtConnectPort", "h"): (
+        "The client's handle is the least multiple of 4, from 4, that is free in its process when the connection is "
+        "completed.",
+        of_call("NtConnectPort"),
+    ),
+    ("*", "id"): (
+        "Each thread draws identifiers of its own, 1, 2 and so on: one for each datagram, request and connect that "
+        "isn't refused, and none for anything else.",
+        SHARED,
+    ),
+    ("*", "ctx"): (
+        "A message that was sent on a client port, and one that tells of its end, have the context with which its "
+        "connect was accepted; every other one, also what a server port sends and a connection request, has 0.",
+        KINDS,
+    ),
+    ("NtConnectPort", "max"): ("A message has at most 256 bytes, which `max` tells.", of_call("NtConnectPort")),
+    ("NtConnectPort", "info"): (
+        "`info` is the data of the message that accepted or refused the connect, and empty where a closing ended it.",
+        of_call("NtConnectPort"),
+    ),
+    ("NtQueryObject", "type"): (
+        "`type` is the kind of object that the handle names, `port` so far.",
+        of_call("NtQueryObject"),
+    ),
+    ("NtQueryObject", "access"): (
+        "`access` is what this very handle grants: 001f0001 for a new port's, and for a duplicate's the ACCESS that "
+        "was given, or for `same` what the other handle grants.",
+        of_call("NtQueryObject"),
+    ),
+    ("NtQueryObject", "handles"): ("`handles` is how many handles name the port.", of_call("NtQueryObject")),
+    ("NtQueryObject", "pointers"): (
+        "`pointers` counts the handles to the port, the ports whose other end it is, the client and server ports whose"
+        " connection port it is, the queued messages that were sent on it, and the waits that were made on it.",
+        of_call("NtQueryObject"),
+    ),
+    # Messages.
+    ("*", "which message"): (
+        "A receive takes the oldest message of the queue, whatever its type is.",
+        TAKERS,
+    ),
+    ("NtListenPort", "which message"): (
+        "A listen takes the oldest connection request of the queue, and leaves all other messages there.",
+        TAKERS,
+    ),
+    ("*", "which type"): (
+        "What is sent gets the type of its call, whatever type was given: 1 for NtRequestWaitReplyPort, 3 for "
+        "NtRequestPort. A connection request has type 10, a client port's end type 5.",
+        WRITTEN,
+    ),
+    ("NtRequestWaitReplyPort", "which type"): (
+        "A reply is shown with type 2, whatever type its message was given.",
+        WRITTEN,
+    ),
+    ("*", "which client"): (
+        "The process and the thread that send are written over ClientId, whatever was given.",
+        WRITTEN,
+    ),
+    ("NtRequestWaitReplyPort", "which client"): ("A reply keeps the ClientId that it was given.", WRITTEN),
+    ("*", "which identifier"): (
+        "The identifier that the sending thread drew is written over MessageId; a client port's end has that of its "
+        "connect.",
+        WRITTEN,
+    ),
+    ("NtRequestWaitReplyPort", "which identifier"): ("A reply keeps the MessageId that it was given.", WRITTEN),
+    ("*", "which section"): ("SectionSize is written over with 0.", WRITTEN),
+    ("*", "which bytes"): (_SENT, WRITTEN),
+    ("*", "which closing"): (
+        "The data of a client port's end are 8 bytes, low bytes first: the number of the thread that connected, and "
+        "which of the ports that this thread has made the client port was, from 1.",
+        TOLD,
+    ),
+    # Wakes, by the call of the line and the call that waited.
+    ("*", "taker"): (_OLDEST_TAKER, TAKERS),
+    ("NtReplyPort", "wakes NtRequestWaitReplyPort"): (_REPLY_WAKES, FITS),
+    ("NtReplyWaitReceivePort", "wakes NtRequestWaitReplyPort"): (
+        f"The reply is made first. {_REPLY_WAKES} Its entry stands behind the caller's.",
+        of_call("NtReplyWaitReceivePort"),
+    ),
+    ("NtRequestPort", "wakes NtReplyWaitReceivePort"): (_OLDEST_TAKER, TAKERS),
+    ("NtRequestWaitReplyPort", "wakes NtReplyWaitReceivePort"): (_OLDEST_TAKER, TAKERS),
+    ("NtConnectPort", "wakes NtReplyWaitReceivePort"): (_OLDEST_TAKER, TAKERS),
+    ("NtConnectPort", "wakes NtListenPort"): (_OLDEST_TAKER, TAKERS),
+    ("NtRequestPort", "wakes NtListenPort"): ("A listen takes connection requests alone.", TAKERS),
+    ("NtRequestWaitReplyPort", "wakes NtListenPort"): ("A listen takes connection requests alone.", TAKERS),
+    ("NtAcceptConnectPort", "wakes NtConnectPort"): (
+        "A connect that is refused ends at once with c0000041 and the data of the message; one that is accepted waits "
+        "on.",
+        of_call("NtAcceptConnectPort"),
+    ),
+    ("NtCompleteConnectPort", "wakes NtConnectPort"): (
+        "Completing the connection wakes the thread that connected, with 00000000.",
+        of_call("NtCompleteConnectPort"),
+    ),
+    ("NtClose", "wakes NtReplyWaitReceivePort"): (
+        "With its last handle a port closes, and not before. Receives that were made on it, that wait on its queue, or"
+        " at its other end where that is a client port, end with c0000037; and a client port's end goes to the receive"
+        " that has waited longest.",
+        CLOSING,
+    ),
+    ("NtClose", "wakes NtListenPort"): (
+        "With its last handle a port closes, and not before. Listens that wait on its queue end with c0000037.",
+        CLOSING,
+    ),
+    ("NtClose", "wakes NtRequestWaitReplyPort"): (
+        "With its last handle a port closes, and not before. Requests that were sent on it end with c0000037; those "
+        "that stand in its queue, or were sent on its other end, with c0000253.",
+        CLOSING,
+    ),
+    ("NtClose", "wakes NtConnectPort"): (
+        "With its last handle a port closes, and not before. A connect that waits for it and isn't accepted ends with "
+        "c0000041 and an empty `info`, and so does one that is accepted and not completed where its server port "
+        "closes.",
+        CLOSING,
+    ),
+    ("NtClose", "order"): (_STEPS, CLOSING),
+    ("*", "order"): ("Wakes follow the caller's entry in the order in which they come about.", TRANSCRIPT),
+    ("*", "wakes nobody"): (
+        "This call wakes nobody: only what is sent, replied, accepted, completed or closed ends a wait.",
+        SERVICES,
+    ),
+    # The last line.
+    ("end", "LINES"): (
+        "All lines of the script are counted: comments, lines without a word, and a rest without byte 10 that isn't "
+        "empty.",
+        TRANSCRIPT,
+    ),
+    ("end", "ENTRIES"): ("The second number is how many entries were printed.", TRANSCRIPT),
+    ("end", "OBJECTS"): (
+        "Processes, threads and ports that are left are counted. A port that nothing names any longer goes at the end "
+        "of the line: no handle, no port as its other end or its connection port, no queued message that was sent on "
+        "it, and no wait that was made on it.",
+        SHARED,
+    ),
+    ("stop", "LINE"): ("The script stops at its first faulty line; the lines before it are run and printed.", FAULTS),
+    ("stop", "KIND"): (
+        "A line's first fault is looked for in this order: its number and its length; its bytes; its first word; the "
+        "call's name; the count of words; the words from left to right.",
+        FAULTS,
+    ),
+    ("*", "last line"): (
+        "Behind a well-formed script the last line is `end`, and at a faulty line `stop`.",
+        TRANSCRIPT,
+    ),
+    # Names that differ.
+    ("*", "renamed"): (
+        "Names that differ have to differ alike everywhere: a handle as long as it stands, an identifier of a thread "
+        "always.",
+        SHARED,
+    ),
+}
+# What a difference means for the system that GOT is of.
+MEANS = {
+    "missing": "it made no call in this line, or told nothing of it",
+    "extra": "it told something of a line in which no call is made",
+    "further": "it told of one thread twice in one line",
+    "first": "it told of a wake before it told of the call that made it",
+    "thread": "it took the line for that of another thread",
+    "call": "it made another call, or ended another one",
+    "busy": "it takes the thread for one that waits: a wait went on that should have ended, or began where none should",
+    "not busy": "it made a call of a thread that waits: the wait ended early, or never began",
+    "nothread": "it knows no such thread: it wasn't made, or was ended",
+    "not nothread": "it made a call of a thread that was never made",
+    "refused": "it refuses a call that nothing speaks against",
+    "let through": "it makes a call that has to be refused",
+    "refused, otherwise": "it refuses the call for another cause, or tests the causes in another order",
+    "waits": "the call waits, where it has to return at once",
+    "returns": "the call returns at once, where it has to wait",
+    "fields": "its answer has other parts",
+    "h=": "it counts other handles of the process as taken",
+    "id=": "the thread drew more or fewer identifiers before this line",
+    "ctx=": "the message came with the context of another connection, or of none",
+    "handles=": "more or fewer handles name the port there",
+    "pointers=": "more or fewer rows count for the port there",
+    "value": "it tells another value",
+    "which message": "it took another message from the queue than the oldest one",
+    "port closed": "nothing told the server that the client's port closed",
+    "which closing": "it names another port by the data of the message",
+    "header": "it shows the message with another header or other data",
+    "woken": "it woke another thread than the one whose turn it is",
+    "asleep": "the thread waits on, and later lines of it are answered `busy`",
+    "awake": "the thread's wait ended where nothing ended it",
+    "ending": "the wait ended for another cause",
+    "order": "it ended the waits in another order",
+    "renamed": "it uses one name for two things, or two names for one",
+    "LINES": "it counted the lines of the script in another way",
+    "ENTRIES": "it printed more or fewer entries, or counted them wrong",
+    "OBJECTS": "more or fewer objects are left: something was freed that still counts, or the other way round",
+    "LINE": "it found the first faulty line elsewhere",
+    "KIND": "it looks for the faults of a line in another order, or tells them apart in another way",
+    "stops": "it takes a line for faulty that is well formed",
+    "runs on": "it takes a faulty line for well formed",
+    "broken off": "it ended before the script did",
+    "not broken off": "it went on where the wanted transcript breaks off",
+}
+
+
+def rule(call, *what):
+    """The sentence and its page for the first of `what` that has one, for the call before that for all calls."""
+    for it in what:
+        for key in ((call, it), ("*", it)):
+            if key in RULES:
+                return RULES[key]
+    return None
+
+
+def causes(call, status):
+    """What has to hold where a call is refused with a status; None where the call is never refused so."""
+    found = [cause for it, cause in REFUSALS.get(call, ()) if it == status]
+    return "; or ".join(found) or None
+
+
+def comes_before(call, first, second):
+    """Whether one refusal of a call is tested before another."""
+    order = [status for status, _ in REFUSALS[call]]
+    return order.index(first) < order.index(second)
