@@ -1,27 +1,32 @@
-"""docs/TOOLS.md: each block of a terminal shows what its command prints."""
+"""docs/TOOLS.md and docs/TRACES.md: each block of a terminal shows what its command prints."""
 import re
+import shlex
 import subprocess
 import unittest
 
 import support
-from ntlpc_tool import main
+from ntlpc_tool import main, program
 
-PAGE = support.ROOT / "docs" / "TOOLS.md"
+TOOLS, TRACES = (support.ROOT / "docs" / name for name in ("TOOLS.md", "TRACES.md"))
+BUILT = "crates/ntlpc/out/ntlpc"
 BLOCK = re.compile(r"^```console\n\$ (.*)\n((?:.*\n)*?)```$", re.M)
 
 
 class Tools(unittest.TestCase):
     def test_the_words_are_listed(self):
-        named = re.findall(r"^\| `([a-z]+) [^|]*\|", PAGE.read_text(encoding="utf-8"), re.M)
+        named = re.findall(r"^\| `([a-z]+) [^|]*\|", TOOLS.read_text(encoding="utf-8"), re.M)
         self.assertEqual(sorted(named), sorted(main.all_words()))
 
     @support.needs_program
     def test_each_block_is_what_is_printed(self):
-        blocks = BLOCK.findall(PAGE.read_text(encoding="utf-8"))
-        self.assertGreater(len(blocks), 3)
-        for command, wanted in blocks:
-            ran = subprocess.run(["sh", "-c", command], cwd=support.ROOT, capture_output=True, text=True, timeout=60)
-            self.assertEqual(ran.stdout, wanted, command)
+        for page in (TOOLS, TRACES):
+            blocks = BLOCK.findall(page.read_text(encoding="utf-8"))
+            self.assertGreater(len(blocks), 3)
+            for command, wanted in blocks:
+                with self.subTest(command):
+                    words = ["sh", "-c", command.replace(BUILT, shlex.quote(program.find()))]
+                    ran = subprocess.run(words, cwd=support.ROOT, capture_output=True, text=True, timeout=60)
+                    self.assertEqual(ran.stdout, wanted)
 
 
 if __name__ == "__main__":
