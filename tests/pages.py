@@ -4,24 +4,31 @@
     tests/pages.py
 
 Each link of a page has to lead to a file of this checkout, and to a heading where it names one; each page below docs/ has
-to be reached from the README. Each check that fails has a line, and the last line is `N passed, M failed`. The exit
-status is 0 where all passed.
+to be reached from the README. Each example line of docs/SERVICES.md has to stand in the script that it names, and to
+print in that script's transcript what the page says, and no more. The scripts that stand in examples/ have to be worked
+in the specs, text for text.
+
+Each check that fails has a line, and the last line is `N passed, M failed`. The exit status is 0 where all passed.
 """
 import pathlib
 import re
 import sys
 
 ROOT = pathlib.Path(__file__).resolve().parent.parent
-PAGES = [*sorted(ROOT.glob("*.md")), *sorted((ROOT / "docs").glob("*.md"))]
+DOCS = ROOT / "docs"
+PAGES = [*sorted(ROOT.glob("*.md")), *sorted(DOCS.glob("*.md"))]
+EXAMPLES = ROOT / "examples"
 LINK = re.compile(r"\[[^\]]*\]\(([^)\s]+)\)")
+DEFINED = re.compile(r"\[([^\]]+)\]: (\S+)")
+EXAMPLE = re.compile(r"\| `(\d+) ([^`]*)`.* \[([\w-]+)\] \| (.*) \|")
+WORKED = re.compile(r'transcript \(codes "((?:[^"\\]|\\.)*)"\) ≡ codes "((?:[^"\\]|\\.)*)"')
 ELSEWHERE = re.compile(r"[a-z]+:", re.I)
-
 
 def prose_of(page):
     """The lines of a page, with an empty one in place of each that stands in a fenced block."""
     fenced = False
     for line in page.read_text(encoding="utf-8").splitlines():
-        fence = line.lstrip().startswith("```")
+        fence = line.startswith("```")
         yield "" if fenced or fence else line
         fenced ^= fence
 
@@ -29,7 +36,8 @@ def prose_of(page):
 def links_of(page):
     """What the links of a page name; none that stands in code, nor one to another site."""
     for line in prose_of(page):
-        for target in LINK.findall(without_code(line)):
+        defined = DEFINED.fullmatch(line)
+        for target in [defined[2]] if defined else LINK.findall(without_code(line)):
             if not ELSEWHERE.match(target):
                 yield target
 
@@ -68,16 +76,60 @@ def links():
         name = page.relative_to(ROOT).as_posix()
         yield f"the links of {name}", [it for it in (fault_of(page, link) for link in links_of(page)) if it]
     reached = {(ROOT / it.partition("#")[0]).resolve() for it in links_of(ROOT / "README.md")}
-    missing = [page.name for page in PAGES if page.parent != ROOT and page not in reached]
+    missing = [page.name for page in PAGES if page.parent == DOCS and page not in reached]
     yield "the README leads to each page", [f"it has no link to docs/{it}" for it in missing]
+
+
+def examples_of_services():
+    """The example lines of docs/SERVICES.md, against the script that each names and its transcript."""
+    lines = list(prose_of(DOCS / "SERVICES.md"))
+    places = dict(found.groups() for found in map(DEFINED.fullmatch, lines) if found)
+    for row in lines:
+        if re.match(r"\| `\d", row):
+            yield f"SERVICES.md: {row}", [it for it in [fault_of_example(row, places)] if it]
+
+
+def fault_of_example(row, places):
+    """What is wrong with an example line; nothing where its script has it and tells the same."""
+    found = EXAMPLE.fullmatch(row)
+    if not found or found[3] not in places:
+        return "it names no script"
+    number, line, name, printed = found.groups()
+    script = (DOCS / places[name]).resolve()
+    if script.read_text(encoding="utf-8").splitlines()[int(number) - 1 : int(number)] != [line]:
+        return f"line {number} of {script.name} is another one"
+    transcript = script.with_suffix(".transcript").read_text(encoding="utf-8").splitlines()
+    told = [it for it in transcript if it.startswith(f"{number} ")]
+    return "" if re.findall("`([^`]*)`", printed) == told else f"its transcript tells {told}"
+
+
+def worked_examples():
+    """The scripts that stand in examples/ with their transcripts, against those that the definitions compute."""
+    texts = [it.read_text(encoding="utf-8") for it in ROOT.glob("crates/lpc_model/specs/Worked*.antt")]
+    worked = {tuple(map(unquoted, found)) for text in texts for found in WORKED.findall(text)}
+    for script in sorted(EXAMPLES.glob("*.script")):
+        pair = tuple(it.read_text(encoding="utf-8") for it in (script, script.with_suffix(".transcript")))
+        yield f"examples/{script.name}", [] if pair in worked else ["no worked script of the specs is the same"]
+
+
+def unquoted(text):
+    """The text that a string of the specs stands for."""
+    return re.sub(r"\\(.)", lambda found: "\n" if found[1] == "n" else found[1], text)
+
+
+def checks():
+    """All checks: each with its name and what it found wrong."""
+    yield from links()
+    yield from examples_of_services()
+    yield from worked_examples()
 
 
 def main():
     passed = failed = 0
-    for name, faults in links():
-        failed += bool(faults)
-        passed += not faults
-        for fault in faults:
+    for name, found in checks():
+        failed += bool(found)
+        passed += not found
+        for fault in found:
             print(f"FAILED: {name}: {fault}")
     print(f"{passed} passed, {failed} failed")
     return 1 if failed else 0
