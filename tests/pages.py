@@ -1,17 +1,21 @@
 #!/usr/bin/env python3
-"""Holds the pages against each other and against the files that they speak of.
+"""Holds the pages against each other, against the files that they speak of, and against the program.
 
-    tests/pages.py
+    tests/pages.py [PROGRAM [WORDS..]]
 
 Each link of a page has to lead to a file of this checkout, and to a heading where it names one; each page below docs/ has
 to be reached from the README. Each example line of docs/SERVICES.md has to stand in the script that it names, and to
 print in that script's transcript what the page says, and no more. The scripts that stand in examples/ have to be worked
-in the specs, text for text.
+in the specs, text for text. With PROGRAM, each script of docs/FAULTS.md has to stop at its last line with the kind of its
+section, or to print the transcript that stands behind it.
 
-Each check that fails has a line, and the last line is `N passed, M failed`. The exit status is 0 where all passed.
+Each check that fails has a line, and the last line is `N passed, M failed`. The exit status is 0 where all passed, 1
+where not, and 64 where PROGRAM can't be run.
 """
 import pathlib
 import re
+import shutil
+import subprocess
 import sys
 
 ROOT = pathlib.Path(__file__).resolve().parent.parent
@@ -23,6 +27,33 @@ DEFINED = re.compile(r"\[([^\]]+)\]: (\S+)")
 EXAMPLE = re.compile(r"\| `(\d+) ([^`]*)`.* \[([\w-]+)\] \| (.*) \|")
 WORKED = re.compile(r'transcript \(codes "((?:[^"\\]|\\.)*)"\) ≡ codes "((?:[^"\\]|\\.)*)"')
 ELSEWHERE = re.compile(r"[a-z]+:", re.I)
+ESCAPE = re.compile(rb"\\(?:x([0-9A-Fa-f]{2})|(.))")
+ESCAPED = {b"t": b"\t", b"r": b"\r", b"n": b"\n", b"\\": b"\\"}
+
+
+class Block:
+    """A fenced block of a page: the level-2 heading above it, the word behind its fence, and its text."""
+
+    def __init__(self, heading, kind, text):
+        self.heading = heading
+        self.kind = kind
+        self.text = text
+
+
+def blocks_of(page):
+    """The fenced blocks of a page, in order."""
+    heading, lines = "", None
+    for line in page.read_text(encoding="utf-8").splitlines(True):
+        if lines is None and line.startswith("```"):
+            kind, lines = line.strip("`\n"), []
+        elif lines is not None and line.startswith("```"):
+            yield Block(heading, kind, "".join(lines))
+            lines = None
+        elif lines is not None:
+            lines.append(line)
+        elif line.startswith("## "):
+            heading = line[3:].strip()
+
 
 def prose_of(page):
     """The lines of a page, with an empty one in place of each that stands in a fenced block."""
@@ -117,16 +148,52 @@ def unquoted(text):
     return re.sub(r"\\(.)", lambda found: "\n" if found[1] == "n" else found[1], text)
 
 
-def checks():
+def bytes_of(block):
+    """The bytes of a script that a block shows."""
+    text = block.text.encode()
+    if block.kind != "script-escaped":
+        return text
+    return ESCAPE.sub(lambda found: bytes([int(found[1], 16)]) if found[1] else ESCAPED[found[2]], text)
+
+
+def replayed(command, script):
+    """What the program prints for a script, and its status."""
+    ran = subprocess.run([*command, "replay"], input=script, capture_output=True, timeout=60)
+    return ran.stdout.decode("utf-8", "backslashreplace"), ran.returncode
+
+
+def faults(command):
+    """The scripts of docs/FAULTS.md: faulty ones stop at their last line, and lawful ones have the transcript behind."""
+    blocks = list(blocks_of(DOCS / "FAULTS.md"))
+    for at, block in enumerate(blocks):
+        name = f"FAULTS.md, {block.heading}: {block.text.splitlines()[-1]}"
+        printed, status = replayed(command, bytes_of(block)) if block.kind != "transcript" else ("", 0)
+        if block.kind in ("script", "script-escaped"):
+            kind = re.match(r"Kind (\d+): ", block.heading)
+            wanted = f"stop {block.text.count(chr(10))} {kind[1]}" if kind else "a section for a kind"
+            last = (printed.splitlines() or ["nothing"])[-1]
+            yield name, [f"its last line is {last}, wanted is {wanted}"] * ((last, status) != (wanted, 2))
+        elif block.kind == "lawful":
+            wanted = blocks[at + 1] if at + 1 < len(blocks) else block
+            good = wanted.kind == "transcript" and (printed, status) == (wanted.text, 0)
+            yield name, [] if good else [f"its transcript is another one:\n{printed}"]
+
+
+def checks(command):
     """All checks: each with its name and what it found wrong."""
     yield from links()
     yield from examples_of_services()
     yield from worked_examples()
+    if command:
+        yield from faults(command)
 
 
-def main():
+def main(command):
+    if command and not shutil.which(command[0]):
+        print("usage: tests/pages.py [PROGRAM [WORDS..]]", file=sys.stderr)
+        return 64
     passed = failed = 0
-    for name, found in checks():
+    for name, found in checks(command):
         failed += bool(found)
         passed += not found
         for fault in found:
@@ -136,4 +203,4 @@ def main():
 
 
 if __name__ == "__main__":
-    sys.exit(main())
+    sys.exit(main(sys.argv[1:]))
