@@ -3,11 +3,13 @@
 
     tests/pages.py [PROGRAM [WORDS..]]
 
-Each link of a page has to lead to a file of this checkout, and to a heading where it names one; each page below docs/ has
-to be reached from the README. Each example line of docs/SERVICES.md has to stand in the script that it names, and to
-print in that script's transcript what the page says, and no more. The scripts that stand in examples/ have to be worked
-in the specs, text for text. With PROGRAM, each script of docs/FAULTS.md has to stop at its last line with the kind of its
-section, or to print the transcript that stands behind it.
+- Each link of a page leads to a file of this checkout, and to a heading where it names one.
+- Each page below docs/ is reached from the README. Its version, and the newest of CHANGELOG.md, is that of VERSION.
+- Each example line of docs/SERVICES.md stands in the script that it names, and that script's transcript tells for it what
+  the page says, and no more.
+- The scripts that stand in examples/ are worked in the specs, text for text.
+- With PROGRAM, each script of docs/FAULTS.md stops at its last line with the kind of its section, or prints the
+  transcript that stands behind it.
 
 Each check that fails has a line, and the last line is `N passed, M failed`. The exit status is 0 where all passed, 1
 where not, and 64 where PROGRAM can't be run.
@@ -111,6 +113,15 @@ def links():
     yield "the README leads to each page", [f"it has no link to docs/{it}" for it in missing]
 
 
+def version():
+    """The version that the README and CHANGELOG.md name, against the file VERSION."""
+    files = ("VERSION", "README.md", "CHANGELOG.md")
+    number, readme, changes = ((ROOT / it).read_text(encoding="utf-8").strip() for it in files)
+    newest = re.search("^## (.*)$", changes, re.M)
+    yield "the README's version", [] if f"This is version {number};" in readme else [f"it isn't {number}"]
+    yield "the newest of CHANGELOG.md", [] if newest and newest[1] == number else [f"it isn't {number}"]
+
+
 def examples_of_services():
     """The example lines of docs/SERVICES.md, against the script that each names and its transcript."""
     lines = list(prose_of(DOCS / "SERVICES.md"))
@@ -163,7 +174,7 @@ def replayed(command, script):
 
 
 def faults(command):
-    """The scripts of docs/FAULTS.md: faulty ones stop at their last line, and lawful ones have the transcript behind."""
+    """The scripts of docs/FAULTS.md: a faulty one stops at its last line, a lawful one prints the transcript behind."""
     blocks = list(blocks_of(DOCS / "FAULTS.md"))
     for at, block in enumerate(blocks):
         name = f"FAULTS.md, {block.heading}: {block.text.splitlines()[-1]}"
@@ -182,6 +193,7 @@ def faults(command):
 def checks(command):
     """All checks: each with its name and what it found wrong."""
     yield from links()
+    yield from version()
     yield from examples_of_services()
     yield from worked_examples()
     if command:
