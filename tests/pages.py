@@ -5,9 +5,10 @@
 
 - Each link of a page leads to a file of this checkout, and to a heading where it names one.
 - Each page below docs/ is reached from the README. Its version, and the newest of CHANGELOG.md, is that of VERSION.
-- Each example line of docs/SERVICES.md stands in the script that it names, and that script's transcript tells for it what
-  the page says, and no more.
-- The scripts that stand in examples/ are worked in the specs, text for text.
+- Each example line of docs/SERVICES.md stands in the script that it names, whose transcript tells for it what the page
+  says, and no more.
+- The scripts that stand in examples/ are worked in the specs, and those of docs/EXERCISES.md stand in
+  examples/exercises/, text for text.
 - With PROGRAM, each script of docs/FAULTS.md stops at its last line with the kind of its section, or prints the
   transcript that stands behind it.
 
@@ -154,6 +155,16 @@ def worked_examples():
         yield f"examples/{script.name}", [] if pair in worked else ["no worked script of the specs is the same"]
 
 
+def exercises():
+    """The scripts and transcripts of docs/EXERCISES.md, one of each an exercise, against their files in order."""
+    shown = [(it.kind, it.text) for it in blocks_of(DOCS / "EXERCISES.md") if it.kind in ("script", "transcript")]
+    files = [it for it in sorted((EXAMPLES / "exercises").iterdir()) if it.suffix in (".script", ".transcript")]
+    yield "EXERCISES.md shows each file", [] if len(shown) == len(files) else [f"{len(shown)} of {len(files)}"]
+    for file, pair in zip(files, shown):
+        same = pair == (file.suffix[1:], file.read_text(encoding="utf-8"))
+        yield f"EXERCISES.md: {file.name}", [] if same else ["the page shows another text"]
+
+
 def unquoted(text):
     """The text that a string of the specs stands for."""
     return re.sub(r"\\(.)", lambda found: "\n" if found[1] == "n" else found[1], text)
@@ -196,6 +207,7 @@ def checks(command):
     yield from version()
     yield from examples_of_services()
     yield from worked_examples()
+    yield from exercises()
     if command:
         yield from faults(command)
 

@@ -150,11 +150,12 @@ def replays(script, status, printed):
 
 
 def examples():
-    """Each example prints its transcript, with status 2 where that ends with `stop`."""
-    for script in sorted((ROOT / "examples").glob("*.script")):
+    """Each example and exercise prints its transcript, with status 2 where that ends with `stop`."""
+    folder = ROOT / "examples"
+    for script in sorted([*folder.glob("*.script"), *folder.glob("exercises/*.script")]):
         transcript = script.with_suffix(".transcript").read_bytes()
         status = 2 if transcript.splitlines()[-1].startswith(b"stop ") else 0
-        yield f"examples/{script.name}", replays(script.read_bytes(), status, transcript)
+        yield script.relative_to(ROOT).as_posix(), replays(script.read_bytes(), status, transcript)
 
 
 def words():
