@@ -5,6 +5,7 @@
 
 - Each link of a page leads to a file of this checkout, and to a heading where it names one.
 - Each page below docs/ is reached from the README. Its version, and the newest of CHANGELOG.md, is that of VERSION.
+- The manual page has the lines of docs/SCRIPTS.md and the statuses of the README, and the README has all lines too.
 - Each example line of docs/SERVICES.md stands in the script that it names, whose transcript tells for it what the page
   says, and no more.
 - The scripts that stand in examples/ are worked in the specs, and those of docs/EXERCISES.md stand in
@@ -123,6 +124,34 @@ def version():
     yield "the newest of CHANGELOG.md", [] if newest and newest[1] == number else [f"it isn't {number}"]
 
 
+def manual():
+    """The lines of a script and the exit statuses in the manual page, the README and SCRIPTS.md."""
+    readme, scripts = ((ROOT / it).read_text(encoding="utf-8") for it in ("README.md", "docs/SCRIPTS.md"))
+    page = (ROOT / "packaging" / "ntlpc.1").read_text(encoding="utf-8")
+    forms = first_cells(scripts, "## Lines")
+    told = re.findall(r"^\.TP\n\.B (.*)$", page[page.index(".SH SCRIPT") : page.index(".SH TRANSCRIPT")], re.M)
+    yield "the lines in ntlpc.1", [] if told == forms else [f"{told}, wanted are {forms}"]
+    names, wanted = (list(map(name_of, it)) for it in (first_cells(readme, "## What can be scripted"), forms))
+    yield "the lines in the README", [] if names == wanted else [f"{names}, wanted are {wanted}"]
+    wanted = re.findall(r"^\| (\d+) \| ([^|]*) \|$", readme.replace("`", ""), re.M)
+    entries = re.findall(r"^\.B (\d+)\n((?:[^.].*\n)+)", re.sub(r"\\f[BR]", "", page), re.M)
+    told = [(number, " ".join(text.split())) for number, text in entries]
+    yield "the statuses in ntlpc.1", [] if told == wanted else [f"{told}, wanted are {wanted}"]
+
+
+def first_cells(text, heading):
+    """The first cells of the first table behind a heading, as code."""
+    behind = text[text.index(heading) :]
+    table = re.search(r"(?:^\|.*\n)+", behind, re.M)[0]
+    return re.findall(r"^\| `([^`]*)` \|", table, re.M)
+
+
+def name_of(form):
+    """The call or directive of a line's form."""
+    words = form.split()
+    return words[1] if words[0] == "TID" else words[0]
+
+
 def examples_of_services():
     """The example lines of docs/SERVICES.md, against the script that each names and its transcript."""
     lines = list(prose_of(DOCS / "SERVICES.md"))
@@ -205,6 +234,7 @@ def checks(command):
     """All checks: each with its name and what it found wrong."""
     yield from links()
     yield from version()
+    yield from manual()
     yield from examples_of_services()
     yield from worked_examples()
     yield from exercises()
