@@ -18,6 +18,8 @@ COMMAND = "conformance/run --only 'thread/*' python3 conformance/example.py"
 # One script, for which other programs stand in.
 TRANSCRIPT = min((ROOT / "conformance" / "boot").glob("*.transcript"))
 CASE, WANTED = f"boot/{TRANSCRIPT.stem}", TRANSCRIPT.read_bytes()
+# One that says nothing of itself.
+UNCOMMENTED = "lines/an-empty-script"
 
 
 def run(*words):
@@ -78,6 +80,7 @@ CHECKS = {
     "a last byte that is missing fails": lambda: "without byte 10" in of_printer(WANTED[:-1])[1],
     "a further line fails": lambda: "(nothing)" in of_printer(WANTED + b"end 0 0 0\n")[1],
     "no output fails": lambda: of_printer(b"")[0] == 1,
+    "a script without comments fails too": lambda: run("--only", UNCOMMENTED, "true")[1].startswith(UNCOMMENTED),
     "a signal fails": lambda: "signal 9" in run("--only", CASE, "sh", "-c", "kill -9 $$")[1],
     "output without an end fails": lambda: "more and more" in run("--only", CASE, "sh", "-c", "yes")[1],
     "no end fails": lambda: "did not end" in run("--timeout", "0.2", "--only", CASE, "sh", "-c", "sleep 30; true")[1],
