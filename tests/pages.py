@@ -8,8 +8,9 @@
 - The manual page has the lines of docs/SCRIPTS.md and the statuses of the README, and the README has all lines too.
 - Each example line of docs/SERVICES.md stands in the script that it names, whose transcript tells for it what the page
   says, and no more.
-- The scripts that stand in examples/ are worked in the specs, and those of docs/EXERCISES.md stand in
-  examples/exercises/, text for text.
+- The scripts that stand in examples/ are worked in the specs, text for text.
+- The scripts and transcripts of docs/EXERCISES.md stand in examples/exercises/, and its diagrams are those that the
+  companion tool draws.
 - With PROGRAM, each script of docs/FAULTS.md stops at its last line with the kind of its section, or prints the
   transcript that stands behind it.
 
@@ -185,13 +186,22 @@ def worked_examples():
 
 
 def exercises():
-    """The scripts and transcripts of docs/EXERCISES.md, one of each an exercise, against their files in order."""
-    shown = [(it.kind, it.text) for it in blocks_of(DOCS / "EXERCISES.md") if it.kind in ("script", "transcript")]
-    files = [it for it in sorted((EXAMPLES / "exercises").iterdir()) if it.suffix in (".script", ".transcript")]
-    yield "EXERCISES.md shows each file", [] if len(shown) == len(files) else [f"{len(shown)} of {len(files)}"]
-    for file, pair in zip(files, shown):
-        same = pair == (file.suffix[1:], file.read_text(encoding="utf-8"))
-        yield f"EXERCISES.md: {file.name}", [] if same else ["the page shows another text"]
+    """The scripts, transcripts and diagrams of docs/EXERCISES.md, three an exercise, in the order of the files."""
+    kinds = ("script", "transcript", "mermaid")
+    shown = [(it.kind, it.text) for it in blocks_of(DOCS / "EXERCISES.md") if it.kind in kinds]
+    scripts = sorted((EXAMPLES / "exercises").glob("*.script"))
+    yield "EXERCISES.md shows each file", [] if len(shown) == 3 * len(scripts) else [f"{len(shown)} blocks are shown"]
+    for at, script in enumerate(scripts):
+        transcript = script.with_suffix(".transcript")
+        texts = (script.read_text(encoding="utf-8"), transcript.read_text(encoding="utf-8"), drawn(script, transcript))
+        others = [kind for kind, pair in zip(kinds, zip(kinds, texts)) if pair not in shown[3 * at : 3 * at + 3]]
+        yield f"EXERCISES.md: {script.stem}", [f"the page shows another {kind}" for kind in others]
+
+
+def drawn(script, transcript):
+    """The diagram of a script and its transcript."""
+    command = [ROOT / "tools" / "ntlpc-tool", "diagram", "--script", script, transcript]
+    return subprocess.run(command, stdout=subprocess.PIPE, check=True).stdout.decode()
 
 
 def unquoted(text):
