@@ -12,16 +12,18 @@
 - The scripts and transcripts of docs/EXERCISES.md stand in examples/exercises/, and its diagrams are those that the
   companion tool draws.
 - With PROGRAM, each script of docs/FAULTS.md stops at its last line with the kind of its section, or prints the
-  transcript that stands behind it.
+  transcript that stands behind it, and the commands of docs/CHECK_YOUR_OWN.md print what the page shows.
 
 Each check that fails has a line, and the last line is `N passed, M failed`. The exit status is 0 where all passed, 1
 where not, and 64 where PROGRAM can't be run.
 """
+import os
 import pathlib
 import re
 import shutil
 import subprocess
 import sys
+import tempfile
 
 ROOT = pathlib.Path(__file__).resolve().parent.parent
 DOCS = ROOT / "docs"
@@ -32,6 +34,7 @@ DEFINED = re.compile(r"\[([^\]]+)\]: (\S+)")
 EXAMPLE = re.compile(r"\| `(\d+) ([^`]*)`.* \[([\w-]+)\] \| (.*) \|")
 WORKED = re.compile(r'transcript \(codes "((?:[^"\\]|\\.)*)"\) ≡ codes "((?:[^"\\]|\\.)*)"')
 ELSEWHERE = re.compile(r"[a-z]+:", re.I)
+COMMAND = re.compile(r"^\$ (.*)\n((?:(?!\$ ).*\n)*)", re.M)
 ESCAPE = re.compile(rb"\\(?:x([0-9A-Fa-f]{2})|(.))")
 ESCAPED = {b"t": b"\t", b"r": b"\r", b"n": b"\n", b"\\": b"\\"}
 
@@ -209,6 +212,20 @@ def unquoted(text):
     return re.sub(r"\\(.)", lambda found: "\n" if found[1] == "n" else found[1], text)
 
 
+def terminals(command):
+    """What docs/CHECK_YOUR_OWN.md shows of a terminal, against what its commands print, in a folder that looks like the
+    root of the checkout and takes what they write."""
+    shown = "".join(it.text for it in blocks_of(DOCS / "CHECK_YOUR_OWN.md") if it.kind == "console")
+    env = {**os.environ, "NTLPC": os.path.abspath(shutil.which(command[0]))}
+    with tempfile.TemporaryDirectory() as folder:
+        for entry in ROOT.iterdir():
+            os.symlink(entry, os.path.join(folder, entry.name))
+        for line, wanted in COMMAND.findall(shown):
+            ran = subprocess.run(["sh", "-c", line], cwd=folder, env=env, stdout=subprocess.PIPE, timeout=60)
+            printed = ran.stdout.decode("utf-8", "backslashreplace")
+            yield f"CHECK_YOUR_OWN.md: {line}", [] if printed == wanted else [f"it prints another text:\n{printed}"]
+
+
 def bytes_of(block):
     """The bytes of a script that a block shows."""
     text = block.text.encode()
@@ -250,6 +267,7 @@ def checks(command):
     yield from exercises()
     if command:
         yield from faults(command)
+        yield from terminals(command)
 
 
 def main(command):
