@@ -104,10 +104,12 @@ class Why(unittest.TestCase):
     @classmethod
     def setUpClass(cls):
         cls.name = program.find()
+        # What the program told of a line is kept, for many of these scripts have lines in common.
+        cls.probe = placing.Probe(cls.name)
 
     def explained(self, script, number, kind):
         """The explanation of a fault."""
-        return explain.Explanation(placing.Probe(self.name), script, number, kind)
+        return explain.Explanation(self.probe, script, number, kind)
 
     def test_each_fault_is_placed_and_explained(self):
         for line, kind, part, words in FAULTY:
