@@ -9,6 +9,8 @@ mod common;
 #[cfg(test)]
 mod handles;
 #[cfg(test)]
+mod homes;
+#[cfg(test)]
 mod message;
 #[cfg(test)]
 mod names;

@@ -19,7 +19,7 @@ use Rattle.lpc_world.specs.Kept.{Roomy, StaysReady, StaysUnqueued, is_pending, r
 use Rattle.lpc_world.specs.Lawful.{AreLawful, IsLawful, are_single, is_quiet, IsPromised}
 use Rattle.lpc_world.specs.Ready.{wait_in, waiter}
 use Rattle.lpc_world.specs.Shown.{Tables, birth_of, births_of, shown_wait}
-use Rattle.lpc_world.specs.declared.object.Object.{Object}
+use Rattle.lpc_homes.specs.declared.object.Object.{Object}
 use Rattle.lpc_world.proofs.Changes as changes
 use Rattle.lpc_world.proofs.Drawn as drawn
 use Rattle.lpc_world.proofs.Finished.{found-waiter}

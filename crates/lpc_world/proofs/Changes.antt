@@ -34,9 +34,9 @@ use Rattle.lpc_world.specs.Lawful.{IsLawful, is_quiet}
 use Rattle.lpc_world.proofs.Lawful.{lawful-keep}
 use Rattle.lpc_world.specs.Names.{name_of, stands}
 use Rattle.lpc_world.specs.Shown.{Tables, AreNamed, Births, all_pass, birth_of, births_of, message_refs, object_stands, part_refs, shown_by, shown_handle, shown_message, shown_part, shown_process, shown_thread, shown_used, shown_wait, wait_refs, with_message}
-use Rattle.lpc_world.specs.Parts.{handed, is_part, roomed}
-use Rattle.lpc_world.specs.declared.object.Object.{Object}
-use Rattle.lpc_world.specs.declared.parts.Part.{Part}
+use Rattle.lpc_homes.specs.Parts.{handed, is_part, roomed}
+use Rattle.lpc_homes.specs.declared.object.Object.{Object}
+use Rattle.lpc_homes.specs.declared.parts.Part.{Part}
 use Rattle.std.proofs.lemmas.List.{map-append}
 use Rattle.lpc_world.proofs.Follows.{queue_same}
 

@@ -36,10 +36,10 @@ use Rattle.lpc_world.specs.Connecting.{is_answered}
 use Rattle.lpc_world.specs.Kept.{is_pending, is_pending_in, rows_by}
 use Rattle.lpc_world.specs.Lawful.{are_single}
 use Rattle.lpc_world.specs.Names.{name_of, stands}
-use Rattle.lpc_world.specs.Parts.{is_part, is_the_port, names_it, rows_at}
+use Rattle.lpc_homes.specs.Parts.{is_part, is_the_port, names_it, rows_at}
 use Rattle.lpc_world.specs.Ready.{wait_in, waiter}
 use Rattle.lpc_world.specs.Shown.{AreNamed, Births, Tables, all_pass, binding_refs, birth_of, births_of, call_of_wait, name_by, node_refs, object_stands, port_birth, shown_handle, shown_kind, shown_wait, wait_refs}
-use Rattle.lpc_world.specs.declared.object.Object.{Object}
+use Rattle.lpc_homes.specs.declared.object.Object.{Object}
 use Rattle.lpc_world.proofs.Finds as finds
 use Rattle.lpc_world.proofs.Follows as follows
 use Rattle.lpc_world.proofs.Readings as readings

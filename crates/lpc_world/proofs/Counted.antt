@@ -1,6 +1,6 @@
 -- How many rows count for a port: the tables count what the definitions count.
-use Rattle.std.proofs.Common.{◌≡◌, ◌+◌, ◌<◌, ◌≤◌, ℕ, List, [], ◌∷◌, ◌++◌, Bool, true, drop, get_or, length, map, refl, ap, sym, ◌∙◌, arith}
-use Rattle.std.proofs.lemmas.List.{at_drop_more, length-map, map-append}
+use Rattle.std.proofs.Common.{◌≡◌, ◌≤◌, ℕ, List, [], ◌∷◌, ◌++◌, Bool, true, length, map, refl, ap, sym, ◌∙◌, arith}
+use Rattle.std.proofs.lemmas.List.{length-map, map-append}
 use Rattle.lpc_base.specs.declared.birth.Birth.{Birth}
 use Rattle.lpc_base.specs.Rows.{count, each, every}
 use Rattle.lpc_base.proofs.RowMaps.{count-map, every-map}
@@ -17,31 +17,14 @@ use Rattle.lpc_waits.specs.declared.WaitRow.{WaitRow}
 use Rattle.lpc_world.specs.Kept.{is_alive, rows_by}
 use Rattle.lpc_world.specs.Lawful.{AreLawful}
 use Rattle.lpc_world.specs.Names.{name_of, stands}
-use Rattle.lpc_world.specs.Parts.{all_rows, is_the_port, names_it}
+use Rattle.lpc_homes.specs.Parts.{all_rows, is_the_port, names_it}
 use Rattle.lpc_world.specs.Shown.{Tables, AreNamed, Births, all_pass, birth_of, births_of, message_refs, name_by, object_stands, part_refs, port_refs, ports_in, shown_handle, shown_message, shown_part, shown_port, shown_wait, wait_refs}
-use Rattle.lpc_world.specs.declared.object.Object.{Object}
-use Rattle.lpc_world.specs.declared.object.Object.TheVariants as object
-use Rattle.lpc_world.specs.declared.parts.Part.{Part}
+use Rattle.lpc_homes.specs.declared.object.Object.{Object}
+use Rattle.lpc_homes.specs.declared.object.Object.TheVariants as object
+use Rattle.lpc_homes.specs.declared.parts.Part.{Part}
 use Rattle.lpc_world.proofs.Follows as follows
 use Rattle.lpc_world.proofs.Lawful.{waits-fit}
 use Rattle.lpc_world.proofs.Unheld.{the_same}
-
-count-append : {X : Type 0} (p : X → Bool) (xs ys : List X) → count p (xs ++ ys) ≡ count p xs + count p ys
-count-append p [] ys = grind arith
-count-append p (x ∷ xs) ys = grind (arith, count-append p xs ys)
-
--- the handles of a part that were counted, and those of the parts behind it
-pub counted_part : (p : ℕ × Row Object → Bool) (parts : List Part) (i so_far : ℕ) (part : Part) → i < length parts → part ≡ get_or parts i part
-    → so_far + count p (all_rows (drop i parts)) ≡ count p (all_rows parts) → (so_far + count p part.handles.rows) + count p (all_rows (drop (i + 1) parts)) ≡ count p (all_rows parts)
-counted_part p parts i so_far part lt is sum =
-    let here : count p (all_rows (drop i parts)) ≡ count p (all_rows (part ∷ drop (i + 1) parts)) =
-    at_drop_more (λ (ps : List Part). count p (all_rows ps)) parts i part lt ∙ ap (λ q. count p (all_rows (q ∷ drop (i + 1) parts))) (sym is) in
-    omega (arith, sum, here, count-append p part.handles.rows (all_rows (drop (i + 1) parts)))
-
--- handles named by a test of objects are those that name the port
-pub count_same : {X : Type 0} (p q : X → Bool) → ((x : X) → p x ≡ q x) → (xs : List X) → count p xs ≡ count q xs
-count_same p q same [] = refl
-count_same p q same (x ∷ xs) = grind (arith, same x, count_same p q same xs)
 
 module _ (it : Tables) (is : AreNamed (births_of it.ports) it) (key : Key) (there : stands (births_of it.ports).ports key ≡ true) where
   abbrev n : Births

@@ -23,7 +23,7 @@ use Rattle.lpc_world.specs.Kept.{Roomy, owed_rows, room_by, rows_by}
 use Rattle.lpc_world.specs.Lawful.{AreLawful}
 use Rattle.lpc_world.specs.Names.{are_apart, differs, name_of, names_of, some_stands, stands}
 use Rattle.lpc_world.specs.Shown.{Tables, AreNamed, Births, all_pass, birth_in, birth_of, births_of, object_stands, port_refs, ports_in, shown_by, shown_port}
-use Rattle.lpc_world.specs.declared.object.Object.{Object}
+use Rattle.lpc_homes.specs.declared.object.Object.{Object}
 use Rattle.lpc_world.proofs.Follows as follows
 use Rattle.lpc_world.proofs.Joins as joins
 use Rattle.lpc_world.proofs.Joins.{at_row, key_at, map-twice, own_at}

@@ -14,10 +14,10 @@ use Rattle.lpc_model.specs.Tests.{is_connect_of}
 use Rattle.lpc_model.specs.World.{HandleRow, HandleTable, WaitRow, World}
 use Rattle.lpc_world.specs.Kept.{owed_rows, rows_by}
 use Rattle.lpc_world.specs.Lawful.{AreLawful, IsPromised, has_places, is_at_home, is_within}
-use Rattle.lpc_world.specs.Parts.{closed, closing, is_part, spare_at}
+use Rattle.lpc_homes.specs.Parts.{closed, closing, is_part, spare_at}
 use Rattle.lpc_world.specs.Shown.{Births, Tables, all_pass, birth_of, births_of, object_stands, part_refs, shown_handle, shown_part}
-use Rattle.lpc_world.specs.declared.object.Object.{Object}
-use Rattle.lpc_world.specs.declared.parts.Part.{Part}
+use Rattle.lpc_homes.specs.declared.object.Object.{Object}
+use Rattle.lpc_homes.specs.declared.parts.Part.{Part}
 use Rattle.lpc_world.proofs.Changes as changes
 use Rattle.lpc_world.proofs.Drawn as drawn
 use Rattle.lpc_world.proofs.Lawful as lawful

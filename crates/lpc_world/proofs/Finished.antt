@@ -14,11 +14,11 @@ use Rattle.lpc_waits.specs.Table as waits
 use Rattle.lpc_waits.specs.Table.{WaitTable}
 use Rattle.lpc_world.specs.Kept.{has_queued, is_pending_in, owed_rows, rows_by}
 use Rattle.lpc_world.specs.Lawful.{AreLawful, IsPromised, is_taken}
-use Rattle.lpc_world.specs.Parts.{handed, is_part, rows_at, spare_at}
+use Rattle.lpc_homes.specs.Parts.{handed, is_part, rows_at, spare_at}
 use Rattle.lpc_world.specs.Ready.{wait_in, waiter}
 use Rattle.lpc_world.specs.Shown.{AreNamed, Births, Tables, birth_of, births_of, object_stands, shown_handle}
-use Rattle.lpc_world.specs.declared.object.Object.{Object}
-use Rattle.lpc_world.specs.declared.parts.Part.{Part}
+use Rattle.lpc_homes.specs.declared.object.Object.{Object}
+use Rattle.lpc_homes.specs.declared.parts.Part.{Part}
 use Rattle.lpc_world.proofs.Changes as changes
 use Rattle.lpc_world.proofs.Drawn as drawn
 use Rattle.lpc_world.proofs.Lawful as lawful

@@ -19,8 +19,8 @@ use Rattle.lpc_world.specs.Kept.{HandleRoom, Roomy, owed_rows, rows_by}
 use Rattle.lpc_world.specs.Lawful.{AreDrawn, AreLawful, IsLawful, was_drawn, IsPromised}
 use Rattle.lpc_world.specs.Names.{KeepsOthers, name_of, stands}
 use Rattle.lpc_world.specs.Shown.{AllPass, AreNamed, Births, Tables, all_pass, binding_refs, birth_of, births_of, message_refs, object_stands, part_refs, port_refs, shown_binding, shown_by, shown_message, shown_part, shown_port, shown_wait, wait_refs}
-use Rattle.lpc_world.specs.declared.object.Object.{Object}
-use Rattle.lpc_world.specs.declared.object.Object.TheVariants as object
+use Rattle.lpc_homes.specs.declared.object.Object.{Object}
+use Rattle.lpc_homes.specs.declared.object.Object.TheVariants as object
 use Rattle.lpc_world.proofs.Changes as changes
 use Rattle.lpc_world.proofs.Follows as follows
 use Rattle.lpc_world.proofs.Follows.{is_own}

@@ -24,8 +24,8 @@ use Rattle.lpc_slots.proofs.Walk.{drop_row}
 use Rattle.lpc_slots.specs.declared.Key.{Key}
 use Rattle.lpc_world.specs.Names.{name_of, stands}
 use Rattle.lpc_world.specs.Kept.{Kept, Room, Roomy}
-use Rattle.lpc_world.specs.declared.object.Object.{Object}
-use Rattle.lpc_world.specs.declared.object.Object.TheVariants as object
+use Rattle.lpc_homes.specs.declared.object.Object.{Object}
+use Rattle.lpc_homes.specs.declared.object.Object.TheVariants as object
 use Rattle.lpc_world.specs.Shown.{AreNamed, Births, Tables, birth_of, births_of, name_by, shown_port}
 use Rattle.lpc_world.proofs.Follows.{is_own, own_birth, own_ports}
 use Rattle.lpc_world.specs.Held.{CanSweep, is_joined_to, is_named}

@@ -18,8 +18,8 @@ use Rattle.lpc_world.specs.Kept.{HandleRoom, Roomy, owed_rows, room_by, rows_by}
 use Rattle.lpc_world.specs.Lawful.{AreDrawn, AreLawful, IsLawful, was_drawn, IsPromised}
 use Rattle.lpc_world.specs.Names.{name_of, names_of, stands}
 use Rattle.lpc_world.specs.Shown.{Tables, AreNamed, Births, all_pass, birth_of, births_of, object_stands, port_refs, ports_in, shown_by, shown_port}
-use Rattle.lpc_world.specs.declared.object.Object.{Object}
-use Rattle.lpc_world.specs.declared.object.Object.TheVariants as object
+use Rattle.lpc_homes.specs.declared.object.Object.{Object}
+use Rattle.lpc_homes.specs.declared.object.Object.TheVariants as object
 use Rattle.lpc_world.proofs.Owed.{owed-map}
 use Rattle.lpc_world.proofs.Follows as follows
 use Rattle.lpc_world.proofs.Naming.{key_is}

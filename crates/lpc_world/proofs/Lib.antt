@@ -15,7 +15,6 @@ pub mod Promised
 pub mod Finished
 pub mod Naming
 pub mod NextEnding
-pub mod OnePart
 pub mod Readings
 pub mod Rooms
 pub mod Steps

@@ -20,9 +20,9 @@ use Rattle.lpc_slots.specs.declared.Key.{Key}
 use Rattle.lpc_waits.specs.declared.WaitRow.{WaitRow}
 use Rattle.lpc_world.specs.Names.{KeepsNames, Names, name_of, names_of, some_stands, stands}
 use Rattle.lpc_world.specs.Shown.{Tables, AreNamed, Births, all_pass, binding_refs, birth_in, birth_of, births_of, message_refs, name_by, node_refs, object_stands, part_refs, port_refs, ports_in, shown_binding, shown_by, shown_handle, shown_message, shown_node, shown_part, shown_port, shown_wait, wait_refs}
-use Rattle.lpc_world.specs.declared.object.Object.{Object}
-use Rattle.lpc_world.specs.declared.object.Object.TheVariants as object
-use Rattle.lpc_world.specs.declared.parts.Part.{Part}
+use Rattle.lpc_homes.specs.declared.object.Object.{Object}
+use Rattle.lpc_homes.specs.declared.object.Object.TheVariants as object
+use Rattle.lpc_homes.specs.declared.parts.Part.{Part}
 use Rattle.lpc_world.proofs.Naming.{apart-push, is_other, name-new, name-push, stands-new, stands-push}
 
 -- The shape of a kind of row: under two namings that agree on what it names, it is shown the same

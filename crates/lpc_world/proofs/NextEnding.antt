@@ -28,7 +28,7 @@ use Rattle.lpc_world.specs.Shown.{Births, all_pass, birth_of, births_of, object_
 use Rattle.lpc_world.specs.Shown.{Tables}
 use Rattle.lpc_world.specs.declared.ending.Ending.{Ending}
 use Rattle.lpc_world.specs.declared.ending.Ending.TheVariants.{AcceptedAcross, Offers, QueuedRequests, Receives, ReceivesAcross, Requests, RequestsAcross}
-use Rattle.lpc_world.specs.declared.object.Object.{Object}
+use Rattle.lpc_homes.specs.declared.object.Object.{Object}
 use Rattle.lpc_world.proofs.Connecting.{IsMet, met, received_off}
 use Rattle.lpc_world.proofs.Endings.{own-waiter}
 use Rattle.lpc_world.proofs.Finds as finds

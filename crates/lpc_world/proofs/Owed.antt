@@ -15,9 +15,9 @@ use Rattle.lpc_slots.specs.declared.Key.{Key}
 use Rattle.lpc_world.specs.Kept.{is_open_client, owed_rows}
 use Rattle.lpc_world.specs.Names.{are_apart, differs, name_of, names_of, stands}
 use Rattle.lpc_world.specs.Shown.{AreNamed, Tables, all_pass, birth_of, births_of, object_stands, part_refs, shown_handle, shown_part, shown_port}
-use Rattle.lpc_world.specs.declared.object.Object.{Object}
-use Rattle.lpc_world.specs.declared.object.Object.TheVariants as object
-use Rattle.lpc_world.specs.declared.parts.Part.{Part}
+use Rattle.lpc_homes.specs.declared.object.Object.{Object}
+use Rattle.lpc_homes.specs.declared.object.Object.TheVariants as object
+use Rattle.lpc_homes.specs.declared.parts.Part.{Part}
 use Rattle.lpc_world.proofs.Naming.{name_is, name_turned}
 use Rattle.lpc_world.proofs.OwnMessages.{count-left}
 

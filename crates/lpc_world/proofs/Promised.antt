@@ -12,10 +12,10 @@ use Rattle.lpc_model.specs.World.{HandleRow, HandleTable, WaitRow}
 use Rattle.lpc_model.specs.Basics.{no_handles, put_handle, received, with_handle}
 use Rattle.lpc_model.specs.Found.{is_accepted, is_connect, is_offered, is_table, rows_in, waits_as}
 use Rattle.lpc_model.specs.Tests.{is_connect_of}
-use Rattle.lpc_world.specs.Parts.{are_single_parts, handed, is_part, roomed, spare_at, spare_in}
+use Rattle.lpc_homes.specs.Parts.{are_single_parts, handed, is_part, roomed, spare_at, spare_in}
 use Rattle.lpc_world.specs.Lawful.{IsPromised, are_single, are_single_tables, has_places, is_at_home, is_taken, is_within}
-use Rattle.lpc_world.specs.declared.object.Object.{Object}
-use Rattle.lpc_world.specs.declared.parts.Part.{Part}
+use Rattle.lpc_homes.specs.declared.object.Object.{Object}
+use Rattle.lpc_homes.specs.declared.parts.Part.{Part}
 
 every-changed : {X : Type 0} (p q test : X → Bool) (f : X → X) → ((x : X) → p x ≡ true → q x ≡ true → test x ≡ true → p (f x) ≡ true) → (xs : List X) → every p xs ≡ true → every q xs ≡ true → every p (change test f xs) ≡ true
 every-changed p q test f more [] one two = refl

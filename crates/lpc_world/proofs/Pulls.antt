@@ -25,7 +25,7 @@ use Rattle.lpc_world.specs.Kept.{Roomy, StaysUnqueued, room_by, rows_by}
 use Rattle.lpc_world.specs.Lawful.{AreLawful, has_header}
 use Rattle.lpc_world.specs.Names.{name_of, stands}
 use Rattle.lpc_world.specs.Shown.{Tables, AreNamed, Births, all_pass, birth_of, births_of, message_refs, object_stands, pulled_row, shown_message}
-use Rattle.lpc_world.specs.declared.object.Object.{Object}
+use Rattle.lpc_homes.specs.declared.object.Object.{Object}
 use Rattle.lpc_world.proofs.Drawn as drawn
 use Rattle.lpc_world.proofs.Follows as follows
 use Rattle.lpc_world.proofs.Lawful as lawful

@@ -1,8 +1,7 @@
 -- What reading calls find in the tables is what is found in the rows that they stand for.
-use Rattle.std.proofs.Common.{◌≡◌, ◌+◌, ◌<◌, ℕ, get_or, drop, List, [], ◌∷◌, ◌++◌, Bool, true, false, cond, ◌&&◌, ◌==◌, map, length, Option, Some, None, option_map, refl, ap, sym, ◌∙◌, arith}
+use Rattle.std.proofs.Common.{◌≡◌, ℕ, List, [], ◌∷◌, ◌++◌, Bool, true, false, ◌&&◌, ◌==◌, map, Option, Some, None, option_map, refl, ap, sym, ◌∙◌, arith}
 use Rattle.std.specs.Prelude.{MatchOption, IfSome, is_none, is_some}
 use Rattle.std.proofs.lemmas.Bool.{eqb-true}
-use Rattle.std.proofs.lemmas.List.{at_drop_more}
 use Rattle.lpc_base.specs.declared.birth.Birth.{Birth}
 use Rattle.lpc_base.specs.Rows.{count, every, first, has}
 use Rattle.lpc_base.proofs.RowMaps.{count-map, every-first, every-map, first-map, has-map}
@@ -31,12 +30,12 @@ use Rattle.lpc_waits.specs.declared.WaitKind.TheVariants as wait
 use Rattle.lpc_waits.specs.declared.WaitRow.{WaitRow}
 use Rattle.lpc_world.specs.Names.{name_of, names_of, some_stands, stands}
 use Rattle.lpc_world.specs.Kept.{Kept, is_asking, kept_by, rows_by}
-use Rattle.lpc_world.specs.Parts.{has_name_of, is_part, is_the_port, names_it, rows_at, rows_in}
+use Rattle.lpc_homes.specs.Parts.{has_name_of, is_part, is_the_port, names_it, rows_at, rows_in}
 use Rattle.lpc_world.specs.Ready.{HasRow, IsStanding, IsWait, port_in, port_of, wait_in, waiter}
 use Rattle.lpc_world.specs.Shown.{Tables, AreNamed, Births, all_pass, birth_of, births_of, message_refs, name_by, object_stands, part_refs, port_refs, ports_in, shown_handle, shown_kind, shown_message, shown_part, shown_port, shown_wait, wait_refs}
-use Rattle.lpc_world.specs.declared.object.Object.{Object}
-use Rattle.lpc_world.specs.declared.object.Object.TheVariants as object
-use Rattle.lpc_world.specs.declared.parts.Part.{Part}
+use Rattle.lpc_homes.specs.declared.object.Object.{Object}
+use Rattle.lpc_homes.specs.declared.object.Object.TheVariants as object
+use Rattle.lpc_homes.specs.declared.parts.Part.{Part}
 use Rattle.lpc_world.proofs.Follows as follows
 use Rattle.lpc_world.proofs.Naming.{name_is}
 
@@ -89,17 +88,6 @@ pair_stands n None None all = (refl, refl)
 pair_stands n None (Some b) all = (refl, grind arith)
 pair_stands n (Some a) None all = (grind arith, refl)
 pair_stands n (Some a) (Some b) all = (grind arith, grind arith)
-
--- a part that names the port, behind parts that don't
-pub named_at : (key : Key) (parts : List Part) (i : ℕ) (part : Part) → i < length parts → part ≡ get_or parts i part → has (has_name_of key) (drop i parts) ≡ has (has_name_of key) parts → has_name_of key part ≡ true → true ≡ has (has_name_of key) parts
-named_at key parts i part lt is so_far passes =
-    let p : Part → Bool = has_name_of key in
-    let head : has p (part ∷ drop (i + 1) parts) ≡ true = ap (λ b. is_some (cond b (Some part) (first p (drop (i + 1) parts)))) passes in
-    sym (sym so_far ∙ at_drop_more (λ (xs : List Part). has p xs) parts i part lt ∙ ap (λ q. has p (q ∷ drop (i + 1) parts)) (sym is) ∙ head)
-
-pub named_has : (E : Object → Object → Bool) (key : Key) → ((o : Object) → E o (object.Port key) ≡ is_the_port key o) → (rows : List (ℕ × Row Object)) → has (handles.is_named E (object.Port key)) rows ≡ has (names_it key) rows
-named_has E key same [] = refl
-named_has E key same (row ∷ rows) = grind (arith, same row.1.object, named_has E key same rows)
 
 request_is : (kind : WaitKind) (bytes : List ℕ) (accepted : Option Accepted) → (elim (shown_kind kind bytes accepted) [ model.Request m ↦ true | _ ↦ false ]) ≡ waits.is_request kind
 request_is wait.Request bytes accepted = refl

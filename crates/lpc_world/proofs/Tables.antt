@@ -25,14 +25,14 @@ use Rattle.lpc_waits.specs.declared.WaitKind.{WaitKind}
 use Rattle.lpc_waits.specs.declared.WaitKind.TheVariants as wait
 use Rattle.lpc_waits.specs.declared.WaitRow.{WaitRow}
 use Rattle.lpc_world.specs.Shown.{Tables, birth_of, births_of, object_stands, shown_handle, shown_kind, shown_part, shown_wait}
-use Rattle.lpc_world.specs.Parts.{are_single_parts, handed, is_part, roomed, rows_at, rows_in, spare_at, spare_in}
+use Rattle.lpc_homes.specs.Parts.{are_single_parts, handed, is_part, roomed, rows_at, rows_in, spare_at, spare_in}
 use Rattle.lpc_world.specs.Kept as kept
 use Rattle.lpc_world.specs.Kept.{HandleRoom, is_room, room_of_part, rows_by}
 use Rattle.lpc_world.specs.Lawful.{AreLawful, are_single_tables, is_taken, is_within}
-use Rattle.lpc_world.specs.declared.object.Object.{Object}
-use Rattle.lpc_world.specs.declared.parts.Part.{Part}
+use Rattle.lpc_homes.specs.declared.object.Object.{Object}
+use Rattle.lpc_homes.specs.declared.parts.Part.{Part}
 use Rattle.lpc_world.proofs.Changes as changes
-use Rattle.lpc_world.proofs.OnePart.{first_other}
+use Rattle.lpc_homes.proofs.OnePart.{first_other}
 use Rattle.lpc_world.proofs.Owed as owed
 use Rattle.lpc_world.proofs.Promised.{IsWelcome}
 use Rattle.lpc_world.proofs.Steps as steps

@@ -12,7 +12,7 @@ use Rattle.lpc_world.specs.Kept.{Roomy, room_by, rows_by}
 use Rattle.lpc_world.specs.Lawful.{AreLawful}
 use Rattle.lpc_world.specs.Names.{name_of, stands}
 use Rattle.lpc_world.specs.Shown.{AreNamed, Births, Tables, all_pass, binding_refs, birth_of, births_of, object_stands, shown_binding}
-use Rattle.lpc_world.specs.declared.object.Object.{Object}
+use Rattle.lpc_homes.specs.declared.object.Object.{Object}
 use Rattle.lpc_world.proofs.Bound as bound
 use Rattle.lpc_world.proofs.Unheld.{node_same}
 

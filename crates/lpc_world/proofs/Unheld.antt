@@ -20,9 +20,9 @@ use Rattle.lpc_slots.specs.declared.Key.{Key}
 use Rattle.lpc_waits.specs.Table as waits
 use Rattle.lpc_waits.specs.declared.WaitRow.{WaitRow}
 use Rattle.lpc_world.specs.Names.{name_of, stands}
-use Rattle.lpc_world.specs.Parts.{has_name_of, is_the_port, names_it}
+use Rattle.lpc_homes.specs.Parts.{has_name_of, is_the_port, names_it}
 use Rattle.lpc_world.specs.Shown.{Tables, AllPass, AreNamed, Births, all_pass, binding_refs, birth_in, birth_of, births_of, message_refs, node_refs, object_stands, part_refs, port_refs, ports_in, shown_binding, shown_by, shown_message, shown_port, shown_wait, wait_refs}
-use Rattle.lpc_world.specs.declared.object.Object.{Object}
+use Rattle.lpc_homes.specs.declared.object.Object.{Object}
 use Rattle.lpc_world.proofs.Follows as follows
 use Rattle.lpc_world.proofs.Naming.{key_turned}
 use Rattle.lpc_world.proofs.Readings as readings

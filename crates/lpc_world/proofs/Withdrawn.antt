@@ -11,7 +11,7 @@ use Rattle.lpc_ports.specs.Table as ports
 use Rattle.lpc_world.specs.Kept.{Roomy, StaysUnqueued, has_queued, room_by, rows_by}
 use Rattle.lpc_world.specs.Lawful.{AreLawful, has_header}
 use Rattle.lpc_world.specs.Shown.{Births, Tables, all_pass, birth_of, births_of, message_refs, object_stands, shown_message}
-use Rattle.lpc_world.specs.declared.object.Object.{Object}
+use Rattle.lpc_homes.specs.declared.object.Object.{Object}
 use Rattle.lpc_world.proofs.Changes as changes
 use Rattle.lpc_world.proofs.Drawn as drawn
 use Rattle.lpc_world.proofs.Lawful as lawful

@@ -40,7 +40,7 @@ use Rattle.lpc_world.specs.Ready.{caller, port_of, waiter}
 use Rattle.lpc_world.specs.Shown.{birth_of, name_by, port_with, pulled_row, row_with, waiting_row, with_message}
 use Rattle.lpc_world.specs.Untold.{TellsOnce, closing_places}
 use Rattle.lpc_world.specs.declared.completable.Completable.{Completable}
-use Rattle.lpc_world.specs.declared.object.Object.{Object}
+use Rattle.lpc_homes.specs.declared.object.Object.{Object}
 
 -- What is found
 -- a call answers what a test answers, seen through a word

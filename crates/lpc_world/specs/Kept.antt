@@ -7,7 +7,7 @@ use Rattle.lpc_model.specs.Found.{is_client_port, is_connect, is_open, is_own_of
 use Rattle.lpc_model.specs.Message.{asks}
 use Rattle.lpc_model.specs.Tests.{is_connect_of}
 use Rattle.lpc_world.specs.Shown.{Births, Tables, births_of, shown_by}
-use Rattle.lpc_world.specs.declared.parts.Part.{Part}
+use Rattle.lpc_homes.specs.declared.parts.Part.{Part}
 
 -- a message whose sender waits for an answer, and a request or connect that isn't received
 abbrev pub is_asking : MessageRow → Bool

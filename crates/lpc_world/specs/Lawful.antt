@@ -11,7 +11,7 @@ use Rattle.lpc_ports.specs.Table.{PortTable}
 use Rattle.lpc_ports.specs.declared.messages.QueuedMessage.{QueuedMessage}
 use Rattle.lpc_slots.specs.declared.Key.{Key}
 use Rattle.lpc_waits.specs.Table.{WaitTable}
-use Rattle.lpc_world.specs.declared.parts.Part.{Part}
+use Rattle.lpc_homes.specs.declared.parts.Part.{Part}
 use Rattle.lpc_world.specs.Kept.{CALL_BUDGET, owed_messages, owed_rows, owed_waits, pends_as, rows_by}
 use Rattle.lpc_world.specs.Shown.{AreNamed, Tables, births_of}
 use Rattle.lpc_world.specs.Untold.{is_client_of}

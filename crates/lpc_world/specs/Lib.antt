@@ -1,6 +1,5 @@
 pub mod Names
 pub mod Shown
-pub mod Parts
 pub mod Untold
 pub mod Kept
 pub mod Lawful

@@ -12,8 +12,8 @@ use Rattle.lpc_world.specs.Names.{name_of, stands}
 use Rattle.lpc_world.specs.Shown.{call_of_wait}
 use Rattle.lpc_world.specs.Kept.{Kept, is_alive}
 use Rattle.lpc_slots.specs.declared.Key.{Key}
-use Rattle.lpc_world.specs.declared.object.Object.{Object}
-use Rattle.lpc_world.specs.declared.object.Object.TheVariants as object
+use Rattle.lpc_homes.specs.declared.object.Object.{Object}
+use Rattle.lpc_homes.specs.declared.object.Object.TheVariants as object
 use Rattle.lpc_world.specs.declared.condition.Condition.{Condition}
 use Rattle.lpc_world.specs.declared.condition.Condition.TheVariants.{Absent, Ready, Waits}
 

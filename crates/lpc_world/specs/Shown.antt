@@ -34,9 +34,9 @@ use Rattle.lpc_waits.specs.declared.WaitKind.{WaitKind}
 use Rattle.lpc_waits.specs.declared.WaitKind.TheVariants as wait
 use Rattle.lpc_waits.specs.declared.WaitRow.{WaitRow}
 use Rattle.lpc_world.specs.Names.{Names, name_of, stands, are_apart, names_of}
-use Rattle.lpc_world.specs.declared.object.Object.{Object}
-use Rattle.lpc_world.specs.declared.object.Object.TheVariants as object
-use Rattle.lpc_world.specs.declared.parts.Part.{Part}
+use Rattle.lpc_homes.specs.declared.object.Object.{Object}
+use Rattle.lpc_homes.specs.declared.object.Object.TheVariants as object
+use Rattle.lpc_homes.specs.declared.parts.Part.{Part}
 
 -- Objects
 -- the births of keys, for each kind of object that keys name

@@ -5,13 +5,11 @@ mod closed;
 mod completable;
 mod condition;
 mod ending;
-mod object;
-mod parts;
 mod world;
 
 pub use closed::Closed;
 pub use completable::Completable;
 pub use condition::Condition;
 pub use ending::Ending;
-pub use object::Object;
+pub use lpc_homes::Object;
 pub use world::{World, wants_answer};

@@ -35,10 +35,10 @@ mod names;
 mod reading;
 mod steps;
 
-use crate::Object;
-use crate::parts::{self, Part};
 use lpc_base::{Birth, OutOfMemory, PortKind};
 use lpc_handles::{Table, TableFault};
+use lpc_homes::Object;
+use lpc_homes::parts::{self, Part};
 use lpc_names::Names;
 use lpc_ports::{Creator, Message, Ports};
 use lpc_procs::Procs;

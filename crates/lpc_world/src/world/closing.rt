@@ -11,11 +11,12 @@ ghost use Rattle.lpc_world.specs.Ready.{HasRow, is_ready};
 ghost use Rattle.lpc_world.specs.Shown.{object_stands};
 ghost use Rattle.lpc_world.specs.Clauses.{Answers, Finds, after, birth_at, handle_for, name_at, port_at, row_at, row_shown, some_birth};
 
+use crate::Closed;
 use crate::world::World;
-use crate::{Closed, Object, parts};
 use lpc_base::status::INVALID_HANDLE;
 use lpc_base::{PortKind, Status};
 use lpc_handles::Row;
+use lpc_homes::{Object, parts};
 use lpc_slots::Key;
 
 impl World {

@@ -8,7 +8,7 @@ ghost use Rattle.lpc_world.specs.Shown.{object_stands};
 ghost use Rattle.lpc_world.specs.Clauses.{finished};
 
 use crate::world::World;
-use crate::{Object, parts};
+use lpc_homes::{Object, parts};
 
 impl World {
     /// Gives the process of a thread that waits in a connect the least free handle, which was promised to it, and ends

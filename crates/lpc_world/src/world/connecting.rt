@@ -13,13 +13,14 @@ ghost use Rattle.lpc_world.specs.Names.{are_apart, stands};
 ghost use Rattle.lpc_world.specs.Ready.{IsWait, caller, is_ready, waiter};
 ghost use Rattle.lpc_world.specs.Clauses.{Answers, FindsConnect, FindsWait, IsOwnWait, birth_at, completion_at, port_at};
 
+use crate::Completable;
 use crate::world::World;
-use crate::{Completable, Object, parts};
 use arrayvec::ArrayVec;
 use lpc_base::status::{
     INVALID_PARAMETER, INVALID_PORT_HANDLE, OBJECT_TYPE_MISMATCH, PORT_DISCONNECTED,
 };
 use lpc_base::{PortKind, Status, held};
+use lpc_homes::parts;
 use lpc_message::ClientId;
 use lpc_names::{Found, status_of};
 use lpc_slots::Key;
@@ -110,7 +111,7 @@ impl World {
         requires port { stands self.now.births.ports port ≡ true }
         ensures { result ≡ connect.reaches self.now.rows pid (birth_at self.now port) }
     {
-        parts::handles_of(&self.parts, pid).names(Object::Port(port))
+        parts::reaches_port(&self.parts, pid, port)
     }
 
     /// The data of the answer that accepted the connect of a thread.

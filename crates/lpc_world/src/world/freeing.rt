@@ -13,7 +13,7 @@ ghost use Rattle.lpc_world.specs.Shown.{object_stands};
 ghost use Rattle.lpc_world.specs.Clauses.{after, birth_at, birth_in_place, has_port, is_unheld_at, name_at};
 
 use crate::world::World;
-use crate::{Object, parts};
+use lpc_homes::{Object, parts};
 use lpc_slots::Key;
 
 impl World {

@@ -6,8 +6,8 @@ ghost use Rattle.lpc_world.specs.Shown.{births_of, shown_binding, shown_handle, 
 ghost use Rattle.lpc_world.specs.Clauses.{shown_in};
 
 use crate::world::World;
-use crate::{Object, parts};
 use lpc_handles::Table;
+use lpc_homes::{Object, parts};
 use lpc_names::Names;
 use lpc_ports::Ports;
 use lpc_procs::Procs;

@@ -16,8 +16,8 @@ ghost use Rattle.lpc_world.specs.Kept.{OwnPend, has_queued, is_alive, is_pending
 ghost use Rattle.lpc_world.specs.Ready.{HasRow, IsWait, caller, condition_of, is_ready, room_needed, waiter};
 ghost use Rattle.lpc_world.specs.Clauses.{Answers, Finds, FindsWait, HasSmallLoad, IsOwnWait, IsUnderName, birth_at, fits_at, has_process, has_table, is_quiet_for, object_for, oldest, pair_at, port_at, port_for, queue_at, receive_at, route_at, row_at, row_shown, some_birth, takes_at, thread_row};
 
+use crate::Condition;
 use crate::world::World;
-use crate::{Condition, Object, parts};
 use lpc_base::limits::{DATAGRAM_LIMIT, HANDLE_LIMIT};
 use lpc_base::status::{
     ACCESS_DENIED, INVALID_CID, INVALID_HANDLE, OBJECT_TYPE_MISMATCH, PORT_DISCONNECTED,
@@ -25,6 +25,7 @@ use lpc_base::status::{
 };
 use lpc_base::{PortKind, Status};
 use lpc_handles::Row;
+use lpc_homes::{Object, parts};
 use lpc_message::ClientId;
 use lpc_model::{CallName, Fields, Message, ObjectKind, message_field, receipt};
 use lpc_ports::Port;
@@ -195,7 +196,7 @@ impl World {
         ensures name { IfOk result (λ key. IsUnderName self.now key) }
     {
         let object = self.object_at(tid, handle, ObjectKind::Port, 1)?;
-        Ok(port_key(object))
+        Ok(object.port())
     }
 
     /// The process may have one more handle: with those that its waiting connects are to get it has fewer than 256.
@@ -494,15 +495,6 @@ impl World {
         ensures thread { IsOwnWait self.now.rows tid }
     {
         call_of_wait(self.wait(tid).kind)
-    }
-}
-
-/// The key of the port that the object is.
-fn port_key(object: Object) -> Key
-    ensures { object ≡ Object.Port result }
-{
-    match object {
-        Object::Port(key) => key,
     }
 }
 

@@ -19,13 +19,13 @@ ghost use Rattle.lpc_world.specs.Shown.{object_stands, row_with, with_message};
 ghost use Rattle.lpc_base.specs.declared.limits.TheConstants.{MESSAGE_LIMIT};
 ghost use Rattle.lpc_world.specs.Clauses.{Answers, HasHandleRoom, HasSmallLoad, IsAwaited, TellsOnceOn, after, and_message, birth_at, connects, has_message, has_table, has_taker, is_quiet_for, new_wait, passed, pends, sent, waking, with_handle};
 
-use crate::Object;
 use crate::world::World;
 use lpc_base::Status;
 use lpc_base::limits::MESSAGE_LIMIT;
 use lpc_base::status::{
     INVALID_PARAMETER, PORT_CONNECTION_REFUSED, PORT_MESSAGE_TOO_LONG, SUCCESS,
 };
+use lpc_homes::Object;
 use lpc_message::{MessageRef, kind};
 use lpc_model::{CallName, Entries, Entry, Fields, Message, info_field};
 use lpc_slots::Key;

@@ -1,7 +1,7 @@
 use Rattle.std.proofs.Common.{◌-◌, ap, sym, ◌∙◌, vec_len, vec_capacity}
 use Rattle.lpc_handles.specs.Handles as handles
 use Rattle.lpc_world.specs.Shown.{tables_of}
-use Rattle.lpc_world.specs.Parts.{rows_at}
+use Rattle.lpc_homes.specs.Parts.{rows_at}
 use Rattle.lpc_world.proofs.Readings as readings
 use Rattle.lpc_world.proofs.world.World.handle.Goals as goal
 

@@ -1,6 +1,6 @@
 use Rattle.std.proofs.Common.{length, ap, sym, ◌∙◌}
 use Rattle.std.proofs.lemmas.List.{length-map}
-use Rattle.lpc_world.specs.Parts.{rows_at}
+use Rattle.lpc_homes.specs.Parts.{rows_at}
 use Rattle.lpc_world.specs.Shown.{birth_of, births_of, shown_handle, tables_of}
 use Rattle.lpc_world.proofs.Readings as readings
 use Rattle.lpc_world.proofs.world.World.handle_count.Goals as goal

@@ -1,5 +1,5 @@
 use Rattle.std.proofs.Common.{ap, sym, ◌∙◌, map}
-use Rattle.lpc_world.specs.Parts.{rows_at}
+use Rattle.lpc_homes.specs.Parts.{rows_at}
 use Rattle.lpc_world.specs.Shown.{birth_of, births_of, shown_handle, tables_of}
 use Rattle.lpc_world.proofs.Readings as readings
 use Rattle.lpc_world.proofs.world.World.handles.Goals as goal

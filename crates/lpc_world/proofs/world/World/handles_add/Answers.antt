@@ -2,7 +2,7 @@ use Rattle.std.proofs.Common.{ℕ, ◌≡◌, ◌≤◌, ◌<◌, ◌↔◌, Res
 use Rattle.std.specs.Prelude.{IsErr}
 use Rattle.lpc_model.specs.Found.{handles_of}
 use Rattle.lpc_world.specs.Kept.{rows_by}
-use Rattle.lpc_world.specs.Parts.{rows_at}
+use Rattle.lpc_homes.specs.Parts.{rows_at}
 use Rattle.lpc_world.specs.Shown.{tables_of}
 use Rattle.lpc_world.proofs.Tables as tables
 use Rattle.lpc_world.proofs.world.World.handles_add.Goals as goal

@@ -1,5 +1,5 @@
 use Rattle.std.proofs.Common.{sym, ◌∙◌, arith}
-use Rattle.lpc_world.specs.Parts.{closing}
+use Rattle.lpc_homes.specs.Parts.{closing}
 use Rattle.lpc_world.specs.Shown.{tables_of}
 use Rattle.lpc_world.proofs.Dropped as dropped
 use Rattle.lpc_world.proofs.Tables as tables

@@ -1,6 +1,6 @@
 use Rattle.std.proofs.Common.{◌≡◌, ap, ◌∙◌, arith}
 use Rattle.lpc_base.specs.Rows.{has}
-use Rattle.lpc_world.specs.Parts.{has_name_of}
+use Rattle.lpc_homes.specs.Parts.{has_name_of}
 use Rattle.lpc_world.specs.Shown.{tables_of}
 use Rattle.lpc_world.proofs.Unheld as unheld
 use Rattle.lpc_world.proofs.world.World.is_named.Goals as goal

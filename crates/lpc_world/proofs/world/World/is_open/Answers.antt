@@ -1,7 +1,7 @@
 use Rattle.std.proofs.Common.{ap, sym, ◌∙◌}
 use Rattle.lpc_base.specs.Rows.{has}
 use Rattle.lpc_world.specs.Shown.{tables_of}
-use Rattle.lpc_world.specs.Parts.{has_name_of}
+use Rattle.lpc_homes.specs.Parts.{has_name_of}
 use Rattle.lpc_world.proofs.Readings as readings
 use Rattle.lpc_world.proofs.world.World.is_open.Goals as goal
 

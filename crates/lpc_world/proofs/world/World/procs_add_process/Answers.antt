@@ -4,7 +4,7 @@ use Rattle.lpc_world.specs.Kept.{room_of_part}
 use Rattle.lpc_world.proofs.Rooms as rooms
 use Rattle.lpc_world.proofs.Steps as steps
 use Rattle.lpc_base.proofs.RowMaps.{push-map}
-use Rattle.lpc_world.specs.declared.parts.Part.{Part}
+use Rattle.lpc_homes.specs.declared.parts.Part.{Part}
 use Rattle.lpc_world.proofs.world.World.procs_add_process.Goals as goal
 
 pub invariant_of-self : goal.invariant_of-self

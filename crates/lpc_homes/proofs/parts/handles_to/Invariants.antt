@@ -1,8 +1,8 @@
 use Rattle.std.proofs.Common.{◌≡◌, ◌+◌, ◌*◌, ◌≤◌, drop}
 use Rattle.lpc_base.specs.Rows.{count}
 use Rattle.lpc_base.specs.declared.limits.TheConstants.{HANDLE_LIMIT}
-use Rattle.lpc_world.specs.Parts.{all_rows, names_it}
-use Rattle.lpc_world.proofs.parts.handles_to.Given as goal
+use Rattle.lpc_homes.specs.Parts.{all_rows, names_it}
+use Rattle.lpc_homes.proofs.parts.handles_to.Given as goal
 
 abbrev pub invariant-loop-part : goal.invariant-loop-part
 invariant-loop-part l = record {

@@ -1,5 +1,5 @@
-use Rattle.lpc_world.proofs.OnePart.{handed_part, part_is}
-use Rattle.lpc_world.proofs.parts.add_handle.Goals as goal
+use Rattle.lpc_homes.proofs.OnePart.{handed_part, part_is}
+use Rattle.lpc_homes.proofs.parts.add_handle.Goals as goal
 
 pub add-requires : goal.add-requires
 add-requires c =

@@ -1,5 +1,5 @@
-use Rattle.lpc_world.proofs.OnePart.{part_is, roomed_part}
-use Rattle.lpc_world.proofs.parts.reserve_handles.Goals as goal
+use Rattle.lpc_homes.proofs.OnePart.{part_is, roomed_part}
+use Rattle.lpc_homes.proofs.parts.reserve_handles.Goals as goal
 
 pub returns-clause-parts : goal.returns-clause-parts
 returns-clause-parts c =

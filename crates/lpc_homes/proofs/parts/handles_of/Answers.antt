@@ -1,8 +1,8 @@
 use Rattle.std.proofs.Common.{sym, ap, ◌∙◌}
-use Rattle.lpc_world.specs.Parts.{rows_in}
-use Rattle.lpc_world.specs.declared.parts.Part.{Part}
-use Rattle.lpc_world.proofs.OnePart.{part_is}
-use Rattle.lpc_world.proofs.parts.handles_of.Goals as goal
+use Rattle.lpc_homes.specs.Parts.{rows_in}
+use Rattle.lpc_homes.specs.declared.parts.Part.{Part}
+use Rattle.lpc_homes.proofs.OnePart.{part_is}
+use Rattle.lpc_homes.proofs.parts.handles_of.Goals as goal
 
 pub returns : goal.returns
 returns c =

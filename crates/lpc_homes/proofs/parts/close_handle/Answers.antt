@@ -1,5 +1,5 @@
-use Rattle.lpc_world.proofs.OnePart.{closed_part, part_is}
-use Rattle.lpc_world.proofs.parts.close_handle.Goals as goal
+use Rattle.lpc_homes.proofs.OnePart.{closed_part, part_is}
+use Rattle.lpc_homes.proofs.parts.close_handle.Goals as goal
 
 pub returns-clause-parts : goal.returns-clause-parts
 returns-clause-parts c =

@@ -10,9 +10,9 @@ use Rattle.lpc_handles.specs.Handles as handles
 use Rattle.lpc_handles.specs.Handles.{Handles, with_row}
 use Rattle.lpc_handles.specs.declared.table.Row.{Row}
 use Rattle.lpc_handles.specs.declared.table.TableFault.{TableFault}
-use Rattle.lpc_world.specs.Parts.{are_single_parts, closed, handed, is_part, roomed, spare_at, spare_in}
-use Rattle.lpc_world.specs.declared.object.Object.{Object}
-use Rattle.lpc_world.specs.declared.parts.Part.{Part}
+use Rattle.lpc_homes.specs.Parts.{are_single_parts, closed, handed, is_part, roomed, spare_at, spare_in}
+use Rattle.lpc_homes.specs.declared.object.Object.{Object}
+use Rattle.lpc_homes.specs.declared.parts.Part.{Part}
 
 abbrev process : Part → ℕ
 process part = part.process

@@ -1,10 +1,10 @@
-// The handles of each process.
+// The parts of all processes, of which contracts see the list.
 ghost use Rattle.std.specs.Prelude.{◌≡◌, ◌+◌, ◌*◌, ◌-◌, ◌<◌, ◌≤◌, ◌↔◌, true, Some, None, IsErr, IfOk, OnOk, OnErr, length, vec_len, vec_capacity};
 ghost use Rattle.std.specs.List.{position};
 ghost use Rattle.lpc_base.specs.Places.{least_handle};
 ghost use Rattle.lpc_base.specs.Rows.{count, has};
 ghost use Rattle.lpc_handles.specs.Handles.{values};
-ghost use Rattle.lpc_world.specs.Parts.{HasFew, all_rows, are_single_parts, closing, handing, has_name_of, is_part, names_it, rooming, rows_at, spare_at};
+ghost use Rattle.lpc_homes.specs.Parts.{HasFew, all_rows, are_single_parts, closing, handing, has_name_of, is_part, names_it, rooming, rows_at, spare_at};
 ghost use Rattle.lpc_base.specs.declared.limits.TheConstants.{HANDLE_LIMIT, LINES_LIMIT};
 
 use crate::Object;
@@ -12,12 +12,12 @@ use lpc_base::OutOfMemory;
 use lpc_handles::{Table, TableFault};
 use lpc_slots::Key;
 
-/// The handles of one process.
+/// The part of the world that is a process's own: its handles.
 #[derive(Drop)]
 pub struct Part {
     /// The number of the process.
     pub process: u32,
-    /// Its handles.
+    /// Its handles, with what each names and grants.
     pub handles: Table<Object>,
 }
 
@@ -107,6 +107,14 @@ pub fn handles_to(parts: &[Part], port: Key) -> usize
         named += part.handles.count_of(Object::Port(port));
     }
     named
+}
+
+/// A handle of the process names the port.
+pub fn reaches_port(parts: &[Part], pid: u32, port: Key) -> bool
+    requires { has (is_part pid) parts.now ≡ true }
+    ensures { result ≡ has (names_it port) (rows_at parts.now pid) }
+{
+    handles_of(parts, pid).names(Object::Port(port))
 }
 
 /// A handle of some process names the port.

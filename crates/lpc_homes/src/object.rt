@@ -1,6 +1,6 @@
 // What a handle names.
 ghost use Rattle.std.specs.Prelude.{◌≡◌};
-ghost use Rattle.lpc_world.specs.declared.object.Object.TheVariants as object;
+ghost use Rattle.lpc_homes.specs.declared.object.Object.TheVariants as object;
 
 use lpc_slots::Key;
 
