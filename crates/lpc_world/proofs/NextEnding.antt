@@ -1,5 +1,5 @@
 -- The next of the waits that end when a port is closed is found in the tables.
-use Rattle.std.proofs.Common.{◌≡◌, ◌∙◌, ℕ, List, [], ◌∷◌, Bool, true, false, cond, not, ◌&&◌, ◌||◌, Option, Some, None, MatchOption, IfSome, option_and_then, option_map, refl, ap, sym, subst, arith}
+use Rattle.std.proofs.Common.{◌≡◌, ◌∙◌, ℕ, List, [], ◌∷◌, Bool, true, false, cond, not, ◌&&◌, ◌||◌, Option, Some, None, MatchOption, IfSome, length, map, option_and_then, option_map, refl, ap, sym, subst, arith}
 use Rattle.std.specs.Prelude.{is_none, is_some}
 use Rattle.lpc_base.specs.declared.birth.Birth.{Birth}
 use Rattle.lpc_base.specs.Rows.{first, has, passes}
@@ -155,12 +155,10 @@ seen wait.Listen bytes accepted = record { request = refl; receive = refl; liste
 seen wait.Connect bytes None = record { request = refl; receive = refl; listen = refl; offered = refl; accepted = refl }
 seen wait.Connect bytes (Some a) = record { request = refl; receive = refl; listen = refl; offered = refl; accepted = refl }
 
--- the wait that is found, with what its end needs
+-- the wait that is found
 pub record IsNext (w : World) (e : Ending) (b : Birth) (r : Option ℕ) : Type 0 where
   pub found : MatchOption r (first (ends e b w) w.waits ≡ None) (λ tid. first (ends e b w) w.waits ≡ Some (waiter w tid))
   pub waits : IfSome r (λ tid. has (waits_as tid) w.waits ≡ true)
-  pub left : IfSome r (λ tid. withdraws e ≡ false → has_queued w tid ≡ false)
-  pub connect : IfSome r (λ tid. is_of_connects e ≡ true → is_connect (waiter w tid) ≡ true)
 
 module _ (it : Tables) (calls made : ℕ) (is : AreLawful it calls made) where
   abbrev n : Births
@@ -177,22 +175,36 @@ module _ (it : Tables) (calls made : ℕ) (is : AreLawful it calls made) where
       subst (λ m. is_pending_in rows m ≡ false) (own-waiter rows tid there)
       (finds.idle_first (waits_as tid) rows.waits (waiter rows tid) is.lawful.single (found-waiter rows tid there) idle)
 
-  next_by : (e : Ending) (b : Birth) (r : Option ℕ) → IsMet rows (ends e b rows) r → IsNext rows e b r
-  next_by e b None met = record { found = met.found; waits = tt; left = tt; connect = tt }
-  next_by e b (Some tid) met = record {
-    found = met.found;
-    waits = met.waits;
-    left = λ stays. none-queued rows tid is.lawful.own
-        (waiter-idle tid met.waits (idle-by e b rows (waiter rows tid) stays (every-first is_taken (waits_as tid) rows.waits (waiter rows tid) is.promised.taken (found-waiter rows tid met.waits)) met.passes));
-    connect = λ of. connect-by e b rows (waiter rows tid) of met.passes;
-  }
+  -- where no thread waits, none is found
+  pub none_waits : (e : Ending) (b : Birth) → length it.waits.rows ≡ 0 → first (ends e b rows) rows.waits ≡ None
+  none_waits e b none = by it.waits.rows none
+    where
+      by : (xs : List table.WaitRow) → length xs ≡ 0 → first (ends e b rows) (map (shown_wait f) xs) ≡ None
+      by [] none = refl
+      by (x ∷ xs) none = absurd (omega arith)
+
+  -- what its end needs
+  passes-by : (e : Ending) (b : Birth) (tid : ℕ) → IsNext rows e b (Some tid) → ends e b rows (waiter rows tid) ≡ true
+  passes-by e b tid next = first-passes (ends e b rows) rows.waits (waiter rows tid) next.found
+
+  pub left-by : (e : Ending) (b : Birth) (r : Option ℕ) → IsNext rows e b r → IfSome r (λ tid. withdraws e ≡ false → has_queued rows tid ≡ false)
+  left-by e b None next = tt
+  left-by e b (Some tid) next = λ stays. none-queued rows tid is.lawful.own
+      (waiter-idle tid next.waits (idle-by e b rows (waiter rows tid) stays (every-first is_taken (waits_as tid) rows.waits (waiter rows tid) is.promised.taken (found-waiter rows tid next.waits)) (passes-by e b tid next)))
+
+  pub connect_of : (e : Ending) (b : Birth) (r : Option ℕ) → IsNext rows e b r → IfSome r (λ tid. is_of_connects e ≡ true → is_connect (waiter rows tid) ≡ true)
+  connect_of e b None next = tt
+  connect_of e b (Some tid) next = λ of. connect-by e b rows (waiter rows tid) of (passes-by e b tid next)
 
   -- where the tests of the tables' rows are those of the waits
   module _ (e : Ending) (b : Birth) (s : table.WaitRow → Bool) (same : (row : table.WaitRow) → all_pass wait_refs (object_stands n) row ≡ true → ends e b rows (shown_wait f row) ≡ s row) where
+    next_of : {r : Option ℕ} → IsMet rows (ends e b rows) r → IsNext rows e b r
+    next_of m = record { found = m.found; waits = m.waits }
+
     next_met : (r : Option ℕ) → r ≡ first_thread s it.waits → IsNext rows e b r
     next_met r at =
         let firsts = first-map (shown_wait f) (all_pass wait_refs (object_stands n)) s (ends e b rows) same it.waits.rows is.named.refs.in_waits in
-        next_by e b r (met rows (ends e b rows) r is.lawful.single
+        next_of (met rows (ends e b rows) r is.lawful.single
         (at ∙ sym (ap (λ o. option_map (λ (x : WaitRow). x.thread) o) firsts ∙ mapped-twice (shown_wait f) (λ (x : WaitRow). x.thread) (first s it.waits.rows))))
 
   -- the ports of a row, and the kind of its wait

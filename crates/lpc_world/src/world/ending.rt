@@ -30,6 +30,19 @@ impl World {
         ensures connect { IfSome result (λ tid. IsOfItsKind self.now.rows ending tid) }
         ensures single { are_single self.now.rows.waits ≡ true }
     {
+        if self.waits.count() == 0 {
+            return None;
+        }
+        self.first_to_end(port, ending)
+    }
+
+    /// Of the waits that end for this reason when the port is closed, the thread whose wait has waited longest.
+    fn first_to_end(&self, port: Key, ending: Ending) -> Option<u32>
+        requires port { stands self.now.births.ports port ≡ true }
+        requires pairs { HasMutualPairs self.now.rows }
+        ensures found { FindsWait self.now (ends_at self.now port ending) result }
+        ensures waits { IfSome result (λ tid. has (waits_as tid) self.now.rows.waits ≡ true) }
+    {
         match ending {
             Ending::Receives => self.waits.receiver_at(port),
             Ending::Requests => self.waits.request_on(port),
