@@ -5,7 +5,7 @@ ghost use Rattle.lpc_homes.specs.declared.object.Object.TheVariants as object;
 use lpc_slots::Key;
 
 /// What a handle names: a port, by its key.
-#[derive(Clone, Copy, Debug, PartialEq, Eq)]
+#[derive(Clone, Copy, PartialEq, Eq)]
 pub enum Object {
     Port(Key),
 }

@@ -2,7 +2,7 @@
 use lpc_slots::Key;
 
 /// A connection that can be completed.
-#[derive(Clone, Copy, Debug, PartialEq, Eq)]
+#[derive(Clone, Copy)]
 pub struct Completable {
     /// The client port.
     pub client: Key,

@@ -1,7 +1,7 @@
 // Whether a thread can make a call.
 
 /// Whether a thread can make a call.
-#[derive(Clone, Copy, Debug, PartialEq, Eq)]
+#[derive(Clone, Copy, PartialEq, Eq)]
 pub enum Condition {
     /// No live thread has the number.
     Absent,
