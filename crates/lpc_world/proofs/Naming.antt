@@ -1,5 +1,5 @@
 -- Keys and their births.
-use Rattle.std.proofs.Common.{◌≡◌, [], ◌∷◌, ◌++◌, Bool, true, false, cond, not, ◌&&◌, ◌==◌, refl, ap, sym, ◌∙◌, arith}
+use Rattle.std.proofs.Common.{◌≡◌, [], ◌∷◌, ◌++◌, Bool, true, false, cond, not, refl, ap, sym, ◌∙◌, arith}
 use Rattle.std.proofs.lemmas.Bool.Decides.{nat_tests}
 use Rattle.lpc_base.specs.declared.birth.Birth.{Birth}
 use Rattle.lpc_slots.specs.declared.Key.{Key}
@@ -7,32 +7,29 @@ use Rattle.lpc_base.specs.Rows.{every, without}
 use Rattle.lpc_base.proofs.RowMaps.{every-both}
 use Rattle.lpc_base.proofs.RowWords.{every-push, every-without}
 use Rattle.lpc_model.specs.Found.{same_birth}
+use Rattle.lpc_model.proofs.Births.{birth-same, birth-self}
+use Rattle.lpc_slots.proofs.Keys as keys
 use Rattle.lpc_slots.specs.Table.{at_key, is_key}
 use Rattle.lpc_world.specs.Names.{Names, name_of, stands, differs, are_apart}
 
 -- tests of keys and of names
-both : (a b : Bool) → a && b ≡ true → (a ≡ true) × (b ≡ true)
-both true true e = (refl, refl)
-both true false e = (refl, e)
-both false b e = absurd (cc)
-
 pub key_is : (a b : Key) → is_key a b ≡ true → a ≡ b
-key_is a b e = grind (arith, nat_tests, both (a.index == b.index) (a.generation == b.generation) e)
+key_is = keys.key_is
 
 pub key_itself : (a : Key) → is_key a a ≡ true
-key_itself a = grind (arith, nat_tests)
+key_itself a = keys.key_itself a a refl
 
 pub name_itself : (a : Birth) → same_birth a a ≡ true
-name_itself a = grind (arith, nat_tests)
+name_itself = birth-self
 
 pub name_is : (a b : Birth) → same_birth a b ≡ true → a ≡ b
-name_is a b e = grind (arith, nat_tests, both (a.maker == b.maker) ((a.ordinal == b.ordinal) && (a.process == b.process)) e, both (a.ordinal == b.ordinal) (a.process == b.process))
+name_is = birth-same
 
 pub name_turned : (a b : Birth) → same_birth a b ≡ same_birth b a
 name_turned a b = grind (arith, nat_tests)
 
 pub key_turned : (a b : Key) → is_key a b ≡ is_key b a
-key_turned a b = grind (arith, nat_tests)
+key_turned = keys.key_turned
 
 pub differs_turned : (n m : Key × Birth) → differs n m ≡ differs m n
 differs_turned n m = grind (arith, key_turned n.0 m.0, name_turned n.1 m.1)
