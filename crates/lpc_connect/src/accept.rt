@@ -12,7 +12,7 @@ ghost use Rattle.lpc_model.specs.Tests as tests;
 ghost use Rattle.lpc_world.specs.Called.{called, service};
 ghost use Rattle.lpc_world.specs.Does.{Took};
 ghost use Rattle.lpc_world.specs.Kept.{HasWholeBudget, Same, has_queued, is_pending_in};
-ghost use Rattle.lpc_world.specs.Ready.{caller, is_ready, waiter};
+ghost use Rattle.lpc_world.specs.Ready.{HasRoom, caller, is_ready, waiter};
 ghost use Rattle.lpc_world.specs.Shown.{shown_thread};
 
 use crate::create::PORT_ACCESS;
@@ -177,7 +177,7 @@ pub fn nt_accept_connect_port(
     out: &mut Entries,
 ) -> Result<Outcome, OutOfMemory>
     requires ready { is_ready world.old.rows by ≡ true }
-    requires spare { 2 ≤ out.old.spare }
+    requires room { HasRoom world.old out.old }
     requires calls { world.old.calls < LINES_LIMIT }
     ensures takes { let call = accept_connect_port context message.now accept in
         OnOk result (Took (called world.old.rows by call) world.old world.new out.old out.new) }

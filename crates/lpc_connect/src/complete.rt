@@ -11,7 +11,7 @@ ghost use Rattle.lpc_world.specs.Called.{called};
 ghost use Rattle.lpc_world.specs.Does.{Took};
 ghost use Rattle.lpc_world.specs.Kept.{CanMake, has_queued};
 ghost use Rattle.lpc_world.specs.Names.{stands};
-ghost use Rattle.lpc_world.specs.Ready.{caller, is_ready, waiter};
+ghost use Rattle.lpc_world.specs.Ready.{HasRoom, caller, is_ready, waiter};
 ghost use Rattle.lpc_world.specs.Shown.{shown_thread};
 
 use crate::create::PORT_ACCESS;
@@ -106,7 +106,7 @@ pub fn nt_complete_connect_port(
     out: &mut Entries,
 ) -> Outcome
     requires ready { is_ready world.old.rows by ≡ true }
-    requires spare { 2 ≤ out.old.spare }
+    requires room { HasRoom world.old out.old }
     requires calls { world.old.calls < LINES_LIMIT }
     ensures takes { let steps = called world.old.rows by (complete_connect_port handle) in
         Took steps world.old world.new out.old out.new }

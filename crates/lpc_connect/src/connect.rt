@@ -17,7 +17,7 @@ ghost use Rattle.lpc_world.specs.Does.{Took};
 ghost use Rattle.lpc_world.specs.Kept.{CanMake, HasWholeBudget, Same};
 ghost use Rattle.lpc_world.specs.Lawful.{drew};
 ghost use Rattle.lpc_world.specs.Names.{name_of, stands};
-ghost use Rattle.lpc_world.specs.Ready.{caller, is_ready};
+ghost use Rattle.lpc_world.specs.Ready.{HasRoom, caller, is_ready};
 ghost use Rattle.lpc_world.specs.Shown.{shown_thread};
 
 use lpc_base::limits::{HEADER_SIZE, MESSAGE_LIMIT};
@@ -202,7 +202,7 @@ pub fn nt_connect_port(
     out: &mut Entries,
 ) -> Result<Outcome, OutOfMemory>
     requires ready { is_ready world.old.rows by ≡ true }
-    requires spare { 2 ≤ out.old.spare }
+    requires room { HasRoom world.old out.old }
     requires calls { world.old.calls < LINES_LIMIT }
     ensures takes { let steps = called world.old.rows by (connect_port name.now info.now) in
         OnOk result (Took steps world.old world.new out.old out.new) }

@@ -17,7 +17,7 @@ ghost use Rattle.lpc_world.specs.Does.{Took};
 ghost use Rattle.lpc_world.specs.Kept.{CanMake, HasWholeBudget, Same};
 ghost use Rattle.lpc_world.specs.Lawful.{drew};
 ghost use Rattle.lpc_world.specs.Names.{name_of, stands};
-ghost use Rattle.lpc_world.specs.Ready.{caller, is_ready};
+ghost use Rattle.lpc_world.specs.Ready.{HasRoom, caller, is_ready};
 ghost use Rattle.lpc_world.specs.Shown.{shown_thread};
 
 use lpc_base::status::SUCCESS;
@@ -138,7 +138,7 @@ pub fn nt_create_port(
     out: &mut Entries,
 ) -> Result<Outcome, OutOfMemory>
     requires ready { is_ready world.old.rows by ≡ true }
-    requires spare { 2 ≤ out.old.spare }
+    requires room { HasRoom world.old out.old }
     requires calls { world.old.calls < LINES_LIMIT }
     ensures takes { let call = create_port (option_copied name.entry) in
         OnOk result (Took (called world.old.rows by call) world.old world.new out.old out.new) }

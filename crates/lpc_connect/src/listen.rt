@@ -10,7 +10,7 @@ ghost use Rattle.lpc_world.specs.Called.{called, service};
 ghost use Rattle.lpc_world.specs.Does.{Does, Took};
 ghost use Rattle.lpc_world.specs.Kept.{HasWholeBudget};
 ghost use Rattle.lpc_world.specs.Names.{stands};
-ghost use Rattle.lpc_world.specs.Ready.{caller, is_ready};
+ghost use Rattle.lpc_world.specs.Ready.{HasRoom, caller, is_ready};
 ghost use Rattle.lpc_world.specs.Shown.{shown_thread};
 
 use lpc_base::Status;
@@ -111,7 +111,7 @@ fn listen(world: &mut World, tid: u32, handle: u32, out: &mut Entries) -> Result
 /// port. It takes no memory.
 pub fn nt_listen_port(world: &mut World, by: u32, handle: u32, out: &mut Entries) -> Outcome
     requires ready { is_ready world.old.rows by ≡ true }
-    requires spare { 2 ≤ out.old.spare }
+    requires room { HasRoom world.old out.old }
     requires calls { world.old.calls < LINES_LIMIT }
     ensures takes { let steps = called world.old.rows by (listen_port handle) in
         Took steps world.old world.new out.old out.new }

@@ -15,7 +15,7 @@ ghost use Rattle.lpc_world.specs.Closing.{HasMutualPairs};
 ghost use Rattle.lpc_world.specs.Does.{Took};
 ghost use Rattle.lpc_world.specs.Kept.{CanMake};
 ghost use Rattle.lpc_world.specs.Names.{stands};
-ghost use Rattle.lpc_world.specs.Ready.{is_ready};
+ghost use Rattle.lpc_world.specs.Ready.{HasRoom, is_ready};
 ghost use Rattle.lpc_world.specs.Shown.{object_stands};
 
 use byteorder::{ByteOrder, LittleEndian};
@@ -188,7 +188,7 @@ fn close_handle(world: &mut World, pid: u32, value: u32, row: Row<Object>, out: 
 #[tactic(auto, unfolding(lpc_model::specs::Close::nt_close))]
 pub fn nt_close(world: &mut World, by: u32, handle: u32, out: &mut Entries) -> Outcome
     requires ready { is_ready world.old.rows by ≡ true }
-    requires spare { length world.old.rows.waits + 2 ≤ out.old.spare }
+    requires room { HasRoom world.old out.old }
     requires calls { world.old.calls < LINES_LIMIT }
     requires can { CanClose world.old.rows }
     ensures takes { let steps = called world.old.rows by (close handle) in

@@ -8,7 +8,7 @@ ghost use Rattle.lpc_world.specs.Clauses.{HasSmallLoad};
 ghost use Rattle.lpc_world.specs.Called.{called, service};
 ghost use Rattle.lpc_world.specs.Does.{Took};
 ghost use Rattle.lpc_world.specs.Kept.{Same};
-ghost use Rattle.lpc_world.specs.Ready.{caller, is_ready};
+ghost use Rattle.lpc_world.specs.Ready.{HasRoom, caller, is_ready};
 ghost use Rattle.lpc_world.specs.Shown.{object_stands};
 
 use lpc_base::status::{ACCESS_DENIED, SUCCESS};
@@ -63,7 +63,7 @@ pub fn nt_duplicate_object(
     out: &mut Entries,
 ) -> Result<Outcome, OutOfMemory>
     requires ready { is_ready world.old.rows by ≡ true }
-    requires spare { 1 ≤ out.old.spare }
+    requires room { HasRoom world.old out.old }
     requires calls { world.old.calls < LINES_LIMIT }
     ensures takes { let call = duplicate_object handle access in
         OnOk result (Took (called world.old.rows by call) world.old world.new out.old out.new) }

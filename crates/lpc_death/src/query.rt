@@ -6,7 +6,7 @@ ghost use Rattle.lpc_model.specs.Basics.{outcome_of};
 ghost use Rattle.lpc_model.specs.Lines.{query_object};
 ghost use Rattle.lpc_world.specs.Called.{called, service};
 ghost use Rattle.lpc_world.specs.Does.{Took, has_no_read};
-ghost use Rattle.lpc_world.specs.Ready.{caller, is_ready};
+ghost use Rattle.lpc_world.specs.Ready.{HasRoom, caller, is_ready};
 
 use lpc_base::Status;
 use lpc_base::status::SUCCESS;
@@ -38,7 +38,7 @@ fn counts(world: &World, tid: u32, handle: u32) -> Result<Fields, Status>
 /// Refusal: INVALID_HANDLE where no handle of the caller's process has the value. It takes no memory.
 pub fn nt_query_object(world: &mut World, by: u32, handle: u32, out: &mut Entries) -> Outcome
     requires ready { is_ready world.old.rows by ≡ true }
-    requires spare { 1 ≤ out.old.spare }
+    requires room { HasRoom world.old out.old }
     requires calls { world.old.calls < LINES_LIMIT }
     ensures takes { let steps = called world.old.rows by (query_object handle) in
         Took steps world.old world.new out.old out.new }

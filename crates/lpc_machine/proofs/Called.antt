@@ -1,6 +1,6 @@
 -- What a thread's condition says of its call.
-use Rattle.std.proofs.Common.{◌≡◌, ℕ, ◌≤◌, ◌&&◌, List, [], ◌∷◌, Bool, true, false, Option, Some, None, is_some, is_none, refl, ap, ◌∙◌, arith}
-use Rattle.lpc_base.specs.Rows.{count, first}
+use Rattle.std.proofs.Common.{◌≡◌, ℕ, ◌&&◌, List, [], ◌∷◌, Bool, true, false, Option, Some, None, is_some, is_none, refl, ap, ◌∙◌, arith}
+use Rattle.lpc_base.specs.Rows.{first}
 use Rattle.lpc_base.proofs.RowWords.{first-passes}
 use Rattle.lpc_model.specs.declared.entry.Entry.TheVariants.{Busy, NoThread}
 use Rattle.lpc_model.specs.Basics.{Tells}
@@ -8,18 +8,12 @@ use Rattle.lpc_model.specs.Found.{is_live_thread, live_thread, wait_of}
 use Rattle.lpc_model.specs.Lines.{ScriptCall}
 use Rattle.lpc_model.specs.Machine.{call_steps, ready_steps, thread_steps}
 use Rattle.lpc_model.specs.World.{ThreadRow, WaitRow, World}
-use Rattle.lpc_world.specs.Kept.{is_alive}
 use Rattle.lpc_world.specs.Ready.{caller, condition_by, condition_of, is_ready, thread_in}
 use Rattle.lpc_world.specs.declared.condition.Condition.TheVariants.{Absent, Ready, Waits}
 
 -- a live thread of a number has it
 live-number : (tid : ℕ) (ts : List ThreadRow) (t : ThreadRow) → first (is_live_thread tid) ts ≡ Some t → t.number ≡ tid
 live-number tid ts t is = grind (arith, first-passes (is_live_thread tid) ts t is)
-
--- where a live thread is found, one is counted
-live-counted : (tid : ℕ) (ts : List ThreadRow) → is_some (first (is_live_thread tid) ts) ≡ true → 1 ≤ count is_alive ts
-live-counted tid [] is = grind (arith, is)
-live-counted tid (x ∷ xs) is = grind (arith, live-counted tid xs)
 
 absent-by : (w : World) (tid : ℕ) (call : ScriptCall) (t : Option ThreadRow) (b : Bool) → condition_by t b ≡ Absent → thread_steps tid call t w ≡ Tells (NoThread tid) ∷ []
 absent-by w tid call None b is = refl
@@ -57,11 +51,3 @@ can-by (Some t) None is = refl
 -- and can make one
 pub can-call : (w : World) (tid : ℕ) → condition_of w tid ≡ Ready → is_ready w tid ≡ true
 can-call w tid is = can-by (live_thread w tid) (wait_of w tid) is
-
-live-by : (t : Option ThreadRow) (x : Option WaitRow) → condition_by t (is_some x) ≡ Ready → is_some t ≡ true
-live-by None x is = grind (arith, is)
-live-by (Some t) x is = refl
-
--- a live thread is counted
-pub one-lives : (w : World) (tid : ℕ) → condition_of w tid ≡ Ready → 1 ≤ count is_alive w.threads
-one-lives w tid is = live-counted tid w.threads (live-by (live_thread w tid) (wait_of w tid) is)

@@ -1,3 +1,2 @@
 pub mod Called
-pub mod Waiting
 pub mod Sound

@@ -21,7 +21,7 @@ ghost use Rattle.lpc_machine.specs.Memory.{GoesOn, call_takes_memory, lacks_call
 ghost use Rattle.lpc_world.specs.Called.{called, service};
 ghost use Rattle.lpc_world.specs.Does.{Took};
 ghost use Rattle.lpc_world.specs.Kept.{Same};
-ghost use Rattle.lpc_world.specs.Ready.{is_ready, room_needed};
+ghost use Rattle.lpc_world.specs.Ready.{HasRoom, is_ready, room_needed};
 
 use lpc_base::{OutOfMemory, Status};
 use lpc_connect::{
@@ -74,7 +74,7 @@ fn serve(
     out: &mut Entries,
 ) -> Result<Outcome, OutOfMemory>
     requires ready { is_ready world.old.rows by ≡ true }
-    requires spare { length world.old.rows.waits + 2 ≤ out.old.spare }
+    requires room { HasRoom world.old out.old }
     requires calls { world.old.calls < LINES_LIMIT }
     requires can { CanClose world.old.rows }
     ensures takes { let steps = called world.old.rows by (call_of call.now) in
@@ -118,7 +118,7 @@ fn serve(
 
 /// A call of a thread, which makes it where it lives and doesn't wait.
 fn run(world: &mut World, tid: u32, call: &Call<'_>, out: &mut Entries) -> Result<(), OutOfMemory>
-    requires spare { room_needed world.old.rows ≤ out.old.spare }
+    requires room { HasRoom world.old out.old }
     requires calls { world.old.calls < LINES_LIMIT }
     requires settled { IsSettled world.old }
     ensures takes { let t = live_thread world.old.rows tid in
@@ -148,7 +148,7 @@ fn run(world: &mut World, tid: u32, call: &Call<'_>, out: &mut Entries) -> Resul
 #[tactic(auto, unfolding(lpc_model::specs::Machine::bare_steps))]
 fn take(world: &mut World, line: &Line<'_>, out: &mut Entries) -> Result<(), OutOfMemory>
     requires empty { out.old.list ≡ [] }
-    requires spare { room_needed world.old.rows ≤ out.old.spare }
+    requires room { HasRoom world.old out.old }
     requires few { world.old.calls < LINES_LIMIT }
     requires ids { has_ids (line_of line.now) ≡ true }
     requires settled { IsSettled world.old }
@@ -234,7 +234,7 @@ impl Machine {
     /// A directive, and a call of a thread that lives and doesn't wait, counts as a call, refused or not.
     pub fn step(&mut self, line: &Line<'_>, out: &mut Entries) -> Result<(), OutOfMemory>
         requires empty { out.old.list ≡ [] }
-        requires spare { room_needed self.old.rows ≤ out.old.spare }
+        requires room { HasRoom self.old out.old }
         requires few { self.old.calls < LINES_LIMIT }
         requires ids { has_ids (line_of line.now) ≡ true }
         ensures rows { OnOk result (let s = step self.old.rows (line_of line.now) in

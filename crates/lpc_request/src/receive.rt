@@ -9,7 +9,7 @@ ghost use Rattle.lpc_request.specs.Replied.{RepliesFirst, TakesOrWaits, may_be_t
 ghost use Rattle.lpc_request.specs.Rows.{name_at, row_at};
 ghost use Rattle.lpc_world.specs.Kept.{HasWholeBudget, Roomy, StaysReady};
 ghost use Rattle.lpc_world.specs.Names.{stands};
-ghost use Rattle.lpc_world.specs.Ready.{is_ready};
+ghost use Rattle.lpc_world.specs.Ready.{HasRoom, is_ready};
 
 use crate::reply::{answered_test, as_reply};
 use lpc_base::Status;
@@ -170,7 +170,7 @@ pub fn nt_reply_wait_receive_port(
     out: &mut Entries,
 ) -> Outcome
     requires ready { is_ready world.old.rows by ≡ true }
-    requires spare { 2 ≤ out.old.spare }
+    requires room { HasRoom world.old out.old }
     requires calls { world.old.calls < LINES_LIMIT }
     ensures takes { Receives by handle reply.entry world.old world.new out.old out.new }
     ensures outcome { Ends (steps.receive world.old.rows by handle reply.entry) result }

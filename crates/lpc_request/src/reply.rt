@@ -10,7 +10,7 @@ ghost use Rattle.lpc_request.specs.Replied.{Returns, answered_by};
 ghost use Rattle.lpc_request.specs.Rows.{Finds, name_at, row_at};
 ghost use Rattle.lpc_world.specs.Kept.{has_queued};
 ghost use Rattle.lpc_world.specs.Names.{stands};
-ghost use Rattle.lpc_world.specs.Ready.{is_ready, waiter};
+ghost use Rattle.lpc_world.specs.Ready.{HasRoom, is_ready, waiter};
 
 use lpc_base::Status;
 use lpc_base::status::{REPLY_MESSAGE_MISMATCH, SUCCESS};
@@ -98,7 +98,7 @@ pub fn nt_reply_port(
     out: &mut Entries,
 ) -> Outcome
     requires ready { is_ready world.old.rows by ≡ true }
-    requires spare { 2 ≤ out.old.spare }
+    requires room { HasRoom world.old out.old }
     requires calls { world.old.calls < LINES_LIMIT }
     ensures takes { Replies by handle message.now world.old world.new out.old out.new }
     ensures outcome { Ends (steps.reply world.old.rows by handle message.now) result }

@@ -9,7 +9,7 @@ ghost use Rattle.lpc_request.specs.Rows.{Finds, name_at, row_at};
 ghost use Rattle.lpc_request.specs.Sent.{Requests, Sends, may_post, may_send, shown};
 ghost use Rattle.lpc_world.specs.Kept.{HasWholeBudget, Same};
 ghost use Rattle.lpc_world.specs.Names.{stands};
-ghost use Rattle.lpc_world.specs.Ready.{is_ready};
+ghost use Rattle.lpc_world.specs.Ready.{HasRoom, is_ready};
 ghost use Rattle.lpc_world.specs.Shown.{shown_thread};
 
 use lpc_base::status::{PORT_DISCONNECTED, SUCCESS};
@@ -131,7 +131,7 @@ pub fn nt_request_port(
     out: &mut Entries,
 ) -> Result<Outcome, OutOfMemory>
     requires ready { is_ready world.old.rows by ≡ true }
-    requires spare { 2 ≤ out.old.spare }
+    requires room { HasRoom world.old out.old }
     requires calls { world.old.calls < LINES_LIMIT }
     ensures takes { OnOk result (Posts by handle message.now world.old world.new out.old out.new) }
     ensures outcome { IfOk result (Ends (post world.old.rows by handle message.now)) }
@@ -235,7 +235,7 @@ pub fn nt_request_wait_reply_port(
     out: &mut Entries,
 ) -> Outcome
     requires ready { is_ready world.old.rows by ≡ true }
-    requires spare { 2 ≤ out.old.spare }
+    requires room { HasRoom world.old out.old }
     requires calls { world.old.calls < LINES_LIMIT }
     ensures takes { Asks by handle message.now world.old world.new out.old out.new }
     ensures outcome { Ends (ask world.old.rows by handle message.now) result }

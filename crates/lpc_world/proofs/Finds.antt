@@ -1,6 +1,6 @@
 -- What is found in the rows: a caller and its process, and the wait of a thread.
-use Rattle.std.proofs.Common.{◌≡◌, ◌≤◌, ℕ, List, [], ◌∷◌, Bool, true, false, cond, not, ◌&&◌, ◌||◌, ◌==◌, Option, Some, None, MatchOption, IfSome, option_map, refl, ap, sym, subst, ◌∙◌, arith}
-use Rattle.std.specs.Prelude.{is_some}
+use Rattle.std.proofs.Common.{◌≡◌, ℕ, List, [], ◌∷◌, Bool, true, false, cond, not, ◌&&◌, ◌||◌, ◌==◌, Option, Some, None, MatchOption, IfSome, option_map, refl, ap, sym, subst, ◌∙◌, arith}
+use Rattle.std.specs.Prelude.{◌<◌, is_none, is_some, length}
 use Rattle.std.proofs.lemmas.Bool.{eqb-true}
 use Rattle.std.proofs.lemmas.Bool.Decides.{nat_tests}
 use Rattle.lpc_base.specs.declared.birth.Birth.{Birth}
@@ -12,8 +12,9 @@ use Rattle.lpc_model.specs.World.{Accepted, Connect, Listen, Receive, Request, T
 use Rattle.lpc_model.specs.Found.{fits_as, is_live_thread, is_process, is_table, is_thread, lives_in, live_thread, same_birth, wait_of, waits_as}
 use Rattle.lpc_model.specs.Entering.{takes_from}
 use Rattle.lpc_world.specs.Kept.{is_alive, is_pending, is_pending_in, pends_as}
-use Rattle.lpc_world.specs.Lawful.{are_single, is_housed, is_quiet}
+use Rattle.lpc_world.specs.Lawful.{are_single, is_housed, is_of, is_quiet}
 use Rattle.lpc_world.specs.Ready.{caller, is_ready, thread_in, wait_in, waiter}
+use Rattle.lpc_world.proofs.Lawful.{place-left}
 
 -- Callers
 -- a thread that passes is in a process that stands and has a table of handles
@@ -26,17 +27,12 @@ housed_first w p t all found =
     both true b e = (refl, e)
     both false b e = absurd (cc)
 
-counted : (p : ThreadRow → Bool) → ((x : ThreadRow) → p x ≡ true → is_alive x ≡ true) → (xs : List ThreadRow) (t : ThreadRow) → first p xs ≡ Some t → 1 ≤ count is_alive xs
-counted p more [] t found = absurd (cc)
-counted p more (x ∷ xs) t found = grind (arith, more x, counted p more xs t)
-
 -- a live thread that is found has the number, stands, and is the caller
 pub record IsCaller (w : World) (tid : ℕ) (t : ThreadRow) : Type 0 where
   pub caller_is : t ≡ caller w tid
   pub number : t.number ≡ tid
   pub there : has (is_thread tid) w.threads ≡ true
   pub table : has (is_table t.process) w.handles ≡ true
-  pub alive : 1 ≤ count is_alive w.threads
 
 lives : (a b : Bool) → a && b ≡ true → (a ≡ true) × (b ≡ true)
 lives true b e = (refl, e)
@@ -49,7 +45,6 @@ is_caller w tid t all found = record {
   number = eqb-true t.number tid (lives (t.number == tid) t.live (first-passes (is_live_thread tid) w.threads t found)).0;
   there = has-first (is_live_thread tid) (is_thread tid) (λ x h. (lives (x.number == tid) x.live h).0) w.threads t found;
   table = (housed_first w (is_live_thread tid) t all found).1;
-  alive = counted (is_live_thread tid) (λ x h. (lives (x.number == tid) x.live h).1) w.threads t found;
 }
 
 -- a thread that can make a call is found
@@ -61,6 +56,12 @@ not_ready w tid ready none =
 -- and lives
 pub lives_ready : (w : World) (tid : ℕ) → is_ready w tid ≡ true → has (is_live_thread tid) w.threads ≡ true
 lives_ready w tid ready = (lives _ _ ready).0
+
+-- and more threads live than wait
+pub few_wait : (w : World) (tid : ℕ) → are_single w.waits ≡ true → every (is_of w.threads) w.waits ≡ true → is_ready w tid ≡ true → length w.waits < count is_alive w.threads
+few_wait w tid single all ready =
+    let idle : is_none (wait_of w tid) ≡ true = (lives (is_some (live_thread w tid)) (is_none (wait_of w tid)) ready).1 in
+    place-left w.threads w.waits tid single all (lives_ready w tid ready) (grind (arith, idle))
 
 -- the process of a live thread stands, and has a table of handles
 pub live_process : (w : World) (pid : ℕ) → every (is_housed w) w.threads ≡ true → has (lives_in pid) w.threads ≡ true → (has (is_process pid) w.processes ≡ true) × (has (is_table pid) w.handles ≡ true)

@@ -1,9 +1,10 @@
--- The caller of a call, and whether it can make one.
-use Rattle.std.specs.Prelude.{◌≡◌, ℕ, ◌+◌, ◌*◌, ◌&&◌, Bool, true, false, Option, Some, None, is_none, is_some}
+-- The caller of a call, whether it can make one, and the room for entries that it asks for.
+use Rattle.std.specs.Prelude.{◌≡◌, ℕ, ◌+◌, ◌*◌, ◌≤◌, ◌&&◌, Bool, true, false, Option, Some, None, is_none, is_some}
 use Rattle.lpc_base.specs.Rows.{count}
 use Rattle.lpc_base.specs.declared.birth.Birth.{Birth}
 use Rattle.lpc_base.specs.declared.port_kind.PortKind.TheVariants.{Unnamed}
 use Rattle.lpc_model.specs.declared.entry.CallName.TheVariants.{NtReplyWaitReceivePort}
+use Rattle.lpc_model.specs.Listed.{Listed}
 use Rattle.lpc_model.specs.World.{World, PortRow, Receive, ThreadRow, WaitRow}
 use Rattle.lpc_model.specs.Found.{is_listen, is_request, live_thread, port_row, wait_of}
 use Rattle.lpc_waits.specs.Table as table
@@ -90,3 +91,8 @@ pub record IsWait (w : Kept) (tid : ℕ) (x : Wait) : Type 0 where
 -- how many entries one step makes at most: three for each live thread, and one
 abbrev pub room_needed : World → ℕ
 room_needed w = 3 * count is_alive w.threads + 1
+
+-- There is room for them. A thread that can make a call lives and doesn't wait, so in each world where one can that is room
+-- for the call's own entry, for one more, and for one more of each wait.
+abbrev pub HasRoom : Kept → Listed → Type 0
+HasRoom w out = room_needed w.rows ≤ out.spare

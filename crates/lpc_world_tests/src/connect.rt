@@ -1,6 +1,6 @@
 // A port is made with ample memory. The entry is written out by hand.
 ghost use Rattle.std.specs.Prelude.{◌≡◌, ◌≤◌, ◌<◌, ◌+◌, OnOk, true};
-ghost use Rattle.lpc_world.specs.Ready.{is_ready};
+ghost use Rattle.lpc_world.specs.Ready.{HasRoom, is_ready};
 
 use crate::common::{boots, can_call, one};
 use lpc_base::status::SUCCESS;
@@ -15,12 +15,12 @@ use std::test::Fail;
 fn begins(rt: &impl Abort, world: &mut World, out: &mut Entries) -> Result<(), Fail>
     requires few { world.old.calls < 1000 }
     ensures ready { OnOk result (is_ready world.new.rows 24 ≡ true) }
-    ensures spare { OnOk result (2 ≤ out.new.spare) }
+    ensures room { OnOk result (HasRoom world.new out.new) }
     ensures calls { world.new.calls ≤ world.old.calls + 1 }
 {
     boots(rt, world, 20, 24, SUCCESS)?;
     can_call(rt, world, 24);
-    out.reserve(2)?;
+    out.reserve(world.room_needed())?;
     Ok(())
 }
 

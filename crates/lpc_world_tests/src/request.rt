@@ -2,7 +2,7 @@
 ghost use Rattle.std.specs.Prelude.{◌≡◌, ◌≤◌, ◌<◌, ◌+◌, true, OnOk};
 ghost use Rattle.lpc_base.specs.declared.limits.TheConstants.{LINES_LIMIT};
 ghost use Rattle.lpc_world.specs.Names.{stands};
-ghost use Rattle.lpc_world.specs.Ready.{is_ready};
+ghost use Rattle.lpc_world.specs.Ready.{HasRoom, is_ready};
 
 use crate::common::{GIVEN, boots, can_call, makes_a_port, one, threads};
 use arrayvec::ArrayVec;
@@ -41,11 +41,11 @@ fn received(message: &[u8; 26]) -> Result<Fields, Fail> {
 }
 
 // There is room for what one call tells, and nothing is told yet.
-fn makes_room(out: &mut Entries) -> Result<(), Fail>
-    ensures { OnOk result (2 ≤ out.new.spare) }
+fn makes_room(world: &World, out: &mut Entries) -> Result<(), Fail>
+    ensures { OnOk result (HasRoom world.now out.new) }
 {
     out.clear();
-    out.reserve(2)?;
+    out.reserve(world.room_needed())?;
     Ok(())
 }
 
@@ -100,7 +100,7 @@ fn sends(rt: &impl Abort, world: &mut World, out: &mut Entries) -> Result<(), Fa
     ensures calls { world.new.calls ≤ world.old.calls + 1 }
 {
     can_call(rt, world, 24);
-    makes_room(out)?;
+    makes_room(world, out)?;
     let outcome = nt_request_port(world, 24, 4, &GIVEN, out)?;
     assert!(rt; outcome == Outcome::Answered(SUCCESS));
     let answer = Entry::Answer {
@@ -119,7 +119,7 @@ fn asks(rt: &impl Abort, world: &mut World, out: &mut Entries) -> Result<(), Fai
     ensures calls { world.new.calls ≤ world.old.calls + 1 }
 {
     can_call(rt, world, 24);
-    makes_room(out)?;
+    makes_room(world, out)?;
     let outcome = nt_request_wait_reply_port(world, 24, 4, &GIVEN, out);
     assert!(rt; outcome == Outcome::Waits);
     let waits = Entry::Waits {
@@ -142,7 +142,7 @@ fn receives(
     ensures calls { world.new.calls ≤ world.old.calls + 1 }
 {
     can_call(rt, world, 28);
-    makes_room(out)?;
+    makes_room(world, out)?;
     let outcome = nt_reply_wait_receive_port(world, 28, 4, None, out);
     assert!(rt; outcome == Outcome::Answered(SUCCESS));
     let answer = Entry::Answer {
@@ -174,7 +174,7 @@ fn replies(rt: &impl Abort, world: &mut World, out: &mut Entries) -> Result<(), 
     ensures calls { world.new.calls ≤ world.old.calls + 1 }
 {
     can_call(rt, world, 28);
-    makes_room(out)?;
+    makes_room(world, out)?;
     nt_reply_port(world, 28, 4, &REPLY, out);
     let answer = Entry::Answer {
         tid: 28,
@@ -191,7 +191,7 @@ fn is_refused(rt: &impl Abort, world: &mut World, out: &mut Entries) -> Result<(
     requires few { world.old.calls < LINES_LIMIT }
 {
     can_call(rt, world, 28);
-    makes_room(out)?;
+    makes_room(world, out)?;
     let again = nt_reply_wait_receive_port(world, 28, 4, Some(&REPLY), out);
     assert!(rt; again == Outcome::Answered(REPLY_MESSAGE_MISMATCH));
     Ok(())

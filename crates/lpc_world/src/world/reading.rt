@@ -68,7 +68,7 @@ impl World {
         ensures live { has (is_live_thread tid) self.now.rows.threads ≡ true }
         ensures ready { has (waits_as tid) self.now.rows.waits ≡ false }
         ensures table { has (is_table result.process) self.now.rows.handles ≡ true }
-        ensures alive { 1 ≤ count is_alive self.now.rows.threads }
+        ensures few { length self.now.rows.waits < count is_alive self.now.rows.threads }
     {
         match self.procs.live_row(tid) {
             Some(row) => row,

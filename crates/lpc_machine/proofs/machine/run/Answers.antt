@@ -3,14 +3,8 @@ use Rattle.lpc_model.specs.Basics.{Basic}
 use Rattle.lpc_model.specs.Lines.{ScriptCall, call_of}
 use Rattle.lpc_model.specs.World.{World}
 use Rattle.lpc_world.specs.Does.{left_by}
-use Rattle.lpc_machine.proofs.Called.{busy, called, one-lives}
-use Rattle.lpc_machine.proofs.Waiting.{room_to_close}
+use Rattle.lpc_machine.proofs.Called.{busy, called}
 use Rattle.lpc_machine.proofs.machine.run.Goals as goal
-
-pub serve-requires-clause-spare : goal.serve-requires-clause-spare
-serve-requires-clause-spare c =
-    let w : World = c.args.world.now.rows in
-    room_to_close w c.args.out.now.spare c.requires.settled.sound (one-lives w c.args.tid (sym c.condition.ensures ∙ c.in-Ready.is)) c.requires.spare
 
 pub serve-requires-clause-can : goal.serve-requires-clause-can
 serve-requires-clause-can c = record { pairs = c.requires.settled.linked.pairs; untold = c.requires.settled.untold }

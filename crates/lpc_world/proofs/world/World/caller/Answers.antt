@@ -30,9 +30,10 @@ pub returns-clause-table : goal.returns-clause-table
 returns-clause-table c =
     rw (← c.self.view_is) (finds.is_caller (rows_by (tables_of c.self.inside.procs c.self.inside.parts.items c.self.inside.ports c.self.inside.waits c.self.inside.names)) c.args.tid (shown_thread c.in-Some.row) c.self.invariant.lawful.housed (readings.first-shown shown_thread (procs.is_live_thread c.args.tid) (found.is_live_thread c.args.tid) (λ t. refl) c.self.inside.procs.threads ∙ ap (λ o. option_map shown_thread o) (sym c.live_row.ensures.row ∙ c.in-Some.is))).table
 
-pub returns-clause-alive : goal.returns-clause-alive
-returns-clause-alive c =
-    rw (← c.self.view_is) (finds.is_caller (rows_by (tables_of c.self.inside.procs c.self.inside.parts.items c.self.inside.ports c.self.inside.waits c.self.inside.names)) c.args.tid (shown_thread c.in-Some.row) c.self.invariant.lawful.housed (readings.first-shown shown_thread (procs.is_live_thread c.args.tid) (found.is_live_thread c.args.tid) (λ t. refl) c.self.inside.procs.threads ∙ ap (λ o. option_map shown_thread o) (sym c.live_row.ensures.row ∙ c.in-Some.is))).alive
+pub returns-clause-few : goal.returns-clause-few
+returns-clause-few c =
+    let ready = rw (← c.self.view_is) at c.requires in
+    rw (← c.self.view_is) (finds.few_wait (rows_by (tables_of c.self.inside.procs c.self.inside.parts.items c.self.inside.ports c.self.inside.waits c.self.inside.names)) c.args.tid c.self.invariant.lawful.single c.self.invariant.lawful.threads ready)
 
 pub returns-clause-found : goal.returns-clause-found
 returns-clause-found c =
