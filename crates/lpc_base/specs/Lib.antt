@@ -3,3 +3,4 @@ pub mod Memory
 pub mod Places
 pub mod Rows
 pub mod Profile
+pub mod Room

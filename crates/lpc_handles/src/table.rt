@@ -1,12 +1,13 @@
 // The table of one process's handles, by rising value.
 ghost use Rattle.std.specs.Prelude.{◌≡◌, ◌+◌, ◌<◌, ◌≤◌, ◌↔◌, true, [], length, IsErr, IfOk, OnOk, OnErr, OnSome, IfSome, IfNone, vec_len, vec_capacity};
 ghost use Rattle.lpc_base.specs.Places.{least_handle};
+ghost use Rattle.lpc_base.specs.Room.{grown_room};
 ghost use Rattle.lpc_base.specs.Rows.{count, has, without, without_first};
 ghost use Rattle.lpc_base.specs.declared.limits.TheConstants.{HANDLE_LIMIT};
 ghost use Rattle.lpc_handles.specs.Handles.{Gains, HasNoneFrom, IsLeastFrom, IsPlaceOf, KeepsRising, are_rising, at, first_from, has_value, is_named, new_row, values};
 
-use lpc_base::OutOfMemory;
 use lpc_base::limits::HANDLE_LIMIT;
+use lpc_base::{OutOfMemory, reserve_rows};
 use std::alloc::Global;
 use std::marker::Model;
 
@@ -65,11 +66,10 @@ impl<O: Copy> Table<O> {
         ensures wanting { OnErr result (self.old.spare < more) }
         ensures rows { self.new.rows ≡ self.old.rows }
         ensures spare { self.old.spare ≤ self.new.spare }
+        ensures most { let rows = length self.old.rows in
+            self.new.spare ≤ grown_room self.old.spare more rows }
     {
-        if self.rows.reserve(more).is_err() {
-            return Err(OutOfMemory);
-        }
-        Ok(())
+        reserve_rows(&mut self.rows, more)
     }
 
     /// Gives a handle the least free value, and answers the value.

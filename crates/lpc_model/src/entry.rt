@@ -1,12 +1,13 @@
 // An entry of a transcript, and the list of a step's entries.
 ghost use Rattle.std.specs.Prelude.{◌≡◌, ◌+◌, ◌<◌, ◌≤◌, ◌++◌, [], ◌∷◌, length, map, false, true, IfOk, OnOk, OnErr, slice_get};
 ghost use Rattle.std.specs.Option.{option_map, option_copied};
+ghost use Rattle.lpc_base.specs.Room.{grown_room};
 ghost use Rattle.lpc_base.specs.declared.status.TheConstants.{SUCCESS};
 ghost use Rattle.lpc_model.specs.Listed.{shown_entry, has_read};
 ghost use Rattle.lpc_model.specs.Text.{call_text, word_text};
 
 use arrayvec::ArrayVec;
-use lpc_base::{OutOfMemory, Status, status};
+use lpc_base::{OutOfMemory, Status, reserve_rows, status};
 use std::alloc::Global;
 use std::marker::Model;
 
@@ -344,11 +345,10 @@ impl Entries {
         ensures least { self.old.spare ≤ self.new.spare }
         ensures wanting { OnErr result (self.old.spare < more) }
         ensures err { OnErr result (self.new ≡ self.old) }
+        ensures most { let rows = length self.old.list in
+            self.new.spare ≤ grown_room self.old.spare more rows }
     {
-        if self.list.reserve(more).is_err() {
-            return Err(OutOfMemory);
-        }
-        Ok(())
+        reserve_rows(&mut self.list, more)
     }
 
     /// How many entries go in without memory.

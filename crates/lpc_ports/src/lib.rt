@@ -2,6 +2,7 @@
 #![tactic(auto)]
 
 ghost use Rattle.std.specs.Prelude.{◌≡◌, ◌||◌, ◌<◌, ◌-◌, ◌≤◌, ◌^◌, length, OnOk, OnErr, Some, None, IsSome, option_copied, option_map, slice_get};
+ghost use Rattle.lpc_base.specs.Room.{grown_room};
 ghost use Rattle.lpc_base.specs.Rows.{count, first, has};
 ghost use Rattle.lpc_base.specs.declared.limits.TheConstants.{MESSAGE_LIMIT};
 ghost use Rattle.lpc_slots.specs.Table.{at_key};
@@ -122,6 +123,10 @@ impl Ports {
         ensures kept { self.new ≡ with_room self.old self.new.port_room self.new.message_room }
         ensures port_room { self.old.port_room ≤ self.new.port_room }
         ensures message_room { self.old.message_room ≤ self.new.message_room }
+        ensures most_ports { let rows = length self.old.ports in
+            self.new.port_room ≤ grown_room self.old.port_room ports rows }
+        ensures most_messages { let rows = length self.old.messages in
+            self.new.message_room ≤ grown_room self.old.message_room blocks rows }
     {
         self.ports.reserve(ports)?;
         self.messages.reserve(blocks)

@@ -1,5 +1,5 @@
 -- What contracts see of processes and threads.
-use Rattle.std.specs.Prelude.{ℕ, ◌+◌, ◌-◌, ◌^◌, ◌<◌, ◌≤◌, ◌==◌, ◌&&◌, Bool, false, List, [], option_map, Option}
+use Rattle.std.specs.Prelude.{ℕ, ◌+◌, ◌-◌, ◌^◌, ◌<◌, ◌≤◌, ◌==◌, ◌&&◌, Bool, false, List, [], length, max, option_map, Option}
 use Rattle.lpc_base.specs.Rows.{change, first, has, without}
 use Rattle.lpc_base.specs.declared.birth.Birth.{Birth}
 use Rattle.lpc_message.specs.declared.message.ClientId.{ClientId}
@@ -26,6 +26,10 @@ nothing = record { processes = []; threads = []; used_processes = []; used_threa
 -- the table with this room for processes and for threads
 abbrev pub with_room : Table → ℕ → ℕ → Table
 with_room s processes threads = record s { process_room = processes; thread_room = threads }
+
+-- how many rows there are, or numbers that were used, where those are more
+abbrev pub most_rows : {R N : Type 0} → List R → List N → ℕ
+most_rows rows used = max (length rows) (length used)
 
 -- Rows
 -- a process has the number, and a thread has it

@@ -1,11 +1,12 @@
 // The table of processes and threads.
 ghost use Rattle.std.specs.Prelude.{◌≡◌, ◌-◌, ◌<◌, ◌≤◌, ◌++◌, ◌∷◌, [], true, false, length, is_some, option_map, Some, IsSomeAnd, OnOk, OnErr, IfSome};
+ghost use Rattle.lpc_base.specs.Room.{grown_room};
 ghost use Rattle.lpc_base.specs.Rows.{count, first, has};
 ghost use Rattle.lpc_procs.specs.Procs as procs;
-ghost use Rattle.lpc_procs.specs.Procs.{HasIdentifierLeft, HasOrdinalLeft, IsNumber, birth_of, ended, is_live_client, is_live_thread, lives_in, nothing, past_birth, past_identifier, process_at, thread_at, used_process, with_room, with_thread, without_process, without_thread};
+ghost use Rattle.lpc_procs.specs.Procs.{HasIdentifierLeft, HasOrdinalLeft, IsNumber, birth_of, ended, is_live_client, is_live_thread, lives_in, most_rows, nothing, past_birth, past_identifier, process_at, thread_at, used_process, with_room, with_thread, without_process, without_thread};
 
 use crate::{Number, ProcessRow, ThreadRow, UsedThread, lists};
-use lpc_base::{Birth, OutOfMemory};
+use lpc_base::{Birth, OutOfMemory, reserve_rows};
 use lpc_message::ClientId;
 use std::alloc::Global;
 use std::marker::Model;
@@ -66,15 +67,15 @@ impl Procs {
         ensures same { self.new ≡ with_room self.old self.new.process_room self.new.thread_room }
         ensures process_room { self.old.process_room ≤ self.new.process_room }
         ensures thread_room { self.old.thread_room ≤ self.new.thread_room }
+        ensures most_processes { let rows = most_rows self.old.processes self.old.used_processes in
+            self.new.process_room ≤ grown_room self.old.process_room processes rows }
+        ensures most_threads { let rows = most_rows self.old.threads self.old.used_threads in
+            self.new.thread_room ≤ grown_room self.old.thread_room threads rows }
     {
-        if self.processes.reserve(processes).is_err()
-            || self.used_processes.reserve(processes).is_err()
-            || self.threads.reserve(threads).is_err()
-            || self.used_threads.reserve(threads).is_err()
-        {
-            return Err(OutOfMemory);
-        }
-        Ok(())
+        reserve_rows(&mut self.processes, processes)?;
+        reserve_rows(&mut self.used_processes, processes)?;
+        reserve_rows(&mut self.threads, threads)?;
+        reserve_rows(&mut self.used_threads, threads)
     }
 
     /// Adds a process under a number that no process ever had, made by the process `maker` or by a directive. There is

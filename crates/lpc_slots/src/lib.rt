@@ -5,11 +5,12 @@ ghost use Rattle.std.specs.Prelude.{◌≡◌, ◌+◌, ◌<◌, ◌-◌, ◌≤
 ghost use Rattle.std.specs.Option.{option_copied_mut};
 ghost use Rattle.std.specs.Borrow.{sem};
 ghost use Rattle.std.specs.FinMap as map;
+ghost use Rattle.lpc_base.specs.Room.{grown_room};
 ghost use Rattle.lpc_base.specs.Rows.{without};
 ghost use Rattle.lpc_slots.specs.Table.{at, at_key, listed, IsYoung, inserted, removed};
 ghost use Rattle.lpc_slots.specs.Layout.{StandsAt};
 
-use lpc_base::OutOfMemory;
+use lpc_base::{OutOfMemory, reserve_rows};
 use std::alloc::Global;
 use std::marker::Model;
 
@@ -76,11 +77,10 @@ impl<T> Slots<T> {
         ensures wanting { OnErr result (self.old.spare < more) }
         ensures kept { self.new ≡ record self.old { spare = self.new.spare } }
         ensures spare { self.old.spare ≤ self.new.spare }
+        ensures most { let rows = length (listed self.old) in
+            self.new.spare ≤ grown_room self.old.spare more rows }
     {
-        if self.rows.reserve(more).is_err() {
-            return Err(OutOfMemory);
-        }
-        Ok(())
+        reserve_rows(&mut self.rows, more)
     }
 
     /// Adds a row behind the others, and answers its key.

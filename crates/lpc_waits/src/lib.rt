@@ -3,12 +3,13 @@
 
 ghost use Rattle.std.specs.Prelude.{◌≡◌, ◌+◌, ◌<◌, ◌-◌, ◌≤◌, ◌^◌, ◌++◌, ◌∷◌, [], length, OnOk, OnErr, Some, None, IsSome, option_copied, option_map, is_some, if◌then◌else◌};
 ghost use Rattle.std.specs.List.{position};
+ghost use Rattle.lpc_base.specs.Room.{grown_room};
 ghost use Rattle.lpc_base.specs.Rows.{count, without, has};
 ghost use Rattle.lpc_base.specs.declared.limits.TheConstants.{MESSAGE_LIMIT};
 ghost use Rattle.lpc_waits.specs.Table.{accepted_of, begun, first_thread, is_accepted, is_accepted_at, is_accepted_on, is_connect, is_connect_of, is_made_at, is_made_on, is_of, is_offered, is_offered_to, is_receive_on, is_receiver_at, is_request_on, is_taker_on, is_unreceived_request_in, is_wait_at, message_of, received, row_of, takes, with_accepted, with_message, with_queue, with_row};
 
 use arrayvec::ArrayVec;
-use lpc_base::{OutOfMemory, held};
+use lpc_base::{OutOfMemory, held, reserve_rows};
 use lpc_slots::Key;
 use std::alloc::Global;
 use std::marker::Model;
@@ -125,11 +126,10 @@ impl Waits {
         ensures wanting { OnErr result (self.old.spare < more) }
         ensures kept { self.new ≡ record self.old { spare = self.new.spare } }
         ensures spare { self.old.spare ≤ self.new.spare }
+        ensures most { let rows = length self.old.rows in
+            self.new.spare ≤ grown_room self.old.spare more rows }
     {
-        if self.rows.reserve(more).is_err() {
-            return Err(OutOfMemory);
-        }
-        Ok(())
+        reserve_rows(&mut self.rows, more)
     }
 
     /// Adds the wait of a thread behind the others. It has no message yet, and isn't accepted.
