@@ -106,6 +106,22 @@ fn listens_take_where_they_count(rt: HostRuntime) -> Result<(), Fail> {
     Ok(())
 }
 
+// The connect of thread 4, on port 1, is the one that is found as accepted there, or none is.
+fn accepted_is_found_by_port(rt: &impl Abort, waits: &Waits, accepted: bool) {
+    assert!(rt; waits.accepted_on(key(1)).is_some() == accepted);
+    assert!(rt; waits.accepted_on(key(1)).unwrap_or(4) == 4);
+    assert!(rt; waits.accepted_on(key(2)).is_none());
+}
+
+// The connect of thread 4 is found as accepted by both ends of its connection, ports 3 and 1, or none is. In queue 2 the
+// first connect is found that isn't accepted.
+fn accepted_is_found_by_pair(rt: &impl Abort, waits: &Waits, accepted: bool) {
+    assert!(rt; waits.accepted_at(key(3), Some(key(1))) == if accepted { Some(4) } else { None });
+    assert!(rt; waits.accepted_at(key(3), None).is_none());
+    assert!(rt; waits.offered_to(key(2)) == Some(if accepted { 5 } else { 4 }));
+    assert!(rt; waits.offered_to(key(1)).is_none());
+}
+
 // The connect of thread 4 is accepted with one byte or isn't, and that of thread 5 isn't.
 fn fourth_is_accepted(rt: &impl Abort, waits: &Waits, accepted: bool)
     requires fourth { IsSome (row_of waits.now 4) }
@@ -116,13 +132,8 @@ fn fourth_is_accepted(rt: &impl Abort, waits: &Waits, accepted: bool)
         None => assert!(rt; !accepted),
     }
     assert!(rt; waits.accepted(5).is_none());
-    assert!(rt; waits.accepted_on(key(1)).is_some() == accepted);
-    assert!(rt; waits.accepted_on(key(1)).unwrap_or(4) == 4);
-    assert!(rt; waits.accepted_on(key(2)).is_none());
-    assert!(rt; waits.accepted_at(key(3), Some(key(1))) == if accepted { Some(4) } else { None });
-    assert!(rt; waits.accepted_at(key(3), None).is_none());
-    assert!(rt; waits.offered_to(key(2)) == Some(if accepted { 5 } else { 4 }));
-    assert!(rt; waits.offered_to(key(1)).is_none());
+    accepted_is_found_by_port(rt, waits, accepted);
+    accepted_is_found_by_pair(rt, waits, accepted);
 }
 
 #[test]
