@@ -2,7 +2,7 @@
 // this project's own profile.
 
 /// An NTSTATUS value, as published: 0 for success, from 0xC0000000 up for an error, and a few between for what is neither.
-#[derive(Clone, Copy, Debug, PartialEq, Eq)]
+#[derive(Clone, Copy, PartialEq, Eq)]
 pub struct Status(pub u32);
 
 /// The call was carried out.

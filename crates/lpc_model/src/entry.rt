@@ -12,7 +12,7 @@ use std::alloc::Global;
 use std::marker::Model;
 
 /// The calls, by Windows NT's own names.
-#[derive(Clone, Copy, Debug, PartialEq, Eq)]
+#[derive(Clone, Copy, PartialEq, Eq)]
 pub enum CallName {
     NtCreatePort,
     NtConnectPort,
@@ -67,7 +67,7 @@ impl CallName {
 }
 
 /// The directives.
-#[derive(Clone, Copy, Debug, PartialEq, Eq)]
+#[derive(Clone, Copy, PartialEq, Eq)]
 pub enum Word {
     Boot,
     Thread,
@@ -93,7 +93,7 @@ impl Word {
 }
 
 /// The kinds of object.
-#[derive(Clone, Copy, Debug, PartialEq, Eq)]
+#[derive(Clone, Copy, PartialEq, Eq)]
 pub enum ObjectKind {
     Port,
     Section,
@@ -103,7 +103,7 @@ pub enum ObjectKind {
 }
 
 /// How a call ended for its thread.
-#[derive(Clone, Copy, Debug, PartialEq, Eq)]
+#[derive(Clone, Copy, PartialEq, Eq)]
 pub enum Outcome {
     /// It was answered, by success or a refusal.
     Answered(Status),
@@ -114,7 +114,7 @@ pub enum Outcome {
 }
 
 /// The names of an entry's fields.
-#[derive(Clone, Copy, Debug, PartialEq, Eq)]
+#[derive(Clone, Copy, PartialEq, Eq)]
 pub enum FieldName {
     /// A handle value.
     H,

@@ -31,7 +31,7 @@ pub enum NameFault {
 }
 
 /// Why a name was not bound.
-#[derive(Clone, Copy, Debug, PartialEq, Eq, Error)]
+#[derive(Clone, Copy, Debug, Error)]
 pub enum BindFault {
     /// The path is at fault.
     #[error(transparent)]

@@ -17,7 +17,7 @@ use std::marker::Model;
 const LINK_LIMIT: u32 = 32;
 
 /// What a look-up finds.
-#[derive(Clone, Copy, Debug, PartialEq, Eq)]
+#[derive(Clone, Copy, PartialEq, Eq)]
 pub enum Found<T> {
     /// A directory; the root is one.
     Directory,

@@ -17,7 +17,7 @@ use lpc_script::{Scratch, next_line};
 use std::alloc::Global;
 
 /// Why a script wasn't run to its end or its first faulty line.
-#[derive(Clone, Copy, Debug, PartialEq, Eq)]
+#[derive(Clone, Copy)]
 pub enum PlayError {
     /// Memory ran out.
     OutOfMemory,

@@ -9,7 +9,7 @@ use lpc_base::{OutOfMemory, Source};
 use std::alloc::Global;
 
 /// How the reading of a script ended.
-#[derive(Clone, Copy, Debug, PartialEq, Eq)]
+#[derive(Clone, Copy)]
 pub enum ReadEnd {
     /// The source answered its end, or the bytes read pass a limit. A rest without byte 10 is a line too.
     Finished,
@@ -28,7 +28,7 @@ pub struct ReadScript {
 }
 
 /// How far a script was read: so many whole lines, and so many bytes of the next one.
-#[derive(Clone, Copy, Debug, PartialEq, Eq)]
+#[derive(Clone, Copy)]
 struct Place {
     lines: u32,
     column: usize,
