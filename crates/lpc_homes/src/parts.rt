@@ -2,6 +2,7 @@
 ghost use Rattle.std.specs.Prelude.{◌≡◌, ◌+◌, ◌*◌, ◌-◌, ◌<◌, ◌≤◌, ◌↔◌, true, Some, None, IsErr, IfOk, OnOk, OnErr, length, vec_len, vec_capacity};
 ghost use Rattle.std.specs.List.{position};
 ghost use Rattle.lpc_base.specs.Places.{least_handle};
+ghost use Rattle.lpc_base.specs.Room.{grown_room};
 ghost use Rattle.lpc_base.specs.Rows.{count, has};
 ghost use Rattle.lpc_handles.specs.Handles.{values};
 ghost use Rattle.lpc_homes.specs.Parts.{HasFew, all_rows, are_single_parts, closing, handing, has_name_of, is_part, names_it, rooming, rows_at, spare_at};
@@ -77,6 +78,8 @@ pub fn reserve_handles(parts: &mut Vec<Part>, pid: u32, more: usize) -> Result<(
     ensures wanting { OnErr result (spare_at parts.old.items pid < more) }
     ensures parts { parts.new.items ≡ rooming pid (spare_at parts.new.items pid) parts.old.items }
     ensures spare { spare_at parts.old.items pid ≤ spare_at parts.new.items pid }
+    ensures most { let rows = length (rows_at parts.old.items pid) in
+        spare_at parts.new.items pid ≤ grown_room (spare_at parts.old.items pid) more rows }
     ensures len { vec_len parts.new ≡ vec_len parts.old }
     ensures capacity { vec_capacity parts.new ≡ vec_capacity parts.old }
 {

@@ -1,6 +1,7 @@
 -- What contracts see of the world: the definitions' rows, the births of keys, the calls so far, and the room.
-use Rattle.std.specs.Prelude.{◌≡◌, ℕ, ◌+◌, ◌-◌, ◌*◌, ◌<◌, ◌≤◌, ◌==◌, ◌&&◌, ◌||◌, Bool, false, not, List, length, map, min, Option, Some, None}
+use Rattle.std.specs.Prelude.{◌≡◌, ℕ, ◌+◌, ◌-◌, ◌*◌, ◌<◌, ◌≤◌, ◌==◌, ◌&&◌, ◌||◌, Bool, false, not, List, length, map, max, min, Option, Some, None}
 use Rattle.lpc_base.specs.Rows.{count, first, has}
+use Rattle.lpc_procs.specs.Procs.{most_rows}
 use Rattle.lpc_model.specs.World.{World, MessageRow, PortRow, WaitRow, ThreadRow}
 use Rattle.lpc_model.specs.Closings.{is_closed_post}
 use Rattle.lpc_model.specs.Found.{is_client_port, is_connect, is_open, is_own_of, is_request, waits_as}
@@ -101,6 +102,10 @@ kept_by it places calls made loose = record {
   loose = loose;
   room = room_by (rows_by it) it places;
 }
+
+-- how many places a world's tables of processes have taken: of the processes, of their numbers, and of their handles
+abbrev pub process_rows : World → ℕ
+process_rows w = max (length w.handles) (most_rows w.processes w.used_processes)
 
 -- nothing changed but the room
 pub record Same (old new : Kept) : Type 0 where

@@ -5,6 +5,7 @@
 // Each call that adds a row or draws a number asks for the spare room, and that fewer than 16 rows and numbers were made for
 // each call so far, with those that are owed: each open client port owes the message that tells that it is closed.
 ghost use Rattle.std.specs.Prelude.{◌≡◌, ◌+◌, ◌*◌, ◌<◌, ◌≤◌, ◌↔◌, ◌||◌, [], None, Some, true, false, IfSome, IfNone, IfOk, IsErr, OnOk, OnErr, is_some, length};
+ghost use Rattle.lpc_base.specs.Room.{grown_room};
 ghost use Rattle.lpc_base.specs.Rows.{first, has, without};
 ghost use Rattle.lpc_model.specs.World.{no_rows};
 ghost use Rattle.lpc_model.specs.Found.{free_handle, handles_of, is_live_thread, is_process, is_table, is_thread, port_row, was_process, was_thread, waits_as};
@@ -13,11 +14,11 @@ ghost use Rattle.lpc_model.specs.Entering.{takes};
 ghost use Rattle.lpc_model.specs.Machine.{new_process, new_thread};
 ghost use Rattle.lpc_model.specs.Message.{asks, message_of};
 ghost use Rattle.lpc_model.specs.Tests as tests;
-ghost use Rattle.lpc_procs.specs.Procs.{IsNumber};
+ghost use Rattle.lpc_procs.specs.Procs.{IsNumber, most_rows};
 ghost use Rattle.lpc_world.specs.Names.{KeepsNames, name_of, some_stands, stands};
 ghost use Rattle.lpc_world.specs.Shown.{object_stands};
 ghost use Rattle.lpc_world.specs.Lawful.{drew, is_quiet};
-ghost use Rattle.lpc_world.specs.Kept.{CanMake, HasWholeBudget, Roomy, Same, StaysReady, StaysUnqueued, handle_room, has_queued, is_unsent, owed_handles, owed_messages, owed_waits};
+ghost use Rattle.lpc_world.specs.Kept.{CanMake, HasWholeBudget, Roomy, Same, StaysReady, StaysUnqueued, handle_room, has_queued, is_unsent, owed_handles, owed_messages, owed_waits, process_rows};
 ghost use Rattle.lpc_world.specs.Ready.{IsWait};
 ghost use Rattle.lpc_world.specs.Untold.{closing_places, is_owed};
 ghost use Rattle.lpc_base.specs.declared.limits.TheConstants.{HANDLE_LIMIT, HEADER_SIZE, LINES_LIMIT, MESSAGE_LIMIT};
@@ -35,7 +36,7 @@ mod names;
 mod reading;
 mod steps;
 
-use lpc_base::{Birth, OutOfMemory, PortKind};
+use lpc_base::{Birth, OutOfMemory, PortKind, reserve_rows};
 use lpc_handles::{Table, TableFault};
 use lpc_homes::Object;
 use lpc_homes::parts::{self, Part};
@@ -402,12 +403,13 @@ impl World {
         ensures threads { OnOk result (threads ≤ self.new.room.threads) }
         ensures wanting { OnErr result
             (processes ≤ self.old.room.processes → self.old.room.threads < threads) }
+        ensures most_processes { let rows = process_rows self.old.rows in
+            self.new.room.processes ≤ grown_room self.old.room.processes processes rows }
+        ensures most_threads { let rows = most_rows self.old.rows.threads self.old.rows.used_threads in
+            self.new.room.threads ≤ grown_room self.old.room.threads threads rows }
     {
         self.procs.reserve(processes, threads)?;
-        if self.parts.reserve(processes).is_err() {
-            return Err(OutOfMemory);
-        }
-        Ok(())
+        reserve_rows(&mut self.parts, processes)
     }
 
     /// Makes room for so many further ports.
@@ -416,6 +418,8 @@ impl World {
         ensures room { Roomy self.old.room self.new.room }
         ensures ports { OnOk result (more ≤ self.new.room.ports) }
         ensures wanting { OnErr result (self.old.room.ports < more) }
+        ensures most { let rows = length self.old.rows.ports in
+            self.new.room.ports ≤ grown_room self.old.room.ports more rows }
     {
         self.ports.reserve(more, 0)
     }
@@ -444,6 +448,8 @@ impl World {
         ensures room { Roomy self.old.room self.new.room }
         ensures messages { OnOk result (more ≤ self.new.room.messages) }
         ensures wanting { OnErr result (self.old.room.messages < more) }
+        ensures most { let rows = length self.old.rows.messages in
+            self.new.room.messages ≤ grown_room self.old.room.messages more rows }
     {
         let wanted = self.owed_messages() + more as usize;
         self.ports.reserve(0, wanted)
@@ -455,6 +461,8 @@ impl World {
         ensures room { Roomy self.old.room self.new.room }
         ensures waits { OnOk result (more ≤ self.new.room.waits) }
         ensures wanting { OnErr result (self.old.room.waits < more) }
+        ensures most { let rows = length self.old.rows.waits in
+            self.new.room.waits ≤ grown_room self.old.room.waits more rows }
     {
         let wanted = self.owed_waits() + more as usize;
         self.waits.reserve(wanted)
@@ -468,6 +476,9 @@ impl World {
         ensures handles { OnOk result (HasHandlePlaces self.new pid more) }
         ensures wanting { OnErr result
             (handle_room self.old.room pid < owed_handles self.old.rows pid + more) }
+        ensures most { let places = owed_handles self.old.rows pid + more in
+            let rows = length (handles_of self.old.rows pid) in
+            handle_room self.new.room pid ≤ grown_room (handle_room self.old.room pid) places rows }
     {
         let places = self.waits.connects_of(pid) + more as usize;
         parts::reserve_handles(&mut self.parts, pid, places)

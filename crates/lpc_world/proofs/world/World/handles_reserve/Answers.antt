@@ -46,3 +46,9 @@ pub returns-clause-wanting : goal.returns-clause-wanting
 returns-clause-wanting c =
     let own = tables.promised_are (tables_of c.self.inside.procs c.self.inside.parts.items c.self.inside.ports c.self.inside.waits c.self.inside.names) c.self.inside.calls c.self.inside.made c.self.invariant c.args.pid in
     rw (← c.self.view_is, tables.room_at c.self.inside.parts.items c.args.pid, own, ← c.connects_of.ensures) c.reserve_handles.ensures.wanting
+
+pub returns-clause-most : goal.returns-clause-most
+returns-clause-most c =
+    let own = tables.promised_are (tables_of c.self.inside.procs c.self.inside.parts.items c.self.inside.ports c.self.inside.waits c.self.inside.names) c.self.inside.calls c.self.inside.made c.self.invariant c.args.pid in
+    let rows = tables.handle_number (tables_of c.self.inside.procs c.self.inside.parts.items c.self.inside.ports c.self.inside.waits c.self.inside.names) c.self.inside.calls c.self.inside.made c.self.invariant c.args.pid in
+    rw (← c.self.view_is, tables.room_at c.reserve_handles.new.parts.items c.args.pid, tables.room_at c.self.inside.parts.items c.args.pid, own, rows, ← c.connects_of.ensures) c.reserve_handles.ensures.most

@@ -1,3 +1,5 @@
+use Rattle.lpc_world.specs.Shown.{birth_of, births_of, shown_message}
+use Rattle.std.proofs.lemmas.List.{length-map}
 use Rattle.std.proofs.Common.{◌+◌, ◌≤◌, ◌<◌, refl, arith}
 use Rattle.std.proofs.lemmas.Result.{on_err_weaker, on_ok_weaker}
 use Rattle.lpc_world.specs.Shown.{tables_of}
@@ -27,3 +29,9 @@ pub returns-clause-wanting : goal.returns-clause-wanting
 returns-clause-wanting c =
     let owed = rw (← c.self.view_is) at c.owed_messages.ensures.owed in
     rw (← c.self.view_is) (on_err_weaker c.reserve.result (λ (less : 0 ≤ c.self.inside.ports.port_room → c.self.inside.ports.message_room < c.owed_messages.result + c.args.more). let less_still = less (omega arith) in omega (arith, less_still, owed, c.self.invariant.lawful.messages_fit)) c.reserve.ensures.wanting)
+
+pub returns-clause-most : goal.returns-clause-most
+returns-clause-most c =
+    let owed = rw (← c.self.view_is) at c.owed_messages.ensures.owed in
+    let rows = length-map c.self.inside.ports.messages (shown_message (birth_of (births_of c.self.inside.ports))) in
+    rw (← c.self.view_is, c.reserve.ensures.kept) (omega (arith, rows, owed, c.reserve.ensures.most_messages))

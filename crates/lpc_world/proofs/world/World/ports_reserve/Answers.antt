@@ -1,3 +1,5 @@
+use Rattle.lpc_world.specs.Shown.{birth_of, births_of, shown_port}
+use Rattle.std.proofs.lemmas.List.{length-map}
 use Rattle.std.proofs.Common.{refl, arith}
 use Rattle.lpc_world.specs.Shown.{tables_of}
 use Rattle.lpc_world.specs.Kept.{rows_by}
@@ -16,3 +18,8 @@ returns-clause-room c =
     let ports = c.reserve.ensures.port_room in
     let messages = c.reserve.ensures.message_room in
     rw (← c.self.view_is, c.reserve.ensures.kept) (rooms.room_more _ _ _ _ _ _ (rows_by (tables_of c.self.inside.procs c.self.inside.parts.items c.self.inside.ports c.self.inside.waits c.self.inside.names)) _ _ _ _ c.reserve.new.self.message_room c.reserve.new.self.port_room _ (omega arith) (omega arith) (omega arith) messages ports (omega arith))
+
+pub returns-clause-most : goal.returns-clause-most
+returns-clause-most c =
+    let rows = length-map c.self.inside.ports.ports (shown_port (birth_of (births_of c.self.inside.ports))) in
+    rw (← c.self.view_is) (omega (arith, rows, c.reserve.ensures.most_ports))
