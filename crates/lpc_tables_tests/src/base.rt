@@ -2,7 +2,7 @@
 ghost use Rattle.std.specs.Prelude.{◌<◌, ◌≡◌, length};
 
 use crate::common::says;
-use lpc_base::{Failed, HonestSource, MemSink, MemSource, OutOfMemory, Sink, Source};
+use lpc_base::{Failed, HonestSource, MemSink, MemSource, OutOfMemory, Sink, Source, reserve_rows};
 use std::process::Abort;
 use std::test::Fail;
 
@@ -87,4 +87,13 @@ fn sink_takes_pieces_and_fails_once_it_is_full(rt: HostRuntime) -> Result<(), Fa
 fn errors_say_what_happened(rt: HostRuntime) -> Result<(), Fail> {
     says(&rt, rt.alloc(), &OutOfMemory, "out of memory")?;
     says(&rt, rt.alloc(), &Failed, "the stream failed")
+}
+
+#[test]
+fn room_is_made_for_rows(rt: HostRuntime) -> Result<(), Fail> {
+    let mut rows: Vec<u8> = Vec::new(rt.alloc());
+    reserve_rows(&mut rows, 3)?;
+    assert!(rt; rows.capacity() == 3);
+    assert!(rt; rows.is_empty());
+    Ok(())
 }
