@@ -1,11 +1,57 @@
 // What a run answers, and what it sends.
+ghost use Rattle.std.specs.Prelude.{◌<◌};
+
 use lpc_base::{MemSink, MemSource};
 use lpc_replay::run_words;
 use std::alloc::Global;
 use std::process::Abort;
 use std::test::Fail;
 
-/// The status and the text for words and a script, which is read in pieces of 7 bytes and sent in pieces of 5.
+// Nothing was asked of the source behind its end or a failure, and 4,096 bytes at most before.
+fn asked_in_pieces(rt: &impl Abort, source: &MemSource) {
+    let asked = source.asked();
+    assert!(rt; asked.late == 0);
+    assert!(rt; asked.widest <= 4096);
+}
+
+/// The status and the text for words, over a source and a sink.
+pub fn runs(
+    rt: &impl Abort,
+    alloc: Global,
+    words: &[&str],
+    source: &mut MemSource,
+    sink: &mut MemSink,
+    status: u8,
+    text: &str,
+) -> Result<(), Fail> {
+    let mut given = Vec::new(alloc);
+    for word in words {
+        given.push(String::from_str(alloc, word)?)?;
+    }
+    let answer = run_words(alloc, &given, source, sink);
+    assert!(rt; answer == status);
+    assert!(rt; sink.sent() == text.as_bytes());
+    asked_in_pieces(rt, source);
+    Ok(())
+}
+
+/// A source that gives a script in pieces of so many bytes, and fails the calls of these numbers.
+pub fn source(alloc: Global, script: &[u8], piece: usize, fails: &[u64]) -> Result<MemSource, Fail>
+    requires { 0 < piece }
+{
+    let script = script.to_vec(alloc)?;
+    let fails = fails.to_vec(alloc)?;
+    Ok(MemSource::new(script, piece, fails))
+}
+
+/// A sink that has room for so many bytes, takes 5 a call, and fails the calls of these numbers.
+pub fn sink(alloc: Global, room: usize, fails: &[u64]) -> Result<MemSink, Fail> {
+    let fails = fails.to_vec(alloc)?;
+    let sink = MemSink::new(alloc, room, 5, fails)?;
+    Ok(sink)
+}
+
+/// The status and the text for words and a script, which is read in pieces of 7 bytes.
 pub fn answered(
     rt: &impl Abort,
     alloc: Global,
@@ -14,50 +60,33 @@ pub fn answered(
     status: u8,
     text: &str,
 ) -> Result<(), Fail> {
-    let mut given = Vec::new(alloc);
-    for word in words {
-        given.push(String::from_str(alloc, word)?)?;
-    }
-    let mut source = MemSource::new(script.to_vec(alloc)?, 7, Vec::new(alloc));
-    let mut sink = MemSink::new(alloc, 4096, 5, Vec::new(alloc))?;
-    let answer = run_words(alloc, &given, &mut source, &mut sink);
-    assert!(rt; answer == status);
-    assert!(rt; sink.sent() == text.as_bytes());
-    asked_in_pieces(rt, &source);
-    Ok(())
+    let mut source = source(alloc, script, 7, &[])?;
+    let mut sink = sink(alloc, 4096, &[])?;
+    runs(rt, alloc, words, &mut source, &mut sink, status, text)
 }
 
-/// Nothing was asked of the source behind its end or a failure, and 4,096 bytes at most before.
-pub fn asked_in_pieces(rt: &impl Abort, source: &MemSource) {
-    let asked = source.asked();
-    assert!(rt; asked.late == 0);
-    assert!(rt; asked.widest <= 4096);
-}
-
-fn joined(alloc: Global, parts: &[&str]) -> Result<String, Fail> {
-    let mut text = String::new(alloc);
-    for part in parts {
-        text.push_str(part)?;
-    }
-    Ok(text)
-}
-
-/// The same for a replay of lines.
+/// The same for a replay of a script.
 pub fn replayed(
     rt: &impl Abort,
     alloc: Global,
-    script: &[&str],
+    script: &str,
     status: u8,
-    text: &[&str],
+    text: &str,
 ) -> Result<(), Fail> {
-    let script = joined(alloc, script)?;
-    let text = joined(alloc, text)?;
-    answered(
-        rt,
-        alloc,
-        &["replay"],
-        script.as_bytes(),
-        status,
-        text.as_str(),
-    )
+    answered(rt, alloc, &["replay"], script.as_bytes(), status, text)
+}
+
+/// The same for a script without a fault, where `~` stands for a part so many times, in the script and in the text.
+pub fn replayed_with(
+    rt: &impl Abort,
+    alloc: Global,
+    part: &str,
+    times: usize,
+    script: &str,
+    text: &str,
+) -> Result<(), Fail> {
+    let part = part.repeat(alloc, times)?;
+    let script = script.replace(alloc, '~', part.as_str())?;
+    let text = text.replace(alloc, '~', part.as_str())?;
+    replayed(rt, alloc, script.as_str(), 0, text.as_str())
 }
