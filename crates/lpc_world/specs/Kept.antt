@@ -136,6 +136,22 @@ pub record Roomy (old new : Room) : Type 0 where
   pub for_names : old.names ≤ new.names
   pub for_handles : (pid : ℕ) → handle_room old pid ≤ handle_room new pid
 
+-- a step was taken that leaves these rows; it made no row or number, no key came or went, and no room was lost
+pub record IsStep (left : World) (old new : Kept) : Type 0 where
+  pub rows : new.rows ≡ left
+  pub births : new.births ≡ old.births
+  pub calls : new.calls ≡ old.calls
+  pub made : new.made ≡ old.made
+  pub room : Roomy old.room new.room
+
+-- one was taken that made one row or number
+pub record IsMakingStep (left : World) (old new : Kept) : Type 0 where
+  pub rows : new.rows ≡ left
+  pub births : new.births ≡ old.births
+  pub calls : new.calls ≡ old.calls
+  pub made : new.made ≡ old.made + 1
+  pub room : Roomy old.room new.room
+
 -- a thread waits for the answer to a request or connect that isn't received
 abbrev pub pends_as : ℕ → WaitRow → Bool
 pends_as tid x = waits_as tid x && is_pending x

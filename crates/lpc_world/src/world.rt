@@ -4,21 +4,19 @@
 //
 // Each call that adds a row or draws a number asks for the spare room, and that fewer than 16 rows and numbers were made for
 // each call so far, with those that are owed: each open client port owes the message that tells that it is closed.
-ghost use Rattle.std.specs.Prelude.{◌≡◌, ◌+◌, ◌*◌, ◌<◌, ◌≤◌, ◌↔◌, ◌||◌, [], None, Some, true, false, IfSome, IfNone, IfOk, IsErr, OnOk, OnErr, is_some, length};
+ghost use Rattle.std.specs.Prelude.{◌≡◌, ◌+◌, ◌<◌, ◌≤◌, ◌↔◌, ◌||◌, [], None, Some, true, false, IfSome, IfNone, IfOk, IsErr, OnOk, OnErr, is_some, length};
 ghost use Rattle.lpc_base.specs.Room.{grown_room};
-ghost use Rattle.lpc_base.specs.Rows.{first, has, without};
+ghost use Rattle.lpc_base.specs.Rows.{has};
 ghost use Rattle.lpc_model.specs.World.{no_rows};
 ghost use Rattle.lpc_model.specs.Found.{free_handle, handles_of, is_live_thread, is_process, is_table, is_thread, port_row, was_process, was_thread, waits_as};
-ghost use Rattle.lpc_model.specs.Basics.{basic, AddsProcess, AddsThread, Awaits, DrawsIdentifier, DrawsOrdinal, Makes, Receives, Takes, Withdraws};
-ghost use Rattle.lpc_model.specs.Entering.{takes};
+ghost use Rattle.lpc_model.specs.Basics.{AddsProcess, AddsThread, Awaits, DrawsIdentifier, DrawsOrdinal, Receives, Takes, Withdraws};
 ghost use Rattle.lpc_model.specs.Machine.{new_process, new_thread};
-ghost use Rattle.lpc_model.specs.Message.{asks, message_of};
-ghost use Rattle.lpc_model.specs.Tests as tests;
+ghost use Rattle.lpc_model.specs.Message.{message_of};
 ghost use Rattle.lpc_procs.specs.Procs.{IsNumber, most_rows};
 ghost use Rattle.lpc_world.specs.Names.{KeepsNames, name_of, some_stands, stands};
 ghost use Rattle.lpc_world.specs.Shown.{object_stands};
 ghost use Rattle.lpc_world.specs.Lawful.{drew, is_quiet};
-ghost use Rattle.lpc_world.specs.Kept.{CanMake, HasWholeBudget, Roomy, Same, StaysReady, StaysUnqueued, handle_room, has_queued, is_unsent, owed_handles, owed_messages, owed_waits, process_rows};
+ghost use Rattle.lpc_world.specs.Kept.{CanMake, HasWholeBudget, IsMakingStep, IsStep, Roomy, Same, StaysReady, StaysUnqueued, handle_room, has_queued, is_unsent, owed_handles, owed_messages, owed_waits, process_rows};
 ghost use Rattle.lpc_world.specs.Ready.{IsWait};
 ghost use Rattle.lpc_world.specs.Untold.{closing_places, is_owed};
 ghost use Rattle.lpc_base.specs.declared.limits.TheConstants.{HANDLE_LIMIT, HEADER_SIZE, LINES_LIMIT, MESSAGE_LIMIT};
@@ -129,12 +127,8 @@ impl World {
         requires stands { has (is_thread tid) self.old.rows.threads ≡ true }
         requires budget { CanMake self.old }
         ensures number { identifier_next self.old.rows tid ≡ Some result }
-        ensures rows { self.new.rows ≡ after self.old (DrawsIdentifier tid) }
-        ensures births { self.new.births ≡ self.old.births }
-        ensures calls { self.new.calls ≡ self.old.calls }
+        ensures step { IsMakingStep (after self.old (DrawsIdentifier tid)) self.old self.new }
         ensures loose { self.new.loose ≡ self.old.loose }
-        ensures made { self.new.made ≡ self.old.made + 1 }
-        ensures room { Roomy self.old.room self.new.room }
     {
         self.made += 1;
         self.procs.draw_identifier(tid)
@@ -147,12 +141,8 @@ impl World {
         ensures birth { birth_next self.old.rows tid ≡ Some result }
         ensures fresh { port_row self.new.rows result ≡ None }
         ensures drawn { has (drew result) self.new.rows.threads ≡ true }
-        ensures rows { self.new.rows ≡ after self.old (DrawsOrdinal tid) }
-        ensures births { self.new.births ≡ self.old.births }
-        ensures calls { self.new.calls ≡ self.old.calls }
+        ensures step { IsMakingStep (after self.old (DrawsOrdinal tid)) self.old self.new }
         ensures loose { self.new.loose ≡ self.old.loose }
-        ensures made { self.new.made ≡ self.old.made + 1 }
-        ensures room { Roomy self.old.room self.new.room }
     {
         self.made += 1;
         self.procs.draw_birth(tid)
@@ -263,15 +253,11 @@ impl World {
     pub fn ports_pull(&mut self, queue: Key) -> Option<Message>
         requires { stands self.old.births.ports queue ≡ true }
         ensures message { pulled self.old queue result ≡ oldest self.old queue }
-        ensures rows { self.new.rows ≡ after self.old (Takes (birth_at self.old queue)) }
+        ensures step { IsStep (after self.old (Takes (birth_at self.old queue))) self.old self.new }
         ensures none { IfNone result (self.new.rows ≡ self.old.rows) }
-        ensures births { self.new.births ≡ self.old.births }
         ensures long { IfSome result (λ m. HEADER_SIZE ≤ length m.bytes.items) }
         ensures bound { IfSome result (λ m. length m.bytes.items ≤ MESSAGE_LIMIT) }
-        ensures calls { self.new.calls ≡ self.old.calls }
         ensures loose { self.new.loose ≡ (is_some result || self.old.loose) }
-        ensures made { self.new.made ≡ self.old.made }
-        ensures room { Roomy self.old.room self.new.room }
         ensures left { IfSome result (λ m. HasLeft self.new.rows (message_of m.bytes.items)) }
         ensures unqueued { StaysUnqueued self.old.rows self.new.rows }
     {
@@ -283,12 +269,8 @@ impl World {
     /// The thread's own messages leave their queues: the request or connection request with which it waits, where it isn't
     /// received yet. Nothing changes where there is none.
     pub fn messages_withdraw(&mut self, tid: u32)
-        ensures rows { self.new.rows ≡ after self.old (Withdraws tid) }
-        ensures births { self.new.births ≡ self.old.births }
-        ensures calls { self.new.calls ≡ self.old.calls }
+        ensures step { IsStep (after self.old (Withdraws tid)) self.old self.new }
         ensures loose { self.new.loose ≡ (has_queued self.old.rows tid || self.old.loose) }
-        ensures made { self.new.made ≡ self.old.made }
-        ensures room { Roomy self.old.room self.new.room }
         ensures left { has_queued self.new.rows tid ≡ false }
         ensures unqueued { StaysUnqueued self.old.rows self.new.rows }
     {
@@ -307,12 +289,9 @@ impl World {
         requires table { connects wait ≡ true → has_table self.old.rows wait.process ≡ true }
         requires load { connects wait ≡ true → HasSmallLoad self.old.rows wait.process }
         requires handles { connects wait ≡ true → HasHandleRoom self.old wait.process }
-        ensures rows { self.new.rows ≡ after self.old (Awaits (new_wait self.old tid wait)) }
-        ensures births { self.new.births ≡ self.old.births }
-        ensures calls { self.new.calls ≡ self.old.calls }
+        ensures step { let left = after self.old (Awaits (new_wait self.old tid wait)) in
+            IsMakingStep left self.old self.new }
         ensures loose { self.new.loose ≡ self.old.loose }
-        ensures made { self.new.made ≡ self.old.made + 1 }
-        ensures room { Roomy self.old.room self.new.room }
         ensures unsent { pends self.old tid wait ≡ true → is_unsent self.new.rows tid ≡ true }
     {
         self.made += 1;
@@ -323,12 +302,9 @@ impl World {
     pub fn waits_set_message(&mut self, tid: u32, bytes: &[u8])
         requires waits { has (waits_as tid) self.old.rows.waits ≡ true }
         requires bound { length bytes.now ≤ MESSAGE_LIMIT }
-        ensures rows { self.new.rows ≡ waiting_with self.old.rows tid (message_of bytes.now) }
-        ensures births { self.new.births ≡ self.old.births }
-        ensures calls { self.new.calls ≡ self.old.calls }
+        ensures step { let left = waiting_with self.old.rows tid (message_of bytes.now) in
+            IsStep left self.old self.new }
         ensures loose { self.new.loose ≡ self.old.loose }
-        ensures made { self.new.made ≡ self.old.made }
-        ensures room { Roomy self.old.room self.new.room }
     {
         self.waits.set_message(tid, bytes);
     }
@@ -339,12 +315,8 @@ impl World {
         requires { has_queued self.old.rows tid ≡ false }
         ensures some { is_some result ≡ has (waits_as tid) self.old.rows.waits }
         ensures wait { IfSome result (λ wait. IsWait self.old tid wait) }
-        ensures rows { self.new.rows ≡ without_wait self.old.rows tid }
-        ensures births { self.new.births ≡ self.old.births }
-        ensures calls { self.new.calls ≡ self.old.calls }
+        ensures step { IsStep (without_wait self.old.rows tid) self.old self.new }
         ensures loose { self.new.loose ≡ true }
-        ensures made { self.new.made ≡ self.old.made }
-        ensures room { Roomy self.old.room self.new.room }
         ensures still { StaysReady self.old.rows self.new.rows }
         ensures unqueued { StaysUnqueued self.old.rows self.new.rows }
     {
@@ -357,12 +329,9 @@ impl World {
     pub fn waits_receive(&mut self, tid: u32, queue: Key)
         requires queue { stands self.old.births.ports queue ≡ true }
         requires left { has_queued self.old.rows tid ≡ false }
-        ensures rows { self.new.rows ≡ after self.old (Receives tid (birth_at self.old queue)) }
-        ensures births { self.new.births ≡ self.old.births }
-        ensures calls { self.new.calls ≡ self.old.calls }
+        ensures step { let left = after self.old (Receives tid (birth_at self.old queue)) in
+            IsStep left self.old self.new }
         ensures loose { self.new.loose ≡ self.old.loose }
-        ensures made { self.new.made ≡ self.old.made }
-        ensures room { Roomy self.old.room self.new.room }
         ensures unqueued { StaysUnqueued self.old.rows self.new.rows }
     {
         if self.waits_on(tid, queue) {

@@ -5,7 +5,7 @@ ghost use Rattle.lpc_model.specs.Basics.{Cuts, DropsHandle, Empties, Unbinds};
 ghost use Rattle.lpc_model.specs.Found.{handle_count, holders, is_table, pointer_count};
 ghost use Rattle.lpc_model.specs.declared.entry.ObjectKind.TheVariants as kind;
 ghost use Rattle.lpc_world.specs.Closing.{HasMutualPairs, closed_row_of, server_at, told_at};
-ghost use Rattle.lpc_world.specs.Kept.{Roomy};
+ghost use Rattle.lpc_world.specs.Kept.{IsStep, Roomy};
 ghost use Rattle.lpc_world.specs.Names.{some_stands, stands};
 ghost use Rattle.lpc_world.specs.Ready.{HasRow, is_ready};
 ghost use Rattle.lpc_world.specs.Shown.{object_stands};
@@ -23,12 +23,9 @@ impl World {
     /// All names of a port go.
     pub fn names_unbind(&mut self, port: Key)
         requires port { stands self.old.births.ports port ≡ true }
-        ensures rows { self.new.rows ≡ after self.old (Unbinds (birth_at self.old port)) }
-        ensures births { self.new.births ≡ self.old.births }
-        ensures calls { self.new.calls ≡ self.old.calls }
+        ensures step { let left = after self.old (Unbinds (birth_at self.old port)) in
+            IsStep left self.old self.new }
         ensures loose { self.new.loose ≡ self.old.loose }
-        ensures made { self.new.made ≡ self.old.made }
-        ensures room { Roomy self.old.room self.new.room }
     {
         self.names.unbind_all(port);
     }
@@ -36,12 +33,9 @@ impl World {
     /// All messages in the queue of a port go.
     pub fn messages_empty(&mut self, port: Key)
         requires port { stands self.old.births.ports port ≡ true }
-        ensures rows { self.new.rows ≡ after self.old (Empties (birth_at self.old port)) }
-        ensures births { self.new.births ≡ self.old.births }
-        ensures calls { self.new.calls ≡ self.old.calls }
+        ensures step { let left = after self.old (Empties (birth_at self.old port)) in
+            IsStep left self.old self.new }
         ensures loose { self.new.loose ≡ true }
-        ensures made { self.new.made ≡ self.old.made }
-        ensures room { Roomy self.old.room self.new.room }
     {
         self.loose = true;
         self.ports.empty(port);
@@ -51,12 +45,8 @@ impl World {
     pub fn ports_cut(&mut self, port: Key)
         requires port { stands self.old.births.ports port ≡ true }
         requires pairs { HasMutualPairs self.old.rows }
-        ensures rows { self.new.rows ≡ after self.old (Cuts (birth_at self.old port)) }
-        ensures births { self.new.births ≡ self.old.births }
-        ensures calls { self.new.calls ≡ self.old.calls }
+        ensures step { IsStep (after self.old (Cuts (birth_at self.old port))) self.old self.new }
         ensures loose { self.new.loose ≡ true }
-        ensures made { self.new.made ≡ self.old.made }
-        ensures room { Roomy self.old.room self.new.room }
     {
         self.loose = true;
         self.ports.cut(port);

@@ -1,11 +1,11 @@
 // The changes that a connection makes: its ports are joined and completed, a connect is accepted, and a connection request
 // is taken from its queue.
 ghost use Rattle.std.specs.Prelude.{◌≡◌, ◌≤◌, ◌<◌, ◌||◌, true, false, IfSome, IfNone, is_some, length};
-ghost use Rattle.lpc_base.specs.Rows.{first, has};
+ghost use Rattle.lpc_base.specs.Rows.{has};
 ghost use Rattle.lpc_model.specs.Basics.{Accepts, TakesConnect};
 ghost use Rattle.lpc_model.specs.Found.{is_accepted, waits_as};
 ghost use Rattle.lpc_model.specs.Message.{message_of};
-ghost use Rattle.lpc_world.specs.Kept.{Roomy, StaysReady, StaysUnqueued};
+ghost use Rattle.lpc_world.specs.Kept.{IsStep, Roomy, StaysReady, StaysUnqueued};
 ghost use Rattle.lpc_world.specs.Names.{stands};
 ghost use Rattle.lpc_world.specs.Ready.{waiter};
 ghost use Rattle.lpc_base.specs.declared.limits.TheConstants.{HEADER_SIZE, MESSAGE_LIMIT};
@@ -21,12 +21,8 @@ impl World {
     pub fn ports_join(&mut self, client: Key, server: Key, context: u32)
         requires client { stands self.old.births.ports client ≡ true }
         requires server { stands self.old.births.ports server ≡ true }
-        ensures rows { self.new.rows ≡ joined self.old client server context }
-        ensures births { self.new.births ≡ self.old.births }
-        ensures calls { self.new.calls ≡ self.old.calls }
+        ensures step { IsStep (joined self.old client server context) self.old self.new }
         ensures loose { self.new.loose ≡ true }
-        ensures made { self.new.made ≡ self.old.made }
-        ensures room { Roomy self.old.room self.new.room }
     {
         self.loose = true;
         self.ports.join(client, server, context);
@@ -35,12 +31,8 @@ impl World {
     /// The connection of a port is completed, or isn't any more.
     pub fn ports_set_completed(&mut self, port: Key, completed: bool)
         requires { stands self.old.births.ports port ≡ true }
-        ensures rows { self.new.rows ≡ with_completion self.old port completed }
-        ensures births { self.new.births ≡ self.old.births }
-        ensures calls { self.new.calls ≡ self.old.calls }
+        ensures step { IsStep (with_completion self.old port completed) self.old self.new }
         ensures loose { self.new.loose ≡ self.old.loose }
-        ensures made { self.new.made ≡ self.old.made }
-        ensures room { Roomy self.old.room self.new.room }
     {
         self.ports.set_completed(port, completed);
     }
@@ -69,15 +61,12 @@ impl World {
     pub fn ports_pull_connect(&mut self, queue: Key) -> Option<Message>
         requires { stands self.old.births.ports queue ≡ true }
         ensures message { pulled self.old queue result ≡ oldest_connect self.old queue }
-        ensures rows { self.new.rows ≡ after self.old (TakesConnect (birth_at self.old queue)) }
+        ensures step { let left = after self.old (TakesConnect (birth_at self.old queue)) in
+            IsStep left self.old self.new }
         ensures none { IfNone result (self.new.rows ≡ self.old.rows) }
-        ensures births { self.new.births ≡ self.old.births }
         ensures long { IfSome result (λ m. HEADER_SIZE ≤ length m.bytes.items) }
         ensures bound { IfSome result (λ m. length m.bytes.items ≤ MESSAGE_LIMIT) }
-        ensures calls { self.new.calls ≡ self.old.calls }
         ensures loose { self.new.loose ≡ (is_some result || self.old.loose) }
-        ensures made { self.new.made ≡ self.old.made }
-        ensures room { Roomy self.old.room self.new.room }
         ensures left { IfSome result (λ m. HasLeft self.new.rows (message_of m.bytes.items)) }
         ensures unqueued { StaysUnqueued self.old.rows self.new.rows }
     {

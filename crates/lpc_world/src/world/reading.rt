@@ -1,6 +1,6 @@
 // What is found in the world, in the definitions' words. An object that is found by its key stands.
-ghost use Rattle.std.specs.Prelude.{◌≡◌, ◌<◌, ◌≤◌, ◌&&◌, None, Some, Ok, Err, true, false, is_none, IfSome, IfOk, OnOk, length, option_map};
-ghost use Rattle.lpc_base.specs.Rows.{count, first, has};
+ghost use Rattle.std.specs.Prelude.{◌≡◌, ◌<◌, ◌&&◌, None, Some, Ok, Err, true, false, is_none, IfSome, IfOk, OnOk, length, option_map};
+ghost use Rattle.lpc_base.specs.Rows.{count, has};
 ghost use Rattle.lpc_model.specs.Found as found;
 ghost use Rattle.lpc_model.specs.Found.{datagrams, handle_at, handles_of, is_live_thread, is_table, is_the, is_thread, live_count, objects, same_birth, waits_as, waits_at, was_process, was_thread};
 ghost use Rattle.lpc_model.specs.Request as request;

@@ -1,5 +1,5 @@
 // The steps that several services share: a message is read, a wait begins and ends, a message enters its queue.
-ghost use Rattle.std.specs.Prelude.{◌≡◌, ◌≤◌, ◌<◌, ◌+◌, ◌*◌, [], ◌∷◌, ◌++◌, Ok, Err, None, Some, true, false, IfOk, length};
+ghost use Rattle.std.specs.Prelude.{◌≡◌, ◌≤◌, ◌<◌, ◌+◌, [], ◌∷◌, ◌++◌, Ok, Err, None, Some, true, false, IfOk, length};
 ghost use Rattle.lpc_base.specs.Rows.{has};
 ghost use Rattle.lpc_base.specs.declared.status.TheConstants.{SUCCESS};
 ghost use Rattle.lpc_model.specs.Basics.{told, Awaits, Wakes};
@@ -7,10 +7,8 @@ ghost use Rattle.lpc_model.specs.Entering.{end_connect, enter, takes};
 ghost use Rattle.lpc_model.specs.Found.{free_handle, is_connect, is_live_thread, is_table, waits_as};
 ghost use Rattle.lpc_world.specs.Does.{has_no_read};
 ghost use Rattle.lpc_model.specs.Message.{asks, is_connection_request, message_of, message_test};
-ghost use Rattle.lpc_model.specs.Tests as tests;
-ghost use Rattle.lpc_waits.specs.Table as waits;
 ghost use Rattle.lpc_world.specs.Does.{Took};
-ghost use Rattle.lpc_world.specs.Kept.{CanMake, Roomy, StaysReady, StaysUnqueued, has_queued, is_unsent};
+ghost use Rattle.lpc_world.specs.Kept.{CanMake, IsMakingStep, IsStep, Roomy, StaysReady, StaysUnqueued, has_queued, is_unsent};
 ghost use Rattle.lpc_world.specs.Lawful.{is_quiet};
 ghost use Rattle.lpc_world.specs.Names.{stands};
 ghost use Rattle.lpc_world.specs.Ready.{waiter};
@@ -81,13 +79,9 @@ impl World {
         requires table { connects wait ≡ true → has_table self.old.rows wait.process ≡ true }
         requires load { connects wait ≡ true → HasSmallLoad self.old.rows wait.process }
         requires handles { connects wait ≡ true → HasHandleRoom self.old wait.process }
-        ensures rows { self.new.rows
-            ≡ after self.old (Awaits (with_message message.now (new_wait self.old tid wait))) }
-        ensures births { self.new.births ≡ self.old.births }
-        ensures calls { self.new.calls ≡ self.old.calls }
+        ensures step { let row = with_message message.now (new_wait self.old tid wait) in
+            IsMakingStep (after self.old (Awaits row)) self.old self.new }
         ensures loose { self.new.loose ≡ self.old.loose }
-        ensures made { self.new.made ≡ self.old.made + 1 }
-        ensures room { Roomy self.old.room self.new.room }
         ensures unsent { pends self.old tid wait ≡ true → is_unsent self.new.rows tid ≡ true }
     {
         self.waits_add(tid, wait);
@@ -100,12 +94,9 @@ impl World {
         requires waits { has (waits_as tid) self.old.rows.waits ≡ true }
         requires plain { has_no_read fields ≡ true }
         requires left { has_queued self.old.rows tid ≡ false }
-        ensures rows { self.new.rows ≡ after self.old (waking self.old tid status fields) }
-        ensures births { self.new.births ≡ self.old.births }
-        ensures calls { self.new.calls ≡ self.old.calls }
+        ensures step { let left = after self.old (waking self.old tid status fields) in
+            IsStep left self.old self.new }
         ensures loose { self.new.loose ≡ true }
-        ensures made { self.new.made ≡ self.old.made }
-        ensures room { Roomy self.old.room self.new.room }
         ensures list { out.new.list ≡ out.old.list ++ told (waking self.old tid status fields) }
         ensures spare { out.new.spare + 1 ≡ out.old.spare }
         ensures still { StaysReady self.old.rows self.new.rows }
@@ -127,12 +118,8 @@ impl World {
         requires spare { 1 ≤ out.old.spare }
         requires plain { has_no_read fields ≡ true }
         requires left { has_queued self.old.rows tid ≡ false }
-        ensures rows { self.new.rows ≡ after self.old (Wakes tid call status fields) }
-        ensures births { self.new.births ≡ self.old.births }
-        ensures calls { self.new.calls ≡ self.old.calls }
+        ensures step { IsStep (after self.old (Wakes tid call status fields)) self.old self.new }
         ensures loose { self.new.loose ≡ true }
-        ensures made { self.new.made ≡ self.old.made }
-        ensures room { Roomy self.old.room self.new.room }
         ensures list { out.new.list ≡ out.old.list ++ told (Wakes tid call status fields) }
         ensures spare { out.new.spare + 1 ≡ out.old.spare }
         ensures still { StaysReady self.old.rows self.new.rows }

@@ -9,7 +9,7 @@ returns-clause-takes c =
     completed c.args.world.now.rows c.args.out.now.list c.args.world.now.loose (shown_thread c.args.by.now) (name_of c.args.world.now.births.ports c.args.connection.server) (name_of c.args.world.now.births.ports c.args.connection.client) c.args.connection.thread
     c.ports_set_completed.new.self.rows c.ports_set_completed-2.new.self.rows c.connects_finish-value.new.self.rows c.push.new.self.list c.push-2.new.self.list c.connects_finish-value.new.self.loose
     (name_of c.ports_set_completed.new.self.births.ports c.args.connection.client) (name_of c.ports_set_completed-2.new.self.births.ports c.args.connection.client) c.connects_finish-value.result c.waiting_call-call.result c.completion_fields.result
-    c.ports_set_completed.ensures.rows c.ports_set_completed-2.ensures.rows
-    (rw (c.ports_set_completed.ensures.births) refl) (rw (c.ports_set_completed-2.ensures.births, c.ports_set_completed.ensures.births) refl)
+    c.ports_set_completed.ensures.step.rows c.ports_set_completed-2.ensures.step.rows
+    (rw (c.ports_set_completed.ensures.step.births) refl) (rw (c.ports_set_completed-2.ensures.step.births, c.ports_set_completed.ensures.step.births) refl)
     c.connects_finish-value.ensures.value c.connects_finish-value.ensures.rows
     c.waiting_call-call.ensures.call c.requires.thread (rw (← c.reply_bytes-reply.ensures) c.completion_fields.ensures) (rw (← c.none.ensures) c.push.ensures.list) c.push-2.ensures.list c.connects_finish-value.ensures.loose

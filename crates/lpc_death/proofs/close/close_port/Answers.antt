@@ -17,12 +17,12 @@ pub post_closed-requires-clause-untold : goal.post_closed-requires-clause-untold
 post_closed-requires-clause-untold c =
     let w = c.args.world.now.rows in
     let b = name_of c.args.world.now.births.ports c.args.port in
-    let one = c.names_unbind.ensures.births in
+    let one = c.names_unbind.ensures.step.births in
     let two = c.end_all.ensures.births ∙ one in
     let three = c.end_all-2.ensures.births ∙ two in
     let four = c.empty_queue.ensures.births ∙ three in
     let five = c.cut_pair.ensures.births ∙ four in
-    let unbound : c.names_unbind.new.self.rows ≡ stage_one w b = c.names_unbind.ensures.rows in
+    let unbound : c.names_unbind.new.self.rows ≡ stage_one w b = c.names_unbind.ensures.step.rows in
     let received : c.end_all.new.self.rows ≡ stage_two w b = ap (λ (l : Left). l.world) (rw one at c.end_all.ensures.took) ∙ ap (behind (end_receives b)) unbound in
     let requested : c.end_all-2.new.self.rows ≡ stage_three w b = ap (λ (l : Left). l.world) (rw two at c.end_all-2.ensures.took) ∙ ap (behind (end_requests b)) received in
     let emptied : c.empty_queue.new.world.rows ≡ stage_four w b = ap (λ (l : Left). l.world) (rw three at c.empty_queue.ensures.takes) ∙ ap (behind (empty_queue b)) requested in
@@ -45,12 +45,12 @@ returns-clause-takes c =
     let names : Steps = doing (Unbinds b ∷ []) in
     let receives : Steps = end_all Receives b in
     let requests : Steps = end_all Requests b in
-    let unbound = took-one (Unbinds b) w one out refl c.names_unbind.ensures.rows c.names_unbind.ensures.loose in
-    let received = rw (c.names_unbind.ensures.births) at c.end_all.ensures.took in
-    let requested = rw (c.end_all.ensures.births, c.names_unbind.ensures.births) at c.end_all-2.ensures.took in
-    let emptied = rw (c.end_all-2.ensures.births, c.end_all.ensures.births, c.names_unbind.ensures.births) at c.empty_queue.ensures.takes in
-    let cut = rw (c.empty_queue.ensures.births, c.end_all-2.ensures.births, c.end_all.ensures.births, c.names_unbind.ensures.births) at c.cut_pair.ensures.takes in
-    let posted = rw (c.cut_pair.ensures.births, c.empty_queue.ensures.births, c.end_all-2.ensures.births, c.end_all.ensures.births, c.names_unbind.ensures.births) at c.post_closed.ensures.takes in
+    let unbound = took-one (Unbinds b) w one out refl c.names_unbind.ensures.step.rows c.names_unbind.ensures.loose in
+    let received = rw (c.names_unbind.ensures.step.births) at c.end_all.ensures.took in
+    let requested = rw (c.end_all.ensures.births, c.names_unbind.ensures.step.births) at c.end_all-2.ensures.took in
+    let emptied = rw (c.end_all-2.ensures.births, c.end_all.ensures.births, c.names_unbind.ensures.step.births) at c.empty_queue.ensures.takes in
+    let cut = rw (c.empty_queue.ensures.births, c.end_all-2.ensures.births, c.end_all.ensures.births, c.names_unbind.ensures.step.births) at c.cut_pair.ensures.takes in
+    let posted = rw (c.cut_pair.ensures.births, c.empty_queue.ensures.births, c.end_all-2.ensures.births, c.end_all.ensures.births, c.names_unbind.ensures.step.births) at c.post_closed.ensures.takes in
     took-then names (receives ▹ (requests ▹ (empty_queue b ▹ (cut_pair b ▹ post_closed b)))) w one end out out last unbound
     (took-then receives (requests ▹ (empty_queue b ▹ (cut_pair b ▹ post_closed b))) one two end out c.end_all.new.out last received
     (took-then requests (empty_queue b ▹ (cut_pair b ▹ post_closed b)) two three end c.end_all.new.out c.end_all-2.new.out last requested

@@ -22,7 +22,7 @@ returns-clause-takes c =
     let last : Steps = doing (Cuts b ∷ []) in
     let received = rw (c.end_all.ensures.births) at c.end_all-2.ensures.took in
     let accepted = rw (c.end_all-2.ensures.births, c.end_all.ensures.births) at c.end_all-3.ensures.took in
-    let cut = took-one (Cuts b) three end out refl (rw (c.end_all-3.ensures.births, c.end_all-2.ensures.births, c.end_all.ensures.births) at c.ports_cut.ensures.rows) c.ports_cut.ensures.loose in
+    let cut = took-one (Cuts b) three end out refl (rw (c.end_all-3.ensures.births, c.end_all-2.ensures.births, c.end_all.ensures.births) at c.ports_cut.ensures.step.rows) c.ports_cut.ensures.loose in
     took-then requests (receives ▹ (accepts ▹ last)) w one end c.args.out.now c.end_all.new.out out c.end_all.ensures.took
     (took-then receives (accepts ▹ last) one two end c.end_all.new.out c.end_all-2.new.out out received
     (took-then accepts last two three end c.end_all-2.new.out out out accepted cut))

@@ -17,7 +17,7 @@ returns-clause-takes c =
     let requests : Steps = end_all QueuedRequests b in
     let offers : Steps = end_all Offers b in
     let last : Steps = doing (Empties b ∷ []) in
-    let emptied = took-one (Empties b) two end c.end_all-2.new.out refl (rw (c.end_all-2.ensures.births, c.end_all.ensures.births) at c.messages_empty.ensures.rows) c.messages_empty.ensures.loose in
+    let emptied = took-one (Empties b) two end c.end_all-2.new.out refl (rw (c.end_all-2.ensures.births, c.end_all.ensures.births) at c.messages_empty.ensures.step.rows) c.messages_empty.ensures.loose in
     let offered = rw (c.end_all.ensures.births) at c.end_all-2.ensures.took in
     took-then requests (offers ▹ last) w one end c.args.out.now c.end_all.new.out c.end_all-2.new.out c.end_all.ensures.took
     (took-then offers last one two end c.end_all.new.out c.end_all-2.new.out c.end_all-2.new.out offered emptied)

@@ -11,12 +11,12 @@ use Rattle.lpc_world.proofs.world.World.end_offered.Goals as goal
 
 pub end_connect-requires-clause-connect : goal.end_connect-requires-clause-connect
 end_connect-requires-clause-connect c =
-    ap (λ (v : World). is_connect (waiter v c.args.tid)) c.messages_withdraw.ensures.rows ∙ ap is_connect (same-waiter c.args.self.now.rows c.args.tid) ∙ c.requires.connect
+    ap (λ (v : World). is_connect (waiter v c.args.tid)) c.messages_withdraw.ensures.step.rows ∙ ap is_connect (same-waiter c.args.self.now.rows c.args.tid) ∙ c.requires.connect
 
 pub returns-clause-took : goal.returns-clause-took
 returns-clause-took c =
     let w = c.args.self.now.rows in
     let before = c.messages_withdraw.new.self.loose in
     c.end_connect.ensures.takes
-    ∙ ap (λ (u : World). left_by u c.args.out.now.list before (end_connect [] (waiter u c.args.tid) ∷ [])) c.messages_withdraw.ensures.rows
+    ∙ ap (λ (u : World). left_by u c.args.out.now.list before (end_connect [] (waiter u c.args.tid) ∷ [])) c.messages_withdraw.ensures.step.rows
     ∙ withdrawn-first w c.args.tid PORT_CONNECTION_REFUSED (info [] ∷ []) c.args.out.now.list before c.args.self.now.loose (own-waiter w c.args.tid c.requires.waits)

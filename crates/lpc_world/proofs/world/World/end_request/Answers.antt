@@ -13,7 +13,7 @@ returns-clause-took c =
     let w = c.args.self.now.rows in
     let v = c.messages_withdraw.new.self.rows in
     let before = c.messages_withdraw.new.self.loose in
-    woken-left v c.wake.new.self.rows c.args.out.now.list c.wake.new.out.list before c.wake.new.self.loose (waiter v c.args.tid) c.args.status c.none.result c.wake.ensures.rows c.wake.ensures.list c.wake.ensures.loose
-    ∙ ap (λ (u : World). left_by u c.args.out.now.list before (woken c.args.status c.none.result (waiter u c.args.tid) ∷ [])) c.messages_withdraw.ensures.rows
+    woken-left v c.wake.new.self.rows c.args.out.now.list c.wake.new.out.list before c.wake.new.self.loose (waiter v c.args.tid) c.args.status c.none.result c.wake.ensures.step.rows c.wake.ensures.list c.wake.ensures.loose
+    ∙ ap (λ (u : World). left_by u c.args.out.now.list before (woken c.args.status c.none.result (waiter u c.args.tid) ∷ [])) c.messages_withdraw.ensures.step.rows
     ∙ withdrawn-first w c.args.tid c.args.status c.none.result c.args.out.now.list before c.args.self.now.loose (own-waiter w c.args.tid c.requires.waits)
     ∙ ap (λ (fs : List Field). left_by w c.args.out.now.list c.args.self.now.loose (let x = waiter w c.args.tid in woken c.args.status fs x ∷ Withdraws x.thread ∷ [])) c.none.ensures

@@ -7,14 +7,8 @@ use Rattle.lpc_world.proofs.world.World.messages_withdraw.Goals as goal
 pub invariant_of-self : goal.invariant_of-self
 invariant_of-self c = rw c.withdraw.ensures.table (withdrawn.withdrawn_lawful (tables_of c.self.inside.procs c.self.inside.parts.items c.self.inside.ports c.self.inside.waits c.self.inside.names) c.self.inside.calls c.self.inside.made c.self.invariant c.args.tid)
 
-pub returns-clause-rows : goal.returns-clause-rows
-returns-clause-rows c = rw (← c.self.view_is, c.withdraw.ensures.table) (withdrawn.withdraws (tables_of c.self.inside.procs c.self.inside.parts.items c.self.inside.ports c.self.inside.waits c.self.inside.names) c.self.inside.calls c.self.inside.made c.self.invariant c.args.tid)
-
 pub returns-clause-loose : goal.returns-clause-loose
 returns-clause-loose c = rw (← c.self.view_is) (withdrawn.turned c.self.inside.loose c.withdraw.result ∙ ap (λ b. b || c.self.inside.loose) (c.withdraw.ensures.went ∙ sym (withdrawn.went_same (tables_of c.self.inside.procs c.self.inside.parts.items c.self.inside.ports c.self.inside.waits c.self.inside.names) c.self.inside.calls c.self.inside.made c.self.invariant c.args.tid)))
-
-pub returns-clause-room : goal.returns-clause-room
-returns-clause-room c = rw (← c.self.view_is, c.withdraw.ensures.table) (withdrawn.withdrawn_room (tables_of c.self.inside.procs c.self.inside.parts.items c.self.inside.ports c.self.inside.waits c.self.inside.names) c.self.inside.calls c.self.inside.made c.self.invariant c.args.tid (vec_capacity c.self.inside.parts - vec_len c.self.inside.parts))
 
 pub returns-clause-left : goal.returns-clause-left
 returns-clause-left c = rw c.withdraw.ensures.table (withdrawn.withdrawn_left (tables_of c.self.inside.procs c.self.inside.parts.items c.self.inside.ports c.self.inside.waits c.self.inside.names) c.self.inside.calls c.self.inside.made c.self.invariant c.args.tid)
@@ -22,5 +16,11 @@ returns-clause-left c = rw c.withdraw.ensures.table (withdrawn.withdrawn_left (t
 pub returns-clause-unqueued : goal.returns-clause-unqueued
 returns-clause-unqueued c = rw (← c.self.view_is, c.withdraw.ensures.table) (withdrawn.withdrawn_unqueued (tables_of c.self.inside.procs c.self.inside.parts.items c.self.inside.ports c.self.inside.waits c.self.inside.names) c.self.inside.calls c.self.inside.made c.self.invariant c.args.tid)
 
-pub returns-clause-made : goal.returns-clause-made
-returns-clause-made c = rw (← c.self.view_is, c.withdraw.ensures.table) refl
+pub returns-clause-step : goal.returns-clause-step
+returns-clause-step c = record {
+  rows = rw (← c.self.view_is, c.withdraw.ensures.table) (withdrawn.withdraws (tables_of c.self.inside.procs c.self.inside.parts.items c.self.inside.ports c.self.inside.waits c.self.inside.names) c.self.inside.calls c.self.inside.made c.self.invariant c.args.tid);
+  births = rw (← c.self.view_is, c.withdraw.ensures.table) refl;
+  calls = rw (← c.self.view_is) refl;
+  made = rw (← c.self.view_is, c.withdraw.ensures.table) refl;
+  room = rw (← c.self.view_is, c.withdraw.ensures.table) (withdrawn.withdrawn_room (tables_of c.self.inside.procs c.self.inside.parts.items c.self.inside.ports c.self.inside.waits c.self.inside.names) c.self.inside.calls c.self.inside.made c.self.invariant c.args.tid (vec_capacity c.self.inside.parts - vec_len c.self.inside.parts));
+}

@@ -1,4 +1,4 @@
-use Rattle.std.proofs.Common.{◌-◌, vec_len, vec_capacity}
+use Rattle.std.proofs.Common.{refl, ◌-◌, vec_len, vec_capacity}
 use Rattle.lpc_world.specs.Shown.{tables_of}
 use Rattle.lpc_world.proofs.Unbound as unbound
 use Rattle.lpc_world.proofs.world.World.names_unbind.Goals as goal
@@ -8,12 +8,13 @@ invariant_of-self c =
     let there = rw (← c.self.view_is) at c.requires.port in
     unbound.unbound_lawful (tables_of c.self.inside.procs c.self.inside.parts.items c.self.inside.ports c.self.inside.waits c.self.inside.names) c.self.inside.calls c.self.inside.made c.self.invariant c.args.port there c.unbind_all.new.self c.unbind_all.ensures.bindings
 
-pub returns-clause-rows : goal.returns-clause-rows
-returns-clause-rows c =
-    let there = rw (← c.self.view_is) at c.requires.port in
-    rw (← c.self.view_is) (unbound.unbinds (tables_of c.self.inside.procs c.self.inside.parts.items c.self.inside.ports c.self.inside.waits c.self.inside.names) c.self.inside.calls c.self.inside.made c.self.invariant c.args.port there c.unbind_all.new.self c.unbind_all.ensures.bindings)
-
-pub returns-clause-room : goal.returns-clause-room
-returns-clause-room c =
-    let there = rw (← c.self.view_is) at c.requires.port in
-    rw (← c.self.view_is) (unbound.unbound_room (tables_of c.self.inside.procs c.self.inside.parts.items c.self.inside.ports c.self.inside.waits c.self.inside.names) c.self.inside.calls c.self.inside.made c.self.invariant c.args.port there c.unbind_all.new.self c.unbind_all.ensures.bindings (vec_capacity c.self.inside.parts - vec_len c.self.inside.parts) c.unbind_all.ensures.spare)
+pub returns-clause-step : goal.returns-clause-step
+returns-clause-step c = record {
+  rows = let there = rw (← c.self.view_is) at c.requires.port in
+      rw (← c.self.view_is) (unbound.unbinds (tables_of c.self.inside.procs c.self.inside.parts.items c.self.inside.ports c.self.inside.waits c.self.inside.names) c.self.inside.calls c.self.inside.made c.self.invariant c.args.port there c.unbind_all.new.self c.unbind_all.ensures.bindings);
+  births = rw (← c.self.view_is) refl;
+  calls = rw (← c.self.view_is) refl;
+  made = rw (← c.self.view_is) refl;
+  room = let there = rw (← c.self.view_is) at c.requires.port in
+      rw (← c.self.view_is) (unbound.unbound_room (tables_of c.self.inside.procs c.self.inside.parts.items c.self.inside.ports c.self.inside.waits c.self.inside.names) c.self.inside.calls c.self.inside.made c.self.invariant c.args.port there c.unbind_all.new.self c.unbind_all.ensures.bindings (vec_capacity c.self.inside.parts - vec_len c.self.inside.parts) c.unbind_all.ensures.spare);
+}

@@ -1,3 +1,4 @@
+use Rattle.std.proofs.Common.{refl}
 use Rattle.std.proofs.Common.{arith}
 use Rattle.std.proofs.Common.{◌-◌, vec_len, vec_capacity}
 use Rattle.lpc_world.specs.Shown.{tables_of}
@@ -9,23 +10,16 @@ invariant_of-self c =
     let there = rw (← c.self.view_is) at c.requires in
     rw c.cut.ensures (cut.cut_lawful (tables_of c.self.inside.procs c.self.inside.parts.items c.self.inside.ports c.self.inside.waits c.self.inside.names) c.self.invariant.named c.args.port there.port there.pairs c.self.inside.calls c.self.inside.made c.self.invariant)
 
-pub returns-clause-rows : goal.returns-clause-rows
-returns-clause-rows c =
-    let there = rw (← c.self.view_is) at c.requires in
-    rw (← c.self.view_is, c.cut.ensures) (cut.cuts (tables_of c.self.inside.procs c.self.inside.parts.items c.self.inside.ports c.self.inside.waits c.self.inside.names) c.self.invariant.named c.args.port there.port there.pairs)
-
-pub returns-clause-births : goal.returns-clause-births
-returns-clause-births c =
-    let there = rw (← c.self.view_is) at c.requires in
-    rw (← c.self.view_is, c.cut.ensures) (cut.cut_names (tables_of c.self.inside.procs c.self.inside.parts.items c.self.inside.ports c.self.inside.waits c.self.inside.names) c.self.invariant.named c.args.port there.port there.pairs)
-
-pub returns-clause-room : goal.returns-clause-room
-returns-clause-room c =
-    let there = rw (← c.self.view_is) at c.requires in
-    rw (← c.self.view_is, c.cut.ensures) (cut.cut_room (tables_of c.self.inside.procs c.self.inside.parts.items c.self.inside.ports c.self.inside.waits c.self.inside.names) c.self.invariant.named c.args.port there.port there.pairs (vec_capacity c.self.inside.parts - vec_len c.self.inside.parts))
-
-pub returns-clause-made : goal.returns-clause-made
-returns-clause-made c =
-    let there = rw (← c.self.view_is) at c.requires in
-    let owed = cut.cut_owed (tables_of c.self.inside.procs c.self.inside.parts.items c.self.inside.ports c.self.inside.waits c.self.inside.names) c.self.invariant.named c.args.port there.port there.pairs in
-    rw (← c.self.view_is, c.cut.ensures) (omega (arith, owed))
+pub returns-clause-step : goal.returns-clause-step
+returns-clause-step c = record {
+  rows = let there = rw (← c.self.view_is) at c.requires in
+      rw (← c.self.view_is, c.cut.ensures) (cut.cuts (tables_of c.self.inside.procs c.self.inside.parts.items c.self.inside.ports c.self.inside.waits c.self.inside.names) c.self.invariant.named c.args.port there.port there.pairs);
+  births = let there = rw (← c.self.view_is) at c.requires in
+      rw (← c.self.view_is, c.cut.ensures) (cut.cut_names (tables_of c.self.inside.procs c.self.inside.parts.items c.self.inside.ports c.self.inside.waits c.self.inside.names) c.self.invariant.named c.args.port there.port there.pairs);
+  calls = rw (← c.self.view_is) refl;
+  made = let there = rw (← c.self.view_is) at c.requires in
+      let owed = cut.cut_owed (tables_of c.self.inside.procs c.self.inside.parts.items c.self.inside.ports c.self.inside.waits c.self.inside.names) c.self.invariant.named c.args.port there.port there.pairs in
+      rw (← c.self.view_is, c.cut.ensures) (omega (arith, owed));
+  room = let there = rw (← c.self.view_is) at c.requires in
+      rw (← c.self.view_is, c.cut.ensures) (cut.cut_room (tables_of c.self.inside.procs c.self.inside.parts.items c.self.inside.ports c.self.inside.waits c.self.inside.names) c.self.invariant.named c.args.port there.port there.pairs (vec_capacity c.self.inside.parts - vec_len c.self.inside.parts));
+}

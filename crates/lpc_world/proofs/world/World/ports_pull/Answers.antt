@@ -16,12 +16,6 @@ returns-in_err-message-clause-message c =
     let there = rw (← c.self.view_is) at c.requires in
     rw (← c.self.view_is, steps.none_queued (tables_of c.self.inside.procs c.self.inside.parts.items c.self.inside.ports c.self.inside.waits c.self.inside.names) c.self.inside.calls c.self.inside.made c.self.invariant c.args.queue there (sym c.in_err-message.ensures)) (search rules)
 
-pub returns-in_err-message-clause-rows : goal.returns-in_err-message-clause-rows
-returns-in_err-message-clause-rows c =
-    let there = rw (← c.self.view_is) at c.requires in
-    let none = steps.none_queued (tables_of c.self.inside.procs c.self.inside.parts.items c.self.inside.ports c.self.inside.waits c.self.inside.names) c.self.inside.calls c.self.inside.made c.self.invariant c.args.queue there (sym c.in_err-message.ensures) in
-    rw (← c.self.view_is) (ap (λ ms. record (rows_by (tables_of c.self.inside.procs c.self.inside.parts.items c.self.inside.ports c.self.inside.waits c.self.inside.names)) { messages = ms }) (sym (lawful.without_first-none _ _ none)))
-
 pub pull-requires : goal.pull-requires
 pull-requires c = record { stands = steps.some_message (tables_of c.self.inside.procs c.self.inside.parts.items c.self.inside.ports c.self.inside.waits c.self.inside.names) c.self.inside.calls c.self.inside.made c.self.invariant c.args.queue c.in_ok-message.message (sym c.in_ok-message.ensures) }
 
@@ -37,20 +31,6 @@ returns-clause-message c =
     let there = rw (← c.self.view_is) at c.requires in
     let at = sym c.in_ok-message.ensures in
     rw (← c.self.view_is) (sym (steps.first_message (tables_of c.self.inside.procs c.self.inside.parts.items c.self.inside.ports c.self.inside.waits c.self.inside.names) c.self.inside.calls c.self.inside.made c.self.invariant c.args.queue c.pull.result there (c.pull.ensures.first c.args.queue at)))
-
-pub returns-clause-rows : goal.returns-clause-rows
-returns-clause-rows c =
-    let there = rw (← c.self.view_is) at c.requires in
-    let at = sym c.in_ok-message.ensures in
-    rw (← c.self.view_is, steps.oldest (tables_of c.self.inside.procs c.self.inside.parts.items c.self.inside.ports c.self.inside.waits c.self.inside.names) c.self.inside.calls c.self.inside.made c.self.invariant c.args.queue c.in_ok-message.message c.pull.new.self c.pull.ensures.table (c.pull.ensures.oldest c.args.queue at)) (changes.takes (tables_of c.self.inside.procs c.self.inside.parts.items c.self.inside.ports c.self.inside.waits c.self.inside.names) c.self.invariant.named c.args.queue (c.self.inside.ports.message_room + 1) there)
-
-pub returns-clause-room : goal.returns-clause-room
-returns-clause-room c =
-    let there = rw (← c.self.view_is) at c.requires in
-    let at = sym c.in_ok-message.ensures in
-    let found = steps.first_message (tables_of c.self.inside.procs c.self.inside.parts.items c.self.inside.ports c.self.inside.waits c.self.inside.names) c.self.inside.calls c.self.inside.made c.self.invariant c.args.queue c.pull.result there (c.pull.ensures.first c.args.queue at) in
-    rw (← c.self.view_is, steps.oldest (tables_of c.self.inside.procs c.self.inside.parts.items c.self.inside.ports c.self.inside.waits c.self.inside.names) c.self.inside.calls c.self.inside.made c.self.invariant c.args.queue c.in_ok-message.message c.pull.new.self c.pull.ensures.table (c.pull.ensures.oldest c.args.queue at), ap (λ (v : World). v.messages) (changes.takes (tables_of c.self.inside.procs c.self.inside.parts.items c.self.inside.ports c.self.inside.waits c.self.inside.names) c.self.invariant.named c.args.queue (c.self.inside.ports.message_room + 1) there))
-    (rooms.room_take _ _ _ _ _ _ (rows_by (tables_of c.self.inside.procs c.self.inside.parts.items c.self.inside.ports c.self.inside.waits c.self.inside.names)) _ (name_of (births_of c.self.inside.ports).ports c.args.queue) (pulled_row (births_of c.self.inside.ports) c.args.queue c.pull.result) found)
 
 pub returns-clause-left : goal.returns-clause-left
 returns-clause-left c =
@@ -70,7 +50,30 @@ returns-clause-unqueued c =
 pub returns-clause-long : goal.returns-clause-long
 returns-clause-long c = steps.long_message (tables_of c.self.inside.procs c.self.inside.parts.items c.self.inside.ports c.self.inside.waits c.self.inside.names) c.self.inside.calls c.self.inside.made c.self.invariant c.args.queue c.pull.result (c.pull.ensures.first c.args.queue (sym c.in_ok-message.ensures))
 
-pub returns-clause-made : goal.returns-clause-made
-returns-clause-made c =
-    let at = sym c.in_ok-message.ensures in
-    rw (← c.self.view_is, steps.oldest (tables_of c.self.inside.procs c.self.inside.parts.items c.self.inside.ports c.self.inside.waits c.self.inside.names) c.self.inside.calls c.self.inside.made c.self.invariant c.args.queue c.in_ok-message.message c.pull.new.self c.pull.ensures.table (c.pull.ensures.oldest c.args.queue at)) refl
+pub returns-in_err-message-clause-step : goal.returns-in_err-message-clause-step
+returns-in_err-message-clause-step c = record {
+  rows = let there = rw (← c.self.view_is) at c.requires in
+      let none = steps.none_queued (tables_of c.self.inside.procs c.self.inside.parts.items c.self.inside.ports c.self.inside.waits c.self.inside.names) c.self.inside.calls c.self.inside.made c.self.invariant c.args.queue there (sym c.in_err-message.ensures) in
+      rw (← c.self.view_is) (ap (λ ms. record (rows_by (tables_of c.self.inside.procs c.self.inside.parts.items c.self.inside.ports c.self.inside.waits c.self.inside.names)) { messages = ms }) (sym (lawful.without_first-none _ _ none)));
+  births = rw (← c.self.view_is) refl;
+  calls = rw (← c.self.view_is) refl;
+  made = rw (← c.self.view_is) refl;
+  room = search rules;
+}
+
+pub returns-clause-step : goal.returns-clause-step
+returns-clause-step c = record {
+  rows = let there = rw (← c.self.view_is) at c.requires in
+      let at = sym c.in_ok-message.ensures in
+      rw (← c.self.view_is, steps.oldest (tables_of c.self.inside.procs c.self.inside.parts.items c.self.inside.ports c.self.inside.waits c.self.inside.names) c.self.inside.calls c.self.inside.made c.self.invariant c.args.queue c.in_ok-message.message c.pull.new.self c.pull.ensures.table (c.pull.ensures.oldest c.args.queue at)) (changes.takes (tables_of c.self.inside.procs c.self.inside.parts.items c.self.inside.ports c.self.inside.waits c.self.inside.names) c.self.invariant.named c.args.queue (c.self.inside.ports.message_room + 1) there);
+  births = let at = sym c.in_ok-message.ensures in
+      rw (← c.self.view_is, steps.oldest (tables_of c.self.inside.procs c.self.inside.parts.items c.self.inside.ports c.self.inside.waits c.self.inside.names) c.self.inside.calls c.self.inside.made c.self.invariant c.args.queue c.in_ok-message.message c.pull.new.self c.pull.ensures.table (c.pull.ensures.oldest c.args.queue at)) refl;
+  calls = rw (← c.self.view_is) refl;
+  made = let at = sym c.in_ok-message.ensures in
+      rw (← c.self.view_is, steps.oldest (tables_of c.self.inside.procs c.self.inside.parts.items c.self.inside.ports c.self.inside.waits c.self.inside.names) c.self.inside.calls c.self.inside.made c.self.invariant c.args.queue c.in_ok-message.message c.pull.new.self c.pull.ensures.table (c.pull.ensures.oldest c.args.queue at)) refl;
+  room = let there = rw (← c.self.view_is) at c.requires in
+      let at = sym c.in_ok-message.ensures in
+      let found = steps.first_message (tables_of c.self.inside.procs c.self.inside.parts.items c.self.inside.ports c.self.inside.waits c.self.inside.names) c.self.inside.calls c.self.inside.made c.self.invariant c.args.queue c.pull.result there (c.pull.ensures.first c.args.queue at) in
+      rw (← c.self.view_is, steps.oldest (tables_of c.self.inside.procs c.self.inside.parts.items c.self.inside.ports c.self.inside.waits c.self.inside.names) c.self.inside.calls c.self.inside.made c.self.invariant c.args.queue c.in_ok-message.message c.pull.new.self c.pull.ensures.table (c.pull.ensures.oldest c.args.queue at), ap (λ (v : World). v.messages) (changes.takes (tables_of c.self.inside.procs c.self.inside.parts.items c.self.inside.ports c.self.inside.waits c.self.inside.names) c.self.invariant.named c.args.queue (c.self.inside.ports.message_room + 1) there))
+      (rooms.room_take _ _ _ _ _ _ (rows_by (tables_of c.self.inside.procs c.self.inside.parts.items c.self.inside.ports c.self.inside.waits c.self.inside.names)) _ (name_of (births_of c.self.inside.ports).ports c.args.queue) (pulled_row (births_of c.self.inside.ports) c.args.queue c.pull.result) found);
+}

@@ -8,11 +8,6 @@ returns-in_err-message-clause-message c =
     let there = rw (← c.self.view_is) at c.requires in
     rw (← c.self.view_is, pulls.no_connect (tables_of c.self.inside.procs c.self.inside.parts.items c.self.inside.ports c.self.inside.waits c.self.inside.names) c.self.inside.calls c.self.inside.made c.self.invariant c.args.queue there (sym c.in_err-message.ensures)) (search rules)
 
-pub returns-in_err-message-clause-rows : goal.returns-in_err-message-clause-rows
-returns-in_err-message-clause-rows c =
-    let there = rw (← c.self.view_is) at c.requires in
-    rw (← c.self.view_is) (pulls.takes_none (tables_of c.self.inside.procs c.self.inside.parts.items c.self.inside.ports c.self.inside.waits c.self.inside.names) c.self.inside.calls c.self.inside.made c.self.invariant c.args.queue there (sym c.in_err-message.ensures))
-
 pub pull-requires : goal.pull-requires
 pull-requires c =
     let there = rw (← c.self.view_is) at c.requires in
@@ -30,21 +25,6 @@ pub returns-clause-message : goal.returns-clause-message
 returns-clause-message c =
     let there = rw (← c.self.view_is) at c.requires in
     rw (← c.self.view_is) (sym (pulls.found (tables_of c.self.inside.procs c.self.inside.parts.items c.self.inside.ports c.self.inside.waits c.self.inside.names) c.self.inside.calls c.self.inside.made c.self.invariant c.args.queue there c.pull.result (c.pull.ensures.first_connect c.args.queue (sym c.in_ok-message.ensures))))
-
-pub returns-clause-rows : goal.returns-clause-rows
-returns-clause-rows c =
-    let there = rw (← c.self.view_is) at c.requires in
-    let at = sym c.in_ok-message.ensures in
-    rw (← c.self.view_is, pulls.pulled (tables_of c.self.inside.procs c.self.inside.parts.items c.self.inside.ports c.self.inside.waits c.self.inside.names) c.self.inside.calls c.self.inside.made c.self.invariant c.args.queue there c.in_ok-message.message c.pull.new.self c.pull.ensures.table (c.pull.ensures.oldest_connect c.args.queue at))
-    (pulls.pulls (tables_of c.self.inside.procs c.self.inside.parts.items c.self.inside.ports c.self.inside.waits c.self.inside.names) c.self.inside.calls c.self.inside.made c.self.invariant c.args.queue there)
-
-pub returns-clause-room : goal.returns-clause-room
-returns-clause-room c =
-    let there = rw (← c.self.view_is) at c.requires in
-    let at = sym c.in_ok-message.ensures in
-    let found = pulls.found (tables_of c.self.inside.procs c.self.inside.parts.items c.self.inside.ports c.self.inside.waits c.self.inside.names) c.self.inside.calls c.self.inside.made c.self.invariant c.args.queue there c.pull.result (c.pull.ensures.first_connect c.args.queue at) in
-    rw (← c.self.view_is, pulls.pulled (tables_of c.self.inside.procs c.self.inside.parts.items c.self.inside.ports c.self.inside.waits c.self.inside.names) c.self.inside.calls c.self.inside.made c.self.invariant c.args.queue there c.in_ok-message.message c.pull.new.self c.pull.ensures.table (c.pull.ensures.oldest_connect c.args.queue at))
-    (pulls.pulled_room (tables_of c.self.inside.procs c.self.inside.parts.items c.self.inside.ports c.self.inside.waits c.self.inside.names) c.self.inside.calls c.self.inside.made c.self.invariant c.args.queue there (pulled_row (births_of c.self.inside.ports) c.args.queue c.pull.result) found (vec_capacity c.self.inside.parts - vec_len c.self.inside.parts))
 
 pub returns-clause-left : goal.returns-clause-left
 returns-clause-left c =
@@ -67,8 +47,32 @@ returns-clause-long c =
     let there = rw (← c.self.view_is) at c.requires in
     pulls.long_connect (tables_of c.self.inside.procs c.self.inside.parts.items c.self.inside.ports c.self.inside.waits c.self.inside.names) c.self.inside.calls c.self.inside.made c.self.invariant c.args.queue there c.pull.result (c.pull.ensures.first_connect c.args.queue (sym c.in_ok-message.ensures))
 
-pub returns-clause-made : goal.returns-clause-made
-returns-clause-made c =
-    let there = rw (← c.self.view_is) at c.requires in
-    let at = sym c.in_ok-message.ensures in
-    rw (← c.self.view_is, pulls.pulled (tables_of c.self.inside.procs c.self.inside.parts.items c.self.inside.ports c.self.inside.waits c.self.inside.names) c.self.inside.calls c.self.inside.made c.self.invariant c.args.queue there c.in_ok-message.message c.pull.new.self c.pull.ensures.table (c.pull.ensures.oldest_connect c.args.queue at)) refl
+pub returns-in_err-message-clause-step : goal.returns-in_err-message-clause-step
+returns-in_err-message-clause-step c = record {
+  rows = let there = rw (← c.self.view_is) at c.requires in
+      rw (← c.self.view_is) (pulls.takes_none (tables_of c.self.inside.procs c.self.inside.parts.items c.self.inside.ports c.self.inside.waits c.self.inside.names) c.self.inside.calls c.self.inside.made c.self.invariant c.args.queue there (sym c.in_err-message.ensures));
+  births = rw (← c.self.view_is) refl;
+  calls = rw (← c.self.view_is) refl;
+  made = rw (← c.self.view_is) refl;
+  room = search rules;
+}
+
+pub returns-clause-step : goal.returns-clause-step
+returns-clause-step c = record {
+  rows = let there = rw (← c.self.view_is) at c.requires in
+      let at = sym c.in_ok-message.ensures in
+      rw (← c.self.view_is, pulls.pulled (tables_of c.self.inside.procs c.self.inside.parts.items c.self.inside.ports c.self.inside.waits c.self.inside.names) c.self.inside.calls c.self.inside.made c.self.invariant c.args.queue there c.in_ok-message.message c.pull.new.self c.pull.ensures.table (c.pull.ensures.oldest_connect c.args.queue at))
+      (pulls.pulls (tables_of c.self.inside.procs c.self.inside.parts.items c.self.inside.ports c.self.inside.waits c.self.inside.names) c.self.inside.calls c.self.inside.made c.self.invariant c.args.queue there);
+  births = let there = rw (← c.self.view_is) at c.requires in
+      let at = sym c.in_ok-message.ensures in
+      rw (← c.self.view_is, pulls.pulled (tables_of c.self.inside.procs c.self.inside.parts.items c.self.inside.ports c.self.inside.waits c.self.inside.names) c.self.inside.calls c.self.inside.made c.self.invariant c.args.queue there c.in_ok-message.message c.pull.new.self c.pull.ensures.table (c.pull.ensures.oldest_connect c.args.queue at)) refl;
+  calls = rw (← c.self.view_is) refl;
+  made = let there = rw (← c.self.view_is) at c.requires in
+      let at = sym c.in_ok-message.ensures in
+      rw (← c.self.view_is, pulls.pulled (tables_of c.self.inside.procs c.self.inside.parts.items c.self.inside.ports c.self.inside.waits c.self.inside.names) c.self.inside.calls c.self.inside.made c.self.invariant c.args.queue there c.in_ok-message.message c.pull.new.self c.pull.ensures.table (c.pull.ensures.oldest_connect c.args.queue at)) refl;
+  room = let there = rw (← c.self.view_is) at c.requires in
+      let at = sym c.in_ok-message.ensures in
+      let found = pulls.found (tables_of c.self.inside.procs c.self.inside.parts.items c.self.inside.ports c.self.inside.waits c.self.inside.names) c.self.inside.calls c.self.inside.made c.self.invariant c.args.queue there c.pull.result (c.pull.ensures.first_connect c.args.queue at) in
+      rw (← c.self.view_is, pulls.pulled (tables_of c.self.inside.procs c.self.inside.parts.items c.self.inside.ports c.self.inside.waits c.self.inside.names) c.self.inside.calls c.self.inside.made c.self.invariant c.args.queue there c.in_ok-message.message c.pull.new.self c.pull.ensures.table (c.pull.ensures.oldest_connect c.args.queue at))
+      (pulls.pulled_room (tables_of c.self.inside.procs c.self.inside.parts.items c.self.inside.ports c.self.inside.waits c.self.inside.names) c.self.inside.calls c.self.inside.made c.self.invariant c.args.queue there (pulled_row (births_of c.self.inside.ports) c.args.queue c.pull.result) found (vec_capacity c.self.inside.parts - vec_len c.self.inside.parts));
+}

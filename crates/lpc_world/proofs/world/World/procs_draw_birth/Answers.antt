@@ -1,3 +1,4 @@
+use Rattle.std.proofs.Common.{arith}
 use Rattle.std.proofs.Common.{ap, refl}
 use Rattle.lpc_model.specs.World.{World}
 use Rattle.lpc_base.specs.Rows.{change}
@@ -20,16 +21,18 @@ invariant_of-self c = rw c.draw_birth.ensures.table (steps.drew_birth (tables_of
 pub returns-clause-birth : goal.returns-clause-birth
 returns-clause-birth c = rw (← c.self.view_is) (steps.drawn_birth (tables_of c.self.inside.procs c.self.inside.parts.items c.self.inside.ports c.self.inside.waits c.self.inside.names) c.self.inside.calls c.self.inside.made c.self.invariant c.args.tid c.draw_birth.result c.draw_birth.ensures.birth)
 
-pub returns-clause-rows : goal.returns-clause-rows
-returns-clause-rows c = rw (← c.self.view_is, c.draw_birth.ensures.table) (changes.draws_ordinal (tables_of c.self.inside.procs c.self.inside.parts.items c.self.inside.ports c.self.inside.waits c.self.inside.names) c.self.invariant.named c.args.tid)
-
 pub returns-clause-fresh : goal.returns-clause-fresh
 returns-clause-fresh c = steps.fresh_birth (tables_of c.self.inside.procs c.self.inside.parts.items c.self.inside.ports c.self.inside.waits c.self.inside.names) c.self.inside.calls c.self.inside.made c.self.invariant c.args.tid c.draw_birth.result (steps.drawn_birth (tables_of c.self.inside.procs c.self.inside.parts.items c.self.inside.ports c.self.inside.waits c.self.inside.names) c.self.inside.calls c.self.inside.made c.self.invariant c.args.tid c.draw_birth.result c.draw_birth.ensures.birth)
 
 pub returns-clause-drawn : goal.returns-clause-drawn
 returns-clause-drawn c = rw (c.draw_birth.ensures.table, ap (λ (v : World). v.threads) (changes.draws_ordinal (tables_of c.self.inside.procs c.self.inside.parts.items c.self.inside.ports c.self.inside.waits c.self.inside.names) c.self.invariant.named c.args.tid)) (steps.now_drawn (tables_of c.self.inside.procs c.self.inside.parts.items c.self.inside.ports c.self.inside.waits c.self.inside.names) c.self.inside.calls c.self.inside.made c.self.invariant c.args.tid c.draw_birth.result (steps.drawn_birth (tables_of c.self.inside.procs c.self.inside.parts.items c.self.inside.ports c.self.inside.waits c.self.inside.names) c.self.inside.calls c.self.inside.made c.self.invariant c.args.tid c.draw_birth.result c.draw_birth.ensures.birth))
 
-pub returns-clause-room : goal.returns-clause-room
-returns-clause-room c =
-    rw (← c.self.view_is, c.draw_birth.ensures.table, ap (λ (v : World). v.threads) (changes.draws_ordinal (tables_of c.self.inside.procs c.self.inside.parts.items c.self.inside.ports c.self.inside.waits c.self.inside.names) c.self.invariant.named c.args.tid))
-    (rooms.room_threads _ _ _ _ _ _ (rows_by (tables_of c.self.inside.procs c.self.inside.parts.items c.self.inside.ports c.self.inside.waits c.self.inside.names)) _ (change (is_thread c.args.tid) past_ordinal (rows_by (tables_of c.self.inside.procs c.self.inside.parts.items c.self.inside.ports c.self.inside.waits c.self.inside.names)).threads) (alive-change past_ordinal (λ t. refl) c.args.tid (rows_by (tables_of c.self.inside.procs c.self.inside.parts.items c.self.inside.ports c.self.inside.waits c.self.inside.names)).threads))
+pub returns-clause-step : goal.returns-clause-step
+returns-clause-step c = record {
+  rows = rw (← c.self.view_is, c.draw_birth.ensures.table) (changes.draws_ordinal (tables_of c.self.inside.procs c.self.inside.parts.items c.self.inside.ports c.self.inside.waits c.self.inside.names) c.self.invariant.named c.args.tid);
+  births = rw (← c.self.view_is) refl;
+  calls = rw (← c.self.view_is) refl;
+  made = rw (← c.self.view_is, c.draw_birth.ensures.table) (omega arith);
+  room = rw (← c.self.view_is, c.draw_birth.ensures.table, ap (λ (v : World). v.threads) (changes.draws_ordinal (tables_of c.self.inside.procs c.self.inside.parts.items c.self.inside.ports c.self.inside.waits c.self.inside.names) c.self.invariant.named c.args.tid))
+      (rooms.room_threads _ _ _ _ _ _ (rows_by (tables_of c.self.inside.procs c.self.inside.parts.items c.self.inside.ports c.self.inside.waits c.self.inside.names)) _ (change (is_thread c.args.tid) past_ordinal (rows_by (tables_of c.self.inside.procs c.self.inside.parts.items c.self.inside.ports c.self.inside.waits c.self.inside.names)).threads) (alive-change past_ordinal (λ t. refl) c.args.tid (rows_by (tables_of c.self.inside.procs c.self.inside.parts.items c.self.inside.ports c.self.inside.waits c.self.inside.names)).threads));
+}

@@ -1,4 +1,4 @@
-use Rattle.std.proofs.Common.{ap, refl}
+use Rattle.std.proofs.Common.{ap, refl, arith}
 use Rattle.lpc_model.specs.World.{World}
 use Rattle.lpc_base.specs.Rows.{change}
 use Rattle.lpc_model.specs.Found.{is_thread}
@@ -20,10 +20,12 @@ invariant_of-self c = rw c.draw_identifier.ensures.table (steps.drew_identifier 
 pub returns-clause-number : goal.returns-clause-number
 returns-clause-number c = rw (← c.self.view_is) (steps.drawn_identifier (tables_of c.self.inside.procs c.self.inside.parts.items c.self.inside.ports c.self.inside.waits c.self.inside.names) c.self.inside.calls c.self.inside.made c.self.invariant c.args.tid c.draw_identifier.result c.draw_identifier.ensures.identifier)
 
-pub returns-clause-rows : goal.returns-clause-rows
-returns-clause-rows c = rw (← c.self.view_is, c.draw_identifier.ensures.table) (changes.draws_identifier (tables_of c.self.inside.procs c.self.inside.parts.items c.self.inside.ports c.self.inside.waits c.self.inside.names) c.self.invariant.named c.args.tid)
-
-pub returns-clause-room : goal.returns-clause-room
-returns-clause-room c =
-    rw (← c.self.view_is, c.draw_identifier.ensures.table, ap (λ (v : World). v.threads) (changes.draws_identifier (tables_of c.self.inside.procs c.self.inside.parts.items c.self.inside.ports c.self.inside.waits c.self.inside.names) c.self.invariant.named c.args.tid))
-    (rooms.room_threads _ _ _ _ _ _ (rows_by (tables_of c.self.inside.procs c.self.inside.parts.items c.self.inside.ports c.self.inside.waits c.self.inside.names)) _ (change (is_thread c.args.tid) past_identifier (rows_by (tables_of c.self.inside.procs c.self.inside.parts.items c.self.inside.ports c.self.inside.waits c.self.inside.names)).threads) (alive-change past_identifier (λ t. refl) c.args.tid (rows_by (tables_of c.self.inside.procs c.self.inside.parts.items c.self.inside.ports c.self.inside.waits c.self.inside.names)).threads))
+pub returns-clause-step : goal.returns-clause-step
+returns-clause-step c = record {
+  rows = rw (← c.self.view_is, c.draw_identifier.ensures.table) (changes.draws_identifier (tables_of c.self.inside.procs c.self.inside.parts.items c.self.inside.ports c.self.inside.waits c.self.inside.names) c.self.invariant.named c.args.tid);
+  births = rw (← c.self.view_is) refl;
+  calls = rw (← c.self.view_is) refl;
+  made = rw (← c.self.view_is, c.draw_identifier.ensures.table) (omega arith);
+  room = rw (← c.self.view_is, c.draw_identifier.ensures.table, ap (λ (v : World). v.threads) (changes.draws_identifier (tables_of c.self.inside.procs c.self.inside.parts.items c.self.inside.ports c.self.inside.waits c.self.inside.names) c.self.invariant.named c.args.tid))
+      (rooms.room_threads _ _ _ _ _ _ (rows_by (tables_of c.self.inside.procs c.self.inside.parts.items c.self.inside.ports c.self.inside.waits c.self.inside.names)) _ (change (is_thread c.args.tid) past_identifier (rows_by (tables_of c.self.inside.procs c.self.inside.parts.items c.self.inside.ports c.self.inside.waits c.self.inside.names)).threads) (alive-change past_identifier (λ t. refl) c.args.tid (rows_by (tables_of c.self.inside.procs c.self.inside.parts.items c.self.inside.ports c.self.inside.waits c.self.inside.names)).threads));
+}

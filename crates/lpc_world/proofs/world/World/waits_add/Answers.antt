@@ -1,3 +1,4 @@
+use Rattle.std.proofs.Common.{refl, arith}
 use Rattle.std.proofs.Common.{◌+◌, ◌-◌, None, ap, sym, ◌∙◌, []}
 use Rattle.lpc_model.specs.World.{World}
 use Rattle.lpc_waits.specs.declared.WaitRow.{WaitRow}
@@ -24,17 +25,19 @@ invariant_of-self c =
     (promised.begins (rows_by (tables_of c.self.inside.procs c.self.inside.parts.items c.self.inside.ports c.self.inside.waits c.self.inside.names)).waits (rows_by (tables_of c.self.inside.procs c.self.inside.parts.items c.self.inside.ports c.self.inside.waits c.self.inside.names)).handles c.self.inside.parts.items c.self.invariant.promised (shown_wait (birth_of (births_of c.self.inside.ports)) (record { thread = c.args.tid; wait = c.args.wait; message = record { items = [] }; accepted = None })) (tables.single (tables_of c.self.inside.procs c.self.inside.parts.items c.self.inside.ports c.self.inside.waits c.self.inside.names) c.self.inside.calls c.self.inside.made c.self.invariant) c.self.invariant.lawful.tables_single (tables.fresh_taken (tables_of c.self.inside.procs c.self.inside.parts.items c.self.inside.ports c.self.inside.waits c.self.inside.names) c.self.inside.calls c.self.inside.made c.self.invariant c.args.tid c.args.wait)
     (λ connects. let is = sym (tables.connect_same (tables_of c.self.inside.procs c.self.inside.parts.items c.self.inside.ports c.self.inside.waits c.self.inside.names) c.self.inside.calls c.self.inside.made c.self.invariant (record { thread = c.args.tid; wait = c.args.wait; message = record { items = [] }; accepted = None })) ∙ connects in tables.welcome (tables_of c.self.inside.procs c.self.inside.parts.items c.self.inside.ports c.self.inside.waits c.self.inside.names) c.self.inside.calls c.self.inside.made c.self.invariant c.args.wait.process (there.table is) (there.load is) (there.handles is))))
 
-pub returns-clause-rows : goal.returns-clause-rows
-returns-clause-rows c = rw (← c.self.view_is, c.add.ensures.table) (changes.awaits (tables_of c.self.inside.procs c.self.inside.parts.items c.self.inside.ports c.self.inside.waits c.self.inside.names) c.self.invariant.named (record { thread = c.args.tid; wait = c.args.wait; message = record { items = [] }; accepted = None }) (c.self.inside.waits.spare - 1) (c.self.inside.waits.made + 1))
-
-pub returns-clause-room : goal.returns-clause-room
-returns-clause-room c =
-    let x : WaitRow = record { thread = c.args.tid; wait = c.args.wait; message = record { items = [] }; accepted = None } in
-    let place = steps.more_alive (tables_of c.self.inside.procs c.self.inside.parts.items c.self.inside.ports c.self.inside.waits c.self.inside.names) c.self.inside.calls c.self.inside.made c.self.invariant c.args.tid (rw (← c.self.view_is) at c.requires.live) (rw (← c.self.view_is) at c.requires.ready) in
-    rw (← c.self.view_is, c.add.ensures.table, ap (λ (v : World). v.waits) (changes.awaits (tables_of c.self.inside.procs c.self.inside.parts.items c.self.inside.ports c.self.inside.waits c.self.inside.names) c.self.invariant.named x (c.self.inside.waits.spare - 1) (c.self.inside.waits.made + 1))) (rooms.room_wait _ _ _ _ _ _ (rows_by (tables_of c.self.inside.procs c.self.inside.parts.items c.self.inside.ports c.self.inside.waits c.self.inside.names)) _ (shown_wait (birth_of (births_of c.self.inside.ports)) x) place)
-
 pub returns-clause-unsent : goal.returns-clause-unsent
 returns-clause-unsent c =
     let x : WaitRow = record { thread = c.args.tid; wait = c.args.wait; message = record { items = [] }; accepted = None } in
     let ready = rw (← c.self.view_is) at c.requires.ready in
     rw (c.add.ensures.table, ap (λ (v : World). v.waits) (changes.awaits (tables_of c.self.inside.procs c.self.inside.parts.items c.self.inside.ports c.self.inside.waits c.self.inside.names) c.self.invariant.named x (c.self.inside.waits.spare - 1) (c.self.inside.waits.made + 1))) (λ pends. unsent-begun (rows_by (tables_of c.self.inside.procs c.self.inside.parts.items c.self.inside.ports c.self.inside.waits c.self.inside.names)) (shown_wait (birth_of (births_of c.self.inside.ports)) x) c.self.invariant.lawful.own ready pends)
+
+pub returns-clause-step : goal.returns-clause-step
+returns-clause-step c = record {
+  rows = rw (← c.self.view_is, c.add.ensures.table) (changes.awaits (tables_of c.self.inside.procs c.self.inside.parts.items c.self.inside.ports c.self.inside.waits c.self.inside.names) c.self.invariant.named (record { thread = c.args.tid; wait = c.args.wait; message = record { items = [] }; accepted = None }) (c.self.inside.waits.spare - 1) (c.self.inside.waits.made + 1));
+  births = rw (← c.self.view_is) refl;
+  calls = rw (← c.self.view_is) refl;
+  made = rw (← c.self.view_is, c.add.ensures.table) (omega arith);
+  room = let x : WaitRow = record { thread = c.args.tid; wait = c.args.wait; message = record { items = [] }; accepted = None } in
+      let place = steps.more_alive (tables_of c.self.inside.procs c.self.inside.parts.items c.self.inside.ports c.self.inside.waits c.self.inside.names) c.self.inside.calls c.self.inside.made c.self.invariant c.args.tid (rw (← c.self.view_is) at c.requires.live) (rw (← c.self.view_is) at c.requires.ready) in
+      rw (← c.self.view_is, c.add.ensures.table, ap (λ (v : World). v.waits) (changes.awaits (tables_of c.self.inside.procs c.self.inside.parts.items c.self.inside.ports c.self.inside.waits c.self.inside.names) c.self.invariant.named x (c.self.inside.waits.spare - 1) (c.self.inside.waits.made + 1))) (rooms.room_wait _ _ _ _ _ _ (rows_by (tables_of c.self.inside.procs c.self.inside.parts.items c.self.inside.ports c.self.inside.waits c.self.inside.names)) _ (shown_wait (birth_of (births_of c.self.inside.ports)) x) place);
+}

@@ -1,4 +1,4 @@
-use Rattle.std.proofs.Common.{sym, ap, ◌∙◌}
+use Rattle.std.proofs.Common.{rules, refl, sym, ap, ◌∙◌}
 use Rattle.lpc_base.proofs.RowWords.{length-change}
 use Rattle.lpc_model.specs.Basics.{received}
 use Rattle.lpc_model.specs.Found.{waits_as}
@@ -23,15 +23,22 @@ invariant_of-self c =
     let left = rw (← c.self.view_is) at c.requires.left in
     rw c.receive.ensures.table (steps.received (tables_of c.self.inside.procs c.self.inside.parts.items c.self.inside.ports c.self.inside.waits c.self.inside.names) c.self.inside.calls c.self.inside.made c.self.invariant c.args.tid left)
 
-pub returns-then-waits_on-clause-rows : goal.returns-then-waits_on-clause-rows
-returns-then-waits_on-clause-rows c =
-    let there = rw (← c.self.view_is) at (sym c.waits_on.ensures ∙ c.if-waits_on.true) in
-    rw (← c.self.view_is, c.receive.ensures.table) (changes.receives (tables_of c.self.inside.procs c.self.inside.parts.items c.self.inside.ports c.self.inside.waits c.self.inside.names) c.self.invariant.named c.args.tid ∙ at.receives_there (rows_by (tables_of c.self.inside.procs c.self.inside.parts.items c.self.inside.ports c.self.inside.waits c.self.inside.names)) c.args.tid (name_of (births_of c.self.inside.ports).ports c.args.queue) c.self.invariant.lawful.single there)
+pub returns-then-waits_on-clause-step : goal.returns-then-waits_on-clause-step
+returns-then-waits_on-clause-step c = record {
+  rows = let there = rw (← c.self.view_is) at (sym c.waits_on.ensures ∙ c.if-waits_on.true) in
+      rw (← c.self.view_is, c.receive.ensures.table) (changes.receives (tables_of c.self.inside.procs c.self.inside.parts.items c.self.inside.ports c.self.inside.waits c.self.inside.names) c.self.invariant.named c.args.tid ∙ at.receives_there (rows_by (tables_of c.self.inside.procs c.self.inside.parts.items c.self.inside.ports c.self.inside.waits c.self.inside.names)) c.args.tid (name_of (births_of c.self.inside.ports).ports c.args.queue) c.self.invariant.lawful.single there);
+  births = rw (← c.self.view_is) refl;
+  calls = rw (← c.self.view_is) refl;
+  made = rw (← c.self.view_is, c.receive.ensures.table) refl;
+  room = rw (← c.self.view_is, c.receive.ensures.table, ap (λ (v : World). v.waits) (changes.receives (tables_of c.self.inside.procs c.self.inside.parts.items c.self.inside.ports c.self.inside.waits c.self.inside.names) c.self.invariant.named c.args.tid)) (rooms.room_keep _ _ _ _ _ _ (rows_by (tables_of c.self.inside.procs c.self.inside.parts.items c.self.inside.ports c.self.inside.waits c.self.inside.names)) _ _ (length-change (waits_as c.args.tid) received (rows_by (tables_of c.self.inside.procs c.self.inside.parts.items c.self.inside.ports c.self.inside.waits c.self.inside.names)).waits));
+}
 
-pub returns-then-waits_on-clause-room : goal.returns-then-waits_on-clause-room
-returns-then-waits_on-clause-room c = rw (← c.self.view_is, c.receive.ensures.table, ap (λ (v : World). v.waits) (changes.receives (tables_of c.self.inside.procs c.self.inside.parts.items c.self.inside.ports c.self.inside.waits c.self.inside.names) c.self.invariant.named c.args.tid)) (rooms.room_keep _ _ _ _ _ _ (rows_by (tables_of c.self.inside.procs c.self.inside.parts.items c.self.inside.ports c.self.inside.waits c.self.inside.names)) _ _ (length-change (waits_as c.args.tid) received (rows_by (tables_of c.self.inside.procs c.self.inside.parts.items c.self.inside.ports c.self.inside.waits c.self.inside.names)).waits))
-
-pub returns-else-waits_on-clause-rows : goal.returns-else-waits_on-clause-rows
-returns-else-waits_on-clause-rows c =
-    let off = rw (← c.self.view_is) at (sym c.waits_on.ensures ∙ c.if-waits_on.false) in
-    rw (← c.self.view_is) (sym (at.receives_none (rows_by (tables_of c.self.inside.procs c.self.inside.parts.items c.self.inside.ports c.self.inside.waits c.self.inside.names)) c.args.tid (name_of (births_of c.self.inside.ports).ports c.args.queue) off))
+pub returns-else-waits_on-clause-step : goal.returns-else-waits_on-clause-step
+returns-else-waits_on-clause-step c = record {
+  rows = let off = rw (← c.self.view_is) at (sym c.waits_on.ensures ∙ c.if-waits_on.false) in
+      rw (← c.self.view_is) (sym (at.receives_none (rows_by (tables_of c.self.inside.procs c.self.inside.parts.items c.self.inside.ports c.self.inside.waits c.self.inside.names)) c.args.tid (name_of (births_of c.self.inside.ports).ports c.args.queue) off));
+  births = rw (← c.self.view_is) refl;
+  calls = rw (← c.self.view_is) refl;
+  made = rw (← c.self.view_is) refl;
+  room = search rules;
+}
