@@ -9,7 +9,8 @@ use Rattle.lpc_model.specs.declared.entry.CallName.TheVariants.{NtCompleteConnec
 use Rattle.lpc_model.specs.declared.entry.Entry.{Entry}
 use Rattle.lpc_model.specs.declared.entry.Entry.TheVariants.{Answer, Wakes}
 use Rattle.lpc_model.specs.declared.entry.Field.{Field}
-use Rattle.lpc_model.specs.Basics.{AddsHandle, Completes, basic}
+use Rattle.lpc_model.specs.declared.entry.Outcome.TheVariants.{Answered}
+use Rattle.lpc_model.specs.Basics.{AddsHandle, Completes, basic, outcome_of}
 use Rattle.lpc_model.specs.Connect.{Completable, answer_of, complete_steps, complete_test, nt_complete_connect_port}
 use Rattle.lpc_model.specs.Fields.{h, info, max}
 use Rattle.lpc_model.specs.Found.{free_handle, port_name, waits_as}
@@ -58,3 +59,7 @@ module _ (w : World) (es : List Entry) (l : Bool) (t : ThreadRow) (server client
 pub completes : (w : World) (t : ThreadRow) (handle : ℕ) (es : List Entry) (l : Bool) (c : Completable) → complete_test w t handle ≡ Ok c → left_by w es l (complete_steps t (free_handle w c.wait.process) c) ≡ left_by w es l (settled t NtCompleteConnectPort (nt_complete_connect_port w t handle))
 unfolding nt_complete_connect_port
 completes w t handle es l c is = rw is refl
+
+pub completes_outcome : (w : World) (t : ThreadRow) (handle : ℕ) (c : Completable) → complete_test w t handle ≡ Ok c → Answered SUCCESS ≡ outcome_of (settled t NtCompleteConnectPort (nt_complete_connect_port w t handle))
+unfolding nt_complete_connect_port
+completes_outcome w t handle c is = rw is refl

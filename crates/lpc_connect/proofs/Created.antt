@@ -7,7 +7,8 @@ use Rattle.lpc_base.specs.declared.status.TheConstants.{SUCCESS}
 use Rattle.lpc_model.specs.declared.entry.CallName.TheVariants.{NtCreatePort}
 use Rattle.lpc_model.specs.declared.entry.Entry.{Entry}
 use Rattle.lpc_model.specs.declared.entry.Entry.TheVariants.{Answer}
-use Rattle.lpc_model.specs.Basics.{AddsHandle, Basic, DrawsOrdinal, basic, entries_of, world_after}
+use Rattle.lpc_model.specs.declared.entry.Outcome.TheVariants.{Answered}
+use Rattle.lpc_model.specs.Basics.{AddsHandle, Basic, DrawsOrdinal, basic, entries_of, outcome_of, world_after}
 use Rattle.lpc_model.specs.Connect.{create_steps, making, named_steps, nt_create_port, unnamed_steps}
 use Rattle.lpc_model.specs.Fields.{h}
 use Rattle.lpc_model.specs.Found.{free_handle, is_thread, port_name}
@@ -89,3 +90,14 @@ module _ (w : World) (t : ThreadRow) (es : List Entry) (l : Bool) (end : Left) w
   pub creates : (o : Option (List ℕ)) → IsOk (making w (next_birth t) o) → IsOk (handles_test w t.process 1) → IfOk (making w (next_birth t) o) Creates → end ≡ left_by w es l (settled t NtCreatePort (nt_create_port w t o))
   unfolding nt_create_port
   creates o free few does = creates_by (making w (next_birth t) o) (handles_test w t.process 1) free few does
+
+-- and the call ends so
+pub creates_outcome : (w : World) (t : ThreadRow) (o : Option (List ℕ)) → IsOk (making w (next_birth t) o) → IsOk (handles_test w t.process 1) → Answered SUCCESS ≡ outcome_of (settled t NtCreatePort (nt_create_port w t o))
+unfolding nt_create_port
+creates_outcome w t o free few = ends_by (making w (next_birth t) o) (handles_test w t.process 1) free few
+  where
+    ends_by : (r : Result (List Basic) Status) (q : Result Unit Status) → IsOk r → IsOk q
+        → Answered SUCCESS ≡ outcome_of (settled t NtCreatePort (r >>= (λ made. q >>= (λ _. Ok (create_steps t made (free_handle w t.process))))))
+    ends_by (Ok made) (Ok u) free few = refl
+    ends_by (Ok made) (Err s) free few = absurd (cc)
+    ends_by (Err s) q free few = absurd (cc)

@@ -1,17 +1,16 @@
 // The call that answers a connect: it accepts it, or refuses it.
-ghost use Rattle.std.specs.Prelude.{ℕ, ◌≡◌, ◌≤◌, ◌<◌, ◌+◌, ◌*◌, Ok, Err, true, false, IfErr, IfOk, IsOk, OnOk, OnErr, MatchResult};
+ghost use Rattle.std.specs.Prelude.{◌≡◌, ◌≤◌, ◌<◌, Ok, Err, true, false, IfErr, IfOk, IsOk, OnOk, OnErr, MatchResult, ◌+◌};
 ghost use Rattle.lpc_base.specs.Rows.{has};
 ghost use Rattle.lpc_base.specs.declared.limits.TheConstants.{HANDLE_LIMIT, LINES_LIMIT};
 ghost use Rattle.lpc_connect.specs.Calls.{Answering, HasThread, IsOwnWait, accepting, answer_with, shown_answer, was_received};
 ghost use Rattle.lpc_connect.specs.Room.{HasHandleRoom, lacks_port_room};
-ghost use Rattle.lpc_model.specs.Basics.{outcome_of};
 ghost use Rattle.lpc_model.specs.Connect as connect;
 ghost use Rattle.lpc_model.specs.Found.{is_offered, is_table, waits_as};
 ghost use Rattle.lpc_model.specs.Lines.{accept_connect_port};
 ghost use Rattle.lpc_model.specs.Tests as tests;
-ghost use Rattle.lpc_world.specs.Called.{called, service};
+ghost use Rattle.lpc_world.specs.Called.{MayServe};
 ghost use Rattle.lpc_world.specs.Does.{Took};
-ghost use Rattle.lpc_world.specs.Kept.{HasWholeBudget, Same, has_queued, is_pending_in};
+ghost use Rattle.lpc_world.specs.Kept.{HasWholeBudget, has_queued, is_pending_in};
 ghost use Rattle.lpc_world.specs.Ready.{HasRoom, caller, is_ready, waiter};
 ghost use Rattle.lpc_world.specs.Shown.{shown_thread};
 
@@ -179,18 +178,11 @@ pub fn nt_accept_connect_port(
     requires ready { is_ready world.old.rows by ≡ true }
     requires room { HasRoom world.old out.old }
     requires calls { world.old.calls < LINES_LIMIT }
-    ensures takes { let call = accept_connect_port context message.now accept in
-        OnOk result (Took (called world.old.rows by call) world.old world.new out.old out.new) }
-    ensures outcome { let call = accept_connect_port context message.now accept in
-        IfOk result (λ o. o ≡ outcome_of (called world.old.rows by call)) }
-    ensures calls { OnOk result (world.new.calls ≡ world.old.calls + 1) }
+    ensures serves { let call = accept_connect_port context message.now accept in
+        MayServe by call result world.old world.new out.old out.new }
     ensures spare { OnOk result (out.old.spare ≤ out.new.spare + 2) }
-    ensures late { let call = accept_connect_port context message.now accept in
-        OnErr result (IsOk (service world.old.rows by call)) }
     ensures answered { accept ≡ false → IsOk result }
     ensures wanting { OnErr result (lacks_port_room world.old (caller world.old.rows by) ≡ true) }
-    ensures memory { OnErr result (Same world.old world.new) }
-    ensures silent { OnErr result (out.new ≡ out.old) }
 {
     let caller = world.caller(by);
     let answer = match accept_test(world, &caller, message, accept) {

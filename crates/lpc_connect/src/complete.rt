@@ -1,13 +1,12 @@
 // The call that completes a connection.
-ghost use Rattle.std.specs.Prelude.{◌≡◌, ◌≤◌, ◌<◌, ◌+◌, ◌*◌, Ok, Err, IfErr, IfOk, MatchResult, true, false};
+ghost use Rattle.std.specs.Prelude.{◌≡◌, ◌≤◌, ◌<◌, Ok, Err, IfOk, MatchResult, true, false, ◌+◌};
 ghost use Rattle.lpc_base.specs.Rows.{has};
 ghost use Rattle.lpc_base.specs.declared.limits.TheConstants.{LINES_LIMIT};
 ghost use Rattle.lpc_connect.specs.Calls.{IsOwnWait, completing, shown_connection};
-ghost use Rattle.lpc_model.specs.Basics.{outcome_of};
 ghost use Rattle.lpc_model.specs.Connect as connect;
 ghost use Rattle.lpc_model.specs.Found.{is_accepted, waits_as};
 ghost use Rattle.lpc_model.specs.Lines.{complete_connect_port};
-ghost use Rattle.lpc_world.specs.Called.{called};
+ghost use Rattle.lpc_world.specs.Called.{Served};
 ghost use Rattle.lpc_world.specs.Does.{Took};
 ghost use Rattle.lpc_world.specs.Kept.{CanMake, has_queued};
 ghost use Rattle.lpc_world.specs.Names.{stands};
@@ -108,11 +107,8 @@ pub fn nt_complete_connect_port(
     requires ready { is_ready world.old.rows by ≡ true }
     requires room { HasRoom world.old out.old }
     requires calls { world.old.calls < LINES_LIMIT }
-    ensures takes { let steps = called world.old.rows by (complete_connect_port handle) in
-        Took steps world.old world.new out.old out.new }
-    ensures outcome { let steps = called world.old.rows by (complete_connect_port handle) in
-        result ≡ outcome_of steps }
-    ensures calls { world.new.calls ≡ world.old.calls + 1 }
+    ensures served { let call = complete_connect_port handle in
+        Served by call result world.old world.new out.old out.new }
     ensures spare { out.old.spare ≤ out.new.spare + 2 }
 {
     let caller = world.caller(by);

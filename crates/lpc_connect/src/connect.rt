@@ -1,10 +1,10 @@
 // The call that asks for a connection.
-ghost use Rattle.std.specs.Prelude.{ℕ, ◌≡◌, ◌≤◌, ◌<◌, ◌+◌, ◌*◌, [], ◌∷◌, Ok, Err, None, Some, IfErr, IfOk, IsOk, OnOk, OnErr, false, length, true};
-ghost use Rattle.lpc_base.specs.Rows.{first, has};
+ghost use Rattle.std.specs.Prelude.{◌≡◌, ◌≤◌, ◌<◌, ◌+◌, Ok, Err, None, Some, IfErr, IfOk, OnOk, OnErr, false, length, true};
+ghost use Rattle.lpc_base.specs.Rows.{has};
 ghost use Rattle.lpc_base.specs.declared.limits.TheConstants.{HANDLE_LIMIT, HEADER_SIZE, LINES_LIMIT, MESSAGE_LIMIT};
 ghost use Rattle.lpc_connect.specs.Calls.{HasThread, birth_at, connecting, draws};
 ghost use Rattle.lpc_connect.specs.Room.{HasHandleRoom, KeepsHandleRoom, lacks_connect_room};
-ghost use Rattle.lpc_model.specs.Basics.{basic, outcome_of, world_after, Makes};
+ghost use Rattle.lpc_model.specs.Basics.{basic, world_after, Makes};
 ghost use Rattle.lpc_model.specs.Connect as connect;
 ghost use Rattle.lpc_model.specs.Found.{is_live_thread, is_table, is_thread, port_row, waits_as};
 ghost use Rattle.lpc_model.specs.Lines.{connect_port};
@@ -12,9 +12,9 @@ ghost use Rattle.lpc_model.specs.Machine.{service_of};
 ghost use Rattle.lpc_model.specs.Message.{asks};
 ghost use Rattle.lpc_model.specs.Tests as tests;
 ghost use Rattle.lpc_model.specs.Tests.{next_birth};
-ghost use Rattle.lpc_world.specs.Called.{called, service};
+ghost use Rattle.lpc_world.specs.Called.{MayServe};
 ghost use Rattle.lpc_world.specs.Does.{Took};
-ghost use Rattle.lpc_world.specs.Kept.{CanMake, HasWholeBudget, Same};
+ghost use Rattle.lpc_world.specs.Kept.{CanMake, HasWholeBudget};
 ghost use Rattle.lpc_world.specs.Lawful.{drew};
 ghost use Rattle.lpc_world.specs.Names.{name_of, stands};
 ghost use Rattle.lpc_world.specs.Ready.{HasRoom, caller, is_ready};
@@ -204,18 +204,11 @@ pub fn nt_connect_port(
     requires ready { is_ready world.old.rows by ≡ true }
     requires room { HasRoom world.old out.old }
     requires calls { world.old.calls < LINES_LIMIT }
-    ensures takes { let steps = called world.old.rows by (connect_port name.now info.now) in
-        OnOk result (Took steps world.old world.new out.old out.new) }
-    ensures outcome { let steps = called world.old.rows by (connect_port name.now info.now) in
-        IfOk result (λ o. o ≡ outcome_of steps) }
-    ensures calls { OnOk result (world.new.calls ≡ world.old.calls + 1) }
+    ensures serves { let call = connect_port name.now info.now in
+        MayServe by call result world.old world.new out.old out.new }
     ensures spare { OnOk result (out.old.spare ≤ out.new.spare + 2) }
-    ensures late { let call = connect_port name.now info.now in
-        OnErr result (IsOk (service world.old.rows by call)) }
     ensures wanting { let row = caller world.old.rows by in
         OnErr result (lacks_connect_room world.old row ≡ true) }
-    ensures memory { OnErr result (Same world.old world.new) }
-    ensures silent { OnErr result (out.new ≡ out.old) }
 {
     let caller = world.caller(by);
     let connection = match connect_test(world, &caller, name, info) {

@@ -1,20 +1,20 @@
 // The call that makes a port.
-ghost use Rattle.std.specs.Prelude.{ℕ, ◌≡◌, ◌≤◌, ◌<◌, ◌+◌, ◌*◌, Ok, Err, None, Some, IfErr, IfOk, IsOk, OnOk, OnErr, is_some, length, option_copied, true};
-ghost use Rattle.lpc_base.specs.Rows.{first, has};
+ghost use Rattle.std.specs.Prelude.{◌≡◌, ◌≤◌, ◌<◌, ◌+◌, Ok, Err, None, Some, IfErr, IfOk, IsOk, OnOk, OnErr, is_some, option_copied, true};
+ghost use Rattle.lpc_base.specs.Rows.{has};
 ghost use Rattle.lpc_base.specs.declared.limits.TheConstants.{HANDLE_LIMIT, LINES_LIMIT};
 ghost use Rattle.lpc_connect.specs.Calls.{HasThread, creating};
 ghost use Rattle.lpc_connect.specs.Room.{HasHandleRoom, KeepsHandleRoom, lacks_room_for};
-ghost use Rattle.lpc_model.specs.Basics.{outcome_of, world_after};
+ghost use Rattle.lpc_model.specs.Basics.{world_after};
 ghost use Rattle.lpc_model.specs.Connect as connect;
-ghost use Rattle.lpc_model.specs.Found.{free_handle, handles_of, is_table, is_thread, port_row};
+ghost use Rattle.lpc_model.specs.Found.{is_table, port_row};
 ghost use Rattle.lpc_model.specs.Lines.{create_port};
 ghost use Rattle.lpc_model.specs.Machine.{service_of};
 ghost use Rattle.lpc_model.specs.Named.{free_name};
 ghost use Rattle.lpc_model.specs.Tests as tests;
 ghost use Rattle.lpc_model.specs.Tests.{next_birth};
-ghost use Rattle.lpc_world.specs.Called.{called, service};
+ghost use Rattle.lpc_world.specs.Called.{MayServe};
 ghost use Rattle.lpc_world.specs.Does.{Took};
-ghost use Rattle.lpc_world.specs.Kept.{CanMake, HasWholeBudget, Same};
+ghost use Rattle.lpc_world.specs.Kept.{CanMake, HasWholeBudget};
 ghost use Rattle.lpc_world.specs.Lawful.{drew};
 ghost use Rattle.lpc_world.specs.Names.{name_of, stands};
 ghost use Rattle.lpc_world.specs.Ready.{HasRoom, caller, is_ready};
@@ -140,18 +140,11 @@ pub fn nt_create_port(
     requires ready { is_ready world.old.rows by ≡ true }
     requires room { HasRoom world.old out.old }
     requires calls { world.old.calls < LINES_LIMIT }
-    ensures takes { let call = create_port (option_copied name.entry) in
-        OnOk result (Took (called world.old.rows by call) world.old world.new out.old out.new) }
-    ensures outcome { let call = create_port (option_copied name.entry) in
-        IfOk result (λ o. o ≡ outcome_of (called world.old.rows by call)) }
-    ensures calls { OnOk result (world.new.calls ≡ world.old.calls + 1) }
+    ensures serves { let call = create_port (option_copied name.entry) in
+        MayServe by call result world.old world.new out.old out.new }
     ensures spare { OnOk result (out.old.spare ≤ out.new.spare + 2) }
-    ensures late { let call = create_port (option_copied name.entry) in
-        OnErr result (IsOk (service world.old.rows by call)) }
     ensures wanting { let named = option_copied name.entry in
         OnErr result (lacks_room_for world.old (caller world.old.rows by) named ≡ true) }
-    ensures memory { OnErr result (Same world.old world.new) }
-    ensures silent { OnErr result (out.new ≡ out.old) }
 {
     let caller = world.caller(by);
     if let Err(status) = create_test(world, &caller, name) {

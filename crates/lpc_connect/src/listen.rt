@@ -1,12 +1,12 @@
 // The listen: a thread takes a connection request, or waits for one.
-ghost use Rattle.std.specs.Prelude.{◌≡◌, ◌≤◌, ◌<◌, ◌+◌, ◌*◌, Ok, Err, true, false, IfOk, MatchResult};
+ghost use Rattle.std.specs.Prelude.{◌≡◌, ◌≤◌, ◌<◌, Ok, Err, true, false, IfOk, MatchResult, ◌+◌};
 ghost use Rattle.lpc_base.specs.Rows.{has};
 ghost use Rattle.lpc_base.specs.declared.limits.TheConstants.{LINES_LIMIT};
 ghost use Rattle.lpc_connect.specs.Calls.{birth_at, listening, row_birth};
 ghost use Rattle.lpc_model.specs.Basics.{outcome_of};
 ghost use Rattle.lpc_model.specs.Found.{is_live_thread, waits_as};
 ghost use Rattle.lpc_model.specs.Lines.{listen_port};
-ghost use Rattle.lpc_world.specs.Called.{called, service};
+ghost use Rattle.lpc_world.specs.Called.{Served, service};
 ghost use Rattle.lpc_world.specs.Does.{Does, Took};
 ghost use Rattle.lpc_world.specs.Kept.{HasWholeBudget};
 ghost use Rattle.lpc_world.specs.Names.{stands};
@@ -113,10 +113,8 @@ pub fn nt_listen_port(world: &mut World, by: u32, handle: u32, out: &mut Entries
     requires ready { is_ready world.old.rows by ≡ true }
     requires room { HasRoom world.old out.old }
     requires calls { world.old.calls < LINES_LIMIT }
-    ensures takes { let steps = called world.old.rows by (listen_port handle) in
-        Took steps world.old world.new out.old out.new }
-    ensures outcome { result ≡ outcome_of (called world.old.rows by (listen_port handle)) }
-    ensures calls { world.new.calls ≡ world.old.calls + 1 }
+    ensures served { let call = listen_port handle in
+        Served by call result world.old world.new out.old out.new }
     ensures spare { out.old.spare ≤ out.new.spare + 2 }
 {
     let caller = world.caller(by);

@@ -5,11 +5,10 @@ ghost use Rattle.lpc_base.specs.Rows.{has};
 ghost use Rattle.lpc_base.specs.declared.limits.TheConstants.{LINES_LIMIT};
 ghost use Rattle.lpc_death.specs.Calls.{creator_of};
 ghost use Rattle.lpc_death.specs.Closing.{CanClose, closes_last, has_one_handle, is_told};
-ghost use Rattle.lpc_model.specs.Basics.{outcome_of};
 ghost use Rattle.lpc_model.specs.Close as model;
 ghost use Rattle.lpc_model.specs.Found.{is_table};
 ghost use Rattle.lpc_model.specs.Lines.{close};
-ghost use Rattle.lpc_world.specs.Called.{called};
+ghost use Rattle.lpc_world.specs.Called.{Served};
 ghost use Rattle.lpc_world.specs.Clauses.{birth_at, name_at, row_shown};
 ghost use Rattle.lpc_world.specs.Closing.{HasMutualPairs};
 ghost use Rattle.lpc_world.specs.Does.{Took};
@@ -191,10 +190,8 @@ pub fn nt_close(world: &mut World, by: u32, handle: u32, out: &mut Entries) -> O
     requires room { HasRoom world.old out.old }
     requires calls { world.old.calls < LINES_LIMIT }
     requires can { CanClose world.old.rows }
-    ensures takes { let steps = called world.old.rows by (close handle) in
-        Took steps world.old world.new out.old out.new }
-    ensures outcome { result ≡ outcome_of (called world.old.rows by (close handle)) }
-    ensures calls { world.new.calls ≡ world.old.calls + 1 }
+    ensures served { let call = close handle in
+        Served by call result world.old world.new out.old out.new }
     ensures spare { out.old.spare ≤ out.new.spare + length world.old.rows.waits + 2 }
 {
     let caller = world.caller(by);

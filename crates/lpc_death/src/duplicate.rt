@@ -1,13 +1,10 @@
 // The call that makes a further handle.
-ghost use Rattle.std.specs.Prelude.{◌≡◌, ◌≤◌, ◌<◌, ◌+◌, Ok, Err, true, IfOk, IsOk, OnOk, OnErr, MatchResult};
+ghost use Rattle.std.specs.Prelude.{◌≡◌, ◌<◌, Ok, Err, true, IfOk, OnOk, OnErr, MatchResult, ◌+◌};
 ghost use Rattle.lpc_base.specs.declared.limits.TheConstants.{LINES_LIMIT};
 ghost use Rattle.lpc_death.specs.Calls.{granting, lacks_handle_room};
-ghost use Rattle.lpc_model.specs.Basics.{outcome_of};
 ghost use Rattle.lpc_model.specs.Lines.{duplicate_object};
 ghost use Rattle.lpc_world.specs.Clauses.{HasSmallLoad};
-ghost use Rattle.lpc_world.specs.Called.{called, service};
-ghost use Rattle.lpc_world.specs.Does.{Took};
-ghost use Rattle.lpc_world.specs.Kept.{Same};
+ghost use Rattle.lpc_world.specs.Called.{MayServe, service};
 ghost use Rattle.lpc_world.specs.Ready.{HasRoom, caller, is_ready};
 ghost use Rattle.lpc_world.specs.Shown.{object_stands};
 
@@ -65,18 +62,11 @@ pub fn nt_duplicate_object(
     requires ready { is_ready world.old.rows by ≡ true }
     requires room { HasRoom world.old out.old }
     requires calls { world.old.calls < LINES_LIMIT }
-    ensures takes { let call = duplicate_object handle access in
-        OnOk result (Took (called world.old.rows by call) world.old world.new out.old out.new) }
-    ensures outcome { let call = duplicate_object handle access in
-        IfOk result (λ o. o ≡ outcome_of (called world.old.rows by call)) }
-    ensures calls { OnOk result (world.new.calls ≡ world.old.calls + 1) }
+    ensures serves { let call = duplicate_object handle access in
+        MayServe by call result world.old world.new out.old out.new }
     ensures spare { OnOk result (out.new.spare + 1 ≡ out.old.spare) }
-    ensures late { let call = duplicate_object handle access in
-        OnErr result (IsOk (service world.old.rows by call)) }
     ensures wanting { let by = caller world.old.rows by in
         OnErr result (lacks_handle_room world.old by ≡ true) }
-    ensures memory { OnErr result (Same world.old world.new) }
-    ensures silent { OnErr result (out.new ≡ out.old) }
 {
     let caller = world.caller(by);
     let granted = match duplicate_test(world, by, handle, access) {

@@ -1,11 +1,10 @@
 // The call that tells of an object.
-ghost use Rattle.std.specs.Prelude.{◌≡◌, ◌≤◌, ◌<◌, ◌+◌, ◌∷◌, [], Ok, Err, true, IfOk, MatchResult};
+ghost use Rattle.std.specs.Prelude.{◌≡◌, ◌<◌, Ok, Err, true, IfOk, MatchResult, ◌+◌};
 ghost use Rattle.lpc_base.specs.declared.limits.TheConstants.{LINES_LIMIT};
 ghost use Rattle.lpc_death.specs.Calls.{telling};
-ghost use Rattle.lpc_model.specs.Basics.{outcome_of};
 ghost use Rattle.lpc_model.specs.Lines.{query_object};
-ghost use Rattle.lpc_world.specs.Called.{called, service};
-ghost use Rattle.lpc_world.specs.Does.{Took, has_no_read};
+ghost use Rattle.lpc_world.specs.Called.{Served, service};
+ghost use Rattle.lpc_world.specs.Does.{has_no_read};
 ghost use Rattle.lpc_world.specs.Ready.{HasRoom, caller, is_ready};
 
 use lpc_base::Status;
@@ -40,10 +39,8 @@ pub fn nt_query_object(world: &mut World, by: u32, handle: u32, out: &mut Entrie
     requires ready { is_ready world.old.rows by ≡ true }
     requires room { HasRoom world.old out.old }
     requires calls { world.old.calls < LINES_LIMIT }
-    ensures takes { let steps = called world.old.rows by (query_object handle) in
-        Took steps world.old world.new out.old out.new }
-    ensures outcome { result ≡ outcome_of (called world.old.rows by (query_object handle)) }
-    ensures calls { world.new.calls ≡ world.old.calls + 1 }
+    ensures served { let call = query_object handle in
+        Served by call result world.old world.new out.old out.new }
     ensures spare { out.new.spare + 1 ≡ out.old.spare }
 {
     let caller = world.caller(by);

@@ -1,5 +1,5 @@
 // The machine, and one line's step.
-ghost use Rattle.std.specs.Prelude.{◌≡◌, ◌≤◌, ◌<◌, ◌+◌, [], ◌∷◌, ◌++◌, true, false, length, IfOk, IsOk, OnOk, OnErr};
+ghost use Rattle.std.specs.Prelude.{◌≡◌, ◌≤◌, ◌<◌, ◌+◌, [], ◌∷◌, ◌++◌, true, false, IsOk, OnOk, OnErr};
 ghost use Rattle.lpc_model.specs.World.{no_rows};
 ghost use Rattle.lpc_model.specs.Found as found;
 ghost use Rattle.lpc_model.specs.Found.{live_thread};
@@ -15,10 +15,9 @@ ghost use Rattle.lpc_model.specs.Machine.{bare_steps, step, thread_steps};
 ghost use Rattle.lpc_model.specs.SoundWaits.{HasSoundWaits};
 ghost use Rattle.lpc_model.specs.declared.entry.Entry.TheVariants as entry;
 ghost use Rattle.lpc_death.specs.Closing.{CanClose};
-ghost use Rattle.lpc_model.specs.Basics.{outcome_of};
 ghost use Rattle.lpc_machine.specs.Settled.{IsSettled};
 ghost use Rattle.lpc_machine.specs.Memory.{GoesOn, call_takes_memory, lacks_call_room, lacks_room, makes_call, takes_memory};
-ghost use Rattle.lpc_world.specs.Called.{called, service};
+ghost use Rattle.lpc_world.specs.Called.{MayServe};
 ghost use Rattle.lpc_world.specs.Does.{Took};
 ghost use Rattle.lpc_world.specs.Kept.{Same};
 ghost use Rattle.lpc_world.specs.Ready.{HasRoom, is_ready, room_needed};
@@ -77,14 +76,7 @@ fn serve(
     requires room { HasRoom world.old out.old }
     requires calls { world.old.calls < LINES_LIMIT }
     requires can { CanClose world.old.rows }
-    ensures takes { let steps = called world.old.rows by (call_of call.now) in
-        OnOk result (Took steps world.old world.new out.old out.new) }
-    ensures outcome { let steps = called world.old.rows by (call_of call.now) in
-        IfOk result (λ outcome. outcome ≡ outcome_of steps) }
-    ensures calls { OnOk result (world.new.calls ≡ world.old.calls + 1) }
-    ensures memory { OnErr result (Same world.old world.new) }
-    ensures silent { OnErr result (out.new ≡ out.old) }
-    ensures late { OnErr result (IsOk (service world.old.rows by (call_of call.now))) }
+    ensures serves { MayServe by (call_of call.now) result world.old world.new out.old out.new }
     ensures wanting { OnErr result (lacks_call_room world.old by (call_of call.now) ≡ true) }
     ensures free { call_takes_memory (call_of call.now) ≡ false → IsOk result }
 {

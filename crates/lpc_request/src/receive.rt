@@ -1,12 +1,14 @@
 // The receive, which may make a reply first.
-ghost use Rattle.std.specs.Prelude.{◌≡◌, ◌≤◌, ◌<◌, ◌+◌, ◌*◌, Some, None, true, false};
+ghost use Rattle.std.specs.Prelude.{option_copied, ◌≡◌, ◌≤◌, ◌<◌, Some, None, true, false, ◌+◌};
 ghost use Rattle.lpc_base.specs.Rows.{has};
 ghost use Rattle.lpc_base.specs.declared.limits.TheConstants.{LINES_LIMIT};
+ghost use Rattle.lpc_model.specs.Basics.{outcome_of};
 ghost use Rattle.lpc_model.specs.Found.{is_live_thread, waits_as};
-ghost use Rattle.lpc_request.specs.Called as steps;
-ghost use Rattle.lpc_request.specs.Called.{Ends, Received, Receives};
+ghost use Rattle.lpc_model.specs.Lines.{reply_wait_receive_port};
+ghost use Rattle.lpc_request.specs.Called.{Received};
 ghost use Rattle.lpc_request.specs.Replied.{RepliesFirst, TakesOrWaits, may_be_told, receive_by};
 ghost use Rattle.lpc_request.specs.Rows.{name_at, row_at};
+ghost use Rattle.lpc_world.specs.Called.{Served};
 ghost use Rattle.lpc_world.specs.Kept.{HasWholeBudget, Roomy, StaysReady};
 ghost use Rattle.lpc_world.specs.Names.{stands};
 ghost use Rattle.lpc_world.specs.Ready.{HasRoom, is_ready};
@@ -72,7 +74,8 @@ fn take_or_wait(
     requires name { (row_at world.old port).birth ≡ name_at world.old port }
     requires told { may_be_told world.old.rows replied.now }
     ensures takes { TakesOrWaits by.now port queue replied.now world.old world.new out.old out.new }
-    ensures outcome { Ends (receive_by by.now port queue replied.now world.old) result }
+    ensures outcome { let steps = receive_by by.now port queue replied.now world.old in
+        result ≡ outcome_of steps }
     ensures calls { world.new.calls ≡ world.old.calls }
     ensures spare { out.old.spare ≤ out.new.spare + 2 }
 {
@@ -172,9 +175,8 @@ pub fn nt_reply_wait_receive_port(
     requires ready { is_ready world.old.rows by ≡ true }
     requires room { HasRoom world.old out.old }
     requires calls { world.old.calls < LINES_LIMIT }
-    ensures takes { Receives by handle reply.entry world.old world.new out.old out.new }
-    ensures outcome { Ends (steps.receive world.old.rows by handle reply.entry) result }
-    ensures calls { world.new.calls ≡ world.old.calls + 1 }
+    ensures served { let call = reply_wait_receive_port handle (option_copied reply.entry) in
+        Served by call result world.old world.new out.old out.new }
     ensures spare { out.old.spare ≤ out.new.spare + 2 }
 {
     let caller = world.caller(by);

@@ -1,13 +1,14 @@
 // The reply to a request.
-ghost use Rattle.std.specs.Prelude.{◌≡◌, ◌≤◌, ◌<◌, ◌+◌, true, false, IfOk};
+ghost use Rattle.std.specs.Prelude.{◌≡◌, ◌≤◌, ◌<◌, true, false, IfOk, ◌+◌};
 ghost use Rattle.lpc_base.specs.Rows.{has};
 ghost use Rattle.lpc_base.specs.declared.limits.TheConstants.{LINES_LIMIT};
 ghost use Rattle.lpc_model.specs.Found.{waits_as};
+ghost use Rattle.lpc_model.specs.Lines.{reply_port};
 ghost use Rattle.lpc_model.specs.Message as kept;
-ghost use Rattle.lpc_request.specs.Called as steps;
-ghost use Rattle.lpc_request.specs.Called.{Answered, Ends, Replies};
+ghost use Rattle.lpc_request.specs.Called.{Answered};
 ghost use Rattle.lpc_request.specs.Replied.{Returns, answered_by};
 ghost use Rattle.lpc_request.specs.Rows.{Finds, name_at, row_at};
+ghost use Rattle.lpc_world.specs.Called.{Served};
 ghost use Rattle.lpc_world.specs.Kept.{has_queued};
 ghost use Rattle.lpc_world.specs.Names.{stands};
 ghost use Rattle.lpc_world.specs.Ready.{HasRoom, is_ready, waiter};
@@ -100,9 +101,8 @@ pub fn nt_reply_port(
     requires ready { is_ready world.old.rows by ≡ true }
     requires room { HasRoom world.old out.old }
     requires calls { world.old.calls < LINES_LIMIT }
-    ensures takes { Replies by handle message.now world.old world.new out.old out.new }
-    ensures outcome { Ends (steps.reply world.old.rows by handle message.now) result }
-    ensures calls { world.new.calls ≡ world.old.calls + 1 }
+    ensures served { let call = reply_port handle message.now in
+        Served by call result world.old world.new out.old out.new }
     ensures spare { out.old.spare ≤ out.new.spare + 2 }
 {
     let caller = world.caller(by);

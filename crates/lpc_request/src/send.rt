@@ -1,13 +1,15 @@
 // The calls that send.
-ghost use Rattle.std.specs.Prelude.{◌≡◌, ◌≤◌, ◌<◌, ◌+◌, ◌*◌, true, false, IfOk, OnOk, OnErr};
+ghost use Rattle.std.specs.Prelude.{◌≡◌, ◌≤◌, ◌<◌, true, false, IfOk, OnErr, ◌+◌, OnOk};
 ghost use Rattle.lpc_base.specs.Rows.{has};
 ghost use Rattle.lpc_base.specs.declared.limits.TheConstants.{LINES_LIMIT};
 ghost use Rattle.lpc_model.specs.Found.{is_live_thread, is_thread, waits_as};
+ghost use Rattle.lpc_model.specs.Lines.{request_port, request_wait_reply_port};
 ghost use Rattle.lpc_model.specs.Request as request;
-ghost use Rattle.lpc_request.specs.Called.{Asked, Asks, CanPost, Ends, Posts, ask, post};
+ghost use Rattle.lpc_request.specs.Called.{Asked};
 ghost use Rattle.lpc_request.specs.Rows.{Finds, name_at, row_at};
 ghost use Rattle.lpc_request.specs.Sent.{Requests, Sends, may_post, may_send, shown};
-ghost use Rattle.lpc_world.specs.Kept.{HasWholeBudget, Same};
+ghost use Rattle.lpc_world.specs.Called.{MayServe, Served};
+ghost use Rattle.lpc_world.specs.Kept.{HasWholeBudget};
 ghost use Rattle.lpc_world.specs.Names.{stands};
 ghost use Rattle.lpc_world.specs.Ready.{HasRoom, is_ready};
 ghost use Rattle.lpc_world.specs.Shown.{shown_thread};
@@ -133,14 +135,10 @@ pub fn nt_request_port(
     requires ready { is_ready world.old.rows by ≡ true }
     requires room { HasRoom world.old out.old }
     requires calls { world.old.calls < LINES_LIMIT }
-    ensures takes { OnOk result (Posts by handle message.now world.old world.new out.old out.new) }
-    ensures outcome { IfOk result (Ends (post world.old.rows by handle message.now)) }
-    ensures calls { OnOk result (world.new.calls ≡ world.old.calls + 1) }
+    ensures serves { let call = request_port handle message.now in
+        MayServe by call result world.old world.new out.old out.new }
     ensures spare { OnOk result (out.old.spare ≤ out.new.spare + 2) }
-    ensures late { OnErr result (CanPost world.old.rows by handle message.now) }
     ensures wanting { OnErr result (world.old.room.messages < 1) }
-    ensures memory { OnErr result (Same world.old world.new) }
-    ensures silent { OnErr result (out.new ≡ out.old) }
 {
     let caller = world.caller(by);
     let sent = match datagram_test(world, by, handle, message) {
@@ -237,9 +235,8 @@ pub fn nt_request_wait_reply_port(
     requires ready { is_ready world.old.rows by ≡ true }
     requires room { HasRoom world.old out.old }
     requires calls { world.old.calls < LINES_LIMIT }
-    ensures takes { Asks by handle message.now world.old world.new out.old out.new }
-    ensures outcome { Ends (ask world.old.rows by handle message.now) result }
-    ensures calls { world.new.calls ≡ world.old.calls + 1 }
+    ensures served { let call = request_wait_reply_port handle message.now in
+        Served by call result world.old world.new out.old out.new }
     ensures spare { out.old.spare ≤ out.new.spare + 2 }
 {
     let caller = world.caller(by);

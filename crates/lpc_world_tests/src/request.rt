@@ -68,15 +68,17 @@ fn begins_with_threads(rt: &impl Abort, world: &mut World) -> Result<(), Fail>
 
 // The process of thread 24 gets a handle of the port, its first.
 fn gets_a_handle(rt: &impl Abort, world: &mut World, port: Key) -> Result<(), Fail>
+    requires few { world.old.calls < LINES_LIMIT }
     requires ready { is_ready world.old.rows 24 ≡ true }
     requires stands { stands world.old.births.ports port ≡ true }
-    ensures calls { world.new.calls ≡ world.old.calls }
+    ensures calls { world.new.calls ≤ world.old.calls + 1 }
 {
     let by = world.caller(24);
     world.handles_reserve(by.process, 1)?;
     let Ok(()) = world.handles_test(by.process) else {
         return Ok(assert!(rt; false));
     };
+    world.begin_call();
     let value = world.give_handle(by.process, Object::Port(port), 1);
     assert!(rt; value == 4);
     Ok(())
@@ -85,7 +87,7 @@ fn gets_a_handle(rt: &impl Abort, world: &mut World, port: Key) -> Result<(), Fa
 // A process with two threads and a port.
 fn begins(rt: &impl Abort, world: &mut World) -> Result<(), Fail>
     requires few { world.old.calls < 1000 }
-    ensures calls { world.new.calls ≤ world.old.calls + 3 }
+    ensures calls { world.new.calls ≤ world.old.calls + 4 }
 {
     begins_with_threads(rt, world)?;
     can_call(rt, world, 24);
@@ -200,7 +202,7 @@ fn is_refused(rt: &impl Abort, world: &mut World, out: &mut Entries) -> Result<(
 // A datagram is sent and received.
 fn sends_and_receives(rt: &impl Abort, world: &mut World, out: &mut Entries) -> Result<(), Fail>
     requires few { world.old.calls < 1000 }
-    ensures calls { world.new.calls ≤ world.old.calls + 5 }
+    ensures calls { world.new.calls ≤ world.old.calls + 6 }
 {
     begins(rt, world)?;
     sends(rt, world, out)?;

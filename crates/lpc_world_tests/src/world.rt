@@ -96,16 +96,18 @@ fn directives_make_processes_and_threads(rt: HostRuntime) -> Result<(), Fail> {
 
 // The process of thread 24 gets a handle of a port, with the right to use it alone: the first of its handles.
 fn gets_a_handle(rt: &impl Abort, world: &mut World, port: Key) -> Result<(), Fail>
+    requires few { world.old.calls < LINES_LIMIT }
     requires ready { is_ready world.old.rows 24 ≡ true }
     requires stands { stands world.old.births.ports port ≡ true }
     ensures births { world.new.births ≡ world.old.births }
-    ensures calls { world.new.calls ≡ world.old.calls }
+    ensures calls { world.new.calls ≤ world.old.calls + 1 }
 {
     let by = world.caller(24);
     world.handles_reserve(by.process, 1)?;
     let Ok(()) = world.handles_test(by.process) else {
         return Ok(assert!(rt; false));
     };
+    world.begin_call();
     let given = world.handles_add(by.process, Object::Port(port), 1);
     assert!(rt; given.ok() == Some(4));
     Ok(())
@@ -114,7 +116,7 @@ fn gets_a_handle(rt: &impl Abort, world: &mut World, port: Key) -> Result<(), Fa
 // Process 20 begins, and its thread 24 makes a port, which gets a handle.
 fn begins_with_a_port(rt: &impl Abort, world: &mut World) -> Result<Key, Fail>
     requires few { world.old.calls < 1000 }
-    ensures calls { world.new.calls ≤ world.old.calls + 2 }
+    ensures calls { world.new.calls ≤ world.old.calls + 3 }
     ensures stands { IfOk result (λ port. stands world.new.births.ports port ≡ true) }
 {
     boots(rt, world, 20, 24, SUCCESS)?;
