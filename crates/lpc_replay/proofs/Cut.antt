@@ -1,17 +1,17 @@
 -- What was sent by the time memory runs out: what some first lines tell, each whole.
 use Rattle.std.proofs.Common.{◌≡◌, ℕ, ◌+◌, List, [], ◌∷◌, ◌++◌, length, refl, sym, ap, ◌∙◌, arith, append_assoc, length-append}
-use Rattle.std.specs.Prelude.{Option, Some, None, Result, Ok, Err}
+use Rattle.std.specs.Prelude.{Option, None, Result, Ok, Err}
 use Rattle.std.proofs.lemmas.List.{append-nil}
 use Rattle.lpc_base.specs.Streams.{Adds, Told}
 use Rattle.lpc_model.specs.declared.fault.LineFault.{LineFault}
 use Rattle.lpc_model.specs.Lines.{ScriptLine}
 use Rattle.lpc_model.specs.Machine.{Stepped}
-use Rattle.lpc_model.specs.Run.{first_state, line_step, numbered_line, run_of, said_from, said_in, trace, unless_faulty, world_behind}
+use Rattle.lpc_model.specs.Run.{first_state, line_step, numbered_line, run_of, said_from, trace, unless_faulty, world_behind}
 use Rattle.lpc_model.specs.Script.{script_lines}
 use Rattle.lpc_model.specs.Text.{entries_text}
 use Rattle.lpc_model.specs.Transcript.{body_from}
-use Rattle.lpc_replay.specs.Playing.{Progress, RunsLine, begin, behind_line, body_text, line_text, steps_of}
-use Rattle.lpc_replay.specs.Reading.{IsTaken, ended_lines, ended_part}
+use Rattle.lpc_replay.specs.Playing.{Progress, RunsLine, begin, behind_line, steps_of}
+use Rattle.lpc_replay.specs.Reading.{IsTaken, ended_lines}
 use Rattle.lpc_replay.specs.Sending.{TellsFirst}
 use Rattle.lpc_replay.specs.TopCall.{CutsShort, IsCutShort}
 use Rattle.lpc_replay.proofs.Ended.{ended_front, lines_parts}

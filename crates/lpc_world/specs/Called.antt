@@ -1,4 +1,4 @@
--- What a thread's call is to do, or why it is refused.
+-- What a thread's call is to do, or why it is refused; that it was served, or found no memory.
 use Rattle.std.specs.Prelude.{◌≡◌, ℕ, ◌+◌, List, Result, Ok, Err, IsOk}
 use Rattle.lpc_base.specs.declared.error.OutOfMemory.{OutOfMemory}
 use Rattle.lpc_base.specs.declared.status.Status.{Status}

@@ -374,7 +374,8 @@ impl World {
             (processes ≤ self.old.room.processes → self.old.room.threads < threads) }
         ensures most_processes { let rows = process_rows self.old.rows in
             self.new.room.processes ≤ grown_room self.old.room.processes processes rows }
-        ensures most_threads { let rows = most_rows self.old.rows.threads self.old.rows.used_threads in
+        ensures most_threads { let old = self.old.rows in
+            let rows = most_rows old.threads old.used_threads in
             self.new.room.threads ≤ grown_room self.old.room.threads threads rows }
     {
         self.procs.reserve(processes, threads)?;

@@ -1,5 +1,5 @@
 use Rattle.std.proofs.Common.{sym, ◌∙◌}
-use Rattle.lpc_replay.proofs.Cut.{cuts_short, cuts_unsent}
+use Rattle.lpc_replay.proofs.Cut.{cuts_unsent}
 use Rattle.lpc_replay.proofs.Ended.{ended_sound}
 use Rattle.lpc_replay.proofs.Limits.{sound_within}
 use Rattle.lpc_replay.proofs.Formed.{begins_unsent, formed, formed_ended, has_ended_fault, replays, sound_read, stops_ended, unfailed}
