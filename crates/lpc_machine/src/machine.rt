@@ -28,6 +28,7 @@ use lpc_connect::{
     nt_listen_port,
 };
 use lpc_death::{nt_close, nt_duplicate_object, nt_query_object};
+use lpc_directives::{boot, directory, link, thread};
 use lpc_model::{Call, Entries, Entry, Line, Outcome, Word};
 use lpc_request::{
     nt_reply_port, nt_reply_wait_receive_port, nt_request_port, nt_request_wait_reply_port,
@@ -158,22 +159,22 @@ fn take(world: &mut World, line: &Line<'_>, out: &mut Entries) -> Result<(), Out
 {
     match line {
         Line::Boot { pid, tid } => {
-            let status = world.boot(*pid, *tid)?;
+            let status = boot(world, *pid, *tid)?;
             tell(Word::Boot, status, out);
             Ok(())
         }
         Line::Thread { tid, pid } => {
-            let status = world.thread(*tid, *pid)?;
+            let status = thread(world, *tid, *pid)?;
             tell(Word::Thread, status, out);
             Ok(())
         }
         Line::Dir(path) => {
-            let status = world.directory(path)?;
+            let status = directory(world, path)?;
             tell(Word::Dir, status, out);
             Ok(())
         }
         Line::Link { path, target } => {
-            let status = world.link(path, target)?;
+            let status = link(world, path, target)?;
             tell(Word::Link, status, out);
             Ok(())
         }

@@ -26,7 +26,6 @@ mod closing;
 mod completing;
 mod connecting;
 mod connections;
-mod directives;
 mod ending;
 mod freeing;
 mod lending;

@@ -6,6 +6,7 @@ ghost use Rattle.lpc_world.specs.Names.{KeepsNames, stands};
 ghost use Rattle.lpc_world.specs.Ready.{is_ready};
 
 use lpc_base::{PortKind, Status};
+use lpc_directives::{boot, thread};
 use lpc_model::{FieldName, Fields, Value};
 use lpc_ports::Creator;
 use lpc_slots::Key;
@@ -40,7 +41,7 @@ pub fn boots(
     requires thread { IsNumber tid }
     ensures calls { world.new.calls ≤ world.old.calls + 1 }
 {
-    let answer = world.boot(pid, tid)?;
+    let answer = boot(world, pid, tid)?;
     assert!(rt; answer == status);
     Ok(())
 }
@@ -57,7 +58,7 @@ pub fn threads(
     requires thread { IsNumber tid }
     ensures calls { world.new.calls ≤ world.old.calls + 1 }
 {
-    let answer = world.thread(tid, pid)?;
+    let answer = thread(world, tid, pid)?;
     assert!(rt; answer == status);
     Ok(())
 }

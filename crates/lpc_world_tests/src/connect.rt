@@ -5,6 +5,7 @@ ghost use Rattle.lpc_world.specs.Ready.{HasRoom, is_ready};
 use crate::common::{boots, can_call, one};
 use lpc_base::status::SUCCESS;
 use lpc_connect::nt_create_port;
+use lpc_directives::directory;
 use lpc_model::{CallName, Entries, Entry, FieldName, Outcome, Value};
 use lpc_names::Found;
 use lpc_world::World;
@@ -74,7 +75,7 @@ fn first_port_of_a_process_has_handle_4(rt: HostRuntime) -> Result<(), Fail> {
 fn names_a_port(rt: &impl Abort, world: &mut World, out: &mut Entries) -> Result<(), Fail>
     requires few { world.old.calls < 100 }
 {
-    let made = world.directory(b"\\Windows")?;
+    let made = directory(world, b"\\Windows")?;
     assert!(rt; made == SUCCESS);
     makes_a_port(rt, world, Some(b"\\Windows\\P"), out)?;
     let found = world.names().lookup(b"\\Windows\\P");

@@ -14,6 +14,7 @@ use lpc_base::status::{
     OBJECT_TYPE_MISMATCH, SUCCESS,
 };
 use lpc_base::{PortKind, Status};
+use lpc_directives::{directory, link};
 use lpc_message::{ClientId, Header, kind};
 use lpc_model::{Body, Entries, Message, ObjectKind, kept};
 use lpc_names::{BindFault, Found};
@@ -204,9 +205,9 @@ fn makes_directories_and_links(rt: &impl Abort, world: &mut World) -> Result<(),
 {
     binds(rt, world.names_add_directory(b"\\A"));
     binds(rt, world.names_add_link(b"\\L", b"\\A"));
-    assert!(rt; world.directory(b"\\L")? == OBJECT_NAME_COLLISION);
-    assert!(rt; world.link(b"\\L\\M", b"A")? == OBJECT_PATH_SYNTAX_BAD);
-    assert!(rt; world.link(b"\\L\\M", b"\\A")? == SUCCESS);
+    assert!(rt; directory(world, b"\\L")? == OBJECT_NAME_COLLISION);
+    assert!(rt; link(world, b"\\L\\M", b"A")? == OBJECT_PATH_SYNTAX_BAD);
+    assert!(rt; link(world, b"\\L\\M", b"\\A")? == SUCCESS);
     leads_to(rt, world, b"\\A\\M", Found::Directory);
     Ok(())
 }

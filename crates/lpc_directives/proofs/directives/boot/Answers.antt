@@ -5,7 +5,7 @@ use Rattle.lpc_model.specs.Basics.{no_handles}
 use Rattle.lpc_model.specs.Found.{is_process, is_table}
 use Rattle.lpc_model.specs.Machine.{new_process}
 use Rattle.lpc_model.specs.World.{World}
-use Rattle.lpc_world.proofs.world.World.boot.Goals as goal
+use Rattle.lpc_directives.proofs.directives.boot.Goals as goal
 
 pub procs_add_thread-requires-clause-process : goal.procs_add_thread-requires-clause-process
 procs_add_thread-requires-clause-process c =
