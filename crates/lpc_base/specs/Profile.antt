@@ -1,7 +1,7 @@
 -- The numbers behind the names of the profile: its limits, and the published value of each status. Code and definitions
 -- both go by the names, so what the names stand for is said here, number by number.
 use Rattle.std.specs.Prelude.{◌≡◌}
-use Rattle.lpc_base.specs.declared.limits.TheConstants.{DATAGRAM_LIMIT, HANDLE_LIMIT, HEADER_SIZE, LINES_LIMIT, LINE_LIMIT, MESSAGE_LIMIT, THREAD_LIMIT}
+use Rattle.lpc_base.specs.declared.limits.TheConstants.{DATAGRAM_LIMIT, HANDLE_LIMIT, HEADER_SIZE, LINES_LIMIT, LINE_LIMIT, MESSAGE_LIMIT, REGISTRATION_LIMIT, THREAD_LIMIT}
 use Rattle.lpc_base.specs.declared.status.TheConstants.{ACCESS_DENIED, ACCESS_VIOLATION, BAD_IMPERSONATION_LEVEL, CANT_OPEN_ANONYMOUS, DBG_CONTINUE, DBG_EXCEPTION_NOT_HANDLED, INVALID_CID, INVALID_HANDLE, INVALID_PAGE_PROTECTION, INVALID_PARAMETER, INVALID_PARAMETER_4, INVALID_PORT_HANDLE, INVALID_VIEW_SIZE, LPC_REPLY_LOST, MAPPED_ALIGNMENT, NOT_MAPPED_VIEW, NO_TOKEN, OBJECT_NAME_COLLISION, OBJECT_NAME_INVALID, OBJECT_NAME_NOT_FOUND, OBJECT_PATH_NOT_FOUND, OBJECT_PATH_SYNTAX_BAD, OBJECT_TYPE_MISMATCH, PORT_ALREADY_SET, PORT_CONNECTION_REFUSED, PORT_DISCONNECTED, PORT_MESSAGE_TOO_LONG, QUOTA_EXCEEDED, REPLY_MESSAGE_MISMATCH, SECTION_PROTECTION, SECTION_TOO_BIG, SERVER_SID_MISMATCH, SUCCESS, TIMEOUT}
 
 -- the limits of this project's profile
@@ -11,6 +11,7 @@ pub record ProfileLimits : Type 0 where
   pub handles_of_a_process : HANDLE_LIMIT ≡ 256
   pub unreceived_datagrams_of_a_port : DATAGRAM_LIMIT ≡ 32
   pub live_threads_of_a_process : THREAD_LIMIT ≡ 64
+  pub registered_ports_of_a_thread : REGISTRATION_LIMIT ≡ 16
   pub bytes_of_a_line : LINE_LIMIT ≡ 16_384
   pub lines_of_a_script : LINES_LIMIT ≡ 1_000_000
 

@@ -4,8 +4,9 @@
 ///
 /// A port, section or token, and a process or thread that a call makes, is named by the thread that made it and by
 /// the ordinal, from 1, of what that thread has made. A process or thread that a directive makes has maker 0 and its
-/// own number as ordinal. So a birth depends on no other thread. This project's own.
-#[derive(Clone, Copy, PartialEq, Eq)]
+/// own number as ordinal. So a birth depends on no other thread. The default birth, all 0, names nothing. This project's
+/// own.
+#[derive(Clone, Copy, Default, PartialEq, Eq)]
 pub struct Birth {
     /// The number of the thread that made the object; 0 for a directive.
     pub maker: u32,

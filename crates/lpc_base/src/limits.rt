@@ -15,6 +15,9 @@ pub const DATAGRAM_LIMIT: usize = 32;
 /// The live threads of one process.
 pub const THREAD_LIMIT: usize = 64;
 
+/// The ports that one thread may register, to be told of its end.
+pub const REGISTRATION_LIMIT: usize = 16;
+
 /// The bytes of a script's line, without the byte that ends it.
 pub const LINE_LIMIT: usize = 16_384;
 

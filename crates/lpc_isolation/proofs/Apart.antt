@@ -15,7 +15,7 @@ use Rattle.lpc_model.specs.declared.entry.Field.{Field}
 use Rattle.lpc_model.specs.Message.{asks}
 use Rattle.lpc_model.specs.World.{Accepted, Birth, Connect, Listen, MessageRow, Receive, Request, WaitKind, WaitRow, World}
 use Rattle.lpc_model.specs.Found.{same_birth, waits_as, waits_at}
-use Rattle.lpc_model.specs.Basics.{Accepts, AddsHandle, AddsProcess, AddsThread, Awaits, Basic, Binds, Completes, Cuts, DrawsIdentifier, DrawsOrdinal, DropsHandle, Empties, Enters, Frees, Joins, Makes, Receives, Takes, TakesConnect, Tells, Unbinds, Wakes, Withdraws, basic, entries_of, received, told, world_after}
+use Rattle.lpc_model.specs.Basics.{Accepts, AddsHandle, AddsProcess, AddsThread, Awaits, Basic, Binds, Completes, Cuts, DrawsIdentifier, DrawsOrdinal, DropsHandle, Empties, Enters, Frees, Joins, Makes, Receives, Takes, TakesConnect, Tells, Unbinds, Wakes, Withdraws, basic, entries_of, received, told, world_after, Dies, Registers, Unregisters}
 use Rattle.lpc_model.specs.Entering.{enter, given_steps, shown, takes, woken}
 use Rattle.lpc_model.specs.Circle.{Everyone, Group, Nobody, Of, Whose, entry_whose, is_seen, owned, owner, thread_whose}
 use Rattle.lpc_isolation.proofs.Alone.{alone}
@@ -64,6 +64,9 @@ is_apart m c u d w (TakesConnect q) = not (sees m w (TakesConnect q))
 is_apart m c u d w (Withdraws who) = not (sees m w (Withdraws who))
 is_apart m c u d w (DrawsIdentifier who) = not (sees m w (DrawsIdentifier who))
 is_apart m c u d w (DrawsOrdinal who) = not (sees m w (DrawsOrdinal who))
+is_apart m c u d w (Dies who status) = not (is_seen m (thread_whose u who)) && not (sees m w (Dies who status))
+is_apart m c u d w (Registers who b) = not (sees m w (Registers who b))
+is_apart m c u d w (Unregisters who b) = not (sees m w (Unregisters who b))
 is_apart m c u d w (AddsProcess p) = not (sees m w (AddsProcess p))
 is_apart m c u d w (AddsThread t) = not (sees m w (AddsThread t))
 is_apart m c u d w (Makes p) = not (sees m w (Makes p))
@@ -97,6 +100,9 @@ basic-apart m c u d w (TakesConnect q) is ok = basic-unseen m w (TakesConnect q)
 basic-apart m c u d w (Withdraws who) is ok = basic-unseen m w (Withdraws who) (from_not _ is) ok
 basic-apart m c u d w (DrawsIdentifier who) is ok = basic-unseen m w (DrawsIdentifier who) (from_not _ is) ok
 basic-apart m c u d w (DrawsOrdinal who) is ok = basic-unseen m w (DrawsOrdinal who) (from_not _ is) ok
+basic-apart m c u d w (Dies who status) is ok = rw (from_not (is_seen m (thread_whose u who)) (one_of _ _ is)) (basic-unseen m w (Dies who status) (from_not _ (other_of (not (is_seen m (thread_whose u who))) _ is)) ok)
+basic-apart m c u d w (Registers who b) is ok = basic-unseen m w (Registers who b) (from_not _ is) ok
+basic-apart m c u d w (Unregisters who b) is ok = basic-unseen m w (Unregisters who b) (from_not _ is) ok
 basic-apart m c u d w (AddsProcess p) is ok = basic-unseen m w (AddsProcess p) (from_not _ is) ok
 basic-apart m c u d w (AddsThread t) is ok = basic-unseen m w (AddsThread t) (from_not _ is) ok
 basic-apart m c u d w (Makes p) is ok = basic-unseen m w (Makes p) (from_not _ is) ok
@@ -149,6 +155,9 @@ basic-quiet m c u d w (TakesConnect q) c_in is = refl
 basic-quiet m c u d w (Withdraws who) c_in is = refl
 basic-quiet m c u d w (DrawsIdentifier who) c_in is = refl
 basic-quiet m c u d w (DrawsOrdinal who) c_in is = refl
+basic-quiet m c u d w (Dies who status) c_in is = let off : is_seen (alone c) (thread_whose u who) ≡ false = c_seen m c (thread_whose u who) c_in (from_not (is_seen m (thread_whose u who)) (one_of _ _ is)) in rw off refl
+basic-quiet m c u d w (Registers who b) c_in is = refl
+basic-quiet m c u d w (Unregisters who b) c_in is = refl
 basic-quiet m c u d w (AddsProcess p) c_in is = refl
 basic-quiet m c u d w (AddsThread t) c_in is = refl
 basic-quiet m c u d w (Makes p) c_in is = refl

@@ -9,11 +9,11 @@ use Rattle.lpc_base.specs.declared.status.TheConstants.{SUCCESS}
 use Rattle.lpc_model.specs.declared.entry.CallName.{CallName}
 use Rattle.lpc_model.specs.declared.entry.Field.{Field}
 use Rattle.lpc_model.specs.Fields.{msg, receipt}
-use Rattle.lpc_message.specs.declared.kind.TheConstants.{DATAGRAM, PORT_CLOSED}
+use Rattle.lpc_message.specs.declared.kind.TheConstants.{CLIENT_DIED, DATAGRAM, PORT_CLOSED}
 use Rattle.lpc_model.specs.Message.{asks}
 use Rattle.lpc_model.specs.World.{Accepted, Connect, Listen, MessageRow, Receive, Request, WaitKind, WaitRow, World}
 use Rattle.lpc_model.specs.Found.{is_offered, is_own_of, is_queued, is_queued_connect, is_request, same_birth, wait_of, waits_as, waits_at}
-use Rattle.lpc_model.specs.Basics.{Accepts, AddsHandle, AddsProcess, AddsThread, Awaits, Basic, Binds, Completes, Cuts, DrawsIdentifier, DrawsOrdinal, DropsHandle, Empties, Enters, Frees, Joins, Makes, Receives, Takes, TakesConnect, Tells, Unbinds, Wakes, Withdraws, accepted, basic, received, world_after}
+use Rattle.lpc_model.specs.Basics.{Accepts, AddsHandle, AddsProcess, AddsThread, Awaits, Basic, Binds, Completes, Cuts, DrawsIdentifier, DrawsOrdinal, DropsHandle, Empties, Enters, Frees, Joins, Makes, Receives, Takes, TakesConnect, Tells, Unbinds, Wakes, Withdraws, accepted, basic, received, world_after, Dies, Registers, Unregisters}
 use Rattle.lpc_model.specs.Entering.{enter, given_steps, shown, take_connect_steps, take_steps, takes, woken}
 use Rattle.lpc_model.proofs.Rows.{count-less}
 use Rattle.lpc_isolation.proofs.View.{both, one_of, other_of, same-number}
@@ -32,9 +32,10 @@ is_own y x = waits_as (sender_of y) x && (same_birth x.queue y.queue && (not x.r
 abbrev pub has_own : List WaitRow → MessageRow → Bool
 has_own waits y = not (asks y.message) || has (is_own y) waits
 
--- a message is a request, a connection request or a datagram, or tells of a closed port
+-- a message is a request, a connection request or a datagram, or tells of a closed port or of a thread that ended
 abbrev pub is_sort : MessageRow → Bool
-is_sort y = asks y.message || ((y.message.header.kind == DATAGRAM) || (y.message.header.kind == PORT_CLOSED))
+is_sort y =
+    asks y.message || ((y.message.header.kind == DATAGRAM) || ((y.message.header.kind == PORT_CLOSED) || (y.message.header.kind == CLIENT_DIED)))
 
 pub record Asked (w : World) : Type 0 where
   pub sorts : every is_sort w.messages ≡ true
@@ -49,6 +50,7 @@ is_quiet messages who = not (has (asks_of who) messages)
 -- what a step must be, so that it stays so
 abbrev pub keeps_asked : World → Basic → Bool
 keeps_asked w (Wakes who call status fields) = is_quiet w.messages who
+keeps_asked w (Dies who status) = is_quiet w.messages who
 keeps_asked w (Receives who q) = is_quiet w.messages who
 keeps_asked w (Accepts who reply) = is_quiet w.messages who
 keeps_asked w (Enters y) = is_sort y && (not (asks y.message) || (is_quiet w.messages (sender_of y) && has (is_own y) w.waits))
@@ -132,6 +134,7 @@ entered-one who ys y ok few = rw (count-push (asks_of who) ys y) (at (asks_of wh
 
 pub basic-asked : (w : World) (b : Basic) → keeps_asked w b ≡ true → Asked w → Asked (basic w b)
 basic-asked w (Wakes who call status fields) ok a = record { sorts = a.sorts; own = still-own who w.waits (without (waits_as who) w.waits) (λ y other. has-off (is_own y) (waits_as who) other w.waits) w.messages a.own ok; one = a.one }
+basic-asked w (Dies who status) ok a = record { sorts = a.sorts; own = still-own who w.waits (without (waits_as who) w.waits) (λ y other. has-off (is_own y) (waits_as who) other w.waits) w.messages a.own ok; one = a.one }
 basic-asked w (Receives who q) ok a = record { sorts = a.sorts; own = still-own who w.waits (change (waits_at who q) received w.waits) (λ y other. has-changed (is_own y) (waits_at who q) received (λ x is. let off = other x is in grind arith) w.waits) w.messages a.own ok; one = a.one }
 basic-asked w (Accepts who reply) ok a = record { sorts = a.sorts; own = still-own who w.waits (change (waits_as who) (accepted reply) w.waits) (λ y other. has-changed (is_own y) (waits_as who) (accepted reply) other w.waits) w.messages a.own ok; one = a.one }
 basic-asked w (Enters y) ok a = record { sorts = every-push is_sort w.messages y a.sorts (one_of (is_sort y) (not (asks y.message) || (is_quiet w.messages (sender_of y) && has (is_own y) w.waits)) ok); own = every-push (has_own w.waits) w.messages y a.own (let rest = other_of (is_sort y) (not (asks y.message) || (is_quiet w.messages (sender_of y) && has (is_own y) w.waits)) ok in grind arith); one = λ who. entered-one who w.messages y (let rest = other_of (is_sort y) (not (asks y.message) || (is_quiet w.messages (sender_of y) && has (is_own y) w.waits)) ok in grind arith) (a.one who) }
@@ -152,6 +155,8 @@ basic-asked w (DropsHandle pid value) ok a = record { sorts = a.sorts; own = a.o
 basic-asked w (Tells e) ok a = a
 basic-asked w (DrawsIdentifier who) ok a = record { sorts = a.sorts; own = a.own; one = a.one }
 basic-asked w (DrawsOrdinal who) ok a = record { sorts = a.sorts; own = a.own; one = a.one }
+basic-asked w (Registers who b) ok a = record { sorts = a.sorts; own = a.own; one = a.one }
+basic-asked w (Unregisters who b) ok a = record { sorts = a.sorts; own = a.own; one = a.one }
 basic-asked w (AddsProcess p) ok a = record { sorts = a.sorts; own = a.own; one = a.one }
 basic-asked w (AddsThread t) ok a = record { sorts = a.sorts; own = a.own; one = a.one }
 

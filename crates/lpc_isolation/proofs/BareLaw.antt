@@ -3,8 +3,7 @@ use Rattle.std.proofs.Common.{◌≡◌, ℕ, ◌≤◌, List, [], ◌++◌, Boo
 use Rattle.lpc_model.specs.World.{World, no_rows}
 use Rattle.lpc_model.specs.Lines.{ScriptLine}
 use Rattle.lpc_isolation.proofs.Served.{served_step}
-use Rattle.lpc_model.proofs.SoundLines.{sound_none}
-use Rattle.lpc_isolation.proofs.Sweeps.{served-sound}
+use Rattle.lpc_isolation.proofs.Sweeps.{served-firm, served-firm}
 use Rattle.lpc_model.specs.Circle.{Group, is_fine_line, is_seen, line_whose}
 use Rattle.lpc_isolation.proofs.Alone.{HasFinePorts}
 use Rattle.lpc_isolation.proofs.Bare.{BareIsolation}
@@ -16,6 +15,7 @@ use Rattle.lpc_isolation.proofs.Stands.{Kept, Line, State, Stood, absorbed-view,
 use Rattle.lpc_isolation.proofs.Nexts.{line-next}
 use Rattle.lpc_isolation.proofs.KnownLines.{Known, line-known}
 use Rattle.lpc_isolation.proofs.Heard.{Heard}
+use Rattle.lpc_isolation.proofs.Firm.{firm_none}
 
 keeps-view : (m : Group) (c : ℕ) → m c ≡ true → (w : World) (t : List Heard) (line : ScriptLine) → Stood m c w (record { seen = view m w; memo = t }) → HasFinePorts m c w → HasFinePorts m c (served_step w line).world → is_fine_line m c w line ≡ true → has_ids line ≡ true
     → Played (player m c) (Stood m c) m c w (record { seen = view m w; memo = t }) line
@@ -37,21 +37,21 @@ keeps-view m c c_in w t line st fine next ok fits = at (is_seen m (line_whose w 
     at false out = hidden (record {
       unseen = out;
       silent = (l.hides out).1;
-      stands = record { seen = absorbed-view m c s (told_at m c w line) ∙ sym (l.hides out).0; sound = served-sound w line st.sound; kept = n; known = k.hides out };
+      stands = record { seen = absorbed-view m c s (told_at m c w line) ∙ sym (l.hides out).0; firm = served-firm w line st.firm; kept = n; known = k.hides out };
     })
     at true seen = visible (record {
       seen = seen;
       shown = λ is. (l.shows seen is).1;
       stands = λ is. record {
         seen = absorbed-view m c ((player m c).after s line (told_items (told_at m c w line) ++ is)) (told_at m c w line) ∙ sym (l.shows seen is).0;
-        sound = served-sound w line st.sound;
+        firm = served-firm w line st.firm;
         kept = n;
         known = k.shows seen is;
       };
     })
 
 keeps-all : (m : Group) (c : ℕ) → m c ≡ true → Keeps (player m c) (Stood m c) has_ids m c
-keeps-all m c c_in w s line st fine next ok fits = from (view m w) (sym st.seen) (keeps-view m c c_in w s.memo line (record { seen = refl; sound = st.sound; kept = st.kept; known = st.known }) fine next ok fits)
+keeps-all m c c_in w s line st fine next ok fits = from (view m w) (sym st.seen) (keeps-view m c c_in w s.memo line (record { seen = refl; firm = st.firm; kept = st.kept; known = st.known }) fine next ok fits)
   where
     from : (v : World) → v ≡ s.seen → Played (player m c) (Stood m c) m c w (record { seen = v; memo = s.memo }) line → Played (player m c) (Stood m c) m c w s line
     from v same p = subst (λ v. Played (player m c) (Stood m c) m c w (record { seen = v; memo = s.memo }) line) same p
@@ -63,9 +63,9 @@ none-once tid = omega arith
 stood_none : (m : Group) (c : ℕ) → Stood m c no_rows (record { seen = no_rows; memo = [] })
 stood_none m c = record {
   seen = refl;
-  sound = sound_none;
+  firm = firm_none;
   kept = record {
-    fair = record { tables = refl; ports = refl; messages = refl; waits = refl; threads = refl; senders = refl; creators = refl };
+    fair = record { tables = refl; ports = refl; messages = refl; waits = refl; threads = refl; senders = refl; creators = refl; registrations = refl };
     once = none-once;
     names = λ path. omega arith;
     paths = refl;

@@ -10,7 +10,7 @@ use Rattle.lpc_names.specs.Walk.{LinkTo, Stands}
 use Rattle.lpc_names.specs.declared.names.Found.TheVariants.{Directory, Item}
 use Rattle.lpc_model.specs.World.{Birth, HandleTable, MessageRow, Node, Path, PortRow, World}
 use Rattle.lpc_model.specs.Found.{is_own_of, is_the, same_birth, is_port, is_queued, is_queued_connect, is_table, is_thread, waits_as, waits_at}
-use Rattle.lpc_model.specs.Basics.{Accepts, AddsHandle, AddsProcess, AddsThread, Awaits, Basic, Binds, Completes, Cuts, DrawsIdentifier, DrawsOrdinal, DropsHandle, Empties, Enters, Frees, Joins, Makes, Receives, Takes, TakesConnect, Tells, Unbinds, Wakes, Withdraws, accepted, basic, completed, cut, is_end_of, joined, no_handles, past_identifier, past_ordinal, received, used, with_handle, without_handle, world_after}
+use Rattle.lpc_model.specs.Basics.{Accepts, AddsHandle, AddsProcess, AddsThread, Awaits, Basic, Binds, Completes, Cuts, DrawsIdentifier, DrawsOrdinal, DropsHandle, Empties, Enters, Frees, Joins, Makes, Receives, Takes, TakesConnect, Tells, Unbinds, Wakes, Withdraws, accepted, basic, completed, cut, is_end_of, joined, no_handles, past_identifier, past_ordinal, received, used, with_handle, without_handle, world_after, Dies, Registers, Unregisters, ended, registering, unregistering}
 use Rattle.lpc_model.specs.Circle.{Group}
 use Rattle.lpc_isolation.proofs.Filters.{kept-change, kept-push, kept-push_out, kept-without, kept-without_out, kept-without_first, kept-without_first_out, shown, shown-change, shown-map, shown-push, shown-push_out, shown-change_out, shown-map_out, kept-change_out, every-any, without_first-none}
 use Rattle.lpc_isolation.proofs.View.{both, of_birth, one_of, other_of, our_binding, our_message, our_node, our_port, our_process, our_table, our_thread, our_used, our_wait, seen_port, view}
@@ -42,6 +42,9 @@ sees m w (TakesConnect q) = passes (first (is_queued_connect q) w.messages) (our
 sees m w (Withdraws who) = sees_own m w who
 sees m w (DrawsIdentifier who) = sees_thread m w who
 sees m w (DrawsOrdinal who) = sees_thread m w who
+sees m w (Dies who status) = sees_wait m w who || sees_thread m w who
+sees m w (Registers who b) = sees_thread m w who
+sees m w (Unregisters who b) = sees_thread m w who
 sees m w (AddsProcess p) = m p.number
 sees m w (AddsThread t) = m t.process
 sees m w (Makes p) = our_port m p
@@ -70,6 +73,9 @@ is_regular m w (TakesConnect q) = true
 is_regular m w (Withdraws who) = true
 is_regular m w (DrawsIdentifier who) = true
 is_regular m w (DrawsOrdinal who) = true
+is_regular m w (Dies who status) = true
+is_regular m w (Registers who b) = true
+is_regular m w (Unregisters who b) = true
 is_regular m w (AddsProcess p) = true
 is_regular m w (AddsThread t) = true
 is_regular m w (Completes b) = true
@@ -132,6 +138,9 @@ is_ours m w (Accepts who reply) = true
 is_ours m w (Withdraws who) = true
 is_ours m w (DrawsIdentifier who) = true
 is_ours m w (DrawsOrdinal who) = true
+is_ours m w (Dies who status) = true
+is_ours m w (Registers who b) = true
+is_ours m w (Unregisters who b) = true
 is_ours m w (Completes b) = true
 is_ours m w (Frees o) = true
 is_ours m w (AddsHandle pid h) = true
@@ -188,6 +197,9 @@ basic-ours m w (TakesConnect q) is ok = rw (take-seen m (is_queued_connect q) w.
 basic-ours m w (Withdraws who) is ok = rw (kept-without (our_message m) (is_own_of who) w.messages) refl
 basic-ours m w (DrawsIdentifier who) is ok = rw (kept-change (our_thread m) (is_thread who) past_identifier (λ t. refl) w.threads) refl
 basic-ours m w (DrawsOrdinal who) is ok = rw (kept-change (our_thread m) (is_thread who) past_ordinal (λ t. refl) w.threads) refl
+basic-ours m w (Dies who status) is ok = rw (kept-change (our_thread m) (is_thread who) ended (λ t. refl) w.threads, kept-without (our_wait m) (waits_as who) w.waits) refl
+basic-ours m w (Registers who b) is ok = rw (kept-change (our_thread m) (is_thread who) (registering b) (λ t. refl) w.threads) refl
+basic-ours m w (Unregisters who b) is ok = rw (kept-change (our_thread m) (is_thread who) (unregistering b) (λ t. refl) w.threads) refl
 basic-ours m w (AddsProcess p) is ok = rw (kept-push (our_process m) w.processes p is, kept-push m w.used_processes p.number is, kept-push (our_table m) w.handles (no_handles p.number) is) refl
 basic-ours m w (AddsThread t) is ok = rw (kept-push (our_thread m) w.threads t is, kept-push (our_used m) w.used_threads (used t) is) refl
 basic-ours m w (Makes p) is ok = rw (shown-push (our_port m) (seen_port m) w.ports p is, new-port m p ok) refl
@@ -219,6 +231,9 @@ seen-ours m w (Accepts who reply) is = refl
 seen-ours m w (Withdraws who) is = refl
 seen-ours m w (DrawsIdentifier who) is = refl
 seen-ours m w (DrawsOrdinal who) is = refl
+seen-ours m w (Dies who status) is = refl
+seen-ours m w (Registers who b) is = refl
+seen-ours m w (Unregisters who b) is = refl
 seen-ours m w (Completes b) is = refl
 seen-ours m w (Frees o) is = refl
 seen-ours m w (AddsHandle pid h) is = refl
@@ -304,6 +319,10 @@ cut-out m b p out kept = at (is_port b p) refl
 shown-cut_out : (m : Group) (b : Birth) → m b.process ≡ false → (ps : List PortRow) → shown (our_port m) (seen_port m) (change (is_end_of b) cut ps) ≡ shown (our_port m) (seen_port m) ps
 shown-cut_out m b out ps = shown-map_out (λ p. true) (our_port m) (seen_port m) (cut_if b) (cut-birth m b) (λ p any kept. cut-out m b p out kept) ps (every-any ps)
 
+either-off : (a b : Bool) → (a || b) ≡ false → (a ≡ false) × (b ≡ false)
+either-off true b off = absurd (cc)
+either-off false b off = (refl, off)
+
 -- a step that isn't seen leaves the view
 pub basic-unseen : (m : Group) (w : World) (b : Basic) → sees m w b ≡ false → is_regular m w b ≡ true → view m (basic w b) ≡ view m w
 basic-unseen m w (Tells e) out ok = refl
@@ -317,6 +336,9 @@ basic-unseen m w (TakesConnect q) out ok = rw (take-unseen m (is_queued_connect 
 basic-unseen m w (Withdraws who) out ok = rw (kept-without (our_message m) (is_own_of who) w.messages, without-none (is_own_of who) (which (our_message m) w.messages) out) refl
 basic-unseen m w (DrawsIdentifier who) out ok = rw (kept-change (our_thread m) (is_thread who) past_identifier (λ t. refl) w.threads, change-none (is_thread who) past_identifier (which (our_thread m) w.threads) out) refl
 basic-unseen m w (DrawsOrdinal who) out ok = rw (kept-change (our_thread m) (is_thread who) past_ordinal (λ t. refl) w.threads, change-none (is_thread who) past_ordinal (which (our_thread m) w.threads) out) refl
+basic-unseen m w (Dies who status) out ok = rw (kept-change (our_thread m) (is_thread who) ended (λ t. refl) w.threads, change-none (is_thread who) ended (which (our_thread m) w.threads) (either-off (sees_wait m w who) (sees_thread m w who) out).1, kept-without (our_wait m) (waits_as who) w.waits, without-none (waits_as who) (which (our_wait m) w.waits) (either-off (sees_wait m w who) (sees_thread m w who) out).0) refl
+basic-unseen m w (Registers who b) out ok = rw (kept-change (our_thread m) (is_thread who) (registering b) (λ t. refl) w.threads, change-none (is_thread who) (registering b) (which (our_thread m) w.threads) out) refl
+basic-unseen m w (Unregisters who b) out ok = rw (kept-change (our_thread m) (is_thread who) (unregistering b) (λ t. refl) w.threads, change-none (is_thread who) (unregistering b) (which (our_thread m) w.threads) out) refl
 basic-unseen m w (AddsProcess p) out ok = rw (kept-push_out (our_process m) w.processes p out, kept-push_out m w.used_processes p.number out, kept-push_out (our_table m) w.handles (no_handles p.number) out) refl
 basic-unseen m w (AddsThread t) out ok = rw (kept-push_out (our_thread m) w.threads t out, kept-push_out (our_used m) w.used_threads (used t) out) refl
 basic-unseen m w (Makes p) out ok = rw (shown-push_out (our_port m) (seen_port m) w.ports p out) refl

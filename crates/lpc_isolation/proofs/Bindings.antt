@@ -11,7 +11,7 @@ use Rattle.lpc_model.specs.Named.{as_status, free_name}
 use Rattle.lpc_model.specs.Then.{◌>>=◌}
 use Rattle.lpc_model.specs.World.{Accepted, Birth, Connect, Listen, MessageRow, Path, PortRow, Receive, Request, ThreadRow, WaitKind, WaitRow, World}
 use Rattle.lpc_model.specs.Found.{free_handle, is_queued, is_queued_connect}
-use Rattle.lpc_model.specs.Basics.{Accepts, AddsHandle, AddsProcess, AddsThread, Awaits, Basic, Binds, Completes, Cuts, DrawsIdentifier, DrawsOrdinal, DropsHandle, Empties, Enters, Frees, Joins, Makes, Receives, Takes, TakesConnect, Tells, Unbinds, Wakes, Withdraws, basic, world_after}
+use Rattle.lpc_model.specs.Basics.{Accepts, AddsHandle, AddsProcess, AddsThread, Awaits, Basic, Binds, Completes, Cuts, DrawsIdentifier, DrawsOrdinal, DropsHandle, Empties, Enters, Frees, Joins, Makes, Receives, Takes, TakesConnect, Tells, Unbinds, Wakes, Withdraws, basic, world_after, Dies, Registers, Unregisters}
 use Rattle.lpc_model.specs.Entering.{given_steps, row_of, shown, take_connect_steps, take_steps, takes, woken}
 use Rattle.lpc_model.specs.Connect.{client_port, connect_start, connection_request, create_steps, listen_steps, making, named_steps, nt_create_port}
 use Rattle.lpc_model.specs.Request.{answered_test, datagram_start, nt_reply_port, receive_steps, reply, request_start, sent_by}
@@ -72,6 +72,9 @@ basic-bindings w (Takes q) ok = refl
 basic-bindings w (TakesConnect q) ok = refl
 basic-bindings w (DrawsIdentifier who) ok = refl
 basic-bindings w (DrawsOrdinal who) ok = refl
+basic-bindings w (Dies who status) ok = refl
+basic-bindings w (Registers who b) ok = refl
+basic-bindings w (Unregisters who b) ok = refl
 basic-bindings w (AddsProcess p) ok = refl
 basic-bindings w (AddsThread t) ok = refl
 basic-bindings w (Makes p) ok = refl

@@ -3,7 +3,7 @@ use Rattle.std.proofs.Common.{◌≡◌, ℕ, List, [], ◌∷◌, ◌++◌, Boo
 use Rattle.std.specs.Prelude.{◌&&◌, ◌==◌, Result, Ok, Err}
 use Rattle.std.proofs.lemmas.Bool.{eqb-true}
 use Rattle.std.proofs.lemmas.Bool.Decides.{nat_tests}
-use Rattle.lpc_base.specs.Rows.{every}
+use Rattle.lpc_base.specs.Rows.{every, passes}
 use Rattle.lpc_base.specs.declared.status.Status.{Status}
 use Rattle.lpc_base.specs.declared.status.TheConstants.{SUCCESS}
 use Rattle.lpc_base.proofs.RowMaps.{every-both}
@@ -11,7 +11,7 @@ use Rattle.lpc_model.specs.declared.entry.Entry.{Entry}
 use Rattle.lpc_model.specs.declared.entry.Entry.TheVariants as entry
 use Rattle.lpc_model.specs.World.{ThreadRow, WaitRow, World}
 use Rattle.lpc_model.specs.Found.{live_thread, wait_of, waits_as}
-use Rattle.lpc_model.specs.Basics.{Accepts, AddsHandle, AddsProcess, AddsThread, Awaits, Basic, Binds, Completes, Cuts, DrawsIdentifier, DrawsOrdinal, DropsHandle, Empties, Enters, Frees, Joins, Makes, Receives, Takes, TakesConnect, Tells, Unbinds, Wakes, Withdraws, entries_of, world_after}
+use Rattle.lpc_model.specs.Basics.{Accepts, AddsHandle, AddsProcess, AddsThread, Awaits, Basic, Binds, Completes, Cuts, DrawsIdentifier, DrawsOrdinal, DropsHandle, Empties, Enters, Frees, Joins, Makes, Receives, Takes, TakesConnect, Tells, Unbinds, Wakes, Withdraws, entries_of, world_after, told, Dies, Registers, Unregisters}
 use Rattle.lpc_model.specs.Lines.{ScriptCall, run}
 use Rattle.lpc_model.specs.Machine.{name_of_call, settled, bare_steps}
 use Rattle.lpc_isolation.proofs.Served.{served, served_step, served_steps}
@@ -29,7 +29,7 @@ use Rattle.lpc_isolation.proofs.Callers.{Led, c-wait}
 use Rattle.lpc_isolation.proofs.Listens.{own_entry}
 use Rattle.lpc_isolation.proofs.Play.{told_inputs, told_items}
 use Rattle.lpc_isolation.proofs.Lines.{Leads, Owes, accepts, is_done, led_line, next_entry}
-use Rattle.lpc_isolation.proofs.Serves.{is_call_of, is_orderly, orderly-done, orderly-used, tells_thread}
+use Rattle.lpc_isolation.proofs.Serves.{is_call_of, is_orderly, orderly-done, orderly-used, tells_thread, same_owner}
 
 -- what a service owes to the call of a thread that waits for nothing
 pub record Serves (led : Leads) (m : Group) (c : ℕ) (w : World) (by : ThreadRow) (call : ScriptCall) : Type 0 where
@@ -37,7 +37,7 @@ pub record Serves (led : Leads) (m : Group) (c : ℕ) (w : World) (by : ThreadRo
   pub same : by.process ≡ c → served (view m w) by call ≡ served w by call
   pub ours : by.process ≡ c → Holds (λ bs. HasFinePorts m c (world_after w bs) → are_ours m w bs ≡ true) (served w by call)
   pub leads : (u : World) (d : Whose) → u.used_threads ≡ w.used_threads → m by.process ≡ true → (by.process == c) ≡ false → Holds (λ bs. HasFinePorts m c (world_after w bs) → Led m c u d w bs (led (view m w) by call (own_entry bs))) (served w by call)
-  pub orderly : Holds (λ bs. is_call_of by.number bs ≡ true) (served w by call)
+  pub orderly : Holds (λ bs. is_call_of w by.number bs ≡ true) (served w by call)
   pub refuses : (s : Status) → served w by call ≡ Err s → (s.0 == SUCCESS.0) ≡ false
 
 -- what the list of a line owes
@@ -122,11 +122,15 @@ tells-accepts tid (entry.Died who status) is = absurd (cc)
 tells-accepts tid (entry.Directive word status) is = absurd (cc)
 
 -- the first of its list
-pub record Headed (tid : ℕ) (bs : List Basic) : Type 0 where
-  pub entry : Entry
+pub record Headed (w : World) (tid : ℕ) (bs : List Basic) : Type 0 where
+  pub step : Basic
   pub rest : List Basic
-  pub is : bs ≡ Tells entry ∷ rest
-  pub own : tells_thread tid entry ≡ true
+  pub entry : Entry
+  pub is : bs ≡ step ∷ rest
+  pub told : told step ≡ entry ∷ []
+  pub own : own_entry (step ∷ rest) ≡ entry
+  pub whose : (u : World) (d : Whose) → u.used_threads ≡ w.used_threads → entry_whose u d entry ≡ thread_whose u tid
+  pub accepted : accepts entry ≡ true
   pub orderly : is_orderly bs ≡ true
 
 tells-orderly : (tid : ℕ) (e : Entry) (bs : List Basic) → tells_thread tid e ≡ true → is_orderly bs ≡ true → is_orderly (Tells e ∷ bs) ≡ true
@@ -138,34 +142,69 @@ tells-orderly tid (entry.NoThread who) bs is ok = absurd (cc)
 tells-orderly tid (entry.Died who status) bs is ok = absurd (cc)
 tells-orderly tid (entry.Directive word status) bs is ok = absurd (cc)
 
-pub headed : (tid : ℕ) (bs : List Basic) → is_call_of tid bs ≡ true → Headed tid bs
-headed tid [] is = absurd (cc)
-headed tid (Tells e ∷ bs) is = record { entry = e; rest = bs; is = refl; own = one_of _ _ is; orderly = tells-orderly tid e bs (one_of _ _ is) (other_of _ _ is) }
-headed tid (Wakes a b d f ∷ bs) is = absurd (cc)
-headed tid (Awaits x ∷ bs) is = absurd (cc)
-headed tid (Receives a b ∷ bs) is = absurd (cc)
-headed tid (Accepts a b ∷ bs) is = absurd (cc)
-headed tid (Enters x ∷ bs) is = absurd (cc)
-headed tid (Takes q ∷ bs) is = absurd (cc)
-headed tid (TakesConnect q ∷ bs) is = absurd (cc)
-headed tid (DrawsIdentifier a ∷ bs) is = absurd (cc)
-headed tid (DrawsOrdinal a ∷ bs) is = absurd (cc)
-headed tid (AddsProcess p ∷ bs) is = absurd (cc)
-headed tid (AddsThread t ∷ bs) is = absurd (cc)
-headed tid (Makes p ∷ bs) is = absurd (cc)
-headed tid (Joins a b x ∷ bs) is = absurd (cc)
-headed tid (Completes b ∷ bs) is = absurd (cc)
-headed tid (Withdraws a ∷ bs) is = absurd (cc)
-headed tid (Frees o ∷ bs) is = absurd (cc)
-headed tid (Binds a b ∷ bs) is = absurd (cc)
-headed tid (AddsHandle a b ∷ bs) is = absurd (cc)
-headed tid (Empties q ∷ bs) is = absurd (cc)
-headed tid (Cuts b ∷ bs) is = absurd (cc)
-headed tid (Unbinds b ∷ bs) is = absurd (cc)
-headed tid (DropsHandle a b ∷ bs) is = absurd (cc)
+owner-same : (w : World) (tid who : ℕ) → same_owner w tid who ≡ true → owner w who ≡ owner w tid
+owner-same w tid who is = at (owner w tid) (owner w who) is
+  where
+    at : (o l : Option ℕ) → passes o (λ p. passes l (λ q. q == p)) ≡ true → l ≡ o
+    at None l is = absurd (cc)
+    at (Some p) None is = absurd (cc)
+    at (Some p) (Some q) is = ap (λ n. Some n) (eqb-true q p is)
 
-own-is : (tid : ℕ) (bs : List Basic) (h : Headed tid bs) → own_entry bs ≡ h.entry
-own-is tid bs h = ap own_entry h.is
+-- the end of a thread of the caller's process
+died-whose : (w : World) (tid who : ℕ) → same_owner w tid who ≡ true → (u : World) → u.used_threads ≡ w.used_threads → thread_whose u who ≡ thread_whose u tid
+died-whose w tid who is u used = rw used (ap owned (owner-same w tid who is))
+
+pub headed : (w : World) (tid : ℕ) (bs : List Basic) → is_call_of w tid bs ≡ true → Headed w tid bs
+headed w tid [] is = absurd (cc)
+headed w tid (Tells e ∷ bs) is = record {
+  step = Tells e;
+  rest = bs;
+  entry = e;
+  is = refl;
+  told = refl;
+  own = refl;
+  whose = λ u d used. own-whose u d tid e (one_of _ _ is);
+  accepted = tells-accepts tid e (one_of _ _ is);
+  orderly = tells-orderly tid e bs (one_of _ _ is) (other_of _ _ is);
+}
+headed w tid (Dies who status ∷ bs) is = record {
+  step = Dies who status;
+  rest = bs;
+  entry = entry.Died who status;
+  is = refl;
+  told = refl;
+  own = refl;
+  whose = λ u d used. died-whose w tid who (one_of _ _ is) u used;
+  accepted = refl;
+  orderly = other_of (same_owner w tid who) _ is;
+}
+headed w tid (Wakes a b d f ∷ bs) is = absurd (cc)
+headed w tid (Awaits x ∷ bs) is = absurd (cc)
+headed w tid (Receives a b ∷ bs) is = absurd (cc)
+headed w tid (Accepts a b ∷ bs) is = absurd (cc)
+headed w tid (Enters x ∷ bs) is = absurd (cc)
+headed w tid (Takes q ∷ bs) is = absurd (cc)
+headed w tid (TakesConnect q ∷ bs) is = absurd (cc)
+headed w tid (DrawsIdentifier a ∷ bs) is = absurd (cc)
+headed w tid (DrawsOrdinal a ∷ bs) is = absurd (cc)
+headed w tid (Registers a b ∷ bs) is = absurd (cc)
+headed w tid (Unregisters a b ∷ bs) is = absurd (cc)
+headed w tid (AddsProcess p ∷ bs) is = absurd (cc)
+headed w tid (AddsThread t ∷ bs) is = absurd (cc)
+headed w tid (Makes p ∷ bs) is = absurd (cc)
+headed w tid (Joins a b x ∷ bs) is = absurd (cc)
+headed w tid (Completes b ∷ bs) is = absurd (cc)
+headed w tid (Withdraws a ∷ bs) is = absurd (cc)
+headed w tid (Frees o ∷ bs) is = absurd (cc)
+headed w tid (Binds a b ∷ bs) is = absurd (cc)
+headed w tid (AddsHandle a b ∷ bs) is = absurd (cc)
+headed w tid (Empties q ∷ bs) is = absurd (cc)
+headed w tid (Cuts b ∷ bs) is = absurd (cc)
+headed w tid (Unbinds b ∷ bs) is = absurd (cc)
+headed w tid (DropsHandle a b ∷ bs) is = absurd (cc)
+
+own-is : (w : World) (tid : ℕ) (bs : List Basic) (h : Headed w tid bs) → own_entry bs ≡ h.entry
+own-is w tid bs h = ap own_entry h.is ∙ h.own
 
 -- a world of a run, seen from a call
 pub record Ready (m : Group) (c : ℕ) (w : World) (tid : ℕ) (by : ThreadRow) : Type 0 where
@@ -194,9 +233,9 @@ owes-ok led m c w tid call by bs r s at fine =
     let own : owner w tid ≡ Some by.process = live-owner m c w tid by r.fair r.live in
     let u : World = world_after w bs in
     let d : Whose = thread_whose w tid in
-    let head : Headed tid bs = subst (λ n. Headed n bs) number (headed by.number bs (holds_ok (λ bs. is_call_of by.number bs ≡ true) (served w by call) bs s.orderly at)) in
+    let head : Headed w tid bs = subst (λ n. Headed w n bs) number (headed w by.number bs (holds_ok (λ bs. is_call_of w by.number bs ≡ true) (served w by call) bs s.orderly at)) in
     let used : u.used_threads ≡ w.used_threads = orderly-used w bs head.orderly in
-    let whose : entry_whose u d head.entry ≡ d = own-whose u d tid head.entry head.own ∙ rw used refl in
+    let whose : entry_whose u d head.entry ≡ d = head.whose u d used ∙ rw used refl in
     record {
       apart = λ out. holds_ok (λ bs. HasFinePorts m c (world_after w bs) → are_apart m c u d w bs ≡ true) (served w by call) bs (s.apart u d used (sym (owner-in m w tid by own) ∙ out)) at fine;
       same = λ is. c-called led m c w tid call by r s is ∙ ap (settled by (name_of_call call)) at;
@@ -207,12 +246,13 @@ owes-ok led m c w tid call by bs r s at fine =
       leads = λ seen other.
           let by_in : m by.process ≡ true = sym (owner-in m w tid by own) ∙ seen in
           let by_other : (by.process == c) ≡ false = sym (owner-in (alone c) w tid by own) ∙ other in
-          let accepted : accepts (own_entry bs) ≡ true = ap accepts (own-is tid bs head) ∙ tells-accepts tid head.entry head.own in
+          let accepted : accepts (own_entry bs) ≡ true = ap accepts (own-is w tid bs head) ∙ head.accepted in
           rw (accepted, live-view m c w tid by.process r.fair own by_in, r.live) (holds_ok (λ bs. HasFinePorts m c (world_after w bs) → Led m c u d w bs (led (view m w) by call (own_entry bs))) (served w by call) bs (s.leads u d used by_in by_other) at fine);
       first = λ seen other is.
           ap (λ bs'. next_entry (told_items (told_inputs m c u d (entries_of bs')) ++ is)) head.is
+          ∙ ap (λ es. next_entry (told_items (told_inputs m c u d (es ++ entries_of head.rest)) ++ is)) head.told
           ∙ next-is m c u d head.entry (entries_of head.rest) is (ap (is_seen m) whose ∙ seen) (ap (is_seen (alone c)) whose ∙ other)
-          ∙ sym (own-is tid bs head);
+          ∙ sym (own-is w tid bs head);
       done = orderly-done w bs head.orderly;
     }
 

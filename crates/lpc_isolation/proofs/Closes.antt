@@ -11,7 +11,7 @@ use Rattle.lpc_model.specs.declared.entry.CallName.TheVariants.{NtClose}
 use Rattle.lpc_model.specs.declared.entry.Entry.{Entry}
 use Rattle.lpc_model.specs.declared.entry.Entry.TheVariants.{Answer}
 use Rattle.lpc_model.specs.declared.entry.ObjectKind.TheVariants as kind
-use Rattle.lpc_model.specs.World.{Birth, HandleRow, HandleTable, ObjectName, ProcessRow, ThreadRow, World}
+use Rattle.lpc_model.specs.World.{Birth, HandleRow, HandleTable, ObjectName, ThreadRow, World}
 use Rattle.lpc_model.specs.Found.{handle_at, handle_count, handles_of, has_value, is_table, same_kind, same_object, wait_of}
 use Rattle.lpc_model.specs.Basics.{Basic, DropsHandle, Steps, Tells, doing, entries_of, provided, world_after, ◌▹◌}
 use Rattle.lpc_model.specs.Tests.{next_birth, own_handle}
@@ -44,7 +44,7 @@ use Rattle.lpc_isolation.proofs.Heard.{Heard, call_memo, entries_memo}
 use Rattle.lpc_isolation.proofs.Knows.{AllKnown, run-known}
 use Rattle.lpc_isolation.proofs.KnownCalls.{Hears}
 use Rattle.lpc_isolation.proofs.Instances.{At, Leading, caller}
-use Rattle.lpc_isolation.proofs.Thin.{Alive, Closed, handle_closed, thin}
+use Rattle.lpc_isolation.proofs.Thin.{Alive, Closed, handle_closed, thin, Lives}
 use Rattle.lpc_isolation.proofs.ThinCalls.{AreClosed, rows-closed}
 use Rattle.lpc_isolation.proofs.Fine.{FineAfter, makes_fine}
 use Rattle.lpc_isolation.proofs.Duplicates.{unnoted}
@@ -87,7 +87,7 @@ handle_count-view m c w o fair inside = ap length (named-same m o w.handles insi
 
 -- A handle goes
 -- steps where a test holds
-provided-good : (m : Group) (c : ℕ) (b : Birth) (test : World → Bool) (f : Steps) → Good m c b f → ((u w : World) → Sure m c u w → m b.process ≡ true → test (view m w) ≡ test w) → ((k : Alive) (ps : List ProcessRow) (u : World) → test (thin k ps u) ≡ test u) → Good m c b (provided test f)
+provided-good : (m : Group) (c : ℕ) (b : Birth) (test : World → Bool) (f : Steps) → Good m c b f → ((u w : World) → Sure m c u w → m b.process ≡ true → test (view m w) ≡ test w) → ((k : Alive) (ps : Lives) (u : World) → test (thin k ps u) ≡ test u) → Good m c b (provided test f)
 provided-good m c b test f g seen thinly = record {
   mild = λ w. at AreMild w refl (g.mild w);
   sent = λ w. at (λ bs. are_sent w bs ≡ true) w refl (g.sent w);
@@ -132,11 +132,26 @@ drops-good m c b pid value f own g = record {
   stands = λ k u closed live. every-append _ (f u) (DropsHandle pid value ∷ []) (g.stands k u closed live) refl;
 }
 
-handle-good : (m : Group) (c : ℕ) (pid : ℕ) (r : HandleRow) → r.object.birth.process ≡ pid → Good m c r.object.birth (close_handle pid r)
+pub handle-good : (m : Group) (c : ℕ) (pid : ℕ) (r : HandleRow) → r.object.birth.process ≡ pid → Good m c r.object.birth (close_handle pid r)
 handle-good m c pid r own =
     drops-good m c r.object.birth pid r.value (provided (is_last r) (close_port r.object.birth)) own
     (provided-good m c r.object.birth (is_last r) (close_port r.object.birth) (close-good m c r.object.birth)
     (λ u w s inside. ap (λ n. same_kind r.object.kind kind.Port && (n == 1)) (handle_count-view m c w r.object s.fair.tables inside)) (λ k ps u. refl))
+
+-- whosever it is
+pub handle-mild : (w : World) (pid : ℕ) (r : HandleRow) → AreMild (close_handle pid r w)
+handle-mild w pid r = every-append _ (provided (is_last r) (close_port r.object.birth) w) (DropsHandle pid r.value ∷ []) (gone (is_last r w)) refl
+  where
+    gone : (e : Bool) → AreMild (when e (close_port r.object.birth w))
+    gone true = (close-good (λ p. true) 0 r.object.birth).mild w
+    gone false = refl
+
+pub handle-sent : (w : World) (pid : ℕ) (r : HandleRow) → are_sent w (close_handle pid r w) ≡ true
+handle-sent w pid r = append-sent w (provided (is_last r) (close_port r.object.birth) w) (DropsHandle pid r.value ∷ []) (gone (is_last r w)) refl
+  where
+    gone : (e : Bool) → are_sent w (when e (close_port r.object.birth w)) ≡ true
+    gone true = (close-good (λ p. true) 0 r.object.birth).sent w
+    gone false = refl
 
 -- The call
 abbrev told_first : ThreadRow → Entry
@@ -147,8 +162,8 @@ on-close : (P : List Basic → Type 0) (w : World) (by : ThreadRow) (value : ℕ
 unfolding nt_close
 on-close P w by value then_ = bind_holds (own_handle w by value) _ P (λ r at. then_ r (found_ok (handle_at w by.process value) INVALID_HANDLE r at))
 
-sure : (m : Group) (c : ℕ) (u w : World) (by : ThreadRow) → Caller m c u w by → Sure m c u w
-sure m c u w by k = record { c_in = k.c_in; used = k.used; fair = k.fair; fine = k.fine; owned = k.owned; patient = k.patient; once = k.once; paths = k.paths; asked = k.asked }
+pub caller-sure : (m : Group) (c : ℕ) (u w : World) (by : ThreadRow) → Caller m c u w by → Sure m c u w
+caller-sure m c u w by k = record { c_in = k.c_in; used = k.used; fair = k.fair; fine = k.fine; owned = k.owned; patient = k.patient; once = k.once; paths = k.paths; asked = k.asked }
 
 -- what the handle's going owes
 good : (m : Group) (c : ℕ) (u w : World) (by : ThreadRow) (value : ℕ) (r : HandleRow) → Caller m c u w by → handle_at w by.process value ≡ Some r → Good m c r.object.birth (close_handle by.process r)
@@ -157,8 +172,8 @@ good m c u w by value r k at = handle-good m c by.process r (handle-own m c w by
 whose : (m : Group) (c : ℕ) (u w : World) (by : ThreadRow) (value : ℕ) (r : HandleRow) → Caller m c u w by → handle_at w by.process value ≡ Some r → r.object.birth.process ≡ by.process
 whose m c u w by value r k at = handle-own m c w by.process value r k.fair at
 
-pub orderly-close : (m : Group) (c : ℕ) (u w : World) (by : ThreadRow) (handle : ℕ) → Caller m c u w by → Holds (λ bs. is_call_of by.number bs ≡ true) (served w by (close handle))
-orderly-close m c u w by handle k = on-close (λ bs. is_call_of by.number bs ≡ true) w by handle (λ r at.
+pub orderly-close : (m : Group) (c : ℕ) (u w : World) (by : ThreadRow) (handle : ℕ) → Caller m c u w by → Holds (λ bs. is_call_of w by.number bs ≡ true) (served w by (close handle))
+orderly-close m c u w by handle k = on-close (λ bs. is_call_of w by.number bs ≡ true) w by handle (λ r at.
     both _ _ (both _ _ (same-number by.number) refl) (mild-orderly (close_handle by.process r w) ((good m c u w by handle r k at).mild w)))
 
 pub refuses-close : (w : World) (by : ThreadRow) (handle : ℕ) → Refuses (served w by (close handle))
@@ -168,7 +183,7 @@ refuses-close w by handle = bind (own_handle w by handle) _ (found (handle_at w 
 pub fair-close : (m : Group) (c : ℕ) (w : World) (by : ThreadRow) (known : List ℕ → Birth) (handle : ℕ) → At m c w by known → Holds (λ bs. HasFinePorts m c (world_after w bs) → are_fair m c w bs ≡ true) (served w by (close handle))
 fair-close m c w by known handle a =
     let k = caller m c w by known w a refl in
-    on-close (λ bs. HasFinePorts m c (world_after w bs) → are_fair m c w bs ≡ true) w by handle (λ r at fine. (good m c w w by handle r k at).fair w w (sure m c w w by k))
+    on-close (λ bs. HasFinePorts m c (world_after w bs) → are_fair m c w bs ≡ true) w by handle (λ r at fine. (good m c w w by handle r k at).fair w w (caller-sure m c w w by k))
 
 pub names-close : (m : Group) (c : ℕ) (u w : World) (by : ThreadRow) (handle : ℕ) → Caller m c u w by → Holds (λ bs. OnceBound (world_after w bs).bindings) (served w by (close handle))
 names-close m c u w by handle k = on-close (λ bs. OnceBound (world_after w bs).bindings) w by handle (λ r at. mild-bound w (close_handle by.process r w) ((good m c u w by handle r k at).mild w) k.bound)
@@ -177,21 +192,17 @@ pub paths-close : (m : Group) (c : ℕ) (w : World) (by : ThreadRow) (handle : �
 paths-close m c w by handle all k = on-close (λ bs. are_paths w bs ≡ true) w by handle (λ r at. mild-paths w (close_handle by.process r w) ((good m c w w by handle r k at).mild w))
 
 pub sends-close : (u : World) (by : ThreadRow) (handle : ℕ) → Holds (λ bs. are_sent u bs ≡ true) (served u by (close handle))
-sends-close u by handle = on-close (λ bs. are_sent u bs ≡ true) u by handle (λ r at. append-sent u (provided (is_last r) (close_port r.object.birth) u) (DropsHandle by.process r.value ∷ []) (sent r (is_last r u)) refl)
-  where
-    sent : (r : HandleRow) (e : Bool) → are_sent u (when e (close_port r.object.birth u)) ≡ true
-    sent r true = (close-good (λ p. true) 0 r.object.birth).sent u
-    sent r false = refl
+sends-close u by handle = on-close (λ bs. are_sent u bs ≡ true) u by handle (λ r at. handle-sent u by.process r)
 
 pub asked-close : (m : Group) (c : ℕ) (w : World) (by : ThreadRow) (handle : ℕ) → Asked w → Caller m c w w by → Holds (λ bs. Asked (world_after w bs)) (served w by (close handle))
-asked-close m c w by handle a k = on-close (λ bs. Asked (world_after w bs)) w by handle (λ r at. (good m c w w by handle r k at).asked w w (sure m c w w by k))
+asked-close m c w by handle a k = on-close (λ bs. Asked (world_after w bs)) w by handle (λ r at. (good m c w w by handle r k at).asked w w (caller-sure m c w w by k))
 
 pub apart-close : (m : Group) (c : ℕ) (u : World) (d : Whose) (w : World) (by : ThreadRow) (known : List ℕ → Birth) (handle : ℕ) → At m c w by known → u.used_threads ≡ w.used_threads → m by.process ≡ false → Holds (λ bs. HasFinePorts m c (world_after w bs) → are_apart m c u d w bs ≡ true) (served w by (close handle))
 apart-close m c u d w by known handle a used out =
     let k = caller m c w by known u a used in
     on-close (λ bs. HasFinePorts m c (world_after w bs) → are_apart m c u d w bs ≡ true) w by handle (λ r at fine.
     let b_out : m r.object.birth.process ≡ false = ap m (whose m c u w by handle r k at) ∙ out in
-    both _ _ (rw (k.here, out) refl) ((good m c u w by handle r k at).apart u d w (sure m c u w by k) b_out))
+    both _ _ (rw (k.here, out) refl) ((good m c u w by handle r k at).apart u d w (caller-sure m c u w by k) b_out))
 
 pub same-close : (m : Group) (c : ℕ) (w : World) (by : ThreadRow) (known : List ℕ → Birth) (handle : ℕ) → At m c w by known → by.process ≡ c → is_fine_call m w (close handle) ≡ true → served (view m w) by (close handle) ≡ served w by (close handle)
 unfolding nt_close
@@ -199,13 +210,13 @@ same-close m c w by known handle a mine fine =
     let k = caller m c w by known w a refl in
     rw (handle-view m w by.process handle (ap m mine ∙ a.c_in)) (bind-same (own_handle w by handle) _ _ (λ r at.
     let here = found_ok (handle_at w by.process handle) INVALID_HANDLE r at in
-    ap (λ bs. Ok (Tells (told_first by) ∷ bs)) ((good m c w w by handle r k here).same w w (sure m c w w by k) (whose m c w w by handle r k here ∙ mine))))
+    ap (λ bs. Ok (Tells (told_first by) ∷ bs)) ((good m c w w by handle r k here).same w w (caller-sure m c w w by k) (whose m c w w by handle r k here ∙ mine))))
 
 pub ours-close : (m : Group) (c : ℕ) (w : World) (by : ThreadRow) (known : List ℕ → Birth) (handle : ℕ) → At m c w by known → by.process ≡ c → Holds (λ bs. HasFinePorts m c (world_after w bs) → are_ours m w bs ≡ true) (served w by (close handle))
 ours-close m c w by known handle a mine =
     let k = caller m c w by known w a refl in
     on-close (λ bs. HasFinePorts m c (world_after w bs) → are_ours m w bs ≡ true) w by handle (λ r at fine.
-    (good m c w w by handle r k at).ours w w (sure m c w w by k) (ap m (whose m c w w by handle r k at ∙ mine) ∙ a.c_in))
+    (good m c w w by handle r k at).ours w w (caller-sure m c w w by k) (ap m (whose m c w w by handle r k at ∙ mine) ∙ a.c_in))
 
 -- the same steps behind an entry
 tells-led : (m : Group) (c : ℕ) (u : World) (d : Whose) (w : World) (e : Entry) (bs led : List Basic) → Led m c u d w bs led → Led m c u d w (Tells e ∷ bs) (Tells e ∷ led)
@@ -216,12 +227,12 @@ leads-close m c u d w by known handle a used by_in other =
     let k = caller m c w by known u a used in
     on-close (λ bs. HasFinePorts m c (world_after w bs) → Leading m c u d w by known (close handle) bs) w by handle (λ r at fine.
     rw (handle-view m w by.process handle by_in, at) (tells-led m c u d w (told_first by) (close_handle by.process r w) (close_handle by.process r (view m w))
-    ((good m c u w by handle r k at).led u d w (sure m c u w by k) (ap m (whose m c u w by handle r k at) ∙ by_in))))
+    ((good m c u w by handle r k at).led u d w (caller-sure m c u w by k) (ap m (whose m c u w by handle r k at) ∙ by_in))))
 
 pub hears-close : (m : Group) (c : ℕ) (u w : World) (by : ThreadRow) (d : Whose) (memo : List Heard) → Caller m c u w by → Owned w w → Numbered w → Asked w → AllKnown m memo w → m by.process ≡ false → (handle : ℕ) → Holds (λ bs. HasFinePorts m c (world_after w bs) → Hears m c u d w memo bs) (served w by (close handle))
 hears-close m c u w by d memo k owned n a all out handle = on-close (λ bs. HasFinePorts m c (world_after w bs) → Hears m c u d w memo bs) w by handle (λ r at fine.
     let g = good m c u w by handle r k at in
-    let s = sure m c u w by k in
+    let s = caller-sure m c u w by k in
     let b_out : m r.object.birth.process ≡ false = ap m (whose m c u w by handle r k at) ∙ out in
     let numbers : Numbered u = subst (λ us. every of_number us ≡ true) (sym k.used) n in
     let mute : entries_memo m (view m w) memo (told_inputs m c u d (entries_of (close_handle by.process r w))) ≡ memo = g.mute u d w memo s numbers b_out in
@@ -233,42 +244,24 @@ notes-close m c u w by memo k owned n a all by_in handle = on-close (λ bs. AllK
     unnoted m memo (world_after w (close_handle by.process r w)) (by.process == c) (run-known m memo w (close_handle by.process r w) (mild-known m memo w (close_handle by.process r w) ((good m c u w by handle r k at).mild w)) all))
 
 -- where rows have gone
-live-object : (k : Alive) (r : HandleRow) → handle_closed k r ≡ true → same_kind r.object.kind kind.Port ≡ true → k r.object.birth ≡ true
-live-object k r live is = grind arith
+pub thin-handle : (k : Alive) (ps : Lives) (u : World) (pid : ℕ) (r : HandleRow) → Closed k u → handle_closed k r ≡ true → close_handle pid r (thin k ps u) ≡ close_handle pid r u
+thin-handle k ps u pid r closed live = ap (λ bs. when (is_last r u) bs ++ DropsHandle pid r.value ∷ []) ((close-good (λ p. true) 0 r.object.birth).alike k ps u closed (other_of (same_kind r.object.kind kind.Port) _ live))
 
-thin-handle : (k : Alive) (ps : List ProcessRow) (u : World) (pid : ℕ) (r : HandleRow) → Closed k u → handle_closed k r ≡ true → close_handle pid r (thin k ps u) ≡ close_handle pid r u
-thin-handle k ps u pid r closed live = at (same_kind r.object.kind kind.Port) refl
-  where
-    at : (e : Bool) → same_kind r.object.kind kind.Port ≡ e → close_handle pid r (thin k ps u) ≡ close_handle pid r u
-    at true is = ap (λ bs. when (is_last r u) bs ++ DropsHandle pid r.value ∷ []) ((close-good (λ p. true) 0 r.object.birth).alike k ps u closed (live-object k r live is))
-    at false is = rw is refl
-
-pub alike-close : (k : Alive) (ps : List ProcessRow) (u : World) (by : ThreadRow) (handle : ℕ) → Closed k u → served (thin k ps u) by (close handle) ≡ served u by (close handle)
+pub alike-close : (k : Alive) (ps : Lives) (u : World) (by : ThreadRow) (handle : ℕ) → Closed k u → served (thin k ps u) by (close handle) ≡ served u by (close handle)
 unfolding nt_close
 alike-close k ps u by handle c = bind-same (own_handle u by handle) _ _ (λ r at.
     let live : handle_closed k r ≡ true = every-first (handle_closed k) (has_value handle) (handles_of u by.process) r (rows-closed k by.process u.handles (first (is_table by.process) u.handles) refl c.tables) (found_ok (handle_at u by.process handle) INVALID_HANDLE r at) in
     ap (λ bs. Ok (Tells (told_first by) ∷ bs)) (thin-handle k ps u by.process r c live))
 
-pub stands-close : (k : Alive) (u : World) (by : ThreadRow) (handle : ℕ) → IsSoundWorld u → Closed k u → k (next_birth by) ≡ true → Holds (AreClosed k) (served u by (close handle))
-stands-close k u by handle s c new = on-close (AreClosed k) u by handle (λ r at. closed r (every-first (handle_closed k) (has_value handle) (handles_of u by.process) r (rows-closed k by.process u.handles (first (is_table by.process) u.handles) refl c.tables) at))
+pub handle-stands : (k : Alive) (u : World) (pid : ℕ) (r : HandleRow) → Closed k u → handle_closed k r ≡ true → AreClosed k (close_handle pid r u)
+handle-stands k u pid r c live = every-append _ (provided (is_last r) (close_port r.object.birth) u) (DropsHandle pid r.value ∷ []) (gone (is_last r u)) refl
   where
-    closed : (r : HandleRow) → handle_closed k r ≡ true → AreClosed k (close_handle by.process r u)
-    closed r live = at (same_kind r.object.kind kind.Port) refl
-      where
-        gone : k r.object.birth ≡ true → (e : Bool) → AreClosed k (when e (close_port r.object.birth u))
-        gone there true = (close-good (λ p. true) 0 r.object.birth).stands k u c there
-        gone there false = refl
+    gone : (e : Bool) → AreClosed k (when e (close_port r.object.birth u))
+    gone true = (close-good (λ p. true) 0 r.object.birth).stands k u c (other_of (same_kind r.object.kind kind.Port) _ live)
+    gone false = refl
 
-        at : (e : Bool) → same_kind r.object.kind kind.Port ≡ e → AreClosed k (close_handle by.process r u)
-        at true is = every-append _ (provided (is_last r) (close_port r.object.birth) u) (DropsHandle by.process r.value ∷ []) (gone (live-object k r live is) (is_last r u)) refl
-        at false is = rw is refl
+pub stands-close : (k : Alive) (u : World) (by : ThreadRow) (handle : ℕ) → IsSoundWorld u → Closed k u → k (next_birth by) ≡ true → Holds (AreClosed k) (served u by (close handle))
+stands-close k u by handle s c new = on-close (AreClosed k) u by handle (λ r at. handle-stands k u by.process r c (every-first (handle_closed k) (has_value handle) (handles_of u by.process) r (rows-closed k by.process u.handles (first (is_table by.process) u.handles) refl c.tables) at))
 
 pub fine-close : (m : Group) (c : ℕ) (after u : World) (by : ThreadRow) (handle : ℕ) → wait_of u by.number ≡ None → HasFinePorts m c after → Holds (FineAfter m c after u) (served u by (close handle))
-fine-close m c after u by handle idle f = on-close (FineAfter m c after u) u by handle (λ r at _. every-more _ (makes_fine m c) (mild-fine m c) (close_handle by.process r u) (mild r))
-  where
-    when-mild : (e : Bool) (bs : List Basic) → AreMild bs → AreMild (when e bs)
-    when-mild true bs is = is
-    when-mild false bs is = refl
-
-    mild : (r : HandleRow) → AreMild (close_handle by.process r u)
-    mild r = every-append _ (provided (is_last r) (close_port r.object.birth) u) (DropsHandle by.process r.value ∷ []) (when-mild (is_last r u) (close_port r.object.birth u) ((close-good m c r.object.birth).mild u)) refl
+fine-close m c after u by handle idle f = on-close (FineAfter m c after u) u by handle (λ r at _. every-more _ (makes_fine m c) (mild-fine m c) (close_handle by.process r u) (handle-mild u by.process r))

@@ -1,5 +1,5 @@
 -- The stages of a port's closing: which waits end, and what goes.
-use Rattle.std.proofs.Common.{◌≡◌, ℕ, List, [], ◌∷◌, ◌++◌, Bool, true, false, not, Option, Some, None, refl, ap, sym, subst, ◌∙◌, arith}
+use Rattle.std.proofs.Common.{◌≡◌, ℕ, [], ◌∷◌, ◌++◌, Bool, true, false, not, Option, Some, None, refl, ap, sym, subst, ◌∙◌, arith}
 use Rattle.std.specs.Prelude.{◌&&◌, ◌||◌, ◌==◌, option_and_then, option_map}
 use Rattle.std.proofs.lemmas.Bool.{eqb-true}
 use Rattle.lpc_base.specs.Rows.{passes}
@@ -8,7 +8,7 @@ use Rattle.lpc_base.proofs.RowMaps.{every-first}
 use Rattle.lpc_base.specs.declared.port_kind.PortKind.TheVariants.{Client, Connection, Server, Unnamed}
 use Rattle.lpc_base.specs.declared.status.TheConstants.{LPC_REPLY_LOST, PORT_CONNECTION_REFUSED, PORT_DISCONNECTED}
 use Rattle.lpc_model.specs.Fields.{info}
-use Rattle.lpc_model.specs.World.{Accepted, Birth, Connect, Listen, PortKind, PortRow, ProcessRow, Receive, Request, WaitKind, WaitRow, World}
+use Rattle.lpc_model.specs.World.{Accepted, Birth, Connect, Listen, PortKind, PortRow, Receive, Request, WaitKind, WaitRow, World}
 use Rattle.lpc_model.specs.Found.{is_accepted, is_client_port, is_listen, is_made_on, is_port, is_receive, is_request, is_server_port, is_the, pair_of, port_row, same_birth}
 use Rattle.lpc_model.specs.Basics.{Basic, Cuts, Empties, Unbinds, basic, doing, told}
 use Rattle.lpc_model.specs.Close.{close_port, cut_pair, drop_name, empty_queue, is_accepted_across, is_across, is_offered_to, is_queued_request, is_receive_across, is_receiver, is_request_across, is_request_on}
@@ -25,7 +25,7 @@ use Rattle.lpc_isolation.proofs.Play.{told_inputs}
 use Rattle.lpc_isolation.proofs.Paths.{is_path, leads, path-way}
 use Rattle.lpc_isolation.proofs.Asked.{Asked, basic-asked, is_settled}
 use Rattle.lpc_isolation.proofs.Heard.{entries_memo, takes_any}
-use Rattle.lpc_isolation.proofs.Thin.{Alive, is_closed, thin, wait_closed}
+use Rattle.lpc_isolation.proofs.Thin.{Alive, is_closed, thin, wait_closed, Lives}
 use Rattle.lpc_isolation.proofs.ThinCalls.{row-thin}
 use Rattle.lpc_isolation.proofs.Mild.{AreLosses, Sure, is_loss, losses-fair, losses-mild, losses-ours, losses-sent}
 use Rattle.lpc_isolation.proofs.Stages.{Good, Stage, then-good, then-stage}
@@ -208,7 +208,7 @@ across-view m c w b x inside fair ours =
     let own : m x.port.process ≡ true = ap m (eqb-true _ _ (one_of _ _ fair)) ∙ one_of _ _ ours in
     ap (is_the b) (pair-view m w x.port own) ∙ the-seen m b (pair_of w x.port) inside
 
-across-thin : (k : Alive) (ps : List ProcessRow) (u : World) (b : Birth) (x : WaitRow) → wait_closed k x ≡ true → is_across (thin k ps u) b x ≡ is_across u b x
+across-thin : (k : Alive) (ps : Lives) (u : World) (b : Birth) (x : WaitRow) → wait_closed k x ≡ true → is_across (thin k ps u) b x ≡ is_across u b x
 across-thin k ps u b x live = rw (row-thin k ps u x.port live) refl
 
 -- a request across: on a server port its queue is the other end
@@ -403,7 +403,7 @@ emptied m c b =
     then-stage m c b _ _ (end-stage m c b true LPC_REPLY_LOST [] (λ w. is_queued_request b) (queued-end m c b))
     (then-stage m c b _ _ (end-stage m c b true PORT_CONNECTION_REFUSED (info [] ∷ []) (λ w. is_offered_to b) (offered-end m c b)) (empties-stage m c b))
 
-cut-off : (m : Group) (c : ℕ) (b : Birth) → Stage m c b (cut_pair b)
+pub cut-off : (m : Group) (c : ℕ) (b : Birth) → Stage m c b (cut_pair b)
 cut-off m c b =
     then-stage m c b _ _ (end-stage m c b true LPC_REPLY_LOST [] (is_request_across b) (requests-across m c b))
     (then-stage m c b _ _ (end-stage m c b false PORT_DISCONNECTED [] (is_receive_across b) (receives-across m c b))

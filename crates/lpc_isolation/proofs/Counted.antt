@@ -1,25 +1,25 @@
 -- What counts for an object: for c's own ports in a view as in the world, and where rows that nothing names have gone.
 use Rattle.std.proofs.Common.{◌≡◌, ℕ, List, [], ◌∷◌, ◌++◌, Bool, true, false, cond, not, map, Option, Some, None, refl, ap, sym, subst, ◌∙◌, arith}
-use Rattle.std.specs.Prelude.{◌&&◌, ◌||◌, ◌==◌, ◌+◌, is_none, length}
+use Rattle.std.specs.Prelude.{◌&&◌, ◌||◌, ◌==◌, ◌+◌, is_none, length, is_some}
 use Rattle.std.proofs.lemmas.Bool.{eqb-true}
 use Rattle.std.proofs.lemmas.List.Elements.{filter-append}
-use Rattle.lpc_base.specs.Rows.{count, each, every, has, which}
+use Rattle.lpc_base.specs.Rows.{count, each, every, has, which, first, when}
 use Rattle.lpc_base.proofs.RowMaps.{every-both}
 use Rattle.lpc_base.specs.declared.port_kind.PortKind.TheVariants.{Client, Connection, Server, Unnamed}
 use Rattle.lpc_model.specs.declared.entry.ObjectKind.TheVariants as kind
-use Rattle.lpc_model.specs.World.{Birth, HandleRow, HandleTable, MessageRow, ObjectName, PortKind, PortRow, ProcessRow, WaitRow, World}
-use Rattle.lpc_model.specs.Found.{handle_count, is_client_port, is_connected_to, is_cut, is_made_on, is_paired_to, is_port, is_request, is_sent_on, is_server_port, is_the, port_name, same_birth, same_kind, same_object}
+use Rattle.lpc_model.specs.World.{Birth, HandleRow, HandleTable, MessageRow, ObjectName, PortKind, PortRow, WaitRow, World, ThreadRow}
+use Rattle.lpc_model.specs.Found.{handle_count, is_client_port, is_connected_to, is_cut, is_made_on, is_paired_to, is_port, is_request, is_sent_on, is_server_port, is_the, port_name, same_birth, same_kind, same_object, all_registrations, registered_by}
 use Rattle.lpc_model.specs.Standing.{is_near}
 use Rattle.lpc_model.proofs.Births.{birth-same}
 use Rattle.lpc_model.specs.Circle.{Group, is_fine_client, is_fine_port}
 use Rattle.lpc_isolation.proofs.Alone.{HasFinePorts}
 use Rattle.lpc_isolation.proofs.Served.{is_made_to, is_sent_to, is_standing, standing_count}
-use Rattle.lpc_isolation.proofs.View.{both, of_birth, one_of, other_of, our_message, our_port, our_wait, same-number, seen_pair, seen_port, view}
-use Rattle.lpc_isolation.proofs.Filters.{has-inside, which-where}
-use Rattle.lpc_isolation.proofs.Fair.{Fair, all_of, is_fair_message, is_fair_pair, is_fair_port, is_fair_wait, is_home}
+use Rattle.lpc_isolation.proofs.View.{both, of_birth, one_of, other_of, our_message, our_port, our_wait, same-number, seen_pair, seen_port, view, our_thread}
+use Rattle.lpc_isolation.proofs.Filters.{has-inside, which-where, first-inside}
+use Rattle.lpc_isolation.proofs.Fair.{Fair, all_of, is_fair_message, is_fair_pair, is_fair_port, is_fair_wait, is_home, is_fair_thread}
 use Rattle.lpc_isolation.proofs.Callers.{c-wait}
 use Rattle.lpc_isolation.proofs.Mine.{the-seen}
-use Rattle.lpc_isolation.proofs.Thin.{Alive, Closed, handle_closed, message_closed, port_alive, port_cut, table_closed, thin, wait_closed}
+use Rattle.lpc_isolation.proofs.Thin.{Alive, Closed, handle_closed, message_closed, port_alive, port_cut, table_closed, thin, wait_closed, Lives, Agree, registered-thin}
 use Rattle.lpc_isolation.proofs.Closings.{member-in}
 use Rattle.lpc_isolation.proofs.Closes.{handle_count-view}
 
@@ -141,6 +141,33 @@ made-seen m c w b p c_in mine to f n = has-inside (is_fair_wait m c) (our_wait m
             last : (a d e : Bool) → a ≡ false → (a || not d) ≡ true → (d || e) ≡ true → e ≡ true
             last a d e off one two = grind arith
 
+-- and so are the registrations of it
+none-registered : (m : Group) (b : Birth) (pid : ℕ) (bs : List Birth) → m b.process ≡ true → m pid ≡ false → every (λ (d : Birth). d.process == pid) bs ≡ true → which (same_birth b) bs ≡ []
+none-registered m b pid [] inside out own = refl
+none-registered m b pid (d ∷ ds) inside out own = at (same_birth b d) refl (none-registered m b pid ds inside out (other_of _ _ own))
+  where
+    at : (e : Bool) → same_birth b d ≡ e → which (same_birth b) ds ≡ [] → which (same_birth b) (d ∷ ds) ≡ []
+    at true is rest = let k : m b.process ≡ m pid = of_birth m b d is ∙ ap m (eqb-true _ _ (one_of _ _ own)) in absurd (cc)
+    at false off rest = rw off rest
+
+thread-registered : (m : Group) (b : Birth) (t : ThreadRow) → m b.process ≡ true → m t.process ≡ false → is_fair_thread t ≡ true → which (same_birth b) (registered_by t) ≡ []
+thread-registered m b t inside out fair = at t.live
+  where
+    at : (e : Bool) → which (same_birth b) (when e t.registrations) ≡ []
+    at true = none-registered m b t.process t.registrations inside out fair
+    at false = refl
+
+registered-seen : (m : Group) (b : Birth) (ts : List ThreadRow) → m b.process ≡ true → every is_fair_thread ts ≡ true → which (same_birth b) (each registered_by (which (our_thread m) ts)) ≡ which (same_birth b) (each registered_by ts)
+registered-seen m b [] inside fair = refl
+registered-seen m b (t ∷ ts) inside fair = at (m t.process) refl (registered-seen m b ts inside (other_of _ _ fair))
+  where
+    at : (e : Bool) → m t.process ≡ e → which (same_birth b) (each registered_by (which (our_thread m) ts)) ≡ which (same_birth b) (each registered_by ts) → which (same_birth b) (each registered_by (which (our_thread m) (t ∷ ts))) ≡ which (same_birth b) (each registered_by (t ∷ ts))
+    at true is more = rw is (filter-append (same_birth b) (registered_by t) (each registered_by (which (our_thread m) ts)) ∙ ap (λ bs. which (same_birth b) (registered_by t) ++ bs) more ∙ sym (filter-append (same_birth b) (registered_by t) (each registered_by ts)))
+    at false out more = rw out (more ∙ ap (λ bs. bs ++ which (same_birth b) (each registered_by ts)) (sym (thread-registered m b t inside out (one_of _ _ fair))) ∙ sym (filter-append (same_birth b) (registered_by t) (each registered_by ts)))
+
+has-seen : (p : Birth → Bool) (xs ys : List Birth) → which p xs ≡ which p ys → has p xs ≡ has p ys
+has-seen p xs ys same = ap is_some (sym (first-inside p p (λ x is. is) xs) ∙ ap (first p) same ∙ first-inside p p (λ x is. is) ys)
+
 standing-seen : (m : Group) (c : ℕ) (w : World) (b : Birth) (p : PortRow) → m c ≡ true → b.process ≡ c → Fair m c w → (is_fair_port m c p && is_fine_port m c p) ≡ true → is_standing (view m w) b (seen_port m p) ≡ is_standing w b p
 standing-seen m c w b p c_in mine f ok = at (is_connected_to b p) refl
   where
@@ -157,7 +184,7 @@ standing-seen m c w b p c_in mine f ok = at (is_connected_to b p) refl
         let n : Near m c b p = near m c b p c_in mine (one_of _ _ ok) (other_of (is_fair_port m c p) _ ok) here in
         let same : seen_port m p ≡ p = rw n.pair refl in
         ap (is_standing (view m w) b) same
-        ∙ rw (handle_count-view m c w (port_name p.birth) f.tables n.inside, sent-seen m c w b p c_in mine f n, made-seen m c w b p c_in mine (to-of here) f n) refl
+        ∙ rw (handle_count-view m c w (port_name p.birth) f.tables n.inside, sent-seen m c w b p c_in mine f n, made-seen m c w b p c_in mine (to-of here) f n, has-seen (same_birth p.birth) (all_registrations (view m w)) (all_registrations w) (registered-seen m p.birth w.threads n.inside f.registrations)) refl
 
 -- what counts for c's port
 fair-pair-in : (m : Group) (c : ℕ) (b : Birth) (p : PortRow) → m c ≡ true → b.process ≡ c → is_fair_port m c p ≡ true → is_paired_to b p ≡ true → m p.birth.process ≡ true
@@ -185,7 +212,8 @@ standing-view m c w o c_in mine f fine =
     let standing : count (is_standing (view m w) b) (view m w).ports ≡ count (is_standing w b) w.ports = count-shown (λ p. is_fair_port m c p && is_fine_port m c p) (our_port m) (is_standing w b) (is_standing (view m w) b) (seen_port m) (λ p ok ours. standing-seen m c w b p c_in mine f ok) (λ p ok is. (near m c b p c_in mine (one_of _ _ ok) (other_of (is_fair_port m c p) _ ok) (one_of _ _ is)).inside) w.ports ports in
     let messages : count (is_sent_on b) (view m w).messages ≡ count (is_sent_on b) w.messages = ap length (which-where (is_fair_message m c) (our_message m) (is_sent_on b) (λ x fair is. sent-in m c b x c_in mine fair is) w.messages f.messages) in
     let waits : count (is_made_on b) (view m w).waits ≡ count (is_made_on b) w.waits = ap length (which-where (is_fair_wait m c) (our_wait m) (is_made_on b) (λ x fair is. c-wait m c x c_in fair (ap (λ n. n == c) (sym (eqb-true _ _ (one_of _ _ fair)) ∙ ap (λ (b : Birth). b.process) (birth-same x.port b is) ∙ mine) ∙ same-number c)) w.waits f.waits) in
-    rw (handle_count-view m c w o f.tables (ap m mine ∙ c_in), pairs, standing, messages, waits) refl
+    let registered : count (same_birth b) (all_registrations (view m w)) ≡ count (same_birth b) (all_registrations w) = ap length (registered-seen m b w.threads (ap m mine ∙ c_in) f.registrations) in
+    rw (handle_count-view m c w o f.tables (ap m mine ∙ c_in), pairs, standing, messages, waits, registered) refl
 
 -- Where rows have gone
 -- what a row names is alive
@@ -230,14 +258,22 @@ standing-live k u b p c cut is = at (k p.birth) refl
         by true here = let same : k x.port ≡ k p.birth = ap k (birth-same x.port p.birth (one_of _ _ here)) in absurd (cc)
         by false off = refl
 
+    off-told : (d : Birth) → k p.birth ≡ false → k d ≡ true → same_birth p.birth d ≡ false
+    off-told d dead live = by (same_birth p.birth d) refl
+      where
+        by : (e : Bool) → same_birth p.birth d ≡ e → e ≡ false
+        by true here = let same : k p.birth ≡ k d = ap k (birth-same p.birth d here) in absurd (cc)
+        by false off = refl
+
     at : (e : Bool) → k p.birth ≡ e → e ≡ true
     at true live = refl
     at false dead =
         let handles : handle_count u (port_name p.birth) ≡ 0 = ap length (handles-live k p.birth u.handles c.tables dead) in
         let sent : has (is_sent_to b p) u.messages ≡ false = none-of (message_closed k) (is_sent_to b p) (λ x closed. off-sent x dead closed) u.messages c.messages in
         let made : has (is_made_to p) u.waits ≡ false = none-of (wait_closed k) (is_made_to p) (λ x closed. off-made x dead closed) u.waits c.waits in
+        let told : has (same_birth p.birth) (all_registrations u) ≡ false = none-of k (same_birth p.birth) (λ d live. off-told d dead live) (all_registrations u) c.registrations in
         let gone : is_cut p ≡ true = or-last (k p.birth) (is_cut p) dead cut in
-        let never : (is_connected_to b p && (false || not true)) ≡ true = rw (handles, sent, made, gone) at is in
+        let never : (is_connected_to b p && (false || not true)) ≡ true = rw (handles, sent, made, told, gone) at is in
         absurd (never-is (is_connected_to b p) never)
       where
         or-last : (a d : Bool) → a ≡ false → (a || d) ≡ true → d ≡ true
@@ -254,10 +290,13 @@ paired-live k b p cut is = at p.pair refl is
     at None none is = absurd (cc)
     at (Some q) some is = let it : (k p.birth || false) ≡ true = rw some at cut in grind arith
 
-pub standing-thin : (k : Alive) (ps : List ProcessRow) (u : World) (o : ObjectName) → Closed k u → standing_count (thin k ps u) o ≡ standing_count u o
-standing-thin k ps u o c =
+pub standing-thin : (k : Alive) (ps : Lives) (u : World) (o : ObjectName) → Agree ps u → Closed k u → standing_count (thin k ps u) o ≡ standing_count u o
+standing-thin k ps u o agree c =
     let b : Birth = o.birth in
+    let aside : List PortRow → ℕ = λ ports. count (is_standing u b) ports + (count (is_sent_on b) u.messages + (count (is_made_on b) u.waits + count (same_birth b) (all_registrations u))) in
     let pairs : count (is_paired_to b) (which (port_alive k) u.ports) ≡ count (is_paired_to b) u.ports = ap length (which-where (port_cut k) (port_alive k) (is_paired_to b) (λ p cut is. paired-live k b p cut is) u.ports c.cuts) in
     let standing : count (is_standing u b) (which (port_alive k) u.ports) ≡ count (is_standing u b) u.ports = ap length (which-where (port_cut k) (port_alive k) (is_standing u b) (λ p cut is. standing-live k u b p c cut is) u.ports c.cuts) in
-    ap (λ n. handle_count u o + cond (same_kind o.kind kind.Port) (n + (count (is_standing u b) (which (port_alive k) u.ports) + (count (is_sent_on b) u.messages + count (is_made_on b) u.waits))) 0) pairs
-    ∙ ap (λ n. handle_count u o + cond (same_kind o.kind kind.Port) (count (is_paired_to b) u.ports + (n + (count (is_sent_on b) u.messages + count (is_made_on b) u.waits))) 0) standing
+    let counted : List Birth → ℕ = λ bs. handle_count u o + cond (same_kind o.kind kind.Port) (count (is_paired_to b) (which (port_alive k) u.ports) + (count (λ p. is_connected_to b p && ((not (handle_count u (port_name p.birth) == 0) || (has (is_sent_to b p) u.messages || (has (is_made_to p) u.waits || has (same_birth p.birth) bs))) || not (is_cut p))) (which (port_alive k) u.ports) + (count (is_sent_on b) u.messages + (count (is_made_on b) u.waits + count (same_birth b) bs)))) 0 in
+    ap counted (registered-thin k ps u agree)
+    ∙ ap (λ n. handle_count u o + cond (same_kind o.kind kind.Port) (n + aside (which (port_alive k) u.ports)) 0) pairs
+    ∙ ap (λ n. handle_count u o + cond (same_kind o.kind kind.Port) (count (is_paired_to b) u.ports + (n + (count (is_sent_on b) u.messages + (count (is_made_on b) u.waits + count (same_birth b) (all_registrations u))))) 0) standing

@@ -4,8 +4,9 @@ use Rattle.std.specs.Prelude.{◌==◌}
 use Rattle.lpc_base.specs.Rows.{first}
 use Rattle.lpc_base.proofs.RowMaps.{every-first}
 use Rattle.lpc_base.specs.declared.status.TheConstants.{ACCESS_DENIED, INVALID_HANDLE}
-use Rattle.lpc_model.specs.World.{Birth, HandleRow, ProcessRow, ThreadRow, World}
-use Rattle.lpc_model.specs.Found.{free_handle, handle_at, handles_of, has_value, is_table, wait_of}
+use Rattle.lpc_model.specs.declared.entry.ObjectKind.TheVariants as kind
+use Rattle.lpc_model.specs.World.{Birth, HandleRow, ThreadRow, World}
+use Rattle.lpc_model.specs.Found.{free_handle, handle_at, handles_of, has_value, is_table, wait_of, same_kind}
 use Rattle.lpc_model.specs.Basics.{Basic, world_after}
 use Rattle.lpc_model.specs.Tests.{handles_test, includes, next_birth, own_handle}
 use Rattle.lpc_model.specs.Counts.{asked, duplicate_steps, nt_duplicate_object, rights_test}
@@ -18,7 +19,7 @@ use Rattle.lpc_isolation.proofs.Alone.{HasFinePorts}
 use Rattle.lpc_isolation.proofs.View.{same-number, view}
 use Rattle.lpc_isolation.proofs.Basics.{are_ours}
 use Rattle.lpc_isolation.proofs.Fair.{are_fair}
-use Rattle.lpc_isolation.proofs.Seen.{free-view, handle-own, handle-view}
+use Rattle.lpc_isolation.proofs.Seen.{free-view, handle-own, handle-view, handle-port}
 use Rattle.lpc_isolation.proofs.Apart.{Owned, are_apart}
 use Rattle.lpc_isolation.proofs.Callers.{handles_test-view, led-same}
 use Rattle.lpc_isolation.proofs.Sends.{Caller}
@@ -34,7 +35,7 @@ use Rattle.lpc_isolation.proofs.Heard.{Heard, call_memo}
 use Rattle.lpc_isolation.proofs.Knows.{AllKnown}
 use Rattle.lpc_isolation.proofs.KnownCalls.{Hears, still-hears}
 use Rattle.lpc_isolation.proofs.Instances.{At, Leading, caller}
-use Rattle.lpc_isolation.proofs.Thin.{Alive, Closed, handle_closed, thin}
+use Rattle.lpc_isolation.proofs.Thin.{Alive, Closed, handle_closed, thin, Lives}
 use Rattle.lpc_isolation.proofs.ThinCalls.{AreClosed, rows-closed}
 use Rattle.lpc_isolation.proofs.Fine.{FineAfter}
 
@@ -45,8 +46,8 @@ on-duplicate P w by value access then_ =
     bind_holds (own_handle w by value) _ P (λ r at. bind_holds (rights_test r (asked r access)) _ P (λ _ _. bind_holds (handles_test w by.process 1) _ P (λ _ _.
     then_ r (found_ok (handle_at w by.process value) INVALID_HANDLE r at))))
 
-pub orderly-duplicate : (m : Group) (c : ℕ) (u w : World) (by : ThreadRow) (handle : ℕ) (access : Option ℕ) → Caller m c u w by → Holds (λ bs. is_call_of by.number bs ≡ true) (served w by (duplicate_object handle access))
-orderly-duplicate m c u w by handle access k = on-duplicate (λ bs. is_call_of by.number bs ≡ true) w by handle access (λ r at. rw (same-number by.number) refl)
+pub orderly-duplicate : (m : Group) (c : ℕ) (u w : World) (by : ThreadRow) (handle : ℕ) (access : Option ℕ) → Caller m c u w by → Holds (λ bs. is_call_of w by.number bs ≡ true) (served w by (duplicate_object handle access))
+orderly-duplicate m c u w by handle access k = on-duplicate (λ bs. is_call_of w by.number bs ≡ true) w by handle access (λ r at. rw (same-number by.number) refl)
 
 pub refuses-duplicate : (w : World) (by : ThreadRow) (handle : ℕ) (access : Option ℕ) → Refuses (served w by (duplicate_object handle access))
 unfolding nt_duplicate_object
@@ -56,7 +57,8 @@ refuses-duplicate w by handle access =
 
 pub fair-duplicate : (m : Group) (c : ℕ) (w : World) (by : ThreadRow) (known : List ℕ → Birth) (handle : ℕ) (access : Option ℕ) → At m c w by known → Holds (λ bs. HasFinePorts m c (world_after w bs) → are_fair m c w bs ≡ true) (served w by (duplicate_object handle access))
 fair-duplicate m c w by known handle access a = on-duplicate (λ bs. HasFinePorts m c (world_after w bs) → are_fair m c w bs ≡ true) w by handle access (λ r at fine.
-    let own : r.object.birth.process ≡ by.process = handle-own m c w by.process handle r a.fair at in rw (own, same-number by.process) refl)
+    let own : r.object.birth.process ≡ by.process = handle-own m c w by.process handle r a.fair at in
+    let port : same_kind r.object.kind kind.Port ≡ true = handle-port m c w by.process handle r a.fair at in rw (own, same-number by.process, port) refl)
 
 pub names-duplicate : (m : Group) (c : ℕ) (u w : World) (by : ThreadRow) (handle : ℕ) (access : Option ℕ) → Caller m c u w by → Holds (λ bs. OnceBound (world_after w bs).bindings) (served w by (duplicate_object handle access))
 names-duplicate m c u w by handle access k = on-duplicate (λ bs. OnceBound (world_after w bs).bindings) w by handle access (λ r at. k.bound)
@@ -99,7 +101,7 @@ unnoted m memo v false all = all
 pub notes-duplicate : (m : Group) (c : ℕ) (u w : World) (by : ThreadRow) (memo : List Heard) → Caller m c u w by → Owned w w → Numbered w → Asked w → AllKnown m memo w → m by.process ≡ true → (handle : ℕ) (access : Option ℕ) → Holds (λ bs. AllKnown m (cond (by.process == c) memo (call_memo m (view m w) by (duplicate_object handle access) (own_entry bs) memo)) (world_after w bs)) (served w by (duplicate_object handle access))
 notes-duplicate m c u w by memo k owned n a all by_in handle access = on-duplicate (λ bs. AllKnown m (cond (by.process == c) memo (call_memo m (view m w) by (duplicate_object handle access) (own_entry bs) memo)) (world_after w bs)) w by handle access (λ r at. unnoted m memo w (by.process == c) all)
 
-pub alike-duplicate : (k : Alive) (ps : List ProcessRow) (u : World) (by : ThreadRow) (handle : ℕ) (access : Option ℕ) → Closed k u → served (thin k ps u) by (duplicate_object handle access) ≡ served u by (duplicate_object handle access)
+pub alike-duplicate : (k : Alive) (ps : Lives) (u : World) (by : ThreadRow) (handle : ℕ) (access : Option ℕ) → Closed k u → served (thin k ps u) by (duplicate_object handle access) ≡ served u by (duplicate_object handle access)
 unfolding nt_duplicate_object
 alike-duplicate k ps u by handle access c = refl
 

@@ -7,7 +7,7 @@ use Rattle.lpc_base.proofs.RowWords.{every-more, every-which, every-without, has
 use Rattle.lpc_base.proofs.RowMaps.{every-both}
 use Rattle.lpc_model.specs.declared.entry.Entry.TheVariants as entry
 use Rattle.lpc_model.specs.declared.entry.Field.{Field}
-use Rattle.lpc_model.specs.World.{Birth, MessageRow, ProcessRow, WaitRow, World}
+use Rattle.lpc_model.specs.World.{Birth, MessageRow, WaitRow, World}
 use Rattle.lpc_model.specs.Found.{is_own_of, waits_as}
 use Rattle.lpc_model.specs.Basics.{Basic, Steps, Withdraws, basic, end_each, entries_of, world_after}
 use Rattle.lpc_model.specs.Entering.{woken}
@@ -25,7 +25,7 @@ use Rattle.lpc_isolation.proofs.Play.{is_told_input, told_inputs}
 use Rattle.lpc_isolation.proofs.Paths.{is_path}
 use Rattle.lpc_isolation.proofs.Asked.{Asked, asks_of, basic-asked, has_own, is_own, is_quiet, is_settled, is_sort, still-own}
 use Rattle.lpc_isolation.proofs.Heard.{Heard, entries_memo, entries-silent, is_silent, takes_any}
-use Rattle.lpc_isolation.proofs.Thin.{Alive, Closed, thin, wait_closed}
+use Rattle.lpc_isolation.proofs.Thin.{Alive, Closed, thin, wait_closed, Lives}
 use Rattle.lpc_isolation.proofs.ThinCalls.{AreClosed}
 use Rattle.lpc_isolation.proofs.Mild.{AreLosses, Sure, losses-fair, losses-mild, losses-ours, losses-sent}
 use Rattle.lpc_isolation.proofs.Lone.{is_lone, is_mute, lone-all, mute-all, quiet-all}
@@ -56,10 +56,10 @@ pub record IsEnd (m : Group) (c : ℕ) (b : Birth) (draws : Bool) (test : World 
   -- a member's closing ends in the view what it ends there in the world, and c's closing no other
   pub agree : m b.process ≡ true → (u w : World) (x : WaitRow) → Sure m c u w → is_known_wait m c u w x ≡ true → our_wait m x ≡ true → test (view m w) x ≡ test w x
   pub inside : b.process ≡ c → (u w : World) (x : WaitRow) → Sure m c u w → is_known_wait m c u w x ≡ true → test w x ≡ true → our_wait m x ≡ true
-  pub thinly : (k : Alive) (ps : List ProcessRow) (u : World) (x : WaitRow) → Closed k u → wait_closed k x ≡ true → test (thin k ps u) x ≡ test u x
+  pub thinly : (k : Alive) (ps : Lives) (u : World) (x : WaitRow) → Closed k u → wait_closed k x ≡ true → test (thin k ps u) x ≡ test u x
 
 -- Lists
-every-passing : {X : Type 0} (p t q : X → Bool) → ((x : X) → p x ≡ true → t x ≡ true → q x ≡ true) → (xs : List X) → every p xs ≡ true → every q (which t xs) ≡ true
+pub every-passing : {X : Type 0} (p t q : X → Bool) → ((x : X) → p x ≡ true → t x ≡ true → q x ≡ true) → (xs : List X) → every p xs ≡ true → every q (which t xs) ≡ true
 every-passing p t q f [] all = refl
 every-passing p t q f (x ∷ xs) all = grind (arith, f x, every-passing p t q f xs)
 
@@ -87,14 +87,14 @@ closed-ended k true status fields (x ∷ xs) = closed-ended k true status fields
 closed-ended k false status fields (x ∷ xs) = closed-ended k false status fields xs
 
 -- a queued message that asks is still its thread's own
-drawn-asked : (w : World) (x : WaitRow) (status : Status) (fields : List Field) → Asked w → Asked (world_after w (woken status fields x ∷ Withdraws x.thread ∷ []))
-drawn-asked w x status fields a = record {
-  sorts = every-without is_sort (is_own_of x.thread) w.messages a.sorts;
-  own = still-own x.thread w.waits (without (waits_as x.thread) w.waits) (λ y other. has-off y other w.waits) (without (is_own_of x.thread) w.messages) (every-without (has_own w.waits) (is_own_of x.thread) w.messages a.own) (none-left x.thread w.messages);
-  one = λ who. count-less (asks_of who) (is_own_of x.thread) w.messages 1 (a.one who);
+pub drawn-asked : (w : World) (tid : ℕ) → Asked w → Asked (record w { waits = without (waits_as tid) w.waits; messages = without (is_own_of tid) w.messages })
+drawn-asked w tid a = record {
+  sorts = every-without is_sort (is_own_of tid) w.messages a.sorts;
+  own = still-own tid w.waits (without (waits_as tid) w.waits) (λ y other. has-off y other w.waits) (without (is_own_of tid) w.messages) (every-without (has_own w.waits) (is_own_of tid) w.messages a.own) (none-left tid w.messages);
+  one = λ who. count-less (asks_of who) (is_own_of tid) w.messages 1 (a.one who);
 }
   where
-    has-off : (y : MessageRow) → ((z : WaitRow) → is_own y z ≡ true → (z.thread == x.thread) ≡ false) → (ws : List WaitRow) → has (is_own y) ws ≡ true → has (is_own y) (without (waits_as x.thread) ws) ≡ true
+    has-off : (y : MessageRow) → ((z : WaitRow) → is_own y z ≡ true → (z.thread == tid) ≡ false) → (ws : List WaitRow) → has (is_own y) ws ≡ true → has (is_own y) (without (waits_as tid) ws) ≡ true
     has-off y other [] is = is
     has-off y other (z ∷ zs) is = grind (arith, other z, has-off y other zs)
 
@@ -104,8 +104,11 @@ drawn-asked w x status fields a = record {
 
 ended-asked : (draws : Bool) (status : Status) (fields : List Field) (xs : List WaitRow) (w : World) → every (λ x. draws || is_quiet w.messages x.thread) xs ≡ true → Asked w → Asked (world_after w (all_ended draws status fields xs))
 ended-asked draws status fields [] w quiet a = a
-ended-asked true status fields (x ∷ xs) w quiet a = ended-asked true status fields xs (world_after w (ended true status fields x)) (any xs) (drawn-asked w x status fields a)
+ended-asked true status fields (x ∷ xs) w quiet a = ended-asked true status fields xs (world_after w (ended true status fields x)) (any xs) (as-after (drawn-asked w x.thread a))
   where
+    as-after : Asked (record w { waits = without (waits_as x.thread) w.waits; messages = without (is_own_of x.thread) w.messages }) → Asked (world_after w (ended true status fields x))
+    as-after a = record { sorts = a.sorts; own = a.own; one = a.one }
+
     any : (xs : List WaitRow) → every (λ x. true) xs ≡ true
     any [] = refl
     any (x ∷ xs) = any xs
@@ -308,7 +311,7 @@ module _ (m : Group) (c : ℕ) (b : Birth) (draws : Bool) (status : Status) (fie
       let all : every (our_wait m) (ending w) ≡ true = every-passing (is_known_wait m c u w) (test w) (our_wait m) (λ x known on. e.inside mine u w x s known on) w.waits (known-waits m c u w s) in
       ap (all_ended draws status fields) (seen u w s inside ∙ which-kept (our_wait m) (ending w) all)
 
-  alike : (k : Alive) (ps : List ProcessRow) (u : World) → Closed k u → ends (thin k ps u) ≡ ends u
+  alike : (k : Alive) (ps : Lives) (u : World) → Closed k u → ends (thin k ps u) ≡ ends u
   alike k ps u closed = ap (all_ended draws status fields) (which-same (wait_closed k) (test (thin k ps u)) (test u) (λ x live. e.thinly k ps u x closed live) u.waits closed.waits)
 
   pub end-stage : Stage m c b (end_each test (ended draws status fields))

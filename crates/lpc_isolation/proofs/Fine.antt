@@ -9,7 +9,7 @@ use Rattle.lpc_base.specs.declared.status.TheConstants.{INVALID_PORT_HANDLE, SUC
 use Rattle.lpc_model.specs.Message.{asks, message_test}
 use Rattle.lpc_model.specs.World.{Accepted, Birth, Connect, Listen, MessageRow, PortRow, Receive, Request, ThreadRow, WaitKind, WaitRow, World}
 use Rattle.lpc_model.specs.Found.{is_connection_port, is_made_on, is_port, is_queued, is_queued_connect, wait_of, waits_as, waits_at}
-use Rattle.lpc_model.specs.Basics.{Accepts, AddsHandle, AddsProcess, AddsThread, Awaits, Basic, Binds, Completes, Cuts, DrawsIdentifier, DrawsOrdinal, DropsHandle, Empties, Enters, Frees, Joins, Makes, Receives, Takes, TakesConnect, Tells, Unbinds, Wakes, Withdraws, basic, completed, cut, is_end_of, joined, received, world_after}
+use Rattle.lpc_model.specs.Basics.{Accepts, AddsHandle, AddsProcess, AddsThread, Awaits, Basic, Binds, Completes, Cuts, DrawsIdentifier, DrawsOrdinal, DropsHandle, Empties, Enters, Frees, Joins, Makes, Receives, Takes, TakesConnect, Tells, Unbinds, Wakes, Withdraws, basic, completed, cut, is_end_of, joined, received, world_after, Dies, Registers, Unregisters}
 use Rattle.lpc_model.specs.Entering.{enter, given_steps, row_of, shown, take_connect_steps, take_steps, takes, woken}
 use Rattle.lpc_model.specs.Refusal.{refuse_if}
 use Rattle.lpc_model.specs.declared.message.Message.{Message}
@@ -69,6 +69,9 @@ basic-fine m c u (Takes q) ok f = f
 basic-fine m c u (TakesConnect q) ok f = f
 basic-fine m c u (DrawsIdentifier who) ok f = f
 basic-fine m c u (DrawsOrdinal who) ok f = f
+basic-fine m c u (Dies who status) ok f = f
+basic-fine m c u (Registers who b) ok f = f
+basic-fine m c u (Unregisters who b) ok f = f
 basic-fine m c u (AddsProcess p) ok f = f
 basic-fine m c u (AddsThread t) ok f = f
 

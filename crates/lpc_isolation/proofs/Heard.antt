@@ -7,7 +7,7 @@ use Rattle.lpc_base.specs.Rows.{every, first, has, passes, which, without}
 use Rattle.lpc_base.proofs.RowWords.{every-append, every-more}
 use Rattle.lpc_base.specs.declared.status.Status.{Status}
 use Rattle.lpc_message.specs.Layout.{header_of}
-use Rattle.lpc_message.specs.declared.kind.TheConstants.{CONNECTION_REQUEST, DATAGRAM, PORT_CLOSED, REQUEST}
+use Rattle.lpc_message.specs.declared.kind.TheConstants.{CLIENT_DIED, CONNECTION_REQUEST, DATAGRAM, PORT_CLOSED, REQUEST}
 use Rattle.lpc_message.specs.declared.message.Header.{Header}
 use Rattle.lpc_model.specs.declared.entry.Entry.{Entry}
 use Rattle.lpc_model.specs.declared.entry.Entry.TheVariants as entry
@@ -18,7 +18,7 @@ use Rattle.lpc_model.specs.World.{Birth, MessageRow, PortRow, ThreadRow, UsedThr
 use Rattle.lpc_model.specs.Found.{is_listen, is_receive, live_thread, queue_of, wait_of, waits_as}
 use Rattle.lpc_model.specs.Basics.{Basic, entries_of, told}
 use Rattle.lpc_model.specs.Tests.{port_test}
-use Rattle.lpc_model.specs.Lines.{ScriptCall, ScriptLine, accept_connect_port, boot, close, complete_connect_port, connect_port, create_port, dir, duplicate_object, link, listen_port, query_object, reply_port, reply_wait_receive_port, request_port, request_wait_reply_port, run, thread}
+use Rattle.lpc_model.specs.Lines.{ScriptCall, ScriptLine, accept_connect_port, boot, close, complete_connect_port, connect_port, create_port, dir, duplicate_object, link, listen_port, query_object, reply_port, reply_wait_receive_port, request_port, request_wait_reply_port, run, thread, register_thread_terminate_port, terminate_thread, terminate_process}
 use Rattle.lpc_model.specs.Circle.{Group, Item}
 use Rattle.lpc_isolation.proofs.View.{one_of, other_of, our_wait, view}
 use Rattle.lpc_isolation.proofs.Fair.{is_sent}
@@ -105,6 +105,9 @@ call_memo m v by (reply_port handle message) e memo = memo
 call_memo m v by (close handle) e memo = memo
 call_memo m v by (duplicate_object handle access) e memo = memo
 call_memo m v by (query_object handle) e memo = memo
+call_memo m v by (register_thread_terminate_port handle) e memo = memo
+call_memo m v by (terminate_thread target code) e memo = memo
+call_memo m v by (terminate_process target code) e memo = memo
 
 abbrev pub caller_memo : Group → ℕ → World → ScriptCall → Entry → List Heard → Option ThreadRow → List Heard
 caller_memo m c v call e memo None = memo
@@ -143,6 +146,9 @@ silent-memo m v by (reply_port handle message) e memo none = refl
 silent-memo m v by (close handle) e memo none = refl
 silent-memo m v by (duplicate_object handle access) e memo none = refl
 silent-memo m v by (query_object handle) e memo none = refl
+silent-memo m v by (register_thread_terminate_port handle) e memo none = refl
+silent-memo m v by (terminate_thread target code) e memo none = refl
+silent-memo m v by (terminate_process target code) e memo none = refl
 
 -- What is shown of a message is what it is
 pub record Reads (y : MessageRow) : Type 0 where
@@ -150,7 +156,7 @@ pub record Reads (y : MessageRow) : Type 0 where
   pub process : (header_of (bytes_of y.message)).client.process ≡ y.message.header.client.process
   pub thread : (header_of (bytes_of y.message)).client.thread ≡ y.message.header.client.thread
 
-sort-few : (k : ℕ) → (((k == REQUEST) || (k == CONNECTION_REQUEST)) || ((k == DATAGRAM) || (k == PORT_CLOSED))) ≡ true → nat_le k 65535 ≡ true
+sort-few : (k : ℕ) → (((k == REQUEST) || (k == CONNECTION_REQUEST)) || ((k == DATAGRAM) || ((k == PORT_CLOSED) || (k == CLIENT_DIED)))) ≡ true → nat_le k 65535 ≡ true
 sort-few k is = grind (arith, nat_tests)
 
 pub reads-of : (us : List UsedThread) (y : MessageRow) → every of_number us ≡ true → is_sent us y ≡ true → is_sort y ≡ true → Reads y

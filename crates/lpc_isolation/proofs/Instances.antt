@@ -7,12 +7,14 @@ use Rattle.lpc_model.specs.World.{Birth, ThreadRow, World}
 use Rattle.lpc_model.specs.Found.{free_handle, live_thread, wait_of}
 use Rattle.lpc_model.specs.Basics.{Basic, world_after}
 use Rattle.lpc_model.specs.Connect.{ConnectAnswer, answer_test}
-use Rattle.lpc_model.specs.Tests.{next_birth, own_handle}
-use Rattle.lpc_model.specs.Lines.{ScriptCall, accept_connect_port, close, complete_connect_port, connect_port, create_port, duplicate_object, listen_port, query_object, reply_port, reply_wait_receive_port, request_port, request_wait_reply_port}
+use Rattle.lpc_model.specs.Tests.{next_birth, own_handle, port_test}
+use Rattle.lpc_model.specs.Lines.{ScriptCall, accept_connect_port, close, complete_connect_port, connect_port, create_port, duplicate_object, listen_port, query_object, reply_port, reply_wait_receive_port, request_port, request_wait_reply_port, register_thread_terminate_port, terminate_thread, terminate_process}
 use Rattle.lpc_model.specs.Close.{close_steps}
 use Rattle.lpc_model.specs.Counts.{asked, duplicate_steps}
+use Rattle.lpc_model.specs.Death.{terminate_thread_steps, code_status, terminate_process_steps}
+use Rattle.lpc_model.specs.Register.{register_steps}
 use Rattle.lpc_isolation.proofs.Served.{served}
-use Rattle.lpc_model.specs.SoundWaits.{IsSoundWorld}
+use Rattle.lpc_model.specs.SoundWaits.{IsSoundWorld, HasShutConnects}
 use Rattle.lpc_model.proofs.Holding.{Holds}
 use Rattle.lpc_model.specs.Circle.{Group, Whose, is_fine_call, owner}
 use Rattle.lpc_isolation.proofs.Alone.{HasFinePorts}
@@ -46,6 +48,9 @@ led_close v by handle = on_ok (own_handle v by handle) (λ r. close_steps by r v
 abbrev led_duplicate : World → ThreadRow → ℕ → Option ℕ → List Basic
 led_duplicate v by handle access = on_ok (own_handle v by handle) (λ r. duplicate_steps by (free_handle v by.process) r (asked r access))
 
+abbrev led_register : World → ThreadRow → ℕ → List Basic
+led_register v by handle = on_ok (port_test v by handle) (λ port. register_steps by port.birth)
+
 -- what a member other than c does in a view, by what it was told; the queue of an outsider's connect is known from before
 abbrev pub leads_by : Group → (List ℕ → Birth) → Leads
 leads_by m known v by (create_port name) e = led_create v by name
@@ -60,6 +65,9 @@ leads_by m known v by (reply_wait_receive_port handle bytes) e = led_receive m v
 leads_by m known v by (close handle) e = led_close v by handle
 leads_by m known v by (duplicate_object handle access) e = led_duplicate v by handle access
 leads_by m known v by (query_object handle) e = []
+leads_by m known v by (register_thread_terminate_port handle) e = led_register v by handle
+leads_by m known v by (terminate_thread target code) e = terminate_thread_steps by (code_status code) by v
+leads_by m known v by (terminate_process target code) e = terminate_process_steps v by (code_status code) by.process v
 
 -- what holds where a thread that waits for nothing calls
 pub record At (m : Group) (c : ℕ) (w : World) (by : ThreadRow) (known : List ℕ → Birth) : Type 0 where
@@ -67,6 +75,7 @@ pub record At (m : Group) (c : ℕ) (w : World) (by : ThreadRow) (known : List �
   pub fair : Fair m c w
   pub fine : HasFinePorts m c w
   pub sound : IsSoundWorld w
+  pub shut : HasShutConnects w
   pub owned : Owned w w
   pub names : SeenNames m w.bindings
   pub ways : Ways m w
@@ -93,6 +102,7 @@ caller m c w by known u a used = record {
   used = used;
   names = a.names;
   sound = a.sound;
+  shut = a.shut;
   live = a.live;
   bound = a.bound;
   paths = a.paths;

@@ -51,10 +51,10 @@ module _ (m : Group) (c : ℕ) (w : World) (t : List Heard) (tid : ℕ) (call : 
   s = record { seen = view m w; memo = t }
 
   own : Owned w w
-  own = owned-sound m c w st.kept.fair st.sound.waits
+  own = owned-sound m c w st.kept.fair st.firm.sound.waits
 
   same-threads : (by : ThreadRow) (bs : List Basic) → At m c w by (known_queue t) → served w by call ≡ Ok bs → (world_after w bs).used_threads ≡ w.used_threads
-  same-threads by bs a is = orderly-used w bs (headed by.number bs (holds_ok (λ bs. is_call_of by.number bs ≡ true) (served w by call) bs ((lawful call).orderly m c w w by (caller m c w by (known_queue t) w a refl)) is)).orderly
+  same-threads by bs a is = orderly-used w bs (headed w by.number bs (holds_ok (λ bs. is_call_of w by.number bs ≡ true) (served w by call) bs ((lawful call).orderly m c w w by (caller m c w by (known_queue t) w a refl)) is)).orderly
 
   -- of an outsider
   hears-settled : (by : ThreadRow) (d : Whose) (r : Result (List Basic) Status) → At m c w by (known_queue t) → m by.process ≡ false → served w by call ≡ r → HasFinePorts m c (world_after w (settled by (name_of_call call) r)) → Hears m c (world_after w (settled by (name_of_call call) r)) d w t (settled by (name_of_call call) r)

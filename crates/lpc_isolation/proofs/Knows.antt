@@ -12,7 +12,7 @@ use Rattle.lpc_model.specs.Message.{message_test}
 use Rattle.lpc_model.specs.Refusal.{found_or}
 use Rattle.lpc_model.specs.World.{Accepted, Birth, Connect, Listen, Receive, Request, ThreadRow, WaitKind, WaitRow, World}
 use Rattle.lpc_model.specs.Found.{is_offered, is_the, waits_as, waits_at}
-use Rattle.lpc_model.specs.Basics.{Accepts, AddsHandle, AddsProcess, AddsThread, Awaits, Basic, Binds, Completes, Cuts, DrawsIdentifier, DrawsOrdinal, DropsHandle, Empties, Enters, Frees, Joins, Makes, Receives, Takes, TakesConnect, Tells, Unbinds, Wakes, Withdraws, accepted, basic, received, world_after}
+use Rattle.lpc_model.specs.Basics.{Accepts, AddsHandle, AddsProcess, AddsThread, Awaits, Basic, Binds, Completes, Cuts, DrawsIdentifier, DrawsOrdinal, DropsHandle, Empties, Enters, Frees, Joins, Makes, Receives, Takes, TakesConnect, Tells, Unbinds, Wakes, Withdraws, accepted, basic, received, world_after, Dies, Registers, Unregisters}
 use Rattle.lpc_model.specs.Tests.{client_test}
 use Rattle.lpc_model.specs.Connect.{ConnectAnswer, answer_test, names_connect}
 use Rattle.lpc_model.proofs.Births.{birth-same}
@@ -78,6 +78,9 @@ basic-known m memo w (Takes q) ok all = all
 basic-known m memo w (TakesConnect q) ok all = all
 basic-known m memo w (DrawsIdentifier who) ok all = all
 basic-known m memo w (DrawsOrdinal who) ok all = all
+basic-known m memo w (Dies who status) ok all = every-without (is_known m memo) (waits_as who) w.waits all
+basic-known m memo w (Registers who b) ok all = all
+basic-known m memo w (Unregisters who b) ok all = all
 basic-known m memo w (AddsProcess p) ok all = all
 basic-known m memo w (AddsThread t) ok all = all
 

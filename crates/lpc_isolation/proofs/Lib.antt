@@ -1,6 +1,7 @@
 pub mod Alone
 pub mod Served
 pub mod Bare
+pub mod Firm
 pub mod Filters
 pub mod View
 pub mod Basics
@@ -44,8 +45,13 @@ pub mod Ends
 pub mod Posts
 pub mod Closings
 pub mod Closes
+pub mod Parts
+pub mod Deaths
+pub mod Endings
 pub mod Counted
 pub mod Queries
+pub mod Registers
+pub mod Terminates
 pub mod Held
 pub mod Services
 pub mod ThinCalls

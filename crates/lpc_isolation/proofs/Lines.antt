@@ -159,7 +159,7 @@ accepts (entry.Waits who call fields) = true
 accepts (entry.Wakes who call status fields) = false
 accepts (entry.Busy who) = false
 accepts (entry.NoThread who) = false
-accepts (entry.Died who status) = false
+accepts (entry.Died who status) = true
 accepts (entry.Directive word status) = false
 
 -- what the calls of members other than c do in a view, by what they are told

@@ -13,7 +13,7 @@ use Rattle.lpc_model.specs.Fields.{msg}
 use Rattle.lpc_model.specs.Refusal.{refuse_if}
 use Rattle.lpc_model.specs.World.{Birth, MessageRow, PortRow, ThreadRow, WaitRow, World}
 use Rattle.lpc_model.specs.Found.{is_connection_port, is_queued_connect}
-use Rattle.lpc_model.specs.Basics.{Awaits, Basic, Tells}
+use Rattle.lpc_model.specs.Basics.{Awaits, Basic, Tells, Dies}
 use Rattle.lpc_model.specs.Connect.{listen_steps, listen_wait, nt_listen_port}
 use Rattle.lpc_model.specs.Entering.{take_connect_steps}
 use Rattle.lpc_model.specs.Tests.{port_test}
@@ -73,6 +73,7 @@ listen-call-apart m c u d w by handle k out = on-port (λ bs. are_apart m c u d 
 -- of another member than c, by what it was told
 abbrev pub own_entry : List Basic → Entry
 own_entry (Tells e ∷ bs) = e
+own_entry (Dies who status ∷ bs) = entry.Died who status
 own_entry bs = entry.Busy 0
 
 abbrev pub led_listened : Group → World → ThreadRow → PortRow → Entry → List Basic

@@ -78,7 +78,7 @@ unseen-thread k t [] all = refl
 unseen-thread k t (y ∷ ys) all = grind (arith, unseen-thread k t ys)
 
 -- a message of a thread's that is seen and asks has its wait in the view
-own-seen : (m : Group) (c : ℕ) (u w : World) (t : ℕ) → Sure m c u w → sees_wait m w t ≡ false → sees_own m w t ≡ false
+pub own-seen : (m : Group) (c : ℕ) (u w : World) (t : ℕ) → Sure m c u w → sees_wait m w t ≡ false → sees_own m w t ≡ false
 own-seen m c u w t s unseen = at (first (is_own_of t) (which (our_message m) w.messages)) refl
   where
     fits : MessageRow → Bool

@@ -4,7 +4,7 @@ use Rattle.lpc_base.specs.Rows.{count, every, has, without}
 use Rattle.lpc_base.proofs.RowWords.{every-more, every-without, has_none-without}
 use Rattle.lpc_model.specs.World.{Birth, MessageRow, WaitRow, World}
 use Rattle.lpc_model.specs.Found.{is_own_of, is_queued, same_birth, waits_as}
-use Rattle.lpc_model.specs.Basics.{Basic, Cuts, DropsHandle, Empties, Enters, Takes, TakesConnect, Unbinds, Wakes, Withdraws, basic, world_after}
+use Rattle.lpc_model.specs.Basics.{Basic, Cuts, DropsHandle, Empties, Enters, Takes, TakesConnect, Unbinds, Wakes, Withdraws, basic, world_after, Dies, Unregisters}
 use Rattle.lpc_model.specs.Entering.{takes}
 use Rattle.lpc_model.specs.Circle.{Group}
 use Rattle.lpc_model.proofs.Rows.{count-less}
@@ -34,6 +34,8 @@ is_mild (DropsHandle pid value) = true
 is_mild (Enters x) = true
 is_mild (Takes q) = true
 is_mild (TakesConnect q) = true
+is_mild (Dies who status) = true
+is_mild (Unregisters who b) = true
 is_mild b = false
 
 abbrev pub AreMild : List Basic → Type 0
@@ -49,6 +51,8 @@ mild-calm who (DropsHandle pid value) is = refl
 mild-calm who (Enters x) is = refl
 mild-calm who (Takes q) is = refl
 mild-calm who (TakesConnect q) is = refl
+mild-calm who (Dies a status) is = refl
+mild-calm who (Unregisters a b) is = refl
 mild-calm who b is = absurd (cc)
 
 pub mild-orderly : (bs : List Basic) → AreMild bs → is_orderly bs ≡ true
@@ -62,6 +66,8 @@ mild-orderly (DropsHandle pid value ∷ bs) is = mild-orderly bs is
 mild-orderly (Enters x ∷ bs) is = mild-orderly bs is
 mild-orderly (Takes q ∷ bs) is = mild-orderly bs is
 mild-orderly (TakesConnect q ∷ bs) is = mild-orderly bs is
+mild-orderly (Dies a status ∷ bs) is = mild-orderly bs is
+mild-orderly (Unregisters a b ∷ bs) is = mild-orderly bs is
 mild-orderly (b ∷ bs) is = absurd (cc)
 
 pub mild-fine : (m : Group) (c : ℕ) (b : Basic) → is_mild b ≡ true → makes_fine m c b ≡ true
@@ -74,6 +80,8 @@ mild-fine m c (DropsHandle pid value) is = refl
 mild-fine m c (Enters x) is = refl
 mild-fine m c (Takes q) is = refl
 mild-fine m c (TakesConnect q) is = refl
+mild-fine m c (Dies a status) is = refl
+mild-fine m c (Unregisters a b) is = refl
 mild-fine m c b is = absurd (cc)
 
 pub mild-paths : (w : World) (bs : List Basic) → AreMild bs → are_paths w bs ≡ true
@@ -87,6 +95,8 @@ mild-paths w (DropsHandle pid value ∷ bs) is = mild-paths (basic w (DropsHandl
 mild-paths w (Enters x ∷ bs) is = mild-paths (basic w (Enters x)) bs is
 mild-paths w (Takes q ∷ bs) is = mild-paths (basic w (Takes q)) bs is
 mild-paths w (TakesConnect q ∷ bs) is = mild-paths (basic w (TakesConnect q)) bs is
+mild-paths w (Dies a status ∷ bs) is = mild-paths (basic w (Dies a status)) bs is
+mild-paths w (Unregisters a b ∷ bs) is = mild-paths (basic w (Unregisters a b)) bs is
 mild-paths w (b ∷ bs) is = absurd (cc)
 
 pub mild-known : (m : Group) (memo : List Heard) (w : World) (bs : List Basic) → AreMild bs → are_known m memo w bs ≡ true
@@ -100,6 +110,8 @@ mild-known m memo w (DropsHandle pid value ∷ bs) is = mild-known m memo (basic
 mild-known m memo w (Enters x ∷ bs) is = mild-known m memo (basic w (Enters x)) bs is
 mild-known m memo w (Takes q ∷ bs) is = mild-known m memo (basic w (Takes q)) bs is
 mild-known m memo w (TakesConnect q ∷ bs) is = mild-known m memo (basic w (TakesConnect q)) bs is
+mild-known m memo w (Dies a status ∷ bs) is = mild-known m memo (basic w (Dies a status)) bs is
+mild-known m memo w (Unregisters a b ∷ bs) is = mild-known m memo (basic w (Unregisters a b)) bs is
 mild-known m memo w (b ∷ bs) is = absurd (cc)
 
 pub mild-bound : (w : World) (bs : List Basic) → AreMild bs → OnceBound w.bindings → OnceBound (world_after w bs).bindings
@@ -113,6 +125,8 @@ mild-bound w (DropsHandle pid value ∷ bs) is once = mild-bound (basic w (Drops
 mild-bound w (Enters x ∷ bs) is once = mild-bound (basic w (Enters x)) bs is once
 mild-bound w (Takes q ∷ bs) is once = mild-bound (basic w (Takes q)) bs is once
 mild-bound w (TakesConnect q ∷ bs) is once = mild-bound (basic w (TakesConnect q)) bs is once
+mild-bound w (Dies a status ∷ bs) is once = mild-bound (basic w (Dies a status)) bs is once
+mild-bound w (Unregisters a b ∷ bs) is once = mild-bound (basic w (Unregisters a b)) bs is once
 mild-bound w (b ∷ bs) is once = absurd (cc)
 
 -- Steps by which rows go alone; of a port alone it is cut off
@@ -123,6 +137,7 @@ is_loss b (Empties q) = true
 is_loss b (Unbinds x) = true
 is_loss b (Cuts x) = same_birth x b
 is_loss b (DropsHandle pid value) = true
+is_loss b (Dies who status) = true
 is_loss b step = false
 
 abbrev pub AreLosses : Birth → List Basic → Type 0
@@ -135,6 +150,7 @@ loss-mild b (Empties q) is = refl
 loss-mild b (Unbinds x) is = refl
 loss-mild b (Cuts x) is = refl
 loss-mild b (DropsHandle pid value) is = refl
+loss-mild b (Dies who status) is = refl
 loss-mild b x is = absurd (cc)
 
 pub losses-mild : (b : Birth) (bs : List Basic) → AreLosses b bs → AreMild bs
@@ -147,6 +163,7 @@ loss-none b (Empties q) is = refl
 loss-none b (Unbinds x) is = refl
 loss-none b (Cuts x) is = refl
 loss-none b (DropsHandle pid value) is = refl
+loss-none b (Dies who status) is = refl
 loss-none b x is = absurd (cc)
 
 pub losses-sent : (b : Birth) (w : World) (bs : List Basic) → AreLosses b bs → are_sent w bs ≡ true
@@ -160,6 +177,7 @@ losses-fair m c b w (Empties q ∷ bs) is = losses-fair m c b (basic w (Empties 
 losses-fair m c b w (Unbinds x ∷ bs) is = losses-fair m c b (basic w (Unbinds x)) bs is
 losses-fair m c b w (Cuts x ∷ bs) is = losses-fair m c b (basic w (Cuts x)) bs (other_of _ _ is)
 losses-fair m c b w (DropsHandle pid value ∷ bs) is = losses-fair m c b (basic w (DropsHandle pid value)) bs is
+losses-fair m c b w (Dies who status ∷ bs) is = losses-fair m c b (basic w (Dies who status)) bs is
 losses-fair m c b w (x ∷ bs) is = absurd (cc)
 
 pub losses-ours : (m : Group) (b : Birth) (w : World) (bs : List Basic) → m b.process ≡ true → AreLosses b bs → are_ours m w bs ≡ true
@@ -170,6 +188,7 @@ losses-ours m b w (Empties q ∷ bs) inside is = losses-ours m b (basic w (Empti
 losses-ours m b w (Unbinds x ∷ bs) inside is = losses-ours m b (basic w (Unbinds x)) bs inside is
 losses-ours m b w (Cuts x ∷ bs) inside is = rw (of_birth m x b (one_of _ _ is), inside) (losses-ours m b (basic w (Cuts x)) bs inside (other_of _ _ is))
 losses-ours m b w (DropsHandle pid value ∷ bs) inside is = losses-ours m b (basic w (DropsHandle pid value)) bs inside is
+losses-ours m b w (Dies who status ∷ bs) inside is = losses-ours m b (basic w (Dies who status)) bs inside is
 losses-ours m b w (x ∷ bs) inside is = absurd (cc)
 
 losses-owned : (u : World) (b : Birth) (w : World) (bs : List Basic) → AreLosses b bs → Owned u w → Owned u (world_after w bs)
@@ -180,6 +199,7 @@ losses-owned u b w (Empties q ∷ bs) is o = losses-owned u b (basic w (Empties 
 losses-owned u b w (Unbinds x ∷ bs) is o = losses-owned u b (basic w (Unbinds x)) bs is o
 losses-owned u b w (Cuts x ∷ bs) is o = losses-owned u b (basic w (Cuts x)) bs (other_of _ _ is) o
 losses-owned u b w (DropsHandle pid value ∷ bs) is o = losses-owned u b (basic w (DropsHandle pid value)) bs is o
+losses-owned u b w (Dies who status ∷ bs) is o = losses-owned u b (basic w (Dies who status)) bs is (every-without (is_owned u) (waits_as who) w.waits o)
 losses-owned u b w (x ∷ bs) is o = absurd (cc)
 
 less-patient : (w : World) (test : MessageRow → Bool) (ws : List WaitRow) → every (is_patient w) ws ≡ true → every (is_patient (record w { messages = without test w.messages })) ws ≡ true
@@ -197,6 +217,7 @@ losses-patient b w (Empties q ∷ bs) is p = losses-patient b (basic w (Empties 
 losses-patient b w (Unbinds x ∷ bs) is p = losses-patient b (basic w (Unbinds x)) bs is p
 losses-patient b w (Cuts x ∷ bs) is p = losses-patient b (basic w (Cuts x)) bs (other_of _ _ is) p
 losses-patient b w (DropsHandle pid value ∷ bs) is p = losses-patient b (basic w (DropsHandle pid value)) bs is p
+losses-patient b w (Dies who status ∷ bs) is p = losses-patient b (basic w (Dies who status)) bs is (every-without (is_patient w) (waits_as who) w.waits p)
 losses-patient b w (x ∷ bs) is p = absurd (cc)
 
 abbrev pub Once : World → Type 0
@@ -210,6 +231,7 @@ losses-once b w (Empties q ∷ bs) is o = losses-once b (basic w (Empties q)) bs
 losses-once b w (Unbinds x ∷ bs) is o = losses-once b (basic w (Unbinds x)) bs is o
 losses-once b w (Cuts x ∷ bs) is o = losses-once b (basic w (Cuts x)) bs (other_of _ _ is) o
 losses-once b w (DropsHandle pid value ∷ bs) is o = losses-once b (basic w (DropsHandle pid value)) bs is o
+losses-once b w (Dies who status ∷ bs) is o = losses-once b (basic w (Dies who status)) bs is (λ tid. count-less (waits_as tid) (waits_as who) w.waits 1 (o tid))
 losses-once b w (x ∷ bs) is o = absurd (cc)
 
 losses-used : (b : Birth) (w : World) (bs : List Basic) → AreLosses b bs → (world_after w bs).used_threads ≡ w.used_threads
@@ -220,6 +242,7 @@ losses-used b w (Empties q ∷ bs) is = losses-used b (basic w (Empties q)) bs i
 losses-used b w (Unbinds x ∷ bs) is = losses-used b (basic w (Unbinds x)) bs is
 losses-used b w (Cuts x ∷ bs) is = losses-used b (basic w (Cuts x)) bs (other_of _ _ is)
 losses-used b w (DropsHandle pid value ∷ bs) is = losses-used b (basic w (DropsHandle pid value)) bs is
+losses-used b w (Dies who status ∷ bs) is = losses-used b (basic w (Dies who status)) bs is
 losses-used b w (x ∷ bs) is = absurd (cc)
 
 -- What is known of each world while a port is closed

@@ -120,7 +120,7 @@ directed-next m c w name (Err s) n h = n
 ok-next : (m : Group) (c : ℕ) (w : World) (by : ThreadRow) (known : List ℕ → Birth) (call : ScriptCall) (t : Result (List Basic) Status) → At m c w by known → Kept m c w → served w by call ≡ t → HasFinePorts m c (world_after w (settled by (name_of_call call) t)) → Kept m c (world_after w (settled by (name_of_call call) t))
 ok-next m c w by known call (Err s) a n is fine = n
 ok-next m c w by known call (Ok bs) a n is fine =
-    let head = headed by.number bs (holds_ok (λ bs. is_call_of by.number bs ≡ true) (served w by call) bs ((lawful call).orderly m c w w by (caller m c w by known w a refl)) is) in
+    let head = headed w by.number bs (holds_ok (λ bs. is_call_of w by.number bs ≡ true) (served w by call) bs ((lawful call).orderly m c w w by (caller m c w by known w a refl)) is) in
     record {
       fair = run-fair m c w bs (holds_ok (λ bs. HasFinePorts m c (world_after w bs) → are_fair m c w bs ≡ true) (served w by call) bs ((lawful call).fair m c w by known a) is fine) n.fair;
       once = same-used w (world_after w bs) (orderly-used w bs head.orderly) n.once;

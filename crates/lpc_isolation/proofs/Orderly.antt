@@ -54,9 +54,9 @@ take-orderly : (x : MessageRow) (asked : Bool) → asks x.message ≡ asked → 
 take-orderly x true asked = (rw asked refl, rw asked refl)
 take-orderly x false asked = (rw asked refl, rw asked refl)
 
-listen-orderly : (by : ThreadRow) (port : Birth) (o : Option MessageRow) → is_call_of by.number (listen_steps by port o) ≡ true
-listen-orderly by port None = rw (same-number by.number) refl
-listen-orderly by port (Some x) = rw (same-number by.number) (take-orderly x (asks x.message) refl).1
+listen-orderly : (w : World) (by : ThreadRow) (port : Birth) (o : Option MessageRow) → is_call_of w by.number (listen_steps by port o) ≡ true
+listen-orderly w by port None = rw (same-number by.number) refl
+listen-orderly w by port (Some x) = rw (same-number by.number) (take-orderly x (asks x.message) refl).1
 
 -- no one who waits is the caller, who doesn't
 pub other-thread : (w : World) (tid : ℕ) (p : WaitRow → Bool) (y : WaitRow) → wait_of w tid ≡ None → first p w.waits ≡ Some y → (tid == y.thread) ≡ false
@@ -69,14 +69,14 @@ other-thread w tid p y idle at = by-rows w.waits idle at
         turn : (a b : ℕ) → (a == b) ≡ (b == a)
         turn a b = grind (arith, nat_tests)
 
-received-orderly : (by : ThreadRow) (p : PortRow) (q : Birth) (o : Option MessageRow) → is_call_of by.number (receive_steps by p q [] o) ≡ true
-received-orderly by p q None = rw (same-number by.number) refl
-received-orderly by p q (Some x) = rw (same-number by.number) (take-orderly x (asks x.message) refl).0
+received-orderly : (w : World) (by : ThreadRow) (p : PortRow) (q : Birth) (o : Option MessageRow) → is_call_of w by.number (receive_steps by p q [] o) ≡ true
+received-orderly w by p q None = rw (same-number by.number) refl
+received-orderly w by p q (Some x) = rw (same-number by.number) (take-orderly x (asks x.message) refl).0
 
-replied-orderly : (by : ThreadRow) (p : PortRow) (q : Birth) (y : WaitRow) (b : Message) (o : Option MessageRow) (asked : Bool) → (by.number == y.thread) ≡ false → (o ≡ None → asked ≡ asked) → ((x : MessageRow) → o ≡ Some x → asks x.message ≡ asked) → is_call_of by.number (receive_steps by p q (reply y b ∷ []) o) ≡ true
-replied-orderly by p q y b None asked other none some = rw (same-number by.number, other) refl
-replied-orderly by p q y b (Some x) true other none some = rw (same-number by.number, some x refl) refl
-replied-orderly by p q y b (Some x) false other none some = rw (same-number by.number, some x refl) refl
+replied-orderly : (w : World) (by : ThreadRow) (p : PortRow) (q : Birth) (y : WaitRow) (b : Message) (o : Option MessageRow) (asked : Bool) → (by.number == y.thread) ≡ false → (o ≡ None → asked ≡ asked) → ((x : MessageRow) → o ≡ Some x → asks x.message ≡ asked) → is_call_of w by.number (receive_steps by p q (reply y b ∷ []) o) ≡ true
+replied-orderly w by p q y b None asked other none some = rw (same-number by.number, other) refl
+replied-orderly w by p q y b (Some x) true other none some = rw (same-number by.number, some x refl) refl
+replied-orderly w by p q y b (Some x) false other none some = rw (same-number by.number, some x refl) refl
 
 abbrev asked-by : Option MessageRow → Bool
 asked-by None = false
@@ -85,40 +85,40 @@ asked-by (Some x) = asks x.message
 asked-is : (o : Option MessageRow) (x : MessageRow) → o ≡ Some x → asks x.message ≡ asked-by o
 asked-is o x is = rw is refl
 
-reply-orderly : (w : World) (by : ThreadRow) (handle : ℕ) (bytes : List ℕ) → Holds (λ bs. is_call_of by.number bs ≡ true) (nt_reply_port w by handle bytes)
+reply-orderly : (w : World) (by : ThreadRow) (handle : ℕ) (bytes : List ℕ) → Holds (λ bs. is_call_of w by.number bs ≡ true) (nt_reply_port w by handle bytes)
 unfolding nt_reply_port
 reply-orderly w by handle bytes =
-    let P : List Basic → Type 0 = λ bs. is_call_of by.number bs ≡ true in
+    let P : List Basic → Type 0 = λ bs. is_call_of w by.number bs ≡ true in
     bind_holds (port_test w by handle) _ P (λ p _. bind_holds (message_test bytes) _ P (λ a _. bind_holds (answered_test w p a) _ P (λ x _. rw (same-number by.number) refl)))
 
 -- of each call
-pub orderly-create : (m : Group) (c : ℕ) (u w : World) (by : ThreadRow) (name : Option (List ℕ)) → Caller m c u w by → Holds (λ bs. is_call_of by.number bs ≡ true) (served w by (create_port name))
-orderly-create m c u w by name k = made-holds (λ bs. is_call_of by.number bs ≡ true) w by name (λ value. rw (same-number by.number) refl) (λ path value. rw (same-number by.number) refl)
+pub orderly-create : (m : Group) (c : ℕ) (u w : World) (by : ThreadRow) (name : Option (List ℕ)) → Caller m c u w by → Holds (λ bs. is_call_of w by.number bs ≡ true) (served w by (create_port name))
+orderly-create m c u w by name k = made-holds (λ bs. is_call_of w by.number bs ≡ true) w by name (λ value. rw (same-number by.number) refl) (λ path value. rw (same-number by.number) refl)
 
-pub orderly-connect : (m : Group) (c : ℕ) (u w : World) (by : ThreadRow) (name bytes : List ℕ) → Caller m c u w by → Holds (λ bs. is_call_of by.number bs ≡ true) (served w by (connect_port name bytes))
-orderly-connect m c u w by name bytes k = on-connect (λ bs. is_call_of by.number bs ≡ true) w by name bytes (λ q at. rw (same-number by.number) (enter-orderly (world_after w (connect_start by q (connection_request by bytes))) (row_of q (client_port by q) (connection_request by bytes))))
+pub orderly-connect : (m : Group) (c : ℕ) (u w : World) (by : ThreadRow) (name bytes : List ℕ) → Caller m c u w by → Holds (λ bs. is_call_of w by.number bs ≡ true) (served w by (connect_port name bytes))
+orderly-connect m c u w by name bytes k = on-connect (λ bs. is_call_of w by.number bs ≡ true) w by name bytes (λ q at. rw (same-number by.number) (enter-orderly (world_after w (connect_start by q (connection_request by bytes))) (row_of q (client_port by q) (connection_request by bytes))))
 
-pub orderly-listen : (m : Group) (c : ℕ) (u w : World) (by : ThreadRow) (handle : ℕ) → Caller m c u w by → Holds (λ bs. is_call_of by.number bs ≡ true) (served w by (listen_port handle))
-orderly-listen m c u w by handle k = on-port (λ bs. is_call_of by.number bs ≡ true) m c u w by handle k (λ p at n. listen-orderly by p.birth (first (is_queued_connect p.birth) w.messages))
+pub orderly-listen : (m : Group) (c : ℕ) (u w : World) (by : ThreadRow) (handle : ℕ) → Caller m c u w by → Holds (λ bs. is_call_of w by.number bs ≡ true) (served w by (listen_port handle))
+orderly-listen m c u w by handle k = on-port (λ bs. is_call_of w by.number bs ≡ true) m c u w by handle k (λ p at n. listen-orderly w by p.birth (first (is_queued_connect p.birth) w.messages))
 
-pub orderly-accept : (m : Group) (c : ℕ) (u w : World) (by : ThreadRow) (context : ℕ) (message : List ℕ) (accept : Bool) → Caller m c u w by → Holds (λ bs. is_call_of by.number bs ≡ true) (served w by (accept_connect_port context message accept))
-orderly-accept m c u w by context bytes accept k = on-answer (λ bs. is_call_of by.number bs ≡ true) m c u w by context bytes accept k (λ a is. rw (same-number by.number) refl)
+pub orderly-accept : (m : Group) (c : ℕ) (u w : World) (by : ThreadRow) (context : ℕ) (message : List ℕ) (accept : Bool) → Caller m c u w by → Holds (λ bs. is_call_of w by.number bs ≡ true) (served w by (accept_connect_port context message accept))
+orderly-accept m c u w by context bytes accept k = on-answer (λ bs. is_call_of w by.number bs ≡ true) m c u w by context bytes accept k (λ a is. rw (same-number by.number) refl)
     (λ a is. rw (same-number by.number) refl)
 
-pub orderly-complete : (m : Group) (c : ℕ) (u w : World) (by : ThreadRow) (handle : ℕ) → Caller m c u w by → Holds (λ bs. is_call_of by.number bs ≡ true) (served w by (complete_connect_port handle))
-orderly-complete m c u w by handle k = on-complete (λ bs. is_call_of by.number bs ≡ true) m c u w by handle k (λ r is. rw (same-number by.number) refl)
+pub orderly-complete : (m : Group) (c : ℕ) (u w : World) (by : ThreadRow) (handle : ℕ) → Caller m c u w by → Holds (λ bs. is_call_of w by.number bs ≡ true) (served w by (complete_connect_port handle))
+orderly-complete m c u w by handle k = on-complete (λ bs. is_call_of w by.number bs ≡ true) m c u w by handle k (λ r is. rw (same-number by.number) refl)
 
-pub orderly-datagram : (m : Group) (c : ℕ) (u w : World) (by : ThreadRow) (handle : ℕ) (message : List ℕ) → Caller m c u w by → Holds (λ bs. is_call_of by.number bs ≡ true) (served w by (request_port handle message))
-orderly-datagram m c u w by handle bytes k = sent-datagram (λ bs. is_call_of by.number bs ≡ true) m c u w by handle bytes k (λ s is. rw (same-number by.number) (enter-orderly (world_after w (datagram_start by)) (row_of s.queue s.port (sent_by by DATAGRAM s.message))))
+pub orderly-datagram : (m : Group) (c : ℕ) (u w : World) (by : ThreadRow) (handle : ℕ) (message : List ℕ) → Caller m c u w by → Holds (λ bs. is_call_of w by.number bs ≡ true) (served w by (request_port handle message))
+orderly-datagram m c u w by handle bytes k = sent-datagram (λ bs. is_call_of w by.number bs ≡ true) m c u w by handle bytes k (λ s is. rw (same-number by.number) (enter-orderly (world_after w (datagram_start by)) (row_of s.queue s.port (sent_by by DATAGRAM s.message))))
 
-pub orderly-request : (m : Group) (c : ℕ) (u w : World) (by : ThreadRow) (handle : ℕ) (message : List ℕ) → Caller m c u w by → Holds (λ bs. is_call_of by.number bs ≡ true) (served w by (request_wait_reply_port handle message))
-orderly-request m c u w by handle bytes k = sent-request (λ bs. is_call_of by.number bs ≡ true) m c u w by handle bytes k (λ s is. rw (same-number by.number) (enter-orderly (world_after w (request_start by s.port.birth s.queue (sent_by by REQUEST s.message))) (row_of s.queue s.port (sent_by by REQUEST s.message))))
+pub orderly-request : (m : Group) (c : ℕ) (u w : World) (by : ThreadRow) (handle : ℕ) (message : List ℕ) → Caller m c u w by → Holds (λ bs. is_call_of w by.number bs ≡ true) (served w by (request_wait_reply_port handle message))
+orderly-request m c u w by handle bytes k = sent-request (λ bs. is_call_of w by.number bs ≡ true) m c u w by handle bytes k (λ s is. rw (same-number by.number) (enter-orderly (world_after w (request_start by s.port.birth s.queue (sent_by by REQUEST s.message))) (row_of s.queue s.port (sent_by by REQUEST s.message))))
 
-pub orderly-reply : (m : Group) (c : ℕ) (u w : World) (by : ThreadRow) (handle : ℕ) (message : List ℕ) → Caller m c u w by → Holds (λ bs. is_call_of by.number bs ≡ true) (served w by (reply_port handle message))
+pub orderly-reply : (m : Group) (c : ℕ) (u w : World) (by : ThreadRow) (handle : ℕ) (message : List ℕ) → Caller m c u w by → Holds (λ bs. is_call_of w by.number bs ≡ true) (served w by (reply_port handle message))
 orderly-reply m c u w by handle bytes k = reply-orderly w by handle bytes
 
-pub orderly-receive : (m : Group) (c : ℕ) (u w : World) (by : ThreadRow) (handle : ℕ) (message : Option (List ℕ)) → Caller m c u w by → Holds (λ bs. is_call_of by.number bs ≡ true) (served w by (reply_wait_receive_port handle message))
-orderly-receive m c u w by handle bytes k = on-receive (λ bs. is_call_of by.number bs ≡ true) m c u w by handle bytes k (λ a p q replied is r.
-    replied-as (λ rs. is_call_of by.number (receive_steps by p q rs (first (is_queued q) w.messages)) ≡ true) w p a replied r.replies
-    (λ none. received-orderly by p q (first (is_queued q) w.messages))
-    (λ b y some at. replied-orderly by p q y b (first (is_queued q) w.messages) (asked-by (first (is_queued q) w.messages)) (other-thread w by.number (fits w p.birth b) y k.idle (answered-fit w p b y at)) (λ _. refl) (λ x there. asked-is (first (is_queued q) w.messages) x there)))
+pub orderly-receive : (m : Group) (c : ℕ) (u w : World) (by : ThreadRow) (handle : ℕ) (message : Option (List ℕ)) → Caller m c u w by → Holds (λ bs. is_call_of w by.number bs ≡ true) (served w by (reply_wait_receive_port handle message))
+orderly-receive m c u w by handle bytes k = on-receive (λ bs. is_call_of w by.number bs ≡ true) m c u w by handle bytes k (λ a p q replied is r.
+    replied-as (λ rs. is_call_of w by.number (receive_steps by p q rs (first (is_queued q) w.messages)) ≡ true) w p a replied r.replies
+    (λ none. received-orderly w by p q (first (is_queued q) w.messages))
+    (λ b y some at. replied-orderly w by p q y b (first (is_queued q) w.messages) (asked-by (first (is_queued q) w.messages)) (other-thread w by.number (fits w p.birth b) y k.idle (answered-fit w p b y at)) (λ _. refl) (λ x there. asked-is (first (is_queued q) w.messages) x there)))

@@ -8,7 +8,7 @@ use Rattle.lpc_base.proofs.RowMaps.{every-both, every-first}
 use Rattle.lpc_base.specs.declared.port_kind.PortKind.TheVariants.{Client, Connection, Server, Unnamed}
 use Rattle.lpc_model.specs.World.{Accepted, Birth, Connect, Listen, PortKind, PortRow, Receive, Request, WaitKind, WaitRow, World}
 use Rattle.lpc_model.specs.Found.{is_cut, is_port, is_request, is_server_port, is_the, port_row, same_birth, waits_as, waits_at}
-use Rattle.lpc_model.specs.Basics.{Accepts, AddsHandle, AddsProcess, AddsThread, Awaits, Basic, Binds, Completes, Cuts, DrawsIdentifier, DrawsOrdinal, DropsHandle, Empties, Enters, Frees, Joins, Makes, Receives, Takes, TakesConnect, Tells, Unbinds, Wakes, Withdraws, accepted, basic, completed, cut, is_end_of, joined, received, world_after}
+use Rattle.lpc_model.specs.Basics.{Accepts, AddsHandle, AddsProcess, AddsThread, Awaits, Basic, Binds, Completes, Cuts, DrawsIdentifier, DrawsOrdinal, DropsHandle, Empties, Enters, Frees, Joins, Makes, Receives, Takes, TakesConnect, Tells, Unbinds, Wakes, Withdraws, accepted, basic, completed, cut, is_end_of, joined, received, world_after, Dies, Registers, Unregisters}
 use Rattle.lpc_model.specs.Circle.{Group, is_fine_client, is_fine_port}
 use Rattle.lpc_model.proofs.Births.{birth-same}
 use Rattle.lpc_model.proofs.Rows.{first-map}
@@ -228,6 +228,9 @@ basic-paths w (Takes q) ok all = all
 basic-paths w (TakesConnect q) ok all = all
 basic-paths w (DrawsIdentifier who) ok all = all
 basic-paths w (DrawsOrdinal who) ok all = all
+basic-paths w (Dies who status) ok all = every-without (is_path w) (waits_as who) w.waits all
+basic-paths w (Registers who b) ok all = all
+basic-paths w (Unregisters who b) ok all = all
 basic-paths w (AddsProcess p) ok all = all
 basic-paths w (AddsThread t) ok all = all
 

@@ -113,7 +113,7 @@ mild-given y z Listen k asked = rw (k, asked) refl
 mild-given y z (Connect a) k asked = rw (k, asked) refl
 mild-given y z (Accepted a r) k asked = rw (k, asked) refl
 
-mild-entered : (y : MessageRow) (o : Option WaitRow) → asks y.message ≡ false → AreMild (Enters y ∷ given o (λ z. given_steps z y ++ woken SUCCESS (shown z y) z ∷ []))
+pub mild-entered : (y : MessageRow) (o : Option WaitRow) → asks y.message ≡ false → AreMild (Enters y ∷ given o (λ z. given_steps z y ++ woken SUCCESS (shown z y) z ∷ []))
 mild-entered y None asked = refl
 mild-entered y (Some z) asked = mild-given y z z.kind refl asked
 
@@ -146,7 +146,7 @@ mute-taken m c u d w memo y z s r asked other at = by_owner (owner u z.thread) r
         let same : pid ≡ y.queue.process = owned-by u z pid own is ∙ of_queue in
         rw (own, same, other) (inside (m y.queue.process) refl)
 
-mute-entered : (m : Group) (c : ℕ) (u : World) (d : Whose) (w : World) (memo : List Heard) (y : MessageRow) → Sure m c u w → Reads y → asks y.message ≡ false → (y.queue.process == c) ≡ false → (o : Option WaitRow) → first (takes y) w.waits ≡ o
+pub mute-entered : (m : Group) (c : ℕ) (u : World) (d : Whose) (w : World) (memo : List Heard) (y : MessageRow) → Sure m c u w → Reads y → asks y.message ≡ false → (y.queue.process == c) ≡ false → (o : Option WaitRow) → first (takes y) w.waits ≡ o
     → entries_memo m (view m w) memo (told_inputs m c u d (entries_of (given o (λ z. given_steps z y ++ woken SUCCESS (shown z y) z ∷ [])))) ≡ memo
 mute-entered m c u d w memo y s r asked other None at = refl
 mute-entered m c u d w memo y s r asked other (Some z) at = rw (given-entries y z z.kind (asks y.message) (woken SUCCESS (shown z y) z) refl refl) (mute-taken m c u d w memo y z s r asked other at)
@@ -216,7 +216,7 @@ post-view m c u w b s inside = ap (λ o. given o (λ p. given (told_of (view m w
     at (Some p) row = ap (λ o. given o (λ y. enter y (view m w))) (told-view m c u w b p s inside row) ∙ by-server p row (server_of w p) refl
 
 -- it stands in the queue of the connection port
-entered-none : (y : MessageRow) (o : Option WaitRow) → asks y.message ≡ false → every sends_none (given o (λ z. given_steps z y ++ woken SUCCESS (shown z y) z ∷ [])) ≡ true
+pub entered-none : (y : MessageRow) (o : Option WaitRow) → asks y.message ≡ false → every sends_none (given o (λ z. given_steps z y ++ woken SUCCESS (shown z y) z ∷ [])) ≡ true
 entered-none y None asked = refl
 entered-none y (Some z) asked = given-none z.kind refl
   where

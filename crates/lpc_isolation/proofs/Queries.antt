@@ -4,7 +4,7 @@ use Rattle.std.specs.Prelude.{◌==◌, Ok}
 use Rattle.lpc_base.specs.declared.status.TheConstants.{INVALID_HANDLE, SUCCESS}
 use Rattle.lpc_model.specs.declared.entry.CallName.TheVariants.{NtQueryObject}
 use Rattle.lpc_model.specs.declared.entry.Entry.TheVariants.{Answer}
-use Rattle.lpc_model.specs.World.{Birth, HandleRow, ProcessRow, ThreadRow, World}
+use Rattle.lpc_model.specs.World.{Birth, HandleRow, ThreadRow, World}
 use Rattle.lpc_model.specs.Found.{handle_at, handle_count, wait_of}
 use Rattle.lpc_model.specs.Basics.{Basic, Tells, world_after}
 use Rattle.lpc_model.specs.Fields.{object_fields}
@@ -33,7 +33,7 @@ use Rattle.lpc_isolation.proofs.Heard.{Heard, call_memo}
 use Rattle.lpc_isolation.proofs.Knows.{AllKnown}
 use Rattle.lpc_isolation.proofs.KnownCalls.{Hears, still-hears}
 use Rattle.lpc_isolation.proofs.Instances.{At, Leading, caller}
-use Rattle.lpc_isolation.proofs.Thin.{Alive, Closed, thin}
+use Rattle.lpc_isolation.proofs.Thin.{Agree, Alive, Closed, thin, Lives}
 use Rattle.lpc_isolation.proofs.ThinCalls.{AreClosed}
 use Rattle.lpc_isolation.proofs.Fine.{FineAfter}
 use Rattle.lpc_isolation.proofs.Duplicates.{unnoted}
@@ -47,8 +47,8 @@ told_counts by r handles pointers = Tells (Answer by.number NtQueryObject SUCCES
 on-query : (P : List Basic → Type 0) (w : World) (by : ThreadRow) (value : ℕ) → ((r : HandleRow) → handle_at w by.process value ≡ Some r → P (query_steps w by r)) → Holds P (standing_query w by value)
 on-query P w by value then_ = bind_holds (own_handle w by value) _ P (λ r at. then_ r (found_ok (handle_at w by.process value) INVALID_HANDLE r at))
 
-pub orderly-query : (m : Group) (c : ℕ) (u w : World) (by : ThreadRow) (handle : ℕ) → Caller m c u w by → Holds (λ bs. is_call_of by.number bs ≡ true) (served w by (query_object handle))
-orderly-query m c u w by handle k = on-query (λ bs. is_call_of by.number bs ≡ true) w by handle (λ r at. rw (same-number by.number) refl)
+pub orderly-query : (m : Group) (c : ℕ) (u w : World) (by : ThreadRow) (handle : ℕ) → Caller m c u w by → Holds (λ bs. is_call_of w by.number bs ≡ true) (served w by (query_object handle))
+orderly-query m c u w by handle k = on-query (λ bs. is_call_of w by.number bs ≡ true) w by handle (λ r at. rw (same-number by.number) refl)
 
 pub refuses-query : (w : World) (by : ThreadRow) (handle : ℕ) → Refuses (served w by (query_object handle))
 refuses-query w by handle = bind (own_handle w by handle) _ (found (handle_at w by.process handle) INVALID_HANDLE refl) (λ r. tt)
@@ -92,8 +92,8 @@ hears-query m c u w by d memo k owned n a all out handle = on-query (λ bs. HasF
 pub notes-query : (m : Group) (c : ℕ) (u w : World) (by : ThreadRow) (memo : List Heard) → Caller m c u w by → Owned w w → Numbered w → Asked w → AllKnown m memo w → m by.process ≡ true → (handle : ℕ) → Holds (λ bs. AllKnown m (cond (by.process == c) memo (call_memo m (view m w) by (query_object handle) (own_entry bs) memo)) (world_after w bs)) (served w by (query_object handle))
 notes-query m c u w by memo k owned n a all by_in handle = on-query (λ bs. AllKnown m (cond (by.process == c) memo (call_memo m (view m w) by (query_object handle) (own_entry bs) memo)) (world_after w bs)) w by handle (λ r at. unnoted m memo w (by.process == c) all)
 
-pub alike-query : (k : Alive) (ps : List ProcessRow) (u : World) (by : ThreadRow) (handle : ℕ) → Closed k u → served (thin k ps u) by (query_object handle) ≡ served u by (query_object handle)
-alike-query k ps u by handle c = bind-same (own_handle u by handle) _ _ (λ r at. ap (λ n. Ok (told_counts by r (handle_count u r.object) n)) (standing-thin k ps u r.object c))
+pub alike-query : (k : Alive) (ps : Lives) (u : World) (by : ThreadRow) (handle : ℕ) → Agree ps u → Closed k u → served (thin k ps u) by (query_object handle) ≡ served u by (query_object handle)
+alike-query k ps u by handle agree c = bind-same (own_handle u by handle) _ _ (λ r at. ap (λ n. Ok (told_counts by r (handle_count u r.object) n)) (standing-thin k ps u r.object agree c))
 
 pub stands-query : (k : Alive) (u : World) (by : ThreadRow) (handle : ℕ) → IsSoundWorld u → Closed k u → k (next_birth by) ≡ true → Holds (AreClosed k) (served u by (query_object handle))
 stands-query k u by handle s c new = on-query (AreClosed k) u by handle (λ r at. refl)

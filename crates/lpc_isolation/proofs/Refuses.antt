@@ -67,7 +67,7 @@ object w by value =
     bind (refuse_if (not (same_kind h.object.kind kind.Port)) OBJECT_TYPE_MISMATCH) _ (if_refuses (not (same_kind h.object.kind kind.Port)) OBJECT_TYPE_MISMATCH refl) (λ _.
     bind (refuse_if (not (includes h.access PORT_RIGHT)) ACCESS_DENIED) _ (if_refuses (not (includes h.access PORT_RIGHT)) ACCESS_DENIED refl) (λ _. tt)))
 
-port : (w : World) (by : ThreadRow) (value : ℕ) → Refuses (port_test w by value)
+pub port : (w : World) (by : ThreadRow) (value : ℕ) → Refuses (port_test w by value)
 port w by value = bind (object_test w by kind.Port PORT_RIGHT value) _ (object w by value) (λ b. found (port_row w b) INVALID_HANDLE refl)
 
 pub handles : (w : World) (pid more : ℕ) → Refuses (handles_test w pid more)

@@ -17,7 +17,7 @@ use Rattle.lpc_model.proofs.Births.{birth-same}
 use Rattle.lpc_model.proofs.Holding.{Holds, bind_holds, found_holds, found_ok, holds_ok}
 use Rattle.lpc_model.specs.Circle.{Group, is_number, owner}
 use Rattle.lpc_isolation.proofs.Filters.{first-inside, first-nowhere, first-shown, first-where, has-inside}
-use Rattle.lpc_isolation.proofs.View.{of_birth, one_of, our_port, our_table, our_thread, same-number, seen_port, view}
+use Rattle.lpc_isolation.proofs.View.{of_birth, one_of, other_of, our_port, our_table, our_thread, same-number, seen_port, view}
 use Rattle.lpc_isolation.proofs.Fair.{Fair, is_fair_pair, is_fair_port, is_fair_table, is_home, is_homed, is_own}
 
 -- Handles
@@ -37,7 +37,7 @@ equal a b is = eqb-true a b is
 named-one : (pid : ℕ) (b : Birth) (h : HandleRow) → is_own pid h ≡ true → names_port b h.object ≡ true → (pid == b.process) ≡ true
 named-one pid b h own named =
     let two : (h.object.birth.process == b.process) ≡ true = grind arith in
-    let same : pid ≡ b.process = sym (eqb-true _ _ own) ∙ eqb-true _ _ two in
+    let same : pid ≡ b.process = sym (eqb-true _ _ (one_of _ _ own)) ∙ eqb-true _ _ two in
     rw same (same-number b.process)
 
 pub named-own : (pid : ℕ) (b : Birth) (rows : List HandleRow) → every (is_own pid) rows ≡ true → has (λ h. names_port b h.object) rows ≡ true → (pid == b.process) ≡ true
@@ -55,10 +55,20 @@ found-own m c w pid value h None f at is = absurd (cc)
 found-own m c w pid value h (Some t) f at is =
     let fair : is_fair_table t ≡ true = every-first is_fair_table (is_table pid) w.handles t f.tables at in
     let its : t.process ≡ pid = eqb-true _ _ (first-passes (is_table pid) w.handles t at) in
-    eqb-true _ _ (every-first (is_own t.process) (has_value value) t.rows h fair is) ∙ its
+    eqb-true _ _ (one_of _ _ (every-first (is_own t.process) (has_value value) t.rows h fair is)) ∙ its
 
 pub handle-own : (m : Group) (c : ℕ) (w : World) (pid value : ℕ) (h : HandleRow) → Fair m c w → handle_at w pid value ≡ Some h → h.object.birth.process ≡ pid
 handle-own m c w pid value h f is = found-own m c w pid value h (first (is_table pid) w.handles) f refl is
+
+-- and there are handles to ports alone
+found-port : (m : Group) (c : ℕ) (w : World) (pid value : ℕ) (h : HandleRow) (o : Option HandleTable) → Fair m c w → first (is_table pid) w.handles ≡ o → first (has_value value) (rows_in o) ≡ Some h → same_kind h.object.kind kind.Port ≡ true
+found-port m c w pid value h None f at is = absurd (cc)
+found-port m c w pid value h (Some t) f at is =
+    let fair : is_fair_table t ≡ true = every-first is_fair_table (is_table pid) w.handles t f.tables at in
+    other_of (h.object.birth.process == t.process) _ (every-first (is_own t.process) (has_value value) t.rows h fair is)
+
+pub handle-port : (m : Group) (c : ℕ) (w : World) (pid value : ℕ) (h : HandleRow) → Fair m c w → handle_at w pid value ≡ Some h → same_kind h.object.kind kind.Port ≡ true
+handle-port m c w pid value h f is = found-port m c w pid value h (first (is_table pid) w.handles) f refl is
 
 -- Ports
 pub port-view : (m : Group) (w : World) (b : Birth) → m b.process ≡ true → port_row (view m w) b ≡ option_map (seen_port m) (port_row w b)

@@ -15,7 +15,7 @@ use Rattle.lpc_model.specs.Basics.{Basic, DrawsIdentifier, world_after}
 use Rattle.lpc_model.specs.Entering.{enter, row_of}
 use Rattle.lpc_model.specs.Request.{Sendable, datagram_send_test, datagram_start, datagram_steps, datagram_test, nt_request_port, send_test, sent_by}
 use Rattle.lpc_model.specs.Tests.{port_test}
-use Rattle.lpc_model.specs.SoundWaits.{IsSoundWorld}
+use Rattle.lpc_model.specs.SoundWaits.{IsSoundWorld, HasShutConnects}
 use Rattle.lpc_model.proofs.Births.{birth-same}
 use Rattle.lpc_model.proofs.Holding.{Holds, bind_holds, found_ok, holds_ok}
 use Rattle.lpc_model.specs.Circle.{Group, Whose, owner}
@@ -49,6 +49,7 @@ pub record Caller (m : Group) (c : ℕ) (u w : World) (by : ThreadRow) : Type 0 
   pub used : u.used_threads ≡ w.used_threads
   pub names : SeenNames m w.bindings
   pub sound : IsSoundWorld w
+  pub shut : HasShutConnects w
   pub live : live_thread w by.number ≡ Some by
   pub bound : OnceBound w.bindings
   pub paths : Paths w

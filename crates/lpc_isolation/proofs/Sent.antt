@@ -6,7 +6,7 @@ use Rattle.lpc_base.proofs.RowWords.{every-more, every-push, every-without, firs
 use Rattle.lpc_base.proofs.RowMaps.{every-without_first}
 use Rattle.lpc_model.specs.World.{Birth, MessageRow, PortRow, World}
 use Rattle.lpc_model.specs.Found.{is_client_port, is_own_of, is_port, is_queued, is_queued_connect, is_the, port_row}
-use Rattle.lpc_model.specs.Basics.{Accepts, AddsHandle, AddsProcess, AddsThread, Awaits, Basic, Binds, Completes, Cuts, DrawsIdentifier, DrawsOrdinal, DropsHandle, Empties, Enters, Frees, Joins, Makes, Receives, Takes, TakesConnect, Tells, Unbinds, Wakes, Withdraws, basic, completed, cut, is_end_of, joined, world_after}
+use Rattle.lpc_model.specs.Basics.{Accepts, AddsHandle, AddsProcess, AddsThread, Awaits, Basic, Binds, Completes, Cuts, DrawsIdentifier, DrawsOrdinal, DropsHandle, Empties, Enters, Frees, Joins, Makes, Receives, Takes, TakesConnect, Tells, Unbinds, Wakes, Withdraws, basic, completed, cut, is_end_of, joined, world_after, Dies, Registers, Unregisters}
 use Rattle.lpc_model.proofs.Rows.{first-map}
 use Rattle.lpc_isolation.proofs.View.{both, one_of, other_of}
 
@@ -92,6 +92,9 @@ basic-sent w (Receives who q) ok all = all
 basic-sent w (Accepts who reply) ok all = all
 basic-sent w (DrawsIdentifier who) ok all = all
 basic-sent w (DrawsOrdinal who) ok all = all
+basic-sent w (Dies who status) ok all = all
+basic-sent w (Registers who b) ok all = all
+basic-sent w (Unregisters who b) ok all = all
 basic-sent w (AddsProcess p) ok all = all
 basic-sent w (AddsThread t) ok all = all
 basic-sent w (Binds path node) ok all = all

@@ -9,17 +9,17 @@ use Rattle.lpc_model.specs.declared.entry.Field.{Field}
 use Rattle.lpc_model.specs.declared.entry.ObjectKind.TheVariants as kind
 use Rattle.lpc_model.specs.Then.{◌>>=◌}
 use Rattle.lpc_model.specs.World.{Birth, HandleRow, MessageRow, ObjectName, PortRow, ThreadRow, WaitRow, World}
-use Rattle.lpc_model.specs.Found.{handle_count, is_client_port, is_connected_to, is_cut, is_made_on, is_paired_to, is_queued, is_sent_on, live_thread, port_name, same_kind, wait_of}
+use Rattle.lpc_model.specs.Found.{handle_count, is_client_port, is_connected_to, is_cut, is_made_on, is_paired_to, is_queued, is_sent_on, live_thread, port_name, same_kind, wait_of, same_birth, all_registrations}
 use Rattle.lpc_model.specs.Basics.{Basic, Steps, Tells}
 use Rattle.lpc_model.specs.Fields.{object_fields}
 use Rattle.lpc_model.specs.Standing.{is_near}
 use Rattle.lpc_model.specs.Tests.{own_handle}
-use Rattle.lpc_model.specs.Lines.{ScriptCall, ScriptLine, accept_connect_port, boot, close, complete_connect_port, connect_port, create_port, dir, duplicate_object, link, listen_port, query_object, reply_port, reply_wait_receive_port, request_port, request_wait_reply_port, run, thread}
+use Rattle.lpc_model.specs.Lines.{ScriptCall, ScriptLine, accept_connect_port, boot, close, complete_connect_port, connect_port, create_port, dir, duplicate_object, link, listen_port, query_object, reply_port, reply_wait_receive_port, request_port, request_wait_reply_port, run, thread, register_thread_terminate_port, terminate_thread, terminate_process}
 use Rattle.lpc_model.specs.Machine.{Stepped, bare_steps, landed, name_of_call, service_of, settled}
 
 -- What counts for an object
 -- A handle to a client or server port; a message that was sent on it, which is a client port's in the queue of its connection
--- port; or a wait that was made on it, which is a client port's on a queue near it.
+-- port; a wait that was made on it, which is a client port's on a queue near it; or that a live thread registered it.
 abbrev pub is_sent_to : Birth → PortRow → MessageRow → Bool
 is_sent_to b p x = is_sent_on p.birth x && (is_queued b x || not (is_client_port p))
 
@@ -28,7 +28,8 @@ is_made_to p x = is_made_on p.birth x && (is_near x p || not (is_client_port p))
 
 abbrev pub is_aside : World → Birth → PortRow → Bool
 is_aside v b p =
-    not (handle_count v (port_name p.birth) == 0) || (has (is_sent_to b p) v.messages || has (is_made_to p) v.waits)
+    not (handle_count v (port_name p.birth) == 0)
+    || (has (is_sent_to b p) v.messages || (has (is_made_to p) v.waits || has (same_birth p.birth) (all_registrations v)))
 
 -- a port connected to this one, for which such a row or its other end counts
 abbrev pub is_standing : World → Birth → PortRow → Bool
@@ -37,7 +38,8 @@ is_standing v b p = is_connected_to b p && (is_aside v b p || not (is_cut p))
 -- the rows but handles that count for a port
 abbrev pub standing_holders : World → Birth → ℕ
 standing_holders v b =
-    count (is_paired_to b) v.ports + (count (is_standing v b) v.ports + (count (is_sent_on b) v.messages + count (is_made_on b) v.waits))
+    count (is_paired_to b) v.ports + (count (is_standing v b) v.ports + (count (is_sent_on b) v.messages
+    + (count (is_made_on b) v.waits + count (same_birth b) (all_registrations v))))
 
 abbrev pub standing_count : World → ObjectName → ℕ
 standing_count v o = handle_count v o + cond (same_kind o.kind kind.Port) (standing_holders v o.birth) 0
@@ -67,6 +69,9 @@ served w by (reply_port handle message) = service_of w by (reply_port handle mes
 served w by (reply_wait_receive_port handle reply) = service_of w by (reply_wait_receive_port handle reply)
 served w by (close handle) = service_of w by (close handle)
 served w by (duplicate_object handle access) = service_of w by (duplicate_object handle access)
+served w by (register_thread_terminate_port handle) = service_of w by (register_thread_terminate_port handle)
+served w by (terminate_thread target code) = service_of w by (terminate_thread target code)
+served w by (terminate_process target code) = service_of w by (terminate_process target code)
 
 abbrev pub served_ready : ThreadRow → ScriptCall → Option WaitRow → Steps
 served_ready by call (Some x) w = Tells (Busy by.number) ∷ []

@@ -1,18 +1,20 @@
 -- What a service owes, so that the line of each call of it can be played.
 use Rattle.std.proofs.Common.{◌≡◌, ℕ, List, [], ◌∷◌, ◌++◌, Bool, true, false, not, refl, arith}
 use Rattle.std.specs.Prelude.{◌&&◌, ◌==◌}
-use Rattle.lpc_base.specs.Rows.{every, has, without}
+use Rattle.lpc_base.specs.Rows.{every, has, without, passes}
 use Rattle.lpc_base.specs.declared.status.TheConstants.{SUCCESS}
 use Rattle.lpc_model.specs.declared.entry.Entry.{Entry}
 use Rattle.lpc_model.specs.declared.entry.Entry.TheVariants as entry
 use Rattle.lpc_model.specs.World.{WaitRow, World}
 use Rattle.lpc_model.specs.Found.{waits_as, waits_at}
 use Rattle.lpc_base.proofs.RowWords.{has-change}
-use Rattle.lpc_model.specs.Basics.{Accepts, AddsHandle, AddsProcess, AddsThread, Awaits, Basic, Binds, Completes, Cuts, DrawsIdentifier, DrawsOrdinal, DropsHandle, Empties, Enters, Frees, Joins, Makes, Receives, Takes, TakesConnect, Tells, Unbinds, Wakes, Withdraws, accepted, received, basic, entries_of, world_after}
+use Rattle.lpc_model.specs.Basics.{Accepts, AddsHandle, AddsProcess, AddsThread, Awaits, Basic, Binds, Completes, Cuts, DrawsIdentifier, DrawsOrdinal, DropsHandle, Empties, Enters, Frees, Joins, Makes, Receives, Takes, TakesConnect, Tells, Unbinds, Wakes, Withdraws, accepted, received, basic, entries_of, world_after, Dies, Registers, Unregisters}
+use Rattle.lpc_model.specs.Circle.{owner}
 use Rattle.lpc_isolation.proofs.View.{both, one_of, other_of}
 use Rattle.lpc_isolation.proofs.Lines.{is_done}
 
--- The list of a call that is accepted: it tells its caller first, adds no thread, and begins no wait of a thread that it woke
+-- The list of a call that is accepted: it tells its caller first, or of the end of a thread of its process, adds no thread, and begins no
+-- wait of a thread that it woke
 abbrev pub tells_thread : ℕ → Entry → Bool
 tells_thread tid (entry.Answer who call status fields) = (who == tid) && (status.0 == SUCCESS.0)
 tells_thread tid (entry.Waits who call fields) = who == tid
@@ -34,9 +36,19 @@ is_orderly (Wakes who call status fields ∷ bs) = every (is_calm who) bs && is_
 is_orderly (Tells (entry.Wakes who call status fields) ∷ bs) = false
 is_orderly (b ∷ bs) = adds_none b && is_orderly bs
 
-abbrev pub is_call_of : ℕ → List Basic → Bool
-is_call_of tid (Tells e ∷ bs) = tells_thread tid e && is_orderly bs
-is_call_of tid bs = false
+-- two numbers are of threads of one process
+abbrev pub same_owner : World → ℕ → ℕ → Bool
+same_owner w tid who = passes (owner w tid) (λ p. passes (owner w who) (λ q. q == p))
+
+-- a step that tells the caller's process first: its call's answer, or that one of its threads ends
+abbrev pub tells_own : World → ℕ → Basic → Bool
+tells_own w tid (Tells e) = tells_thread tid e
+tells_own w tid (Dies who status) = same_owner w tid who
+tells_own w tid b = false
+
+abbrev pub is_call_of : World → ℕ → List Basic → Bool
+is_call_of w tid [] = false
+is_call_of w tid (b ∷ bs) = tells_own w tid b && is_orderly bs
 
 -- whom it woke, waits no more
 free-without : (who other : ℕ) (xs : List WaitRow) → has (waits_as who) xs ≡ false → has (waits_as who) (without (waits_as other) xs) ≡ false
@@ -62,6 +74,9 @@ basic-free w (Takes q) who calm none = none
 basic-free w (TakesConnect q) who calm none = none
 basic-free w (DrawsIdentifier other) who calm none = none
 basic-free w (DrawsOrdinal other) who calm none = none
+basic-free w (Dies other status) who calm none = free-without who other w.waits none
+basic-free w (Registers other b) who calm none = none
+basic-free w (Unregisters other b) who calm none = none
 basic-free w (AddsProcess p) who calm none = none
 basic-free w (AddsThread t) who calm none = none
 basic-free w (Makes p) who calm none = none
@@ -102,6 +117,9 @@ orderly-done w (Takes q ∷ bs) ok = orderly-done (basic w (Takes q)) bs ok
 orderly-done w (TakesConnect q ∷ bs) ok = orderly-done (basic w (TakesConnect q)) bs ok
 orderly-done w (DrawsIdentifier who ∷ bs) ok = orderly-done (basic w (DrawsIdentifier who)) bs ok
 orderly-done w (DrawsOrdinal who ∷ bs) ok = orderly-done (basic w (DrawsOrdinal who)) bs ok
+orderly-done w (Dies who status ∷ bs) ok = orderly-done (basic w (Dies who status)) bs ok
+orderly-done w (Registers who b ∷ bs) ok = orderly-done (basic w (Registers who b)) bs ok
+orderly-done w (Unregisters who b ∷ bs) ok = orderly-done (basic w (Unregisters who b)) bs ok
 orderly-done w (AddsProcess p ∷ bs) ok = orderly-done (basic w (AddsProcess p)) bs ok
 orderly-done w (Makes p ∷ bs) ok = orderly-done (basic w (Makes p)) bs ok
 orderly-done w (Joins client server context ∷ bs) ok = orderly-done (basic w (Joins client server context)) bs ok
@@ -135,6 +153,9 @@ orderly-used w (Takes q ∷ bs) ok = orderly-used (basic w (Takes q)) bs ok
 orderly-used w (TakesConnect q ∷ bs) ok = orderly-used (basic w (TakesConnect q)) bs ok
 orderly-used w (DrawsIdentifier who ∷ bs) ok = orderly-used (basic w (DrawsIdentifier who)) bs ok
 orderly-used w (DrawsOrdinal who ∷ bs) ok = orderly-used (basic w (DrawsOrdinal who)) bs ok
+orderly-used w (Dies who status ∷ bs) ok = orderly-used (basic w (Dies who status)) bs ok
+orderly-used w (Registers who b ∷ bs) ok = orderly-used (basic w (Registers who b)) bs ok
+orderly-used w (Unregisters who b ∷ bs) ok = orderly-used (basic w (Unregisters who b)) bs ok
 orderly-used w (AddsProcess p ∷ bs) ok = orderly-used (basic w (AddsProcess p)) bs ok
 orderly-used w (Makes p ∷ bs) ok = orderly-used (basic w (Makes p)) bs ok
 orderly-used w (Joins client server context ∷ bs) ok = orderly-used (basic w (Joins client server context)) bs ok

@@ -2,11 +2,13 @@
 -- its line here.
 use Rattle.std.specs.Prelude.{◌≡◌, ℕ, ◌==◌, Bool, true, false, cond, List, Option, None, Some}
 use Rattle.std.proofs.Common.{refl, subst}
-use Rattle.lpc_model.specs.World.{Birth, ProcessRow, ThreadRow, World}
+use Rattle.lpc_base.specs.declared.status.Status.{Status}
+use Rattle.lpc_model.specs.World.{Birth, ThreadRow, World}
 use Rattle.lpc_model.specs.Found.{live_thread, wait_of}
 use Rattle.lpc_model.specs.Basics.{world_after}
 use Rattle.lpc_model.specs.Tests.{next_birth}
-use Rattle.lpc_model.specs.Lines.{ScriptCall, accept_connect_port, close, complete_connect_port, connect_port, create_port, duplicate_object, listen_port, query_object, reply_port, reply_wait_receive_port, request_port, request_wait_reply_port}
+use Rattle.lpc_model.specs.Lines.{ScriptCall, accept_connect_port, close, complete_connect_port, connect_port, create_port, duplicate_object, listen_port, query_object, reply_port, reply_wait_receive_port, request_port, request_wait_reply_port, register_thread_terminate_port, terminate_thread, terminate_process}
+use Rattle.lpc_model.specs.Death.{code_status}
 use Rattle.lpc_isolation.proofs.Served.{served}
 use Rattle.lpc_model.specs.SoundWaits.{IsSoundWorld}
 use Rattle.lpc_model.specs.Circle.{Group, Whose, is_fine_call}
@@ -23,7 +25,7 @@ use Rattle.lpc_isolation.proofs.Calls.{Serves}
 use Rattle.lpc_isolation.proofs.Listens.{own_entry}
 use Rattle.lpc_isolation.proofs.Ids.{Numbered}
 use Rattle.lpc_isolation.proofs.Asked.{Asked}
-use Rattle.lpc_isolation.proofs.Thin.{Alive, Closed, thin}
+use Rattle.lpc_isolation.proofs.Thin.{Agree, Alive, Closed, thin, Lives}
 use Rattle.lpc_isolation.proofs.Heard.{Heard, call_memo}
 use Rattle.lpc_isolation.proofs.Knows.{AllKnown}
 use Rattle.lpc_isolation.proofs.ThinCalls.{AreClosed, alike-create, alike-connect, alike-listen, alike-accept, alike-complete, alike-datagram, alike-request, alike-reply, alike-receive, stands-create, stands-connect, stands-listen, stands-accept, stands-complete, stands-datagram, stands-request, stands-reply, stands-receive}
@@ -40,11 +42,13 @@ use Rattle.lpc_isolation.proofs.Instances.{At, Leading, caller, leads_by, apart-
 use Rattle.lpc_isolation.proofs.KnownCalls.{Hears, hears-create, hears-connect, hears-listen, hears-accept, hears-complete, hears-datagram, hears-request, hears-reply, hears-receive, notes-create, notes-connect, notes-listen, notes-accept, notes-complete, notes-datagram, notes-request, notes-reply, notes-receive}
 use Rattle.lpc_isolation.proofs.Closes.{sends-close, orderly-close, refuses-close, fair-close, names-close, paths-close, asked-close, apart-close, same-close, ours-close, leads-close, hears-close, notes-close, alike-close, stands-close, fine-close}
 use Rattle.lpc_isolation.proofs.Queries.{orderly-query, refuses-query, fair-query, names-query, paths-query, sends-query, asked-query, apart-query, same-query, ours-query, leads-query, hears-query, notes-query, alike-query, stands-query, fine-query}
+use Rattle.lpc_isolation.proofs.Registers.{orderly-register, refuses-register, fair-register, names-register, paths-register, sends-register, asked-register, apart-register, same-register, ours-register, leads-register, hears-register, notes-register, alike-register, stands-register, fine-register}
+use Rattle.lpc_isolation.proofs.Terminates.{EndsThreads, all_live, alike-ends, apart-ends, asked-ends, fair-ends, fine-ends, hears-ends, itself, leads-ends, names-ends, notes-ends, orderly-ends, ours-ends, paths-ends, process-ends-it, same-ends, sends-ends, stands-ends, thread-ends-it}
 use Rattle.lpc_isolation.proofs.Duplicates.{sends-duplicate, orderly-duplicate, refuses-duplicate, fair-duplicate, names-duplicate, paths-duplicate, asked-duplicate, apart-duplicate, same-duplicate, ours-duplicate, leads-duplicate, hears-duplicate, notes-duplicate, alike-duplicate, stands-duplicate, fine-duplicate}
 
 pub record Lawful (call : ScriptCall) : Type 0 where
   -- the call tells its caller first, adds no thread, and begins no wait of a thread that it woke; no refusal is a success
-  pub orderly : (m : Group) (c : ℕ) (u w : World) (by : ThreadRow) → Caller m c u w by → Holds (λ bs. is_call_of by.number bs ≡ true) (served w by call)
+  pub orderly : (m : Group) (c : ℕ) (u w : World) (by : ThreadRow) → Caller m c u w by → Holds (λ bs. is_call_of w by.number bs ≡ true) (served w by call)
   pub refuses : (w : World) (by : ThreadRow) → Refuses (served w by call)
   -- what it keeps: rows that are fair, names, the ways of requests, the waits of those who asked
   pub fair : (m : Group) (c : ℕ) (w : World) (by : ThreadRow) (known : List ℕ → Birth) → At m c w by known → Holds (λ bs. HasFinePorts m c (world_after w bs) → are_fair m c w bs ≡ true) (served w by call)
@@ -63,8 +67,8 @@ pub record Lawful (call : ScriptCall) : Type 0 where
   pub hears : (m : Group) (c : ℕ) (u w : World) (by : ThreadRow) (d : Whose) (memo : List Heard) → Caller m c u w by → Owned w w → Numbered w → Asked w → AllKnown m memo w → m by.process ≡ false → Holds (λ bs. HasFinePorts m c (world_after w bs) → Hears m c u d w memo bs) (served w by call)
   pub notes : (m : Group) (c : ℕ) (u w : World) (by : ThreadRow) (memo : List Heard) → Caller m c u w by → Owned w w → Numbered w → Asked w → AllKnown m memo w → m by.process ≡ true → Holds (λ bs. AllKnown m (cond (by.process == c) memo (call_memo m (view m w) by call (own_entry bs) memo)) (world_after w bs)) (served w by call)
   -- it answers alike where rows that nothing names have gone, names what stands alone, and makes ports as the circle has them
-  pub alike : (k : Alive) (ps : List ProcessRow) (u : World) (by : ThreadRow) → Closed k u → served (thin k ps u) by call ≡ served u by call
-  pub stands : (k : Alive) (u : World) (by : ThreadRow) → IsSoundWorld u → Closed k u → k (next_birth by) ≡ true → Holds (AreClosed k) (served u by call)
+  pub alike : (k : Alive) (ps : Lives) (u : World) (by : ThreadRow) → live_thread u by.number ≡ Some by → Agree ps u → Closed k u → served (thin k ps u) by call ≡ served u by call
+  pub stands : (k : Alive) (u : World) (by : ThreadRow) → live_thread u by.number ≡ Some by → IsSoundWorld u → Closed k u → k (next_birth by) ≡ true → Holds (AreClosed k) (served u by call)
   pub fine : (m : Group) (c : ℕ) (after u : World) (by : ThreadRow) → wait_of u by.number ≡ None → HasFinePorts m c after → Holds (FineAfter m c after u) (served u by call)
 
 create-lawful : (name : Option (List ℕ)) → Lawful (create_port name)
@@ -82,8 +86,8 @@ create-lawful name = record {
   leads = λ m c u d w by known a used by_in other. leads-create m c u d w by known name a used by_in other;
   hears = λ m c u w by d memo k owned n a all out. hears-create m c u w by d memo k owned n a all out name;
   notes = λ m c u w by memo k owned n a all by_in. notes-create m c u w by memo k owned n a all by_in name;
-  alike = λ k ps u by c. alike-create k ps u by name c;
-  stands = λ k u by s c new. stands-create k u by name s c new;
+  alike = λ k ps u by live agree c. alike-create k ps u by name c;
+  stands = λ k u by live s c new. stands-create k u by name s c new;
   fine = λ m c after u by idle f. fine-create m c after u by name idle f;
 }
 
@@ -102,8 +106,8 @@ connect-lawful name bytes = record {
   leads = λ m c u d w by known a used by_in other. leads-connect m c u d w by known name bytes a used by_in other;
   hears = λ m c u w by d memo k owned n a all out. hears-connect m c u w by d memo k owned n a all out name bytes;
   notes = λ m c u w by memo k owned n a all by_in. notes-connect m c u w by memo k owned n a all by_in name bytes;
-  alike = λ k ps u by c. alike-connect k ps u by name bytes c;
-  stands = λ k u by s c new. stands-connect k u by name bytes s c new;
+  alike = λ k ps u by live agree c. alike-connect k ps u by name bytes c;
+  stands = λ k u by live s c new. stands-connect k u by name bytes s c new;
   fine = λ m c after u by idle f. fine-connect m c after u by name bytes idle f;
 }
 
@@ -122,8 +126,8 @@ listen-lawful handle = record {
   leads = λ m c u d w by known a used by_in other. leads-listen m c u d w by known handle a used by_in other;
   hears = λ m c u w by d memo k owned n a all out. hears-listen m c u w by d memo k owned n a all out handle;
   notes = λ m c u w by memo k owned n a all by_in. notes-listen m c u w by memo k owned n a all by_in handle;
-  alike = λ k ps u by c. alike-listen k ps u by handle c;
-  stands = λ k u by s c new. stands-listen k u by handle s c new;
+  alike = λ k ps u by live agree c. alike-listen k ps u by handle c;
+  stands = λ k u by live s c new. stands-listen k u by handle s c new;
   fine = λ m c after u by idle f. fine-listen m c after u by handle idle f;
 }
 
@@ -142,8 +146,8 @@ accept-lawful context message accept = record {
   leads = λ m c u d w by known a used by_in other. leads-accept m c u d w by known context message accept a used by_in other;
   hears = λ m c u w by d memo k owned n a all out. hears-accept m c u w by d memo k owned n a all out context message accept;
   notes = λ m c u w by memo k owned n a all by_in. notes-accept m c u w by memo k owned n a all by_in context message accept;
-  alike = λ k ps u by c. alike-accept k ps u by context message accept c;
-  stands = λ k u by s c new. stands-accept k u by context message accept s c new;
+  alike = λ k ps u by live agree c. alike-accept k ps u by context message accept agree c;
+  stands = λ k u by live s c new. stands-accept k u by context message accept s c new;
   fine = λ m c after u by idle f. fine-accept m c after u by context message accept idle f;
 }
 
@@ -162,8 +166,8 @@ complete-lawful handle = record {
   leads = λ m c u d w by known a used by_in other. leads-complete m c u d w by known handle a used by_in other;
   hears = λ m c u w by d memo k owned n a all out. hears-complete m c u w by d memo k owned n a all out handle;
   notes = λ m c u w by memo k owned n a all by_in. notes-complete m c u w by memo k owned n a all by_in handle;
-  alike = λ k ps u by c. alike-complete k ps u by handle c;
-  stands = λ k u by s c new. stands-complete k u by handle s c new;
+  alike = λ k ps u by live agree c. alike-complete k ps u by handle c;
+  stands = λ k u by live s c new. stands-complete k u by handle s c new;
   fine = λ m c after u by idle f. fine-complete m c after u by handle idle f;
 }
 
@@ -182,8 +186,8 @@ datagram-lawful handle message = record {
   leads = λ m c u d w by known a used by_in other. leads-datagram m c u d w by known handle message a used by_in other;
   hears = λ m c u w by d memo k owned n a all out. hears-datagram m c u w by d memo k owned n a all out handle message;
   notes = λ m c u w by memo k owned n a all by_in. notes-datagram m c u w by memo k owned n a all by_in handle message;
-  alike = λ k ps u by c. alike-datagram k ps u by handle message c;
-  stands = λ k u by s c new. stands-datagram k u by handle message s c new;
+  alike = λ k ps u by live agree c. alike-datagram k ps u by handle message c;
+  stands = λ k u by live s c new. stands-datagram k u by handle message s c new;
   fine = λ m c after u by idle f. fine-datagram m c after u by handle message idle f;
 }
 
@@ -202,8 +206,8 @@ request-lawful handle message = record {
   leads = λ m c u d w by known a used by_in other. leads-request m c u d w by known handle message a used by_in other;
   hears = λ m c u w by d memo k owned n a all out. hears-request m c u w by d memo k owned n a all out handle message;
   notes = λ m c u w by memo k owned n a all by_in. notes-request m c u w by memo k owned n a all by_in handle message;
-  alike = λ k ps u by c. alike-request k ps u by handle message c;
-  stands = λ k u by s c new. stands-request k u by handle message s c new;
+  alike = λ k ps u by live agree c. alike-request k ps u by handle message c;
+  stands = λ k u by live s c new. stands-request k u by handle message s c new;
   fine = λ m c after u by idle f. fine-request m c after u by handle message idle f;
 }
 
@@ -222,8 +226,8 @@ reply-lawful handle message = record {
   leads = λ m c u d w by known a used by_in other. leads-reply m c u d w by known handle message a used by_in other;
   hears = λ m c u w by d memo k owned n a all out. hears-reply m c u w by d memo k owned n a all out handle message;
   notes = λ m c u w by memo k owned n a all by_in. notes-reply m c u w by memo k owned n a all by_in handle message;
-  alike = λ k ps u by c. alike-reply k ps u by handle message c;
-  stands = λ k u by s c new. stands-reply k u by handle message s c new;
+  alike = λ k ps u by live agree c. alike-reply k ps u by handle message agree c;
+  stands = λ k u by live s c new. stands-reply k u by handle message s c new;
   fine = λ m c after u by idle f. fine-reply m c after u by handle message idle f;
 }
 
@@ -242,8 +246,8 @@ receive-lawful handle message = record {
   leads = λ m c u d w by known a used by_in other. leads-receive m c u d w by known handle message a used by_in other;
   hears = λ m c u w by d memo k owned n a all out. hears-receive m c u w by d memo k owned n a all out handle message;
   notes = λ m c u w by memo k owned n a all by_in. notes-receive m c u w by memo k owned n a all by_in handle message;
-  alike = λ k ps u by c. alike-receive k ps u by handle message c;
-  stands = λ k u by s c new. stands-receive k u by handle message s c new;
+  alike = λ k ps u by live agree c. alike-receive k ps u by handle message agree c;
+  stands = λ k u by live s c new. stands-receive k u by handle message s c new;
   fine = λ m c after u by idle f. fine-receive m c after u by handle message idle f;
 }
 
@@ -262,8 +266,8 @@ close-lawful handle = record {
   leads = λ m c u d w by known a used by_in other. leads-close m c u d w by known handle a used by_in other;
   hears = λ m c u w by d memo k owned n a all out. hears-close m c u w by d memo k owned n a all out handle;
   notes = λ m c u w by memo k owned n a all by_in. notes-close m c u w by memo k owned n a all by_in handle;
-  alike = λ k ps u by c. alike-close k ps u by handle c;
-  stands = λ k u by s c new. stands-close k u by handle s c new;
+  alike = λ k ps u by live agree c. alike-close k ps u by handle c;
+  stands = λ k u by live s c new. stands-close k u by handle s c new;
   fine = λ m c after u by idle f. fine-close m c after u by handle idle f;
 }
 
@@ -282,8 +286,8 @@ duplicate-lawful handle access = record {
   leads = λ m c u d w by known a used by_in other. leads-duplicate m c u d w by known handle access a used by_in other;
   hears = λ m c u w by d memo k owned n a all out. hears-duplicate m c u w by d memo k owned n a all out handle access;
   notes = λ m c u w by memo k owned n a all by_in. notes-duplicate m c u w by memo k owned n a all by_in handle access;
-  alike = λ k ps u by c. alike-duplicate k ps u by handle access c;
-  stands = λ k u by s c new. stands-duplicate k u by handle access s c new;
+  alike = λ k ps u by live agree c. alike-duplicate k ps u by handle access c;
+  stands = λ k u by live s c new. stands-duplicate k u by handle access s c new;
   fine = λ m c after u by idle f. fine-duplicate m c after u by handle access idle f;
 }
 
@@ -302,9 +306,49 @@ query-lawful handle = record {
   leads = λ m c u d w by known a used by_in other. leads-query m c u d w by known handle a used by_in other;
   hears = λ m c u w by d memo k owned n a all out. hears-query m c u w by d memo k owned n a all out handle;
   notes = λ m c u w by memo k owned n a all by_in. notes-query m c u w by memo k owned n a all by_in handle;
-  alike = λ k ps u by c. alike-query k ps u by handle c;
-  stands = λ k u by s c new. stands-query k u by handle s c new;
+  alike = λ k ps u by live agree c. alike-query k ps u by handle agree c;
+  stands = λ k u by live s c new. stands-query k u by handle s c new;
   fine = λ m c after u by idle f. fine-query m c after u by handle idle f;
+}
+
+register-lawful : (handle : ℕ) → Lawful (register_thread_terminate_port handle)
+register-lawful handle = record {
+  orderly = λ m c u w by k. orderly-register m c u w by handle k;
+  refuses = λ w by. refuses-register w by handle;
+  fair = λ m c w by known a. fair-register m c w by known handle a;
+  names = λ m c u w by k. names-register m c u w by handle k;
+  paths = λ m c w by all k. paths-register m c w by handle all k;
+  sent = λ u by s live. sends-register u by handle;
+  asked = λ m c w by a k. asked-register m c w by handle a k;
+  apart = λ m c u d w by known a used out. apart-register m c u d w by known handle a used out;
+  same = λ m c w by known a mine fine. same-register m c w by known handle a mine fine;
+  ours = λ m c w by known a mine. ours-register m c w by known handle a mine;
+  leads = λ m c u d w by known a used by_in other. leads-register m c u d w by known handle a used by_in other;
+  hears = λ m c u w by d memo k owned n a all out. hears-register m c u w by d memo k owned n a all out handle;
+  notes = λ m c u w by memo k owned n a all by_in. notes-register m c u w by memo k owned n a all by_in handle;
+  alike = λ k ps u by live agree c. alike-register k ps u by handle c;
+  stands = λ k u by live s c new. stands-register k u by handle s c new;
+  fine = λ m c after u by idle f. fine-register m c after u by handle idle f;
+}
+
+ends-lawful : (call : ScriptCall) (code : Status) (ts : World → ThreadRow → List ThreadRow) → EndsThreads call code ts → Lawful call
+ends-lawful call code ts e = record {
+  orderly = λ m c u w by k. orderly-ends call code ts e m c u w by k;
+  refuses = λ w by. e.refuses w by;
+  fair = λ m c w by known a. fair-ends call code ts e m c w by known a;
+  names = λ m c u w by k. names-ends call code ts e m c u w by k;
+  paths = λ m c w by all k. paths-ends call code ts e m c w by all k;
+  sent = λ u by s live. sends-ends call code ts e u by;
+  asked = λ m c w by a k. asked-ends call code ts e m c w by a k;
+  apart = λ m c u d w by known a used out. apart-ends call code ts e m c u d w by known a used out;
+  same = λ m c w by known a mine fine. same-ends call code ts e m c w by known a mine fine;
+  ours = λ m c w by known a mine. ours-ends call code ts e m c w by known a mine;
+  leads = λ m c u d w by known a used by_in other. leads-ends call code ts e m c u d w by known a used by_in other;
+  hears = λ m c u w by d memo k owned n a all out. hears-ends call code ts e m c u w by d memo k owned n a all out;
+  notes = λ m c u w by memo k owned n a all by_in. notes-ends call code ts e m c u w by memo k owned n a all by_in;
+  alike = λ k ps u by live agree c. alike-ends call code ts e k ps u by live agree c;
+  stands = λ k u by live s c new. stands-ends call code ts e k u by live s c new;
+  fine = λ m c after u by idle f. fine-ends call code ts e m c after u by idle f;
 }
 
 pub lawful : (call : ScriptCall) → Lawful call
@@ -320,6 +364,9 @@ lawful (reply_wait_receive_port handle message) = receive-lawful handle message
 lawful (close handle) = close-lawful handle
 lawful (duplicate_object handle access) = duplicate-lawful handle access
 lawful (query_object handle) = query-lawful handle
+lawful (register_thread_terminate_port handle) = register-lawful handle
+lawful (terminate_thread target code) = ends-lawful (terminate_thread target code) (code_status code) itself (thread-ends-it target code)
+lawful (terminate_process target code) = ends-lawful (terminate_process target code) (code_status code) all_live (process-ends-it target code)
 
 -- all that a call owes
 pub serves : (m : Group) (c : ℕ) (w : World) (by : ThreadRow) (known : List ℕ → Birth) (call : ScriptCall) → At m c w by known → (by.process ≡ c → is_fine_call m w call ≡ true) → Serves (leads_by m known) m c w by call

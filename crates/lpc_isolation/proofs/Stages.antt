@@ -3,7 +3,7 @@ use Rattle.std.proofs.Common.{◌≡◌, ℕ, List, [], ◌∷◌, ◌++◌, tru
 use Rattle.std.proofs.lemmas.List.Elements.{filter-append}
 use Rattle.lpc_base.proofs.RowWords.{every-append}
 use Rattle.lpc_model.specs.declared.entry.Entry.{Entry}
-use Rattle.lpc_model.specs.World.{Birth, ProcessRow, World}
+use Rattle.lpc_model.specs.World.{Birth, World}
 use Rattle.lpc_model.specs.Basics.{Basic, Steps, entries_of, world_after, ◌▹◌}
 use Rattle.lpc_model.proofs.SoundQueues.{after-append}
 use Rattle.lpc_model.specs.Circle.{Group, Whose}
@@ -19,7 +19,7 @@ use Rattle.lpc_isolation.proofs.Sent.{append-sent, are_sent}
 use Rattle.lpc_isolation.proofs.Asked.{Asked}
 use Rattle.lpc_isolation.proofs.Ids.{Numbered}
 use Rattle.lpc_isolation.proofs.Heard.{Heard, entries_memo, entry_memo}
-use Rattle.lpc_isolation.proofs.Thin.{Alive, Closed, all_joining, closed-run, thin, thin-run}
+use Rattle.lpc_isolation.proofs.Thin.{Alive, Closed, all_joining, closed-run, thin, thin-run, Lives}
 use Rattle.lpc_isolation.proofs.ThinCalls.{AreClosed}
 use Rattle.lpc_isolation.proofs.Mild.{AreLosses, AreMild, Sure, sure-losses}
 
@@ -37,7 +37,7 @@ pub record Good (m : Group) (c : ℕ) (b : Birth) (f : Steps) : Type 0 where
   pub led : (u : World) (d : Whose) (w : World) → Sure m c u w → m b.process ≡ true → Led m c u d w (f w) (f (view m w))
   pub same : (u w : World) → Sure m c u w → b.process ≡ c → f (view m w) ≡ f w
   -- where rows that nothing names have gone
-  pub alike : (k : Alive) (ps : List ProcessRow) (u : World) → Closed k u → k b ≡ true → f (thin k ps u) ≡ f u
+  pub alike : (k : Alive) (ps : Lives) (u : World) → Closed k u → k b ≡ true → f (thin k ps u) ≡ f u
   pub stands : (k : Alive) (u : World) → Closed k u → k b ≡ true → AreClosed k (f u)
 
 -- a stage, behind which all is as sure as before it

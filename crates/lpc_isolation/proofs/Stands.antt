@@ -12,7 +12,6 @@ use Rattle.lpc_model.specs.Connect.{ConnectAnswer, answer_test}
 use Rattle.lpc_model.specs.Lines.{ScriptCall, ScriptLine, boot, dir, link, run, thread}
 use Rattle.lpc_model.specs.Machine.{boot_line, dir_line, link_line, thread_line}
 use Rattle.lpc_isolation.proofs.Served.{served_step}
-use Rattle.lpc_model.specs.SoundWaits.{IsSoundWorld}
 use Rattle.lpc_model.proofs.Holding.{holds_ok}
 use Rattle.lpc_model.proofs.Usable.{live-number}
 use Rattle.lpc_model.specs.Circle.{Everyone, Group, Item, Of, is_fine_call, is_fine_line, is_seen, items, line_whose, owner}
@@ -37,6 +36,7 @@ use Rattle.lpc_model.specs.Found.{is_offered, names_wait}
 use Rattle.lpc_isolation.proofs.Accepts.{reached-of, reached-own}
 use Rattle.lpc_isolation.proofs.Heard.{Heard, entries_memo, entry_memo, line_memo}
 use Rattle.lpc_isolation.proofs.Knows.{AllKnown, known_queue, knows-queue}
+use Rattle.lpc_isolation.proofs.Firm.{Firm, firm-shut}
 
 -- a state: the view, and what is remembered of outsiders that asked
 pub record State : Type 0 where
@@ -84,7 +84,7 @@ pub record Kept (m : Group) (c : ℕ) (w : World) : Type 0 where
 -- what a state stands for: a world of a run in which the group is a circle of c
 pub record Stood (m : Group) (c : ℕ) (w : World) (s : State) : Type 0 where
   pub seen : s.seen ≡ view m w
-  pub sound : IsSoundWorld w
+  pub firm : Firm w
   pub kept : Kept m c w
   pub known : AllKnown m s.memo w
 
@@ -101,8 +101,9 @@ ready-at m c w s tid by c_in st fine live idle =
       c_in = c_in;
       fair = st.kept.fair;
       fine = fine;
-      sound = st.sound;
-      owned = owned-sound m c w st.kept.fair st.sound.waits;
+      sound = st.firm.sound;
+      shut = firm-shut w st.firm;
+      owned = owned-sound m c w st.kept.fair st.firm.sound.waits;
       names = seen-names m w.bindings st.kept.names;
       bound = st.kept.names;
       paths = st.kept.paths;
@@ -127,7 +128,7 @@ pub owes-line : (m : Group) (c : ℕ) (w : World) (s : State) (tid : ℕ) (call 
 owes-line m c w s tid call c_in st fine next line = at (live_thread w tid) refl
   where
     owned : Owned w w
-    owned = owned-sound m c w st.kept.fair st.sound.waits
+    owned = owned-sound m c w st.kept.fair st.firm.sound.waits
 
     ready : (by : ThreadRow) → live_thread w tid ≡ Some by → (o : Option WaitRow) → wait_of w tid ≡ o → Owes (leads_by m (known_queue s.memo)) m c w tid call
     ready by live (Some x) waits = owes-busy (leads_by m (known_queue s.memo)) m c w tid call by x c_in st.kept.fair owned live waits

@@ -9,18 +9,18 @@ use Rattle.lpc_base.proofs.RowWords.{every-more}
 use Rattle.lpc_base.proofs.RowMaps.{every-both}
 use Rattle.lpc_model.specs.declared.entry.Entry.{Entry}
 use Rattle.lpc_model.specs.declared.entry.Word.TheVariants as word
-use Rattle.lpc_model.specs.World.{Birth, HandleRow, HandleTable, ObjectName, PortRow, ProcessRow, ThreadRow, WaitRow, World}
-use Rattle.lpc_model.specs.Found.{handle_at, handle_count, live_thread, same_birth, wait_of}
+use Rattle.lpc_model.specs.World.{Birth, HandleRow, HandleTable, ObjectName, PortRow, ThreadRow, WaitRow, World}
+use Rattle.lpc_model.specs.Found.{handle_at, handle_count, live_thread, same_birth, wait_of, all_registrations}
 use Rattle.lpc_model.specs.Basics.{Basic, Frees, Tells, entries_of, told, world_after}
 use Rattle.lpc_model.specs.Tests.{next_birth, own_handle}
 use Rattle.lpc_model.specs.Named.{free_name, spelled_name}
-use Rattle.lpc_model.specs.Lines.{ScriptCall, ScriptLine, accept_connect_port, boot, close, complete_connect_port, connect_port, create_port, dir, duplicate_object, link, listen_port, query_object, reply_port, reply_wait_receive_port, request_port, request_wait_reply_port, run, thread}
+use Rattle.lpc_model.specs.Lines.{ScriptCall, ScriptLine, accept_connect_port, boot, close, complete_connect_port, connect_port, create_port, dir, duplicate_object, link, listen_port, query_object, reply_port, reply_wait_receive_port, request_port, request_wait_reply_port, run, thread, register_thread_terminate_port, terminate_thread, terminate_process}
 use Rattle.lpc_model.specs.Machine.{bare_step, bare_steps, boot_line, dir_line, link_line, name_of_call, ready_steps, service_of, settled, step, thread_line, thread_steps, thread_test, unused_test}
 use Rattle.lpc_isolation.proofs.Served.{query_steps, served, served_ready, served_step, served_steps, served_thread}
 use Rattle.lpc_model.specs.Sweep.{free_unheld, sweep, unheld}
 use Rattle.lpc_model.specs.SoundWaits.{IsSoundWorld}
-use Rattle.lpc_model.specs.Linked.{HasHeldPorts, IsLinked}
-use Rattle.lpc_model.specs.Standing.{NamesWhatStands, is_to_port}
+use Rattle.lpc_model.specs.Linked.{HasHeldPorts}
+use Rattle.lpc_model.specs.Standing.{is_to_port}
 use Rattle.lpc_model.specs.Counts.{counts_of, nt_query_object}
 use Rattle.lpc_model.specs.Fields.{object_fields}
 use Rattle.lpc_model.specs.Then.{◌>>=◌}
@@ -28,9 +28,8 @@ use Rattle.lpc_base.specs.declared.status.Status.{Status}
 use Rattle.lpc_base.specs.declared.status.TheConstants.{INVALID_HANDLE, SUCCESS}
 use Rattle.lpc_model.specs.declared.entry.CallName.TheVariants.{NtQueryObject}
 use Rattle.lpc_model.specs.declared.entry.Entry.TheVariants.{Answer}
-use Rattle.lpc_model.proofs.SoundLines.{line-sound, sound_step}
-use Rattle.lpc_model.proofs.LinkedLines.{held_step, line_linked, linked_step}
-use Rattle.lpc_model.proofs.StandingCalls.{found-to-port, names_step}
+use Rattle.lpc_model.proofs.LinkedLines.{held_step}
+use Rattle.lpc_model.proofs.StandingCalls.{found-to-port}
 use Rattle.lpc_model.proofs.Usable.{live-number}
 use Rattle.lpc_isolation.proofs.Seen.{bind-same}
 use Rattle.lpc_isolation.proofs.Sent.{Sent, are_sent, is_sent_home, run-sent}
@@ -39,29 +38,34 @@ use Rattle.lpc_model.proofs.Births.{birth-self}
 use Rattle.lpc_model.proofs.Holding.{bind_holds, directed_holds, found_ok, settled_holds}
 use Rattle.lpc_model.proofs.SoundQueues.{after-append}
 use Rattle.lpc_isolation.proofs.View.{both, one_of, other_of}
-use Rattle.lpc_isolation.proofs.Thin.{Alive, Behind, Closed, all_alive, all_joining, behind-sweep, closed-run, handle_closed, message_closed, port_alive, port_closed, port_cut, table_closed, thin, thin-run, wait_closed}
+use Rattle.lpc_isolation.proofs.Thin.{Agree, agree-run, is_live-thin, live-thin, threads-thin, Alive, Behind, Closed, all_alive, all_joining, behind-sweep, closed-run, handle_closed, message_closed, port_alive, port_closed, port_cut, table_closed, thin, thin-run, wait_closed, Lives}
 use Rattle.lpc_isolation.proofs.ThinCalls.{AreClosed, row-thin}
+use Rattle.lpc_isolation.proofs.Firm.{Firm, firm-line, firm-step}
 
 -- Lines
-ready-thin : (k : Alive) (ps : List ProcessRow) (u : World) (by : ThreadRow) (call : ScriptCall) (o : Option WaitRow) → Closed k u → served_ready by call o (thin k ps u) ≡ served_ready by call o u
-ready-thin k ps u by call (Some x) c = refl
-ready-thin k ps u by call None c = ap (settled by (name_of_call call)) ((lawful call).alike k ps u by c)
+ready-thin : (k : Alive) (ps : Lives) (u : World) (by : ThreadRow) (call : ScriptCall) (o : Option WaitRow) → live_thread u by.number ≡ Some by → Agree ps u → Closed k u → served_ready by call o (thin k ps u) ≡ served_ready by call o u
+ready-thin k ps u by call (Some x) live agree c = refl
+ready-thin k ps u by call None live agree c = ap (settled by (name_of_call call)) ((lawful call).alike k ps u by live agree c)
 
-thread-thin : (k : Alive) (ps : List ProcessRow) (u : World) (tid : ℕ) (call : ScriptCall) (o : Option ThreadRow) → Closed k u → served_thread tid call o (thin k ps u) ≡ served_thread tid call o u
-thread-thin k ps u tid call None c = refl
-thread-thin k ps u tid call (Some by) c = ready-thin k ps u by call (wait_of u tid) c
+-- a thread that is found by its number
+own-live : (u : World) (tid : ℕ) (by : ThreadRow) → live_thread u tid ≡ Some by → live_thread u by.number ≡ Some by
+own-live u tid by live = subst (λ n. live_thread u n ≡ Some by) (sym (live-number u tid by live)) live
 
-pub line-thin : (k : Alive) (ps : List ProcessRow) (u : World) (line : ScriptLine) → Closed k u → served_steps line (thin k ps u) ≡ served_steps line u
+thread-thin : (k : Alive) (ps : Lives) (u : World) (tid : ℕ) (call : ScriptCall) (o : Option ThreadRow) → live_thread u tid ≡ o → Agree ps u → Closed k u → served_thread tid call o (thin k ps u) ≡ served_thread tid call o u
+thread-thin k ps u tid call None live agree c = refl
+thread-thin k ps u tid call (Some by) live agree c = ready-thin k ps u by call (wait_of u tid) (own-live u tid by live) agree c
+
+pub line-thin : (k : Alive) (ps : Lives) (u : World) (line : ScriptLine) → Agree ps u → Closed k u → served_steps line (thin k ps u) ≡ served_steps line u
 unfolding bare_steps boot_line thread_line dir_line link_line
-line-thin k ps u (boot pid tid) c = refl
-line-thin k ps u (thread tid pid) c = refl
-line-thin k ps u (dir path) c = refl
-line-thin k ps u (link path target) c = refl
-line-thin k ps u (run tid call) c = thread-thin k ps u tid call (live_thread u tid) c
+line-thin k ps u (boot pid tid) agree c = refl
+line-thin k ps u (thread tid pid) agree c = rw (is_live-thin k ps u pid agree, threads-thin k ps u pid agree) refl
+line-thin k ps u (dir path) agree c = refl
+line-thin k ps u (link path target) agree c = refl
+line-thin k ps u (run tid call) agree c = ap (λ o. served_thread tid call o (thin k ps u)) (live-thin k ps u tid agree) ∙ thread-thin k ps u tid call (live_thread u tid) refl agree c
 
-ready-closed : (k : Alive) (u : World) (by : ThreadRow) (call : ScriptCall) (o : Option WaitRow) → IsSoundWorld u → Closed k u → k (next_birth by) ≡ true → AreClosed k (served_ready by call o u)
-ready-closed k u by call (Some x) s c new = refl
-ready-closed k u by call None s c new = settled_holds (AreClosed k) by (name_of_call call) (served u by call) ((lawful call).stands k u by s c new) (λ _ _. refl)
+ready-closed : (k : Alive) (u : World) (by : ThreadRow) (call : ScriptCall) (o : Option WaitRow) → live_thread u by.number ≡ Some by → IsSoundWorld u → Closed k u → k (next_birth by) ≡ true → AreClosed k (served_ready by call o u)
+ready-closed k u by call (Some x) live s c new = refl
+ready-closed k u by call None live s c new = settled_holds (AreClosed k) by (name_of_call call) (served u by call) ((lawful call).stands k u by live s c new) (λ _ _. refl)
 
 -- the births that a line may use are alive with the others
 abbrev pub and : Birth → Alive → Alive
@@ -96,7 +100,7 @@ and-closed k u n new c = record {
   ports = every-two (port_closed k) (is_new n) (port_closed (and n k)) (port-more k n) u.ports c.ports new;
   messages = every-more (message_closed k) (message_closed (and n k)) (λ x is. more k n x.sender is) u.messages c.messages;
   waits = every-more (wait_closed k) (wait_closed (and n k)) (λ x is. more k n x.port is) u.waits c.waits;
-  lives = c.lives;
+  registrations = every-more k (and n k) (λ b is. more k n b is) (all_registrations u) c.registrations;
   cuts = every-more (port_cut k) (port_cut (and n k)) (λ p is. grind arith) u.ports c.cuts;
 }
   where
@@ -108,28 +112,28 @@ and-rows : (k : Alive) (n : Birth) (ps : List PortRow) → every (is_new n) ps �
 and-rows k n [] new = refl
 and-rows k n (p ∷ ps) new = grind (arith, and-rows k n ps)
 
-and-thin : (k : Alive) (ps : List ProcessRow) (u : World) (n : Birth) → every (is_new n) u.ports ≡ true → thin (and n k) ps u ≡ thin k ps u
-and-thin k ps u n new = ap (λ ports. record u { processes = ps; ports = ports }) (and-rows k n u.ports new)
+and-thin : (k : Alive) (ps : Lives) (u : World) (n : Birth) → every (is_new n) u.ports ≡ true → thin (and n k) ps u ≡ thin k ps u
+and-thin k ps u n new = ap (λ ports. record u { processes = ps.processes; threads = ps.threads; ports = ports }) (and-rows k n u.ports new)
 
 -- a line names what is alive, where what its thread makes next is
-record Ready (k : Alive) (ps : List ProcessRow) (u : World) (line : ScriptLine) : Type 0 where
+record Ready (k : Alive) (ps : Lives) (u : World) (line : ScriptLine) : Type 0 where
   alive : Alive
   same : thin k ps u ≡ thin alive ps u
   closed : Closed alive u
   names : AreClosed alive (served_steps line u)
 
-run-ready : (k : Alive) (ps : List ProcessRow) (u : World) (tid : ℕ) (call : ScriptCall) (o : Option ThreadRow) → live_thread u tid ≡ o → served_steps (run tid call) u ≡ served_thread tid call o u → IsSoundWorld u → Closed k u → Ready k ps u (run tid call)
+run-ready : (k : Alive) (ps : Lives) (u : World) (tid : ℕ) (call : ScriptCall) (o : Option ThreadRow) → live_thread u tid ≡ o → served_steps (run tid call) u ≡ served_thread tid call o u → IsSoundWorld u → Closed k u → Ready k ps u (run tid call)
 run-ready k ps u tid call None live is s c = record { alive = k; same = refl; closed = c; names = subst (AreClosed k) (sym is) refl }
 run-ready k ps u tid call (Some by) live is s c =
     let n : Birth = next_birth by in
     let new = next-new u tid by s live in
     let closed = and-closed k u n new c in
-    record { alive = and n k; same = sym (and-thin k ps u n new); closed = closed; names = subst (AreClosed (and n k)) (sym is) (ready-closed (and n k) u by call (wait_of u tid) s closed (self k n)) }
+    record { alive = and n k; same = sym (and-thin k ps u n new); closed = closed; names = subst (AreClosed (and n k)) (sym is) (ready-closed (and n k) u by call (wait_of u tid) (own-live u tid by live) s closed (self k n)) }
   where
     self : (k : Alive) (n : Birth) → and n k n ≡ true
     self k n = rw (birth-self n) (grind arith)
 
-line-ready : (k : Alive) (ps : List ProcessRow) (u : World) (line : ScriptLine) → IsSoundWorld u → Closed k u → Ready k ps u line
+line-ready : (k : Alive) (ps : Lives) (u : World) (line : ScriptLine) → IsSoundWorld u → Closed k u → Ready k ps u line
 unfolding bare_steps boot_line thread_line dir_line link_line
 line-ready k ps u (boot pid tid) s c = record { alive = k; same = refl; closed = c; names = directed_holds (AreClosed k) word.Boot (boot_line u pid tid) (bind_holds (unused_test u pid tid) _ (AreClosed k) (λ _ _. refl)) (λ _. refl) }
 line-ready k ps u (thread tid pid) s c = record { alive = k; same = refl; closed = c; names = directed_holds (AreClosed k) word.Thread (thread_line u tid pid) (bind_holds (thread_test u tid pid) _ (AreClosed k) (λ _ _. refl)) (λ _. refl) }
@@ -157,6 +161,9 @@ call-held w by (reply_port handle message) h = refl
 call-held w by (reply_wait_receive_port handle reply) h = refl
 call-held w by (close handle) h = refl
 call-held w by (duplicate_object handle access) h = refl
+call-held w by (register_thread_terminate_port handle) h = refl
+call-held w by (terminate_thread target code) h = refl
+call-held w by (terminate_process target code) h = refl
 
 thread-held : (w : World) (tid : ℕ) (call : ScriptCall) (o : Option ThreadRow) → Held w → thread_steps tid call o w ≡ served_thread tid call o w
 thread-held w tid call None h = refl
@@ -196,6 +203,9 @@ call-world u by (reply_port handle message) = refl
 call-world u by (reply_wait_receive_port handle reply) = refl
 call-world u by (close handle) = refl
 call-world u by (duplicate_object handle access) = refl
+call-world u by (register_thread_terminate_port handle) = refl
+call-world u by (terminate_thread target code) = refl
+call-world u by (terminate_process target code) = refl
 
 thread-world : (u : World) (tid : ℕ) (call : ScriptCall) (o : Option ThreadRow) → world_after u (served_thread tid call o u) ≡ world_after u (thread_steps tid call o u)
 thread-world u tid call None = refl
@@ -213,8 +223,8 @@ served-world u (dir path) = refl
 served-world u (link path target) = refl
 served-world u (run tid call) = thread-world u tid call (live_thread u tid)
 
-pub served-sound : (u : World) (line : ScriptLine) → IsSoundWorld u → IsSoundWorld (served_step u line).world
-served-sound u line s = subst IsSoundWorld (sym (served-world u line)) (line-sound u line s)
+pub served-firm : (u : World) (line : ScriptLine) → Firm u → Firm (served_step u line).world
+served-firm u line f = subst Firm (sym (served-world u line)) (firm-line u line f)
 
 -- What a line sends
 thread-sends : (u : World) (tid : ℕ) (call : ScriptCall) (o : Option ThreadRow) → live_thread u tid ≡ o → IsSoundWorld u → are_sent u (served_thread tid call o u) ≡ true
@@ -222,7 +232,7 @@ thread-sends u tid call None live s = refl
 thread-sends u tid call (Some by) live s = at (wait_of u tid)
   where
     own : live_thread u by.number ≡ Some by
-    own = subst (λ n. live_thread u n ≡ Some by) (sym (live-number u tid by live)) live
+    own = own-live u tid by live
 
     at : (o : Option WaitRow) → are_sent u (served_ready by call o u) ≡ true
     at (Some x) = refl
@@ -237,17 +247,15 @@ line-sends u (link path target) s = directed_holds (λ bs. are_sent u bs ≡ tru
 line-sends u (run tid call) s = thread-sends u tid call (live_thread u tid) refl s
 
 -- where rows have gone, a message still was sent on a port that stands
-sent-thin : (k : Alive) (ps : List ProcessRow) (u : World) → Closed k u → Sent u → Sent (thin k ps u)
+sent-thin : (k : Alive) (ps : Lives) (u : World) → Closed k u → Sent u → Sent (thin k ps u)
 sent-thin k ps u c sent = every-both (message_closed k) (is_sent_home u) (is_sent_home (thin k ps u)) (λ x live home. rw (row-thin k ps u x.sender live) home) u.messages c.messages sent
 
 -- One line, in the two worlds
 -- a world between two lines, and that of the machine whose rows never go
 pub record Sides (w u : World) : Type 0 where
-  pub sound : IsSoundWorld w
-  pub linked : IsLinked w
+  pub firm : Firm w
   pub ports : HasHeldPorts w
-  pub names : NamesWhatStands w
-  pub bare_sound : IsSoundWorld u
+  pub bare : Firm u
   pub sent : Sent u
   pub behind : Behind w u
 
@@ -259,12 +267,10 @@ pub line-behind : (w u : World) (line : ScriptLine) → Sides w u → InStep w u
 line-behind w u line t = record {
   same = same;
   sides = record {
-    sound = sound_step w line t.sound;
-    linked = linked_step w line t.sound t.linked;
-    ports = (held_step w line t.sound t.linked).ports;
-    names = names_step w line t.sound t.linked t.names;
-    bare_sound = served-sound u line t.bare_sound;
-    sent = run-sent u (served_steps line u) (line-sends u line t.bare_sound) t.sent;
+    firm = firm-step w line t.firm;
+    ports = (held_step w line t.firm.sound t.firm.linked).ports;
+    bare = served-firm u line t.bare;
+    sent = run-sent u (served_steps line u) (line-sends u line t.bare.sound) t.sent;
     behind = swept;
   };
 }
@@ -273,28 +279,29 @@ line-behind w u line t = record {
     r = t.behind
 
     ready : Ready r.alive r.stood u line
-    ready = line-ready r.alive r.stood u line t.bare_sound r.closed
+    ready = line-ready r.alive r.stood u line t.bare.sound r.closed
 
     here : w ≡ thin ready.alive r.stood u
     here = r.same ∙ ready.same
 
     held : Held w
-    held = record { linked = t.linked; ports = t.ports; names = t.names; sent = subst Sent (sym r.same) (sent-thin r.alive r.stood u r.closed t.sent) }
+    held = record { linked = t.firm.linked; ports = t.ports; names = t.firm.names; sent = subst Sent (sym r.same) (sent-thin r.alive r.stood u r.closed t.sent) }
 
     same : bare_steps line w ≡ served_steps line u
-    same = line-held w line held ∙ ap (served_steps line) here ∙ line-thin ready.alive r.stood u line ready.closed
+    same = line-held w line held ∙ ap (served_steps line) here ∙ line-thin ready.alive r.stood u line r.agree ready.closed
 
     bare : Behind (world_after w (bare_steps line w)) (served_step u line).world
     bare = record {
       alive = ready.alive;
       stood = all_joining r.stood (served_steps line u);
+      agree = agree-run ready.alive r.stood u (served_steps line u) ready.names r.agree;
       same = ap (λ bs. world_after w bs) same ∙ ap (λ v. world_after v (served_steps line u)) here ∙ sym (thin-run ready.alive r.stood u (served_steps line u) ready.names);
       closed = closed-run ready.alive u (served_steps line u) ready.names ready.closed;
     }
 
     swept : Behind (step w line).world (served_step u line).world
     swept = subst (λ v. Behind v (served_step u line).world) (sym (after-append w (bare_steps line w) (sweep (world_after w (bare_steps line w)))))
-        (behind-sweep (world_after w (bare_steps line w)) (served_step u line).world (line-sound w line t.sound) (line_linked w line t.sound t.linked) bare)
+        (let f = firm-line w line t.firm in behind-sweep (world_after w (bare_steps line w)) (served_step u line).world f.sound f.linked bare)
 
 -- the sweep tells nothing
 entries-append : (bs cs : List Basic) → entries_of (bs ++ cs) ≡ entries_of bs ++ entries_of cs

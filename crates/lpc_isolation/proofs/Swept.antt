@@ -8,38 +8,36 @@ use Rattle.lpc_base.specs.Rows.{passes, which}
 use Rattle.lpc_model.specs.declared.entry.Entry.{Entry}
 use Rattle.lpc_model.specs.declared.entry.Entry.TheVariants as entry
 use Rattle.lpc_model.specs.declared.entry.Word.TheVariants as word
-use Rattle.lpc_model.specs.World.{ProcessRow, ThreadRow, WaitRow, World, no_rows}
+use Rattle.lpc_model.specs.World.{ThreadRow, WaitRow, World, no_rows}
 use Rattle.lpc_model.specs.Found.{live_thread, wait_of}
 use Rattle.lpc_model.specs.Named.{free_name, spelled_name}
-use Rattle.lpc_model.specs.Lines.{ScriptCall, ScriptLine, accept_connect_port, boot, close, complete_connect_port, connect_port, create_port, dir, duplicate_object, link, listen_port, query_object, reply_port, reply_wait_receive_port, request_port, request_wait_reply_port, run, thread}
+use Rattle.lpc_model.specs.Lines.{ScriptCall, ScriptLine, accept_connect_port, boot, close, complete_connect_port, connect_port, create_port, dir, duplicate_object, link, listen_port, query_object, reply_port, reply_wait_receive_port, request_port, request_wait_reply_port, run, thread, register_thread_terminate_port, terminate_thread, terminate_process}
 use Rattle.lpc_model.specs.Machine.{bare_steps, boot_line, dir_line, link_line, name_of_call, step, thread_line, thread_test, unused_test}
 use Rattle.lpc_isolation.proofs.Served.{served, served_ready, served_step, served_steps, served_thread}
 use Rattle.lpc_model.specs.Run.{Along, said_in, world_behind}
-use Rattle.lpc_model.proofs.SoundLines.{sound_none}
-use Rattle.lpc_model.proofs.LinkedLines.{linked_none}
-use Rattle.lpc_model.proofs.StandingCalls.{names_none}
 use Rattle.lpc_model.specs.Circle.{Event, Everyone, Group, IsCircleIn, IsFineAt, IsFineWorld, Isolation, Nobody, Of, Ran, Told, Whose, entry_whose, events, inputs, is_fine_call, is_fine_line, is_item, is_seen, item_of, items, line_events, line_whose, members, owner, told_event}
 use Rattle.lpc_isolation.proofs.Alone.{HasFinePorts, alone}
 use Rattle.lpc_isolation.proofs.Bare.{BareIsolation, IsBareCircle, bare_events, bare_line_events}
 use Rattle.lpc_model.proofs.Holding.{bind_holds, directed_holds, settled_holds}
 use Rattle.lpc_model.proofs.Usable.{live-number}
 use Rattle.lpc_isolation.proofs.BareLaw.{bare-isolation}
-use Rattle.lpc_isolation.proofs.Thin.{Alive, Behind, thin}
+use Rattle.lpc_isolation.proofs.Thin.{Alive, Behind, thin, Lives}
 use Rattle.lpc_isolation.proofs.Sweeps.{InStep, Sides, entries-same, line-behind}
+use Rattle.lpc_isolation.proofs.Firm.{firm_none}
 
 -- What happens is the same
 map-same : {X Y : Type 0} (f g : X → Y) → ((x : X) → f x ≡ g x) → (xs : List X) → map f xs ≡ map g xs
 map-same f g same [] = refl
 map-same f g same (x ∷ xs) = rw (same x, map-same f g same xs) refl
 
-whose-thin : (k : Alive) (ps : List ProcessRow) (u : World) (line : ScriptLine) → line_whose (thin k ps u) line ≡ line_whose u line
+whose-thin : (k : Alive) (ps : Lives) (u : World) (line : ScriptLine) → line_whose (thin k ps u) line ≡ line_whose u line
 whose-thin k ps u (boot pid tid) = refl
 whose-thin k ps u (thread tid pid) = refl
 whose-thin k ps u (dir path) = refl
 whose-thin k ps u (link path target) = refl
 whose-thin k ps u (run tid call) = refl
 
-entry-thin : (k : Alive) (ps : List ProcessRow) (u : World) (d : Whose) (e : Entry) → entry_whose (thin k ps u) d e ≡ entry_whose u d e
+entry-thin : (k : Alive) (ps : Lives) (u : World) (d : Whose) (e : Entry) → entry_whose (thin k ps u) d e ≡ entry_whose u d e
 entry-thin k ps u d (entry.Answer tid call status fields) = refl
 entry-thin k ps u d (entry.Waits tid call fields) = refl
 entry-thin k ps u d (entry.Wakes tid call status fields) = refl
@@ -83,7 +81,7 @@ line-fine m c after u (link path target) f = λ _. directed_holds (AreFine m c) 
 line-fine m c after u (run tid call) f = thread-fine m c after u tid call (live_thread u tid) refl f
 
 -- The circle is one in the run whose rows never go
-call-inside : (m : Group) (k : Alive) (ps : List ProcessRow) (u : World) (call : ScriptCall) → is_fine_call m (thin k ps u) call ≡ is_fine_call m u call
+call-inside : (m : Group) (k : Alive) (ps : Lives) (u : World) (call : ScriptCall) → is_fine_call m (thin k ps u) call ≡ is_fine_call m u call
 call-inside m k ps u (create_port None) = refl
 call-inside m k ps u (create_port (Some name)) = refl
 call-inside m k ps u (connect_port name info) = refl
@@ -98,8 +96,11 @@ call-inside m k ps u (reply_wait_receive_port handle (Some message)) = refl
 call-inside m k ps u (close handle) = refl
 call-inside m k ps u (duplicate_object handle access) = refl
 call-inside m k ps u (query_object handle) = refl
+call-inside m k ps u (register_thread_terminate_port handle) = refl
+call-inside m k ps u (terminate_thread target code) = refl
+call-inside m k ps u (terminate_process target code) = refl
 
-line-inside : (m : Group) (c : ℕ) (k : Alive) (ps : List ProcessRow) (u : World) (line : ScriptLine) → is_fine_line m c (thin k ps u) line ≡ is_fine_line m c u line
+line-inside : (m : Group) (c : ℕ) (k : Alive) (ps : Lives) (u : World) (line : ScriptLine) → is_fine_line m c (thin k ps u) line ≡ is_fine_line m c u line
 line-inside m c k ps u (boot pid tid) = refl
 line-inside m c k ps u (thread tid pid) = refl
 line-inside m c k ps u (dir path) = refl
@@ -128,10 +129,10 @@ circle-same m c w u (Some line ∷ later) t fine along last =
 
 -- The law
 behind_none : Behind no_rows no_rows
-behind_none = record { alive = λ b. true; stood = []; same = refl; closed = record { tables = refl; ports = refl; messages = refl; waits = refl; lives = refl; cuts = refl } }
+behind_none = record { alive = λ b. true; stood = record { processes = []; threads = [] }; agree = refl; same = refl; closed = record { tables = refl; ports = refl; messages = refl; waits = refl; registrations = refl; cuts = refl } }
 
 sides_none : Sides no_rows no_rows
-sides_none = record { sound = sound_none; linked = linked_none; ports = refl; names = names_none; bare_sound = sound_none; sent = refl; behind = behind_none }
+sides_none = record { firm = firm_none; ports = refl; bare = firm_none; sent = refl; behind = behind_none }
 
 -- the items of a list of one process are those of that process alone
 one-member : (c pid : ℕ) → members (c ∷ []) pid ≡ alone c pid

@@ -1,14 +1,14 @@
 -- A world without some rows that no other row names: what each basic step and the sweep do to it.
 use Rattle.std.proofs.Common.{◌≡◌, ℕ, List, [], ◌∷◌, ◌++◌, Bool, true, false, not, map, Option, Some, None, refl, ap, sym, subst, ◌∙◌, arith}
-use Rattle.std.specs.Prelude.{◌&&◌, ◌||◌, ◌+◌, nat_lt}
-use Rattle.lpc_base.specs.Rows.{count, each, every, has, which, without}
+use Rattle.std.specs.Prelude.{◌&&◌, ◌||◌, ◌+◌, nat_lt, is_some}
+use Rattle.lpc_base.specs.Rows.{count, each, every, has, which, without, change, first}
 use Rattle.lpc_base.proofs.RowWords.{every-change, every-more, every-off, every-push, every-without}
 use Rattle.lpc_base.proofs.RowMaps.{every-both, every-without_first}
 use Rattle.lpc_model.specs.declared.entry.ObjectKind.{ObjectKind}
 use Rattle.lpc_model.specs.declared.entry.ObjectKind.TheVariants as kind
 use Rattle.lpc_model.specs.World.{Birth, HandleRow, HandleTable, MessageRow, ObjectName, PortRow, ProcessRow, ThreadRow, WaitRow, World}
-use Rattle.lpc_model.specs.Found.{all_handles, handle_count, has_value, is_connected_to, is_cut, is_life, is_made_on, is_own_of, is_paired_to, is_port, is_queued, is_sent_on, is_table, is_the, is_thread, port_name, same_birth, same_kind, same_object, thread_name, waits_as, waits_at}
-use Rattle.lpc_model.specs.Basics.{Accepts, AddsHandle, AddsProcess, AddsThread, Awaits, Basic, Binds, Completes, Cuts, DrawsIdentifier, DrawsOrdinal, DropsHandle, Empties, Enters, Frees, Joins, Makes, Receives, Takes, TakesConnect, Tells, Unbinds, Wakes, Withdraws, accepted, basic, completed, cut, freed, is_end_of, joined, no_handles, past_identifier, past_ordinal, received, with_handle, without_handle, world_after}
+use Rattle.lpc_model.specs.Found.{all_handles, handle_count, has_value, is_connected_to, is_cut, is_life, is_made_on, is_own_of, is_paired_to, is_port, is_queued, is_sent_on, is_table, is_the, is_thread, port_name, same_birth, same_kind, same_object, thread_name, waits_as, waits_at, all_registrations, registered_by, live_thread, live_threads, is_live, is_live_thread, lives_in}
+use Rattle.lpc_model.specs.Basics.{Accepts, AddsHandle, AddsProcess, AddsThread, Awaits, Basic, Binds, Completes, Cuts, DrawsIdentifier, DrawsOrdinal, DropsHandle, Empties, Enters, Frees, Joins, Makes, Receives, Takes, TakesConnect, Tells, Unbinds, Wakes, Withdraws, accepted, basic, completed, cut, freed, is_end_of, joined, no_handles, past_identifier, past_ordinal, received, with_handle, without_handle, world_after, Dies, Registers, Unregisters, ended, registering, unregistering}
 use Rattle.lpc_model.specs.Sweep.{free_unheld, is_unheld, sweep, unheld}
 use Rattle.lpc_model.proofs.Births.{birth-same}
 use Rattle.lpc_model.specs.SoundWaits.{IsSoundWorld}
@@ -17,7 +17,11 @@ use Rattle.lpc_model.proofs.LinkedJoins.{gone-linked}
 use Rattle.lpc_model.proofs.Swept.{lonely}
 use Rattle.lpc_model.proofs.SoundFrees.{freed-sound, is-zero, less-held, none-pass, sum-first, sum-second, which-all}
 use Rattle.lpc_model.proofs.SoundQueues.{after-append}
-use Rattle.lpc_isolation.proofs.Filters.{kept-change, kept-push}
+use Rattle.lpc_model.proofs.Registrations.{all-pushed, all-changed, registering-all, unregistering-all}
+use Rattle.std.proofs.lemmas.List.Elements.{filter-append}
+use Rattle.lpc_message.specs.declared.message.ClientId.{ClientId}
+use Rattle.lpc_model.specs.Tests.{client_test}
+use Rattle.lpc_isolation.proofs.Filters.{count-inside, first-inside, kept-change, kept-push}
 use Rattle.lpc_isolation.proofs.View.{both, one_of, other_of}
 
 -- the births of the ports that rows still name
@@ -27,9 +31,22 @@ Alive = Birth → Bool
 abbrev pub port_alive : Alive → PortRow → Bool
 port_alive k p = k p.birth
 
--- The world without the others' rows, and with some processes: no call reads those, so it is no matter which have gone.
-abbrev pub thin : Alive → List ProcessRow → World → World
-thin k ps u = record u { processes = ps; ports = which (port_alive k) u.ports }
+-- the processes and threads that stand
+pub record Lives : Type 0 where
+  pub processes : List ProcessRow
+  pub threads : List ThreadRow
+
+-- The world without the others' rows, and with some processes and threads: no call reads processes, nor threads that have ended, so it
+-- is no matter which of those have gone.
+abbrev pub thin : Alive → Lives → World → World
+thin k ps u = record u { processes = ps.processes; threads = ps.threads; ports = which (port_alive k) u.ports }
+
+-- the threads that live stand
+abbrev pub living : List ThreadRow → List ThreadRow
+living ts = which (λ t. t.live) ts
+
+abbrev pub Agree : Lives → World → Type 0
+Agree ps u = living ps.threads ≡ living u.threads
 
 -- what a row names is alive
 abbrev pub all_alive : Alive → Option Birth → Bool
@@ -37,7 +54,7 @@ all_alive k None = true
 all_alive k (Some b) = k b
 
 abbrev pub object_alive : Alive → ObjectName → Bool
-object_alive k o = not (same_kind o.kind kind.Port) || k o.birth
+object_alive k o = same_kind o.kind kind.Port && k o.birth
 
 abbrev pub handle_closed : Alive → HandleRow → Bool
 handle_closed k h = object_alive k h.object
@@ -58,13 +75,13 @@ wait_closed k x = k x.port
 abbrev pub port_cut : Alive → PortRow → Bool
 port_cut k p = k p.birth || is_cut p
 
--- what the rows that stand name, stands; and each thread lives
+-- what the rows that stand name, stands, and so does what live threads registered; handles name ports alone
 pub record Closed (k : Alive) (u : World) : Type 0 where
   pub tables : every (table_closed k) u.handles ≡ true
   pub ports : every (port_closed k) u.ports ≡ true
   pub messages : every (message_closed k) u.messages ≡ true
   pub waits : every (wait_closed k) u.waits ≡ true
-  pub lives : every (λ t. t.live) u.threads ≡ true
+  pub registrations : every k (all_registrations u) ≡ true
   pub cuts : every (port_cut k) u.ports ≡ true
 
 -- a step that names what is alive alone
@@ -83,8 +100,11 @@ is_closed k (Takes q) = true
 is_closed k (TakesConnect q) = true
 is_closed k (DrawsIdentifier who) = true
 is_closed k (DrawsOrdinal who) = true
+is_closed k (Dies who status) = true
+is_closed k (Registers who b) = k b
+is_closed k (Unregisters who b) = true
 is_closed k (AddsProcess p) = true
-is_closed k (AddsThread t) = t.live
+is_closed k (AddsThread t) = every k (registered_by t)
 is_closed k (Completes b) = true
 is_closed k (Withdraws who) = true
 is_closed k (Frees o) = false
@@ -134,16 +154,22 @@ joined-alive k client server context p = at (is_port client p) (is_port server p
     at false true is it = rw (is, it) refl
     at false false is it = rw (is, it) refl
 
--- the processes that stand, behind a step
-abbrev pub joining : List ProcessRow → Basic → List ProcessRow
-joining ps (AddsProcess p) = ps ++ p ∷ []
+-- the processes and threads that stand, behind a step
+abbrev pub joining : Lives → Basic → Lives
+joining ps (AddsProcess p) = record ps { processes = ps.processes ++ p ∷ [] }
+joining ps (AddsThread t) = record ps { threads = ps.threads ++ t ∷ [] }
+joining ps (Dies who status) = record ps { threads = change (is_thread who) ended ps.threads }
+joining ps (DrawsIdentifier who) = record ps { threads = change (is_thread who) past_identifier ps.threads }
+joining ps (DrawsOrdinal who) = record ps { threads = change (is_thread who) past_ordinal ps.threads }
+joining ps (Registers who b) = record ps { threads = change (is_thread who) (registering b) ps.threads }
+joining ps (Unregisters who b) = record ps { threads = change (is_thread who) (unregistering b) ps.threads }
 joining ps b = ps
 
-abbrev pub all_joining : List ProcessRow → List Basic → List ProcessRow
+abbrev pub all_joining : Lives → List Basic → Lives
 all_joining ps [] = ps
 all_joining ps (b ∷ bs) = all_joining (joining ps b) bs
 
-pub thin-basic : (k : Alive) (ps : List ProcessRow) (u : World) (b : Basic) → is_closed k b ≡ true → thin k (joining ps b) (basic u b) ≡ basic (thin k ps u) b
+pub thin-basic : (k : Alive) (ps : Lives) (u : World) (b : Basic) → is_closed k b ≡ true → thin k (joining ps b) (basic u b) ≡ basic (thin k ps u) b
 thin-basic k ps u (Makes p) ok = rw (kept-push (port_alive k) u.ports p (one_of _ _ ok)) refl
 thin-basic k ps u (Joins client server context) ok = rw (which-map (port_alive k) (joined client server context) (joined-alive k client server context) u.ports) refl
 thin-basic k ps u (Completes b) ok = rw (kept-change (port_alive k) (is_port b) completed (λ p. refl) u.ports) refl
@@ -165,6 +191,9 @@ thin-basic k ps u (TakesConnect q) ok = refl
 thin-basic k ps u (Withdraws who) ok = refl
 thin-basic k ps u (DrawsIdentifier who) ok = refl
 thin-basic k ps u (DrawsOrdinal who) ok = refl
+thin-basic k ps u (Dies who status) ok = refl
+thin-basic k ps u (Registers who b) ok = refl
+thin-basic k ps u (Unregisters who b) ok = refl
 thin-basic k ps u (AddsProcess p) ok = refl
 thin-basic k ps u (AddsThread t) ok = refl
 
@@ -193,31 +222,102 @@ joined-cut k client server context one two p ok = at (is_port client p) (is_port
     at false false is it = rw (is, it) ok
 
 pub keeps-closed : (k : Alive) (u : World) (b : Basic) → is_closed k b ≡ true → Closed k u → Closed k (basic u b)
-keeps-closed k u (Awaits x) ok c = record { tables = c.tables; ports = c.ports; messages = c.messages; waits = every-push (wait_closed k) u.waits x c.waits ok; lives = c.lives; cuts = c.cuts }
-keeps-closed k u (Enters x) ok c = record { tables = c.tables; ports = c.ports; messages = every-push (message_closed k) u.messages x c.messages ok; waits = c.waits; lives = c.lives; cuts = c.cuts }
-keeps-closed k u (Makes p) ok c = record { tables = c.tables; ports = every-push (port_closed k) u.ports p c.ports (other_of _ _ ok); messages = c.messages; waits = c.waits; lives = c.lives; cuts = every-push (port_cut k) u.ports p c.cuts (or-first (k p.birth) (is_cut p) (one_of _ _ ok)) }
-keeps-closed k u (Joins client server context) ok c = record { tables = c.tables; ports = every-mapped (port_closed k) (joined client server context) (joined-closed k client server context (one_of _ _ ok) (other_of _ _ ok)) u.ports c.ports; messages = c.messages; waits = c.waits; lives = c.lives; cuts = every-mapped (port_cut k) (joined client server context) (joined-cut k client server context (one_of _ _ ok) (other_of _ _ ok)) u.ports c.cuts }
-keeps-closed k u (Binds path node) ok c = record { tables = c.tables; ports = c.ports; messages = c.messages; waits = c.waits; lives = c.lives; cuts = c.cuts }
-keeps-closed k u (AddsHandle pid h) ok c = record { tables = every-change (table_closed k) (is_table pid) (with_handle h) (λ t all. put-closed k h t ok all) u.handles c.tables; ports = c.ports; messages = c.messages; waits = c.waits; lives = c.lives; cuts = c.cuts }
-keeps-closed k u (Empties q) ok c = record { tables = c.tables; ports = c.ports; messages = every-without (message_closed k) (is_queued q) u.messages c.messages; waits = c.waits; lives = c.lives; cuts = c.cuts }
-keeps-closed k u (Cuts b) ok c = record { tables = c.tables; ports = every-change (port_closed k) (is_end_of b) cut (λ p is. grind arith) u.ports c.ports; messages = c.messages; waits = c.waits; lives = c.lives; cuts = every-change (port_cut k) (is_end_of b) cut (λ p is. grind arith) u.ports c.cuts }
-keeps-closed k u (Unbinds b) ok c = record { tables = c.tables; ports = c.ports; messages = c.messages; waits = c.waits; lives = c.lives; cuts = c.cuts }
-keeps-closed k u (DropsHandle pid value) ok c = record { tables = every-change (table_closed k) (is_table pid) (without_handle value) (λ t all. every-without_first (handle_closed k) (has_value value) t.rows all) u.handles c.tables; ports = c.ports; messages = c.messages; waits = c.waits; lives = c.lives; cuts = c.cuts }
-keeps-closed k u (AddsProcess p) ok c = record { tables = every-push (table_closed k) u.handles (no_handles p.number) c.tables refl; ports = c.ports; messages = c.messages; waits = c.waits; lives = c.lives; cuts = c.cuts }
-keeps-closed k u (AddsThread t) ok c = record { tables = c.tables; ports = c.ports; messages = c.messages; waits = c.waits; lives = every-push (λ t. t.live) u.threads t c.lives ok; cuts = c.cuts }
-keeps-closed k u (Wakes who call status fields) ok c = record { tables = c.tables; ports = c.ports; messages = c.messages; waits = every-without (wait_closed k) (waits_as who) u.waits c.waits; lives = c.lives; cuts = c.cuts }
-keeps-closed k u (Receives who q) ok c = record { tables = c.tables; ports = c.ports; messages = c.messages; waits = every-change (wait_closed k) (waits_at who q) received (λ x is. is) u.waits c.waits; lives = c.lives; cuts = c.cuts }
-keeps-closed k u (Accepts who reply) ok c = record { tables = c.tables; ports = c.ports; messages = c.messages; waits = every-change (wait_closed k) (waits_as who) (accepted reply) (λ x is. is) u.waits c.waits; lives = c.lives; cuts = c.cuts }
-keeps-closed k u (Takes q) ok c = record { tables = c.tables; ports = c.ports; messages = every-without_first (message_closed k) _ u.messages c.messages; waits = c.waits; lives = c.lives; cuts = c.cuts }
-keeps-closed k u (TakesConnect q) ok c = record { tables = c.tables; ports = c.ports; messages = every-without_first (message_closed k) _ u.messages c.messages; waits = c.waits; lives = c.lives; cuts = c.cuts }
-keeps-closed k u (Withdraws who) ok c = record { tables = c.tables; ports = c.ports; messages = every-without (message_closed k) (is_own_of who) u.messages c.messages; waits = c.waits; lives = c.lives; cuts = c.cuts }
-keeps-closed k u (Completes b) ok c = record { tables = c.tables; ports = every-change (port_closed k) (is_port b) completed (λ p is. is) u.ports c.ports; messages = c.messages; waits = c.waits; lives = c.lives; cuts = every-change (port_cut k) (is_port b) completed (λ p is. is) u.ports c.cuts }
-keeps-closed k u (DrawsIdentifier who) ok c = record { tables = c.tables; ports = c.ports; messages = c.messages; waits = c.waits; lives = every-change (λ t. t.live) (is_thread who) past_identifier (λ t is. is) u.threads c.lives; cuts = c.cuts }
-keeps-closed k u (DrawsOrdinal who) ok c = record { tables = c.tables; ports = c.ports; messages = c.messages; waits = c.waits; lives = every-change (λ t. t.live) (is_thread who) past_ordinal (λ t is. is) u.threads c.lives; cuts = c.cuts }
+keeps-closed k u (Awaits x) ok c = record { tables = c.tables; ports = c.ports; messages = c.messages; waits = every-push (wait_closed k) u.waits x c.waits ok; registrations = c.registrations; cuts = c.cuts }
+keeps-closed k u (Enters x) ok c = record { tables = c.tables; ports = c.ports; messages = every-push (message_closed k) u.messages x c.messages ok; waits = c.waits; registrations = c.registrations; cuts = c.cuts }
+keeps-closed k u (Makes p) ok c = record { tables = c.tables; ports = every-push (port_closed k) u.ports p c.ports (other_of _ _ ok); messages = c.messages; waits = c.waits; registrations = c.registrations; cuts = every-push (port_cut k) u.ports p c.cuts (or-first (k p.birth) (is_cut p) (one_of _ _ ok)) }
+keeps-closed k u (Joins client server context) ok c = record { tables = c.tables; ports = every-mapped (port_closed k) (joined client server context) (joined-closed k client server context (one_of _ _ ok) (other_of _ _ ok)) u.ports c.ports; messages = c.messages; waits = c.waits; registrations = c.registrations; cuts = every-mapped (port_cut k) (joined client server context) (joined-cut k client server context (one_of _ _ ok) (other_of _ _ ok)) u.ports c.cuts }
+keeps-closed k u (Binds path node) ok c = record { tables = c.tables; ports = c.ports; messages = c.messages; waits = c.waits; registrations = c.registrations; cuts = c.cuts }
+keeps-closed k u (AddsHandle pid h) ok c = record { tables = every-change (table_closed k) (is_table pid) (with_handle h) (λ t all. put-closed k h t ok all) u.handles c.tables; ports = c.ports; messages = c.messages; waits = c.waits; registrations = c.registrations; cuts = c.cuts }
+keeps-closed k u (Empties q) ok c = record { tables = c.tables; ports = c.ports; messages = every-without (message_closed k) (is_queued q) u.messages c.messages; waits = c.waits; registrations = c.registrations; cuts = c.cuts }
+keeps-closed k u (Cuts b) ok c = record { tables = c.tables; ports = every-change (port_closed k) (is_end_of b) cut (λ p is. grind arith) u.ports c.ports; messages = c.messages; waits = c.waits; registrations = c.registrations; cuts = every-change (port_cut k) (is_end_of b) cut (λ p is. grind arith) u.ports c.cuts }
+keeps-closed k u (Unbinds b) ok c = record { tables = c.tables; ports = c.ports; messages = c.messages; waits = c.waits; registrations = c.registrations; cuts = c.cuts }
+keeps-closed k u (DropsHandle pid value) ok c = record { tables = every-change (table_closed k) (is_table pid) (without_handle value) (λ t all. every-without_first (handle_closed k) (has_value value) t.rows all) u.handles c.tables; ports = c.ports; messages = c.messages; waits = c.waits; registrations = c.registrations; cuts = c.cuts }
+keeps-closed k u (AddsProcess p) ok c = record { tables = every-push (table_closed k) u.handles (no_handles p.number) c.tables refl; ports = c.ports; messages = c.messages; waits = c.waits; registrations = c.registrations; cuts = c.cuts }
+keeps-closed k u (AddsThread t) ok c = record { tables = c.tables; ports = c.ports; messages = c.messages; waits = c.waits; registrations = all-pushed k u.threads t ok c.registrations; cuts = c.cuts }
+keeps-closed k u (Wakes who call status fields) ok c = record { tables = c.tables; ports = c.ports; messages = c.messages; waits = every-without (wait_closed k) (waits_as who) u.waits c.waits; registrations = c.registrations; cuts = c.cuts }
+keeps-closed k u (Receives who q) ok c = record { tables = c.tables; ports = c.ports; messages = c.messages; waits = every-change (wait_closed k) (waits_at who q) received (λ x is. is) u.waits c.waits; registrations = c.registrations; cuts = c.cuts }
+keeps-closed k u (Accepts who reply) ok c = record { tables = c.tables; ports = c.ports; messages = c.messages; waits = every-change (wait_closed k) (waits_as who) (accepted reply) (λ x is. is) u.waits c.waits; registrations = c.registrations; cuts = c.cuts }
+keeps-closed k u (Takes q) ok c = record { tables = c.tables; ports = c.ports; messages = every-without_first (message_closed k) _ u.messages c.messages; waits = c.waits; registrations = c.registrations; cuts = c.cuts }
+keeps-closed k u (TakesConnect q) ok c = record { tables = c.tables; ports = c.ports; messages = every-without_first (message_closed k) _ u.messages c.messages; waits = c.waits; registrations = c.registrations; cuts = c.cuts }
+keeps-closed k u (Withdraws who) ok c = record { tables = c.tables; ports = c.ports; messages = every-without (message_closed k) (is_own_of who) u.messages c.messages; waits = c.waits; registrations = c.registrations; cuts = c.cuts }
+keeps-closed k u (Completes b) ok c = record { tables = c.tables; ports = every-change (port_closed k) (is_port b) completed (λ p is. is) u.ports c.ports; messages = c.messages; waits = c.waits; registrations = c.registrations; cuts = every-change (port_cut k) (is_port b) completed (λ p is. is) u.ports c.cuts }
+keeps-closed k u (DrawsIdentifier who) ok c = record { tables = c.tables; ports = c.ports; messages = c.messages; waits = c.waits; registrations = all-changed k (is_thread who) past_identifier (λ t is. is) u.threads c.registrations; cuts = c.cuts }
+keeps-closed k u (DrawsOrdinal who) ok c = record { tables = c.tables; ports = c.ports; messages = c.messages; waits = c.waits; registrations = all-changed k (is_thread who) past_ordinal (λ t is. is) u.threads c.registrations; cuts = c.cuts }
+keeps-closed k u (Dies who status) ok c = record { tables = c.tables; ports = c.ports; messages = c.messages; waits = every-without (wait_closed k) (waits_as who) u.waits c.waits; registrations = all-changed k (is_thread who) ended (λ t is. refl) u.threads c.registrations; cuts = c.cuts }
+keeps-closed k u (Registers who b) ok c = record { tables = c.tables; ports = c.ports; messages = c.messages; waits = c.waits; registrations = all-changed k (is_thread who) (registering b) (registering-all k b ok) u.threads c.registrations; cuts = c.cuts }
+keeps-closed k u (Unregisters who b) ok c = record { tables = c.tables; ports = c.ports; messages = c.messages; waits = c.waits; registrations = all-changed k (is_thread who) (unregistering b) (unregistering-all k b) u.threads c.registrations; cuts = c.cuts }
 keeps-closed k u (Tells e) ok c = c
 keeps-closed k u (Frees o) ok c = absurd (cc)
 
-pub thin-run : (k : Alive) (ps : List ProcessRow) (u : World) (bs : List Basic) → every (is_closed k) bs ≡ true → thin k (all_joining ps bs) (world_after u bs) ≡ world_after (thin k ps u) bs
+-- The threads that live
+live-ended : (who : ℕ) (ts : List ThreadRow) → living (change (is_thread who) ended ts) ≡ without (is_thread who) (living ts)
+live-ended who [] = refl
+live-ended who (t ∷ ts) = grind (arith, live-ended who ts)
+
+live-changed : (who : ℕ) (f : ThreadRow → ThreadRow) → ((t : ThreadRow) → (f t).live ≡ t.live) → (ps : Lives) (u : World) → Agree ps u → living (change (is_thread who) f ps.threads) ≡ living (change (is_thread who) f u.threads)
+live-changed who f same ps u agree =
+    kept-change (λ t. t.live) (is_thread who) f same ps.threads ∙ ap (change (is_thread who) f) agree ∙ sym (kept-change (λ t. t.live) (is_thread who) f same u.threads)
+
+live-pushed : (t : ThreadRow) (ps : Lives) (u : World) → Agree ps u → living (ps.threads ++ t ∷ []) ≡ living (u.threads ++ t ∷ [])
+live-pushed t ps u agree = filter-append (λ t. t.live) ps.threads (t ∷ []) ∙ ap (λ ts. ts ++ living (t ∷ [])) agree ∙ sym (filter-append (λ t. t.live) u.threads (t ∷ []))
+
+agree-basic : (k : Alive) (ps : Lives) (u : World) (b : Basic) → is_closed k b ≡ true → Agree ps u → Agree (joining ps b) (basic u b)
+agree-basic k ps u (AddsThread t) ok agree = live-pushed t ps u agree
+agree-basic k ps u (Dies who status) ok agree = live-ended who ps.threads ∙ ap (without (is_thread who)) agree ∙ sym (live-ended who u.threads)
+agree-basic k ps u (DrawsIdentifier who) ok agree = live-changed who past_identifier (λ t. refl) ps u agree
+agree-basic k ps u (DrawsOrdinal who) ok agree = live-changed who past_ordinal (λ t. refl) ps u agree
+agree-basic k ps u (Registers who b) ok agree = live-changed who (registering b) (λ t. refl) ps u agree
+agree-basic k ps u (Unregisters who b) ok agree = live-changed who (unregistering b) (λ t. refl) ps u agree
+agree-basic k ps u (AddsProcess p) ok agree = agree
+agree-basic k ps u (Tells e) ok agree = agree
+agree-basic k ps u (Wakes who call status fields) ok agree = agree
+agree-basic k ps u (Awaits x) ok agree = agree
+agree-basic k ps u (Receives who q) ok agree = agree
+agree-basic k ps u (Accepts who reply) ok agree = agree
+agree-basic k ps u (Enters x) ok agree = agree
+agree-basic k ps u (Takes q) ok agree = agree
+agree-basic k ps u (TakesConnect q) ok agree = agree
+agree-basic k ps u (Withdraws who) ok agree = agree
+agree-basic k ps u (Empties q) ok agree = agree
+agree-basic k ps u (Makes p) ok agree = agree
+agree-basic k ps u (Joins client server context) ok agree = agree
+agree-basic k ps u (Completes b) ok agree = agree
+agree-basic k ps u (Cuts b) ok agree = agree
+agree-basic k ps u (Binds path node) ok agree = agree
+agree-basic k ps u (Unbinds b) ok agree = agree
+agree-basic k ps u (AddsHandle pid h) ok agree = agree
+agree-basic k ps u (DropsHandle pid value) ok agree = agree
+agree-basic k ps u (Frees o) ok agree = absurd (cc)
+
+pub agree-run : (k : Alive) (ps : Lives) (u : World) (bs : List Basic) → every (is_closed k) bs ≡ true → Agree ps u → Agree (all_joining ps bs) (world_after u bs)
+agree-run k ps u [] ok agree = agree
+agree-run k ps u (b ∷ bs) ok agree = agree-run k (joining ps b) (basic u b) bs (other_of _ _ ok) (agree-basic k ps u b (one_of _ _ ok) agree)
+
+-- what is found of the threads that live
+pub live-thin : (k : Alive) (ps : Lives) (u : World) (tid : ℕ) → Agree ps u → live_thread (thin k ps u) tid ≡ live_thread u tid
+live-thin k ps u tid agree = sym (first-inside (λ t. t.live) (is_live_thread tid) (λ t is. other_of _ _ is) ps.threads) ∙ ap (first (is_live_thread tid)) agree ∙ first-inside (λ t. t.live) (is_live_thread tid) (λ t is. other_of _ _ is) u.threads
+
+pub threads-thin : (k : Alive) (ps : Lives) (u : World) (pid : ℕ) → Agree ps u → live_threads (thin k ps u) pid ≡ live_threads u pid
+threads-thin k ps u pid agree = sym (count-inside (λ t. t.live) (lives_in pid) (λ t is. other_of _ _ is) ps.threads) ∙ ap (which (lives_in pid)) agree ∙ count-inside (λ t. t.live) (lives_in pid) (λ t is. other_of _ _ is) u.threads
+
+pub is_live-thin : (k : Alive) (ps : Lives) (u : World) (pid : ℕ) → Agree ps u → is_live (thin k ps u) pid ≡ is_live u pid
+is_live-thin k ps u pid agree = ap is_some (sym (first-inside (λ t. t.live) (lives_in pid) (λ t is. other_of _ _ is) ps.threads) ∙ ap (first (lives_in pid)) agree ∙ first-inside (λ t. t.live) (lives_in pid) (λ t is. other_of _ _ is) u.threads)
+
+pub client-thin : (k : Alive) (ps : Lives) (u : World) (client : ClientId) → Agree ps u → client_test (thin k ps u) client ≡ client_test u client
+client-thin k ps u client agree = rw (live-thin k ps u client.thread agree) refl
+
+registered-live : (ts : List ThreadRow) → each registered_by (living ts) ≡ each registered_by ts
+registered-live [] = refl
+registered-live (t ∷ ts) = at t.live refl (registered-live ts)
+  where
+    at : (e : Bool) → t.live ≡ e → each registered_by (living ts) ≡ each registered_by ts → each registered_by (living (t ∷ ts)) ≡ each registered_by (t ∷ ts)
+    at true is rest = rw is (ap (λ bs. t.registrations ++ bs) rest)
+    at false is rest = rw is rest
+
+pub registered-thin : (k : Alive) (ps : Lives) (u : World) → Agree ps u → all_registrations (thin k ps u) ≡ all_registrations u
+registered-thin k ps u agree = sym (registered-live ps.threads) ∙ ap (each registered_by) agree ∙ registered-live u.threads
+
+pub thin-run : (k : Alive) (ps : Lives) (u : World) (bs : List Basic) → every (is_closed k) bs ≡ true → thin k (all_joining ps bs) (world_after u bs) ≡ world_after (thin k ps u) bs
 thin-run k ps u [] ok = refl
 thin-run k ps u (b ∷ bs) ok = thin-run k (joining ps b) (basic u b) bs (other_of _ _ ok) ∙ ap (λ v. world_after v bs) (thin-basic k ps u b (one_of _ _ ok))
 
@@ -229,7 +329,8 @@ closed-run k u (b ∷ bs) ok c = closed-run k (basic u b) bs (other_of _ _ ok) (
 -- a world from which rows have gone is this one without them
 pub record Behind (w u : World) : Type 0 where
   pub alive : Alive
-  pub stood : List ProcessRow
+  pub stood : Lives
+  pub agree : Agree stood u
   pub same : w ≡ thin alive stood u
   pub closed : Closed alive u
 
@@ -263,6 +364,7 @@ record Unnamed (b : Birth) (w : World) : Type 0 where
   connections : every (λ p. not (is_connected_to b p)) w.ports ≡ true
   messages : every (λ x. not (is_sent_on b x)) w.messages ≡ true
   waits : every (λ x. not (is_made_on b x)) w.waits ≡ true
+  registrations : every (λ c. not (same_birth b c)) (all_registrations w) ≡ true
 
 unnamed-of : (w : World) (b : Birth) → is_unheld w (port_name b) ≡ true → Unnamed b w
 unnamed-of w b none =
@@ -271,16 +373,19 @@ unnamed-of w b none =
     let connections = count (is_connected_to b) w.ports in
     let messages = count (is_sent_on b) w.messages in
     let waits = count (is_made_on b) w.waits in
-    let all = is-zero (handles + (pairs + (connections + (messages + waits)))) none in
-    let two = sum-second handles (pairs + (connections + (messages + waits))) all in
-    let three = sum-second pairs (connections + (messages + waits)) two in
-    let four = sum-second connections (messages + waits) three in
+    let registered = count (same_birth b) (all_registrations w) in
+    let all = is-zero (handles + (pairs + (connections + (messages + (waits + registered))))) none in
+    let two = sum-second handles (pairs + (connections + (messages + (waits + registered)))) all in
+    let three = sum-second pairs (connections + (messages + (waits + registered))) two in
+    let four = sum-second connections (messages + (waits + registered)) three in
+    let five = sum-second messages (waits + registered) four in
     record {
-      handles = every-each (λ h. not (same_object h.object (port_name b))) (λ t. t.rows) w.handles (none-pass (λ h. same_object h.object (port_name b)) (all_handles w) (sum-first handles (pairs + (connections + (messages + waits))) all));
-      pairs = none-pass (is_paired_to b) w.ports (sum-first pairs (connections + (messages + waits)) two);
-      connections = none-pass (is_connected_to b) w.ports (sum-first connections (messages + waits) three);
-      messages = none-pass (is_sent_on b) w.messages (sum-first messages waits four);
-      waits = none-pass (is_made_on b) w.waits (sum-second messages waits four);
+      handles = every-each (λ h. not (same_object h.object (port_name b))) (λ t. t.rows) w.handles (none-pass (λ h. same_object h.object (port_name b)) (all_handles w) (sum-first handles (pairs + (connections + (messages + (waits + registered)))) all));
+      pairs = none-pass (is_paired_to b) w.ports (sum-first pairs (connections + (messages + (waits + registered))) two);
+      connections = none-pass (is_connected_to b) w.ports (sum-first connections (messages + (waits + registered)) three);
+      messages = none-pass (is_sent_on b) w.messages (sum-first messages (waits + registered) four);
+      waits = none-pass (is_made_on b) w.waits (sum-first waits registered five);
+      registrations = none-pass (same_birth b) (all_registrations w) (sum-second waits registered five);
     }
 
 handle-off : (k : Alive) (b : Birth) (h : HandleRow) → handle_closed k h ≡ true → not (same_object h.object (port_name b)) ≡ true → handle_closed (but b k) h ≡ true
@@ -315,22 +420,25 @@ cut-but : (k : Alive) (b : Birth) (ps : List PortRow) → every (is_lonely b) (w
 cut-but k b [] lonely cuts = refl
 cut-but k b (p ∷ ps) lonely cuts = grind (arith, cut-but k b ps)
 
-pub frees-one : (k : Alive) (ps : List ProcessRow) (u : World) (b : Birth) → is_unheld (thin k ps u) (port_name b) ≡ true → every (is_lonely b) (thin k ps u).ports ≡ true → Closed k u → Closed (but b k) u
-frees-one k ps u b none lonely c =
+pub frees-one : (k : Alive) (ps : Lives) (u : World) (b : Birth) → Agree ps u → is_unheld (thin k ps u) (port_name b) ≡ true → every (is_lonely b) (thin k ps u).ports ≡ true → Closed k u → Closed (but b k) u
+frees-one k ps u b agree none lonely c =
     let n = unnamed-of (thin k ps u) b none in
     record {
       tables = every-both (table_closed k) (λ t. every (λ h. not (same_object h.object (port_name b))) t.rows) (table_closed (but b k)) (table-off k b) u.handles c.tables n.handles;
       ports = every-both (port_closed k) (λ p. not (k p.birth) || (not (is_paired_to b p) && not (is_connected_to b p))) (port_closed (but b k)) (port-off k b) u.ports c.ports (of-kept (port_alive k) (is_paired_to b) (is_connected_to b) u.ports n.pairs n.connections);
       messages = every-both (message_closed k) (λ x. not (is_sent_on b x)) (message_closed (but b k)) (λ x ok off. grind arith) u.messages c.messages n.messages;
       waits = every-both (wait_closed k) (λ x. not (is_made_on b x)) (wait_closed (but b k)) (λ x ok off. grind arith) u.waits c.waits n.waits;
-      lives = c.lives;
+      registrations = every-both k (λ c. not (same_birth b c)) (but b k) (λ c live off. both _ _ live (rw (swap b c (not-of (same_birth b c) off)) refl)) (all_registrations u) c.registrations (rw (registered-thin k ps u agree) at n.registrations);
       cuts = cut-but k b u.ports lonely c.cuts;
     }
+  where
+    not-of : (e : Bool) → not e ≡ true → e ≡ false
+    not-of e is = grind arith
 
--- each thread lives, so no row of a thread goes
-lives-stay : (b : Birth) (ts : List ThreadRow) → every (λ t. t.live) ts ≡ true → every (λ t. not (is_life b t)) ts ≡ true → without (λ t. same_birth t.birth b) ts ≡ ts
-lives-stay b [] lives none = refl
-lives-stay b (t ∷ ts) lives none = grind (arith, lives-stay b ts)
+-- where a row of a thread goes, no thread of that birth lives
+lives-stay : (b : Birth) (ts : List ThreadRow) → every (λ t. not (is_life b t)) ts ≡ true → living (without (λ t. same_birth t.birth b) ts) ≡ living ts
+lives-stay b [] none = refl
+lives-stay b (t ∷ ts) none = grind (arith, lives-stay b ts)
 
 lonely-at : (w : World) (b : Birth) → IsLinked w → is_unheld w (port_name b) ≡ true → every (is_lonely b) w.ports ≡ true
 lonely-at w b l none = every-more (λ p. not (is_unheld w (port_name p.birth)) || is_cut p) (is_lonely b) (λ p is. at p (is_port b p) refl is) w.ports (lonely w l)
@@ -346,19 +454,25 @@ behind-one w u o l none r = at o.kind o.birth (subst (λ v. IsLinked v) r.same l
     at kind.Port b linked off = record {
       alive = but b r.alive;
       stood = r.stood;
-      same = ap (λ v. freed v kind.Port b) r.same ∙ ap (λ ps. record u { processes = r.stood; ports = ps }) (sym (which-but (port_alive r.alive) (is_port b) u.ports));
-      closed = frees-one r.alive r.stood u b off (lonely-at (thin r.alive r.stood u) b linked off) r.closed;
+      agree = r.agree;
+      same = ap (λ v. freed v kind.Port b) r.same ∙ ap (λ ps. record u { processes = r.stood.processes; threads = r.stood.threads; ports = ps }) (sym (which-but (port_alive r.alive) (is_port b) u.ports));
+      closed = frees-one r.alive r.stood u b r.agree off (lonely-at (thin r.alive r.stood u) b linked off) r.closed;
     }
     at kind.Section b linked off = r
     at kind.Token b linked off = r
-    at kind.Process b linked off = record { alive = r.alive; stood = without (λ p. same_birth p.birth b) r.stood; same = ap (λ v. freed v kind.Process b) r.same; closed = r.closed }
+    at kind.Process b linked off = record { alive = r.alive; stood = record { processes = without (λ p. same_birth p.birth b) r.stood.processes; threads = r.stood.threads }; agree = r.agree; same = ap (λ v. freed v kind.Process b) r.same; closed = r.closed }
     at kind.Thread b linked off =
         let v : World = thin r.alive r.stood u in
         let handles = handle_count v (thread_name b) in
-        let lives = count (is_life b) u.threads in
+        let lives = count (is_life b) r.stood.threads in
         let few = sum-second handles lives (is-zero (handles + lives) off) in
-        let stay = lives-stay b u.threads r.closed.lives (none-pass (is_life b) u.threads few) in
-        record { alive = r.alive; stood = r.stood; same = ap (λ v. freed v kind.Thread b) r.same ∙ ap (λ ts. record v { threads = ts }) stay; closed = r.closed }
+        record {
+          alive = r.alive;
+          stood = record { processes = r.stood.processes; threads = without (λ t. same_birth t.birth b) r.stood.threads };
+          agree = lives-stay b r.stood.threads (none-pass (is_life b) r.stood.threads few) ∙ r.agree;
+          same = ap (λ v. freed v kind.Thread b) r.same;
+          closed = r.closed;
+        }
 
 behind-all : (w u : World) (os : List ObjectName) → IsSoundWorld w → IsLinked w → every (is_unheld w) os ≡ true → Behind w u → Behind (world_after w (map Frees os)) u
 behind-all w u [] s l all r = r

@@ -18,7 +18,7 @@ use Rattle.lpc_model.specs.declared.message.Message.{Message}
 use Rattle.lpc_model.specs.Message.{asks, message_test}
 use Rattle.lpc_model.specs.Refusal.{found_or, refuse_if}
 use Rattle.lpc_model.specs.Then.{◌>>=◌}
-use Rattle.lpc_model.specs.World.{Accepted, Birth, Connect, HandleRow, HandleTable, Listen, MessageRow, PortRow, ProcessRow, Receive, Request, ThreadRow, WaitKind, WaitRow, World}
+use Rattle.lpc_model.specs.World.{Accepted, Birth, Connect, HandleRow, HandleTable, Listen, MessageRow, PortRow, Receive, Request, ThreadRow, WaitKind, WaitRow, World}
 use Rattle.lpc_model.specs.Found.{fits, fitted, free_handle, handle_at, handles_of, has_handle_to, has_value, is_connection_port, is_offered, is_open, is_port, is_queued, is_queued_connect, is_server_port, is_table, names_port, port_row, route, rows_in, same_kind}
 use Rattle.lpc_model.specs.Basics.{Basic, world_after}
 use Rattle.lpc_model.specs.Named.{as_status, named_port, port_found}
@@ -35,10 +35,10 @@ use Rattle.lpc_isolation.proofs.Filters.{first-inside}
 use Rattle.lpc_isolation.proofs.View.{both, one_of, other_of}
 use Rattle.lpc_isolation.proofs.Create.{made-holds}
 use Rattle.lpc_isolation.proofs.Connects.{on-connect}
-use Rattle.lpc_isolation.proofs.Thin.{Alive, Closed, all_alive, handle_closed, is_closed, message_closed, port_alive, port_closed, table_closed, thin, wait_closed}
+use Rattle.lpc_isolation.proofs.Thin.{Agree, client-thin, Alive, Closed, all_alive, handle_closed, is_closed, message_closed, port_alive, port_closed, table_closed, thin, wait_closed, Lives}
 
 -- Look-ups
-pub row-thin : (k : Alive) (ps : List ProcessRow) (u : World) (b : Birth) → k b ≡ true → port_row (thin k ps u) b ≡ port_row u b
+pub row-thin : (k : Alive) (ps : Lives) (u : World) (b : Birth) → k b ≡ true → port_row (thin k ps u) b ≡ port_row u b
 row-thin k ps u b live = first-inside (port_alive k) (is_port b) (λ p its. ap k (birth-same p.birth b its) ∙ live) u.ports
 
 pub rows-closed : (k : Alive) (pid : ℕ) (ts : List HandleTable) (o : Option HandleTable) → first (is_table pid) ts ≡ o → every (table_closed k) ts ≡ true → every (handle_closed k) (rows_in o) ≡ true
@@ -71,7 +71,7 @@ port-stands k u by value c =
     let same : p.birth ≡ b = birth-same p.birth b (first-passes (is_port b) u.ports p row) in
     stands-of k p (ap k same ∙ holds_ok (λ b. k b ≡ true) (object_test u by kind.Port _ value) b (object-is k u by _ value c) at) (every-first (port_closed k) (is_port b) u.ports p c.ports row)))
 
-pub port-thin : (k : Alive) (ps : List ProcessRow) (u : World) (by : ThreadRow) (value : ℕ) → Closed k u → port_test (thin k ps u) by value ≡ port_test u by value
+pub port-thin : (k : Alive) (ps : Lives) (u : World) (by : ThreadRow) (value : ℕ) → Closed k u → port_test (thin k ps u) by value ≡ port_test u by value
 port-thin k ps u by value c =
     bind-same (object_test u by kind.Port _ value) (λ b. found_or (port_row (thin k ps u) b) INVALID_HANDLE) (λ b. found_or (port_row u b) INVALID_HANDLE)
     (λ b at. ap (λ o. found_or o INVALID_HANDLE) (row-thin k ps u b (holds_ok (λ b. k b ≡ true) (object_test u by kind.Port _ value) b (object-is k u by _ value c) at)))
@@ -80,7 +80,7 @@ first-same : {X : Type 0} (p f g : X → Bool) → ((x : X) → p x ≡ true →
 first-same p f g same [] all = refl
 first-same p f g same (x ∷ xs) all = grind (arith, same x, first-same p f g same xs)
 
-pub fitted-thin : (k : Alive) (ps : List ProcessRow) (u : World) (port : Birth) (m : Message) → Closed k u → fitted (thin k ps u) port m ≡ fitted u port m
+pub fitted-thin : (k : Alive) (ps : Lives) (u : World) (port : Birth) (m : Message) → Closed k u → fitted (thin k ps u) port m ≡ fitted u port m
 fitted-thin k ps u port m c = first-same (wait_closed k) (fits (thin k ps u) port m) (fits u port m) (λ x closed. rw (row-thin k ps u x.port closed) refl) u.waits c.waits
 
 -- a port that is open stands, and so does one that a name leads to
@@ -146,7 +146,7 @@ taken-closed k x true asked = (rw asked refl, rw asked refl)
 taken-closed k x false asked = (rw asked refl, rw asked refl)
 
 -- Each call: it answers alike, and names what stands
-pub create-thin : (k : Alive) (ps : List ProcessRow) (u : World) (by : ThreadRow) (name : Option (List ℕ)) → nt_create_port (thin k ps u) by name ≡ nt_create_port u by name
+pub create-thin : (k : Alive) (ps : Lives) (u : World) (by : ThreadRow) (name : Option (List ℕ)) → nt_create_port (thin k ps u) by name ≡ nt_create_port u by name
 unfolding nt_create_port
 create-thin k ps u by None = refl
 create-thin k ps u by (Some name) = refl
@@ -154,7 +154,7 @@ create-thin k ps u by (Some name) = refl
 pub create-closed : (k : Alive) (u : World) (by : ThreadRow) (name : Option (List ℕ)) → k (next_birth by) ≡ true → Holds (AreClosed k) (nt_create_port u by name)
 create-closed k u by name new = made-holds (AreClosed k) u by name (λ value. rw new refl) (λ path value. rw new refl)
 
-pub connect-thin : (k : Alive) (ps : List ProcessRow) (u : World) (by : ThreadRow) (name bytes : List ℕ) → nt_connect_port (thin k ps u) by name bytes ≡ nt_connect_port u by name bytes
+pub connect-thin : (k : Alive) (ps : Lives) (u : World) (by : ThreadRow) (name bytes : List ℕ) → nt_connect_port (thin k ps u) by name bytes ≡ nt_connect_port u by name bytes
 unfolding nt_connect_port
 connect-thin k ps u by name bytes = refl
 
@@ -167,7 +167,7 @@ listened-closed : (k : Alive) (by : ThreadRow) (port : Birth) (o : Option Messag
 listened-closed k by port None live = rw live refl
 listened-closed k by port (Some x) live = (taken-closed k x (asks x.message) refl).1
 
-pub listen-thin : (k : Alive) (ps : List ProcessRow) (u : World) (by : ThreadRow) (handle : ℕ) → Closed k u → nt_listen_port (thin k ps u) by handle ≡ nt_listen_port u by handle
+pub listen-thin : (k : Alive) (ps : Lives) (u : World) (by : ThreadRow) (handle : ℕ) → Closed k u → nt_listen_port (thin k ps u) by handle ≡ nt_listen_port u by handle
 unfolding nt_listen_port
 listen-thin k ps u by handle c = rw (port-thin k ps u by handle c) refl
 
@@ -199,10 +199,13 @@ answered-live k u by bytes s c =
     let opens = offered-opens u x x.kind refl (grind arith) (every-first (is_sound_wait u) (names_connect u by m) u.waits x s.waits found) in
     both _ _ (every-first (wait_closed k) (names_connect u by m) u.waits x c.waits found) (open-live k x.queue u.handles c.tables opens))))
 
-pub accept-thin : (k : Alive) (ps : List ProcessRow) (u : World) (by : ThreadRow) (context : ℕ) (bytes : List ℕ) (accept : Bool) → nt_accept_connect_port (thin k ps u) by context bytes accept ≡ nt_accept_connect_port u by context bytes accept
+answer-thin : (k : Alive) (ps : Lives) (u : World) (by : ThreadRow) (bytes : List ℕ) → Agree ps u → answer_test (thin k ps u) by bytes ≡ answer_test u by bytes
+answer-thin k ps u by bytes agree = bind-same (message_test bytes) _ _ (λ m _. rw (client-thin k ps u m.header.client agree) refl)
+
+pub accept-thin : (k : Alive) (ps : Lives) (u : World) (by : ThreadRow) (context : ℕ) (bytes : List ℕ) (accept : Bool) → Agree ps u → nt_accept_connect_port (thin k ps u) by context bytes accept ≡ nt_accept_connect_port u by context bytes accept
 unfolding nt_accept_connect_port
-accept-thin k ps u by context bytes true = refl
-accept-thin k ps u by context bytes false = refl
+accept-thin k ps u by context bytes true agree = rw (answer-thin k ps u by bytes agree) refl
+accept-thin k ps u by context bytes false agree = rw (answer-thin k ps u by bytes agree) refl
 
 accepted-closed : (k : Alive) (by : ThreadRow) (context value : ℕ) (a : ConnectAnswer) → k (next_birth by) ≡ true → k a.wait.port ≡ true → k a.wait.queue ≡ true → AreClosed k (accept_steps by context value a)
 accepted-closed k by context value a new port queue = rw (new, port, queue) refl
@@ -224,7 +227,7 @@ completed-live k u port s =
     bind_holds (found_or (first (is_accepted_on b) u.waits) PORT_DISCONNECTED) _ P (λ x at.
     subst (λ o. all_alive k o ≡ true) (found_ok port.pair PORT_DISCONNECTED b pair) s.pair))))
 
-pub complete-thin : (k : Alive) (ps : List ProcessRow) (u : World) (by : ThreadRow) (handle : ℕ) → Closed k u → nt_complete_connect_port (thin k ps u) by handle ≡ nt_complete_connect_port u by handle
+pub complete-thin : (k : Alive) (ps : Lives) (u : World) (by : ThreadRow) (handle : ℕ) → Closed k u → nt_complete_connect_port (thin k ps u) by handle ≡ nt_complete_connect_port u by handle
 unfolding nt_complete_connect_port
 complete-thin k ps u by handle c = rw (port-thin k ps u by handle c) refl
 
@@ -243,7 +246,7 @@ sent-live k u by handle bytes c =
     bind_holds (port_test u by handle) _ P (λ p at. bind_holds (message_test bytes) _ P (λ m _. bind_holds (found_or (route u p) PORT_DISCONNECTED) _ P (λ q there.
     let s = holds_ok (StandsBy k) (port_test u by handle) p (port-stands k u by handle c) at in s.here)))
 
-pub datagram-thin : (k : Alive) (ps : List ProcessRow) (u : World) (by : ThreadRow) (handle : ℕ) (bytes : List ℕ) → Closed k u → nt_request_port (thin k ps u) by handle bytes ≡ nt_request_port u by handle bytes
+pub datagram-thin : (k : Alive) (ps : Lives) (u : World) (by : ThreadRow) (handle : ℕ) (bytes : List ℕ) → Closed k u → nt_request_port (thin k ps u) by handle bytes ≡ nt_request_port u by handle bytes
 unfolding nt_request_port
 datagram-thin k ps u by handle bytes c = rw (port-thin k ps u by handle c) refl
 
@@ -256,7 +259,7 @@ datagram-closed k u by handle bytes c =
     (bind_holds (send_test u by handle bytes) _ P (λ s is. bind_holds (datagram_test u s.port) _ P (λ _ _. holds_ok P (send_test u by handle bytes) s (sent-live k u by handle bytes c) is))) at in
     then-closed k u (datagram_start by) (row_of s.queue s.port (sent_by by DATAGRAM s.message)) refl live)
 
-pub request-thin : (k : Alive) (ps : List ProcessRow) (u : World) (by : ThreadRow) (handle : ℕ) (bytes : List ℕ) → Closed k u → nt_request_wait_reply_port (thin k ps u) by handle bytes ≡ nt_request_wait_reply_port u by handle bytes
+pub request-thin : (k : Alive) (ps : Lives) (u : World) (by : ThreadRow) (handle : ℕ) (bytes : List ℕ) → Closed k u → nt_request_wait_reply_port (thin k ps u) by handle bytes ≡ nt_request_wait_reply_port u by handle bytes
 unfolding nt_request_wait_reply_port
 request-thin k ps u by handle bytes c = rw (port-thin k ps u by handle c) refl
 
@@ -269,24 +272,24 @@ request-closed k u by handle bytes c =
     then-closed k u (request_start by s.port.birth s.queue (sent_by by REQUEST s.message)) (row_of s.queue s.port (sent_by by REQUEST s.message)) (rw live refl) live)
 
 -- replies and receives
-pub reply-thin : (k : Alive) (ps : List ProcessRow) (u : World) (by : ThreadRow) (handle : ℕ) (bytes : List ℕ) → Closed k u → nt_reply_port (thin k ps u) by handle bytes ≡ nt_reply_port u by handle bytes
+pub reply-thin : (k : Alive) (ps : Lives) (u : World) (by : ThreadRow) (handle : ℕ) (bytes : List ℕ) → Agree ps u → Closed k u → nt_reply_port (thin k ps u) by handle bytes ≡ nt_reply_port u by handle bytes
 unfolding nt_reply_port
-reply-thin k ps u by handle bytes c =
-    rw (port-thin k ps u by handle c) (bind-same (port_test u by handle) _ _ (λ p _. bind-same (message_test bytes) _ _ (λ m _. rw (fitted-thin k ps u p.birth m c) refl)))
+reply-thin k ps u by handle bytes agree c =
+    rw (port-thin k ps u by handle c) (bind-same (port_test u by handle) _ _ (λ p _. bind-same (message_test bytes) _ _ (λ m _. rw (client-thin k ps u m.header.client agree, fitted-thin k ps u p.birth m c) refl)))
 
 pub reply-closed : (k : Alive) (u : World) (by : ThreadRow) (handle : ℕ) (bytes : List ℕ) → Holds (AreClosed k) (nt_reply_port u by handle bytes)
 unfolding nt_reply_port
 reply-closed k u by handle bytes =
     bind_holds (port_test u by handle) _ (AreClosed k) (λ p _. bind_holds (message_test bytes) _ (AreClosed k) (λ m _. bind_holds (answered_test u p m) _ (AreClosed k) (λ x _. refl)))
 
-given-thin : (k : Alive) (ps : List ProcessRow) (u : World) (p : PortRow) (o : Option Message) → Closed k u → given_reply (thin k ps u) p o ≡ given_reply u p o
-given-thin k ps u p None c = refl
-given-thin k ps u p (Some m) c = rw (fitted-thin k ps u p.birth m c) refl
+given-thin : (k : Alive) (ps : Lives) (u : World) (p : PortRow) (o : Option Message) → Agree ps u → Closed k u → given_reply (thin k ps u) p o ≡ given_reply u p o
+given-thin k ps u p None agree c = refl
+given-thin k ps u p (Some m) agree c = rw (client-thin k ps u m.header.client agree, fitted-thin k ps u p.birth m c) refl
 
-pub receive-thin : (k : Alive) (ps : List ProcessRow) (u : World) (by : ThreadRow) (handle : ℕ) (bytes : Option (List ℕ)) → Closed k u → nt_reply_wait_receive_port (thin k ps u) by handle bytes ≡ nt_reply_wait_receive_port u by handle bytes
+pub receive-thin : (k : Alive) (ps : Lives) (u : World) (by : ThreadRow) (handle : ℕ) (bytes : Option (List ℕ)) → Agree ps u → Closed k u → nt_reply_wait_receive_port (thin k ps u) by handle bytes ≡ nt_reply_wait_receive_port u by handle bytes
 unfolding nt_reply_wait_receive_port
-receive-thin k ps u by handle bytes c =
-    rw (port-thin k ps u by handle c) (bind-same (port_test u by handle) _ _ (λ p _. bind-same (optional_message bytes) _ _ (λ m _. bind-same (receive_test u p) _ _ (λ q _. rw (given-thin k ps u p m c) refl))))
+receive-thin k ps u by handle bytes agree c =
+    rw (port-thin k ps u by handle c) (bind-same (port_test u by handle) _ _ (λ p _. bind-same (optional_message bytes) _ _ (λ m _. bind-same (receive_test u p) _ _ (λ q _. rw (given-thin k ps u p m agree c) refl))))
 
 replied-closed : (k : Alive) (u : World) (p : PortRow) (o : Option Message) → Holds (AreClosed k) (given_reply u p o)
 replied-closed k u p None = refl
@@ -305,32 +308,32 @@ receive-closed k u by handle bytes c =
     received-closed k by p q rs (first (is_queued q) u.messages) s.here (holds_ok (AreClosed k) (given_reply u p m) rs (replied-closed k u p m) replied)))))
 
 -- Each call, by its name
-pub alike-create : (k : Alive) (ps : List ProcessRow) (u : World) (by : ThreadRow) (name : Option (List ℕ)) → Closed k u → served (thin k ps u) by (create_port name) ≡ served u by (create_port name)
+pub alike-create : (k : Alive) (ps : Lives) (u : World) (by : ThreadRow) (name : Option (List ℕ)) → Closed k u → served (thin k ps u) by (create_port name) ≡ served u by (create_port name)
 alike-create k ps u by name c = create-thin k ps u by name
 
-pub alike-connect : (k : Alive) (ps : List ProcessRow) (u : World) (by : ThreadRow) (name bytes : List ℕ) → Closed k u → served (thin k ps u) by (connect_port name bytes) ≡ served u by (connect_port name bytes)
+pub alike-connect : (k : Alive) (ps : Lives) (u : World) (by : ThreadRow) (name bytes : List ℕ) → Closed k u → served (thin k ps u) by (connect_port name bytes) ≡ served u by (connect_port name bytes)
 alike-connect k ps u by name info c = connect-thin k ps u by name info
 
-pub alike-listen : (k : Alive) (ps : List ProcessRow) (u : World) (by : ThreadRow) (handle : ℕ) → Closed k u → served (thin k ps u) by (listen_port handle) ≡ served u by (listen_port handle)
+pub alike-listen : (k : Alive) (ps : Lives) (u : World) (by : ThreadRow) (handle : ℕ) → Closed k u → served (thin k ps u) by (listen_port handle) ≡ served u by (listen_port handle)
 alike-listen k ps u by handle c = listen-thin k ps u by handle c
 
-pub alike-accept : (k : Alive) (ps : List ProcessRow) (u : World) (by : ThreadRow) (context : ℕ) (message : List ℕ) (accept : Bool) → Closed k u → served (thin k ps u) by (accept_connect_port context message accept) ≡ served u by (accept_connect_port context message accept)
-alike-accept k ps u by context message accept c = accept-thin k ps u by context message accept
+pub alike-accept : (k : Alive) (ps : Lives) (u : World) (by : ThreadRow) (context : ℕ) (message : List ℕ) (accept : Bool) → Agree ps u → Closed k u → served (thin k ps u) by (accept_connect_port context message accept) ≡ served u by (accept_connect_port context message accept)
+alike-accept k ps u by context message accept agree c = accept-thin k ps u by context message accept agree
 
-pub alike-complete : (k : Alive) (ps : List ProcessRow) (u : World) (by : ThreadRow) (handle : ℕ) → Closed k u → served (thin k ps u) by (complete_connect_port handle) ≡ served u by (complete_connect_port handle)
+pub alike-complete : (k : Alive) (ps : Lives) (u : World) (by : ThreadRow) (handle : ℕ) → Closed k u → served (thin k ps u) by (complete_connect_port handle) ≡ served u by (complete_connect_port handle)
 alike-complete k ps u by handle c = complete-thin k ps u by handle c
 
-pub alike-datagram : (k : Alive) (ps : List ProcessRow) (u : World) (by : ThreadRow) (handle : ℕ) (message : List ℕ) → Closed k u → served (thin k ps u) by (request_port handle message) ≡ served u by (request_port handle message)
+pub alike-datagram : (k : Alive) (ps : Lives) (u : World) (by : ThreadRow) (handle : ℕ) (message : List ℕ) → Closed k u → served (thin k ps u) by (request_port handle message) ≡ served u by (request_port handle message)
 alike-datagram k ps u by handle message c = datagram-thin k ps u by handle message c
 
-pub alike-request : (k : Alive) (ps : List ProcessRow) (u : World) (by : ThreadRow) (handle : ℕ) (message : List ℕ) → Closed k u → served (thin k ps u) by (request_wait_reply_port handle message) ≡ served u by (request_wait_reply_port handle message)
+pub alike-request : (k : Alive) (ps : Lives) (u : World) (by : ThreadRow) (handle : ℕ) (message : List ℕ) → Closed k u → served (thin k ps u) by (request_wait_reply_port handle message) ≡ served u by (request_wait_reply_port handle message)
 alike-request k ps u by handle message c = request-thin k ps u by handle message c
 
-pub alike-reply : (k : Alive) (ps : List ProcessRow) (u : World) (by : ThreadRow) (handle : ℕ) (message : List ℕ) → Closed k u → served (thin k ps u) by (reply_port handle message) ≡ served u by (reply_port handle message)
-alike-reply k ps u by handle message c = reply-thin k ps u by handle message c
+pub alike-reply : (k : Alive) (ps : Lives) (u : World) (by : ThreadRow) (handle : ℕ) (message : List ℕ) → Agree ps u → Closed k u → served (thin k ps u) by (reply_port handle message) ≡ served u by (reply_port handle message)
+alike-reply k ps u by handle message agree c = reply-thin k ps u by handle message agree c
 
-pub alike-receive : (k : Alive) (ps : List ProcessRow) (u : World) (by : ThreadRow) (handle : ℕ) (message : Option (List ℕ)) → Closed k u → served (thin k ps u) by (reply_wait_receive_port handle message) ≡ served u by (reply_wait_receive_port handle message)
-alike-receive k ps u by handle message c = receive-thin k ps u by handle message c
+pub alike-receive : (k : Alive) (ps : Lives) (u : World) (by : ThreadRow) (handle : ℕ) (message : Option (List ℕ)) → Agree ps u → Closed k u → served (thin k ps u) by (reply_wait_receive_port handle message) ≡ served u by (reply_wait_receive_port handle message)
+alike-receive k ps u by handle message agree c = receive-thin k ps u by handle message agree c
 
 pub stands-create : (k : Alive) (u : World) (by : ThreadRow) (name : Option (List ℕ)) → IsSoundWorld u → Closed k u → k (next_birth by) ≡ true → Holds (AreClosed k) (served u by (create_port name))
 stands-create k u by name s c new = create-closed k u by name new

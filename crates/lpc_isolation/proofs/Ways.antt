@@ -9,7 +9,7 @@ use Rattle.lpc_base.specs.declared.status.TheConstants.{INVALID_HANDLE, INVALID_
 use Rattle.lpc_model.specs.Message.{asks, message_test}
 use Rattle.lpc_model.specs.World.{Accepted, Birth, Connect, Listen, MessageRow, PortRow, Receive, Request, ThreadRow, WaitKind, WaitRow, World}
 use Rattle.lpc_model.specs.Found.{live_thread, is_connection_port, is_port, is_queued, is_queued_connect, waits_as}
-use Rattle.lpc_model.specs.Basics.{Accepts, AddsHandle, AddsProcess, AddsThread, Awaits, Basic, Binds, Completes, Cuts, DrawsIdentifier, DrawsOrdinal, DropsHandle, Empties, Enters, Frees, Joins, Makes, Receives, Takes, TakesConnect, Tells, Unbinds, Wakes, Withdraws, accepted, basic, world_after}
+use Rattle.lpc_model.specs.Basics.{Accepts, AddsHandle, AddsProcess, AddsThread, Awaits, Basic, Binds, Completes, Cuts, DrawsIdentifier, DrawsOrdinal, DropsHandle, Empties, Enters, Frees, Joins, Makes, Receives, Takes, TakesConnect, Tells, Unbinds, Wakes, Withdraws, accepted, basic, world_after, Dies, Registers, Unregisters}
 use Rattle.lpc_model.specs.Entering.{enter, given_steps, row_of, shown, take_connect_steps, take_steps, takes, woken}
 use Rattle.lpc_model.specs.declared.entry.ObjectKind.TheVariants as kind
 use Rattle.lpc_model.specs.Refusal.{found_or, refuse_if}
@@ -76,6 +76,9 @@ still-step w (Takes q) ok = refl
 still-step w (TakesConnect q) ok = refl
 still-step w (DrawsIdentifier who) ok = refl
 still-step w (DrawsOrdinal who) ok = refl
+still-step w (Dies who status) ok = refl
+still-step w (Registers who b) ok = refl
+still-step w (Unregisters who b) ok = refl
 still-step w (AddsProcess p) ok = refl
 still-step w (AddsThread t) ok = refl
 
@@ -311,6 +314,9 @@ client-lead q p Server is on = rw is refl
 client-lead q p Connection is on = rw is refl
 client-lead q p Unnamed is on = rw is refl
 
+pub route-home : (w : World) (p : PortRow) (q : Birth) → route w p ≡ Some q → leads_home q p ≡ true
+route-home w p q to = client-lead q p p.kind refl (way-lead w p q p.kind refl (route-way w p q to))
+
 sends-home : (w : World) (by : ThreadRow) (handle : ℕ) (bytes : List ℕ) → Holds (λ s. passes (port_row w s.port.birth) (leads_home s.queue) ≡ true) (send_test w by handle bytes)
 sends-home w by handle bytes =
     let P : Sendable → Type 0 = λ s. passes (port_row w s.port.birth) (leads_home s.queue) ≡ true in
@@ -318,7 +324,7 @@ sends-home w by handle bytes =
     bind_holds (message_test bytes) _ P (λ a _.
     bind_holds (found_or (route w p) PORT_DISCONNECTED) _ P (λ q to.
     let here : port_row w p.birth ≡ Some p = holds_ok (λ p. port_row w p.birth ≡ Some p) (port_test w by handle) p (port-row w by handle) at in
-    rw here (client-lead q p p.kind refl (way-lead w p q p.kind refl (route-way w p q (found_ok (route w p) PORT_DISCONNECTED q to)))))))
+    rw here (route-home w p q (found_ok (route w p) PORT_DISCONNECTED q to)))))
 
 pub sends-create : (u : World) (by : ThreadRow) (name : Option (List ℕ)) → Holds (λ bs. are_sent u bs ≡ true) (served u by (create_port name))
 sends-create u by name = still-sends u (served u by (create_port name)) (made-holds AreStill u by name (λ value. refl) (λ path value. refl))

@@ -152,9 +152,10 @@ pub record IsFewer (w v : World) : Type 0 where
   pub bindings : (f : Path × Node Birth → Bool) → every f w.bindings ≡ true → every f v.bindings ≡ true
   pub ports : v.ports ≡ w.ports
   pub handles : v.handles ≡ w.handles
+  pub threads : v.threads ≡ w.threads
 
 fewer-none : (w : World) → IsFewer w w
-fewer-none w = record { waits = λ f all. all; messages = λ f all. all; counts = λ f. omega arith; bindings = λ f all. all; ports = refl; handles = refl }
+fewer-none w = record { waits = λ f all. all; messages = λ f all. all; counts = λ f. omega arith; bindings = λ f all. all; ports = refl; handles = refl; threads = refl }
 
 fewer-then : (w v u : World) → IsFewer w v → IsFewer v u → IsFewer w u
 fewer-then w v u a b = record {
@@ -164,16 +165,17 @@ fewer-then w v u a b = record {
   bindings = λ f all. b.bindings f (a.bindings f all);
   ports = b.ports ∙ a.ports;
   handles = b.handles ∙ a.handles;
+  threads = b.threads ∙ a.threads;
 }
   where
     at-most : (k n m : ℕ) → k ≤ n → n ≤ m → k ≤ m
     at-most k n m one two = omega (arith, one, two)
 
 fewer-step : (w : World) (x : Basic) → takes_away x ≡ true → IsFewer w (basic w x)
-fewer-step w (Wakes who call status fields) is = record { waits = λ f all. every-without f (waits_as who) w.waits all; messages = λ f all. all; counts = λ f. omega arith; bindings = λ f all. all; ports = refl; handles = refl }
-fewer-step w (Withdraws who) is = record { waits = λ f all. all; messages = λ f all. every-without f (is_own_of who) w.messages all; counts = λ f. count-without f (is_own_of who) w.messages; bindings = λ f all. all; ports = refl; handles = refl }
-fewer-step w (Empties q) is = record { waits = λ f all. all; messages = λ f all. every-without f (is_queued q) w.messages all; counts = λ f. count-without f (is_queued q) w.messages; bindings = λ f all. all; ports = refl; handles = refl }
-fewer-step w (Unbinds b) is = record { waits = λ f all. all; messages = λ f all. all; counts = λ f. omega arith; bindings = λ f all. every-without f (is_name same_birth b) w.bindings all; ports = refl; handles = refl }
+fewer-step w (Wakes who call status fields) is = record { waits = λ f all. every-without f (waits_as who) w.waits all; messages = λ f all. all; counts = λ f. omega arith; bindings = λ f all. all; ports = refl; handles = refl; threads = refl }
+fewer-step w (Withdraws who) is = record { waits = λ f all. all; messages = λ f all. every-without f (is_own_of who) w.messages all; counts = λ f. count-without f (is_own_of who) w.messages; bindings = λ f all. all; ports = refl; handles = refl; threads = refl }
+fewer-step w (Empties q) is = record { waits = λ f all. all; messages = λ f all. every-without f (is_queued q) w.messages all; counts = λ f. count-without f (is_queued q) w.messages; bindings = λ f all. all; ports = refl; handles = refl; threads = refl }
+fewer-step w (Unbinds b) is = record { waits = λ f all. all; messages = λ f all. all; counts = λ f. omega arith; bindings = λ f all. every-without f (is_name same_birth b) w.bindings all; ports = refl; handles = refl; threads = refl }
 fewer-step w x is = absurd (cc)
 
 fewer-all : (w : World) (bs : List Basic) → TakeAway bs → IsFewer w (world_after w bs)
@@ -194,6 +196,9 @@ fewer-unoffered w b =
     (fewer-each (λ w. is_queued_request b) (end_request LPC_REPLY_LOST) (λ x. refl) w (stage_three w b)
     (fewer-each (λ w. is_request_on b) (end_request PORT_DISCONNECTED) (λ x. refl) w (stage_two w b)
     (fewer-each (λ w. is_receiver b) (wake PORT_DISCONNECTED) (λ x. refl) w (stage_one w b) (fewer-step w (Unbinds b) refl))))
+
+pub fewer-accepted : (b : Birth) (w : World) → IsFewer w (behind (end_each (is_accepted_across b) end_accepted) w)
+fewer-accepted b w = fewer-each (is_accepted_across b) end_accepted (λ x. refl) w w (fewer-none w)
 
 pub fewer-accepts : (w : World) (b : Birth) → IsFewer (unreceived w b) (uncut w b)
 fewer-accepts w b = fewer-each (is_accepted_across b) end_accepted (λ x. refl) (unreceived w b) (unreceived w b) (fewer-none (unreceived w b))

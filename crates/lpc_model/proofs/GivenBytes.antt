@@ -24,7 +24,7 @@ use Rattle.lpc_model.specs.Then.{◌>>=◌}
 use Rattle.lpc_model.specs.Message.{bytes_of, message_of}
 use Rattle.lpc_model.specs.Lines.{ScriptCall, ScriptLine, accept_connect_port, reply_port, reply_wait_receive_port, request_port, request_wait_reply_port, run}
 use Rattle.lpc_model.specs.Words.{begins, cut, hex_message, hex_or_fault, hex_word, id_word, info_word, message_word, number_word, parts, reply_message, three_parts, words}
-use Rattle.lpc_model.specs.Grammar.{access_word, accept_word, call_line, call_named, call_words, directive_line, directive_named, directive_words, four_words, given_message, handle_and_message, handle_and_reply, is_printable, one_handle, one_or_two_words, one_word, qos_word, read_line, starts_call, thread_call, two_words, view_word, words_line}
+use Rattle.lpc_model.specs.Grammar.{accept_word, access_word, call_line, call_named, call_words, directive_line, directive_named, directive_words, four_words, given_message, handle_and_message, handle_and_reply, is_printable, one_handle, one_or_two_words, one_word, qos_word, read_line, starts_call, target_and_code, thread_call, two_words, view_word, words_line}
 use Rattle.lpc_model.specs.Run.{numbered_line, said_from, unless_faulty}
 
 abbrev pub AreBytes : List ℕ → Type 0
@@ -161,9 +161,12 @@ call_gives call.NtRequestPort others = then_gives (handle_and_message others) _ 
 call_gives call.NtRequestWaitReplyPort others = then_gives (handle_and_message others) _ HasBytes (λ two is. gives_ok (λ (two : ℕ × List ℕ). AreBytes two.1) (handle_and_message others) two (handle_gives others) is)
 call_gives call.NtReplyPort others = then_gives (handle_and_message others) _ HasBytes (λ two is. gives_ok (λ (two : ℕ × List ℕ). AreBytes two.1) (handle_and_message others) two (handle_gives others) is)
 call_gives call.NtReplyWaitReceivePort others = then_gives (handle_and_reply others) _ HasBytes (λ two is. gives_ok (λ (two : ℕ × Option (List ℕ)). HasBytes (reply_wait_receive_port two.0 two.1)) (handle_and_reply others) two (reply_gives others) is)
+call_gives call.NtRegisterThreadTerminatePort others = then_gives (one_handle others) _ HasBytes (λ _ _. tt)
 call_gives call.NtClose others = then_gives (one_handle others) _ HasBytes (λ _ _. tt)
 call_gives call.NtDuplicateObject others = then_gives (two_words others) _ HasBytes (λ two _. then_gives (number_word two.0) _ HasBytes (λ _ _. then_gives (access_word two.1) _ HasBytes (λ _ _. tt)))
 call_gives call.NtQueryObject others = then_gives (one_handle others) _ HasBytes (λ _ _. tt)
+call_gives call.NtTerminateThread others = then_gives (target_and_code others) _ HasBytes (λ _ _. tt)
+call_gives call.NtTerminateProcess others = then_gives (target_and_code others) _ HasBytes (λ _ _. tt)
 
 directive_gives : (name : Word) (others : List (List ℕ)) → Gives GivesBytes (directive_words name others)
 unfolding directive_words

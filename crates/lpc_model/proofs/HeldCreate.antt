@@ -1,12 +1,12 @@
 -- NtCreatePort: the port that it makes is held by its handle.
-use Rattle.std.proofs.Common.{ℕ, ◌+◌, ◌≤◌, List, [], ◌∷◌, Option, Some, None, refl, arith}
+use Rattle.std.proofs.Common.{ℕ, ◌+◌, ◌≤◌, List, [], ◌∷◌, Option, Some, None, refl, ap, arith}
 use Rattle.lpc_base.specs.Rows.{count}
 use Rattle.lpc_base.proofs.RowWords.{every-push}
 use Rattle.lpc_base.specs.declared.port_kind.PortKind.{PortKind}
 use Rattle.lpc_base.specs.declared.port_kind.PortKind.TheVariants.{Connection, Unnamed}
 use Rattle.lpc_model.specs.World.{Path, ThreadRow, World}
-use Rattle.lpc_model.specs.Found.{free_handle, handle_count, is_connected_to, is_made_on, is_paired_to, is_sent_on, port_name}
-use Rattle.lpc_model.specs.Basics.{AddsHandle, DrawsOrdinal, Makes, basic, world_after}
+use Rattle.lpc_model.specs.Found.{free_handle, handle_count, is_connected_to, is_made_on, is_paired_to, is_sent_on, is_thread, port_name, registered_by, same_birth}
+use Rattle.lpc_model.specs.Basics.{AddsHandle, DrawsOrdinal, Makes, basic, past_ordinal, world_after}
 use Rattle.lpc_model.specs.Tests.{PORT_ACCESS, handle_row, handles_test, next_birth}
 use Rattle.lpc_model.specs.Named.{free_name}
 use Rattle.lpc_model.specs.Connect.{create_steps, making, named_steps, new_port, nt_create_port}
@@ -15,7 +15,8 @@ use Rattle.lpc_model.specs.SoundWaits.{IsSoundWorld}
 use Rattle.lpc_model.proofs.Holding.{Holds, bind_holds, holds_ok}
 use Rattle.lpc_model.proofs.Usable.{CanCall}
 use Rattle.lpc_model.proofs.Handles.{open-count, open-new}
-use Rattle.lpc_model.proofs.HeldSteps.{KeepLives, KeepQuiet, counts-more, handle-count, held-some, holds-port, lives-all, lives-handle, ports-more, push-more}
+use Rattle.lpc_model.proofs.Registrations.{same-each}
+use Rattle.lpc_model.proofs.HeldSteps.{KeepLives, KeepQuiet, counts-more, handle-count, held-some, holds-port, lives-all, lives-handle, not-less, ports-more, push-more}
 
 created-lives : (w : World) (by : ThreadRow) (kind : PortKind) → IsSoundWorld w → AreLivesHeld w → KeepLives w (create_steps by (Makes (new_port (next_birth by) kind) ∷ []) (free_handle w by.process))
 created-lives w by kind s held =
@@ -47,7 +48,7 @@ created-quiet w by kind c s held =
     let port = new_port own kind in
     let made = basic (basic w (DrawsOrdinal by.number)) (Makes port) in
     let v = basic made (AddsHandle by.process (handle_row (free_handle w by.process) (port_name own) PORT_ACCESS)) in
-    let old = ports-more w v (λ b. counts-more _ _ _ (count (is_sent_on b) w.messages) (count (is_made_on b) w.waits) _ _ _ _ _ (handle-count w by.process (port_name own) PORT_ACCESS (port_name b) (s.tables by.process)) (push-more (is_paired_to b) w.ports port) (push-more (is_connected_to b) w.ports port) (omega arith) (omega arith)) held in
+    let old = ports-more w v (λ b. counts-more _ _ _ (count (is_sent_on b) w.messages) (count (is_made_on b) w.waits) _ _ _ _ _ _ _ (handle-count w by.process (port_name own) PORT_ACCESS (port_name b) (s.tables by.process)) (push-more (is_paired_to b) w.ports port) (push-more (is_connected_to b) w.ports port) (omega arith) (omega arith) (not-less _ _ (ap (count (same_birth b)) (same-each registered_by (is_thread by.number) past_ordinal (λ t. refl) w.threads)))) held in
     let some = open-count v own (open-new made by.process (free_handle w by.process) PORT_ACCESS own c.home) in
     every-push (holds-port v) w.ports port old (held-some _ (some-sum (handle_count v (port_name own)) _ some))
 

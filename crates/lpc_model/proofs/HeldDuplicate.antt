@@ -2,7 +2,7 @@
 use Rattle.std.proofs.Common.{ℕ, Option, arith}
 use Rattle.lpc_base.specs.Rows.{count}
 use Rattle.lpc_model.specs.World.{ObjectName, ThreadRow, World}
-use Rattle.lpc_model.specs.Found.{free_handle, is_connected_to, is_made_on, is_paired_to, is_sent_on, port_name}
+use Rattle.lpc_model.specs.Found.{all_registrations, free_handle, is_connected_to, is_made_on, is_paired_to, is_sent_on, port_name, same_birth}
 use Rattle.lpc_model.specs.Basics.{AddsHandle, basic}
 use Rattle.lpc_model.specs.Tests.{handle_row, handles_test, own_handle}
 use Rattle.lpc_model.specs.Counts.{asked, nt_duplicate_object, rights_test}
@@ -21,7 +21,7 @@ duplicate-lives w by handle access s held =
 further-quiet : (w : World) (pid : ℕ) (object : ObjectName) (access : ℕ) → IsSoundWorld w → HasHeldPorts w → HasHeldPorts (basic w (AddsHandle pid (handle_row (free_handle w pid) object access)))
 further-quiet w pid object access s held =
     ports-more w (basic w (AddsHandle pid (handle_row (free_handle w pid) object access)))
-    (λ b. counts-more _ (count (is_paired_to b) w.ports) (count (is_connected_to b) w.ports) (count (is_sent_on b) w.messages) (count (is_made_on b) w.waits) _ _ _ _ _ (handle-count w pid object access (port_name b) (s.tables pid)) (omega arith) (omega arith) (omega arith) (omega arith)) held
+    (λ b. counts-more _ (count (is_paired_to b) w.ports) (count (is_connected_to b) w.ports) (count (is_sent_on b) w.messages) (count (is_made_on b) w.waits) (count (same_birth b) (all_registrations w)) _ _ _ _ _ _ (handle-count w pid object access (port_name b) (s.tables pid)) (omega arith) (omega arith) (omega arith) (omega arith) (omega arith)) held
 
 pub duplicate-quiet : (w : World) (by : ThreadRow) (handle : ℕ) (access : Option ℕ) → IsSoundWorld w → HasHeldPorts w → Holds (KeepQuiet w) (nt_duplicate_object w by handle access)
 unfolding nt_duplicate_object

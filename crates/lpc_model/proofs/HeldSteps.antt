@@ -1,5 +1,5 @@
 -- What steps do to the counts of rows that name an object: where none of them falls, what was named is named.
-use Rattle.std.proofs.Common.{◌≡◌, ℕ, ◌+◌, ◌≤◌, List, [], ◌∷◌, ◌++◌, Bool, true, false, cond, not, refl, arith}
+use Rattle.std.proofs.Common.{Bool, List, [], ap, arith, cond, false, not, refl, true, ℕ, ◌++◌, ◌+◌, ◌∷◌, ◌≡◌, ◌≤◌}
 use Rattle.std.specs.Prelude.{◌&&◌, ◌||◌, ◌==◌, nat_lt, Result, Ok, Err}
 use Rattle.lpc_base.specs.declared.status.Status.{Status}
 use Rattle.lpc_model.proofs.Holding.{Holds}
@@ -7,13 +7,14 @@ use Rattle.std.proofs.lemmas.Bool.Decides.{nat_tests}
 use Rattle.lpc_base.specs.Rows.{change, count, each, every, has, which}
 use Rattle.lpc_base.proofs.RowWords.{count-push, every-change, every-more}
 use Rattle.lpc_model.specs.World.{Birth, HandleRow, HandleTable, ObjectName, PortRow, ProcessRow, ThreadRow, World}
-use Rattle.lpc_model.specs.Found.{free_handle, handle_count, has_value, is_connected_to, is_life, is_made_on, is_paired_to, is_port, is_sent_on, is_table, is_thread, lives_by, pointer_count, port_name, process_name, same_object, thread_name, waits_as, waits_at}
-use Rattle.lpc_model.specs.Basics.{Accepts, AddsHandle, AddsProcess, AddsThread, Awaits, Basic, Binds, Completes, Cuts, DrawsIdentifier, DrawsOrdinal, DropsHandle, Empties, Enters, Frees, Joins, Makes, Receives, Takes, TakesConnect, Tells, Unbinds, Wakes, Withdraws, accepted, basic, completed, past_identifier, past_ordinal, put_handle, received, with_handle, world_after}
+use Rattle.lpc_model.specs.Found.{all_registrations, free_handle, handle_count, has_value, is_connected_to, is_life, is_made_on, is_paired_to, is_port, is_sent_on, is_table, is_thread, lives_by, pointer_count, port_name, process_name, registered_by, same_birth, same_object, thread_name, waits_as, waits_at}
+use Rattle.lpc_model.specs.Basics.{Accepts, AddsHandle, AddsProcess, AddsThread, Awaits, Basic, Binds, Completes, Cuts, Dies, DrawsIdentifier, DrawsOrdinal, DropsHandle, Empties, Enters, Frees, Joins, Makes, Receives, Registers, Takes, TakesConnect, Tells, Unbinds, Unregisters, Wakes, Withdraws, accepted, basic, completed, past_identifier, past_ordinal, put_handle, received, registering, unregistering, with_handle, world_after}
 use Rattle.lpc_model.specs.Sweep.{is_unheld, loosened, loosens}
 use Rattle.lpc_model.specs.Linked.{AreLivesHeld, HasHeldPorts}
 use Rattle.lpc_model.specs.Tests.{handle_row}
 use Rattle.lpc_model.proofs.Rows.{count-change}
 use Rattle.lpc_model.proofs.Handles.{alone, value-free}
+use Rattle.lpc_model.proofs.Registrations.{more-each, registering-more, same-each}
 use Rattle.lpc_model.proofs.LinkedSteps.{is_steady}
 
 -- Counts
@@ -104,6 +105,7 @@ keeps_lives (AddsThread t) = false
 keeps_lives (AddsHandle pid h) = false
 keeps_lives (DropsHandle pid value) = false
 keeps_lives (Frees o) = false
+keeps_lives (Dies who status) = false
 keeps_lives b = true
 
 pub steady-keeps : (b : Basic) → is_steady b ≡ true → keeps_lives b ≡ true
@@ -112,6 +114,7 @@ steady-keeps (AddsThread t) is = absurd (cc)
 steady-keeps (AddsHandle pid h) is = absurd (cc)
 steady-keeps (DropsHandle pid value) is = absurd (cc)
 steady-keeps (Frees o) is = absurd (cc)
+steady-keeps (Dies who status) is = absurd (cc)
 steady-keeps b is = refl
 
 abbrev holds-thread : World → ThreadRow → Bool
@@ -143,6 +146,9 @@ drawn-lives w who f births lives processes held =
 lives-step : (w : World) (b : Basic) → keeps_lives b ≡ true → AreLivesHeld w → AreLivesHeld (basic w b)
 lives-step w (DrawsIdentifier who) is held = drawn-lives w who past_identifier (λ t. refl) (λ t. refl) (λ t. refl) held
 lives-step w (DrawsOrdinal who) is held = drawn-lives w who past_ordinal (λ t. refl) (λ t. refl) (λ t. refl) held
+lives-step w (Registers who b) is held = drawn-lives w who (registering b) (λ t. refl) (λ t. refl) (λ t. refl) held
+lives-step w (Unregisters who b) is held = drawn-lives w who (unregistering b) (λ t. refl) (λ t. refl) (λ t. refl) held
+lives-step w (Dies who status) is held = absurd (cc)
 lives-step w (AddsProcess p) is held = absurd (cc)
 lives-step w (AddsThread t) is held = absurd (cc)
 lives-step w (AddsHandle pid h) is held = absurd (cc)
@@ -176,27 +182,39 @@ holds-port w p = not (is_unheld w (port_name p.birth))
 pub ports-more : (w v : World) → ((b : Birth) → pointer_count w (port_name b) ≤ pointer_count v (port_name b)) → HasHeldPorts w → every (holds-port v) w.ports ≡ true
 ports-more w v more held = every-more (holds-port w) (holds-port v) (λ p is. held-more _ _ (more p.birth) is) w.ports held
 
-pub counts-more : (a b c d e i j k l m : ℕ) → a ≤ i → b ≤ j → c ≤ k → d ≤ l → e ≤ m → a + (b + (c + (d + e))) ≤ i + (j + (k + (l + m)))
-counts-more a b c d e i j k l m one two three four five = omega (arith, one, two, three, four, five)
+pub counts-more : (a b c d e f i j k l m n : ℕ) → a ≤ i → b ≤ j → c ≤ k → d ≤ l → e ≤ m → f ≤ n → a + (b + (c + (d + (e + f)))) ≤ i + (j + (k + (l + (m + n))))
+counts-more a b c d e f i j k l m n one two three four five six = omega (arith, one, two, three, four, five, six)
 
 pub not-less : (a b : ℕ) → b ≡ a → a ≤ b
 not-less a b is = omega (arith, is)
 
+-- a thread draws a number, and has registered what it had
+pub drawn-quiet : (w : World) (who : ℕ) (f : ThreadRow → ThreadRow) → ((t : ThreadRow) → registered_by (f t) ≡ registered_by t) → HasHeldPorts w → HasHeldPorts (record w { threads = change (is_thread who) f w.threads })
+drawn-quiet w who f same held =
+    let v : World = record w { threads = change (is_thread who) f w.threads } in
+    ports-more w v (λ b. counts-more (handle_count w (port_name b)) (count (is_paired_to b) w.ports) (count (is_connected_to b) w.ports) (count (is_sent_on b) w.messages) (count (is_made_on b) w.waits) (count (same_birth b) (all_registrations w)) _ _ _ _ _ _
+    (omega arith) (omega arith) (omega arith) (omega arith) (omega arith) (not-less _ _ (ap (count (same_birth b)) (same-each registered_by (is_thread who) f same w.threads)))) held
+
 -- steady steps that let no name go
 quiet-step : (w : World) (b : Basic) → is_steady b ≡ true → loosens b ≡ false → HasHeldPorts w → HasHeldPorts (basic w b)
 quiet-step w (Tells e) is quiet held = held
-quiet-step w (DrawsIdentifier who) is quiet held = held
-quiet-step w (DrawsOrdinal who) is quiet held = held
+quiet-step w (DrawsIdentifier who) is quiet held = drawn-quiet w who past_identifier (λ t. refl) held
+quiet-step w (DrawsOrdinal who) is quiet held = drawn-quiet w who past_ordinal (λ t. refl) held
+quiet-step w (Registers who c) is quiet held =
+    ports-more w (basic w (Registers who c)) (λ b. counts-more (handle_count w (port_name b)) (count (is_paired_to b) w.ports) (count (is_connected_to b) w.ports) (count (is_sent_on b) w.messages) (count (is_made_on b) w.waits) _ _ _ _ _ _ _
+    (omega arith) (omega arith) (omega arith) (omega arith) (omega arith) (more-each (same_birth b) registered_by (is_thread who) (registering c) (registering-more b c) w.threads)) held
 quiet-step w (Binds path node) is quiet held = held
 quiet-step w (Unbinds b) is quiet held = held
-quiet-step w (Awaits x) is quiet held = ports-more w (basic w (Awaits x)) (λ b. counts-more (handle_count w (port_name b)) (count (is_paired_to b) w.ports) (count (is_connected_to b) w.ports) (count (is_sent_on b) w.messages) _ _ _ _ _ _ (omega arith) (omega arith) (omega arith) (omega arith) (push-more (is_made_on b) w.waits x)) held
-quiet-step w (Enters m) is quiet held = ports-more w (basic w (Enters m)) (λ b. counts-more (handle_count w (port_name b)) (count (is_paired_to b) w.ports) (count (is_connected_to b) w.ports) _ (count (is_made_on b) w.waits) _ _ _ _ _ (omega arith) (omega arith) (omega arith) (push-more (is_sent_on b) w.messages m) (omega arith)) held
-quiet-step w (Receives who queue) is quiet held = ports-more w (basic w (Receives who queue)) (λ b. counts-more (handle_count w (port_name b)) (count (is_paired_to b) w.ports) (count (is_connected_to b) w.ports) (count (is_sent_on b) w.messages) _ _ _ _ _ _ (omega arith) (omega arith) (omega arith) (omega arith) (not-less _ _ (count-change (is_made_on b) (waits_at who queue) received (λ x. refl) w.waits))) held
-quiet-step w (Accepts who reply) is quiet held = ports-more w (basic w (Accepts who reply)) (λ b. counts-more (handle_count w (port_name b)) (count (is_paired_to b) w.ports) (count (is_connected_to b) w.ports) (count (is_sent_on b) w.messages) _ _ _ _ _ _ (omega arith) (omega arith) (omega arith) (omega arith) (not-less _ _ (count-change (is_made_on b) (waits_as who) (accepted reply) (λ x. refl) w.waits))) held
+quiet-step w (Awaits x) is quiet held = ports-more w (basic w (Awaits x)) (λ b. counts-more (handle_count w (port_name b)) (count (is_paired_to b) w.ports) (count (is_connected_to b) w.ports) (count (is_sent_on b) w.messages) _ (count (same_birth b) (all_registrations w)) _ _ _ _ _ _ (omega arith) (omega arith) (omega arith) (omega arith) (push-more (is_made_on b) w.waits x) (omega arith)) held
+quiet-step w (Enters m) is quiet held = ports-more w (basic w (Enters m)) (λ b. counts-more (handle_count w (port_name b)) (count (is_paired_to b) w.ports) (count (is_connected_to b) w.ports) _ (count (is_made_on b) w.waits) (count (same_birth b) (all_registrations w)) _ _ _ _ _ _ (omega arith) (omega arith) (omega arith) (push-more (is_sent_on b) w.messages m) (omega arith) (omega arith)) held
+quiet-step w (Receives who queue) is quiet held = ports-more w (basic w (Receives who queue)) (λ b. counts-more (handle_count w (port_name b)) (count (is_paired_to b) w.ports) (count (is_connected_to b) w.ports) (count (is_sent_on b) w.messages) _ (count (same_birth b) (all_registrations w)) _ _ _ _ _ _ (omega arith) (omega arith) (omega arith) (omega arith) (not-less _ _ (count-change (is_made_on b) (waits_at who queue) received (λ x. refl) w.waits)) (omega arith)) held
+quiet-step w (Accepts who reply) is quiet held = ports-more w (basic w (Accepts who reply)) (λ b. counts-more (handle_count w (port_name b)) (count (is_paired_to b) w.ports) (count (is_connected_to b) w.ports) (count (is_sent_on b) w.messages) _ (count (same_birth b) (all_registrations w)) _ _ _ _ _ _ (omega arith) (omega arith) (omega arith) (omega arith) (not-less _ _ (count-change (is_made_on b) (waits_as who) (accepted reply) (λ x. refl) w.waits)) (omega arith)) held
 quiet-step w (Completes c) is quiet held =
     let v = basic w (Completes c) in
-    every-change (holds-port v) (is_port c) completed (λ p is. is) w.ports (ports-more w v (λ b. counts-more (handle_count w (port_name b)) _ _ (count (is_sent_on b) w.messages) (count (is_made_on b) w.waits) _ _ _ _ _
-    (omega arith) (not-less _ _ (count-change (is_paired_to b) (is_port c) completed (λ p. refl) w.ports)) (not-less _ _ (count-change (is_connected_to b) (is_port c) completed (λ p. refl) w.ports)) (omega arith) (omega arith)) held)
+    every-change (holds-port v) (is_port c) completed (λ p is. is) w.ports (ports-more w v (λ b. counts-more (handle_count w (port_name b)) _ _ (count (is_sent_on b) w.messages) (count (is_made_on b) w.waits) (count (same_birth b) (all_registrations w)) _ _ _ _ _ _
+    (omega arith) (not-less _ _ (count-change (is_paired_to b) (is_port c) completed (λ p. refl) w.ports)) (not-less _ _ (count-change (is_connected_to b) (is_port c) completed (λ p. refl) w.ports)) (omega arith) (omega arith) (omega arith)) held)
+quiet-step w (Dies who status) is quiet held = absurd (cc)
+quiet-step w (Unregisters who c) is quiet held = absurd (cc)
 quiet-step w (Makes p) is quiet held = absurd (cc)
 quiet-step w (AddsProcess p) is quiet held = absurd (cc)
 quiet-step w (AddsThread t) is quiet held = absurd (cc)
@@ -220,7 +238,7 @@ or-false : (a : Bool) → (a || false) ≡ a
 or-false true = refl
 or-false false = refl
 
-loosened-on : (bs : List Basic) → loosened true bs ≡ true
+pub loosened-on : (bs : List Basic) → loosened true bs ≡ true
 loosened-on [] = refl
 loosened-on (b ∷ bs) = rw (or-true (loosens b)) (loosened-on bs)
 

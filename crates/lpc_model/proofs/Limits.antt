@@ -1,6 +1,6 @@
 -- Each limit from both sides.
 use Rattle.std.proofs.Common.{◌≡◌, ℕ, ◌+◌, ◌<◌, ◌≤◌, Bool, true, false, length, refl, arith}
-use Rattle.std.specs.Prelude.{nat_le, nat_lt, Ok, Err}
+use Rattle.std.specs.Prelude.{◌&&◌, nat_le, nat_lt, not, Ok, Err}
 use Rattle.std.proofs.lemmas.Bool.Decides.{nat_tests}
 use Rattle.lpc_base.specs.declared.status.Status.{Status}
 use Rattle.lpc_base.specs.declared.status.TheConstants.{PORT_MESSAGE_TOO_LONG, QUOTA_EXCEEDED}
@@ -9,7 +9,7 @@ use Rattle.lpc_model.specs.Found.{datagrams, live_count}
 use Rattle.lpc_model.specs.Message.{message_test}
 use Rattle.lpc_model.specs.Refusal.{refuse_if}
 use Rattle.lpc_model.specs.Tests.{handle_load}
-use Rattle.lpc_model.specs.Limits.{LimitsDatagrams, LimitsHandles, LimitsInfo, LimitsMessages, LimitsThreads}
+use Rattle.lpc_model.specs.Limits.{LimitsDatagrams, LimitsHandles, LimitsInfo, LimitsMessages, LimitsRegistrations, LimitsThreads}
 
 passes : (b : Bool) (s : Status) → b ≡ false → refuse_if b s ≡ Ok tt
 passes b s is = rw is refl
@@ -46,6 +46,18 @@ pub limits_datagrams : LimitsDatagrams
 limits_datagrams w port = record {
   below = λ few. passes _ QUOTA_EXCEEDED (at-off 32 (datagrams w port.birth) few);
   reached = λ many. refuses _ QUOTA_EXCEEDED (at-least 32 (datagrams w port.birth) many);
+}
+
+new-off : (r c : Bool) → c ≡ false → (not r && c) ≡ false
+new-off r c off = grind arith
+
+new-on : (r c : Bool) → r ≡ false → c ≡ true → (not r && c) ≡ true
+new-on r c off is = grind arith
+
+pub limits_registrations : LimitsRegistrations
+limits_registrations by port off = record {
+  below = λ few. passes _ QUOTA_EXCEEDED (new-off _ _ (at-off 16 (length by.registrations) few));
+  reached = λ many. refuses _ QUOTA_EXCEEDED (new-on _ _ off (at-least 16 (length by.registrations) many));
 }
 
 pub limits_messages : LimitsMessages

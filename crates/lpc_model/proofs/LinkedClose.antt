@@ -43,7 +43,7 @@ posted-steady b w = at (port_row w b)
 pub port-steady : (b : Birth) (w : World) → AreSteady (close_port b w)
 port-steady b w = close-pass is_steady away-steady b w refl (posted-steady b (stage_five w b))
 
-handle-plain : (w : World) (pid : ℕ) (r : HandleRow) → ArePlain (close_handle pid r w)
+pub handle-plain : (w : World) (pid : ℕ) (r : HandleRow) → ArePlain (close_handle pid r w)
 handle-plain w pid r = at (is_last r w)
   where
     at : (last : Bool) → ArePlain (when last (close_port r.object.birth w) ++ DropsHandle pid r.value ∷ [])

@@ -9,7 +9,7 @@ use Rattle.lpc_names.specs.Walk.{LinkTo, Stands}
 use Rattle.lpc_names.specs.declared.names.Found.TheVariants.{Directory, Item}
 use Rattle.lpc_model.specs.declared.entry.ObjectKind.TheVariants as kind
 use Rattle.lpc_model.specs.World.{Birth, Node, ObjectKind, ObjectName, PortRow, WaitRow, World}
-use Rattle.lpc_model.specs.Found.{is_connected_to, is_made_on, is_offered, is_open, is_paired_to, is_port, is_the, pair_of, pointer_count, port_name, port_row, same_birth, waits_as}
+use Rattle.lpc_model.specs.Found.{all_registrations, is_connected_to, is_made_on, is_offered, is_open, is_paired_to, is_port, is_the, pair_of, pointer_count, port_name, port_row, same_birth, waits_as}
 use Rattle.lpc_model.specs.Basics.{Accepts, Frees, Joins, accepted, basic, freed, joined, paired, world_after}
 use Rattle.lpc_model.specs.Sweep.{free_unheld, is_unheld, sweep, unheld}
 use Rattle.lpc_model.specs.Linked.{IsLinked, is_end_port, is_lone_offer, is_mutual, is_rooted, is_unjoined, leads_to_end, names_nothing, passes_or_none}
@@ -213,7 +213,7 @@ other-open w b c off is = at (same_birth c b) refl
 port-gone : (w : World) (b : Birth) → pointer_count w (port_name b) ≤ 0 → IsSoundWorld w → IsLinked w → IsLinked (basic w (Frees (port_name b)))
 port-gone w b few s l =
     let v = basic w (Frees (port_name b)) in
-    let held : count (is_paired_to b) w.ports + (count (is_connected_to b) w.ports + (count (λ m. same_birth m.sender b) w.messages + count (is_made_on b) w.waits)) ≤ 0 = sum-second _ _ few in
+    let held : count (is_paired_to b) w.ports + (count (is_connected_to b) w.ports + (count (λ m. same_birth m.sender b) w.messages + (count (is_made_on b) w.waits + count (same_birth b) (all_registrations w)))) ≤ 0 = sum-second _ _ few in
     let made = none-pass (is_made_on b) w.waits (omega (arith, held)) in
     let unpaired = none-pass (is_paired_to b) w.ports (omega (arith, held)) in
     let unconnected = none-pass (is_connected_to b) w.ports (omega (arith, held)) in

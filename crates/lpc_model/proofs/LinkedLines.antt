@@ -1,23 +1,21 @@
 -- Each line keeps ports linked, and leaves no port row that no row names.
-use Rattle.std.proofs.Common.{◌≡◌, ℕ, List, [], ◌∷◌, Option, Some, None, refl, arith}
-use Rattle.std.specs.List.{AllByRecursion}
+use Rattle.std.proofs.Common.{List, None, Option, Some, arith, refl, true, ℕ, ◌≡◌}
 use Rattle.lpc_model.specs.declared.entry.Word.TheVariants as word
 use Rattle.lpc_model.specs.World.{ThreadRow, WaitRow, World}
 use Rattle.lpc_model.specs.Found.{live_thread, wait_of}
-use Rattle.lpc_model.specs.Basics.{world_after}
+use Rattle.lpc_model.specs.Basics.{Awaits, Basic, Binds, Frees, Joins, Makes, world_after}
 use Rattle.lpc_model.specs.Named.{free_name, spelled_name}
-use Rattle.lpc_model.specs.Lines.{ScriptCall, ScriptLine, accept_connect_port, boot, close, complete_connect_port, connect_port, create_port, dir, duplicate_object, link, listen_port, query_object, reply_port, reply_wait_receive_port, request_port, request_wait_reply_port, run, thread}
+use Rattle.lpc_model.specs.Lines.{ProcArg, ScriptCall, ScriptLine, accept_connect_port, boot, close, complete_connect_port, connect_port, create_port, dir, duplicate_object, link, listen_port, query_object, register_thread_terminate_port, reply_port, reply_wait_receive_port, request_port, request_wait_reply_port, run, terminate_process, terminate_thread, thread}
 use Rattle.lpc_model.specs.Machine.{boot_line, dir_line, link_line, name_of_call, ready_steps, service_of, bare_steps, thread_line, thread_steps, thread_test, unused_test}
-use Rattle.lpc_model.specs.SoundWaits.{IsSoundWorld}
+use Rattle.lpc_model.specs.SoundWaits.{HasShutConnects, IsSoundWorld}
 use Rattle.lpc_model.proofs.Holding.{Holds, bind_holds, directed_holds, settled_holds}
 use Rattle.lpc_model.specs.World.{no_rows}
 use Rattle.lpc_model.specs.Sweep.{free_unheld, sweep}
 use Rattle.lpc_model.specs.Linked.{HasHeldRows, IsLinked}
-use Rattle.lpc_model.specs.Run.{run_of, said_in, trace}
-use Rattle.lpc_model.specs.Machine.{Stepped, step}
+use Rattle.lpc_model.specs.Machine.{step}
 use Rattle.lpc_model.proofs.Usable.{CanCall, can-call}
 use Rattle.lpc_model.proofs.SoundQueues.{after-append}
-use Rattle.lpc_model.proofs.SoundLines.{sound_none, line-sound, sound_step}
+use Rattle.lpc_model.proofs.SoundLines.{line-sound}
 use Rattle.lpc_model.proofs.SteadyListen.{listen-steady}
 use Rattle.lpc_model.proofs.SteadyDatagram.{datagram-steady}
 use Rattle.lpc_model.proofs.SteadyRequest.{request-steady}
@@ -34,6 +32,10 @@ use Rattle.lpc_model.proofs.LinkedAccept.{accept-linked}
 use Rattle.lpc_model.proofs.LinkedComplete.{complete-linked}
 use Rattle.lpc_model.proofs.LinkedClose.{close-linked}
 use Rattle.lpc_model.proofs.LinkedDuplicate.{duplicate-linked}
+use Rattle.lpc_model.specs.Death.{nt_terminate_process, nt_terminate_thread}
+use Rattle.lpc_model.proofs.SteadyRegister.{register-steady}
+use Rattle.lpc_model.proofs.LinkedSteps.{is_plain}
+use Rattle.lpc_model.proofs.Ending.{ending-pass, is_ending, process-ending, thread-ending}
 
 -- Directives
 pub boot-plain : (w : World) (pid tid : ℕ) → Holds ArePlain (boot_line w pid tid)
@@ -54,6 +56,21 @@ link-plain w text target =
     bind_holds (spelled_name target) _ ArePlain (λ to _.
     bind_holds (free_name w text) _ ArePlain (λ path _. refl))
 
+-- what ends is plain
+pub ending-plain : (b : Basic) → is_ending b ≡ true → is_plain b ≡ true
+ending-plain (Awaits x) is = absurd (cc)
+ending-plain (Binds path node) is = absurd (cc)
+ending-plain (Makes p) is = absurd (cc)
+ending-plain (Joins client server context) is = absurd (cc)
+ending-plain (Frees o) is = absurd (cc)
+ending-plain b is = refl
+
+pub thread-plain : (w : World) (by : ThreadRow) (target : ProcArg) (code : ℕ) → Holds ArePlain (nt_terminate_thread w by target code)
+thread-plain w by target code = ending-pass is_plain ending-plain (nt_terminate_thread w by target code) (thread-ending w by target code)
+
+pub process-plain : (w : World) (by : ThreadRow) (target : ProcArg) (code : ℕ) → Holds ArePlain (nt_terminate_process w by target code)
+process-plain w by target code = ending-pass is_plain ending-plain (nt_terminate_process w by target code) (process-ending w by target code)
+
 -- Calls
 service-linked : (w : World) (by : ThreadRow) (call : ScriptCall) → CanCall w by → IsSoundWorld w → IsLinked w → Holds (KeepLinked w) (service_of w by call)
 service-linked w by (create_port name) c s l = create-linked w by name c s l
@@ -65,9 +82,12 @@ service-linked w by (request_port handle bytes) c s l = steady_holds w _ l (data
 service-linked w by (request_wait_reply_port handle bytes) c s l = steady_holds w _ l (request-steady w by handle bytes)
 service-linked w by (reply_port handle bytes) c s l = steady_holds w _ l (reply-steady w by handle bytes)
 service-linked w by (reply_wait_receive_port handle bytes) c s l = steady_holds w _ l (receive-steady w by handle bytes)
+service-linked w by (register_thread_terminate_port handle) c s l = steady_holds w _ l (register-steady w by handle)
 service-linked w by (close handle) c s l = close-linked w by handle l
 service-linked w by (duplicate_object handle access) c s l = duplicate-linked w by handle access l
 service-linked w by (query_object handle) c s l = steady_holds w _ l (query-steady w by handle)
+service-linked w by (terminate_thread target code) c s l = plain_holds w _ l (thread-plain w by target code)
+service-linked w by (terminate_process target code) c s l = plain_holds w _ l (process-plain w by target code)
 
 ready-linked : (w : World) (by : ThreadRow) (call : ScriptCall) (o : Option WaitRow) → (o ≡ None → CanCall w by) → IsSoundWorld w → IsLinked w → KeepLinked w (ready_steps by call o w)
 ready-linked w by call (Some x) c s l = l
@@ -88,10 +108,10 @@ line_linked w (link path target) s l = directed_holds (KeepLinked w) word.Link (
 line_linked w (run tid call) s l = thread-linked w tid call (live_thread w tid) refl s l
 
 -- the step of a line keeps ports linked, and leaves no port row that no row names
-pub linked_step : (w : World) (line : ScriptLine) → IsSoundWorld w → IsLinked w → IsLinked (step w line).world
-linked_step w line s l =
+pub linked_step : (w : World) (line : ScriptLine) → IsSoundWorld w → HasShutConnects w → IsLinked w → IsLinked (step w line).world
+linked_step w line s shut l =
     let bs = bare_steps line w in
-    rw (after-append w bs (sweep (world_after w bs))) (swept-linked (world_after w bs) (line-sound w line s) (line_linked w line s l))
+    rw (after-append w bs (sweep (world_after w bs))) (swept-linked (world_after w bs) (line-sound w line s shut) (line_linked w line s l))
 
 swept-rows : (w : World) → IsLinked w → HasHeldRows (world_after w (sweep w))
 unfolding sweep
@@ -106,16 +126,3 @@ held_step w line s l =
 
 pub linked_none : IsLinked no_rows
 linked_none = record { births = λ b. grind arith; pairs = refl; rooted = refl; offers = refl; targets = refl }
-
--- Runs
-trace-held : (w : World) (lines : List (Option ScriptLine)) → IsSoundWorld w → IsLinked w → HasHeldRows w → AllByRecursion (λ (s : Stepped). HasHeldRows s.world) (trace w lines)
-unfolding trace
-trace-held w [] s l held = tt
-trace-held w (None ∷ later) s l held = (held, trace-held w later s l held)
-trace-held w (Some line ∷ later) s l held =
-    let after = held_step w line s l in
-    (after, trace-held (step w line).world later (sound_step w line s) (linked_step w line s l) after)
-
--- behind each line of a script each row of an object is named by a row
-pub held_run : (bytes : List ℕ) → AllByRecursion (λ (s : Stepped). HasHeldRows s.world) (run_of bytes)
-held_run bytes = trace-held no_rows (said_in bytes) sound_none linked_none (record { ports = refl; lives = record { threads = refl; processes = refl } })

@@ -9,7 +9,7 @@ use Rattle.lpc_names.specs.Walk.{LinkTo, Stands}
 use Rattle.lpc_names.specs.declared.names.Found.TheVariants.{Directory, Item}
 use Rattle.lpc_model.specs.World.{Birth, Node, PortRow, WaitRow, World}
 use Rattle.lpc_model.specs.Found.{is_offered, is_port, is_the, pair_of, port_row, same_birth, waits_as, waits_at}
-use Rattle.lpc_model.specs.Basics.{Accepts, AddsHandle, AddsProcess, AddsThread, Awaits, Basic, Binds, Completes, Cuts, DrawsIdentifier, DrawsOrdinal, DropsHandle, Empties, Enters, Frees, Joins, Makes, Receives, Takes, TakesConnect, Tells, Unbinds, Wakes, Withdraws, accepted, basic, completed, cut, is_end_of, received, world_after}
+use Rattle.lpc_model.specs.Basics.{Accepts, AddsHandle, AddsProcess, AddsThread, Awaits, Basic, Binds, Completes, Cuts, Dies, DrawsIdentifier, DrawsOrdinal, DropsHandle, Empties, Enters, Frees, Joins, Makes, Receives, Registers, Takes, TakesConnect, Tells, Unbinds, Unregisters, Wakes, Withdraws, accepted, basic, completed, cut, is_end_of, received, world_after}
 use Rattle.lpc_model.specs.Linked.{IsLinked, is_end_port, is_lone_offer, is_mutual, is_rooted, is_unjoined, leads_to_end, names_nothing, passes_or_none}
 use Rattle.lpc_model.proofs.Births.{birth-same, birth-self}
 use Rattle.lpc_model.proofs.SoundPairs.{tied}
@@ -78,12 +78,13 @@ is_plain (Joins client server context) = false
 is_plain (Frees o) = false
 is_plain b = true
 
--- steps that do so, make no process, thread or handle, and let no handle go
+-- steps that do so, make no process, thread or handle, end no thread, and let no handle go
 abbrev pub is_steady : Basic → Bool
 is_steady (AddsProcess p) = false
 is_steady (AddsThread t) = false
 is_steady (AddsHandle pid h) = false
 is_steady (DropsHandle pid value) = false
+is_steady (Dies who status) = false
 is_steady b = is_plain b
 
 pub steady-plain : (b : Basic) → is_steady b ≡ true → is_plain b ≡ true
@@ -91,6 +92,7 @@ steady-plain (AddsProcess p) is = refl
 steady-plain (AddsThread t) is = refl
 steady-plain (AddsHandle pid h) is = refl
 steady-plain (DropsHandle pid value) is = refl
+steady-plain (Dies who status) is = refl
 steady-plain b is = is
 
 -- Ports that change alike
@@ -230,6 +232,9 @@ plain-linked w (Awaits x) is l = linked-same w (basic w (Awaits x)) refl (λ all
     either a b is = grind arith
 plain-linked w (Receives who queue) is l = linked-same w (basic w (Receives who queue)) refl (every-change (is_lone_offer w) (waits_at who queue) received (λ x is. is) w.waits) (λ all. all) l
 plain-linked w (Accepts who reply) is l = linked-same w (basic w (Accepts who reply)) refl (every-change (is_lone_offer w) (waits_as who) (accepted reply) (accepted-offer w reply) w.waits) (λ all. all) l
+plain-linked w (Dies who status) is l = linked-same w (basic w (Dies who status)) refl (every-without (is_lone_offer w) (waits_as who) w.waits) (λ all. all) l
+plain-linked w (Registers who b) is l = linked-same w (basic w (Registers who b)) refl (λ all. all) (λ all. all) l
+plain-linked w (Unregisters who b) is l = linked-same w (basic w (Unregisters who b)) refl (λ all. all) (λ all. all) l
 plain-linked w (Enters m) is l = linked-same w (basic w (Enters m)) refl (λ all. all) (λ all. all) l
 plain-linked w (Takes q) is l = linked-same w (basic w (Takes q)) refl (λ all. all) (λ all. all) l
 plain-linked w (TakesConnect q) is l = linked-same w (basic w (TakesConnect q)) refl (λ all. all) (λ all. all) l

@@ -1,7 +1,6 @@
 -- Each line keeps messages in queues of open ports, and what waits to be received.
 use Rattle.std.proofs.Common.{◌≡◌, ℕ, ◌≤◌, List, [], ◌∷◌, ◌++◌, Bool, true, false, map, not, Option, Some, None, refl, sym, subst, arith}
 use Rattle.std.specs.Prelude.{◌&&◌, ◌||◌, Result, Ok, Err}
-use Rattle.std.specs.List.{AllByRecursion}
 use Rattle.lpc_base.specs.Rows.{count, every, first, given, when}
 use Rattle.lpc_base.proofs.RowWords.{every-append, every-change, every-more, every-push, every-without, first-passes, has-kept}
 use Rattle.lpc_base.proofs.RowMaps.{every-both, every-change_to, every-without_first}
@@ -15,8 +14,8 @@ use Rattle.lpc_names.specs.declared.names.Found.TheVariants.{Item}
 use Rattle.lpc_model.specs.declared.entry.ObjectKind.TheVariants as kind
 use Rattle.lpc_model.specs.declared.entry.Word.TheVariants as word
 use Rattle.lpc_model.specs.World.{Birth, HandleRow, Message, MessageRow, ObjectKind, ObjectName, PortRow, ThreadRow, WaitRow, World, no_rows}
-use Rattle.lpc_model.specs.Found.{free_handle, handle_at, has_handle_to, is_accepted, is_connection_port, is_open, is_own_of, is_queued, is_queued_connect, is_table, live_thread, port_name, queue_of, wait_of, waits_as, waits_at}
-use Rattle.lpc_model.specs.Basics.{Accepts, AddsHandle, AddsProcess, AddsThread, Awaits, Basic, Binds, Completes, Cuts, DrawsIdentifier, DrawsOrdinal, DropsHandle, Empties, Enters, Frees, Joins, Makes, Receives, Takes, TakesConnect, Tells, Unbinds, Wakes, Withdraws, accepted, basic, freed, no_handles, received, world_after}
+use Rattle.lpc_model.specs.Found.{free_handle, handle_at, has_handle_to, is_accepted, is_connection_port, is_open, is_own_of, is_queued, is_queued_connect, is_table, live_thread, live_threads, port_name, queue_of, wait_of, waits_as, waits_at}
+use Rattle.lpc_model.specs.Basics.{Accepts, AddsHandle, AddsProcess, AddsThread, Awaits, Basic, Binds, Completes, Cuts, Dies, DrawsIdentifier, DrawsOrdinal, DropsHandle, Empties, Enters, Frees, Joins, Makes, Receives, Registers, Takes, TakesConnect, Tells, Unbinds, Unregisters, Wakes, Withdraws, accepted, basic, freed, no_handles, received, world_after}
 use Rattle.lpc_model.specs.Sweep.{free_unheld, sweep, unheld}
 use Rattle.lpc_model.specs.Message.{asks, message_test}
 use Rattle.lpc_model.specs.Fields.{h, info, max}
@@ -26,14 +25,13 @@ use Rattle.lpc_model.specs.Refusal.{found_or, refuse_if}
 use Rattle.lpc_model.specs.Tests.{PORT_ACCESS, handle_row, handles_test, next_birth, own_handle, port_test}
 use Rattle.lpc_model.specs.Connect.{Completable, ConnectAnswer, accept_steps, answer_of, answer_test, answered_steps, client_port, complete_steps, complete_test, connect_start, connection_request, create_steps, info_test, listen_steps, making, names_connect, new_port, nt_accept_connect_port, nt_complete_connect_port, nt_connect_port, nt_create_port, nt_listen_port, refuse_steps, server_port}
 use Rattle.lpc_model.specs.Request.{Sendable, answered_test, datagram_send_test, datagram_start, datagram_test, given_reply, is_spent, nt_reply_port, nt_reply_wait_receive_port, nt_request_port, nt_request_wait_reply_port, optional_message, receive_steps, receive_test, request_start, send_test, sent_by}
-use Rattle.lpc_model.specs.Lines.{ScriptCall, ScriptLine, accept_connect_port, boot, close, complete_connect_port, connect_port, create_port, dir, duplicate_object, link, listen_port, query_object, reply_port, reply_wait_receive_port, request_port, request_wait_reply_port, run, thread}
-use Rattle.lpc_model.specs.Machine.{Stepped, bare_steps, boot_line, dir_line, link_line, name_of_call, ready_steps, service_of, step, thread_line, thread_steps, thread_test, unused_test}
-use Rattle.lpc_model.specs.Run.{said_in, trace}
+use Rattle.lpc_model.specs.Lines.{ProcArg, ScriptCall, ScriptLine, accept_connect_port, boot, close, complete_connect_port, connect_port, create_port, dir, duplicate_object, link, listen_port, query_object, register_thread_terminate_port, reply_port, reply_wait_receive_port, request_port, request_wait_reply_port, run, terminate_process, terminate_thread, thread}
+use Rattle.lpc_model.specs.Machine.{bare_steps, boot_line, dir_line, link_line, name_of_call, ready_steps, service_of, thread_line, thread_steps, thread_test, unused_test}
 use Rattle.lpc_model.specs.Close.{close_handle, close_port, is_last, nt_close}
 use Rattle.lpc_model.specs.Counts.{asked, nt_duplicate_object, nt_query_object, rights_test}
 use Rattle.lpc_model.specs.Linked.{IsLinked}
-use Rattle.lpc_model.specs.SoundWaits.{IsSoundWorld, is_sound_wait}
-use Rattle.lpc_model.specs.OpenQueues.{HasOpenQueues, RunKeepsQueuesOpen, StepsKeepQueuesOpen}
+use Rattle.lpc_model.specs.SoundWaits.{HasShutConnects, IsSoundWorld, is_sound_wait}
+use Rattle.lpc_model.specs.OpenQueues.{HasOpenQueues, StepsKeepQueuesOpen}
 use Rattle.lpc_model.proofs.Holding.{Holds, bind_holds, directed_holds, found_ok, holds_ok, settled_holds}
 use Rattle.lpc_model.proofs.Handles.{open-add}
 use Rattle.lpc_model.proofs.Usable.{HasRoute, IsUsable, port-usable, queue-open}
@@ -45,8 +43,15 @@ use Rattle.lpc_model.proofs.SoundAccept.{named-alone, named-wait}
 use Rattle.lpc_model.proofs.SoundClosing.{close-shut}
 use Rattle.lpc_model.proofs.SoundClose.{but-opens, close_handle-sound, found-value, shut-found, still-open}
 use Rattle.lpc_model.proofs.OpenClose.{closed-messages, closed-waits, is_elsewhere}
-use Rattle.lpc_model.proofs.LinkedLines.{linked_none, linked_step}
-use Rattle.lpc_model.proofs.SoundLines.{sound_none, sound_step}
+use Rattle.lpc_model.proofs.LinkedLines.{ending-plain}
+use Rattle.lpc_model.specs.Register.{is_registered, nt_register_thread_terminate_port, register_steps, registration_test}
+use Rattle.lpc_model.specs.Death.{code_status, die, end_threads, nt_terminate_process, nt_terminate_thread}
+use Rattle.lpc_model.specs.declared.entry.CallName.TheVariants.{NtRegisterThreadTerminatePort, NtTerminateProcess, NtTerminateThread}
+use Rattle.lpc_model.specs.declared.entry.Entry.TheVariants.{Answer}
+use Rattle.lpc_model.proofs.Ending.{AreEnding, die-ending, die-pass, end-keeps, ending-enter, handle-ending, is_ending, process-ends, thread-ends, told-facts, world-ends}
+use Rattle.lpc_model.proofs.SoundTerminate.{IsSafe, die-safe, enter-safe, handle-safe, sound-of, unregister-safe}
+use Rattle.lpc_model.proofs.Closing.{behind, takes_away}
+use Rattle.lpc_model.proofs.LinkedSteps.{is_plain, plain-all}
 
 -- What keeps queues open
 -- the ports that are open in one world are open in another
@@ -136,6 +141,9 @@ step-kept w v (TakesConnect q) stay is = messages-kept v _ (every-without_first 
 step-kept w v (Withdraws who) stay is = messages-kept v _ (every-without (enters_open v) (is_own_of who) v.messages)
 step-kept w v (DrawsIdentifier who) stay is = kept v (basic v (DrawsIdentifier who)) (λ b is. is) (λ all. all) (λ all. all) (λ all. all)
 step-kept w v (DrawsOrdinal who) stay is = kept v (basic v (DrawsOrdinal who)) (λ b is. is) (λ all. all) (λ all. all) (λ all. all)
+step-kept w v (Dies who status) stay is = kept v (basic v (Dies who status)) (λ b is. is) (λ all. all) (every-without (waits_open v) (waits_as who) v.waits) (every-without was_received (waits_as who) v.waits)
+step-kept w v (Registers who b) stay is = kept v (basic v (Registers who b)) (λ b is. is) (λ all. all) (λ all. all) (λ all. all)
+step-kept w v (Unregisters who b) stay is = kept v (basic v (Unregisters who b)) (λ b is. is) (λ all. all) (λ all. all) (λ all. all)
 step-kept w v (AddsProcess p) stay is = kept v (basic v (AddsProcess p)) (λ b is. has-kept (has_handle_to b) v.handles (no_handles p.number) is) (λ all. all) (λ all. all) (λ all. all)
 step-kept w v (AddsThread t) stay is = kept v (basic v (AddsThread t)) (λ b is. is) (λ all. all) (λ all. all) (λ all. all)
 step-kept w v (Makes p) stay is = kept v (basic v (Makes p)) (λ b is. is) (λ all. all) (λ all. all) (λ all. all)
@@ -417,28 +425,90 @@ query-open : (w : World) (by : ThreadRow) (handle : ℕ) → Holds (AreOpen w) (
 unfolding nt_query_object
 query-open w by handle = bind_holds (own_handle w by handle) _ (AreOpen w) (λ r _. refl)
 
+-- NtRegisterThreadTerminatePort
+registered-open : (w : World) (by : ThreadRow) (b : Birth) → AreOpen w (register_steps by b)
+registered-open w by b = at (not (is_registered b by))
+  where
+    at : (new : Bool) → AreOpen w (Tells (Answer by.number NtRegisterThreadTerminatePort SUCCESS []) ∷ when new (Registers by.number b ∷ []))
+    at true = refl
+    at false = refl
+
+register-open : (w : World) (by : ThreadRow) (handle : ℕ) → Holds (AreOpen w) (nt_register_thread_terminate_port w by handle)
+unfolding nt_register_thread_terminate_port
+register-open w by handle =
+    bind_holds (port_test w by handle) _ (AreOpen w) (λ port _.
+    bind_holds (registration_test by port.birth) _ (AreOpen w) (λ _ _. registered-open w by port.birth))
+
+-- NtTerminateThread and NtTerminateProcess
+record IsOpenWorld (w : World) : Type 0 where
+  safe : IsSafe w
+  linked : IsLinked w
+  queues : HasOpenQueues w
+
+away-open : (w : World) (x : Basic) → takes_away x ≡ true → is_open_step w x ≡ true
+away-open w (Wakes who call status fields) is = refl
+away-open w (Withdraws who) is = refl
+away-open w (Empties q) is = refl
+away-open w (Unbinds b) is = refl
+away-open w x is = absurd (cc)
+
+ended-linked : (w : World) (bs : List Basic) → AreEnding bs → IsLinked w → IsLinked (world_after w bs)
+ended-linked w bs all l = plain-all w bs (every-more is_ending is_plain ending-plain bs all) l
+
+end-open : (pid : ℕ) (code : Status) (ts : List ThreadRow) (w : World) → IsOpenWorld w → IsOpenWorld (behind (end_threads pid code ts) w)
+end-open =
+    end-keeps IsOpenWorld (λ code t w is. record {
+      safe = die-safe code t w is.safe;
+      linked = ended-linked w (die code t w) (die-ending code t w) is.linked;
+      queues = open-all w (die code t w) (die-pass (is_open_step w) (away-open w) (λ n c. refl) (λ b. refl) code t w) is.queues;
+    })
+    (λ n b w is. record { safe = unregister-safe n b w is.safe; linked = ended-linked w (Unregisters n b ∷ []) refl is.linked; queues = open-all w (Unregisters n b ∷ []) refl is.queues })
+    (λ t b m w some is.
+    let told = told-facts t b m w some in
+    record { safe = enter-safe m w is.safe; linked = ended-linked w (enter m w) (ending-enter m w) is.linked; queues = open-all w (enter m w) (open-enter w m w told.opens) is.queues })
+    (λ w is. sound-of w is.safe)
+    (λ w pid r at is. record {
+      safe = handle-safe w pid r at is.safe;
+      linked = ended-linked w (close_handle pid r w) (handle-ending pid r w) is.linked;
+      queues = closed-open w pid r at (sound-of w is.safe) is.linked is.queues;
+    })
+
+ended-open : (pid : ℕ) (code : Status) (ts : List ThreadRow) (w : World) → IsSoundWorld w → HasShutConnects w → IsLinked w → HasOpenQueues w → HasOpenQueues (behind (end_threads pid code ts) w)
+ended-open pid code ts w s shut l q = let t = end-open pid code ts w (record { safe = record { sound = s; shut = shut }; linked = l; queues = q }) in t.queues
+
+terminate-thread-open : (w : World) (by : ThreadRow) (target : ProcArg) (code : ℕ) → IsSoundWorld w → HasShutConnects w → IsLinked w → HasOpenQueues w → Holds (KeepOpen w) (nt_terminate_thread w by target code)
+terminate-thread-open w by target code s shut l q =
+    thread-ends (KeepOpen w) w by target code (λ t own _ _. world-ends HasOpenQueues w by NtTerminateThread own t.process (code_status code) (t ∷ []) (ended-open t.process (code_status code) (t ∷ []) w s shut l q))
+
+terminate-process-open : (w : World) (by : ThreadRow) (target : ProcArg) (code : ℕ) → IsSoundWorld w → HasShutConnects w → IsLinked w → HasOpenQueues w → Holds (KeepOpen w) (nt_terminate_process w by target code)
+terminate-process-open w by target code s shut l q =
+    process-ends (KeepOpen w) w by target code (λ pid own _. world-ends HasOpenQueues w by NtTerminateProcess own pid (code_status code) (live_threads w pid) (ended-open pid (code_status code) (live_threads w pid) w s shut l q))
+
 -- Calls
-service-open : (w : World) (by : ThreadRow) (call : ScriptCall) → IsSoundWorld w → IsLinked w → HasOpenQueues w → Holds (KeepOpen w) (service_of w by call)
-service-open w by (create_port name) s l q = create-open w by name s q
-service-open w by (connect_port name info) s l q = open_holds w _ q (connect-open w by name info s)
-service-open w by (listen_port handle) s l q = open_holds w _ q (listen-open w by handle)
-service-open w by (accept_connect_port context message accept) s l q = accept-open w by context message accept s q
-service-open w by (complete_connect_port handle) s l q = complete-open w by handle s q
-service-open w by (request_port handle bytes) s l q = open_holds w _ q (datagram-open w by handle bytes)
-service-open w by (request_wait_reply_port handle bytes) s l q = open_holds w _ q (request-open w by handle bytes)
-service-open w by (reply_port handle bytes) s l q = open_holds w _ q (reply-open w by handle bytes)
-service-open w by (reply_wait_receive_port handle bytes) s l q = open_holds w _ q (receive-open w by handle bytes)
-service-open w by (close handle) s l q = close-open w by handle s l q
-service-open w by (duplicate_object handle access) s l q = duplicate-open w by handle access s q
-service-open w by (query_object handle) s l q = open_holds w _ q (query-open w by handle)
+service-open : (w : World) (by : ThreadRow) (call : ScriptCall) → IsSoundWorld w → HasShutConnects w → IsLinked w → HasOpenQueues w → Holds (KeepOpen w) (service_of w by call)
+service-open w by (create_port name) s shut l q = create-open w by name s q
+service-open w by (connect_port name info) s shut l q = open_holds w _ q (connect-open w by name info s)
+service-open w by (listen_port handle) s shut l q = open_holds w _ q (listen-open w by handle)
+service-open w by (accept_connect_port context message accept) s shut l q = accept-open w by context message accept s q
+service-open w by (complete_connect_port handle) s shut l q = complete-open w by handle s q
+service-open w by (request_port handle bytes) s shut l q = open_holds w _ q (datagram-open w by handle bytes)
+service-open w by (request_wait_reply_port handle bytes) s shut l q = open_holds w _ q (request-open w by handle bytes)
+service-open w by (reply_port handle bytes) s shut l q = open_holds w _ q (reply-open w by handle bytes)
+service-open w by (reply_wait_receive_port handle bytes) s shut l q = open_holds w _ q (receive-open w by handle bytes)
+service-open w by (register_thread_terminate_port handle) s shut l q = open_holds w _ q (register-open w by handle)
+service-open w by (close handle) s shut l q = close-open w by handle s l q
+service-open w by (duplicate_object handle access) s shut l q = duplicate-open w by handle access s q
+service-open w by (query_object handle) s shut l q = open_holds w _ q (query-open w by handle)
+service-open w by (terminate_thread target code) s shut l q = terminate-thread-open w by target code s shut l q
+service-open w by (terminate_process target code) s shut l q = terminate-process-open w by target code s shut l q
 
-ready-open : (w : World) (by : ThreadRow) (call : ScriptCall) (o : Option WaitRow) → IsSoundWorld w → IsLinked w → HasOpenQueues w → KeepOpen w (ready_steps by call o w)
-ready-open w by call (Some x) s l q = q
-ready-open w by call None s l q = settled_holds (KeepOpen w) by (name_of_call call) (service_of w by call) (service-open w by call s l q) (λ _ _. q)
+ready-open : (w : World) (by : ThreadRow) (call : ScriptCall) (o : Option WaitRow) → IsSoundWorld w → HasShutConnects w → IsLinked w → HasOpenQueues w → KeepOpen w (ready_steps by call o w)
+ready-open w by call (Some x) s shut l q = q
+ready-open w by call None s shut l q = settled_holds (KeepOpen w) by (name_of_call call) (service_of w by call) (service-open w by call s shut l q) (λ _ _. q)
 
-thread-open : (w : World) (tid : ℕ) (call : ScriptCall) (o : Option ThreadRow) → IsSoundWorld w → IsLinked w → HasOpenQueues w → KeepOpen w (thread_steps tid call o w)
-thread-open w tid call None s l q = q
-thread-open w tid call (Some by) s l q = ready-open w by call (wait_of w tid) s l q
+thread-open : (w : World) (tid : ℕ) (call : ScriptCall) (o : Option ThreadRow) → IsSoundWorld w → HasShutConnects w → IsLinked w → HasOpenQueues w → KeepOpen w (thread_steps tid call o w)
+thread-open w tid call None s shut l q = q
+thread-open w tid call (Some by) s shut l q = ready-open w by call (wait_of w tid) s shut l q
 
 -- Directives
 boot-open : (w : World) (pid tid : ℕ) → Holds (AreOpen w) (boot_line w pid tid)
@@ -461,13 +531,13 @@ link-open w text target =
 
 -- Lines
 -- before rows go
-pub queues_line : (w : World) (line : ScriptLine) → IsSoundWorld w → IsLinked w → HasOpenQueues w → HasOpenQueues (world_after w (bare_steps line w))
+pub queues_line : (w : World) (line : ScriptLine) → IsSoundWorld w → HasShutConnects w → IsLinked w → HasOpenQueues w → HasOpenQueues (world_after w (bare_steps line w))
 unfolding bare_steps
-queues_line w (boot pid tid) s l q = directed_holds (KeepOpen w) word.Boot (boot_line w pid tid) (open_holds w (boot_line w pid tid) q (boot-open w pid tid)) (λ _. q)
-queues_line w (thread tid pid) s l q = directed_holds (KeepOpen w) word.Thread (thread_line w tid pid) (open_holds w (thread_line w tid pid) q (further-open w tid pid)) (λ _. q)
-queues_line w (dir path) s l q = directed_holds (KeepOpen w) word.Dir (dir_line w path) (open_holds w (dir_line w path) q (dir-open w path)) (λ _. q)
-queues_line w (link path target) s l q = directed_holds (KeepOpen w) word.Link (link_line w path target) (open_holds w (link_line w path target) q (link-open w path target)) (λ _. q)
-queues_line w (run tid call) s l q = thread-open w tid call (live_thread w tid) s l q
+queues_line w (boot pid tid) s shut l q = directed_holds (KeepOpen w) word.Boot (boot_line w pid tid) (open_holds w (boot_line w pid tid) q (boot-open w pid tid)) (λ _. q)
+queues_line w (thread tid pid) s shut l q = directed_holds (KeepOpen w) word.Thread (thread_line w tid pid) (open_holds w (thread_line w tid pid) q (further-open w tid pid)) (λ _. q)
+queues_line w (dir path) s shut l q = directed_holds (KeepOpen w) word.Dir (dir_line w path) (open_holds w (dir_line w path) q (dir-open w path)) (λ _. q)
+queues_line w (link path target) s shut l q = directed_holds (KeepOpen w) word.Link (link_line w path target) (open_holds w (link_line w path target) q (link-open w path target)) (λ _. q)
+queues_line w (run tid call) s shut l q = thread-open w tid call (live_thread w tid) s shut l q
 
 -- the row of an object that goes takes no handle, no message and no wait away
 pub queues_freed : (w : World) (o : ObjectName) → HasOpenQueues w → HasOpenQueues (basic w (Frees o))
@@ -485,22 +555,9 @@ queues_swept w q =
 
 -- the step of a line keeps queues open
 pub queues_step : StepsKeepQueuesOpen
-queues_step w line s l q =
+queues_step w line s shut l q =
     let bs = bare_steps line w in
-    rw (after-append w bs (sweep (world_after w bs))) (queues_swept (world_after w bs) (queues_line w line s l q))
+    rw (after-append w bs (sweep (world_after w bs))) (queues_swept (world_after w bs) (queues_line w line s shut l q))
 
 pub queues_none : HasOpenQueues no_rows
 queues_none = record { messages = refl; waits = refl; accepts = refl }
-
--- Runs
-trace-open : (w : World) (lines : List (Option ScriptLine)) → IsSoundWorld w → IsLinked w → HasOpenQueues w → AllByRecursion (λ (s : Stepped). HasOpenQueues s.world) (trace w lines)
-unfolding trace
-trace-open w [] s l q = tt
-trace-open w (None ∷ later) s l q = (q, trace-open w later s l q)
-trace-open w (Some line ∷ later) s l q =
-    let after = queues_step w line s l q in
-    (after, trace-open (step w line).world later (sound_step w line s) (linked_step w line s l) after)
-
--- each line of a script leaves a world whose queues are open
-pub queues_run : (bytes : List ℕ) → RunKeepsQueuesOpen bytes
-queues_run bytes = trace-open no_rows (said_in bytes) sound_none linked_none queues_none

@@ -1,19 +1,19 @@
 -- A line that lets no name go leaves no row of an object that no row names.
-use Rattle.std.proofs.Common.{◌≡◌, ℕ, ◌+◌, ◌≤◌, List, [], ◌∷◌, ◌++◌, Bool, true, false, Option, Some, None, refl, arith}
-use Rattle.std.specs.Prelude.{◌&&◌, ◌==◌}
+use Rattle.std.proofs.Common.{◌≡◌, ℕ, ◌+◌, ◌≤◌, List, [], ◌∷◌, ◌++◌, Bool, true, false, Option, Some, None, refl, ap, arith}
+use Rattle.std.specs.Prelude.{Err, Ok, Result, ◌&&◌, ◌==◌, ◌||◌}
 use Rattle.std.proofs.lemmas.Bool.Decides.{nat_tests}
-use Rattle.lpc_base.specs.Rows.{count, has}
+use Rattle.lpc_base.specs.Rows.{count, has, which}
 use Rattle.lpc_base.proofs.RowWords.{every-push, has-kept, has-push}
 use Rattle.lpc_model.specs.declared.entry.Word.TheVariants as word
 use Rattle.lpc_model.specs.World.{Birth, Node, ObjectName, Path, ProcessRow, ThreadRow, WaitRow, World}
-use Rattle.lpc_model.specs.Found.{handle_count, is_connected_to, is_life, is_made_on, is_paired_to, is_sent_on, live_thread, lives_by, port_name, process_name, same_birth, same_object, thread_name, wait_of}
-use Rattle.lpc_model.specs.Basics.{AddsProcess, AddsThread, Binds, basic, no_handles, world_after}
-use Rattle.lpc_model.specs.Lines.{ScriptCall, ScriptLine, accept_connect_port, boot, close, complete_connect_port, connect_port, create_port, dir, duplicate_object, link, listen_port, query_object, reply_port, reply_wait_receive_port, request_port, request_wait_reply_port, run, thread}
+use Rattle.lpc_model.specs.Found.{handle_count, is_connected_to, is_life, is_made_on, is_paired_to, is_sent_on, live_thread, live_threads, lives_by, lives_in, port_name, process_name, registered_by, same_birth, same_object, thread_name, wait_of}
+use Rattle.lpc_model.specs.Basics.{AddsProcess, AddsThread, Basic, Binds, Dies, Withdraws, basic, in_turn, no_handles, world_after}
+use Rattle.lpc_model.specs.Lines.{ProcArg, ScriptCall, ScriptLine, accept_connect_port, boot, close, complete_connect_port, connect_port, create_port, dir, duplicate_object, link, listen_port, query_object, register_thread_terminate_port, reply_port, reply_wait_receive_port, request_port, request_wait_reply_port, run, terminate_process, terminate_thread, thread}
 use Rattle.lpc_names.specs.Walk.{LinkTo, Stands}
 use Rattle.lpc_names.specs.declared.names.Found.TheVariants.{Directory}
 use Rattle.lpc_model.specs.Named.{free_name, spelled_name}
 use Rattle.lpc_model.specs.Machine.{bare_steps, boot_line, dir_line, directive_birth, link_line, name_of_call, new_process, new_thread, ready_steps, service_of, thread_line, thread_steps, thread_test, unused_test}
-use Rattle.lpc_model.specs.Sweep.{loosened, unheld}
+use Rattle.lpc_model.specs.Sweep.{loosened, loosens, unheld}
 use Rattle.lpc_model.specs.Linked.{AreLivesHeld, HasHeldPorts, HasHeldRows}
 use Rattle.lpc_model.specs.Standing.{NamesWhatStands}
 use Rattle.lpc_model.specs.SoundWaits.{IsSoundWorld}
@@ -21,6 +21,7 @@ use Rattle.lpc_model.proofs.Births.{birth-self}
 use Rattle.lpc_model.proofs.SoundFrees.{fewer-pass}
 use Rattle.lpc_model.proofs.Holding.{Holds, bind_holds, directed_holds, settled_holds}
 use Rattle.lpc_model.proofs.Handles.{count-has}
+use Rattle.lpc_model.proofs.Registrations.{push-each}
 use Rattle.lpc_model.proofs.Usable.{CanCall, can-call}
 use Rattle.lpc_model.proofs.SteadyListen.{listen-steady}
 use Rattle.lpc_model.proofs.SteadyDatagram.{datagram-steady}
@@ -29,28 +30,94 @@ use Rattle.lpc_model.proofs.SteadyReply.{reply-steady}
 use Rattle.lpc_model.proofs.SteadyReceive.{receive-steady}
 use Rattle.lpc_model.proofs.SteadyQuery.{query-steady}
 use Rattle.lpc_model.proofs.Sweeping.{unheld_ports}
-use Rattle.lpc_model.proofs.HeldSteps.{KeepLives, KeepQuiet, counts-more, handles-push, held-some, lives-more, ports-more, push-more, steady_lives, steady_quiet}
+use Rattle.lpc_model.proofs.HeldSteps.{KeepLives, KeepQuiet, counts-more, handles-push, held-some, lives-more, loosened-on, not-less, ports-more, push-more, steady_lives, steady_quiet}
 use Rattle.lpc_model.proofs.HeldCreate.{create-lives, create-quiet}
 use Rattle.lpc_model.proofs.HeldConnect.{connect-lives, connect-quiet}
 use Rattle.lpc_model.proofs.HeldAccept.{accept-lives, accept-quiet}
 use Rattle.lpc_model.proofs.HeldComplete.{complete-lives, complete-quiet}
 use Rattle.lpc_model.proofs.HeldClose.{close-lives, close-quiet}
 use Rattle.lpc_model.proofs.HeldDuplicate.{duplicate-lives, duplicate-quiet}
+use Rattle.lpc_base.specs.declared.status.Status.{Status}
+use Rattle.lpc_model.specs.declared.entry.CallName.{CallName}
+use Rattle.lpc_model.specs.declared.entry.CallName.TheVariants.{NtTerminateProcess, NtTerminateThread}
+use Rattle.lpc_model.specs.Death.{code_status, cut_accepted, die, end_threads, nt_terminate_process, nt_terminate_thread}
+use Rattle.lpc_model.proofs.SteadyRegister.{register-steady}
+use Rattle.lpc_model.proofs.Ending.{answered_end, process-ends, thread-ends}
+use Rattle.lpc_model.proofs.Closing.{behind}
+
+-- NtTerminateThread and NtTerminateProcess let a thread go
+loosened-front : (xs ys : List Basic) (before : Bool) → loosened before xs ≡ true → loosened before (xs ++ ys) ≡ true
+loosened-front [] ys true is = loosened-on ys
+loosened-front [] ys false is = absurd (cc)
+loosened-front (x ∷ xs) ys before is = loosened-front xs ys (loosens x || before) is
+
+die-loosens : (code : Status) (t : ThreadRow) (w : World) → loosened false (die code t w) ≡ true
+die-loosens code t w =
+    let first = Dies t.number code ∷ Withdraws t.number ∷ [] in
+    loosened-front first (cut_accepted (wait_of w t.number) (world_after w first)) false refl
+
+end-loosens : (pid : ℕ) (code : Status) (t : ThreadRow) (ts : List ThreadRow) (w : World) → loosened false (end_threads pid code (t ∷ ts) w) ≡ true
+unfolding end_threads
+end-loosens pid code t ts w = loosened-front (in_turn (die code) (t ∷ ts) w) _ false (loosened-front (die code t w) (in_turn (die code) ts (behind (die code t) w)) false (die-loosens code t w))
+
+answered-loosens : (w : World) (by : ThreadRow) (call : CallName) (own : Bool) (pid : ℕ) (code : Status) (t : ThreadRow) (ts : List ThreadRow) → loosened false (answered_end by call own pid code (t ∷ ts) w) ≡ true
+answered-loosens w by call true pid code t ts = end-loosens pid code t ts w
+answered-loosens w by call false pid code t ts = end-loosens pid code t ts w
+
+abbrev is_empty : List ThreadRow → Bool
+is_empty [] = true
+is_empty (t ∷ ts) = false
+
+abbrev AreLoose : List Basic → Type 0
+AreLoose bs = loosened false bs ≡ true
+
+thread-loosens : (w : World) (by : ThreadRow) (target : ProcArg) (code : ℕ) → Holds AreLoose (nt_terminate_thread w by target code)
+thread-loosens w by target code = thread-ends AreLoose w by target code (λ t own _ _. answered-loosens w by NtTerminateThread own t.process (code_status code) t [])
+
+process-loosens : (w : World) (by : ThreadRow) (target : ProcArg) (code : ℕ) → Holds AreLoose (nt_terminate_process w by target code)
+process-loosens w by target code = process-ends AreLoose w by target code (λ pid own live. at own pid (live_threads w pid) (some (lives_in pid) w.threads live))
+  where
+    some : (p : ThreadRow → Bool) (ts : List ThreadRow) → has p ts ≡ true → is_empty (which p ts) ≡ false
+    some p [] is = absurd (cc)
+    some p (t ∷ ts) is = grind (arith, some p ts)
+
+    at : (own : Bool) (pid : ℕ) (ts : List ThreadRow) → is_empty ts ≡ false → AreLoose (answered_end by NtTerminateProcess own pid (code_status code) ts w)
+    at own pid [] off = absurd (cc)
+    at own pid (t ∷ ts) off = answered-loosens w by NtTerminateProcess own pid (code_status code) t ts
 
 -- Calls
-service-lives : (w : World) (by : ThreadRow) (call : ScriptCall) → IsSoundWorld w → NamesWhatStands w → AreLivesHeld w → Holds (KeepLives w) (service_of w by call)
-service-lives w by (create_port name) s n held = create-lives w by name s held
-service-lives w by (connect_port name info) s n held = connect-lives w by name info held
-service-lives w by (listen_port handle) s n held = steady_lives w _ held (listen-steady w by handle)
-service-lives w by (accept_connect_port context message accept) s n held = accept-lives w by context message accept s held
-service-lives w by (complete_connect_port handle) s n held = complete-lives w by handle s held
-service-lives w by (request_port handle bytes) s n held = steady_lives w _ held (datagram-steady w by handle bytes)
-service-lives w by (request_wait_reply_port handle bytes) s n held = steady_lives w _ held (request-steady w by handle bytes)
-service-lives w by (reply_port handle bytes) s n held = steady_lives w _ held (reply-steady w by handle bytes)
-service-lives w by (reply_wait_receive_port handle bytes) s n held = steady_lives w _ held (receive-steady w by handle bytes)
-service-lives w by (close handle) s n held = close-lives w by handle s n held
-service-lives w by (duplicate_object handle access) s n held = duplicate-lives w by handle access s held
-service-lives w by (query_object handle) s n held = steady_lives w _ held (query-steady w by handle)
+-- the processes and threads that steps leave are named by rows, where none of the steps lets a name go
+abbrev KeepLivesQuiet : World → List Basic → Type 0
+KeepLivesQuiet w bs = loosened false bs ≡ false → AreLivesHeld (world_after w bs)
+
+lives-later : (w : World) (r : Result (List Basic) Status) → Holds (KeepLives w) r → Holds (KeepLivesQuiet w) r
+lives-later w (Ok bs) held = λ _. held
+lives-later w (Err s) held = tt
+
+loose-lives : (w : World) (r : Result (List Basic) Status) → Holds AreLoose r → Holds (KeepLivesQuiet w) r
+loose-lives w (Ok bs) loose = λ quiet. absurd (cc)
+loose-lives w (Err s) loose = tt
+
+loose-quiet : (w : World) (r : Result (List Basic) Status) → Holds AreLoose r → Holds (KeepQuiet w) r
+loose-quiet w (Ok bs) loose = λ quiet. absurd (cc)
+loose-quiet w (Err s) loose = tt
+
+service-lives : (w : World) (by : ThreadRow) (call : ScriptCall) → IsSoundWorld w → NamesWhatStands w → AreLivesHeld w → Holds (KeepLivesQuiet w) (service_of w by call)
+service-lives w by (create_port name) s n held = lives-later w _ (create-lives w by name s held)
+service-lives w by (connect_port name info) s n held = lives-later w _ (connect-lives w by name info held)
+service-lives w by (listen_port handle) s n held = lives-later w _ (steady_lives w _ held (listen-steady w by handle))
+service-lives w by (accept_connect_port context message accept) s n held = lives-later w _ (accept-lives w by context message accept s held)
+service-lives w by (complete_connect_port handle) s n held = lives-later w _ (complete-lives w by handle s held)
+service-lives w by (request_port handle bytes) s n held = lives-later w _ (steady_lives w _ held (datagram-steady w by handle bytes))
+service-lives w by (request_wait_reply_port handle bytes) s n held = lives-later w _ (steady_lives w _ held (request-steady w by handle bytes))
+service-lives w by (reply_port handle bytes) s n held = lives-later w _ (steady_lives w _ held (reply-steady w by handle bytes))
+service-lives w by (reply_wait_receive_port handle bytes) s n held = lives-later w _ (steady_lives w _ held (receive-steady w by handle bytes))
+service-lives w by (register_thread_terminate_port handle) s n held = lives-later w _ (steady_lives w _ held (register-steady w by handle))
+service-lives w by (close handle) s n held = lives-later w _ (close-lives w by handle s n held)
+service-lives w by (duplicate_object handle access) s n held = lives-later w _ (duplicate-lives w by handle access s held)
+service-lives w by (query_object handle) s n held = lives-later w _ (steady_lives w _ held (query-steady w by handle))
+service-lives w by (terminate_thread target code) s n held = loose-lives w _ (thread-loosens w by target code)
+service-lives w by (terminate_process target code) s n held = loose-lives w _ (process-loosens w by target code)
 
 service-quiet : (w : World) (by : ThreadRow) (call : ScriptCall) → CanCall w by → IsSoundWorld w → HasHeldPorts w → Holds (KeepQuiet w) (service_of w by call)
 service-quiet w by (create_port name) c s held = create-quiet w by name c s held
@@ -62,16 +129,19 @@ service-quiet w by (request_port handle bytes) c s held = steady_quiet w _ held 
 service-quiet w by (request_wait_reply_port handle bytes) c s held = steady_quiet w _ held (request-steady w by handle bytes)
 service-quiet w by (reply_port handle bytes) c s held = steady_quiet w _ held (reply-steady w by handle bytes)
 service-quiet w by (reply_wait_receive_port handle bytes) c s held = steady_quiet w _ held (receive-steady w by handle bytes)
+service-quiet w by (register_thread_terminate_port handle) c s held = steady_quiet w _ held (register-steady w by handle)
 service-quiet w by (close handle) c s held = close-quiet w by handle
 service-quiet w by (duplicate_object handle access) c s held = duplicate-quiet w by handle access s held
 service-quiet w by (query_object handle) c s held = steady_quiet w _ held (query-steady w by handle)
+service-quiet w by (terminate_thread target code) c s held = loose-quiet w _ (thread-loosens w by target code)
+service-quiet w by (terminate_process target code) c s held = loose-quiet w _ (process-loosens w by target code)
 
-ready-lives : (w : World) (by : ThreadRow) (call : ScriptCall) (o : Option WaitRow) → IsSoundWorld w → NamesWhatStands w → AreLivesHeld w → KeepLives w (ready_steps by call o w)
-ready-lives w by call (Some x) s n held = held
-ready-lives w by call None s n held = settled_holds (KeepLives w) by (name_of_call call) (service_of w by call) (service-lives w by call s n held) (λ _ _. held)
+ready-lives : (w : World) (by : ThreadRow) (call : ScriptCall) (o : Option WaitRow) → IsSoundWorld w → NamesWhatStands w → AreLivesHeld w → KeepLivesQuiet w (ready_steps by call o w)
+ready-lives w by call (Some x) s n held = λ _. held
+ready-lives w by call None s n held = settled_holds (KeepLivesQuiet w) by (name_of_call call) (service_of w by call) (service-lives w by call s n held) (λ _ _. λ _. held)
 
-thread-lives : (w : World) (tid : ℕ) (call : ScriptCall) (o : Option ThreadRow) → IsSoundWorld w → NamesWhatStands w → AreLivesHeld w → KeepLives w (thread_steps tid call o w)
-thread-lives w tid call None s n held = held
+thread-lives : (w : World) (tid : ℕ) (call : ScriptCall) (o : Option ThreadRow) → IsSoundWorld w → NamesWhatStands w → AreLivesHeld w → KeepLivesQuiet w (thread_steps tid call o w)
+thread-lives w tid call None s n held = λ _. held
 thread-lives w tid call (Some by) s n held = ready-lives w by call (wait_of w tid) s n held
 
 ready-quiet : (w : World) (by : ThreadRow) (call : ScriptCall) (o : Option WaitRow) → (o ≡ None → CanCall w by) → IsSoundWorld w → HasHeldPorts w → KeepQuiet w (ready_steps by call o w)
@@ -142,7 +212,14 @@ module _ (w : World) (pid tid : ℕ) where
       }
 
   boot-ports : HasHeldPorts w → HasHeldPorts booted
-  boot-ports held = ports-more w booted (λ b. counts-more _ (count (is_paired_to b) w.ports) (count (is_connected_to b) w.ports) (count (is_sent_on b) w.messages) (count (is_made_on b) w.waits) _ _ _ _ _ (booted-handles (port_name b)) (omega arith) (omega arith) (omega arith) (omega arith)) held
+  boot-ports held = ports-more w booted (λ b. counts-more _ (count (is_paired_to b) w.ports) (count (is_connected_to b) w.ports) (count (is_sent_on b) w.messages) (count (is_made_on b) w.waits) _ _ _ _ _ _ _ (booted-handles (port_name b)) (omega arith) (omega arith) (omega arith) (omega arith) (not-less _ _ (ap (count (same_birth b)) (push-each registered_by booted_thread refl w.threads)))) held
+
+-- a thread that is made has registered no port
+further-ports : (w : World) (tid pid : ℕ) → HasHeldPorts w → HasHeldPorts (basic w (AddsThread (new_thread tid pid (directive_birth tid))))
+further-ports w tid pid held =
+    let t = new_thread tid pid (directive_birth tid) in
+    ports-more w (basic w (AddsThread t)) (λ b. counts-more (handle_count w (port_name b)) (count (is_paired_to b) w.ports) (count (is_connected_to b) w.ports) (count (is_sent_on b) w.messages) (count (is_made_on b) w.waits) _ _ _ _ _ _ _
+    (omega arith) (omega arith) (omega arith) (omega arith) (omega arith) (not-less _ _ (ap (count (same_birth b)) (push-each registered_by t refl w.threads)))) held
 
 -- Directives
 boot-lives : (w : World) (pid tid : ℕ) → AreLivesHeld w → Holds (KeepLives w) (boot_line w pid tid)
@@ -159,7 +236,7 @@ further-lives w tid pid held = bind_holds (thread_test w tid pid) _ (KeepLives w
 
 further-quiet : (w : World) (tid pid : ℕ) → HasHeldPorts w → Holds (KeepQuiet w) (thread_line w tid pid)
 unfolding thread_line
-further-quiet w tid pid held = bind_holds (thread_test w tid pid) _ (KeepQuiet w) (λ _ _. λ _. held)
+further-quiet w tid pid held = bind_holds (thread_test w tid pid) _ (KeepQuiet w) (λ _ _. λ _. further-ports w tid pid held)
 
 -- a name that is bound holds no row
 bound-lives : (w : World) (path : Path) (node : Node Birth) → AreLivesHeld w → AreLivesHeld (basic w (Binds path node))
@@ -186,13 +263,13 @@ link-quiet w text target held =
     bind_holds (free_name w text) _ (KeepQuiet w) (λ path _. λ _. held))
 
 -- Lines
--- before rows go, each process and thread row is named by a row
-pub lives_kept : (w : World) (line : ScriptLine) → IsSoundWorld w → NamesWhatStands w → AreLivesHeld w → AreLivesHeld (world_after w (bare_steps line w))
+-- before rows go, each process and thread row is named by a row, where the line lets no name go
+pub lives_kept : (w : World) (line : ScriptLine) → IsSoundWorld w → NamesWhatStands w → AreLivesHeld w → loosened false (bare_steps line w) ≡ false → AreLivesHeld (world_after w (bare_steps line w))
 unfolding bare_steps
-lives_kept w (boot pid tid) s n held = directed_holds (KeepLives w) word.Boot (boot_line w pid tid) (boot-lives w pid tid held) (λ _. held)
-lives_kept w (thread tid pid) s n held = directed_holds (KeepLives w) word.Thread (thread_line w tid pid) (further-lives w tid pid held) (λ _. held)
-lives_kept w (dir path) s n held = directed_holds (KeepLives w) word.Dir (dir_line w path) (dir-lives w path held) (λ _. held)
-lives_kept w (link path target) s n held = directed_holds (KeepLives w) word.Link (link_line w path target) (link-lives w path target held) (λ _. held)
+lives_kept w (boot pid tid) s n held = directed_holds (KeepLivesQuiet w) word.Boot (boot_line w pid tid) (lives-later w (boot_line w pid tid) (boot-lives w pid tid held)) (λ _. λ _. held)
+lives_kept w (thread tid pid) s n held = directed_holds (KeepLivesQuiet w) word.Thread (thread_line w tid pid) (lives-later w (thread_line w tid pid) (further-lives w tid pid held)) (λ _. λ _. held)
+lives_kept w (dir path) s n held = directed_holds (KeepLivesQuiet w) word.Dir (dir_line w path) (lives-later w (dir_line w path) (dir-lives w path held)) (λ _. λ _. held)
+lives_kept w (link path target) s n held = directed_holds (KeepLivesQuiet w) word.Link (link_line w path target) (lives-later w (link_line w path target) (link-lives w path target held)) (λ _. λ _. held)
 lives_kept w (run tid call) s n held = thread-lives w tid call (live_thread w tid) s n held
 
 -- and each port row, where the line lets no name go
@@ -206,4 +283,4 @@ ports_kept w (run tid call) s held = thread-quiet w tid call (live_thread w tid)
 
 -- so such a line leaves no row that no row names
 pub quiet_line : (w : World) (line : ScriptLine) → IsSoundWorld w → NamesWhatStands w → HasHeldRows w → loosened false (bare_steps line w) ≡ false → unheld (world_after w (bare_steps line w)) ≡ []
-quiet_line w line s n held quiet = unheld_ports (world_after w (bare_steps line w)) (lives_kept w line s n held.lives) (ports_kept w line s held.ports quiet)
+quiet_line w line s n held quiet = unheld_ports (world_after w (bare_steps line w)) (lives_kept w line s n held.lives quiet) (ports_kept w line s held.ports quiet)

@@ -27,7 +27,7 @@ abbrev pub rest : List WaitRow → List WaitRow → List WaitRow
 rest [] ws = ws
 rest (x ∷ xs) ws = rest xs (without (waits_as x.thread) ws)
 
-ended-world : (xs : List WaitRow) (w : World) → world_after w (each end_accepted xs) ≡ record w { waits = rest xs w.waits }
+pub ended-world : (xs : List WaitRow) (w : World) → world_after w (each end_accepted xs) ≡ record w { waits = rest xs w.waits }
 ended-world [] w = refl
 ended-world (x ∷ xs) w = ended-world xs (record w { waits = without (waits_as x.thread) w.waits })
 

@@ -11,7 +11,7 @@ use Rattle.lpc_model.proofs.Rows.{count_none}
 use Rattle.lpc_model.proofs.Handles.{has-each, open-count}
 
 -- Counts of all handles
-count-append : {X : Type 0} (p : X → Bool) (xs ys : List X) → count p (xs ++ ys) ≡ count p xs + count p ys
+pub count-append : {X : Type 0} (p : X → Bool) (xs ys : List X) → count p (xs ++ ys) ≡ count p xs + count p ys
 count-append p [] ys = grind arith
 count-append p (x ∷ xs) ys = grind (arith, count-append p xs ys)
 
@@ -20,7 +20,7 @@ abbrev pub one_if : Bool → ℕ
 one_if b = cond b 1 0
 
 -- one row less
-count-first : {X : Type 0} (p test : X → Bool) (xs : List X) (r : X) → first test xs ≡ Some r → count p (without_first test xs) + one_if (p r) ≡ count p xs
+pub count-first : {X : Type 0} (p test : X → Bool) (xs : List X) (r : X) → first test xs ≡ Some r → count p (without_first test xs) + one_if (p r) ≡ count p xs
 count-first p test [] r at = absurd (cc)
 count-first p test (x ∷ xs) r at = grind (arith, count-first p test xs r)
 

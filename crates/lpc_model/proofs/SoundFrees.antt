@@ -1,5 +1,5 @@
 -- Rows that nothing names go, and waits stay sound.
-use Rattle.std.proofs.Common.{◌≡◌, ℕ, ◌+◌, ◌≤◌, List, [], ◌∷◌, Bool, true, false, map, not, refl, arith}
+use Rattle.std.proofs.Common.{◌≡◌, ◌∙◌, ℕ, ◌+◌, ◌≤◌, List, [], ◌∷◌, Bool, true, false, map, not, refl, arith}
 use Rattle.std.specs.Prelude.{◌&&◌, ◌==◌}
 use Rattle.std.proofs.lemmas.Bool.Decides.{nat_tests}
 use Rattle.lpc_base.specs.Rows.{count, every, first, has, which, without}
@@ -7,11 +7,12 @@ use Rattle.lpc_base.proofs.RowWords.{every-more, every-without}
 use Rattle.lpc_base.proofs.RowMaps.{every-both}
 use Rattle.lpc_model.specs.declared.entry.ObjectKind.TheVariants as kind
 use Rattle.lpc_model.specs.World.{Birth, ObjectKind, ObjectName, PortRow, ThreadRow, World}
-use Rattle.lpc_model.specs.Found.{handle_count, holders, is_connected_to, is_port, lives_by, is_life, is_live_thread, is_made_on, is_paired_to, live_thread, pointer_count, same_birth, was_thread}
+use Rattle.lpc_model.specs.Found.{all_registrations, handle_count, holders, is_connected_to, is_port, lives_by, is_life, is_live_thread, is_made_on, is_paired_to, live_thread, pointer_count, registered_by, same_birth, was_thread}
 use Rattle.lpc_model.specs.Basics.{Frees, basic, freed, world_after}
 use Rattle.lpc_model.specs.Sweep.{free_unheld, is_unheld, sweep, unheld}
 use Rattle.lpc_model.specs.SoundWaits.{IsSoundWorld, has_home}
 use Rattle.lpc_model.proofs.Rows.{count-without, has-less}
+use Rattle.lpc_model.proofs.Registrations.{dead-each, fewer-each}
 use Rattle.lpc_model.proofs.SoundPairs.{tied-of}
 use Rattle.lpc_model.proofs.SoundTies.{is_joined_to}
 use Rattle.lpc_model.proofs.SoundWorlds.{port-kept, sound-kept, stands-same}
@@ -96,7 +97,7 @@ freed-sound w o none s = at o.kind (is-zero (pointer_count w o) none)
     at kind.Port few =
         let paired = count (is_paired_to b) w.ports in
         let connected = count (is_connected_to b) w.ports in
-        let held : paired + (connected + (count (λ m. same_birth m.sender b) w.messages + count (is_made_on b) w.waits)) ≤ 0 = sum-second _ _ few in
+        let held : paired + (connected + (count (λ m. same_birth m.sender b) w.messages + (count (is_made_on b) w.waits + count (same_birth b) (all_registrations w)))) ≤ 0 = sum-second _ _ few in
         let waits = none-pass (is_made_on b) w.waits (omega (arith, held)) in
         let one = none-pass (is_paired_to b) w.ports (omega (arith, held)) in
         let two = none-pass (is_connected_to b) w.ports (omega (arith, held)) in
@@ -124,6 +125,9 @@ still-lives w b c t is = at t.live is
 less : (a b c d e f : ℕ) → a ≤ d → b ≤ e → a + (b + (c + f)) ≤ d + (e + (c + f))
 less a b c d e f one two = omega (arith, one, two)
 
+last-less : (a b c d e f : ℕ) → f ≤ e → a + (b + (c + (d + f))) ≤ a + (b + (c + (d + e)))
+last-less a b c d e f is = omega (arith, is)
+
 fewer-holders : (w : World) (g k : ObjectKind) (c b : Birth) → holders (freed w g c) k b ≤ holders w k b
 fewer-holders w kind.Port k c b = at k
   where
@@ -146,7 +150,7 @@ fewer-holders w kind.Process k c b = at k
 fewer-holders w kind.Thread k c b = at k
   where
     at : (k : ObjectKind) → holders (freed w kind.Thread c) k b ≤ holders w k b
-    at kind.Port = omega arith
+    at kind.Port = last-less _ _ _ _ _ _ (fewer-each (same_birth b) registered_by (λ t. same_birth t.birth c) w.threads)
     at kind.Section = omega arith
     at kind.Token = omega arith
     at kind.Process = count-without (lives_by w b) (λ t. same_birth t.birth c) w.threads
@@ -165,6 +169,24 @@ still-zero a b c d one two is = grind (arith, nat_tests)
 pub less-held : (w : World) (gone o : ObjectName) → is_unheld w o ≡ true → is_unheld (basic w (Frees gone)) o ≡ true
 less-held w gone o none =
     still-zero (handle_count w o) (holders w o.kind o.birth) _ _ (same-handles w gone.kind gone.birth o) (fewer-holders w gone.kind o.kind gone.birth o.birth) none
+
+-- and the registrations of live threads stay
+pub freed-registrations : (w : World) (o : ObjectName) → is_unheld w o ≡ true → all_registrations (basic w (Frees o)) ≡ all_registrations w
+freed-registrations w o none = at o.kind o.birth (is-zero (pointer_count w o) none)
+  where
+    at : (k : ObjectKind) (b : Birth) → pointer_count w (record { kind = k; birth = b }) ≤ 0 → all_registrations (freed w k b) ≡ all_registrations w
+    at kind.Port b few = refl
+    at kind.Section b few = refl
+    at kind.Token b few = refl
+    at kind.Process b few = refl
+    at kind.Thread b few = dead-each b w.threads (none-pass (is_life b) w.threads (sum-second _ _ few))
+
+pub frees-registrations : (w : World) (os : List ObjectName) → every (is_unheld w) os ≡ true → all_registrations (world_after w (map Frees os)) ≡ all_registrations w
+frees-registrations w [] all = refl
+frees-registrations w (o ∷ os) all =
+    let here : is_unheld w o ≡ true = grind arith in
+    let later : every (is_unheld w) os ≡ true = grind arith in
+    frees-registrations (basic w (Frees o)) os (every-more (is_unheld w) (is_unheld (basic w (Frees o))) (less-held w o) os later) ∙ freed-registrations w o here
 
 freed-all : (w : World) (os : List ObjectName) → every (is_unheld w) os ≡ true → IsSoundWorld w → IsSoundWorld (world_after w (map Frees os))
 freed-all w [] all s = s

@@ -6,7 +6,6 @@ use Rattle.std.proofs.lemmas.Bool.Decides.{nat_tests}
 use Rattle.lpc_base.specs.Rows.{first, has}
 use Rattle.lpc_base.proofs.RowWords.{first-passes, has-push}
 use Rattle.lpc_base.proofs.RowMaps.{every-first}
-use Rattle.std.specs.List.{AllByRecursion}
 use Rattle.lpc_base.specs.declared.status.TheConstants.{INVALID_CID, OBJECT_NAME_COLLISION}
 use Rattle.lpc_model.specs.declared.entry.Word.TheVariants as word
 use Rattle.lpc_model.specs.World.{ThreadRow, WaitRow, World, no_rows}
@@ -15,16 +14,14 @@ use Rattle.lpc_model.specs.Basics.{AddsProcess, Basic, basic, no_handles, world_
 use Rattle.lpc_model.specs.Sweep.{sweep}
 use Rattle.lpc_model.proofs.SoundFrees.{swept-sound}
 use Rattle.lpc_model.proofs.SoundQueues.{after-append}
-use Rattle.lpc_model.specs.Lines.{ScriptCall, ScriptLine, accept_connect_port, boot, close, complete_connect_port, connect_port, create_port, duplicate_object, listen_port, query_object, reply_port, reply_wait_receive_port, request_port, request_wait_reply_port, dir, link, run, thread}
-use Rattle.lpc_model.specs.Machine.{Stepped, boot_line, dir_line, directive_birth, link_line, live_test, name_of_call, new_process, new_thread, ready_steps, service_of, bare_steps, thread_count_test, thread_line, thread_steps, thread_test, unused_test, unused_thread_test}
+use Rattle.lpc_model.specs.Lines.{ScriptCall, ScriptLine, accept_connect_port, boot, close, complete_connect_port, connect_port, create_port, dir, duplicate_object, link, listen_port, query_object, register_thread_terminate_port, reply_port, reply_wait_receive_port, request_port, request_wait_reply_port, run, terminate_process, terminate_thread, thread}
+use Rattle.lpc_model.specs.Machine.{boot_line, dir_line, directive_birth, link_line, live_test, name_of_call, new_process, new_thread, ready_steps, service_of, bare_steps, thread_count_test, thread_line, thread_steps, thread_test, unused_test, unused_thread_test}
 use Rattle.lpc_model.specs.Named.{free_name, spelled_name}
 use Rattle.lpc_names.specs.Walk.{LinkTo, Stands}
 use Rattle.lpc_names.specs.declared.names.Found.TheVariants.{Directory}
-use Rattle.lpc_model.specs.Run.{line_step, said_in, trace}
-use Rattle.lpc_model.specs.SoundWaits.{HasSoundWaits, has_home, IsSoundWorld, RefusesCutPairsAlone, RunRefusesCutPairsAlone, RunStaysSound, StepsStaySound}
+use Rattle.lpc_model.specs.SoundWaits.{HasShutConnects, HasSoundWaits, IsSoundWorld, StepsStaySound, has_home}
 use Rattle.lpc_model.proofs.Holding.{Holds, bind_holds, directed_holds, holds_any, holds_ok, not_refused, settled_holds}
 use Rattle.lpc_model.proofs.Usable.{CanCall, can-call}
-use Rattle.lpc_model.proofs.SoundPairs.{refuses_cut_pairs}
 use Rattle.lpc_model.proofs.SoundBasics.{sound-binds, sound-process, sound-thread}
 use Rattle.lpc_model.proofs.SoundCalls.{LeaveSound}
 use Rattle.lpc_model.proofs.SoundCreate.{create-sound}
@@ -39,30 +36,35 @@ use Rattle.lpc_model.proofs.SoundReceive.{receive-sound}
 use Rattle.lpc_model.proofs.SoundClose.{close-sound}
 use Rattle.lpc_model.proofs.SoundDuplicate.{duplicate-sound}
 use Rattle.lpc_model.proofs.SoundQuery.{query-sound}
+use Rattle.lpc_model.proofs.SoundRegister.{register-sound}
+use Rattle.lpc_model.proofs.SoundTerminate.{terminate-process-sound, terminate-thread-sound}
 
 -- Calls
-service-sound : (w : World) (by : ThreadRow) (call : ScriptCall) → CanCall w by → IsSoundWorld w → Holds (LeaveSound w) (service_of w by call)
-service-sound w by (create_port name) c s = create-sound w by name c s
-service-sound w by (connect_port name info) c s = connect-sound w by name info c s
-service-sound w by (listen_port handle) c s = listen-sound w by handle c s
-service-sound w by (accept_connect_port context message accept) c s = accept-sound w by context message accept c s
-service-sound w by (complete_connect_port handle) c s = complete-sound w by handle s
-service-sound w by (request_port handle bytes) c s = datagram-sound w by handle bytes s
-service-sound w by (request_wait_reply_port handle bytes) c s = request-sound w by handle bytes c s
-service-sound w by (reply_port handle bytes) c s = reply-sound w by handle bytes s
-service-sound w by (reply_wait_receive_port handle bytes) c s = receive-sound w by handle bytes c s
-service-sound w by (close handle) c s = close-sound w by handle s
-service-sound w by (duplicate_object handle access) c s = duplicate-sound w by handle access s
-service-sound w by (query_object handle) c s = query-sound w by handle s
+service-sound : (w : World) (by : ThreadRow) (call : ScriptCall) → CanCall w by → IsSoundWorld w → HasShutConnects w → Holds (LeaveSound w) (service_of w by call)
+service-sound w by (create_port name) c s shut = create-sound w by name c s
+service-sound w by (connect_port name info) c s shut = connect-sound w by name info c s
+service-sound w by (listen_port handle) c s shut = listen-sound w by handle c s
+service-sound w by (accept_connect_port context message accept) c s shut = accept-sound w by context message accept c s
+service-sound w by (complete_connect_port handle) c s shut = complete-sound w by handle s
+service-sound w by (request_port handle bytes) c s shut = datagram-sound w by handle bytes s
+service-sound w by (request_wait_reply_port handle bytes) c s shut = request-sound w by handle bytes c s
+service-sound w by (reply_port handle bytes) c s shut = reply-sound w by handle bytes s
+service-sound w by (reply_wait_receive_port handle bytes) c s shut = receive-sound w by handle bytes c s
+service-sound w by (register_thread_terminate_port handle) c s shut = register-sound w by handle s
+service-sound w by (close handle) c s shut = close-sound w by handle s
+service-sound w by (duplicate_object handle access) c s shut = duplicate-sound w by handle access s
+service-sound w by (query_object handle) c s shut = query-sound w by handle s
+service-sound w by (terminate_thread target code) c s shut = terminate-thread-sound w by target code s shut
+service-sound w by (terminate_process target code) c s shut = terminate-process-sound w by target code s shut
 
-ready-sound : (w : World) (by : ThreadRow) (call : ScriptCall) (o : Option WaitRow) → (o ≡ None → CanCall w by) → IsSoundWorld w → LeaveSound w (ready_steps by call o w)
-ready-sound w by call (Some x) c s = s
-ready-sound w by call None c s =
-    settled_holds (LeaveSound w) by (name_of_call call) (service_of w by call) (service-sound w by call (c refl) s) (λ _ _. s)
+ready-sound : (w : World) (by : ThreadRow) (call : ScriptCall) (o : Option WaitRow) → (o ≡ None → CanCall w by) → IsSoundWorld w → HasShutConnects w → LeaveSound w (ready_steps by call o w)
+ready-sound w by call (Some x) c s shut = s
+ready-sound w by call None c s shut =
+    settled_holds (LeaveSound w) by (name_of_call call) (service_of w by call) (service-sound w by call (c refl) s shut) (λ _ _. s)
 
-thread-sound : (w : World) (tid : ℕ) (call : ScriptCall) (o : Option ThreadRow) → live_thread w tid ≡ o → IsSoundWorld w → LeaveSound w (thread_steps tid call o w)
-thread-sound w tid call None live s = s
-thread-sound w tid call (Some by) live s = ready-sound w by call (wait_of w tid) (λ idle. can-call w tid by live idle s) s
+thread-sound : (w : World) (tid : ℕ) (call : ScriptCall) (o : Option ThreadRow) → live_thread w tid ≡ o → IsSoundWorld w → HasShutConnects w → LeaveSound w (thread_steps tid call o w)
+thread-sound w tid call None live s shut = s
+thread-sound w tid call (Some by) live s shut = ready-sound w by call (wait_of w tid) (λ idle. can-call w tid by live idle s) s shut
 
 -- Directives
 first-unused : (a b : Bool) → (a || b) ≡ false → a ≡ false
@@ -94,7 +96,7 @@ live-home w pid s is = at (first (lives_in pid) w.threads) refl is
         subst (λ n. has (is_table n) w.handles ≡ true) (eqb-true t.process pid same) (every-first (has_home w) (lives_in pid) w.threads t s.homes here)
 
 -- the tests of a further thread find its process live, and its number unused
-tested-further : (w : World) (tid pid : ℕ) → Holds (λ _. (is_live w pid ≡ true) × (was_thread w tid ≡ false)) (thread_test w tid pid)
+pub tested-further : (w : World) (tid pid : ℕ) → Holds (λ _. (is_live w pid ≡ true) × (was_thread w tid ≡ false)) (thread_test w tid pid)
 tested-further w tid pid =
     let P : Unit {0} → Type 0 = λ _. (is_live w pid ≡ true) × (was_thread w tid ≡ false) in
     bind_holds (live_test w pid) _ P (λ u is.
@@ -121,13 +123,13 @@ link-sound w text target s =
 
 -- Lines
 -- before rows go
-pub line-sound : (w : World) (line : ScriptLine) → IsSoundWorld w → LeaveSound w (bare_steps line w)
+pub line-sound : (w : World) (line : ScriptLine) → IsSoundWorld w → HasShutConnects w → LeaveSound w (bare_steps line w)
 unfolding bare_steps
-line-sound w (boot pid tid) s = directed_holds (LeaveSound w) word.Boot (boot_line w pid tid) (boot-sound w pid tid s) (λ _. s)
-line-sound w (thread tid pid) s = directed_holds (LeaveSound w) word.Thread (thread_line w tid pid) (further-sound w tid pid s) (λ _. s)
-line-sound w (dir path) s = directed_holds (LeaveSound w) word.Dir (dir_line w path) (dir-sound w path s) (λ _. s)
-line-sound w (link path target) s = directed_holds (LeaveSound w) word.Link (link_line w path target) (link-sound w path target s) (λ _. s)
-line-sound w (run tid call) s = thread-sound w tid call (live_thread w tid) refl s
+line-sound w (boot pid tid) s shut = directed_holds (LeaveSound w) word.Boot (boot_line w pid tid) (boot-sound w pid tid s) (λ _. s)
+line-sound w (thread tid pid) s shut = directed_holds (LeaveSound w) word.Thread (thread_line w tid pid) (further-sound w tid pid s) (λ _. s)
+line-sound w (dir path) s shut = directed_holds (LeaveSound w) word.Dir (dir_line w path) (dir-sound w path s) (λ _. s)
+line-sound w (link path target) s shut = directed_holds (LeaveSound w) word.Link (link_line w path target) (link-sound w path target s) (λ _. s)
+line-sound w (run tid call) s shut = thread-sound w tid call (live_thread w tid) refl s shut
 
 -- the world before the first line is sound
 pub sound_none : IsSoundWorld no_rows
@@ -148,7 +150,7 @@ sound_none = record {
 
 -- the step of a line keeps a world sound
 pub sound_step : StepsStaySound
-sound_step w line s = swept w (bare_steps line w) (line-sound w line s)
+sound_step w line s shut = swept w (bare_steps line w) (line-sound w line s shut)
   where
     swept : (w : World) (bs : List Basic) → LeaveSound w bs → LeaveSound w (bs ++ sweep (world_after w bs))
     swept w bs t = rw (after-append w bs (sweep (world_after w bs))) (swept-sound (world_after w bs) t)
@@ -156,24 +158,3 @@ sound_step w line s = swept w (bare_steps line w) (line-sound w line s)
 -- a sound world has sound waits
 pub sound_waits : (w : World) → IsSoundWorld w → HasSoundWaits w
 sound_waits w s = s.waits
-
--- Runs
-said-sound : (w : World) (said : Option ScriptLine) → IsSoundWorld w → IsSoundWorld (line_step w said).world
-said-sound w None s = s
-said-sound w (Some line) s = sound_step w line s
-
--- what holds of each sound world holds of the world that each line leaves
-trace-keeps : (P : World → Type 0) → ((w : World) → IsSoundWorld w → P w) → (w : World) (lines : List (Option ScriptLine)) → IsSoundWorld w → AllByRecursion (λ (s : Stepped). P s.world) (trace w lines)
-unfolding trace
-trace-keeps P holds w [] s = tt
-trace-keeps P holds w (said ∷ later) s =
-    let after = said-sound w said s in
-    (holds (line_step w said).world after, trace-keeps P holds (line_step w said).world later after)
-
--- each line of a script leaves a world with sound waits
-pub sound_run : (bytes : List ℕ) → RunStaysSound bytes
-sound_run bytes = trace-keeps HasSoundWaits sound_waits no_rows (said_in bytes) sound_none
-
--- and one that refuses completions on cut pairs alone
-pub cut_pairs_run : (bytes : List ℕ) → RunRefusesCutPairsAlone bytes
-cut_pairs_run bytes = trace-keeps RefusesCutPairsAlone refuses_cut_pairs no_rows (said_in bytes) sound_none

@@ -7,20 +7,21 @@ use Rattle.lpc_base.proofs.RowWords.{every-append, every-change, every-more, eve
 use Rattle.lpc_base.proofs.RowMaps.{every-both, every-first, every-without_first}
 use Rattle.lpc_model.specs.declared.entry.ObjectKind.TheVariants as kind
 use Rattle.lpc_model.specs.World.{Birth, HandleRow, HandleTable, MessageRow, ObjectKind, ObjectName, PortRow, WaitRow, World}
-use Rattle.lpc_model.specs.Found.{has_handle_to, has_value, is_connected_to, is_made_on, is_own_of, is_paired_to, is_port, is_queued, is_queued_connect, is_request, is_sent_on, is_table, is_the, names_port, pointer_count, port_name, port_row, same_birth, same_kind, waits_as, waits_at}
-use Rattle.lpc_model.specs.Basics.{Accepts, AddsHandle, AddsProcess, AddsThread, Awaits, Basic, Binds, Completes, Cuts, DrawsIdentifier, DrawsOrdinal, DropsHandle, Empties, Enters, Frees, Joins, Makes, Receives, Takes, TakesConnect, Tells, Unbinds, Wakes, Withdraws, accepted, basic, completed, cut, is_end_of, no_handles, put_handle, received, with_handle, without_handle, world_after}
+use Rattle.lpc_model.specs.Found.{all_registrations, has_handle_to, has_value, is_connected_to, is_made_on, is_own_of, is_paired_to, is_port, is_queued, is_queued_connect, is_request, is_sent_on, is_table, is_the, is_thread, names_port, pointer_count, port_name, port_row, registered_by, same_birth, same_kind, waits_as, waits_at}
+use Rattle.lpc_model.specs.Basics.{Accepts, AddsHandle, AddsProcess, AddsThread, Awaits, Basic, Binds, Completes, Cuts, Dies, DrawsIdentifier, DrawsOrdinal, DropsHandle, Empties, Enters, Frees, Joins, Makes, Receives, Registers, Takes, TakesConnect, Tells, Unbinds, Unregisters, Wakes, Withdraws, accepted, basic, completed, cut, ended, is_end_of, no_handles, past_identifier, past_ordinal, put_handle, received, registering, unregistering, with_handle, without_handle, world_after}
 use Rattle.lpc_model.specs.Sweep.{free_unheld, is_unheld, sweep, unheld}
-use Rattle.lpc_model.specs.Standing.{NamesWhatStands, has_near_queue, is_near, is_to_port}
+use Rattle.lpc_model.specs.Standing.{NamesWhatStands, has_near_queue, is_near, is_to_port, port_stands}
 use Rattle.lpc_model.proofs.Rows.{has-without, passes-change}
 use Rattle.lpc_model.proofs.Births.{birth-same}
 use Rattle.lpc_model.proofs.SoundPairs.{every-any}
 use Rattle.lpc_model.proofs.SoundWorlds.{by_kind}
 use Rattle.lpc_model.proofs.SoundQueues.{after-append}
 use Rattle.lpc_model.proofs.SoundFrees.{is-zero, less-held, none-pass, sum-second, which-all}
-use Rattle.lpc_model.proofs.SoundCuts.{cut-row}
+use Rattle.lpc_model.proofs.SoundCuts.{cut-row, flip}
 use Rattle.lpc_model.proofs.SoundClosing.{is_cut_request}
 use Rattle.lpc_model.proofs.LinkedSteps.{push-passes}
 use Rattle.lpc_model.proofs.LinkedJoins.{row-freed, unopen}
+use Rattle.lpc_model.proofs.Registrations.{All, all-changed, all-left, all-pushed, registering-all, unregistering-all}
 
 -- What keeps it
 -- the ports that stand in one world do in another, and what is near a port there is here
@@ -46,13 +47,14 @@ to-port-kept : (w v : World) → StaysNear w v → (h : HandleRow) → is_to_por
 to-port-kept w v s h is = port-parts (same_kind h.object.kind kind.Port) (has (is_port h.object.birth) w.ports) (has (is_port h.object.birth) v.ports) (s.ports h.object.birth) is
 
 pub kept : (w v : World) → StaysNear w v → (every (tables_to_ports w) w.handles ≡ true → every (tables_to_ports w) v.handles ≡ true) → (every (sent_on_port w) w.messages ≡ true → every (sent_on_port w) v.messages ≡ true)
-    → (every (has_near_queue w) w.waits ≡ true → every (has_near_queue w) v.waits ≡ true) → KeepsNames w v
-kept w v s handles senders queues = record {
+    → (every (has_near_queue w) w.waits ≡ true → every (has_near_queue w) v.waits ≡ true) → (All (port_stands w) w.threads → All (port_stands w) v.threads) → KeepsNames w v
+kept w v s handles senders queues registrations = record {
   near = s;
   names = λ n. record {
     handles = every-more (tables_to_ports w) (tables_to_ports v) (λ t is. every-more (is_to_port w) (is_to_port v) (to-port-kept w v s) t.rows is) v.handles (handles n.handles);
     senders = every-more (sent_on_port w) (sent_on_port v) (λ m is. s.ports m.sender is) v.messages (senders n.senders);
     queues = every-more (has_near_queue w) (has_near_queue v) (λ x is. s.queues x is) v.waits (queues n.queues);
+    registrations = every-more (port_stands w) (port_stands v) s.ports (all_registrations v) (registrations n.registrations);
   };
 }
 
@@ -61,13 +63,13 @@ stays w = record { ports = λ b is. is; queues = λ x is. is }
 
 -- a world whose ports stay, with other handles, messages, or waits
 handles-kept : (w : World) (handles : List HandleTable) → (every (tables_to_ports w) w.handles ≡ true → every (tables_to_ports w) handles ≡ true) → KeepsNames w (record w { handles = handles })
-handles-kept w handles all = let v : World = record w { handles = handles } in kept w v (record { ports = λ b is. is; queues = λ x is. is }) all (λ all. all) (λ all. all)
+handles-kept w handles all = let v : World = record w { handles = handles } in kept w v (record { ports = λ b is. is; queues = λ x is. is }) all (λ all. all) (λ all. all) (λ all. all)
 
 messages-kept : (w : World) (messages : List MessageRow) → (every (sent_on_port w) w.messages ≡ true → every (sent_on_port w) messages ≡ true) → KeepsNames w (record w { messages = messages })
-messages-kept w messages all = let v : World = record w { messages = messages } in kept w v (record { ports = λ b is. is; queues = λ x is. is }) (λ all. all) all (λ all. all)
+messages-kept w messages all = let v : World = record w { messages = messages } in kept w v (record { ports = λ b is. is; queues = λ x is. is }) (λ all. all) all (λ all. all) (λ all. all)
 
 waits-kept : (w : World) (waits : List WaitRow) → (every (has_near_queue w) w.waits ≡ true → every (has_near_queue w) waits ≡ true) → KeepsNames w (record w { waits = waits })
-waits-kept w waits all = let v : World = record w { waits = waits } in kept w v (record { ports = λ b is. is; queues = λ x is. is }) (λ all. all) (λ all. all) all
+waits-kept w waits all = let v : World = record w { waits = waits } in kept w v (record { ports = λ b is. is; queues = λ x is. is }) (λ all. all) (λ all. all) all (λ all. all)
 
 accepted-near : (w : World) (reply : List ℕ) (x : WaitRow) → has_near_queue w x ≡ true → has_near_queue w (accepted reply x) ≡ true
 accepted-near w reply = by_kind (λ x. has_near_queue w x ≡ true → has_near_queue w (accepted reply x) ≡ true) (λ x m is. is) (λ x is. is) (λ x is. is) (λ x m is. is) (λ x m r is. is)
@@ -81,11 +83,14 @@ put-all p h rows own all =
     both a b one two = grind arith
 
 -- Steps
--- a basic step that keeps it whatever stands behind it: what enters, waits or is given names what stands, and no pair changes
+-- a basic step that keeps it whatever stands behind it: what enters, waits, is given or registered names what stands, and no
+-- pair changes
 abbrev pub is_naming : World → Basic → Bool
 is_naming w (Awaits x) = has_near_queue w x
 is_naming w (Enters m) = has (is_port m.sender) w.ports
 is_naming w (AddsHandle pid h) = is_to_port w h
+is_naming w (AddsThread t) = every (port_stands w) (registered_by t)
+is_naming w (Registers who b) = port_stands w b
 is_naming w (Joins client server context) = false
 is_naming w (Cuts b) = false
 is_naming w (Frees o) = false
@@ -96,7 +101,7 @@ AreNaming w bs = every (is_naming w) bs ≡ true
 
 -- a step that passes in a world keeps it in each later one
 step-kept : (w v : World) (b : Basic) → StaysNear w v → is_naming w b ≡ true → KeepsNames v (basic v b)
-step-kept w v (Tells e) s is = kept v v (stays v) (λ all. all) (λ all. all) (λ all. all)
+step-kept w v (Tells e) s is = kept v v (stays v) (λ all. all) (λ all. all) (λ all. all) (λ all. all)
 step-kept w v (Wakes who call status fields) s is = waits-kept v _ (every-without (has_near_queue v) (waits_as who) v.waits)
 step-kept w v (Awaits x) s is = waits-kept v _ (λ all. every-push (has_near_queue v) v.waits x all (s.queues x is))
 step-kept w v (Receives who queue) s is = waits-kept v _ (every-change (has_near_queue v) (waits_at who queue) received (λ x is. is) v.waits)
@@ -106,21 +111,24 @@ step-kept w v (Takes q) s is = messages-kept v _ (every-without_first (sent_on_p
 step-kept w v (TakesConnect q) s is = messages-kept v _ (every-without_first (sent_on_port v) (is_queued_connect q) v.messages)
 step-kept w v (Withdraws who) s is = messages-kept v _ (every-without (sent_on_port v) (is_own_of who) v.messages)
 step-kept w v (Empties q) s is = messages-kept v _ (every-without (sent_on_port v) (is_queued q) v.messages)
-step-kept w v (DrawsIdentifier who) s is = kept v (basic v (DrawsIdentifier who)) (record { ports = λ b is. is; queues = λ x is. is }) (λ all. all) (λ all. all) (λ all. all)
-step-kept w v (DrawsOrdinal who) s is = kept v (basic v (DrawsOrdinal who)) (record { ports = λ b is. is; queues = λ x is. is }) (λ all. all) (λ all. all) (λ all. all)
-step-kept w v (AddsProcess p) s is = kept v (basic v (AddsProcess p)) (record { ports = λ b is. is; queues = λ x is. is }) (λ all. every-push (tables_to_ports v) v.handles (no_handles p.number) all refl) (λ all. all) (λ all. all)
-step-kept w v (AddsThread t) s is = kept v (basic v (AddsThread t)) (record { ports = λ b is. is; queues = λ x is. is }) (λ all. all) (λ all. all) (λ all. all)
-step-kept w v (Makes p) s is = kept v (basic v (Makes p)) (record { ports = λ b is. has-kept (is_port b) v.ports p is; queues = λ x is. push-passes v p x.port (is_near x) is }) (λ all. all) (λ all. all) (λ all. all)
+step-kept w v (DrawsIdentifier who) s is = kept v (basic v (DrawsIdentifier who)) (record { ports = λ b is. is; queues = λ x is. is }) (λ all. all) (λ all. all) (λ all. all) (all-changed (port_stands v) (is_thread who) past_identifier (λ t all. all) v.threads)
+step-kept w v (DrawsOrdinal who) s is = kept v (basic v (DrawsOrdinal who)) (record { ports = λ b is. is; queues = λ x is. is }) (λ all. all) (λ all. all) (λ all. all) (all-changed (port_stands v) (is_thread who) past_ordinal (λ t all. all) v.threads)
+step-kept w v (Dies who status) s is = kept v (basic v (Dies who status)) (record { ports = λ b is. is; queues = λ x is. is }) (λ all. all) (λ all. all) (every-without (has_near_queue v) (waits_as who) v.waits) (all-changed (port_stands v) (is_thread who) ended (λ t all. refl) v.threads)
+step-kept w v (Registers who b) s is = kept v (basic v (Registers who b)) (record { ports = λ b is. is; queues = λ x is. is }) (λ all. all) (λ all. all) (λ all. all) (all-changed (port_stands v) (is_thread who) (registering b) (registering-all (port_stands v) b (s.ports b is)) v.threads)
+step-kept w v (Unregisters who b) s is = kept v (basic v (Unregisters who b)) (record { ports = λ b is. is; queues = λ x is. is }) (λ all. all) (λ all. all) (λ all. all) (all-changed (port_stands v) (is_thread who) (unregistering b) (unregistering-all (port_stands v) b) v.threads)
+step-kept w v (AddsProcess p) s is = kept v (basic v (AddsProcess p)) (record { ports = λ b is. is; queues = λ x is. is }) (λ all. every-push (tables_to_ports v) v.handles (no_handles p.number) all refl) (λ all. all) (λ all. all) (λ all. all)
+step-kept w v (AddsThread t) s is = kept v (basic v (AddsThread t)) (record { ports = λ b is. is; queues = λ x is. is }) (λ all. all) (λ all. all) (λ all. all) (λ all. all-pushed (port_stands v) v.threads t (every-more (port_stands w) (port_stands v) s.ports (registered_by t) is) all)
+step-kept w v (Makes p) s is = kept v (basic v (Makes p)) (record { ports = λ b is. has-kept (is_port b) v.ports p is; queues = λ x is. push-passes v p x.port (is_near x) is }) (λ all. all) (λ all. all) (λ all. all) (λ all. all)
 step-kept w v (Joins client server context) s is = absurd (cc)
 step-kept w v (Completes b) s is =
     kept v (basic v (Completes b)) (record {
       ports = λ c is. rw (has-change (is_port c) (is_port b) completed (λ p. refl) v.ports) is;
       queues = λ x is. rw (passes-change (is_port x.port) (is_near x) (is_port b) completed (λ p. refl) (λ p. refl) v.ports) is;
-    }) (λ all. all) (λ all. all) (λ all. all)
+    }) (λ all. all) (λ all. all) (λ all. all) (λ all. all)
 step-kept w v (Cuts b) s is = absurd (cc)
 step-kept w v (Frees o) s is = absurd (cc)
-step-kept w v (Binds path node) s is = kept v (basic v (Binds path node)) (record { ports = λ b is. is; queues = λ x is. is }) (λ all. all) (λ all. all) (λ all. all)
-step-kept w v (Unbinds b) s is = kept v (basic v (Unbinds b)) (record { ports = λ b is. is; queues = λ x is. is }) (λ all. all) (λ all. all) (λ all. all)
+step-kept w v (Binds path node) s is = kept v (basic v (Binds path node)) (record { ports = λ b is. is; queues = λ x is. is }) (λ all. all) (λ all. all) (λ all. all) (λ all. all)
+step-kept w v (Unbinds b) s is = kept v (basic v (Unbinds b)) (record { ports = λ b is. is; queues = λ x is. is }) (λ all. all) (λ all. all) (λ all. all) (λ all. all)
 step-kept w v (AddsHandle pid h) s is = handles-kept v _ (every-change (tables_to_ports v) (is_table pid) (with_handle h) (λ t all. put-all (is_to_port v) h t.rows (to-port-kept w v s h is) all) v.handles)
 step-kept w v (DropsHandle pid value) s is = handles-kept v _ (every-change (tables_to_ports v) (is_table pid) (without_handle value) (λ t all. every-without_first (is_to_port v) (has_value value) t.rows all) v.handles)
 
@@ -168,6 +176,7 @@ cut-names w b free n =
       handles = every-more (tables_to_ports w) (tables_to_ports v) (λ t is. every-more (is_to_port w) (is_to_port v) (λ h. port-parts (same_kind h.object.kind kind.Port) (has (is_port h.object.birth) w.ports) (has (is_port h.object.birth) v.ports) (stands h.object.birth)) t.rows is) w.handles n.handles;
       senders = every-more (sent_on_port w) (sent_on_port v) (λ m. stands m.sender) w.messages n.senders;
       queues = every-both (λ x. not (is_cut_request w b x)) (has_near_queue w) (has_near_queue v) (λ x none is. cut-near w b x none is) w.waits free n.queues;
+      registrations = every-more (port_stands w) (port_stands v) stands (all_registrations w) n.registrations;
     }
 
 -- A row that goes
@@ -206,18 +215,17 @@ not-true x is = grind arith
 port-names : (w : World) (b : Birth) → pointer_count w (port_name b) ≤ 0 → NamesWhatStands w → NamesWhatStands (basic w (Frees (port_name b)))
 port-names w b few n =
     let v = basic w (Frees (port_name b)) in
-    let held : count (is_paired_to b) w.ports + (count (is_connected_to b) w.ports + (count (is_sent_on b) w.messages + count (is_made_on b) w.waits)) ≤ 0 = sum-second _ _ few in
+    let held : count (is_paired_to b) w.ports + (count (is_connected_to b) w.ports + (count (is_sent_on b) w.messages + (count (is_made_on b) w.waits + count (same_birth b) (all_registrations w)))) ≤ 0 = sum-second _ _ few in
     let made = none-pass (is_made_on b) w.waits (omega (arith, held)) in
     let sent = none-pass (is_sent_on b) w.messages (omega (arith, held)) in
+    let unregistered = none-pass (same_birth b) (all_registrations w) (omega (arith, held)) in
     let closed = off-each (has_handle_to b) w.handles (unopen w b few) in
     record {
       handles = every-both (tables_to_ports w) (λ t. not (has_handle_to b t)) (tables_to_ports v) (λ t is off. every-both (is_to_port w) (λ h. not (names_port b h.object)) (is_to_port v) (λ h one two. handle-left w b h one two) t.rows is (off-each (λ h. names_port b h.object) t.rows (not-true (has_handle_to b t) off))) w.handles n.handles closed;
       senders = every-both (sent_on_port w) (λ m. not (is_sent_on b m)) (sent_on_port v) (λ m is off. port-left w b m.sender (not-true (same_birth m.sender b) off) is) w.messages n.senders sent;
       queues = every-both (has_near_queue w) (λ x. not (is_made_on b x)) (has_near_queue v) (λ x is off. rw (row-freed w b x.port (not-true (same_birth x.port b) off)) is) w.waits n.queues made;
+      registrations = every-both (port_stands w) (λ c. not (same_birth b c)) (port_stands v) (λ c is off. port-left w b c (flip b c (not-true (same_birth b c) off)) is) (all_registrations w) n.registrations unregistered;
     }
-
-same-names : (w v : World) → v.handles ≡ w.handles → v.messages ≡ w.messages → v.waits ≡ w.waits → v.ports ≡ w.ports → NamesWhatStands w → NamesWhatStands v
-same-names w v one two three four n = record { handles = rw (one, four) n.handles; senders = rw (two, four) n.senders; queues = rw (three, four) n.queues }
 
 pub gone-names : (w : World) (o : ObjectName) → is_unheld w o ≡ true → NamesWhatStands w → NamesWhatStands (basic w (Frees o))
 gone-names w o none n = at o.kind o.birth (is-zero (pointer_count w o) none)
@@ -226,8 +234,8 @@ gone-names w o none n = at o.kind o.birth (is-zero (pointer_count w o) none)
     at kind.Port b few = port-names w b few n
     at kind.Section b few = n
     at kind.Token b few = n
-    at kind.Process b few = record { handles = n.handles; senders = n.senders; queues = n.queues }
-    at kind.Thread b few = record { handles = n.handles; senders = n.senders; queues = n.queues }
+    at kind.Process b few = record { handles = n.handles; senders = n.senders; queues = n.queues; registrations = n.registrations }
+    at kind.Thread b few = record { handles = n.handles; senders = n.senders; queues = n.queues; registrations = all-left (port_stands w) (λ t. same_birth t.birth b) w.threads n.registrations }
 
 all-gone : (w : World) (os : List ObjectName) → every (is_unheld w) os ≡ true → NamesWhatStands w → NamesWhatStands (world_after w (map Frees os))
 all-gone w [] all n = n
@@ -247,7 +255,7 @@ swept-names w n =
 pub unheld_no_queue : (w : World) (b : Birth) → NamesWhatStands w → is_unheld w (port_name b) ≡ true → every (λ x. not (same_birth x.queue b)) w.waits ≡ true
 unheld_no_queue w b n none =
     let few = is-zero (pointer_count w (port_name b)) none in
-    let held : count (is_paired_to b) w.ports + (count (is_connected_to b) w.ports + (count (is_sent_on b) w.messages + count (is_made_on b) w.waits)) ≤ 0 = sum-second _ _ few in
+    let held : count (is_paired_to b) w.ports + (count (is_connected_to b) w.ports + (count (is_sent_on b) w.messages + (count (is_made_on b) w.waits + count (same_birth b) (all_registrations w)))) ≤ 0 = sum-second _ _ few in
     let made = none-pass (is_made_on b) w.waits (omega (arith, held)) in
     let unpaired = none-pass (is_paired_to b) w.ports (omega (arith, held)) in
     let unconnected = none-pass (is_connected_to b) w.ports (omega (arith, held)) in

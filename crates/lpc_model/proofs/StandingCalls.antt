@@ -1,21 +1,20 @@
 -- Each line keeps what rows name.
-use Rattle.std.proofs.Common.{◌≡◌, ◌∙◌, ℕ, List, [], ◌∷◌, ◌++◌, Bool, true, false, cond, map, not, Option, Some, None, refl, sym, subst, arith}
+use Rattle.std.proofs.Common.{Bool, List, None, Option, Some, [], arith, cond, false, map, not, refl, subst, sym, true, ℕ, ◌++◌, ◌∙◌, ◌∷◌, ◌≡◌}
 use Rattle.std.specs.Prelude.{◌&&◌, ◌||◌, is_none, is_some, option_and_then, option_map, Result, Ok, Err, if◌then◌else◌}
-use Rattle.std.specs.List.{AllByRecursion}
 use Rattle.lpc_base.specs.Rows.{change, every, first, given, has, passes, when}
 use Rattle.lpc_base.proofs.RowWords.{every-append, first-passes, has-change}
-use Rattle.lpc_base.proofs.RowMaps.{every-first}
+use Rattle.lpc_base.proofs.RowMaps.{every-both, every-first}
 use Rattle.lpc_base.specs.declared.limits.TheConstants.{MESSAGE_LIMIT}
 use Rattle.lpc_base.specs.declared.port_kind.PortKind.TheVariants.{Connection, Unnamed}
 use Rattle.lpc_base.specs.declared.status.Status.{Status}
-use Rattle.lpc_base.specs.declared.status.TheConstants.{INVALID_HANDLE, INVALID_PORT_HANDLE, PORT_DISCONNECTED, SUCCESS}
+use Rattle.lpc_base.specs.declared.status.TheConstants.{INVALID_HANDLE, INVALID_PORT_HANDLE, LPC_REPLY_LOST, PORT_DISCONNECTED, SUCCESS}
 use Rattle.lpc_message.specs.declared.kind.TheConstants.{DATAGRAM, REQUEST}
 use Rattle.lpc_names.specs.Walk.{Stands}
 use Rattle.lpc_names.specs.declared.names.Found.TheVariants.{Item}
 use Rattle.lpc_model.specs.declared.entry.Word.TheVariants as word
 use Rattle.lpc_model.specs.World.{Birth, Creator, HandleRow, HandleTable, Message, MessageRow, PortRow, ThreadRow, WaitRow, World, no_rows}
-use Rattle.lpc_model.specs.Found.{free_handle, handle_at, has_value, is_connected_to, is_connection_port, is_cut, is_request, is_paired_to, is_port, is_queued, is_queued_connect, is_table, is_the, live_thread, pair_of, port_name, port_row, queue_of, route, rows_in, same_birth, wait_of, way}
-use Rattle.lpc_model.specs.Basics.{Accepts, AddsHandle, Awaits, Basic, Binds, Completes, DrawsIdentifier, DrawsOrdinal, DropsHandle, Joins, Makes, Receives, basic, completed, joined, paired, world_after}
+use Rattle.lpc_model.specs.Found.{free_handle, handle_at, has_value, is_connected_to, is_connection_port, is_cut, is_made_on, is_paired_to, is_port, is_queued, is_queued_connect, is_request, is_table, is_the, live_thread, live_threads, pair_of, port_name, port_row, queue_of, route, rows_in, same_birth, wait_of, way}
+use Rattle.lpc_model.specs.Basics.{Accepts, AddsHandle, Awaits, Basic, Binds, Completes, Dies, DrawsIdentifier, DrawsOrdinal, DropsHandle, Empties, Joins, Makes, Receives, Registers, Tells, Unbinds, Unregisters, Wakes, Withdraws, basic, completed, end_each, joined, paired, world_after}
 use Rattle.lpc_model.specs.Sweep.{sweep}
 use Rattle.lpc_model.specs.Message.{asks, message_test}
 use Rattle.lpc_model.specs.Fields.{h, info, max}
@@ -26,13 +25,12 @@ use Rattle.lpc_model.specs.Tests.{PORT_ACCESS, handle_row, handles_test, next_bi
 use Rattle.lpc_model.specs.Connect.{Completable, ConnectAnswer, accept_steps, answer_of, answer_test, answered_steps, client_port, complete_steps, complete_test, connect_steps, connect_wait, connection_request, create_steps, info_test, listen_steps, making, names_connect, new_port, nt_accept_connect_port, nt_complete_connect_port, nt_connect_port, nt_create_port, nt_listen_port, refuse_steps, server_port}
 use Rattle.lpc_model.specs.Request.{Sendable, answered_test, datagram_send_test, datagram_start, datagram_test, given_reply, is_spent, nt_reply_port, nt_reply_wait_receive_port, nt_request_port, nt_request_wait_reply_port, optional_message, receive_steps, receive_test, receive_wait, request_start, request_wait, send_test, sent_by}
 use Rattle.lpc_model.specs.Counts.{asked, nt_duplicate_object, nt_query_object, rights_test}
-use Rattle.lpc_model.specs.Close.{close_handle, close_port, closed_row, is_last, nt_close, post_closed, server_of, told_of}
-use Rattle.lpc_model.specs.Lines.{ScriptCall, ScriptLine, accept_connect_port, boot, close, complete_connect_port, connect_port, create_port, dir, duplicate_object, link, listen_port, query_object, reply_port, reply_wait_receive_port, request_port, request_wait_reply_port, run, thread}
-use Rattle.lpc_model.specs.Machine.{Stepped, bare_steps, boot_line, dir_line, link_line, name_of_call, ready_steps, service_of, step, thread_line, thread_steps, thread_test, unused_test}
-use Rattle.lpc_model.specs.Run.{said_in, trace}
-use Rattle.lpc_model.specs.SoundWaits.{IsSoundWorld}
+use Rattle.lpc_model.specs.Close.{close_handle, close_port, closed_row, cut_pair, end_accepted, end_request, is_accepted_across, is_across, is_last, is_receive_across, is_receiver, is_request_across, nt_close, post_closed, server_of, told_of, wake}
+use Rattle.lpc_model.specs.Lines.{ProcArg, ScriptCall, ScriptLine, accept_connect_port, boot, close, complete_connect_port, connect_port, create_port, dir, duplicate_object, link, listen_port, query_object, register_thread_terminate_port, reply_port, reply_wait_receive_port, request_port, request_wait_reply_port, run, terminate_process, terminate_thread, thread}
+use Rattle.lpc_model.specs.Machine.{bare_steps, boot_line, dir_line, link_line, name_of_call, ready_steps, service_of, thread_line, thread_steps, thread_test, unused_test}
+use Rattle.lpc_model.specs.SoundWaits.{HasShutConnects, IsSoundWorld}
 use Rattle.lpc_model.specs.Linked.{IsLinked, is_lone_offer, is_unjoined}
-use Rattle.lpc_model.specs.Standing.{NamesWhatStands, RunNamesWhatStands, StepsNameWhatStands, has_near_queue, is_near, is_to_port}
+use Rattle.lpc_model.specs.Standing.{NamesWhatStands, StepsNameWhatStands, has_near_queue, is_near, is_to_port}
 use Rattle.lpc_model.proofs.Births.{birth-same, birth-self}
 use Rattle.lpc_model.proofs.Holding.{Holds, bind_holds, directed_holds, found_ok, holds_ok, settled_holds}
 use Rattle.lpc_model.proofs.Usable.{CanCall, IsUsable, by_port_kind, can-call, if-same, port-usable}
@@ -40,17 +38,23 @@ use Rattle.lpc_model.proofs.SoundWorlds.{by_kind}
 use Rattle.lpc_model.proofs.SoundQueues.{after-append}
 use Rattle.lpc_model.proofs.SoundComplete.{CanComplete, can-complete}
 use Rattle.lpc_model.proofs.SoundAccept.{named-wait, names-offered}
-use Rattle.lpc_model.proofs.SoundClosing.{uncut-free}
-use Rattle.lpc_model.proofs.SoundLines.{sound_none, sound_step}
-use Rattle.lpc_model.proofs.Closing.{IsFewer, closed-is, cut-is, fewer-uncut, stage_five, uncut}
+use Rattle.lpc_model.proofs.SoundClosing.{is_cut_request, uncut-free}
+use Rattle.lpc_model.proofs.Closing.{IsFewer, behind, closed-is, cut-is, ends-pass, fewer-accepted, fewer-uncut, stage_five, takes_away, uncut}
 use Rattle.lpc_model.proofs.SoundPairs.{tied}
 use Rattle.lpc_model.proofs.SoundTies.{joined-birth}
 use Rattle.lpc_model.proofs.LinkedAccept.{lone-parts}
 use Rattle.lpc_model.proofs.LinkedJoins.{row-joined}
 use Rattle.lpc_model.proofs.LinkedSteps.{made-found, push-passes}
 use Rattle.lpc_model.proofs.LinkedCalls.{unmade}
-use Rattle.lpc_model.proofs.LinkedLines.{linked_none, linked_step}
 use Rattle.lpc_model.proofs.Standing.{AreNaming, cut-names, is_naming, kept, naming-all, swept-names}
+use Rattle.lpc_model.specs.Register.{is_registered, nt_register_thread_terminate_port, register_steps, registration_test}
+use Rattle.lpc_model.specs.Death.{code_status, die, end_threads, nt_terminate_process, nt_terminate_thread}
+use Rattle.lpc_model.specs.declared.entry.CallName.TheVariants.{NtRegisterThreadTerminatePort, NtTerminateProcess, NtTerminateThread}
+use Rattle.lpc_model.specs.declared.entry.Entry.TheVariants.{Answer}
+use Rattle.lpc_model.proofs.Ending.{end-keeps, process-ends, thread-ends, told-facts, world-ends}
+use Rattle.lpc_model.proofs.SoundTerminate.{IsSafe, die-safe, enter-safe, handle-safe, shut-of, sound-of, unregister-safe}
+use Rattle.lpc_model.proofs.SoundDeath.{asked-less, asked-none, die-holds, heard-less, is_off, parting}
+use Rattle.lpc_model.proofs.Dying.{accepted_across, asked_across, cut-parts, gone, received_across}
 
 -- the steps leave a world in which what rows name stands
 abbrev pub KeepNames : World → List Basic → Type 0
@@ -198,7 +202,7 @@ joined-near w client server context one two n =
     let k = kept w v (record {
       ports = λ c is. rw (has-joined c) is;
       queues = near;
-    }) (λ all. all) (λ all. all) (λ all. all) in
+    }) (λ all. all) (λ all. all) (λ all. all) (λ all. all) in
     k.names n
   where
     has-mapped : (c : Birth) (ps : List PortRow) → has (is_port c) (map (joined client server context) ps) ≡ has (is_port c) ps
@@ -368,6 +372,7 @@ fewer-names w v l n = record {
   handles = rw (l.handles, l.ports) n.handles;
   senders = rw l.ports (l.messages (λ m. has (is_port m.sender) w.ports) n.senders);
   queues = subst (λ ps. every (has_near_queue (tied ps [])) v.waits ≡ true) (sym l.ports) (l.waits (has_near_queue w) n.queues);
+  registrations = rw (l.threads, l.ports) n.registrations;
 }
 
 posted-names : (b : Birth) (w : World) → AreNaming w (post_closed b w)
@@ -425,28 +430,105 @@ query-names : (w : World) (by : ThreadRow) (handle : ℕ) → Holds (AreNaming w
 unfolding nt_query_object
 query-names w by handle = bind_holds (own_handle w by handle) _ (AreNaming w) (λ r _. refl)
 
+-- NtRegisterThreadTerminatePort
+registered-names : (w : World) (by : ThreadRow) (b : Birth) → has (is_port b) w.ports ≡ true → AreNaming w (register_steps by b)
+registered-names w by b stands = at (not (is_registered b by))
+  where
+    at : (new : Bool) → AreNaming w (Tells (Answer by.number NtRegisterThreadTerminatePort SUCCESS []) ∷ when new (Registers by.number b ∷ []))
+    at true = rw stands refl
+    at false = refl
+
+register-names : (w : World) (by : ThreadRow) (handle : ℕ) → Holds (AreNaming w) (nt_register_thread_terminate_port w by handle)
+unfolding nt_register_thread_terminate_port
+register-names w by handle =
+    bind_holds (port_test w by handle) _ (AreNaming w) (λ port at.
+    bind_holds (registration_test by port.birth) _ (AreNaming w) (λ _ _. registered-names w by port.birth (usable-stands w port (holds_ok (IsUsable w) (port_test w by handle) port (port-usable w by handle) at))))
+
+-- NtTerminateThread and NtTerminateProcess
+record IsNamedWorld (w : World) : Type 0 where
+  safe : IsSafe w
+  names : NamesWhatStands w
+
+away-naming : (w : World) (x : Basic) → takes_away x ≡ true → is_naming w x ≡ true
+away-naming w (Wakes who call status fields) is = refl
+away-naming w (Withdraws who) is = refl
+away-naming w (Empties q) is = refl
+away-naming w (Unbinds b) is = refl
+away-naming w x is = absurd (cc)
+
+-- waits that end leave fewer rows
+ends-names : (test : World → WaitRow → Bool) (ending : WaitRow → List Basic) → ((x : WaitRow) → every takes_away (ending x) ≡ true) → (w : World) → NamesWhatStands w → NamesWhatStands (behind (end_each test ending) w)
+ends-names test ending all w n = naming-all w (end_each test ending w) (ends-pass (is_naming w) (away-naming w) test ending all w) n
+
+-- a port that isn't open is cut off: no request is left on it or across
+cut-off-names : (w : World) (b : Birth) → every (is_off b) w.waits ≡ true → IsSoundWorld w → NamesWhatStands w → NamesWhatStands (behind (cut_pair b) w)
+cut-off-names w b off s n =
+    let v = accepted_across b w in
+    let one = asked-less w b off s in
+    let two = heard-less w b off s in
+    let names : NamesWhatStands v = ends-names (is_accepted_across b) end_accepted (λ x. refl) (received_across b w) (ends-names (is_receive_across b) (wake PORT_DISCONNECTED) (λ x. refl) (asked_across b w) (ends-names (is_request_across b) (end_request LPC_REPLY_LOST) (λ x. refl) w n)) in
+    let less = fewer-accepted b (received_across b w) in
+    let ports : v.ports ≡ w.ports = less.ports ∙ (two.ports ∙ one.ports) in
+    let free = subst (λ ps. every (λ x. not (is_cut_request (tied ps []) b x)) v.waits ≡ true) (sym ports) (less.waits (λ x. not (is_cut_request w b x)) (two.waits (λ x. not (is_cut_request w b x))
+    (every-both (is_off b) (λ x. not (is_request_across b w x)) (λ x. not (is_cut_request w b x)) (λ x here across. parts (is_receiver b x) (is_request x) (is_made_on b x) (is_across w b x) here across) (asked_across b w).waits (one.waits (is_off b) off) (asked-none w b off s)))) in
+    subst NamesWhatStands (sym (cut-parts b w)) (cut-names v b free names)
+  where
+    parts : (r q m a : Bool) → (not r && not (q && m)) ≡ true → not (q && a) ≡ true → not (q && (m || a)) ≡ true
+    parts r q m a one two = grind arith
+
+gone-names : (n : ℕ) (w : World) → NamesWhatStands w → NamesWhatStands (gone n w)
+gone-names n w names = naming-all w (Dies n SUCCESS ∷ Withdraws n ∷ []) refl names
+
+die-names : (code : Status) (t : ThreadRow) (w : World) → IsSafe w → NamesWhatStands w → NamesWhatStands (behind (die code t) w)
+die-names code t w is n =
+    die-holds NamesWhatStands code w t (gone-names t.number w n) (λ x found accepted.
+    let p = parting w t.number x found accepted (shut-of w is) (sound-of w is) in
+    subst NamesWhatStands (sym p.same) (gone-names t.number (behind (cut_pair x.port) w) (cut-off-names w x.port p.off (sound-of w is) n)))
+
+end-names : (pid : ℕ) (code : Status) (ts : List ThreadRow) (w : World) → IsNamedWorld w → IsNamedWorld (behind (end_threads pid code ts) w)
+end-names =
+    end-keeps IsNamedWorld (λ code t w is. record { safe = die-safe code t w is.safe; names = die-names code t w is.safe is.names })
+    (λ n b w is. record { safe = unregister-safe n b w is.safe; names = naming-all w (Unregisters n b ∷ []) refl is.names })
+    (λ t b m w some is. let told = told-facts t b m w some in record { safe = enter-safe m w is.safe; names = naming-all w (enter m w) (naming-enter w m w told.stands) is.names })
+    (λ w is. sound-of w is.safe)
+    (λ w pid r at is. record { safe = handle-safe w pid r at is.safe; names = handle-names w pid r (sound-of w is.safe) is.names })
+
+ended-names : (pid : ℕ) (code : Status) (ts : List ThreadRow) (w : World) → IsSoundWorld w → HasShutConnects w → NamesWhatStands w → NamesWhatStands (behind (end_threads pid code ts) w)
+ended-names pid code ts w s shut n = let t = end-names pid code ts w (record { safe = record { sound = s; shut = shut }; names = n }) in t.names
+
+terminate-thread-names : (w : World) (by : ThreadRow) (target : ProcArg) (code : ℕ) → IsSoundWorld w → HasShutConnects w → NamesWhatStands w → Holds (KeepNames w) (nt_terminate_thread w by target code)
+terminate-thread-names w by target code s shut n =
+    thread-ends (KeepNames w) w by target code (λ t own _ _. world-ends NamesWhatStands w by NtTerminateThread own t.process (code_status code) (t ∷ []) (ended-names t.process (code_status code) (t ∷ []) w s shut n))
+
+terminate-process-names : (w : World) (by : ThreadRow) (target : ProcArg) (code : ℕ) → IsSoundWorld w → HasShutConnects w → NamesWhatStands w → Holds (KeepNames w) (nt_terminate_process w by target code)
+terminate-process-names w by target code s shut n =
+    process-ends (KeepNames w) w by target code (λ pid own _. world-ends NamesWhatStands w by NtTerminateProcess own pid (code_status code) (live_threads w pid) (ended-names pid (code_status code) (live_threads w pid) w s shut n))
+
 -- Calls
-service-names : (w : World) (by : ThreadRow) (call : ScriptCall) → CanCall w by → IsSoundWorld w → IsLinked w → NamesWhatStands w → Holds (KeepNames w) (service_of w by call)
-service-names w by (create_port name) c s l n = create-names w by name c s n
-service-names w by (connect_port name info) c s l n = connect-names w by name info c s n
-service-names w by (listen_port handle) c s l n = naming_holds w _ n (listen-names w by handle)
-service-names w by (accept_connect_port context message accept) c s l n = accept-names w by context message accept c s l n
-service-names w by (complete_connect_port handle) c s l n = complete-names w by handle s n
-service-names w by (request_port handle bytes) c s l n = naming_holds w _ n (datagram-names w by handle bytes)
-service-names w by (request_wait_reply_port handle bytes) c s l n = naming_holds w _ n (request-names w by handle bytes)
-service-names w by (reply_port handle bytes) c s l n = naming_holds w _ n (reply-names w by handle bytes)
-service-names w by (reply_wait_receive_port handle bytes) c s l n = naming_holds w _ n (receive-names w by handle bytes)
-service-names w by (close handle) c s l n = close-names w by handle s n
-service-names w by (duplicate_object handle access) c s l n = naming_holds w _ n (duplicate-names w by handle access n)
-service-names w by (query_object handle) c s l n = naming_holds w _ n (query-names w by handle)
+service-names : (w : World) (by : ThreadRow) (call : ScriptCall) → CanCall w by → IsSoundWorld w → HasShutConnects w → IsLinked w → NamesWhatStands w → Holds (KeepNames w) (service_of w by call)
+service-names w by (create_port name) c s shut l n = create-names w by name c s n
+service-names w by (connect_port name info) c s shut l n = connect-names w by name info c s n
+service-names w by (listen_port handle) c s shut l n = naming_holds w _ n (listen-names w by handle)
+service-names w by (accept_connect_port context message accept) c s shut l n = accept-names w by context message accept c s l n
+service-names w by (complete_connect_port handle) c s shut l n = complete-names w by handle s n
+service-names w by (request_port handle bytes) c s shut l n = naming_holds w _ n (datagram-names w by handle bytes)
+service-names w by (request_wait_reply_port handle bytes) c s shut l n = naming_holds w _ n (request-names w by handle bytes)
+service-names w by (reply_port handle bytes) c s shut l n = naming_holds w _ n (reply-names w by handle bytes)
+service-names w by (reply_wait_receive_port handle bytes) c s shut l n = naming_holds w _ n (receive-names w by handle bytes)
+service-names w by (register_thread_terminate_port handle) c s shut l n = naming_holds w _ n (register-names w by handle)
+service-names w by (close handle) c s shut l n = close-names w by handle s n
+service-names w by (duplicate_object handle access) c s shut l n = naming_holds w _ n (duplicate-names w by handle access n)
+service-names w by (query_object handle) c s shut l n = naming_holds w _ n (query-names w by handle)
+service-names w by (terminate_thread target code) c s shut l n = terminate-thread-names w by target code s shut n
+service-names w by (terminate_process target code) c s shut l n = terminate-process-names w by target code s shut n
 
-ready-names : (w : World) (by : ThreadRow) (call : ScriptCall) (o : Option WaitRow) → (o ≡ None → CanCall w by) → IsSoundWorld w → IsLinked w → NamesWhatStands w → KeepNames w (ready_steps by call o w)
-ready-names w by call (Some x) c s l n = n
-ready-names w by call None c s l n = settled_holds (KeepNames w) by (name_of_call call) (service_of w by call) (service-names w by call (c refl) s l n) (λ _ _. n)
+ready-names : (w : World) (by : ThreadRow) (call : ScriptCall) (o : Option WaitRow) → (o ≡ None → CanCall w by) → IsSoundWorld w → HasShutConnects w → IsLinked w → NamesWhatStands w → KeepNames w (ready_steps by call o w)
+ready-names w by call (Some x) c s shut l n = n
+ready-names w by call None c s shut l n = settled_holds (KeepNames w) by (name_of_call call) (service_of w by call) (service-names w by call (c refl) s shut l n) (λ _ _. n)
 
-thread-names : (w : World) (tid : ℕ) (call : ScriptCall) (o : Option ThreadRow) → live_thread w tid ≡ o → IsSoundWorld w → IsLinked w → NamesWhatStands w → KeepNames w (thread_steps tid call o w)
-thread-names w tid call None live s l n = n
-thread-names w tid call (Some by) live s l n = ready-names w by call (wait_of w tid) (λ idle. can-call w tid by live idle s) s l n
+thread-names : (w : World) (tid : ℕ) (call : ScriptCall) (o : Option ThreadRow) → live_thread w tid ≡ o → IsSoundWorld w → HasShutConnects w → IsLinked w → NamesWhatStands w → KeepNames w (thread_steps tid call o w)
+thread-names w tid call None live s shut l n = n
+thread-names w tid call (Some by) live s shut l n = ready-names w by call (wait_of w tid) (λ idle. can-call w tid by live idle s) s shut l n
 
 -- Directives
 boot-names : (w : World) (pid tid : ℕ) → Holds (AreNaming w) (boot_line w pid tid)
@@ -469,32 +551,19 @@ link-names w text target =
 
 -- Lines
 -- before rows go
-pub names_line : (w : World) (line : ScriptLine) → IsSoundWorld w → IsLinked w → NamesWhatStands w → NamesWhatStands (world_after w (bare_steps line w))
+pub names_line : (w : World) (line : ScriptLine) → IsSoundWorld w → HasShutConnects w → IsLinked w → NamesWhatStands w → NamesWhatStands (world_after w (bare_steps line w))
 unfolding bare_steps
-names_line w (boot pid tid) s l n = directed_holds (KeepNames w) word.Boot (boot_line w pid tid) (naming_holds w (boot_line w pid tid) n (boot-names w pid tid)) (λ _. n)
-names_line w (thread tid pid) s l n = directed_holds (KeepNames w) word.Thread (thread_line w tid pid) (naming_holds w (thread_line w tid pid) n (further-names w tid pid)) (λ _. n)
-names_line w (dir path) s l n = directed_holds (KeepNames w) word.Dir (dir_line w path) (naming_holds w (dir_line w path) n (dir-names w path)) (λ _. n)
-names_line w (link path target) s l n = directed_holds (KeepNames w) word.Link (link_line w path target) (naming_holds w (link_line w path target) n (link-names w path target)) (λ _. n)
-names_line w (run tid call) s l n = thread-names w tid call (live_thread w tid) refl s l n
+names_line w (boot pid tid) s shut l n = directed_holds (KeepNames w) word.Boot (boot_line w pid tid) (naming_holds w (boot_line w pid tid) n (boot-names w pid tid)) (λ _. n)
+names_line w (thread tid pid) s shut l n = directed_holds (KeepNames w) word.Thread (thread_line w tid pid) (naming_holds w (thread_line w tid pid) n (further-names w tid pid)) (λ _. n)
+names_line w (dir path) s shut l n = directed_holds (KeepNames w) word.Dir (dir_line w path) (naming_holds w (dir_line w path) n (dir-names w path)) (λ _. n)
+names_line w (link path target) s shut l n = directed_holds (KeepNames w) word.Link (link_line w path target) (naming_holds w (link_line w path target) n (link-names w path target)) (λ _. n)
+names_line w (run tid call) s shut l n = thread-names w tid call (live_thread w tid) refl s shut l n
 
 -- the step of a line
 pub names_step : StepsNameWhatStands
-names_step w line s l n =
+names_step w line s shut l n =
     let bs = bare_steps line w in
-    rw (after-append w bs (sweep (world_after w bs))) (swept-names (world_after w bs) (names_line w line s l n))
+    rw (after-append w bs (sweep (world_after w bs))) (swept-names (world_after w bs) (names_line w line s shut l n))
 
 pub names_none : NamesWhatStands no_rows
-names_none = record { handles = refl; senders = refl; queues = refl }
-
--- Runs
-trace-names : (w : World) (lines : List (Option ScriptLine)) → IsSoundWorld w → IsLinked w → NamesWhatStands w → AllByRecursion (λ (s : Stepped). NamesWhatStands s.world) (trace w lines)
-unfolding trace
-trace-names w [] s l n = tt
-trace-names w (None ∷ later) s l n = (n, trace-names w later s l n)
-trace-names w (Some line ∷ later) s l n =
-    let after = names_step w line s l n in
-    (after, trace-names (step w line).world later (sound_step w line s) (linked_step w line s l) after)
-
--- each line of a script leaves such a world
-pub names_run : (bytes : List ℕ) → RunNamesWhatStands bytes
-names_run bytes = trace-names no_rows (said_in bytes) sound_none linked_none names_none
+names_none = record { handles = refl; senders = refl; queues = refl; registrations = refl }

@@ -7,20 +7,18 @@ use Rattle.lpc_base.proofs.RowWords.{every-append, every-more}
 use Rattle.lpc_base.proofs.RowMaps.{every-map}
 use Rattle.lpc_model.specs.declared.entry.ObjectKind.TheVariants as kind
 use Rattle.lpc_model.specs.World.{Birth, MessageRow, ObjectKind, ObjectName, PortRow, ProcessRow, ThreadRow, World}
-use Rattle.lpc_model.specs.Found.{is_connected_to, is_paired_to, is_port, is_the, kind_rank, object_names, port_name, process_name, same_birth, same_kind, same_object, thread_name}
+use Rattle.lpc_model.specs.Found.{all_registrations, is_connected_to, is_paired_to, is_port, is_the, kind_rank, object_names, port_name, process_name, same_birth, same_kind, same_object, thread_name}
 use Rattle.lpc_model.specs.declared.entry.Entry.{Entry}
 use Rattle.lpc_model.specs.Lines.{ScriptLine}
 use Rattle.lpc_model.specs.Machine.{Stepped, bare_step, bare_steps, step}
 use Rattle.lpc_model.specs.Basics.{Basic, Frees, basic, entries_of, freed, posted, posts_of, told, world_after}
 use Rattle.lpc_model.specs.Sweep.{free_unheld, is_unheld, sweep, unheld}
 use Rattle.lpc_model.specs.Linked.{AreLivesHeld, HasHeldPorts, HasHeldRows, IsLinked, names_nothing}
-use Rattle.lpc_model.specs.SoundWaits.{IsSoundWorld}
 use Rattle.lpc_model.proofs.Rows.{has-append, has-less, has-without}
 use Rattle.lpc_model.proofs.Births.{birth-same, birth-self}
 use Rattle.lpc_model.proofs.SoundQueues.{after-append}
-use Rattle.lpc_model.proofs.SoundFrees.{freed-sound, less-held}
+use Rattle.lpc_model.proofs.SoundFrees.{frees-registrations, less-held, which-all}
 use Rattle.lpc_model.proofs.Swept.{connected-end, found-self, is_held_aside, lonely, unheld-parts, without-same, without-twice}
-use Rattle.lpc_model.proofs.LinkedJoins.{gone-linked}
 
 -- Names of objects
 kind_of : ℕ → ObjectKind
@@ -77,7 +75,7 @@ without_named goes w = record w {
   ports = without (λ p. goes (port_name p.birth)) w.ports;
 }
 
-rows-same : (w : World) (ps qs : List ProcessRow) (ts us : List ThreadRow) (xs ys : List PortRow) → ps ≡ qs → ts ≡ us → xs ≡ ys
+pub rows-same : (w : World) (ps qs : List ProcessRow) (ts us : List ThreadRow) (xs ys : List PortRow) → ps ≡ qs → ts ≡ us → xs ≡ ys
     → let v : World = record w { processes = ps; threads = ts; ports = xs } in let u : World = record w { processes = qs; threads = us; ports = ys } in v ≡ u
 rows-same w ps qs ts us xs ys one two three = rw (one, two, three) refl
 
@@ -147,7 +145,7 @@ among-back n os ps is = has-append (λ o. same_object n o) os ps ∙ right _ _ i
     right a b is = grind arith
 
 -- the world without the rows that no row names
-abbrev passed : World → World
+abbrev pub passed : World → World
 passed w = without_named (is_unheld w) w
 
 pass-frees : (w : World) → world_after w (free_unheld w) ≡ passed w
@@ -172,6 +170,17 @@ sweep-passes w =
     let v = world_after w (free_unheld w) in
     after-append w (free_unheld w) (free_unheld v) ∙ (pass-frees v ∙ ap passed (pass-frees w))
 
+-- live threads stay, and what they registered
+passed-registrations : (w : World) → all_registrations (passed w) ≡ all_registrations w
+passed-registrations w = ap all_registrations (sym (pass-frees w)) ∙ frees-registrations w (unheld w) (which-all (is_unheld w) _)
+
+passed-aside : (w : World) (b : Birth) → is_held_aside (passed w) b ≡ is_held_aside w b
+passed-aside w b = rw (passed-registrations w) refl
+
+-- a port that no row counts for behind a pass
+passed-parts : (w : World) (b : Birth) → is_unheld (passed w) (port_name b) ≡ not (is_held_aside w b || (has (is_paired_to b) (passed w).ports || has (is_connected_to b) (passed w).ports))
+passed-parts w b = subst (λ a. is_unheld (passed w) (port_name b) ≡ not (a || (has (is_paired_to b) (passed w).ports || has (is_connected_to b) (passed w).ports))) (passed-aside w b) (unheld-parts (passed w) b)
+
 -- Ports that go
 has-apart : {X : Type 0} (p s t : X → Bool) (xs : List X) → every (λ x. s x || (not (t x) || not (p x))) xs ≡ true → has p (without s xs) ≡ true → has p (without t xs) ≡ true
 has-apart p s t [] apart is = absurd (cc)
@@ -182,7 +191,7 @@ has-wider p s t more [] is = absurd (cc)
 has-wider p s t more (x ∷ xs) is = grind (arith, more x, has-wider p s t more xs)
 
 -- what one test takes away need not be tested before by a stronger one
-without-after : {X : Type 0} (s t : X → Bool) → ((x : X) → s x ≡ true → t x ≡ true) → (xs : List X) → without t (without s xs) ≡ without t xs
+pub without-after : {X : Type 0} (s t : X → Bool) → ((x : X) → s x ≡ true → t x ≡ true) → (xs : List X) → without t (without s xs) ≡ without t xs
 without-after s t more = without-twice s t t (λ x. parts _ _ (more x))
   where
     parts : (a b : Bool) → (a ≡ true → b ≡ true) → b ≡ (a || b)
@@ -196,7 +205,7 @@ pass-unheld : (w : World) (b : Birth) → is_unheld w (port_name b) ≡ true →
 pass-unheld w b =
     let goes = λ (p : PortRow). is_unheld w (port_name p.birth) in
     less-aside (is_held_aside w b) (has (is_paired_to b) w.ports) (has (is_connected_to b) w.ports) (has (is_paired_to b) (without goes w.ports)) (has (is_connected_to b) (without goes w.ports)) (is_unheld w (port_name b)) (is_unheld (passed w) (port_name b))
-    (unheld-parts w b) (unheld-parts (passed w) b) (has-less (is_paired_to b) goes w.ports) (has-less (is_connected_to b) goes w.ports)
+    (unheld-parts w b) (passed-parts w b) (has-less (is_paired_to b) goes w.ports) (has-less (is_connected_to b) goes w.ports)
 
 module _ (w : World) (b : Birth) (l : IsLinked w) (none : is_unheld w (port_name b) ≡ true) where
   abbrev once : World
@@ -276,7 +285,7 @@ module _ (w : World) (b : Birth) (l : IsLinked w) (none : is_unheld w (port_name
   last-alike : (p : PortRow) → is_unheld (passed w) (port_name p.birth) ≡ is_unheld (passed once) (port_name p.birth)
   last-alike p =
       let c = p.birth in
-      parts (is_held_aside w c) _ _ _ _ _ _ (unheld-parts (passed w) c) (unheld-parts (passed once) c) (paired-alike c ∙ ap (has (is_paired_to c)) (sym ports-once)) (connected-alike c ∙ ap (has (is_connected_to c)) (sym ports-once))
+      parts (is_held_aside w c) _ _ _ _ _ _ (passed-parts w c) (passed-parts once c) (paired-alike c ∙ ap (has (is_paired_to c)) (sym ports-once)) (connected-alike c ∙ ap (has (is_connected_to c)) (sym ports-once))
     where
       parts : (a p q pp qq u v : Bool) → u ≡ not (a || (p || q)) → v ≡ not (a || (pp || qq)) → p ≡ pp → q ≡ qq → u ≡ v
       parts a p q pp qq u v one two paired connected = grind arith
@@ -294,10 +303,6 @@ module _ (w : World) (b : Birth) (l : IsLinked w) (none : is_unheld w (port_name
 -- a port that no row names may go first: the sweep leaves the same world
 pub free_one : (w : World) (b : Birth) → IsLinked w → is_unheld w (port_name b) ≡ true → world_after (basic w (Frees (port_name b))) (sweep (basic w (Frees (port_name b)))) ≡ world_after w (sweep w)
 free_one w b l none = swept-alike w b l none
-
--- and the world stays sound and linked
-pub free_kept : (w : World) (b : Birth) → IsSoundWorld w → IsLinked w → is_unheld w (port_name b) ≡ true → IsSoundWorld (basic w (Frees (port_name b))) × IsLinked (basic w (Frees (port_name b)))
-free_kept w b s l none = (freed-sound w (port_name b) none s, gone-linked w (port_name b) none s l)
 
 -- processes and threads are named by as many rows then
 pub lives_freed : (w : World) (b : Birth) → AreLivesHeld w → AreLivesHeld (basic w (Frees (port_name b)))

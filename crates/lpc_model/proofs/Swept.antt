@@ -7,14 +7,14 @@ use Rattle.lpc_base.proofs.RowWords.{every-more, first-passes, count-none}
 use Rattle.lpc_base.proofs.RowMaps.{every-both, every-first, every-kept}
 use Rattle.lpc_model.specs.declared.entry.ObjectKind.TheVariants as kind
 use Rattle.lpc_model.specs.World.{Birth, ObjectKind, ObjectName, PortRow, World}
-use Rattle.lpc_model.specs.Found.{handle_count, is_connected_to, is_made_on, is_paired_to, is_port, is_sent_on, is_the, pair_of, port_name, port_row, process_name, same_birth, same_kind, same_object, thread_name}
+use Rattle.lpc_model.specs.Found.{all_registrations, handle_count, is_connected_to, is_made_on, is_paired_to, is_port, is_sent_on, is_the, pair_of, port_name, port_row, process_name, same_birth, same_kind, same_object, thread_name}
 use Rattle.lpc_model.specs.Basics.{Frees, basic, freed, world_after}
 use Rattle.lpc_model.specs.Sweep.{free_unheld, is_unheld, sweep, unheld}
 use Rattle.lpc_model.specs.Linked.{HasHeldPorts, IsLinked, is_end_port, is_mutual, is_rooted, names_nothing, passes_or_none}
 use Rattle.lpc_model.proofs.Rows.{count_none, has-found, has-without}
 use Rattle.lpc_model.proofs.Births.{birth-same, birth-self}
 use Rattle.lpc_model.proofs.SoundQueues.{after-append}
-use Rattle.lpc_model.proofs.SoundFrees.{none-pass, which-all}
+use Rattle.lpc_model.proofs.SoundFrees.{frees-registrations, none-pass, which-all}
 
 -- What a pass leaves
 -- a port whose name stands in a list
@@ -134,7 +134,8 @@ listed-ports w =
 -- Who holds a port
 -- a row that isn't a port holds it; a port does
 abbrev pub is_held_aside : World → Birth → Bool
-is_held_aside w b = not (handle_count w (port_name b) == 0) || (has (is_sent_on b) w.messages || has (is_made_on b) w.waits)
+is_held_aside w b =
+    not (handle_count w (port_name b) == 0) || (has (is_sent_on b) w.messages || (has (is_made_on b) w.waits || has (same_birth b) (all_registrations w)))
 
 abbrev pub is_held_by : List PortRow → Birth → Bool
 is_held_by ports b = has (is_paired_to b) ports || has (is_connected_to b) ports
@@ -147,21 +148,22 @@ count-zero p (x ∷ xs) = at (p x) refl (count-zero p xs)
     at true is later = grind (arith, nat_tests)
     at false is later = grind (arith, later)
 
-sum-zero : (a b c d e : ℕ) → ((a + (b + (c + (d + e)))) == 0) ≡ ((a == 0) && ((b == 0) && ((c == 0) && ((d == 0) && (e == 0)))))
-sum-zero a b c d e = grind (arith, nat_tests)
+sum-zero : (a b c d e f : ℕ) → ((a + (b + (c + (d + (e + f))))) == 0) ≡ ((a == 0) && ((b == 0) && ((c == 0) && ((d == 0) && ((e == 0) && (f == 0))))))
+sum-zero a b c d e f = grind (arith, nat_tests)
 
 pub unheld-parts : (w : World) (b : Birth) → is_unheld w (port_name b) ≡ not (is_held_aside w b || is_held_by w.ports b)
 unheld-parts w b =
     let a = handle_count w (port_name b) in
-    let sums = sum-zero a (count (is_paired_to b) w.ports) (count (is_connected_to b) w.ports) (count (is_sent_on b) w.messages) (count (is_made_on b) w.waits) in
+    let sums = sum-zero a (count (is_paired_to b) w.ports) (count (is_connected_to b) w.ports) (count (is_sent_on b) w.messages) (count (is_made_on b) w.waits) (count (same_birth b) (all_registrations w)) in
     let one = count-zero (is_paired_to b) w.ports in
     let two = count-zero (is_connected_to b) w.ports in
     let three = count-zero (is_sent_on b) w.messages in
     let four = count-zero (is_made_on b) w.waits in
-    sums ∙ all-parts (a == 0) _ _ _ _ _ _ _ _ one two three four
+    let five = count-zero (same_birth b) (all_registrations w) in
+    sums ∙ all-parts (a == 0) _ _ _ _ _ _ _ _ _ _ one two three four five
   where
-    all-parts : (a b c d e p q r s : Bool) → b ≡ not p → c ≡ not q → d ≡ not r → e ≡ not s → (a && (b && (c && (d && e)))) ≡ not ((not a || (r || s)) || (p || q))
-    all-parts a b c d e p q r s one two three four = grind arith
+    all-parts : (a b c d e f p q r s t : Bool) → b ≡ not p → c ≡ not q → d ≡ not r → e ≡ not s → f ≡ not t → (a && (b && (c && (d && (e && f))))) ≡ not ((not a || (r || (s || t))) || (p || q))
+    all-parts a b c d e f p q r s t one two three four five = grind arith
 
 -- Two passes
 -- a port that isn't held has no other end
@@ -255,10 +257,10 @@ module _ (w : World) (l : IsLinked w) where
   goes-later p = is_listed (unheld once_swept) p
 
   aside-one : (b : Birth) → is_held_aside once_swept b ≡ is_held_aside w b
-  aside-one b = rw (one.messages, one.waits, one.handles) refl
+  aside-one b = rw (one.messages, one.waits, one.handles, frees-registrations w (unheld w) (which-all (is_unheld w) _)) refl
 
   aside-two : (b : Birth) → is_held_aside swept b ≡ is_held_aside once_swept b
-  aside-two b = rw (two.messages, two.waits, two.handles) refl
+  aside-two b = rw (two.messages, two.waits, two.handles, frees-registrations once_swept (unheld once_swept) (which-all (is_unheld once_swept) _)) refl
 
   -- what goes first isn't paired
   gone-unpaired : (c : Birth) → every (λ q. not (goes q) || not (is_paired_to c q)) w.ports ≡ true

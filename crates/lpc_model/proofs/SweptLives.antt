@@ -75,7 +75,7 @@ process-lives w b c few = at (same_birth b c) refl
 sum-same : (a b c : ℕ) → b ≡ c → a + b ≡ a + c
 sum-same a b c is = omega (arith, is)
 
-same-process : (w : World) (o : ObjectName) (b : Birth) → is_unheld w o ≡ true → pointer_count (basic w (Frees o)) (process_name b) ≡ pointer_count w (process_name b)
+pub same-process : (w : World) (o : ObjectName) (b : Birth) → is_unheld w o ≡ true → pointer_count (basic w (Frees o)) (process_name b) ≡ pointer_count w (process_name b)
 same-process w o b none = at o.kind o.birth (is-zero (pointer_count w o) none)
   where
     at : (k : ObjectKind) (c : Birth) → pointer_count w (record { kind = k; birth = c }) ≤ 0 → pointer_count (freed w k c) (process_name b) ≡ pointer_count w (process_name b)
@@ -87,7 +87,7 @@ same-process w o b none = at o.kind o.birth (is-zero (pointer_count w o) none)
         let dead = none-pass (is_life c) w.threads (sum-second (handle_count w (thread_name c)) (count (is_life c) w.threads) few) in
         sum-same (handle_count w (process_name b)) (count (lives_by w b) (without (λ t. same_birth t.birth c) w.threads)) (count (lives_by w b) w.threads) (count-apart (lives_by w b) (λ t. same_birth t.birth c) w.threads (every-more (λ t. not (is_life c t)) (λ t. not (same_birth t.birth c && lives_by w b t)) (dead-lives w b c) w.threads dead))
 
-same-thread : (w : World) (o : ObjectName) (b : Birth) → is_unheld w o ≡ true → pointer_count (basic w (Frees o)) (thread_name b) ≡ pointer_count w (thread_name b)
+pub same-thread : (w : World) (o : ObjectName) (b : Birth) → is_unheld w o ≡ true → pointer_count (basic w (Frees o)) (thread_name b) ≡ pointer_count w (thread_name b)
 same-thread w o b none = at o.kind o.birth (is-zero (pointer_count w o) none)
   where
     at : (k : ObjectKind) (c : Birth) → pointer_count w (record { kind = k; birth = c }) ≤ 0 → pointer_count (freed w k c) (thread_name b) ≡ pointer_count w (thread_name b)

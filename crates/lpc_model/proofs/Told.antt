@@ -10,7 +10,7 @@ use Rattle.lpc_model.specs.Found.{handle_at, if_open, is_client_port, is_connect
 use Rattle.lpc_model.specs.Basics.{AddsHandle, Awaits, Basic, Cuts, DropsHandle, Empties, Enters, Frees, Receives, Unbinds, Wakes, Withdraws, basic, cut, is_end_of, posted, posts_of, world_after}
 use Rattle.lpc_model.specs.Entering.{enter, given_steps, receipt_steps, shown, takes, woken}
 use Rattle.lpc_model.specs.Sweep.{free_unheld, sweep, unheld}
-use Rattle.lpc_model.specs.Closings.{closes, closings, is_closed_post, told_closed}
+use Rattle.lpc_model.specs.Closings.{closes, is_closed_post, told_closed, told_closings}
 use Rattle.lpc_model.specs.Close.{close_handle, close_port, closed_row, cut_pair, drop_name, empty_queue, end_receives, end_request, end_requests, is_last, is_receiver, is_request_on, post_closed, server_of, told_of, wake}
 use Rattle.lpc_model.specs.SoundWaits.{IsSoundWorld}
 use Rattle.lpc_model.proofs.SoundWorlds.{by_kind}
@@ -60,7 +60,7 @@ mute-basic : (b : Basic) → is_mute b ≡ true → which is_closed_post (posted
 mute-basic (Enters m) is = grind arith
 mute-basic b is = refl
 
-which-append : {X : Type 0} (p : X → Bool) (xs ys : List X) → which p (xs ++ ys) ≡ which p xs ++ which p ys
+pub which-append : {X : Type 0} (p : X → Bool) (xs ys : List X) → which p (xs ++ ys) ≡ which p xs ++ which p ys
 which-append p [] ys = refl
 which-append p (x ∷ xs) ys = grind (arith, which-append p xs ys)
 
@@ -80,25 +80,32 @@ calm-posts (b ∷ bs) all =
     let later = second-true (is_calm b) (every is_calm bs) all in
     rw (which-append is_closed_post (posted b) (posts_of bs), mute-basic b (second-true (is_dropless b) (is_mute b) here)) (calm-posts bs later)
 
--- what is closed behind steps by which no handle goes
-closings-behind : (w : World) (xs ys : List Basic) → every is_dropless xs ≡ true → closings w (xs ++ ys) ≡ closings (world_after w xs) ys
-closings-behind w [] ys all = refl
-closings-behind w (x ∷ xs) ys all =
-    let here = first-true (is_dropless x) (every is_dropless xs) all in
-    let later = second-true (is_dropless x) (every is_dropless xs) all in
-    rw (dropless-basic w x here) (closings-behind (basic w x) xs ys later)
+nil-right : {X : Type 0} (xs : List X) → xs ++ [] ≡ xs
+nil-right [] = refl
+nil-right (x ∷ xs) = grind (arith, nil-right xs)
 
-closings-none : (w : World) (bs : List Basic) → every is_dropless bs ≡ true → closings w bs ≡ []
-closings-none w [] all = refl
-closings-none w (b ∷ bs) all =
+-- what is told of closings behind steps
+append-assoc : {X : Type 0} (xs ys zs : List X) → (xs ++ ys) ++ zs ≡ xs ++ (ys ++ zs)
+append-assoc [] ys zs = refl
+append-assoc (x ∷ xs) ys zs = grind (arith, append-assoc xs ys zs)
+
+pub told-append : (w : World) (xs ys : List Basic) → told_closings w (xs ++ ys) ≡ told_closings w xs ++ told_closings (world_after w xs) ys
+told-append w [] ys = refl
+told-append w (x ∷ xs) ys =
+    ap (λ ms. each (told_closed w) (closes w x) ++ ms) (told-append (basic w x) xs ys) ∙ sym (append-assoc (each (told_closed w) (closes w x)) (told_closings (basic w x) xs) (told_closings (world_after (basic w x) xs) ys))
+
+pub told-none : (w : World) (bs : List Basic) → every is_dropless bs ≡ true → told_closings w bs ≡ []
+told-none w [] all = refl
+told-none w (b ∷ bs) all =
     let here = first-true (is_dropless b) (every is_dropless bs) all in
     let later = second-true (is_dropless b) (every is_dropless bs) all in
-    rw (dropless-basic w b here) (closings-none (basic w b) bs later)
+    rw (dropless-basic w b here) (told-none (basic w b) bs later)
 
--- and before them
-pub closings-before : (w : World) (xs ys : List Basic) → every is_dropless ys ≡ true → closings w (xs ++ ys) ≡ closings w xs
-closings-before w [] ys all = closings-none w ys all
-closings-before w (x ∷ xs) ys all = ap (λ bs. closes w x ++ bs) (closings-before (basic w x) xs ys all)
+pub told-before : (w : World) (xs ys : List Basic) → every is_dropless ys ≡ true → told_closings w (xs ++ ys) ≡ told_closings w xs
+told-before w xs ys all = told-append w xs ys ∙ (ap (λ ms. told_closings w xs ++ ms) (told-none (world_after w xs) ys all) ∙ nil-right (told_closings w xs))
+
+told-behind : (w : World) (xs ys : List Basic) → every is_dropless xs ≡ true → told_closings w (xs ++ ys) ≡ told_closings (world_after w xs) ys
+told-behind w xs ys all = told-append w xs ys ∙ ap (λ ms. ms ++ told_closings (world_after w xs) ys) (told-none w xs all)
 
 calm-dropless : (bs : List Basic) → AreCalm bs → every is_dropless bs ≡ true
 calm-dropless bs all = every-more is_calm is_dropless (λ b is. first-true (is_dropless b) (is_mute b) is) bs all
@@ -144,7 +151,7 @@ hushed-enter m w off = both-true _ _ off (hushed-taken m (first (takes m) w.wait
 
 -- A port that is closed
 -- behind calm steps
-posts-append : (xs ys : List Basic) → posts_of (xs ++ ys) ≡ posts_of xs ++ posts_of ys
+pub posts-append : (xs ys : List Basic) → posts_of (xs ++ ys) ≡ posts_of xs ++ posts_of ys
 posts-append [] ys = refl
 posts-append (x ∷ xs) ys = rw (posts-append xs ys) (sym (assoc (posted x) (posts_of xs) (posts_of ys)))
   where
@@ -243,26 +250,42 @@ close-dropless w b = close-pass is_dropless away-dropless b w refl (posted-dropl
 -- Lists of steps
 -- what steps tell of closings is what they close
 abbrev pub TellsClosings : World → List Basic → Type 0
-TellsClosings w bs = which is_closed_post (posts_of bs) ≡ each (told_closed w) (closings w bs)
+TellsClosings w bs = which is_closed_post (posts_of bs) ≡ told_closings w bs
 
 pub calm-tells : (w : World) (bs : List Basic) → AreCalm bs → TellsClosings w bs
-calm-tells w bs calm = rw (closings-none w bs (calm-dropless bs calm)) (calm-posts bs calm)
+calm-tells w bs calm = rw (told-none w bs (calm-dropless bs calm)) (calm-posts bs calm)
+
+pub tells-append : (w : World) (xs ys : List Basic) → TellsClosings w xs → TellsClosings (world_after w xs) ys → TellsClosings w (xs ++ ys)
+tells-append w xs ys one two =
+    ap (which is_closed_post) (posts-append xs ys) ∙ (which-append is_closed_post (posts_of xs) (posts_of ys) ∙ (ap (λ ms. ms ++ which is_closed_post (posts_of ys)) one
+    ∙ (ap (λ ms. told_closings w xs ++ ms) two ∙ sym (told-append w xs ys))))
 
 -- NtClose
 same-last : (w v : World) (r : HandleRow) → v.handles ≡ w.handles → is_last r v ≡ is_last r w
 same-last w v r same = rw same refl
 
-nil-right : {X : Type 0} (xs : List X) → xs ++ [] ≡ xs
-nil-right [] = refl
-nil-right (x ∷ xs) = grind (arith, nil-right xs)
+-- what is told of a port is the same once it is cut
+told-shut : (w v : World) (b : Birth) → v.handles ≡ w.handles → v.ports ≡ change (is_end_of b) cut w.ports → told_closed v b ≡ told_closed w b
+told-shut w v b handles ports = at (port_row w b) refl
+  where
+    row : port_row v b ≡ port_row (basic w (Cuts b)) b
+    row = rw ports refl
+
+    at : (o : Option PortRow) → port_row w b ≡ o → told_closed v b ≡ given o (λ p. given (told_of w p) (λ m. m ∷ []))
+    at None none = rw (row, no-row w b b none) refl
+    at (Some p) here =
+        let own = first-passes (is_port b) w.ports p here in
+        let cut_here : port_row v b ≡ Some (cut p) = row ∙ cut-row w b b p here ∙ ap Some (end-own b p own) in
+        rw cut_here (same-told w v p handles)
 
 pub handle-tells : (w : World) (pid : ℕ) (r : HandleRow) → handle_at w pid r.value ≡ Some r → IsSoundWorld w → TellsClosings w (close_handle pid r w)
 handle-tells w pid r at s = by_last (is_last r w) refl
   where
-    dropped : (v : World) (last : Bool) → v.handles ≡ w.handles → is_last r w ≡ last → closings v (DropsHandle pid r.value ∷ []) ≡ when last (r.object.birth ∷ [])
+    dropped : (v : World) (last : Bool) → v.handles ≡ w.handles → is_last r w ≡ last → told_closings v (DropsHandle pid r.value ∷ []) ≡ each (told_closed v) (when last (r.object.birth ∷ []))
     dropped v last same is =
         let test : is_last r v ≡ last = same-last w v r same ∙ is in
-        rw (shut-found w v pid r same at, test) (nil-right (when last (r.object.birth ∷ [])))
+        let closed : closes v (DropsHandle pid r.value) ≡ when last (r.object.birth ∷ []) = rw (shut-found w v pid r same at, test) refl in
+        nil-right (each (told_closed v) (closes v (DropsHandle pid r.value))) ∙ ap (each (told_closed v)) closed
 
     by_last : (last : Bool) → is_last r w ≡ last → TellsClosings w (when last (close_port r.object.birth w) ++ DropsHandle pid r.value ∷ [])
     by_last true is =
@@ -271,6 +294,7 @@ handle-tells w pid r at s = by_last (is_last r w) refl
         let v = world_after w bs in
         let shut = close-shut w b s in
         let posts : which is_closed_post (posts_of (bs ++ DropsHandle pid r.value ∷ [])) ≡ told_closed w b = rw (posts-append bs (DropsHandle pid r.value ∷ []), nil-right (posts_of bs)) (close-told w b s) in
-        let closed : closings w (bs ++ DropsHandle pid r.value ∷ []) ≡ b ∷ [] = closings-behind w bs (DropsHandle pid r.value ∷ []) (close-dropless w b) ∙ dropped v true shut.handles is in
-        rw (posts, closed) (sym (nil-right (told_closed w b)))
-    by_last false off = rw (dropped w false refl off) refl
+        let closed : told_closings w (bs ++ DropsHandle pid r.value ∷ []) ≡ told_closed w b =
+        told-behind w bs (DropsHandle pid r.value ∷ []) (close-dropless w b) ∙ (dropped v true shut.handles is ∙ (nil-right (told_closed v b) ∙ told-shut w v b shut.handles shut.ports)) in
+        posts ∙ sym closed
+    by_last false off = sym (dropped w false refl off)

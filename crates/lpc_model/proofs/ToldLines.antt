@@ -1,15 +1,15 @@
 -- Each line tells of the closings that it brings, and of no other.
-use Rattle.std.proofs.Common.{◌∙◌, ℕ, List, [], ◌∷◌, Bool, true, false, not, Option, Some, None, refl, sym, ap}
+use Rattle.std.proofs.Common.{Bool, List, None, Option, Some, [], ap, false, not, refl, sym, true, ℕ, ◌∙◌, ◌∷◌, ◌≡◌}
 use Rattle.std.specs.Prelude.{Result, Ok, Err}
-use Rattle.lpc_base.specs.Rows.{each, first, which}
+use Rattle.lpc_base.specs.Rows.{first, given, when, which}
 use Rattle.lpc_base.proofs.RowWords.{every-append}
 use Rattle.lpc_base.specs.declared.status.Status.{Status}
-use Rattle.lpc_base.specs.declared.status.TheConstants.{INVALID_HANDLE, INVALID_PORT_HANDLE}
+use Rattle.lpc_base.specs.declared.status.TheConstants.{INVALID_HANDLE, INVALID_PORT_HANDLE, SUCCESS}
 use Rattle.lpc_message.specs.declared.kind.TheConstants.{DATAGRAM, REQUEST}
 use Rattle.lpc_model.specs.declared.entry.Word.TheVariants as word
-use Rattle.lpc_model.specs.World.{Birth, Message, MessageRow, PortRow, ThreadRow, WaitRow, World}
-use Rattle.lpc_model.specs.Found.{handle_at, is_connection_port, is_queued, is_queued_connect, live_thread, wait_of}
-use Rattle.lpc_model.specs.Basics.{AddsHandle, Basic, world_after}
+use Rattle.lpc_model.specs.World.{Birth, HandleRow, Message, MessageRow, PortRow, ThreadRow, WaitRow, World}
+use Rattle.lpc_model.specs.Found.{handle_at, handles_of, is_connection_port, is_live, is_queued, is_queued_connect, live_thread, live_threads, wait_of}
+use Rattle.lpc_model.specs.Basics.{AddsHandle, Basic, Empties, Registers, Tells, Unbinds, Unregisters, Wakes, Withdraws, basic, in_turn, world_after}
 use Rattle.lpc_model.specs.Message.{message_test}
 use Rattle.lpc_model.specs.Entering.{enter, row_of}
 use Rattle.lpc_model.specs.Named.{free_name, named_port, spelled_name}
@@ -17,21 +17,25 @@ use Rattle.lpc_model.specs.Refusal.{refuse_if}
 use Rattle.lpc_model.specs.Tests.{PORT_ACCESS, handle_row, handles_test, next_birth, own_handle, port_test}
 use Rattle.lpc_model.specs.Connect.{ConnectAnswer, answer_test, answered_steps, client_port, complete_test, connect_start, connection_request, info_test, listen_steps, making, nt_accept_connect_port, nt_complete_connect_port, nt_connect_port, nt_create_port, nt_listen_port}
 use Rattle.lpc_model.specs.Request.{answered_test, datagram_send_test, datagram_start, given_reply, nt_reply_port, nt_reply_wait_receive_port, nt_request_port, nt_request_wait_reply_port, optional_message, receive_steps, receive_test, request_start, send_test, sent_by}
-use Rattle.lpc_model.specs.Close.{nt_close}
+use Rattle.lpc_model.specs.Close.{close_handle, nt_close}
 use Rattle.lpc_model.specs.Counts.{asked, nt_duplicate_object, nt_query_object, rights_test}
 use Rattle.lpc_model.specs.Sweep.{sweep}
-use Rattle.lpc_model.specs.Closings.{ClosingsAreTold, RunTellsClosings, is_closed_post, told_closed}
-use Rattle.lpc_model.specs.Run.{Along, said_in}
-use Rattle.lpc_model.proofs.SoundLines.{sound_none, sound_step}
-use Rattle.lpc_model.specs.World.{no_rows}
-use Rattle.lpc_model.specs.Machine.{step}
-use Rattle.lpc_model.specs.Lines.{ScriptCall, ScriptLine, accept_connect_port, boot, close, complete_connect_port, connect_port, create_port, dir, duplicate_object, link, listen_port, query_object, reply_port, reply_wait_receive_port, request_port, request_wait_reply_port, run, thread}
+use Rattle.lpc_model.specs.Closings.{ClosingsAreTold, is_closed_post}
+use Rattle.lpc_model.specs.Lines.{ProcArg, ScriptCall, ScriptLine, accept_connect_port, boot, close, complete_connect_port, connect_port, create_port, dir, duplicate_object, link, listen_port, query_object, register_thread_terminate_port, reply_port, reply_wait_receive_port, request_port, request_wait_reply_port, run, terminate_process, terminate_thread, thread}
 use Rattle.lpc_model.specs.Machine.{Stepped, bare_steps, boot_line, dir_line, link_line, name_of_call, ready_steps, service_of, thread_line, thread_steps, thread_test, unused_test}
-use Rattle.lpc_model.specs.SoundWaits.{IsSoundWorld}
+use Rattle.lpc_model.specs.SoundWaits.{HasShutConnects, IsSoundWorld}
 use Rattle.lpc_model.proofs.Holding.{Holds, bind_holds, directed_holds, found_ok, holds_ok, settled_holds}
 use Rattle.lpc_model.proofs.Sweeping.{step_swept}
-use Rattle.lpc_model.proofs.SoundClose.{found-value}
-use Rattle.lpc_model.proofs.Told.{AreCalm, AreHushed, TellsClosings, calm-all, calm-tells, closings-before, handle-tells, hushed-enter, hushed-receipt, is_calm, is_hushed, sweep-dropless}
+use Rattle.lpc_model.proofs.SoundClose.{close_handle-sound, found-value}
+use Rattle.lpc_model.proofs.Told.{AreCalm, AreHushed, TellsClosings, calm-all, calm-tells, handle-tells, hushed-enter, hushed-receipt, is_calm, is_hushed, sweep-dropless, tells-append, told-before}
+use Rattle.lpc_model.specs.Register.{is_registered, nt_register_thread_terminate_port, register_steps, registration_test}
+use Rattle.lpc_model.specs.Death.{answer_unless, code_status, die, end_process, end_threads, nt_terminate_process, nt_terminate_thread, post_death, post_deaths, told_death}
+use Rattle.lpc_model.specs.declared.entry.CallName.{CallName}
+use Rattle.lpc_model.specs.declared.entry.CallName.TheVariants.{NtRegisterThreadTerminatePort, NtTerminateProcess, NtTerminateThread}
+use Rattle.lpc_model.specs.declared.entry.Entry.TheVariants.{Answer}
+use Rattle.lpc_model.proofs.Ending.{answered_end, behind_dead, behind_told, die-pass, first-at, process-ends, rows-left, thread-ends, told-facts, turn-pass}
+use Rattle.lpc_model.proofs.SoundTerminate.{IsSafe, sound-of, told-safe}
+use Rattle.lpc_model.proofs.Closing.{behind, takes_away}
 
 -- Services
 making-calm : (w : World) (port : Birth) (name : Option (List ℕ)) → Holds AreCalm (making w port name)
@@ -136,27 +140,95 @@ close-tells w by value s =
     bind_holds (own_handle w by value) _ (TellsClosings w) (λ r is.
     handle-tells w by.process r (found-value w by.process value r (found_ok (handle_at w by.process value) INVALID_HANDLE r is)) s)
 
-service-tells : (w : World) (by : ThreadRow) (call : ScriptCall) → IsSoundWorld w → Holds (TellsClosings w) (service_of w by call)
-service-tells w by (create_port name) s = calm_holds w _ (create-calm w by name)
-service-tells w by (connect_port name info) s = calm_holds w _ (connect-calm w by name info)
-service-tells w by (listen_port handle) s = hushed_holds w _ (listen-hushed w by handle)
-service-tells w by (accept_connect_port context message accept) s = calm_holds w _ (accept-calm w by context message accept)
-service-tells w by (complete_connect_port handle) s = calm_holds w _ (complete-calm w by handle)
-service-tells w by (request_port handle bytes) s = hushed_holds w _ (datagram-hushed w by handle bytes)
-service-tells w by (request_wait_reply_port handle bytes) s = hushed_holds w _ (request-hushed w by handle bytes)
-service-tells w by (reply_port handle bytes) s = hushed_holds w _ (reply-hushed w by handle bytes)
-service-tells w by (reply_wait_receive_port handle bytes) s = hushed_holds w _ (receive-hushed w by handle bytes)
-service-tells w by (close handle) s = close-tells w by handle s
-service-tells w by (duplicate_object handle access) s = calm_holds w _ (duplicate-calm w by handle access)
-service-tells w by (query_object handle) s = hushed_holds w _ (query-hushed w by handle)
+-- NtRegisterThreadTerminatePort
+registered-hushed : (by : ThreadRow) (b : Birth) → AreHushed (register_steps by b)
+registered-hushed by b = at (not (is_registered b by))
+  where
+    at : (new : Bool) → AreHushed (Tells (Answer by.number NtRegisterThreadTerminatePort SUCCESS []) ∷ when new (Registers by.number b ∷ []))
+    at true = refl
+    at false = refl
 
-ready-tells : (w : World) (by : ThreadRow) (call : ScriptCall) (o : Option WaitRow) → IsSoundWorld w → TellsClosings w (ready_steps by call o w)
-ready-tells w by call (Some x) s = refl
-ready-tells w by call None s = settled_holds (TellsClosings w) by (name_of_call call) (service_of w by call) (service-tells w by call s) (λ _ _. refl)
+pub register-hushed : (w : World) (by : ThreadRow) (handle : ℕ) → Holds AreHushed (nt_register_thread_terminate_port w by handle)
+unfolding nt_register_thread_terminate_port
+register-hushed w by handle =
+    bind_holds (port_test w by handle) _ AreHushed (λ port _.
+    bind_holds (registration_test by port.birth) _ AreHushed (λ _ _. registered-hushed by port.birth))
 
-thread-tells : (w : World) (tid : ℕ) (call : ScriptCall) (o : Option ThreadRow) → IsSoundWorld w → TellsClosings w (thread_steps tid call o w)
-thread-tells w tid call None s = refl
-thread-tells w tid call (Some by) s = ready-tells w by call (wait_of w tid) s
+-- NtTerminateThread and NtTerminateProcess
+away-hushed : (x : Basic) → takes_away x ≡ true → is_hushed x ≡ true
+away-hushed (Wakes who call status fields) is = refl
+away-hushed (Withdraws who) is = refl
+away-hushed (Empties q) is = refl
+away-hushed (Unbinds b) is = refl
+away-hushed x is = absurd (cc)
+
+pub die-hushed : (code : Status) (t : ThreadRow) (w : World) → AreHushed (die code t w)
+die-hushed code t w = die-pass is_hushed away-hushed (λ n c. refl) (λ b. refl) code t w
+
+death-hushed : (t : ThreadRow) (b : Birth) (w : World) → AreHushed (post_death t b w)
+death-hushed t b w = at (told_death (basic w (Unregisters t.number b)) t b) refl
+  where
+    at : (o : Option MessageRow) → told_death (basic w (Unregisters t.number b)) t b ≡ o → AreHushed (given o (λ m. enter m (basic w (Unregisters t.number b))))
+    at None none = refl
+    at (Some m) some = let told = told-facts t b m (basic w (Unregisters t.number b)) some in hushed-enter m (basic w (Unregisters t.number b)) told.other
+
+handles-tell : (pid : ℕ) (rows : List HandleRow) (w : World) → handles_of w pid ≡ rows → IsSoundWorld w → TellsClosings w (in_turn (close_handle pid) rows w)
+handles-tell pid [] w same s = refl
+handles-tell pid (r ∷ rows) w same s =
+    let at = first-at w pid r rows same in
+    tells-append w (close_handle pid r w) (in_turn (close_handle pid) rows (behind (close_handle pid r) w)) (handle-tells w pid r at s)
+    (handles-tell pid rows (behind (close_handle pid r) w) (rows-left w pid r rows same s) (close_handle-sound w pid r at s))
+
+end-tells : (pid : ℕ) (code : Status) (ts : List ThreadRow) (w : World) → IsSafe w → TellsClosings w (end_threads pid code ts w)
+unfolding end_threads
+end-tells pid code ts w is =
+    let one = behind_dead code ts w in
+    let two = behind_told code ts w in
+    tells-append w (in_turn (die code) ts w) _ (calm-tells w (in_turn (die code) ts w) (calm-all (in_turn (die code) ts w) (turn-pass is_hushed (die code) (λ t v. die-hushed code t v) ts w)))
+    (tells-append one (in_turn post_deaths ts one) _ (calm-tells one (in_turn post_deaths ts one) (calm-all (in_turn post_deaths ts one) (turn-pass is_hushed post_deaths (λ t v. turn-pass is_hushed (post_death t) (λ b u. death-hushed t b u) t.registrations v) ts one)))
+    (at (not (is_live two pid))))
+  where
+    at : (last : Bool) → TellsClosings (behind_told code ts w) (when last (end_process pid (behind_told code ts w)))
+    at true = handles-tell pid (handles_of (behind_told code ts w) pid) (behind_told code ts w) refl (sound-of (behind_told code ts w) (told-safe code ts w is))
+    at false = refl
+
+answered-tells : (w : World) (by : ThreadRow) (call : CallName) (own : Bool) (pid : ℕ) (code : Status) (ts : List ThreadRow) → IsSafe w → TellsClosings w (answered_end by call own pid code ts w)
+answered-tells w by call true pid code ts is = end-tells pid code ts w is
+answered-tells w by call false pid code ts is = tells-append w (answer_unless false by call) (end_threads pid code ts w) refl (end-tells pid code ts w is)
+
+thread-tells-end : (w : World) (by : ThreadRow) (target : ProcArg) (code : ℕ) → IsSafe w → Holds (TellsClosings w) (nt_terminate_thread w by target code)
+thread-tells-end w by target code is = thread-ends (TellsClosings w) w by target code (λ t own _ _. answered-tells w by NtTerminateThread own t.process (code_status code) (t ∷ []) is)
+
+process-tells-end : (w : World) (by : ThreadRow) (target : ProcArg) (code : ℕ) → IsSafe w → Holds (TellsClosings w) (nt_terminate_process w by target code)
+process-tells-end w by target code is = process-ends (TellsClosings w) w by target code (λ pid own _. answered-tells w by NtTerminateProcess own pid (code_status code) (live_threads w pid) is)
+
+safe : (w : World) → IsSoundWorld w → HasShutConnects w → IsSafe w
+safe w s shut = record { sound = s; shut = shut }
+
+service-tells : (w : World) (by : ThreadRow) (call : ScriptCall) → IsSoundWorld w → HasShutConnects w → Holds (TellsClosings w) (service_of w by call)
+service-tells w by (create_port name) s shut = calm_holds w _ (create-calm w by name)
+service-tells w by (connect_port name info) s shut = calm_holds w _ (connect-calm w by name info)
+service-tells w by (listen_port handle) s shut = hushed_holds w _ (listen-hushed w by handle)
+service-tells w by (accept_connect_port context message accept) s shut = calm_holds w _ (accept-calm w by context message accept)
+service-tells w by (complete_connect_port handle) s shut = calm_holds w _ (complete-calm w by handle)
+service-tells w by (request_port handle bytes) s shut = hushed_holds w _ (datagram-hushed w by handle bytes)
+service-tells w by (request_wait_reply_port handle bytes) s shut = hushed_holds w _ (request-hushed w by handle bytes)
+service-tells w by (reply_port handle bytes) s shut = hushed_holds w _ (reply-hushed w by handle bytes)
+service-tells w by (reply_wait_receive_port handle bytes) s shut = hushed_holds w _ (receive-hushed w by handle bytes)
+service-tells w by (register_thread_terminate_port handle) s shut = hushed_holds w _ (register-hushed w by handle)
+service-tells w by (close handle) s shut = close-tells w by handle s
+service-tells w by (duplicate_object handle access) s shut = calm_holds w _ (duplicate-calm w by handle access)
+service-tells w by (query_object handle) s shut = hushed_holds w _ (query-hushed w by handle)
+service-tells w by (terminate_thread target code) s shut = thread-tells-end w by target code (safe w s shut)
+service-tells w by (terminate_process target code) s shut = process-tells-end w by target code (safe w s shut)
+
+ready-tells : (w : World) (by : ThreadRow) (call : ScriptCall) (o : Option WaitRow) → IsSoundWorld w → HasShutConnects w → TellsClosings w (ready_steps by call o w)
+ready-tells w by call (Some x) s shut = refl
+ready-tells w by call None s shut = settled_holds (TellsClosings w) by (name_of_call call) (service_of w by call) (service-tells w by call s shut) (λ _ _. refl)
+
+thread-tells : (w : World) (tid : ℕ) (call : ScriptCall) (o : Option ThreadRow) → IsSoundWorld w → HasShutConnects w → TellsClosings w (thread_steps tid call o w)
+thread-tells w tid call None s shut = refl
+thread-tells w tid call (Some by) s shut = ready-tells w by call (wait_of w tid) s shut
 
 -- Directives
 pub boot-hushed : (w : World) (pid tid : ℕ) → Holds AreHushed (boot_line w pid tid)
@@ -179,25 +251,16 @@ link-hushed w text target =
 
 -- Lines
 -- before rows go
-line-told : (w : World) (line : ScriptLine) → IsSoundWorld w → TellsClosings w (bare_steps line w)
+line-told : (w : World) (line : ScriptLine) → IsSoundWorld w → HasShutConnects w → TellsClosings w (bare_steps line w)
 unfolding bare_steps
-line-told w (boot pid tid) s = directed_holds (TellsClosings w) word.Boot (boot_line w pid tid) (hushed_holds w (boot_line w pid tid) (boot-hushed w pid tid)) (λ _. refl)
-line-told w (thread tid pid) s = directed_holds (TellsClosings w) word.Thread (thread_line w tid pid) (hushed_holds w (thread_line w tid pid) (further-hushed w tid pid)) (λ _. refl)
-line-told w (dir path) s = directed_holds (TellsClosings w) word.Dir (dir_line w path) (hushed_holds w (dir_line w path) (dir-hushed w path)) (λ _. refl)
-line-told w (link path target) s = directed_holds (TellsClosings w) word.Link (link_line w path target) (hushed_holds w (link_line w path target) (link-hushed w path target)) (λ _. refl)
-line-told w (run tid call) s = thread-tells w tid call (live_thread w tid) s
+line-told w (boot pid tid) s shut = directed_holds (TellsClosings w) word.Boot (boot_line w pid tid) (hushed_holds w (boot_line w pid tid) (boot-hushed w pid tid)) (λ _. refl)
+line-told w (thread tid pid) s shut = directed_holds (TellsClosings w) word.Thread (thread_line w tid pid) (hushed_holds w (thread_line w tid pid) (further-hushed w tid pid)) (λ _. refl)
+line-told w (dir path) s shut = directed_holds (TellsClosings w) word.Dir (dir_line w path) (hushed_holds w (dir_line w path) (dir-hushed w path)) (λ _. refl)
+line-told w (link path target) s shut = directed_holds (TellsClosings w) word.Link (link_line w path target) (hushed_holds w (link_line w path target) (link-hushed w path target)) (λ _. refl)
+line-told w (run tid call) s shut = thread-tells w tid call (live_thread w tid) s shut
 
 -- rows that go tell of nothing
-pub closings_told : (w : World) (line : ScriptLine) → IsSoundWorld w → ClosingsAreTold w line
-closings_told w line s =
+pub closings_told : (w : World) (line : ScriptLine) → IsSoundWorld w → HasShutConnects w → ClosingsAreTold w line
+closings_told w line s shut =
     let bs = bare_steps line w in
-    ap (λ (t : Stepped). which is_closed_post t.posts) (step_swept w line) ∙ (line-told w line s ∙ ap (each (told_closed w)) (sym (closings-before w bs (sweep (world_after w bs)) (sweep-dropless (world_after w bs)))))
-
--- Runs
-told-along : (w : World) (lines : List (Option ScriptLine)) → IsSoundWorld w → Along ClosingsAreTold w lines
-told-along w [] s = tt
-told-along w (None ∷ later) s = told-along w later s
-told-along w (Some line ∷ later) s = (closings_told w line s, told-along (step w line).world later (sound_step w line s))
-
-pub closings_told_run : (bytes : List ℕ) → RunTellsClosings bytes
-closings_told_run bytes = told-along no_rows (said_in bytes) sound_none
+    ap (λ (t : Stepped). which is_closed_post t.posts) (step_swept w line) ∙ (line-told w line s shut ∙ sym (told-before w bs (sweep (world_after w bs)) (sweep-dropless (world_after w bs))))

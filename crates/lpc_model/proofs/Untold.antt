@@ -7,7 +7,7 @@ use Rattle.lpc_base.proofs.RowMaps.{every-both, every-first, every-without_first
 use Rattle.lpc_model.specs.declared.entry.ObjectKind.TheVariants as kind
 use Rattle.lpc_model.specs.World.{Birth, HandleRow, HandleTable, MessageRow, ObjectKind, ObjectName, WaitRow, World}
 use Rattle.lpc_model.specs.Found.{has_handle_to, has_value, is_connect, is_open, is_own_of, is_port, is_queued, is_queued_connect, is_sent_on, is_table, names_port, port_name, same_birth, same_kind, waits_as, waits_at}
-use Rattle.lpc_model.specs.Basics.{Accepts, AddsHandle, AddsProcess, Awaits, Basic, DropsHandle, Empties, Enters, Frees, Receives, Takes, TakesConnect, Tells, Wakes, Withdraws, accepted, basic, freed, no_handles, put_handle, received, with_handle, without_handle, world_after}
+use Rattle.lpc_model.specs.Basics.{Accepts, AddsHandle, AddsProcess, Awaits, Basic, Dies, DropsHandle, Empties, Enters, Frees, Receives, Takes, TakesConnect, Tells, Wakes, Withdraws, accepted, basic, freed, no_handles, put_handle, received, with_handle, without_handle, world_after}
 use Rattle.lpc_model.specs.Tests.{handle_row}
 use Rattle.lpc_model.specs.Sweep.{free_unheld, sweep, unheld}
 use Rattle.lpc_model.specs.Closings.{is_closed_post}
@@ -110,6 +110,7 @@ freed-untold w kind.Thread b u = record { closed = u.closed; once = u.once; conn
 hushed-step : (w : World) (b : Basic) → is_hushed b ≡ true → IsUntold w → IsUntold (basic w b)
 hushed-step w (Tells e) is u = u
 hushed-step w (Wakes who call status fields) is u = waits-untold w _ (λ b. has_none-without (is_connect_on b) (waits_as who) w.waits) (every-without (waits_shut w) (waits_as who) w.waits) u
+hushed-step w (Dies who status) is u = untold-from w (basic w (Dies who status)) (λ b off. off) (λ b. has_none-without (is_connect_on b) (waits_as who) w.waits) (λ all. all) u.once (every-without (waits_shut w) (waits_as who) w.waits) u
 hushed-step w (Awaits x) is u = waits-untold w _ (λ b off. has_none-push (is_connect_on b) w.waits x off (other-connect b x is)) (λ all. every-push (waits_shut w) w.waits x all (not-both (is_connect x) (is_open w x.port) is)) u
 hushed-step w (Receives who queue) is u = waits-untold w _ (λ b off. rw (has-change (is_connect_on b) (waits_at who queue) received (λ x. refl) w.waits) off) (every-change (waits_shut w) (waits_at who queue) received (λ x is. is) w.waits) u
 hushed-step w (Accepts who reply) is u = waits-untold w _ (λ b off. rw (has-change (is_connect_on b) (waits_as who) (accepted reply) (accepted-connect b reply) w.waits) off) (every-change (waits_shut w) (waits_as who) (accepted reply) (accepted-shut w reply) w.waits) u

@@ -1,7 +1,6 @@
 -- Each line keeps what stands in queues of closings.
 use Rattle.std.proofs.Common.{◌≡◌, ℕ, List, [], ◌∷◌, Bool, true, false, not, Option, Some, None, refl, sym, subst, arith}
 use Rattle.std.specs.Prelude.{◌&&◌, ◌||◌, ◌==◌, Result, Ok, Err}
-use Rattle.std.specs.List.{AllByRecursion}
 use Rattle.std.proofs.lemmas.Bool.{eqb-true}
 use Rattle.lpc_base.specs.Rows.{every, first, has, without}
 use Rattle.lpc_base.proofs.RowWords.{every-more, first-passes}
@@ -14,8 +13,8 @@ use Rattle.lpc_names.specs.Walk.{Stands}
 use Rattle.lpc_names.specs.declared.names.Found.TheVariants.{Item}
 use Rattle.lpc_model.specs.declared.entry.Word.TheVariants as word
 use Rattle.lpc_model.specs.World.{Birth, MessageRow, ThreadRow, WaitRow, World, no_rows}
-use Rattle.lpc_model.specs.Found.{free_handle, handle_at, is_accepted, is_open, is_port, is_server_port, live_thread, port_name, same_birth, wait_of, waits_as}
-use Rattle.lpc_model.specs.Basics.{Accepts, AddsHandle, Basic, Binds, Completes, DrawsIdentifier, DrawsOrdinal, Joins, Makes, basic, world_after}
+use Rattle.lpc_model.specs.Found.{free_handle, handle_at, is_accepted, is_open, is_port, is_server_port, live_thread, live_threads, port_name, same_birth, wait_of, waits_as}
+use Rattle.lpc_model.specs.Basics.{Accepts, AddsHandle, Basic, Binds, Completes, DrawsIdentifier, DrawsOrdinal, Joins, Makes, Unregisters, basic, world_after}
 use Rattle.lpc_model.specs.Sweep.{sweep}
 use Rattle.lpc_model.specs.Fields.{h, info, max}
 use Rattle.lpc_model.specs.Entering.{enter, row_of, woken}
@@ -25,13 +24,11 @@ use Rattle.lpc_model.specs.Tests.{PORT_ACCESS, handle_row, handles_test, next_bi
 use Rattle.lpc_model.specs.Connect.{Completable, ConnectAnswer, accept_steps, answer_of, answer_test, answered_steps, client_port, complete_steps, complete_test, connect_start, connect_steps, connect_wait, connection_request, create_steps, info_test, is_accepted_on, making, new_port, nt_accept_connect_port, nt_complete_connect_port, nt_connect_port, nt_create_port, refuse_steps, server_port}
 use Rattle.lpc_model.specs.Counts.{asked, nt_duplicate_object, rights_test}
 use Rattle.lpc_model.specs.Closings.{is_closed_post}
-use Rattle.lpc_model.specs.Lines.{ScriptCall, ScriptLine, accept_connect_port, boot, close, complete_connect_port, connect_port, create_port, dir, duplicate_object, link, listen_port, query_object, reply_port, reply_wait_receive_port, request_port, request_wait_reply_port, run, thread}
-use Rattle.lpc_model.specs.Machine.{Stepped, bare_steps, boot_line, dir_line, link_line, name_of_call, ready_steps, service_of, step, thread_line, thread_steps}
-use Rattle.lpc_model.specs.Run.{said_in, trace}
+use Rattle.lpc_model.specs.Lines.{ProcArg, ScriptCall, ScriptLine, accept_connect_port, boot, close, complete_connect_port, connect_port, create_port, dir, duplicate_object, link, listen_port, query_object, register_thread_terminate_port, reply_port, reply_wait_receive_port, request_port, request_wait_reply_port, run, terminate_process, terminate_thread, thread}
+use Rattle.lpc_model.specs.Machine.{bare_steps, boot_line, dir_line, link_line, name_of_call, ready_steps, service_of, thread_line, thread_steps}
 use Rattle.lpc_model.specs.SoundWaits.{IsSoundWorld, can_stay_sound, is_connect_on}
-use Rattle.lpc_model.specs.Linked.{IsLinked}
 use Rattle.lpc_model.specs.Standing.{NamesWhatStands}
-use Rattle.lpc_model.specs.Untold.{IsUntold, RunKeepsUntold, StepsKeepUntold, is_closing_of}
+use Rattle.lpc_model.specs.Untold.{IsUntold, StepsKeepUntold, is_closing_of}
 use Rattle.lpc_model.proofs.Rows.{has-found}
 use Rattle.lpc_model.proofs.Births.{birth-same}
 use Rattle.lpc_model.proofs.Holding.{Holds, bind_holds, directed_holds, found_ok, holds_ok, settled_holds}
@@ -39,16 +36,19 @@ use Rattle.lpc_model.proofs.Usable.{CanCall, can-call, handle-open}
 use Rattle.lpc_model.proofs.SoundWorlds.{by_kind}
 use Rattle.lpc_model.proofs.SoundQueues.{after-append}
 use Rattle.lpc_model.proofs.SoundAccept.{foreign-connect, unconnected}
-use Rattle.lpc_model.proofs.SoundLines.{sound_none, sound_step}
 use Rattle.lpc_model.proofs.LinkedCalls.{unmade}
-use Rattle.lpc_model.proofs.LinkedLines.{linked_none, linked_step}
 use Rattle.lpc_model.proofs.HeldClose.{to-port-kind}
 use Rattle.lpc_model.proofs.Standing.{off-each}
-use Rattle.lpc_model.proofs.StandingCalls.{found-to-port, names_none, names_step}
+use Rattle.lpc_model.proofs.StandingCalls.{found-to-port}
 use Rattle.lpc_model.proofs.Told.{AreHushed, hushed-enter}
-use Rattle.lpc_model.proofs.ToldLines.{boot-hushed, datagram-hushed, dir-hushed, further-hushed, link-hushed, listen-hushed, query-hushed, receive-hushed, reply-hushed, request-hushed}
+use Rattle.lpc_model.proofs.ToldLines.{boot-hushed, datagram-hushed, die-hushed, dir-hushed, further-hushed, link-hushed, listen-hushed, query-hushed, receive-hushed, register-hushed, reply-hushed, request-hushed}
 use Rattle.lpc_model.proofs.Untold.{added-untold, further-untold, hushed-all, offered-untold, open-stands, swept-untold, tells_shut}
-use Rattle.lpc_model.proofs.UntoldClose.{close-untold}
+use Rattle.lpc_model.proofs.UntoldClose.{close-untold, handle-untold}
+use Rattle.lpc_model.specs.Death.{code_status, die, end_threads, nt_terminate_process, nt_terminate_thread}
+use Rattle.lpc_model.specs.declared.entry.CallName.TheVariants.{NtTerminateProcess, NtTerminateThread}
+use Rattle.lpc_model.proofs.Ending.{end-keeps, process-ends, thread-ends, told-facts, world-ends}
+use Rattle.lpc_model.proofs.SoundTerminate.{IsSafe, die-safe, enter-safe, handle-safe, sound-of, unregister-safe}
+use Rattle.lpc_model.proofs.Closing.{behind}
 
 -- the steps leave a world that tells of no open port
 abbrev pub KeepUntold : World → List Basic → Type 0
@@ -202,6 +202,30 @@ duplicate-untold w by handle access n u =
     let at = found_ok (handle_at w by.process handle) INVALID_HANDLE r is in
     further-untold w by.process (handle_row (free_handle w by.process) r.object (asked r access)) (handle-open w by.process handle r at (to-port-kind w r (found-to-port w by.process handle r n at))) u)))
 
+-- NtTerminateThread and NtTerminateProcess
+record IsUntoldWorld (w : World) : Type 0 where
+  safe : IsSafe w
+  untold : IsUntold w
+
+end-untold : (pid : ℕ) (code : Status) (ts : List ThreadRow) (w : World) → IsUntoldWorld w → IsUntoldWorld (behind (end_threads pid code ts) w)
+end-untold =
+    end-keeps IsUntoldWorld (λ code t w is. record { safe = die-safe code t w is.safe; untold = hushed-all w (die code t w) (die-hushed code t w) is.untold })
+    (λ n b w is. record { safe = unregister-safe n b w is.safe; untold = hushed-all w (Unregisters n b ∷ []) refl is.untold })
+    (λ t b m w some is. let told = told-facts t b m w some in record { safe = enter-safe m w is.safe; untold = hushed-all w (enter m w) (hushed-enter m w told.other) is.untold })
+    (λ w is. sound-of w is.safe)
+    (λ w pid r at is. record { safe = handle-safe w pid r at is.safe; untold = handle-untold w pid r at (sound-of w is.safe) is.untold })
+
+ended-untold : (pid : ℕ) (code : Status) (ts : List ThreadRow) (w : World) → IsSoundWorld w → IsUntold w → IsUntold (behind (end_threads pid code ts) w)
+ended-untold pid code ts w s u = let t = end-untold pid code ts w (record { safe = record { sound = s; shut = u.connects }; untold = u }) in t.untold
+
+terminate-thread-untold : (w : World) (by : ThreadRow) (target : ProcArg) (code : ℕ) → IsSoundWorld w → IsUntold w → Holds (KeepUntold w) (nt_terminate_thread w by target code)
+terminate-thread-untold w by target code s u =
+    thread-ends (KeepUntold w) w by target code (λ t own _ _. world-ends IsUntold w by NtTerminateThread own t.process (code_status code) (t ∷ []) (ended-untold t.process (code_status code) (t ∷ []) w s u))
+
+terminate-process-untold : (w : World) (by : ThreadRow) (target : ProcArg) (code : ℕ) → IsSoundWorld w → IsUntold w → Holds (KeepUntold w) (nt_terminate_process w by target code)
+terminate-process-untold w by target code s u =
+    process-ends (KeepUntold w) w by target code (λ pid own _. world-ends IsUntold w by NtTerminateProcess own pid (code_status code) (live_threads w pid) (ended-untold pid (code_status code) (live_threads w pid) w s u))
+
 -- Calls
 service-untold : (w : World) (by : ThreadRow) (call : ScriptCall) → CanCall w by → IsSoundWorld w → NamesWhatStands w → IsUntold w → Holds (KeepUntold w) (service_of w by call)
 service-untold w by (create_port name) c s n u = create-untold w by name c s n u
@@ -213,9 +237,12 @@ service-untold w by (request_port handle bytes) c s n u = hushed_holds w _ u (da
 service-untold w by (request_wait_reply_port handle bytes) c s n u = hushed_holds w _ u (request-hushed w by handle bytes)
 service-untold w by (reply_port handle bytes) c s n u = hushed_holds w _ u (reply-hushed w by handle bytes)
 service-untold w by (reply_wait_receive_port handle bytes) c s n u = hushed_holds w _ u (receive-hushed w by handle bytes)
+service-untold w by (register_thread_terminate_port handle) c s n u = hushed_holds w _ u (register-hushed w by handle)
 service-untold w by (close handle) c s n u = close-untold w by handle s u
 service-untold w by (duplicate_object handle access) c s n u = duplicate-untold w by handle access n u
 service-untold w by (query_object handle) c s n u = hushed_holds w _ u (query-hushed w by handle)
+service-untold w by (terminate_thread target code) c s n u = terminate-thread-untold w by target code s u
+service-untold w by (terminate_process target code) c s n u = terminate-process-untold w by target code s u
 
 ready-untold : (w : World) (by : ThreadRow) (call : ScriptCall) (o : Option WaitRow) → (o ≡ None → CanCall w by) → IsSoundWorld w → NamesWhatStands w → IsUntold w → KeepUntold w (ready_steps by call o w)
 ready-untold w by call (Some x) c s n u = u
@@ -243,16 +270,3 @@ untold_step w line s n u =
 
 pub untold_none : IsUntold no_rows
 untold_none = record { closed = refl; once = λ b. grind arith; connects = refl }
-
--- Runs
-trace-untold : (w : World) (lines : List (Option ScriptLine)) → IsSoundWorld w → IsLinked w → NamesWhatStands w → IsUntold w → AllByRecursion (λ (s : Stepped). IsUntold s.world) (trace w lines)
-unfolding trace
-trace-untold w [] s l n u = tt
-trace-untold w (None ∷ later) s l n u = (u, trace-untold w later s l n u)
-trace-untold w (Some line ∷ later) s l n u =
-    let after = untold_step w line s n u in
-    (after, trace-untold (step w line).world later (sound_step w line s) (linked_step w line s l) (names_step w line s l n) after)
-
--- each line of a script leaves such a world
-pub untold_run : (bytes : List ℕ) → RunKeepsUntold bytes
-untold_run bytes = trace-untold no_rows (said_in bytes) sound_none linked_none names_none untold_none

@@ -1,5 +1,5 @@
 -- The basic steps that each line's step is a list of, and what one does.
-use Rattle.std.specs.Prelude.{ℕ, ◌+◌, ◌||◌, nat_lt, Bool, true, List, [], ◌∷◌, ◌++◌, map, None, Some, if◌then◌else◌}
+use Rattle.std.specs.Prelude.{ℕ, ◌+◌, ◌||◌, nat_lt, Bool, true, false, List, [], ◌∷◌, ◌++◌, map, None, Some, if◌then◌else◌}
 use Rattle.lpc_base.specs.declared.status.Status.{Status}
 use Rattle.lpc_model.specs.declared.entry.Entry.{Entry}
 use Rattle.lpc_model.specs.declared.entry.Entry.TheVariants as entry
@@ -12,8 +12,9 @@ use Rattle.lpc_model.specs.declared.entry.ObjectKind.TheVariants as kind
 use Rattle.lpc_model.specs.World.{World, Birth, CallName, ObjectKind, ObjectName, ProcessRow, ThreadRow, UsedThread, HandleRow, HandleTable, PortRow, MessageRow, WaitKind, WaitRow, Accepted, Connect, Node, Path}
 use Rattle.lpc_model.specs.Found.{has_value, is_own_of, is_paired_to, is_port, is_queued, is_queued_connect, is_table, is_thread, same_birth, waits_as, waits_at}
 
--- An entry, or one change of the rows that belong together: a wait that ends, with its entry; the two ends of a pair; a
--- process, with its number and its empty table of handles; a thread, with its number; or else one row.
+-- An entry, or one change of the rows that belong together: a wait that ends, with its entry; a thread that ends, with its
+-- entry and its wait; the two ends of a pair; a process, with its number and its empty table of handles; a thread, with its
+-- number; or else one row.
 pub data Basic : Type 0 where
   -- an entry of the line's own thread or directive
   Tells : Entry → Basic
@@ -24,6 +25,8 @@ pub data Basic : Type 0 where
   -- a thread's request or connect to a queue is received, and a thread's connect is accepted with the data of an answer
   Receives : ℕ → Birth → Basic
   Accepts : ℕ → List ℕ → Basic
+  -- a thread ends with a status, and its wait with it, which is told
+  Dies : ℕ → Status → Basic
   -- a message enters its queue; the oldest message of a queue is taken, or its oldest connection request
   Enters : MessageRow → Basic
   Takes : Birth → Basic
@@ -34,6 +37,9 @@ pub data Basic : Type 0 where
   -- a thread draws its next message identifier, and its next ordinal
   DrawsIdentifier : ℕ → Basic
   DrawsOrdinal : ℕ → Basic
+  -- a port is registered with a thread; the registration goes
+  Registers : ℕ → Birth → Basic
+  Unregisters : ℕ → Birth → Basic
   -- a row is made; the number of a process or thread is used from then on, and a process begins without handles
   AddsProcess : ProcessRow → Basic
   AddsThread : ThreadRow → Basic
@@ -93,6 +99,17 @@ past_identifier t = record t { next_identifier = t.next_identifier + 1 }
 abbrev pub past_ordinal : ThreadRow → ThreadRow
 past_ordinal t = record t { next_ordinal = t.next_ordinal + 1 }
 
+-- a thread that has ended
+abbrev pub ended : ThreadRow → ThreadRow
+ended t = record t { live = false }
+
+-- a thread with a port registered, behind those that it had; and without the registrations of a port
+abbrev pub registering : Birth → ThreadRow → ThreadRow
+registering b t = record t { registrations = t.registrations ++ b ∷ [] }
+
+abbrev pub unregistering : Birth → ThreadRow → ThreadRow
+unregistering b t = record t { registrations = without (same_birth b) t.registrations }
+
 -- the number of a thread, with its process
 abbrev pub used : ThreadRow → UsedThread
 used t = record { number = t.number; process = t.process }
@@ -127,6 +144,8 @@ basic w (Wakes who call status fields) = record w { waits = without (waits_as wh
 basic w (Awaits x) = record w { waits = w.waits ++ x ∷ [] }
 basic w (Receives who queue) = record w { waits = change (waits_at who queue) received w.waits }
 basic w (Accepts who reply) = record w { waits = change (waits_as who) (accepted reply) w.waits }
+basic w (Dies who status) =
+    record w { threads = change (is_thread who) ended w.threads; waits = without (waits_as who) w.waits }
 basic w (Enters m) = record w { messages = w.messages ++ m ∷ [] }
 basic w (Takes q) = record w { messages = without_first (is_queued q) w.messages }
 basic w (TakesConnect q) = record w { messages = without_first (is_queued_connect q) w.messages }
@@ -134,6 +153,8 @@ basic w (Withdraws who) = record w { messages = without (is_own_of who) w.messag
 basic w (Empties q) = record w { messages = without (is_queued q) w.messages }
 basic w (DrawsIdentifier who) = record w { threads = change (is_thread who) past_identifier w.threads }
 basic w (DrawsOrdinal who) = record w { threads = change (is_thread who) past_ordinal w.threads }
+basic w (Registers who b) = record w { threads = change (is_thread who) (registering b) w.threads }
+basic w (Unregisters who b) = record w { threads = change (is_thread who) (unregistering b) w.threads }
 basic w (AddsProcess p) =
     record w {
       processes = w.processes ++ p ∷ [];
@@ -156,6 +177,7 @@ basic w (DropsHandle pid value) = record w { handles = change (is_table pid) (wi
 abbrev pub told : Basic → List Entry
 told (Tells e) = e ∷ []
 told (Wakes who call status fields) = entry.Wakes who call status fields ∷ []
+told (Dies who status) = entry.Died who status ∷ []
 told b = []
 
 -- the messages that a basic step posts: those that enter a queue
@@ -198,14 +220,19 @@ infixr 8 ◌▹◌
 abbrev pub ◌▹◌ : Steps → Steps → Steps
 ◌▹◌ f g = λ w. going_on w (f w) g
 
+-- steps whatever the world
+abbrev pub doing : List Basic → Steps
+doing bs = λ w. bs
+
 -- steps only where a test of the world before them holds
 abbrev pub provided : (World → Bool) → Steps → Steps
 provided test f = λ w. when (test w) (f w)
 
+-- steps for each row, in order, each in the world that the ones before left
+abbrev pub in_turn : {A : Type 0} → (A → Steps) → List A → Steps
+in_turn f [] = doing []
+in_turn f (x ∷ xs) = f x ▹ in_turn f xs
+
 -- each wait that passes in the world before them ends, in the order of waiting
 abbrev pub end_each : (World → WaitRow → Bool) → (WaitRow → List Basic) → Steps
 end_each test ending = λ w. each ending (which (test w) w.waits)
-
--- steps whatever the world
-abbrev pub doing : List Basic → Steps
-doing bs = λ w. bs

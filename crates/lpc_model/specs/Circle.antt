@@ -14,7 +14,7 @@ use Rattle.lpc_model.specs.declared.entry.Entry.{Entry}
 use Rattle.lpc_model.specs.declared.entry.Entry.TheVariants.{Answer, Busy, Died, Directive, NoThread, Waits, Wakes}
 use Rattle.lpc_model.specs.World.{Birth, PortRow, UsedThread, World}
 use Rattle.lpc_model.specs.Found.{was_process}
-use Rattle.lpc_model.specs.Lines.{ScriptCall, ScriptLine, accept_connect_port, boot, complete_connect_port, connect_port, create_port, dir, link, listen_port, close, duplicate_object, query_object, reply_port, reply_wait_receive_port, request_port, request_wait_reply_port, run, thread}
+use Rattle.lpc_model.specs.Lines.{ScriptCall, ScriptLine, accept_connect_port, boot, complete_connect_port, connect_port, create_port, dir, link, listen_port, close, duplicate_object, query_object, register_thread_terminate_port, reply_port, reply_wait_receive_port, request_port, request_wait_reply_port, run, terminate_process, terminate_thread, thread}
 use Rattle.lpc_model.specs.Machine.{step}
 use Rattle.lpc_model.specs.Run.{Along, State, first_state, said_in, world_behind}
 
@@ -189,9 +189,12 @@ is_fine_call group w (request_wait_reply_port handle message) = names_no_outside
 is_fine_call group w (reply_port handle message) = names_no_outsider group w message
 is_fine_call group w (reply_wait_receive_port handle None) = true
 is_fine_call group w (reply_wait_receive_port handle (Some message)) = names_no_outsider group w message
+is_fine_call group w (register_thread_terminate_port handle) = true
 is_fine_call group w (close handle) = true
 is_fine_call group w (duplicate_object handle access) = true
 is_fine_call group w (query_object handle) = true
+is_fine_call group w (terminate_thread target code) = true
+is_fine_call group w (terminate_process target code) = true
 
 -- where a line is a call of c, it is such a call; directives and other processes may name whom they like
 abbrev pub is_fine_line : Group → ℕ → World → ScriptLine → Bool

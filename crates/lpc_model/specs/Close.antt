@@ -84,11 +84,15 @@ cut_pair b =
     ▹ end_each (is_accepted_across b) end_accepted
     ▹ doing (Cuts b ∷ [])
 
+-- a birth, as the data of a message name it
+abbrev pub birth_bytes : Birth → List ℕ
+birth_bytes b = little_bytes 4 b.maker ++ little_bytes 4 b.ordinal
+
 -- 6: that a completed client port is closed is posted to its connection port, where that is open: a message of the connect
 -- that made the port, with the context of the accept, whose data name the port by its birth
 abbrev pub closed_message : Creator → Birth → Message
 closed_message by b =
-    made PORT_CLOSED by.client by.identifier (little_bytes 4 b.maker ++ little_bytes 4 b.ordinal)
+    made PORT_CLOSED by.client by.identifier (birth_bytes b)
 
 abbrev pub closed_row : PortRow → Birth → Creator → MessageRow
 closed_row p queue by =

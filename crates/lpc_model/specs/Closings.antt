@@ -19,20 +19,20 @@ abbrev pub closes : World → Basic → List Birth
 closes w (DropsHandle pid value) = given (handle_at w pid value) (λ r. when (is_last r w) (r.object.birth ∷ []))
 closes w b = []
 
--- the ports whose last handles go by some steps
-abbrev pub closings : World → List Basic → List Birth
-closings w [] = []
-closings w (b ∷ bs) = closes w b ++ closings (basic w b) bs
-
 -- what is told of a closed port: one message to its connection port, where it is a completed client port and the
 -- connection port is open
 abbrev pub told_closed : World → Birth → List MessageRow
 told_closed w b = given (port_row w b) (λ p. given (told_of w p) (λ m. m ∷ []))
 
--- the messages of a line that tell of closed ports are those of the ports that lost their last handles, seen before the line
+-- what is told of the ports whose last handles go by some steps, each seen when its handle goes
+abbrev pub told_closings : World → List Basic → List MessageRow
+told_closings w [] = []
+told_closings w (b ∷ bs) = each (told_closed w) (closes w b) ++ told_closings (basic w b) bs
+
+-- the messages of a line that tell of closed ports are those of the ports that lose their last handles by it
 abbrev pub ClosingsAreTold : World → ScriptLine → Type 0
 ClosingsAreTold w line =
-    which is_closed_post (step w line).posts ≡ each (told_closed w) (closings w (steps line w))
+    which is_closed_post (step w line).posts ≡ told_closings w (steps line w)
 
 -- each line of a script tells so
 abbrev pub RunTellsClosings : List ℕ → Type 0

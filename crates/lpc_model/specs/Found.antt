@@ -3,7 +3,7 @@ use Rattle.std.specs.Prelude.{ℕ, ◌==◌, ◌&&◌, ◌||◌, ◌+◌, ◌++�
 use Rattle.lpc_base.specs.Places.{least_handle}
 use Rattle.lpc_model.specs.declared.entry.ObjectKind.TheVariants as kind
 use Rattle.lpc_base.specs.declared.port_kind.PortKind.TheVariants.{Client, Connection, Server}
-use Rattle.lpc_base.specs.Rows.{each, first, has, count, passes, which}
+use Rattle.lpc_base.specs.Rows.{each, first, has, count, passes, when, which}
 use Rattle.lpc_message.specs.declared.kind.TheConstants.{DATAGRAM}
 use Rattle.lpc_message.specs.declared.message.ClientId.{ClientId}
 use Rattle.lpc_model.specs.Message.{asks, is_connection_request}
@@ -62,7 +62,10 @@ live_thread w tid = first (is_live_thread tid) w.threads
 abbrev pub is_live : World → ℕ → Bool
 is_live w pid = has (lives_in pid) w.threads
 
--- how many live threads a process has
+-- the live threads of a process, in the order in which they were made; how many they are
+abbrev pub live_threads : World → ℕ → List ThreadRow
+live_threads w pid = which (lives_in pid) w.threads
+
 abbrev pub live_count : World → ℕ → ℕ
 live_count w pid = count (lives_in pid) w.threads
 
@@ -300,6 +303,13 @@ is_sent_on b m = same_birth m.sender b
 abbrev pub is_made_on : Birth → WaitRow → Bool
 is_made_on b x = same_birth x.port b
 
+-- the ports that live threads registered
+abbrev pub registered_by : ThreadRow → List Birth
+registered_by t = when t.live t.registrations
+
+abbrev pub all_registrations : World → List Birth
+all_registrations w = each registered_by w.threads
+
 -- a live thread of the process with a birth; the live thread with a birth
 abbrev pub lives_by : World → Birth → ThreadRow → Bool
 lives_by w b t = t.live && has (λ p. same_birth p.birth b && (p.number == t.process)) w.processes
@@ -308,12 +318,14 @@ abbrev pub is_life : Birth → ThreadRow → Bool
 is_life b t = t.live && same_birth t.birth b
 
 -- How many rows but handles count for an object. A port: ports whose other end it is, those whose connection port it is, queued
--- messages that were sent on it, waits that were made on it. A process: its live threads. A thread: itself, while it lives.
+-- messages that were sent on it, waits that were made on it, registrations of live threads. A process: its live threads. A thread:
+-- itself, while it lives.
 -- A queue and a name don't count for their port. There are no sections and tokens yet.
 abbrev pub holders : World → ObjectKind → Birth → ℕ
 holders w kind.Port b =
     count (is_paired_to b) w.ports + (count (is_connected_to b) w.ports
-    + (count (is_sent_on b) w.messages + count (is_made_on b) w.waits))
+    + (count (is_sent_on b) w.messages + (count (is_made_on b) w.waits
+    + count (same_birth b) (all_registrations w))))
 holders w kind.Section b = 0
 holders w kind.Token b = 0
 holders w kind.Process b = count (lives_by w b) w.threads

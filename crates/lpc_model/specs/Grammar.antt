@@ -6,12 +6,13 @@ use Rattle.std.specs.Option.{ok_or}
 use Rattle.std.specs.Str.{bytes_eq}
 use Rattle.lpc_base.specs.declared.limits.TheConstants.{LINE_LIMIT}
 use Rattle.lpc_model.specs.declared.entry.CallName.{CallName}
-use Rattle.lpc_model.specs.declared.entry.CallName.TheVariants.{NtCreatePort, NtConnectPort, NtListenPort, NtAcceptConnectPort, NtCompleteConnectPort, NtRequestPort, NtRequestWaitReplyPort, NtReplyPort, NtReplyWaitReceivePort, NtClose, NtDuplicateObject, NtQueryObject}
+use Rattle.lpc_model.specs.declared.entry.CallName.TheVariants.{NtCreatePort, NtConnectPort, NtListenPort, NtAcceptConnectPort, NtCompleteConnectPort, NtRequestPort, NtRequestWaitReplyPort, NtReplyPort, NtReplyWaitReceivePort, NtRegisterThreadTerminatePort, NtClose, NtDuplicateObject, NtQueryObject, NtTerminateProcess, NtTerminateThread}
 use Rattle.lpc_model.specs.declared.entry.Word.{Word}
 use Rattle.lpc_model.specs.declared.entry.Word.TheVariants.{Boot, Thread, Dir, Link}
+use Rattle.lpc_model.specs.declared.line.ProcArg.TheVariants.{By, Current}
 use Rattle.lpc_model.specs.declared.fault.LineFault.{LineFault}
 use Rattle.lpc_model.specs.declared.fault.LineFault.TheVariants as fault
-use Rattle.lpc_model.specs.Lines.{ScriptCall, create_port, connect_port, listen_port, accept_connect_port, complete_connect_port, request_port, request_wait_reply_port, reply_port, reply_wait_receive_port, close, duplicate_object, query_object, ScriptLine, boot, thread, dir, link, run}
+use Rattle.lpc_model.specs.Lines.{ScriptCall, create_port, connect_port, listen_port, accept_connect_port, complete_connect_port, request_port, request_wait_reply_port, reply_port, reply_wait_receive_port, register_thread_terminate_port, close, duplicate_object, query_object, terminate_process, terminate_thread, ProcArg, ScriptLine, boot, thread, dir, link, run}
 use Rattle.lpc_model.specs.Words.{fault_if, words, begins, number_word, id_word, is_id, message_word, info_word}
 use Rattle.lpc_model.specs.Text.{call_text, word_text}
 use Rattle.lpc_model.specs.Then.{◌>>=◌}
@@ -28,9 +29,12 @@ calls =
     ∷ NtRequestWaitReplyPort
     ∷ NtReplyPort
     ∷ NtReplyWaitReceivePort
+    ∷ NtRegisterThreadTerminatePort
     ∷ NtClose
     ∷ NtDuplicateObject
     ∷ NtQueryObject
+    ∷ NtTerminateThread
+    ∷ NtTerminateProcess
     ∷ []
 
 -- the call whose name a word is
@@ -107,6 +111,22 @@ access_word word =
       access ← number_word word
       Ok (Some access))
 
+-- a process or a thread: a handle, or `self` for the caller's own
+abbrev pub target_word : List ℕ → Result ProcArg LineFault
+target_word word =
+    if bytes_eq word (codes "self") then Ok Current
+    else (do
+      handle ← number_word word
+      Ok (By handle))
+
+-- what is to end, and the status with which it does
+abbrev pub target_and_code : List (List ℕ) → Result (ProcArg × ℕ) LineFault
+target_and_code others = do
+  two ← two_words others
+  target ← target_word two.0
+  code ← number_word two.1
+  Ok (target, code)
+
 -- a handle and a message
 abbrev pub handle_and_message : List (List ℕ) → Result (ℕ × List ℕ) LineFault
 handle_and_message others = do
@@ -159,6 +179,9 @@ call_words NtReplyPort others = do
 call_words NtReplyWaitReceivePort others = do
   receive ← handle_and_reply others
   Ok (reply_wait_receive_port receive.0 receive.1)
+call_words NtRegisterThreadTerminatePort others = do
+  handle ← one_handle others
+  Ok (register_thread_terminate_port handle)
 call_words NtClose others = do
   handle ← one_handle others
   Ok (close handle)
@@ -170,6 +193,12 @@ call_words NtDuplicateObject others = do
 call_words NtQueryObject others = do
   handle ← one_handle others
   Ok (query_object handle)
+call_words NtTerminateThread others = do
+  end ← target_and_code others
+  Ok (terminate_thread end.0 end.1)
+call_words NtTerminateProcess others = do
+  end ← target_and_code others
+  Ok (terminate_process end.0 end.1)
 
 -- a directive by the words behind it; a path may be any word
 unfoldable pub directive_words : Word → List (List ℕ) → Result ScriptLine LineFault

@@ -14,6 +14,8 @@ pub mod Connect
 pub mod Request
 pub mod Counts
 pub mod Close
+pub mod Register
+pub mod Death
 pub mod Sweep
 pub mod Machine
 pub mod Text
@@ -32,9 +34,14 @@ pub mod Limits
 pub mod Connected
 pub mod Queues
 pub mod Closings
+pub mod Deaths
+pub mod Left
+pub mod Accounts
 pub mod Creators
 pub mod Untold
+pub mod Lawful
 pub mod Transcript
 pub mod Worked
 pub mod WorkedConnections
 pub mod WorkedClosings
+pub mod WorkedEndings

@@ -1,14 +1,15 @@
 -- Limits from both sides: what is still granted, and what is refused.
-use Rattle.std.specs.Prelude.{◌≡◌, ℕ, ◌<◌, ◌≤◌, List, length, None, Result, Ok, Err}
+use Rattle.std.specs.Prelude.{◌≡◌, ℕ, ◌<◌, ◌≤◌, false, List, length, None, Result, Ok, Err}
 use Rattle.lpc_base.specs.declared.status.Status.{Status}
 use Rattle.lpc_base.specs.declared.status.TheConstants.{PORT_MESSAGE_TOO_LONG, QUOTA_EXCEEDED}
 use Rattle.lpc_message.specs.Layout.{fault_of, header_of}
-use Rattle.lpc_model.specs.World.{PortRow, World}
+use Rattle.lpc_model.specs.World.{Birth, PortRow, ThreadRow, World}
 use Rattle.lpc_model.specs.Found.{datagrams, live_count}
 use Rattle.lpc_model.specs.Message.{message_of, message_test}
 use Rattle.lpc_model.specs.Tests.{handle_load, handles_test}
 use Rattle.lpc_model.specs.Connect.{info_test}
 use Rattle.lpc_model.specs.Request.{datagram_test}
+use Rattle.lpc_model.specs.Register.{is_registered, registration_test}
 use Rattle.lpc_model.specs.Machine.{thread_count_test}
 
 -- one more of what is counted is granted below a limit, and refused once the limit is reached
@@ -32,6 +33,12 @@ LimitsThreads = (w : World) (pid : ℕ) → IsGrantedBelow 64 (live_count w pid)
 -- one datagram more is granted to a port of whose datagrams fewer than 32 stand in queues
 abbrev pub LimitsDatagrams : Type 0
 LimitsDatagrams = (w : World) (port : PortRow) → IsGrantedBelow 32 (datagrams w port.birth) (datagram_test w port)
+
+-- one port more is registered with a thread that registered fewer than 16
+abbrev pub LimitsRegistrations : Type 0
+LimitsRegistrations =
+    (by : ThreadRow) (port : Birth) → is_registered port by ≡ false →
+    IsGrantedBelow 16 (length by.registrations) (registration_test by port)
 
 -- a message of lawful shape is good where its MessageSize is at most 256
 abbrev pub LimitsMessages : Type 0

@@ -4,6 +4,7 @@ use Rattle.std.specs.Option.{option_copied}
 use Rattle.lpc_model.specs.declared.line.Call.{Call}
 use Rattle.lpc_model.specs.declared.line.Call.TheVariants as call
 use Rattle.lpc_model.specs.declared.line.Line.{Line}
+pub use Rattle.lpc_model.specs.declared.line.ProcArg.{ProcArg}
 use Rattle.lpc_model.specs.declared.line.Line.TheVariants as line
 
 -- a system call with its arguments; a message and a name are their bytes, and an unnamed port has none; a further handle
@@ -18,9 +19,12 @@ pub data ScriptCall : Type 0 where
   request_wait_reply_port : ℕ → List ℕ → ScriptCall
   reply_port : ℕ → List ℕ → ScriptCall
   reply_wait_receive_port : ℕ → Option (List ℕ) → ScriptCall
+  register_thread_terminate_port : ℕ → ScriptCall
   close : ℕ → ScriptCall
   duplicate_object : ℕ → Option ℕ → ScriptCall
   query_object : ℕ → ScriptCall
+  terminate_thread : ProcArg → ℕ → ScriptCall
+  terminate_process : ProcArg → ℕ → ScriptCall
 
 -- a directive, or a call of a thread; a path is its bytes
 pub data ScriptLine : Type 0 where
@@ -41,9 +45,12 @@ call_of (call.RequestPort handle message) = request_port handle message.now
 call_of (call.RequestWaitReplyPort handle message) = request_wait_reply_port handle message.now
 call_of (call.ReplyPort handle message) = reply_port handle message.now
 call_of (call.ReplyWaitReceivePort handle reply) = reply_wait_receive_port handle (option_copied reply)
+call_of (call.RegisterThreadTerminatePort handle) = register_thread_terminate_port handle
 call_of (call.Close handle) = close handle
 call_of (call.DuplicateObject handle access) = duplicate_object handle access
 call_of (call.QueryObject handle) = query_object handle
+call_of (call.TerminateThread target code) = terminate_thread target code
+call_of (call.TerminateProcess target code) = terminate_process target code
 
 abbrev pub line_of : Line → ScriptLine
 line_of (line.Boot pid tid) = boot pid tid

@@ -10,7 +10,7 @@ use Rattle.lpc_model.specs.Sweep.{is_unheld}
 use Rattle.lpc_model.specs.Lines.{ScriptLine}
 use Rattle.lpc_model.specs.Machine.{step}
 use Rattle.lpc_model.specs.Run.{run_of}
-use Rattle.lpc_model.specs.SoundWaits.{IsSoundWorld}
+use Rattle.lpc_model.specs.SoundWaits.{HasShutConnects, IsSoundWorld}
 
 -- a port has neither another end nor a connection port
 abbrev pub names_nothing : PortRow → Bool
@@ -69,9 +69,12 @@ pub record HasHeldRows (w : World) : Type 0 where
   pub ports : HasHeldPorts w
   pub lives : AreLivesHeld w
 
--- the step of each line keeps ports linked, and leaves no object that no row counts for
+-- the step of each line keeps ports linked, and leaves no object that no row counts for, where no connect waits on an open
+-- port
 abbrev pub StepsHoldRows : Type 0
-StepsHoldRows = (w : World) (line : ScriptLine) → IsSoundWorld w → IsLinked w → IsLinked (step w line).world × HasHeldRows (step w line).world
+StepsHoldRows =
+    (w : World) (line : ScriptLine) → IsSoundWorld w → HasShutConnects w → IsLinked w →
+    IsLinked (step w line).world × HasHeldRows (step w line).world
 
 -- behind each line of a script some row counts for each object that stands
 abbrev pub RunHoldsRows : List ℕ → Type 0

@@ -1,27 +1,30 @@
 -- One line's step: a directive, or a call of a thread that can make one.
-use Rattle.std.specs.Prelude.{ℕ, ◌||◌, not, nat_le, true, List, [], ◌∷◌, Option, Some, None, Result, Ok, Err}
+use Rattle.std.specs.Prelude.{ℕ, ◌||◌, nat_le, true, List, [], ◌∷◌, Option, Some, None, Result, Ok, Err}
 use Rattle.lpc_base.specs.declared.limits.TheConstants.{THREAD_LIMIT}
 use Rattle.lpc_base.specs.declared.status.Status.{Status}
-use Rattle.lpc_base.specs.declared.status.TheConstants.{INVALID_CID, OBJECT_NAME_COLLISION, QUOTA_EXCEEDED, SUCCESS}
+use Rattle.lpc_base.specs.declared.status.TheConstants.{OBJECT_NAME_COLLISION, QUOTA_EXCEEDED, SUCCESS}
 use Rattle.lpc_model.specs.declared.entry.Entry.{Entry}
 use Rattle.lpc_model.specs.declared.entry.Entry.TheVariants.{Answer, Busy, Directive, NoThread}
 use Rattle.lpc_model.specs.declared.entry.Word.{Word}
 use Rattle.lpc_model.specs.declared.entry.Word.TheVariants as word
-use Rattle.lpc_model.specs.declared.entry.CallName.TheVariants.{NtAcceptConnectPort, NtCompleteConnectPort, NtConnectPort, NtCreatePort, NtListenPort, NtReplyPort, NtReplyWaitReceivePort, NtRequestPort, NtRequestWaitReplyPort, NtClose, NtDuplicateObject, NtQueryObject}
+use Rattle.lpc_model.specs.declared.entry.CallName.TheVariants.{NtAcceptConnectPort, NtCompleteConnectPort, NtConnectPort, NtCreatePort, NtListenPort, NtReplyPort, NtReplyWaitReceivePort, NtRequestPort, NtRequestWaitReplyPort, NtRegisterThreadTerminatePort, NtClose, NtDuplicateObject, NtQueryObject, NtTerminateProcess, NtTerminateThread}
 use Rattle.lpc_model.specs.Refusal.{refuse_if}
 use Rattle.lpc_model.specs.Then.{◌>>=◌}
 use Rattle.lpc_model.specs.World.{World, Birth, CallName, MessageRow, ProcessRow, ThreadRow, WaitRow}
-use Rattle.lpc_model.specs.Found.{is_live, live_count, live_thread, wait_of, was_process, was_thread}
+use Rattle.lpc_model.specs.Found.{live_count, live_thread, wait_of, was_process, was_thread}
 use Rattle.lpc_model.specs.Basics.{AddsProcess, AddsThread, Basic, Binds, Steps, Tells, entries_of, posts_of, world_after, ◌▹◌}
 use Rattle.lpc_model.specs.Sweep.{sweep}
 use Rattle.lpc_model.specs.Connect.{nt_accept_connect_port, nt_complete_connect_port, nt_connect_port, nt_create_port, nt_listen_port}
 use Rattle.lpc_model.specs.Close.{nt_close}
 use Rattle.lpc_model.specs.Counts.{nt_duplicate_object, nt_query_object}
+use Rattle.lpc_model.specs.Register.{nt_register_thread_terminate_port}
+use Rattle.lpc_model.specs.Death.{nt_terminate_process, nt_terminate_thread}
+pub use Rattle.lpc_model.specs.Tests.{live_test}
 use Rattle.lpc_model.specs.Named.{free_name, spelled_name}
 use Rattle.lpc_names.specs.Walk.{LinkTo, Stands}
 use Rattle.lpc_names.specs.declared.names.Found.TheVariants.{Directory}
 use Rattle.lpc_model.specs.Request.{nt_reply_port, nt_reply_wait_receive_port, nt_request_port, nt_request_wait_reply_port}
-use Rattle.lpc_model.specs.Lines.{ScriptCall, create_port, connect_port, listen_port, accept_connect_port, complete_connect_port, request_port, request_wait_reply_port, reply_port, reply_wait_receive_port, close, duplicate_object, query_object, ScriptLine, boot, thread, dir, link, run}
+use Rattle.lpc_model.specs.Lines.{ScriptCall, create_port, connect_port, listen_port, accept_connect_port, complete_connect_port, request_port, request_wait_reply_port, reply_port, reply_wait_receive_port, register_thread_terminate_port, close, duplicate_object, query_object, terminate_process, terminate_thread, ScriptLine, boot, thread, dir, link, run}
 
 -- the name of a call
 abbrev pub name_of_call : ScriptCall → CallName
@@ -34,9 +37,12 @@ name_of_call (request_port handle message) = NtRequestPort
 name_of_call (request_wait_reply_port handle message) = NtRequestWaitReplyPort
 name_of_call (reply_port handle message) = NtReplyPort
 name_of_call (reply_wait_receive_port handle reply) = NtReplyWaitReceivePort
+name_of_call (register_thread_terminate_port handle) = NtRegisterThreadTerminatePort
 name_of_call (close handle) = NtClose
 name_of_call (duplicate_object handle access) = NtDuplicateObject
 name_of_call (query_object handle) = NtQueryObject
+name_of_call (terminate_thread target code) = NtTerminateThread
+name_of_call (terminate_process target code) = NtTerminateProcess
 
 -- the service that serves a call
 abbrev pub service_of : World → ThreadRow → ScriptCall → Result (List Basic) Status
@@ -49,9 +55,12 @@ service_of w by (request_port handle message) = nt_request_port w by handle mess
 service_of w by (request_wait_reply_port handle message) = nt_request_wait_reply_port w by handle message
 service_of w by (reply_port handle message) = nt_reply_port w by handle message
 service_of w by (reply_wait_receive_port handle reply) = nt_reply_wait_receive_port w by handle reply
+service_of w by (register_thread_terminate_port handle) = nt_register_thread_terminate_port w by handle
 service_of w by (close handle) = nt_close w by handle
 service_of w by (duplicate_object handle access) = nt_duplicate_object w by handle access
 service_of w by (query_object handle) = nt_query_object w by handle
+service_of w by (terminate_thread target code) = nt_terminate_thread w by target code
+service_of w by (terminate_process target code) = nt_terminate_process w by target code
 
 -- a refusal is one answer, and changes nothing
 abbrev pub settled : ThreadRow → CallName → Result (List Basic) Status → List Basic
@@ -82,7 +91,7 @@ directed word (Err s) = Tells (Directive word s) ∷ []
 abbrev pub directive_birth : ℕ → Birth
 directive_birth n = record { maker = 0; ordinal = n; process = 0 }
 
--- a process, and a live thread that has drawn nothing yet
+-- a process, and a live thread that has drawn and registered nothing yet
 abbrev pub new_process : ℕ → Option ℕ → Birth → ProcessRow
 new_process pid maker birth = record { number = pid; maker = maker; birth = birth }
 
@@ -94,6 +103,7 @@ new_thread tid pid birth = record {
   live = true;
   next_identifier = 1;
   next_ordinal = 1;
+  registrations = [];
 }
 
 -- neither number was ever used
@@ -105,10 +115,6 @@ unfoldable pub boot_line : World → ℕ → ℕ → Result (List Basic) Status
 boot_line w pid tid = do
   _ ← unused_test w pid tid
   Ok (AddsProcess (new_process pid None (directive_birth pid)) ∷ AddsThread (new_thread tid pid (directive_birth tid)) ∷ [])
-
--- the process lives
-abbrev pub live_test : World → ℕ → Result Unit Status
-live_test w pid = refuse_if (not (is_live w pid)) INVALID_CID
 
 -- the thread number was never used
 abbrev pub unused_thread_test : World → ℕ → Result Unit Status

@@ -8,7 +8,7 @@ use Rattle.lpc_model.specs.Lines.{ScriptLine}
 use Rattle.lpc_model.specs.Machine.{step}
 use Rattle.lpc_model.specs.Run.{run_of}
 use Rattle.lpc_model.specs.Linked.{IsLinked}
-use Rattle.lpc_model.specs.SoundWaits.{IsSoundWorld}
+use Rattle.lpc_model.specs.SoundWaits.{HasShutConnects, IsSoundWorld}
 
 -- the queue of each message is that of an open port, and so is that of each wait that isn't received; a connect that is
 -- accepted was received
@@ -17,10 +17,11 @@ pub record HasOpenQueues (w : World) : Type 0 where
   pub waits : every (λ x. x.received || is_open w x.queue) w.waits ≡ true
   pub accepts : every (λ x. not (is_accepted x) || x.received) w.waits ≡ true
 
--- the step of each line keeps that in a sound world whose ports are linked
+-- the step of each line keeps that in a sound world whose ports are linked, and where no connect waits on an open port
 abbrev pub StepsKeepQueuesOpen : Type 0
 StepsKeepQueuesOpen =
-    (w : World) (line : ScriptLine) → IsSoundWorld w → IsLinked w → HasOpenQueues w → HasOpenQueues (step w line).world
+    (w : World) (line : ScriptLine) → IsSoundWorld w → HasShutConnects w → IsLinked w → HasOpenQueues w →
+    HasOpenQueues (step w line).world
 
 -- each line of a script leaves a world whose queues are open
 abbrev pub RunKeepsQueuesOpen : List ℕ → Type 0

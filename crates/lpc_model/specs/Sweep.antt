@@ -3,7 +3,7 @@ use Rattle.std.specs.Prelude.{Bool, true, false, List, [], ◌∷◌, map, ◌==
 use Rattle.lpc_base.specs.Rows.{which}
 use Rattle.lpc_model.specs.World.{ObjectName, World}
 use Rattle.lpc_model.specs.Found.{object_names, pointer_count}
-use Rattle.lpc_model.specs.Basics.{Basic, Cuts, DropsHandle, Empties, Frees, Joins, Steps, Takes, TakesConnect, Wakes, Withdraws, ◌▹◌}
+use Rattle.lpc_model.specs.Basics.{Basic, Cuts, Dies, DropsHandle, Empties, Frees, Joins, Steps, Takes, TakesConnect, Unregisters, Wakes, Withdraws, ◌▹◌}
 
 -- no row counts for the object
 abbrev pub is_unheld : World → ObjectName → Bool
@@ -24,10 +24,12 @@ sweep = free_unheld ▹ free_unheld
 -- a step takes a row away that may count for an object, or what in it counts: a join takes the other end that a port had
 abbrev pub loosens : Basic → Bool
 loosens (Wakes who call status fields) = true
+loosens (Dies who status) = true
 loosens (Takes q) = true
 loosens (TakesConnect q) = true
 loosens (Withdraws who) = true
 loosens (Empties q) = true
+loosens (Unregisters who b) = true
 loosens (Joins client server context) = true
 loosens (Cuts b) = true
 loosens (Frees o) = true

@@ -3,13 +3,13 @@ use Rattle.std.specs.Prelude.{◌≡◌, ℕ, ◌≤◌, ◌&&◌, ◌||◌, not
 use Rattle.std.specs.List.{AllByRecursion}
 use Rattle.lpc_base.specs.Rows.{count, every, has}
 use Rattle.lpc_model.specs.World.{Birth, MessageRow, World}
-use Rattle.lpc_model.specs.Found.{is_connect, is_open, is_sent_on}
+use Rattle.lpc_model.specs.Found.{is_open, is_sent_on}
 use Rattle.lpc_model.specs.Lines.{ScriptLine}
 use Rattle.lpc_model.specs.Machine.{step}
 use Rattle.lpc_model.specs.Run.{run_of}
 use Rattle.lpc_model.specs.Closings.{is_closed_post}
 use Rattle.lpc_model.specs.Standing.{NamesWhatStands}
-use Rattle.lpc_model.specs.SoundWaits.{IsSoundWorld, is_connect_on}
+use Rattle.lpc_model.specs.SoundWaits.{HasShutConnects, IsSoundWorld, is_connect_on}
 
 -- a message tells that this port is closed
 abbrev pub is_closing_of : Birth → MessageRow → Bool
@@ -24,7 +24,7 @@ is_shut w b = not (is_open w b) && not (has (is_connect_on b) w.waits)
 pub record IsUntold (w : World) : Type 0 where
   pub closed : every (λ m. not (is_closed_post m) || is_shut w m.sender) w.messages ≡ true
   pub once : (b : Birth) → count (is_closing_of b) w.messages ≤ 1
-  pub connects : every (λ x. not (is_connect x && is_open w x.port)) w.waits ≡ true
+  pub connects : HasShutConnects w
 
 -- the step of each line keeps that in a sound world in which what rows name stands
 abbrev pub StepsKeepUntold : Type 0

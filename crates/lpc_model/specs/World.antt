@@ -20,7 +20,7 @@ pub record ProcessRow : Type 0 where
   pub birth : Birth
 
 -- a thread of a process; whether it is live, or has ended; the message identifier that it draws next and the ordinal of
--- what it makes next, both from 1
+-- what it makes next, both from 1; the ports that are to be told of its end, in the order in which it registered them
 pub record ThreadRow : Type 0 where
   pub number : ℕ
   pub process : ℕ
@@ -28,6 +28,7 @@ pub record ThreadRow : Type 0 where
   pub live : Bool
   pub next_identifier : ℕ
   pub next_ordinal : ℕ
+  pub registrations : List Birth
 
 -- a thread number that was used, with the process of that thread
 pub record UsedThread : Type 0 where

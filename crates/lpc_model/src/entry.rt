@@ -23,14 +23,17 @@ pub enum CallName {
     NtRequestWaitReplyPort,
     NtReplyPort,
     NtReplyWaitReceivePort,
+    NtRegisterThreadTerminatePort,
     NtClose,
     NtDuplicateObject,
     NtQueryObject,
+    NtTerminateThread,
+    NtTerminateProcess,
 }
 
 impl CallName {
     /// Each call, in the order in which the grammar lists them.
-    pub const ALL: [CallName; 12] = [
+    pub const ALL: [CallName; 15] = [
         CallName::NtCreatePort,
         CallName::NtConnectPort,
         CallName::NtListenPort,
@@ -40,9 +43,12 @@ impl CallName {
         CallName::NtRequestWaitReplyPort,
         CallName::NtReplyPort,
         CallName::NtReplyWaitReceivePort,
+        CallName::NtRegisterThreadTerminatePort,
         CallName::NtClose,
         CallName::NtDuplicateObject,
         CallName::NtQueryObject,
+        CallName::NtTerminateThread,
+        CallName::NtTerminateProcess,
     ];
 
     /// The name of the call, as scripts and transcripts spell it.
@@ -59,9 +65,12 @@ impl CallName {
             CallName::NtRequestWaitReplyPort => b"NtRequestWaitReplyPort",
             CallName::NtReplyPort => b"NtReplyPort",
             CallName::NtReplyWaitReceivePort => b"NtReplyWaitReceivePort",
+            CallName::NtRegisterThreadTerminatePort => b"NtRegisterThreadTerminatePort",
             CallName::NtClose => b"NtClose",
             CallName::NtDuplicateObject => b"NtDuplicateObject",
             CallName::NtQueryObject => b"NtQueryObject",
+            CallName::NtTerminateThread => b"NtTerminateThread",
+            CallName::NtTerminateProcess => b"NtTerminateProcess",
         }
     }
 }

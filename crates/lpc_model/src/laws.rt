@@ -1,13 +1,17 @@
 // Laws of the definitions alone.
 ghost use Rattle.std.specs.Prelude.{ℕ, List};
 ghost use Rattle.lpc_model.specs.World.{World};
+ghost use Rattle.lpc_model.specs.Accounts.{RunAccountsForDeaths, RunAccountsForMessages};
 ghost use Rattle.lpc_model.specs.Linked.{IsLinked, RunHoldsRows, StepsHoldRows};
 ghost use Rattle.lpc_model.specs.Standing.{NamesWhatStands, RunNamesWhatStands, StepsNameWhatStands};
 ghost use Rattle.lpc_model.specs.OpenQueues.{HasOpenQueues, RunKeepsQueuesOpen, StepsKeepQueuesOpen};
 ghost use Rattle.lpc_model.specs.Closings.{RunTellsClosings};
 ghost use Rattle.lpc_model.specs.Creators.{RunKeepsConnects};
+ghost use Rattle.lpc_model.specs.Deaths.{RunHasLivingRegistrations, RunHasSingleRegistrations, RunTellsDeaths};
+ghost use Rattle.lpc_model.specs.Lawful.{IsLawfulWorld, StepsKeepLaws};
+ghost use Rattle.lpc_model.specs.Left.{RunLeavesNothing};
 ghost use Rattle.lpc_model.specs.Untold.{IsUntold, RunKeepsUntold, StepsKeepUntold};
-ghost use Rattle.lpc_model.specs.Limits.{LimitsDatagrams, LimitsHandles, LimitsInfo, LimitsMessages, LimitsThreads};
+ghost use Rattle.lpc_model.specs.Limits.{LimitsDatagrams, LimitsHandles, LimitsInfo, LimitsMessages, LimitsRegistrations, LimitsThreads};
 ghost use Rattle.lpc_model.specs.Connected.{ConnectedPortsReachEachOther};
 ghost use Rattle.lpc_model.specs.Queues.{FirstWaiterTakes, QueuesAreFirstInFirstOut};
 ghost use Rattle.lpc_model.specs.Run.{first_state};
@@ -40,9 +44,9 @@ pub fn law_completion_refuses_cut_pairs()
 /// stands.
 ///
 /// An object that no row counts for any longer goes at the end of the line in two passes; two are
-/// enough. Each handle names a port that stands, each queued message was sent on one, and each wait
+/// enough. Each handle names a port that stands, each queued message was sent on one, each wait
 /// was made on one: its queue is that of this port, of its connection port or, for a request, of
-/// its other end. So no row is left that names a port that went. Before the first line none stands.
+/// its other end; and live threads registered ports that stand. So no row is left that names a port that went. Before the first line none stands.
 pub fn law_held_objects()
     ensures first { IsLinked first_state }
     ensures steps { StepsHoldRows }
@@ -83,16 +87,56 @@ pub fn law_closings_are_told()
     ensures untold_runs { (script : List ℕ) → RunKeepsUntold script }
 {}
 
-/// Five limits are tested exactly: below a limit its test grants one more, from there on it refuses.
+/// In every script the messages that tell of threads' ends are, line by line, those of the ports
+/// that these threads registered.
+///
+/// For each thread that ends and each port that it registered exactly one such message enters the
+/// port's route, where the port is then open and has one, and no other does. It is sent on that
+/// port, in the name of the thread, and its data are the maker and the ordinal of the thread's
+/// birth. Behind each line no port is registered twice with a thread, and a thread that has ended
+/// has no registrations. Each such message, and each that tells of a closed port, stands in the
+/// queue that it entered, was received from it, or was lost when the queue's port closed. And where no process lives any longer, no row of a
+/// process, thread or port is left, no message and no wait.
+pub fn law_death()
+    ensures runs { (script : List ℕ) → RunTellsDeaths script }
+    ensures accounted { (script : List ℕ) → RunAccountsForDeaths script }
+    ensures nothing_left { (script : List ℕ) → RunLeavesNothing script }
+    ensures living_registrations { (script : List ℕ) → RunHasLivingRegistrations script }
+    ensures single_registrations { (script : List ℕ) → RunHasSingleRegistrations script }
+{}
+
+/// In every script each message that asks for no answer is accounted for.
+///
+/// Behind each line, for each queue, context and bytes of such a message: as many were posted so far
+/// as stand in the queue, were shown as received from it, and were lost when its port closed. So it
+/// is with datagrams, and with what tells of closed ports and of threads that ended. Requests and
+/// connection requests may leave their queue as well where their thread's wait ends.
+pub fn law_messages_are_accounted_for()
+    ensures runs { (script : List ℕ) → RunAccountsForMessages script }
+{}
+
+/// Each line keeps all that the calls ask of the world at once.
+///
+/// Waits are sound, ports linked, objects held, queues open; what rows name stands; of an open port
+/// no message tells that it is closed. A thread has one row, an ended one has no registrations, and
+/// no port is registered twice with one. Only living processes have handles, and a connection has
+/// one open end at least. What the calls that close and end ask of the rows is part of it.
+pub fn law_lawful_worlds()
+    ensures first { IsLawfulWorld first_state }
+    ensures steps { StepsKeepLaws }
+{}
+
+/// Six limits are tested exactly: below a limit its test grants one more, from there on it refuses.
 ///
 /// A process with fewer than 256 handles and waiting connects together is granted a further one, with 256 it is refused;
-/// so with 64 live threads of a process, and with 32 datagrams of a port that aren't received. A message of lawful shape
-/// is good with a MessageSize of at most 256, and the bytes of a connect where they are at most 232. Which calls make
-/// which test stands with each call.
+/// so with 64 live threads of a process, with 32 datagrams of a port that aren't received, and with 16 ports that a
+/// thread registered. A message of lawful shape is good with a MessageSize of at most 256, and the bytes of a connect
+/// where they are at most 232. Which calls make which test stands with each call.
 pub fn law_limits()
     ensures handles { LimitsHandles }
     ensures threads { LimitsThreads }
     ensures datagrams { LimitsDatagrams }
+    ensures registrations { LimitsRegistrations }
     ensures messages { LimitsMessages }
     ensures info { LimitsInfo }
 {}

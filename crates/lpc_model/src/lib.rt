@@ -19,7 +19,8 @@ pub use fields::{
 };
 pub use laws::{
     law_closings_are_told, law_completion_refuses_cut_pairs, law_connected_ports_reach_each_other,
-    law_held_objects, law_limits, law_open_queues, law_queues_keep_their_order, law_sound_waits,
+    law_death, law_held_objects, law_lawful_worlds, law_limits, law_messages_are_accounted_for,
+    law_open_queues, law_queues_keep_their_order, law_sound_waits,
 };
-pub use line::{Call, Line};
+pub use line::{Call, Line, ProcArg};
 pub use message::{Body, Message};

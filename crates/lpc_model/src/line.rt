@@ -1,5 +1,14 @@
 // A line of a script. Its messages lie in a buffer that is lent, its names in the line itself.
 
+/// The process or thread that a call is about: the caller's own, spelled `self`, or that of a handle.
+#[derive(Clone, Copy)]
+pub enum ProcArg {
+    /// The caller, or its process.
+    Current,
+    /// The one that the handle names.
+    By(u32),
+}
+
 /// A system call with its arguments, as a line spells it.
 ///
 /// A message is the whole message, header and data, and a name is a word as it stands; both are tested by the call, not by
@@ -51,6 +60,10 @@ pub enum Call<'a> {
         handle: u32,
         reply: Option<&'a [u8]>,
     },
+    /// `NtRegisterThreadTerminatePort H`: registers a port with the thread, so that the thread's end is told to it.
+    RegisterThreadTerminatePort {
+        handle: u32,
+    },
     /// `NtClose H`: closes a handle, and a port with its last one.
     Close {
         handle: u32,
@@ -64,6 +77,16 @@ pub enum Call<'a> {
     /// `NtQueryObject H`: tells of the object that a handle names, and how many handles and rows count for it.
     QueryObject {
         handle: u32,
+    },
+    /// `NtTerminateThread H|self CODE`: ends a thread.
+    TerminateThread {
+        target: ProcArg,
+        code: u32,
+    },
+    /// `NtTerminateProcess H|self CODE`: ends the live threads of a process.
+    TerminateProcess {
+        target: ProcArg,
+        code: u32,
     },
 }
 

@@ -1,6 +1,6 @@
 use Rattle.lpc_model.proofs.Creators.{keeps_run}
-use Rattle.lpc_model.proofs.ToldLines.{closings_told_run}
-use Rattle.lpc_model.proofs.UntoldLines.{untold_none, untold_run, untold_step}
+use Rattle.lpc_model.proofs.UntoldLines.{untold_none, untold_step}
+use Rattle.lpc_model.proofs.Runs.{closings_told_run, untold_run}
 use Rattle.lpc_model.proofs.laws.law_closings_are_told.Goals as goal
 
 pub returns-clause-runs : goal.returns-clause-runs

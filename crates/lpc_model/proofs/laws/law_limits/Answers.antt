@@ -1,4 +1,4 @@
-use Rattle.lpc_model.proofs.Limits.{limits_datagrams, limits_handles, limits_info, limits_messages, limits_threads}
+use Rattle.lpc_model.proofs.Limits.{limits_datagrams, limits_handles, limits_info, limits_messages, limits_registrations, limits_threads}
 use Rattle.lpc_model.proofs.laws.law_limits.Goals as goal
 
 pub returns-clause-handles : goal.returns-clause-handles
@@ -9,6 +9,9 @@ returns-clause-threads c = limits_threads
 
 pub returns-clause-datagrams : goal.returns-clause-datagrams
 returns-clause-datagrams c = limits_datagrams
+
+pub returns-clause-registrations : goal.returns-clause-registrations
+returns-clause-registrations c = limits_registrations
 
 pub returns-clause-messages : goal.returns-clause-messages
 returns-clause-messages c = limits_messages

@@ -1,0 +1,578 @@
+-- Each line tells of the threads that end by it, once on each port that they registered, and of no other.
+use Rattle.std.proofs.Common.{◌≡◌, ◌∙◌, ℕ, ◌≤◌, List, [], ◌∷◌, ◌++◌, Bool, true, false, cond, map, not, Option, Some, None, refl, sym, ap, subst, arith}
+use Rattle.std.specs.Prelude.{◌&&◌, ◌==◌, Result, Ok, Err}
+use Rattle.std.proofs.lemmas.Bool.Decides.{nat_tests}
+use Rattle.lpc_base.specs.Rows.{change, count, each, every, first, given, when, which}
+use Rattle.lpc_base.proofs.RowWords.{every-append, every-more, every-which}
+use Rattle.lpc_base.specs.declared.status.Status.{Status}
+use Rattle.lpc_model.specs.declared.entry.CallName.{CallName}
+use Rattle.lpc_model.specs.declared.entry.Entry.{Entry}
+use Rattle.lpc_model.specs.declared.entry.Entry.TheVariants as entry
+use Rattle.lpc_model.specs.declared.entry.Word.TheVariants as word
+use Rattle.lpc_model.specs.declared.entry.ObjectKind.TheVariants as kind
+use Rattle.lpc_model.specs.declared.line.ProcArg.TheVariants.{By, Current}
+use Rattle.lpc_model.specs.declared.entry.CallName.TheVariants.{NtRegisterThreadTerminatePort, NtTerminateProcess, NtTerminateThread}
+use Rattle.lpc_model.specs.World.{Birth, MessageRow, ObjectName, ThreadRow, WaitRow, World}
+use Rattle.lpc_model.specs.Found.{handles_of, is_live, is_live_thread, is_thread, live_thread, live_threads, lives_in, same_birth, wait_of}
+use Rattle.lpc_model.specs.Basics.{AddsThread, Basic, Cuts, Dies, DrawsIdentifier, DrawsOrdinal, Empties, Enters, Frees, Registers, Tells, Unbinds, Unregisters, Wakes, Withdraws, basic, ended, in_turn, posted, posts_of, unregistering, world_after}
+use Rattle.lpc_model.specs.Entering.{enter, given_steps, shown, takes, woken}
+use Rattle.lpc_model.specs.Close.{close_handle}
+use Rattle.lpc_model.specs.Death.{END_RIGHT, answer_unless, code_status, cut_accepted, die, end_process, end_threads, nt_terminate_process, nt_terminate_thread, post_death, post_deaths, thread_target, told_death}
+use Rattle.lpc_model.specs.Deaths.{DeathsAreTold, TellsDeaths, endings, ends, is_died_post, leaves, registration, registrations_of, tells_end, told_endings}
+use Rattle.lpc_model.proofs.Closing.{behind, takes_away}
+use Rattle.lpc_model.proofs.Rows.{first-change}
+use Rattle.lpc_model.proofs.Told.{posts-append, which-append}
+use Rattle.lpc_model.proofs.SoundFrees.{none-pass}
+use Rattle.lpc_model.proofs.Undying.{AreUndying, handle-undying, is_undying, register_holds, service-undying, undying-taken}
+use Rattle.lpc_model.proofs.Ending.{AreEnding, accepted-pass, answered_end, behind_dead, behind_told, die-ending, die-pass, ending-death, is_ending, process-ends, thread-ends, told-facts, turn-pass}
+use Rattle.lpc_model.specs.Lawful.{HasThreadsOnce}
+use Rattle.lpc_base.specs.declared.status.TheConstants.{INVALID_HANDLE, SUCCESS}
+use Rattle.lpc_model.specs.Tests.{object_test}
+use Rattle.lpc_model.specs.Named.{free_name, spelled_name}
+use Rattle.lpc_model.specs.Sweep.{free_unheld, sweep, unheld}
+use Rattle.lpc_model.specs.SoundWaits.{IsSoundWorld}
+use Rattle.lpc_model.specs.Lines.{ProcArg, ScriptCall, ScriptLine, boot, dir, link, register_thread_terminate_port, run, terminate_process, terminate_thread, thread}
+use Rattle.lpc_model.specs.Machine.{bare_steps, boot_line, dir_line, link_line, name_of_call, ready_steps, service_of, thread_line, thread_steps, thread_test, unused_test}
+use Rattle.lpc_model.proofs.Holding.{Holds, bind_holds, directed_holds, found_holds, holds_ok, settled_holds}
+use Rattle.lpc_model.proofs.Usable.{CanCall, can-call}
+
+-- Lists of steps
+nil-right : {X : Type 0} (xs : List X) → xs ++ [] ≡ xs
+nil-right [] = refl
+nil-right (x ∷ xs) = grind (arith, nil-right xs)
+
+append-assoc : {X : Type 0} (xs ys zs : List X) → (xs ++ ys) ++ zs ≡ xs ++ (ys ++ zs)
+append-assoc [] ys zs = refl
+append-assoc (x ∷ xs) ys zs = grind (arith, append-assoc xs ys zs)
+
+posts-both : (xs ys : List Basic) → which is_died_post (posts_of (xs ++ ys)) ≡ which is_died_post (posts_of xs) ++ which is_died_post (posts_of ys)
+posts-both xs ys = ap (which is_died_post) (posts-append xs ys) ∙ which-append is_died_post (posts_of xs) (posts_of ys)
+
+told-both : (w : World) (xs ys : List Basic) → told_endings w (xs ++ ys) ≡ told_endings w xs ++ told_endings (world_after w xs) ys
+told-both w [] ys = refl
+told-both w (x ∷ xs) ys =
+    ap (λ ms. tells_end w x ++ ms) (told-both (basic w x) xs ys) ∙ sym (append-assoc (tells_end w x) (told_endings (basic w x) xs) (told_endings (world_after (basic w x) xs) ys))
+
+leaves-both : (xs ys : List Basic) → each leaves (xs ++ ys) ≡ each leaves xs ++ each leaves ys
+leaves-both [] ys = refl
+leaves-both (x ∷ xs) ys = ap (λ rs. leaves x ++ rs) (leaves-both xs ys) ∙ sym (append-assoc (leaves x) (each leaves xs) (each leaves ys))
+
+endings-both : (w : World) (xs ys : List Basic) → endings w (xs ++ ys) ≡ endings w xs ++ endings (world_after w xs) ys
+endings-both w [] ys = refl
+endings-both w (x ∷ xs) ys =
+    ap (λ rs. ends w x ++ rs) (endings-both (basic w x) xs ys) ∙ sym (append-assoc (ends w x) (endings (basic w x) xs) (endings (world_after (basic w x) xs) ys))
+
+-- steps that tell of no end, and by which no registration goes
+abbrev is_silent : Basic → Bool
+is_silent (Enters m) = not (is_died_post m)
+is_silent (Unregisters who b) = false
+is_silent b = true
+
+-- and by which no thread ends
+abbrev pub is_still : Basic → Bool
+is_still (Dies who status) = false
+is_still b = true
+
+silent-post : (b : Basic) → is_silent b ≡ true → which is_died_post (posted b) ≡ []
+silent-post (Enters m) is = grind arith
+silent-post b is = refl
+
+silent-tell : (w : World) (b : Basic) → is_silent b ≡ true → tells_end w b ≡ []
+silent-tell w (Unregisters who b) is = absurd (cc)
+silent-tell w b is = refl
+
+silent-leave : (b : Basic) → is_silent b ≡ true → leaves b ≡ []
+silent-leave (Unregisters who b) is = absurd (cc)
+silent-leave b is = refl
+
+undead-end : (w : World) (b : Basic) → is_still b ≡ true → ends w b ≡ []
+undead-end w (Dies who status) is = absurd (cc)
+undead-end w b is = refl
+
+first-true : (x y : Bool) → (x && y) ≡ true → x ≡ true
+first-true x y is = grind arith
+
+second-true : (x y : Bool) → (x && y) ≡ true → y ≡ true
+second-true x y is = grind arith
+
+silent-posts : (bs : List Basic) → every is_silent bs ≡ true → which is_died_post (posts_of bs) ≡ []
+silent-posts [] all = refl
+silent-posts (b ∷ bs) all =
+    which-append is_died_post (posted b) (posts_of bs) ∙ (ap (λ ms. ms ++ which is_died_post (posts_of bs)) (silent-post b (first-true (is_silent b) (every is_silent bs) all)) ∙ silent-posts bs (second-true (is_silent b) (every is_silent bs) all))
+
+silent-told : (w : World) (bs : List Basic) → every is_silent bs ≡ true → told_endings w bs ≡ []
+silent-told w [] all = refl
+silent-told w (b ∷ bs) all =
+    ap (λ ms. ms ++ told_endings (basic w b) bs) (silent-tell w b (first-true (is_silent b) (every is_silent bs) all)) ∙ silent-told (basic w b) bs (second-true (is_silent b) (every is_silent bs) all)
+
+silent-leaves : (bs : List Basic) → every is_silent bs ≡ true → each leaves bs ≡ []
+silent-leaves [] all = refl
+silent-leaves (b ∷ bs) all =
+    ap (λ rs. rs ++ each leaves bs) (silent-leave b (first-true (is_silent b) (every is_silent bs) all)) ∙ silent-leaves bs (second-true (is_silent b) (every is_silent bs) all)
+
+undead-endings : (w : World) (bs : List Basic) → every is_still bs ≡ true → endings w bs ≡ []
+undead-endings w [] all = refl
+undead-endings w (b ∷ bs) all =
+    ap (λ rs. rs ++ endings (basic w b) bs) (undead-end w b (first-true (is_still b) (every is_still bs) all)) ∙ undead-endings (basic w b) bs (second-true (is_still b) (every is_still bs) all)
+
+undying-silent : (b : Basic) → is_undying b ≡ true → is_silent b ≡ true
+undying-silent (Unregisters who b) is = absurd (cc)
+undying-silent (Enters m) is = is
+undying-silent b is = refl
+
+pub undying-still : (b : Basic) → is_undying b ≡ true → is_still b ≡ true
+undying-still (Dies who status) is = absurd (cc)
+undying-still b is = refl
+
+pub undying-tells : (w : World) (bs : List Basic) → AreUndying bs → TellsDeaths w bs
+undying-tells w bs all =
+    let silent = every-more is_undying is_silent undying-silent bs all in
+    let undead = every-more is_undying is_still undying-still bs all in
+    record {
+      told = silent-posts bs silent ∙ sym (silent-told w bs silent);
+      registrations = silent-leaves bs silent ∙ sym (undead-endings w bs undead);
+    }
+
+pub tells-both : (w : World) (xs ys : List Basic) → TellsDeaths w xs → TellsDeaths (world_after w xs) ys → TellsDeaths w (xs ++ ys)
+tells-both w xs ys one two = record {
+  told = posts-both xs ys ∙ (ap (λ ms. ms ++ which is_died_post (posts_of ys)) one.told ∙ (ap (λ ms. told_endings w xs ++ ms) two.told ∙ sym (told-both w xs ys)));
+  registrations = leaves-both xs ys ∙ (ap (λ rs. rs ++ each leaves ys) one.registrations ∙ (ap (λ rs. endings w xs ++ rs) two.registrations ∙ sym (endings-both w xs ys)));
+}
+
+-- Threads that are found
+-- the row of a thread, as far as it is told of
+record IsRowOf (w : World) (t : ThreadRow) : Type 0 where
+  row : ThreadRow
+  at : first (is_thread t.number) w.threads ≡ Some row
+  number : row.number ≡ t.number
+  process : row.process ≡ t.process
+  birth : row.birth ≡ t.birth
+
+row-changed : (w : World) (t : ThreadRow) (who : ℕ) (f : ThreadRow → ThreadRow) → ((n : ℕ) (u : ThreadRow) → is_thread n (f u) ≡ is_thread n u) → ((u : ThreadRow) → (f u).number ≡ u.number) → ((u : ThreadRow) → (f u).process ≡ u.process) → ((u : ThreadRow) → (f u).birth ≡ u.birth)
+    → IsRowOf w t → IsRowOf (record w { threads = change (is_thread who) f w.threads }) t
+row-changed w t who f same numbers processes births r = record {
+  row = cond (is_thread who r.row) (f r.row) r.row;
+  at = rw (first-change (is_thread t.number) (is_thread who) f (same t.number) w.threads, r.at) refl;
+  number = of-number (is_thread who r.row);
+  process = of-process (is_thread who r.row);
+  birth = of-birth (is_thread who r.row);
+}
+  where
+    of-number : (c : Bool) → let u : ThreadRow = cond c (f r.row) r.row in u.number ≡ t.number
+    of-number true = numbers r.row ∙ r.number
+    of-number false = r.number
+
+    of-process : (c : Bool) → let u : ThreadRow = cond c (f r.row) r.row in u.process ≡ t.process
+    of-process true = processes r.row ∙ r.process
+    of-process false = r.process
+
+    of-birth : (c : Bool) → let u : ThreadRow = cond c (f r.row) r.row in u.birth ≡ t.birth
+    of-birth true = births r.row ∙ r.birth
+    of-birth false = r.birth
+
+row-step : (w : World) (t : ThreadRow) (b : Basic) → is_ending b ≡ true → IsRowOf w t → IsRowOf (basic w b) t
+row-step w t (Dies who status) is r =
+    let v = row-changed w t who ended (λ n u. refl) (λ u. refl) (λ u. refl) (λ u. refl) r in
+    record { row = v.row; at = v.at; number = v.number; process = v.process; birth = v.birth }
+row-step w t (Unregisters who b) is r =
+    let v = row-changed w t who (unregistering b) (λ n u. refl) (λ u. refl) (λ u. refl) (λ u. refl) r in
+    record { row = v.row; at = v.at; number = v.number; process = v.process; birth = v.birth }
+row-step w t (DrawsIdentifier who) is r = absurd (cc)
+row-step w t (DrawsOrdinal who) is r = absurd (cc)
+row-step w t (Registers who b) is r = absurd (cc)
+row-step w t (AddsThread u) is r = absurd (cc)
+row-step w t (Frees o) is r = absurd (cc)
+row-step w t b is r = record { row = r.row; at = r.at; number = r.number; process = r.process; birth = r.birth }
+
+row-kept : (w : World) (t : ThreadRow) (bs : List Basic) → AreEnding bs → IsRowOf w t → IsRowOf (world_after w bs) t
+row-kept w t [] all r = r
+row-kept w t (b ∷ bs) all r = row-kept (basic w b) t bs (second-true (is_ending b) (every is_ending bs) all) (row-step w t b (first-true (is_ending b) (every is_ending bs) all) r)
+
+abbrev AreRows : World → List ThreadRow → Type 0
+AreRows w [] = Unit {0}
+AreRows w (t ∷ ts) = IsRowOf w t × AreRows w ts
+
+rows-kept : (w : World) (bs : List Basic) → AreEnding bs → (ts : List ThreadRow) → AreRows w ts → AreRows (world_after w bs) ts
+rows-kept w bs all [] rows = tt
+rows-kept w bs all (t ∷ ts) rows = (row-kept w t bs all rows.0, rows-kept w bs all ts rows.1)
+
+-- Registrations that go
+-- what is told depends on the thread's name alone
+same-death : (w : World) (u t : ThreadRow) (b : Birth) → u.number ≡ t.number → u.process ≡ t.process → u.birth ≡ t.birth → told_death w u b ≡ told_death w t b
+same-death w u t b one two three = rw (one, two, three) refl
+
+told-given : (w : World) (t : ThreadRow) (b : Birth) (o : Option MessageRow) → ((m : MessageRow) → o ≡ Some m → is_died_post m ≡ true) → which is_died_post (posts_of (given o (λ m. enter m w))) ≡ given o (λ m. m ∷ [])
+told-given w t b None died = refl
+told-given w t b (Some m) died =
+    let taken = undying-taken m (first (takes m) w.waits) in
+    let steps = given (first (takes m) w.waits) (λ x. given_steps x m ++ woken SUCCESS (shown x m) x ∷ []) in
+    let none = silent-posts steps (every-more is_undying is_silent undying-silent steps taken) in
+    let is = died m refl in rw (is, none) refl
+
+enter-told : (w : World) (o : Option MessageRow) → told_endings w (given o (λ m. enter m w)) ≡ []
+enter-told w None = refl
+enter-told w (Some m) =
+    let taken = undying-taken m (first (takes m) w.waits) in
+    let steps = given (first (takes m) w.waits) (λ x. given_steps x m ++ woken SUCCESS (shown x m) x ∷ []) in
+    silent-told (basic w (Enters m)) steps (every-more is_undying is_silent undying-silent steps taken)
+
+enter-leaves : (w : World) (o : Option MessageRow) → each leaves (given o (λ m. enter m w)) ≡ []
+enter-leaves w None = refl
+enter-leaves w (Some m) =
+    let taken = undying-taken m (first (takes m) w.waits) in
+    let steps = given (first (takes m) w.waits) (λ x. given_steps x m ++ woken SUCCESS (shown x m) x ∷ []) in
+    silent-leaves steps (every-more is_undying is_silent undying-silent steps taken)
+
+enter-undead : (w : World) (o : Option MessageRow) → every is_still (given o (λ m. enter m w)) ≡ true
+enter-undead w None = refl
+enter-undead w (Some m) =
+    let taken = undying-taken m (first (takes m) w.waits) in
+    let steps = given (first (takes m) w.waits) (λ x. given_steps x m ++ woken SUCCESS (shown x m) x ∷ []) in
+    every-more is_undying is_still undying-still steps taken
+
+-- what some steps tell of the registrations that go by them
+abbrev ToldHere : World → List Basic → Type 0
+ToldHere w bs = which is_died_post (posts_of bs) ≡ told_endings w bs
+
+here-both : (w : World) (xs ys : List Basic) → ToldHere w xs → ToldHere (world_after w xs) ys → ToldHere w (xs ++ ys)
+here-both w xs ys one two = posts-both xs ys ∙ (ap (λ ms. ms ++ which is_died_post (posts_of ys)) one ∙ (ap (λ ms. told_endings w xs ++ ms) two ∙ sym (told-both w xs ys)))
+
+death-here : (t : ThreadRow) (b : Birth) (w : World) → IsRowOf w t → ToldHere w (post_death t b w)
+death-here t b w r =
+    let v = basic w (Unregisters t.number b) in
+    let o = told_death v t b in
+    told-given v t b o (λ m some. let facts = told-facts t b m v some in facts.died)
+    ∙ (sym (nil-right (given o (λ m. m ∷ []))) ∙ (ap (λ ms. given o (λ m. m ∷ []) ++ ms) (sym (enter-told v o)) ∙ ap (λ ms. ms ++ told_endings v (given o (λ m. enter m v))) (sym tells)))
+  where
+    tells : tells_end w (Unregisters t.number b) ≡ given (told_death (basic w (Unregisters t.number b)) t b) (λ m. m ∷ [])
+    tells = rw r.at (ap (λ p. given p (λ m. m ∷ [])) (same-death w r.row t b r.number r.process r.birth))
+
+deaths-here : (t : ThreadRow) (bs : List Birth) (w : World) → IsRowOf w t → ToldHere w (in_turn (post_death t) bs w)
+deaths-here t [] w r = refl
+deaths-here t (b ∷ bs) w r =
+    here-both w (post_death t b w) (in_turn (post_death t) bs (behind (post_death t b) w)) (death-here t b w r) (deaths-here t bs (behind (post_death t b) w) (row-kept w t (post_death t b w) (ending-death t b w) r))
+
+all-here : (ts : List ThreadRow) (w : World) → AreRows w ts → ToldHere w (in_turn post_deaths ts w)
+all-here [] w rows = refl
+all-here (t ∷ ts) w rows =
+    let bs = post_deaths t w in
+    here-both w bs (in_turn post_deaths ts (behind (post_deaths t) w)) (deaths-here t t.registrations w rows.0)
+    (all-here ts (behind (post_deaths t) w) (rows-kept w bs (turn-pass is_ending (post_death t) (λ b u. ending-death t b u) t.registrations w) ts rows.1))
+
+-- the registrations that go are those of the threads
+deaths-leave : (t : ThreadRow) (bs : List Birth) (w : World) → each leaves (in_turn (post_death t) bs w) ≡ map (registration t.number) bs
+deaths-leave t [] w = refl
+deaths-leave t (b ∷ bs) w =
+    let v = basic w (Unregisters t.number b) in
+    leaves-both (post_death t b w) (in_turn (post_death t) bs (behind (post_death t b) w))
+    ∙ (ap (λ rs. (registration t.number b ∷ rs) ++ each leaves (in_turn (post_death t) bs (behind (post_death t b) w))) (enter-leaves v (told_death v t b)) ∙ ap (λ rs. registration t.number b ∷ rs) (deaths-leave t bs (behind (post_death t b) w)))
+
+all-leave : (ts : List ThreadRow) (w : World) → each leaves (in_turn post_deaths ts w) ≡ each registrations_of ts
+all-leave [] w = refl
+all-leave (t ∷ ts) w =
+    leaves-both (post_deaths t w) (in_turn post_deaths ts (behind (post_deaths t) w))
+    ∙ (ap (λ rs. rs ++ each leaves (in_turn post_deaths ts (behind (post_deaths t) w))) (deaths-leave t t.registrations w) ∙ ap (λ rs. registrations_of t ++ rs) (all-leave ts (behind (post_deaths t) w)))
+
+pub death-still : (t : ThreadRow) (b : Birth) (w : World) → every is_still (post_death t b w) ≡ true
+death-still t b w = enter-undead (basic w (Unregisters t.number b)) (told_death (basic w (Unregisters t.number b)) t b)
+
+-- Threads that end
+-- each is found by its number, and lives; no two have one number
+abbrev pub AreFound : List ThreadRow → List ThreadRow → Type 0
+AreFound all [] = Unit {0}
+AreFound all (t ∷ ts) = (first (is_thread t.number) all ≡ Some t) × (t.live ≡ true) × (every (λ u. not (is_thread t.number u)) ts ≡ true) × AreFound all ts
+
+found-live : (ts : List ThreadRow) (n : ℕ) (t : ThreadRow) → first (is_thread n) ts ≡ Some t → t.live ≡ true → first (is_live_thread n) ts ≡ Some t
+found-live [] n t at live = absurd (cc)
+found-live (u ∷ us) n t at live = grind (arith, found-live us n t)
+
+-- the others are found once one has ended
+pub found-other : (all : List ThreadRow) (n : ℕ) (ts : List ThreadRow) → every (λ u. not (is_thread n u)) ts ≡ true → AreFound all ts → AreFound (change (is_thread n) ended all) ts
+found-other all n [] apart found = tt
+found-other all n (u ∷ us) apart found = (
+  rw (first-change (is_thread u.number) (is_thread n) ended (λ t. refl) all, found.0) (same (is_thread n u) (off (is_thread n u) _ apart)),
+  found.1,
+  found.2,
+  found-other all n us (second-true _ _ apart) found.3,
+)
+  where
+    off : (a b : Bool) → (not a && b) ≡ true → a ≡ false
+    off a b is = grind arith
+
+    same : (c : Bool) → c ≡ false → Some (cond c (ended u) u) ≡ Some u
+    same true is = absurd (cc)
+    same false is = refl
+
+-- no other step of its end touches a thread
+abbrev keeps_threads : Basic → Bool
+keeps_threads (Wakes who call status fields) = true
+keeps_threads (Withdraws who) = true
+keeps_threads (Empties q) = true
+keeps_threads (Unbinds b) = true
+keeps_threads (Cuts b) = true
+keeps_threads b = false
+
+threads-step : (w : World) (b : Basic) → keeps_threads b ≡ true → (basic w b).threads ≡ w.threads
+threads-step w (Wakes who call status fields) is = refl
+threads-step w (Withdraws who) is = refl
+threads-step w (Empties q) is = refl
+threads-step w (Unbinds b) is = refl
+threads-step w (Cuts b) is = refl
+threads-step w b is = absurd (cc)
+
+threads-all : (w : World) (bs : List Basic) → every keeps_threads bs ≡ true → (world_after w bs).threads ≡ w.threads
+threads-all w [] all = refl
+threads-all w (b ∷ bs) all = threads-all (basic w b) bs (second-true (keeps_threads b) (every keeps_threads bs) all) ∙ threads-step w b (first-true (keeps_threads b) (every keeps_threads bs) all)
+
+away-threads : (x : Basic) → takes_away x ≡ true → keeps_threads x ≡ true
+away-threads (Wakes who call status fields) is = refl
+away-threads (Withdraws who) is = refl
+away-threads (Empties q) is = refl
+away-threads (Unbinds b) is = refl
+away-threads x is = absurd (cc)
+
+pub away-still : (x : Basic) → takes_away x ≡ true → is_still x ≡ true
+away-still (Wakes who call status fields) is = refl
+away-still (Withdraws who) is = refl
+away-still (Empties q) is = refl
+away-still (Unbinds b) is = refl
+away-still x is = absurd (cc)
+
+away-silent : (x : Basic) → takes_away x ≡ true → is_silent x ≡ true
+away-silent (Wakes who call status fields) is = refl
+away-silent (Withdraws who) is = refl
+away-silent (Empties q) is = refl
+away-silent (Unbinds b) is = refl
+away-silent x is = absurd (cc)
+
+die-silent : (code : Status) (t : ThreadRow) (w : World) → every is_silent (die code t w) ≡ true
+die-silent code t w = die-pass is_silent away-silent (λ n c. refl) (λ b. refl) code t w
+
+module _ (code : Status) (t : ThreadRow) (w : World) where
+  abbrev dead : World
+  dead = basic w (Dies t.number code)
+
+  abbrev withdrawn : World
+  withdrawn = basic dead (Withdraws t.number)
+
+  rest-of : List Basic
+  rest-of = cut_accepted (wait_of w t.number) withdrawn
+
+  pub die-threads : (behind (die code t) w).threads ≡ change (is_thread t.number) ended w.threads
+  unfolding rest-of
+  die-threads = threads-all withdrawn rest-of (accepted-pass keeps_threads away-threads (λ b. refl) (wait_of w t.number) withdrawn)
+
+  die-endings : endings w (die code t w) ≡ ends w (Dies t.number code)
+  unfolding rest-of
+  die-endings = ap (λ rs. ends w (Dies t.number code) ++ rs) (undead-endings withdrawn rest-of (accepted-pass is_still away-still (λ b. refl) (wait_of w t.number) withdrawn)) ∙ nil-right (ends w (Dies t.number code))
+
+all-end : (code : Status) (ts : List ThreadRow) (w : World) → AreFound w.threads ts → endings w (in_turn (die code) ts w) ≡ each registrations_of ts
+all-end code [] w found = refl
+all-end code (t ∷ ts) w found =
+    let v = behind (die code t) w in
+    let live : live_thread w t.number ≡ Some t = found-live w.threads t.number t found.0 found.1 in
+    let here : ends w (Dies t.number code) ≡ registrations_of t = rw live refl in
+    let later = all-end code ts v (subst (λ all. AreFound all ts) (sym (die-threads code t w)) (found-other w.threads t.number ts found.2 found.3)) in
+    endings-both w (die code t w) (in_turn (die code) ts v) ∙ (ap (λ rs. rs ++ endings v (in_turn (die code) ts v)) (die-endings code t w ∙ here) ∙ ap (λ rs. registrations_of t ++ rs) later)
+
+found-rows : (w : World) (ts : List ThreadRow) → AreFound w.threads ts → AreRows w ts
+found-rows w [] found = tt
+found-rows w (t ∷ ts) found = (record { row = t; at = found.0; number = refl; process = refl; birth = refl }, found-rows w ts found.3)
+
+-- all parts
+pub end-deaths : (pid : ℕ) (code : Status) (ts : List ThreadRow) (w : World) → AreFound w.threads ts → TellsDeaths w (end_threads pid code ts w)
+unfolding end_threads
+end-deaths pid code ts w found = at (not (is_live (behind_told code ts w) pid))
+  where
+    one : World
+    one = behind_dead code ts w
+
+    two : World
+    two = behind_told code ts w
+
+    dying : List Basic
+    dying = in_turn (die code) ts w
+
+    telling : List Basic
+    telling = in_turn post_deaths ts (behind_dead code ts w)
+
+    silent : every is_silent (in_turn (die code) ts w) ≡ true
+    silent = turn-pass is_silent (die code) (λ t v. die-silent code t v) ts w
+
+    ended-part : (bs : List Basic) → AreUndying bs → TellsDeaths w (in_turn (die code) ts w ++ (in_turn post_deaths ts (behind_dead code ts w) ++ bs))
+    ended-part bs all =
+        let last = undying-tells (behind_told code ts w) bs all in
+        let mid = in_turn post_deaths ts (behind_dead code ts w) in
+        let first_part = in_turn (die code) ts w in
+        let rows = rows-kept w first_part (turn-pass is_ending (die code) (λ t v. die-ending code t v) ts w) ts (found-rows w ts found) in
+        let undead_mid : every is_still mid ≡ true = turn-pass is_still post_deaths (λ t v. turn-pass is_still (post_death t) (λ b u. death-still t b u) t.registrations v) ts (behind_dead code ts w) in
+        let undead_last = every-more is_undying is_still undying-still bs all in
+        let silent_last = every-more is_undying is_silent undying-silent bs all in
+        record {
+          told = here-both w first_part (mid ++ bs) (silent-posts first_part silent ∙ sym (silent-told w first_part silent)) (here-both (behind_dead code ts w) mid bs (all-here ts (behind_dead code ts w) rows) last.told);
+          registrations =
+              leaves-both first_part (mid ++ bs) ∙ (ap (λ rs. rs ++ each leaves (mid ++ bs)) (silent-leaves first_part silent) ∙ (leaves-both mid bs ∙ (ap (λ rs. rs ++ each leaves bs) (all-leave ts (behind_dead code ts w)) ∙ (ap (λ rs. each registrations_of ts ++ rs) (silent-leaves bs silent_last)
+              ∙ sym (endings-both w first_part (mid ++ bs) ∙ (ap (λ rs. rs ++ endings (behind_dead code ts w) (mid ++ bs)) (all-end code ts w found)
+              ∙ ap (λ rs. each registrations_of ts ++ rs) (undead-endings (behind_dead code ts w) (mid ++ bs) (every-append is_still mid bs undead_mid undead_last))))))));
+        }
+
+    at : (last : Bool) → TellsDeaths w (in_turn (die code) ts w ++ (in_turn post_deaths ts (behind_dead code ts w) ++ when last (end_process pid (behind_told code ts w))))
+    at true = ended-part (end_process pid (behind_told code ts w)) (turn-pass is_undying (close_handle pid) (λ r u. handle-undying pid r u) (handles_of (behind_told code ts w) pid) (behind_told code ts w))
+    at false = ended-part [] refl
+
+-- The calls
+-- a row that some test finds is the one of its number, where a number has one row
+unique-row : (q : ThreadRow → Bool) (ts : List ThreadRow) (t : ThreadRow) → count (is_thread t.number) ts ≤ 1 → first q ts ≡ Some t → first (is_thread t.number) ts ≡ Some t
+unique-row q [] t once at = absurd (cc)
+unique-row q (u ∷ us) t once at = by_test (q u) refl (is_thread t.number u) refl (unique-row q us t)
+  where
+    fewer : count (is_thread t.number) us ≤ 1
+    fewer = grind arith
+
+    self : is_thread t.number t ≡ true
+    self = grind (arith, nat_tests)
+
+    there : (us : List ThreadRow) → first q us ≡ Some t → 1 ≤ count (is_thread t.number) us
+    there [] at = absurd (cc)
+    there (v ∷ vs) at = grind (arith, nat_tests, there vs)
+
+    by_test : (c : Bool) → q u ≡ c → (d : Bool) → is_thread t.number u ≡ d → (count (is_thread t.number) us ≤ 1 → first q us ≡ Some t → first (is_thread t.number) us ≡ Some t) → first (is_thread t.number) (u ∷ us) ≡ Some t
+    by_test true is d same later =
+        let its : u ≡ t = let one : Some u ≡ Some t = rw is at at in cc in
+        subst (λ v. first (is_thread t.number) (v ∷ us) ≡ Some t) (sym its) (rw self refl)
+    by_test false off true same later =
+        let later_at : first q us ≡ Some t = rw off at at in
+        let some = there us later_at in
+        let few : count (is_thread t.number) (u ∷ us) ≤ 1 = once in absurd (grind (arith, some, same))
+    by_test false off false other later =
+        let later_at : first q us ≡ Some t = rw off at at in rw other (later fewer later_at)
+
+-- the live threads of a process
+middle-first : (front ts : List ThreadRow) (t : ThreadRow) → count (is_thread t.number) (front ++ t ∷ ts) ≤ 1 → first (is_thread t.number) (front ++ t ∷ ts) ≡ Some t
+middle-first [] ts t once = let self : is_thread t.number t ≡ true = grind (arith, nat_tests) in rw self refl
+middle-first (u ∷ us) ts t once = at (is_thread t.number u) refl (middle-first us ts t)
+  where
+    there : (us : List ThreadRow) → 1 ≤ count (is_thread t.number) (us ++ t ∷ ts)
+    there [] = grind (arith, nat_tests)
+    there (v ∷ vs) = grind (arith, nat_tests, there vs)
+
+    at : (c : Bool) → is_thread t.number u ≡ c → (count (is_thread t.number) (us ++ t ∷ ts) ≤ 1 → first (is_thread t.number) (us ++ t ∷ ts) ≡ Some t) → first (is_thread t.number) (u ∷ (us ++ t ∷ ts)) ≡ Some t
+    at true same later = let some = there us in absurd (grind (arith, some, same))
+    at false other later = rw other (later (grind arith))
+
+after-none : (front ts : List ThreadRow) (t : ThreadRow) → count (is_thread t.number) (front ++ t ∷ ts) ≤ 1 → count (is_thread t.number) ts ≤ 0
+after-none [] ts t once = let self : is_thread t.number t ≡ true = grind (arith, nat_tests) in grind arith
+after-none (u ∷ us) ts t once = after-none us ts t (grind arith)
+
+one-more : (front ts : List ThreadRow) (t : ThreadRow) → front ++ t ∷ ts ≡ (front ++ t ∷ []) ++ ts
+one-more front ts t = sym (append-assoc front (t ∷ []) ts)
+
+pub live-found : (pid : ℕ) (front ts : List ThreadRow) → ((n : ℕ) → count (is_thread n) (front ++ ts) ≤ 1) → AreFound (front ++ ts) (which (lives_in pid) ts)
+live-found pid front [] once = tt
+live-found pid front (t ∷ ts) once = at (lives_in pid t) refl (live-found pid (front ++ t ∷ []) ts)
+  where
+    lives : (a b : Bool) → (a && b) ≡ true → b ≡ true
+    lives a b is = grind arith
+
+    later : ((n : ℕ) → count (is_thread n) ((front ++ t ∷ []) ++ ts) ≤ 1)
+    later n = subst (λ all. count (is_thread n) all ≤ 1) (one-more front ts t) (once n)
+
+    back : AreFound ((front ++ t ∷ []) ++ ts) (which (lives_in pid) ts) → AreFound (front ++ t ∷ ts) (which (lives_in pid) ts)
+    back found = subst (λ all. AreFound all (which (lives_in pid) ts)) (sym (one-more front ts t)) found
+
+    at : (c : Bool) → lives_in pid t ≡ c → (((n : ℕ) → count (is_thread n) ((front ++ t ∷ []) ++ ts) ≤ 1) → AreFound ((front ++ t ∷ []) ++ ts) (which (lives_in pid) ts)) → AreFound (front ++ t ∷ ts) (which (lives_in pid) (t ∷ ts))
+    at true is rest =
+        rw is (middle-first front ts t (once t.number), lives (t.process == pid) t.live is, every-which (λ u. not (is_thread t.number u)) (lives_in pid) ts (none-pass (is_thread t.number) ts (after-none front ts t (once t.number))), back (rest later))
+    at false is rest = rw is (back (rest later))
+
+-- a thread that a call is to end is the one of its number
+pub target-found : (w : World) (by : ThreadRow) (target : ProcArg) (t : ThreadRow) → HasThreadsOnce w → CanCall w by → thread_target w by target ≡ Ok t → first (is_thread t.number) w.threads ≡ Some t
+target-found w by target t once c at = holds_ok (λ t. first (is_thread t.number) w.threads ≡ Some t) (thread_target w by target) t (of target) at
+  where
+    of : (target : ProcArg) → Holds (λ t. first (is_thread t.number) w.threads ≡ Some t) (thread_target w by target)
+    of Current = unique-row (is_live_thread by.number) w.threads by (once by.number) c.lives
+    of (By handle) =
+        bind_holds (object_test w by kind.Thread END_RIGHT handle) _ (λ t. first (is_thread t.number) w.threads ≡ Some t) (λ b _.
+        found_holds (λ t. first (is_thread t.number) w.threads ≡ Some t) (first (λ t. same_birth t.birth b) w.threads) INVALID_HANDLE (λ t at. unique-row (λ t. same_birth t.birth b) w.threads t (once t.number) at))
+
+answered-deaths : (w : World) (by : ThreadRow) (call : CallName) (own : Bool) (pid : ℕ) (code : Status) (ts : List ThreadRow) → AreFound w.threads ts → TellsDeaths w (answered_end by call own pid code ts w)
+answered-deaths w by call true pid code ts found = end-deaths pid code ts w found
+answered-deaths w by call false pid code ts found = tells-both w (answer_unless false by call) (end_threads pid code ts w) (record { told = refl; registrations = refl }) (end-deaths pid code ts w found)
+
+thread-deaths : (w : World) (by : ThreadRow) (target : ProcArg) (code : ℕ) → HasThreadsOnce w → CanCall w by → Holds (TellsDeaths w) (nt_terminate_thread w by target code)
+thread-deaths w by target code once c =
+    thread-ends (TellsDeaths w) w by target code (λ t own at live. answered-deaths w by NtTerminateThread own t.process (code_status code) (t ∷ []) (target-found w by target t once c at, live, refl, tt))
+
+process-deaths : (w : World) (by : ThreadRow) (target : ProcArg) (code : ℕ) → HasThreadsOnce w → Holds (TellsDeaths w) (nt_terminate_process w by target code)
+process-deaths w by target code once =
+    process-ends (TellsDeaths w) w by target code (λ pid own _. answered-deaths w by NtTerminateProcess own pid (code_status code) (live_threads w pid) (live-found pid [] w.threads once))
+
+undying_holds : (w : World) (r : Result (List Basic) Status) → Holds AreUndying r → Holds (TellsDeaths w) r
+undying_holds w (Ok bs) all = undying-tells w bs all
+undying_holds w (Err s) all = tt
+
+service-deaths : (w : World) (by : ThreadRow) (call : ScriptCall) → HasThreadsOnce w → CanCall w by → Holds (TellsDeaths w) (service_of w by call)
+service-deaths w by (terminate_thread target code) once c = thread-deaths w by target code once c
+service-deaths w by (terminate_process target code) once c = process-deaths w by target code once
+service-deaths w by (register_thread_terminate_port handle) once c = register_holds (TellsDeaths w) w by handle (λ b new _. at b new)
+  where
+    at : (b : Birth) (new : Bool) → TellsDeaths w (Tells (entry.Answer by.number NtRegisterThreadTerminatePort SUCCESS []) ∷ when new (Registers by.number b ∷ []))
+    at b true = record { told = refl; registrations = refl }
+    at b false = record { told = refl; registrations = refl }
+service-deaths w by call once c = undying_holds w _ (service-undying w by call refl)
+
+silent_tells : (w : World) (e : Entry) → TellsDeaths w (Tells e ∷ [])
+silent_tells w e = record { told = refl; registrations = refl }
+
+ready-deaths : (w : World) (by : ThreadRow) (call : ScriptCall) (o : Option WaitRow) → (o ≡ None → CanCall w by) → HasThreadsOnce w → TellsDeaths w (ready_steps by call o w)
+ready-deaths w by call (Some x) c once = silent_tells w _
+ready-deaths w by call None c once = settled_holds (TellsDeaths w) by (name_of_call call) (service_of w by call) (service-deaths w by call once (c refl)) (λ _ _. silent_tells w _)
+
+thread-deaths-of : (w : World) (tid : ℕ) (call : ScriptCall) (o : Option ThreadRow) → live_thread w tid ≡ o → IsSoundWorld w → HasThreadsOnce w → TellsDeaths w (thread_steps tid call o w)
+thread-deaths-of w tid call None live s once = silent_tells w _
+thread-deaths-of w tid call (Some by) live s once = ready-deaths w by call (wait_of w tid) (λ idle. can-call w tid by live idle s) once
+
+-- Directives
+boot-deaths : (w : World) (pid tid : ℕ) → Holds (λ bs. TellsDeaths w (Tells (entry.Directive word.Boot SUCCESS) ∷ bs)) (boot_line w pid tid)
+unfolding boot_line
+boot-deaths w pid tid = bind_holds (unused_test w pid tid) _ (λ bs. TellsDeaths w (Tells (entry.Directive word.Boot SUCCESS) ∷ bs)) (λ _ _. record { told = refl; registrations = refl })
+
+further-deaths : (w : World) (tid pid : ℕ) → Holds (λ bs. TellsDeaths w (Tells (entry.Directive word.Thread SUCCESS) ∷ bs)) (thread_line w tid pid)
+unfolding thread_line
+further-deaths w tid pid = bind_holds (thread_test w tid pid) _ (λ bs. TellsDeaths w (Tells (entry.Directive word.Thread SUCCESS) ∷ bs)) (λ _ _. record { told = refl; registrations = refl })
+
+dir-deaths : (w : World) (text : List ℕ) → Holds (λ bs. TellsDeaths w (Tells (entry.Directive word.Dir SUCCESS) ∷ bs)) (dir_line w text)
+unfolding dir_line
+dir-deaths w text = bind_holds (free_name w text) _ (λ bs. TellsDeaths w (Tells (entry.Directive word.Dir SUCCESS) ∷ bs)) (λ path _. record { told = refl; registrations = refl })
+
+link-deaths : (w : World) (text target : List ℕ) → Holds (λ bs. TellsDeaths w (Tells (entry.Directive word.Link SUCCESS) ∷ bs)) (link_line w text target)
+unfolding link_line
+link-deaths w text target =
+    bind_holds (spelled_name target) _ (λ bs. TellsDeaths w (Tells (entry.Directive word.Link SUCCESS) ∷ bs)) (λ to _.
+    bind_holds (free_name w text) _ (λ bs. TellsDeaths w (Tells (entry.Directive word.Link SUCCESS) ∷ bs)) (λ path _. record { told = refl; registrations = refl }))
+
+-- Lines
+line-deaths : (w : World) (line : ScriptLine) → IsSoundWorld w → HasThreadsOnce w → TellsDeaths w (bare_steps line w)
+unfolding bare_steps
+line-deaths w (boot pid tid) s once = directed_holds (TellsDeaths w) word.Boot (boot_line w pid tid) (boot-deaths w pid tid) (λ _. silent_tells w _)
+line-deaths w (thread tid pid) s once = directed_holds (TellsDeaths w) word.Thread (thread_line w tid pid) (further-deaths w tid pid) (λ _. silent_tells w _)
+line-deaths w (dir path) s once = directed_holds (TellsDeaths w) word.Dir (dir_line w path) (dir-deaths w path) (λ _. silent_tells w _)
+line-deaths w (link path target) s once = directed_holds (TellsDeaths w) word.Link (link_line w path target) (link-deaths w path target) (λ _. silent_tells w _)
+line-deaths w (run tid call) s once = thread-deaths-of w tid call (live_thread w tid) refl s once
+
+frees-undying : (os : List ObjectName) → AreUndying (map Frees os)
+frees-undying [] = refl
+frees-undying (o ∷ os) = frees-undying os
+
+sweep-undying : (w : World) → AreUndying (sweep w)
+unfolding sweep
+sweep-undying w =
+    let v = world_after w (free_unheld w) in
+    every-append is_undying (free_unheld w) (free_unheld v) (frees-undying (unheld w)) (frees-undying (unheld v))
+
+-- the steps of a line tell of the threads that end by it
+pub deaths_told : (w : World) (line : ScriptLine) → IsSoundWorld w → HasThreadsOnce w → DeathsAreTold w line
+deaths_told w line s once =
+    let bs = bare_steps line w in
+    let v = world_after w bs in
+    tells-both w bs (sweep v) (line-deaths w line s once) (undying-tells v (sweep v) (sweep-undying v))

@@ -1,0 +1,299 @@
+-- The step of each line leaves handles to living processes alone.
+use Rattle.std.proofs.Common.{◌≡◌, ℕ, ◌≤◌, List, [], ◌∷◌, Bool, true, false, not, Option, Some, None, refl, sym, subst, arith}
+use Rattle.std.specs.Prelude.{◌&&◌, ◌||◌, ◌==◌, Result, Ok, Err}
+use Rattle.std.proofs.lemmas.Bool.{eqb-true}
+use Rattle.std.proofs.lemmas.Bool.Decides.{nat_tests}
+use Rattle.lpc_base.specs.Rows.{change, count, every, first, has, when}
+use Rattle.lpc_base.specs.declared.status.Status.{Status}
+use Rattle.lpc_base.proofs.RowWords.{every-change, every-more, first-passes, has-change}
+use Rattle.lpc_base.proofs.RowMaps.{every-both}
+use Rattle.lpc_model.specs.declared.entry.CallName.TheVariants.{NtTerminateProcess, NtTerminateThread}
+use Rattle.lpc_model.specs.declared.entry.Word.TheVariants as word
+use Rattle.lpc_model.specs.World.{HandleRow, HandleTable, ThreadRow, WaitRow, World}
+use Rattle.lpc_model.specs.Found.{handles_of, is_live, is_table, is_thread, live_thread, live_threads, lives_in, rows_in, wait_of}
+use Rattle.lpc_model.specs.Basics.{Accepts, AddsHandle, AddsProcess, AddsThread, Awaits, Basic, Dies, DrawsIdentifier, DrawsOrdinal, DropsHandle, Frees, Registers, Unregisters, Withdraws, basic, ended, in_turn, provided, unregistering, without_handle, world_after, ◌▹◌}
+use Rattle.lpc_model.specs.Named.{free_name, spelled_name}
+use Rattle.lpc_model.specs.Close.{close_handle}
+use Rattle.lpc_model.specs.Death.{code_status, cut_accepted, die, end_process, end_threads, nt_terminate_process, nt_terminate_thread, post_death, post_deaths}
+use Rattle.lpc_model.specs.Sweep.{sweep}
+use Rattle.lpc_model.specs.Lines.{ProcArg, ScriptCall, ScriptLine, accept_connect_port, boot, close, complete_connect_port, connect_port, create_port, dir, duplicate_object, link, listen_port, query_object, register_thread_terminate_port, reply_port, reply_wait_receive_port, request_port, request_wait_reply_port, run, terminate_process, terminate_thread, thread}
+use Rattle.lpc_model.specs.Machine.{bare_steps, boot_line, dir_line, link_line, name_of_call, ready_steps, service_of, step, thread_line, thread_steps, thread_test, unused_test}
+use Rattle.lpc_model.specs.SoundWaits.{IsSoundWorld}
+use Rattle.lpc_model.specs.Left.{HasLivingHandles, is_living_table, lacks_handles}
+use Rattle.lpc_model.proofs.Holding.{Holds, bind_holds, directed_holds, settled_holds}
+use Rattle.lpc_model.proofs.Rows.{count_none, has-change_to, lone}
+use Rattle.lpc_model.proofs.Usable.{CanCall, can-call}
+use Rattle.lpc_model.proofs.Closing.{behind, then-holds}
+use Rattle.lpc_model.proofs.SoundQueues.{after-append}
+use Rattle.lpc_model.proofs.SoundFrees.{which-all}
+use Rattle.lpc_model.proofs.SoundClose.{close_handle-sound}
+use Rattle.lpc_model.proofs.SoundTerminate.{IsSafe, sound-of, told-safe}
+use Rattle.lpc_model.proofs.SteadyListen.{listen-steady}
+use Rattle.lpc_model.proofs.SteadyDatagram.{datagram-steady}
+use Rattle.lpc_model.proofs.SteadyRequest.{request-steady}
+use Rattle.lpc_model.proofs.SteadyReply.{reply-steady}
+use Rattle.lpc_model.proofs.SteadyReceive.{receive-steady}
+use Rattle.lpc_model.proofs.SteadyQuery.{query-steady}
+use Rattle.lpc_model.proofs.SteadyRegister.{register-steady}
+use Rattle.lpc_model.proofs.Ending.{AreEnding, accepted-pass, behind_dead, behind_told, die-ending, ending-death, first-at, handle-ending, is_ending, process-ends, rows-left, thread-ends, turn-keeps, world-ends}
+use Rattle.lpc_model.specs.Lawful.{HasThreadsOnce}
+use Rattle.lpc_model.proofs.DeathLines.{AreFound, away-still, death-still, die-threads, is_still, live-found, target-found, undying-still}
+use Rattle.lpc_model.proofs.LivingHandles.{AreHomely, accept-homely, close-homely, complete-homely, connect-homely, create-homely, duplicate-homely, homely-all, lacks-less, living-swept, steady_homely}
+use Rattle.lpc_model.proofs.Undying.{handle-undying, is_undying}
+
+-- a handle that goes ends no thread
+handle-still : (pid : ℕ) (r : HandleRow) (w : World) → every is_still (close_handle pid r w) ≡ true
+handle-still pid r w = every-more is_undying is_still undying-still (close_handle pid r w) (handle-undying pid r w)
+
+-- All tables but those of one process
+abbrev is_almost : ℕ → World → HandleTable → Bool
+is_almost pid w t = (t.process == pid) || is_living_table w t
+
+abbrev HasLivingBut : ℕ → World → Type 0
+HasLivingBut pid w = every (is_almost pid w) w.handles ≡ true
+
+but-all : (pid : ℕ) (w : World) → HasLivingHandles w → HasLivingBut pid w
+but-all pid w l = every-more (is_living_table w) (is_almost pid w) (λ t is. right (t.process == pid) _ is) w.handles l
+  where
+    right : (a b : Bool) → b ≡ true → (a || b) ≡ true
+    right a b is = grind arith
+
+almost-more : (e a b c : Bool) → (e ≡ false → a ≡ true → b ≡ true) → (e || (a || c)) ≡ true → (e || (b || c)) ≡ true
+almost-more true a b c more is = refl
+almost-more false a b c more is = grind (arith, more refl)
+
+-- a thread of the process ends
+abbrev IsOf : ℕ → ℕ → List ThreadRow → Type 0
+IsOf pid n ts = every (λ u. not (is_thread n u) || (u.process == pid)) ts ≡ true
+
+dies-but : (pid n : ℕ) (code : Status) (w : World) → IsOf pid n w.threads → HasLivingBut pid w → HasLivingBut pid (basic w (Dies n code))
+dies-but pid n code w of l =
+    let v = basic w (Dies n code) in
+    every-more (is_almost pid w) (is_almost pid v) (λ t. almost-more (t.process == pid) (is_live w t.process) (is_live v t.process) (lacks_handles t) (λ off. still t.process off)) w.handles l
+  where
+    parts : (q : ℕ) (u : ThreadRow) → (q == pid) ≡ false → (not (is_thread n u) || (u.process == pid)) ≡ true → (not (is_thread n u && lives_in q u) || lives_in q (ended u)) ≡ true
+    parts q u off is = grind (arith, nat_tests)
+
+    still : (q : ℕ) → (q == pid) ≡ false → is_live w q ≡ true → is_live (basic w (Dies n code)) q ≡ true
+    still q off is = has-change_to (lives_in q) (is_thread n) ended w.threads (every-more _ _ (λ u one. parts q u off one) w.threads of) is
+
+-- steps that end nothing of a thread
+still-step : (pid : ℕ) (w : World) (b : Basic) → is_ending b ≡ true → is_still b ≡ true → HasLivingBut pid w → HasLivingBut pid (basic w b)
+still-step pid w (DropsHandle p value) is still l =
+    every-change (is_almost pid w) (is_table p) (without_handle value) (λ t was. more (t.process == pid) (is_live w t.process) (lacks_handles t) (lacks_handles (without_handle value t)) (lacks-less value t) was) w.handles l
+  where
+    more : (e a c d : Bool) → (c ≡ true → d ≡ true) → (e || (a || c)) ≡ true → (e || (a || d)) ≡ true
+    more e a c d less was = grind (arith, less)
+still-step pid w (Unregisters who b) is still l =
+    let v = basic w (Unregisters who b) in
+    every-more (is_almost pid w) (is_almost pid v) (λ t. almost-more (t.process == pid) (is_live w t.process) (is_live v t.process) (lacks_handles t) (λ off one. rw (has-change (lives_in t.process) (is_thread who) (unregistering b) (λ u. refl) w.threads) one)) w.handles l
+still-step pid w (Dies who status) is still l = absurd (cc)
+still-step pid w (Awaits x) is still l = absurd (cc)
+still-step pid w (Accepts who reply) is still l = absurd (cc)
+still-step pid w (DrawsIdentifier who) is still l = absurd (cc)
+still-step pid w (DrawsOrdinal who) is still l = absurd (cc)
+still-step pid w (Registers who b) is still l = absurd (cc)
+still-step pid w (AddsProcess p) is still l = absurd (cc)
+still-step pid w (AddsThread t) is still l = absurd (cc)
+still-step pid w (Frees o) is still l = absurd (cc)
+still-step pid w (AddsHandle p h) is still l = absurd (cc)
+still-step pid w b is still l = l
+
+still-all : (pid : ℕ) (w : World) (bs : List Basic) → AreEnding bs → every is_still bs ≡ true → HasLivingBut pid w → HasLivingBut pid (world_after w bs)
+still-all pid w [] all still l = l
+still-all pid w (b ∷ bs) all still l =
+    still-all pid (basic w b) bs (second_of (is_ending b) _ all) (second_of (is_still b) _ still) (still-step pid w b (first_of (is_ending b) _ all) (first_of (is_still b) _ still) l)
+  where
+    first_of : (x y : Bool) → (x && y) ≡ true → x ≡ true
+    first_of x y is = grind arith
+
+    second_of : (x y : Bool) → (x && y) ≡ true → y ≡ true
+    second_of x y is = grind arith
+
+-- The threads of the process end
+abbrev AreOf : ℕ → List ThreadRow → List ThreadRow → Type 0
+AreOf pid all [] = Unit {0}
+AreOf pid all (t ∷ ts) = IsOf pid t.number all × AreOf pid all ts
+
+of-ended : (pid n : ℕ) (all ts : List ThreadRow) → AreOf pid all ts → AreOf pid (change (is_thread n) ended all) ts
+of-ended pid n all [] of = tt
+of-ended pid n all (t ∷ ts) of = (every-change (λ u. not (is_thread t.number u) || (u.process == pid)) (is_thread n) ended (λ u is. is) all of.0, of-ended pid n all ts of.1)
+
+die-but : (pid : ℕ) (code : Status) (t : ThreadRow) (w : World) → IsOf pid t.number w.threads → HasLivingBut pid w → HasLivingBut pid (behind (die code t) w)
+die-but pid code t w of l =
+    let dead = basic w (Dies t.number code) in
+    let gone = basic dead (Withdraws t.number) in
+    let later = cut_accepted (wait_of w t.number) gone in
+    let all = die-ending code t w in
+    still-all pid gone later all (accepted-pass is_still away-still (λ b. refl) (wait_of w t.number) gone) (dies-but pid t.number code w of l)
+
+dead-but : (pid : ℕ) (code : Status) (ts : List ThreadRow) (w : World) → AreOf pid w.threads ts → HasLivingBut pid w → HasLivingBut pid (behind_dead code ts w)
+dead-but pid code [] w of l = l
+dead-but pid code (t ∷ ts) w of l =
+    let v = behind (die code t) w in
+    then-holds (HasLivingBut pid) (die code t) (in_turn (die code) ts) w
+    (dead-but pid code ts v (subst (λ all. AreOf pid all ts) (sym (die-threads code t w)) (of-ended pid t.number w.threads ts of.1)) (die-but pid code t w of.0 l))
+
+told-but : (pid : ℕ) (code : Status) (ts : List ThreadRow) (w : World) → AreOf pid w.threads ts → HasLivingBut pid w → HasLivingBut pid (behind_told code ts w)
+told-but pid code ts w of l =
+    turn-keeps (HasLivingBut pid) post_deaths (λ t v. turn-keeps (HasLivingBut pid) (post_death t) (λ b u k. still-all pid u (post_death t b u) (ending-death t b u) (death-still t b u) k) t.registrations v) ts (behind_dead code ts w) (dead-but pid code ts w of l)
+
+-- The handles of the process go
+handles-but : (pid : ℕ) (rows : List HandleRow) (w : World) → handles_of w pid ≡ rows → IsSoundWorld w → HasLivingBut pid w → HasLivingBut pid (behind (in_turn (close_handle pid) rows) w) × (handles_of (behind (in_turn (close_handle pid) rows) w) pid ≡ []) × IsSoundWorld (behind (in_turn (close_handle pid) rows) w)
+handles-but pid [] w same s l = (l, same, s)
+handles-but pid (r ∷ rows) w same s l =
+    let v = behind (close_handle pid r) w in
+    then-holds (λ u. HasLivingBut pid u × (handles_of u pid ≡ []) × IsSoundWorld u) (close_handle pid r) (in_turn (close_handle pid) rows) w
+    (handles-but pid rows v (rows-left w pid r rows same s) (close_handle-sound w pid r (first-at w pid r rows same) s) (still-all pid w (close_handle pid r w) (handle-ending pid r w) (handle-still pid r w) l))
+
+-- its table is empty then
+table-lacks : (pid : ℕ) (ts : List HandleTable) → count (is_table pid) ts ≤ 1 → rows_in (first (is_table pid) ts) ≡ [] → every (λ t. not (is_table pid t) || lacks_handles t) ts ≡ true
+table-lacks pid [] one none = refl
+table-lacks pid (t ∷ ts) one none = at (is_table pid t) refl (table-lacks pid ts)
+  where
+    off : (ts : List HandleTable) → has (is_table pid) ts ≡ false → every (λ t. not (is_table pid t) || lacks_handles t) ts ≡ true
+    off [] none = refl
+    off (t ∷ ts) none = grind (arith, off ts)
+
+    lacks : (rs : List HandleRow) → rs ≡ [] → (elim rs [ [] ↦ true | r ∷ rest ↦ false ]) ≡ true
+    lacks [] is = refl
+    lacks (r ∷ rs) is = absurd (cc)
+
+    at : (c : Bool) → is_table pid t ≡ c → (count (is_table pid) ts ≤ 1 → rows_in (first (is_table pid) ts) ≡ [] → every (λ t. not (is_table pid t) || lacks_handles t) ts ≡ true) → every (λ t. not (is_table pid t) || lacks_handles t) (t ∷ ts) ≡ true
+    at true is later =
+        let row : t.rows ≡ [] = rw is at none in
+        let own : lacks_handles t ≡ true = lacks t.rows row in
+        let rest = off ts (count_none (is_table pid) ts (grind arith)) in grind arith
+    at false is later =
+        let row : rows_in (first (is_table pid) ts) ≡ [] = rw is at none in
+        let few : count (is_table pid) ts ≤ 1 = grind arith in
+        let rest = later few row in grind arith
+
+living-empty : (pid : ℕ) (w : World) → HasLivingBut pid w → handles_of w pid ≡ [] → IsSoundWorld w → HasLivingHandles w
+living-empty pid w l none s =
+    every-both (is_almost pid w) (λ t. not (is_table pid t) || lacks_handles t) (is_living_table w) (λ t one two. parts (t.process == pid) (is_live w t.process) (lacks_handles t) one two) w.handles l (table-lacks pid w.handles (s.tables pid) none)
+  where
+    parts : (e a c : Bool) → (e || (a || c)) ≡ true → (not e || c) ≡ true → (a || c) ≡ true
+    parts e a c one two = grind arith
+
+living-live : (pid : ℕ) (w : World) → HasLivingBut pid w → is_live w pid ≡ true → HasLivingHandles w
+living-live pid w l live = every-more (is_almost pid w) (is_living_table w) (λ t is. at t (t.process == pid) refl is) w.handles l
+  where
+    at : (t : HandleTable) (e : Bool) → (t.process == pid) ≡ e → (e || is_living_table w t) ≡ true → is_living_table w t ≡ true
+    at t true same is = let own = subst (λ n. is_live w n ≡ true) (sym (eqb-true t.process pid same)) live in left (is_live w t.process) (lacks_handles t) own
+      where
+        left : (a b : Bool) → a ≡ true → (a || b) ≡ true
+        left a b one = grind arith
+    at t false off is = is
+
+end-living : (pid : ℕ) (code : Status) (ts : List ThreadRow) (w : World) → IsSafe w → AreOf pid w.threads ts → HasLivingHandles w → HasLivingHandles (behind (end_threads pid code ts) w)
+unfolding end_threads
+end-living pid code ts w is of l =
+    let two = behind_told code ts w in
+    then-holds HasLivingHandles (in_turn (die code) ts) (in_turn post_deaths ts ▹ provided (λ w. not (is_live w pid)) (end_process pid)) w
+    (then-holds HasLivingHandles (in_turn post_deaths ts) (provided (λ w. not (is_live w pid)) (end_process pid)) (behind_dead code ts w)
+    (at (is_live two pid) refl (told-but pid code ts w of (but-all pid w l)) (sound-of two (told-safe code ts w is))))
+  where
+    at : (live : Bool) → is_live (behind_told code ts w) pid ≡ live → HasLivingBut pid (behind_told code ts w) → IsSoundWorld (behind_told code ts w) → HasLivingHandles (world_after (behind_told code ts w) (when (not live) (end_process pid (behind_told code ts w))))
+    at true live l s = living-live pid (behind_told code ts w) l live
+    at false off l s =
+        let v = behind_told code ts w in
+        let t = handles-but pid (handles_of v pid) v refl s l in
+        living-empty pid (behind (in_turn (close_handle pid) (handles_of v pid)) v) t.0 t.1 t.2
+
+-- The calls
+are-of : (pid : ℕ) (all ts : List ThreadRow) → ((n : ℕ) → count (is_thread n) all ≤ 1) → AreFound all ts → every (λ t. t.process == pid) ts ≡ true → AreOf pid all ts
+are-of pid all [] once found of = tt
+are-of pid all (t ∷ ts) once found of = (
+  lone (is_thread t.number) (λ u. u.process == pid) (is_thread t.number) all t (once t.number) found.0 (first-passes (is_thread t.number) all t found.0) (one _ _ of),
+  are-of pid all ts once found.3 (two _ _ of),
+)
+  where
+    one : (a b : Bool) → (a && b) ≡ true → a ≡ true
+    one a b is = grind arith
+
+    two : (a b : Bool) → (a && b) ≡ true → b ≡ true
+    two a b is = grind arith
+
+same-number : (n : ℕ) → (n == n) ≡ true
+same-number n = grind (arith, nat_tests)
+
+abbrev KeepLiving : World → List Basic → Type 0
+KeepLiving w bs = HasLivingHandles (world_after w bs)
+
+thread-living : (w : World) (by : ThreadRow) (target : ProcArg) (code : ℕ) → IsSafe w → HasThreadsOnce w → CanCall w by → HasLivingHandles w → Holds (KeepLiving w) (nt_terminate_thread w by target code)
+thread-living w by target code is once c l =
+    thread-ends (KeepLiving w) w by target code (λ t own at live. world-ends HasLivingHandles w by NtTerminateThread own t.process (code_status code) (t ∷ [])
+    (end-living t.process (code_status code) (t ∷ []) w is (are-of t.process w.threads (t ∷ []) once (target-found w by target t once c at, live, refl, tt) (rw (same-number t.process) refl)) l))
+
+process-living : (w : World) (by : ThreadRow) (target : ProcArg) (code : ℕ) → IsSafe w → HasThreadsOnce w → HasLivingHandles w → Holds (KeepLiving w) (nt_terminate_process w by target code)
+process-living w by target code is once l =
+    process-ends (KeepLiving w) w by target code (λ pid own _. world-ends HasLivingHandles w by NtTerminateProcess own pid (code_status code) (live_threads w pid)
+    (end-living pid (code_status code) (live_threads w pid) w is (are-of pid w.threads (live_threads w pid) once (live-found pid [] w.threads once) (every-more (lives_in pid) (λ t. t.process == pid) (λ t one. first_of _ _ one) (live_threads w pid) (which-all (lives_in pid) w.threads))) l))
+  where
+    first_of : (a b : Bool) → (a && b) ≡ true → a ≡ true
+    first_of a b is = grind arith
+
+homely_holds : (w : World) (r : Result (List Basic) Status) → HasLivingHandles w → Holds (AreHomely w) r → Holds (KeepLiving w) r
+homely_holds w (Ok bs) l all = homely-all w bs all l
+homely_holds w (Err s) l all = tt
+
+service-living : (w : World) (by : ThreadRow) (call : ScriptCall) → CanCall w by → IsSafe w → HasThreadsOnce w → HasLivingHandles w → Holds (KeepLiving w) (service_of w by call)
+service-living w by (create_port name) c is once l = homely_holds w _ l (create-homely w by name c)
+service-living w by (connect_port name info) c is once l = homely_holds w _ l (connect-homely w by name info)
+service-living w by (listen_port handle) c is once l = homely_holds w _ l (steady_homely w _ (listen-steady w by handle))
+service-living w by (accept_connect_port context message accept) c is once l = homely_holds w _ l (accept-homely w by context message accept c)
+service-living w by (complete_connect_port handle) c is once l = homely_holds w _ l (complete-homely w by handle (sound-of w is))
+service-living w by (request_port handle bytes) c is once l = homely_holds w _ l (steady_homely w _ (datagram-steady w by handle bytes))
+service-living w by (request_wait_reply_port handle bytes) c is once l = homely_holds w _ l (steady_homely w _ (request-steady w by handle bytes))
+service-living w by (reply_port handle bytes) c is once l = homely_holds w _ l (steady_homely w _ (reply-steady w by handle bytes))
+service-living w by (reply_wait_receive_port handle bytes) c is once l = homely_holds w _ l (steady_homely w _ (receive-steady w by handle bytes))
+service-living w by (register_thread_terminate_port handle) c is once l = homely_holds w _ l (steady_homely w _ (register-steady w by handle))
+service-living w by (close handle) c is once l = homely_holds w _ l (close-homely w by handle)
+service-living w by (duplicate_object handle access) c is once l = homely_holds w _ l (duplicate-homely w by handle access c)
+service-living w by (query_object handle) c is once l = homely_holds w _ l (steady_homely w _ (query-steady w by handle))
+service-living w by (terminate_thread target code) c is once l = thread-living w by target code is once c l
+service-living w by (terminate_process target code) c is once l = process-living w by target code is once l
+
+ready-living : (w : World) (by : ThreadRow) (call : ScriptCall) (o : Option WaitRow) → (o ≡ None → CanCall w by) → IsSafe w → HasThreadsOnce w → HasLivingHandles w → KeepLiving w (ready_steps by call o w)
+ready-living w by call (Some x) c is once l = l
+ready-living w by call None c is once l = settled_holds (KeepLiving w) by (name_of_call call) (service_of w by call) (service-living w by call (c refl) is once l) (λ _ _. l)
+
+thread-lines : (w : World) (tid : ℕ) (call : ScriptCall) (o : Option ThreadRow) → live_thread w tid ≡ o → IsSafe w → HasThreadsOnce w → HasLivingHandles w → KeepLiving w (thread_steps tid call o w)
+thread-lines w tid call None live is once l = l
+thread-lines w tid call (Some by) live is once l = ready-living w by call (wait_of w tid) (λ idle. can-call w tid by live idle (sound-of w is)) is once l
+
+-- Directives
+boot-living : (w : World) (pid tid : ℕ) → Holds (AreHomely w) (boot_line w pid tid)
+unfolding boot_line
+boot-living w pid tid = bind_holds (unused_test w pid tid) _ (AreHomely w) (λ _ _. refl)
+
+further-living : (w : World) (tid pid : ℕ) → Holds (AreHomely w) (thread_line w tid pid)
+unfolding thread_line
+further-living w tid pid = bind_holds (thread_test w tid pid) _ (AreHomely w) (λ _ _. refl)
+
+dir-living : (w : World) (text : List ℕ) → Holds (AreHomely w) (dir_line w text)
+unfolding dir_line
+dir-living w text = bind_holds (free_name w text) _ (AreHomely w) (λ path _. refl)
+
+link-living : (w : World) (text target : List ℕ) → Holds (AreHomely w) (link_line w text target)
+unfolding link_line
+link-living w text target =
+    bind_holds (spelled_name target) _ (AreHomely w) (λ to _.
+    bind_holds (free_name w text) _ (AreHomely w) (λ path _. refl))
+
+-- Lines
+line-living : (w : World) (line : ScriptLine) → IsSafe w → HasThreadsOnce w → HasLivingHandles w → KeepLiving w (bare_steps line w)
+unfolding bare_steps
+line-living w (boot pid tid) is once l = directed_holds (KeepLiving w) word.Boot (boot_line w pid tid) (homely_holds w (boot_line w pid tid) l (boot-living w pid tid)) (λ _. l)
+line-living w (thread tid pid) is once l = directed_holds (KeepLiving w) word.Thread (thread_line w tid pid) (homely_holds w (thread_line w tid pid) l (further-living w tid pid)) (λ _. l)
+line-living w (dir path) is once l = directed_holds (KeepLiving w) word.Dir (dir_line w path) (homely_holds w (dir_line w path) l (dir-living w path)) (λ _. l)
+line-living w (link path target) is once l = directed_holds (KeepLiving w) word.Link (link_line w path target) (homely_holds w (link_line w path target) l (link-living w path target)) (λ _. l)
+line-living w (run tid call) is once l = thread-lines w tid call (live_thread w tid) refl is once l
+
+-- the step of a line leaves handles to living processes alone
+pub living_step : (w : World) (line : ScriptLine) → IsSafe w → HasThreadsOnce w → HasLivingHandles w → HasLivingHandles (step w line).world
+living_step w line is once l =
+    let bs = bare_steps line w in
+    let v = world_after w bs in
+    rw (after-append w bs (sweep v)) (living-swept v (line-living w line is once l))

@@ -1,0 +1,116 @@
+-- What each line of a script keeps, along the whole run.
+use Rattle.std.proofs.Common.{List, [], arith, refl, ℕ, ◌∷◌}
+use Rattle.std.specs.Prelude.{Option, Some, None}
+use Rattle.std.specs.List.{AllByRecursion}
+use Rattle.lpc_model.specs.World.{World, no_rows}
+use Rattle.lpc_model.specs.Lines.{ScriptLine}
+use Rattle.lpc_model.specs.Machine.{Stepped, step}
+use Rattle.lpc_model.specs.Run.{Along, line_step, said_in, trace}
+use Rattle.lpc_model.specs.Closings.{ClosingsAreTold, RunTellsClosings}
+use Rattle.lpc_model.specs.Linked.{HasHeldRows, RunHoldsRows}
+use Rattle.lpc_model.specs.OpenQueues.{HasOpenQueues, RunKeepsQueuesOpen}
+use Rattle.lpc_model.specs.Standing.{NamesWhatStands, RunNamesWhatStands}
+use Rattle.lpc_model.specs.Untold.{IsUntold, RunKeepsUntold}
+use Rattle.lpc_model.specs.SoundWaits.{HasSoundWaits, RefusesCutPairsAlone, RunRefusesCutPairsAlone, RunStaysSound}
+use Rattle.lpc_model.proofs.SoundPairs.{refuses_cut_pairs}
+use Rattle.lpc_model.proofs.SoundLines.{sound_none, sound_step, sound_waits}
+use Rattle.lpc_model.proofs.LinkedLines.{held_step, linked_none, linked_step}
+use Rattle.lpc_model.proofs.StandingCalls.{names_none, names_step}
+use Rattle.lpc_model.proofs.OpenQueues.{queues_none, queues_step}
+use Rattle.lpc_model.proofs.ToldLines.{closings_told}
+use Rattle.lpc_model.proofs.UntoldLines.{untold_none, untold_step}
+use Rattle.lpc_model.specs.Deaths.{DeathsAreTold, HasLivingRegistrations, HasSingleRegistrations, RunHasLivingRegistrations, RunHasSingleRegistrations, RunTellsDeaths}
+use Rattle.lpc_model.proofs.ThreadsOnce.{once_step}
+use Rattle.lpc_model.proofs.DeathLines.{deaths_told}
+use Rattle.lpc_model.specs.Lawful.{IsLawfulWorld}
+use Rattle.lpc_model.specs.Left.{LeavesNothing, RunLeavesNothing}
+use Rattle.lpc_model.proofs.SoundTerminate.{IsSafe}
+use Rattle.lpc_model.proofs.LivingLines.{living_step}
+use Rattle.lpc_model.proofs.KeptPairs.{pairs_step}
+use Rattle.lpc_model.proofs.Bare.{bare}
+use Rattle.lpc_model.proofs.LivingRegistrations.{living_registrations_step}
+use Rattle.lpc_model.proofs.SingleRegistrations.{single_step}
+
+-- before the first line
+pub lawful_none : IsLawfulWorld no_rows
+lawful_none = record {
+  sound = sound_none;
+  linked = linked_none;
+  held = record { ports = refl; lives = record { threads = refl; processes = refl } };
+  queues = queues_none;
+  names = names_none;
+  untold = untold_none;
+  threads = λ n. grind arith;
+  registrations = refl;
+  single = refl;
+  living = refl;
+  pairs = refl;
+}
+
+-- and behind each line
+pub lawful_step : (w : World) (line : ScriptLine) → IsLawfulWorld w → IsLawfulWorld (step w line).world
+lawful_step w line t = let shut = t.untold in let safe : IsSafe w = record { sound = t.sound; shut = shut.connects } in record {
+  sound = sound_step w line t.sound shut.connects;
+  linked = linked_step w line t.sound shut.connects t.linked;
+  held = held_step w line t.sound t.linked;
+  queues = queues_step w line t.sound shut.connects t.linked t.queues;
+  names = names_step w line t.sound shut.connects t.linked t.names;
+  untold = untold_step w line t.sound t.names t.untold;
+  threads = once_step w line t.sound t.threads;
+  registrations = living_registrations_step w line t.sound t.threads t.registrations;
+  single = single_step w line t.sound t.threads t.single;
+  living = living_step w line safe t.threads t.living;
+  pairs = pairs_step w line safe t.pairs;
+}
+
+pub said-lawful : (w : World) (said : Option ScriptLine) → IsLawfulWorld w → IsLawfulWorld (line_step w said).world
+said-lawful w None t = t
+said-lawful w (Some line) t = lawful_step w line t
+
+-- what holds of each such world holds of the world that each line leaves
+trace-keeps : (P : World → Type 0) → ((w : World) → IsLawfulWorld w → P w) → (w : World) (lines : List (Option ScriptLine)) → IsLawfulWorld w → AllByRecursion (λ (s : Stepped). P s.world) (trace w lines)
+unfolding trace
+trace-keeps P holds w [] t = tt
+trace-keeps P holds w (said ∷ later) t =
+    let after = said-lawful w said t in
+    (holds (line_step w said).world after, trace-keeps P holds (line_step w said).world later after)
+
+-- and what holds of each such world and a line holds along the lines
+pub along-keeps : (P : World → ScriptLine → Type 0) → ((w : World) (line : ScriptLine) → IsLawfulWorld w → P w line) → (w : World) (lines : List (Option ScriptLine)) → IsLawfulWorld w → Along P w lines
+along-keeps P holds w [] t = tt
+along-keeps P holds w (None ∷ later) t = along-keeps P holds w later t
+along-keeps P holds w (Some line ∷ later) t = (holds w line t, along-keeps P holds (step w line).world later (lawful_step w line t))
+
+-- Runs
+pub sound_run : (bytes : List ℕ) → RunStaysSound bytes
+sound_run bytes = trace-keeps HasSoundWaits (λ w t. sound_waits w t.sound) no_rows (said_in bytes) lawful_none
+
+pub cut_pairs_run : (bytes : List ℕ) → RunRefusesCutPairsAlone bytes
+cut_pairs_run bytes = trace-keeps RefusesCutPairsAlone (λ w t. refuses_cut_pairs w t.sound) no_rows (said_in bytes) lawful_none
+
+pub held_run : (bytes : List ℕ) → RunHoldsRows bytes
+held_run bytes = trace-keeps HasHeldRows (λ w t. t.held) no_rows (said_in bytes) lawful_none
+
+pub queues_run : (bytes : List ℕ) → RunKeepsQueuesOpen bytes
+queues_run bytes = trace-keeps HasOpenQueues (λ w t. t.queues) no_rows (said_in bytes) lawful_none
+
+pub names_run : (bytes : List ℕ) → RunNamesWhatStands bytes
+names_run bytes = trace-keeps NamesWhatStands (λ w t. t.names) no_rows (said_in bytes) lawful_none
+
+pub untold_run : (bytes : List ℕ) → RunKeepsUntold bytes
+untold_run bytes = trace-keeps IsUntold (λ w t. t.untold) no_rows (said_in bytes) lawful_none
+
+pub closings_told_run : (bytes : List ℕ) → RunTellsClosings bytes
+closings_told_run bytes = along-keeps ClosingsAreTold (λ w line t. let shut = t.untold in closings_told w line t.sound shut.connects) no_rows (said_in bytes) lawful_none
+
+pub deaths_told_run : (bytes : List ℕ) → RunTellsDeaths bytes
+deaths_told_run bytes = along-keeps DeathsAreTold (λ w line t. deaths_told w line t.sound t.threads) no_rows (said_in bytes) lawful_none
+
+pub leaves_nothing_run : (bytes : List ℕ) → RunLeavesNothing bytes
+leaves_nothing_run bytes = trace-keeps LeavesNothing (λ w t. bare w t.sound t.linked t.held t.queues t.living t.pairs) no_rows (said_in bytes) lawful_none
+
+pub living_registrations_run : (bytes : List ℕ) → RunHasLivingRegistrations bytes
+living_registrations_run bytes = trace-keeps HasLivingRegistrations (λ w t. t.registrations) no_rows (said_in bytes) lawful_none
+
+pub single_registrations_run : (bytes : List ℕ) → RunHasSingleRegistrations bytes
+single_registrations_run bytes = trace-keeps HasSingleRegistrations (λ w t. t.single) no_rows (said_in bytes) lawful_none

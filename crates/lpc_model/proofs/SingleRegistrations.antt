@@ -1,0 +1,185 @@
+-- The step of each line leaves each port registered once with a thread.
+use Rattle.std.proofs.Common.{Bool, List, None, Option, Some, [], arith, false, map, not, refl, true, ℕ, ◌++◌, ◌∷◌, ◌≡◌}
+use Rattle.std.specs.Prelude.{◌&&◌, ◌||◌, Result, Ok, Err}
+use Rattle.lpc_base.specs.Rows.{every, has, when, without}
+use Rattle.lpc_base.specs.declared.status.Status.{Status}
+use Rattle.lpc_base.proofs.RowWords.{every-append, every-change, every-more, every-push, every-without, first-passes}
+use Rattle.lpc_base.proofs.RowMaps.{every-both, every-change_to}
+use Rattle.lpc_model.specs.declared.entry.ObjectKind.TheVariants as kind
+use Rattle.lpc_model.specs.declared.entry.Word.TheVariants as word
+use Rattle.lpc_model.specs.World.{Birth, ObjectKind, ObjectName, ThreadRow, WaitRow, World}
+use Rattle.lpc_model.specs.Found.{is_live_thread, is_thread, live_thread, same_birth, wait_of}
+use Rattle.lpc_model.specs.Basics.{AddsThread, Basic, Dies, DrawsIdentifier, DrawsOrdinal, Frees, Registers, Unregisters, basic, ended, freed, past_identifier, past_ordinal, registering, unregistering, world_after}
+use Rattle.lpc_model.specs.Deaths.{HasSingleRegistrations, are_different, registers_once}
+use Rattle.lpc_model.specs.Named.{free_name, spelled_name}
+use Rattle.lpc_model.specs.Sweep.{free_unheld, sweep, unheld}
+use Rattle.lpc_model.specs.Lines.{ScriptCall, ScriptLine, boot, dir, link, register_thread_terminate_port, run, terminate_process, terminate_thread, thread}
+use Rattle.lpc_model.specs.Machine.{bare_steps, boot_line, dir_line, link_line, name_of_call, ready_steps, service_of, step, thread_line, thread_steps, thread_test, unused_test}
+use Rattle.lpc_model.specs.SoundWaits.{IsSoundWorld}
+use Rattle.lpc_model.proofs.Holding.{Holds, bind_holds, directed_holds, settled_holds}
+use Rattle.lpc_model.proofs.Rows.{lone}
+use Rattle.lpc_model.proofs.SoundQueues.{after-append}
+use Rattle.lpc_model.proofs.Usable.{CanCall, can-call}
+use Rattle.lpc_model.proofs.Undying.{AreUndying, is_undying, register_holds, service-undying}
+use Rattle.lpc_model.proofs.Ending.{AreEnding, is_ending, process-ending, thread-ending}
+use Rattle.lpc_model.specs.Lawful.{HasThreadsOnce}
+use Rattle.lpc_model.specs.Register.{is_registered}
+
+first-true : (x y : Bool) → (x && y) ≡ true → x ≡ true
+first-true x y is = grind arith
+
+second-true : (x y : Bool) → (x && y) ≡ true → y ≡ true
+second-true x y is = grind arith
+
+-- Ports that are different
+different-less : (b : Birth) (bs : List Birth) → are_different bs ≡ true → are_different (without (same_birth b) bs) ≡ true
+different-less b [] all = refl
+different-less b (c ∷ bs) all = grind (arith, every-without (λ d. not (same_birth d c)) (same_birth b) bs, different-less b bs)
+
+different-push : (b : Birth) (bs : List Birth) → every (λ c. not (same_birth b c)) bs ≡ true → are_different bs ≡ true → are_different (bs ++ b ∷ []) ≡ true
+different-push b [] new all = refl
+different-push b (c ∷ bs) new all = grind (arith, every-push (λ d. not (same_birth d c)) bs b, different-push b bs)
+
+none-same : (b : Birth) (bs : List Birth) → has (same_birth b) bs ≡ false → every (λ c. not (same_birth b c)) bs ≡ true
+none-same b [] none = refl
+none-same b (c ∷ bs) none = grind (arith, none-same b bs)
+
+-- Steps
+-- a step registers no port
+abbrev is_lasting : Basic → Bool
+is_lasting (Registers who b) = false
+is_lasting (AddsThread t) = registers_once t
+is_lasting b = true
+
+freed-single : (w : World) (k : ObjectKind) (b : Birth) → HasSingleRegistrations w → HasSingleRegistrations (freed w k b)
+freed-single w kind.Port b l = l
+freed-single w kind.Section b l = l
+freed-single w kind.Token b l = l
+freed-single w kind.Process b l = l
+freed-single w kind.Thread b l = every-without registers_once (λ t. same_birth t.birth b) w.threads l
+
+single-step : (w : World) (b : Basic) → is_lasting b ≡ true → HasSingleRegistrations w → HasSingleRegistrations (basic w b)
+single-step w (Dies who status) is l = every-change registers_once (is_thread who) ended (λ r was. was) w.threads l
+single-step w (Registers who b) is l = absurd (cc)
+single-step w (Unregisters who b) is l = every-change registers_once (is_thread who) (unregistering b) (λ r was. different-less b r.registrations was) w.threads l
+single-step w (DrawsIdentifier who) is l = every-change registers_once (is_thread who) past_identifier (λ r was. was) w.threads l
+single-step w (DrawsOrdinal who) is l = every-change registers_once (is_thread who) past_ordinal (λ r was. was) w.threads l
+single-step w (AddsThread t) is l = every-push registers_once w.threads t l is
+single-step w (Frees o) is l = freed-single w o.kind o.birth l
+single-step w b is l = l
+
+single-all : (w : World) (bs : List Basic) → every is_lasting bs ≡ true → HasSingleRegistrations w → HasSingleRegistrations (world_after w bs)
+single-all w [] all l = l
+single-all w (b ∷ bs) all l =
+    single-all (basic w b) bs (second-true (is_lasting b) (every is_lasting bs) all) (single-step w b (first-true (is_lasting b) (every is_lasting bs) all) l)
+
+undying-lasting : (b : Basic) → is_undying b ≡ true → is_lasting b ≡ true
+undying-lasting (Registers who b) is = absurd (cc)
+undying-lasting (AddsThread t) is = absurd (cc)
+undying-lasting b is = refl
+
+ending-lasting : (b : Basic) → is_ending b ≡ true → is_lasting b ≡ true
+ending-lasting (Registers who b) is = absurd (cc)
+ending-lasting (AddsThread t) is = absurd (cc)
+ending-lasting b is = refl
+
+-- Calls
+abbrev KeepSingle : World → List Basic → Type 0
+KeepSingle w bs = HasSingleRegistrations (world_after w bs)
+
+undying_holds : (w : World) (r : Result (List Basic) Status) → HasSingleRegistrations w → Holds AreUndying r → Holds (KeepSingle w) r
+undying_holds w (Ok bs) l all = single-all w bs (every-more is_undying is_lasting undying-lasting bs all) l
+undying_holds w (Err s) l all = tt
+
+ending_holds : (w : World) (r : Result (List Basic) Status) → HasSingleRegistrations w → Holds AreEnding r → Holds (KeepSingle w) r
+ending_holds w (Ok bs) l all = single-all w bs (every-more is_ending is_lasting ending-lasting bs all) l
+ending_holds w (Err s) l all = tt
+
+-- a port that the caller hasn't registered
+registered-single : (w : World) (by : ThreadRow) (b : Birth) → is_registered b by ≡ false → HasThreadsOnce w → CanCall w by → HasSingleRegistrations w → HasSingleRegistrations (basic w (Registers by.number b))
+registered-single w by b off once c l =
+    every-change_to (λ r. registers_once r && (not (is_thread by.number r) || is_new r)) registers_once (is_thread by.number) (registering b) (λ r was same. different-push b r.registrations (new (registers_once r) (is_thread by.number r) (is_new r) same was) (first-true (registers_once r) _ was)) (λ r was other. first-true (registers_once r) _ was) w.threads
+    (every-both registers_once (λ r. not (is_thread by.number r) || is_new r) (λ r. registers_once r && (not (is_thread by.number r) || is_new r)) (λ r one two. both (registers_once r) _ one two) w.threads l
+    (lone (is_thread by.number) is_new (is_live_thread by.number) w.threads by (once by.number) c.lives (first-true (is_thread by.number by) by.live (first-passes (is_live_thread by.number) w.threads by c.lives)) (none-same b by.registrations off)))
+  where
+    is_new : ThreadRow → Bool
+    is_new r = every (λ c. not (same_birth b c)) r.registrations
+
+    both : (x y : Bool) → x ≡ true → y ≡ true → (x && y) ≡ true
+    both x y one two = grind arith
+
+    new : (l n f : Bool) → n ≡ true → (l && (not n || f)) ≡ true → f ≡ true
+    new l n f same is = grind arith
+
+service-single : (w : World) (by : ThreadRow) (call : ScriptCall) → HasThreadsOnce w → CanCall w by → HasSingleRegistrations w → Holds (KeepSingle w) (service_of w by call)
+service-single w by (terminate_thread target code) once c l = ending_holds w _ l (thread-ending w by target code)
+service-single w by (terminate_process target code) once c l = ending_holds w _ l (process-ending w by target code)
+service-single w by (register_thread_terminate_port handle) once c l = register_holds (KeepSingle w) w by handle (λ b new same. at b new same)
+  where
+    off : (r : Bool) → true ≡ not r → r ≡ false
+    off r is = grind arith
+
+    at : (b : Birth) (new : Bool) → new ≡ not (is_registered b by) → HasSingleRegistrations (world_after w (when new (Registers by.number b ∷ [])))
+    at b true same = registered-single w by b (off (is_registered b by) same) once c l
+    at b false same = l
+service-single w by call once c l = undying_holds w _ l (service-undying w by call refl)
+
+ready-single : (w : World) (by : ThreadRow) (call : ScriptCall) (o : Option WaitRow) → (o ≡ None → CanCall w by) → HasThreadsOnce w → HasSingleRegistrations w → KeepSingle w (ready_steps by call o w)
+ready-single w by call (Some x) c once l = l
+ready-single w by call None c once l = settled_holds (KeepSingle w) by (name_of_call call) (service_of w by call) (service-single w by call once (c refl) l) (λ _ _. l)
+
+thread-single : (w : World) (tid : ℕ) (call : ScriptCall) (o : Option ThreadRow) → live_thread w tid ≡ o → IsSoundWorld w → HasThreadsOnce w → HasSingleRegistrations w → KeepSingle w (thread_steps tid call o w)
+thread-single w tid call None live s once l = l
+thread-single w tid call (Some by) live s once l = ready-single w by call (wait_of w tid) (λ idle. can-call w tid by live idle s) once l
+
+-- Directives
+abbrev AreLasting : List Basic → Type 0
+AreLasting bs = every is_lasting bs ≡ true
+
+lasting_holds : (w : World) (r : Result (List Basic) Status) → HasSingleRegistrations w → Holds AreLasting r → Holds (KeepSingle w) r
+lasting_holds w (Ok bs) l all = single-all w bs all l
+lasting_holds w (Err s) l all = tt
+
+boot-lasting : (w : World) (pid tid : ℕ) → Holds AreLasting (boot_line w pid tid)
+unfolding boot_line
+boot-lasting w pid tid = bind_holds (unused_test w pid tid) _ AreLasting (λ _ _. refl)
+
+further-lasting : (w : World) (tid pid : ℕ) → Holds AreLasting (thread_line w tid pid)
+unfolding thread_line
+further-lasting w tid pid = bind_holds (thread_test w tid pid) _ AreLasting (λ _ _. refl)
+
+dir-lasting : (w : World) (text : List ℕ) → Holds AreLasting (dir_line w text)
+unfolding dir_line
+dir-lasting w text = bind_holds (free_name w text) _ AreLasting (λ path _. refl)
+
+link-lasting : (w : World) (text target : List ℕ) → Holds AreLasting (link_line w text target)
+unfolding link_line
+link-lasting w text target =
+    bind_holds (spelled_name target) _ AreLasting (λ to _.
+    bind_holds (free_name w text) _ AreLasting (λ path _. refl))
+
+-- Lines
+line-single : (w : World) (line : ScriptLine) → IsSoundWorld w → HasThreadsOnce w → HasSingleRegistrations w → KeepSingle w (bare_steps line w)
+unfolding bare_steps
+line-single w (boot pid tid) s once l = directed_holds (KeepSingle w) word.Boot (boot_line w pid tid) (lasting_holds w (boot_line w pid tid) l (boot-lasting w pid tid)) (λ _. l)
+line-single w (thread tid pid) s once l = directed_holds (KeepSingle w) word.Thread (thread_line w tid pid) (lasting_holds w (thread_line w tid pid) l (further-lasting w tid pid)) (λ _. l)
+line-single w (dir path) s once l = directed_holds (KeepSingle w) word.Dir (dir_line w path) (lasting_holds w (dir_line w path) l (dir-lasting w path)) (λ _. l)
+line-single w (link path target) s once l = directed_holds (KeepSingle w) word.Link (link_line w path target) (lasting_holds w (link_line w path target) l (link-lasting w path target)) (λ _. l)
+line-single w (run tid call) s once l = thread-single w tid call (live_thread w tid) refl s once l
+
+frees-lasting : (os : List ObjectName) → AreLasting (map Frees os)
+frees-lasting [] = refl
+frees-lasting (o ∷ os) = frees-lasting os
+
+sweep-lasting : (w : World) → AreLasting (sweep w)
+unfolding sweep
+sweep-lasting w =
+    let v = world_after w (free_unheld w) in
+    every-append is_lasting (free_unheld w) (free_unheld v) (frees-lasting (unheld w)) (frees-lasting (unheld v))
+
+-- the step of a line leaves each port registered once with a thread
+pub single_step : (w : World) (line : ScriptLine) → IsSoundWorld w → HasThreadsOnce w → HasSingleRegistrations w → HasSingleRegistrations (step w line).world
+single_step w line s once l =
+    let bs = bare_steps line w in
+    let v = world_after w bs in
+    rw (after-append w bs (sweep v)) (single-all v (sweep v) (sweep-lasting v) (line-single w line s once l))

@@ -1,0 +1,170 @@
+-- A thread number has one row at most, behind each line.
+use Rattle.std.proofs.Common.{◌≡◌, ℕ, ◌+◌, ◌≤◌, List, [], ◌∷◌, ◌++◌, Bool, true, false, cond, map, not, Option, Some, None, refl, subst, arith}
+use Rattle.std.specs.Prelude.{◌||◌, Result, Ok, Err}
+use Rattle.std.proofs.lemmas.Bool.{eqb-true}
+use Rattle.lpc_base.specs.Rows.{change, count, every, has, when}
+use Rattle.lpc_base.specs.declared.status.Status.{Status}
+use Rattle.lpc_base.specs.declared.status.TheConstants.{OBJECT_NAME_COLLISION}
+use Rattle.lpc_base.proofs.RowWords.{count-none, count-push, every-append, every-more}
+use Rattle.lpc_model.specs.declared.entry.Word.TheVariants as word
+use Rattle.lpc_model.specs.World.{Birth, ObjectKind, ObjectName, ThreadRow, WaitRow, World}
+use Rattle.lpc_model.specs.declared.entry.ObjectKind.TheVariants as kind
+use Rattle.lpc_model.specs.Found.{is_live, is_thread, live_thread, same_birth, wait_of, was_process, was_thread}
+use Rattle.lpc_model.specs.Basics.{AddsThread, Basic, Dies, DrawsIdentifier, DrawsOrdinal, Frees, Registers, Unregisters, basic, ended, freed, past_identifier, past_ordinal, registering, unregistering, world_after}
+use Rattle.lpc_model.specs.Named.{free_name, spelled_name}
+use Rattle.lpc_model.specs.Sweep.{free_unheld, sweep, unheld}
+use Rattle.lpc_model.specs.Lines.{ScriptCall, ScriptLine, boot, dir, link, register_thread_terminate_port, run, terminate_process, terminate_thread, thread}
+use Rattle.lpc_model.specs.Machine.{bare_steps, boot_line, dir_line, link_line, name_of_call, new_thread, directive_birth, ready_steps, service_of, step, thread_line, thread_steps, thread_test, unused_test}
+use Rattle.lpc_model.specs.Lawful.{HasThreadsOnce}
+use Rattle.lpc_model.specs.SoundWaits.{IsSoundWorld}
+use Rattle.lpc_model.proofs.Holding.{Holds, bind_holds, directed_holds, holds_ok, not_refused, settled_holds}
+use Rattle.lpc_model.proofs.Rows.{count-change, count-less, has-off}
+use Rattle.lpc_model.proofs.SoundQueues.{after-append}
+use Rattle.lpc_model.proofs.SoundLines.{tested-further}
+use Rattle.lpc_model.proofs.Undying.{AreUndying, is_undying, register_holds, service-undying}
+use Rattle.lpc_model.proofs.Ending.{AreEnding, is_ending, process-ending, thread-ending}
+
+-- Steps
+-- a step makes no thread
+abbrev is_childless : Basic → Bool
+is_childless (AddsThread t) = false
+is_childless b = true
+
+freed-once : (w : World) (k : ObjectKind) (b : Birth) → HasThreadsOnce w → HasThreadsOnce (freed w k b)
+freed-once w kind.Port b once n = once n
+freed-once w kind.Section b once n = once n
+freed-once w kind.Token b once n = once n
+freed-once w kind.Process b once n = once n
+freed-once w kind.Thread b once n = count-less (is_thread n) (λ t. same_birth t.birth b) w.threads 1 (once n)
+
+changed-once : (w : World) (who : ℕ) (f : ThreadRow → ThreadRow) → ((n : ℕ) (t : ThreadRow) → is_thread n (f t) ≡ is_thread n t) → HasThreadsOnce w → HasThreadsOnce (record w { threads = change (is_thread who) f w.threads })
+changed-once w who f same once n = rw (count-change (is_thread n) (is_thread who) f (same n) w.threads) (once n)
+
+once-step : (w : World) (b : Basic) → is_childless b ≡ true → HasThreadsOnce w → HasThreadsOnce (basic w b)
+once-step w (AddsThread t) is once = absurd (cc)
+once-step w (Dies who status) is once = changed-once w who ended (λ n t. refl) once
+once-step w (Registers who b) is once = changed-once w who (registering b) (λ n t. refl) once
+once-step w (Unregisters who b) is once = changed-once w who (unregistering b) (λ n t. refl) once
+once-step w (DrawsIdentifier who) is once = changed-once w who past_identifier (λ n t. refl) once
+once-step w (DrawsOrdinal who) is once = changed-once w who past_ordinal (λ n t. refl) once
+once-step w (Frees o) is once = freed-once w o.kind o.birth once
+once-step w b is once = once
+
+once-all : (w : World) (bs : List Basic) → every is_childless bs ≡ true → HasThreadsOnce w → HasThreadsOnce (world_after w bs)
+once-all w [] all once = once
+once-all w (b ∷ bs) all once =
+    let here : is_childless b ≡ true = grind arith in
+    let later : every is_childless bs ≡ true = grind arith in
+    once-all (basic w b) bs later (once-step w b here once)
+
+undying-childless : (b : Basic) → is_undying b ≡ true → is_childless b ≡ true
+undying-childless (AddsThread t) is = absurd (cc)
+undying-childless b is = refl
+
+ending-childless : (b : Basic) → is_ending b ≡ true → is_childless b ≡ true
+ending-childless (AddsThread t) is = absurd (cc)
+ending-childless b is = refl
+
+-- Calls
+abbrev KeepOnce : World → List Basic → Type 0
+KeepOnce w bs = HasThreadsOnce (world_after w bs)
+
+undying_holds : (w : World) (r : Result (List Basic) Status) → HasThreadsOnce w → Holds AreUndying r → Holds (KeepOnce w) r
+undying_holds w (Ok bs) once all = once-all w bs (every-more is_undying is_childless undying-childless bs all) once
+undying_holds w (Err s) once all = tt
+
+ending_holds : (w : World) (r : Result (List Basic) Status) → HasThreadsOnce w → Holds AreEnding r → Holds (KeepOnce w) r
+ending_holds w (Ok bs) once all = once-all w bs (every-more is_ending is_childless ending-childless bs all) once
+ending_holds w (Err s) once all = tt
+
+service-once : (w : World) (by : ThreadRow) (call : ScriptCall) → HasThreadsOnce w → Holds (KeepOnce w) (service_of w by call)
+service-once w by (terminate_thread target code) once = ending_holds w _ once (thread-ending w by target code)
+service-once w by (terminate_process target code) once = ending_holds w _ once (process-ending w by target code)
+service-once w by (register_thread_terminate_port handle) once = register_holds (KeepOnce w) w by handle (λ b new _. at b new)
+  where
+    at : (b : Birth) (new : Bool) → HasThreadsOnce (world_after w (when new (Registers by.number b ∷ [])))
+    at b true = once-step w (Registers by.number b) refl once
+    at b false = once
+service-once w by call once = undying_holds w _ once (service-undying w by call refl)
+
+ready-once : (w : World) (by : ThreadRow) (call : ScriptCall) (o : Option WaitRow) → HasThreadsOnce w → KeepOnce w (ready_steps by call o w)
+ready-once w by call (Some x) once = once
+ready-once w by call None once = settled_holds (KeepOnce w) by (name_of_call call) (service_of w by call) (service-once w by call once) (λ _ _. once)
+
+thread-once : (w : World) (tid : ℕ) (call : ScriptCall) (o : Option ThreadRow) → HasThreadsOnce w → KeepOnce w (thread_steps tid call o w)
+thread-once w tid call None once = once
+thread-once w tid call (Some by) once = ready-once w by call (wait_of w tid) once
+
+-- Directives
+-- a thread of a number that was never used
+new-once : (ts : List ThreadRow) (t : ThreadRow) → ((n : ℕ) → count (is_thread n) ts ≤ 1) → has (is_thread t.number) ts ≡ false → (n : ℕ) → count (is_thread n) (ts ++ t ∷ []) ≤ 1
+new-once ts t once none n = at (is_thread n t) refl
+  where
+    sum : (k m : ℕ) (c : Bool) → m ≡ k + cond c 1 0 → k ≤ 1 → (c ≡ true → k ≡ 0) → m ≤ 1
+    sum k m true is few zero = omega (arith, is, zero refl)
+    sum k m false is few zero = omega (arith, is, few)
+
+    at : (c : Bool) → is_thread n t ≡ c → count (is_thread n) (ts ++ t ∷ []) ≤ 1
+    at c is = sum (count (is_thread n) ts) _ (is_thread n t) (count-push (is_thread n) ts t) (once n) (λ same. subst (λ m. count (is_thread m) ts ≡ 0) (eqb-true t.number n same) (count-none (is_thread t.number) ts none))
+
+unused-none : (w : World) (tid : ℕ) → was_thread w tid ≡ false → IsSoundWorld w → has (is_thread tid) w.threads ≡ false
+unused-none w tid off s = has-off (is_thread tid) w.threads (every-more (λ t. was_thread w t.number) (λ t. not (is_thread tid t)) (λ t is. apart t is) w.threads s.numbers)
+  where
+    at : (t : ThreadRow) → was_thread w t.number ≡ true → (c : Bool) → is_thread tid t ≡ c → not c ≡ true
+    at t is true same = let used = subst (λ n. was_thread w n ≡ true) (eqb-true t.number tid same) is in absurd (cc)
+    at t is false same = refl
+
+    apart : (t : ThreadRow) → was_thread w t.number ≡ true → not (is_thread tid t) ≡ true
+    apart t is = at t is (is_thread tid t) refl
+
+boot-once : (w : World) (pid tid : ℕ) → IsSoundWorld w → HasThreadsOnce w → Holds (KeepOnce w) (boot_line w pid tid)
+unfolding boot_line
+boot-once w pid tid s once =
+    bind_holds (unused_test w pid tid) _ (KeepOnce w) (λ u is.
+    let neither = not_refused (was_process w pid || was_thread w tid) OBJECT_NAME_COLLISION u is in
+    new-once w.threads (new_thread tid pid (directive_birth tid)) once (unused-none w tid (second (was_process w pid) (was_thread w tid) neither) s))
+  where
+    second : (a b : Bool) → (a || b) ≡ false → b ≡ false
+    second a b off = grind arith
+
+further-once : (w : World) (tid pid : ℕ) → IsSoundWorld w → HasThreadsOnce w → Holds (KeepOnce w) (thread_line w tid pid)
+unfolding thread_line
+further-once w tid pid s once =
+    bind_holds (thread_test w tid pid) _ (KeepOnce w) (λ u is.
+    let found = holds_ok (λ _. (is_live w pid ≡ true) × (was_thread w tid ≡ false)) (thread_test w tid pid) u (tested-further w tid pid) is in
+    new-once w.threads (new_thread tid pid (directive_birth tid)) once (unused-none w tid found.1 s))
+
+dir-once : (w : World) (text : List ℕ) → HasThreadsOnce w → Holds (KeepOnce w) (dir_line w text)
+unfolding dir_line
+dir-once w text once = bind_holds (free_name w text) _ (KeepOnce w) (λ path _. once)
+
+link-once : (w : World) (text target : List ℕ) → HasThreadsOnce w → Holds (KeepOnce w) (link_line w text target)
+unfolding link_line
+link-once w text target once =
+    bind_holds (spelled_name target) _ (KeepOnce w) (λ to _.
+    bind_holds (free_name w text) _ (KeepOnce w) (λ path _. once))
+
+-- Lines
+line-once : (w : World) (line : ScriptLine) → IsSoundWorld w → HasThreadsOnce w → KeepOnce w (bare_steps line w)
+unfolding bare_steps
+line-once w (boot pid tid) s once = directed_holds (KeepOnce w) word.Boot (boot_line w pid tid) (boot-once w pid tid s once) (λ _. once)
+line-once w (thread tid pid) s once = directed_holds (KeepOnce w) word.Thread (thread_line w tid pid) (further-once w tid pid s once) (λ _. once)
+line-once w (dir path) s once = directed_holds (KeepOnce w) word.Dir (dir_line w path) (dir-once w path once) (λ _. once)
+line-once w (link path target) s once = directed_holds (KeepOnce w) word.Link (link_line w path target) (link-once w path target once) (λ _. once)
+line-once w (run tid call) s once = thread-once w tid call (live_thread w tid) once
+
+frees-childless : (os : List ObjectName) → every is_childless (map Frees os) ≡ true
+frees-childless [] = refl
+frees-childless (o ∷ os) = frees-childless os
+
+sweep-childless : (w : World) → every is_childless (sweep w) ≡ true
+unfolding sweep
+sweep-childless w =
+    let v = world_after w (free_unheld w) in
+    every-append is_childless (free_unheld w) (free_unheld v) (frees-childless (unheld w)) (frees-childless (unheld v))
+
+pub once_step : (w : World) (line : ScriptLine) → IsSoundWorld w → HasThreadsOnce w → HasThreadsOnce (step w line).world
+once_step w line s once =
+    let bs = bare_steps line w in
+    let v = world_after w bs in
+    rw (after-append w bs (sweep v)) (once-all v (sweep v) (sweep-childless v) (line-once w line s once))

@@ -1,0 +1,5 @@
+use Rattle.lpc_model.proofs.AccountedRuns.{messages-accounted}
+use Rattle.lpc_model.proofs.laws.law_messages_are_accounted_for.Goals as goal
+
+pub returns : goal.returns
+returns c = record { runs = messages-accounted }

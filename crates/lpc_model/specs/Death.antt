@@ -1,0 +1,110 @@
+-- Endings: threads end, and a process with its last one.
+use Rattle.std.specs.Prelude.{ℕ, Bool, List, [], ◌∷◌, ◌==◌, not, Option, None, Some, option_and_then, option_map, Result, Ok}
+use Rattle.lpc_base.specs.Rows.{first, given, when}
+use Rattle.lpc_base.specs.declared.status.Status.{Status}
+use Rattle.lpc_base.specs.declared.status.TheConstants.{INVALID_CID, INVALID_HANDLE, SUCCESS}
+use Rattle.lpc_message.specs.declared.kind.TheConstants.{CLIENT_DIED}
+use Rattle.lpc_model.specs.declared.entry.CallName.{CallName}
+use Rattle.lpc_model.specs.declared.entry.CallName.TheVariants.{NtTerminateProcess, NtTerminateThread}
+use Rattle.lpc_model.specs.declared.entry.Entry.TheVariants.{Answer}
+use Rattle.lpc_model.specs.declared.entry.ObjectKind.TheVariants as kind
+use Rattle.lpc_model.specs.declared.line.ProcArg.TheVariants.{By, Current}
+use Rattle.lpc_model.specs.Refusal.{found_or, refuse_if}
+use Rattle.lpc_model.specs.Then.{◌>>=◌}
+use Rattle.lpc_model.specs.World.{Birth, Message, MessageRow, ThreadRow, WaitRow, World}
+use Rattle.lpc_model.specs.Message.{made}
+use Rattle.lpc_model.specs.Found.{handles_of, is_accepted, is_live, live_threads, port_row, route, same_birth, wait_of}
+use Rattle.lpc_model.specs.Basics.{Basic, Dies, Steps, Tells, Unregisters, Withdraws, doing, in_turn, provided, ◌▹◌}
+use Rattle.lpc_model.specs.Entering.{enter, row_of}
+use Rattle.lpc_model.specs.Tests.{client_of, live_test, object_test}
+use Rattle.lpc_model.specs.Close.{birth_bytes, close_handle, cut_pair}
+use Rattle.lpc_model.specs.Lines.{ProcArg}
+
+-- Ending threads
+-- the client port of a connect that was accepted is cut off from its other end
+abbrev pub cut_accepted : Option WaitRow → Steps
+cut_accepted None = doing []
+cut_accepted (Some x) = provided (λ w. is_accepted x) (cut_pair x.port)
+
+-- 1: a thread ends with its wait; its own message leaves its queue, where it still stands there
+abbrev pub die : Status → ThreadRow → Steps
+die code t w = (doing (Dies t.number code ∷ Withdraws t.number ∷ []) ▹ cut_accepted (wait_of w t.number)) w
+
+-- 2: that a thread has ended is posted on each port that it registered, where that is open and has a way: a message in the
+-- thread's name, whose data name it by its birth
+abbrev pub died_message : ThreadRow → Message
+died_message t = made CLIENT_DIED (client_of t) 0 (birth_bytes t.birth)
+
+abbrev pub told_death : World → ThreadRow → Birth → Option MessageRow
+told_death w t b =
+    option_and_then (λ p. option_map (λ queue. row_of queue p (died_message t)) (route w p)) (port_row w b)
+
+-- the registration goes, and then the message enters
+abbrev pub post_death : ThreadRow → Birth → Steps
+post_death t b =
+    doing (Unregisters t.number b ∷ []) ▹ (λ w. given (told_death w t b) (λ m. enter m w))
+
+abbrev pub post_deaths : ThreadRow → Steps
+post_deaths t = in_turn (post_death t) t.registrations
+
+-- Ending a process
+-- its handles are closed by rising value, in the world that its threads left
+abbrev pub end_process : ℕ → Steps
+end_process pid w = in_turn (close_handle pid) (handles_of w pid) w
+
+-- threads of a process end: all of them with their waits, then they are told of, and then the process ends with its last one
+unfoldable pub end_threads : ℕ → Status → List ThreadRow → Steps
+end_threads pid code threads =
+    in_turn (die code) threads
+    ▹ in_turn post_deaths threads
+    ▹ provided (λ w. not (is_live w pid)) (end_process pid)
+
+-- What a call is to end
+-- the right that ending a thread or a process wants
+abbrev pub END_RIGHT : ℕ
+END_RIGHT = 1
+
+-- the caller, or the thread that a handle names
+abbrev pub thread_target : World → ThreadRow → ProcArg → Result ThreadRow Status
+thread_target w by Current = Ok by
+thread_target w by (By handle) = do
+  birth ← object_test w by kind.Thread END_RIGHT handle
+  found_or (first (λ t. same_birth t.birth birth) w.threads) INVALID_HANDLE
+
+-- the caller's process, or the one that a handle names
+abbrev pub process_target : World → ThreadRow → ProcArg → Result ℕ Status
+process_target w by Current = Ok by.process
+process_target w by (By handle) = do
+  birth ← object_test w by kind.Process END_RIGHT handle
+  p ← found_or (first (λ p. same_birth p.birth birth) w.processes) INVALID_HANDLE
+  Ok p.number
+
+-- a call that ends its own thread has no answer
+abbrev pub answer_unless : Bool → ThreadRow → CallName → List Basic
+answer_unless ends by call = when (not ends) (Tells (Answer by.number call SUCCESS []) ∷ [])
+
+-- the status with which what a call names is to end
+abbrev pub code_status : ℕ → Status
+code_status code = record { 0 = code }
+
+-- NtTerminateThread: the handle, a thread that has ended
+abbrev pub terminate_thread_steps : ThreadRow → Status → ThreadRow → Steps
+terminate_thread_steps by code t =
+    doing (answer_unless (t.number == by.number) by NtTerminateThread) ▹ end_threads t.process code (t ∷ [])
+
+unfoldable pub nt_terminate_thread : World → ThreadRow → ProcArg → ℕ → Result (List Basic) Status
+nt_terminate_thread w by target code = do
+  t ← thread_target w by target
+  _ ← refuse_if (not t.live) INVALID_CID
+  Ok (terminate_thread_steps by (code_status code) t w)
+
+-- NtTerminateProcess: the handle, a process that has ended
+abbrev pub terminate_process_steps : World → ThreadRow → Status → ℕ → Steps
+terminate_process_steps w by code pid =
+    doing (answer_unless (pid == by.process) by NtTerminateProcess) ▹ end_threads pid code (live_threads w pid)
+
+unfoldable pub nt_terminate_process : World → ThreadRow → ProcArg → ℕ → Result (List Basic) Status
+nt_terminate_process w by target code = do
+  pid ← process_target w by target
+  _ ← live_test w pid
+  Ok (terminate_process_steps w by (code_status code) pid w)

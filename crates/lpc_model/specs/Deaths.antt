@@ -1,0 +1,91 @@
+-- What is told of threads that end: each port that such a thread registered is told once, where it is open and has a way.
+use Rattle.std.specs.Prelude.{◌≡◌, ℕ, ◌==◌, ◌&&◌, ◌||◌, ◌++◌, Bool, true, List, [], ◌∷◌, length, map, not}
+use Rattle.std.specs.List.{AllByRecursion}
+use Rattle.lpc_base.specs.Rows.{each, every, first, given, which}
+use Rattle.lpc_message.specs.declared.kind.TheConstants.{CLIENT_DIED}
+use Rattle.lpc_model.specs.World.{Birth, MessageRow, ThreadRow, World}
+use Rattle.lpc_model.specs.Found.{is_thread, live_thread, same_birth}
+use Rattle.lpc_model.specs.Basics.{Basic, Dies, Unregisters, basic, posts_of}
+use Rattle.lpc_model.specs.Death.{told_death}
+use Rattle.lpc_model.specs.Lines.{ScriptLine}
+use Rattle.lpc_model.specs.Machine.{steps}
+use Rattle.lpc_model.specs.Run.{Along, first_state, run_of, said_in}
+
+-- a message that tells of a thread's end
+abbrev pub is_died_post : MessageRow → Bool
+is_died_post m = m.message.header.kind == CLIENT_DIED
+
+-- a registration: the thread, and the port
+pub record Registration : Type 0 where
+  pub thread : ℕ
+  pub port : Birth
+
+abbrev pub registration : ℕ → Birth → Registration
+registration who b = record { thread = who; port = b }
+
+abbrev pub registrations_of : ThreadRow → List Registration
+registrations_of t = map (registration t.number) t.registrations
+
+-- the registrations of the live threads that end by some steps, thread by thread, in the order in which they were made
+abbrev pub ends : World → Basic → List Registration
+ends w (Dies who status) = given (live_thread w who) registrations_of
+ends w b = []
+
+abbrev pub endings : World → List Basic → List Registration
+endings w [] = []
+endings w (b ∷ bs) = ends w b ++ endings (basic w b) bs
+
+-- the registrations that go by a step
+abbrev pub leaves : Basic → List Registration
+leaves (Unregisters who b) = registration who b ∷ []
+leaves b = []
+
+-- what is told of a registration that goes, as the world is then: one message to the port's route, where the port is open and
+-- has one, sent on that port in the name of the thread, whose data are the thread's birth
+abbrev pub tells_end : World → Basic → List MessageRow
+tells_end w (Unregisters who b) =
+    given (first (is_thread who) w.threads) (λ t. given (told_death w t b) (λ m. m ∷ []))
+tells_end w b = []
+
+abbrev pub told_endings : World → List Basic → List MessageRow
+told_endings w [] = []
+told_endings w (b ∷ bs) = tells_end w b ++ told_endings (basic w b) bs
+
+-- The messages that tell of ends are those of the registrations that go, and these are the ones of the threads that end.
+pub record TellsDeaths (w : World) (bs : List Basic) : Type 0 where
+  pub told : which is_died_post (posts_of bs) ≡ told_endings w bs
+  pub registrations : each leaves bs ≡ endings w bs
+
+-- the steps of a line tell so
+abbrev pub DeathsAreTold : World → ScriptLine → Type 0
+DeathsAreTold w line = TellsDeaths w (steps line w)
+
+-- each line of a script tells so
+abbrev pub RunTellsDeaths : List ℕ → Type 0
+RunTellsDeaths bytes = Along DeathsAreTold first_state (said_in bytes)
+
+-- Registrations are of live threads alone: one that has ended has none
+abbrev pub has_living_registrations : ThreadRow → Bool
+has_living_registrations t = t.live || (length t.registrations == 0)
+
+abbrev pub HasLivingRegistrations : World → Type 0
+HasLivingRegistrations w = every has_living_registrations w.threads ≡ true
+
+-- so behind each line of a script
+abbrev pub RunHasLivingRegistrations : List ℕ → Type 0
+RunHasLivingRegistrations bytes = AllByRecursion (λ s. HasLivingRegistrations s.world) (run_of bytes)
+
+-- No port is registered twice with one thread
+abbrev pub are_different : List Birth → Bool
+are_different [] = true
+are_different (b ∷ bs) = every (λ c. not (same_birth c b)) bs && are_different bs
+
+abbrev pub registers_once : ThreadRow → Bool
+registers_once t = are_different t.registrations
+
+abbrev pub HasSingleRegistrations : World → Type 0
+HasSingleRegistrations w = every registers_once w.threads ≡ true
+
+-- so behind each line of a script
+abbrev pub RunHasSingleRegistrations : List ℕ → Type 0
+RunHasSingleRegistrations bytes = AllByRecursion (λ s. HasSingleRegistrations s.world) (run_of bytes)

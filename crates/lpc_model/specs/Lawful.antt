@@ -1,0 +1,38 @@
+-- What each line of a script keeps of the world.
+use Rattle.std.specs.Prelude.{ℕ, ◌≤◌}
+use Rattle.lpc_base.specs.Rows.{count}
+use Rattle.lpc_model.specs.World.{World}
+use Rattle.lpc_model.specs.Found.{is_thread}
+use Rattle.lpc_model.specs.Deaths.{HasLivingRegistrations, HasSingleRegistrations}
+use Rattle.lpc_model.specs.Left.{HasKeptPairs, HasLivingHandles}
+use Rattle.lpc_model.specs.Lines.{ScriptLine}
+use Rattle.lpc_model.specs.Linked.{HasHeldRows, IsLinked}
+use Rattle.lpc_model.specs.Machine.{step}
+use Rattle.lpc_model.specs.OpenQueues.{HasOpenQueues}
+use Rattle.lpc_model.specs.SoundWaits.{IsSoundWorld}
+use Rattle.lpc_model.specs.Standing.{NamesWhatStands}
+use Rattle.lpc_model.specs.Untold.{IsUntold}
+
+-- a thread number has one row at most
+abbrev pub HasThreadsOnce : World → Type 0
+HasThreadsOnce w = (n : ℕ) → count (is_thread n) w.threads ≤ 1
+
+-- Waits are sound, ports are linked, some row counts for each object, queues are open, what rows name stands, and of an open
+-- port no message tells that it is closed. A thread has one row, an ended one has no registrations, and no port is registered
+-- twice. Only living processes have handles, and of the two ports of a connection one at least is open.
+pub record IsLawfulWorld (w : World) : Type 0 where
+  pub sound : IsSoundWorld w
+  pub linked : IsLinked w
+  pub held : HasHeldRows w
+  pub queues : HasOpenQueues w
+  pub names : NamesWhatStands w
+  pub untold : IsUntold w
+  pub threads : HasThreadsOnce w
+  pub registrations : HasLivingRegistrations w
+  pub single : HasSingleRegistrations w
+  pub living : HasLivingHandles w
+  pub pairs : HasKeptPairs w
+
+-- the step of each line keeps that
+abbrev pub StepsKeepLaws : Type 0
+StepsKeepLaws = (w : World) (line : ScriptLine) → IsLawfulWorld w → IsLawfulWorld (step w line).world
