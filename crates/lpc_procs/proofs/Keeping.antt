@@ -1,17 +1,23 @@
 -- What the changes of rows keep.
-use Rattle.std.proofs.Common.{◌≡◌, ℕ, List, [], ◌∷◌, ◌++◌, Bool, true, false, refl, ap, arith}
-use Rattle.std.specs.Prelude.{Option, Some, None, is_some, IfSome, option_map, ◌==◌}
+use Rattle.std.proofs.Common.{◌≡◌, ℕ, List, [], ◌∷◌, ◌++◌, Bool, true, false, get_or, set, ◌<◌, refl, ap, ◌∙◌, arith}
+use Rattle.std.specs.List.{position}
+use Rattle.std.specs.Prelude.{Option, Some, None, is_some, IfSome, option_map, nat_lt, ◌==◌}
 use Rattle.std.proofs.lemmas.Bool.Decides.{nat_tests}
 use Rattle.lpc_base.specs.Rows.{change, every, first, has, without}
-use Rattle.lpc_base.proofs.Differ.{differ-change, differ-push, differ-without, rest-none}
-use Rattle.lpc_base.proofs.RowWords.{change-none, every-change, every-more, every-push, every-without, first-kept, first-push}
+use Rattle.lpc_base.proofs.Differ.{IsRowAt, differ-change, differ-push, differ-without, row-at, set-change}
+use Rattle.lpc_base.proofs.RowWords.{every-change, every-more, every-push, every-without, first-kept, first-push}
+use Rattle.arrayvec.specs.ArrayVec.{ArrayVec}
+use Rattle.lpc_procs.specs.declared.rows.Registration.{Registration}
 use Rattle.lpc_procs.specs.declared.rows.ThreadRow.{ThreadRow}
 use Rattle.lpc_procs.specs.declared.rows.UsedThread.{UsedThread}
-use Rattle.lpc_procs.specs.Kept.{are_single, is_noted, is_of, IsKept}
-use Rattle.lpc_procs.specs.Procs.{ended, is_thread, is_used_thread, past_birth, past_identifier}
+use Rattle.lpc_procs.specs.Kept.{are_single, is_below, is_noted, is_of, IsKept}
+use Rattle.lpc_procs.specs.Procs.{is_thread, is_used_thread}
 
 same-number : (a b : ℕ) → (a == b) ≡ true → a ≡ b
 same-number a b is = grind (arith, nat_tests)
+
+below-limit : (n limit : ℕ) → n < limit → nat_lt n limit ≡ true
+below-limit n limit within = grind (arith, nat_tests)
 
 noted-push : (used : List UsedThread) (u : UsedThread) (t : ThreadRow) (o : Option UsedThread) → first (is_used_thread t.number) used ≡ o → is_of t.process o ≡ true → is_noted (used ++ u ∷ []) t ≡ true
 noted-push used u t None is of = cc
@@ -33,22 +39,27 @@ unused-absent tid used (t ∷ ts) new noted = step (t.number == tid) t refl (gri
         absent (Some u) a b = cc
 
 pub kept-none : IsKept [] []
-kept-none = record { noted = refl; single = refl }
+kept-none = record { noted = refl; single = refl; low = refl }
 
-pub kept-push : (ts : List ThreadRow) (used : List UsedThread) (t : ThreadRow) → IsKept ts used → has (is_used_thread t.number) used ≡ false → IsKept (ts ++ t ∷ []) (used ++ (record { number = t.number; process = t.process }) ∷ [])
-kept-push ts used t kept new =
+pub kept-push : (ts : List ThreadRow) (used : List UsedThread) (t : ThreadRow) → IsKept ts used → t.number < 2147483648 → has (is_used_thread t.number) used ≡ false → IsKept (ts ++ t ∷ []) (used ++ (record { number = t.number; process = t.process }) ∷ [])
+kept-push ts used t kept within new =
     let u : UsedThread = record { number = t.number; process = t.process } in
     let here : is_noted (used ++ u ∷ []) t ≡ true = rw (first-push (is_used_thread t.number) used u new (grind (arith, nat_tests))) (grind (arith, nat_tests)) in
     record {
       noted = every-push (is_noted (used ++ u ∷ [])) ts t (every-more (is_noted used) (is_noted (used ++ u ∷ [])) (λ x h. noted-push used u x (first (is_used_thread x.number) used) refl h) ts kept.noted) here;
       single = differ-push (λ (x : ThreadRow). x.number) ts t kept.single (unused-absent t.number used ts new kept.noted);
+      low = every-push (is_below 2147483648) ts t kept.low (below-limit t.number 2147483648 within);
     }
 
 pub kept-without : (test : ThreadRow → Bool) (ts : List ThreadRow) (used : List UsedThread) → IsKept ts used → IsKept (without test ts) used
 kept-without test ts used kept = record {
   noted = every-without (is_noted used) test ts kept.noted;
   single = differ-without (λ (x : ThreadRow). x.number) test ts kept.single;
+  low = every-without (is_below 2147483648) test ts kept.low;
 }
+
+abbrev number : ThreadRow → ℕ
+number t = t.number
 
 -- a change that keeps numbers
 pub record KeepsNumbers (f : ThreadRow → ThreadRow) : Type 0 where
@@ -62,31 +73,25 @@ pub kept-change : (test : ThreadRow → Bool) (f : ThreadRow → ThreadRow) (ts 
 kept-change test f ts used keeps kept = record {
   noted = every-change (is_noted used) test f (noted-same used f keeps) ts kept.noted;
   single = differ-change (λ (x : ThreadRow). x.number) test f keeps.number ts kept.single;
+  low = every-change (is_below 2147483648) test f (λ t h. ap (λ n. nat_lt n 2147483648) (keeps.number t) ∙ h) ts kept.low;
 }
 
--- a row that is put in the place of the one thread of its number
-pub put-changed : (tid : ℕ) (f : ThreadRow → ThreadRow) (ts : List ThreadRow) (row : ThreadRow) → are_single ts ≡ true → first (is_thread tid) ts ≡ Some row → change (is_thread tid) (λ _. f row) ts ≡ change (is_thread tid) f ts
-put-changed tid f [] row single is = refl
-put-changed tid f (x ∷ ts) row single is = step (x.number == tid) refl (λ is'. put-changed tid f ts row (grind arith) is')
-  where
-    step : (b : Bool) → (x.number == tid) ≡ b → (first (is_thread tid) ts ≡ Some row → change (is_thread tid) (λ _. f row) ts ≡ change (is_thread tid) f ts) → change (is_thread tid) (λ _. f row) (x ∷ ts) ≡ change (is_thread tid) f (x ∷ ts)
-    step false off next = grind (arith, off, next, is)
-    step true on next =
-        let e : x.number ≡ tid = same-number x.number tid on in
-        let none = rest-none (λ (t : ThreadRow). t.number) x ts tid single e in
-        grind (arith, on, is, change-none (is_thread tid) (λ _. f row) ts, change-none (is_thread tid) f ts)
+-- the row of a thread at the place where it was found
+pub row_is : (ts : List ThreadRow) (i tid : ℕ) (row : ThreadRow) → position (is_thread tid) ts ≡ Some i → row ≡ get_or ts i row → IsRowAt number ts tid i row
+row_is ts i tid row = row-at number ts tid i row
 
-pub put-kept : (tid : ℕ) (f : ThreadRow → ThreadRow) (ts : List ThreadRow) (used : List UsedThread) (row : ThreadRow) → KeepsNumbers f → IsKept ts used → first (is_thread tid) ts ≡ Some row → IsKept (change (is_thread tid) (λ _. f row) ts) used
-put-kept tid f ts used row keeps kept is = rw (put-changed tid f ts row kept.single is) (kept-change (is_thread tid) f ts used keeps kept)
+-- the change of the row that was found
+pub changed_at : (f : ThreadRow → ThreadRow) (ts : List ThreadRow) (i tid : ℕ) (row : ThreadRow) → are_single ts ≡ true → position (is_thread tid) ts ≡ Some i → row ≡ get_or ts i row → set ts i (f row) ≡ change (is_thread tid) f ts
+changed_at f ts i tid row single is read =
+    let found = row_is ts i tid row is read in
+    set-change number f ts i tid row single found.here found.own
 
-pub keeps-identifier : KeepsNumbers past_identifier
-keeps-identifier = record { number = λ t. refl; process = λ t. refl }
+pub kept-at : (f : ThreadRow → ThreadRow) (ts : List ThreadRow) (used : List UsedThread) (i tid : ℕ) (row : ThreadRow) → KeepsNumbers f → IsKept ts used → position (is_thread tid) ts ≡ Some i → row ≡ get_or ts i row → IsKept (set ts i (f row)) used
+kept-at f ts used i tid row keeps kept is read = rw (changed_at f ts i tid row kept.single is read) (kept-change (is_thread tid) f ts used keeps kept)
 
-pub keeps-birth : KeepsNumbers past_birth
-keeps-birth = record { number = λ t. refl; process = λ t. refl }
-
-pub keeps-ended : KeepsNumbers ended
-keeps-ended = record { number = λ t. refl; process = λ t. refl }
+-- the registrations of a row, changed
+pub registered-as : (t : ThreadRow) (v : ArrayVec Registration) (rs : List Registration) → v.items ≡ rs → record t { registered = v } ≡ record t { registered = record { items = rs } }
+registered-as t v rs are i = record t { registered = record { items = are i } }
 
 -- the process of a thread is the one that is noted
 pub process-noted : (tid : ℕ) (used : List UsedThread) (ts : List ThreadRow) (o : Option ThreadRow) → every (is_noted used) ts ≡ true → first (is_thread tid) ts ≡ o → IfSome o (λ t. option_map (λ u. u.process) (first (is_used_thread tid) used) ≡ Some t.process)

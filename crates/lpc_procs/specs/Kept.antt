@@ -1,5 +1,5 @@
 -- What the table keeps of its rows and numbers.
-use Rattle.std.specs.Prelude.{ℕ, ◌≡◌, ◌==◌, Bool, true, false, List, Option, Some, None}
+use Rattle.std.specs.Prelude.{ℕ, ◌≡◌, ◌==◌, Bool, true, false, nat_lt, List, Option, Some, None}
 use Rattle.lpc_base.specs.Rows.{differ_by, every, first}
 use Rattle.lpc_procs.specs.declared.rows.ThreadRow.{ThreadRow}
 use Rattle.lpc_procs.specs.declared.rows.UsedThread.{UsedThread}
@@ -18,7 +18,12 @@ is_noted used t = is_of t.process (first (is_used_thread t.number) used)
 abbrev pub are_single : List ThreadRow → Bool
 are_single threads = differ_by (λ t. t.number) threads
 
--- each thread's number is noted, and no two threads have one
+-- a thread's number is below a limit
+abbrev pub is_below : ℕ → ThreadRow → Bool
+is_below n t = nat_lt t.number n
+
+-- each thread's number is noted and below the limit of numbers, and no two threads have one
 pub record IsKept (threads : List ThreadRow) (used : List UsedThread) : Type 0 where
   pub noted : every (is_noted used) threads ≡ true
   pub single : are_single threads ≡ true
+  pub low : every (is_below 2147483648) threads ≡ true

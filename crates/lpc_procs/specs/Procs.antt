@@ -1,11 +1,14 @@
 -- What contracts see of processes and threads.
-use Rattle.std.specs.Prelude.{ℕ, ◌+◌, ◌-◌, ◌^◌, ◌<◌, ◌≤◌, ◌==◌, ◌&&◌, Bool, false, List, [], length, max, option_map, Option}
-use Rattle.lpc_base.specs.Rows.{change, first, has, without}
+use Rattle.std.specs.Prelude.{ℕ, ◌+◌, ◌-◌, ◌^◌, ◌<◌, ◌≤◌, ◌==◌, ◌&&◌, ◌++◌, ◌∷◌, Bool, false, List, [], is_some, length, max, not, option_and_then, option_map, Option, slice_get}
+use Rattle.lpc_base.specs.Rows.{change, each, first, has, when, without}
 use Rattle.lpc_base.specs.declared.birth.Birth.{Birth}
+use Rattle.lpc_base.specs.declared.limits.TheConstants.{REGISTRATION_LIMIT}
 use Rattle.lpc_message.specs.declared.message.ClientId.{ClientId}
+use Rattle.lpc_slots.specs.declared.Key.{Key}
 use Rattle.lpc_procs.specs.declared.rows.Number.{Number}
 use Rattle.lpc_procs.specs.declared.rows.Number.TheVariants as number
 use Rattle.lpc_procs.specs.declared.rows.ProcessRow.{ProcessRow}
+use Rattle.lpc_procs.specs.declared.rows.Registration.{Registration}
 use Rattle.lpc_procs.specs.declared.rows.ThreadRow.{ThreadRow}
 use Rattle.lpc_procs.specs.declared.rows.UsedThread.{UsedThread}
 
@@ -63,6 +66,77 @@ is_live_thread tid t = (t.number == tid) && t.live
 -- a thread is live and has the numbers of a client, its process's and its own
 abbrev pub is_live_client : ClientId → ThreadRow → Bool
 is_live_client client t = (t.number == client.thread) && ((t.process == client.process) && t.live)
+
+-- a thread is of the process, live or ended; no thread is of it
+abbrev pub is_in : ℕ → ThreadRow → Bool
+is_in pid t = t.process == pid
+
+abbrev pub lacks_threads : List ThreadRow → ProcessRow → Bool
+lacks_threads threads p = not (has (is_in p.number) threads)
+
+-- a thread has ended
+abbrev pub has_ended : ThreadRow → Bool
+has_ended t = not t.live
+
+-- the number of the first thread that passes, and of the first process that does
+abbrev pub first_thread : (ThreadRow → Bool) → Table → Option ℕ
+first_thread test s = option_map (λ t. t.number) (first test s.threads)
+
+abbrev pub first_process : (ProcessRow → Bool) → Table → Option ℕ
+first_process test s = option_map (λ p. p.number) (first test s.processes)
+
+-- Registrations
+-- the registration of a port that was made under a name
+abbrev pub registration : Key → Birth → Registration
+registration port birth = record { port = port; birth = birth }
+
+-- a registration is of the port that was made under a name
+abbrev pub is_of_birth : Birth → Registration → Bool
+is_of_birth b r = (b.maker == r.birth.maker) && ((b.ordinal == r.birth.ordinal) && (b.process == r.birth.process))
+
+-- a thread registered the port with a birth
+abbrev pub has_registered : Birth → ThreadRow → Bool
+has_registered b t = has (is_of_birth b) t.registered.items
+
+-- the registration that a thread made first, and a thread with it
+abbrev pub first_registered : ThreadRow → Option Registration
+first_registered t = slice_get t.registered.items 0
+
+abbrev pub first_registration : ThreadRow → Option (ℕ × Registration)
+first_registration t = option_map (λ r. (t.number, r)) (first_registered t)
+
+-- a thread of the process has ended, and has registrations still
+abbrev pub is_untold : ℕ → ThreadRow → Bool
+is_untold pid t = (t.process == pid) && (not t.live && is_some (first_registered t))
+
+-- the first such thread with the registration that it made first
+abbrev pub first_untold : List ThreadRow → ℕ → Option (ℕ × Registration)
+first_untold threads pid = option_and_then first_registration (first (is_untold pid) threads)
+
+-- the registrations of a thread, and none of one that has ended
+abbrev pub registered_by : ThreadRow → List Registration
+registered_by t = t.registered.items
+
+abbrev pub registered_live : ThreadRow → List Registration
+registered_live t = when t.live (registered_by t)
+
+-- the registrations of all threads, and of all live ones
+abbrev pub all_registrations : List ThreadRow → List Registration
+all_registrations threads = each registered_by threads
+
+abbrev pub live_registrations : List ThreadRow → List Registration
+live_registrations threads = each registered_live threads
+
+-- a further port may be registered
+abbrev pub HasRegistrationLeft : ThreadRow → Type 0
+HasRegistrationLeft t = length t.registered.items < REGISTRATION_LIMIT
+
+-- a thread with a further registration, behind those that it had; and without those of the port with a birth
+abbrev pub registering : Registration → ThreadRow → ThreadRow
+registering r t = record t { registered = record { items = t.registered.items ++ r ∷ [] } }
+
+abbrev pub unregistering : Birth → ThreadRow → ThreadRow
+unregistering b t = record t { registered = record { items = without (is_of_birth b) t.registered.items } }
 
 -- Numbers
 -- a number that a process or thread can have

@@ -1,9 +1,10 @@
-//! Processes and threads, the numbers that were ever used, and what threads draw.
+//! Processes and threads, the numbers that were ever used, what threads draw, and the ports that they registered.
 #![tactic(auto)]
 
 mod lists;
 mod procs;
+mod registrations;
 mod rows;
 
 pub use procs::Procs;
-pub use rows::{Number, ProcessRow, ThreadRow, UsedThread};
+pub use rows::{Number, ProcessRow, Registration, ThreadRow, UsedThread};

@@ -1,8 +1,8 @@
 // Searches and changes of plain lists of rows.
-ghost use Rattle.std.specs.Prelude.{◌≡◌, ◌==◌, ◌≤◌, if◌then◌else◌, vec_len, vec_capacity};
-ghost use Rattle.lpc_base.specs.Rows.{change, count, first, has, without};
+ghost use Rattle.std.specs.Prelude.{◌≡◌, ◌==◌, ◌≤◌, option_map, vec_len, vec_capacity};
+ghost use Rattle.lpc_base.specs.Rows.{count, first, has, without};
 ghost use Rattle.lpc_procs.specs.Procs as procs;
-ghost use Rattle.lpc_procs.specs.Procs.{is_live_client, is_live_thread, is_process, is_thread, is_used_thread, lives_in, used_process};
+ghost use Rattle.lpc_procs.specs.Procs.{has_ended, is_in, is_live_client, is_live_thread, is_process, is_thread, is_used_thread, lacks_threads, lives_in, used_process};
 
 use crate::{ProcessRow, ThreadRow, UsedThread};
 use lpc_base::Birth;
@@ -15,18 +15,6 @@ pub fn process_at(rows: &[ProcessRow], pid: u32) -> Option<ProcessRow>
     for p in rows {
         if p.number == pid {
             return Some(*p);
-        }
-    }
-    None
-}
-
-/// The thread that has the number, ended or not.
-pub fn thread_at(rows: &[ThreadRow], tid: u32) -> Option<ThreadRow>
-    ensures { result ≡ first (is_thread tid) rows.now }
-{
-    for t in rows {
-        if t.number == tid {
-            return Some(*t);
         }
     }
     None
@@ -114,35 +102,71 @@ pub fn alive(threads: &[ThreadRow]) -> usize
     threads.iter().filter(|t| t.live).count()
 }
 
+// The row once more.
+fn copy_of(t: &ThreadRow) -> ThreadRow
+    ensures { result ≡ t.now }
+{
+    t.clone().unwrap()
+}
+
 /// The live thread that has the number.
 pub fn live_at(threads: &[ThreadRow], tid: u32) -> Option<ThreadRow>
     ensures { result ≡ first (is_live_thread tid) threads.now }
 {
     for t in threads {
         if t.number == tid && t.live {
-            return Some(*t);
+            return Some(copy_of(t));
         }
     }
     None
 }
 
-fn put_one(t: &mut ThreadRow, tid: u32, row: ThreadRow)
-    ensures { t.new ≡ (if is_thread tid t.old then row else t.old) }
+/// The number of the first live thread of the process.
+pub fn first_live(threads: &[ThreadRow], pid: u32) -> Option<u32>
+    ensures { result ≡ option_map (λ t. t.number) (first (lives_in pid) threads.now) }
 {
-    if t.number == tid {
-        *t = row;
+    for t in threads {
+        if t.process == pid && t.live {
+            return Some(t.number);
+        }
     }
+    None
 }
 
-/// The row takes the place of the one with the number.
-pub fn put_thread(threads: &mut Vec<ThreadRow>, tid: u32, row: ThreadRow)
-    ensures rows { threads.new.items ≡ change (is_thread tid) (λ _. row) threads.old.items }
-    ensures len { vec_len threads.new ≡ vec_len threads.old }
-    ensures room { vec_capacity threads.new ≡ vec_capacity threads.old }
+/// The number of the first thread that has ended.
+pub fn first_ended(threads: &[ThreadRow]) -> Option<u32>
+    ensures { result ≡ option_map (λ t. t.number) (first has_ended threads.now) }
 {
-    for t in threads.iter_mut() {
-        put_one(t, tid, row);
+    for t in threads {
+        if !t.live {
+            return Some(t.number);
+        }
     }
+    None
+}
+
+/// A thread is of the process, live or ended.
+pub fn has_thread(threads: &[ThreadRow], pid: u32) -> bool
+    ensures { result ≡ has (is_in pid) threads.now }
+{
+    for t in threads {
+        if t.process == pid {
+            return true;
+        }
+    }
+    false
+}
+
+/// The number of the first process that no thread is of.
+pub fn first_empty(rows: &[ProcessRow], threads: &[ThreadRow]) -> Option<u32>
+    ensures { result ≡ option_map (λ p. p.number) (first (lacks_threads threads.now) rows.now) }
+{
+    for p in rows {
+        if !has_thread(threads, p.number) {
+            return Some(p.number);
+        }
+    }
+    None
 }
 
 /// Takes away the process that has the number.
@@ -164,8 +188,8 @@ pub fn remove_thread(rows: &mut Vec<ThreadRow>, tid: u32)
 }
 
 /// The name of the object that a thread makes next.
-pub fn next_birth(row: ThreadRow) -> Birth
-    ensures { result ≡ procs.next_birth row }
+pub fn next_birth(row: &ThreadRow) -> Birth
+    ensures { result ≡ procs.next_birth row.now }
 {
     Birth {
         maker: row.number,

@@ -1,13 +1,17 @@
 // The table of processes and threads.
-ghost use Rattle.std.specs.Prelude.{◌≡◌, ◌-◌, ◌<◌, ◌≤◌, ◌++◌, ◌∷◌, [], true, false, length, is_some, option_map, Some, IsSomeAnd, OnOk, OnErr, IfSome};
+ghost use Rattle.std.specs.Prelude.{◌≡◌, ◌-◌, ◌*◌, ◌<◌, ◌≤◌, ◌++◌, ◌∷◌, [], true, false, length, is_some, option_map, Some, IsSomeAnd, OnOk, OnErr, IfSome};
+ghost use Rattle.std.specs.List.{position};
 ghost use Rattle.lpc_base.specs.Room.{grown_room};
 ghost use Rattle.lpc_base.specs.Rows.{count, first, has};
+ghost use Rattle.lpc_base.specs.declared.limits.TheConstants.{REGISTRATION_LIMIT};
 ghost use Rattle.lpc_procs.specs.Procs as procs;
-ghost use Rattle.lpc_procs.specs.Procs.{HasIdentifierLeft, HasOrdinalLeft, IsNumber, birth_of, ended, is_live_client, is_live_thread, lives_in, most_rows, nothing, past_birth, past_identifier, process_at, thread_at, used_process, with_room, with_thread, without_process, without_thread};
+ghost use Rattle.lpc_procs.specs.Procs.{HasIdentifierLeft, HasOrdinalLeft, HasRegistrationLeft, IsNumber, all_registrations, birth_of, ended, first_process, first_thread, first_untold, has_ended, has_registered, is_live_client, is_live_thread, is_of_birth, is_thread, lacks_threads, live_registrations, lives_in, most_rows, nothing, past_birth, past_identifier, process_at, registering, registration, thread_at, unregistering, used_process, with_room, with_thread, without_process, without_thread};
 
-use crate::{Number, ProcessRow, ThreadRow, UsedThread, lists};
+use crate::{Number, ProcessRow, Registration, ThreadRow, UsedThread, lists, registrations};
+use arrayvec::ArrayVec;
 use lpc_base::{Birth, OutOfMemory, reserve_rows};
 use lpc_message::ClientId;
+use lpc_slots::Key;
 use std::alloc::Global;
 use std::marker::Model;
 
@@ -99,14 +103,23 @@ impl Procs {
     }
 
     /// Adds a live thread to a process that has a row, under a number that no thread ever had. Its identifiers and
-    /// ordinals start from 1. There is spare room for it, and the number is from 1 to 2,147,483,647.
+    /// ordinals start from 1, and it registered no port. There is spare room for it, and the number is from 1 to
+    /// 2,147,483,647.
     pub fn add_thread(&mut self, tid: u32, pid: u32, birth: Birth)
         requires room { 0 < self.old.thread_room }
         requires number { IsNumber tid }
         requires new { procs.was_used self.old (Number.Thread tid) ≡ false }
         requires process { is_some (process_at self.old pid) ≡ true }
         ensures table { self.new ≡ record self.old {
-          threads = self.old.threads ++ (record { number = tid; process = pid; birth = birth; live = true; next_identifier = 1; next_ordinal = 1 }) ∷ [];
+          threads = self.old.threads ++ (record {
+            number = tid;
+            process = pid;
+            birth = birth;
+            live = true;
+            next_identifier = 1;
+            next_ordinal = 1;
+            registered = record { items = [] };
+          }) ∷ [];
           used_threads = self.old.used_threads ++ (record { number = tid; process = pid }) ∷ [];
           thread_room = self.old.thread_room - 1;
         } }
@@ -118,6 +131,7 @@ impl Procs {
             live: true,
             next_identifier: 1,
             next_ordinal: 1,
+            registered: ArrayVec::new(),
         });
         self.used_threads.push_reserved(UsedThread {
             number: tid,
@@ -202,16 +216,11 @@ impl Procs {
             ≡ Some result }
         ensures table { self.new ≡ with_thread self.old tid past_identifier }
     {
-        let row = self.thread(tid);
-        lists::put_thread(
-            &mut self.threads,
-            tid,
-            ThreadRow {
-                next_identifier: row.next_identifier + 1,
-                ..row
-            },
-        );
-        row.next_identifier
+        let place = self.place(tid);
+        let row = &mut self.threads[place];
+        let identifier = row.next_identifier;
+        row.next_identifier = identifier + 1;
+        identifier
     }
 
     /// The name of the object that the thread makes. The ordinal that it draws after this is greater by one. The thread
@@ -221,16 +230,11 @@ impl Procs {
         ensures birth { option_map procs.next_birth (thread_at self.old tid) ≡ Some result }
         ensures table { self.new ≡ with_thread self.old tid past_birth }
     {
-        let row = self.thread(tid);
-        lists::put_thread(
-            &mut self.threads,
-            tid,
-            ThreadRow {
-                next_ordinal: row.next_ordinal + 1,
-                ..row
-            },
-        );
-        lists::next_birth(row)
+        let place = self.place(tid);
+        let row = &mut self.threads[place];
+        let birth = lists::next_birth(row);
+        row.next_ordinal += 1;
+        birth
     }
 
     /// The birth that the thread's next `draw_birth` gives. The thread has a row.
@@ -246,8 +250,100 @@ impl Procs {
         requires present { is_some (thread_at self.old tid) ≡ true }
         ensures table { self.new ≡ with_thread self.old tid ended }
     {
-        let row = self.thread(tid);
-        lists::put_thread(&mut self.threads, tid, ThreadRow { live: false, ..row });
+        let place = self.place(tid);
+        self.threads[place].live = false;
+    }
+
+    /// Registers a port with the thread, which has a row and registered fewer than 16, behind those that it had.
+    pub fn register(&mut self, tid: u32, port: Key, birth: Birth)
+        requires left { IsSomeAnd (thread_at self.old tid) HasRegistrationLeft }
+        ensures table { let r = registration port birth in
+            self.new ≡ with_thread self.old tid (registering r) }
+    {
+        let place = self.place(tid);
+        self.threads[place]
+            .registered
+            .push(Registration { port, birth });
+    }
+
+    /// Takes the registrations of the port with a birth from the thread, which has a row. The others keep their order.
+    pub fn unregister(&mut self, tid: u32, birth: Birth)
+        requires present { is_some (thread_at self.old tid) ≡ true }
+        ensures table { self.new ≡ with_thread self.old tid (unregistering birth) }
+    {
+        let place = self.place(tid);
+        registrations::forget(&mut self.threads[place].registered, birth);
+    }
+
+    /// The thread, which has a row, registered the port with a birth.
+    pub fn is_registered(&self, tid: u32, birth: Birth) -> bool
+        requires present { is_some (thread_at self.now tid) ≡ true }
+        ensures registered { option_map (has_registered birth) (thread_at self.now tid)
+            ≡ Some result }
+    {
+        registrations::has_birth(&self.thread(tid).registered, birth)
+    }
+
+    /// How many registrations the thread has, which has a row.
+    pub fn registration_count(&self, tid: u32) -> usize
+        requires present { is_some (thread_at self.now tid) ≡ true }
+        ensures count { option_map (λ t. length t.registered.items) (thread_at self.now tid)
+            ≡ Some result }
+        ensures bound { result ≤ REGISTRATION_LIMIT }
+    {
+        self.thread(tid).registered.len()
+    }
+
+    /// How many registrations all threads have, the ended ones too.
+    pub fn registrations(&self) -> usize
+        ensures count { result ≡ length (all_registrations self.now.threads) }
+        ensures bound { result ≤ REGISTRATION_LIMIT * length self.now.threads }
+    {
+        registrations::total(&self.threads)
+    }
+
+    /// A thread registered the port with a birth, be it live or ended.
+    pub fn names(&self, birth: Birth) -> bool
+        ensures named { result ≡ has (has_registered birth) self.now.threads }
+    {
+        registrations::names(&self.threads, birth)
+    }
+
+    /// How many registrations of live threads are of the port with a birth.
+    pub fn registered_to(&self, birth: Birth) -> usize
+        ensures count { result ≡ count (is_of_birth birth) (live_registrations self.now.threads) }
+        ensures bound { result ≤ REGISTRATION_LIMIT * length self.now.threads }
+    {
+        registrations::of_birth(&self.threads, birth)
+    }
+
+    /// The number of the first live thread of the process: None exactly where it has none.
+    pub fn first_live(&self, pid: u32) -> Option<u32>
+        ensures number { result ≡ first_thread (lives_in pid) self.now }
+    {
+        lists::first_live(&self.threads, pid)
+    }
+
+    /// Of the threads of the process that have ended, the first that still has registrations: its number, and the
+    /// registration that it made first. None exactly where there is no such thread.
+    pub fn first_to_tell(&self, pid: u32) -> Option<(u32, Registration)>
+        ensures registration { result ≡ first_untold self.now.threads pid }
+    {
+        registrations::first_untold(&self.threads, pid)
+    }
+
+    /// The number of the first thread that has ended: None exactly where there is none.
+    pub fn first_ended(&self) -> Option<u32>
+        ensures number { result ≡ first_thread has_ended self.now }
+    {
+        lists::first_ended(&self.threads)
+    }
+
+    /// The number of the first process none of whose threads has a row: None exactly where there is none.
+    pub fn first_empty(&self) -> Option<u32>
+        ensures number { result ≡ first_process (lacks_threads self.now.threads) self.now }
+    {
+        lists::first_empty(&self.processes, &self.threads)
     }
 
     /// The process that made a process that has a row, none where a directive did.
@@ -306,14 +402,29 @@ impl Procs {
         }
     }
 
-    // The row of a thread that is present.
-    fn thread(&self, tid: u32) -> ThreadRow
-        requires { is_some (thread_at self.now tid) ≡ true }
-        ensures { thread_at self.now tid ≡ Some result }
+    // Where the row of a thread stands.
+    fn position(&self, tid: u32) -> Option<usize>
+        ensures { result ≡ position (is_thread tid) self.now.threads }
     {
-        match lists::thread_at(&self.threads, tid) {
-            Some(row) => row,
+        self.threads.iter().position(|t| t.number == tid)
+    }
+
+    // Where the row of a thread that is present stands.
+    fn place(&self, tid: u32) -> usize
+        requires { is_some (thread_at self.now tid) ≡ true }
+        ensures { Some result ≡ position (is_thread tid) self.now.threads }
+    {
+        match self.position(tid) {
+            Some(place) => place,
             None => unreachable!(),
         }
+    }
+
+    // The row of a thread that is present.
+    fn thread(&self, tid: u32) -> &ThreadRow
+        requires { is_some (thread_at self.now tid) ≡ true }
+        ensures { thread_at self.now tid ≡ Some result.now }
+    {
+        &self.threads[self.place(tid)]
     }
 }

@@ -1,5 +1,8 @@
 // What the table holds of a process, a thread, and a number that was used.
+use arrayvec::ArrayVec;
 use lpc_base::Birth;
+use lpc_base::limits::REGISTRATION_LIMIT;
+use lpc_slots::Key;
 
 /// The number of a process or of a thread. The two are spaces of their own: one number may name a process and a thread.
 #[derive(Clone, Copy)]
@@ -21,8 +24,17 @@ pub struct ProcessRow {
     pub birth: Birth,
 }
 
+/// A port that is to be told of a thread's end.
+#[derive(Clone, Copy, Default)]
+pub struct Registration {
+    /// Its key.
+    pub port: Key,
+    /// The name that it was made under.
+    pub birth: Birth,
+}
+
 /// A thread.
-#[derive(Clone, Copy)]
+#[derive(Clone, Drop)]
 pub struct ThreadRow {
     /// From 1 to 2147483647.
     pub number: u32,
@@ -36,6 +48,8 @@ pub struct ThreadRow {
     pub next_identifier: u32,
     /// The ordinal of the object that it makes next, from 1.
     pub next_ordinal: u32,
+    /// The ports that are to be told of its end, in the order in which it registered them.
+    pub registered: ArrayVec<Registration, REGISTRATION_LIMIT>,
 }
 
 /// A thread number that was ever used, and the process of that thread. It stays when the thread's row goes.

@@ -16,8 +16,8 @@ use std::marker::Model;
 
 /// The name of a row of a table, given once: after the row's removal it names nothing.
 ///
-/// It has no type, since a row of one table holds keys of another. This project's own.
-#[derive(Clone, Copy, PartialEq, Eq)]
+/// It has no type, since a row of one table holds keys of another. The default key is never given. This project's own.
+#[derive(Clone, Copy, Default, PartialEq, Eq)]
 pub struct Key {
     /// A place in the table. It may be given again.
     pub index: usize,

@@ -6,6 +6,7 @@ ghost use Rattle.lpc_procs.specs.declared.rows.Number.TheVariants as number;
 use lpc_base::Birth;
 use lpc_message::ClientId;
 use lpc_procs::{Number, Procs};
+use lpc_slots::Key;
 use std::process::Abort;
 use std::test::Fail;
 
@@ -35,6 +36,14 @@ fn counts(rt: &impl Abort, procs: &Procs, rows: (usize, usize), live: (usize, us
 fn shows_a_process_alone(rt: &impl Abort, procs: &Procs) {
     assert!(rt; procs.was_used(Number::Process(20)));
     assert!(rt; !procs.was_used(Number::Thread(20)));
+}
+
+// The key of a port.
+fn key(generation: u64) -> Key {
+    Key {
+        index: 0,
+        generation,
+    }
 }
 
 // Thread 20 draws its first birth.
@@ -129,5 +138,97 @@ fn number_of_a_row_that_goes_stays_used(rt: HostRuntime) -> Result<(), Fail> {
     procs.free_process(20);
     counts(&rt, &procs, (0, 0), (0, 0));
     shows_used(&rt, &procs, 20, 24);
+    Ok(())
+}
+
+// What thread 24 registered: whether the first and the second port, and how many.
+fn shows_registered(rt: &impl Abort, procs: &Procs, ports: (bool, bool), count: usize)
+    requires { is_some (thread_at procs.now 24) ≡ true }
+{
+    let registered = (
+        procs.is_registered(24, made(4)),
+        procs.is_registered(24, made(8)),
+    );
+    assert!(rt; registered == ports);
+    assert!(rt; procs.registration_count(24) == count);
+}
+
+// How many registrations there are, and how many of live threads are of the first port.
+fn counts_registered(rt: &impl Abort, procs: &Procs, all: usize, first: usize) {
+    assert!(rt; procs.registrations() == all);
+    assert!(rt; procs.registered_to(made(4)) == first);
+    assert!(rt; procs.names(made(4)) == (all == 2));
+}
+
+#[test]
+fn thread_registers_ports_until_they_are_taken_away(rt: HostRuntime) -> Result<(), Fail> {
+    let mut procs = Procs::new(rt.alloc());
+    procs.reserve(1, 1)?;
+    procs.add_process(20, None, made(20));
+    procs.add_thread(24, 20, made(24));
+    procs.register(24, key(1), made(4));
+    procs.register(24, key(2), made(8));
+    shows_registered(&rt, &procs, (true, true), 2);
+    counts_registered(&rt, &procs, 2, 1);
+    procs.unregister(24, made(4));
+    shows_registered(&rt, &procs, (false, true), 1);
+    counts_registered(&rt, &procs, 1, 0);
+    Ok(())
+}
+
+// Thread 24 is the one that is told of next, and this port the one that is told.
+fn tells(rt: &impl Abort, procs: &Procs, port: Key, birth: Birth) {
+    let Some((tid, r)) = procs.first_to_tell(20) else {
+        assert!(rt; false);
+        return;
+    };
+    assert!(rt; tid == 24 && r.port == port && r.birth == birth);
+}
+
+#[test]
+fn ended_thread_tells_its_ports_in_their_order(rt: HostRuntime) -> Result<(), Fail> {
+    let mut procs = Procs::new(rt.alloc());
+    procs.reserve(1, 1)?;
+    procs.add_process(20, None, made(20));
+    procs.add_thread(24, 20, made(24));
+    procs.register(24, key(1), made(4));
+    procs.register(24, key(2), made(8));
+    assert!(rt; procs.first_to_tell(20).is_none());
+    procs.end_thread(24);
+    counts_registered(&rt, &procs, 2, 0);
+    tells(&rt, &procs, key(1), made(4));
+    procs.unregister(24, made(4));
+    tells(&rt, &procs, key(2), made(8));
+    procs.unregister(24, made(8));
+    assert!(rt; procs.first_to_tell(20).is_none());
+    Ok(())
+}
+
+// The first live thread of process 20, the first thread that has ended, and the first process without a thread.
+fn finds(
+    rt: &impl Abort,
+    procs: &Procs,
+    live: Option<u32>,
+    ended: Option<u32>,
+    empty: Option<u32>,
+) {
+    assert!(rt; procs.first_live(20) == live);
+    assert!(rt; procs.first_ended() == ended);
+    assert!(rt; procs.first_empty() == empty);
+}
+
+#[test]
+fn what_has_ended_is_found_in_the_order_of_making(rt: HostRuntime) -> Result<(), Fail> {
+    let mut procs = Procs::new(rt.alloc());
+    procs.reserve(1, 2)?;
+    procs.add_process(20, None, made(20));
+    finds(&rt, &procs, None, None, Some(20));
+    procs.add_thread(28, 20, made(28));
+    procs.add_thread(24, 20, made(24));
+    finds(&rt, &procs, Some(28), None, None);
+    procs.end_thread(28);
+    finds(&rt, &procs, Some(24), Some(28), None);
+    procs.free_thread(28);
+    finds(&rt, &procs, Some(24), None, None);
     Ok(())
 }

@@ -111,6 +111,8 @@ fn accepted_is_found_by_port(rt: &impl Abort, waits: &Waits, accepted: bool) {
     assert!(rt; waits.accepted_on(key(1)).is_some() == accepted);
     assert!(rt; waits.accepted_on(key(1)).unwrap_or(4) == 4);
     assert!(rt; waits.accepted_on(key(2)).is_none());
+    assert!(rt; waits.accepted_port(4) == if accepted { Some(key(1)) } else { None });
+    assert!(rt; waits.accepted_port(5).is_none());
 }
 
 // The connect of thread 4 is found as accepted by both ends of its connection, ports 3 and 1, or none is. In queue 2 the

@@ -1,5 +1,5 @@
 -- What contracts see of the waits: the rows in the order of waiting.
-use Rattle.std.specs.Prelude.{ℕ, ◌+◌, ◌-◌, ◌==◌, ◌&&◌, ◌||◌, ◌++◌, ◌∷◌, Bool, true, false, List, [], Option, None, is_some, not, option_map}
+use Rattle.std.specs.Prelude.{ℕ, ◌+◌, ◌-◌, ◌==◌, ◌&&◌, ◌||◌, ◌++◌, ◌∷◌, Bool, true, false, List, [], Option, Some, None, is_some, not, option_and_then, option_map, if◌then◌else◌}
 use Rattle.lpc_base.specs.Rows.{change, differ_by, first, passes}
 use Rattle.lpc_slots.specs.Table.{is_key}
 use Rattle.lpc_slots.specs.declared.Key.{Key}
@@ -93,10 +93,18 @@ is_made_on port row = is_key row.wait.port port
 abbrev pub is_made_at : Key → Option Key → WaitRow → Bool
 is_made_at port other row = is_made_on port row || passes other (is_key row.wait.port)
 
--- a connect that was accepted, and one that was made on this port
+-- a connect that was accepted
 abbrev pub is_accepted : WaitRow → Bool
 is_accepted row = is_connect row.wait.kind && is_some row.accepted
 
+-- the port of such a row, and of the row of a thread
+abbrev pub accepted_port_in : WaitRow → Option Key
+accepted_port_in row = if is_accepted row then Some row.wait.port else None
+
+abbrev pub accepted_port : WaitTable → ℕ → Option Key
+accepted_port s tid = option_and_then accepted_port_in (row_of s tid)
+
+-- a connect that was accepted, and was made on this port
 abbrev pub is_accepted_on : Key → WaitRow → Bool
 is_accepted_on port row = is_accepted row && is_key row.wait.port port
 

@@ -6,7 +6,7 @@ ghost use Rattle.std.specs.List.{position};
 ghost use Rattle.lpc_base.specs.Room.{grown_room};
 ghost use Rattle.lpc_base.specs.Rows.{count, without, has};
 ghost use Rattle.lpc_base.specs.declared.limits.TheConstants.{MESSAGE_LIMIT};
-ghost use Rattle.lpc_waits.specs.Table.{accepted_of, begun, first_thread, is_accepted, is_accepted_at, is_accepted_on, is_connect, is_connect_of, is_made_at, is_made_on, is_of, is_offered, is_offered_to, is_receive_on, is_receiver_at, is_request_on, is_taker_on, is_unreceived_request_in, is_wait_at, message_of, received, row_of, takes, with_accepted, with_message, with_queue, with_row};
+ghost use Rattle.lpc_waits.specs.Table.{accepted_of, accepted_port, accepted_port_in, begun, first_thread, is_accepted, is_accepted_at, is_accepted_on, is_connect, is_connect_of, is_made_at, is_made_on, is_of, is_offered, is_offered_to, is_receive_on, is_receiver_at, is_request_on, is_taker_on, is_unreceived_request_in, is_wait_at, message_of, received, row_of, takes, with_accepted, with_message, with_queue, with_row};
 
 use arrayvec::ArrayVec;
 use lpc_base::{OutOfMemory, held, reserve_rows};
@@ -165,6 +165,18 @@ impl Waits {
         for row in &self.rows {
             if row.thread == tid {
                 return Some(&row.wait);
+            }
+        }
+        None
+    }
+
+    /// The port of a thread's connect that is accepted: None exactly where the thread doesn't wait with one.
+    pub fn accepted_port(&self, tid: u32) -> Option<Key>
+        ensures port { result ≡ accepted_port self.now tid }
+    {
+        for row in &self.rows {
+            if row.thread == tid {
+                return accepted_port_in(row);
             }
         }
         None
@@ -413,5 +425,16 @@ fn is_made_at(row: &WaitRow, port: Key, other: Option<Key>) -> bool
     match other {
         Some(other) => row.wait.port == port || row.wait.port == other,
         None => row.wait.port == port,
+    }
+}
+
+// The port of an accepted connect.
+fn accepted_port_in(row: &WaitRow) -> Option<Key>
+    ensures { result ≡ accepted_port_in row.now }
+{
+    if is_accepted(row) {
+        Some(row.wait.port)
+    } else {
+        None
     }
 }

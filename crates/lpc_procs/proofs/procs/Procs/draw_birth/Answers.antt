@@ -1,15 +1,28 @@
-use Rattle.std.proofs.Common.{refl, ◌≡◌, Some}
-use Rattle.lpc_base.specs.Rows.{first}
-use Rattle.lpc_procs.specs.Procs.{is_thread, past_birth}
-use Rattle.lpc_procs.proofs.Keeping.{put-changed, put-kept, keeps-birth}
+use Rattle.std.proofs.Common.{refl, sym, arith}
+use Rattle.lpc_procs.specs.Procs.{HasOrdinalLeft, past_birth}
+use Rattle.lpc_procs.proofs.Keeping.{changed_at, kept-at, row_is}
 use Rattle.lpc_procs.proofs.procs.Procs.draw_birth.Goals as goal
+
+pub overflow_add-row : goal.overflow_add-row
+overflow_add-row c =
+    let is = sym (rw (← c.self.view_is) at c.place-place.ensures) in
+    let found = row_is c.self.inside.threads.items c.place-place.result c.args.tid c.index_mut-row.result.now is c.index_mut-row.ensures.value in
+    let left : HasOrdinalLeft c.index_mut-row.result.now = rw (← c.self.view_is, found.is_first) at c.requires.ordinal_left in
+    omega (arith, left)
+
+pub returns-clause-birth : goal.returns-clause-birth
+returns-clause-birth c =
+    let is = sym (rw (← c.self.view_is) at c.place-place.ensures) in
+    let found = row_is c.self.inside.threads.items c.place-place.result c.args.tid c.index_mut-row.result.now is c.index_mut-row.ensures.value in
+    rw (← c.self.view_is, found.is_first, c.next_birth-birth.ensures) refl
 
 pub invariant_of-self : goal.invariant_of-self
 invariant_of-self c =
-    let found : first (is_thread c.args.tid) c.self.inside.threads.items ≡ Some c.thread-row.result = rw (← c.self.view_is) at c.thread-row.ensures in
-    rw c.put_thread.ensures.rows (put-kept c.args.tid past_birth c.self.inside.threads.items c.self.inside.used_threads.items c.thread-row.result keeps-birth c.self.invariant found)
+    let is = sym (rw (← c.self.view_is) at c.place-place.ensures) in
+    kept-at past_birth c.self.inside.threads.items c.self.inside.used_threads.items c.place-place.result c.args.tid c.index_mut-row.result.now (record { number = λ t. refl; process = λ t. refl }) c.self.invariant is c.index_mut-row.ensures.value
 
 pub returns-clause-table : goal.returns-clause-table
 returns-clause-table c =
-    let found : first (is_thread c.args.tid) c.self.inside.threads.items ≡ Some c.thread-row.result = rw (← c.self.view_is) at c.thread-row.ensures in
-    rw (← c.self.view_is, c.put_thread.ensures.rows, put-changed c.args.tid past_birth c.self.inside.threads.items c.thread-row.result c.self.invariant.single found, c.put_thread.ensures.len, c.put_thread.ensures.room) refl
+    let is = sym (rw (← c.self.view_is) at c.place-place.ensures) in
+    let same = changed_at past_birth c.self.inside.threads.items c.place-place.result c.args.tid c.index_mut-row.result.now c.self.invariant.single is c.index_mut-row.ensures.value in
+    rw (← c.self.view_is, ← same) refl
