@@ -175,8 +175,10 @@ module _ (it : Tables) (calls made who : ℕ) (is : AreLawful it calls made) whe
       named = changes.waiting it is.named who it.waits.spare it.waits.made (waits.with_accepted new) (λ row. refl);
       lawful = rows_lawful new;
       counted = record { ports_made = is.counted.ports_made; messages_made = is.counted.messages_made; waits_made = is.counted.waits_made };
+      registered = is.registered;
       headed = is.headed;
       drawn = drawn.same-drawn rows _ refl refl refl is.drawn;
+      born = is.born;
       promised = rows_promised new took there;
     }
 

@@ -121,8 +121,10 @@ spaced_lawful it calls made space is named = record {
   named = named;
   lawful = lawful-names (rows_by it) (rows_by (record it { space = space })) calls made it.waits.spare it.ports.message_room refl is.lawful;
   counted = is.counted;
+  registered = is.registered;
   headed = is.headed;
   drawn = drawn.same-drawn (rows_by it) _ refl refl refl is.drawn;
+  born = is.born;
   promised = is.promised;
 }
 

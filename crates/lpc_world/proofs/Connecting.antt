@@ -183,7 +183,7 @@ for_message w by client identifier r is m one two =
     subst (λ c. Finds c m.header.message_id) (sym one) (subst (λ i. Finds client i) (sym two) is.found)
 
 -- Kinds of waits
-accepted_kind : (kind : WaitKind) (bytes : List ℕ) (accepted : Option Accepted) → (elim (shown_kind kind bytes accepted) [ model.Accepted m reply ↦ true | _ ↦ false ]) ≡ waits.is_connect kind && is_some accepted
+pub accepted_kind : (kind : WaitKind) (bytes : List ℕ) (accepted : Option Accepted) → (elim (shown_kind kind bytes accepted) [ model.Accepted m reply ↦ true | _ ↦ false ]) ≡ waits.is_connect kind && is_some accepted
 accepted_kind wait.Request bytes accepted = refl
 accepted_kind wait.Receive bytes accepted = refl
 accepted_kind wait.Listen bytes accepted = refl

@@ -1,24 +1,26 @@
 -- A message that enters a queue and is taken at once, and a wait that begins with a message.
-use Rattle.std.proofs.Common.{◌≡◌, ℕ, List, [], ◌∷◌, ◌++◌, Bool, true, false, Option, Some, refl, ap, sym, subst, ◌∙◌, arith}
+use Rattle.std.proofs.Common.{◌≡◌, ℕ, ◌+◌, List, [], ◌∷◌, ◌++◌, Bool, true, false, length, Option, Some, refl, ap, sym, subst, ◌∙◌, arith}
 use Rattle.std.specs.Prelude.{not, ◌==◌, ◌&&◌, ◌||◌}
 use Rattle.std.proofs.lemmas.Bool.Decides.{nat_tests}
 use Rattle.lpc_base.specs.declared.birth.Birth.{Birth}
 use Rattle.lpc_base.specs.declared.status.TheConstants.{SUCCESS}
-use Rattle.lpc_base.specs.Rows.{change, first, given, has, when, without_first}
-use Rattle.lpc_base.proofs.RowWords.{has-push}
+use Rattle.lpc_base.specs.Rows.{change, first, given, has, when, without, without_first}
+use Rattle.lpc_base.proofs.Differ.{differ-change}
+use Rattle.lpc_base.proofs.RowWords.{has-change, has-push, length-change}
 use Rattle.lpc_model.specs.declared.entry.CallName.{CallName}
 use Rattle.lpc_model.specs.declared.entry.Entry.{Entry}
 use Rattle.lpc_model.specs.declared.entry.Field.{Field}
 use Rattle.lpc_model.specs.World.{World, Accepted, Connect, Listen, MessageRow, Receive, Request, WaitKind, WaitRow}
 use Rattle.lpc_model.specs.Message.{asks, is_connection_request}
-use Rattle.lpc_model.specs.Found.{is_listen, is_queued, is_queued_connect, is_receive, same_birth, waits_as}
-use Rattle.lpc_model.specs.Basics.{Basic, Enters, Receives, Wakes, basic, entries_of, told, world_after}
+use Rattle.lpc_model.specs.Found.{is_listen, is_queued, is_queued_connect, is_receive, same_birth, waits_as, waits_at}
+use Rattle.lpc_model.specs.Basics.{Basic, Enters, Receives, Wakes, basic, entries_of, received, told, world_after}
 use Rattle.lpc_model.specs.Fields.{msg, receipt}
 use Rattle.lpc_model.specs.Entering.{enter, given_steps, receipt_steps, shown, take_connect_steps, take_steps, takes, woken}
 use Rattle.lpc_model.proofs.SoundQueues.{after-append}
 use Rattle.lpc_model.specs.Sweep.{loosened, loosens}
 use Rattle.lpc_world.specs.Does.{Left, left_by}
-use Rattle.lpc_world.specs.Lawful.{is_quiet}
+use Rattle.lpc_world.specs.Lawful.{are_single, is_quiet}
+use Rattle.lpc_world.proofs.Endings.{length-rest}
 use Rattle.lpc_world.proofs.Naming.{name_is}
 
 same-birth : (b : Birth) → same_birth b b ≡ true
@@ -72,6 +74,18 @@ passed-asking w m x takes quiet asked = passed w m x takes quiet ∙ ap (λ a. w
 
 pub passed-other : (w : World) (m : MessageRow) (x : WaitRow) → takes m x ≡ true → is_quiet w.messages x ≡ true → asks m.message ≡ false → world_after w (Enters m ∷ given_steps x m) ≡ w
 passed-other w m x takes quiet other = passed w m x takes quiet ∙ ap (λ a. world_after w (when a (Receives m.message.header.client.thread m.queue ∷ []))) other
+
+-- when the wait of the thread that takes it has ended, there is a wait less
+pub one-fewer : (w : World) (m : MessageRow) (x : WaitRow) (tid : ℕ) → takes m x ≡ true → is_quiet w.messages x ≡ true → are_single w.waits ≡ true → has (waits_as tid) w.waits ≡ true
+    → (let v = world_after w (Enters m ∷ given_steps x m) in length (without (waits_as tid) v.waits) + 1 ≡ length w.waits)
+one-fewer w m x tid takes quiet single there = ap (λ (v : World). length (without (waits_as tid) v.waits) + 1) (passed w m x takes quiet) ∙ by_asking (asks m.message)
+  where
+    by_asking : (a : Bool) → (let v = world_after w (when a (Receives m.message.header.client.thread m.queue ∷ [])) in length (without (waits_as tid) v.waits) + 1 ≡ length w.waits)
+    by_asking false = length-rest w.waits tid single there
+    by_asking true =
+        let at = waits_at m.message.header.client.thread m.queue in
+        length-rest (change at received w.waits) tid (differ-change (λ (y : WaitRow). y.thread) at received (λ y. refl) w.waits single) (has-change (waits_as tid) at received (λ y. refl) w.waits ∙ there)
+        ∙ length-change at received w.waits
 
 -- the steps of a message that a waiting thread takes
 silent-receipt : (who : ℕ) (q : Birth) (a : Bool) (bs : List Basic) → entries_of (when a (Receives who q ∷ []) ++ bs) ≡ entries_of bs

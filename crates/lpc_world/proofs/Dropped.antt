@@ -12,7 +12,7 @@ use Rattle.lpc_model.specs.Basics.{DropsHandle, basic, without_handle}
 use Rattle.lpc_model.specs.Found.{has_value, is_connect, is_table}
 use Rattle.lpc_model.specs.Tests.{is_connect_of}
 use Rattle.lpc_model.specs.World.{HandleRow, HandleTable, WaitRow, World}
-use Rattle.lpc_world.specs.Kept.{owed_rows, rows_by}
+use Rattle.lpc_world.specs.Kept.{rows_by}
 use Rattle.lpc_world.specs.Lawful.{AreLawful, IsPromised, has_places, is_at_home, is_within}
 use Rattle.lpc_homes.specs.Parts.{closed, closing, is_part, spare_at}
 use Rattle.lpc_world.specs.Shown.{Births, Tables, all_pass, birth_of, births_of, object_stands, part_refs, shown_handle, shown_part}
@@ -21,7 +21,6 @@ use Rattle.lpc_homes.specs.declared.parts.Part.{Part}
 use Rattle.lpc_world.proofs.Changes as changes
 use Rattle.lpc_world.proofs.Drawn as drawn
 use Rattle.lpc_world.proofs.Lawful as lawful
-use Rattle.lpc_world.proofs.Owed.{owed-drop}
 
 -- the room of a part that loses a handle, or has none of the value
 closed_more : (value : ℕ) (part : Part) → part.handles.spare ≤ (closed value part).handles.spare
@@ -84,9 +83,6 @@ module _ (it : Tables) (calls made : ℕ) (is : AreLawful it calls made) (pid va
       rw (every-map (object_stands n) (λ (row : ℕ × Row Object). row.1.object) (without_first (handles.has_value value) hs))
       (every-without_first (λ row. object_stands n row.1.object) (handles.has_value value) hs (sym (every-map (object_stands n) (λ (row : ℕ × Row Object). row.1.object) hs) ∙ all))
 
-  pub dropped_owed : owed_rows (rows_by after) ≤ owed_rows rows
-  dropped_owed = rw drops (owed-drop rows pid value)
-
   pub dropped_lawful : AreLawful after calls made
   dropped_lawful = record {
     named = record {
@@ -101,7 +97,9 @@ module _ (it : Tables) (calls made : ℕ) (is : AreLawful it calls made) (pid va
     };
     lawful = rw drops (lawful.lawful-drop rows calls made it.waits.spare it.ports.message_room pid value is.lawful);
     counted = is.counted;
+    registered = is.registered;
     headed = is.headed;
     drawn = drawn.same-drawn rows _ refl refl refl is.drawn;
+    born = is.born;
     promised = subst (λ (v : World). IsPromised v.waits v.handles (closing pid value it.parts)) (sym drops) (handle-goes rows.waits rows.handles it.parts pid value is.promised);
   }

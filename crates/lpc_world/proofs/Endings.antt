@@ -40,7 +40,7 @@ which-rest p (y ∷ ys) x one is = elim (p y) as (λ b. p y ≡ b → which p (y
 ] refl
 
 -- and there is one less
-length-rest : (xs : List WaitRow) (tid : ℕ) → are_single xs ≡ true → has (waits_as tid) xs ≡ true → length (without (waits_as tid) xs) + 1 ≡ length xs
+pub length-rest : (xs : List WaitRow) (tid : ℕ) → are_single xs ≡ true → has (waits_as tid) xs ≡ true → length (without (waits_as tid) xs) + 1 ≡ length xs
 length-rest xs tid one there = rw there at (length-ended (λ (x : WaitRow). x.thread) tid xs one)
 
 -- What the end of one wait leaves

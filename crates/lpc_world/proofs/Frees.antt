@@ -14,7 +14,7 @@ use Rattle.lpc_ports.specs.Table.{PortTable}
 use Rattle.lpc_ports.specs.declared.Port.{Port}
 use Rattle.lpc_slots.specs.Table.{at_key}
 use Rattle.lpc_slots.specs.declared.Key.{Key}
-use Rattle.lpc_world.specs.Held.{is_message_at, is_named}
+use Rattle.lpc_world.specs.Held.{is_message_at, is_named, is_registered_port}
 use Rattle.lpc_world.specs.Kept.{HandleRoom, Roomy, owed_rows, rows_by}
 use Rattle.lpc_world.specs.Lawful.{AreDrawn, AreLawful, IsLawful, was_drawn, IsPromised}
 use Rattle.lpc_world.specs.Names.{KeepsOthers, name_of, stands}
@@ -28,6 +28,7 @@ use Rattle.lpc_world.proofs.Makes.{bindings_shape, messages_shape, parts_shape, 
 use Rattle.lpc_world.proofs.Naming.{apart-without, name-without, stands-without}
 use Rattle.lpc_world.proofs.Owed.{owed-free}
 use Rattle.lpc_world.proofs.OwnMessages.{count-left}
+use Rattle.lpc_world.proofs.Registered.{registered-less}
 use Rattle.lpc_world.proofs.Rooms.{room}
 use Rattle.lpc_world.proofs.Untold.{told-free}
 use Rattle.lpc_world.proofs.Unheld.{is_named_in, is_other, others_pass}
@@ -134,16 +135,18 @@ lawful-free w calls made a b c none h = record {
 }
 
 drawn-free : (w : World) (p : model.PortRow → Bool) → AreDrawn w → AreDrawn (record w { ports = without p w.ports })
-drawn-free w p h = record { threads_single = h.threads_single; threads_noted = h.threads_noted; ports_drawn = every-without (was_drawn w.threads) p w.ports h.ports_drawn }
+drawn-free w p h = record { threads_single = h.threads_single; threads_noted = h.threads_noted; ports_drawn = every-without (λ q. was_drawn w.used_threads w.threads q.birth) p w.ports h.ports_drawn }
 
 pub freed_lawful : (it : Tables) (calls made : ℕ) (key : Key) (room : ℕ) → AreLawful it calls made → stands (births_of it.ports).ports key ≡ true → is_named_in it key ≡ false
-    → has (is_sent_on (name_of (births_of it.ports).ports key)) (rows_by it).messages ≡ false → AreLawful (record it { ports = record it.ports { ports = without (at_key key) it.ports.ports; port_room = room } }) calls made
-freed_lawful it calls made key room is there none unsent = record {
+    → has (is_sent_on (name_of (births_of it.ports).ports key)) (rows_by it).messages ≡ false → is_registered_port (rows_by it) (name_of (births_of it.ports).ports key) ≡ false → AreLawful (record it { ports = record it.ports { ports = without (at_key key) it.ports.ports; port_room = room } }) calls made
+freed_lawful it calls made key room is there none unsent unregistered = record {
   named = freed_named it is.named key room none;
   lawful = rw (frees it is.named key room none there) (lawful-free (rows_by it) calls made it.waits.spare it.ports.message_room (name_of (births_of it.ports).ports key) unsent is.lawful);
   counted = record { ports_made = is.counted.ports_made; messages_made = is.counted.messages_made; waits_made = is.counted.waits_made };
+  registered = registered-less (births_of it.ports) (births_of (record it.ports { ports = without (at_key key) it.ports.ports; port_room = room })) key (keeps it is.named key room) it.procs.threads is.registered unregistered;
   headed = is.headed;
   drawn = rw (frees it is.named key room none there) (drawn-free (rows_by it) (is_port (name_of (births_of it.ports).ports key)) is.drawn);
+  born = is.born;
   promised = subst (λ (v : World). IsPromised v.waits v.handles it.parts) (sym (frees it is.named key room none there)) is.promised;
 }
 

@@ -6,18 +6,23 @@ use Rattle.lpc_base.specs.Rows.{count, each, every, has, without}
 use Rattle.lpc_names.specs.Binding.{has_name}
 use Rattle.lpc_names.specs.Walk.{Bindings, LinkTo, Stands}
 use Rattle.lpc_names.specs.declared.names.Found.TheVariants.{Directory, Item}
-use Rattle.lpc_model.specs.World.{HandleRow, MessageRow, PortRow, WaitRow, World}
-use Rattle.lpc_model.specs.Found.{all_handles, handle_count, is_connected_to, is_made_on, is_open, is_paired_to, is_port, is_queued, is_sent_on, is_the, names_port, pair_of, port_name, port_row, same_birth}
+use Rattle.lpc_model.specs.World.{HandleRow, MessageRow, ObjectName, PortRow, WaitRow, World}
+use Rattle.lpc_model.specs.Found.{all_handles, all_registrations, handle_count, is_connected_to, is_made_on, is_open, is_paired_to, is_port, is_queued, is_sent_on, is_the, names_port, pair_of, port_name, port_row, same_birth}
 use Rattle.lpc_model.specs.SoundWaits.{leads_open}
 use Rattle.lpc_model.specs.Sweep.{is_unheld}
-use Rattle.lpc_model.specs.Basics.{Frees, basic}
+use Rattle.lpc_model.specs.Basics.{Frees, basic, freed}
+use Rattle.lpc_model.specs.Deaths.{HasLivingRegistrations, has_living_registrations}
+use Rattle.lpc_model.specs.declared.entry.ObjectKind.{ObjectKind}
+use Rattle.lpc_model.specs.declared.entry.ObjectKind.TheVariants as kind
 use Rattle.lpc_model.specs.Linked.{HasHeldPorts, is_mutual}
 use Rattle.lpc_base.proofs.RowMaps.{every-first}
+use Rattle.lpc_base.proofs.RowWords.{every-without}
 use Rattle.lpc_model.proofs.Births.{birth-same, birth-self}
 use Rattle.lpc_model.proofs.OpenQueues.{queues_freed}
 use Rattle.lpc_model.proofs.Rows.{has-append, has-found}
 use Rattle.lpc_model.proofs.Standing.{gone-names, unheld_no_queue}
-use Rattle.lpc_model.proofs.Sweeping.{free_kept, lives_freed}
+use Rattle.lpc_model.proofs.LinkedJoins.{gone-linked}
+use Rattle.lpc_model.proofs.SoundFrees.{freed-sound}
 use Rattle.lpc_model.proofs.Swept.{unheld-parts}
 use Rattle.lpc_ports.specs.declared.Port.{Port}
 use Rattle.lpc_slots.proofs.Walk.{drop_row}
@@ -28,6 +33,7 @@ use Rattle.lpc_homes.specs.declared.object.Object.{Object}
 use Rattle.lpc_homes.specs.declared.object.Object.TheVariants as object
 use Rattle.lpc_world.specs.Shown.{AreNamed, Births, Tables, birth_of, births_of, name_by, shown_port}
 use Rattle.lpc_world.proofs.Follows.{is_own, own_birth, own_ports}
+use Rattle.lpc_world.proofs.Registered.{registered-live}
 use Rattle.lpc_world.specs.Held.{CanSweep, is_joined_to, is_named}
 
 has_or : {X : Type 0} (p q : X → Bool) (xs : List X) → has (λ x. p x || q x) xs ≡ (has p xs || has q xs)
@@ -35,7 +41,7 @@ has_or p q [] = refl
 has_or p q (x ∷ xs) = grind (arith, has_or p q xs)
 
 -- A port has a handle where it is open
-has_in : {X Y : Type 0} (p : Y → Bool) (f : X → List Y) (xs : List X) → has p (each f xs) ≡ has (λ x. has p (f x)) xs
+pub has_in : {X Y : Type 0} (p : Y → Bool) (f : X → List Y) (xs : List X) → has p (each f xs) ≡ has (λ x. has p (f x)) xs
 has_in p f [] = refl
 has_in p f (x ∷ xs) = grind (arith, has-append p (f x) (each f xs), has_in p f xs)
 
@@ -81,23 +87,24 @@ no_waiting w b held can is none = none_on b w.waits (unheld_no_queue w b can.sta
 pub held_as : (w : World) (b : Birth) → CanSweep w → is_named w b ≡ not (is_unheld w (port_name b))
 held_as w b can = at (is_open w b) refl
   where
-    parts : (h s m p q : Bool) → not (not ((h || (s || m)) || (p || q))) ≡ ((h || (s || m)) || (p || q))
-    parts h s m p q = grind arith
+    parts : (h s m r p q : Bool) → not (not ((h || (s || (m || r))) || (p || q))) ≡ ((h || (s || (m || r))) || (p || q))
+    parts h s m r p q = grind arith
 
-    joins : (o p q s u m v n h k : Bool) → h ≡ o → ((h || (s || m)) || (p || q)) ≡ k → (o ≡ false → (u ≡ false) × (n ≡ false)) → (k ≡ false → v ≡ false)
-        → (o || ((p || q) || ((s || u) || ((m || v) || n)))) ≡ ((h || (s || m)) || (p || q))
-    joins true p q s u m v n h k same held off quiet = grind arith
-    joins false p q s u m v n h true same held off quiet = let none = off refl in grind (arith, none.0, none.1)
-    joins false p q s u m v n h false same held off quiet = let none = off refl in grind (arith, none.0, none.1, quiet refl)
+    joins : (o p q s u m v n r h k : Bool) → h ≡ o → ((h || (s || (m || r))) || (p || q)) ≡ k → (o ≡ false → (u ≡ false) × (n ≡ false)) → (k ≡ false → v ≡ false)
+        → ((o || ((p || q) || ((s || u) || ((m || v) || n)))) || r) ≡ ((h || (s || (m || r))) || (p || q))
+    joins true p q s u m v n r h k same held off quiet = grind arith
+    joins false p q s u m v n r h true same held off quiet = let none = off refl in grind (arith, none.0, none.1)
+    joins false p q s u m v n r h false same held off quiet = let none = off refl in grind (arith, none.0, none.1, quiet refl)
 
     at : (o : Bool) → is_open w b ≡ o → is_named w b ≡ not (is_unheld w (port_name b))
     at o is =
         let hs = not (handle_count w (port_name b) == 0) in
-        let held = (hs || (has (is_sent_on b) w.messages || has (is_made_on b) w.waits)) || (has (is_paired_to b) w.ports || has (is_connected_to b) w.ports) in
-        rw (has_or (is_paired_to b) (is_connected_to b) w.ports, has_or (is_sent_on b) (is_queued b) w.messages, has_or (is_made_on b) (λ x. same_birth x.queue b) w.waits, unheld-parts w b)
-        (joins (is_open w b) (has (is_paired_to b) w.ports) (has (is_connected_to b) w.ports) (has (is_sent_on b) w.messages) (has (is_queued b) w.messages) (has (is_made_on b) w.waits) (has (λ x. same_birth x.queue b) w.waits) (has_name same_birth b w.bindings) hs held (counted w b) refl
+        let live = has (same_birth b) (all_registrations w) in
+        let held = (hs || (has (is_sent_on b) w.messages || (has (is_made_on b) w.waits || live))) || (has (is_paired_to b) w.ports || has (is_connected_to b) w.ports) in
+        rw (registered-live w.threads can.registrations, has_or (is_paired_to b) (is_connected_to b) w.ports, has_or (is_sent_on b) (is_queued b) w.messages, has_or (is_made_on b) (λ x. same_birth x.queue b) w.waits, unheld-parts w b)
+        (joins (is_open w b) (has (is_paired_to b) w.ports) (has (is_connected_to b) w.ports) (has (is_sent_on b) w.messages) (has (is_queued b) w.messages) (has (is_made_on b) w.waits) (has (λ x. same_birth x.queue b) w.waits) (has_name same_birth b w.bindings) live hs held (counted w b) refl
         (λ off. (no_queued w b off w.messages can.queues.messages, no_named w b off w.bindings can.sound.names)) (no_waiting w b held can (unheld-parts w b))
-        ∙ sym (parts hs (has (is_sent_on b) w.messages) (has (is_made_on b) w.waits) (has (is_paired_to b) w.ports) (has (is_connected_to b) w.ports)))
+        ∙ sym (parts hs (has (is_sent_on b) w.messages) (has (is_made_on b) w.waits) live (has (is_paired_to b) w.ports) (has (is_connected_to b) w.ports)))
 
 -- a port with another end is held by it
 paired_as : (w : World) (b : Birth) (o : Option PortRow) (q : Birth) → port_row w q ≡ o → is_the b (option_and_then (λ p. p.pair) o) ≡ true → has (is_paired_to b) w.ports ≡ true
@@ -123,11 +130,26 @@ free_port w o key is can none =
     let here : is_unheld w.rows (port_name (name_of w.births.ports key)) ≡ true = subst (λ q. is_unheld w.rows (name_by (birth_of w.births) q) ≡ true) (sym is) none in
     held_as w.rows (name_of w.births.ports key) can ∙ ap not here
 
--- a port that goes leaves a world that can be swept
-pub can_freed : (w : World) (b : Birth) → CanSweep w → is_unheld w (port_name b) ≡ true → CanSweep (basic w (Frees (port_name b)))
-can_freed w b can none =
-    let kept = free_kept w b can.sound can.linked none in
-    record { sound = kept.0; linked = kept.1; queues = queues_freed w (port_name b) can.queues; standing = gone-names w (port_name b) none can.standing; lives = lives_freed w b can.lives }
+-- what goes leaves threads that have ended without registrations
+living-freed : (w : World) (o : ObjectName) → HasLivingRegistrations w → HasLivingRegistrations (basic w (Frees o))
+living-freed w o living = at o.kind o.birth
+  where
+    at : (k : ObjectKind) (b : Birth) → HasLivingRegistrations (freed w k b)
+    at kind.Port b = living
+    at kind.Section b = living
+    at kind.Token b = living
+    at kind.Process b = living
+    at kind.Thread b = every-without has_living_registrations (λ t. same_birth t.birth b) w.threads living
+
+-- what no row counts for leaves a world that can be swept, where it goes
+pub can_freed : (w : World) (o : ObjectName) → CanSweep w → is_unheld w o ≡ true → CanSweep (basic w (Frees o))
+can_freed w o can none = record {
+  sound = freed-sound w o none can.sound;
+  linked = gone-linked w o none can.sound can.linked;
+  queues = queues_freed w o can.queues;
+  standing = gone-names w o none can.standing;
+  registrations = living-freed w o can.registrations;
+}
 
 -- The port at a place
 every_at : {X : Type 0} (p : X → Bool) (xs : List X) (place : ℕ) (x : X) → every p xs ≡ true → slice_get xs place ≡ Some x → p x ≡ true

@@ -78,7 +78,7 @@ drawn-ports : (w : World) (k : model.PortRow → model.PortRow) → ((p : model.
 drawn-ports w k same h = record {
   threads_single = h.threads_single;
   threads_noted = h.threads_noted;
-  ports_drawn = every-mapped (was_drawn w.threads) k (λ p there. rw (same p) there) w.ports h.ports_drawn;
+  ports_drawn = every-mapped (λ p. was_drawn w.used_threads w.threads p.birth) k (λ p there. rw (same p) there) w.ports h.ports_drawn;
 }
 
 -- a change of the ports' rows
@@ -119,8 +119,10 @@ module _ (change_row : Key × Port → Key × Port) (same_key : (row : Key × Po
         named = named;
         lawful = rw changes (lawful-ports (rows_by it) calls made it.waits.spare it.ports.message_room k same kinds all.lawful);
         counted = record { ports_made = all.counted.ports_made; messages_made = all.counted.messages_made; waits_made = all.counted.waits_made };
+        registered = rw births_same all.registered;
         headed = all.headed;
         drawn = rw changes (drawn-ports (rows_by it) k same all.drawn);
+        born = all.born;
         promised = subst (λ (v : World). IsPromised v.waits v.handles it.parts) (sym changes) all.promised;
       }
 

@@ -1,5 +1,5 @@
 -- What each basic step leaves of a lawful world.
-use Rattle.std.proofs.Common.{◌≡◌, ℕ, ◌+◌, ◌*◌, ◌<◌, ◌≤◌, List, [], ◌∷◌, ◌++◌, Bool, true, false, cond, length, map, Some, None, refl, sym, subst, ◌∙◌, arith, eqb}
+use Rattle.std.proofs.Common.{◌≡◌, ℕ, ◌+◌, ◌*◌, ◌<◌, ◌≤◌, List, [], ◌∷◌, ◌++◌, Bool, true, false, cond, length, map, Some, None, refl, ap, sym, subst, ◌∙◌, arith, eqb}
 use Rattle.std.specs.Prelude.{◌==◌, ◌-◌}
 use Rattle.std.specs.List.{AllByRecursion, IsDistinct}
 use Rattle.std.specs.Cmp.{nat_eq_equiv}
@@ -22,8 +22,9 @@ use Rattle.lpc_model.specs.Message.{asks}
 use Rattle.lpc_model.specs.Found.{is_client_port, is_live_thread, is_open, is_own_of, is_port, is_process, is_queued, is_queued_connect, is_table, is_thread, same_birth, waits_as}
 use Rattle.lpc_model.specs.Entering.{takes}
 use Rattle.lpc_model.specs.Basics.{no_handles, past_identifier, past_ordinal, received, with_handle, without_handle}
-use Rattle.lpc_world.specs.Kept.{is_alive, is_asking, is_pending, is_unsent, owed_closings, owed_messages, owed_requests, owed_rows, owed_waits}
+use Rattle.lpc_world.specs.Kept.{is_alive, is_asking, is_pending, is_unsent, owed_messages, owed_rows, owed_waits}
 use Rattle.lpc_world.proofs.Owed.{none-taken, owed-drop, owed-handle, owed-process, owed-shut}
+use Rattle.lpc_world.proofs.Registered.{registered-change, registered-push}
 use Rattle.lpc_world.proofs.OwnMessages.{asking-pending, count-left, count-taken_by, own-change, own-end, own-enter, own-keep, own-take, own-wait, own-withdraw}
 use Rattle.lpc_world.proofs.Untold.{asks_no_closing, closings-fit, one-place, told-enter, told-make, told-take, told-withdraw}
 use Rattle.lpc_world.specs.Untold.{TellsOnce, closing_places, is_owed}
@@ -141,7 +142,7 @@ lawful-room w calls made a b c d h more most = record {
 }
 
 -- a thread that draws
-module _ (f : ThreadRow → ThreadRow) (same : (t : ThreadRow) → (f t).number ≡ t.number) (home : (t : ThreadRow) → (f t).process ≡ t.process) (lives : (t : ThreadRow) → (f t).live ≡ t.live) where
+module _ (f : ThreadRow → ThreadRow) (same : (t : ThreadRow) → (f t).number ≡ t.number) (home : (t : ThreadRow) → (f t).process ≡ t.process) (lives : (t : ThreadRow) → (f t).live ≡ t.live) (kept : (t : ThreadRow) → (f t).registrations ≡ t.registrations) where
   housed-drawn : (w : World) (who : ℕ) (ts : List ThreadRow) (v : World) → v.processes ≡ w.processes → v.handles ≡ w.handles → every (is_housed w) ts ≡ true → every (is_housed v) (change (is_thread who) f ts) ≡ true
   housed-drawn w who ts v ps hs all =
       every-change (is_housed v) (is_thread who) f (λ t there. rw (home t) there) ts
@@ -151,7 +152,7 @@ module _ (f : ThreadRow → ThreadRow) (same : (t : ThreadRow) → (f t).number 
       → IsLawful (record w { threads = change (is_thread who) f w.threads }) calls (made + 1) a b
   lawful-drawn w calls made a b who h lt draws = record {
     few = h.few;
-    budget = omega arith;
+    budget = rw (registered-change f kept who w.threads) (omega arith);
     rows = grind (arith, h.rows, length-change (is_thread who) f w.threads);
     draws = draws;
     housed = housed-drawn w who w.threads (record w { threads = change (is_thread who) f w.threads }) refl refl h.housed;
@@ -164,16 +165,16 @@ module _ (f : ThreadRow → ThreadRow) (same : (t : ThreadRow) → (f t).number 
     own = h.own;
     told = h.told;
     waits_fit = rw (alive-change f lives who w.threads) h.waits_fit;
-    messages_fit = rw (alive-change f lives who w.threads) h.messages_fit;
+    messages_fit = rw (alive-change f lives who w.threads, registered-change f kept who w.threads) h.messages_fit;
   }
 
 pub lawful-identifier : (w : World) (calls made a b who : ℕ) → IsLawful w calls made a b → made + owed_rows w < 16 * calls
     → IsLawful (record w { threads = change (is_thread who) past_identifier w.threads }) calls (made + 1) a b
-lawful-identifier w calls made a b who h lt = lawful-drawn past_identifier (λ t. refl) (λ t. refl) (λ t. refl) w calls made a b who h lt (draws-identifiers (made + 1) who w.threads h.draws)
+lawful-identifier w calls made a b who h lt = lawful-drawn past_identifier (λ t. refl) (λ t. refl) (λ t. refl) (λ t. refl) w calls made a b who h lt (draws-identifiers (made + 1) who w.threads h.draws)
 
 pub lawful-ordinal : (w : World) (calls made a b who : ℕ) → IsLawful w calls made a b → made + owed_rows w < 16 * calls
     → IsLawful (record w { threads = change (is_thread who) past_ordinal w.threads }) calls (made + 1) a b
-lawful-ordinal w calls made a b who h lt = lawful-drawn past_ordinal (λ t. refl) (λ t. refl) (λ t. refl) w calls made a b who h lt (draws-ordinals (made + 1) who w.threads h.draws)
+lawful-ordinal w calls made a b who h lt = lawful-drawn past_ordinal (λ t. refl) (λ t. refl) (λ t. refl) (λ t. refl) w calls made a b who h lt (draws-ordinals (made + 1) who w.threads h.draws)
 
 -- a process and its table of handles
 pub unused-table : (used : List ℕ) (pid : ℕ) (ts : List HandleTable) → every (is_used used) ts ≡ true → has (λ n. n == pid) used ≡ false → has (is_table pid) ts ≡ false
@@ -218,11 +219,11 @@ at-most-one true = omega arith
 at-most-one false = omega arith
 
 pub lawful-thread : (w : World) (calls made a b : ℕ) (t : ThreadRow) (used : List UsedThread) → IsLawful w calls made a b → made + owed_rows w < 16 * calls
-    → draws_at_most 1 t ≡ true → is_housed w t ≡ true → owed_waits w < a → owed_messages w < b
+    → draws_at_most 1 t ≡ true → t.registrations ≡ [] → is_housed w t ≡ true → owed_waits w < a → owed_messages w < b
     → IsLawful (record w { threads = w.threads ++ t ∷ []; used_threads = used }) calls (made + 1) a b
-lawful-thread w calls made a b t used h lt young home room place = record {
+lawful-thread w calls made a b t used h lt young none home room place = record {
   few = h.few;
-  budget = omega arith;
+  budget = let owed = ap length (registered-push w.threads t none) in omega (arith, owed);
   rows = grind (arith, h.rows, length_push w.threads t);
   draws = every-push (draws_at_most (made + 1 + 1)) w.threads t
       (every-more (draws_at_most (made + 1)) (draws_at_most (made + 1 + 1)) (draws-more (made + 1) (made + 1 + 1) (omega arith)) w.threads h.draws)
@@ -237,7 +238,7 @@ lawful-thread w calls made a b t used h lt young home room place = record {
   own = h.own;
   told = h.told;
   waits_fit = let more = count-push is_alive w.threads t in let one = at-most-one (is_alive t) in omega (arith, more, one, room);
-  messages_fit = let more = count-push is_alive w.threads t in let one = at-most-one (is_alive t) in omega (arith, more, one, place);
+  messages_fit = let more = count-push is_alive w.threads t in let one = at-most-one (is_alive t) in let owed = ap length (registered-push w.threads t none) in omega (arith, more, one, place, owed);
 }
 
 -- a port more
@@ -436,7 +437,7 @@ lawful-enter w calls made a b m h lt place none asks once other = record {
       let there = places w calls made a b m h asks once in
       let asked = count-push is_asking w.messages m in
       let told = count-push is_closed_post w.messages m in
-      elim (is_owed m.message) as (λ c. is_owed m.message ≡ c → owed_requests (record w { messages = w.messages ++ m ∷ [] }) + owed_closings (record w { messages = w.messages ++ m ∷ [] }) ≤ b - 1) [
+      elim (is_owed m.message) as (λ c. is_owed m.message ≡ c → owed_messages (record w { messages = w.messages ++ m ∷ [] }) ≤ b - 1) [
         | true ↦ λ e. let one : cond (is_asking m) 1 0 + cond (is_closed_post m) 1 0 ≡ 1 = rw (one-place m.message, e) refl in omega (arith, there.0, there.1, asked, told, one, h.messages_fit)
         | false ↦ λ e. let none : cond (is_asking m) 1 0 + cond (is_closed_post m) 1 0 ≡ 0 = rw (one-place m.message, e) refl in let spare = other e in omega (arith, asked, told, none, spare)
       ] refl;

@@ -16,10 +16,15 @@ pub mod Finished
 pub mod Naming
 pub mod NextEnding
 pub mod Readings
+pub mod Registered
 pub mod Rooms
 pub mod Steps
 pub mod Tables
+pub mod Deaths
 pub mod Drawn
+pub mod Dying
+pub mod Enrolling
+pub mod Born
 pub mod Joins
 pub mod Accepts
 pub mod Pulls
@@ -27,6 +32,8 @@ pub mod Unheld
 pub mod Frees
 pub mod ReceivesAt
 pub mod HeldPorts
+pub mod Vacated
+pub mod HeldLives
 pub mod Withdrawn
 pub mod Counted
 pub mod Cut

@@ -1,6 +1,6 @@
 -- What each change of handles and ports leaves of the rows that are owed: a handle more makes one more owed at most, and
 -- without a handle or a port no more are.
-use Rattle.std.proofs.Common.{◌≡◌, ◌+◌, ◌≤◌, ℕ, List, [], ◌∷◌, ◌++◌, Bool, true, false, map, None, refl, arith, subst}
+use Rattle.std.proofs.Common.{◌≡◌, ◌+◌, ◌≤◌, ℕ, List, [], ◌∷◌, ◌++◌, Bool, true, false, map, None, refl, ap, arith, subst}
 use Rattle.std.specs.Prelude.{◌&&◌}
 use Rattle.lpc_base.specs.declared.birth.Birth.{Birth}
 use Rattle.lpc_base.specs.Rows.{change, count, every, first, has, without, without_first}
@@ -12,7 +12,7 @@ use Rattle.lpc_model.specs.Found.{has_handle_to, is_client_port, is_open, is_por
 use Rattle.lpc_model.proofs.Untold.{put-none}
 use Rattle.lpc_ports.specs.declared.Port.{Port}
 use Rattle.lpc_slots.specs.declared.Key.{Key}
-use Rattle.lpc_world.specs.Kept.{is_open_client, owed_rows}
+use Rattle.lpc_world.specs.Kept.{is_open_client, owed_deaths, owed_rows}
 use Rattle.lpc_world.specs.Names.{are_apart, differs, name_of, names_of, stands}
 use Rattle.lpc_world.specs.Shown.{AreNamed, Tables, all_pass, birth_of, births_of, object_stands, part_refs, shown_handle, shown_part, shown_port}
 use Rattle.lpc_homes.specs.declared.object.Object.{Object}
@@ -48,7 +48,7 @@ shut-client w v p shut off = at (is_client_port p) (is_open w p.birth) (is_open 
 
 -- a process comes, without handles
 pub owed-process : (w : World) (pid : ℕ) → owed_rows (record w { handles = w.handles ++ no_handles pid ∷ [] }) ≡ owed_rows w
-owed-process w pid = same w.ports
+owed-process w pid = ap (λ k. k + owed_deaths w) (same w.ports)
   where
     same : (ps : List PortRow) → count (is_open_client (record w { handles = w.handles ++ no_handles pid ∷ [] })) ps ≡ count (is_open_client w) ps
     same [] = refl
@@ -58,8 +58,9 @@ owed-process w pid = same w.ports
 pub owed-drop : (w : World) (pid value : ℕ) → owed_rows (record w { handles = change (is_table pid) (without_handle value) w.handles }) ≤ owed_rows w
 owed-drop w pid value =
     let v : World = record w { handles = change (is_table pid) (without_handle value) w.handles } in
-    count-more (is_open_client v) (is_open_client w) (λ p. shut-client w v p (λ off.
-    has_none-change (has_handle_to p.birth) (is_table pid) (without_handle value) (λ t none. none-taken _ (λ h. names_port p.birth h.object) t.rows none) w.handles off)) w.ports
+    let less = count-more (is_open_client v) (is_open_client w) (λ p. shut-client w v p (λ off.
+    has_none-change (has_handle_to p.birth) (is_table pid) (without_handle value) (λ t none. none-taken _ (λ h. names_port p.birth h.object) t.rows none) w.handles off)) w.ports in
+    omega (arith, less)
 
 -- a handle comes
 pub owed-handle : (w : World) (pid : ℕ) (h : HandleRow) → count (is_port h.object.birth) w.ports ≤ 1 → owed_rows (record w { handles = change (is_table pid) (with_handle h) w.handles }) ≤ owed_rows w + 1
@@ -75,11 +76,11 @@ owed-shut w p shut = grind (arith, count-push (is_open_client w) w.ports p)
 
 -- a port goes
 pub owed-free : (w : World) (b : Birth) → owed_rows (record w { ports = without (is_port b) w.ports }) ≤ owed_rows w
-owed-free w b = count-left (is_open_client w) (is_port b) w.ports
+owed-free w b = let less = count-left (is_open_client w) (is_port b) w.ports in omega (arith, less)
 
 -- ports are changed, each keeping its birth and its kind
 pub owed-map : (w : World) (k : PortRow → PortRow) → ((p : PortRow) → (k p).birth ≡ p.birth) → ((p : PortRow) → (k p).kind ≡ p.kind) → owed_rows (record w { ports = map k w.ports }) ≡ owed_rows w
-owed-map w k same kinds = mapped w.ports
+owed-map w k same kinds = ap (λ n. n + owed_deaths w) (mapped w.ports)
   where
     mapped : (ps : List PortRow) → count (is_open_client w) (map k ps) ≡ count (is_open_client w) ps
     mapped [] = refl

@@ -164,8 +164,10 @@ module _ (it : Tables) (calls made : ℕ) (is : AreLawful it calls made) (queue 
       named = pulled_named;
       lawful = rw pulls (lawful.lawful-take rows calls made it.waits.spare it.ports.message_room in_rows m at is.lawful);
       counted = record { ports_made = is.counted.ports_made; messages_made = is.counted.messages_made; waits_made = is.counted.waits_made };
+      registered = is.registered;
       headed = every-without_first has_header in_table it.ports.messages is.headed;
       drawn = drawn.same-drawn rows _ refl refl refl is.drawn;
+      born = is.born;
       promised = is.promised;
     }
 

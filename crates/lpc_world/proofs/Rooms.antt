@@ -1,17 +1,18 @@
 -- The room that each changing call leaves.
-use Rattle.std.proofs.Common.{◌≡◌, ℕ, ◌+◌, ◌-◌, ◌<◌, ◌≤◌, List, [], ◌∷◌, ◌++◌, Bool, true, false, cond, length, min, Some, arith}
+use Rattle.std.proofs.Common.{◌≡◌, ℕ, ◌+◌, ◌-◌, ◌<◌, ◌≤◌, List, [], ◌∷◌, ◌++◌, Bool, true, false, cond, length, min, Some, ap, arith}
 use Rattle.std.proofs.lemmas.List.{length_push}
 use Rattle.lpc_base.specs.declared.birth.Birth.{Birth}
-use Rattle.lpc_base.specs.Rows.{count, first, has, without, without_first}
+use Rattle.lpc_base.specs.Rows.{count, each, first, has, without, without_first}
 use Rattle.lpc_base.proofs.Differ.{length-ended}
 use Rattle.lpc_base.proofs.RowWords.{count-push}
 use Rattle.lpc_model.specs.World.{World, MessageRow, PortRow, ThreadRow, WaitRow}
 use Rattle.lpc_model.specs.Closings.{is_closed_post}
 use Rattle.lpc_model.specs.Found.{is_queued, waits_as}
-use Rattle.lpc_world.specs.Kept.{HandleRoom, Room, Roomy, is_alive, is_asking, is_room, owed_messages, owed_waits, room_in}
+use Rattle.lpc_world.specs.Kept.{HandleRoom, Room, Roomy, is_alive, is_asking, is_room, owed_messages, owed_waits, registered_ports, room_in}
 use Rattle.lpc_world.specs.Lawful.{are_single}
 use Rattle.lpc_world.specs.Untold.{closing_places}
 use Rattle.lpc_world.proofs.Lawful.{owed-port, owed-taken, owed-withdrawn}
+use Rattle.lpc_world.proofs.Registered.{registered-push}
 
 -- the room by its numbers
 abbrev pub room : ℕ → ℕ → ℕ → ℕ → ℕ → ℕ → World → List HandleRoom → Room
@@ -35,12 +36,12 @@ handles_more [] r pid = grind arith
 handles_more (s ∷ rooms) r pid = grind (arith, handles_more rooms r pid)
 
 module _ (a b c d e g : ℕ) (w : World) (hs : List HandleRoom) where
-  pub room_threads : (ts : List ThreadRow) → count is_alive ts ≡ count is_alive w.threads → Roomy (room a b c d e g w hs) (room a b c d e g (record w { threads = ts }) hs)
-  room_threads ts same = record {
+  pub room_threads : (ts : List ThreadRow) → count is_alive ts ≡ count is_alive w.threads → each (λ t. t.registrations) ts ≡ registered_ports w → Roomy (room a b c d e g w hs) (room a b c d e g (record w { threads = ts }) hs)
+  room_threads ts same kept = let owed = ap length kept in record {
     for_processes = omega arith;
     for_threads = omega arith;
     for_waits = omega (arith, same);
-    for_messages = omega (arith, same);
+    for_messages = omega (arith, same, owed);
     for_ports = omega arith;
     for_names = omega arith;
     for_handles = λ pid. omega arith;
@@ -58,13 +59,13 @@ module _ (a b c d e g : ℕ) (w : World) (hs : List HandleRoom) where
     for_handles = handles_more hs r;
   })
 
-  pub room_thread : (v : World) (t : ThreadRow) → v.threads ≡ w.threads ++ t ∷ [] → v.waits ≡ w.waits → v.messages ≡ w.messages → v.ports ≡ w.ports
+  pub room_thread : (v : World) (t : ThreadRow) → t.registrations ≡ [] → v.threads ≡ w.threads ++ t ∷ [] → v.waits ≡ w.waits → v.messages ≡ w.messages → v.ports ≡ w.ports
       → let after = room a (b - 1) c d e g v hs in Roomy (room a b c d e g w hs) (record after { threads = after.threads + 1; waits = after.waits + 1; messages = after.messages + 1 })
-  room_thread v t ts ws ms ps = rw (ts, ws, ms, ps) (let more = count-push is_alive w.threads t in let one = at_most_one (is_alive t) in record {
+  room_thread v t none ts ws ms ps = rw (ts, ws, ms, ps) (let more = count-push is_alive w.threads t in let one = at_most_one (is_alive t) in let owed = ap length (registered-push w.threads t none) in record {
     for_processes = omega arith;
     for_threads = omega arith;
     for_waits = omega (arith, more, one);
-    for_messages = omega (arith, more, one);
+    for_messages = omega (arith, more, one, owed);
     for_ports = omega arith;
     for_names = omega arith;
     for_handles = λ pid. omega arith;

@@ -6,7 +6,7 @@ use Rattle.std.proofs.lemmas.Bool.Decides.{nat_tests}
 use Rattle.lpc_base.specs.declared.birth.Birth.{Birth}
 use Rattle.lpc_base.specs.Rows.{change, count, every, first, has, without, without_first}
 use Rattle.lpc_base.proofs.RowMaps.{every-first, every-without_first, first-map, has-map, mapped-twice}
-use Rattle.lpc_base.proofs.RowWords.{every-push, first-passes}
+use Rattle.lpc_base.proofs.RowWords.{every-change, every-push, first-passes}
 use Rattle.lpc_handles.specs.declared.table.Row.{Row}
 use Rattle.lpc_model.specs.World as model
 use Rattle.lpc_model.specs.World.{World}
@@ -36,11 +36,12 @@ use Rattle.lpc_world.specs.Shown.{Tables, Births, all_pass, birth_of, births_of,
 use Rattle.lpc_homes.specs.Parts.{are_single_parts, handed, is_part, roomed, spare_at}
 use Rattle.lpc_world.specs.Kept.{has_queued, is_alive, is_asking, is_unsent, owed_messages, owed_rows, owed_waits, rows_by}
 use Rattle.lpc_world.specs.Untold.{TellsOnce, closing_places, is_owed}
-use Rattle.lpc_world.specs.Lawful.{AreLawful, IsCounted, draws_at_most, drew, IsPromised, has_header, is_housed, is_quiet}
+use Rattle.lpc_world.specs.Lawful.{AreBornIn, AreLawful, IsCounted, IsPromised, can_begin, draws_at_most, drew, has_header, has_named_ports, is_housed, is_process_by, is_quiet, is_thread_by}
 use Rattle.lpc_homes.specs.declared.object.Object.{Object}
 use Rattle.lpc_homes.specs.declared.object.Object.TheVariants as object
 use Rattle.lpc_homes.specs.declared.parts.Part.{Part}
 use Rattle.lpc_world.proofs.Changes as changes
+use Rattle.lpc_world.proofs.Born as born
 use Rattle.lpc_world.proofs.Drawn as drawn
 use Rattle.lpc_world.proofs.Follows.{first_queued}
 use Rattle.lpc_world.proofs.Lawful as lawful
@@ -49,6 +50,7 @@ use Rattle.lpc_world.proofs.Naming.{key_is, key_itself}
 use Rattle.lpc_world.proofs.Owed as owed
 use Rattle.lpc_world.proofs.Promised as promised
 use Rattle.lpc_world.proofs.Promised.{IsWelcome}
+use Rattle.lpc_world.proofs.Registered.{registered-more}
 
 more_counted : (p : PortTable) (w : WaitTable) (made : ℕ) → IsCounted p w made → IsCounted p w (made + 1)
 more_counted p w made h = record { ports_made = omega (arith, h.ports_made); messages_made = omega (arith, h.messages_made); waits_made = omega (arith, h.waits_made) }
@@ -103,8 +105,10 @@ module _ (it : Tables) (calls made : ℕ) (is : AreLawful it calls made) where
     named = changes.threaded it is.named _;
     lawful = rw (changes.draws_identifier it is.named who) (lawful.lawful-identifier rows calls made it.waits.spare it.ports.message_room who is.lawful lt);
     counted = more_counted it.ports it.waits made is.counted;
+    registered = every-change (has_named_ports n) (procs.is_thread who) procs.past_identifier (λ t there. there) it.procs.threads is.registered;
     headed = is.headed;
     drawn = rw (changes.draws_identifier it is.named who) (drawn.drawn-identifier rows who is.drawn);
+    born = subst AreBornIn (sym (changes.draws_identifier it is.named who)) (born.born-by basics.past_identifier (λ t. refl) (λ t. refl) drawn.more-identifier rows.processes rows.threads rows.used_processes rows.used_threads who is.born);
     promised = is.promised;
   }
 
@@ -113,20 +117,25 @@ module _ (it : Tables) (calls made : ℕ) (is : AreLawful it calls made) where
     named = changes.threaded it is.named _;
     lawful = rw (changes.draws_ordinal it is.named who) (lawful.lawful-ordinal rows calls made it.waits.spare it.ports.message_room who is.lawful lt);
     counted = more_counted it.ports it.waits made is.counted;
+    registered = every-change (has_named_ports n) (procs.is_thread who) procs.past_birth (λ t there. there) it.procs.threads is.registered;
     headed = is.headed;
     drawn = rw (changes.draws_ordinal it is.named who) (drawn.drawn-ordinal rows who is.drawn);
+    born = subst AreBornIn (sym (changes.draws_ordinal it is.named who)) (born.born-by basics.past_ordinal (λ t. refl) (λ t. refl) drawn.more-ordinal rows.processes rows.threads rows.used_processes rows.used_threads who is.born);
     promised = is.promised;
   }
 
   -- processes and threads
   pub added_process : (row : ProcessRow) (part : Part) (room : ℕ) → part.handles.rows ≡ [] → part.process ≡ row.number → made + owed_rows rows < 16 * calls → has (λ m. m == row.number) it.procs.used_processes ≡ false
+      → can_begin rows.threads row.number row.birth ≡ true → ((row.birth.maker == 0) ≡ false → has (is_process_by row.birth) rows.processes ≡ false)
       → AreLawful (record it { procs = record it.procs { processes = it.procs.processes ++ row ∷ []; used_processes = it.procs.used_processes ++ row.number ∷ []; process_room = room }; parts = it.parts ++ part ∷ [] }) calls (made + 1)
-  added_process row part room none same lt new = record {
+  added_process row part room none same lt new begins other = record {
     named = changes.processed it is.named _ part none;
     lawful = rw (changes.adds_process it is.named row part room none same) (lawful.lawful-process rows calls made it.waits.spare it.ports.message_room (shown_process row) is.lawful lt new);
     counted = more_counted it.ports it.waits made is.counted;
+    registered = is.registered;
     headed = is.headed;
     drawn = rw (changes.adds_process it is.named row part room none same) (drawn.same-drawn rows _ refl refl refl is.drawn);
+    born = subst AreBornIn (sym (changes.adds_process it is.named row part room none same)) (born.born-process rows.processes rows.threads rows.used_processes rows.used_threads is.born (shown_process row) new (λ there. drawn.drew-drawn rows row.birth there is.drawn) begins other);
     promised = subst (λ (v : World). IsPromised v.waits v.handles (it.parts ++ part ∷ [])) (sym (changes.adds_process it is.named row part room none same)) (promised.process-comes rows.waits rows.handles it.parts is.promised row.number part same (lawful.unused-table rows.used_processes row.number rows.handles is.lawful.tables_used new));
   }
 
@@ -134,15 +143,18 @@ module _ (it : Tables) (calls made : ℕ) (is : AreLawful it calls made) where
       → owed_rows (rows_by (record it { procs = record it.procs { processes = it.procs.processes ++ row ∷ []; used_processes = it.procs.used_processes ++ row.number ∷ []; process_room = room }; parts = it.parts ++ part ∷ [] })) ≡ owed_rows rows
   process_owed row part room none same = rw (changes.adds_process it is.named row part room none same) (owed.owed-process rows row.number)
 
-  pub added_thread : (row : ThreadRow) (room : ℕ) → has (λ u. u.number == row.number) rows.used_threads ≡ false → made + owed_rows rows < 16 * calls → draws_at_most 1 (shown_thread row) ≡ true → is_housed rows (shown_thread row) ≡ true
+  pub added_thread : (row : ThreadRow) (room : ℕ) → has (λ u. u.number == row.number) rows.used_threads ≡ false → made + owed_rows rows < 16 * calls → draws_at_most 1 (shown_thread row) ≡ true → row.registered.items ≡ [] → is_housed rows (shown_thread row) ≡ true
       → owed_waits rows < it.waits.spare → owed_messages rows < it.ports.message_room
+      → can_begin rows.threads row.number row.birth ≡ true → ((row.birth.maker == 0) ≡ false → has (is_thread_by row.birth) rows.threads ≡ false)
       → AreLawful (record it { procs = record it.procs { threads = it.procs.threads ++ row ∷ []; used_threads = it.procs.used_threads ++ (record { number = row.number; process = row.process }) ∷ []; thread_room = room } }) calls (made + 1)
-  added_thread row room unused lt young home wait_room message_room = record {
+  added_thread row room unused lt young none home wait_room message_room begins other = record {
     named = changes.threaded it is.named _;
-    lawful = rw (changes.adds_thread it is.named row room) (lawful.lawful-thread rows calls made it.waits.spare it.ports.message_room (shown_thread row) _ is.lawful lt young home wait_room message_room);
+    lawful = rw (changes.adds_thread it is.named row room) (lawful.lawful-thread rows calls made it.waits.spare it.ports.message_room (shown_thread row) _ is.lawful lt young (rw none refl) home wait_room message_room);
     counted = more_counted it.ports it.waits made is.counted;
+    registered = every-push (has_named_ports n) it.procs.threads row is.registered (rw none refl);
     headed = is.headed;
     drawn = rw (changes.adds_thread it is.named row room) (drawn.drawn-thread rows (shown_thread row) _ refl unused is.drawn);
+    born = subst AreBornIn (sym (changes.adds_thread it is.named row room)) (born.born-thread rows.processes rows.threads rows.used_processes rows.used_threads is.born (shown_thread row) (record { number = row.number; process = row.process }) is.drawn.threads_noted unused (λ there. drawn.drew-drawn rows row.birth there is.drawn) begins other);
     promised = is.promised;
   }
 
@@ -155,8 +167,10 @@ module _ (it : Tables) (calls made : ℕ) (is : AreLawful it calls made) where
     named = changes.entered it is.named row (it.ports.message_room - 1) (it.ports.messages_made + 1) there;
     lawful = rw (changes.enters it is.named row (it.ports.message_room - 1) (it.ports.messages_made + 1)) (lawful.lawful-enter rows calls made it.waits.spare it.ports.message_room (shown_message (birth_of n) row) is.lawful lt place none asks once other);
     counted = record { ports_made = omega (arith, is.counted.ports_made); messages_made = omega (arith, is.counted.messages_made); waits_made = omega (arith, is.counted.waits_made) };
+    registered = is.registered;
     headed = every-push has_header it.ports.messages row is.headed long;
     drawn = drawn.same-drawn rows _ refl refl refl is.drawn;
+    born = is.born;
     promised = is.promised;
   }
 
@@ -166,8 +180,10 @@ module _ (it : Tables) (calls made : ℕ) (is : AreLawful it calls made) where
     named = changes.taken it is.named key (it.ports.message_room + 1);
     lawful = rw (changes.takes it is.named key (it.ports.message_room + 1) there) (lawful.lawful-take rows calls made it.waits.spare it.ports.message_room (is_queued (name_of n.ports key)) m at is.lawful);
     counted = record { ports_made = is.counted.ports_made; messages_made = is.counted.messages_made; waits_made = is.counted.waits_made };
+    registered = is.registered;
     headed = every-without_first has_header (ports.is_in key) it.ports.messages is.headed;
     drawn = drawn.same-drawn rows _ refl refl refl is.drawn;
+    born = is.born;
     promised = is.promised;
   }
 
@@ -179,8 +195,10 @@ module _ (it : Tables) (calls made : ℕ) (is : AreLawful it calls made) where
     named = changes.awaited it is.named row (it.waits.spare - 1) (it.waits.made + 1) there;
     lawful = rw (changes.awaits it is.named row (it.waits.spare - 1) (it.waits.made + 1)) (lawful.lawful-wait rows calls made it.waits.spare it.ports.message_room (shown_wait (birth_of n) row) is.lawful lt thread ready still (lawful.wait-place rows calls made it.waits.spare it.ports.message_room row.thread is.lawful thread ready));
     counted = record { ports_made = omega (arith, is.counted.ports_made); messages_made = omega (arith, is.counted.messages_made); waits_made = omega (arith, is.counted.waits_made) };
+    registered = is.registered;
     headed = is.headed;
     drawn = drawn.same-drawn rows _ refl refl refl is.drawn;
+    born = is.born;
     promised = subst (λ (v : World). IsPromised v.waits v.handles it.parts) (sym (changes.awaits it is.named row (it.waits.spare - 1) (it.waits.made + 1))) owed;
   }
 
@@ -192,8 +210,10 @@ module _ (it : Tables) (calls made : ℕ) (is : AreLawful it calls made) where
     named = changes.ended it is.named who (cond (has (waits.is_of who) it.waits.rows) (it.waits.spare + 1) it.waits.spare) it.waits.made;
     lawful = rw (changes.ends it is.named who (cond (has (waits.is_of who) it.waits.rows) (it.waits.spare + 1) it.waits.spare) it.waits.made, ← has_wait who) (lawful.lawful-end rows calls made it.waits.spare it.ports.message_room who is.lawful none);
     counted = record { ports_made = is.counted.ports_made; messages_made = is.counted.messages_made; waits_made = is.counted.waits_made };
+    registered = is.registered;
     headed = is.headed;
     drawn = drawn.same-drawn rows _ refl refl refl is.drawn;
+    born = is.born;
     promised = subst (λ (v : World). IsPromised v.waits v.handles it.parts) (sym (changes.ends it is.named who (cond (has (waits.is_of who) it.waits.rows) (it.waits.spare + 1) it.waits.spare) it.waits.made)) (promised.wait-ends rows.waits rows.handles it.parts is.promised (waits_as who));
   }
 
@@ -203,8 +223,10 @@ module _ (it : Tables) (calls made : ℕ) (is : AreLawful it calls made) where
     named = changes.waiting it is.named who it.waits.spare it.waits.made waits.received (λ row. refl);
     lawful = rw (changes.receives it is.named who) (lawful.lawful-receive rows calls made it.waits.spare it.ports.message_room who is.lawful none);
     counted = record { ports_made = is.counted.ports_made; messages_made = is.counted.messages_made; waits_made = is.counted.waits_made };
+    registered = is.registered;
     headed = is.headed;
     drawn = drawn.same-drawn rows _ refl refl refl is.drawn;
+    born = is.born;
     promised = subst (λ (v : World). IsPromised v.waits v.handles it.parts) (sym (changes.receives it is.named who)) (promised.wait-stays rows.waits rows.handles it.parts is.promised (waits_as who) basics.received (λ x. refl) (λ x. refl) (promised.received-taken who rows.waits is.promised.taken));
   }
 
@@ -214,8 +236,10 @@ module _ (it : Tables) (calls made : ℕ) (is : AreLawful it calls made) where
     named = changes.waiting it is.named who it.waits.spare it.waits.made (waits.with_message bytes) (λ row. refl);
     lawful = rw (changes.keeps_message it is.named who bytes) (changes.lawful-message rows calls made it.waits.spare it.ports.message_room who bytes is.lawful);
     counted = record { ports_made = is.counted.ports_made; messages_made = is.counted.messages_made; waits_made = is.counted.waits_made };
+    registered = is.registered;
     headed = is.headed;
     drawn = drawn.same-drawn rows _ refl refl refl is.drawn;
+    born = is.born;
     promised = subst (λ (v : World). IsPromised v.waits v.handles it.parts) (sym (changes.keeps_message it is.named who bytes)) (promised.wait-stays rows.waits rows.handles it.parts is.promised (waits_as who) (with_message (message_of bytes)) (changes.connect_kept (message_of bytes)) (λ x. refl) (promised.kept-taken who (with_message (message_of bytes)) (changes.accepted_kept (message_of bytes)) (λ x. refl) rows.waits is.promised.taken));
   }
 
@@ -229,8 +253,10 @@ module _ (it : Tables) (calls made : ℕ) (is : AreLawful it calls made) where
     named = changes.handed_named it is.named pid value row there;
     lawful = rw (changes.hands it is.named pid value row) (lawful.lawful-handle rows calls made it.waits.spare it.ports.message_room pid _ is.lawful lt (single_object row.object));
     counted = is.counted;
+    registered = is.registered;
     headed = is.headed;
     drawn = drawn.same-drawn rows _ refl refl refl is.drawn;
+    born = is.born;
     promised = subst (λ (v : World). IsPromised v.waits v.handles (change (is_part pid) (handed value row) it.parts)) (sym (changes.hands it is.named pid value row)) (promised.handle-comes rows.waits rows.handles it.parts is.promised pid value (shown_handle (birth_of n) (value, row)) row one is.lawful.tables_single welcome);
   }
 
@@ -239,8 +265,10 @@ module _ (it : Tables) (calls made : ℕ) (is : AreLawful it calls made) where
     named = changes.roomed_named it is.named pid spare;
     lawful = rw (changes.rooms it is.named pid spare) is.lawful;
     counted = is.counted;
+    registered = is.registered;
     headed = is.headed;
     drawn = drawn.same-drawn rows _ refl refl refl is.drawn;
+    born = is.born;
     promised = subst (λ (v : World). IsPromised v.waits v.handles (change (is_part pid) (roomed spare) it.parts)) (sym (changes.rooms it is.named pid spare)) (promised.room-grows rows.waits rows.handles it.parts is.promised pid spare more one);
   }
 
@@ -255,8 +283,10 @@ module _ (it : Tables) (calls made : ℕ) (is : AreLawful it calls made) where
     named = makes.made_named it is.named key row (it.ports.port_room - 1) (it.ports.ports_made + 1) absent fresh refs;
     lawful = rw (makes.makes it is.named key row (it.ports.port_room - 1) (it.ports.ports_made + 1) refs) (lawful.lawful-port rows calls made it.waits.spare it.ports.message_room (shown_port (birth_of n) (key, row)) is.lawful lt (owed.fresh-shut it is.named row.birth fresh) place);
     counted = record { ports_made = omega (arith, is.counted.ports_made); messages_made = omega (arith, is.counted.messages_made); waits_made = omega (arith, is.counted.waits_made) };
+    registered = registered-more n (births_of (record it.ports { ports = it.ports.ports ++ (key, row) ∷ []; port_room = it.ports.port_room - 1; ports_made = it.ports.ports_made + 1 })) (makes.keeps it is.named key row (it.ports.port_room - 1) (it.ports.ports_made + 1)) it.procs.threads is.registered;
     headed = is.headed;
     drawn = rw (makes.makes it is.named key row (it.ports.port_room - 1) (it.ports.ports_made + 1) refs) (drawn.drawn-port rows (shown_port (birth_of n) (key, row)) was is.drawn);
+    born = is.born;
     promised = subst (λ (v : World). IsPromised v.waits v.handles it.parts) (sym (makes.makes it is.named key row (it.ports.port_room - 1) (it.ports.ports_made + 1) refs)) is.promised;
   }
 
@@ -283,8 +313,10 @@ none_lawful space none = record {
     messages_fit = omega arith;
   };
   counted = record { ports_made = omega arith; messages_made = omega arith; waits_made = omega arith };
+  registered = refl;
   headed = refl;
   drawn = record { threads_single = refl; threads_noted = refl; ports_drawn = refl };
+  born = record { processes_single = refl; processes_noted = refl; processes_born = refl; threads_born = refl; process_births = λ b. omega arith; thread_births = λ b. omega arith };
   promised = promised.none-promised;
 }
 
@@ -406,8 +438,10 @@ module _ (it : Tables) (calls made : ℕ) (is : AreLawful it calls made) where
     named = record { ports_apart = is.named.ports_apart; refs = record { in_handles = is.named.refs.in_handles; in_ports = is.named.refs.in_ports; in_messages = is.named.refs.in_messages; in_waits = is.named.refs.in_waits; in_names = is.named.refs.in_names } };
     lawful = lawful.lawful-room all calls made it.waits.spare it.ports.message_room it.waits.spare messages is.lawful (omega arith) more;
     counted = record { ports_made = is.counted.ports_made; messages_made = is.counted.messages_made; waits_made = is.counted.waits_made };
+    registered = is.registered;
     headed = is.headed;
     drawn = drawn.same-drawn all _ refl refl refl is.drawn;
+    born = is.born;
     promised = is.promised;
   }
 

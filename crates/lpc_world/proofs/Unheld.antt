@@ -73,7 +73,7 @@ module _ (it : Tables) (is : AreNamed (births_of it.ports) it) (key : Key) (ther
   name_same [] all = refl
   name_same (row ∷ rows) all = grind (arith, node_same row.0 row.1, name_same rows)
 
-  pub held_is : held.is_named (shown_by n it) b ≡ is_named_in it key
+  pub held_is : held.is_named_by_row (shown_by n it) b ≡ is_named_in it key
   held_is =
       rw (
         readings.open_is it is key there,
@@ -90,6 +90,10 @@ module _ (it : Tables) (is : AreNamed (births_of it.ports) it) (key : Key) (ther
 
   pub has_row : IsSome (ports.row_at it.ports.ports key)
   has_row = some (ports.row_at it.ports.ports key) (readings.there it is key there)
+
+pub both_off : (a r : Bool) → (a || r) ≡ false → (a ≡ false) × (r ≡ false)
+both_off true r off = absurd (cc)
+both_off false r off = (refl, off)
 
 -- Where no row names the port, each object that a row names is another
 abbrev pub is_other : Key → Object → Bool

@@ -61,8 +61,10 @@ module _ (it : Tables) (calls made : ℕ) (is : AreLawful it calls made) (who : 
     };
     lawful = rw (withdraws, ← same_count) (lawful.lawful-withdraw rows calls made it.waits.spare it.ports.message_room (is_own_of who) is.lawful);
     counted = record { ports_made = is.counted.ports_made; messages_made = is.counted.messages_made; waits_made = is.counted.waits_made };
+    registered = is.registered;
     headed = every-without has_header (ports.is_own_of who) it.ports.messages is.headed;
     drawn = drawn.same-drawn rows _ refl refl refl is.drawn;
+    born = is.born;
     promised = is.promised;
   }
 

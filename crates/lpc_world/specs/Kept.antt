@@ -1,6 +1,7 @@
 -- What contracts see of the world: the definitions' rows, the births of keys, the calls so far, and the room.
 use Rattle.std.specs.Prelude.{◌≡◌, ℕ, ◌+◌, ◌-◌, ◌*◌, ◌<◌, ◌≤◌, ◌==◌, ◌&&◌, ◌||◌, Bool, false, not, List, length, map, max, min, Option, Some, None}
-use Rattle.lpc_base.specs.Rows.{count, first, has}
+use Rattle.lpc_base.specs.declared.birth.Birth.{Birth}
+use Rattle.lpc_base.specs.Rows.{count, each, first, has}
 use Rattle.lpc_procs.specs.Procs.{most_rows}
 use Rattle.lpc_model.specs.World.{World, MessageRow, PortRow, WaitRow, ThreadRow}
 use Rattle.lpc_model.specs.Closings.{is_closed_post}
@@ -36,19 +37,31 @@ owed_requests w = count is_alive w.threads - count is_asking w.messages
 abbrev pub owed_closings : World → ℕ
 owed_closings w = count is_client_port w.ports - count is_closed_post w.messages
 
+-- The ports that threads registered. Those of a thread that has ended are among them until its end is told.
+abbrev pub registered_ports : World → List Birth
+registered_ports w = each (λ t. t.registrations) w.threads
+
+-- Each registration has a place for the message that tells of its thread's end.
+abbrev pub owed_deaths : World → ℕ
+owed_deaths w = length (registered_ports w)
+
 abbrev pub owed_messages : World → ℕ
-owed_messages w = owed_requests w + owed_closings w
+owed_messages w = owed_requests w + owed_closings w + owed_deaths w
 
 -- Each waiting connect of a process has a place for the handle that it is to get.
 abbrev pub owed_handles : World → ℕ → ℕ
 owed_handles w pid = count (is_connect_of pid) w.waits
 
--- Each open client port may still cause one row to be made: the message that tells that the port is closed.
+-- Each open client port may still cause one row to be made: the message that tells that the port is closed. So may each
+-- registration: the message that tells of its thread's end.
 abbrev pub is_open_client : World → PortRow → Bool
 is_open_client w p = is_client_port p && is_open w p.birth
 
+abbrev pub open_clients : World → ℕ
+open_clients w = count (is_open_client w) w.ports
+
 abbrev pub owed_rows : World → ℕ
-owed_rows w = count (is_open_client w) w.ports
+owed_rows w = open_clients w + owed_deaths w
 
 -- how many more handles go into a process's table without memory, with those that its waiting connects are to get
 pub record HandleRoom : Type 0 where

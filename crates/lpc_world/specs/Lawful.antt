@@ -1,19 +1,22 @@
 -- What the world keeps of its rows, its numbers and its room.
-use Rattle.std.specs.Prelude.{◌≡◌, ℕ, ◌+◌, ◌*◌, ◌==◌, ◌&&◌, ◌||◌, ◌≤◌, nat_le, nat_lt, Bool, true, not, List, length}
+use Rattle.std.specs.Prelude.{◌≡◌, ℕ, ◌+◌, ◌*◌, ◌==◌, ◌&&◌, ◌||◌, ◌≤◌, nat_le, nat_lt, Bool, true, not, List, length, if◌then◌else◌}
 use Rattle.lpc_base.specs.declared.birth.Birth.{Birth}
 use Rattle.lpc_base.specs.declared.limits.TheConstants.{HANDLE_LIMIT, HEADER_SIZE, LINES_LIMIT}
 use Rattle.lpc_base.specs.Rows.{count, differ_by, every, has}
-use Rattle.lpc_model.specs.World.{World, HandleTable, MessageRow, PortRow, ThreadRow, UsedThread, WaitRow}
-use Rattle.lpc_model.specs.Found.{is_accepted, is_connect, is_listen, is_live_thread, is_own_of, is_process, is_queued, is_queued_connect, is_receive, is_table}
+use Rattle.lpc_model.specs.World.{World, HandleTable, MessageRow, ProcessRow, ThreadRow, UsedThread, WaitRow}
+use Rattle.lpc_model.specs.Found.{is_accepted, is_connect, is_listen, is_live_thread, is_own_of, is_process, is_queued, is_queued_connect, is_receive, is_table, same_birth}
 use Rattle.lpc_model.specs.Tests.{is_connect_of}
 use Rattle.lpc_model.specs.Untold.{is_closing_of}
 use Rattle.lpc_ports.specs.Table.{PortTable}
 use Rattle.lpc_ports.specs.declared.messages.QueuedMessage.{QueuedMessage}
+use Rattle.lpc_procs.specs.declared.rows.ThreadRow as procs
+use Rattle.lpc_procs.specs.declared.rows.Registration.{Registration}
 use Rattle.lpc_slots.specs.declared.Key.{Key}
 use Rattle.lpc_waits.specs.Table.{WaitTable}
 use Rattle.lpc_homes.specs.declared.parts.Part.{Part}
 use Rattle.lpc_world.specs.Kept.{CALL_BUDGET, owed_messages, owed_rows, owed_waits, pends_as, rows_by}
-use Rattle.lpc_world.specs.Shown.{AreNamed, Tables, births_of}
+use Rattle.lpc_world.specs.Names.{name_of, stands}
+use Rattle.lpc_world.specs.Shown.{AreNamed, Births, Tables, births_of}
 use Rattle.lpc_world.specs.Untold.{is_client_of}
 
 -- no thread waits twice
@@ -83,18 +86,58 @@ are_single_threads threads = differ_by (λ t. t.number) threads
 abbrev pub is_noted : List UsedThread → ThreadRow → Bool
 is_noted used t = has (λ u. u.number == t.number) used
 
--- the thread has drawn the birth, and a port's birth was drawn
+-- the thread has drawn the birth; it has, where it is the birth's maker
 abbrev pub drew : Birth → ThreadRow → Bool
 drew b t = (t.number == b.maker) && nat_lt b.ordinal t.next_ordinal
 
-abbrev pub was_drawn : List ThreadRow → PortRow → Bool
-was_drawn threads p = has (drew p.birth) threads
+abbrev pub drew_own : Birth → ThreadRow → Bool
+drew_own b t = not (t.number == b.maker) || nat_lt b.ordinal t.next_ordinal
+
+-- A birth was drawn: the number of its maker was used, and the maker has drawn the birth, where its row stands. The row goes
+-- when the maker has ended, and what it made may stay.
+abbrev pub was_drawn : List UsedThread → List ThreadRow → Birth → Bool
+was_drawn used threads b = has (λ u. u.number == b.maker) used && every (drew_own b) threads
 
 -- a port's birth was drawn by its maker, so that what is drawn next is no port's
 pub record AreDrawn (w : World) : Type 0 where
   pub threads_single : are_single_threads w.threads ≡ true
   pub threads_noted : every (is_noted w.used_threads) w.threads ≡ true
-  pub ports_drawn : every (was_drawn w.threads) w.ports ≡ true
+  pub ports_drawn : every (λ p. was_drawn w.used_threads w.threads p.birth) w.ports ≡ true
+
+-- no two processes have one number, and a process's number was used
+abbrev pub are_single_processes : List ProcessRow → Bool
+are_single_processes processes = differ_by (λ p. p.number) processes
+
+abbrev pub is_noted_process : List ℕ → ProcessRow → Bool
+is_noted_process used p = has (λ n. n == p.number) used
+
+-- The birth of a process or thread of a number: what a directive makes has maker 0 and its number as ordinal, what a thread
+-- makes has a birth that was drawn.
+abbrev pub is_birth_of : List UsedThread → List ThreadRow → ℕ → Birth → Bool
+is_birth_of used threads number b = if b.maker == 0 then b.ordinal == number else was_drawn used threads b
+
+-- a process or thread of a number can begin under the birth: it is that of a directive, or a thread has drawn it
+abbrev pub can_begin : List ThreadRow → ℕ → Birth → Bool
+can_begin threads number b = if b.maker == 0 then b.ordinal == number else has (drew b) threads
+
+-- the process with a birth, and the thread with a birth
+abbrev pub is_process_by : Birth → ProcessRow → Bool
+is_process_by b p = same_birth p.birth b
+
+abbrev pub is_thread_by : Birth → ThreadRow → Bool
+is_thread_by b t = same_birth t.birth b
+
+-- each process and each thread has a number and a birth of its own
+pub record AreBorn (processes : List ProcessRow) (threads : List ThreadRow) (numbers : List ℕ) (used : List UsedThread) : Type 0 where
+  pub processes_single : are_single_processes processes ≡ true
+  pub processes_noted : every (is_noted_process numbers) processes ≡ true
+  pub processes_born : every (λ p. is_birth_of used threads p.number p.birth) processes ≡ true
+  pub threads_born : every (λ t. is_birth_of used threads t.number t.birth) threads ≡ true
+  pub process_births : (b : Birth) → count (is_process_by b) processes ≤ 1
+  pub thread_births : (b : Birth) → count (is_thread_by b) threads ≤ 1
+
+abbrev pub AreBornIn : World → Type 0
+AreBornIn w = AreBorn w.processes w.threads w.used_processes w.used_threads
 
 -- the room of a process's table holds the handles that its waiting connects are to get, and so many it may have
 abbrev pub has_places : List WaitRow → Part → Bool
@@ -122,12 +165,21 @@ pub record IsPromised (waits : List WaitRow) (handles : List HandleTable) (parts
 abbrev pub has_header : Key × QueuedMessage → Bool
 has_header row = nat_le HEADER_SIZE (length row.1.message.bytes.items)
 
+-- the port of a registration stands, under the name that the registration has; so each port that a thread registered
+abbrev pub is_under_name : Births → Registration → Bool
+is_under_name n r = stands n.ports r.port && same_birth (name_of n.ports r.port) r.birth
+
+abbrev pub has_named_ports : Births → procs.ThreadRow → Bool
+has_named_ports n t = every (is_under_name n) t.registered.items
+
 -- The tables name what stands, and their rows are lawful.
 pub record AreLawful (it : Tables) (calls made : ℕ) : Type 0 where
   pub named : AreNamed (births_of it.ports) it
   pub lawful : IsLawful (rows_by it) calls made it.waits.spare it.ports.message_room
   pub counted : IsCounted it.ports it.waits made
   pub drawn : AreDrawn (rows_by it)
+  pub born : AreBornIn (rows_by it)
   pub promised : IsPromised (rows_by it).waits (rows_by it).handles it.parts
+  pub registered : every (has_named_ports (births_of it.ports)) it.procs.threads ≡ true
   -- a message that stands in a queue has a header
   pub headed : every has_header it.ports.messages ≡ true

@@ -4,6 +4,7 @@ pub mod Untold
 pub mod Kept
 pub mod Lawful
 pub mod Ready
+pub mod Registered
 pub mod Does
 pub mod Held
 pub mod Called

@@ -1,5 +1,5 @@
 -- The caller of a call, whether it can make one, and the room for entries that it asks for.
-use Rattle.std.specs.Prelude.{◌≡◌, ℕ, ◌+◌, ◌*◌, ◌≤◌, ◌&&◌, Bool, true, false, Option, Some, None, is_none, is_some}
+use Rattle.std.specs.Prelude.{◌≡◌, ℕ, ◌+◌, ◌*◌, ◌≤◌, ◌&&◌, [], Bool, true, false, Option, Some, None, is_none, is_some}
 use Rattle.lpc_base.specs.Rows.{count}
 use Rattle.lpc_base.specs.declared.birth.Birth.{Birth}
 use Rattle.lpc_base.specs.declared.port_kind.PortKind.TheVariants.{Unnamed}
@@ -32,7 +32,7 @@ is_ready w tid = is_some (live_thread w tid) && is_none (wait_of w tid)
 
 -- the row of a live thread
 abbrev pub no_thread : ThreadRow
-no_thread = record { number = 0; process = 0; birth = record { maker = 0; ordinal = 0; process = 0 }; live = false; next_identifier = 0; next_ordinal = 0 }
+no_thread = record { number = 0; process = 0; birth = record { maker = 0; ordinal = 0; process = 0 }; live = false; next_identifier = 0; next_ordinal = 0; registrations = [] }
 
 abbrev pub thread_in : Option ThreadRow → ThreadRow
 thread_in None = no_thread

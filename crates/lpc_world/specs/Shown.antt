@@ -24,6 +24,7 @@ use Rattle.lpc_ports.specs.declared.messages.Message.{Message}
 use Rattle.lpc_ports.specs.declared.messages.QueuedMessage.{QueuedMessage}
 use Rattle.lpc_procs.specs.Procs as procs
 use Rattle.lpc_procs.specs.declared.rows.ProcessRow.{ProcessRow}
+use Rattle.lpc_procs.specs.declared.rows.Registration.{Registration}
 use Rattle.lpc_procs.specs.declared.rows.ThreadRow.{ThreadRow}
 use Rattle.lpc_procs.specs.declared.rows.UsedThread.{UsedThread}
 use Rattle.lpc_slots.specs.declared.Key.{Key}
@@ -158,6 +159,7 @@ shown_thread t = record {
   live = t.live;
   next_identifier = t.next_identifier;
   next_ordinal = t.next_ordinal;
+  registrations = map (λ (r : Registration). r.birth) t.registered.items;
 }
 
 abbrev pub shown_used : UsedThread → model.UsedThread

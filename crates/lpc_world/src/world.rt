@@ -1,10 +1,11 @@
 // The tables together: reading calls find what the definitions find, a changing call is one basic step or a part of one
-// and takes no memory, and a reserving call makes room and changes nothing else. Directives, and the binding of a name
-// where there is no spare room, take memory.
+// and takes no memory, and a reserving call makes room and changes nothing else. The binding of a name where there is no
+// spare room takes memory.
 //
-// Each call that adds a row or draws a number asks for the spare room, and that fewer than 16 rows and numbers were made for
-// each call so far, with those that are owed: each open client port owes the message that tells that it is closed.
-ghost use Rattle.std.specs.Prelude.{◌≡◌, ◌+◌, ◌<◌, ◌≤◌, ◌↔◌, ◌||◌, [], None, Some, true, false, IfSome, IfNone, IfOk, IsErr, OnOk, OnErr, is_some, length};
+// Each call that adds a row or draws a number asks for the spare room, and that fewer than 16 rows and numbers were made
+// for each call so far, with those that are owed: each open client port owes the message that tells that it is closed,
+// and each registration the one that tells of its thread's end.
+ghost use Rattle.std.specs.Prelude.{◌≡◌, ◌+◌, ◌<◌, ◌≤◌, ◌==◌, ◌↔◌, ◌||◌, [], None, Some, true, false, IfSome, IfNone, IfOk, IsErr, OnOk, OnErr, is_some, length};
 ghost use Rattle.lpc_base.specs.Room.{grown_room};
 ghost use Rattle.lpc_base.specs.Rows.{has};
 ghost use Rattle.lpc_model.specs.World.{no_rows};
@@ -15,7 +16,7 @@ ghost use Rattle.lpc_model.specs.Message.{message_of};
 ghost use Rattle.lpc_procs.specs.Procs.{IsNumber, most_rows};
 ghost use Rattle.lpc_world.specs.Names.{KeepsNames, name_of, some_stands, stands};
 ghost use Rattle.lpc_world.specs.Shown.{object_stands};
-ghost use Rattle.lpc_world.specs.Lawful.{drew, is_quiet};
+ghost use Rattle.lpc_world.specs.Lawful.{can_begin, drew, is_process_by, is_quiet, is_thread_by};
 ghost use Rattle.lpc_world.specs.Kept.{CanMake, HasWholeBudget, IsMakingStep, IsStep, Roomy, Same, StaysReady, StaysUnqueued, handle_room, has_queued, is_unsent, owed_handles, owed_messages, owed_waits, process_rows};
 ghost use Rattle.lpc_world.specs.Ready.{IsWait};
 ghost use Rattle.lpc_world.specs.Untold.{closing_places, is_owed};
@@ -26,6 +27,7 @@ mod closing;
 mod completing;
 mod connecting;
 mod connections;
+mod dying;
 mod ending;
 mod freeing;
 mod lending;
@@ -147,12 +149,16 @@ impl World {
         self.procs.draw_birth(tid)
     }
 
-    /// Adds a process, without threads and handles. Its number is from 1 to 2,147,483,647 and was never used.
+    /// Adds a process, without threads and handles. Its number is from 1 to 2,147,483,647 and was never used. Its birth is
+    /// that of a directive with this number, or a thread has drawn it and no process has it.
     pub fn procs_add_process(&mut self, pid: u32, maker: Option<u32>, birth: Birth)
         requires room { 0 < self.old.room.processes }
         requires budget { CanMake self.old }
         requires number { IsNumber pid }
         requires new { was_process self.old.rows pid ≡ false }
+        requires birth { can_begin self.old.rows.threads pid birth ≡ true }
+        requires fresh { (birth.maker == 0) ≡ false
+            → has (is_process_by birth) self.old.rows.processes ≡ false }
         ensures rows { self.new.rows
             ≡ after self.old (AddsProcess (new_process pid maker birth)) }
         ensures births { self.new.births ≡ self.old.births }
@@ -170,7 +176,7 @@ impl World {
     }
 
     /// Adds a live thread to a process that stands; it has drawn nothing yet. Its number is from 1 to 2,147,483,647 and
-    /// was never used.
+    /// was never used. Its birth is that of a directive with this number, or a thread has drawn it and no thread has it.
     pub fn procs_add_thread(&mut self, tid: u32, pid: u32, birth: Birth)
         requires room { 0 < self.old.room.threads }
         requires wait_room { 0 < self.old.room.waits }
@@ -180,6 +186,9 @@ impl World {
         requires new { was_thread self.old.rows tid ≡ false }
         requires process { has (is_process pid) self.old.rows.processes ≡ true }
         requires table { has (is_table pid) self.old.rows.handles ≡ true }
+        requires birth { can_begin self.old.rows.threads tid birth ≡ true }
+        requires fresh { (birth.maker == 0) ≡ false
+            → has (is_thread_by birth) self.old.rows.threads ≡ false }
         ensures rows { self.new.rows ≡ after self.old (AddsThread (new_thread tid pid birth)) }
         ensures births { self.new.births ≡ self.old.births }
         ensures calls { self.new.calls ≡ self.old.calls }
@@ -400,7 +409,7 @@ impl World {
     {
         let requests = self.procs.alive().saturating_sub(self.ports.asking());
         let closings = self.ports.clients().saturating_sub(self.ports.closings());
-        requests + closings
+        requests + closings + self.procs.registrations()
     }
 
     /// How many places for waits are owed.

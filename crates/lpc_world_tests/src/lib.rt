@@ -9,6 +9,8 @@ mod connect;
 #[cfg(test)]
 mod death;
 #[cfg(test)]
+mod ending;
+#[cfg(test)]
 mod machine;
 #[cfg(test)]
 mod request;

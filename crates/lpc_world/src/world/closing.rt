@@ -1,11 +1,11 @@
 // What goes when a handle is closed, and what is counted and told of its object.
-ghost use Rattle.std.specs.Prelude.{◌≡◌, ◌*◌, ◌≤◌, Some, true, IfOk, IfSome};
-ghost use Rattle.lpc_base.specs.Rows.{has};
+ghost use Rattle.std.specs.Prelude.{◌≡◌, ◌+◌, ◌*◌, ◌≤◌, Some, true, IfOk, IfSome};
+ghost use Rattle.lpc_base.specs.Rows.{count, has};
 ghost use Rattle.lpc_model.specs.Basics.{Cuts, DropsHandle, Empties, Unbinds};
-ghost use Rattle.lpc_model.specs.Found.{handle_count, holders, is_table, pointer_count};
+ghost use Rattle.lpc_model.specs.Found.{all_registrations, handle_count, holders, is_table, pointer_count, same_birth};
 ghost use Rattle.lpc_model.specs.declared.entry.ObjectKind.TheVariants as kind;
 ghost use Rattle.lpc_world.specs.Closing.{HasMutualPairs, closed_row_of, server_at, told_at};
-ghost use Rattle.lpc_world.specs.Kept.{IsStep, Roomy};
+ghost use Rattle.lpc_world.specs.Kept.{IsStep, Roomy, owed_rows};
 ghost use Rattle.lpc_world.specs.Names.{some_stands, stands};
 ghost use Rattle.lpc_world.specs.Ready.{HasRow, is_ready};
 ghost use Rattle.lpc_world.specs.Shown.{object_stands};
@@ -52,14 +52,16 @@ impl World {
         self.ports.cut(port);
     }
 
-    /// The handle of a process with a value goes.
+    /// The handle of a process with a value goes. No row is made, and with the last handle of a client port the message that
+    /// tells of its closing is no longer owed.
     pub fn handles_close(&mut self, pid: u32, value: u32)
         requires table { has (is_table pid) self.old.rows.handles ≡ true }
         ensures rows { self.new.rows ≡ after self.old (DropsHandle pid value) }
         ensures births { self.new.births ≡ self.old.births }
         ensures calls { self.new.calls ≡ self.old.calls }
         ensures loose { self.new.loose ≡ true }
-        ensures made { self.new.made ≤ self.old.made }
+        ensures made { self.new.made + owed_rows self.old.rows
+            ≡ self.old.made + owed_rows self.new.rows }
         ensures room { Roomy self.old.room self.new.room }
     {
         self.loose = true;
@@ -98,14 +100,25 @@ impl World {
         parts::handles_to(&self.parts, port) + self.holders_of(port)
     }
 
-    /// How many rows but handles count for a port: ports, messages, and waits.
+    /// How many registrations of live threads name a port.
+    fn registered_to(&self, port: Key) -> usize
+        requires { stands self.now.births.ports port ≡ true }
+        ensures number { result
+            ≡ count (same_birth (birth_at self.now port)) (all_registrations self.now.rows) }
+        ensures few { result ≤ self.now.made }
+    {
+        self.procs.registered_to(self.port(port).birth)
+    }
+
+    /// How many rows but handles count for a port: ports, messages, waits, and registrations.
     fn holders_of(&self, port: Key) -> usize
         requires { stands self.now.births.ports port ≡ true }
         ensures holders { result ≡ holders self.now.rows kind.Port (birth_at self.now port) }
-        ensures few { result ≤ 4 * self.now.made }
+        ensures few { result ≤ 5 * self.now.made }
     {
         let ports = self.ports.paired_to(port) + self.ports.connected_to(port);
-        ports + self.ports.sent_on(port) + self.waits.made_on(port)
+        let waits = self.waits.made_on(port);
+        ports + self.ports.sent_on(port) + (waits + self.registered_to(port))
     }
 
     /// What is told of a port that is closed: None where it isn't a completed client port whose connection port is open.

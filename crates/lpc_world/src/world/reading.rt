@@ -164,7 +164,8 @@ impl World {
         Ok(row.object)
     }
 
-    pub(crate) fn handle(&self, pid: u32, value: u32) -> Option<Row<Object>>
+    /// What the handle of a process with a value names and grants: None exactly where no handle has the value.
+    pub fn handle(&self, pid: u32, value: u32) -> Option<Row<Object>>
         requires { has (is_table pid) self.now.rows.handles ≡ true }
         ensures row { Finds result (row_shown self.now value) (handle_at self.now.rows pid value) }
         ensures stands { IfSome result (λ row. object_stands self.now.births row.object ≡ true) }
@@ -278,6 +279,7 @@ impl World {
     /// The queue that a message sent on a port enters: none where the port isn't open, or has no way.
     pub fn route(&self, port: Key) -> Option<Key>
         requires { stands self.now.births.ports port ≡ true }
+        ensures row { row_at self.now port ≡ Some (port_at self.now port) }
         ensures queue { some_birth self.now result ≡ route_at self.now port }
         ensures stands { some_stands self.now.births.ports result ≡ true }
     {
@@ -471,6 +473,7 @@ impl World {
         ensures takes { IfSome result (λ tid.
             takes_at self.now queue is_connection_request (waiter self.now.rows tid) ≡ true) }
         ensures quiet { IfSome result (λ tid. is_quiet_for self.now.rows tid ≡ true) }
+        ensures single { are_single self.now.rows.waits ≡ true }
     {
         self.waits.first_on(queue, is_connection_request)
     }

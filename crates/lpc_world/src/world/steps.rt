@@ -155,7 +155,8 @@ impl World {
     /// A message enters the queue of a port, and where a thread waits there that takes it, the one that has waited longest
     /// does so at once. A request or connection request has its place: its sender waits with it, and it stands in no queue
     /// yet. So has one that tells that a client port is closed: it is sent on that port, and none in a queue tells so yet.
-    /// Every other message has the room that was made for it.
+    /// Every other message has the room that was made for it. The thread that takes the message is told, which wants room
+    /// for an entry where a thread waits.
     pub fn deliver(
         &mut self,
         queue: Key,
@@ -164,7 +165,7 @@ impl World {
         message: &Message,
         out: &mut Entries,
     )
-        requires spare { 1 ≤ out.old.spare }
+        requires spare { 0 < length self.old.rows.waits → 1 ≤ out.old.spare }
         requires queue { stands self.old.births.ports queue ≡ true }
         requires sender { stands self.old.births.ports sender ≡ true }
         requires budget { CanMake self.old }
@@ -174,8 +175,11 @@ impl World {
         ensures takes { let m = row_with self.old.births queue sender context message.now in
             Took (enter m self.old.rows) self.old self.new out.old out.new }
         ensures spare { out.old.spare ≤ out.new.spare + 1 }
+        ensures entries { out.new.spare + length self.old.rows.waits
+            ≡ out.old.spare + length self.new.rows.waits }
         ensures births { self.new.births ≡ self.old.births }
         ensures calls { self.new.calls ≡ self.old.calls }
+        ensures made { self.new.made ≤ self.old.made + 1 }
     {
         match self.receiver(queue, asks_to_connect(message)) {
             Some(tid) => {
@@ -221,6 +225,7 @@ impl World {
         ensures births { self.new.births ≡ self.old.births }
         ensures unqueued { StaysUnqueued self.old.rows self.new.rows }
         ensures calls { self.new.calls ≡ self.old.calls }
+        ensures made { self.new.made ≡ self.old.made }
         ensures loose { self.new.loose ≡ self.old.loose }
     {
         let _ = (tid, sender, context);

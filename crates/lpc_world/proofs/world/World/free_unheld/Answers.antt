@@ -1,29 +1,24 @@
-use Rattle.std.proofs.Common.{refl, ap, sym, subst, ◌∙◌, ◌≡◌, length, arith}
+use Rattle.std.proofs.Common.{ap, sym, subst, ◌∙◌, ◌≡◌, length, arith}
 use Rattle.lpc_model.specs.Basics.{Frees, basic, world_after}
 use Rattle.lpc_model.specs.Found.{is_port, port_name}
+use Rattle.lpc_model.specs.Linked.{AreLivesHeld}
 use Rattle.lpc_model.specs.Sweep.{sweep}
 use Rattle.lpc_model.specs.World.{World}
-use Rattle.lpc_model.proofs.Sweeping.{free_one, swept_none_world, unheld_ports}
+use Rattle.lpc_model.proofs.Sweeping.{free_one, lives_freed, swept_none_world, unheld_ports}
 use Rattle.lpc_world.specs.Held.{CanSweep}
 use Rattle.lpc_world.specs.Names.{name_of}
-use Rattle.lpc_world.proofs.HeldPorts.{can_freed, length_less, none_unheld, roomy_then, roomy_same}
+use Rattle.lpc_world.proofs.HeldLives.{ahead_same, ahead_then}
+use Rattle.lpc_world.proofs.HeldPorts.{can_freed, length_less, none_unheld}
 use Rattle.lpc_world.proofs.world.World.free_unheld.Goals as goal
 
 pub loop-freed-init : goal.loop-freed-init
-loop-freed-init c = record {
-  can = c.requires.can;
-  leaves = refl;
-  calls = refl;
-  made = omega arith;
-  room = roomy_same c.args.self.now.room;
-  fewer = omega arith;
-}
+loop-freed-init c = record { ahead = ahead_same c.args.self.now c.requires.can; lives = c.requires.lives; fewer = omega arith }
 
 pub unheld_port-requires : goal.unheld_port-requires
-unheld_port-requires c = c.loop-freed.invariant.can
+unheld_port-requires c = c.loop-freed.invariant.ahead.can
 
 pub free-requires-clause-can : goal.free-requires-clause-can
-free-requires-clause-can c = c.loop-freed.invariant.can
+free-requires-clause-can c = c.loop-freed.invariant.ahead.can
 
 pub loop-freed-preserved : goal.loop-freed-preserved
 loop-freed-preserved c =
@@ -31,40 +26,44 @@ loop-freed-preserved c =
     let b = name_of c.loop-freed.self.births.ports c.in-Some.port in
     let went : c.free.new.self.rows ≡ basic w (Frees (port_name b)) = c.free.ensures.rows in
     let less = length_less (is_port b) w.ports c.in-Some.ensures.row in
+    let can = c.loop-freed.invariant.ahead.can in
     record {
-      can = subst CanSweep (sym went) (can_freed w b c.loop-freed.invariant.can c.in-Some.ensures.unheld);
-      leaves = ap (λ (v : World). world_after v (sweep v)) went ∙ free_one w b c.loop-freed.invariant.can.linked c.in-Some.ensures.unheld ∙ c.loop-freed.invariant.leaves;
-      calls = c.free.ensures.calls ∙ c.loop-freed.invariant.calls;
-      made = omega (arith, c.free.ensures.made, c.loop-freed.invariant.made);
-      room = roomy_then _ _ _ c.loop-freed.invariant.room c.free.ensures.room;
+      ahead = ahead_then _ _ _ c.loop-freed.invariant.ahead (record {
+        can = subst CanSweep (sym went) (can_freed w (port_name b) can c.in-Some.ensures.unheld);
+        leaves = ap (λ (v : World). world_after v (sweep v)) went ∙ free_one w b can.linked c.in-Some.ensures.unheld;
+        calls = c.free.ensures.calls;
+        made = c.free.ensures.made;
+        room = c.free.ensures.room;
+      });
+      lives = subst AreLivesHeld (sym went) (lives_freed w b c.loop-freed.invariant.lives);
       fewer = omega (arith, less, ap (λ (v : World). length v.ports) went, c.loop-freed.invariant.fewer);
     }
 
 pub returns-in-None-clause-rows : goal.returns-in-None-clause-rows
 returns-in-None-clause-rows c =
     let w = c.loop-freed.self.rows in
-    sym (swept_none_world w (unheld_ports w c.loop-freed.invariant.can.lives c.in-None.ensures.none)) ∙ c.loop-freed.invariant.leaves
+    sym (swept_none_world w (unheld_ports w c.loop-freed.invariant.lives c.in-None.ensures.none)) ∙ c.loop-freed.invariant.ahead.leaves
 
 pub returns-in-None-clause-calls : goal.returns-in-None-clause-calls
-returns-in-None-clause-calls c = c.loop-freed.invariant.calls
+returns-in-None-clause-calls c = c.loop-freed.invariant.ahead.calls
 
 pub returns-in-None-clause-made : goal.returns-in-None-clause-made
-returns-in-None-clause-made c = c.loop-freed.invariant.made
+returns-in-None-clause-made c = c.loop-freed.invariant.ahead.made
 
 pub returns-in-None-clause-room : goal.returns-in-None-clause-room
-returns-in-None-clause-room c = c.loop-freed.invariant.room
+returns-in-None-clause-room c = c.loop-freed.invariant.ahead.room
 
 pub returns-clause-rows : goal.returns-clause-rows
 returns-clause-rows c =
     let w = c.loop-freed.self.rows in
     let none = none_unheld w (omega (arith, c.loop-freed.invariant.fewer, c.loop-freed-test.false, c.port_count-freed-end.ensures)) in
-    sym (swept_none_world w (unheld_ports w c.loop-freed.invariant.can.lives none)) ∙ c.loop-freed.invariant.leaves
+    sym (swept_none_world w (unheld_ports w c.loop-freed.invariant.lives none)) ∙ c.loop-freed.invariant.ahead.leaves
 
 pub returns-clause-calls : goal.returns-clause-calls
-returns-clause-calls c = c.loop-freed.invariant.calls
+returns-clause-calls c = c.loop-freed.invariant.ahead.calls
 
 pub returns-clause-made : goal.returns-clause-made
-returns-clause-made c = c.loop-freed.invariant.made
+returns-clause-made c = c.loop-freed.invariant.ahead.made
 
 pub returns-clause-room : goal.returns-clause-room
-returns-clause-room c = c.loop-freed.invariant.room
+returns-clause-room c = c.loop-freed.invariant.ahead.room

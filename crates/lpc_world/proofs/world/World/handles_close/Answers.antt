@@ -30,6 +30,4 @@ returns-clause-room c =
     })
 
 pub returns-clause-made : goal.returns-clause-made
-returns-clause-made c =
-    let owed = dropped.dropped_owed (tables_of c.self.inside.procs c.self.inside.parts.items c.self.inside.ports c.self.inside.waits c.self.inside.names) c.self.inside.calls c.self.inside.made c.self.invariant c.args.pid c.args.value in
-    rw (← c.self.view_is, c.close_handle.ensures.parts) (omega (arith, owed))
+returns-clause-made c = rw (← c.self.view_is) (omega arith)

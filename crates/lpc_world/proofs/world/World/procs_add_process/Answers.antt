@@ -11,7 +11,7 @@ pub invariant_of-self : goal.invariant_of-self
 invariant_of-self c =
     let there = rw (← c.self.view_is) at c.requires in
     rw (c.add_process.ensures.table, c.push_reserved.ensures.items)
-    (steps.added_process (tables_of c.self.inside.procs c.self.inside.parts.items c.self.inside.ports c.self.inside.waits c.self.inside.names) c.self.inside.calls c.self.inside.made c.self.invariant (record { number = c.args.pid; maker = c.args.maker; birth = c.args.birth }) (record { process = c.args.pid; handles = c.new.result }) (c.self.inside.procs.process_room - 1) (rw c.new.ensures refl) refl there.budget there.new)
+    (steps.added_process (tables_of c.self.inside.procs c.self.inside.parts.items c.self.inside.ports c.self.inside.waits c.self.inside.names) c.self.inside.calls c.self.inside.made c.self.invariant (record { number = c.args.pid; maker = c.args.maker; birth = c.args.birth }) (record { process = c.args.pid; handles = c.new.result }) (c.self.inside.procs.process_room - 1) (rw c.new.ensures refl) refl there.budget there.new there.birth there.fresh)
 
 pub returns-clause-room : goal.returns-clause-room
 returns-clause-room c =

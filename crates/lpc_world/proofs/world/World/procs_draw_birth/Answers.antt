@@ -1,13 +1,14 @@
-use Rattle.std.proofs.Common.{arith}
+use Rattle.std.proofs.Common.{ap, arith, length, ◌∙◌}
 use Rattle.std.proofs.Common.{ap, refl}
 use Rattle.lpc_model.specs.World.{World}
 use Rattle.lpc_base.specs.Rows.{change}
 use Rattle.lpc_model.specs.Found.{is_thread}
 use Rattle.lpc_model.specs.Basics.{past_ordinal}
-use Rattle.lpc_world.specs.Kept.{rows_by}
+use Rattle.lpc_world.specs.Kept.{registered_ports, rows_by}
 use Rattle.lpc_world.specs.Shown.{tables_of}
 use Rattle.lpc_world.proofs.Changes as changes
 use Rattle.lpc_world.proofs.Lawful.{alive-change}
+use Rattle.lpc_world.proofs.Registered.{registered-change}
 use Rattle.lpc_world.proofs.Rooms as rooms
 use Rattle.lpc_world.proofs.Steps as steps
 use Rattle.lpc_world.proofs.world.World.procs_draw_birth.Goals as goal
@@ -32,7 +33,7 @@ returns-clause-step c = record {
   rows = rw (← c.self.view_is, c.draw_birth.ensures.table) (changes.draws_ordinal (tables_of c.self.inside.procs c.self.inside.parts.items c.self.inside.ports c.self.inside.waits c.self.inside.names) c.self.invariant.named c.args.tid);
   births = rw (← c.self.view_is) refl;
   calls = rw (← c.self.view_is) refl;
-  made = rw (← c.self.view_is, c.draw_birth.ensures.table) (omega arith);
+  made = let owed = ap (λ (v : World). length (registered_ports v)) (changes.draws_ordinal (tables_of c.self.inside.procs c.self.inside.parts.items c.self.inside.ports c.self.inside.waits c.self.inside.names) c.self.invariant.named c.args.tid) ∙ ap length (registered-change past_ordinal (λ t. refl) c.args.tid (rows_by (tables_of c.self.inside.procs c.self.inside.parts.items c.self.inside.ports c.self.inside.waits c.self.inside.names)).threads) in rw (← c.self.view_is, c.draw_birth.ensures.table) (omega (arith, owed));
   room = rw (← c.self.view_is, c.draw_birth.ensures.table, ap (λ (v : World). v.threads) (changes.draws_ordinal (tables_of c.self.inside.procs c.self.inside.parts.items c.self.inside.ports c.self.inside.waits c.self.inside.names) c.self.invariant.named c.args.tid))
-      (rooms.room_threads _ _ _ _ _ _ (rows_by (tables_of c.self.inside.procs c.self.inside.parts.items c.self.inside.ports c.self.inside.waits c.self.inside.names)) _ (change (is_thread c.args.tid) past_ordinal (rows_by (tables_of c.self.inside.procs c.self.inside.parts.items c.self.inside.ports c.self.inside.waits c.self.inside.names)).threads) (alive-change past_ordinal (λ t. refl) c.args.tid (rows_by (tables_of c.self.inside.procs c.self.inside.parts.items c.self.inside.ports c.self.inside.waits c.self.inside.names)).threads));
+      (rooms.room_threads _ _ _ _ _ _ (rows_by (tables_of c.self.inside.procs c.self.inside.parts.items c.self.inside.ports c.self.inside.waits c.self.inside.names)) _ (change (is_thread c.args.tid) past_ordinal (rows_by (tables_of c.self.inside.procs c.self.inside.parts.items c.self.inside.ports c.self.inside.waits c.self.inside.names)).threads) (alive-change past_ordinal (λ t. refl) c.args.tid (rows_by (tables_of c.self.inside.procs c.self.inside.parts.items c.self.inside.ports c.self.inside.waits c.self.inside.names)).threads) (registered-change past_ordinal (λ t. refl) c.args.tid (rows_by (tables_of c.self.inside.procs c.self.inside.parts.items c.self.inside.ports c.self.inside.waits c.self.inside.names)).threads));
 }

@@ -1,12 +1,13 @@
-use Rattle.std.proofs.Common.{ap, refl, arith}
+use Rattle.std.proofs.Common.{ap, arith, length, refl, ◌∙◌}
 use Rattle.lpc_model.specs.World.{World}
 use Rattle.lpc_base.specs.Rows.{change}
 use Rattle.lpc_model.specs.Found.{is_thread}
 use Rattle.lpc_model.specs.Basics.{past_identifier}
-use Rattle.lpc_world.specs.Kept.{rows_by}
+use Rattle.lpc_world.specs.Kept.{registered_ports, rows_by}
 use Rattle.lpc_world.specs.Shown.{tables_of}
 use Rattle.lpc_world.proofs.Changes as changes
 use Rattle.lpc_world.proofs.Lawful.{alive-change}
+use Rattle.lpc_world.proofs.Registered.{registered-change}
 use Rattle.lpc_world.proofs.Rooms as rooms
 use Rattle.lpc_world.proofs.Steps as steps
 use Rattle.lpc_world.proofs.world.World.procs_draw_identifier.Goals as goal
@@ -25,7 +26,7 @@ returns-clause-step c = record {
   rows = rw (← c.self.view_is, c.draw_identifier.ensures.table) (changes.draws_identifier (tables_of c.self.inside.procs c.self.inside.parts.items c.self.inside.ports c.self.inside.waits c.self.inside.names) c.self.invariant.named c.args.tid);
   births = rw (← c.self.view_is) refl;
   calls = rw (← c.self.view_is) refl;
-  made = rw (← c.self.view_is, c.draw_identifier.ensures.table) (omega arith);
+  made = let owed = ap (λ (v : World). length (registered_ports v)) (changes.draws_identifier (tables_of c.self.inside.procs c.self.inside.parts.items c.self.inside.ports c.self.inside.waits c.self.inside.names) c.self.invariant.named c.args.tid) ∙ ap length (registered-change past_identifier (λ t. refl) c.args.tid (rows_by (tables_of c.self.inside.procs c.self.inside.parts.items c.self.inside.ports c.self.inside.waits c.self.inside.names)).threads) in rw (← c.self.view_is, c.draw_identifier.ensures.table) (omega (arith, owed));
   room = rw (← c.self.view_is, c.draw_identifier.ensures.table, ap (λ (v : World). v.threads) (changes.draws_identifier (tables_of c.self.inside.procs c.self.inside.parts.items c.self.inside.ports c.self.inside.waits c.self.inside.names) c.self.invariant.named c.args.tid))
-      (rooms.room_threads _ _ _ _ _ _ (rows_by (tables_of c.self.inside.procs c.self.inside.parts.items c.self.inside.ports c.self.inside.waits c.self.inside.names)) _ (change (is_thread c.args.tid) past_identifier (rows_by (tables_of c.self.inside.procs c.self.inside.parts.items c.self.inside.ports c.self.inside.waits c.self.inside.names)).threads) (alive-change past_identifier (λ t. refl) c.args.tid (rows_by (tables_of c.self.inside.procs c.self.inside.parts.items c.self.inside.ports c.self.inside.waits c.self.inside.names)).threads));
+      (rooms.room_threads _ _ _ _ _ _ (rows_by (tables_of c.self.inside.procs c.self.inside.parts.items c.self.inside.ports c.self.inside.waits c.self.inside.names)) _ (change (is_thread c.args.tid) past_identifier (rows_by (tables_of c.self.inside.procs c.self.inside.parts.items c.self.inside.ports c.self.inside.waits c.self.inside.names)).threads) (alive-change past_identifier (λ t. refl) c.args.tid (rows_by (tables_of c.self.inside.procs c.self.inside.parts.items c.self.inside.ports c.self.inside.waits c.self.inside.names)).threads) (registered-change past_identifier (λ t. refl) c.args.tid (rows_by (tables_of c.self.inside.procs c.self.inside.parts.items c.self.inside.ports c.self.inside.waits c.self.inside.names)).threads));
 }

@@ -3,8 +3,8 @@ use Rattle.lpc_base.specs.Rows.{has}
 use Rattle.lpc_homes.specs.Parts.{has_name_of}
 use Rattle.lpc_world.specs.Shown.{tables_of}
 use Rattle.lpc_world.proofs.Unheld as unheld
-use Rattle.lpc_world.proofs.world.World.is_named.Goals as goal
-use Rattle.lpc_world.proofs.world.World.is_named.Goals.{then-names_port, else-names_port, then-is_named, else-is_named}
+use Rattle.lpc_world.proofs.world.World.is_named_by_row.Goals as goal
+use Rattle.lpc_world.proofs.world.World.is_named_by_row.Goals.{then-names_port, else-names_port, then-is_named, else-is_named}
 
 pub returns-then-is_named-2 : goal.returns-then-is_named-2
 returns-then-is_named-2 c =
