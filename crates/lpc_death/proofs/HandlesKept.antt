@@ -14,13 +14,13 @@ use Rattle.lpc_model.proofs.LinkedSteps.{is_steady}
 use Rattle.lpc_model.proofs.SteadySteps.{steady-enter}
 
 -- a step that gives and takes no handle
-abbrev keeps_handles : Basic → Bool
+abbrev pub keeps_handles : Basic → Bool
 keeps_handles (AddsProcess p) = false
 keeps_handles (AddsHandle pid h) = false
 keeps_handles (DropsHandle pid value) = false
 keeps_handles b = true
 
-kept-away : (b : Basic) → takes_away b ≡ true → keeps_handles b ≡ true
+pub kept-away : (b : Basic) → takes_away b ≡ true → keeps_handles b ≡ true
 kept-away (Wakes who call status fields) is = refl
 kept-away (Withdraws who) is = refl
 kept-away (Empties q) is = refl
@@ -33,10 +33,10 @@ kept-steady (AddsHandle pid h) is = absurd (cc)
 kept-steady (DropsHandle pid value) is = absurd (cc)
 kept-steady b is = refl
 
-abbrev KeepHandles : List Basic → Type 0
+abbrev pub KeepHandles : List Basic → Type 0
 KeepHandles bs = every keeps_handles bs ≡ true
 
-kept-given : (w : World) (o : Option MessageRow) → KeepHandles (given o (λ m. enter m w))
+pub kept-given : (w : World) (o : Option MessageRow) → KeepHandles (given o (λ m. enter m w))
 kept-given w None = refl
 kept-given w (Some m) = every-more is_steady keeps_handles kept-steady (enter m w) (steady-enter m w)
 
@@ -61,7 +61,7 @@ kept-step w (DropsHandle pid value) is = absurd (cc)
 kept-step w (Frees o) is = freed-kept w o.kind o.birth
 kept-step w b is = refl
 
-kept-all : (w : World) (bs : List Basic) → KeepHandles bs → (world_after w bs).handles ≡ w.handles
+pub kept-all : (w : World) (bs : List Basic) → KeepHandles bs → (world_after w bs).handles ≡ w.handles
 kept-all w [] all = refl
 kept-all w (b ∷ bs) all =
     let here : keeps_handles b ≡ true = grind arith in

@@ -2,3 +2,13 @@ pub mod Steps
 pub mod Posted
 pub mod HandlesKept
 pub mod Untold
+pub mod Paid
+pub mod Turns
+pub mod Five
+pub mod Untelling
+pub mod CanEnd
+pub mod Mute
+pub mod OwnEnds
+pub mod Registrations
+pub mod Dead
+pub mod Lives

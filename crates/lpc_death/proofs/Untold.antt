@@ -14,7 +14,7 @@ use Rattle.lpc_model.proofs.Untold.{open-untold}
 abbrev names_it : Birth → HandleRow → Bool
 names_it b h = names_port b h.object
 
-count-both : (p : HandleRow → Bool) (xs ys : List HandleRow) → count p (xs ++ ys) ≡ count p xs + count p ys
+pub count-both : (p : HandleRow → Bool) (xs ys : List HandleRow) → count p (xs ++ ys) ≡ count p xs + count p ys
 count-both p [] ys = grind arith
 count-both p (x ∷ xs) ys = grind (arith, count-both p xs ys)
 
@@ -55,14 +55,14 @@ five-untold w b none =
     subst (λ (v : World). is_told v b ≡ false) (sym (cut-is w b)) (silent (is_closing_of b) (uncut w b).messages left)
 
 -- What is told of is a client port
-told-client : (w : World) (p : PortRow) (m : MessageRow) → told_of w p ≡ Some m → is_client_port p ≡ true
+pub told-client : (w : World) (p : PortRow) (m : MessageRow) → told_of w p ≡ Some m → is_client_port p ≡ true
 told-client w p m told = at (is_client_port p) refl
   where
     at : (client : Bool) → is_client_port p ≡ client → is_client_port p ≡ true
     at true is = is
     at false is = absurd (grind (arith, is, told))
 
-client-row : (b : Birth) (ps : List PortRow) (p : PortRow) → first (is_port b) ps ≡ Some p → is_client_port p ≡ true → has (λ p. is_port b p && is_client_port p) ps ≡ true
+pub client-row : (b : Birth) (ps : List PortRow) (p : PortRow) → first (is_port b) ps ≡ Some p → is_client_port p ≡ true → has (λ p. is_port b p && is_client_port p) ps ≡ true
 client-row b [] p row client = absurd (cc)
 client-row b (q ∷ ps) p row client = elim (is_port b q) as (λ here. is_port b q ≡ here → has (λ p. is_port b p && is_client_port p) (q ∷ ps) ≡ true) [
   | true ↦ λ here. let same : q ≡ p = grind arith in let also : is_client_port q ≡ true = ap is_client_port same ∙ client in grind (arith, here, also)

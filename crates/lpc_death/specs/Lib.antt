@@ -1,2 +1,5 @@
 pub mod Calls
 pub mod Closing
+pub mod Dying
+pub mod Ends
+pub mod Process

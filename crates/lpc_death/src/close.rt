@@ -1,12 +1,11 @@
 // The call that closes a handle, and a port with its last one.
-ghost use Rattle.std.specs.Prelude.{◌≡◌, ◌≤◌, ◌<◌, ◌+◌, ◌++◌, true, false, length};
-ghost use Rattle.byteorder.specs.Endian.{little_bytes};
+ghost use Rattle.std.specs.Prelude.{◌≡◌, ◌≤◌, ◌<◌, ◌+◌, Some, true, false, length};
 ghost use Rattle.lpc_base.specs.Rows.{has};
 ghost use Rattle.lpc_base.specs.declared.limits.TheConstants.{LINES_LIMIT};
 ghost use Rattle.lpc_death.specs.Calls.{creator_of};
-ghost use Rattle.lpc_death.specs.Closing.{CanClose, closes_last, has_one_handle, is_told};
+ghost use Rattle.lpc_death.specs.Closing.{CanClose, closes_last, closing_rows, has_one_handle, is_told, last_rows};
 ghost use Rattle.lpc_model.specs.Close as model;
-ghost use Rattle.lpc_model.specs.Found.{is_table};
+ghost use Rattle.lpc_model.specs.Found.{handle_at, is_table};
 ghost use Rattle.lpc_model.specs.Lines.{close};
 ghost use Rattle.lpc_world.specs.Called.{Served};
 ghost use Rattle.lpc_world.specs.Clauses.{birth_at, name_at, row_shown};
@@ -17,56 +16,40 @@ ghost use Rattle.lpc_world.specs.Names.{stands};
 ghost use Rattle.lpc_world.specs.Ready.{HasRoom, is_ready};
 ghost use Rattle.lpc_world.specs.Shown.{object_stands};
 
-use byteorder::{ByteOrder, LittleEndian};
-use lpc_base::Birth;
-use lpc_base::limits::HEADER_SIZE;
+use crate::telling::telling;
 use lpc_base::status::SUCCESS;
 use lpc_handles::Row;
-use lpc_message::{Header, kind};
-use lpc_model::{Body, CallName, Entries, Entry, Fields, Message, Outcome, refuse};
+use lpc_message::kind;
+use lpc_model::{CallName, Entries, Entry, Fields, Message, Outcome, refuse};
 use lpc_slots::Key;
 use lpc_world::{Closed, Ending, Object, World};
-
-/// The data of a message that tells of a closed port: the maker and the ordinal of its birth, 4 bytes each.
-fn closed_data(birth: Birth) -> [u8; 8]
-    ensures { result ≡ little_bytes 4 birth.maker ++ little_bytes 4 birth.ordinal }
-{
-    let mut data = [0u8; 8];
-    LittleEndian::write_u32(&mut data, birth.maker);
-    LittleEndian::write_u32(&mut data[4..], birth.ordinal);
-    data
-}
 
 /// The message that tells of a closed port: it is of the connect that made the port, and names the port by its birth.
 fn closed_message(closed: &Closed) -> Message
     ensures { result ≡ model.closed_message (creator_of closed.now) closed.now.birth }
 {
-    let data = closed_data(closed.birth);
-    Message {
-        header: Header {
-            data_size: data.len() as u16,
-            message_size: (HEADER_SIZE + data.len()) as u16,
-            kind: kind::PORT_CLOSED,
-            ranges_offset: 0,
-            client: closed.client,
-            message_id: closed.message_id,
-            section_size: 0,
-        },
-        body: Body::from_slice(&data),
-    }
+    telling(
+        kind::PORT_CLOSED,
+        closed.client,
+        closed.message_id,
+        closed.birth,
+    )
 }
 
 /// That a completed client port is closed is posted to its connection port, where that is open.
 fn post_closed(world: &mut World, port: Key, out: &mut Entries)
     requires port { stands world.old.births.ports port ≡ true }
     requires untold { is_told world.old.rows (birth_at world.old port) ≡ false }
-    requires spare { 1 ≤ out.old.spare }
+    requires spare { 0 < length world.old.rows.waits → 1 ≤ out.old.spare }
     requires budget { CanMake world.old }
     ensures takes { let steps = model.post_closed (birth_at world.old port) world.old.rows in
         Took steps world.old world.new out.old out.new }
     ensures births { world.new.births ≡ world.old.births }
     ensures calls { world.new.calls ≡ world.old.calls }
-    ensures spare { out.old.spare ≤ out.new.spare + 1 }
+    ensures made { let rows = closing_rows world.old.rows (birth_at world.old port) in
+        world.new.made ≤ world.old.made + rows }
+    ensures spare { out.new.spare + length world.old.rows.waits
+        ≡ out.old.spare + length world.new.rows.waits }
 {
     if let Some(closed) = world.told_of(port) {
         let message = closed_message(&closed);
@@ -96,7 +79,7 @@ fn empty_queue(world: &mut World, port: Key, out: &mut Entries)
 
 /// A port is cut off from its other end: requests that were sent there end, receives that wait there on a client port, and
 /// the connect that was accepted and isn't completed.
-fn cut_pair(world: &mut World, port: Key, out: &mut Entries)
+pub(crate) fn cut_pair(world: &mut World, port: Key, out: &mut Entries)
     requires port { stands world.old.births.ports port ≡ true }
     requires pairs { HasMutualPairs world.old.rows }
     requires spare { length world.old.rows.waits ≤ out.old.spare }
@@ -120,13 +103,16 @@ fn close_port(world: &mut World, port: Key, out: &mut Entries)
     requires port { stands world.old.births.ports port ≡ true }
     requires pairs { HasMutualPairs world.old.rows }
     requires untold { is_told world.old.rows (birth_at world.old port) ≡ false }
-    requires spare { length world.old.rows.waits + 1 ≤ out.old.spare }
+    requires spare { length world.old.rows.waits ≤ out.old.spare }
     requires budget { CanMake world.old }
     ensures takes { let steps = model.close_port (birth_at world.old port) world.old.rows in
         Took steps world.old world.new out.old out.new }
     ensures handles { world.new.rows.handles ≡ world.old.rows.handles }
     ensures calls { world.new.calls ≡ world.old.calls }
-    ensures spare { out.old.spare ≤ out.new.spare + length world.old.rows.waits + 1 }
+    ensures made { let rows = closing_rows world.old.rows (birth_at world.old port) in
+        world.new.made ≤ world.old.made + rows }
+    ensures spare { out.new.spare + length world.old.rows.waits
+        ≡ out.old.spare + length world.new.rows.waits }
 {
     world.names_unbind(port);
     world.end_all(port, Ending::Receives, out);
@@ -148,31 +134,45 @@ fn has_one_handle(world: &World, object: Object) -> bool
 fn close_last(world: &mut World, object: Object, out: &mut Entries)
     requires object { object_stands world.old.births object ≡ true }
     requires can { CanClose world.old.rows }
-    requires spare { length world.old.rows.waits + 1 ≤ out.old.spare }
+    requires spare { length world.old.rows.waits ≤ out.old.spare }
     requires budget { CanMake world.old }
     ensures takes { let steps = closes_last (name_at world.old object) world.old.rows in
         Took steps world.old world.new out.old out.new }
     ensures handles { world.new.rows.handles ≡ world.old.rows.handles }
     ensures calls { world.new.calls ≡ world.old.calls }
-    ensures spare { out.old.spare ≤ out.new.spare + length world.old.rows.waits + 1 }
+    ensures made { let rows = last_rows world.old.rows (name_at world.old object) in
+        world.new.made ≤ world.old.made + rows }
+    ensures spare { out.new.spare + length world.old.rows.waits
+        ≡ out.old.spare + length world.new.rows.waits }
 {
     if has_one_handle(world, object) {
         close_port(world, object.port(), out);
     }
 }
 
-/// A handle of a process goes, and the port with its last one.
-fn close_handle(world: &mut World, pid: u32, value: u32, row: Row<Object>, out: &mut Entries)
+/// A handle of a process goes, and the port with its last one. It makes no row but the message that the port's closing
+/// owed.
+pub(crate) fn close_handle(
+    world: &mut World,
+    pid: u32,
+    value: u32,
+    row: Row<Object>,
+    out: &mut Entries,
+)
     requires object { object_stands world.old.births row.object ≡ true }
     requires table { has (is_table pid) world.old.rows.handles ≡ true }
+    requires found { let handle = row_shown world.old value row in
+        handle_at world.old.rows pid value ≡ Some handle }
     requires can { CanClose world.old.rows }
-    requires spare { length world.old.rows.waits + 1 ≤ out.old.spare }
+    requires spare { length world.old.rows.waits ≤ out.old.spare }
     requires budget { CanMake world.old }
     ensures takes { let handle = row_shown world.old value row in
         let steps = model.close_handle pid handle world.old.rows in
         Took steps world.old world.new out.old out.new }
     ensures calls { world.new.calls ≡ world.old.calls }
-    ensures spare { out.old.spare ≤ out.new.spare + length world.old.rows.waits + 1 }
+    ensures made { world.new.made ≤ world.old.made }
+    ensures spare { out.new.spare + length world.old.rows.waits
+        ≡ out.old.spare + length world.new.rows.waits }
 {
     close_last(world, row.object, out);
     world.handles_close(pid, value);

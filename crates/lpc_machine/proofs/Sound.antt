@@ -1,25 +1,24 @@
 -- A step leaves a settled world where it begins in one.
-use Rattle.std.proofs.Common.{◌≡◌, List, [], false, refl, ap, sym, subst, ◌∙◌}
+use Rattle.std.proofs.Common.{◌≡◌, List, [], false, ap, sym, subst, ◌∙◌}
 use Rattle.std.specs.Prelude.{◌++◌}
 use Rattle.lpc_model.specs.declared.entry.Entry.{Entry}
 use Rattle.lpc_model.specs.World.{World, no_rows}
 use Rattle.lpc_model.specs.Basics.{entries_of, world_after}
-use Rattle.lpc_model.specs.Linked.{HasHeldRows, IsLinked}
-use Rattle.lpc_model.specs.OpenQueues.{HasOpenQueues}
+use Rattle.lpc_model.specs.Lawful.{IsLawfulWorld}
+use Rattle.lpc_model.specs.Left.{LeavesNothing}
 use Rattle.lpc_model.specs.Lines.{ScriptLine}
 use Rattle.lpc_model.specs.Machine.{Stepped, bare_steps, step}
-use Rattle.lpc_model.specs.SoundWaits.{IsSoundWorld}
-use Rattle.lpc_model.specs.Standing.{NamesWhatStands}
-use Rattle.lpc_model.specs.Untold.{IsUntold}
 use Rattle.lpc_model.specs.Sweep.{loosened, sweep, unheld}
-use Rattle.lpc_model.proofs.LinkedLines.{held_step, line_linked, linked_none, linked_step}
-use Rattle.lpc_model.proofs.OpenQueues.{queues_line, queues_none, queues_step}
-use Rattle.lpc_model.proofs.Quiet.{lives_kept, quiet_line}
-use Rattle.lpc_model.proofs.SoundLines.{line-sound, sound_none, sound_step}
+use Rattle.lpc_model.proofs.Bare.{bare}
+use Rattle.lpc_model.proofs.LinkedLines.{line_linked}
+use Rattle.lpc_model.proofs.LivingRegistrations.{line-living}
+use Rattle.lpc_model.proofs.OpenQueues.{queues_line}
+use Rattle.lpc_model.proofs.Quiet.{quiet_line}
+use Rattle.lpc_model.proofs.Runs.{lawful_none, lawful_step}
+use Rattle.lpc_model.proofs.SoundLines.{line-sound}
 use Rattle.lpc_model.proofs.SoundQueues.{after-append}
 use Rattle.lpc_model.proofs.Sweeping.{step_swept}
-use Rattle.lpc_model.proofs.StandingCalls.{names_line, names_none, names_step}
-use Rattle.lpc_model.proofs.UntoldLines.{untold_none, untold_step}
+use Rattle.lpc_model.proofs.StandingCalls.{names_line}
 use Rattle.lpc_world.specs.Does.{Left, left_by}
 use Rattle.lpc_world.specs.Held.{CanSweep}
 use Rattle.lpc_world.specs.Kept.{Kept, Same}
@@ -32,18 +31,21 @@ module _ (old taken : Kept) (before list : List Entry) (line : ScriptLine) (s : 
   rows_are = ap (λ (l : Left). l.world) takes
 
   pub can_sweep : CanSweep taken.rows
-  can_sweep = subst CanSweep (sym rows_are) (record {
-    sound = line-sound old.rows line s.sound;
-    linked = line_linked old.rows line s.sound s.linked;
-    queues = queues_line old.rows line s.sound s.linked s.queues;
-    standing = names_line old.rows line s.sound s.linked s.standing;
-    lives = lives_kept old.rows line s.sound s.standing s.held.lives;
-  })
+  can_sweep =
+      let t = s.lawful in
+      let shut = t.untold in
+      subst CanSweep (sym rows_are) (record {
+        sound = line-sound old.rows line t.sound shut.connects;
+        linked = line_linked old.rows line t.sound t.linked;
+        queues = queues_line old.rows line t.sound shut.connects t.linked t.queues;
+        standing = names_line old.rows line t.sound shut.connects t.linked t.names;
+        registrations = line-living old.rows line t.sound t.threads t.registrations;
+      })
 
   pub is_still : taken.loose ≡ false → unheld taken.rows ≡ []
   is_still none =
       let loose_is : taken.loose ≡ loosened false (bare_steps line old.rows) = ap (λ (l : Left). l.loose) takes ∙ ap (λ b. loosened b (bare_steps line old.rows)) s.still in
-      ap unheld rows_are ∙ quiet_line old.rows line s.sound s.standing s.held (sym loose_is ∙ none)
+      ap unheld rows_are ∙ (let t = s.lawful in quiet_line old.rows line t.sound t.names t.held (sym loose_is ∙ none))
 
   -- the sweep leaves the world of the line's step
   pub swept_is : (new : World) → new ≡ world_after taken.rows (sweep taken.rows) → new ≡ (let e = step old.rows line in e.world)
@@ -53,38 +55,16 @@ module _ (old taken : Kept) (before list : List Entry) (line : ScriptLine) (s : 
   told_is = ap (λ (l : Left). l.entries) takes ∙ ap (λ (es : List Entry). es ++ entries_of (bare_steps line old.rows)) empty ∙ sym (ap (λ (e : Stepped). e.entries) (step_swept old.rows line))
 
   pub stays_settled : (new : Kept) → new.rows ≡ world_after taken.rows (sweep taken.rows) → new.loose ≡ false → IsSettled new
-  stays_settled new is still =
-      let at = swept_is new.rows is in
-      record {
-        sound = subst IsSoundWorld (sym at) (sound_step old.rows line s.sound);
-        linked = subst IsLinked (sym at) (linked_step old.rows line s.sound s.linked);
-        queues = subst HasOpenQueues (sym at) (queues_step old.rows line s.sound s.linked s.queues);
-        standing = subst NamesWhatStands (sym at) (names_step old.rows line s.sound s.linked s.standing);
-        untold = subst IsUntold (sym at) (untold_step old.rows line s.sound s.standing s.untold);
-        held = subst HasHeldRows (sym at) (held_step old.rows line s.sound s.linked);
-        still = still;
-      }
+  stays_settled new is still = record { lawful = subst IsLawfulWorld (sym (swept_is new.rows is)) (lawful_step old.rows line s.lawful); still = still }
 
 -- after want of memory it is as it was
 pub stays_same : (old new : Kept) → Same old new → IsSettled old → IsSettled new
-stays_same old new same s = record {
-  sound = subst IsSoundWorld (sym same.rows) s.sound;
-  linked = subst IsLinked (sym same.rows) s.linked;
-  queues = subst HasOpenQueues (sym same.rows) s.queues;
-  standing = subst NamesWhatStands (sym same.rows) s.standing;
-  untold = subst IsUntold (sym same.rows) s.untold;
-  held = subst HasHeldRows (sym same.rows) s.held;
-  still = same.loose ∙ s.still;
-}
+stays_same old new same s = record { lawful = subst IsLawfulWorld (sym same.rows) s.lawful; still = same.loose ∙ s.still }
 
 -- before the first line
 pub settled_none : (new : Kept) → new.rows ≡ no_rows → new.loose ≡ false → IsSettled new
-settled_none new is still = record {
-  sound = subst IsSoundWorld (sym is) sound_none;
-  linked = subst IsLinked (sym is) linked_none;
-  queues = subst HasOpenQueues (sym is) queues_none;
-  standing = subst NamesWhatStands (sym is) names_none;
-  untold = subst IsUntold (sym is) untold_none;
-  held = subst HasHeldRows (sym is) (record { ports = refl; lives = record { threads = refl; processes = refl } });
-  still = still;
-}
+settled_none new is still = record { lawful = subst IsLawfulWorld (sym is) lawful_none; still = still }
+
+-- where no process lives nothing is left
+pub leaves_nothing : (w : Kept) → IsSettled w → LeavesNothing w.rows
+leaves_nothing w s = let t = s.lawful in bare w.rows t.sound t.linked t.held t.queues t.living t.pairs

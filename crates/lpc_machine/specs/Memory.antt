@@ -6,15 +6,16 @@ use Rattle.lpc_model.specs.World.{World}
 use Rattle.lpc_model.specs.Machine.{boot_line, dir_line, link_line, service_of, thread_line}
 use Rattle.lpc_world.specs.Kept.{Kept, lacks_name_room, lacks_process_room, lacks_thread_room}
 use Rattle.lpc_world.specs.Ready.{caller, is_ready}
-use Rattle.lpc_model.specs.Lines.{ScriptCall, ScriptLine, boot, thread, dir, link, run, accept_connect_port, connect_port, create_port, duplicate_object, request_port}
+use Rattle.lpc_model.specs.Lines.{ScriptCall, ScriptLine, boot, thread, dir, link, run, accept_connect_port, connect_port, create_port, duplicate_object, register_thread_terminate_port, request_port}
 
--- the calls whose step may take memory: they make a port, a further handle, or a message that no thread waits with; a
--- refusal of a connect makes none of these
+-- the calls whose step may take memory: they make a port, a further handle, a message that no thread waits with, or a place
+-- for one that is to tell of a thread's end; a refusal of a connect makes none of these
 abbrev pub call_takes_memory : ScriptCall → Bool
 call_takes_memory (create_port name) = true
 call_takes_memory (connect_port name info) = true
 call_takes_memory (accept_connect_port context message accept) = accept
 call_takes_memory (request_port handle message) = true
+call_takes_memory (register_thread_terminate_port handle) = true
 call_takes_memory (duplicate_object handle access) = true
 call_takes_memory call = false
 
@@ -43,13 +44,14 @@ GoesOn w (link path target) = IsOk (link_line w path target)
 GoesOn w (run tid call) = (is_ready w tid ≡ true) × IsOk (service_of w (caller w tid) call)
 
 -- There is no room for what a thread's call makes: a port with its handle, and its name; a client port with its handle and
--- the message that is to tell that it is closed; a server port with its handle; a message that no thread waits with; a
--- further handle. What the other calls need was reserved when their threads were made.
+-- the message that is to tell that it is closed; a server port with its handle; a message that no thread waits with, or one
+-- that is to tell of a thread's end; a further handle. What the other calls need was reserved when their threads were made.
 abbrev pub lacks_call_room : Kept → ℕ → ScriptCall → Bool
 lacks_call_room w tid (create_port name) = lacks_room_for w (caller w.rows tid) name
 lacks_call_room w tid (connect_port name info) = lacks_connect_room w (caller w.rows tid)
 lacks_call_room w tid (accept_connect_port context message accept) = lacks_port_room w (caller w.rows tid)
 lacks_call_room w tid (request_port handle message) = w.room.messages == 0
+lacks_call_room w tid (register_thread_terminate_port handle) = w.room.messages == 0
 lacks_call_room w tid (duplicate_object handle access) = lacks_handle_room w (caller w.rows tid)
 lacks_call_room w tid call = false
 

@@ -9,12 +9,15 @@ ghost use Rattle.lpc_model.specs.Lines as script;
 ghost use Rattle.lpc_model.specs.Linked.{HasHeldRows};
 ghost use Rattle.lpc_model.specs.Standing.{NamesWhatStands};
 ghost use Rattle.lpc_model.specs.Closings.{ClosingsAreTold};
+ghost use Rattle.lpc_model.specs.Deaths.{DeathsAreTold, HasLivingRegistrations, HasSingleRegistrations};
+ghost use Rattle.lpc_model.specs.Left.{LeavesNothing};
 ghost use Rattle.lpc_model.specs.Untold.{IsUntold};
 ghost use Rattle.lpc_base.specs.declared.limits.TheConstants.{LINES_LIMIT};
 ghost use Rattle.lpc_model.specs.Machine.{bare_steps, step, thread_steps};
 ghost use Rattle.lpc_model.specs.SoundWaits.{HasSoundWaits};
 ghost use Rattle.lpc_model.specs.declared.entry.Entry.TheVariants as entry;
 ghost use Rattle.lpc_death.specs.Closing.{CanClose};
+ghost use Rattle.lpc_death.specs.Ends.{CanEnd};
 ghost use Rattle.lpc_machine.specs.Settled.{IsSettled};
 ghost use Rattle.lpc_machine.specs.Memory.{GoesOn, call_takes_memory, lacks_call_room, lacks_room, makes_call, takes_memory};
 ghost use Rattle.lpc_world.specs.Called.{MayServe};
@@ -27,11 +30,14 @@ use lpc_connect::{
     nt_accept_connect_port, nt_complete_connect_port, nt_connect_port, nt_create_port,
     nt_listen_port,
 };
-use lpc_death::{nt_close, nt_duplicate_object, nt_query_object};
+use lpc_death::{
+    nt_close, nt_duplicate_object, nt_query_object, nt_terminate_process, nt_terminate_thread,
+};
 use lpc_directives::{boot, directory, link, thread};
 use lpc_model::{Call, Entries, Entry, Line, Outcome, Word};
 use lpc_request::{
-    nt_reply_port, nt_reply_wait_receive_port, nt_request_port, nt_request_wait_reply_port,
+    nt_register_thread_terminate_port, nt_reply_port, nt_reply_wait_receive_port, nt_request_port,
+    nt_request_wait_reply_port,
 };
 use lpc_world::{Condition, World};
 use std::alloc::Global;
@@ -77,6 +83,7 @@ fn serve(
     requires room { HasRoom world.old out.old }
     requires calls { world.old.calls < LINES_LIMIT }
     requires can { CanClose world.old.rows }
+    requires ends { CanEnd world.old.rows }
     ensures serves { MayServe by (call_of call.now) result world.old world.new out.old out.new }
     ensures wanting { OnErr result (lacks_call_room world.old by (call_of call.now) ≡ true) }
     ensures free { call_takes_memory (call_of call.now) ≡ false → IsOk result }
@@ -101,11 +108,20 @@ fn serve(
         Call::ReplyWaitReceivePort { handle, reply } => {
             Ok(nt_reply_wait_receive_port(world, by, *handle, *reply, out))
         }
+        Call::RegisterThreadTerminatePort { handle } => {
+            nt_register_thread_terminate_port(world, by, *handle, out)
+        }
         Call::Close { handle } => Ok(nt_close(world, by, *handle, out)),
         Call::DuplicateObject { handle, access } => {
             nt_duplicate_object(world, by, *handle, *access, out)
         }
         Call::QueryObject { handle } => Ok(nt_query_object(world, by, *handle, out)),
+        Call::TerminateThread { target, code } => {
+            Ok(nt_terminate_thread(world, by, *target, *code, out))
+        }
+        Call::TerminateProcess { target, code } => {
+            Ok(nt_terminate_process(world, by, *target, *code, out))
+        }
     }
 }
 
@@ -222,9 +238,10 @@ impl Machine {
     /// from 1 to 2147483647, and fewer than 1,000,000 directives and service calls were made before it.
     ///
     /// After want of memory nothing has changed but the room. Only directives, `NtCreatePort`, `NtConnectPort`,
-    /// `NtAcceptConnectPort` to accept, `NtRequestPort`, and `NtDuplicateObject` take memory, only where they aren't
-    /// refused, and they want for it only where the room for what they make wasn't there; every other line is answered.
-    /// A directive, and a call of a thread that lives and doesn't wait, counts as a call, refused or not.
+    /// `NtAcceptConnectPort` to accept, `NtRequestPort`, `NtRegisterThreadTerminatePort` and `NtDuplicateObject` take
+    /// memory, only where they aren't refused, and they want for it only where the room for what they make wasn't there;
+    /// every other line is answered. A directive, and a call of a thread that lives and doesn't wait, counts as a call,
+    /// refused or not.
     pub fn step(&mut self, line: &Line<'_>, out: &mut Entries) -> Result<(), OutOfMemory>
         requires empty { out.old.list ≡ [] }
         requires room { HasRoom self.old out.old }
@@ -239,6 +256,10 @@ impl Machine {
         ensures named { NamesWhatStands self.new.rows }
         ensures closings { OnOk result (ClosingsAreTold self.old.rows (line_of line.now)) }
         ensures untold { IsUntold self.new.rows }
+        ensures deaths { OnOk result (DeathsAreTold self.old.rows (line_of line.now)) }
+        ensures registered { HasLivingRegistrations self.new.rows }
+        ensures once { HasSingleRegistrations self.new.rows }
+        ensures left { LeavesNothing self.new.rows }
         ensures err { OnErr result (Same self.old self.new) }
         ensures silent { OnErr result (out.new.list ≡ []) }
         ensures counted { OnOk result (makes_call self.old.rows (line_of line.now) ≡ true →

@@ -7,7 +7,7 @@ use Rattle.lpc_base.specs.Rows.{first, given, when}
 use Rattle.lpc_base.specs.declared.birth.Birth.{Birth}
 use Rattle.lpc_base.specs.declared.status.Status.{Status}
 use Rattle.lpc_base.specs.declared.status.TheConstants.{SUCCESS}
-use Rattle.lpc_model.specs.Basics.{Accepts, Awaits, Basic, Frees, Receives, Tells, Wakes, accepted, accepted_as, basic, entries_of, freed, going_on, told, world_after}
+use Rattle.lpc_model.specs.Basics.{Accepts, Awaits, Basic, Dies, Frees, Receives, Tells, Wakes, accepted, accepted_as, basic, entries_of, freed, going_on, told, world_after}
 use Rattle.lpc_model.specs.Entering.{enter, given_steps, receipt_steps, shown, take_connect_steps, take_steps, takes, woken}
 use Rattle.lpc_model.specs.Found.{is_accepted, is_listen, is_receive, is_request, same_birth}
 use Rattle.lpc_model.specs.Lines.{ScriptLine}
@@ -57,6 +57,7 @@ AreFair w line bs = AllByRecursion (IsFair w line) bs
 told_fair : (w : World) (line : ScriptLine) (b : Basic) → IsFair w line b → AllByRecursion (IsRight w line) (told b)
 told_fair w line (Tells e) h = (h, tt)
 told_fair w line (Wakes who name status fields) h = (h, tt)
+told_fair w line (Dies who status) h = ((tt, tt), tt)
 told_fair w line b h = tt
 
 pub entries_fair : (w : World) (line : ScriptLine) (bs : List Basic) → AreFair w line bs → AllByRecursion (IsRight w line) (entries_of bs)
@@ -79,7 +80,7 @@ accepted_call : (answer : List ℕ) (x : WaitRow) → HasItsCall x → HasItsCal
 accepted_call answer x h = rw (same_call answer x.kind) h
 
 -- a row that goes is no wait
-freed_waits : (w : World) (kind : ObjectKind) (b : Birth) → (freed w kind b).waits ≡ w.waits
+pub freed_waits : (w : World) (kind : ObjectKind) (b : Birth) → (freed w kind b).waits ≡ w.waits
 freed_waits w kind.Port b = refl
 freed_waits w kind.Section b = refl
 freed_waits w kind.Token b = refl
@@ -88,6 +89,7 @@ freed_waits w kind.Thread b = refl
 
 basic_keeps : (w : World) (line : ScriptLine) (v : World) (b : Basic) → IsFair w line b → HaveTheirCalls v → HaveTheirCalls (basic v b)
 basic_keeps w line v (Wakes who name status fields) f h = all_filter HasItsCall _ v.waits h
+basic_keeps w line v (Dies who status) f h = all_filter HasItsCall _ v.waits h
 basic_keeps w line v (Awaits x) f h = all_append HasItsCall v.waits (x ∷ []) h (f, tt)
 basic_keeps w line v (Receives who queue) f h = all_map HasItsCall _ v.waits (λ x k. changed_call _ x _ k k) h
 basic_keeps w line v (Accepts who answer) f h = all_map HasItsCall _ v.waits (λ x k. changed_call _ x _ k (accepted_call answer x k)) h

@@ -5,7 +5,7 @@ use Rattle.lpc_base.specs.declared.status.Status.{Status}
 use Rattle.lpc_model.specs.Basics.{Tells}
 use Rattle.lpc_model.specs.Connect.{nt_connect_port}
 use Rattle.lpc_model.specs.Found.{live_thread, wait_of}
-use Rattle.lpc_model.specs.Lines.{ScriptCall, ScriptLine, accept_connect_port, boot, close, complete_connect_port, connect_port, create_port, dir, duplicate_object, link, listen_port, query_object, reply_port, reply_wait_receive_port, request_port, request_wait_reply_port, run, thread}
+use Rattle.lpc_model.specs.Lines.{ScriptCall, ScriptLine, accept_connect_port, boot, close, complete_connect_port, connect_port, create_port, dir, duplicate_object, link, listen_port, query_object, register_thread_terminate_port, reply_port, reply_wait_receive_port, request_port, request_wait_reply_port, run, terminate_process, terminate_thread, thread}
 use Rattle.lpc_model.specs.Machine.{bare_steps, boot_line, dir_line, link_line, name_of_call, ready_steps, service_of, steps, thread_line, thread_steps}
 use Rattle.lpc_model.specs.Request.{nt_request_wait_reply_port}
 use Rattle.lpc_model.specs.World.{ThreadRow, WaitRow, World}
@@ -14,6 +14,7 @@ use Rattle.lpc_model.specs.declared.entry.Entry.TheVariants.{Answer}
 use Rattle.lpc_model.specs.declared.entry.Word.TheVariants as word
 use Rattle.lpc_model.proofs.GivenBytes.{GivesBytes, HasBytes}
 use Rattle.lpc_model.proofs.Holding.{Holds, directed_holds, settled_holds}
+use Rattle.lpc_model.proofs.SoundTerminate.{IsSafe}
 use Rattle.lpc_replay.proofs.Failing.{fails_with}
 use Rattle.lpc_replay.proofs.Fair.{AreFair, HaveTheirCalls, IsFair, swept_fair}
 use Rattle.lpc_replay.proofs.FairAccept.{accept_fair}
@@ -26,23 +27,28 @@ use Rattle.lpc_replay.proofs.FairDatagram.{datagram_fair}
 use Rattle.lpc_replay.proofs.FairDirectives.{boot_fair, dir_fair, further_fair, link_fair}
 use Rattle.lpc_replay.proofs.FairListen.{listen_fair}
 use Rattle.lpc_replay.proofs.FairReceive.{receiving_fair}
+use Rattle.lpc_replay.proofs.FairRegister.{register_fair}
 use Rattle.lpc_replay.proofs.FairReply.{reply_fair}
 use Rattle.lpc_replay.proofs.FairRequest.{request_fails, request_fair}
+use Rattle.lpc_replay.proofs.FairTerminate.{terminate_process_fair, terminate_thread_fair}
 
 -- a call that is served
-service_fair : (w : World) (tid : ℕ) (by : ThreadRow) (name : ScriptCall) → HasBytes name → live_thread w tid ≡ Some by → HaveTheirCalls w → Holds (AreFair w (run tid name)) (service_of w by name)
-service_fair w tid by (create_port text) are live h = create_fair w _ by text
-service_fair w tid by (connect_port text bytes) are live h = connect_fair w _ by text bytes h
-service_fair w tid by (listen_port handle) are live h = listen_fair w _ by handle
-service_fair w tid by (accept_connect_port context bytes accept) are live h = accept_fair w tid by context bytes accept live
-service_fair w tid by (complete_connect_port handle) are live h = complete_fair w tid by handle live h
-service_fair w tid by (request_port handle bytes) are live h = datagram_fair w _ by handle bytes h
-service_fair w tid by (request_wait_reply_port handle bytes) are live h = request_fair w _ by handle bytes h
-service_fair w tid by (reply_port handle bytes) are live h = reply_fair w tid by handle bytes are live h
-service_fair w tid by (reply_wait_receive_port handle bytes) are live h = receiving_fair w tid by handle bytes are live h
-service_fair w tid by (close handle) are live h = close_fair w tid by handle live h
-service_fair w tid by (duplicate_object handle access) are live h = duplicate_fair w _ by handle access
-service_fair w tid by (query_object handle) are live h = query_fair w _ by handle
+service_fair : (w : World) (tid : ℕ) (by : ThreadRow) (name : ScriptCall) → HasBytes name → live_thread w tid ≡ Some by → IsSafe w → HaveTheirCalls w → Holds (AreFair w (run tid name)) (service_of w by name)
+service_fair w tid by (create_port text) are live safe h = create_fair w _ by text
+service_fair w tid by (connect_port text bytes) are live safe h = connect_fair w _ by text bytes h
+service_fair w tid by (listen_port handle) are live safe h = listen_fair w _ by handle
+service_fair w tid by (accept_connect_port context bytes accept) are live safe h = accept_fair w tid by context bytes accept live
+service_fair w tid by (complete_connect_port handle) are live safe h = complete_fair w tid by handle live h
+service_fair w tid by (request_port handle bytes) are live safe h = datagram_fair w _ by handle bytes h
+service_fair w tid by (request_wait_reply_port handle bytes) are live safe h = request_fair w _ by handle bytes h
+service_fair w tid by (reply_port handle bytes) are live safe h = reply_fair w tid by handle bytes are live h
+service_fair w tid by (reply_wait_receive_port handle bytes) are live safe h = receiving_fair w tid by handle bytes are live h
+service_fair w tid by (register_thread_terminate_port handle) are live safe h = register_fair w _ by handle
+service_fair w tid by (close handle) are live safe h = close_fair w tid by handle live h
+service_fair w tid by (duplicate_object handle access) are live safe h = duplicate_fair w _ by handle access
+service_fair w tid by (query_object handle) are live safe h = query_fair w _ by handle
+service_fair w tid by (terminate_thread target code) are live safe h = terminate_thread_fair w tid by target code live safe h
+service_fair w tid by (terminate_process target code) are live safe h = terminate_process_fair w tid by target code live safe h
 
 -- a call that is refused
 refused_fair : (w : World) (line : ScriptLine) (by : ThreadRow) (name : ScriptCall) (s : Status) → service_of w by name ≡ Err s → IsFair w line (Tells (entry.Answer by.number (name_of_call name) s []))
@@ -55,27 +61,30 @@ refused_fair w line by (request_port handle bytes) s is = (tt, tt)
 refused_fair w line by (request_wait_reply_port handle bytes) s is = (fails_with (nt_request_wait_reply_port w by handle bytes) s (request_fails w by handle bytes) is, tt)
 refused_fair w line by (reply_port handle bytes) s is = (tt, tt)
 refused_fair w line by (reply_wait_receive_port handle bytes) s is = (tt, tt)
+refused_fair w line by (register_thread_terminate_port handle) s is = (tt, tt)
 refused_fair w line by (close handle) s is = (tt, tt)
 refused_fair w line by (duplicate_object handle access) s is = (tt, tt)
 refused_fair w line by (query_object handle) s is = (tt, tt)
+refused_fair w line by (terminate_thread target code) s is = (tt, tt)
+refused_fair w line by (terminate_process target code) s is = (tt, tt)
 
 -- the lines
-ready_fair : (w : World) (tid : ℕ) (by : ThreadRow) (name : ScriptCall) (o : Option WaitRow) → HasBytes name → live_thread w tid ≡ Some by → HaveTheirCalls w → AreFair w (run tid name) (ready_steps by name o w)
-ready_fair w tid by name (Some x) are live h = ((tt, tt), tt)
-ready_fair w tid by name None are live h =
-    settled_holds (AreFair w (run tid name)) by (name_of_call name) (service_of w by name) (service_fair w tid by name are live h) (λ s is. (refused_fair w (run tid name) by name s is, tt))
+ready_fair : (w : World) (tid : ℕ) (by : ThreadRow) (name : ScriptCall) (o : Option WaitRow) → HasBytes name → live_thread w tid ≡ Some by → IsSafe w → HaveTheirCalls w → AreFair w (run tid name) (ready_steps by name o w)
+ready_fair w tid by name (Some x) are live safe h = ((tt, tt), tt)
+ready_fair w tid by name None are live safe h =
+    settled_holds (AreFair w (run tid name)) by (name_of_call name) (service_of w by name) (service_fair w tid by name are live safe h) (λ s is. (refused_fair w (run tid name) by name s is, tt))
 
-thread_fair : (w : World) (tid : ℕ) (name : ScriptCall) (o : Option ThreadRow) → HasBytes name → live_thread w tid ≡ o → HaveTheirCalls w → AreFair w (run tid name) (thread_steps tid name o w)
-thread_fair w tid name None are live h = ((tt, tt), tt)
-thread_fair w tid name (Some by) are live h = ready_fair w tid by name (wait_of w tid) are live h
+thread_fair : (w : World) (tid : ℕ) (name : ScriptCall) (o : Option ThreadRow) → HasBytes name → live_thread w tid ≡ o → IsSafe w → HaveTheirCalls w → AreFair w (run tid name) (thread_steps tid name o w)
+thread_fair w tid name None are live safe h = ((tt, tt), tt)
+thread_fair w tid name (Some by) are live safe h = ready_fair w tid by name (wait_of w tid) are live safe h
 
-bare_fair : (w : World) (line : ScriptLine) → GivesBytes line → HaveTheirCalls w → AreFair w line (bare_steps line w)
+bare_fair : (w : World) (line : ScriptLine) → GivesBytes line → IsSafe w → HaveTheirCalls w → AreFair w line (bare_steps line w)
 unfolding bare_steps
-bare_fair w (boot pid tid) are h = directed_holds (AreFair w (boot pid tid)) word.Boot (boot_line w pid tid) (boot_fair w _ pid tid) (λ s. ((tt, tt), tt))
-bare_fair w (thread tid pid) are h = directed_holds (AreFair w (thread tid pid)) word.Thread (thread_line w tid pid) (further_fair w _ tid pid) (λ s. ((tt, tt), tt))
-bare_fair w (dir path) are h = directed_holds (AreFair w (dir path)) word.Dir (dir_line w path) (dir_fair w _ path) (λ s. ((tt, tt), tt))
-bare_fair w (link path target) are h = directed_holds (AreFair w (link path target)) word.Link (link_line w path target) (link_fair w _ path target) (λ s. ((tt, tt), tt))
-bare_fair w (run tid name) are h = thread_fair w tid name (live_thread w tid) are refl h
+bare_fair w (boot pid tid) are safe h = directed_holds (AreFair w (boot pid tid)) word.Boot (boot_line w pid tid) (boot_fair w _ pid tid) (λ s. ((tt, tt), tt))
+bare_fair w (thread tid pid) are safe h = directed_holds (AreFair w (thread tid pid)) word.Thread (thread_line w tid pid) (further_fair w _ tid pid) (λ s. ((tt, tt), tt))
+bare_fair w (dir path) are safe h = directed_holds (AreFair w (dir path)) word.Dir (dir_line w path) (dir_fair w _ path) (λ s. ((tt, tt), tt))
+bare_fair w (link path target) are safe h = directed_holds (AreFair w (link path target)) word.Link (link_line w path target) (link_fair w _ path target) (λ s. ((tt, tt), tt))
+bare_fair w (run tid name) are safe h = thread_fair w tid name (live_thread w tid) are refl safe h
 
-pub steps_fair : (w : World) (line : ScriptLine) → GivesBytes line → HaveTheirCalls w → AreFair w line (steps line w)
-steps_fair w line are h = swept_fair w line (bare_steps line w) (bare_fair w line are h)
+pub steps_fair : (w : World) (line : ScriptLine) → GivesBytes line → IsSafe w → HaveTheirCalls w → AreFair w line (steps line w)
+steps_fair w line are safe h = swept_fair w line (bare_steps line w) (bare_fair w line are safe h)

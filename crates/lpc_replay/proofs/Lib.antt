@@ -6,6 +6,7 @@ pub mod FairConnect
 pub mod FairListen
 pub mod FairAccept
 pub mod FairComplete
+pub mod FairClosing
 pub mod FairClose
 pub mod FairCounts
 pub mod FairDatagram
@@ -14,7 +15,12 @@ pub mod FairReplies
 pub mod FairReply
 pub mod FairReceive
 pub mod FairDirectives
+pub mod FairDying
+pub mod OnlyHandles
+pub mod FairTerminate
+pub mod FairRegister
 pub mod FairLines
+pub mod Waiting
 pub mod Returning
 pub mod HeldWorlds
 pub mod Misfits

@@ -11,7 +11,8 @@ use Rattle.lpc_model.specs.Machine.{Stepped, step}
 use Rattle.lpc_model.specs.Grammar.{read_line}
 use Rattle.lpc_model.specs.Run.{faulty_or, first_fault, first_state, line_step, numbered_line, said_from, trace, unless_faulty, world_behind}
 use Rattle.lpc_model.specs.Replies.{IsIdle, IsRefusedReplyAt, RefusedRepliesAreIdle}
-use Rattle.lpc_replay.proofs.HeldWorlds.{reached_behind, reached_first}
+use Rattle.lpc_model.proofs.Runs.{lawful_none}
+use Rattle.lpc_replay.proofs.HeldWorlds.{lawful_behind}
 use Rattle.lpc_replay.proofs.Refusing.{refusals_stay}
 
 -- the lines behind lines without a fault
@@ -77,7 +78,7 @@ refusal_idle front line back r =
     let long : length (front ++ line ∷ back) ≡ length front + length (line ∷ back) = length-append front (line ∷ back) in
     let more : length (line ∷ back) ≡ 1 + length back = omega arith in
     let few = r.few in
-    let reached = reached_behind first_state (said_from 1 front) reached_first in
+    let reached = lawful_behind first_state (said_from 1 front) lawful_none in
     let nothing = refusals_stay w r.says reached.held r.reply r.is_reply r.refused in
     record {
       before = map (λ (s : Stepped). s.entries) (trace first_state (said_from 1 front));

@@ -1,6 +1,9 @@
--- A connect returns only by its answer, the completion of its connection or the refusal that names it, or by a closing.
-use Rattle.std.specs.Prelude.{◌≡◌, ℕ, ◌==◌, ◌||◌, true, false, not, Contains, List, [], ◌∷◌, Some, Ok}
+-- A connect returns only by its answer, the completion of its connection or the refusal that names it, or by a closing:
+-- that of a handle, or those that the end of a process brings.
+use Rattle.std.specs.Prelude.{◌≡◌, ℕ, ◌==◌, ◌&&◌, ◌||◌, Bool, true, false, not, Contains, List, [], ◌∷◌, Some, Ok}
 use Rattle.std.specs.List.{AllByRecursion}
+use Rattle.lpc_base.specs.Rows.{every, has}
+use Rattle.lpc_base.specs.declared.birth.Birth.{Birth}
 use Rattle.lpc_base.specs.declared.limits.TheConstants.{MESSAGE_LIMIT}
 use Rattle.lpc_base.specs.declared.status.Status.{Status}
 use Rattle.lpc_base.specs.declared.status.TheConstants.{PORT_CONNECTION_REFUSED, SUCCESS}
@@ -8,13 +11,15 @@ use Rattle.lpc_model.specs.declared.entry.CallName.TheVariants.{NtConnectPort}
 use Rattle.lpc_model.specs.declared.entry.Entry.{Entry}
 use Rattle.lpc_model.specs.declared.entry.Entry.TheVariants.{Answer, Wakes}
 use Rattle.lpc_model.specs.declared.entry.Field.{Field}
+use Rattle.lpc_model.specs.declared.line.ProcArg.{ProcArg}
 use Rattle.lpc_model.specs.World.{HandleRow, ThreadRow, WaitRow, World}
-use Rattle.lpc_model.specs.Found.{free_handle, live_thread}
+use Rattle.lpc_model.specs.Found.{free_handle, has_handle_to, is_open, is_table, is_thread, live_thread, lives_in}
 use Rattle.lpc_model.specs.Fields.{h, info, max}
-use Rattle.lpc_model.specs.Lines.{ScriptLine, accept_connect_port, close, complete_connect_port, run}
+use Rattle.lpc_model.specs.Lines.{ScriptCall, ScriptLine, accept_connect_port, close, complete_connect_port, run, terminate_process, terminate_thread}
 use Rattle.lpc_model.specs.Close.{is_accepted_across, is_last, is_offered_to}
 use Rattle.lpc_model.specs.Tests.{own_handle}
 use Rattle.lpc_model.specs.Connect.{Completable, ConnectAnswer, answer_of, answer_test, complete_test}
+use Rattle.lpc_model.specs.Death.{process_target, thread_target}
 use Rattle.lpc_model.specs.Machine.{step}
 
 -- A completion wakes the thread: the call's handle names a server port that can be completed, on whose other end the
@@ -55,11 +60,57 @@ pub record IsClosedBy (w : World) (by handle tid : ℕ) (status : Status) (field
   pub refuses : status ≡ PORT_CONNECTION_REFUSED
   pub shows : fields ≡ info [] ∷ []
 
+-- The end of a process
+-- another thread that lives in the thread's process
+abbrev pub lives_beside : ThreadRow → ThreadRow → Bool
+lives_beside t u = lives_in t.process u && not (is_thread t.number u)
+
+-- the thread that a call is to end is the last one of the process that lives
+pub record EndsLastThread (w : World) (by : ThreadRow) (target : ProcArg) (pid : ℕ) : Type 0 where
+  pub thread : ThreadRow
+  pub names : thread_target w by target ≡ Ok thread
+  pub its_process : thread.process ≡ pid
+  pub last : has (lives_beside thread) w.threads ≡ false
+
+-- a call ends the process, with all of its threads or with the last one
+abbrev pub EndsProcess : World → ThreadRow → ScriptCall → ℕ → Type 0
+EndsProcess w by (terminate_thread target code) pid = EndsLastThread w by target pid
+EndsProcess w by (terminate_process target code) pid = process_target w by target ≡ Ok pid
+EndsProcess w by call pid = ⊥
+
+-- no other process has a handle to the port
+abbrev pub is_only_with : World → ℕ → Birth → Bool
+is_only_with w pid b = every (λ t. is_table pid t || not (has_handle_to b t)) w.handles
+
+-- The end of a process wakes the thread, which is of another one: the call ends the process, which alone has handles to an
+-- open port. The thread's connect isn't accepted and is to that port, or it is accepted and its connection isn't completed,
+-- and the port is an end of it. The thread is told no data. A connect of the process itself ends with its thread instead,
+-- and has no answer.
+pub record IsEndedBy (w : World) (by : ℕ) (call : ScriptCall) (tid : ℕ) (status : Status) (fields : List Field) : Type 0 where
+  pub caller : ThreadRow
+  pub process : ℕ
+  pub port : Birth
+  pub wait : WaitRow
+  pub calls : live_thread w by ≡ Some caller
+  pub ends_process : EndsProcess w caller call process
+  pub opens : is_open w port ≡ true
+  pub alone : is_only_with w process port ≡ true
+  pub waits : Contains w.waits wait
+  pub ends : (is_offered_to port wait || is_accepted_across port w wait) ≡ true
+  pub its_wait : wait.thread ≡ tid
+  pub other : (wait.process == process) ≡ false
+  pub refuses : status ≡ PORT_CONNECTION_REFUSED
+  pub shows : fields ≡ info [] ∷ []
+
 -- the line ends the thread's connect so: no other line does
 abbrev pub IsAnsweredBy : World → ScriptLine → ℕ → Status → List Field → Type 0
 IsAnsweredBy w (run by (complete_connect_port handle)) tid status fields = IsCompletedBy w by handle tid status fields
 IsAnsweredBy w (run by (accept_connect_port context bytes false)) tid status fields = IsRefusedBy w by bytes tid status fields
 IsAnsweredBy w (run by (close handle)) tid status fields = IsClosedBy w by handle tid status fields
+IsAnsweredBy w (run by (terminate_thread target code)) tid status fields =
+    IsEndedBy w by (terminate_thread target code) tid status fields
+IsAnsweredBy w (run by (terminate_process target code)) tid status fields =
+    IsEndedBy w by (terminate_process target code) tid status fields
 IsAnsweredBy w line tid status fields = ⊥
 
 -- a connect that wakes is answered so by its line; its own call answers no success

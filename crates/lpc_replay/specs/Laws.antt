@@ -5,10 +5,15 @@ use Rattle.lpc_model.specs.Script.{script_lines}
 use Rattle.lpc_model.specs.Run.{Along, first_state, said_in}
 use Rattle.lpc_model.specs.Replies.{MisfitsAreRefused, RefusedRepliesAreIdle, RefusedRepliesChangeNothing, RequestsReturnByReply}
 use Rattle.lpc_replay.specs.Connects.{ConnectsReturnByAnswer}
+use Rattle.lpc_replay.specs.Waits.{WaitsEndAsTold}
 
 -- the lines of a script before its first faulty one: each request returns only by a reply that fits it
 unfoldable pub RequestsReturn : List ℕ → Type 0
 RequestsReturn script = Along RequestsReturnByReply first_state (said_in script)
+
+-- each wait ends only as its thread is told: by a wake, or with the thread
+unfoldable pub WaitsEnd : List ℕ → Type 0
+WaitsEnd script = Along WaitsEndAsTold first_state (said_in script)
 
 -- each reply that fits no wait is refused
 unfoldable pub MisfitsRefused : List ℕ → Type 0

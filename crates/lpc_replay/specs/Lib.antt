@@ -1,4 +1,5 @@
 pub mod Connects
+pub mod Waits
 pub mod Laws
 pub mod Sending
 pub mod Reading

@@ -3,9 +3,10 @@ ghost use Rattle.std.specs.Prelude.{ℕ, List};
 ghost use Rattle.lpc_model.specs.Worked.{WorkedTranscripts};
 ghost use Rattle.lpc_model.specs.WorkedConnections.{WorkedConnections};
 ghost use Rattle.lpc_model.specs.WorkedClosings.{WorkedClosings};
-ghost use Rattle.lpc_replay.specs.Laws.{ConnectsReturn, MisfitsRefused, RefusalsIdle, RefusalsStay, RequestsReturn};
+ghost use Rattle.lpc_model.specs.WorkedEndings.{WorkedEndings};
+ghost use Rattle.lpc_replay.specs.Laws.{ConnectsReturn, MisfitsRefused, RefusalsIdle, RefusalsStay, RequestsReturn, WaitsEnd};
 
-/// Completion by a fitting reply, and a connect's return by its answer, in every script.
+/// Completion by a fitting reply, a connect's return by its answer, and the end of each wait, in every script.
 ///
 /// A request that returns with success does so by a wake, in the step of a reply call whose message fits its wait through
 /// the port that the call's handle names, and it shows that call's own bytes with type 2 and SectionSize 0 and all others
@@ -16,14 +17,18 @@ ghost use Rattle.lpc_replay.specs.Laws.{ConnectsReturn, MisfitsRefused, Refusals
 /// A connect returns only by its answer or by a closing: one that wakes does so in the step of the call that completes its
 /// connection, with success; or in the step of the call that refuses it and whose message names it, with
 /// PORT_CONNECTION_REFUSED; or with the same status in the step that closes the last handle of the port that it is to, or,
-/// once it is accepted, of an end of its connection. It is told what that call gives it, which is no data where a port is
+/// once it is accepted, of an end of its connection; or in the step that ends another process, with its last thread, where
+/// that process alone has handles to such a port. It is told what that call gives it, which is no data where a port is
 /// closed. Its own call never answers success.
+///
+/// A thread that waits before a line and doesn't behind it is woken in that line, or ends in it.
 pub fn law_completion()
     ensures returns { (script : List ℕ) → RequestsReturn script }
     ensures refused { (script : List ℕ) → MisfitsRefused script }
     ensures unchanged { (script : List ℕ) → RefusalsStay script }
     ensures idle { (script : List ℕ) → RefusalsIdle script }
     ensures answered { (script : List ℕ) → ConnectsReturn script }
+    ensures ended { (script : List ℕ) → WaitsEnd script }
 {}
 
 /// The definitions compute transcripts that were worked by hand, from the bytes of a script to the bytes sent for it.
@@ -31,4 +36,5 @@ pub fn law_worked_transcripts()
     ensures transcripts { WorkedTranscripts }
     ensures connections { WorkedConnections }
     ensures closings { WorkedClosings }
+    ensures endings { WorkedEndings }
 {}

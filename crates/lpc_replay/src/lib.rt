@@ -10,4 +10,5 @@ mod sending;
 
 pub use laws::{law_completion, law_worked_transcripts};
 pub use lpc_isolation::law_isolation;
+pub use lpc_model::law_death;
 pub use replay::run_words;

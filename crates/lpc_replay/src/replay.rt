@@ -1,7 +1,10 @@
 // The top call.
 ghost use Rattle.std.specs.Prelude.{◌≡◌, ◌≤◌, [], ◌∷◌, true, false, IfSome};
 ghost use Rattle.lpc_base.specs.Streams.{Adds, Rose};
-ghost use Rattle.lpc_replay.specs.Laws.{ClientsApart, ConnectsReturn, MisfitsRefused, RefusalsIdle, RefusalsStay, RequestsReturn};
+ghost use Rattle.lpc_model.specs.Accounts.{RunAccountsForDeaths};
+ghost use Rattle.lpc_model.specs.Deaths.{RunTellsDeaths};
+ghost use Rattle.lpc_model.specs.Left.{RunLeavesNothing};
+ghost use Rattle.lpc_replay.specs.Laws.{ClientsApart, ConnectsReturn, MisfitsRefused, RefusalsIdle, RefusalsStay, RequestsReturn, WaitsEnd};
 ghost use Rattle.lpc_replay.specs.Reading.{IsAskedForPieces};
 ghost use Rattle.lpc_replay.specs.Sending.{AddsFront};
 ghost use Rattle.lpc_replay.specs.TopCall.{Begins, BreaksOff, CutsShort, EndsAsFormed, IsFormed, Replays, Still, Stops, StopsAtFault, StopsUnfailing, is_one_of, is_replay, usage};
@@ -189,12 +192,19 @@ pub fn run_words<S: Source, K: Sink>(
 
     // In the script read a request returns with success only by a reply that fits it. A reply that fits no wait is
     // refused, a refused reply changes nothing, and without its line the others tell the same. A connect returns only by
-    // its answer or by a closing.
+    // its answer or by a closing. A wait ends only by a wake or with its thread.
     ensures returns { result ≡ 0 → IfSome (S.left source.old) RequestsReturn }
     ensures refused { result ≡ 0 → IfSome (S.left source.old) MisfitsRefused }
     ensures unchanged { result ≡ 0 → IfSome (S.left source.old) RefusalsStay }
     ensures idle { result ≡ 0 → IfSome (S.left source.old) RefusalsIdle }
     ensures answered { result ≡ 0 → IfSome (S.left source.old) ConnectsReturn }
+    ensures ended { result ≡ 0 → IfSome (S.left source.old) WaitsEnd }
+
+    // In the script read whoever asked to be told of a thread's end is told once, what tells of ends and of closed ports is
+    // accounted for, and nothing is left where no process lives.
+    ensures deaths { result ≡ 0 → IfSome (S.left source.old) RunTellsDeaths }
+    ensures accounted { result ≡ 0 → IfSome (S.left source.old) RunAccountsForDeaths }
+    ensures nothing_left { result ≡ 0 → IfSome (S.left source.old) RunLeavesNothing }
 
     // In the script read and in any other in which a list of processes is a circle of a process too, and which has the same
     // inputs of the two, the process does and is told the same.

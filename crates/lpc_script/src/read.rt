@@ -16,7 +16,7 @@ use crate::number::{id, number};
 use crate::scratch::Scratch;
 use crate::words::{four_words, next_word, one_or_two_words, one_word, two_words};
 use lpc_base::limits::LINE_LIMIT;
-use lpc_model::{Call, CallName, Line, LineFault, Word};
+use lpc_model::{Call, CallName, Line, LineFault, ProcArg, Word};
 
 /// The word `-`, the one that may stand for a quality of service or for a view so far.
 fn dash(word: &[u8]) -> Result<(), LineFault>
@@ -57,6 +57,25 @@ fn access(word: &[u8]) -> Result<Option<u32>, LineFault>
         return Ok(None);
     }
     Ok(Some(number(word)?))
+}
+
+/// A process or a thread: that of a handle, or for `self` the caller's own.
+fn target(word: &[u8]) -> Result<ProcArg, LineFault>
+    ensures { Gives (λ target. target) result (grammar.target_word word.now) }
+{
+    if word == b"self".as_slice() {
+        return Ok(ProcArg::Current);
+    }
+    Ok(ProcArg::By(number(word)?))
+}
+
+fn target_and_code(text: &[u8]) -> Result<(ProcArg, u32), LineFault>
+    ensures { Gives (λ p. p) result (grammar.target_and_code (words text.now)) }
+{
+    let (word, code) = two_words(text)?;
+    let target = target(word)?;
+    let code = number(code)?;
+    Ok((target, code))
 }
 
 fn handle_and_message<'a>(
@@ -187,6 +206,10 @@ fn call<'a>(name: CallName, text: &'a [u8], scratch: &'a mut Scratch) -> Result<
             let (handle, reply) = handle_and_reply(text, scratch)?;
             Ok(Call::ReplyWaitReceivePort { handle, reply })
         }
+        CallName::NtRegisterThreadTerminatePort => {
+            let handle = one_handle(text)?;
+            Ok(Call::RegisterThreadTerminatePort { handle })
+        }
         CallName::NtClose => {
             let handle = one_handle(text)?;
             Ok(Call::Close { handle })
@@ -195,6 +218,14 @@ fn call<'a>(name: CallName, text: &'a [u8], scratch: &'a mut Scratch) -> Result<
         CallName::NtQueryObject => {
             let handle = one_handle(text)?;
             Ok(Call::QueryObject { handle })
+        }
+        CallName::NtTerminateThread => {
+            let (target, code) = target_and_code(text)?;
+            Ok(Call::TerminateThread { target, code })
+        }
+        CallName::NtTerminateProcess => {
+            let (target, code) = target_and_code(text)?;
+            Ok(Call::TerminateProcess { target, code })
         }
     }
 }

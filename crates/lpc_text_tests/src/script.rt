@@ -1,5 +1,5 @@
 // Lines whose faults and messages were found by hand from the grammar.
-use lpc_model::{Call, Line};
+use lpc_model::{Call, Line, ProcArg};
 use lpc_script::{LineFault, Scratch, law_worked_lines, next_line, read_line};
 use std::process::Abort;
 use std::test::Fail;
@@ -467,6 +467,79 @@ fn a_listen_and_a_complete_have_a_handle(rt: HostRuntime) -> Result<(), Fail> {
     has_handle(&rt, run, false, 4);
     let run = run_of(&rt, &mut scratch, b"24 NtCompleteConnectPort 0x8");
     has_handle(&rt, run, true, 8);
+    Ok(())
+}
+
+// Words that are neither a handle nor `self`, and words that are no status.
+const NO_TARGETS: &[u8] = b"24 NtTerminateThread Self 0\n\
+    24 NtTerminateThread - 0\n\
+    24 NtTerminateThread same 0\n\
+    24 NtTerminateProcess 04 self\n\
+    24 NtTerminateProcess self 00\n\
+    24 NtTerminateProcess self self\n\
+    24 NtRegisterThreadTerminatePort self";
+
+fn has_faults_of_endings(rt: &impl Abort, scratch: &mut Scratch) {
+    let lines = b"24 NtTerminateThread self\n24 NtTerminateProcess\n24 NtTerminateProcess - - -";
+    have_fault(rt, scratch, lines, Some(LineFault::Count));
+    let lines = b"24 NtRegisterThreadTerminatePort\n24 NtRegisterThreadTerminatePort 04 4";
+    have_fault(rt, scratch, lines, Some(LineFault::Count));
+    have_fault(rt, scratch, NO_TARGETS, Some(LineFault::Number));
+}
+
+// It ends its own thread or process where there is no handle, else the one of the handle.
+fn is_target(rt: &impl Abort, target: ProcArg, given: Option<u32>) {
+    match target {
+        ProcArg::Current => assert!(rt; given.is_none()),
+        ProcArg::By(handle) => assert!(rt; given == Some(handle)),
+    }
+}
+
+// It ends a thread with this status.
+fn ends_thread(rt: &impl Abort, run: (u32, Call<'_>), given: Option<u32>, status: u32) {
+    let Call::TerminateThread { target, code } = run.1 else {
+        return assert!(rt; false, "no end of a thread");
+    };
+    is_target(rt, target, given);
+    assert!(rt; code == status);
+}
+
+// It ends a process with this status.
+fn ends_process(rt: &impl Abort, run: (u32, Call<'_>), given: Option<u32>, status: u32) {
+    let Call::TerminateProcess { target, code } = run.1 else {
+        return assert!(rt; false, "no end of a process");
+    };
+    is_target(rt, target, given);
+    assert!(rt; code == status);
+}
+
+// It registers the port of this handle.
+fn registers(rt: &impl Abort, run: (u32, Call<'_>), given: u32) {
+    let Call::RegisterThreadTerminatePort { handle } = run.1 else {
+        return assert!(rt; false, "no registration");
+    };
+    assert!(rt; handle == given);
+}
+
+// Two ends of threads, and two of processes.
+fn reads_endings(rt: &impl Abort, scratch: &mut Scratch) {
+    let run = run_of(rt, scratch, b"24 NtTerminateThread self 0");
+    ends_thread(rt, run, None, 0);
+    let run = run_of(rt, scratch, b"24 NtTerminateThread 0x4 259");
+    ends_thread(rt, run, Some(4), 259);
+    let run = run_of(rt, scratch, b"24 NtTerminateProcess self 0xC0000005");
+    ends_process(rt, run, None, 0xc0000005);
+    let run = run_of(rt, scratch, b"24 NtTerminateProcess 8 1");
+    ends_process(rt, run, Some(8), 1);
+}
+
+#[test]
+fn an_end_has_a_target_and_a_status(rt: HostRuntime) -> Result<(), Fail> {
+    let mut scratch = Scratch::new(rt.alloc())?;
+    has_faults_of_endings(&rt, &mut scratch);
+    reads_endings(&rt, &mut scratch);
+    let run = run_of(&rt, &mut scratch, b"24 NtRegisterThreadTerminatePort 0xc");
+    registers(&rt, run, 12);
     Ok(())
 }
 

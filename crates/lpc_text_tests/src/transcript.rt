@@ -31,6 +31,32 @@ fn one(name: FieldName, value: Value) -> Fields
     fields
 }
 
+// The answers of a registration, and of ends that another thread or process meets.
+fn prints_endings(rt: &impl Abort, alloc: Global) -> Result<(), Fail> {
+    let registered = Entry::Answer {
+        tid: 24,
+        call: CallName::NtRegisterThreadTerminatePort,
+        status: status::QUOTA_EXCEEDED,
+        fields: Fields::none(),
+    };
+    let text = "7 24 NtRegisterThreadTerminatePort c0000044\n";
+    printed(rt, alloc, 7, registered, text)?;
+    let thread = Entry::Answer {
+        tid: 24,
+        call: CallName::NtTerminateThread,
+        status: status::INVALID_CID,
+        fields: Fields::none(),
+    };
+    printed(rt, alloc, 8, thread, "8 24 NtTerminateThread c000000b\n")?;
+    let process = Entry::Answer {
+        tid: 24,
+        call: CallName::NtTerminateProcess,
+        status: status::INVALID_HANDLE,
+        fields: Fields::none(),
+    };
+    printed(rt, alloc, 9, process, "9 24 NtTerminateProcess c0000008\n")
+}
+
 // A call that is answered, one that waits and one that is woken.
 fn prints_calls(rt: &impl Abort, alloc: Global) -> Result<(), Fail> {
     let answer = Entry::Answer {
@@ -96,6 +122,7 @@ fn prints_directives(rt: &impl Abort, alloc: Global) -> Result<(), Fail> {
 #[test]
 fn each_kind_of_entry_has_its_form(rt: HostRuntime) -> Result<(), Fail> {
     prints_calls(&rt, rt.alloc())?;
+    prints_endings(&rt, rt.alloc())?;
     prints_threads(&rt, rt.alloc())?;
     prints_directives(&rt, rt.alloc())
 }

@@ -8,7 +8,7 @@ use Rattle.lpc_model.specs.Grammar.{call_named, directive_named}
 use Rattle.lpc_model.specs.Text.{eight_digits, call_text, word_text, name_text, kind_text, value_text, fields_text, by_text, rest_text}
 use Rattle.lpc_model.specs.TextLaws.{Sort, in_decimal, in_hexadecimal, as_kind, as_bytes, is_of_sort}
 use Rattle.lpc_model.specs.declared.entry.CallName.{CallName}
-use Rattle.lpc_model.specs.declared.entry.CallName.TheVariants.{NtCreatePort, NtConnectPort, NtListenPort, NtAcceptConnectPort, NtCompleteConnectPort, NtRequestPort, NtRequestWaitReplyPort, NtReplyPort, NtReplyWaitReceivePort, NtClose, NtDuplicateObject, NtQueryObject}
+use Rattle.lpc_model.specs.declared.entry.CallName.TheVariants.{NtCreatePort, NtConnectPort, NtListenPort, NtAcceptConnectPort, NtCompleteConnectPort, NtRequestPort, NtRequestWaitReplyPort, NtReplyPort, NtReplyWaitReceivePort, NtRegisterThreadTerminatePort, NtClose, NtDuplicateObject, NtQueryObject, NtTerminateProcess, NtTerminateThread}
 use Rattle.lpc_model.specs.declared.entry.Entry.{Entry}
 use Rattle.lpc_model.specs.declared.entry.Entry.TheVariants.{Answer, Waits, Wakes, Busy, NoThread, Died, Directive}
 use Rattle.lpc_model.specs.declared.entry.Field.{Field}
@@ -87,9 +87,12 @@ call_named-text NtRequestPort = refl
 call_named-text NtRequestWaitReplyPort = refl
 call_named-text NtReplyPort = refl
 call_named-text NtReplyWaitReceivePort = refl
+call_named-text NtRegisterThreadTerminatePort = refl
 call_named-text NtClose = refl
 call_named-text NtDuplicateObject = refl
 call_named-text NtQueryObject = refl
+call_named-text NtTerminateThread = refl
+call_named-text NtTerminateProcess = refl
 
 pub call_unique : (a b : CallName) → call_text a ≡ call_text b → a ≡ b
 call_unique a b e =
@@ -106,9 +109,12 @@ call_plain NtRequestPort = refl
 call_plain NtRequestWaitReplyPort = refl
 call_plain NtReplyPort = refl
 call_plain NtReplyWaitReceivePort = refl
+call_plain NtRegisterThreadTerminatePort = refl
 call_plain NtClose = refl
 call_plain NtDuplicateObject = refl
 call_plain NtQueryObject = refl
+call_plain NtTerminateThread = refl
+call_plain NtTerminateProcess = refl
 
 -- a directive is found by its name
 directive_named-text : (w : Word) → directive_named (word_text w) ≡ Some w

@@ -10,7 +10,7 @@ use Rattle.lpc_model.specs.Text.{eight_digits, call_text, name_text, value_text,
 use Rattle.lpc_model.specs.TextLaws.{sort_of, is_word, is_of_sort, is_sorted_field, is_regular, TextIsUnique}
 use Rattle.lpc_base.specs.declared.status.Status.{Status}
 use Rattle.lpc_model.specs.declared.entry.CallName.{CallName}
-use Rattle.lpc_model.specs.declared.entry.CallName.TheVariants.{NtCreatePort, NtConnectPort, NtListenPort, NtAcceptConnectPort, NtCompleteConnectPort, NtRequestPort, NtRequestWaitReplyPort, NtReplyPort, NtReplyWaitReceivePort, NtClose, NtDuplicateObject, NtQueryObject}
+use Rattle.lpc_model.specs.declared.entry.CallName.TheVariants.{NtCreatePort, NtConnectPort, NtListenPort, NtAcceptConnectPort, NtCompleteConnectPort, NtRequestPort, NtRequestWaitReplyPort, NtReplyPort, NtReplyWaitReceivePort, NtRegisterThreadTerminatePort, NtClose, NtDuplicateObject, NtQueryObject, NtTerminateProcess, NtTerminateThread}
 use Rattle.lpc_model.specs.declared.entry.Entry.{Entry}
 use Rattle.lpc_model.specs.declared.entry.Entry.TheVariants.{Answer, Waits, Wakes, Busy, NoThread, Died, Directive}
 use Rattle.lpc_model.specs.declared.entry.Field.{Field}
@@ -103,9 +103,12 @@ call_begins NtRequestPort = refl
 call_begins NtRequestWaitReplyPort = refl
 call_begins NtReplyPort = refl
 call_begins NtReplyWaitReceivePort = refl
+call_begins NtRegisterThreadTerminatePort = refl
 call_begins NtClose = refl
 call_begins NtDuplicateObject = refl
 call_begins NtQueryObject = refl
+call_begins NtTerminateThread = refl
+call_begins NtTerminateProcess = refl
 
 -- a thread's number stands first
 record IsNumbered (a : ℕ) : Type 0 where

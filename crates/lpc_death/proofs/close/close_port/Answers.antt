@@ -1,13 +1,15 @@
-use Rattle.std.proofs.Common.{◌≡◌, [], ◌∷◌, ap, refl, ◌∙◌}
+use Rattle.std.proofs.Common.{◌≡◌, [], ◌∷◌, ap, arith, refl, ◌∙◌}
 use Rattle.lpc_model.specs.Basics.{Steps, Unbinds, doing, ◌▹◌}
 use Rattle.lpc_model.specs.Close.{close_port, cut_pair, empty_queue, end_receives, end_requests, post_closed}
-use Rattle.lpc_model.proofs.Closing.{behind, stage_five, stage_four, stage_one, stage_three, stage_two}
+use Rattle.lpc_model.proofs.Closing.{behind}
 use Rattle.lpc_world.specs.Closing.{end_all}
 use Rattle.lpc_world.specs.Does.{Left}
 use Rattle.lpc_world.specs.Names.{name_of}
 use Rattle.lpc_world.specs.declared.ending.Ending.TheVariants.{Receives, Requests}
 use Rattle.lpc_world.proofs.Composed.{took-then}
+use Rattle.lpc_death.proofs.Five.{five-is}
 use Rattle.lpc_death.proofs.HandlesKept.{handles-kept}
+use Rattle.lpc_death.proofs.Paid.{five-clients}
 use Rattle.lpc_death.proofs.Steps.{took-one}
 use Rattle.lpc_death.proofs.Untold.{five-untold}
 use Rattle.lpc_death.proofs.close.close_port.Goals as goal
@@ -15,19 +17,35 @@ use Rattle.lpc_death.proofs.close.close_port.Goals as goal
 -- the world before the post is that behind the first five steps
 pub post_closed-requires-clause-untold : goal.post_closed-requires-clause-untold
 post_closed-requires-clause-untold c =
-    let w = c.args.world.now.rows in
-    let b = name_of c.args.world.now.births.ports c.args.port in
+    let w = c.args.world.now in
+    let b = name_of w.births.ports c.args.port in
     let one = c.names_unbind.ensures.step.births in
     let two = c.end_all.ensures.births ∙ one in
     let three = c.end_all-2.ensures.births ∙ two in
     let four = c.empty_queue.ensures.births ∙ three in
-    let five = c.cut_pair.ensures.births ∙ four in
-    let unbound : c.names_unbind.new.self.rows ≡ stage_one w b = c.names_unbind.ensures.step.rows in
-    let received : c.end_all.new.self.rows ≡ stage_two w b = ap (λ (l : Left). l.world) (rw one at c.end_all.ensures.took) ∙ ap (behind (end_receives b)) unbound in
-    let requested : c.end_all-2.new.self.rows ≡ stage_three w b = ap (λ (l : Left). l.world) (rw two at c.end_all-2.ensures.took) ∙ ap (behind (end_requests b)) received in
-    let emptied : c.empty_queue.new.world.rows ≡ stage_four w b = ap (λ (l : Left). l.world) (rw three at c.empty_queue.ensures.takes) ∙ ap (behind (empty_queue b)) requested in
-    let cut : c.cut_pair.new.world.rows ≡ stage_five w b = ap (λ (l : Left). l.world) (rw four at c.cut_pair.ensures.takes) ∙ ap (behind (cut_pair b)) emptied in
-    rw (five, cut) (five-untold w b c.requires.untold)
+    let received : c.end_all.new.self.rows ≡ behind (end_receives b) c.names_unbind.new.self.rows = ap (λ (l : Left). l.world) (rw one at c.end_all.ensures.took) in
+    let requested : c.end_all-2.new.self.rows ≡ behind (end_requests b) c.end_all.new.self.rows = ap (λ (l : Left). l.world) (rw two at c.end_all-2.ensures.took) in
+    let emptied : c.empty_queue.new.world.rows ≡ behind (empty_queue b) c.end_all-2.new.self.rows = ap (λ (l : Left). l.world) (rw three at c.empty_queue.ensures.takes) in
+    let cut : c.cut_pair.new.world.rows ≡ behind (cut_pair b) c.empty_queue.new.world.rows = ap (λ (l : Left). l.world) (rw four at c.cut_pair.ensures.takes) in
+    let five = five-is w.rows c.names_unbind.new.self.rows c.end_all.new.self.rows c.end_all-2.new.self.rows c.empty_queue.new.world.rows c.cut_pair.new.world.rows b c.names_unbind.ensures.step.rows received requested emptied cut in
+    rw (c.cut_pair.ensures.births ∙ four, five) (five-untold w.rows b c.requires.untold)
+
+pub returns-clause-made : goal.returns-clause-made
+returns-clause-made c =
+    let w = c.args.world.now in
+    let b = name_of w.births.ports c.args.port in
+    let one = c.names_unbind.ensures.step.births in
+    let two = c.end_all.ensures.births ∙ one in
+    let three = c.end_all-2.ensures.births ∙ two in
+    let four = c.empty_queue.ensures.births ∙ three in
+    let received : c.end_all.new.self.rows ≡ behind (end_receives b) c.names_unbind.new.self.rows = ap (λ (l : Left). l.world) (rw one at c.end_all.ensures.took) in
+    let requested : c.end_all-2.new.self.rows ≡ behind (end_requests b) c.end_all.new.self.rows = ap (λ (l : Left). l.world) (rw two at c.end_all-2.ensures.took) in
+    let emptied : c.empty_queue.new.world.rows ≡ behind (empty_queue b) c.end_all-2.new.self.rows = ap (λ (l : Left). l.world) (rw three at c.empty_queue.ensures.takes) in
+    let cut : c.cut_pair.new.world.rows ≡ behind (cut_pair b) c.empty_queue.new.world.rows = ap (λ (l : Left). l.world) (rw four at c.cut_pair.ensures.takes) in
+    let five = five-is w.rows c.names_unbind.new.self.rows c.end_all.new.self.rows c.end_all-2.new.self.rows c.empty_queue.new.world.rows c.cut_pair.new.world.rows b c.names_unbind.ensures.step.rows received requested emptied cut in
+    let posts = rw (c.cut_pair.ensures.births ∙ four, five) at c.post_closed.ensures.made in
+    let clients = five-clients w.rows b in
+    omega (arith, posts, clients, c.cut_pair.ensures.made, c.empty_queue.ensures.made, c.end_all-2.ensures.made, c.end_all.ensures.made, c.names_unbind.ensures.step.made)
 
 pub returns-clause-takes : goal.returns-clause-takes
 unfolding close_port

@@ -8,6 +8,7 @@ use Rattle.lpc_world.specs.Names.{name_of}
 use Rattle.lpc_world.specs.Ready.{port_of}
 use Rattle.lpc_world.specs.Shown.{row_with}
 use Rattle.lpc_world.specs.Untold.{is_owed}
+use Rattle.lpc_death.proofs.Paid.{told-rows}
 use Rattle.lpc_death.proofs.Posted.{posted, unposted}
 use Rattle.lpc_death.proofs.Untold.{place-kept}
 use Rattle.lpc_death.proofs.close.post_closed.Goals as goal
@@ -38,3 +39,10 @@ returns-in_default-clause-takes c =
     let w = c.args.world.now in
     let b = name_of w.births.ports c.args.port in
     unposted w.rows b (port_of w.rows b) c.args.out.now.list w.loose c.told_of.ensures.row c.in_default.ensures.told
+
+pub returns-in-Some-clause-made : goal.returns-in-Some-clause-made
+returns-in-Some-clause-made c =
+    let w = c.args.world.now in
+    let b = name_of w.births.ports c.args.port in
+    let one = told-rows w.rows b (port_of w.rows b) (closed_row_of w c.args.port c.in-Some.closed) c.told_of.ensures.row c.in-Some.ensures.told in
+    omega (arith, one, c.deliver.ensures.made)

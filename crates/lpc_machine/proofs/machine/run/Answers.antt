@@ -7,7 +7,15 @@ use Rattle.lpc_machine.proofs.Called.{busy, called}
 use Rattle.lpc_machine.proofs.machine.run.Goals as goal
 
 pub serve-requires-clause-can : goal.serve-requires-clause-can
-serve-requires-clause-can c = record { pairs = c.requires.settled.linked.pairs; untold = c.requires.settled.untold }
+serve-requires-clause-can c = let t = c.requires.settled.lawful in record { pairs = t.linked.pairs; untold = t.untold }
+
+pub serve-requires-clause-ends : goal.serve-requires-clause-ends
+serve-requires-clause-ends c = let t = c.requires.settled.lawful in record {
+  close = record { sound = t.sound; linked = t.linked; untold = t.untold };
+  threads = t.threads;
+  registrations = t.registrations;
+  single = t.single;
+}
 
 pub returns-in-Waits-clause-takes : goal.returns-in-Waits-clause-takes
 returns-in-Waits-clause-takes c =

@@ -1,4 +1,4 @@
-use Rattle.lpc_replay.proofs.EveryScript.{every_connect, every_misfit, every_refusal, every_removal, every_request}
+use Rattle.lpc_replay.proofs.EveryScript.{every_connect, every_misfit, every_refusal, every_removal, every_request, every_wait}
 use Rattle.lpc_replay.proofs.laws.law_completion.Goals as goal
 
 pub returns-clause-returns : goal.returns-clause-returns
@@ -15,3 +15,6 @@ returns-clause-idle c = every_removal
 
 pub returns-clause-answered : goal.returns-clause-answered
 returns-clause-answered c = every_connect
+
+pub returns-clause-ended : goal.returns-clause-ended
+returns-clause-ended c = every_wait

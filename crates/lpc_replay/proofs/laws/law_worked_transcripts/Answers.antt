@@ -1,5 +1,6 @@
 use Rattle.lpc_model.proofs.WorkedClosings.{worked_closings}
 use Rattle.lpc_model.proofs.WorkedConnections.{worked_connections}
+use Rattle.lpc_model.proofs.WorkedEndings.{worked_endings}
 use Rattle.lpc_model.proofs.WorkedTranscripts.{worked_transcripts}
 use Rattle.lpc_replay.proofs.laws.law_worked_transcripts.Goals as goal
 
@@ -11,3 +12,6 @@ returns-clause-connections c = worked_connections
 
 pub returns-clause-closings : goal.returns-clause-closings
 returns-clause-closings c = worked_closings
+
+pub returns-clause-endings : goal.returns-clause-endings
+returns-clause-endings c = worked_endings

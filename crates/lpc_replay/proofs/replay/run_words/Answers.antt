@@ -1,5 +1,10 @@
-use Rattle.lpc_replay.specs.Laws.{ClientsApart, ConnectsReturn, MisfitsRefused, RefusalsIdle, RefusalsStay, RequestsReturn}
-use Rattle.lpc_replay.proofs.EveryScript.{every_client, every_connect, every_misfit, every_refusal, every_removal, every_request}
+use Rattle.lpc_model.specs.Accounts.{RunAccountsForDeaths}
+use Rattle.lpc_model.specs.Deaths.{RunTellsDeaths}
+use Rattle.lpc_model.specs.Left.{RunLeavesNothing}
+use Rattle.lpc_model.proofs.AccountedRuns.{deaths-accounted}
+use Rattle.lpc_model.proofs.Runs.{deaths_told_run, leaves_nothing_run}
+use Rattle.lpc_replay.specs.Laws.{ClientsApart, ConnectsReturn, MisfitsRefused, RefusalsIdle, RefusalsStay, RequestsReturn, WaitsEnd}
+use Rattle.lpc_replay.proofs.EveryScript.{every_client, every_connect, every_misfit, every_refusal, every_removal, every_request, every_wait}
 use Rattle.lpc_replay.proofs.Formed.{of_told}
 use Rattle.lpc_replay.proofs.replay.run_words.Goals as goal
 
@@ -8,6 +13,9 @@ returns-clause-returns g c = λ _. of_told RequestsReturn every_request (g.S.Sou
 
 pub returns-clause-answered : goal.returns-clause-answered
 returns-clause-answered g c = λ _. of_told ConnectsReturn every_connect (g.S.Source.left c.args.source.now)
+
+pub returns-clause-ended : goal.returns-clause-ended
+returns-clause-ended g c = λ _. of_told WaitsEnd every_wait (g.S.Source.left c.args.source.now)
 
 pub returns-clause-refused : goal.returns-clause-refused
 returns-clause-refused g c = λ _. of_told MisfitsRefused every_misfit (g.S.Source.left c.args.source.now)
@@ -20,3 +28,12 @@ returns-clause-idle g c = λ _. of_told RefusalsIdle every_removal (g.S.Source.l
 
 pub returns-clause-apart : goal.returns-clause-apart
 returns-clause-apart g c = λ _. of_told ClientsApart every_client (g.S.Source.left c.args.source.now)
+
+pub returns-clause-deaths : goal.returns-clause-deaths
+returns-clause-deaths g c = λ _. of_told RunTellsDeaths deaths_told_run (g.S.Source.left c.args.source.now)
+
+pub returns-clause-accounted : goal.returns-clause-accounted
+returns-clause-accounted g c = λ _. of_told RunAccountsForDeaths deaths-accounted (g.S.Source.left c.args.source.now)
+
+pub returns-clause-nothing_left : goal.returns-clause-nothing_left
+returns-clause-nothing_left g c = λ _. of_told RunLeavesNothing leaves_nothing_run (g.S.Source.left c.args.source.now)

@@ -1,5 +1,6 @@
 use Rattle.lpc_model.specs.Lines.{line_of}
 use Rattle.lpc_model.proofs.SoundLines.{sound_waits}
+use Rattle.lpc_model.proofs.DeathLines.{deaths_told}
 use Rattle.lpc_model.proofs.ToldLines.{closings_told}
 use Rattle.lpc_machine.proofs.Sound as sound
 use Rattle.lpc_machine.proofs.machine.Machine.step.Goals as goal
@@ -20,16 +21,31 @@ pub returns-clause-told : goal.returns-clause-told
 returns-clause-told c = rw (← c.self.view_is) (sound.told_is c.self.inside.world c.take.new.world c.args.out.now.list c.take.new.out.list (line_of c.args.line.now) c.self.invariant c.requires.empty c.in_ok-take.ensures.takes)
 
 pub returns-clause-sound : goal.returns-clause-sound
-returns-clause-sound c = sound_waits c.sweep.new.self.rows (sound.stays_settled c.self.inside.world c.take.new.world c.args.out.now.list c.take.new.out.list (line_of c.args.line.now) c.self.invariant c.requires.empty c.in_ok-take.ensures.takes c.sweep.new.self c.sweep.ensures.rows c.sweep.ensures.loose).sound
+returns-clause-sound c = sound_waits c.sweep.new.self.rows (sound.stays_settled c.self.inside.world c.take.new.world c.args.out.now.list c.take.new.out.list (line_of c.args.line.now) c.self.invariant c.requires.empty c.in_ok-take.ensures.takes c.sweep.new.self c.sweep.ensures.rows c.sweep.ensures.loose).lawful.sound
 
 pub returns-clause-held : goal.returns-clause-held
-returns-clause-held c = (sound.stays_settled c.self.inside.world c.take.new.world c.args.out.now.list c.take.new.out.list (line_of c.args.line.now) c.self.invariant c.requires.empty c.in_ok-take.ensures.takes c.sweep.new.self c.sweep.ensures.rows c.sweep.ensures.loose).held
+returns-clause-held c = (sound.stays_settled c.self.inside.world c.take.new.world c.args.out.now.list c.take.new.out.list (line_of c.args.line.now) c.self.invariant c.requires.empty c.in_ok-take.ensures.takes c.sweep.new.self c.sweep.ensures.rows c.sweep.ensures.loose).lawful.held
 
 pub returns-clause-named : goal.returns-clause-named
-returns-clause-named c = (sound.stays_settled c.self.inside.world c.take.new.world c.args.out.now.list c.take.new.out.list (line_of c.args.line.now) c.self.invariant c.requires.empty c.in_ok-take.ensures.takes c.sweep.new.self c.sweep.ensures.rows c.sweep.ensures.loose).standing
+returns-clause-named c = (sound.stays_settled c.self.inside.world c.take.new.world c.args.out.now.list c.take.new.out.list (line_of c.args.line.now) c.self.invariant c.requires.empty c.in_ok-take.ensures.takes c.sweep.new.self c.sweep.ensures.rows c.sweep.ensures.loose).lawful.names
 
 pub returns-clause-untold : goal.returns-clause-untold
-returns-clause-untold c = (sound.stays_settled c.self.inside.world c.take.new.world c.args.out.now.list c.take.new.out.list (line_of c.args.line.now) c.self.invariant c.requires.empty c.in_ok-take.ensures.takes c.sweep.new.self c.sweep.ensures.rows c.sweep.ensures.loose).untold
+returns-clause-untold c = (sound.stays_settled c.self.inside.world c.take.new.world c.args.out.now.list c.take.new.out.list (line_of c.args.line.now) c.self.invariant c.requires.empty c.in_ok-take.ensures.takes c.sweep.new.self c.sweep.ensures.rows c.sweep.ensures.loose).lawful.untold
 
 pub returns-clause-closings : goal.returns-clause-closings
-returns-clause-closings c = rw (← c.self.view_is) (closings_told c.self.inside.world.rows (line_of c.args.line.now) c.self.invariant.sound)
+returns-clause-closings c = rw (← c.self.view_is) (let t = c.self.invariant.lawful in let shut = t.untold in closings_told c.self.inside.world.rows (line_of c.args.line.now) t.sound shut.connects)
+
+pub returns-clause-deaths : goal.returns-clause-deaths
+returns-clause-deaths c = rw (← c.self.view_is) (let t = c.self.invariant.lawful in deaths_told c.self.inside.world.rows (line_of c.args.line.now) t.sound t.threads)
+
+pub returns-clause-registered : goal.returns-clause-registered
+returns-clause-registered c = (sound.stays_settled c.self.inside.world c.take.new.world c.args.out.now.list c.take.new.out.list (line_of c.args.line.now) c.self.invariant c.requires.empty c.in_ok-take.ensures.takes c.sweep.new.self c.sweep.ensures.rows c.sweep.ensures.loose).lawful.registrations
+
+pub returns-clause-once : goal.returns-clause-once
+returns-clause-once c = (sound.stays_settled c.self.inside.world c.take.new.world c.args.out.now.list c.take.new.out.list (line_of c.args.line.now) c.self.invariant c.requires.empty c.in_ok-take.ensures.takes c.sweep.new.self c.sweep.ensures.rows c.sweep.ensures.loose).lawful.single
+
+pub returns-clause-left : goal.returns-clause-left
+returns-clause-left c = sound.leaves_nothing c.sweep.new.self (sound.stays_settled c.self.inside.world c.take.new.world c.args.out.now.list c.take.new.out.list (line_of c.args.line.now) c.self.invariant c.requires.empty c.in_ok-take.ensures.takes c.sweep.new.self c.sweep.ensures.rows c.sweep.ensures.loose)
+
+pub returns-in_err-take-clause-left : goal.returns-in_err-take-clause-left
+returns-in_err-take-clause-left c = sound.leaves_nothing c.take.new.world (sound.stays_same c.self.inside.world c.take.new.world c.in_err-take.ensures.err c.self.invariant)

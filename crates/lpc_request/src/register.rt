@@ -1,0 +1,86 @@
+// The call that registers a port with a thread.
+ghost use Rattle.std.specs.Prelude.{◌≡◌, ◌<◌, ◌+◌, Ok, Err, true, false, IfOk, MatchResult, OnErr, OnOk};
+ghost use Rattle.lpc_base.specs.declared.limits.TheConstants.{LINES_LIMIT};
+ghost use Rattle.lpc_model.specs.Lines.{register_thread_terminate_port};
+ghost use Rattle.lpc_model.specs.Register.{is_registered, register_steps};
+ghost use Rattle.lpc_world.specs.Called.{MayServe, service};
+ghost use Rattle.lpc_world.specs.Clauses.{birth_at};
+ghost use Rattle.lpc_world.specs.Names.{stands};
+ghost use Rattle.lpc_world.specs.Ready.{HasRoom, caller, is_ready};
+ghost use Rattle.lpc_world.specs.Registered.{HasFewRegistrations};
+
+use lpc_base::status::SUCCESS;
+use lpc_base::{OutOfMemory, Status};
+use lpc_model::{CallName, Entries, Entry, Fields, Outcome, refuse};
+use lpc_slots::Key;
+use lpc_world::World;
+
+/// The port that a thread is to register: the handle, 16 others.
+#[tactic(auto, unfolding(lpc_model::specs::Register::nt_register_thread_terminate_port))]
+fn register_test(world: &World, tid: u32, handle: u32) -> Result<Key, Status>
+    requires { is_ready world.now.rows tid ≡ true }
+    ensures found { let call = register_thread_terminate_port handle in
+        let found = service world.now.rows tid call in
+        MatchResult result
+        (λ port. found ≡ Ok (register_steps (caller world.now.rows tid) (birth_at world.now port)))
+        (λ s. found ≡ Err s) }
+    ensures stands { IfOk result (λ port. stands world.now.births.ports port ≡ true) }
+    ensures few { let by = caller world.now.rows tid in
+        IfOk result (λ port. is_registered (birth_at world.now port) by ≡ false →
+        HasFewRegistrations world.now.rows tid) }
+{
+    let port = world.port_at(tid, handle)?;
+    world.registration_test(tid, port)?;
+    Ok(port)
+}
+
+/// `NtRegisterThreadTerminatePort`: the port of a handle is registered with the thread, behind those that it registered
+/// before: when the thread ends, a message that tells so is posted on it. A port that is registered already changes nothing.
+///
+/// Refusals in their order: no such handle, no port, no right; QUOTA_EXCEEDED where the thread registered 16 other ports,
+/// be they open or closed. OutOfMemory comes only where it isn't refused, the port isn't registered yet, and there is no
+/// room for the message that is to tell of the thread's end; nothing has changed then but the room.
+#[tactic(auto, unfolding(lpc_model::specs::Register::nt_register_thread_terminate_port))]
+pub fn nt_register_thread_terminate_port(
+    world: &mut World,
+    by: u32,
+    handle: u32,
+    out: &mut Entries,
+) -> Result<Outcome, OutOfMemory>
+    requires ready { is_ready world.old.rows by ≡ true }
+    requires room { HasRoom world.old out.old }
+    requires calls { world.old.calls < LINES_LIMIT }
+    ensures serves { let call = register_thread_terminate_port handle in
+        MayServe by call result world.old world.new out.old out.new }
+    ensures spare { OnOk result (out.new.spare + 1 ≡ out.old.spare) }
+    ensures wanting { OnErr result (world.old.room.messages < 1) }
+{
+    let caller = world.caller(by);
+    let port = match register_test(world, by, handle) {
+        Ok(port) => port,
+        Err(status) => {
+            world.begin_call();
+            return Ok(refuse(
+                caller.number,
+                CallName::NtRegisterThreadTerminatePort,
+                status,
+                out,
+            ));
+        }
+    };
+    let registered = world.has_registered(by, port);
+    if !registered {
+        world.messages_reserve(1)?;
+    }
+    world.begin_call();
+    out.push(Entry::Answer {
+        tid: caller.number,
+        call: CallName::NtRegisterThreadTerminatePort,
+        status: SUCCESS,
+        fields: Fields::none(),
+    });
+    if !registered {
+        world.procs_register(caller.number, port);
+    }
+    Ok(Outcome::Answered(SUCCESS))
+}
