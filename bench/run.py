@@ -81,6 +81,22 @@ def closings(lines):
         yield "24 NtClose 8"
 
 
+def endings(lines):
+    """A process is made, connects, registers its port and ends; the server receives both ends, and closes its own."""
+    yield from ("boot 20 24", "24 NtCreatePort \\S")
+    for client in range(1_000, 1_000 + (lines - 2) // 10):
+        yield f"boot {client} {client}"
+        yield f"{client} NtConnectPort \\S - - -"
+        yield "24 NtListenPort 4"
+        yield f"24 NtAcceptConnectPort 7 r:{client}.{client}.1: accept -"
+        yield "24 NtCompleteConnectPort 8"
+        yield f"{client} NtRegisterThreadTerminatePort 4"
+        yield f"{client} NtTerminateProcess self 0"
+        yield "24 NtReplyWaitReceivePort 4"
+        yield "24 NtReplyWaitReceivePort 4"
+        yield "24 NtClose 8"
+
+
 def peak(process):
     """The highest resident size of a running process so far, in MiB; 0 where it has ended."""
     try:
@@ -112,7 +128,8 @@ def main():
     print("| Script | Lines | Seconds | Lines a second | Peak memory, MiB | Status |")
     print("|---|---|---|---|---|---|")
     with tempfile.TemporaryDirectory() as folder:
-        for kind, sizes in ((requests, LONG), (datagrams, LONG), (closings, LONG), (connects, SHORT)):
+        kinds = ((requests, LONG), (datagrams, LONG), (closings, LONG), (endings, LONG), (connects, SHORT))
+        for kind, sizes in kinds:
             for size in sizes:
                 text = list(kind(size))
                 path = os.path.join(folder, "script")

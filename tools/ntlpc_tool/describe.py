@@ -4,7 +4,8 @@ import struct
 from ntlpc_tool import message, statuses
 
 ROW = 16
-CLOSED = struct.Struct("<II")
+# The data of a message that tells of an end: a birth, which is a maker and a number.
+BIRTH = struct.Struct("<II")
 USE_RIGHT = 1
 LATIN = 0x100
 # The fields that show a number: what the number is.
@@ -49,11 +50,18 @@ def of_entry(found):
         return [f"{who} isn't there: no live thread has this number, so this line has no effect"]
     if found.kind == "wait":
         head = f"{who} waits in {found.call}"
+    elif found.kind == "died":
+        head = f"{who} died, with the code {code_of(found)}"
     elif found.kind == "wake":
         head = f"{who} wakes from {found.call}: {statuses.with_name(found.status)}"
     else:
         head = f"{who} {found.call}: {statuses.with_name(found.status)}"
     return [head, *(f"    {line}" for name, value in found.fields for line in of_field(found, name, value))]
+
+
+def code_of(found):
+    """The code with which a thread died, and its name where it is a status with one."""
+    return statuses.with_name(found.status) if statuses.name_of(found.status) else found.status
 
 
 def of_field(found, name, value):
@@ -88,9 +96,11 @@ def of_message(found):
         _row("SectionSize", found.section_size),
     ]
     rows += of_data(found.data, "data")
-    if found.type == message.PORT_CLOSED and len(found.data) == CLOSED.size:
-        thread, number = CLOSED.unpack(found.data)
-        rows.append(_row("", f"(thread {thread}, the port that it made as number {number})"))
+    if found.type in (message.PORT_CLOSED, message.CLIENT_DIED) and len(found.data) == BIRTH.size:
+        maker, number = BIRTH.unpack(found.data)
+        closed = found.type == message.PORT_CLOSED
+        told = f"thread {maker}, the port that it made as number {number}" if closed else f"thread {number} died"
+        rows.append(_row("", f"({told})"))
     return ["message", *(f"  {it}" for it in rows)]
 
 

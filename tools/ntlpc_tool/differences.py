@@ -21,6 +21,8 @@ HEADER = (
     ("SectionSize", "section_size", "which section"),
     ("data", "data", "which bytes"),
 )
+# The messages that tell of an end, and what rules whether there is one.
+ENDS = {message.PORT_CLOSED: "port closed", message.CLIENT_DIED: "client died"}
 FOREVER = 1 << 62
 
 
@@ -38,23 +40,25 @@ class Difference:
 
 
 class Step:
-    """The entries of one line of the script: `own` is that of the line's thread, `wakes` has the others by thread, and
-    `further` has what is told of a thread a second time."""
+    """The entries of one line of the script: `own` is that of the line's thread, `deaths` and `wakes` have the others
+    by thread, and `further` has what is told of a thread a second time."""
 
     def __init__(self, entries):
-        self.own, self.wakes, self.further = None, {}, []
+        self.own, self.deaths, self.wakes, self.further = None, {}, {}, []
         for entry in entries:
-            if entry.kind == "wake":
-                known = self.wakes.setdefault(entry.thread, entry)
+            if entry.kind in ("died", "wake"):
+                known = (self.deaths if entry.kind == "died" else self.wakes).setdefault(entry.thread, entry)
             else:
                 known = self.own = self.own or entry
             if known is not entry:
                 self.further.append(entry)
-        self.own_is_first = self.own is None or entries[0] is self.own
+        self.own_is_first = self.own is None or all(it.kind != "wake" for it in entries[: entries.index(self.own)])
+        kinds = [it.kind for it in entries if it is not self.own]
+        self.deaths_are_first = kinds == sorted(kinds, key=lambda it: it != "died")
 
     def maker(self):
-        """The call or directive of the line, as far as it is told."""
-        return self.own.call if self.own else None
+        """The call or directive of the line, as far as it is told; `died` where the line ends threads."""
+        return self.own.call if self.own else "died" if self.deaths else None
 
 
 def steps(transcript):
@@ -105,9 +109,9 @@ def _ends_at(transcript):
 def _of_step(line, wanted, got, context):
     """The differences of one line of the script."""
     maker = wanted.maker() or got.maker()
-    found = _of_own(line, wanted.own, got.own, context)
+    found = _of_own(line, wanted, got, context) + _of_deaths(line, wanted, got)
     for entry in got.further[len(wanted.further) :]:
-        whose = f"of thread {entry.thread}" if entry.kind == "wake" else "of the line's own thread"
+        whose = f"of thread {entry.thread}" if entry.kind in ("died", "wake") else "of the line's own thread"
         rule, means = reasons.rule("*", "own"), reasons.MEANS["further"]
         found.append(Difference(line, None, entry, f"a further entry {whose}", rule, means))
     if wanted.own_is_first and not got.own_is_first:
@@ -116,8 +120,42 @@ def _of_step(line, wanted, got, context):
     return found + _of_wakes(line, wanted, got, maker, context)
 
 
-def _of_own(line, wanted, got, context):
+def _of_deaths(line, wanted, got):
+    """The differences of what two steps tell of the threads that die."""
+    here, there = wanted.deaths, got.deaths
+    rule, found = reasons.rule("died", "who"), []
+    for thread, entry in here.items():
+        other = there.get(thread)
+        if not other:
+            means = reasons.MEANS["lives"]
+            found.append(Difference(line, entry, None, f"thread {thread} has to die", rule, means))
+        elif entry.status != other.status:
+            says = f"the code {entry.status} is wanted, got {other.status}"
+            found.append(Difference(line, entry, other, says, reasons.rule("died", "code"), reasons.MEANS["code"]))
+    for thread, entry in there.items():
+        if thread not in here:
+            means = reasons.MEANS["dies"]
+            found.append(Difference(line, None, entry, f"thread {thread} must not die", rule, means))
+    both = [[it for it in one if it in other] for one, other in ((here, there), (there, here))]
+    if both[0] != both[1]:
+        order = [", ".join(map(str, it)) for it in both]
+        says = f"the threads die in another order: {order[0]} are wanted, got {order[1]}"
+        pair = here[both[0][0]], there[both[1][0]]
+        found.append(Difference(line, *pair, says, reasons.rule("died", "who"), reasons.MEANS["order of deaths"]))
+    if here and wanted.deaths_are_first and not got.deaths_are_first:
+        first = next(iter(there.values()), None)
+        means = reasons.MEANS["deaths"]
+        says = "a thread dies behind a wake"
+        found.append(Difference(line, next(iter(here.values())), first, says, reasons.rule("died", "first"), means))
+    return found
+
+
+def _of_own(line, here, there, context):
     """The differences of the two entries of a line's own thread."""
+    wanted, got = here.own, there.own
+    if not wanted and got and here.deaths:
+        says, means = "the entry is one too many: a thread that ends itself has no answer", reasons.MEANS["answers"]
+        return [Difference(line, None, got, says, reasons.rule("died", "own"), means)]
     if not wanted or not got:
         if wanted is got:
             return []
@@ -193,8 +231,8 @@ def _rule_of_statuses(wanted, got):
         where = f"only where {cause}; that isn't so here" if cause else "never"
         return f"{call} is refused with {wrong} {where}.", reasons.of_call(call)
     shown = next((it for it in (wanted.message(), got.message()) if it), None)
-    if shown and shown.type == message.PORT_CLOSED:
-        return reasons.rule("*", "port closed")
+    if shown and shown.type in ENDS:
+        return reasons.rule("*", ENDS[shown.type])
     return reasons.rule(call, "waits")
 
 
@@ -230,7 +268,7 @@ def _of_fields(line, wanted, got, context):
         # The context is that of the message. So where it is another message, that is all that differs.
         found = (
             [other]
-            if other.means in (reasons.MEANS["which message"], reasons.MEANS["port closed"])
+            if other.means in [reasons.MEANS[it] for it in ("which message", *ENDS.values())]
             else [*found, other]
         )
     return [dataclasses.replace(it, got=printed) for it in found]
@@ -258,8 +296,8 @@ def _of_messages(line, wanted, got, context):
     says = "; ".join(f"{name} {_part(here, field)} is wanted, got {_part(there, field)}" for name, field, _ in differ)
     another = wanted.kind == "answer" and marks_of(here) != marks_of(there) and marks_of(there) in context.wanted
     what = "which message" if another else _ruled_by(wanted, here, differ)
-    if what == "which message" and here.type == message.PORT_CLOSED and marks_of(here) not in context.got:
-        what = "port closed"
+    if what == "which message" and here.type in ENDS and marks_of(here) not in context.got:
+        what = ENDS[here.type]
     means = reasons.MEANS.get(what, reasons.MEANS["header"])
     return Difference(line, wanted, got, f"the message: {says}", reasons.rule(wanted.call, what), means)
 
@@ -280,8 +318,8 @@ def _ruled_by(wanted, here, differ):
     if wanted.kind == "answer" and whose and (len(marks) > 1 or any(it[1] == "data" for it in differ)):
         return "which message"
     first = differ[0]
-    if here.type == message.PORT_CLOSED and first[1] == "data":
-        return "which closing"
+    if here.type in ENDS and first[1] == "data":
+        return "which closing" if here.type == message.PORT_CLOSED else "which death"
     return (marks or [first])[0][2]
 
 
@@ -310,8 +348,8 @@ def _of_wakes(line, wanted, got, maker, context):
 def _rule_of_wake(maker, entry, instead=None):
     """The rule that tells which wakes a line makes; `instead` is a wake in the place of this one."""
     shown = entry.message()
-    if maker == "NtClose" and shown and shown.type == message.PORT_CLOSED:
-        return reasons.rule("*", "taker" if instead else "port closed")
+    if maker in ("NtClose", "died") and shown and shown.type in ENDS:
+        return reasons.rule("*", "taker" if instead else ENDS[shown.type])
     return reasons.rule(maker, f"wakes {entry.call}", "wakes nobody")
 
 

@@ -80,6 +80,19 @@ REFUSALS = {
         *CLIENT,
         ("c000021f", "the message fits no request through this port"),
     ),
+    "NtRegisterThreadTerminatePort": (*HANDLE, ("c0000044", "the thread has registered 16 other ports")),
+    "NtTerminateThread": (
+        NO_HANDLE,
+        ("c0000024", "the handle is one to something that is no thread"),
+        ("c0000022", "the handle doesn't grant the right to end the thread"),
+        ("c000000b", "the thread has ended"),
+    ),
+    "NtTerminateProcess": (
+        NO_HANDLE,
+        ("c0000024", "the handle is one to something that is no process"),
+        ("c0000022", "the handle doesn't grant the right to end the process"),
+        ("c000000b", "the process has ended"),
+    ),
     "NtClose": (NO_HANDLE,),
     "NtDuplicateObject": (NO_HANDLE, NO_RIGHT, *ROOM),
     "NtQueryObject": (NO_HANDLE,),
@@ -93,6 +106,8 @@ TAKERS = f"{SERVICES}, Who takes a message"
 FITS = f"{SERVICES}, What fits a reply"
 CLOSING = f"{SERVICES}, Closing a port"
 TOLD = f"{SERVICES}, Port closed"
+ENDING = f"{SERVICES}, Threads and processes that end"
+DIED = f"{SERVICES}, Client died"
 TRANSCRIPT = f"{SCRIPTS}, The transcript"
 FAULTS = f"{SCRIPTS}, Faulty lines"
 
@@ -112,6 +127,10 @@ _STEPS = (
     "that isn't completed, requests that were sent there, and receives there. Inside a step the one that has waited "
     "longest is first."
 )
+_HANDLES_CLOSE = (
+    "When the last live thread of a process has died, the process's handles are closed, those with lower values first, "
+    "each as NtClose closes it."
+)
 _REPLY_WAKES = "A reply that fits wakes the thread that asked, and nobody else."
 _AS_GIVEN = "DataSize, MessageSize, VirtualRangesOffset and the data stay as the caller gave them"
 _SENT = f"{_AS_GIVEN}; a message that the machine makes has MessageSize 24 + DataSize and no range table."
@@ -130,6 +149,20 @@ RULES = {
     ("*", "thread"): (
         "The entry names the thread of the script's line, or `-` where the line is a directive.",
         TRANSCRIPT,
+    ),
+    ("died", "own"): (
+        "A thread that ends itself has no answer, neither alone nor with its process: its own entry is that it died.",
+        ENDING,
+    ),
+    ("died", "who"): (
+        "NtTerminateThread ends the thread that calls, NtTerminateProcess all live threads of its process, in the "
+        "order in which they were made.",
+        ENDING,
+    ),
+    ("died", "code"): ("A thread dies with the code of the call, in 8 hexadecimal digits.", ENDING),
+    ("died", "first"): (
+        "All threads that a line ends die before it tells of anything else.",
+        ENDING,
     ),
     ("*", "call"): ("An answer and a wait name the call of the line; a wake names the call that waited.", TRANSCRIPT),
     ("*", "busy"): (
@@ -167,6 +200,11 @@ RULES = {
         "When a client port of a completed connection closes and its connection port is open, a message of type 5 "
         "enters the connection port's queue, once for each such port.",
         TOLD,
+    ),
+    ("*", "client died"): (
+        "When a thread dies, a message of type 6 is sent on each port that it has registered, in the order of "
+        "registration, where that port is open and what is sent on it has a way.",
+        DIED,
     ),
     # Fields.
     ("*", "fields"): (
@@ -210,7 +248,8 @@ RULES = {
     ("NtQueryObject", "handles"): ("`handles` is how many handles name the port.", of_call("NtQueryObject")),
     ("NtQueryObject", "pointers"): (
         "`pointers` counts the handles to the port, the ports whose other end it is, the client and server ports whose"
-        " connection port it is, the queued messages that were sent on it, and the waits that were made on it.",
+        " connection port it is, the queued messages that were sent on it, the waits that were made on it, and the "
+        "live threads that registered it.",
         of_call("NtQueryObject"),
     ),
     # Messages.
@@ -224,7 +263,7 @@ RULES = {
     ),
     ("*", "which type"): (
         "What is sent gets the type of its call, whatever type was given: 1 for NtRequestWaitReplyPort, 3 for "
-        "NtRequestPort. A connection request has type 10, a client port's end type 5.",
+        "NtRequestPort. A connection request has type 10, a client port's end type 5, a thread's end type 6.",
         WRITTEN,
     ),
     ("NtRequestWaitReplyPort", "which type"): (
@@ -238,7 +277,7 @@ RULES = {
     ("NtRequestWaitReplyPort", "which client"): ("A reply keeps the ClientId that it was given.", WRITTEN),
     ("*", "which identifier"): (
         "The identifier that the sending thread drew is written over MessageId; a client port's end has that of its "
-        "connect.",
+        "connect, a thread's end 0.",
         WRITTEN,
     ),
     ("NtRequestWaitReplyPort", "which identifier"): ("A reply keeps the MessageId that it was given.", WRITTEN),
@@ -248,6 +287,11 @@ RULES = {
         "The data of a client port's end are 8 bytes, low bytes first: the number of the thread that connected, and "
         "which of the ports that this thread has made the client port was, from 1.",
         TOLD,
+    ),
+    ("*", "which death"): (
+        "The data of a thread's end are 8 bytes, low bytes first: who made the thread, 0 for a directive, and then the "
+        "thread's number.",
+        DIED,
     ),
     # Wakes, by the call of the line and the call that waited.
     ("*", "taker"): (_OLDEST_TAKER, TAKERS),
@@ -293,9 +337,21 @@ RULES = {
         CLOSING,
     ),
     ("NtClose", "order"): (_STEPS, CLOSING),
+    ("died", "wakes NtReplyWaitReceivePort"): (
+        f"{_OLDEST_TAKER} {_HANDLES_CLOSE}",
+        ENDING,
+    ),
+    ("died", "wakes NtListenPort"): (_HANDLES_CLOSE, ENDING),
+    ("died", "wakes NtRequestWaitReplyPort"): (_HANDLES_CLOSE, ENDING),
+    ("died", "wakes NtConnectPort"): (_HANDLES_CLOSE, ENDING),
+    ("died", "order"): (
+        "First the ends of threads are told, thread by thread and port by port; then the handles of a process that has "
+        "no thread left are closed, those with lower values first.",
+        ENDING,
+    ),
     ("*", "order"): ("Wakes follow the caller's entry in the order in which they come about.", TRANSCRIPT),
     ("*", "wakes nobody"): (
-        "This call wakes nobody: only what is sent, replied, accepted, completed or closed ends a wait.",
+        "This call wakes nobody: only what is sent, replied, accepted, completed, closed or ended ends a wait.",
         SERVICES,
     ),
     # The last line.
@@ -306,9 +362,9 @@ RULES = {
     ),
     ("end", "ENTRIES"): ("The second number is how many entries were printed.", TRANSCRIPT),
     ("end", "OBJECTS"): (
-        "Processes, threads and ports that are left are counted. A port that nothing names any longer goes at the end "
-        "of the line: no handle, no port as its other end or its connection port, no queued message that was sent on "
-        "it, and no wait that was made on it.",
+        "Live threads, their processes and the ports that are left are counted. A port that nothing names any longer "
+        "goes at the end of the line: no handle, no port as its other end or its connection port, no queued message "
+        "that was sent on it, no wait that was made on it, and no live thread that registered it.",
         SHARED,
     ),
     ("stop", "LINE"): ("The script stops at its first faulty line; the lines before it are run and printed.", FAULTS),
@@ -333,6 +389,14 @@ MEANS = {
     "missing": "it made no call in this line, or told nothing of it",
     "extra": "it told something of a line in which no call is made",
     "further": "it told of one thread twice in one line",
+    "answers": "it answers a call that doesn't return",
+    "lives": "the thread lives on there, and later lines of it make calls",
+    "dies": "it ended a thread that nothing ends",
+    "code": "it ended the thread with another code",
+    "order of deaths": "it ended the threads in another order",
+    "deaths": "it told of an end, or closed a handle, before all threads had died",
+    "client died": "nothing told of the thread's end on the port that it had registered",
+    "which death": "it names another thread by the data of the message",
     "first": "it told of a wake before it told of the call that made it",
     "thread": "it took the line for that of another thread",
     "call": "it made another call, or ended another one",

@@ -10,6 +10,7 @@ from ntlpc_tool import describe, facts, message, script_lines, statuses, transcr
 
 SENDERS = ("NtRequestPort", "NtRequestWaitReplyPort", "NtConnectPort")
 SENT = {"NtRequestPort": "datagram", "NtRequestWaitReplyPort": "request", "NtConnectPort": "connection request"}
+ENDS = (message.PORT_CLOSED, message.CLIENT_DIED)
 MOST_DATA = 24
 
 
@@ -81,13 +82,21 @@ class Picture:
             steps.setdefault(entry.line, []).append(entry)
         for step in steps.values():
             self._shown_at_once = _received(transcript.Transcript(tuple(step), None))
-            owns = [it for it in step if it.kind != "wake"]
+            own = self._own(step)
             for entry in step:
-                _ENTRIES[entry.kind](self, entry, owns[0] if owns else None)
+                _ENTRIES[entry.kind](self, entry, own)
         for entry in transcript.still_waiting(found):
             self.events.append(Stays(entry.thread, f"still waits in {entry.call}, since line {entry.line}"))
         if found.closing:
             self._note(None, "all", _closing_text(found.closing))
+
+    def _own(self, step):
+        """The entry of the line's own thread; where the line ends threads, that of the one that the script names, else
+        of the first that dies. None where there is none."""
+        owns = [it for it in step if it.kind != "wake"]
+        words = self.script.words(step[0].line) if self.script else []
+        caller = script_lines.number(words[0]) if words else None
+        return next((it for it in owns if caller and it.thread == caller), owns[0] if owns else None)
 
     # Parts of events.
 
@@ -123,6 +132,14 @@ class Picture:
 
     def _busy(self, entry, _):
         self._note(entry.thread, "refused", f"{entry.line} busy: it waits and makes no call")
+
+    def _died(self, entry, own):
+        """A thread dies; at the one whose call it was, the call is told too."""
+        words = self.script.words(entry.line) if self.script and entry is own else []
+        told = f"died, code {describe.code_of(entry)}"
+        call = [f"{entry.line} {' '.join(map(_short, words[1:]))}"] if words else []
+        self._note(entry.thread, "call", *(call + [told] if call else [f"{entry.line} {told}"]))
+        self._end(entry.thread)
 
     def _nothread(self, entry, _):
         self._note(None, "refused", f"{entry.line} no live thread {entry.thread}")
@@ -222,6 +239,7 @@ _ENTRIES = {
     "answer": Picture._answer,
     "wait": Picture._wait,
     "wake": Picture._wake,
+    "died": Picture._died,
     "busy": Picture._busy,
     "nothread": Picture._nothread,
     "directive": Picture._directive,
@@ -234,8 +252,8 @@ def _sent_by(entry):
 
 
 def _received(found):
-    """The messages that were shown to who receives them, each by its sender and identifier."""
-    return {(it.thread, it.message_id) for it in facts.received(found) if it.type != message.PORT_CLOSED}
+    """The messages that were shown to who receives them, each by its sender and identifier; ends aside."""
+    return {(it.thread, it.message_id) for it in facts.received(found) if it.type not in ENDS}
 
 
 def _processes(found, script):
@@ -271,9 +289,9 @@ def _bytes_text(data):
 
 
 def _message_text(shown):
-    """A message's type, client, identifier and data in short. The data of a port's end only name the port."""
+    """A message's type, client, identifier and data in short. The data of an end only name the port or the thread."""
     kind = shown.type_name() or f"type {shown.type}"
-    data = "" if shown.type == message.PORT_CLOSED else _bytes_text(shown.data) if shown.data else "without data"
+    data = "" if shown.type in ENDS else _bytes_text(shown.data) if shown.data else "without data"
     return f"{kind} {shown.process}.{shown.thread}.{shown.message_id} {data}".rstrip()
 
 

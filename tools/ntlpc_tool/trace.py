@@ -206,8 +206,11 @@ class Trace:
             return f"{where} wasn't made, since thread {last.thread} waited in an earlier one"
         if last.kind == "nothread":
             return f"{where} wasn't made, since there was no live thread {last.thread}"
+        if last.kind == "died":
+            return f"{where} ended the thread"
         if last.kind == "wait":
-            return f"{where} still waits here"
+            died = any((it.kind, it.thread) == ("died", last.thread) for it in self._told.entries)
+            return f"{where} never returned, since its thread died" if died else f"{where} still waits here"
         if last.status != statuses.SUCCESS:
             was = "ended" if last.kind == "wake" else "was refused"
             return f"{where} {was} with {statuses.with_name(last.status)}"

@@ -11,10 +11,10 @@ from typing import Optional, Tuple
 from ntlpc_tool import inputs, message
 
 FILE = "a transcript's file, or - for the standard input"
-OUTLINE = re.compile(r"(\d{1,19}) (\*?)(\d{1,19}|-) (\w+)(?: (\w+))?((?: \w+=\w*)*)")
+OUTLINE = re.compile(r"(\d{1,19}) ([*~]?)(\d{1,19}|-) (\w+)(?: (\w+))?((?: \w+=\w*)*)")
 CLOSING = re.compile(r"(end|stop)((?: (?:0|[1-9][0-9]{0,18}))*)")
 CLOSING_NUMBERS = {"end": ("LINES", "ENTRIES", "OBJECTS"), "stop": ("LINE", "KIND")}
-KINDS = ("answer", "wait", "wake", "busy", "nothread", "directive")
+KINDS = ("answer", "wait", "wake", "died", "busy", "nothread", "directive")
 DECIMAL, HEX8, BYTES = "0|[1-9][0-9]*", "[0-9a-f]{8}", "(?:[0-9a-f]{2})*"
 HEADER = "[0-9a-f]{%d}" % (2 * message.HEADER_SIZE)
 # The fields: the form of each value, and how it is told.
@@ -58,8 +58,9 @@ class Entry:
     """One line of a transcript that a line of the script made.
 
     `kind` is one of KINDS. `thread` is None in a directive's entry, whose `call` is the directive's word. `call` is
-    None where the thread was busy or is none. `status` is 8 hexadecimal digits in an answer, a wake and a directive,
-    else None. `fields` are pairs of a name and a value as they are printed. `raw` is the line without its end.
+    None where the thread was busy, is none, or died. `status` is 8 hexadecimal digits in an answer, a wake and a
+    directive, and where a thread died, whose code it is; else None. `fields` are pairs of a name and a value as they
+    are printed. `raw` is the line without its end.
     """
 
     line: int
@@ -102,12 +103,14 @@ def loosely(text):
     found = OUTLINE.fullmatch(text)
     if not found:
         return None
-    number, star, who, second, third, fields = found.groups()
+    number, mark, who, second, third, fields = found.groups()
     thread = None if who == "-" else int(who)
     pairs = tuple(tuple(it.split("=", 1)) for it in fields.split())
+    if mark == "~" and second == "died":
+        return Entry(int(number), second, thread, None, third, pairs, text)
     if third is None:
         return Entry(int(number), second, thread, None, None, pairs, text)
-    kind = "directive" if who == "-" else "wake" if star else "wait" if third == "wait" else "answer"
+    kind = "directive" if who == "-" else "wake" if mark == "*" else "wait" if third == "wait" else "answer"
     return Entry(int(number), kind, thread, second, None if kind == "wait" else third, pairs, text)
 
 
@@ -149,7 +152,7 @@ def still_waiting(transcript):
     for entry in transcript.entries:
         if entry.kind == "wait":
             waits[entry.thread] = entry
-        elif entry.kind in ("wake", "answer"):
+        elif entry.kind in ("wake", "answer", "died"):
             waits.pop(entry.thread, None)
     return list(waits.values())
 
@@ -189,8 +192,11 @@ def _entry(text, last):
         raise _Wrong(f"the line above is of line {last} of the script, and entries stand in the order of its lines")
     if entry.kind not in KINDS:
         raise _Wrong(f"`{entry.kind}` has neither a status nor `wait` behind it, and is neither `busy` nor `nothread`")
+    died = entry.kind == "died"
+    if words[1].startswith("~") != died or died and None in (entry.thread, entry.status):
+        raise _Wrong("a tilde stands before a thread that died alone, `LINE ~TID died STATUS`")
     if entry.thread is not None:
-        _number(words[1].lstrip("*"), "the number of the thread", 1, MOST_THREAD)
+        _number(words[1].lstrip("*~"), "the number of the thread", 1, MOST_THREAD)
     if words[1].startswith("*") and entry.kind != "wake":
         raise _Wrong("a star stands before the thread of a wake alone, `LINE *TID CALL STATUS`")
     if entry.status is not None and not re.fullmatch(HEX8, entry.status):
@@ -201,7 +207,7 @@ def _entry(text, last):
 
 def _check_fields(entry):
     """Tests the fields of an entry: which there are, and the form of each value."""
-    if entry.fields and entry.kind in ("busy", "nothread", "directive"):
+    if entry.fields and entry.kind in ("died", "busy", "nothread", "directive"):
         raise _Wrong(f"an entry of this kind ({entry.kind}) has no field")
     names = [name for name, _ in entry.fields]
     for name, value in entry.fields:
@@ -234,8 +240,9 @@ def _why_no_entry(text):
         return f"it begins with `{word}`, neither with the number of a script's line nor with `end` or `stop`"
     if len(words) < 3:
         return "it ends too soon: an entry has a line's number, a thread or `-`, and what it was told"
-    if not re.fullmatch(r"\*?\d+|-", words[1]):
-        return f"behind the line's number stands `{words[1]}`, which is no thread, no thread behind a star, and no `-`"
+    if not re.fullmatch(r"[*~]?\d+|-", words[1]):
+        no_thread = f"behind the line's number stands `{words[1]}`, which is no thread"
+        return f"{no_thread}, no thread behind a star or a tilde, and no `-`"
     for word in words[4:]:
         if "=" not in word:
             return f"`{inputs.cut(word, 40)}` is no field: a field is a name, `=` and a value"

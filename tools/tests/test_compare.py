@@ -270,6 +270,74 @@ class Queues(unittest.TestCase):
         self.assertEqual(found.rule, reasons.RULES["*", "which closing"])
 
 
+class Deaths(unittest.TestCase):
+    """Two threads of a process die; what is told of it, and in which order."""
+
+    DIED = f"{message(6, 32, 40, 0, '0000000028000000')}"
+    CLOSED = f"{message(5, 32, 36, 1, '2400000001000000')}"
+    LINES = [
+        "1 28 NtReplyWaitReceivePort wait",
+        "2 ~36 died 00000001",
+        "2 ~40 died 00000001",
+        f"2 *28 NtReplyWaitReceivePort 00000000 ctx=00000007 msg={DIED}",
+        f"3 24 NtReplyWaitReceivePort 00000000 ctx=00000007 msg={CLOSED}",
+        "end 3 5 3",
+    ]
+
+    def check(self, got, *wanted):
+        found = [(it.line, it.says, it.rule[1], it.means) for it in between(self.LINES, got)]
+        self.assertEqual(found, [(line, says, rule, reasons.MEANS[means]) for line, says, rule, means in wanted])
+
+    def changed(self, at, *lines):
+        return [*self.LINES[:at], *lines, *self.LINES[at + 1 :]]
+
+    def test_a_thread_that_lives_on(self):
+        got = self.changed(2)
+        self.check(got, (2, "thread 40 has to die", reasons.ENDING, "lives"))
+
+    def test_a_thread_too_many(self):
+        got = self.changed(2, self.LINES[2], "2 ~44 died 00000001")
+        self.check(got, (2, "thread 44 must not die", reasons.ENDING, "dies"))
+
+    def test_another_code(self):
+        got = self.changed(1, "2 ~36 died 00000000")
+        self.check(got, (2, "the code 00000001 is wanted, got 00000000", reasons.ENDING, "code"))
+
+    def test_another_order(self):
+        got = [self.LINES[it] for it in (0, 2, 1, 3, 4, 5)]
+        says = "the threads die in another order: 36, 40 are wanted, got 40, 36"
+        self.check(got, (2, says, reasons.ENDING, "order of deaths"))
+
+    def test_an_end_that_is_told_before_all_have_died(self):
+        got = [self.LINES[it] for it in (0, 1, 3, 2, 4, 5)]
+        self.check(got, (2, "a thread dies behind a wake", reasons.ENDING, "deaths"))
+
+    def test_an_answer_of_who_ends_itself(self):
+        got = self.changed(2, "2 40 NtTerminateProcess 00000000")
+        says = "the entry is one too many: a thread that ends itself has no answer"
+        missing = (2, "thread 40 has to die", reasons.ENDING, "lives")
+        self.check(got, (2, says, reasons.ENDING, "answers"), missing)
+
+    def test_an_end_that_is_not_told(self):
+        closed = self.LINES[4].split("msg=")[1]
+        got = self.changed(3, f"2 *28 NtReplyWaitReceivePort 00000000 ctx=00000007 msg={closed}")
+        found = between(self.LINES, got)
+        self.assertEqual(found[0].line, 2)
+        got = self.changed(3)
+        self.check(got, (2, "thread 28 has to wake", reasons.DIED, "asleep"))
+
+    def test_another_thread_in_the_data(self):
+        other = message(6, 32, 40, 0, "0000000024000000")
+        got = self.changed(3, f"2 *28 NtReplyWaitReceivePort 00000000 ctx=00000007 msg={other}")
+        says = "the message: data 0000000028000000 is wanted, got 0000000024000000"
+        self.check(got, (2, says, reasons.DIED, "which death"))
+
+    def test_a_refusal_in_place_of_an_end(self):
+        wanted, got = ["1 ~24 died 00000001"], ["1 24 NtTerminateThread c0000008"]
+        found = between(wanted, got)
+        self.assertEqual([it.means for it in found], [reasons.MEANS["answers"], reasons.MEANS["lives"]])
+
+
 class Alignment(unittest.TestCase):
     def test_one_missing_entry_makes_no_other_line_differ(self):
         wanted = [f"{at} 24 NtRequestPort 00000000 id={at}" for at in range(1, 9)]

@@ -122,6 +122,39 @@ class Events(unittest.TestCase):
         words = b"24 NtAcceptConnectPort 0 r:32.36.1:4e6f refuse -\n"
         self.assertEqual(self.connect(answers, words), [*self.START, 'T24--xT36: 6 refused "No"', "deactivate T36"])
 
+    DEATHS = [
+        "1 28 NtReplyWaitReceivePort wait",
+        "2 36 NtListenPort wait",
+        "3 ~36 died 00000007",
+        "3 ~40 died 00000007",
+        "3 *28 NtReplyWaitReceivePort c0000037",
+    ]
+
+    def test_threads_that_die(self):
+        wanted = [
+            "Note over T36: 3 died, code 00000007",
+            "deactivate T36",
+            "Note over T40: 3 died, code 00000007",
+            "T36--xT28: 3 NtReplyWaitReceivePort ends: c0000037 PORT_DISCONNECTED",
+            "deactivate T28",
+        ]
+        self.assertEqual(mermaid(self.DEATHS)[-5:], wanted)
+
+    def test_the_thread_that_ends_the_others_is_the_scripts(self):
+        script = b"28 NtReplyWaitReceivePort 4\n36 NtListenPort 4\n40 NtTerminateProcess self 7\n"
+        wanted = [
+            "Note over T40: 3 NtTerminateProcess self 7<br/>died, code 00000007",
+            "T40--xT28: 3 NtReplyWaitReceivePort ends: c0000037 PORT_DISCONNECTED",
+            "deactivate T28",
+        ]
+        self.assertEqual(mermaid(self.DEATHS, script)[-3:], wanted)
+
+    def test_a_threads_end_comes_from_it(self):
+        shown = "0800200006000000200000002400000000000000000000000000000024000000"
+        lines = ["3 ~36 died 00000007", f"4 24 NtReplyWaitReceivePort 00000000 ctx=00000007 msg={shown}"]
+        wanted = ["Note over T36: 3 died, code 00000007", "T36->>T24: 4 client died 32.36.0 context 7"]
+        self.assertEqual(mermaid(lines)[-2:], wanted)
+
     def test_a_connect_that_a_closing_ends(self):
         answers = ["6 24 NtClose 00000000", "6 *36 NtConnectPort c0000041 info="]
         wanted = [

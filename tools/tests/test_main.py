@@ -152,11 +152,13 @@ class Forms(unittest.TestCase):
                     words = row[0].strip("`").split()
                     key = words[0] if words[0] in forms.DIRECTIVES else words[1]
                     named[key] = row[0].strip("`")
-        # What the page tells in words: a further word, and that refuse or same may stand in a place.
+        # What the page tells in words: a further word, and that refuse, same or self may stand in a place.
         plain = {
             "NtReplyWaitReceivePort": "TID NtReplyWaitReceivePort H [MSG]",
             "NtAcceptConnectPort": "TID NtAcceptConnectPort CTX MSG accept|refuse VIEW",
             "NtDuplicateObject": "TID NtDuplicateObject H ACCESS|same",
+            "NtTerminateThread": "TID NtTerminateThread H|self CODE",
+            "NtTerminateProcess": "TID NtTerminateProcess H|self CODE",
         }
         self.assertEqual(set(named), {*forms.DIRECTIVES, *forms.CALLS})
         for name in named:

@@ -159,6 +159,12 @@ class Lines(unittest.TestCase):
         told = self.wrong(BOOT, self.CONNECT, ("40 NtClose $link", None))
         self.assertEqual(told, "line 3: $link has no h: the call of line 2, NtConnectPort, still waits here")
 
+    def test_a_call_whose_thread_died(self):
+        died = ("28 NtTerminateProcess self 0", "~24 died 00000000")
+        told = self.wrong(BOOT, self.CONNECT, died, ("40 NtClose $link", None))
+        why = "the call of line 2, NtConnectPort, never returned, since its thread died"
+        self.assertEqual(told, f"line 4: $link has no h: {why}")
+
     def test_a_call_that_ended_without_it(self):
         told = [
             "1 - boot 00000000",

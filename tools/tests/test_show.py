@@ -121,6 +121,32 @@ class Show(support.WithFolder):
         self.assertIn("no last line", ran.stdout)
 
 
+class Deaths(support.WithFolder):
+    TRANSCRIPT = b"""1 24 NtReplyWaitReceivePort wait
+2 ~36 died c0000005
+2 ~40 died 00000007
+2 *24 NtReplyWaitReceivePort 00000000 ctx=00000007 msg=%s
+end 2 4 3
+"""
+    DIED = b"0800200006000000200000002400000000000000000000000000000024000000"
+
+    def test_threads_that_die_are_told_with_their_codes(self):
+        told = support.run("show", source=self.TRANSCRIPT % self.DIED).stdout.splitlines()
+        self.assertEqual(told[1], "line 2     thread 36 died, with the code c0000005 ACCESS_VIOLATION")
+        self.assertEqual(told[2], "line 2     thread 40 died, with the code 00000007")
+        shown = [it.strip() for it in told]
+        self.assertIn("type                6 (client died)", shown)
+        self.assertIn("(thread 36 died)", shown)
+        self.assertEqual(shown[-1], "no thread waits")
+
+    def test_json_has_the_code_as_the_status(self):
+        lines = support.run("json", source=self.TRANSCRIPT % self.DIED).stdout.splitlines()
+        wanted = {"line": 2, "kind": "died", "thread": 40, "call": None, "status": "00000007"}
+        found = json.loads(lines[2])
+        self.assertEqual({key: found[key] for key in wanted}, wanted)
+        self.assertEqual((found["status_name"], found["fields"]), (None, {}))
+
+
 class Text(unittest.TestCase):
     def test_what_is_text(self):
         wanted = {

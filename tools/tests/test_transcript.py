@@ -19,6 +19,7 @@ class Entries(unittest.TestCase):
             "3 24 NtCreatePort 00000000 h=4": (3, "answer", 24, "NtCreatePort", "00000000", (("h", "4"),)),
             "4 24 NtRequestWaitReplyPort wait id=1": (4, "wait", 24, "NtRequestWaitReplyPort", None, (("id", "1"),)),
             "9 *28 NtListenPort c0000037": (9, "wake", 28, "NtListenPort", "c0000037", ()),
+            "7 ~28 died c0000005": (7, "died", 28, None, "c0000005", ()),
             "9 28 busy": (9, "busy", 28, None, None, ()),
             "10 36 nothread": (10, "nothread", 36, None, None, ()),
             "1 - boot 00000000": (1, "directive", None, "boot", "00000000", ()),
@@ -100,6 +101,14 @@ class MalformedLines(unittest.TestCase):
             b"1 24 NtListenPort 00000000 msg=0100": "at least 24 bytes",
             b"1 24 NtListenPort 00000000 msg=" + REPLY.encode() + b"4": "at least 24 bytes",
             b"1 *24 NtConnectPort c0000041 info=4E": "in lower case",
+            b"1 24 died": "`LINE ~TID died STATUS`",
+            b"1 ~24 died": "`LINE ~TID died STATUS`",
+            b"1 ~- died 00000000": "`LINE ~TID died STATUS`",
+            b"1 ~24 busy": "`LINE ~TID died STATUS`",
+            b"1 ~24 NtClose 00000000": "`LINE ~TID died STATUS`",
+            b"1 ~24 died 5": "isn't 8 hexadecimal digits",
+            b"1 ~24 died 00000005 h=4": "has no field",
+            b"1 ~~24 died 00000005": "no thread behind a star or a tilde",
             b"1 24 bus\xc3\xbf": "its byte 9 is 195",
             b"1 24\tbusy": "its byte 5 is 9",
             b"1 24 busy\r": "carriage return",
@@ -136,6 +145,11 @@ class Waits(unittest.TestCase):
         text = b"1 24 NtListenPort wait\n2 28 NtListenPort wait\n3 28 busy\n"
         text += b"4 *24 NtListenPort c0000037\n4 *28 NtListenPort c0000037\n5 28 NtListenPort wait\n"
         self.assertEqual([it.raw for it in transcript.still_waiting(transcript.read(text))], ["5 28 NtListenPort wait"])
+
+
+    def test_a_thread_that_died_waits_no_longer(self):
+        text = b"1 24 NtListenPort wait\n2 28 NtListenPort wait\n3 ~32 died 00000001\n3 ~24 died 00000001\n"
+        self.assertEqual([it.raw for it in transcript.still_waiting(transcript.read(text))], ["2 28 NtListenPort wait"])
 
 
 class Examples(unittest.TestCase):

@@ -37,7 +37,7 @@ FAULTY = [
     (b"24 NtRepliPort 4 d:", 3, b"NtRepliPort", "with NtReplyPort there the line is well formed"),
     (b"24 ntclose 4", 3, b"ntclose", "the letters' case counts: with NtClose there the line is well formed"),
     (b"24 ZwClose 4", 3, b"ZwClose", "the calls' names begin with Nt: with NtClose there the line is well formed"),
-    (b"24 NtTerminateThread self 0", 3, b"NtTerminateThread", "NtTerminateThread isn't built yet"),
+    (b"24 NtCreateThread self 28", 3, b"NtCreateThread", "NtCreateThread isn't built yet"),
     (b"24 NtReplyWaitReplyPort 4 d:", 3, b"NtReplyWaitReplyPort", "NtReplyWaitReplyPort isn't built yet"),
     (b"24 boot 1 2", 3, b"boot", "boot is a directive: no thread's number stands before it"),
     (b"24", 4, b"", "the call is missing behind the thread's number"),
@@ -62,7 +62,10 @@ FAULTY = [
     (b"24 NtListenPort 4294967296", 5, b"4294967296", "it is too large"),
     (b"24 NtListenPort 0x123456789", 5, b"0x123456789", "behind 0x stand more than 8 digits"),
     (b"24 NtListenPort 1c", 5, b"1c", "hexadecimal digits have 0x before them; with 0x1c there the line is"),
-    (b"24 NtListenPort self", 5, b"self", "the word self isn't built yet"),
+    (b"24 NtListenPort self", 5, b"self", "the handle of NtTerminateThread and NtTerminateProcess alone"),
+    (b"24 NtTerminateThread same 0", 5, b"same", "a handle: a number from 0 to 4294967295, or self"),
+    (b"24 NtTerminateProcess self c0000005", 5, b"c0000005", "with 0xc0000005 there the line is well formed"),
+    (b"24 NtTerminateProcess self", 4, b"", "TID NtTerminateProcess H|self CODE; 1 word missing at the end: CODE"),
     (b"24 NtListenPort h=4", 5, b"h=4", "it isn't made of digits alone"),
     (b"boot 2147483648 24", 5, b"2147483648", "a process: a number from 1 to 2147483647"),
     (b"thread 28 0", 5, b"0", "a process: a number from 1 to 2147483647"),
@@ -254,6 +257,13 @@ class Runs(support.WithFolder):
                 "line 9 has no effect: there is no thread 99",
             ],
         )
+
+
+    def test_a_thread_that_died_is_told(self):
+        script = b"boot 20 24\nthread 28 20\n24 NtTerminateThread self 1\n24 NtCreatePort -\n"
+        told = self.why(script).stdout.splitlines()
+        died = "line 4 has no effect: there is no thread 24 any longer; it died in line 3"
+        self.assertEqual(told, ["the script is well formed: lines 4, entries 4", died])
 
 
 class Endings(support.WithFolder):

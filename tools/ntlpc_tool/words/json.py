@@ -3,10 +3,11 @@
 The keys of an entry's object, in their order:
 
   line         the number of the script's line
-  kind         answer, wait, wake, busy, nothread or directive
+  kind         answer, wait, wake, died, busy, nothread or directive
   thread       the thread's number; null in a directive's entry
-  call         the call, or the directive's word; null where the thread was busy or is none
-  status       8 hexadecimal digits; null where the call waits, and where the thread was busy or is none
+  call         the call, or the directive's word; null where the thread died, was busy or is none
+  status       8 hexadecimal digits, the code where the thread died; null where the call waits, and where the thread was
+               busy or is none
   status_name  the status's name; null where there is no status or it has no name here
   fields       an object: h, id, max, handles and pointers are numbers; the others are text as it is printed
   message      where there is a field msg: an object with data_size, message_size, type, type_name (null for a number

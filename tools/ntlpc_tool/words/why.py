@@ -96,7 +96,10 @@ def well_formed(script, found):
 
 
 def where_it_is(lines, found, missing):
-    """Why a line's number may be that of no thread: a process has it, or a later line makes the thread."""
+    """Why a line's number may be that of no thread: the thread died, a process has it, or a later line makes it."""
+    for entry in found.entries:
+        if (entry.kind, entry.thread) == ("died", missing.thread) and entry.line < missing.line:
+            return f" any longer; it died in line {entry.line}"
     for entry in found.entries:
         if entry.kind != "directive" or entry.call not in ("boot", "thread") or entry.status != statuses.SUCCESS:
             continue
