@@ -18,7 +18,7 @@ use Rattle.lpc_model.specs.Basics.{AddsThread, Basic, Cuts, Dies, DrawsIdentifie
 use Rattle.lpc_model.specs.Entering.{enter, given_steps, shown, takes, woken}
 use Rattle.lpc_model.specs.Close.{close_handle}
 use Rattle.lpc_model.specs.Death.{END_RIGHT, answer_unless, code_status, cut_accepted, die, end_process, end_threads, nt_terminate_process, nt_terminate_thread, post_death, post_deaths, thread_target, told_death}
-use Rattle.lpc_model.specs.Deaths.{DeathsAreTold, TellsDeaths, endings, ends, is_died_post, leaves, registration, registrations_of, tells_end, told_endings}
+use Rattle.lpc_model.specs.Deaths.{DeathsAreTold, TellsDeaths, ended_registrations, ending_registrations, is_died_post, leaves, registration, registrations_of, tells_end, told_endings}
 use Rattle.lpc_model.proofs.Closing.{behind, takes_away}
 use Rattle.lpc_model.proofs.Rows.{first-change}
 use Rattle.lpc_model.proofs.Told.{posts-append, which-append}
@@ -57,10 +57,10 @@ leaves-both : (xs ys : List Basic) → each leaves (xs ++ ys) ≡ each leaves xs
 leaves-both [] ys = refl
 leaves-both (x ∷ xs) ys = ap (λ rs. leaves x ++ rs) (leaves-both xs ys) ∙ sym (append-assoc (leaves x) (each leaves xs) (each leaves ys))
 
-endings-both : (w : World) (xs ys : List Basic) → endings w (xs ++ ys) ≡ endings w xs ++ endings (world_after w xs) ys
-endings-both w [] ys = refl
-endings-both w (x ∷ xs) ys =
-    ap (λ rs. ends w x ++ rs) (endings-both (basic w x) xs ys) ∙ sym (append-assoc (ends w x) (endings (basic w x) xs) (endings (world_after (basic w x) xs) ys))
+registrations-both : (w : World) (xs ys : List Basic) → ending_registrations w (xs ++ ys) ≡ ending_registrations w xs ++ ending_registrations (world_after w xs) ys
+registrations-both w [] ys = refl
+registrations-both w (x ∷ xs) ys =
+    ap (λ rs. ended_registrations w x ++ rs) (registrations-both (basic w x) xs ys) ∙ sym (append-assoc (ended_registrations w x) (ending_registrations (basic w x) xs) (ending_registrations (world_after (basic w x) xs) ys))
 
 -- steps that tell of no end, and by which no registration goes
 abbrev is_silent : Basic → Bool
@@ -85,9 +85,9 @@ silent-leave : (b : Basic) → is_silent b ≡ true → leaves b ≡ []
 silent-leave (Unregisters who b) is = absurd (cc)
 silent-leave b is = refl
 
-undead-end : (w : World) (b : Basic) → is_still b ≡ true → ends w b ≡ []
-undead-end w (Dies who status) is = absurd (cc)
-undead-end w b is = refl
+undead-registration : (w : World) (b : Basic) → is_still b ≡ true → ended_registrations w b ≡ []
+undead-registration w (Dies who status) is = absurd (cc)
+undead-registration w b is = refl
 
 first-true : (x y : Bool) → (x && y) ≡ true → x ≡ true
 first-true x y is = grind arith
@@ -110,10 +110,10 @@ silent-leaves [] all = refl
 silent-leaves (b ∷ bs) all =
     ap (λ rs. rs ++ each leaves bs) (silent-leave b (first-true (is_silent b) (every is_silent bs) all)) ∙ silent-leaves bs (second-true (is_silent b) (every is_silent bs) all)
 
-undead-endings : (w : World) (bs : List Basic) → every is_still bs ≡ true → endings w bs ≡ []
-undead-endings w [] all = refl
-undead-endings w (b ∷ bs) all =
-    ap (λ rs. rs ++ endings (basic w b) bs) (undead-end w b (first-true (is_still b) (every is_still bs) all)) ∙ undead-endings (basic w b) bs (second-true (is_still b) (every is_still bs) all)
+undead-registrations : (w : World) (bs : List Basic) → every is_still bs ≡ true → ending_registrations w bs ≡ []
+undead-registrations w [] all = refl
+undead-registrations w (b ∷ bs) all =
+    ap (λ rs. rs ++ ending_registrations (basic w b) bs) (undead-registration w b (first-true (is_still b) (every is_still bs) all)) ∙ undead-registrations (basic w b) bs (second-true (is_still b) (every is_still bs) all)
 
 undying-silent : (b : Basic) → is_undying b ≡ true → is_silent b ≡ true
 undying-silent (Unregisters who b) is = absurd (cc)
@@ -130,13 +130,13 @@ undying-tells w bs all =
     let undead = every-more is_undying is_still undying-still bs all in
     record {
       told = silent-posts bs silent ∙ sym (silent-told w bs silent);
-      registrations = silent-leaves bs silent ∙ sym (undead-endings w bs undead);
+      registrations = silent-leaves bs silent ∙ sym (undead-registrations w bs undead);
     }
 
 pub tells-both : (w : World) (xs ys : List Basic) → TellsDeaths w xs → TellsDeaths (world_after w xs) ys → TellsDeaths w (xs ++ ys)
 tells-both w xs ys one two = record {
   told = posts-both xs ys ∙ (ap (λ ms. ms ++ which is_died_post (posts_of ys)) one.told ∙ (ap (λ ms. told_endings w xs ++ ms) two.told ∙ sym (told-both w xs ys)));
-  registrations = leaves-both xs ys ∙ (ap (λ rs. rs ++ each leaves ys) one.registrations ∙ (ap (λ rs. endings w xs ++ rs) two.registrations ∙ sym (endings-both w xs ys)));
+  registrations = leaves-both xs ys ∙ (ap (λ rs. rs ++ each leaves ys) one.registrations ∙ (ap (λ rs. ending_registrations w xs ++ rs) two.registrations ∙ sym (registrations-both w xs ys)));
 }
 
 -- Threads that are found
@@ -362,18 +362,18 @@ module _ (code : Status) (t : ThreadRow) (w : World) where
   unfolding rest-of
   die-threads = threads-all withdrawn rest-of (accepted-pass keeps_threads away-threads (λ b. refl) (wait_of w t.number) withdrawn)
 
-  die-endings : endings w (die code t w) ≡ ends w (Dies t.number code)
+  die-registrations : ending_registrations w (die code t w) ≡ ended_registrations w (Dies t.number code)
   unfolding rest-of
-  die-endings = ap (λ rs. ends w (Dies t.number code) ++ rs) (undead-endings withdrawn rest-of (accepted-pass is_still away-still (λ b. refl) (wait_of w t.number) withdrawn)) ∙ nil-right (ends w (Dies t.number code))
+  die-registrations = ap (λ rs. ended_registrations w (Dies t.number code) ++ rs) (undead-registrations withdrawn rest-of (accepted-pass is_still away-still (λ b. refl) (wait_of w t.number) withdrawn)) ∙ nil-right (ended_registrations w (Dies t.number code))
 
-all-end : (code : Status) (ts : List ThreadRow) (w : World) → AreFound w.threads ts → endings w (in_turn (die code) ts w) ≡ each registrations_of ts
+all-end : (code : Status) (ts : List ThreadRow) (w : World) → AreFound w.threads ts → ending_registrations w (in_turn (die code) ts w) ≡ each registrations_of ts
 all-end code [] w found = refl
 all-end code (t ∷ ts) w found =
     let v = behind (die code t) w in
     let live : live_thread w t.number ≡ Some t = found-live w.threads t.number t found.0 found.1 in
-    let here : ends w (Dies t.number code) ≡ registrations_of t = rw live refl in
+    let here : ended_registrations w (Dies t.number code) ≡ registrations_of t = rw live refl in
     let later = all-end code ts v (subst (λ all. AreFound all ts) (sym (die-threads code t w)) (found-other w.threads t.number ts found.2 found.3)) in
-    endings-both w (die code t w) (in_turn (die code) ts v) ∙ (ap (λ rs. rs ++ endings v (in_turn (die code) ts v)) (die-endings code t w ∙ here) ∙ ap (λ rs. registrations_of t ++ rs) later)
+    registrations-both w (die code t w) (in_turn (die code) ts v) ∙ (ap (λ rs. rs ++ ending_registrations v (in_turn (die code) ts v)) (die-registrations code t w ∙ here) ∙ ap (λ rs. registrations_of t ++ rs) later)
 
 found-rows : (w : World) (ts : List ThreadRow) → AreFound w.threads ts → AreRows w ts
 found-rows w [] found = tt
@@ -412,8 +412,8 @@ end-deaths pid code ts w found = at (not (is_live (behind_told code ts w) pid))
           told = here-both w first_part (mid ++ bs) (silent-posts first_part silent ∙ sym (silent-told w first_part silent)) (here-both (behind_dead code ts w) mid bs (all-here ts (behind_dead code ts w) rows) last.told);
           registrations =
               leaves-both first_part (mid ++ bs) ∙ (ap (λ rs. rs ++ each leaves (mid ++ bs)) (silent-leaves first_part silent) ∙ (leaves-both mid bs ∙ (ap (λ rs. rs ++ each leaves bs) (all-leave ts (behind_dead code ts w)) ∙ (ap (λ rs. each registrations_of ts ++ rs) (silent-leaves bs silent_last)
-              ∙ sym (endings-both w first_part (mid ++ bs) ∙ (ap (λ rs. rs ++ endings (behind_dead code ts w) (mid ++ bs)) (all-end code ts w found)
-              ∙ ap (λ rs. each registrations_of ts ++ rs) (undead-endings (behind_dead code ts w) (mid ++ bs) (every-append is_still mid bs undead_mid undead_last))))))));
+              ∙ sym (registrations-both w first_part (mid ++ bs) ∙ (ap (λ rs. rs ++ ending_registrations (behind_dead code ts w) (mid ++ bs)) (all-end code ts w found)
+              ∙ ap (λ rs. each registrations_of ts ++ rs) (undead-registrations (behind_dead code ts w) (mid ++ bs) (every-append is_still mid bs undead_mid undead_last))))))));
         }
 
     at : (last : Bool) → TellsDeaths w (in_turn (die code) ts w ++ (in_turn post_deaths ts (behind_dead code ts w) ++ when last (end_process pid (behind_told code ts w))))

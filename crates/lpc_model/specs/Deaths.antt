@@ -26,14 +26,15 @@ registration who b = record { thread = who; port = b }
 abbrev pub registrations_of : ThreadRow → List Registration
 registrations_of t = map (registration t.number) t.registrations
 
--- the registrations of the live threads that end by some steps, thread by thread, in the order in which they were made
-abbrev pub ends : World → Basic → List Registration
-ends w (Dies who status) = given (live_thread w who) registrations_of
-ends w b = []
+-- the registrations of the live thread that ends by a step, in the order in which they were made, and of those that end by
+-- some steps, thread by thread
+abbrev pub ended_registrations : World → Basic → List Registration
+ended_registrations w (Dies who status) = given (live_thread w who) registrations_of
+ended_registrations w b = []
 
-abbrev pub endings : World → List Basic → List Registration
-endings w [] = []
-endings w (b ∷ bs) = ends w b ++ endings (basic w b) bs
+abbrev pub ending_registrations : World → List Basic → List Registration
+ending_registrations w [] = []
+ending_registrations w (b ∷ bs) = ended_registrations w b ++ ending_registrations (basic w b) bs
 
 -- the registrations that go by a step
 abbrev pub leaves : Basic → List Registration
@@ -54,7 +55,7 @@ told_endings w (b ∷ bs) = tells_end w b ++ told_endings (basic w b) bs
 -- The messages that tell of ends are those of the registrations that go, and these are the ones of the threads that end.
 pub record TellsDeaths (w : World) (bs : List Basic) : Type 0 where
   pub told : which is_died_post (posts_of bs) ≡ told_endings w bs
-  pub registrations : each leaves bs ≡ endings w bs
+  pub registrations : each leaves bs ≡ ending_registrations w bs
 
 -- the steps of a line tell so
 abbrev pub DeathsAreTold : World → ScriptLine → Type 0
