@@ -18,12 +18,13 @@ use Rattle.lpc_model.specs.Basics.{AddsThread, Basic, Cuts, Dies, DrawsIdentifie
 use Rattle.lpc_model.specs.Entering.{enter, given_steps, shown, takes, woken}
 use Rattle.lpc_model.specs.Close.{close_handle}
 use Rattle.lpc_model.specs.Death.{END_RIGHT, answer_unless, code_status, cut_accepted, die, end_process, end_threads, nt_terminate_process, nt_terminate_thread, post_death, post_deaths, thread_target, told_death}
-use Rattle.lpc_model.specs.Deaths.{DeathsAreTold, TellsDeaths, ended_registrations, ending_registrations, is_died_post, leaves, registration, registrations_of, tells_end, told_endings}
+use Rattle.lpc_model.specs.Deaths.{DeathsAreTold, TellsDeaths, ended_registrations, ending_registrations, is_died_post, leaves, rank_of, registration, registrations_of, rises, tells_end, told_endings}
 use Rattle.lpc_model.proofs.Closing.{behind, takes_away}
 use Rattle.lpc_model.proofs.Rows.{first-change}
 use Rattle.lpc_model.proofs.Told.{posts-append, which-append}
 use Rattle.lpc_model.proofs.SoundFrees.{none-pass}
 use Rattle.lpc_model.proofs.Undying.{AreUndying, handle-undying, is_undying, register_holds, service-undying, undying-taken}
+use Rattle.lpc_model.proofs.DeathOrder.{order-behind, parts-order, undying-order}
 use Rattle.lpc_model.proofs.Ending.{AreEnding, accepted-pass, answered_end, behind_dead, behind_told, die-ending, die-pass, ending-death, is_ending, process-ends, thread-ends, told-facts, turn-pass}
 use Rattle.lpc_model.specs.Lawful.{HasThreadsOnce}
 use Rattle.lpc_base.specs.declared.status.TheConstants.{INVALID_HANDLE, SUCCESS}
@@ -131,12 +132,14 @@ undying-tells w bs all =
     record {
       told = silent-posts bs silent ∙ sym (silent-told w bs silent);
       registrations = silent-leaves bs silent ∙ sym (undead-registrations w bs undead);
+      order = undying-order bs all;
     }
 
-pub tells-both : (w : World) (xs ys : List Basic) → TellsDeaths w xs → TellsDeaths (world_after w xs) ys → TellsDeaths w (xs ++ ys)
-tells-both w xs ys one two = record {
+pub tells-both : (w : World) (xs ys : List Basic) → rises (each rank_of (xs ++ ys)) ≡ true → TellsDeaths w xs → TellsDeaths (world_after w xs) ys → TellsDeaths w (xs ++ ys)
+tells-both w xs ys order one two = record {
   told = posts-both xs ys ∙ (ap (λ ms. ms ++ which is_died_post (posts_of ys)) one.told ∙ (ap (λ ms. told_endings w xs ++ ms) two.told ∙ sym (told-both w xs ys)));
   registrations = leaves-both xs ys ∙ (ap (λ rs. rs ++ each leaves ys) one.registrations ∙ (ap (λ rs. ending_registrations w xs ++ rs) two.registrations ∙ sym (registrations-both w xs ys)));
+  order = order;
 }
 
 -- Threads that are found
@@ -414,6 +417,7 @@ end-deaths pid code ts w found = at (not (is_live (behind_told code ts w) pid))
               leaves-both first_part (mid ++ bs) ∙ (ap (λ rs. rs ++ each leaves (mid ++ bs)) (silent-leaves first_part silent) ∙ (leaves-both mid bs ∙ (ap (λ rs. rs ++ each leaves bs) (all-leave ts (behind_dead code ts w)) ∙ (ap (λ rs. each registrations_of ts ++ rs) (silent-leaves bs silent_last)
               ∙ sym (registrations-both w first_part (mid ++ bs) ∙ (ap (λ rs. rs ++ ending_registrations (behind_dead code ts w) (mid ++ bs)) (all-end code ts w found)
               ∙ ap (λ rs. each registrations_of ts ++ rs) (undead-registrations (behind_dead code ts w) (mid ++ bs) (every-append is_still mid bs undead_mid undead_last))))))));
+          order = parts-order code ts w (behind_dead code ts w) bs all;
         }
 
     at : (last : Bool) → TellsDeaths w (in_turn (die code) ts w ++ (in_turn post_deaths ts (behind_dead code ts w) ++ when last (end_process pid (behind_told code ts w))))
@@ -497,7 +501,8 @@ target-found w by target t once c at = holds_ok (λ t. first (is_thread t.number
 
 answered-deaths : (w : World) (by : ThreadRow) (call : CallName) (own : Bool) (pid : ℕ) (code : Status) (ts : List ThreadRow) → AreFound w.threads ts → TellsDeaths w (answered_end by call own pid code ts w)
 answered-deaths w by call true pid code ts found = end-deaths pid code ts w found
-answered-deaths w by call false pid code ts found = tells-both w (answer_unless false by call) (end_threads pid code ts w) (record { told = refl; registrations = refl }) (end-deaths pid code ts w found)
+answered-deaths w by call false pid code ts found =
+    let ends = end-deaths pid code ts w found in tells-both w (answer_unless false by call) (end_threads pid code ts w) ends.order (record { told = refl; registrations = refl; order = refl }) ends
 
 thread-deaths : (w : World) (by : ThreadRow) (target : ProcArg) (code : ℕ) → HasThreadsOnce w → CanCall w by → Holds (TellsDeaths w) (nt_terminate_thread w by target code)
 thread-deaths w by target code once c =
@@ -517,12 +522,12 @@ service-deaths w by (terminate_process target code) once c = process-deaths w by
 service-deaths w by (register_thread_terminate_port handle) once c = register_holds (TellsDeaths w) w by handle (λ b new _. at b new)
   where
     at : (b : Birth) (new : Bool) → TellsDeaths w (Tells (entry.Answer by.number NtRegisterThreadTerminatePort SUCCESS []) ∷ when new (Registers by.number b ∷ []))
-    at b true = record { told = refl; registrations = refl }
-    at b false = record { told = refl; registrations = refl }
+    at b true = record { told = refl; registrations = refl; order = refl }
+    at b false = record { told = refl; registrations = refl; order = refl }
 service-deaths w by call once c = undying_holds w _ (service-undying w by call refl)
 
 silent_tells : (w : World) (e : Entry) → TellsDeaths w (Tells e ∷ [])
-silent_tells w e = record { told = refl; registrations = refl }
+silent_tells w e = record { told = refl; registrations = refl; order = refl }
 
 ready-deaths : (w : World) (by : ThreadRow) (call : ScriptCall) (o : Option WaitRow) → (o ≡ None → CanCall w by) → HasThreadsOnce w → TellsDeaths w (ready_steps by call o w)
 ready-deaths w by call (Some x) c once = silent_tells w _
@@ -535,21 +540,21 @@ thread-deaths-of w tid call (Some by) live s once = ready-deaths w by call (wait
 -- Directives
 boot-deaths : (w : World) (pid tid : ℕ) → Holds (λ bs. TellsDeaths w (Tells (entry.Directive word.Boot SUCCESS) ∷ bs)) (boot_line w pid tid)
 unfolding boot_line
-boot-deaths w pid tid = bind_holds (unused_test w pid tid) _ (λ bs. TellsDeaths w (Tells (entry.Directive word.Boot SUCCESS) ∷ bs)) (λ _ _. record { told = refl; registrations = refl })
+boot-deaths w pid tid = bind_holds (unused_test w pid tid) _ (λ bs. TellsDeaths w (Tells (entry.Directive word.Boot SUCCESS) ∷ bs)) (λ _ _. record { told = refl; registrations = refl; order = refl })
 
 further-deaths : (w : World) (tid pid : ℕ) → Holds (λ bs. TellsDeaths w (Tells (entry.Directive word.Thread SUCCESS) ∷ bs)) (thread_line w tid pid)
 unfolding thread_line
-further-deaths w tid pid = bind_holds (thread_test w tid pid) _ (λ bs. TellsDeaths w (Tells (entry.Directive word.Thread SUCCESS) ∷ bs)) (λ _ _. record { told = refl; registrations = refl })
+further-deaths w tid pid = bind_holds (thread_test w tid pid) _ (λ bs. TellsDeaths w (Tells (entry.Directive word.Thread SUCCESS) ∷ bs)) (λ _ _. record { told = refl; registrations = refl; order = refl })
 
 dir-deaths : (w : World) (text : List ℕ) → Holds (λ bs. TellsDeaths w (Tells (entry.Directive word.Dir SUCCESS) ∷ bs)) (dir_line w text)
 unfolding dir_line
-dir-deaths w text = bind_holds (free_name w text) _ (λ bs. TellsDeaths w (Tells (entry.Directive word.Dir SUCCESS) ∷ bs)) (λ path _. record { told = refl; registrations = refl })
+dir-deaths w text = bind_holds (free_name w text) _ (λ bs. TellsDeaths w (Tells (entry.Directive word.Dir SUCCESS) ∷ bs)) (λ path _. record { told = refl; registrations = refl; order = refl })
 
 link-deaths : (w : World) (text target : List ℕ) → Holds (λ bs. TellsDeaths w (Tells (entry.Directive word.Link SUCCESS) ∷ bs)) (link_line w text target)
 unfolding link_line
 link-deaths w text target =
     bind_holds (spelled_name target) _ (λ bs. TellsDeaths w (Tells (entry.Directive word.Link SUCCESS) ∷ bs)) (λ to _.
-    bind_holds (free_name w text) _ (λ bs. TellsDeaths w (Tells (entry.Directive word.Link SUCCESS) ∷ bs)) (λ path _. record { told = refl; registrations = refl }))
+    bind_holds (free_name w text) _ (λ bs. TellsDeaths w (Tells (entry.Directive word.Link SUCCESS) ∷ bs)) (λ path _. record { told = refl; registrations = refl; order = refl }))
 
 -- Lines
 line-deaths : (w : World) (line : ScriptLine) → IsSoundWorld w → HasThreadsOnce w → TellsDeaths w (bare_steps line w)
@@ -575,4 +580,5 @@ pub deaths_told : (w : World) (line : ScriptLine) → IsSoundWorld w → HasThre
 deaths_told w line s once =
     let bs = bare_steps line w in
     let v = world_after w bs in
-    tells-both w bs (sweep v) (line-deaths w line s once) (undying-tells v (sweep v) (sweep-undying v))
+    let bare = line-deaths w line s once in
+    let swept = sweep-undying v in tells-both w bs (sweep v) (order-behind bs (sweep v) bare.order swept) bare (undying-tells v (sweep v) swept)

@@ -1,11 +1,11 @@
 -- What is told of threads that end: each port that such a thread registered is told once, where it is open and has a way.
-use Rattle.std.specs.Prelude.{◌≡◌, ℕ, ◌==◌, ◌&&◌, ◌||◌, ◌++◌, Bool, true, List, [], ◌∷◌, length, map, not}
+use Rattle.std.specs.Prelude.{◌≡◌, ℕ, ◌==◌, ◌&&◌, ◌||◌, ◌++◌, Bool, true, List, [], ◌∷◌, length, map, nat_le, not}
 use Rattle.std.specs.List.{AllByRecursion}
-use Rattle.lpc_base.specs.Rows.{each, every, first, given, which}
+use Rattle.lpc_base.specs.Rows.{each, every, first, given, when, which}
 use Rattle.lpc_message.specs.declared.kind.TheConstants.{CLIENT_DIED}
 use Rattle.lpc_model.specs.World.{Birth, MessageRow, ThreadRow, World}
 use Rattle.lpc_model.specs.Found.{is_thread, live_thread, same_birth}
-use Rattle.lpc_model.specs.Basics.{Basic, Dies, Unregisters, basic, posts_of}
+use Rattle.lpc_model.specs.Basics.{Basic, Dies, DropsHandle, Enters, Unbinds, Unregisters, basic, posts_of}
 use Rattle.lpc_model.specs.Death.{told_death}
 use Rattle.lpc_model.specs.Lines.{ScriptLine}
 use Rattle.lpc_model.specs.Machine.{steps}
@@ -52,10 +52,27 @@ abbrev pub told_endings : World → List Basic → List MessageRow
 told_endings w [] = []
 told_endings w (b ∷ bs) = tells_end w b ++ told_endings (basic w b) bs
 
--- The messages that tell of ends are those of the registrations that go, and these are the ones of the threads that end.
+-- when a step comes in its line: first threads end, then registrations go and are told of, and then handles are closed, which
+-- begins with a port's name where its last handle goes
+abbrev pub rank_of : Basic → List ℕ
+rank_of (Dies who status) = 0 ∷ []
+rank_of (Unregisters who b) = 1 ∷ []
+rank_of (Enters m) = when (is_died_post m) (1 ∷ [])
+rank_of (Unbinds b) = 2 ∷ []
+rank_of (DropsHandle pid value) = 2 ∷ []
+rank_of b = []
+
+-- no number stands behind a greater one
+abbrev pub rises : List ℕ → Bool
+rises [] = true
+rises (n ∷ ns) = every (nat_le n) ns && rises ns
+
+-- The messages that tell of ends are those of the registrations that go, and these are the ones of the threads that end. They
+-- go and are told behind the end of the last of these threads, and before any handle goes.
 pub record TellsDeaths (w : World) (bs : List Basic) : Type 0 where
   pub told : which is_died_post (posts_of bs) ≡ told_endings w bs
   pub registrations : each leaves bs ≡ ending_registrations w bs
+  pub order : rises (each rank_of bs) ≡ true
 
 -- the steps of a line tell so
 abbrev pub DeathsAreTold : World → ScriptLine → Type 0

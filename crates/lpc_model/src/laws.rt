@@ -93,10 +93,12 @@ pub fn law_closings_are_told()
 /// For each thread that ends and each port that it registered exactly one such message enters the
 /// port's route, where the port is then open and has one, and no other does. It is sent on that
 /// port, in the name of the thread, and its data are the maker and the ordinal of the thread's
-/// birth. Behind each line no port is registered twice with a thread, and a thread that has ended
-/// has no registrations. Each such message, and each that tells of a closed port, stands in the
-/// queue that it entered, was received from it, or was lost when the queue's port closed. And where no process lives any longer, no row of a
-/// process, thread or port is left, no message and no wait.
+/// birth. The registrations go then, and all this comes behind the last thread that ends in the
+/// line, and before a handle goes or a port begins to close in it. Behind each line no port is
+/// registered twice with a thread, and a thread that has ended has no registrations. Each such
+/// message, and each that tells of a closed port, stands in the queue that it entered, was received
+/// from it, or was lost when the queue's port closed. And where no process lives any longer, no row
+/// of a process, thread or port is left, no message and no wait.
 pub fn law_death()
     ensures runs { (script : List ℕ) → RunTellsDeaths script }
     ensures accounted { (script : List ℕ) → RunAccountsForDeaths script }

@@ -200,8 +200,8 @@ pub fn run_words<S: Source, K: Sink>(
     ensures answered { result ≡ 0 → IfSome (S.left source.old) ConnectsReturn }
     ensures ended { result ≡ 0 → IfSome (S.left source.old) WaitsEnd }
 
-    // In the script read whoever asked to be told of a thread's end is told once, what tells of ends and of closed ports is
-    // accounted for, and nothing is left where no process lives.
+    // In the script read whoever asked to be told of a thread's end is told once, behind all ends of that line and before it
+    // closes a handle; what tells of ends and of closed ports is accounted for, and nothing is left where no process lives.
     ensures deaths { result ≡ 0 → IfSome (S.left source.old) RunTellsDeaths }
     ensures accounted { result ≡ 0 → IfSome (S.left source.old) RunAccountsForDeaths }
     ensures nothing_left { result ≡ 0 → IfSome (S.left source.old) RunLeavesNothing }
