@@ -9,4 +9,6 @@ mod common;
 #[cfg(test)]
 mod connections;
 #[cfg(test)]
+mod endings;
+#[cfg(test)]
 mod replay;
