@@ -12,22 +12,22 @@ use Rattle.lpc_model.specs.declared.entry.Entry.TheVariants.{Died}
 use Rattle.lpc_model.specs.Basics.{Basic, Cuts, Dies, Empties, Unbinds, Wakes, Withdraws, basic, cut, doing, ended, in_turn, is_end_of, world_after, ◌▹◌}
 use Rattle.lpc_model.specs.Close.{cut_pair}
 use Rattle.lpc_model.specs.Death.{cut_accepted, die}
-use Rattle.lpc_model.specs.Found.{is_accepted, is_live_thread, is_the, is_thread, lives_in, live_threads, pair_of, waits_as}
-use Rattle.lpc_model.specs.Linked.{is_mutual, passes_or_none}
+use Rattle.lpc_model.specs.Found.{is_accepted, is_live_thread, is_thread, lives_in, live_threads, waits_as}
+use Rattle.lpc_model.specs.Linked.{is_mutual}
 use Rattle.lpc_model.specs.Listed.{Listed}
-use Rattle.lpc_model.specs.World.{Birth, PortRow, ThreadRow, WaitRow, World}
+use Rattle.lpc_model.specs.World.{Birth, ThreadRow, WaitRow, World}
 use Rattle.lpc_model.proofs.Closing.{behind, takes_away}
 use Rattle.lpc_model.proofs.DeathLines.{die-threads}
 use Rattle.lpc_model.proofs.Ending.{die-pass}
+use Rattle.lpc_model.proofs.LinkedSteps.{cut-mutual}
 use Rattle.lpc_model.proofs.Rows.{count-change, count_none, every-left, has-found, has-off}
-use Rattle.lpc_model.proofs.SoundCuts.{other-end, same-row}
 use Rattle.lpc_world.specs.Closing.{HasMutualPairs}
 use Rattle.lpc_world.specs.Does.{Left, Took, left_by}
 use Rattle.lpc_world.specs.Kept.{Kept, is_alive}
 use Rattle.lpc_world.specs.Registered.{accepted_port_in}
 use Rattle.lpc_world.proofs.Composed.{left-then, left_further}
 use Rattle.lpc_world.proofs.Dying.{fewer-alive}
-use Rattle.lpc_world.proofs.Endings.{pairs-kept}
+use Rattle.lpc_world.proofs.Endings.{pairs-kept, which-none}
 use Rattle.lpc_death.specs.Dying.{dying, dying_all, ending_entries}
 use Rattle.lpc_model.specs.Lawful.{HasThreadsOnce}
 
@@ -91,15 +91,6 @@ fewer-waits : (tid : ℕ) (xs : List WaitRow) → length (without (waits_as tid)
 fewer-waits tid xs = count-bound (λ x. not (waits_as tid x)) xs
 
 -- Other ends behind it
-cut-mutual : (w : World) (b : Birth) (p : PortRow) → is_mutual w p ≡ true → is_end_of b p ≡ false → is_mutual (basic w (Cuts b)) p ≡ true
-cut-mutual w b p is off = at p.pair refl is
-  where
-    at : (o : Option Birth) → p.pair ≡ o → passes_or_none o (λ q. is_the p.birth (pair_of w q)) ≡ true → passes_or_none o (λ q. is_the p.birth (pair_of (basic w (Cuts b)) q)) ≡ true
-    at None none was = refl
-    at (Some q) some back =
-        let ends = other-end w b p q off some back in
-        let same : pair_of (basic w (Cuts b)) q ≡ pair_of w q = rw (same-row w b q ends.0 ends.1) refl in rw same back
-
 cut-pairs : (w : World) (b : Birth) → HasMutualPairs w → HasMutualPairs (basic w (Cuts b))
 cut-pairs w b all =
     every-change_to (is_mutual w) (is_mutual (basic w (Cuts b))) (is_end_of b) cut (λ p was is. refl) (λ p was off. cut-mutual w b p was off) w.ports all
@@ -142,10 +133,6 @@ unfolding numbered
 dead-pairs code tid w pairs = pairs-all w (dying code tid w) (die-pass keeps_pairs away-pairs (λ n c. refl) (λ b. refl) code (numbered tid) w) pairs
 
 -- The live threads that are left
-which-none : {X : Type 0} (p : X → Bool) (xs : List X) → first p xs ≡ None → which p xs ≡ []
-which-none p [] none = refl
-which-none p (x ∷ xs) none = grind (arith, which-none p xs)
-
 living-left : (pid : ℕ) (ts rest : List ThreadRow) (t : ThreadRow) → count (is_thread t.number) ts ≤ 1 → which (lives_in pid) ts ≡ t ∷ rest → which (lives_in pid) (change (is_thread t.number) ended ts) ≡ rest
 living-left pid [] rest t once same = absurd (cc)
 living-left pid (u ∷ us) rest t once same = at (lives_in pid u) refl (living-left pid us rest t)

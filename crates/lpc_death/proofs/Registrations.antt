@@ -5,7 +5,7 @@ use Rattle.std.proofs.lemmas.Bool.{eqb-true}
 use Rattle.std.proofs.lemmas.Bool.Decides.{nat_tests}
 use Rattle.std.proofs.lemmas.List.{append-nil}
 use Rattle.lpc_base.specs.Rows.{change, each, every, first, given, has, when, which, without}
-use Rattle.lpc_base.proofs.RowWords.{change-none, every-change, every-without, first-passes}
+use Rattle.lpc_base.proofs.RowWords.{change-none, every-change, first-passes}
 use Rattle.lpc_model.specs.declared.entry.Entry.{Entry}
 use Rattle.lpc_model.specs.Basics.{Enters, Receives, Takes, TakesConnect, Unregisters, basic, doing, in_turn, unregistering, world_after}
 use Rattle.lpc_model.specs.Deaths.{HasSingleRegistrations, are_different, registers_once}
@@ -17,6 +17,7 @@ use Rattle.lpc_model.specs.declared.message.Message.{Message}
 use Rattle.lpc_slots.specs.declared.Key.{Key}
 use Rattle.lpc_model.specs.World.{Accepted, Birth, Connect, Listen, MessageRow, PortRow, Receive, Request, ThreadRow, WaitRow, World}
 use Rattle.lpc_model.proofs.Births.{birth-same, birth-self}
+use Rattle.lpc_model.proofs.SingleRegistrations.{different-less}
 use Rattle.lpc_model.proofs.SoundWorlds.{by_kind}
 use Rattle.lpc_world.specs.Clauses.{birth_at, port_at, route_at, row_at}
 use Rattle.lpc_world.specs.Does.{Left, Took, left_by}
@@ -198,10 +199,6 @@ left-untold w pid u us one single next = ap (deaths_in pid) (told-threads w u) �
 
 pub next-registered : (w : World) (pid : ℕ) (u : Death) (us : List Death) → are_single_threads w.threads ≡ true → untold_of w pid ≡ u ∷ us → has_registered w u.client.thread u.port ≡ true
 next-registered w pid u us one next = let is = next-found pid w.threads u us one next in is.registered
-
-different-less : (b : Birth) (bs : List Birth) → are_different bs ≡ true → are_different (without (same_birth b) bs) ≡ true
-different-less b [] all = refl
-different-less b (c ∷ bs) all = grind (arith, every-without (λ d. not (same_birth d c)) (same_birth b) bs, different-less b bs)
 
 -- each port stays registered once with a thread
 pub single-left : (w : World) (u : Death) → HasSingleRegistrations w → HasSingleRegistrations (world_after w (telling_one u w))

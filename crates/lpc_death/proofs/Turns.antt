@@ -1,18 +1,20 @@
 -- Handles of a process that are closed in turn: behind the first of them the others are left, and can be closed.
-use Rattle.std.proofs.Common.{◌≡◌, ◌∙◌, ℕ, List, [], ◌∷◌, ◌++◌, Bool, true, false, Some, None, drop, map, refl, ap, sym, subst, arith}
+use Rattle.std.proofs.Common.{◌≡◌, ◌∙◌, ℕ, List, [], ◌∷◌, ◌++◌, Bool, true, false, Some, None, drop, map, refl, ap, sym, arith}
 use Rattle.std.specs.Prelude.{slice_get}
 use Rattle.std.proofs.lemmas.Bool.Decides.{nat_tests}
 use Rattle.std.proofs.lemmas.List.{append-nil}
-use Rattle.lpc_base.specs.Rows.{change, first, has, when, without_first}
+use Rattle.lpc_base.specs.Rows.{change, first, has, when}
 use Rattle.lpc_base.proofs.RowWords.{has-change}
 use Rattle.lpc_model.specs.declared.entry.Entry.{Entry}
 use Rattle.lpc_handles.specs.Handles.{first_from}
 use Rattle.lpc_handles.specs.declared.table.Row.{Row}
 use Rattle.lpc_homes.specs.declared.object.Object.{Object}
-use Rattle.lpc_model.specs.World.{Birth, HandleRow, HandleTable, World}
-use Rattle.lpc_model.specs.Found.{handle_at, handles_of, has_value, is_table, rows_in}
+use Rattle.lpc_model.specs.World.{Birth, HandleRow, World}
+use Rattle.lpc_model.specs.Found.{handle_at, handles_of, has_value, is_table}
 use Rattle.lpc_model.specs.Basics.{DropsHandle, in_turn, without_handle, world_after}
 use Rattle.lpc_model.specs.Close.{close_handle, close_port, is_last}
+use Rattle.lpc_model.specs.SoundWaits.{IsSoundWorld}
+use Rattle.lpc_model.proofs.Ending.{rows-left}
 use Rattle.lpc_model.proofs.LinkedClose.{handle-plain}
 use Rattle.lpc_model.proofs.LinkedSteps.{plain-all}
 use Rattle.lpc_model.proofs.SoundClose.{close_handle-sound}
@@ -25,26 +27,7 @@ use Rattle.lpc_death.specs.Closing.{CanClose, CanCloseAll}
 use Rattle.lpc_model.specs.Death.{end_process}
 use Rattle.lpc_death.proofs.HandlesKept.{handles-kept}
 
--- The first handle
-pub first-at : (w : World) (pid : ℕ) (r : HandleRow) (rows : List HandleRow) → handles_of w pid ≡ r ∷ rows → handle_at w pid r.value ≡ Some r
-first-at w pid r rows same = subst (λ rs. first (has_value r.value) rs ≡ Some r) (sym same) (own rows)
-  where
-    own : (rows : List HandleRow) → first (has_value r.value) (r ∷ rows) ≡ Some r
-    own rows = grind (arith, nat_tests)
-
 -- The handles that are left
-dropped-rows : (pid value : ℕ) (ts : List HandleTable) → rows_in (first (is_table pid) (change (is_table pid) (without_handle value) ts)) ≡ without_first (has_value value) (rows_in (first (is_table pid) ts))
-dropped-rows pid value [] = refl
-dropped-rows pid value (t ∷ ts) = at (is_table pid t) refl (dropped-rows pid value ts)
-  where
-    at : (c : Bool) → is_table pid t ≡ c → rows_in (first (is_table pid) (change (is_table pid) (without_handle value) ts)) ≡ without_first (has_value value) (rows_in (first (is_table pid) ts))
-        → rows_in (first (is_table pid) (change (is_table pid) (without_handle value) (t ∷ ts))) ≡ without_first (has_value value) (rows_in (first (is_table pid) (t ∷ ts)))
-    at true is later = grind arith
-    at false is later = grind (arith, later)
-
-first-gone : (r : HandleRow) (rows : List HandleRow) → without_first (has_value r.value) (r ∷ rows) ≡ rows
-first-gone r rows = grind (arith, nat_tests)
-
 -- the close of a handle takes it away, and changes no other
 tables-left : (w : World) (pid : ℕ) (r : HandleRow) → (world_after w (close_handle pid r w)).handles ≡ change (is_table pid) (without_handle r.value) w.handles
 tables-left w pid r = by_last (is_last r w)
@@ -54,10 +37,6 @@ tables-left w pid r = by_last (is_last r w)
         ap (λ (v : World). v.handles) (after-append w (close_port r.object.birth w) (DropsHandle pid r.value ∷ []))
         ∙ ap (change (is_table pid) (without_handle r.value)) (handles-kept w r.object.birth)
     by_last false = refl
-
-pub rows-left : (w : World) (pid : ℕ) (r : HandleRow) (rows : List HandleRow) → handles_of w pid ≡ r ∷ rows → handles_of (world_after w (close_handle pid r w)) pid ≡ rows
-rows-left w pid r rows same =
-    ap (λ ts. rows_in (first (is_table pid) ts)) (tables-left w pid r) ∙ (dropped-rows pid r.value w.handles ∙ (ap (without_first (has_value r.value)) same ∙ first-gone r rows))
 
 pub table-left : (w : World) (pid : ℕ) (r : HandleRow) → has (is_table pid) w.handles ≡ true → has (is_table pid) (world_after w (close_handle pid r w)).handles ≡ true
 table-left w pid r there = ap (has (is_table pid)) (tables-left w pid r) ∙ (has-change (is_table pid) (is_table pid) (without_handle r.value) (λ t. refl) w.handles ∙ there)
@@ -74,11 +53,11 @@ closed-can w pid r at can = record {
 }
 
 -- All handles: behind the first of them, what is left to be done leaves what all of it leaves
-pub one-closed : (w : World) (pid : ℕ) (r : HandleRow) (rows : List HandleRow) (es : List Entry) (loose : Bool) (l : Left) → handles_of w pid ≡ r ∷ rows → l ≡ left_by w es loose (close_handle pid r w)
+pub one-closed : (w : World) (pid : ℕ) (r : HandleRow) (rows : List HandleRow) (es : List Entry) (loose : Bool) (l : Left) → handles_of w pid ≡ r ∷ rows → IsSoundWorld w → l ≡ left_by w es loose (close_handle pid r w)
     → left_further l (end_process pid) ≡ left_by w es loose (end_process pid w)
-one-closed w pid r rows es loose l same took =
+one-closed w pid r rows es loose l same sound took =
     let v = world_after w (close_handle pid r w) in
-    let rest = ap (λ rs. left_further (left_by w es loose (close_handle pid r w)) (in_turn (close_handle pid) rs)) (rows-left w pid r rows same) in
+    let rest = ap (λ rs. left_further (left_by w es loose (close_handle pid r w)) (in_turn (close_handle pid) rs)) (rows-left w pid r rows same sound) in
     let all = ap (λ rs. left_by w es loose (in_turn (close_handle pid) rs w)) (sym same) in
     ap (λ (l : Left). left_further l (end_process pid)) took
     ∙ rest

@@ -180,7 +180,7 @@ cut-connection : (c : Bool) (p : PortRow) → let q : PortRow = cond c (cut p) p
 cut-connection true p = refl
 cut-connection false p = refl
 
-cut-mutual : (w : World) (b : Birth) (p : PortRow) → is_mutual w p ≡ true → is_end_of b p ≡ false → is_mutual (basic w (Cuts b)) p ≡ true
+pub cut-mutual : (w : World) (b : Birth) (p : PortRow) → is_mutual w p ≡ true → is_end_of b p ≡ false → is_mutual (basic w (Cuts b)) p ≡ true
 cut-mutual w b p is off = at p.pair refl is
   where
     at : (o : Option Birth) → p.pair ≡ o → passes_or_none o (λ q. is_the p.birth (pair_of w q)) ≡ true → passes_or_none o (λ q. is_the p.birth (pair_of (basic w (Cuts b)) q)) ≡ true

@@ -32,7 +32,7 @@ second-true : (x y : Bool) → (x && y) ≡ true → y ≡ true
 second-true x y is = grind arith
 
 -- Ports that are different
-different-less : (b : Birth) (bs : List Birth) → are_different bs ≡ true → are_different (without (same_birth b) bs) ≡ true
+pub different-less : (b : Birth) (bs : List Birth) → are_different bs ≡ true → are_different (without (same_birth b) bs) ≡ true
 different-less b [] all = refl
 different-less b (c ∷ bs) all = grind (arith, every-without (λ d. not (same_birth d c)) (same_birth b) bs, different-less b bs)
 

@@ -26,7 +26,7 @@ use Rattle.lpc_world.proofs.Finished.{found-waiter}
 
 -- The first of the waits that pass
 -- none passes
-which-none : {X : Type 0} (p : X → Bool) (xs : List X) → first p xs ≡ None → which p xs ≡ []
+pub which-none : {X : Type 0} (p : X → Bool) (xs : List X) → first p xs ≡ None → which p xs ≡ []
 which-none p [] none = refl
 which-none p (x ∷ xs) none = grind (arith, which-none p xs)
 

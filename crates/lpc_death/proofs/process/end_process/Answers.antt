@@ -1,9 +1,10 @@
 use Rattle.std.proofs.Common.{drop, length, ap, arith, ◌∙◌}
 use Rattle.lpc_model.specs.Found.{handles_of}
 use Rattle.lpc_model.specs.World.{World}
+use Rattle.lpc_model.proofs.Ending.{first-at, rows-left}
 use Rattle.lpc_world.specs.Clauses.{row_shown}
 use Rattle.lpc_world.specs.Does.{Left}
-use Rattle.lpc_death.proofs.Turns.{closed-can, first-at, head-is, head-none, none-closed, one-closed, rows-left, table-left}
+use Rattle.lpc_death.proofs.Turns.{closed-can, head-is, head-none, none-closed, one-closed, table-left}
 use Rattle.lpc_death.proofs.process.end_process.Goals as goal
 
 pub close_handle-requires-clause-found : goal.close_handle-requires-clause-found
@@ -19,7 +20,7 @@ loop-value-smaller c =
     let rest = drop 1 (handles_of w c.args.pid) in
     let same = head-is (handles_of w c.args.pid) r c.in-Some.ensures.handle in
     let left = ap (λ (l : Left). l.world) c.close_handle.ensures.takes in
-    let fewer = ap length (ap (λ (v : World). handles_of v c.args.pid) left ∙ rows-left w c.args.pid r rest same) in
+    let fewer = ap length (ap (λ (v : World). handles_of v c.args.pid) left ∙ rows-left w c.args.pid r rest same c.loop-value.invariant.can.sound) in
     let all = ap length same in
     omega (arith, fewer, all)
 
@@ -35,7 +36,7 @@ loop-value-preserved c =
       can = rw left (closed-can w c.args.pid r (first-at w c.args.pid r rest same) c.loop-value.invariant.can);
       leaves =
           one-closed w c.args.pid r rest c.loop-value.out.list c.loop-value.world.loose
-          (record { world = c.close_handle.new.world.rows; entries = c.close_handle.new.out.list; loose = c.close_handle.new.world.loose }) same c.close_handle.ensures.takes
+          (record { world = c.close_handle.new.world.rows; entries = c.close_handle.new.out.list; loose = c.close_handle.new.world.loose }) same c.loop-value.invariant.can.sound c.close_handle.ensures.takes
           ∙ c.loop-value.invariant.leaves;
       calls = c.close_handle.ensures.calls ∙ c.loop-value.invariant.calls;
       made = omega (arith, c.close_handle.ensures.made, c.loop-value.invariant.made);
