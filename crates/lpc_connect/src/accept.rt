@@ -19,6 +19,9 @@ use lpc_base::status::{REPLY_MESSAGE_MISMATCH, SUCCESS};
 use lpc_base::{OutOfMemory, PortKind, Status, held};
 use lpc_model::{CallName, Entries, Entry, Fields, Message, Outcome, handle_field, kept, refuse};
 use lpc_procs::ThreadRow;
+use lpc_steps::{
+    answered_connect, client_test, end_connect, give_handle, handles_test, read_message,
+};
 use lpc_waits::Accepted;
 use lpc_world::{Object, World};
 
@@ -45,9 +48,9 @@ fn answer_test(world: &World, by: u32, bytes: &[u8]) -> Result<ConnectAnswer, St
     ensures offered { IfOk result (λ a. is_offered (waiter world.now.rows a.thread) ≡ true) }
     ensures received { IfOk result (λ a. was_received world.now.rows a.thread ≡ true) }
 {
-    let message = kept(&world.read_message(bytes)?);
-    world.client_test(message.header.client)?;
-    match world.answered_connect(by, message.header.client, message.header.message_id) {
+    let message = kept(&read_message(bytes)?);
+    client_test(world, message.header.client)?;
+    match answered_connect(world, by, message.header.client, message.header.message_id) {
         Some(thread) => Ok(ConnectAnswer { thread, message }),
         None => Err(REPLY_MESSAGE_MISMATCH),
     }
@@ -84,7 +87,7 @@ fn accept_test(
 {
     let answer = answer_test(world, by.number, bytes)?;
     if accept {
-        world.handles_test(by.process)?;
+        handles_test(world, by.process)?;
     }
     Ok(answer)
 }
@@ -113,7 +116,7 @@ fn refuse_connect(
         status: SUCCESS,
         fields: Fields::none(),
     });
-    world.end_connect(thread, message.body.as_slice(), out);
+    end_connect(world, thread, message.body.as_slice(), out);
 }
 
 /// A connect is accepted: the server port is made, gets a handle, and is joined to the client port.
@@ -146,7 +149,7 @@ fn accept_connect(
     let wait = world.waiting(thread);
     let birth = world.procs_draw_birth(by.number);
     let server = world.ports_add(PortKind::Server, birth, Some(wait.queue), None);
-    let value = world.give_handle(by.process, Object::Port(server), PORT_ACCESS);
+    let value = give_handle(world, by.process, Object::Port(server), PORT_ACCESS);
     let reply = held(message.body.as_slice());
     world.waits_set_accepted(thread, Some(Accepted { reply }));
     world.ports_join(wait.port, server, context);

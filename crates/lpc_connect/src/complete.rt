@@ -19,6 +19,7 @@ use lpc_base::status::SUCCESS;
 use lpc_model::{CallName, Entries, Entry, Fields, Outcome, completion_fields, refuse};
 use lpc_procs::ThreadRow;
 use lpc_slots::Key;
+use lpc_steps::{completion_test, port_at, waiting_call};
 use lpc_world::{Object, World};
 
 /// A connection that can be completed: its two ports, and the thread that waits in the connect.
@@ -42,8 +43,8 @@ fn complete_test(world: &World, tid: u32, handle: u32) -> Result<Connection, Sta
     ensures accepted { IfOk result (λ c. is_accepted (waiter world.now.rows c.thread) ≡ true) }
     ensures left { IfOk result (λ c. has_queued world.now.rows c.thread ≡ false) }
 {
-    let server = world.port_at(tid, handle)?;
-    let found = world.completable(server)?;
+    let server = port_at(world, tid, handle)?;
+    let found = completion_test(world, server)?;
     Ok(Connection {
         server,
         client: found.client,
@@ -68,7 +69,7 @@ fn complete(world: &mut World, by: &ThreadRow, connection: Connection, out: &mut
     ensures calls { world.new.calls ≡ world.old.calls }
     ensures spare { out.old.spare ≤ out.new.spare + 2 }
 {
-    let call = world.waiting_call(connection.thread);
+    let call = waiting_call(world, connection.thread);
     let reply = world.reply_bytes(connection.thread);
     out.push(Entry::Answer {
         tid: by.number,

@@ -28,6 +28,7 @@ use lpc_model::{Body, CallName, Entries, Entry, Message, Outcome, identifier_fie
 use lpc_ports::Creator;
 use lpc_procs::ThreadRow;
 use lpc_slots::Key;
+use lpc_steps::{deliver, handles_test, wait_with};
 use lpc_waits::{Wait, WaitKind};
 use lpc_world::World;
 
@@ -57,7 +58,7 @@ fn connect_test(world: &World, by: &ThreadRow, name: &[u8], info: &[u8]) -> Resu
 {
     info_test(info)?;
     let connection = world.named_port(name)?;
-    world.handles_test(by.process)?;
+    handles_test(world, by.process)?;
     Ok(connection)
 }
 
@@ -172,7 +173,8 @@ fn start(world: &mut World, by: &ThreadRow, connection: Key, message: &Message, 
     });
     let birth = draw(world, by);
     let port = make_client(world, by, birth, connection);
-    world.wait_with(
+    wait_with(
+        world,
         by.number,
         Wait {
             process: by.process,
@@ -184,7 +186,7 @@ fn start(world: &mut World, by: &ThreadRow, connection: Key, message: &Message, 
         },
         message,
     );
-    world.deliver(connection, port, 0, message, out);
+    deliver(world, connection, port, 0, message, out);
 }
 
 /// `NtConnectPort`: asks for a connection to the port that a path leads to, with bytes that go with the request, and waits

@@ -25,6 +25,7 @@ use lpc_base::{Birth, OutOfMemory, PortKind, Status};
 use lpc_model::{CallName, Entries, Entry, Outcome, handle_field, refuse};
 use lpc_procs::ThreadRow;
 use lpc_slots::Key;
+use lpc_steps::{give_handle, handles_test};
 use lpc_world::{Object, World};
 
 /// The rights of a handle that a call makes to a port.
@@ -44,7 +45,7 @@ fn create_test(world: &World, by: &ThreadRow, name: Option<&[u8]>) -> Result<(),
     if let Some(path) = name {
         world.name_test(path)?;
     }
-    world.handles_test(by.process)
+    handles_test(world, by.process)
 }
 
 /// Makes a connection port that a path names, and answers its key.
@@ -115,7 +116,7 @@ fn create(world: &mut World, by: &ThreadRow, name: Option<&[u8]>, out: &mut Entr
 {
     let birth = world.procs_draw_birth(by.number);
     let port = make(world, name, birth);
-    let value = world.give_handle(by.process, Object::Port(port), PORT_ACCESS);
+    let value = give_handle(world, by.process, Object::Port(port), PORT_ACCESS);
     out.push(Entry::Answer {
         tid: by.number,
         call: CallName::NtCreatePort,

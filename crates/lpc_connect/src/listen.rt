@@ -18,8 +18,9 @@ use lpc_base::status::{INVALID_PORT_HANDLE, SUCCESS};
 use lpc_model::{CallName, Entries, Entry, Fields, Message, Outcome, message_field, refuse};
 use lpc_procs::ThreadRow;
 use lpc_slots::Key;
+use lpc_steps::{is_connection, port_at, wants_answer};
 use lpc_waits::{Wait, WaitKind};
-use lpc_world::{World, wants_answer};
+use lpc_world::World;
 
 /// The connection port of a handle: the handle's fault, and INVALID_PORT_HANDLE for another kind of port.
 #[tactic(auto, unfolding(lpc_model::specs::Connect::nt_listen_port))]
@@ -33,8 +34,8 @@ fn listen_test(world: &World, tid: u32, handle: u32) -> Result<Key, Status>
     ensures stands { IfOk result (λ key. stands world.now.births.ports key ≡ true) }
     ensures name { IfOk result (λ key. row_birth world.now key ≡ birth_at world.now key) }
 {
-    let port = world.port_at(tid, handle)?;
-    if !world.is_connection(port) {
+    let port = port_at(world, tid, handle)?;
+    if !is_connection(world, port) {
         return Err(INVALID_PORT_HANDLE);
     }
     Ok(port)

@@ -25,9 +25,9 @@ use Rattle.lpc_world.specs.Closing.{HasMutualPairs}
 use Rattle.lpc_world.specs.Does.{Left, Took, left_by}
 use Rattle.lpc_world.specs.Kept.{Kept, is_alive}
 use Rattle.lpc_world.specs.Registered.{accepted_port_in}
-use Rattle.lpc_world.proofs.Composed.{left-then, left_further}
+use Rattle.lpc_steps.proofs.Composed.{left-then, left_further}
 use Rattle.lpc_world.proofs.Dying.{fewer-alive}
-use Rattle.lpc_world.proofs.Endings.{pairs-kept, which-none}
+use Rattle.lpc_steps.proofs.Endings.{pairs-kept, which-none}
 use Rattle.lpc_death.specs.Dying.{dying, dying_all, ending_entries}
 use Rattle.lpc_model.specs.Lawful.{HasThreadsOnce}
 

@@ -22,7 +22,7 @@ use Rattle.lpc_model.proofs.SoundQueues.{after-append}
 use Rattle.lpc_model.proofs.UntoldClose.{handle-untold}
 use Rattle.lpc_world.specs.Does.{Left, left_by}
 use Rattle.lpc_world.specs.Shown.{shown_handle}
-use Rattle.lpc_world.proofs.Composed.{left-then, left_further}
+use Rattle.lpc_steps.proofs.Composed.{left-then, left_further}
 use Rattle.lpc_death.specs.Closing.{CanClose, CanCloseAll}
 use Rattle.lpc_model.specs.Death.{end_process}
 use Rattle.lpc_death.proofs.HandlesKept.{handles-kept}

@@ -12,7 +12,7 @@ use Rattle.lpc_model.specs.World as model
 use Rattle.lpc_model.specs.World.{ThreadRow}
 use Rattle.lpc_world.specs.Clauses.{row_shown}
 use Rattle.lpc_world.specs.Kept.{Kept, handle_room, owed_handles}
-use Rattle.lpc_world.specs.declared.closed.Closed.{Closed}
+use Rattle.lpc_steps.specs.declared.closing.Closed.{Closed}
 use Rattle.lpc_homes.specs.declared.object.Object.{Object}
 
 -- an object is told of

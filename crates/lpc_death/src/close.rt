@@ -22,7 +22,8 @@ use lpc_handles::Row;
 use lpc_message::kind;
 use lpc_model::{CallName, Entries, Entry, Fields, Message, Outcome, refuse};
 use lpc_slots::Key;
-use lpc_world::{Closed, Ending, Object, World};
+use lpc_steps::{Closed, deliver, end_all, own_handle, told_of};
+use lpc_world::{Ending, Object, World};
 
 /// The message that tells of a closed port: it is of the connect that made the port, and names the port by its birth.
 fn closed_message(closed: &Closed) -> Message
@@ -51,9 +52,9 @@ fn post_closed(world: &mut World, port: Key, out: &mut Entries)
     ensures spare { out.new.spare + length world.old.rows.waits
         ≡ out.old.spare + length world.new.rows.waits }
 {
-    if let Some(closed) = world.told_of(port) {
+    if let Some(closed) = told_of(world, port) {
         let message = closed_message(&closed);
-        world.deliver(closed.queue, port, closed.context, &message, out);
+        deliver(world, closed.queue, port, closed.context, &message, out);
     }
 }
 
@@ -72,8 +73,8 @@ fn empty_queue(world: &mut World, port: Key, out: &mut Entries)
     ensures spare { out.new.spare + length world.old.rows.waits
         ≡ out.old.spare + length world.new.rows.waits }
 {
-    world.end_all(port, Ending::QueuedRequests, out);
-    world.end_all(port, Ending::Offers, out);
+    end_all(world, port, Ending::QueuedRequests, out);
+    end_all(world, port, Ending::Offers, out);
     world.messages_empty(port);
 }
 
@@ -91,9 +92,9 @@ pub(crate) fn cut_pair(world: &mut World, port: Key, out: &mut Entries)
     ensures spare { out.new.spare + length world.old.rows.waits
         ≡ out.old.spare + length world.new.rows.waits }
 {
-    world.end_all(port, Ending::RequestsAcross, out);
-    world.end_all(port, Ending::ReceivesAcross, out);
-    world.end_all(port, Ending::AcceptedAcross, out);
+    end_all(world, port, Ending::RequestsAcross, out);
+    end_all(world, port, Ending::ReceivesAcross, out);
+    end_all(world, port, Ending::AcceptedAcross, out);
     world.ports_cut(port);
 }
 
@@ -115,8 +116,8 @@ fn close_port(world: &mut World, port: Key, out: &mut Entries)
         ≡ out.old.spare + length world.new.rows.waits }
 {
     world.names_unbind(port);
-    world.end_all(port, Ending::Receives, out);
-    world.end_all(port, Ending::Requests, out);
+    end_all(world, port, Ending::Receives, out);
+    end_all(world, port, Ending::Requests, out);
     empty_queue(world, port, out);
     cut_pair(world, port, out);
     post_closed(world, port, out);
@@ -196,7 +197,7 @@ pub fn nt_close(world: &mut World, by: u32, handle: u32, out: &mut Entries) -> O
 {
     let caller = world.caller(by);
     world.begin_call();
-    match world.own_handle(by, handle) {
+    match own_handle(world, by, handle) {
         Ok(row) => {
             out.push(Entry::Answer {
                 tid: caller.number,

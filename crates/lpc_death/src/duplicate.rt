@@ -12,6 +12,7 @@ use lpc_base::status::{ACCESS_DENIED, SUCCESS};
 use lpc_base::{OutOfMemory, Status};
 use lpc_handles::Row;
 use lpc_model::{CallName, Entries, Entry, Outcome, handle_field, refuse};
+use lpc_steps::{give_handle, handles_test, own_handle};
 use lpc_world::{Object, World};
 
 /// The handle that a thread's process is to get: INVALID_HANDLE where no handle has the value, ACCESS_DENIED where a right
@@ -33,12 +34,12 @@ fn duplicate_test(
     ensures few { let by = caller world.now.rows tid in
         OnOk result (HasSmallLoad world.now.rows by.process) }
 {
-    let row = world.own_handle(tid, handle)?;
+    let row = own_handle(world, tid, handle)?;
     let access = access.unwrap_or(row.access);
     if row.access & access != access {
         return Err(ACCESS_DENIED);
     }
-    world.handles_test(world.caller(tid).process)?;
+    handles_test(world, world.caller(tid).process)?;
     Ok(Row {
         object: row.object,
         access,
@@ -78,7 +79,7 @@ pub fn nt_duplicate_object(
     };
     world.handles_reserve(caller.process, 1)?;
     world.begin_call();
-    let value = world.give_handle(caller.process, granted.object, granted.access);
+    let value = give_handle(world, caller.process, granted.object, granted.access);
     out.push(Entry::Answer {
         tid: caller.number,
         call: CallName::NtDuplicateObject,

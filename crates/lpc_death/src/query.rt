@@ -4,12 +4,13 @@ ghost use Rattle.lpc_base.specs.declared.limits.TheConstants.{LINES_LIMIT};
 ghost use Rattle.lpc_death.specs.Calls.{telling};
 ghost use Rattle.lpc_model.specs.Lines.{query_object};
 ghost use Rattle.lpc_world.specs.Called.{Served, service};
-ghost use Rattle.lpc_world.specs.Does.{has_no_read};
+ghost use Rattle.lpc_steps.specs.Clauses.{has_no_read};
 ghost use Rattle.lpc_world.specs.Ready.{HasRoom, caller, is_ready};
 
 use lpc_base::Status;
 use lpc_base::status::SUCCESS;
 use lpc_model::{CallName, Entries, Entry, Fields, ObjectKind, Outcome, object_fields, refuse};
+use lpc_steps::own_handle;
 use lpc_world::World;
 
 /// What is told of the object of a handle: INVALID_HANDLE where no handle has the value.
@@ -22,7 +23,7 @@ fn counts(world: &World, tid: u32, handle: u32) -> Result<Fields, Status>
         (λ s. found ≡ Err s) }
     ensures plain { IfOk result (λ fields. has_no_read fields ≡ true) }
 {
-    let row = world.own_handle(tid, handle)?;
+    let row = own_handle(world, tid, handle)?;
     Ok(object_fields(
         ObjectKind::Port,
         row.access,

@@ -10,6 +10,7 @@ ghost use Rattle.lpc_world.specs.Registered.{death_shown, has_registered};
 use crate::telling::telling;
 use lpc_message::kind;
 use lpc_model::{Entries, Message};
+use lpc_steps::{context, deliver, route};
 use lpc_world::{Death, World};
 
 /// The message that tells of a thread's end: it is in the thread's name, and names the thread by its birth.
@@ -36,10 +37,10 @@ fn post_death(world: &mut World, death: &Death, out: &mut Entries)
         ≡ out.old.spare + length world.new.rows.waits }
 {
     world.procs_unregister(death.client.thread, death.registered);
-    if let Some(queue) = world.route(death.port) {
+    if let Some(queue) = route(world, death.port) {
         let message = died_message(death);
-        let context = world.context(death.port);
-        world.deliver(queue, death.port, context, &message, out);
+        let context = context(world, death.port);
+        deliver(world, queue, death.port, context, &message, out);
     }
 }
 

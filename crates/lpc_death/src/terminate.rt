@@ -11,7 +11,7 @@ ghost use Rattle.lpc_model.specs.Found.{is_table, same_kind};
 ghost use Rattle.lpc_model.specs.Lines.{terminate_process, terminate_thread};
 ghost use Rattle.lpc_model.specs.declared.entry.ObjectKind.TheVariants.{Port};
 ghost use Rattle.lpc_world.specs.Called.{Served};
-ghost use Rattle.lpc_world.specs.Clauses.{object_for};
+ghost use Rattle.lpc_steps.specs.Clauses.{object_for};
 ghost use Rattle.lpc_world.specs.Does.{Took};
 ghost use Rattle.lpc_world.specs.Kept.{CanMake, is_alive};
 ghost use Rattle.lpc_world.specs.Ready.{HasRoom, is_ready};
@@ -21,6 +21,7 @@ use crate::process::end_process;
 use crate::tell::tell_all;
 use lpc_base::Status;
 use lpc_model::{CallName, Entries, ObjectKind, Outcome, ProcArg, refuse};
+use lpc_steps::object_at;
 use lpc_world::World;
 
 /// The right to a process or thread that ending it wants.
@@ -54,7 +55,7 @@ fn refusal(world: &World, by: u32, handle: u32, kind: ObjectKind) -> Status
     requires other { same_kind Port kind ≡ false }
     ensures { object_for world.now.rows by kind model.END_RIGHT handle ≡ Err result }
 {
-    match world.object_at(by, handle, kind, END_RIGHT) {
+    match object_at(world, by, handle, kind, END_RIGHT) {
         Ok(_) => unreachable!(),
         Err(status) => status,
     }

@@ -21,8 +21,9 @@ use lpc_model::{
 };
 use lpc_procs::ThreadRow;
 use lpc_slots::Key;
+use lpc_steps::{port_at, read_message, receive_test, wake, wants_answer};
 use lpc_waits::{Wait, WaitKind};
-use lpc_world::{World, wants_answer};
+use lpc_world::World;
 
 /// A reply that a receive makes first: the thread that asked, and the message.
 #[derive(Drop)]
@@ -47,7 +48,8 @@ fn make_reply(world: &mut World, replied: &Option<Replied>, out: &mut Entries)
     ensures threads { world.new.rows ≡ record world.old.rows { waits = world.new.rows.waits } }
 {
     if let Some(reply) = replied {
-        world.wake(
+        wake(
+            world,
             reply.thread,
             SUCCESS,
             message_field(&as_reply(&reply.message)),
@@ -127,8 +129,8 @@ fn receive(world: &mut World, tid: u32, handle: u32, out: &mut Entries) -> Resul
     ensures calls { world.new.calls ≡ world.old.calls }
     ensures spare { out.old.spare ≤ out.new.spare + 2 }
 {
-    let port = world.port_at(tid, handle)?;
-    let queue = world.receive_test(port)?;
+    let port = port_at(world, tid, handle)?;
+    let queue = receive_test(world, port)?;
     let by = world.caller(tid);
     Ok(take_or_wait(world, &by, port, queue, &None, out))
 }
@@ -149,9 +151,9 @@ fn reply_and_receive(
     ensures calls { world.new.calls ≡ world.old.calls }
     ensures spare { out.old.spare ≤ out.new.spare + 2 }
 {
-    let port = world.port_at(tid, handle)?;
-    let message = kept(&world.read_message(reply)?);
-    let queue = world.receive_test(port)?;
+    let port = port_at(world, tid, handle)?;
+    let message = kept(&read_message(reply)?);
+    let queue = receive_test(world, port)?;
     let thread = answered_test(world, port, &message)?;
     let by = world.caller(tid);
     let replied = Some(Replied { thread, message });

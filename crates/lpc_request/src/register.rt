@@ -13,6 +13,7 @@ use lpc_base::status::SUCCESS;
 use lpc_base::{OutOfMemory, Status};
 use lpc_model::{CallName, Entries, Entry, Fields, Outcome, refuse};
 use lpc_slots::Key;
+use lpc_steps::port_at;
 use lpc_world::World;
 
 /// The port that a thread is to register: the handle, 16 others.
@@ -29,7 +30,7 @@ fn register_test(world: &World, tid: u32, handle: u32) -> Result<Key, Status>
         IfOk result (λ port. is_registered (birth_at world.now port) by ≡ false →
         HasFewRegistrations world.now.rows tid) }
 {
-    let port = world.port_at(tid, handle)?;
+    let port = port_at(world, tid, handle)?;
     world.registration_test(tid, port)?;
     Ok(port)
 }

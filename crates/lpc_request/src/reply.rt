@@ -18,6 +18,7 @@ use lpc_base::status::{REPLY_MESSAGE_MISMATCH, SUCCESS};
 use lpc_message::kind;
 use lpc_model::{CallName, Entries, Entry, Fields, Message, Outcome, kept, message_field, refuse};
 use lpc_slots::Key;
+use lpc_steps::{client_test, fitted, port_at, read_message, wake};
 use lpc_world::World;
 
 /// A message as a reply returns it: type 2 and no section, all else as it is.
@@ -38,8 +39,13 @@ pub fn answered_test(world: &World, port: Key, message: &Message) -> Result<u32,
     ensures waits { IfOk result (λ tid. has (waits_as tid) world.now.rows.waits ≡ true) }
     ensures left { IfOk result (λ tid. has_queued world.now.rows tid ≡ false) }
 {
-    world.client_test(message.header.client)?;
-    match world.fitted(port, message.header.client, message.header.message_id) {
+    client_test(world, message.header.client)?;
+    match fitted(
+        world,
+        port,
+        message.header.client,
+        message.header.message_id,
+    ) {
         Some(tid) => Ok(tid),
         None => Err(REPLY_MESSAGE_MISMATCH),
     }
@@ -59,8 +65,8 @@ fn reply(
     ensures calls { world.new.calls ≡ world.old.calls }
     ensures spare { out.old.spare ≤ out.new.spare + 2 }
 {
-    let port = world.port_at(tid, handle)?;
-    let message = kept(&world.read_message(message)?);
+    let port = port_at(world, tid, handle)?;
+    let message = kept(&read_message(message)?);
     let answered = answered_test(world, port, &message)?;
     send_reply(world, tid, answered, &message, out);
     Ok(Outcome::Answered(SUCCESS))
@@ -83,7 +89,13 @@ fn send_reply(world: &mut World, tid: u32, answered: u32, message: &Message, out
         status: SUCCESS,
         fields: Fields::none(),
     });
-    world.wake(answered, SUCCESS, message_field(&as_reply(message)), out);
+    wake(
+        world,
+        answered,
+        SUCCESS,
+        message_field(&as_reply(message)),
+        out,
+    );
 }
 
 /// `NtReplyPort`: replies to a request, and wakes the thread that asked.

@@ -20,6 +20,7 @@ use lpc_message::{ClientId, kind};
 use lpc_model::{CallName, Entries, Entry, Message, Outcome, identifier_field, kept, refuse};
 use lpc_procs::ThreadRow;
 use lpc_slots::Key;
+use lpc_steps::{context, deliver, port_at, read_message, route, wait_with};
 use lpc_waits::{Wait, WaitKind};
 use lpc_world::World;
 
@@ -43,9 +44,9 @@ fn send_test(world: &World, tid: u32, handle: u32, bytes: &[u8]) -> Result<Senda
     ensures name { IfOk result
         (λ s. (row_at world.now s.port).birth ≡ name_at world.now s.port) }
 {
-    let port = world.port_at(tid, handle)?;
-    let message = kept(&world.read_message(bytes)?);
-    let Some(queue) = world.route(port) else {
+    let port = port_at(world, tid, handle)?;
+    let message = kept(&read_message(bytes)?);
+    let Some(queue) = route(world, port) else {
         return Err(PORT_DISCONNECTED);
     };
     Ok(Sendable {
@@ -93,7 +94,7 @@ fn send_datagram(
     ensures calls { world.new.calls ≡ world.old.calls }
     ensures spare { out.old.spare ≤ out.new.spare + 2 }
 {
-    let context = world.context(port);
+    let context = context(world, port);
     let sent = sent_by(by, kind::DATAGRAM, message);
     out.push(Entry::Answer {
         tid: by.number,
@@ -102,7 +103,7 @@ fn send_datagram(
         fields: identifier_field(by.next_identifier),
     });
     world.procs_draw_identifier(by.number);
-    world.deliver(queue, port, context, &sent, out);
+    deliver(world, queue, port, context, &sent, out);
 }
 
 /// The tests of a datagram: those of a message that is sent, and 32 datagrams that aren't received.
@@ -115,7 +116,7 @@ fn datagram_test(world: &World, tid: u32, handle: u32, bytes: &[u8]) -> Result<S
         (λ s. (row_at world.now s.port).birth ≡ name_at world.now s.port) }
 {
     let sent = send_test(world, tid, handle, bytes)?;
-    world.datagram_test(sent.port)?;
+    lpc_steps::datagram_test(world, sent.port)?;
     Ok(sent)
 }
 
@@ -177,14 +178,15 @@ fn send_request(
     ensures calls { world.new.calls ≡ world.old.calls }
     ensures spare { out.old.spare ≤ out.new.spare + 2 }
 {
-    let context = world.context(port);
+    let context = context(world, port);
     let sent = sent_by(by, kind::REQUEST, message);
     out.push(Entry::Waits {
         tid: by.number,
         call: CallName::NtRequestWaitReplyPort,
         fields: identifier_field(by.next_identifier),
     });
-    world.wait_with(
+    wait_with(
+        world,
         by.number,
         Wait {
             process: by.process,
@@ -197,7 +199,7 @@ fn send_request(
         &sent,
     );
     world.procs_draw_identifier(by.number);
-    world.deliver(queue, port, context, &sent, out);
+    deliver(world, queue, port, context, &sent, out);
 }
 
 #[tactic(auto, unfolding(lpc_model::specs::Request::nt_request_wait_reply_port))]

@@ -1,20 +1,19 @@
 -- For each change that gives no object a key: the tables' new rows are the step of the rows that they stood for, and name
 -- what stands.
 use Rattle.std.proofs.Common.{◌≡◌, ℕ, List, [], ◌∷◌, ◌++◌, Bool, true, length, map, refl, ap, sym, ◌∙◌, arith, Option, Some, None}
-use Rattle.std.specs.Prelude.{nat_lt, not, ◌&&◌}
+use Rattle.std.specs.Prelude.{nat_lt}
 use Rattle.lpc_base.specs.declared.birth.Birth.{Birth}
 use Rattle.lpc_base.specs.Rows.{change, every, which, without, without_first}
-use Rattle.lpc_base.proofs.RowWords.{every-append, every-change, every-push, every-which, every-without, has-change, length-change}
+use Rattle.lpc_base.proofs.RowWords.{every-append, every-change, every-push, every-which, every-without, length-change}
 use Rattle.lpc_base.proofs.RowMaps.{change-map, every-map, every-without_first, push-map, unseen-change, which-map, without-map, without_first-map}
 use Rattle.lpc_handles.specs.Handles as handles
 use Rattle.lpc_handles.specs.declared.table.Row.{Row}
 use Rattle.lpc_model.specs.World as model
 use Rattle.lpc_model.specs.World.{World}
 use Rattle.lpc_model.specs.Basics as basics
-use Rattle.lpc_model.specs.Basics.{AddsHandle, AddsProcess, AddsThread, Awaits, DrawsIdentifier, DrawsOrdinal, Enters, Receives, Takes, basic, put_handle, with_handle}
+use Rattle.lpc_model.specs.Basics.{AddsHandle, AddsProcess, AddsThread, Awaits, DrawsIdentifier, DrawsOrdinal, Enters, Takes, basic, put_handle, with_handle}
 use Rattle.lpc_model.specs.Found.{is_accepted, is_connect, is_queued, is_table, is_thread, waits_as}
 use Rattle.lpc_ports.specs.Table as ports
-use Rattle.lpc_ports.specs.Table.{PortTable}
 use Rattle.lpc_ports.specs.declared.messages.QueuedMessage.{QueuedMessage}
 use Rattle.lpc_procs.specs.Procs as procs
 use Rattle.lpc_procs.specs.declared.rows.ProcessRow.{ProcessRow}
@@ -24,12 +23,11 @@ use Rattle.lpc_model.specs.Message.{message_of}
 use Rattle.lpc_model.specs.declared.message.Message.{Message}
 use Rattle.lpc_slots.specs.declared.Key.{Key}
 use Rattle.lpc_waits.specs.Table as waits
-use Rattle.lpc_waits.specs.Table.{WaitTable}
 use Rattle.lpc_waits.specs.declared.Accepted.{Accepted}
 use Rattle.lpc_waits.specs.declared.WaitKind.{WaitKind}
 use Rattle.lpc_waits.specs.declared.WaitKind.TheVariants as wait
 use Rattle.lpc_waits.specs.declared.WaitRow.{WaitRow}
-use Rattle.lpc_world.specs.Kept.{has_queued, is_pending, is_unsent, pends_as}
+use Rattle.lpc_world.specs.Kept.{is_pending}
 use Rattle.lpc_world.specs.Lawful.{IsLawful, is_quiet}
 use Rattle.lpc_world.proofs.Lawful.{lawful-keep}
 use Rattle.lpc_world.specs.Names.{name_of, stands}
@@ -231,7 +229,7 @@ accepted_kept m x = by_kind x.kind
     by_kind (model.Accepted other reply) = refl
 
 -- a wait that keeps its message is pending where it was
-pending_kept : (m : Message) (x : model.WaitRow) → is_pending (with_message m x) ≡ is_pending x
+pub pending_kept : (m : Message) (x : model.WaitRow) → is_pending (with_message m x) ≡ is_pending x
 pending_kept m x = by_kind x.kind
   where
     by_kind : (kind : model.WaitKind) → let old : model.WaitRow = record x { kind = kind } in is_pending (with_message m old) ≡ is_pending old
@@ -253,11 +251,6 @@ quiet_kept m ms x = by_kind x.kind
 
 pub lawful-message : (v : World) (calls made a b who : ℕ) (bytes : List ℕ) → IsLawful v calls made a b → IsLawful (record v { waits = change (waits_as who) (with_message (message_of bytes)) v.waits }) calls made a b
 lawful-message v calls made a b who bytes h = lawful-keep v calls made a b who (with_message (message_of bytes)) (λ x. refl) (pending_kept (message_of bytes)) (quiet_kept (message_of bytes) v.messages) h
-
--- and its thread is as it was where it waits for a message that is to be sent
-pub unsent-message : (w : World) (who : ℕ) (m : Message) → is_unsent (record w { waits = change (waits_as who) (with_message m) w.waits }) who ≡ is_unsent w who
-unsent-message w who m =
-    ap (λ b. b && not (has_queued w who)) (has-change (pends_as who) (waits_as who) (with_message m) (λ x. ap (λ b. waits_as who x && b) (pending_kept m x)) w.waits)
 
 pub length-message : (who : ℕ) (bytes : List ℕ) (xs : List model.WaitRow) → length (change (waits_as who) (with_message (message_of bytes)) xs) ≡ length xs
 length-message who bytes xs = length-change (waits_as who) (with_message (message_of bytes)) xs

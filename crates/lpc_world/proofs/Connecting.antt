@@ -1,22 +1,19 @@
 -- What the services of connections look up is what is found in the rows.
-use Rattle.std.proofs.Common.{◌≡◌, ℕ, List, [], Bool, true, false, cond, not, ◌&&◌, ◌||◌, map, Option, Some, None, MatchOption, IfSome, option_map, Result, Ok, refl, ap, sym, subst, ◌∙◌, arith}
+use Rattle.std.proofs.Common.{◌≡◌, ℕ, List, [], Bool, true, false, not, ◌&&◌, ◌||◌, map, Option, Some, None, MatchOption, IfSome, option_map, Result, Ok, refl, ap, sym, subst, ◌∙◌, arith}
 use Rattle.std.specs.Prelude.{is_none, is_some}
-use Rattle.std.proofs.lemmas.Bool.{eqb-true}
 use Rattle.lpc_base.specs.declared.birth.Birth.{Birth}
 use Rattle.lpc_base.specs.Rows.{every, first, has}
 use Rattle.lpc_base.proofs.RowMaps.{first-map, has-map, mapped-twice, same-map}
 use Rattle.lpc_base.proofs.RowWords.{first-passes}
 use Rattle.lpc_handles.specs.declared.table.Row.{Row}
-use Rattle.lpc_message.specs.declared.message.ClientId.{ClientId}
 use Rattle.lpc_model.specs.declared.entry.CallName.{CallName}
 use Rattle.lpc_model.specs.declared.entry.CallName.TheVariants.{NtConnectPort}
-use Rattle.lpc_model.specs.declared.message.Message.{Message}
-use Rattle.lpc_model.specs.Connect.{answer_of, is_accepted_on, names_connect, reaches}
-use Rattle.lpc_model.specs.Found.{is_accepted, is_connect, is_offered, is_request, names_port, wait_of, waits_as}
+use Rattle.lpc_model.specs.Connect.{answer_of, is_accepted_on, reaches}
+use Rattle.lpc_model.specs.Found.{is_accepted, is_connect, is_offered, is_request, names_port, waits_as}
 use Rattle.lpc_model.specs.Named.{as_status, named_port, port_found}
 use Rattle.lpc_model.specs.Then.{◌>>=◌}
 use Rattle.lpc_model.specs.World as model
-use Rattle.lpc_model.specs.World.{PortRow, ThreadRow, WaitRow, World}
+use Rattle.lpc_model.specs.World.{WaitRow, World}
 use Rattle.lpc_names.specs.Kept.{seen}
 use Rattle.lpc_names.specs.Mapped.{binding_as, found_as, node_as}
 use Rattle.lpc_names.specs.Walk.{LinkTo, Node, Stands, lookup}
@@ -32,7 +29,6 @@ use Rattle.lpc_waits.specs.declared.Accepted.{Accepted}
 use Rattle.lpc_waits.specs.declared.WaitKind.{WaitKind}
 use Rattle.lpc_waits.specs.declared.WaitKind.TheVariants as wait
 use Rattle.lpc_waits.specs.declared.WaitRow as table
-use Rattle.lpc_world.specs.Connecting.{is_answered}
 use Rattle.lpc_world.specs.Kept.{is_pending, is_pending_in, rows_by}
 use Rattle.lpc_world.specs.Lawful.{are_single}
 use Rattle.lpc_world.specs.Names.{name_of, stands}
@@ -121,66 +117,6 @@ met_accepted w client (Some tid) is = left (is_accepted (waiter w tid)) _ is.pas
     left : (a b : Bool) → a && b ≡ true → a ≡ true
     left true b e = refl
     left false b e = e
-
--- a test that one thread's waits alone pass finds the wait of that thread, where it waits and passes
-pub own_test : (w : World) (p : WaitRow → Bool) (tid : ℕ) → ((x : WaitRow) → waits_as tid x ≡ false → p x ≡ false) → are_single w.waits ≡ true → has (waits_as tid) w.waits ≡ true
-    → cond (p (waiter w tid)) (Some tid) None ≡ option_map (λ x. x.thread) (first p w.waits)
-unfolding waiter
-own_test w p tid only one there = of_row (wait_of w tid) refl there
-  where
-    by_test : (x : WaitRow) (b : Bool) → x.thread ≡ tid → cond b (Some tid) None ≡ option_map (λ (x : WaitRow). x.thread) (cond b (Some x) None)
-    by_test x true own = ap Some (sym own)
-    by_test x false own = refl
-
-    of_row : (o : Option WaitRow) → wait_of w tid ≡ o → is_some o ≡ true → cond (p (wait_in (wait_of w tid))) (Some tid) None ≡ option_map (λ x. x.thread) (first p w.waits)
-    of_row None found there = absurd (cc)
-    of_row (Some x) found there =
-        let own : x.thread ≡ tid = eqb-true x.thread tid (first-passes (waits_as tid) w.waits x found) in
-        ap (λ o. cond (p (wait_in o)) (Some tid) None) found
-        ∙ by_test x (p x) own
-        ∙ sym (ap (λ o. option_map (λ x. x.thread) o) (finds.first_own p tid only w.waits x one found))
-
--- Answers
-module _ (w : World) (pid : ℕ) (client : ClientId) (identifier : ℕ) where
-  abbrev p : WaitRow → Bool
-  p = is_answered w pid client identifier
-
-  answered_off : (x : WaitRow) → p x ≡ true → is_pending x ≡ false
-  answered_off x h = received_off x (third _ (is_offered x) x.received _ h)
-    where
-      third : (a b d e : Bool) → a && (b && (d && e)) ≡ true → d ≡ true
-      third true true d e h = grind arith
-      third true false d e h = absurd (cc)
-      third false b d e h = absurd (cc)
-
-  pub answered_offered : (x : WaitRow) → p x ≡ true → is_offered x ≡ true
-  answered_offered x h = second _ (is_offered x) _ h
-    where
-      second : (a b d : Bool) → a && (b && d) ≡ true → b ≡ true
-      second true true d h = refl
-      second true false d h = absurd (cc)
-      second false b d h = absurd (cc)
-
-  answered_thread : (x : WaitRow) → waits_as client.thread x ≡ false → p x ≡ false
-  answered_thread x off = short _ _ _ off
-    where
-      short : (a b d : Bool) → a ≡ false → (a && b) && d ≡ false
-      short true b d e = absurd (cc)
-      short false b d e = refl
-
-  -- the wait of the client's thread, where the answer names it
-  pub answered_as : are_single w.waits ≡ true → has (waits_as client.thread) w.waits ≡ true → (b : Bool) → b ≡ is_answered w pid client identifier (waiter w client.thread) → finds.IsFound w (is_answered w pid client identifier) (cond b (Some client.thread) None)
-  answered_as one there b is = finds.found_wait w p (cond b (Some client.thread) None) one answered_off (ap (λ b. cond b (Some client.thread) None) is ∙ own_test w p client.thread answered_thread one there)
-
-  pub answered_none : are_single w.waits ≡ true → has (waits_as client.thread) w.waits ≡ false → finds.IsFound w (is_answered w pid client identifier) None
-  answered_none one none = finds.found_wait w p None one answered_off (sym (ap (λ o. option_map (λ x. x.thread) o) (finds.none_fits p client.thread answered_thread w.waits none)))
-
--- what is found for each message that names the client and the identifier
-pub for_message : (w : World) (by : ThreadRow) (client : ClientId) (identifier : ℕ) (r : Option ℕ) → finds.IsFound w (is_answered w by.process client identifier) r
-    → (m : Message) → m.header.client ≡ client → m.header.message_id ≡ identifier → MatchOption r (first (names_connect w by m) w.waits ≡ None) (λ tid. first (names_connect w by m) w.waits ≡ Some (waiter w tid))
-for_message w by client identifier r is m one two =
-    let Finds : ClientId → ℕ → Type 0 = λ c i. MatchOption r (first (is_answered w by.process c i) w.waits ≡ None) (λ tid. first (is_answered w by.process c i) w.waits ≡ Some (waiter w tid)) in
-    subst (λ c. Finds c m.header.message_id) (sym one) (subst (λ i. Finds client i) (sym two) is.found)
 
 -- Kinds of waits
 pub accepted_kind : (kind : WaitKind) (bytes : List ℕ) (accepted : Option Accepted) → (elim (shown_kind kind bytes accepted) [ model.Accepted m reply ↦ true | _ ↦ false ]) ≡ waits.is_connect kind && is_some accepted

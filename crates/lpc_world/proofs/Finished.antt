@@ -1,9 +1,11 @@
 -- A connect that is completed: the handle that was promised to it is given, and its wait ends.
 use Rattle.std.proofs.Common.{◌≡◌, ℕ, ◌+◌, ◌*◌, ◌<◌, ◌≤◌, List, true, false, cond, not, ◌&&◌, ◌||◌, ◌==◌, length, Option, Some, None, refl, ap, sym, subst, ◌∙◌, arith, Bool}
 use Rattle.std.specs.Prelude.{IfSome, is_some}
+use Rattle.std.proofs.lemmas.Bool.{eqb-true}
 use Rattle.std.proofs.lemmas.Bool.Decides.{nat_tests}
 use Rattle.lpc_base.specs.Rows.{change, first, has, without}
 use Rattle.lpc_base.proofs.RowMaps.{every-first}
+use Rattle.lpc_base.proofs.RowWords.{first-passes}
 use Rattle.lpc_handles.specs.declared.table.Row.{Row}
 use Rattle.lpc_model.specs.World as model
 use Rattle.lpc_model.specs.World.{World}
@@ -36,6 +38,10 @@ found-waiter w tid there = by_wait (wait_of w tid) refl there
     by_wait : (o : Option model.WaitRow) → wait_of w tid ≡ o → is_some o ≡ true → first (waits_as tid) w.waits ≡ Some (wait_in (wait_of w tid))
     by_wait None at h = absurd (cc)
     by_wait (Some x) at h = at ∙ ap (λ o. Some (wait_in o)) (sym at)
+
+-- and it is the thread's
+pub own-waiter : (w : World) (tid : ℕ) → has (waits_as tid) w.waits ≡ true → (let x = waiter w tid in x.thread ≡ tid)
+own-waiter w tid there = let x = waiter w tid in eqb-true x.thread tid (first-passes (waits_as tid) w.waits x (found-waiter w tid there))
 
 of-process : (x : model.WaitRow) (pid : ℕ) → is_connect x ≡ true → x.process ≡ pid → is_connect_of pid x ≡ true
 of-process x pid connect own = ap (λ b. b && (x.process == pid)) connect ∙ ap (λ n. n == pid) own ∙ grind (arith, nat_tests)

@@ -2,10 +2,7 @@ pub mod Owed
 pub mod OwnMessages
 pub mod Untold
 pub mod Changes
-pub mod Composed
 pub mod Connecting
-pub mod Delivered
-pub mod Endings
 pub mod Finds
 pub mod Follows
 pub mod Lawful
@@ -40,4 +37,3 @@ pub mod Cut
 pub mod Emptied
 pub mod Unbound
 pub mod Dropped
-pub mod Told

@@ -30,9 +30,8 @@ use Rattle.lpc_world.specs.declared.ending.Ending.{Ending}
 use Rattle.lpc_world.specs.declared.ending.Ending.TheVariants.{AcceptedAcross, Offers, QueuedRequests, Receives, ReceivesAcross, Requests, RequestsAcross}
 use Rattle.lpc_homes.specs.declared.object.Object.{Object}
 use Rattle.lpc_world.proofs.Connecting.{IsMet, met, received_off}
-use Rattle.lpc_world.proofs.Endings.{own-waiter}
 use Rattle.lpc_world.proofs.Finds as finds
-use Rattle.lpc_world.proofs.Finished.{found-waiter}
+use Rattle.lpc_world.proofs.Finished.{found-waiter, own-waiter}
 use Rattle.lpc_world.proofs.Follows as follows
 use Rattle.lpc_world.proofs.OwnMessages.{none-queued}
 

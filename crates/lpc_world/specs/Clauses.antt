@@ -1,25 +1,19 @@
 -- Words of the world's clauses: what stands at a key, what a call leaves of the rows, and the room that it takes.
-use Rattle.std.specs.Prelude.{◌≡◌, ℕ, ◌+◌, ◌<◌, ◌≤◌, ◌∷◌, Bool, false, true, List, [], map, Option, option_map, is_some, slice_get, IfErr, MatchOption, None, Some, MatchResult, Result, Ok, Err, length}
+use Rattle.std.specs.Prelude.{◌≡◌, ℕ, ◌+◌, ◌<◌, ◌≤◌, Bool, false, true, List, [], map, Option, option_map, is_some, slice_get, IfErr, MatchOption, None, Some, MatchResult, Result, Ok, Err, length}
 use Rattle.lpc_base.specs.declared.birth.Birth.{Birth}
 use Rattle.lpc_base.specs.declared.limits.TheConstants.{HANDLE_LIMIT}
 use Rattle.lpc_base.specs.declared.port_kind.PortKind.{PortKind}
 use Rattle.lpc_base.specs.declared.status.Status.{Status}
 use Rattle.lpc_base.specs.Rows.{change, first, has, without}
 use Rattle.lpc_handles.specs.declared.table.Row.{Row}
-use Rattle.lpc_model.specs.Basics.{Basic, basic, world_after, AddsHandle, Enters, Joins, Makes}
-use Rattle.lpc_model.specs.Connect as connect
-use Rattle.lpc_model.specs.Connect.{names_connect}
-use Rattle.lpc_model.specs.Entering.{given_steps, takes, takes_from, woken}
-use Rattle.lpc_model.specs.Found.{fits_as, handles_of, is_port, is_process, is_queued, is_queued_connect, is_table, is_thread, pair_of, port_name, port_row, queue_of, route, waits_as}
+use Rattle.lpc_model.specs.Basics.{Basic, basic, AddsHandle, Enters, Joins, Makes}
+use Rattle.lpc_model.specs.Entering.{takes, takes_from}
+use Rattle.lpc_model.specs.Found.{handles_of, is_port, is_process, is_queued, is_queued_connect, is_table, is_thread, pair_of, port_name, port_row, waits_as}
 use Rattle.lpc_model.specs.Message.{asks}
-use Rattle.lpc_model.specs.Request.{receive_test}
 use Rattle.lpc_model.specs.Sweep.{is_unheld}
-use Rattle.lpc_model.specs.Tests.{handle_load, handle_row, next_birth, object_test, own_handle, port_test}
+use Rattle.lpc_model.specs.Tests.{handle_load, handle_row, next_birth}
 use Rattle.lpc_model.specs.World as model
 use Rattle.lpc_model.specs.World.{ObjectName, World}
-use Rattle.lpc_model.specs.declared.entry.ObjectKind.{ObjectKind}
-use Rattle.lpc_message.specs.declared.message.ClientId.{ClientId}
-use Rattle.lpc_model.specs.declared.entry.Field.{Field}
 use Rattle.lpc_model.specs.declared.message.Message as whole
 use Rattle.lpc_names.specs.Binding.{Refuses}
 use Rattle.lpc_names.specs.Walk.{Stands}
@@ -36,10 +30,9 @@ use Rattle.lpc_world.specs.Joined.{with_completed}
 use Rattle.lpc_world.specs.Kept.{Kept, Room, handle_room, has_queued, is_pending, is_unsent, owed_handles}
 use Rattle.lpc_world.specs.Lawful.{is_quiet}
 use Rattle.lpc_world.specs.Names.{name_of}
-use Rattle.lpc_world.specs.Ready.{caller, port_of, waiter}
+use Rattle.lpc_world.specs.Ready.{port_of, waiter}
 use Rattle.lpc_world.specs.Shown.{birth_of, name_by, port_with, pulled_row, row_with, waiting_row, with_message}
 use Rattle.lpc_world.specs.Untold.{TellsOnce, closing_places}
-use Rattle.lpc_world.specs.declared.completable.Completable.{Completable}
 use Rattle.lpc_homes.specs.declared.object.Object.{Object}
 
 -- What is found
@@ -64,12 +57,9 @@ row_at w key = port_row w.rows (birth_at w key)
 abbrev pub some_birth : Kept → Option Key → Option Birth
 some_birth w key = option_map (birth_at w) key
 
--- a port's row stands, and is that of its name
+-- a port's row stands
 abbrev pub has_port : Kept → Key → Bool
 has_port w key = has (is_port (birth_at w key)) w.rows.ports
-
-abbrev pub IsUnderName : Kept → Key → Type 0
-IsUnderName w key = let port = port_at w key in port.birth ≡ birth_at w key
 
 -- the birth of the port at a place, in the order of making
 abbrev pub birth_in_place : Kept → ℕ → Option Birth
@@ -79,18 +69,9 @@ birth_in_place w place = option_map (λ p. p.birth) (slice_get w.rows.ports plac
 abbrev pub is_unheld_at : Kept → Key → Bool
 is_unheld_at w key = is_unheld w.rows (port_name (birth_at w key))
 
--- the port's other end, the queue that what is sent on it enters, its own queue, and that of a receive on it
+-- the port's other end
 abbrev pub pair_at : Kept → Key → Option Birth
 pair_at w key = pair_of w.rows (birth_at w key)
-
-abbrev pub route_at : Kept → Key → Option Birth
-route_at w key = route w.rows (port_at w key)
-
-abbrev pub queue_at : Kept → Key → Option Birth
-queue_at w key = queue_of w.rows (port_at w key)
-
-abbrev pub receive_at : Kept → Key → Result Birth Status
-receive_at w key = receive_test w.rows (port_at w key)
 
 -- the name of an object
 abbrev pub name_at : Kept → Object → ObjectName
@@ -133,10 +114,7 @@ has_taker w queue sender context message = has (takes (row_with w.births queue s
 abbrev pub FindsWait : Kept → (model.WaitRow → Bool) → Option ℕ → Type 0
 FindsWait w test result = Finds result (waiter w.rows) (first test w.rows.waits)
 
--- a wait that a message fits through a port, and one that takes a message which enters a queue
-abbrev pub fits_at : Kept → Key → ClientId → ℕ → model.WaitRow → Bool
-fits_at w port client identifier = fits_as w.rows (birth_at w port) client identifier
-
+-- a wait that takes a message which enters a queue
 abbrev pub takes_at : Kept → Key → Bool → model.WaitRow → Bool
 takes_at w queue is_connection_request = takes_from (birth_at w queue) is_connection_request
 
@@ -156,31 +134,13 @@ HasLeft w m = asks m ≡ true → has_queued w m.header.client.thread ≡ false
 abbrev pub is_quiet_for : World → ℕ → Bool
 is_quiet_for w tid = is_quiet w.messages (waiter w tid)
 
--- the thread whose connect a caller's answer names
-abbrev pub FindsConnect : Kept → ℕ → whole.Message → Option ℕ → Type 0
-FindsConnect w by m result = FindsWait w (names_connect w.rows (caller w.rows by) m) result
-
 -- the wait that is found for a thread is the thread's
 abbrev pub IsOwnWait : World → ℕ → Type 0
 IsOwnWait w tid = let x = waiter w tid in x.thread ≡ tid
 
--- a handle of a thread's process, the object that it names, and the port that it names
-abbrev pub handle_for : World → ℕ → ℕ → Result model.HandleRow Status
-handle_for w tid value = own_handle w (caller w tid) value
-
-abbrev pub object_for : World → ℕ → ObjectKind → ℕ → ℕ → Result Birth Status
-object_for w tid kind right handle = object_test w (caller w tid) kind right handle
-
-abbrev pub port_for : World → ℕ → ℕ → Result model.PortRow Status
-port_for w tid handle = port_test w (caller w tid) handle
-
 -- a handle's row
 abbrev pub row_shown : Kept → ℕ → Row Object → model.HandleRow
 row_shown w value row = handle_row value (name_at w row.object) row.access
-
--- a connection that can be completed, on its server port
-abbrev pub completion_at : Kept → Key → Completable → connect.Completable
-completion_at w port c = record { server = birth_at w port; client = birth_at w c.client; wait = waiter w.rows c.thread }
 
 -- What is left
 -- the rows behind a basic step
@@ -214,18 +174,10 @@ without_wait w tid = record w { waits = without (waits_as tid) w.waits }
 abbrev pub waiting_with : World → ℕ → whole.Message → World
 waiting_with w tid message = record w { waits = change (waits_as tid) (with_message message) w.waits }
 
--- the step by which a thread's wait ends
-abbrev pub waking : Kept → ℕ → Status → List Field → Basic
-waking w tid status fields = woken status fields (waiter w.rows tid)
-
 -- a thread's connect got its handle, and ended
 abbrev pub finished : Kept → ℕ → ℕ → Object → ℕ → World
 finished w tid value object access =
     record (with_handle w (waiter w.rows tid).process value object access) { waits = without (waits_as tid) w.rows.waits }
-
--- a message entered a queue, and a thread that waited there was given it
-abbrev pub passed : World → ℕ → model.MessageRow → World
-passed w tid m = world_after w (Enters m ∷ given_steps (waiter w tid) m)
 
 -- two ports are joined, and a connection is completed or not
 abbrev pub joined : Kept → Key → Key → ℕ → World

@@ -1,17 +1,14 @@
--- The waits that end when a port is closed, by the reason for it, and what is told of its closing.
-use Rattle.std.specs.Prelude.{◌≡◌, ℕ, Bool, false, true, List, Option, None, if◌then◌else◌}
+-- The waits that end when a port is closed, by the reason for it.
+use Rattle.std.specs.Prelude.{◌≡◌, ℕ, Bool, false, true, Option, None, if◌then◌else◌}
 use Rattle.lpc_base.specs.Rows.{every, passes}
-use Rattle.lpc_base.specs.declared.status.TheConstants.{LPC_REPLY_LOST, PORT_DISCONNECTED}
-use Rattle.lpc_model.specs.World.{Birth, MessageRow, WaitRow, World}
-use Rattle.lpc_model.specs.Basics.{Basic, Steps, end_each}
+use Rattle.lpc_model.specs.World.{Birth, WaitRow, World}
 use Rattle.lpc_model.specs.Found.{is_client_port, is_connect, pair_of, port_row}
-use Rattle.lpc_model.specs.Close.{closed_message, end_accepted, end_offered, end_request, is_accepted_across, is_offered_to, is_queued_request, is_receive_across, is_receiver, is_request_across, is_request_on, server_of, told_of, wake}
+use Rattle.lpc_model.specs.Close.{is_accepted_across, is_offered_to, is_queued_request, is_receive_across, is_receiver, is_request_across, is_request_on}
 use Rattle.lpc_model.specs.Linked.{is_mutual}
 use Rattle.lpc_slots.specs.declared.Key.{Key}
-use Rattle.lpc_world.specs.Clauses.{birth_at, port_at}
+use Rattle.lpc_world.specs.Clauses.{birth_at}
 use Rattle.lpc_world.specs.Kept.{Kept, has_queued}
 use Rattle.lpc_world.specs.Ready.{waiter}
-use Rattle.lpc_world.specs.declared.closed.Closed.{Closed}
 use Rattle.lpc_world.specs.declared.ending.Ending.{Ending}
 use Rattle.lpc_world.specs.declared.ending.Ending.TheVariants.{AcceptedAcross, Offers, QueuedRequests, Receives, ReceivesAcross, Requests, RequestsAcross}
 
@@ -24,16 +21,6 @@ ends Offers b w = is_offered_to b
 ends RequestsAcross b w = is_request_across b w
 ends ReceivesAcross b w = is_receive_across b w
 ends AcceptedAcross b w = is_accepted_across b w
-
--- how a wait ends for this reason
-abbrev pub ending : Ending → WaitRow → List Basic
-ending Receives = wake PORT_DISCONNECTED
-ending Requests = end_request PORT_DISCONNECTED
-ending QueuedRequests = end_request LPC_REPLY_LOST
-ending Offers = end_offered
-ending RequestsAcross = end_request LPC_REPLY_LOST
-ending ReceivesAcross = wake PORT_DISCONNECTED
-ending AcceptedAcross = end_accepted
 
 -- the message of such a wait leaves its queue
 abbrev pub withdraws : Ending → Bool
@@ -63,10 +50,6 @@ IsUnqueued w e tid = withdraws e ≡ false → has_queued w tid ≡ false
 abbrev pub IsOfItsKind : World → Ending → ℕ → Type 0
 IsOfItsKind w e tid = is_of_connects e ≡ true → is_connect (waiter w tid) ≡ true
 
--- all waits end that end for this reason, in the order of waiting
-abbrev pub end_all : Ending → Birth → Steps
-end_all e b = end_each (ends e b) (ending e)
-
 -- each port's other end stands, and has the port as its own other end
 abbrev pub HasMutualPairs : World → Type 0
 HasMutualPairs w = every (is_mutual w) w.ports ≡ true
@@ -82,19 +65,3 @@ ends_at w port e = ends e (birth_at w port) w.rows
 
 abbrev pub client_across_at : Kept → Key → Option Birth
 client_across_at w port = client_across w.rows (birth_at w port)
-
--- the open connection port of a completed client port, and what is told of a port that is closed
-abbrev pub server_at : Kept → Key → Option Birth
-server_at w port = server_of w.rows (port_at w port)
-
-abbrev pub told_at : Kept → Key → Option MessageRow
-told_at w port = told_of w.rows (port_at w port)
-
--- the message that this is told by
-abbrev pub closed_row_of : Kept → Key → Closed → MessageRow
-closed_row_of w port c = record {
-  queue = birth_at w c.queue;
-  sender = birth_at w port;
-  context = c.context;
-  message = closed_message (record { client = c.client; identifier = c.message_id }) c.birth;
-}

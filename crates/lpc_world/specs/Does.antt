@@ -1,5 +1,5 @@
 -- How what ran stands to its definition's steps.
-use Rattle.std.specs.Prelude.{Bool, not, ◌≡◌, ◌+◌, ◌++◌, [], List, Result, Ok, Err, IsOk}
+use Rattle.std.specs.Prelude.{Bool, ◌≡◌, ◌+◌, ◌++◌, [], List, Result, Ok, Err, IsOk}
 use Rattle.lpc_base.specs.declared.status.Status.{Status}
 use Rattle.lpc_base.specs.declared.error.OutOfMemory.{OutOfMemory}
 use Rattle.lpc_base.specs.declared.status.TheConstants.{SUCCESS}
@@ -8,9 +8,7 @@ use Rattle.lpc_model.specs.declared.entry.Outcome.{Outcome}
 use Rattle.lpc_model.specs.World.{World}
 use Rattle.lpc_model.specs.Basics.{Basic, world_after, entries_of, outcome_of}
 use Rattle.lpc_model.specs.Sweep.{loosened}
-use Rattle.lpc_model.specs.declared.entry.Field.{Field}
-use Rattle.lpc_model.specs.Listed.{Listed, is_read}
-use Rattle.std.specs.List.{list_any}
+use Rattle.lpc_model.specs.Listed.{Listed}
 use Rattle.lpc_world.specs.Kept.{Kept, Same}
 
 -- what steps leave of a world, behind the entries so far, and whether a row went that may have named an object
@@ -59,7 +57,3 @@ Directs (Ok s) steps old new =
     (record { left = record { world = new.rows; entries = []; loose = new.loose }; status = s } ≡ made_by old.rows old.loose steps)
     × (new.calls ≡ old.calls + 1)
 Directs (Err e) steps old new = IsOk steps × Same old new
-
--- no field shows the bytes of a memory read
-abbrev pub has_no_read : List Field → Bool
-has_no_read fields = not (list_any (λ (field : Field). is_read field.value) fields)

@@ -10,6 +10,5 @@ pub mod Held
 pub mod Called
 pub mod Bound
 pub mod Joined
-pub mod Connecting
 pub mod Clauses
 pub mod Closing

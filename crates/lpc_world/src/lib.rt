@@ -1,17 +1,13 @@
 //! The composed world: the tables together, seen as the rows of the definitions.
 #![tactic(auto)]
 
-mod closed;
-mod completable;
 mod condition;
 mod death;
 mod ending;
 mod world;
 
-pub use closed::Closed;
-pub use completable::Completable;
 pub use condition::Condition;
 pub use death::Death;
 pub use ending::Ending;
 pub use lpc_homes::Object;
-pub use world::{World, wants_answer};
+pub use world::World;

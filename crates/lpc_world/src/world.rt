@@ -33,7 +33,6 @@ mod freeing;
 mod lending;
 mod names;
 mod reading;
-mod steps;
 
 use lpc_base::{Birth, OutOfMemory, PortKind, reserve_rows};
 use lpc_handles::{Table, TableFault};
@@ -46,7 +45,6 @@ use lpc_slots::Key;
 use lpc_waits::{Wait, Waits};
 use std::alloc::Global;
 use std::marker::Model;
-pub use steps::wants_answer;
 
 /// The world: processes and threads, the handles of each process, ports with the messages in their queues, and waits.
 ///

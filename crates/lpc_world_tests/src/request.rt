@@ -13,6 +13,7 @@ use lpc_request::{
     nt_reply_port, nt_reply_wait_receive_port, nt_request_port, nt_request_wait_reply_port,
 };
 use lpc_slots::Key;
+use lpc_steps::{give_handle, handles_test};
 use lpc_world::{Object, World};
 use std::process::Abort;
 use std::test::Fail;
@@ -75,11 +76,11 @@ fn gets_a_handle(rt: &impl Abort, world: &mut World, port: Key) -> Result<(), Fa
 {
     let by = world.caller(24);
     world.handles_reserve(by.process, 1)?;
-    let Ok(()) = world.handles_test(by.process) else {
+    let Ok(()) = handles_test(world, by.process) else {
         return Ok(assert!(rt; false));
     };
     world.begin_call();
-    let value = world.give_handle(by.process, Object::Port(port), 1);
+    let value = give_handle(world, by.process, Object::Port(port), 1);
     assert!(rt; value == 4);
     Ok(())
 }

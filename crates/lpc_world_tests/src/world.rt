@@ -20,6 +20,10 @@ use lpc_model::{Body, Entries, Message, ObjectKind, kept};
 use lpc_names::{BindFault, Found};
 use lpc_ports::Creator;
 use lpc_slots::Key;
+use lpc_steps::{
+    client_test, context, datagram_test, deliver, handles_test, object_at, own_handle, port_at,
+    read_message, receive_test, route, wait_with,
+};
 use lpc_waits::{Wait, WaitKind};
 use lpc_world::{Condition, Object, World};
 use std::process::Abort;
@@ -67,7 +71,7 @@ fn is_client(world: &World, process: u32) -> bool {
         process,
         thread: 28,
     };
-    world.client_test(client).is_ok()
+    client_test(world, client).is_ok()
 }
 
 // The threads that those directives made.
@@ -105,7 +109,7 @@ fn gets_a_handle(rt: &impl Abort, world: &mut World, port: Key) -> Result<(), Fa
 {
     let by = world.caller(24);
     world.handles_reserve(by.process, 1)?;
-    let Ok(()) = world.handles_test(by.process) else {
+    let Ok(()) = handles_test(world, by.process) else {
         return Ok(assert!(rt; false));
     };
     world.begin_call();
@@ -132,14 +136,14 @@ fn begins_with_a_port(rt: &impl Abort, world: &mut World) -> Result<Key, Fail>
 fn refuses(rt: &impl Abort, world: &World, handle: u32, kind: ObjectKind, status: Status)
     requires ready { is_ready world.now.rows 24 ≡ true }
 {
-    assert!(rt; world.object_at(24, handle, kind, 2).err() == Some(status));
+    assert!(rt; object_at(world, 24, handle, kind, 2).err() == Some(status));
 }
 
 // The handle of the port is found, by its value, then its kind, then its rights.
 fn finds_the_port(rt: &impl Abort, world: &World, port: Key)
     requires ready { is_ready world.now.rows 24 ≡ true }
 {
-    assert!(rt; world.port_at(24, 4).ok() == Some(port));
+    assert!(rt; port_at(world, 24, 4).ok() == Some(port));
     refuses(rt, world, 8, ObjectKind::Process, INVALID_HANDLE);
     refuses(rt, world, 4, ObjectKind::Process, OBJECT_TYPE_MISMATCH);
     refuses(rt, world, 4, ObjectKind::Port, ACCESS_DENIED);
@@ -149,10 +153,10 @@ fn finds_the_port(rt: &impl Abort, world: &World, port: Key)
 fn routes_to_itself(rt: &impl Abort, world: &World, port: Key)
     requires stands { stands world.now.births.ports port ≡ true }
 {
-    assert!(rt; world.route(port) == Some(port));
-    assert!(rt; world.context(port) == 0);
-    assert!(rt; world.receive_test(port).ok() == Some(port));
-    assert!(rt; world.datagram_test(port).is_ok());
+    assert!(rt; route(world, port) == Some(port));
+    assert!(rt; context(world, port) == 0);
+    assert!(rt; receive_test(world, port).ok() == Some(port));
+    assert!(rt; datagram_test(world, port).is_ok());
     assert!(rt; world.receiver(port, false).is_none());
 }
 
@@ -239,7 +243,7 @@ fn delivers(
     assert!(rt; message.header.kind == kind::DATAGRAM);
     world.messages_reserve(1)?;
     world.begin_call();
-    world.deliver(port, port, 7, message, out);
+    deliver(world, port, port, 7, message, out);
     assert!(rt; out.list().len() == 0);
     Ok(())
 }
@@ -267,7 +271,7 @@ fn keeps_a_message(
 {
     names_the_port(rt, world, port)?;
     out.reserve(1)?;
-    let Ok(given) = world.read_message(&DATAGRAM) else {
+    let Ok(given) = read_message(&DATAGRAM) else {
         return Ok(assert!(rt; false));
     };
     delivers(rt, world, port, &kept(&given), out)?;
@@ -320,7 +324,7 @@ fn closes_the_handle(rt: &impl Abort, world: &mut World, port: Key)
     world.handles_close(by.process, 4);
     counts(rt, world, port, 0, 0);
     can_call(rt, world, 24);
-    assert!(rt; world.own_handle(24, 4).err() == Some(INVALID_HANDLE));
+    assert!(rt; own_handle(world, 24, 4).err() == Some(INVALID_HANDLE));
 }
 
 // The port is named, a datagram is sent on it, and then all goes.
@@ -335,7 +339,7 @@ fn sends_and_closes(
 {
     names_the_port(rt, world, port)?;
     out.reserve(1)?;
-    let Ok(given) = world.read_message(&DATAGRAM) else {
+    let Ok(given) = read_message(&DATAGRAM) else {
         return Ok(assert!(rt; false));
     };
     delivers(rt, world, port, &kept(&given), out)?;
@@ -414,8 +418,8 @@ fn asks(world: &mut World, port: Key, out: &mut Entries)
     let by = world.caller(24);
     let message = request();
     world.begin_call();
-    world.wait_with(by.number, request_wait(port), &message);
-    world.deliver(port, port, 0, &message, out);
+    wait_with(world, by.number, request_wait(port), &message);
+    deliver(world, port, port, 0, &message, out);
 }
 
 // The request leaves the queue, so that its wait can end.
@@ -466,10 +470,10 @@ fn joins(rt: &impl Abort, world: &mut World, client: Key, server: Key)
     requires client { stands world.old.births.ports client ≡ true }
     requires server { stands world.old.births.ports server ≡ true }
 {
-    assert!(rt; world.context(client) == 0);
+    assert!(rt; context(world, client) == 0);
     world.ports_join(client, server, 77);
-    assert!(rt; world.context(client) == 77);
-    assert!(rt; world.context(server) == 0);
+    assert!(rt; context(world, client) == 77);
+    assert!(rt; context(world, server) == 0);
     world.ports_set_completed(client, true);
 }
 

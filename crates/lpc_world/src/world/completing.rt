@@ -1,5 +1,5 @@
 // The end of a connect that is completed: it gets the handle that it was promised.
-ghost use Rattle.std.specs.Prelude.{◌≡◌, ◌+◌, ◌*◌, ◌<◌, ◌≤◌, true, false};
+ghost use Rattle.std.specs.Prelude.{◌≡◌, ◌+◌, ◌≤◌, true, false};
 ghost use Rattle.lpc_base.specs.Rows.{has};
 ghost use Rattle.lpc_model.specs.Found.{free_handle, is_connect, waits_as};
 ghost use Rattle.lpc_world.specs.Kept.{CanMake, has_queued};
@@ -27,7 +27,7 @@ impl World {
         ensures loose { self.new.loose ≡ true }
         ensures made { self.new.made ≤ self.old.made + 1 }
     {
-        let wait = self.wait(tid);
+        let wait = self.waiting(tid);
         match parts::add_handle(&mut self.parts, wait.process, object, access) {
             Ok(value) => {
                 self.loose = true;

@@ -15,7 +15,7 @@ returns-clause-takes c =
     let birth = drawn-birth w (shown_thread c.args.by.now) c.procs_draw_birth-birth.result c.requires.row c.procs_draw_birth-birth.ensures.birth in
     let drew = ap (λ (n : Births). n.ports) c.procs_draw_birth-birth.ensures.step.births in
     accepted w c.args.out.now.list c.args.world.now.loose (shown_thread c.args.by.now) c.args.context (record { message = c.args.message.now; wait = waiter w c.args.thread })
-    c.procs_draw_birth-birth.new.self.rows c.ports_add-server.new.self.rows c.give_handle-value.new.self.rows c.waits_set_accepted.new.self.rows c.ports_join.new.self.rows c.push.new.self.list c.ports_join.new.self.loose
+    c.procs_draw_birth-birth.new.self.rows c.ports_add-server.new.self.rows c.give_handle-value.new.world.rows c.waits_set_accepted.new.self.rows c.ports_join.new.self.rows c.push.new.self.list c.ports_join.new.self.loose
     c.procs_draw_birth-birth.result (name_of made c.ports_add-server.result) (name_of drawn c.waiting-wait.result.queue) (name_of made c.waiting-wait.result.port) c.give_handle-value.result c.args.thread c.held-reply.result.items
     c.procs_draw_birth-birth.ensures.step.rows c.ports_add-server.ensures.rows c.give_handle-value.ensures.rows c.waits_set_accepted.ensures.some (rw (← c.give_handle-value.ensures.births, ← c.waits_set_accepted.ensures.births) c.ports_join.ensures.step.rows) (rw (← c.handle_field.ensures) c.push.ensures.list) c.ports_join.ensures.loose
     c.give_handle-value.ensures.value c.ports_add-server.ensures.name birth

@@ -2,11 +2,11 @@ use Rattle.std.proofs.Common.{◌≡◌, [], ◌∷◌, ap, arith, refl, ◌∙�
 use Rattle.lpc_model.specs.Basics.{Steps, Unbinds, doing, ◌▹◌}
 use Rattle.lpc_model.specs.Close.{close_port, cut_pair, empty_queue, end_receives, end_requests, post_closed}
 use Rattle.lpc_model.proofs.Closing.{behind}
-use Rattle.lpc_world.specs.Closing.{end_all}
+use Rattle.lpc_steps.specs.Closing.{end_all}
 use Rattle.lpc_world.specs.Does.{Left}
 use Rattle.lpc_world.specs.Names.{name_of}
 use Rattle.lpc_world.specs.declared.ending.Ending.TheVariants.{Receives, Requests}
-use Rattle.lpc_world.proofs.Composed.{took-then}
+use Rattle.lpc_steps.proofs.Composed.{took-then}
 use Rattle.lpc_death.proofs.Five.{five-is}
 use Rattle.lpc_death.proofs.HandlesKept.{handles-kept}
 use Rattle.lpc_death.proofs.Paid.{five-clients}
@@ -23,11 +23,11 @@ post_closed-requires-clause-untold c =
     let two = c.end_all.ensures.births ∙ one in
     let three = c.end_all-2.ensures.births ∙ two in
     let four = c.empty_queue.ensures.births ∙ three in
-    let received : c.end_all.new.self.rows ≡ behind (end_receives b) c.names_unbind.new.self.rows = ap (λ (l : Left). l.world) (rw one at c.end_all.ensures.took) in
-    let requested : c.end_all-2.new.self.rows ≡ behind (end_requests b) c.end_all.new.self.rows = ap (λ (l : Left). l.world) (rw two at c.end_all-2.ensures.took) in
-    let emptied : c.empty_queue.new.world.rows ≡ behind (empty_queue b) c.end_all-2.new.self.rows = ap (λ (l : Left). l.world) (rw three at c.empty_queue.ensures.takes) in
+    let received : c.end_all.new.world.rows ≡ behind (end_receives b) c.names_unbind.new.self.rows = ap (λ (l : Left). l.world) (rw one at c.end_all.ensures.took) in
+    let requested : c.end_all-2.new.world.rows ≡ behind (end_requests b) c.end_all.new.world.rows = ap (λ (l : Left). l.world) (rw two at c.end_all-2.ensures.took) in
+    let emptied : c.empty_queue.new.world.rows ≡ behind (empty_queue b) c.end_all-2.new.world.rows = ap (λ (l : Left). l.world) (rw three at c.empty_queue.ensures.takes) in
     let cut : c.cut_pair.new.world.rows ≡ behind (cut_pair b) c.empty_queue.new.world.rows = ap (λ (l : Left). l.world) (rw four at c.cut_pair.ensures.takes) in
-    let five = five-is w.rows c.names_unbind.new.self.rows c.end_all.new.self.rows c.end_all-2.new.self.rows c.empty_queue.new.world.rows c.cut_pair.new.world.rows b c.names_unbind.ensures.step.rows received requested emptied cut in
+    let five = five-is w.rows c.names_unbind.new.self.rows c.end_all.new.world.rows c.end_all-2.new.world.rows c.empty_queue.new.world.rows c.cut_pair.new.world.rows b c.names_unbind.ensures.step.rows received requested emptied cut in
     rw (c.cut_pair.ensures.births ∙ four, five) (five-untold w.rows b c.requires.untold)
 
 pub returns-clause-made : goal.returns-clause-made
@@ -38,11 +38,11 @@ returns-clause-made c =
     let two = c.end_all.ensures.births ∙ one in
     let three = c.end_all-2.ensures.births ∙ two in
     let four = c.empty_queue.ensures.births ∙ three in
-    let received : c.end_all.new.self.rows ≡ behind (end_receives b) c.names_unbind.new.self.rows = ap (λ (l : Left). l.world) (rw one at c.end_all.ensures.took) in
-    let requested : c.end_all-2.new.self.rows ≡ behind (end_requests b) c.end_all.new.self.rows = ap (λ (l : Left). l.world) (rw two at c.end_all-2.ensures.took) in
-    let emptied : c.empty_queue.new.world.rows ≡ behind (empty_queue b) c.end_all-2.new.self.rows = ap (λ (l : Left). l.world) (rw three at c.empty_queue.ensures.takes) in
+    let received : c.end_all.new.world.rows ≡ behind (end_receives b) c.names_unbind.new.self.rows = ap (λ (l : Left). l.world) (rw one at c.end_all.ensures.took) in
+    let requested : c.end_all-2.new.world.rows ≡ behind (end_requests b) c.end_all.new.world.rows = ap (λ (l : Left). l.world) (rw two at c.end_all-2.ensures.took) in
+    let emptied : c.empty_queue.new.world.rows ≡ behind (empty_queue b) c.end_all-2.new.world.rows = ap (λ (l : Left). l.world) (rw three at c.empty_queue.ensures.takes) in
     let cut : c.cut_pair.new.world.rows ≡ behind (cut_pair b) c.empty_queue.new.world.rows = ap (λ (l : Left). l.world) (rw four at c.cut_pair.ensures.takes) in
-    let five = five-is w.rows c.names_unbind.new.self.rows c.end_all.new.self.rows c.end_all-2.new.self.rows c.empty_queue.new.world.rows c.cut_pair.new.world.rows b c.names_unbind.ensures.step.rows received requested emptied cut in
+    let five = five-is w.rows c.names_unbind.new.self.rows c.end_all.new.world.rows c.end_all-2.new.world.rows c.empty_queue.new.world.rows c.cut_pair.new.world.rows b c.names_unbind.ensures.step.rows received requested emptied cut in
     let posts = rw (c.cut_pair.ensures.births ∙ four, five) at c.post_closed.ensures.made in
     let clients = five-clients w.rows b in
     omega (arith, posts, clients, c.cut_pair.ensures.made, c.empty_queue.ensures.made, c.end_all-2.ensures.made, c.end_all.ensures.made, c.names_unbind.ensures.step.made)
@@ -52,8 +52,8 @@ unfolding close_port
 returns-clause-takes c =
     let w = c.args.world.now in
     let one = c.names_unbind.new.self in
-    let two = c.end_all.new.self in
-    let three = c.end_all-2.new.self in
+    let two = c.end_all.new.world in
+    let three = c.end_all-2.new.world in
     let four = c.empty_queue.new.world in
     let five = c.cut_pair.new.world in
     let end = c.post_closed.new.world in

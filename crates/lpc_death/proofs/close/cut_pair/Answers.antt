@@ -1,18 +1,18 @@
 use Rattle.std.proofs.Common.{[], ◌∷◌, refl}
 use Rattle.lpc_model.specs.Basics.{Cuts, Steps, doing, ◌▹◌}
-use Rattle.lpc_world.specs.Closing.{end_all}
+use Rattle.lpc_steps.specs.Closing.{end_all}
 use Rattle.lpc_world.specs.Names.{name_of}
 use Rattle.lpc_world.specs.declared.ending.Ending.TheVariants.{AcceptedAcross, ReceivesAcross, RequestsAcross}
-use Rattle.lpc_world.proofs.Composed.{took-then}
+use Rattle.lpc_steps.proofs.Composed.{took-then}
 use Rattle.lpc_death.proofs.Steps.{took-one}
 use Rattle.lpc_death.proofs.close.cut_pair.Goals as goal
 
 pub returns-clause-takes : goal.returns-clause-takes
 returns-clause-takes c =
     let w = c.args.world.now in
-    let one = c.end_all.new.self in
-    let two = c.end_all-2.new.self in
-    let three = c.end_all-3.new.self in
+    let one = c.end_all.new.world in
+    let two = c.end_all-2.new.world in
+    let three = c.end_all-3.new.world in
     let end = c.ports_cut.new.self in
     let out = c.end_all-3.new.out in
     let b = name_of w.births.ports c.args.port in

@@ -1,17 +1,17 @@
 use Rattle.std.proofs.Common.{[], ◌∷◌, refl}
 use Rattle.lpc_model.specs.Basics.{Empties, Steps, doing, ◌▹◌}
-use Rattle.lpc_world.specs.Closing.{end_all}
+use Rattle.lpc_steps.specs.Closing.{end_all}
 use Rattle.lpc_world.specs.Names.{name_of}
 use Rattle.lpc_world.specs.declared.ending.Ending.TheVariants.{Offers, QueuedRequests}
-use Rattle.lpc_world.proofs.Composed.{took-then}
+use Rattle.lpc_steps.proofs.Composed.{took-then}
 use Rattle.lpc_death.proofs.Steps.{took-one}
 use Rattle.lpc_death.proofs.close.empty_queue.Goals as goal
 
 pub returns-clause-takes : goal.returns-clause-takes
 returns-clause-takes c =
     let w = c.args.world.now in
-    let one = c.end_all.new.self in
-    let two = c.end_all-2.new.self in
+    let one = c.end_all.new.world in
+    let two = c.end_all-2.new.world in
     let end = c.messages_empty.new.self in
     let b = name_of w.births.ports c.args.port in
     let requests : Steps = end_all QueuedRequests b in

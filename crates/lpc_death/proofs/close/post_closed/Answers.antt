@@ -2,7 +2,7 @@ use Rattle.std.proofs.Common.{◌≡◌, List, Some, true, ap, sym, ◌∙◌, a
 use Rattle.lpc_model.specs.Basics.{Basic}
 use Rattle.lpc_model.specs.Entering.{enter}
 use Rattle.lpc_model.specs.declared.message.Message.{Message}
-use Rattle.lpc_world.specs.Closing.{closed_row_of}
+use Rattle.lpc_steps.specs.Closing.{closed_row_of}
 use Rattle.lpc_world.specs.Does.{left_by}
 use Rattle.lpc_world.specs.Names.{name_of}
 use Rattle.lpc_world.specs.Ready.{port_of}

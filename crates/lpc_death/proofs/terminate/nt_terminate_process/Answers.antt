@@ -8,7 +8,7 @@ use Rattle.lpc_model.specs.declared.entry.CallName.TheVariants.{NtTerminateProce
 use Rattle.lpc_model.specs.declared.line.ProcArg.TheVariants.{By}
 use Rattle.lpc_world.specs.Does.{Left, Took}
 use Rattle.lpc_world.specs.Ready.{caller}
-use Rattle.lpc_world.proofs.Composed.{took-then}
+use Rattle.lpc_steps.proofs.Composed.{took-then}
 use Rattle.lpc_death.specs.Dying.{dying_all}
 use Rattle.lpc_death.specs.Ends.{telling_ends}
 use Rattle.lpc_death.proofs.CanEnd.{died-can, died-single, died-table}

@@ -10,7 +10,7 @@ use Rattle.lpc_model.specs.declared.entry.CallName.TheVariants.{NtTerminateThrea
 use Rattle.lpc_model.specs.declared.line.ProcArg.TheVariants.{By}
 use Rattle.lpc_world.specs.Does.{Left, Took}
 use Rattle.lpc_world.specs.Ready.{caller}
-use Rattle.lpc_world.proofs.Composed.{took-then}
+use Rattle.lpc_steps.proofs.Composed.{took-then}
 use Rattle.lpc_death.specs.Closing.{CanCloseAll}
 use Rattle.lpc_death.specs.Dying.{dying}
 use Rattle.lpc_death.specs.Ends.{telling_ends}

@@ -16,46 +16,46 @@ add_handle-requires-clause-one c = tables.single (tables_of c.self.inside.procs 
 pub add_handle-requires-clause-part : goal.add_handle-requires-clause-part
 add_handle-requires-clause-part c =
     let there = rw (← c.self.view_is) at c.requires in
-    let own = rw (← c.self.view_is) at c.wait-wait.ensures.wait.process in
-    finished.has_part (tables_of c.self.inside.procs c.self.inside.parts.items c.self.inside.ports c.self.inside.waits c.self.inside.names) c.self.inside.calls c.self.inside.made c.self.invariant c.args.tid c.wait-wait.result.process there.waits there.connect own
+    let own = rw (← c.self.view_is) at c.waiting-wait.ensures.wait.process in
+    finished.has_part (tables_of c.self.inside.procs c.self.inside.parts.items c.self.inside.ports c.self.inside.waits c.self.inside.names) c.self.inside.calls c.self.inside.made c.self.invariant c.args.tid c.waiting-wait.result.process there.waits there.connect own
 
 pub add_handle-requires-clause-room : goal.add_handle-requires-clause-room
 add_handle-requires-clause-room c =
     let there = rw (← c.self.view_is) at c.requires in
-    let own = rw (← c.self.view_is) at c.wait-wait.ensures.wait.process in
-    λ few. finished.some_place (tables_of c.self.inside.procs c.self.inside.parts.items c.self.inside.ports c.self.inside.waits c.self.inside.names) c.self.inside.calls c.self.inside.made c.self.invariant c.args.tid c.wait-wait.result.process there.waits there.connect own
+    let own = rw (← c.self.view_is) at c.waiting-wait.ensures.wait.process in
+    λ few. finished.some_place (tables_of c.self.inside.procs c.self.inside.parts.items c.self.inside.ports c.self.inside.waits c.self.inside.names) c.self.inside.calls c.self.inside.made c.self.invariant c.args.tid c.waiting-wait.result.process there.waits there.connect own
 
 pub invariant_of-self : goal.invariant_of-self
 invariant_of-self c =
     let there = rw (← c.self.view_is) at c.requires in
-    let own = rw (← c.self.view_is) at c.wait-wait.ensures.wait.process in
+    let own = rw (← c.self.view_is) at c.waiting-wait.ensures.wait.process in
     rw (c.in-Ok.ensures.parts, steps.end_is (tables_of c.self.inside.procs c.self.inside.parts.items c.self.inside.ports c.self.inside.waits c.self.inside.names) c.self.inside.calls c.self.inside.made c.self.invariant c.args.tid c.end.new.self c.end.result c.end.ensures.value c.end.ensures.rows c.end.ensures.spare c.end.ensures.made)
-    (finished.finished (tables_of c.self.inside.procs c.self.inside.parts.items c.self.inside.ports c.self.inside.waits c.self.inside.names) c.self.inside.calls c.self.inside.made c.self.invariant c.args.tid c.wait-wait.result.process there.waits there.connect own c.in-Ok.value (record { object = c.args.object; access = c.args.access }) there.object there.left there.budget)
+    (finished.finished (tables_of c.self.inside.procs c.self.inside.parts.items c.self.inside.ports c.self.inside.waits c.self.inside.names) c.self.inside.calls c.self.inside.made c.self.invariant c.args.tid c.waiting-wait.result.process there.waits there.connect own c.in-Ok.value (record { object = c.args.object; access = c.args.access }) there.object there.left there.budget)
 
 pub unreachable-requires : goal.unreachable-requires
 unreachable-requires c =
     let there = rw (← c.self.view_is) at c.requires in
-    let own = rw (← c.self.view_is) at c.wait-wait.ensures.wait.process in
-    let few = finished.few_handles (tables_of c.self.inside.procs c.self.inside.parts.items c.self.inside.ports c.self.inside.waits c.self.inside.names) c.self.inside.calls c.self.inside.made c.self.invariant c.args.tid c.wait-wait.result.process there.waits there.connect own in
+    let own = rw (← c.self.view_is) at c.waiting-wait.ensures.wait.process in
+    let few = finished.few_handles (tables_of c.self.inside.procs c.self.inside.parts.items c.self.inside.ports c.self.inside.waits c.self.inside.names) c.self.inside.calls c.self.inside.made c.self.invariant c.args.tid c.waiting-wait.result.process there.waits there.connect own in
     let full = c.in-Err.ensures.quota.0 refl in
     omega (arith, few, full)
 
 pub returns-clause-value : goal.returns-clause-value
 returns-clause-value c =
-    let own = rw (← c.self.view_is) at c.wait-wait.ensures.wait.process in
-    rw (← c.self.view_is) (c.in-Ok.ensures.value ∙ sym (tables.free_value (tables_of c.self.inside.procs c.self.inside.parts.items c.self.inside.ports c.self.inside.waits c.self.inside.names) c.self.inside.calls c.self.inside.made c.self.invariant c.wait-wait.result.process) ∙ ap (free_handle (rows_by (tables_of c.self.inside.procs c.self.inside.parts.items c.self.inside.ports c.self.inside.waits c.self.inside.names))) (sym own))
+    let own = rw (← c.self.view_is) at c.waiting-wait.ensures.wait.process in
+    rw (← c.self.view_is) (c.in-Ok.ensures.value ∙ sym (tables.free_value (tables_of c.self.inside.procs c.self.inside.parts.items c.self.inside.ports c.self.inside.waits c.self.inside.names) c.self.inside.calls c.self.inside.made c.self.invariant c.waiting-wait.result.process) ∙ ap (free_handle (rows_by (tables_of c.self.inside.procs c.self.inside.parts.items c.self.inside.ports c.self.inside.waits c.self.inside.names))) (sym own))
 
 pub returns-clause-rows : goal.returns-clause-rows
 returns-clause-rows c =
     let there = rw (← c.self.view_is) at c.requires in
-    let own = rw (← c.self.view_is) at c.wait-wait.ensures.wait.process in
+    let own = rw (← c.self.view_is) at c.waiting-wait.ensures.wait.process in
     let given : World = rows_by (tables_of c.self.inside.procs c.self.inside.parts.items c.self.inside.ports c.self.inside.waits c.self.inside.names) in
     rw (← c.self.view_is, c.in-Ok.ensures.parts, steps.end_is (tables_of c.self.inside.procs c.self.inside.parts.items c.self.inside.ports c.self.inside.waits c.self.inside.names) c.self.inside.calls c.self.inside.made c.self.invariant c.args.tid c.end.new.self c.end.result c.end.ensures.value c.end.ensures.rows c.end.ensures.spare c.end.ensures.made)
-    (finished.rows_after (tables_of c.self.inside.procs c.self.inside.parts.items c.self.inside.ports c.self.inside.waits c.self.inside.names) c.self.inside.calls c.self.inside.made c.self.invariant c.args.tid c.wait-wait.result.process there.waits there.connect own c.in-Ok.value (record { object = c.args.object; access = c.args.access }) there.object ∙ ap (λ (pid : ℕ). record (basic given (AddsHandle pid (shown_handle (birth_of (births_of c.self.inside.ports)) (c.in-Ok.value, (record { object = c.args.object; access = c.args.access }))))) { waits = without (waits_as c.args.tid) given.waits }) (sym own))
+    (finished.rows_after (tables_of c.self.inside.procs c.self.inside.parts.items c.self.inside.ports c.self.inside.waits c.self.inside.names) c.self.inside.calls c.self.inside.made c.self.invariant c.args.tid c.waiting-wait.result.process there.waits there.connect own c.in-Ok.value (record { object = c.args.object; access = c.args.access }) there.object ∙ ap (λ (pid : ℕ). record (basic given (AddsHandle pid (shown_handle (birth_of (births_of c.self.inside.ports)) (c.in-Ok.value, (record { object = c.args.object; access = c.args.access }))))) { waits = without (waits_as c.args.tid) given.waits }) (sym own))
 
 pub returns-clause-made : goal.returns-clause-made
 returns-clause-made c =
     let there = rw (← c.self.view_is) at c.requires in
-    let own = rw (← c.self.view_is) at c.wait-wait.ensures.wait.process in
-    let owed = finished.finished_owed (tables_of c.self.inside.procs c.self.inside.parts.items c.self.inside.ports c.self.inside.waits c.self.inside.names) c.self.inside.calls c.self.inside.made c.self.invariant c.args.tid c.wait-wait.result.process there.waits there.connect own c.in-Ok.value (record { object = c.args.object; access = c.args.access }) there.object in
+    let own = rw (← c.self.view_is) at c.waiting-wait.ensures.wait.process in
+    let owed = finished.finished_owed (tables_of c.self.inside.procs c.self.inside.parts.items c.self.inside.ports c.self.inside.waits c.self.inside.names) c.self.inside.calls c.self.inside.made c.self.invariant c.args.tid c.waiting-wait.result.process there.waits there.connect own c.in-Ok.value (record { object = c.args.object; access = c.args.access }) there.object in
     rw (← c.self.view_is, c.in-Ok.ensures.parts, steps.end_is (tables_of c.self.inside.procs c.self.inside.parts.items c.self.inside.ports c.self.inside.waits c.self.inside.names) c.self.inside.calls c.self.inside.made c.self.invariant c.args.tid c.end.new.self c.end.result c.end.ensures.value c.end.ensures.rows c.end.ensures.spare c.end.ensures.made) (omega (arith, owed))

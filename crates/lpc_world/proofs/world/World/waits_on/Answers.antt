@@ -13,4 +13,4 @@ pub returns : goal.returns
 returns c =
     let b = name_of c.args.self.now.births.ports c.args.queue in
     let there : has (waits_as c.args.tid) c.args.self.now.rows.waits ≡ true = sym c.is_waiting.ensures.waits ∙ search (rules, c.if-not-is_waiting.false) in
-    c.is_same.ensures ∙ sym (at_queue c.args.self.now.rows c.args.tid b c.is_waiting.ensures.single there ∙ ap (λ q. same_birth q b) c.wait.ensures.wait.queue)
+    c.is_same.ensures ∙ sym (at_queue c.args.self.now.rows c.args.tid b c.is_waiting.ensures.single there ∙ ap (λ q. same_birth q b) c.waiting.ensures.wait.queue)

@@ -1,0 +1,6 @@
+pub mod Composed
+pub mod Endings
+pub mod Delivered
+pub mod Fits
+pub mod Answered
+pub mod Told

@@ -1,0 +1,116 @@
+// Handles: what a handle of a caller's process names, and a handle that a process is given.
+ghost use Rattle.std.specs.Prelude.{◌+◌, ◌<◌, ◌≡◌, ◌≤◌, Err, IfOk, Ok, OnOk, Some, true};
+ghost use Rattle.lpc_base.specs.Rows.{has};
+ghost use Rattle.lpc_model.specs.Found as found;
+ghost use Rattle.lpc_model.specs.Found.{free_handle, is_table};
+ghost use Rattle.lpc_model.specs.Tests as tests;
+ghost use Rattle.lpc_steps.specs.Clauses.{IsUnderName, handle_for, object_for, port_for};
+ghost use Rattle.lpc_world.specs.Clauses.{Answers, HasHandleRoom, HasSmallLoad, port_at, row_shown, with_handle};
+ghost use Rattle.lpc_world.specs.Kept.{CanMake};
+ghost use Rattle.lpc_world.specs.Names.{stands};
+ghost use Rattle.lpc_world.specs.Ready.{HasRow, is_ready};
+ghost use Rattle.lpc_world.specs.Shown.{birth_of, kind_of, object_stands};
+
+use lpc_base::Status;
+use lpc_base::limits::HANDLE_LIMIT;
+use lpc_base::status::{ACCESS_DENIED, INVALID_HANDLE, OBJECT_TYPE_MISMATCH, QUOTA_EXCEEDED};
+use lpc_handles::Row;
+use lpc_homes::Object;
+use lpc_model::ObjectKind;
+use lpc_ports::Port;
+use lpc_slots::Key;
+use lpc_world::World;
+
+/// A handle of the thread's process: INVALID_HANDLE where no handle has the value.
+pub fn own_handle(world: &World, tid: u32, value: u32) -> Result<Row<Object>, Status>
+    requires { is_ready world.now.rows tid ≡ true }
+    ensures row { Answers result (row_shown world.now value)
+        (handle_for world.now.rows tid value) }
+    ensures stands { IfOk result (λ row. object_stands world.now.births row.object ≡ true) }
+    ensures object { IfOk result (λ row. HasRow world.now row.object) }
+{
+    let by = world.caller(tid);
+    match world.handle(by.process, value) {
+        Some(row) => Ok(row),
+        None => Err(INVALID_HANDLE),
+    }
+}
+
+/// The object that a handle of the thread's process names: INVALID_HANDLE where no handle has the value,
+/// OBJECT_TYPE_MISMATCH where its object is of another kind, ACCESS_DENIED where the handle lacks a right.
+pub fn object_at(
+    world: &World,
+    tid: u32,
+    handle: u32,
+    kind: ObjectKind,
+    right: u32,
+) -> Result<Object, Status>
+    requires { is_ready world.now.rows tid ≡ true }
+    ensures object { Answers result (birth_of world.now.births)
+        (object_for world.now.rows tid kind right handle) }
+    ensures stands { IfOk result (λ o. object_stands world.now.births o ≡ true) }
+    ensures kind { IfOk result (λ o. found.same_kind (kind_of o) kind ≡ true) }
+    ensures row { IfOk result (λ o. HasRow world.now o) }
+{
+    let row = own_handle(world, tid, handle)?;
+    if !is_of_kind(row.object, kind) {
+        return Err(OBJECT_TYPE_MISMATCH);
+    }
+    if row.access & right != right {
+        return Err(ACCESS_DENIED);
+    }
+    Ok(row.object)
+}
+
+/// The object is of the kind.
+fn is_of_kind(object: Object, kind: ObjectKind) -> bool
+    ensures { result ≡ found.same_kind (kind_of object) kind }
+{
+    match object {
+        Object::Port(_) => matches!(kind, ObjectKind::Port),
+    }
+}
+
+/// The port that a handle of the thread's process names, with the right to use it.
+pub fn port_at(world: &World, tid: u32, handle: u32) -> Result<Key, Status>
+    requires { is_ready world.now.rows tid ≡ true }
+    ensures port { Answers result (port_at world.now) (port_for world.now.rows tid handle) }
+    ensures stands { IfOk result (λ key. stands world.now.births.ports key ≡ true) }
+    ensures name { IfOk result (λ key. IsUnderName world.now key) }
+{
+    let object = object_at(world, tid, handle, ObjectKind::Port, 1)?;
+    Ok(object.port())
+}
+
+/// The process may have one more handle: with those that its waiting connects are to get it has fewer than 256.
+pub fn handles_test(world: &World, pid: u32) -> Result<(), Status>
+    requires { has (is_table pid) world.now.rows.handles ≡ true }
+    ensures full { result ≡ tests.handles_test world.now.rows pid 1 }
+    ensures few { OnOk result (HasSmallLoad world.now.rows pid) }
+{
+    if world.handle_load(pid) >= HANDLE_LIMIT {
+        return Err(QUOTA_EXCEEDED);
+    }
+    Ok(())
+}
+
+/// Gives a process the least free handle, and answers its value. The process has fewer than 256 handles, with those
+/// that its waiting connects are to get.
+pub fn give_handle(world: &mut World, pid: u32, object: Object, access: u32) -> u32
+    requires table { has (is_table pid) world.old.rows.handles ≡ true }
+    requires room { HasHandleRoom world.old pid }
+    requires load { HasSmallLoad world.old.rows pid }
+    requires budget { CanMake world.old }
+    requires object { object_stands world.old.births object ≡ true }
+    ensures value { result ≡ free_handle world.old.rows pid }
+    ensures rows { world.new.rows ≡ with_handle world.old pid result object access }
+    ensures births { world.new.births ≡ world.old.births }
+    ensures calls { world.new.calls ≡ world.old.calls }
+    ensures loose { world.new.loose ≡ world.old.loose }
+    ensures made { world.new.made ≤ world.old.made + 1 }
+{
+    match world.handles_add(pid, object, access) {
+        Ok(value) => value,
+        Err(_) => unreachable!(),
+    }
+}

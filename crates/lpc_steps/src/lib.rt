@@ -1,0 +1,22 @@
+//! The steps that several services share: what they look up in the world, and what they leave of it.
+#![tactic(auto)]
+
+mod closing;
+mod connections;
+mod ending;
+mod entering;
+mod fitting;
+mod handles;
+mod message;
+mod queues;
+mod waiting;
+
+pub use closing::{Closed, told_of};
+pub use connections::{Completable, answered_connect, completion_test, is_connection};
+pub use ending::end_all;
+pub use entering::deliver;
+pub use fitting::{client_test, fitted};
+pub use handles::{give_handle, handles_test, object_at, own_handle, port_at};
+pub use message::{read_message, wants_answer};
+pub use queues::{context, datagram_test, receive_test, route};
+pub use waiting::{end_connect, wait_with, waiting_call, wake};

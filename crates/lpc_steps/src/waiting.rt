@@ -1,0 +1,140 @@
+// A wait that begins with a message, and one that ends.
+ghost use Rattle.std.specs.Prelude.{◌++◌, ◌+◌, ◌∷◌, ◌≡◌, ◌≤◌, [], false, length, true};
+ghost use Rattle.lpc_base.specs.Rows.{has};
+ghost use Rattle.lpc_model.specs.Basics.{Awaits, Wakes, told};
+ghost use Rattle.lpc_model.specs.Entering.{end_connect, shown as shown_to, takes};
+ghost use Rattle.lpc_model.specs.Found.{is_connect, is_live_thread, waits_as};
+ghost use Rattle.lpc_steps.specs.Clauses.{has_no_read, waking};
+ghost use Rattle.lpc_world.specs.Clauses.{HasHandleRoom, HasSmallLoad, IsOwnWait, after, connects, has_table, new_wait, pends};
+ghost use Rattle.lpc_world.specs.Does.{Took};
+ghost use Rattle.lpc_world.specs.Kept.{CanMake, IsMakingStep, IsStep, StaysReady, StaysUnqueued, has_queued, is_unsent};
+ghost use Rattle.lpc_world.specs.Lawful.{is_quiet};
+ghost use Rattle.lpc_world.specs.Names.{stands};
+ghost use Rattle.lpc_world.specs.Ready.{waiter};
+ghost use Rattle.lpc_world.specs.Shown as shown;
+ghost use Rattle.lpc_world.specs.Shown.{Births, row_with, with_message};
+
+use lpc_base::Status;
+use lpc_base::status::PORT_CONNECTION_REFUSED;
+use lpc_model::{CallName, Entries, Entry, Fields, Message, info_field, message_field, receipt};
+use lpc_slots::Key;
+use lpc_waits::{Wait, WaitKind};
+use lpc_world::World;
+
+/// The call that a waiting thread made.
+pub fn waiting_call(world: &World, tid: u32) -> CallName
+    requires { has (waits_as tid) world.now.rows.waits ≡ true }
+    ensures call { let x = waiter world.now.rows tid in result ≡ x.call }
+    ensures thread { IsOwnWait world.now.rows tid }
+{
+    call_of_wait(world.waiting(tid).kind)
+}
+
+/// The call that a wait of a kind is made by.
+fn call_of_wait(kind: WaitKind) -> CallName
+    ensures { result ≡ shown.call_of_wait kind }
+{
+    match kind {
+        WaitKind::Request => CallName::NtRequestWaitReplyPort,
+        WaitKind::Receive => CallName::NtReplyWaitReceivePort,
+        WaitKind::Listen => CallName::NtListenPort,
+        WaitKind::Connect => CallName::NtConnectPort,
+    }
+}
+
+/// What a waiting thread is shown of the message that it takes: a listen the message alone, a receive its context too.
+pub fn taken_fields(world: &World, tid: u32, context: u32, message: &Message) -> Fields
+    requires waits { has (waits_as tid) world.now.rows.waits ≡ true }
+    ensures plain { has_no_read result ≡ true }
+    ensures fields { (n : Births) (queue sender : Key) → result ≡ shown_to
+        (waiter world.now.rows tid) (row_with n queue sender context message.now) }
+{
+    match world.waiting(tid).kind {
+        WaitKind::Listen => message_field(message),
+        _ => receipt(context, message),
+    }
+}
+
+/// A live thread that doesn't wait begins to wait with a message, which its wait keeps.
+pub fn wait_with(world: &mut World, tid: u32, wait: Wait, message: &Message)
+    requires live { has (is_live_thread tid) world.old.rows.threads ≡ true }
+    requires ready { has (waits_as tid) world.old.rows.waits ≡ false }
+    requires budget { CanMake world.old }
+    requires port { stands world.old.births.ports wait.port ≡ true }
+    requires queue { stands world.old.births.ports wait.queue ≡ true }
+    requires quiet { is_quiet world.old.rows.messages (new_wait world.old tid wait) ≡ true }
+    requires table { connects wait ≡ true → has_table world.old.rows wait.process ≡ true }
+    requires load { connects wait ≡ true → HasSmallLoad world.old.rows wait.process }
+    requires handles { connects wait ≡ true → HasHandleRoom world.old wait.process }
+    ensures step { let row = with_message message.now (new_wait world.old tid wait) in
+        IsMakingStep (after world.old (Awaits row)) world.old world.new }
+    ensures loose { world.new.loose ≡ world.old.loose }
+    ensures unsent { pends world.old tid wait ≡ true → is_unsent world.new.rows tid ≡ true }
+{
+    world.waits_add(tid, wait);
+    world.waits_set_message(tid, message.bytes().as_slice());
+}
+
+/// A thread's wait ends, and it is told so. No message of the thread's own stands in a queue.
+pub fn wake(world: &mut World, tid: u32, status: Status, fields: Fields, out: &mut Entries)
+    requires spare { 1 ≤ out.old.spare }
+    requires waits { has (waits_as tid) world.old.rows.waits ≡ true }
+    requires plain { has_no_read fields ≡ true }
+    requires left { has_queued world.old.rows tid ≡ false }
+    ensures step { let left = after world.old (waking world.old tid status fields) in
+        IsStep left world.old world.new }
+    ensures loose { world.new.loose ≡ true }
+    ensures list { out.new.list ≡ out.old.list ++ told (waking world.old tid status fields) }
+    ensures spare { out.new.spare + 1 ≡ out.old.spare }
+    ensures still { StaysReady world.old.rows world.new.rows }
+    ensures unqueued { StaysUnqueued world.old.rows world.new.rows }
+{
+    let call = waiting_call(world, tid);
+    tell_wake(world, tid, call, status, fields, out);
+}
+
+/// A thread's wait ends, and it is told that the call with which it waits ended so.
+pub(crate) fn tell_wake(
+    world: &mut World,
+    tid: u32,
+    call: CallName,
+    status: Status,
+    fields: Fields,
+    out: &mut Entries,
+)
+    requires spare { 1 ≤ out.old.spare }
+    requires plain { has_no_read fields ≡ true }
+    requires left { has_queued world.old.rows tid ≡ false }
+    ensures step { IsStep (after world.old (Wakes tid call status fields)) world.old world.new }
+    ensures loose { world.new.loose ≡ true }
+    ensures list { out.new.list ≡ out.old.list ++ told (Wakes tid call status fields) }
+    ensures spare { out.new.spare + 1 ≡ out.old.spare }
+    ensures still { StaysReady world.old.rows world.new.rows }
+    ensures unqueued { StaysUnqueued world.old.rows world.new.rows }
+{
+    world.waits_end(tid);
+    out.push(Entry::Wakes {
+        tid,
+        call,
+        status,
+        fields,
+    });
+}
+
+/// A waiting connect ends unsuccessfully: its thread is told PORT_CONNECTION_REFUSED, with the bytes of a refusal, at
+/// most 232. Its connection request stands in no queue.
+pub fn end_connect(world: &mut World, tid: u32, info: &[u8], out: &mut Entries)
+    requires spare { 1 ≤ out.old.spare }
+    requires waits { has (waits_as tid) world.old.rows.waits ≡ true }
+    requires connect { is_connect (waiter world.old.rows tid) ≡ true }
+    requires left { has_queued world.old.rows tid ≡ false }
+    requires info { length info.now ≤ 232 }
+    ensures takes { Took (end_connect info.now
+        (waiter world.old.rows tid) ∷ []) world.old world.new out.old out.new }
+    ensures births { world.new.births ≡ world.old.births }
+    ensures calls { world.new.calls ≡ world.old.calls }
+    ensures made { world.new.made ≡ world.old.made }
+    ensures spare { out.new.spare + 1 ≡ out.old.spare }
+{
+    wake(world, tid, PORT_CONNECTION_REFUSED, info_field(info), out);
+}
