@@ -12,7 +12,7 @@ pub struct Birth {
     pub maker: u32,
     /// Which of its maker's objects it is, from 1; the object's own number where a directive made it.
     pub ordinal: u32,
-    /// The process of the maker thread; 0 for a directive. It follows from the maker and is never printed: it lets a
-    /// row's owner be read off its name.
+    /// The process of the maker thread; where a directive made it, a process itself or the process of a thread. It follows
+    /// from the others and is never printed: it lets a row's owner be read off its name.
     pub process: u32,
 }

@@ -30,7 +30,7 @@ use Rattle.lpc_model.specs.Counts.{asked, nt_duplicate_object, nt_query_object, 
 use Rattle.lpc_model.specs.Death.{code_status, end_threads}
 use Rattle.lpc_model.specs.Register.{nt_register_thread_terminate_port}
 use Rattle.lpc_model.specs.Sweep.{sweep}
-use Rattle.lpc_model.specs.Lines.{ScriptCall, ScriptLine, accept_connect_port, boot, close, complete_connect_port, connect_port, create_port, dir, duplicate_object, link, listen_port, query_object, register_thread_terminate_port, reply_port, reply_wait_receive_port, request_port, request_wait_reply_port, run, terminate_process, terminate_thread, thread}
+use Rattle.lpc_model.specs.Lines.{ScriptCall, ScriptLine, accept_connect_port, boot, close, complete_connect_port, connect_port, create_port, create_process, create_thread, dir, duplicate_object, link, listen_port, query_object, register_thread_terminate_port, reply_port, reply_wait_receive_port, request_port, request_wait_reply_port, run, terminate_process, terminate_thread, thread}
 use Rattle.lpc_model.specs.Machine.{bare_steps, boot_line, dir_line, directed, link_line, name_of_call, ready_steps, service_of, steps, thread_line, thread_steps, thread_test, unused_test}
 use Rattle.lpc_model.specs.SoundWaits.{IsSoundWorld}
 use Rattle.lpc_model.proofs.Births.{birth-same, birth-self}
@@ -42,6 +42,8 @@ use Rattle.lpc_model.specs.Accounts.{Receipt, is_received, has_receipt, received
 use Rattle.lpc_model.proofs.Accounted.{end_balances, handle_balances, plain-level, sent_balances, sweep-plain}
 use Rattle.lpc_model.proofs.Balance.{AreBalanced, are_two, both-balanced, is_level, level-balanced, none-read}
 use Rattle.lpc_model.proofs.DryQueues.{HasDryQueues, count-one, dry-first, one-each, seen-as}
+use Rattle.lpc_model.proofs.Creating.{process-made, thread-made}
+use Rattle.lpc_model.specs.Creation.{nt_create_process, nt_create_thread}
 
 abbrev AreLevel : List Basic → Type 0
 AreLevel bs = every is_level bs ≡ true
@@ -253,6 +255,8 @@ module _ (s : Receipt) (quiet : asks (message_of s.bytes) ≡ false) (w : World)
   service-balanced tid by (close handle) live dry = close-balanced (run tid (close handle)) by handle dry
   service-balanced tid by (duplicate_object handle access) live dry = level_holds (run tid (duplicate_object handle access)) (nt_duplicate_object w by handle access) (duplicate-level w by handle access)
   service-balanced tid by (query_object handle) live dry = level_holds (run tid (query_object handle)) (nt_query_object w by handle) (query-level w by handle)
+  service-balanced tid by (create_process pid new) live dry = level_holds (run tid (create_process pid new)) (nt_create_process w by pid new) (process-made (λ bs. every is_level bs ≡ true) w by pid new (λ _ _. refl))
+  service-balanced tid by (create_thread target new) live dry = level_holds (run tid (create_thread target new)) (nt_create_thread w by target new) (thread-made (λ bs. every is_level bs ≡ true) w by target new (λ pid _ _. refl))
   service-balanced tid by (terminate_thread target code) live dry = thread-ends (Balanced (run tid (terminate_thread target code))) w by target code (λ t own _ _. ended-balanced (run tid (terminate_thread target code)) by NtTerminateThread own t.process (code_status code) (t ∷ []) dry)
   service-balanced tid by (terminate_process target code) live dry = process-ends (Balanced (run tid (terminate_process target code))) w by target code (λ pid own _. ended-balanced (run tid (terminate_process target code)) by NtTerminateProcess own pid (code_status code) (live_threads w pid) dry)
 

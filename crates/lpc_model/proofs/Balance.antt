@@ -21,7 +21,9 @@ use Rattle.lpc_model.specs.Lines.{ScriptLine}
 use Rattle.lpc_model.proofs.SoundDrops.{count-append}
 use Rattle.lpc_model.proofs.Told.{posts-append}
 use Rattle.lpc_model.proofs.SoundQueues.{after-append}
-use Rattle.lpc_model.specs.Accounts.{Receipt, shows_receipt, is_received, has_receipt, loses, lost, standing}
+use Rattle.lpc_model.specs.Accounts.{Receipt, shows_receipt, is_received, has_receipt, loses, lost, standing, shows_context}
+use Rattle.lpc_model.specs.declared.entry.Value.{Value}
+use Rattle.lpc_model.specs.declared.entry.Value.TheVariants.{Bytes, Hex, Kind, Number, Read}
 
 -- Messages that ask
 -- a message that asks shows that it does
@@ -74,9 +76,15 @@ count-parts p test (x ∷ xs) = at (test x) refl (count-parts p test xs)
     at true is rest = grind (arith, is, rest)
     at false other rest = grind (arith, other, rest)
 
--- two fields, as a receipt has them
+-- two fields of which the second has bytes, as a receipt has them
+abbrev pub has_bytes : Field → Bool
+has_bytes f = elim f.value [
+  | Bytes b ↦ true
+  | _ ↦ false
+]
+
 abbrev pub are_two : List Field → Bool
-are_two (a ∷ b ∷ []) = true
+are_two (a ∷ b ∷ []) = has_bytes b
 are_two fields = false
 
 abbrev pub tells_two : Entry → Bool
@@ -94,7 +102,14 @@ is_level b = true
 unshown : (s : Receipt) (fields : List Field) → not (are_two fields) ≡ true → shows_receipt s fields ≡ false
 unshown s [] is = refl
 unshown s (a ∷ []) is = refl
-unshown s (a ∷ b ∷ []) is = absurd (cc)
+unshown s (a ∷ b ∷ []) is = of (shows_context s.context a) b.value is
+  where
+    of : (c : Bool) (v : Value) → not (elim v [ Bytes b ↦ true | _ ↦ false ]) ≡ true → (c && elim v [ Bytes b ↦ bytes_eq b.items s.bytes | _ ↦ false ]) ≡ false
+    of c (Number n) is = grind arith
+    of c (Hex n) is = grind arith
+    of c (Kind k) is = grind arith
+    of c (Bytes b) is = absurd (cc)
+    of c Read is = grind arith
 unshown s (a ∷ b ∷ c ∷ fields) is = refl
 
 freed-messages : (w : World) (k : ObjectKind) (b : Birth) → (freed w k b).messages ≡ w.messages

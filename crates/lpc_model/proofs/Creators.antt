@@ -17,7 +17,7 @@ use Rattle.lpc_model.specs.Named.{free_name, named_port}
 use Rattle.lpc_model.specs.Tests.{handles_test, next_birth}
 use Rattle.lpc_model.specs.Connect.{ConnectAnswer, answer_test, answered_steps, client_port, connect_start, connect_steps, connection_request, create_steps, info_test, making, nt_accept_connect_port, nt_connect_port, nt_create_port}
 use Rattle.lpc_model.specs.Creators.{KeepsConnects, RunKeepsConnects, keeps_connect}
-use Rattle.lpc_model.specs.Lines.{ScriptCall, ScriptLine, accept_connect_port, boot, close, complete_connect_port, connect_port, create_port, dir, duplicate_object, link, listen_port, query_object, register_thread_terminate_port, reply_port, reply_wait_receive_port, request_port, request_wait_reply_port, run, terminate_process, terminate_thread, thread}
+use Rattle.lpc_model.specs.Lines.{ScriptCall, ScriptLine, accept_connect_port, boot, close, complete_connect_port, connect_port, create_port, create_process, create_thread, dir, duplicate_object, link, listen_port, query_object, register_thread_terminate_port, reply_port, reply_wait_receive_port, request_port, request_wait_reply_port, run, terminate_process, terminate_thread, thread}
 use Rattle.lpc_model.specs.Machine.{Stepped, bare_steps, boot_line, dir_line, link_line, name_of_call, ready_steps, service_of, step, thread_line, thread_steps}
 use Rattle.lpc_model.specs.Run.{said_in, trace}
 use Rattle.lpc_model.specs.Sweep.{free_unheld, sweep, unheld}
@@ -35,7 +35,7 @@ use Rattle.lpc_model.proofs.LinkedCalls.{ArePlain}
 use Rattle.lpc_model.proofs.LinkedClose.{close-plain}
 use Rattle.lpc_model.proofs.LinkedComplete.{complete-plain}
 use Rattle.lpc_model.proofs.LinkedDuplicate.{duplicate-plain}
-use Rattle.lpc_model.proofs.LinkedLines.{boot-plain, dir-plain, further-plain, link-plain, process-plain, thread-plain}
+use Rattle.lpc_model.proofs.LinkedLines.{boot-plain, create-process-plain, create-thread-plain, dir-plain, further-plain, link-plain, process-plain, thread-plain}
 use Rattle.lpc_model.proofs.SteadyRegister.{register-steady}
 
 -- Basic steps
@@ -150,6 +150,8 @@ service-keeps w by (register_thread_terminate_port handle) = steady_keep _ (regi
 service-keeps w by (close handle) = plain_keep _ (close-plain w by handle)
 service-keeps w by (duplicate_object handle access) = plain_keep _ (duplicate-plain w by handle access)
 service-keeps w by (query_object handle) = steady_keep _ (query-steady w by handle)
+service-keeps w by (create_process pid tid) = plain_keep _ (create-process-plain w by pid tid)
+service-keeps w by (create_thread target tid) = plain_keep _ (create-thread-plain w by target tid)
 service-keeps w by (terminate_thread target code) = plain_keep _ (thread-plain w by target code)
 service-keeps w by (terminate_process target code) = plain_keep _ (process-plain w by target code)
 

@@ -17,7 +17,8 @@ use Rattle.lpc_model.specs.Found.{handles_of, is_live, is_live_thread, is_thread
 use Rattle.lpc_model.specs.Basics.{AddsThread, Basic, Cuts, Dies, DrawsIdentifier, DrawsOrdinal, Empties, Enters, Frees, Registers, Tells, Unbinds, Unregisters, Wakes, Withdraws, basic, ended, in_turn, posted, posts_of, unregistering, world_after}
 use Rattle.lpc_model.specs.Entering.{enter, given_steps, shown, takes, woken}
 use Rattle.lpc_model.specs.Close.{close_handle}
-use Rattle.lpc_model.specs.Death.{END_RIGHT, answer_unless, code_status, cut_accepted, die, end_process, end_threads, nt_terminate_process, nt_terminate_thread, post_death, post_deaths, thread_target, told_death}
+use Rattle.lpc_model.specs.Targets.{LIFE_RIGHT, thread_target}
+use Rattle.lpc_model.specs.Death.{answer_unless, code_status, cut_accepted, die, end_process, end_threads, nt_terminate_process, nt_terminate_thread, post_death, post_deaths, told_death}
 use Rattle.lpc_model.specs.Deaths.{DeathsAreTold, TellsDeaths, ended_registrations, ending_registrations, is_died_post, leaves, rank_of, registration, registrations_of, rises, tells_end, told_endings}
 use Rattle.lpc_model.proofs.Closing.{behind, takes_away}
 use Rattle.lpc_model.proofs.Rows.{first-change}
@@ -32,10 +33,11 @@ use Rattle.lpc_model.specs.Tests.{object_test}
 use Rattle.lpc_model.specs.Named.{free_name, spelled_name}
 use Rattle.lpc_model.specs.Sweep.{free_unheld, sweep, unheld}
 use Rattle.lpc_model.specs.SoundWaits.{IsSoundWorld}
-use Rattle.lpc_model.specs.Lines.{ProcArg, ScriptCall, ScriptLine, boot, dir, link, register_thread_terminate_port, run, terminate_process, terminate_thread, thread}
+use Rattle.lpc_model.specs.Lines.{ProcArg, ScriptCall, ScriptLine, boot, create_process, create_thread, dir, link, register_thread_terminate_port, run, terminate_process, terminate_thread, thread}
 use Rattle.lpc_model.specs.Machine.{bare_steps, boot_line, dir_line, link_line, name_of_call, ready_steps, service_of, thread_line, thread_steps, thread_test, unused_test}
 use Rattle.lpc_model.proofs.Holding.{Holds, bind_holds, directed_holds, found_holds, holds_ok, settled_holds}
 use Rattle.lpc_model.proofs.Usable.{CanCall, can-call}
+use Rattle.lpc_model.proofs.Creating.{process-made, thread-made}
 
 -- Lists of steps
 nil-right : {X : Type 0} (xs : List X) → xs ++ [] ≡ xs
@@ -496,7 +498,7 @@ target-found w by target t once c at = holds_ok (λ t. first (is_thread t.number
     of : (target : ProcArg) → Holds (λ t. first (is_thread t.number) w.threads ≡ Some t) (thread_target w by target)
     of Current = unique-row (is_live_thread by.number) w.threads by (once by.number) c.lives
     of (By handle) =
-        bind_holds (object_test w by kind.Thread END_RIGHT handle) _ (λ t. first (is_thread t.number) w.threads ≡ Some t) (λ b _.
+        bind_holds (object_test w by kind.Thread LIFE_RIGHT handle) _ (λ t. first (is_thread t.number) w.threads ≡ Some t) (λ b _.
         found_holds (λ t. first (is_thread t.number) w.threads ≡ Some t) (first (λ t. same_birth t.birth b) w.threads) INVALID_HANDLE (λ t at. unique-row (λ t. same_birth t.birth b) w.threads t (once t.number) at))
 
 answered-deaths : (w : World) (by : ThreadRow) (call : CallName) (own : Bool) (pid : ℕ) (code : Status) (ts : List ThreadRow) → AreFound w.threads ts → TellsDeaths w (answered_end by call own pid code ts w)
@@ -517,6 +519,8 @@ undying_holds w (Ok bs) all = undying-tells w bs all
 undying_holds w (Err s) all = tt
 
 service-deaths : (w : World) (by : ThreadRow) (call : ScriptCall) → HasThreadsOnce w → CanCall w by → Holds (TellsDeaths w) (service_of w by call)
+service-deaths w by (create_process pid tid) once c = process-made (TellsDeaths w) w by pid tid (λ _ _. record { told = refl; registrations = refl; order = refl })
+service-deaths w by (create_thread target tid) once c = thread-made (TellsDeaths w) w by target tid (λ pid _ _. record { told = refl; registrations = refl; order = refl })
 service-deaths w by (terminate_thread target code) once c = thread-deaths w by target code once c
 service-deaths w by (terminate_process target code) once c = process-deaths w by target code once
 service-deaths w by (register_thread_terminate_port handle) once c = register_holds (TellsDeaths w) w by handle (λ b new _. at b new)

@@ -17,7 +17,8 @@ use Rattle.lpc_model.specs.Refusal.{refuse_if}
 use Rattle.lpc_model.specs.Lines.{ProcArg}
 use Rattle.lpc_model.specs.Tests.{live_test}
 use Rattle.lpc_model.specs.Close.{close_handle, close_port, closed_row, cut_pair, is_last, post_closed, server_of, told_of}
-use Rattle.lpc_model.specs.Death.{answer_unless, code_status, cut_accepted, die, died_message, end_process, end_threads, nt_terminate_process, nt_terminate_thread, post_death, post_deaths, process_target, thread_target, told_death}
+use Rattle.lpc_model.specs.Targets.{process_target, thread_target}
+use Rattle.lpc_model.specs.Death.{answer_unless, code_status, cut_accepted, die, died_message, end_process, end_threads, nt_terminate_process, nt_terminate_thread, post_death, post_deaths, told_death}
 use Rattle.lpc_model.specs.SoundWaits.{IsSoundWorld}
 use Rattle.lpc_model.proofs.Holding.{Holds, bind_holds, not_refused}
 use Rattle.lpc_model.proofs.Closing.{behind, close-pass, pair-pass, stage_five, takes_away, then-holds}

@@ -24,7 +24,7 @@ use Rattle.lpc_model.specs.Then.{◌>>=◌}
 use Rattle.lpc_model.specs.Message.{bytes_of, message_of}
 use Rattle.lpc_model.specs.Lines.{ScriptCall, ScriptLine, accept_connect_port, reply_port, reply_wait_receive_port, request_port, request_wait_reply_port, run}
 use Rattle.lpc_model.specs.Words.{begins, cut, hex_message, hex_or_fault, hex_word, id_word, info_word, message_word, number_word, parts, reply_message, three_parts, words}
-use Rattle.lpc_model.specs.Grammar.{accept_word, access_word, call_line, call_named, call_words, directive_line, directive_named, directive_words, four_words, given_message, handle_and_message, handle_and_reply, is_printable, one_handle, one_or_two_words, one_word, qos_word, read_line, starts_call, target_and_code, thread_call, two_words, view_word, words_line}
+use Rattle.lpc_model.specs.Grammar.{accept_word, access_word, call_line, call_named, call_words, directive_line, directive_named, directive_words, four_words, given_message, handle_and_message, handle_and_reply, is_printable, one_handle, one_or_two_words, one_word, qos_word, read_line, starts_call, process_and_thread, target_and_code, target_and_thread, thread_call, two_words, view_word, words_line}
 use Rattle.lpc_model.specs.Run.{numbered_line, said_from, unless_faulty}
 
 abbrev pub AreBytes : List ℕ → Type 0
@@ -165,12 +165,14 @@ call_gives call.NtRegisterThreadTerminatePort others = then_gives (one_handle ot
 call_gives call.NtClose others = then_gives (one_handle others) _ HasBytes (λ _ _. tt)
 call_gives call.NtDuplicateObject others = then_gives (two_words others) _ HasBytes (λ two _. then_gives (number_word two.0) _ HasBytes (λ _ _. then_gives (access_word two.1) _ HasBytes (λ _ _. tt)))
 call_gives call.NtQueryObject others = then_gives (one_handle others) _ HasBytes (λ _ _. tt)
+call_gives call.NtCreateProcess others = then_gives (process_and_thread others) _ HasBytes (λ _ _. tt)
+call_gives call.NtCreateThread others = then_gives (target_and_thread others) _ HasBytes (λ _ _. tt)
 call_gives call.NtTerminateThread others = then_gives (target_and_code others) _ HasBytes (λ _ _. tt)
 call_gives call.NtTerminateProcess others = then_gives (target_and_code others) _ HasBytes (λ _ _. tt)
 
 directive_gives : (name : Word) (others : List (List ℕ)) → Gives GivesBytes (directive_words name others)
 unfolding directive_words
-directive_gives word.Boot others = then_gives (two_words others) _ GivesBytes (λ two _. then_gives (id_word two.0) _ GivesBytes (λ _ _. then_gives (id_word two.1) _ GivesBytes (λ _ _. tt)))
+directive_gives word.Boot others = then_gives (process_and_thread others) _ GivesBytes (λ _ _. tt)
 directive_gives word.Thread others = then_gives (two_words others) _ GivesBytes (λ two _. then_gives (id_word two.0) _ GivesBytes (λ _ _. then_gives (id_word two.1) _ GivesBytes (λ _ _. tt)))
 directive_gives word.Dir others = then_gives (one_word others) _ GivesBytes (λ _ _. tt)
 directive_gives word.Link others = then_gives (two_words others) _ GivesBytes (λ _ _. tt)

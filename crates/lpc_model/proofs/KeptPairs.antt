@@ -11,7 +11,7 @@ use Rattle.lpc_model.specs.declared.entry.ObjectKind.TheVariants as kind
 use Rattle.lpc_model.specs.declared.entry.Word.TheVariants as word
 use Rattle.lpc_model.specs.World.{Birth, HandleRow, ObjectKind, ObjectName, PortRow, ThreadRow, WaitRow, World}
 use Rattle.lpc_model.specs.Found.{free_handle, handle_at, has_handle_to, is_cut, is_open, is_port, is_paired_to, is_table, is_the, live_thread, live_threads, port_name, same_birth, wait_of}
-use Rattle.lpc_model.specs.Basics.{Accepts, AddsHandle, AddsProcess, Basic, Completes, Cuts, DrawsOrdinal, DropsHandle, Empties, Frees, Joins, Makes, Unbinds, Unregisters, Wakes, Withdraws, basic, completed, cut, freed, is_end_of, joined, no_handles, paired, world_after}
+use Rattle.lpc_model.specs.Basics.{Accepts, AddsHandle, AddsProcess, Basic, Completes, Cuts, DrawsOrdinal, DropsHandle, Empties, Frees, Joins, Makes, Unbinds, Unregisters, Wakes, Withdraws, basic, completed, cut, freed, is_end_of, joined, no_handles, paired, world_after, AddsThread, with_handle}
 use Rattle.lpc_model.specs.Entering.{enter, row_of}
 use Rattle.lpc_model.specs.Named.{free_name, named_port, spelled_name}
 use Rattle.lpc_model.specs.Tests.{PORT_ACCESS, handle_row, handles_test, next_birth, own_handle}
@@ -20,7 +20,7 @@ use Rattle.lpc_model.specs.Close.{close_handle, close_port, is_last, nt_close}
 use Rattle.lpc_model.specs.Counts.{asked, nt_duplicate_object, rights_test}
 use Rattle.lpc_model.specs.Death.{code_status, die, end_threads, nt_terminate_process, nt_terminate_thread}
 use Rattle.lpc_model.specs.Sweep.{free_unheld, sweep, unheld}
-use Rattle.lpc_model.specs.Lines.{ProcArg, ScriptCall, ScriptLine, accept_connect_port, boot, close, complete_connect_port, connect_port, create_port, dir, duplicate_object, link, listen_port, query_object, register_thread_terminate_port, reply_port, reply_wait_receive_port, request_port, request_wait_reply_port, run, terminate_process, terminate_thread, thread}
+use Rattle.lpc_model.specs.Lines.{ProcArg, ScriptCall, ScriptLine, accept_connect_port, boot, close, complete_connect_port, connect_port, create_port, create_process, create_thread, dir, duplicate_object, link, listen_port, query_object, register_thread_terminate_port, reply_port, reply_wait_receive_port, request_port, request_wait_reply_port, run, terminate_process, terminate_thread, thread}
 use Rattle.lpc_model.specs.Machine.{bare_steps, boot_line, dir_line, link_line, name_of_call, ready_steps, service_of, step, thread_line, thread_steps, thread_test, unused_test}
 use Rattle.lpc_model.specs.SoundWaits.{IsSoundWorld}
 use Rattle.lpc_model.specs.Left.{HasKeptPairs, is_kept_pair}
@@ -44,6 +44,11 @@ use Rattle.lpc_model.proofs.SteadyReceive.{receive-steady}
 use Rattle.lpc_model.proofs.SteadyQuery.{query-steady}
 use Rattle.lpc_model.proofs.SteadyRegister.{register-steady}
 use Rattle.lpc_model.proofs.Ending.{die-pass, end-keeps, process-ends, thread-ends, world-ends}
+use Rattle.lpc_model.proofs.Creating.{process_holds, thread_holds}
+use Rattle.lpc_model.specs.Creation.{gives_life, new_process, new_thread, nt_create_process, nt_create_thread, second_birth}
+use Rattle.lpc_model.specs.Targets.{LIFE_ACCESS}
+use Rattle.lpc_model.proofs.SoundBasics.{sound-ordinal, sound-process}
+use Rattle.lpc_model.proofs.Rows.{count-change}
 
 -- Steps
 -- a step that keeps it whatever the world: it gives and takes no handle, joins nothing, and makes ports without other ends
@@ -259,6 +264,44 @@ terminate-process-pairs : (w : World) (by : ThreadRow) (target : ProcArg) (code 
 terminate-process-pairs w by target code is k =
     process-ends (KeepPairs w) w by target code (λ pid own _. world-ends HasKeptPairs w by NtTerminateProcess own pid (code_status code) (live_threads w pid) (ended-pairs pid (code_status code) (live_threads w pid) w is k))
 
+-- NtCreateProcess and NtCreateThread
+record IsTabledWorld (by : ThreadRow) (w : World) : Type 0 where
+  tables : count (is_table by.process) w.handles ≤ 1
+  pairs : HasKeptPairs w
+
+given-pairs : (by : ThreadRow) (w : World) (o : ObjectName) → IsTabledWorld by w → IsTabledWorld by (basic w (gives_life by (free_handle w by.process) o))
+given-pairs by w o is = record {
+  tables = rw (count-change (is_table by.process) (is_table by.process) (with_handle (handle_row (free_handle w by.process) o LIFE_ACCESS)) (λ t. refl) w.handles) is.tables;
+  pairs = pair-handle w by.process o LIFE_ACCESS is.tables is.pairs;
+}
+
+drawn-pairs : (by : ThreadRow) (w : World) → IsTabledWorld by w → IsTabledWorld by (basic w (DrawsOrdinal by.number))
+drawn-pairs by w is = record { tables = is.tables; pairs = pair-all w (DrawsOrdinal by.number ∷ []) refl is.pairs }
+
+create-process-pairs : (w : World) (by : ThreadRow) (pid tid : ℕ) → CanCall w by → IsSoundWorld w → HasKeptPairs w → Holds (KeepPairs w) (nt_create_process w by pid tid)
+create-process-pairs w by pid tid c s k =
+    made_holds (nt_create_process w by pid tid) (process_holds (IsTabledWorld by) w by c (drawn-pairs by) (given-pairs by) pid tid
+    (λ new unused is.
+    let v : World = basic (basic w (DrawsOrdinal by.number)) (DrawsOrdinal by.number) in
+    let t = sound-process v (new_process pid (Some by.process) (next_birth by)) new (sound-ordinal (basic w (DrawsOrdinal by.number)) by.number (sound-ordinal w by.number s)) in
+    record { tables = t.tables by.process; pairs = pair-all v (AddsProcess (new_process pid (Some by.process) (next_birth by)) ∷ AddsThread (new_thread tid pid (second_birth by)) ∷ []) refl is.pairs })
+    (record { tables = s.tables by.process; pairs = k }))
+  where
+    made_holds : (r : Result (List Basic) Status) → Holds (λ bs. IsTabledWorld by (world_after w bs)) r → Holds (KeepPairs w) r
+    made_holds (Ok bs) is = is.pairs
+    made_holds (Err s) is = tt
+
+create-thread-pairs : (w : World) (by : ThreadRow) (target : ProcArg) (tid : ℕ) → CanCall w by → IsSoundWorld w → HasKeptPairs w → Holds (KeepPairs w) (nt_create_thread w by target tid)
+create-thread-pairs w by target tid c s k =
+    made_holds (nt_create_thread w by target tid) (thread_holds (IsTabledWorld by) w by c (drawn-pairs by) (given-pairs by) target tid
+    (λ pid live unused is. record { tables = is.tables; pairs = pair-all (basic w (DrawsOrdinal by.number)) (AddsThread (new_thread tid pid (next_birth by)) ∷ []) refl is.pairs })
+    (record { tables = s.tables by.process; pairs = k }))
+  where
+    made_holds : (r : Result (List Basic) Status) → Holds (λ bs. IsTabledWorld by (world_after w bs)) r → Holds (KeepPairs w) r
+    made_holds (Ok bs) is = is.pairs
+    made_holds (Err s) is = tt
+
+-- Calls
 service-pairs : (w : World) (by : ThreadRow) (call : ScriptCall) → CanCall w by → IsSafe w → HasKeptPairs w → Holds (KeepPairs w) (service_of w by call)
 service-pairs w by (create_port name) c is k = create-pairs w by name (sound-of w is) k
 service-pairs w by (connect_port name info) c is k = connect-pairs w by name info k
@@ -273,6 +316,8 @@ service-pairs w by (register_thread_terminate_port handle) c is k = steady_pairs
 service-pairs w by (close handle) c is k = close-pairs w by handle (sound-of w is) k
 service-pairs w by (duplicate_object handle access) c is k = duplicate-pairs w by handle access (sound-of w is) k
 service-pairs w by (query_object handle) c is k = steady_pairs w _ k (query-steady w by handle)
+service-pairs w by (create_process pid tid) c is k = create-process-pairs w by pid tid c (sound-of w is) k
+service-pairs w by (create_thread target tid) c is k = create-thread-pairs w by target tid c (sound-of w is) k
 service-pairs w by (terminate_thread target code) c is k = terminate-thread-pairs w by target code is k
 service-pairs w by (terminate_process target code) c is k = terminate-process-pairs w by target code is k
 

@@ -9,7 +9,8 @@ use Rattle.lpc_model.specs.Found.{datagrams, live_count}
 use Rattle.lpc_model.specs.Message.{message_test}
 use Rattle.lpc_model.specs.Refusal.{refuse_if}
 use Rattle.lpc_model.specs.Tests.{handle_load}
-use Rattle.lpc_model.specs.Limits.{LimitsDatagrams, LimitsHandles, LimitsInfo, LimitsMessages, LimitsRegistrations, LimitsThreads}
+use Rattle.lpc_model.specs.Creation.{live_children}
+use Rattle.lpc_model.specs.Limits.{LimitsChildren, LimitsDatagrams, LimitsHandles, LimitsInfo, LimitsMessages, LimitsRegistrations, LimitsThreads, LimitsTwoHandles}
 
 passes : (b : Bool) (s : Status) → b ≡ false → refuse_if b s ≡ Ok tt
 passes b s is = rw is refl
@@ -34,6 +35,18 @@ pub limits_handles : LimitsHandles
 limits_handles w pid = record {
   below = λ few. passes _ QUOTA_EXCEEDED (past-off 256 (handle_load w pid + 1) (omega (arith, few)));
   reached = λ many. refuses _ QUOTA_EXCEEDED (past 256 (handle_load w pid + 1) (omega (arith, many)));
+}
+
+pub limits_two_handles : LimitsTwoHandles
+limits_two_handles w pid = record {
+  below = λ few. passes _ QUOTA_EXCEEDED (past-off 256 (handle_load w pid + 2) (omega (arith, few)));
+  reached = λ many. refuses _ QUOTA_EXCEEDED (past 256 (handle_load w pid + 2) (omega (arith, many)));
+}
+
+pub limits_children : LimitsChildren
+limits_children w pid = record {
+  below = λ few. passes _ QUOTA_EXCEEDED (at-off 64 (live_children w pid) few);
+  reached = λ many. refuses _ QUOTA_EXCEEDED (at-least 64 (live_children w pid) many);
 }
 
 pub limits_threads : LimitsThreads

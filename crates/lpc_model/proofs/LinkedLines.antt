@@ -5,7 +5,7 @@ use Rattle.lpc_model.specs.World.{ThreadRow, WaitRow, World}
 use Rattle.lpc_model.specs.Found.{live_thread, wait_of}
 use Rattle.lpc_model.specs.Basics.{Awaits, Basic, Binds, Frees, Joins, Makes, world_after}
 use Rattle.lpc_model.specs.Named.{free_name, spelled_name}
-use Rattle.lpc_model.specs.Lines.{ProcArg, ScriptCall, ScriptLine, accept_connect_port, boot, close, complete_connect_port, connect_port, create_port, dir, duplicate_object, link, listen_port, query_object, register_thread_terminate_port, reply_port, reply_wait_receive_port, request_port, request_wait_reply_port, run, terminate_process, terminate_thread, thread}
+use Rattle.lpc_model.specs.Lines.{ProcArg, ScriptCall, ScriptLine, accept_connect_port, boot, close, complete_connect_port, connect_port, create_port, create_process, create_thread, dir, duplicate_object, link, listen_port, query_object, register_thread_terminate_port, reply_port, reply_wait_receive_port, request_port, request_wait_reply_port, run, terminate_process, terminate_thread, thread}
 use Rattle.lpc_model.specs.Machine.{boot_line, dir_line, link_line, name_of_call, ready_steps, service_of, bare_steps, thread_line, thread_steps, thread_test, unused_test}
 use Rattle.lpc_model.specs.SoundWaits.{HasShutConnects, IsSoundWorld}
 use Rattle.lpc_model.proofs.Holding.{Holds, bind_holds, directed_holds, settled_holds}
@@ -36,6 +36,8 @@ use Rattle.lpc_model.specs.Death.{nt_terminate_process, nt_terminate_thread}
 use Rattle.lpc_model.proofs.SteadyRegister.{register-steady}
 use Rattle.lpc_model.proofs.LinkedSteps.{is_plain}
 use Rattle.lpc_model.proofs.Ending.{ending-pass, is_ending, process-ending, thread-ending}
+use Rattle.lpc_model.proofs.Creating.{process-made, thread-made}
+use Rattle.lpc_model.specs.Creation.{nt_create_process, nt_create_thread}
 
 -- Directives
 pub boot-plain : (w : World) (pid tid : ℕ) → Holds ArePlain (boot_line w pid tid)
@@ -71,6 +73,12 @@ thread-plain w by target code = ending-pass is_plain ending-plain (nt_terminate_
 pub process-plain : (w : World) (by : ThreadRow) (target : ProcArg) (code : ℕ) → Holds ArePlain (nt_terminate_process w by target code)
 process-plain w by target code = ending-pass is_plain ending-plain (nt_terminate_process w by target code) (process-ending w by target code)
 
+pub create-process-plain : (w : World) (by : ThreadRow) (pid tid : ℕ) → Holds ArePlain (nt_create_process w by pid tid)
+create-process-plain w by pid tid = process-made ArePlain w by pid tid (λ _ _. refl)
+
+pub create-thread-plain : (w : World) (by : ThreadRow) (target : ProcArg) (tid : ℕ) → Holds ArePlain (nt_create_thread w by target tid)
+create-thread-plain w by target tid = thread-made ArePlain w by target tid (λ pid _ _. refl)
+
 -- Calls
 service-linked : (w : World) (by : ThreadRow) (call : ScriptCall) → CanCall w by → IsSoundWorld w → IsLinked w → Holds (KeepLinked w) (service_of w by call)
 service-linked w by (create_port name) c s l = create-linked w by name c s l
@@ -86,6 +94,8 @@ service-linked w by (register_thread_terminate_port handle) c s l = steady_holds
 service-linked w by (close handle) c s l = close-linked w by handle l
 service-linked w by (duplicate_object handle access) c s l = duplicate-linked w by handle access l
 service-linked w by (query_object handle) c s l = steady_holds w _ l (query-steady w by handle)
+service-linked w by (create_process pid tid) c s l = plain_holds w _ l (create-process-plain w by pid tid)
+service-linked w by (create_thread target tid) c s l = plain_holds w _ l (create-thread-plain w by target tid)
 service-linked w by (terminate_thread target code) c s l = plain_holds w _ l (thread-plain w by target code)
 service-linked w by (terminate_process target code) c s l = plain_holds w _ l (process-plain w by target code)
 

@@ -16,7 +16,7 @@ use Rattle.lpc_model.specs.Named.{free_name, spelled_name}
 use Rattle.lpc_model.specs.Close.{close_handle}
 use Rattle.lpc_model.specs.Death.{code_status, cut_accepted, die, end_process, end_threads, nt_terminate_process, nt_terminate_thread, post_death, post_deaths}
 use Rattle.lpc_model.specs.Sweep.{sweep}
-use Rattle.lpc_model.specs.Lines.{ProcArg, ScriptCall, ScriptLine, accept_connect_port, boot, close, complete_connect_port, connect_port, create_port, dir, duplicate_object, link, listen_port, query_object, register_thread_terminate_port, reply_port, reply_wait_receive_port, request_port, request_wait_reply_port, run, terminate_process, terminate_thread, thread}
+use Rattle.lpc_model.specs.Lines.{ProcArg, ScriptCall, ScriptLine, accept_connect_port, boot, close, complete_connect_port, connect_port, create_port, create_process, create_thread, dir, duplicate_object, link, listen_port, query_object, register_thread_terminate_port, reply_port, reply_wait_receive_port, request_port, request_wait_reply_port, run, terminate_process, terminate_thread, thread}
 use Rattle.lpc_model.specs.Machine.{bare_steps, boot_line, dir_line, link_line, name_of_call, ready_steps, service_of, step, thread_line, thread_steps, thread_test, unused_test}
 use Rattle.lpc_model.specs.SoundWaits.{IsSoundWorld}
 use Rattle.lpc_model.specs.Left.{HasLivingHandles, is_living_table, lacks_handles}
@@ -38,8 +38,9 @@ use Rattle.lpc_model.proofs.SteadyRegister.{register-steady}
 use Rattle.lpc_model.proofs.Ending.{AreEnding, accepted-pass, behind_dead, behind_told, die-ending, ending-death, first-at, handle-ending, is_ending, process-ends, rows-left, thread-ends, turn-keeps, world-ends}
 use Rattle.lpc_model.specs.Lawful.{HasThreadsOnce}
 use Rattle.lpc_model.proofs.DeathLines.{AreFound, away-still, death-still, die-threads, is_still, live-found, target-found, undying-still}
-use Rattle.lpc_model.proofs.LivingHandles.{AreHomely, accept-homely, close-homely, complete-homely, connect-homely, create-homely, duplicate-homely, homely-all, lacks-less, living-swept, steady_homely}
+use Rattle.lpc_model.proofs.LivingHandles.{AreHomely, accept-homely, close-homely, complete-homely, connect-homely, create-homely, duplicate-homely, homely-all, lacks-less, living-swept, steady_homely, caller-lives}
 use Rattle.lpc_model.proofs.Undying.{handle-undying, is_undying}
+use Rattle.lpc_model.proofs.Creating.{process-made, thread-made}
 
 -- a handle that goes ends no thread
 handle-still : (pid : ℕ) (r : HandleRow) (w : World) → every is_still (close_handle pid r w) ≡ true
@@ -252,6 +253,8 @@ service-living w by (register_thread_terminate_port handle) c is once l = homely
 service-living w by (close handle) c is once l = homely_holds w _ l (close-homely w by handle)
 service-living w by (duplicate_object handle access) c is once l = homely_holds w _ l (duplicate-homely w by handle access c)
 service-living w by (query_object handle) c is once l = homely_holds w _ l (steady_homely w _ (query-steady w by handle))
+service-living w by (create_process pid tid) c is once l = homely_holds w _ l (process-made (AreHomely w) w by pid tid (λ _ _. rw (caller-lives w by c) refl))
+service-living w by (create_thread target tid) c is once l = homely_holds w _ l (thread-made (AreHomely w) w by target tid (λ n _ _. rw (caller-lives w by c) refl))
 service-living w by (terminate_thread target code) c is once l = thread-living w by target code is once c l
 service-living w by (terminate_process target code) c is once l = process-living w by target code is once l
 

@@ -17,7 +17,7 @@ use Rattle.lpc_model.specs.Death.{code_status, die, end_process, end_threads, nt
 use Rattle.lpc_model.specs.Deaths.{HasLivingRegistrations, has_living_registrations}
 use Rattle.lpc_model.specs.Named.{free_name, spelled_name}
 use Rattle.lpc_model.specs.Sweep.{free_unheld, sweep, unheld}
-use Rattle.lpc_model.specs.Lines.{ProcArg, ScriptCall, ScriptLine, boot, dir, link, register_thread_terminate_port, run, terminate_process, terminate_thread, thread}
+use Rattle.lpc_model.specs.Lines.{ProcArg, ScriptCall, ScriptLine, boot, create_process, create_thread, dir, link, register_thread_terminate_port, run, terminate_process, terminate_thread, thread}
 use Rattle.lpc_model.specs.Machine.{bare_steps, boot_line, dir_line, link_line, name_of_call, ready_steps, service_of, step, thread_line, thread_steps, thread_test, unused_test}
 use Rattle.lpc_model.specs.SoundWaits.{IsSoundWorld}
 use Rattle.lpc_model.proofs.Births.{birth-self}
@@ -31,6 +31,8 @@ use Rattle.lpc_model.proofs.Ending.{behind_dead, behind_told, ending-death, is_e
 use Rattle.lpc_model.specs.Lawful.{HasThreadsOnce}
 use Rattle.lpc_model.proofs.DeathLines.{AreFound, death-still, die-threads, is_still, live-found, target-found}
 use Rattle.lpc_model.specs.Entering.{enter}
+use Rattle.lpc_model.proofs.Creating.{process-made, thread-made}
+use Rattle.lpc_model.specs.Creation.{nt_create_process, nt_create_thread}
 
 first-true : (x y : Bool) → (x && y) ≡ true → x ≡ true
 first-true x y is = grind arith
@@ -328,7 +330,23 @@ undying_holds : (w : World) (r : Result (List Basic) Status) → HasLivingRegist
 undying_holds w (Ok bs) l all = living-all w bs (every-more is_undying is_lasting undying-lasting bs all) l
 undying_holds w (Err s) l all = tt
 
+-- Processes and threads that are made
+abbrev AreLasting : List Basic → Type 0
+AreLasting bs = every is_lasting bs ≡ true
+
+lasting_holds : (w : World) (r : Result (List Basic) Status) → HasLivingRegistrations w → Holds AreLasting r → Holds (KeepRegistrationsLiving w) r
+lasting_holds w (Ok bs) l all = living-all w bs all l
+lasting_holds w (Err s) l all = tt
+
+create-process-lasting : (w : World) (by : ThreadRow) (pid tid : ℕ) → Holds AreLasting (nt_create_process w by pid tid)
+create-process-lasting w by pid tid = process-made AreLasting w by pid tid (λ _ _. refl)
+
+create-thread-lasting : (w : World) (by : ThreadRow) (target : ProcArg) (tid : ℕ) → Holds AreLasting (nt_create_thread w by target tid)
+create-thread-lasting w by target tid = thread-made AreLasting w by target tid (λ pid _ _. refl)
+
 service-living : (w : World) (by : ThreadRow) (call : ScriptCall) → HasThreadsOnce w → CanCall w by → HasLivingRegistrations w → Holds (KeepRegistrationsLiving w) (service_of w by call)
+service-living w by (create_process pid tid) once c l = lasting_holds w _ l (create-process-lasting w by pid tid)
+service-living w by (create_thread target tid) once c l = lasting_holds w _ l (create-thread-lasting w by target tid)
 service-living w by (terminate_thread target code) once c l = thread-living w by target code once c l
 service-living w by (terminate_process target code) once c l = process-living w by target code once l
 service-living w by (register_thread_terminate_port handle) once c l = register_holds (KeepRegistrationsLiving w) w by handle (λ b new _. at b new)
@@ -347,13 +365,6 @@ thread-lines w tid call None live s once l = l
 thread-lines w tid call (Some by) live s once l = ready-living w by call (wait_of w tid) (λ idle. can-call w tid by live idle s) once l
 
 -- Directives
-abbrev AreLasting : List Basic → Type 0
-AreLasting bs = every is_lasting bs ≡ true
-
-lasting_holds : (w : World) (r : Result (List Basic) Status) → HasLivingRegistrations w → Holds AreLasting r → Holds (KeepRegistrationsLiving w) r
-lasting_holds w (Ok bs) l all = living-all w bs all l
-lasting_holds w (Err s) l all = tt
-
 boot-lasting : (w : World) (pid tid : ℕ) → Holds AreLasting (boot_line w pid tid)
 unfolding boot_line
 boot-lasting w pid tid = bind_holds (unused_test w pid tid) _ AreLasting (λ _ _. refl)

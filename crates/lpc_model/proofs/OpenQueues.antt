@@ -15,7 +15,7 @@ use Rattle.lpc_model.specs.declared.entry.ObjectKind.TheVariants as kind
 use Rattle.lpc_model.specs.declared.entry.Word.TheVariants as word
 use Rattle.lpc_model.specs.World.{Birth, HandleRow, Message, MessageRow, ObjectKind, ObjectName, PortRow, ThreadRow, WaitRow, World, no_rows}
 use Rattle.lpc_model.specs.Found.{free_handle, handle_at, has_handle_to, is_accepted, is_connection_port, is_open, is_own_of, is_queued, is_queued_connect, is_table, live_thread, live_threads, port_name, queue_of, wait_of, waits_as, waits_at}
-use Rattle.lpc_model.specs.Basics.{Accepts, AddsHandle, AddsProcess, AddsThread, Awaits, Basic, Binds, Completes, Cuts, Dies, DrawsIdentifier, DrawsOrdinal, DropsHandle, Empties, Enters, Frees, Joins, Makes, Receives, Registers, Takes, TakesConnect, Tells, Unbinds, Unregisters, Wakes, Withdraws, accepted, basic, freed, no_handles, received, world_after}
+use Rattle.lpc_model.specs.Basics.{Accepts, AddsHandle, AddsProcess, AddsThread, Awaits, Basic, Binds, Completes, Cuts, Dies, DrawsIdentifier, DrawsOrdinal, DropsHandle, Empties, Enters, Frees, Joins, Makes, Receives, Registers, Takes, TakesConnect, Tells, Unbinds, Unregisters, Wakes, Withdraws, accepted, basic, freed, no_handles, received, world_after, with_handle}
 use Rattle.lpc_model.specs.Sweep.{free_unheld, sweep, unheld}
 use Rattle.lpc_model.specs.Message.{asks, message_test}
 use Rattle.lpc_model.specs.Fields.{h, info, max}
@@ -25,7 +25,7 @@ use Rattle.lpc_model.specs.Refusal.{found_or, refuse_if}
 use Rattle.lpc_model.specs.Tests.{PORT_ACCESS, handle_row, handles_test, next_birth, own_handle, port_test}
 use Rattle.lpc_model.specs.Connect.{Completable, ConnectAnswer, accept_steps, answer_of, answer_test, answered_steps, client_port, complete_steps, complete_test, connect_start, connection_request, create_steps, info_test, listen_steps, making, names_connect, new_port, nt_accept_connect_port, nt_complete_connect_port, nt_connect_port, nt_create_port, nt_listen_port, refuse_steps, server_port}
 use Rattle.lpc_model.specs.Request.{Sendable, answered_test, datagram_send_test, datagram_start, datagram_test, given_reply, is_spent, nt_reply_port, nt_reply_wait_receive_port, nt_request_port, nt_request_wait_reply_port, optional_message, receive_steps, receive_test, request_start, send_test, sent_by}
-use Rattle.lpc_model.specs.Lines.{ProcArg, ScriptCall, ScriptLine, accept_connect_port, boot, close, complete_connect_port, connect_port, create_port, dir, duplicate_object, link, listen_port, query_object, register_thread_terminate_port, reply_port, reply_wait_receive_port, request_port, request_wait_reply_port, run, terminate_process, terminate_thread, thread}
+use Rattle.lpc_model.specs.Lines.{ProcArg, ScriptCall, ScriptLine, accept_connect_port, boot, close, complete_connect_port, connect_port, create_port, create_process, create_thread, dir, duplicate_object, link, listen_port, query_object, register_thread_terminate_port, reply_port, reply_wait_receive_port, request_port, request_wait_reply_port, run, terminate_process, terminate_thread, thread}
 use Rattle.lpc_model.specs.Machine.{bare_steps, boot_line, dir_line, link_line, name_of_call, ready_steps, service_of, thread_line, thread_steps, thread_test, unused_test}
 use Rattle.lpc_model.specs.Close.{close_handle, close_port, is_last, nt_close}
 use Rattle.lpc_model.specs.Counts.{asked, nt_duplicate_object, nt_query_object, rights_test}
@@ -34,7 +34,7 @@ use Rattle.lpc_model.specs.SoundWaits.{HasShutConnects, IsSoundWorld, is_sound_w
 use Rattle.lpc_model.specs.OpenQueues.{HasOpenQueues, StepsKeepQueuesOpen}
 use Rattle.lpc_model.proofs.Holding.{Holds, bind_holds, directed_holds, found_ok, holds_ok, settled_holds}
 use Rattle.lpc_model.proofs.Handles.{open-add}
-use Rattle.lpc_model.proofs.Usable.{HasRoute, IsUsable, port-usable, queue-open}
+use Rattle.lpc_model.proofs.Usable.{HasRoute, IsUsable, port-usable, queue-open, CanCall, can-call}
 use Rattle.lpc_model.proofs.SoundWorlds.{by_kind}
 use Rattle.lpc_model.proofs.SoundQueues.{after-append}
 use Rattle.lpc_model.proofs.SoundCalls.{send-routed}
@@ -52,6 +52,11 @@ use Rattle.lpc_model.proofs.Ending.{AreEnding, die-ending, die-pass, end-keeps, 
 use Rattle.lpc_model.proofs.SoundTerminate.{IsSafe, die-safe, enter-safe, handle-safe, sound-of, unregister-safe}
 use Rattle.lpc_model.proofs.Closing.{behind, takes_away}
 use Rattle.lpc_model.proofs.LinkedSteps.{is_plain, plain-all}
+use Rattle.lpc_model.proofs.Creating.{process_holds, thread_holds}
+use Rattle.lpc_model.specs.Creation.{gives_life, new_process, new_thread, nt_create_process, nt_create_thread, second_birth}
+use Rattle.lpc_model.specs.Targets.{LIFE_ACCESS}
+use Rattle.lpc_model.proofs.SoundBasics.{sound-ordinal, sound-process}
+use Rattle.lpc_model.proofs.Rows.{count-change}
 
 -- What keeps queues open
 -- the ports that are open in one world are open in another
@@ -484,31 +489,70 @@ terminate-process-open : (w : World) (by : ThreadRow) (target : ProcArg) (code :
 terminate-process-open w by target code s shut l q =
     process-ends (KeepOpen w) w by target code (λ pid own _. world-ends HasOpenQueues w by NtTerminateProcess own pid (code_status code) (live_threads w pid) (ended-open pid (code_status code) (live_threads w pid) w s shut l q))
 
+-- NtCreateProcess and NtCreateThread
+record IsTabledWorld (by : ThreadRow) (w : World) : Type 0 where
+  tables : count (is_table by.process) w.handles ≤ 1
+  queues : HasOpenQueues w
+
+given-open : (by : ThreadRow) (w : World) (o : ObjectName) → IsTabledWorld by w → IsTabledWorld by (basic w (gives_life by (free_handle w by.process) o))
+given-open by w o is = record {
+  tables = rw (count-change (is_table by.process) (is_table by.process) (with_handle (handle_row (free_handle w by.process) o LIFE_ACCESS)) (λ t. refl) w.handles) is.tables;
+  queues = handled w by.process o LIFE_ACCESS is.tables is.queues;
+}
+
+drawn-open : (by : ThreadRow) (w : World) → IsTabledWorld by w → IsTabledWorld by (basic w (DrawsOrdinal by.number))
+drawn-open by w is = record { tables = is.tables; queues = open-all w (DrawsOrdinal by.number ∷ []) refl is.queues }
+
+create-process-open : (w : World) (by : ThreadRow) (pid tid : ℕ) → CanCall w by → IsSoundWorld w → HasOpenQueues w → Holds (KeepOpen w) (nt_create_process w by pid tid)
+create-process-open w by pid tid c s q =
+    made_holds (nt_create_process w by pid tid) (process_holds (IsTabledWorld by) w by c (drawn-open by) (given-open by) pid tid
+    (λ new unused is.
+    let v : World = basic (basic w (DrawsOrdinal by.number)) (DrawsOrdinal by.number) in
+    let t = sound-process v (new_process pid (Some by.process) (next_birth by)) new (sound-ordinal (basic w (DrawsOrdinal by.number)) by.number (sound-ordinal w by.number s)) in
+    record { tables = t.tables by.process; queues = open-all v (AddsProcess (new_process pid (Some by.process) (next_birth by)) ∷ AddsThread (new_thread tid pid (second_birth by)) ∷ []) refl is.queues })
+    (record { tables = s.tables by.process; queues = q }))
+  where
+    made_holds : (r : Result (List Basic) Status) → Holds (λ bs. IsTabledWorld by (world_after w bs)) r → Holds (KeepOpen w) r
+    made_holds (Ok bs) is = is.queues
+    made_holds (Err s) is = tt
+
+create-thread-open : (w : World) (by : ThreadRow) (target : ProcArg) (tid : ℕ) → CanCall w by → IsSoundWorld w → HasOpenQueues w → Holds (KeepOpen w) (nt_create_thread w by target tid)
+create-thread-open w by target tid c s q =
+    made_holds (nt_create_thread w by target tid) (thread_holds (IsTabledWorld by) w by c (drawn-open by) (given-open by) target tid
+    (λ pid live unused is. record { tables = is.tables; queues = open-all (basic w (DrawsOrdinal by.number)) (AddsThread (new_thread tid pid (next_birth by)) ∷ []) refl is.queues })
+    (record { tables = s.tables by.process; queues = q }))
+  where
+    made_holds : (r : Result (List Basic) Status) → Holds (λ bs. IsTabledWorld by (world_after w bs)) r → Holds (KeepOpen w) r
+    made_holds (Ok bs) is = is.queues
+    made_holds (Err s) is = tt
+
 -- Calls
-service-open : (w : World) (by : ThreadRow) (call : ScriptCall) → IsSoundWorld w → HasShutConnects w → IsLinked w → HasOpenQueues w → Holds (KeepOpen w) (service_of w by call)
-service-open w by (create_port name) s shut l q = create-open w by name s q
-service-open w by (connect_port name info) s shut l q = open_holds w _ q (connect-open w by name info s)
-service-open w by (listen_port handle) s shut l q = open_holds w _ q (listen-open w by handle)
-service-open w by (accept_connect_port context message accept) s shut l q = accept-open w by context message accept s q
-service-open w by (complete_connect_port handle) s shut l q = complete-open w by handle s q
-service-open w by (request_port handle bytes) s shut l q = open_holds w _ q (datagram-open w by handle bytes)
-service-open w by (request_wait_reply_port handle bytes) s shut l q = open_holds w _ q (request-open w by handle bytes)
-service-open w by (reply_port handle bytes) s shut l q = open_holds w _ q (reply-open w by handle bytes)
-service-open w by (reply_wait_receive_port handle bytes) s shut l q = open_holds w _ q (receive-open w by handle bytes)
-service-open w by (register_thread_terminate_port handle) s shut l q = open_holds w _ q (register-open w by handle)
-service-open w by (close handle) s shut l q = close-open w by handle s l q
-service-open w by (duplicate_object handle access) s shut l q = duplicate-open w by handle access s q
-service-open w by (query_object handle) s shut l q = open_holds w _ q (query-open w by handle)
-service-open w by (terminate_thread target code) s shut l q = terminate-thread-open w by target code s shut l q
-service-open w by (terminate_process target code) s shut l q = terminate-process-open w by target code s shut l q
+service-open : (w : World) (by : ThreadRow) (call : ScriptCall) → CanCall w by → IsSoundWorld w → HasShutConnects w → IsLinked w → HasOpenQueues w → Holds (KeepOpen w) (service_of w by call)
+service-open w by (create_port name) c s shut l q = create-open w by name s q
+service-open w by (connect_port name info) c s shut l q = open_holds w _ q (connect-open w by name info s)
+service-open w by (listen_port handle) c s shut l q = open_holds w _ q (listen-open w by handle)
+service-open w by (accept_connect_port context message accept) c s shut l q = accept-open w by context message accept s q
+service-open w by (complete_connect_port handle) c s shut l q = complete-open w by handle s q
+service-open w by (request_port handle bytes) c s shut l q = open_holds w _ q (datagram-open w by handle bytes)
+service-open w by (request_wait_reply_port handle bytes) c s shut l q = open_holds w _ q (request-open w by handle bytes)
+service-open w by (reply_port handle bytes) c s shut l q = open_holds w _ q (reply-open w by handle bytes)
+service-open w by (reply_wait_receive_port handle bytes) c s shut l q = open_holds w _ q (receive-open w by handle bytes)
+service-open w by (register_thread_terminate_port handle) c s shut l q = open_holds w _ q (register-open w by handle)
+service-open w by (close handle) c s shut l q = close-open w by handle s l q
+service-open w by (duplicate_object handle access) c s shut l q = duplicate-open w by handle access s q
+service-open w by (query_object handle) c s shut l q = open_holds w _ q (query-open w by handle)
+service-open w by (create_process pid tid) c s shut l q = create-process-open w by pid tid c s q
+service-open w by (create_thread target tid) c s shut l q = create-thread-open w by target tid c s q
+service-open w by (terminate_thread target code) c s shut l q = terminate-thread-open w by target code s shut l q
+service-open w by (terminate_process target code) c s shut l q = terminate-process-open w by target code s shut l q
 
-ready-open : (w : World) (by : ThreadRow) (call : ScriptCall) (o : Option WaitRow) → IsSoundWorld w → HasShutConnects w → IsLinked w → HasOpenQueues w → KeepOpen w (ready_steps by call o w)
-ready-open w by call (Some x) s shut l q = q
-ready-open w by call None s shut l q = settled_holds (KeepOpen w) by (name_of_call call) (service_of w by call) (service-open w by call s shut l q) (λ _ _. q)
+ready-open : (w : World) (by : ThreadRow) (call : ScriptCall) (o : Option WaitRow) → (o ≡ None → CanCall w by) → IsSoundWorld w → HasShutConnects w → IsLinked w → HasOpenQueues w → KeepOpen w (ready_steps by call o w)
+ready-open w by call (Some x) c s shut l q = q
+ready-open w by call None c s shut l q = settled_holds (KeepOpen w) by (name_of_call call) (service_of w by call) (service-open w by call (c refl) s shut l q) (λ _ _. q)
 
-thread-open : (w : World) (tid : ℕ) (call : ScriptCall) (o : Option ThreadRow) → IsSoundWorld w → HasShutConnects w → IsLinked w → HasOpenQueues w → KeepOpen w (thread_steps tid call o w)
-thread-open w tid call None s shut l q = q
-thread-open w tid call (Some by) s shut l q = ready-open w by call (wait_of w tid) s shut l q
+thread-open : (w : World) (tid : ℕ) (call : ScriptCall) (o : Option ThreadRow) → live_thread w tid ≡ o → IsSoundWorld w → HasShutConnects w → IsLinked w → HasOpenQueues w → KeepOpen w (thread_steps tid call o w)
+thread-open w tid call None live s shut l q = q
+thread-open w tid call (Some by) live s shut l q = ready-open w by call (wait_of w tid) (λ idle. can-call w tid by live idle s) s shut l q
 
 -- Directives
 boot-open : (w : World) (pid tid : ℕ) → Holds (AreOpen w) (boot_line w pid tid)
@@ -537,7 +581,7 @@ queues_line w (boot pid tid) s shut l q = directed_holds (KeepOpen w) word.Boot 
 queues_line w (thread tid pid) s shut l q = directed_holds (KeepOpen w) word.Thread (thread_line w tid pid) (open_holds w (thread_line w tid pid) q (further-open w tid pid)) (λ _. q)
 queues_line w (dir path) s shut l q = directed_holds (KeepOpen w) word.Dir (dir_line w path) (open_holds w (dir_line w path) q (dir-open w path)) (λ _. q)
 queues_line w (link path target) s shut l q = directed_holds (KeepOpen w) word.Link (link_line w path target) (open_holds w (link_line w path target) q (link-open w path target)) (λ _. q)
-queues_line w (run tid call) s shut l q = thread-open w tid call (live_thread w tid) s shut l q
+queues_line w (run tid call) s shut l q = thread-open w tid call (live_thread w tid) refl s shut l q
 
 -- the row of an object that goes takes no handle, no message and no wait away
 pub queues_freed : (w : World) (o : ObjectName) → HasOpenQueues w → HasOpenQueues (basic w (Frees o))

@@ -6,16 +6,15 @@ use Rattle.lpc_base.specs.Rows.{count, has, which}
 use Rattle.lpc_base.proofs.RowWords.{every-push, has-kept, has-push}
 use Rattle.lpc_model.specs.declared.entry.Word.TheVariants as word
 use Rattle.lpc_model.specs.World.{Birth, Node, ObjectName, Path, ProcessRow, ThreadRow, WaitRow, World}
-use Rattle.lpc_model.specs.Found.{handle_count, is_connected_to, is_life, is_made_on, is_paired_to, is_sent_on, live_thread, live_threads, lives_by, lives_in, port_name, process_name, registered_by, same_birth, same_object, thread_name, wait_of}
-use Rattle.lpc_model.specs.Basics.{AddsProcess, AddsThread, Basic, Binds, Dies, Withdraws, basic, in_turn, no_handles, world_after}
-use Rattle.lpc_model.specs.Lines.{ProcArg, ScriptCall, ScriptLine, accept_connect_port, boot, close, complete_connect_port, connect_port, create_port, dir, duplicate_object, link, listen_port, query_object, register_thread_terminate_port, reply_port, reply_wait_receive_port, request_port, request_wait_reply_port, run, terminate_process, terminate_thread, thread}
+use Rattle.lpc_model.specs.Found.{handle_count, is_connected_to, is_life, is_made_on, is_paired_to, is_sent_on, live_thread, live_threads, lives_by, lives_in, port_name, process_name, registered_by, same_birth, same_object, thread_name, wait_of, is_table, free_handle}
+use Rattle.lpc_model.specs.Basics.{AddsProcess, AddsThread, Basic, Binds, Dies, Withdraws, basic, in_turn, no_handles, world_after, DrawsOrdinal, AddsHandle, with_handle}
+use Rattle.lpc_model.specs.Lines.{ProcArg, ScriptCall, ScriptLine, accept_connect_port, boot, close, complete_connect_port, connect_port, create_port, create_process, create_thread, dir, duplicate_object, link, listen_port, query_object, register_thread_terminate_port, reply_port, reply_wait_receive_port, request_port, request_wait_reply_port, run, terminate_process, terminate_thread, thread}
 use Rattle.lpc_names.specs.Walk.{LinkTo, Stands}
 use Rattle.lpc_names.specs.declared.names.Found.TheVariants.{Directory}
 use Rattle.lpc_model.specs.Named.{free_name, spelled_name}
 use Rattle.lpc_model.specs.Machine.{bare_steps, boot_line, dir_line, directive_birth, link_line, name_of_call, new_process, new_thread, ready_steps, service_of, thread_line, thread_steps, thread_test, unused_test}
 use Rattle.lpc_model.specs.Sweep.{loosened, loosens, unheld}
 use Rattle.lpc_model.specs.Linked.{AreLivesHeld, HasHeldPorts, HasHeldRows}
-use Rattle.lpc_model.specs.Standing.{NamesWhatStands}
 use Rattle.lpc_model.specs.SoundWaits.{IsSoundWorld}
 use Rattle.lpc_model.proofs.Births.{birth-self}
 use Rattle.lpc_model.proofs.SoundFrees.{fewer-pass}
@@ -30,13 +29,13 @@ use Rattle.lpc_model.proofs.SteadyReply.{reply-steady}
 use Rattle.lpc_model.proofs.SteadyReceive.{receive-steady}
 use Rattle.lpc_model.proofs.SteadyQuery.{query-steady}
 use Rattle.lpc_model.proofs.Sweeping.{unheld_ports}
-use Rattle.lpc_model.proofs.HeldSteps.{KeepLives, KeepQuiet, counts-more, handles-push, held-some, lives-more, loosened-on, not-less, ports-more, push-more, steady_lives, steady_quiet}
+use Rattle.lpc_model.proofs.HeldSteps.{KeepLives, KeepQuiet, counts-more, handles-push, held-some, lives-more, loosened-on, not-less, ports-more, push-more, steady_lives, steady_quiet, lives-handle, lives-all, quiet-all}
 use Rattle.lpc_model.proofs.HeldCreate.{create-lives, create-quiet}
 use Rattle.lpc_model.proofs.HeldConnect.{connect-lives, connect-quiet}
 use Rattle.lpc_model.proofs.HeldAccept.{accept-lives, accept-quiet}
 use Rattle.lpc_model.proofs.HeldComplete.{complete-lives, complete-quiet}
-use Rattle.lpc_model.proofs.HeldClose.{close-lives, close-quiet}
-use Rattle.lpc_model.proofs.HeldDuplicate.{duplicate-lives, duplicate-quiet}
+use Rattle.lpc_model.proofs.HeldClose.{close-loosens}
+use Rattle.lpc_model.proofs.HeldDuplicate.{handle-quiet, duplicate-lives, duplicate-quiet}
 use Rattle.lpc_base.specs.declared.status.Status.{Status}
 use Rattle.lpc_model.specs.declared.entry.CallName.{CallName}
 use Rattle.lpc_model.specs.declared.entry.CallName.TheVariants.{NtTerminateProcess, NtTerminateThread}
@@ -44,6 +43,12 @@ use Rattle.lpc_model.specs.Death.{code_status, cut_accepted, die, end_threads, n
 use Rattle.lpc_model.proofs.SteadyRegister.{register-steady}
 use Rattle.lpc_model.proofs.Ending.{answered_end, process-ends, thread-ends}
 use Rattle.lpc_model.proofs.Closing.{behind}
+use Rattle.lpc_model.proofs.Creating.{process_holds, thread_holds}
+use Rattle.lpc_model.specs.Creation.{gives_life, nt_create_process, nt_create_thread, second_birth}
+use Rattle.lpc_model.specs.Tests.{handle_row, next_birth}
+use Rattle.lpc_model.specs.Targets.{LIFE_ACCESS}
+use Rattle.lpc_model.proofs.SoundBasics.{sound-ordinal, sound-process}
+use Rattle.lpc_model.proofs.Rows.{count-change}
 
 -- NtTerminateThread and NtTerminateProcess let a thread go
 loosened-front : (xs ys : List Basic) (before : Bool) → loosened before xs ≡ true → loosened before (xs ++ ys) ≡ true
@@ -85,73 +90,6 @@ process-loosens w by target code = process-ends AreLoose w by target code (λ pi
     at own pid [] off = absurd (cc)
     at own pid (t ∷ ts) off = answered-loosens w by NtTerminateProcess own pid (code_status code) t ts
 
--- Calls
--- the processes and threads that steps leave are named by rows, where none of the steps lets a name go
-abbrev KeepLivesQuiet : World → List Basic → Type 0
-KeepLivesQuiet w bs = loosened false bs ≡ false → AreLivesHeld (world_after w bs)
-
-lives-later : (w : World) (r : Result (List Basic) Status) → Holds (KeepLives w) r → Holds (KeepLivesQuiet w) r
-lives-later w (Ok bs) held = λ _. held
-lives-later w (Err s) held = tt
-
-loose-lives : (w : World) (r : Result (List Basic) Status) → Holds AreLoose r → Holds (KeepLivesQuiet w) r
-loose-lives w (Ok bs) loose = λ quiet. absurd (cc)
-loose-lives w (Err s) loose = tt
-
-loose-quiet : (w : World) (r : Result (List Basic) Status) → Holds AreLoose r → Holds (KeepQuiet w) r
-loose-quiet w (Ok bs) loose = λ quiet. absurd (cc)
-loose-quiet w (Err s) loose = tt
-
-service-lives : (w : World) (by : ThreadRow) (call : ScriptCall) → IsSoundWorld w → NamesWhatStands w → AreLivesHeld w → Holds (KeepLivesQuiet w) (service_of w by call)
-service-lives w by (create_port name) s n held = lives-later w _ (create-lives w by name s held)
-service-lives w by (connect_port name info) s n held = lives-later w _ (connect-lives w by name info held)
-service-lives w by (listen_port handle) s n held = lives-later w _ (steady_lives w _ held (listen-steady w by handle))
-service-lives w by (accept_connect_port context message accept) s n held = lives-later w _ (accept-lives w by context message accept s held)
-service-lives w by (complete_connect_port handle) s n held = lives-later w _ (complete-lives w by handle s held)
-service-lives w by (request_port handle bytes) s n held = lives-later w _ (steady_lives w _ held (datagram-steady w by handle bytes))
-service-lives w by (request_wait_reply_port handle bytes) s n held = lives-later w _ (steady_lives w _ held (request-steady w by handle bytes))
-service-lives w by (reply_port handle bytes) s n held = lives-later w _ (steady_lives w _ held (reply-steady w by handle bytes))
-service-lives w by (reply_wait_receive_port handle bytes) s n held = lives-later w _ (steady_lives w _ held (receive-steady w by handle bytes))
-service-lives w by (register_thread_terminate_port handle) s n held = lives-later w _ (steady_lives w _ held (register-steady w by handle))
-service-lives w by (close handle) s n held = lives-later w _ (close-lives w by handle s n held)
-service-lives w by (duplicate_object handle access) s n held = lives-later w _ (duplicate-lives w by handle access s held)
-service-lives w by (query_object handle) s n held = lives-later w _ (steady_lives w _ held (query-steady w by handle))
-service-lives w by (terminate_thread target code) s n held = loose-lives w _ (thread-loosens w by target code)
-service-lives w by (terminate_process target code) s n held = loose-lives w _ (process-loosens w by target code)
-
-service-quiet : (w : World) (by : ThreadRow) (call : ScriptCall) → CanCall w by → IsSoundWorld w → HasHeldPorts w → Holds (KeepQuiet w) (service_of w by call)
-service-quiet w by (create_port name) c s held = create-quiet w by name c s held
-service-quiet w by (connect_port name info) c s held = connect-quiet w by name info held
-service-quiet w by (listen_port handle) c s held = steady_quiet w _ held (listen-steady w by handle)
-service-quiet w by (accept_connect_port context message accept) c s held = accept-quiet w by context message accept
-service-quiet w by (complete_connect_port handle) c s held = complete-quiet w by handle
-service-quiet w by (request_port handle bytes) c s held = steady_quiet w _ held (datagram-steady w by handle bytes)
-service-quiet w by (request_wait_reply_port handle bytes) c s held = steady_quiet w _ held (request-steady w by handle bytes)
-service-quiet w by (reply_port handle bytes) c s held = steady_quiet w _ held (reply-steady w by handle bytes)
-service-quiet w by (reply_wait_receive_port handle bytes) c s held = steady_quiet w _ held (receive-steady w by handle bytes)
-service-quiet w by (register_thread_terminate_port handle) c s held = steady_quiet w _ held (register-steady w by handle)
-service-quiet w by (close handle) c s held = close-quiet w by handle
-service-quiet w by (duplicate_object handle access) c s held = duplicate-quiet w by handle access s held
-service-quiet w by (query_object handle) c s held = steady_quiet w _ held (query-steady w by handle)
-service-quiet w by (terminate_thread target code) c s held = loose-quiet w _ (thread-loosens w by target code)
-service-quiet w by (terminate_process target code) c s held = loose-quiet w _ (process-loosens w by target code)
-
-ready-lives : (w : World) (by : ThreadRow) (call : ScriptCall) (o : Option WaitRow) → IsSoundWorld w → NamesWhatStands w → AreLivesHeld w → KeepLivesQuiet w (ready_steps by call o w)
-ready-lives w by call (Some x) s n held = λ _. held
-ready-lives w by call None s n held = settled_holds (KeepLivesQuiet w) by (name_of_call call) (service_of w by call) (service-lives w by call s n held) (λ _ _. λ _. held)
-
-thread-lives : (w : World) (tid : ℕ) (call : ScriptCall) (o : Option ThreadRow) → IsSoundWorld w → NamesWhatStands w → AreLivesHeld w → KeepLivesQuiet w (thread_steps tid call o w)
-thread-lives w tid call None s n held = λ _. held
-thread-lives w tid call (Some by) s n held = ready-lives w by call (wait_of w tid) s n held
-
-ready-quiet : (w : World) (by : ThreadRow) (call : ScriptCall) (o : Option WaitRow) → (o ≡ None → CanCall w by) → IsSoundWorld w → HasHeldPorts w → KeepQuiet w (ready_steps by call o w)
-ready-quiet w by call (Some x) c s held = λ _. held
-ready-quiet w by call None c s held = settled_holds (KeepQuiet w) by (name_of_call call) (service_of w by call) (service-quiet w by call (c refl) s held) (λ _ _. λ _. held)
-
-thread-quiet : (w : World) (tid : ℕ) (call : ScriptCall) (o : Option ThreadRow) → live_thread w tid ≡ o → IsSoundWorld w → HasHeldPorts w → KeepQuiet w (thread_steps tid call o w)
-thread-quiet w tid call None live s held = λ _. held
-thread-quiet w tid call (Some by) live s held = ready-quiet w by call (wait_of w tid) (λ idle. can-call w tid by live idle s) s held
-
 -- Threads that are made
 back-some : (a b : ℕ) → 1 ≤ b → 1 ≤ a + b
 back-some a b some = omega (arith, some)
@@ -160,9 +98,9 @@ sum-more : (a b c : ℕ) → b ≤ c → a + b ≤ a + c
 sum-more a b c is = omega (arith, is)
 
 -- a thread that is made holds itself
-further-thread : (w : World) (tid pid : ℕ) → AreLivesHeld w → AreLivesHeld (basic w (AddsThread (new_thread tid pid (directive_birth tid))))
-further-thread w tid pid held =
-    let t = new_thread tid pid (directive_birth tid) in
+further-thread : (w : World) (tid pid : ℕ) (birth : Birth) → AreLivesHeld w → AreLivesHeld (basic w (AddsThread (new_thread tid pid birth)))
+further-thread w tid pid birth held =
+    let t = new_thread tid pid birth in
     let v = basic w (AddsThread t) in
     let more = lives-more w v (λ b. sum-more (handle_count w (thread_name b)) _ _ (push-more (is_life b) w.threads t)) (λ b. sum-more (handle_count w (process_name b)) _ _ (push-more (lives_by w b) w.threads t)) held in
     let some = count-has (is_life t.birth) v.threads (has-push (is_life t.birth) w.threads t (birth-self t.birth)) in
@@ -172,12 +110,12 @@ further-thread w tid pid held =
     }
 
 -- A process that is made with a thread
-module _ (w : World) (pid tid : ℕ) where
+module _ (w : World) (pid tid : ℕ) (maker : Option ℕ) (birth next : Birth) where
   abbrev booted_process : ProcessRow
-  booted_process = new_process pid None (directive_birth pid)
+  booted_process = new_process pid maker birth
 
   abbrev booted_thread : ThreadRow
-  booted_thread = new_thread tid pid (directive_birth tid)
+  booted_thread = new_thread tid pid next
 
   abbrev booted : World
   booted = basic (basic w (AddsProcess booted_process)) (AddsThread booted_thread)
@@ -215,28 +153,144 @@ module _ (w : World) (pid tid : ℕ) where
   boot-ports held = ports-more w booted (λ b. counts-more _ (count (is_paired_to b) w.ports) (count (is_connected_to b) w.ports) (count (is_sent_on b) w.messages) (count (is_made_on b) w.waits) _ _ _ _ _ _ _ (booted-handles (port_name b)) (omega arith) (omega arith) (omega arith) (omega arith) (not-less _ _ (ap (count (same_birth b)) (push-each registered_by booted_thread refl w.threads)))) held
 
 -- a thread that is made has registered no port
-further-ports : (w : World) (tid pid : ℕ) → HasHeldPorts w → HasHeldPorts (basic w (AddsThread (new_thread tid pid (directive_birth tid))))
-further-ports w tid pid held =
-    let t = new_thread tid pid (directive_birth tid) in
+further-ports : (w : World) (tid pid : ℕ) (birth : Birth) → HasHeldPorts w → HasHeldPorts (basic w (AddsThread (new_thread tid pid birth)))
+further-ports w tid pid birth held =
+    let t = new_thread tid pid birth in
     ports-more w (basic w (AddsThread t)) (λ b. counts-more (handle_count w (port_name b)) (count (is_paired_to b) w.ports) (count (is_connected_to b) w.ports) (count (is_sent_on b) w.messages) (count (is_made_on b) w.waits) _ _ _ _ _ _ _
     (omega arith) (omega arith) (omega arith) (omega arith) (omega arith) (not-less _ _ (ap (count (same_birth b)) (push-each registered_by t refl w.threads)))) held
+
+-- NtCreateProcess and NtCreateThread
+record IsTabledWorld (P : World → Type 0) (by : ThreadRow) (w : World) : Type 0 where
+  tables : count (is_table by.process) w.handles ≤ 1
+  held : P w
+
+drawn-held : (P : World → Type 0) → ((w : World) (n : ℕ) → P w → P (basic w (DrawsOrdinal n))) → (by : ThreadRow) (w : World) → IsTabledWorld P by w → IsTabledWorld P by (basic w (DrawsOrdinal by.number))
+drawn-held P draws by w is = record { tables = is.tables; held = draws w by.number is.held }
+
+given-held : (P : World → Type 0) → ((w : World) (pid : ℕ) (o : ObjectName) → count (is_table pid) w.handles ≤ 1 → P w → P (basic w (AddsHandle pid (handle_row (free_handle w pid) o LIFE_ACCESS))))
+    → (by : ThreadRow) (w : World) (o : ObjectName) → IsTabledWorld P by w → IsTabledWorld P by (basic w (gives_life by (free_handle w by.process) o))
+given-held P gives by w o is = record {
+  tables = rw (count-change (is_table by.process) (is_table by.process) (with_handle (handle_row (free_handle w by.process) o LIFE_ACCESS)) (λ t. refl) w.handles) is.tables;
+  held = gives w by.process o is.tables is.held;
+}
+
+held_of : (P : World → Type 0) (w : World) (by : ThreadRow) (r : Result (List Basic) Status) → Holds (λ bs. IsTabledWorld P by (world_after w bs)) r → Holds (λ bs. loosened false bs ≡ false → P (world_after w bs)) r
+held_of P w by (Ok bs) is = λ _. is.held
+held_of P w by (Err s) is = tt
+
+-- what is kept by each of their steps
+module _ (P : World → Type 0) (draws : (w : World) (n : ℕ) → P w → P (basic w (DrawsOrdinal n)))
+    (gives : (w : World) (pid : ℕ) (o : ObjectName) → count (is_table pid) w.handles ≤ 1 → P w → P (basic w (AddsHandle pid (handle_row (free_handle w pid) o LIFE_ACCESS))))
+    (boots : (w : World) (pid tid : ℕ) (maker : Option ℕ) (birth next : Birth) → P w → P (booted w pid tid maker birth next))
+    (threads : (w : World) (tid pid : ℕ) (birth : Birth) → P w → P (basic w (AddsThread (new_thread tid pid birth)))) where
+  create-process-held : (w : World) (by : ThreadRow) (pid tid : ℕ) → CanCall w by → IsSoundWorld w → P w → Holds (λ bs. loosened false bs ≡ false → P (world_after w bs)) (nt_create_process w by pid tid)
+  create-process-held w by pid tid c s held =
+      held_of P w by (nt_create_process w by pid tid) (process_holds (IsTabledWorld P by) w by c (drawn-held P draws by) (given-held P gives by) pid tid
+      (λ new unused is.
+      let v : World = basic (basic w (DrawsOrdinal by.number)) (DrawsOrdinal by.number) in
+      let t = sound-process v (new_process pid (Some by.process) (next_birth by)) new (sound-ordinal (basic w (DrawsOrdinal by.number)) by.number (sound-ordinal w by.number s)) in
+      record { tables = t.tables by.process; held = boots v pid tid (Some by.process) (next_birth by) (second_birth by) is.held })
+      (record { tables = s.tables by.process; held = held }))
+
+  create-thread-held : (w : World) (by : ThreadRow) (target : ProcArg) (tid : ℕ) → CanCall w by → IsSoundWorld w → P w → Holds (λ bs. loosened false bs ≡ false → P (world_after w bs)) (nt_create_thread w by target tid)
+  create-thread-held w by target tid c s held =
+      held_of P w by (nt_create_thread w by target tid) (thread_holds (IsTabledWorld P by) w by c (drawn-held P draws by) (given-held P gives by) target tid
+      (λ pid live unused is. record { tables = is.tables; held = threads (basic w (DrawsOrdinal by.number)) tid pid (next_birth by) is.held })
+      (record { tables = s.tables by.process; held = held }))
+
+ordinal-ports : (w : World) (n : ℕ) → HasHeldPorts w → HasHeldPorts (basic w (DrawsOrdinal n))
+ordinal-ports w n held = quiet-all w (DrawsOrdinal n ∷ []) refl refl held
+
+ordinal-lives : (w : World) (n : ℕ) → AreLivesHeld w → AreLivesHeld (basic w (DrawsOrdinal n))
+ordinal-lives w n held = lives-all w (DrawsOrdinal n ∷ []) refl held
+
+-- Calls
+-- the processes and threads that steps leave are named by rows, where none of the steps lets a name go
+abbrev KeepLivesQuiet : World → List Basic → Type 0
+KeepLivesQuiet w bs = loosened false bs ≡ false → AreLivesHeld (world_after w bs)
+
+lives-later : (w : World) (r : Result (List Basic) Status) → Holds (KeepLives w) r → Holds (KeepLivesQuiet w) r
+lives-later w (Ok bs) held = λ _. held
+lives-later w (Err s) held = tt
+
+loose-lives : (w : World) (r : Result (List Basic) Status) → Holds AreLoose r → Holds (KeepLivesQuiet w) r
+loose-lives w (Ok bs) loose = λ quiet. absurd (cc)
+loose-lives w (Err s) loose = tt
+
+loose-quiet : (w : World) (r : Result (List Basic) Status) → Holds AreLoose r → Holds (KeepQuiet w) r
+loose-quiet w (Ok bs) loose = λ quiet. absurd (cc)
+loose-quiet w (Err s) loose = tt
+
+service-lives : (w : World) (by : ThreadRow) (call : ScriptCall) → CanCall w by → IsSoundWorld w → AreLivesHeld w → Holds (KeepLivesQuiet w) (service_of w by call)
+service-lives w by (create_port name) c s held = lives-later w _ (create-lives w by name s held)
+service-lives w by (connect_port name info) c s held = lives-later w _ (connect-lives w by name info held)
+service-lives w by (listen_port handle) c s held = lives-later w _ (steady_lives w _ held (listen-steady w by handle))
+service-lives w by (accept_connect_port context message accept) c s held = lives-later w _ (accept-lives w by context message accept s held)
+service-lives w by (complete_connect_port handle) c s held = lives-later w _ (complete-lives w by handle s held)
+service-lives w by (request_port handle bytes) c s held = lives-later w _ (steady_lives w _ held (datagram-steady w by handle bytes))
+service-lives w by (request_wait_reply_port handle bytes) c s held = lives-later w _ (steady_lives w _ held (request-steady w by handle bytes))
+service-lives w by (reply_port handle bytes) c s held = lives-later w _ (steady_lives w _ held (reply-steady w by handle bytes))
+service-lives w by (reply_wait_receive_port handle bytes) c s held = lives-later w _ (steady_lives w _ held (receive-steady w by handle bytes))
+service-lives w by (register_thread_terminate_port handle) c s held = lives-later w _ (steady_lives w _ held (register-steady w by handle))
+service-lives w by (close handle) c s held = loose-lives w _ (close-loosens w by handle)
+service-lives w by (duplicate_object handle access) c s held = lives-later w _ (duplicate-lives w by handle access s held)
+service-lives w by (query_object handle) c s held = lives-later w _ (steady_lives w _ held (query-steady w by handle))
+service-lives w by (create_process pid tid) c s held = create-process-held AreLivesHeld ordinal-lives (λ w pid o one. lives-handle w pid o LIFE_ACCESS one) boot-held further-thread w by pid tid c s held
+service-lives w by (create_thread target tid) c s held = create-thread-held AreLivesHeld ordinal-lives (λ w pid o one. lives-handle w pid o LIFE_ACCESS one) boot-held further-thread w by target tid c s held
+service-lives w by (terminate_thread target code) c s held = loose-lives w _ (thread-loosens w by target code)
+service-lives w by (terminate_process target code) c s held = loose-lives w _ (process-loosens w by target code)
+
+service-quiet : (w : World) (by : ThreadRow) (call : ScriptCall) → CanCall w by → IsSoundWorld w → HasHeldPorts w → Holds (KeepQuiet w) (service_of w by call)
+service-quiet w by (create_port name) c s held = create-quiet w by name c s held
+service-quiet w by (connect_port name info) c s held = connect-quiet w by name info held
+service-quiet w by (listen_port handle) c s held = steady_quiet w _ held (listen-steady w by handle)
+service-quiet w by (accept_connect_port context message accept) c s held = accept-quiet w by context message accept
+service-quiet w by (complete_connect_port handle) c s held = complete-quiet w by handle
+service-quiet w by (request_port handle bytes) c s held = steady_quiet w _ held (datagram-steady w by handle bytes)
+service-quiet w by (request_wait_reply_port handle bytes) c s held = steady_quiet w _ held (request-steady w by handle bytes)
+service-quiet w by (reply_port handle bytes) c s held = steady_quiet w _ held (reply-steady w by handle bytes)
+service-quiet w by (reply_wait_receive_port handle bytes) c s held = steady_quiet w _ held (receive-steady w by handle bytes)
+service-quiet w by (register_thread_terminate_port handle) c s held = steady_quiet w _ held (register-steady w by handle)
+service-quiet w by (close handle) c s held = loose-quiet w _ (close-loosens w by handle)
+service-quiet w by (duplicate_object handle access) c s held = duplicate-quiet w by handle access s held
+service-quiet w by (query_object handle) c s held = steady_quiet w _ held (query-steady w by handle)
+service-quiet w by (create_process pid tid) c s held = create-process-held HasHeldPorts ordinal-ports (λ w pid o one. handle-quiet w pid o LIFE_ACCESS one) boot-ports further-ports w by pid tid c s held
+service-quiet w by (create_thread target tid) c s held = create-thread-held HasHeldPorts ordinal-ports (λ w pid o one. handle-quiet w pid o LIFE_ACCESS one) boot-ports further-ports w by target tid c s held
+service-quiet w by (terminate_thread target code) c s held = loose-quiet w _ (thread-loosens w by target code)
+service-quiet w by (terminate_process target code) c s held = loose-quiet w _ (process-loosens w by target code)
+
+ready-lives : (w : World) (by : ThreadRow) (call : ScriptCall) (o : Option WaitRow) → (o ≡ None → CanCall w by) → IsSoundWorld w → AreLivesHeld w → KeepLivesQuiet w (ready_steps by call o w)
+ready-lives w by call (Some x) c s held = λ _. held
+ready-lives w by call None c s held = settled_holds (KeepLivesQuiet w) by (name_of_call call) (service_of w by call) (service-lives w by call (c refl) s held) (λ _ _. λ _. held)
+
+thread-lives : (w : World) (tid : ℕ) (call : ScriptCall) (o : Option ThreadRow) → live_thread w tid ≡ o → IsSoundWorld w → AreLivesHeld w → KeepLivesQuiet w (thread_steps tid call o w)
+thread-lives w tid call None live s held = λ _. held
+thread-lives w tid call (Some by) live s held = ready-lives w by call (wait_of w tid) (λ idle. can-call w tid by live idle s) s held
+
+ready-quiet : (w : World) (by : ThreadRow) (call : ScriptCall) (o : Option WaitRow) → (o ≡ None → CanCall w by) → IsSoundWorld w → HasHeldPorts w → KeepQuiet w (ready_steps by call o w)
+ready-quiet w by call (Some x) c s held = λ _. held
+ready-quiet w by call None c s held = settled_holds (KeepQuiet w) by (name_of_call call) (service_of w by call) (service-quiet w by call (c refl) s held) (λ _ _. λ _. held)
+
+thread-quiet : (w : World) (tid : ℕ) (call : ScriptCall) (o : Option ThreadRow) → live_thread w tid ≡ o → IsSoundWorld w → HasHeldPorts w → KeepQuiet w (thread_steps tid call o w)
+thread-quiet w tid call None live s held = λ _. held
+thread-quiet w tid call (Some by) live s held = ready-quiet w by call (wait_of w tid) (λ idle. can-call w tid by live idle s) s held
 
 -- Directives
 boot-lives : (w : World) (pid tid : ℕ) → AreLivesHeld w → Holds (KeepLives w) (boot_line w pid tid)
 unfolding boot_line
-boot-lives w pid tid held = bind_holds (unused_test w pid tid) _ (KeepLives w) (λ _ _. boot-held w pid tid held)
+boot-lives w pid tid held = bind_holds (unused_test w pid tid) _ (KeepLives w) (λ _ _. boot-held w pid tid None (directive_birth pid pid) (directive_birth tid pid) held)
 
 boot-quiet : (w : World) (pid tid : ℕ) → HasHeldPorts w → Holds (KeepQuiet w) (boot_line w pid tid)
 unfolding boot_line
-boot-quiet w pid tid held = bind_holds (unused_test w pid tid) _ (KeepQuiet w) (λ _ _. λ _. boot-ports w pid tid held)
+boot-quiet w pid tid held = bind_holds (unused_test w pid tid) _ (KeepQuiet w) (λ _ _. λ _. boot-ports w pid tid None (directive_birth pid pid) (directive_birth tid pid) held)
 
 further-lives : (w : World) (tid pid : ℕ) → AreLivesHeld w → Holds (KeepLives w) (thread_line w tid pid)
 unfolding thread_line
-further-lives w tid pid held = bind_holds (thread_test w tid pid) _ (KeepLives w) (λ _ _. further-thread w tid pid held)
+further-lives w tid pid held = bind_holds (thread_test w tid pid) _ (KeepLives w) (λ _ _. further-thread w tid pid (directive_birth tid pid) held)
 
 further-quiet : (w : World) (tid pid : ℕ) → HasHeldPorts w → Holds (KeepQuiet w) (thread_line w tid pid)
 unfolding thread_line
-further-quiet w tid pid held = bind_holds (thread_test w tid pid) _ (KeepQuiet w) (λ _ _. λ _. further-ports w tid pid held)
+further-quiet w tid pid held = bind_holds (thread_test w tid pid) _ (KeepQuiet w) (λ _ _. λ _. further-ports w tid pid (directive_birth tid pid) held)
 
 -- a name that is bound holds no row
 bound-lives : (w : World) (path : Path) (node : Node Birth) → AreLivesHeld w → AreLivesHeld (basic w (Binds path node))
@@ -264,13 +318,13 @@ link-quiet w text target held =
 
 -- Lines
 -- before rows go, each process and thread row is named by a row, where the line lets no name go
-pub lives_kept : (w : World) (line : ScriptLine) → IsSoundWorld w → NamesWhatStands w → AreLivesHeld w → loosened false (bare_steps line w) ≡ false → AreLivesHeld (world_after w (bare_steps line w))
+pub lives_kept : (w : World) (line : ScriptLine) → IsSoundWorld w → AreLivesHeld w → loosened false (bare_steps line w) ≡ false → AreLivesHeld (world_after w (bare_steps line w))
 unfolding bare_steps
-lives_kept w (boot pid tid) s n held = directed_holds (KeepLivesQuiet w) word.Boot (boot_line w pid tid) (lives-later w (boot_line w pid tid) (boot-lives w pid tid held)) (λ _. λ _. held)
-lives_kept w (thread tid pid) s n held = directed_holds (KeepLivesQuiet w) word.Thread (thread_line w tid pid) (lives-later w (thread_line w tid pid) (further-lives w tid pid held)) (λ _. λ _. held)
-lives_kept w (dir path) s n held = directed_holds (KeepLivesQuiet w) word.Dir (dir_line w path) (lives-later w (dir_line w path) (dir-lives w path held)) (λ _. λ _. held)
-lives_kept w (link path target) s n held = directed_holds (KeepLivesQuiet w) word.Link (link_line w path target) (lives-later w (link_line w path target) (link-lives w path target held)) (λ _. λ _. held)
-lives_kept w (run tid call) s n held = thread-lives w tid call (live_thread w tid) s n held
+lives_kept w (boot pid tid) s held = directed_holds (KeepLivesQuiet w) word.Boot (boot_line w pid tid) (lives-later w (boot_line w pid tid) (boot-lives w pid tid held)) (λ _. λ _. held)
+lives_kept w (thread tid pid) s held = directed_holds (KeepLivesQuiet w) word.Thread (thread_line w tid pid) (lives-later w (thread_line w tid pid) (further-lives w tid pid held)) (λ _. λ _. held)
+lives_kept w (dir path) s held = directed_holds (KeepLivesQuiet w) word.Dir (dir_line w path) (lives-later w (dir_line w path) (dir-lives w path held)) (λ _. λ _. held)
+lives_kept w (link path target) s held = directed_holds (KeepLivesQuiet w) word.Link (link_line w path target) (lives-later w (link_line w path target) (link-lives w path target held)) (λ _. λ _. held)
+lives_kept w (run tid call) s held = thread-lives w tid call (live_thread w tid) refl s held
 
 -- and each port row, where the line lets no name go
 pub ports_kept : (w : World) (line : ScriptLine) → IsSoundWorld w → HasHeldPorts w → loosened false (bare_steps line w) ≡ false → HasHeldPorts (world_after w (bare_steps line w))
@@ -282,5 +336,5 @@ ports_kept w (link path target) s held = directed_holds (KeepQuiet w) word.Link 
 ports_kept w (run tid call) s held = thread-quiet w tid call (live_thread w tid) refl s held
 
 -- so such a line leaves no row that no row names
-pub quiet_line : (w : World) (line : ScriptLine) → IsSoundWorld w → NamesWhatStands w → HasHeldRows w → loosened false (bare_steps line w) ≡ false → unheld (world_after w (bare_steps line w)) ≡ []
-quiet_line w line s n held quiet = unheld_ports (world_after w (bare_steps line w)) (lives_kept w line s n held.lives quiet) (ports_kept w line s held.ports quiet)
+pub quiet_line : (w : World) (line : ScriptLine) → IsSoundWorld w → HasHeldRows w → loosened false (bare_steps line w) ≡ false → unheld (world_after w (bare_steps line w)) ≡ []
+quiet_line w line s held quiet = unheld_ports (world_after w (bare_steps line w)) (lives_kept w line s held.lives quiet) (ports_kept w line s held.ports quiet)

@@ -13,7 +13,7 @@ use Rattle.lpc_model.specs.Basics.{AddsThread, Basic, Dies, DrawsIdentifier, Dra
 use Rattle.lpc_model.specs.Deaths.{HasSingleRegistrations, are_different, registers_once}
 use Rattle.lpc_model.specs.Named.{free_name, spelled_name}
 use Rattle.lpc_model.specs.Sweep.{free_unheld, sweep, unheld}
-use Rattle.lpc_model.specs.Lines.{ScriptCall, ScriptLine, boot, dir, link, register_thread_terminate_port, run, terminate_process, terminate_thread, thread}
+use Rattle.lpc_model.specs.Lines.{ScriptCall, ScriptLine, boot, create_process, create_thread, dir, link, register_thread_terminate_port, run, terminate_process, terminate_thread, thread, ProcArg}
 use Rattle.lpc_model.specs.Machine.{bare_steps, boot_line, dir_line, link_line, name_of_call, ready_steps, service_of, step, thread_line, thread_steps, thread_test, unused_test}
 use Rattle.lpc_model.specs.SoundWaits.{IsSoundWorld}
 use Rattle.lpc_model.proofs.Holding.{Holds, bind_holds, directed_holds, settled_holds}
@@ -24,6 +24,8 @@ use Rattle.lpc_model.proofs.Undying.{AreUndying, is_undying, register_holds, ser
 use Rattle.lpc_model.proofs.Ending.{AreEnding, is_ending, process-ending, thread-ending}
 use Rattle.lpc_model.specs.Lawful.{HasThreadsOnce}
 use Rattle.lpc_model.specs.Register.{is_registered}
+use Rattle.lpc_model.proofs.Creating.{process-made, thread-made}
+use Rattle.lpc_model.specs.Creation.{nt_create_process, nt_create_thread}
 
 first-true : (x y : Bool) → (x && y) ≡ true → x ≡ true
 first-true x y is = grind arith
@@ -111,7 +113,23 @@ registered-single w by b off once c l =
     new : (l n f : Bool) → n ≡ true → (l && (not n || f)) ≡ true → f ≡ true
     new l n f same is = grind arith
 
+-- Processes and threads that are made
+abbrev AreLasting : List Basic → Type 0
+AreLasting bs = every is_lasting bs ≡ true
+
+lasting_holds : (w : World) (r : Result (List Basic) Status) → HasSingleRegistrations w → Holds AreLasting r → Holds (KeepSingle w) r
+lasting_holds w (Ok bs) l all = single-all w bs all l
+lasting_holds w (Err s) l all = tt
+
+create-process-lasting : (w : World) (by : ThreadRow) (pid tid : ℕ) → Holds AreLasting (nt_create_process w by pid tid)
+create-process-lasting w by pid tid = process-made AreLasting w by pid tid (λ _ _. refl)
+
+create-thread-lasting : (w : World) (by : ThreadRow) (target : ProcArg) (tid : ℕ) → Holds AreLasting (nt_create_thread w by target tid)
+create-thread-lasting w by target tid = thread-made AreLasting w by target tid (λ pid _ _. refl)
+
 service-single : (w : World) (by : ThreadRow) (call : ScriptCall) → HasThreadsOnce w → CanCall w by → HasSingleRegistrations w → Holds (KeepSingle w) (service_of w by call)
+service-single w by (create_process pid tid) once c l = lasting_holds w _ l (create-process-lasting w by pid tid)
+service-single w by (create_thread target tid) once c l = lasting_holds w _ l (create-thread-lasting w by target tid)
 service-single w by (terminate_thread target code) once c l = ending_holds w _ l (thread-ending w by target code)
 service-single w by (terminate_process target code) once c l = ending_holds w _ l (process-ending w by target code)
 service-single w by (register_thread_terminate_port handle) once c l = register_holds (KeepSingle w) w by handle (λ b new same. at b new same)
@@ -133,13 +151,6 @@ thread-single w tid call None live s once l = l
 thread-single w tid call (Some by) live s once l = ready-single w by call (wait_of w tid) (λ idle. can-call w tid by live idle s) once l
 
 -- Directives
-abbrev AreLasting : List Basic → Type 0
-AreLasting bs = every is_lasting bs ≡ true
-
-lasting_holds : (w : World) (r : Result (List Basic) Status) → HasSingleRegistrations w → Holds AreLasting r → Holds (KeepSingle w) r
-lasting_holds w (Ok bs) l all = single-all w bs all l
-lasting_holds w (Err s) l all = tt
-
 boot-lasting : (w : World) (pid tid : ℕ) → Holds AreLasting (boot_line w pid tid)
 unfolding boot_line
 boot-lasting w pid tid = bind_holds (unused_test w pid tid) _ AreLasting (λ _ _. refl)

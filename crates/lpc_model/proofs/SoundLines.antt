@@ -1,28 +1,29 @@
 -- The step of each line leaves sound waits behind, and so does each line of a script.
-use Rattle.std.proofs.Common.{◌≡◌, ℕ, List, [], ◌∷◌, ◌++◌, Bool, true, false, not, refl, subst, arith}
+use Rattle.std.proofs.Common.{◌≡◌, ℕ, List, [], ◌∷◌, ◌++◌, Bool, true, false, refl, subst, arith}
 use Rattle.std.specs.Prelude.{◌||◌, ◌==◌, Option, Some, None, is_some}
 use Rattle.std.proofs.lemmas.Bool.{eqb-true}
 use Rattle.std.proofs.lemmas.Bool.Decides.{nat_tests}
 use Rattle.lpc_base.specs.Rows.{first, has}
 use Rattle.lpc_base.proofs.RowWords.{first-passes, has-push}
 use Rattle.lpc_base.proofs.RowMaps.{every-first}
-use Rattle.lpc_base.specs.declared.status.TheConstants.{INVALID_CID, OBJECT_NAME_COLLISION}
+use Rattle.lpc_base.specs.declared.status.TheConstants.{OBJECT_NAME_COLLISION}
 use Rattle.lpc_model.specs.declared.entry.Word.TheVariants as word
-use Rattle.lpc_model.specs.World.{ThreadRow, WaitRow, World, no_rows}
+use Rattle.lpc_model.specs.World.{Birth, ProcessRow, ThreadRow, WaitRow, World, no_rows}
 use Rattle.lpc_model.specs.Found.{is_live, is_table, live_thread, lives_in, wait_of, was_process, was_thread}
-use Rattle.lpc_model.specs.Basics.{AddsProcess, Basic, basic, no_handles, world_after}
+use Rattle.lpc_model.specs.Basics.{AddsProcess, AddsThread, DrawsOrdinal, basic, no_handles, world_after, Basic}
 use Rattle.lpc_model.specs.Sweep.{sweep}
 use Rattle.lpc_model.proofs.SoundFrees.{swept-sound}
 use Rattle.lpc_model.proofs.SoundQueues.{after-append}
-use Rattle.lpc_model.specs.Lines.{ScriptCall, ScriptLine, accept_connect_port, boot, close, complete_connect_port, connect_port, create_port, dir, duplicate_object, link, listen_port, query_object, register_thread_terminate_port, reply_port, reply_wait_receive_port, request_port, request_wait_reply_port, run, terminate_process, terminate_thread, thread}
-use Rattle.lpc_model.specs.Machine.{boot_line, dir_line, directive_birth, link_line, live_test, name_of_call, new_process, new_thread, ready_steps, service_of, bare_steps, thread_count_test, thread_line, thread_steps, thread_test, unused_test, unused_thread_test}
+use Rattle.lpc_model.specs.Lines.{ProcArg, ScriptCall, ScriptLine, accept_connect_port, boot, close, complete_connect_port, connect_port, create_port, create_process, create_thread, dir, duplicate_object, link, listen_port, query_object, register_thread_terminate_port, reply_port, reply_wait_receive_port, request_port, request_wait_reply_port, run, terminate_process, terminate_thread, thread}
+use Rattle.lpc_model.specs.Machine.{boot_line, dir_line, directive_birth, link_line, name_of_call, new_process, new_thread, ready_steps, service_of, bare_steps, thread_line, thread_steps, thread_test, unused_test}
+use Rattle.lpc_model.specs.Tests.{next_birth}
 use Rattle.lpc_model.specs.Named.{free_name, spelled_name}
 use Rattle.lpc_names.specs.Walk.{LinkTo, Stands}
 use Rattle.lpc_names.specs.declared.names.Found.TheVariants.{Directory}
 use Rattle.lpc_model.specs.SoundWaits.{HasShutConnects, HasSoundWaits, IsSoundWorld, StepsStaySound, has_home}
-use Rattle.lpc_model.proofs.Holding.{Holds, bind_holds, directed_holds, holds_any, holds_ok, not_refused, settled_holds}
+use Rattle.lpc_model.proofs.Holding.{Holds, bind_holds, directed_holds, holds_ok, not_refused, settled_holds}
 use Rattle.lpc_model.proofs.Usable.{CanCall, can-call}
-use Rattle.lpc_model.proofs.SoundBasics.{sound-binds, sound-process, sound-thread}
+use Rattle.lpc_model.proofs.SoundBasics.{sound-binds, sound-handle, sound-ordinal, sound-process, sound-thread}
 use Rattle.lpc_model.proofs.SoundCalls.{LeaveSound}
 use Rattle.lpc_model.proofs.SoundCreate.{create-sound}
 use Rattle.lpc_model.proofs.SoundConnect.{connect-sound}
@@ -37,7 +38,38 @@ use Rattle.lpc_model.proofs.SoundClose.{close-sound}
 use Rattle.lpc_model.proofs.SoundDuplicate.{duplicate-sound}
 use Rattle.lpc_model.proofs.SoundQuery.{query-sound}
 use Rattle.lpc_model.proofs.SoundRegister.{register-sound}
+use Rattle.lpc_model.specs.Creation.{nt_create_process, nt_create_thread, second_birth}
+use Rattle.lpc_model.specs.Targets.{LIFE_ACCESS}
+use Rattle.lpc_model.proofs.Creating.{process_holds, tested-further, thread_holds}
 use Rattle.lpc_model.proofs.SoundTerminate.{terminate-process-sound, terminate-thread-sound}
+
+-- Processes and threads that are made
+-- a process that lives has a table of handles
+live-home : (w : World) (pid : ℕ) → IsSoundWorld w → is_live w pid ≡ true → has (is_table pid) w.handles ≡ true
+live-home w pid s is = at (first (lives_in pid) w.threads) refl is
+  where
+    at : (o : Option ThreadRow) → first (lives_in pid) w.threads ≡ o → is_some o ≡ true → has (is_table pid) w.handles ≡ true
+    at None here is = absurd (cc)
+    at (Some t) here is =
+        let lives = first-passes (lives_in pid) w.threads t here in
+        let same : (t.process == pid) ≡ true = grind arith in
+        subst (λ n. has (is_table n) w.handles ≡ true) (eqb-true t.process pid same) (every-first (has_home w) (lives_in pid) w.threads t s.homes here)
+
+-- a process and its first thread
+booted-sound : (w : World) (p : ProcessRow) (tid : ℕ) (birth : Birth) → was_process w p.number ≡ false → was_thread w tid ≡ false → IsSoundWorld w → IsSoundWorld (basic (basic w (AddsProcess p)) (AddsThread (new_thread tid p.number birth)))
+booted-sound w p tid birth new unused s =
+    let home : has (is_table p.number) (w.handles ++ no_handles p.number ∷ []) ≡ true = has-push (is_table p.number) w.handles (no_handles p.number) (grind (arith, nat_tests)) in
+    sound-thread (basic w (AddsProcess p)) (new_thread tid p.number birth) home unused (sound-process w p new s)
+
+create-process-sound : (w : World) (by : ThreadRow) (pid tid : ℕ) → CanCall w by → IsSoundWorld w → Holds (LeaveSound w) (nt_create_process w by pid tid)
+create-process-sound w by pid tid c s =
+    process_holds IsSoundWorld w by c (λ v is. sound-ordinal v by.number is) (λ v o is. sound-handle v by.process o LIFE_ACCESS is) pid tid
+    (λ new unused is. booted-sound (basic (basic w (DrawsOrdinal by.number)) (DrawsOrdinal by.number)) (new_process pid (Some by.process) (next_birth by)) tid (second_birth by) new unused is) s
+
+create-thread-sound : (w : World) (by : ThreadRow) (target : ProcArg) (tid : ℕ) → CanCall w by → IsSoundWorld w → Holds (LeaveSound w) (nt_create_thread w by target tid)
+create-thread-sound w by target tid c s =
+    thread_holds IsSoundWorld w by c (λ v is. sound-ordinal v by.number is) (λ v o is. sound-handle v by.process o LIFE_ACCESS is) target tid
+    (λ pid live unused is. sound-thread (basic w (DrawsOrdinal by.number)) (new_thread tid pid (next_birth by)) (live-home w pid s live) unused is) s
 
 -- Calls
 service-sound : (w : World) (by : ThreadRow) (call : ScriptCall) → CanCall w by → IsSoundWorld w → HasShutConnects w → Holds (LeaveSound w) (service_of w by call)
@@ -54,6 +86,8 @@ service-sound w by (register_thread_terminate_port handle) c s shut = register-s
 service-sound w by (close handle) c s shut = close-sound w by handle s
 service-sound w by (duplicate_object handle access) c s shut = duplicate-sound w by handle access s
 service-sound w by (query_object handle) c s shut = query-sound w by handle s
+service-sound w by (create_process pid tid) c s shut = create-process-sound w by pid tid c s
+service-sound w by (create_thread target tid) c s shut = create-thread-sound w by target tid c s
 service-sound w by (terminate_thread target code) c s shut = terminate-thread-sound w by target code s shut
 service-sound w by (terminate_process target code) c s shut = terminate-process-sound w by target code s shut
 
@@ -80,36 +114,14 @@ boot-sound w pid tid s =
     let neither = not_refused (was_process w pid || was_thread w tid) OBJECT_NAME_COLLISION u is in
     let new = first-unused (was_process w pid) (was_thread w tid) neither in
     let unused = second-unused (was_process w pid) (was_thread w tid) neither in
-    let booted = new_process pid None (directive_birth pid) in
-    let home : has (is_table pid) (w.handles ++ no_handles pid ∷ []) ≡ true = has-push (is_table pid) w.handles (no_handles pid) (grind (arith, nat_tests)) in
-    sound-thread (basic w (AddsProcess booted)) (new_thread tid pid (directive_birth tid)) home unused (sound-process w booted new s))
-
--- a process that lives has a table of handles
-live-home : (w : World) (pid : ℕ) → IsSoundWorld w → is_live w pid ≡ true → has (is_table pid) w.handles ≡ true
-live-home w pid s is = at (first (lives_in pid) w.threads) refl is
-  where
-    at : (o : Option ThreadRow) → first (lives_in pid) w.threads ≡ o → is_some o ≡ true → has (is_table pid) w.handles ≡ true
-    at None here is = absurd (cc)
-    at (Some t) here is =
-        let lives = first-passes (lives_in pid) w.threads t here in
-        let same : (t.process == pid) ≡ true = grind arith in
-        subst (λ n. has (is_table n) w.handles ≡ true) (eqb-true t.process pid same) (every-first (has_home w) (lives_in pid) w.threads t s.homes here)
-
--- the tests of a further thread find its process live, and its number unused
-pub tested-further : (w : World) (tid pid : ℕ) → Holds (λ _. (is_live w pid ≡ true) × (was_thread w tid ≡ false)) (thread_test w tid pid)
-tested-further w tid pid =
-    let P : Unit {0} → Type 0 = λ _. (is_live w pid ≡ true) × (was_thread w tid ≡ false) in
-    bind_holds (live_test w pid) _ P (λ u is.
-    let off = not_refused (not (is_live w pid)) INVALID_CID u is in
-    let lives : is_live w pid ≡ true = grind arith in
-    bind_holds (unused_thread_test w tid) _ P (λ v new. holds_any ((is_live w pid ≡ true) × (was_thread w tid ≡ false)) (lives, not_refused (was_thread w tid) OBJECT_NAME_COLLISION v new) (thread_count_test w pid)))
+    booted-sound w (new_process pid None (directive_birth pid pid)) tid (directive_birth tid pid) new unused s)
 
 further-sound : (w : World) (tid pid : ℕ) → IsSoundWorld w → Holds (LeaveSound w) (thread_line w tid pid)
 unfolding thread_line
 further-sound w tid pid s =
     bind_holds (thread_test w tid pid) _ (LeaveSound w) (λ u is.
     let found = holds_ok (λ _. (is_live w pid ≡ true) × (was_thread w tid ≡ false)) (thread_test w tid pid) u (tested-further w tid pid) is in
-    sound-thread w (new_thread tid pid (directive_birth tid)) (live-home w pid s found.0) found.1 s)
+    sound-thread w (new_thread tid pid (directive_birth tid pid)) (live-home w pid s found.0) found.1 s)
 
 dir-sound : (w : World) (text : List ℕ) → IsSoundWorld w → Holds (LeaveSound w) (dir_line w text)
 unfolding dir_line

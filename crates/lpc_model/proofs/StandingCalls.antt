@@ -2,7 +2,7 @@
 use Rattle.std.proofs.Common.{Bool, List, None, Option, Some, [], arith, cond, false, map, not, refl, subst, sym, true, ℕ, ◌++◌, ◌∙◌, ◌∷◌, ◌≡◌}
 use Rattle.std.specs.Prelude.{◌&&◌, ◌||◌, is_none, is_some, option_and_then, option_map, Result, Ok, Err, if◌then◌else◌}
 use Rattle.lpc_base.specs.Rows.{change, every, first, given, has, passes, when}
-use Rattle.lpc_base.proofs.RowWords.{every-append, first-passes, has-change}
+use Rattle.lpc_base.proofs.RowWords.{every-append, every-more, first-passes, has-change, has-push}
 use Rattle.lpc_base.proofs.RowMaps.{every-both, every-first}
 use Rattle.lpc_base.specs.declared.limits.TheConstants.{MESSAGE_LIMIT}
 use Rattle.lpc_base.specs.declared.port_kind.PortKind.TheVariants.{Connection, Unnamed}
@@ -13,8 +13,8 @@ use Rattle.lpc_names.specs.Walk.{Stands}
 use Rattle.lpc_names.specs.declared.names.Found.TheVariants.{Item}
 use Rattle.lpc_model.specs.declared.entry.Word.TheVariants as word
 use Rattle.lpc_model.specs.World.{Birth, Creator, HandleRow, HandleTable, Message, MessageRow, PortRow, ThreadRow, WaitRow, World, no_rows}
-use Rattle.lpc_model.specs.Found.{free_handle, handle_at, has_value, is_connected_to, is_connection_port, is_cut, is_made_on, is_paired_to, is_port, is_queued, is_queued_connect, is_request, is_table, is_the, live_thread, live_threads, pair_of, port_name, port_row, queue_of, route, rows_in, same_birth, wait_of, way}
-use Rattle.lpc_model.specs.Basics.{Accepts, AddsHandle, Awaits, Basic, Binds, Completes, Dies, DrawsIdentifier, DrawsOrdinal, DropsHandle, Empties, Joins, Makes, Receives, Registers, Tells, Unbinds, Unregisters, Wakes, Withdraws, basic, completed, end_each, joined, paired, world_after}
+use Rattle.lpc_model.specs.Found.{free_handle, handle_at, has_value, is_born_process, is_born_thread, is_connected_to, is_connection_port, is_cut, is_made_on, is_paired_to, is_port, is_queued, is_queued_connect, is_request, is_table, is_the, live_thread, live_threads, pair_of, port_name, port_row, process_name, queue_of, route, rows_in, same_birth, thread_name, wait_of, way}
+use Rattle.lpc_model.specs.Basics.{Accepts, AddsHandle, AddsProcess, AddsThread, Awaits, Basic, Binds, Completes, Dies, DrawsIdentifier, DrawsOrdinal, DropsHandle, Empties, Joins, Makes, Receives, Registers, Tells, Unbinds, Unregisters, Wakes, Withdraws, basic, completed, end_each, joined, paired, world_after}
 use Rattle.lpc_model.specs.Sweep.{sweep}
 use Rattle.lpc_model.specs.Message.{asks, message_test}
 use Rattle.lpc_model.specs.Fields.{h, info, max}
@@ -26,11 +26,11 @@ use Rattle.lpc_model.specs.Connect.{Completable, ConnectAnswer, accept_steps, an
 use Rattle.lpc_model.specs.Request.{Sendable, answered_test, datagram_send_test, datagram_start, datagram_test, given_reply, is_spent, nt_reply_port, nt_reply_wait_receive_port, nt_request_port, nt_request_wait_reply_port, optional_message, receive_steps, receive_test, receive_wait, request_start, request_wait, send_test, sent_by}
 use Rattle.lpc_model.specs.Counts.{asked, nt_duplicate_object, nt_query_object, rights_test}
 use Rattle.lpc_model.specs.Close.{close_handle, close_port, closed_row, cut_pair, end_accepted, end_request, is_accepted_across, is_across, is_last, is_receive_across, is_receiver, is_request_across, nt_close, post_closed, server_of, told_of, wake}
-use Rattle.lpc_model.specs.Lines.{ProcArg, ScriptCall, ScriptLine, accept_connect_port, boot, close, complete_connect_port, connect_port, create_port, dir, duplicate_object, link, listen_port, query_object, register_thread_terminate_port, reply_port, reply_wait_receive_port, request_port, request_wait_reply_port, run, terminate_process, terminate_thread, thread}
+use Rattle.lpc_model.specs.Lines.{ProcArg, ScriptCall, ScriptLine, accept_connect_port, boot, close, complete_connect_port, connect_port, create_port, create_process, create_thread, dir, duplicate_object, link, listen_port, query_object, register_thread_terminate_port, reply_port, reply_wait_receive_port, request_port, request_wait_reply_port, run, terminate_process, terminate_thread, thread}
 use Rattle.lpc_model.specs.Machine.{bare_steps, boot_line, dir_line, link_line, name_of_call, ready_steps, service_of, thread_line, thread_steps, thread_test, unused_test}
 use Rattle.lpc_model.specs.SoundWaits.{HasShutConnects, IsSoundWorld}
 use Rattle.lpc_model.specs.Linked.{IsLinked, is_lone_offer, is_unjoined}
-use Rattle.lpc_model.specs.Standing.{NamesWhatStands, StepsNameWhatStands, has_near_queue, is_near, is_to_port}
+use Rattle.lpc_model.specs.Standing.{NamesWhatStands, StepsNameWhatStands, has_near_queue, is_near, names_object}
 use Rattle.lpc_model.proofs.Births.{birth-same, birth-self}
 use Rattle.lpc_model.proofs.Holding.{Holds, bind_holds, directed_holds, found_ok, holds_ok, settled_holds}
 use Rattle.lpc_model.proofs.Usable.{CanCall, IsUsable, by_port_kind, can-call, if-same, port-usable}
@@ -46,7 +46,7 @@ use Rattle.lpc_model.proofs.LinkedAccept.{lone-parts}
 use Rattle.lpc_model.proofs.LinkedJoins.{row-joined}
 use Rattle.lpc_model.proofs.LinkedSteps.{made-found, push-passes}
 use Rattle.lpc_model.proofs.LinkedCalls.{unmade}
-use Rattle.lpc_model.proofs.Standing.{AreNaming, cut-names, is_naming, kept, naming-all, swept-names}
+use Rattle.lpc_model.proofs.Standing.{AreNaming, cut-names, is_naming, kept, naming-all, object-kept, swept-names}
 use Rattle.lpc_model.specs.Register.{is_registered, nt_register_thread_terminate_port, register_steps, registration_test}
 use Rattle.lpc_model.specs.Death.{code_status, die, end_threads, nt_terminate_process, nt_terminate_thread}
 use Rattle.lpc_model.specs.declared.entry.CallName.TheVariants.{NtRegisterThreadTerminatePort, NtTerminateProcess, NtTerminateThread}
@@ -55,6 +55,8 @@ use Rattle.lpc_model.proofs.Ending.{end-keeps, process-ends, thread-ends, told-f
 use Rattle.lpc_model.proofs.SoundTerminate.{IsSafe, die-safe, enter-safe, handle-safe, shut-of, sound-of, unregister-safe}
 use Rattle.lpc_model.proofs.SoundDeath.{asked-less, asked-none, die-holds, heard-less, is_off, parting}
 use Rattle.lpc_model.proofs.Dying.{accepted_across, asked_across, cut-parts, gone, received_across}
+use Rattle.lpc_model.proofs.Creating.{process-made, thread-made}
+use Rattle.lpc_model.specs.Creation.{gives_life, new_process, new_thread, nt_create_process, nt_create_thread, second_birth, second_handle}
 
 -- the steps leave a world in which what rows name stands
 abbrev pub KeepNames : World → List Basic → Type 0
@@ -202,6 +204,8 @@ joined-near w client server context one two n =
     let k = kept w v (record {
       ports = λ c is. rw (has-joined c) is;
       queues = near;
+      processes = λ c is. is;
+      threads = λ c is. is;
     }) (λ all. all) (λ all. all) (λ all. all) (λ all. all) in
     k.names n
   where
@@ -369,7 +373,8 @@ receive-names w by handle bytes =
 -- fewer rows name what stands
 fewer-names : (w v : World) → IsFewer w v → NamesWhatStands w → NamesWhatStands v
 fewer-names w v l n = record {
-  handles = rw (l.handles, l.ports) n.handles;
+  handles = subst (λ hs. every (λ t. every (names_object v) t.rows) hs ≡ true) (sym l.handles) (every-more (λ t. every (names_object w) t.rows) (λ t. every (names_object v) t.rows)
+      (λ t is. every-more (names_object w) (names_object v) (object-kept w v (λ c is. subst (λ ps. has (is_port c) ps ≡ true) (sym l.ports) is) (λ c is. subst (λ ps. has (is_born_process c) ps ≡ true) (sym l.processes) is) (λ c is. subst (λ ts. has (is_born_thread c) ts ≡ true) (sym l.threads) is)) t.rows is) w.handles n.handles);
   senders = rw l.ports (l.messages (λ m. has (is_port m.sender) w.ports) n.senders);
   queues = subst (λ ps. every (has_near_queue (tied ps [])) v.waits ≡ true) (sym l.ports) (l.waits (has_near_queue w) n.queues);
   registrations = rw (l.threads, l.ports) n.registrations;
@@ -410,13 +415,13 @@ unfolding nt_close
 close-names w by handle s n = bind_holds (own_handle w by handle) _ (KeepNames w) (λ r _. handle-names w by.process r s n)
 
 -- NtDuplicateObject and NtQueryObject
--- a handle of a process names a port that stands
-pub found-to-port : (w : World) (pid value : ℕ) (r : HandleRow) → NamesWhatStands w → handle_at w pid value ≡ Some r → is_to_port w r ≡ true
-found-to-port w pid value r n at = of (first (is_table pid) w.handles) refl at
+-- a handle of a process names an object that stands
+pub found-object : (w : World) (pid value : ℕ) (r : HandleRow) → NamesWhatStands w → handle_at w pid value ≡ Some r → names_object w r ≡ true
+found-object w pid value r n at = of (first (is_table pid) w.handles) refl at
   where
-    of : (o : Option HandleTable) → first (is_table pid) w.handles ≡ o → first (has_value value) (rows_in o) ≡ Some r → is_to_port w r ≡ true
+    of : (o : Option HandleTable) → first (is_table pid) w.handles ≡ o → first (has_value value) (rows_in o) ≡ Some r → names_object w r ≡ true
     of None none at = absurd (cc)
-    of (Some t) found at = every-first (is_to_port w) (has_value value) t.rows r (every-first (λ t. every (is_to_port w) t.rows) (is_table pid) w.handles t n.handles found) at
+    of (Some t) found at = every-first (names_object w) (has_value value) t.rows r (every-first (λ t. every (names_object w) t.rows) (is_table pid) w.handles t n.handles found) at
 
 duplicate-names : (w : World) (by : ThreadRow) (handle : ℕ) (access : Option ℕ) → NamesWhatStands w → Holds (AreNaming w) (nt_duplicate_object w by handle access)
 unfolding nt_duplicate_object
@@ -424,7 +429,7 @@ duplicate-names w by handle access n =
     bind_holds (own_handle w by handle) _ (AreNaming w) (λ r at.
     bind_holds (rights_test r (asked r access)) _ (AreNaming w) (λ _ _.
     bind_holds (handles_test w by.process 1) _ (AreNaming w) (λ _ _.
-    both-true (is_to_port w r) true (found-to-port w by.process handle r n (found_ok (handle_at w by.process handle) INVALID_HANDLE r at)) refl)))
+    both-true (names_object w r) true (found-object w by.process handle r n (found_ok (handle_at w by.process handle) INVALID_HANDLE r at)) refl)))
 
 query-names : (w : World) (by : ThreadRow) (handle : ℕ) → Holds (AreNaming w) (nt_query_object w by handle)
 unfolding nt_query_object
@@ -504,6 +509,28 @@ terminate-process-names : (w : World) (by : ThreadRow) (target : ProcArg) (code 
 terminate-process-names w by target code s shut n =
     process-ends (KeepNames w) w by target code (λ pid own _. world-ends NamesWhatStands w by NtTerminateProcess own pid (code_status code) (live_threads w pid) (ended-names pid (code_status code) (live_threads w pid) w s shut n))
 
+-- NtCreateProcess and NtCreateThread
+create-process-names : (w : World) (by : ThreadRow) (pid tid : ℕ) → NamesWhatStands w → Holds (KeepNames w) (nt_create_process w by pid tid)
+create-process-names w by pid tid n =
+    process-made (KeepNames w) w by pid tid (λ _ _.
+    let p = new_process pid (Some by.process) (next_birth by) in
+    let t = new_thread tid pid (second_birth by) in
+    let drawn : World = basic (basic w (DrawsOrdinal by.number)) (DrawsOrdinal by.number) in
+    let made : World = basic (basic drawn (AddsProcess p)) (AddsThread t) in
+    let bs = gives_life by (free_handle w by.process) (process_name p.birth) ∷ gives_life by (second_handle w by) (thread_name t.birth) ∷ [] in
+    naming-all made bs (both-true _ _ (has-push (is_born_process p.birth) drawn.processes p (birth-self p.birth)) (both-true _ _ (has-push (is_born_thread t.birth) drawn.threads t (birth-self t.birth)) refl))
+    (naming-all w (DrawsOrdinal by.number ∷ DrawsOrdinal by.number ∷ AddsProcess p ∷ AddsThread t ∷ []) refl n))
+
+create-thread-names : (w : World) (by : ThreadRow) (target : ProcArg) (tid : ℕ) → NamesWhatStands w → Holds (KeepNames w) (nt_create_thread w by target tid)
+create-thread-names w by target tid n =
+    thread-made (KeepNames w) w by target tid (λ pid _ _.
+    let t = new_thread tid pid (next_birth by) in
+    let drawn : World = basic w (DrawsOrdinal by.number) in
+    let made : World = basic drawn (AddsThread t) in
+    let bs = gives_life by (free_handle w by.process) (thread_name t.birth) ∷ [] in
+    naming-all made bs (both-true _ _ (has-push (is_born_thread t.birth) drawn.threads t (birth-self t.birth)) refl)
+    (naming-all w (DrawsOrdinal by.number ∷ AddsThread t ∷ []) refl n))
+
 -- Calls
 service-names : (w : World) (by : ThreadRow) (call : ScriptCall) → CanCall w by → IsSoundWorld w → HasShutConnects w → IsLinked w → NamesWhatStands w → Holds (KeepNames w) (service_of w by call)
 service-names w by (create_port name) c s shut l n = create-names w by name c s n
@@ -519,6 +546,8 @@ service-names w by (register_thread_terminate_port handle) c s shut l n = naming
 service-names w by (close handle) c s shut l n = close-names w by handle s n
 service-names w by (duplicate_object handle access) c s shut l n = naming_holds w _ n (duplicate-names w by handle access n)
 service-names w by (query_object handle) c s shut l n = naming_holds w _ n (query-names w by handle)
+service-names w by (create_process pid tid) c s shut l n = create-process-names w by pid tid n
+service-names w by (create_thread target tid) c s shut l n = create-thread-names w by target tid n
 service-names w by (terminate_thread target code) c s shut l n = terminate-thread-names w by target code s shut n
 service-names w by (terminate_process target code) c s shut l n = terminate-process-names w by target code s shut n
 

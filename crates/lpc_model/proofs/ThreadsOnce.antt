@@ -13,16 +13,20 @@ use Rattle.lpc_model.specs.Found.{is_live, is_thread, live_thread, same_birth, w
 use Rattle.lpc_model.specs.Basics.{AddsThread, Basic, Dies, DrawsIdentifier, DrawsOrdinal, Frees, Registers, Unregisters, basic, ended, freed, past_identifier, past_ordinal, registering, unregistering, world_after}
 use Rattle.lpc_model.specs.Named.{free_name, spelled_name}
 use Rattle.lpc_model.specs.Sweep.{free_unheld, sweep, unheld}
-use Rattle.lpc_model.specs.Lines.{ScriptCall, ScriptLine, boot, dir, link, register_thread_terminate_port, run, terminate_process, terminate_thread, thread}
+use Rattle.lpc_model.specs.Lines.{ScriptCall, ScriptLine, boot, create_process, create_thread, dir, link, register_thread_terminate_port, run, terminate_process, terminate_thread, thread, ProcArg}
 use Rattle.lpc_model.specs.Machine.{bare_steps, boot_line, dir_line, link_line, name_of_call, new_thread, directive_birth, ready_steps, service_of, step, thread_line, thread_steps, thread_test, unused_test}
 use Rattle.lpc_model.specs.Lawful.{HasThreadsOnce}
 use Rattle.lpc_model.specs.SoundWaits.{IsSoundWorld}
 use Rattle.lpc_model.proofs.Holding.{Holds, bind_holds, directed_holds, holds_ok, not_refused, settled_holds}
 use Rattle.lpc_model.proofs.Rows.{count-change, count-less, has-off}
 use Rattle.lpc_model.proofs.SoundQueues.{after-append}
-use Rattle.lpc_model.proofs.SoundLines.{tested-further}
+use Rattle.lpc_model.proofs.Creating.{tested-further}
 use Rattle.lpc_model.proofs.Undying.{AreUndying, is_undying, register_holds, service-undying}
 use Rattle.lpc_model.proofs.Ending.{AreEnding, is_ending, process-ending, thread-ending}
+use Rattle.lpc_model.proofs.Creating.{process-made, thread-made}
+use Rattle.lpc_model.specs.Creation.{nt_create_process, nt_create_thread, second_birth}
+use Rattle.lpc_model.specs.Tests.{next_birth}
+use Rattle.lpc_model.proofs.SoundBasics.{sound-ordinal}
 
 -- Steps
 -- a step makes no thread
@@ -77,27 +81,8 @@ ending_holds : (w : World) (r : Result (List Basic) Status) → HasThreadsOnce w
 ending_holds w (Ok bs) once all = once-all w bs (every-more is_ending is_childless ending-childless bs all) once
 ending_holds w (Err s) once all = tt
 
-service-once : (w : World) (by : ThreadRow) (call : ScriptCall) → HasThreadsOnce w → Holds (KeepOnce w) (service_of w by call)
-service-once w by (terminate_thread target code) once = ending_holds w _ once (thread-ending w by target code)
-service-once w by (terminate_process target code) once = ending_holds w _ once (process-ending w by target code)
-service-once w by (register_thread_terminate_port handle) once = register_holds (KeepOnce w) w by handle (λ b new _. at b new)
-  where
-    at : (b : Birth) (new : Bool) → HasThreadsOnce (world_after w (when new (Registers by.number b ∷ [])))
-    at b true = once-step w (Registers by.number b) refl once
-    at b false = once
-service-once w by call once = undying_holds w _ once (service-undying w by call refl)
-
-ready-once : (w : World) (by : ThreadRow) (call : ScriptCall) (o : Option WaitRow) → HasThreadsOnce w → KeepOnce w (ready_steps by call o w)
-ready-once w by call (Some x) once = once
-ready-once w by call None once = settled_holds (KeepOnce w) by (name_of_call call) (service_of w by call) (service-once w by call once) (λ _ _. once)
-
-thread-once : (w : World) (tid : ℕ) (call : ScriptCall) (o : Option ThreadRow) → HasThreadsOnce w → KeepOnce w (thread_steps tid call o w)
-thread-once w tid call None once = once
-thread-once w tid call (Some by) once = ready-once w by call (wait_of w tid) once
-
--- Directives
 -- a thread of a number that was never used
-new-once : (ts : List ThreadRow) (t : ThreadRow) → ((n : ℕ) → count (is_thread n) ts ≤ 1) → has (is_thread t.number) ts ≡ false → (n : ℕ) → count (is_thread n) (ts ++ t ∷ []) ≤ 1
+pub new-once : (ts : List ThreadRow) (t : ThreadRow) → ((n : ℕ) → count (is_thread n) ts ≤ 1) → has (is_thread t.number) ts ≡ false → (n : ℕ) → count (is_thread n) (ts ++ t ∷ []) ≤ 1
 new-once ts t once none n = at (is_thread n t) refl
   where
     sum : (k m : ℕ) (c : Bool) → m ≡ k + cond c 1 0 → k ≤ 1 → (c ≡ true → k ≡ 0) → m ≤ 1
@@ -117,12 +102,48 @@ unused-none w tid off s = has-off (is_thread tid) w.threads (every-more (λ t. w
     apart : (t : ThreadRow) → was_thread w t.number ≡ true → not (is_thread tid t) ≡ true
     apart t is = at t is (is_thread tid t) refl
 
+-- NtCreateProcess and NtCreateThread
+create-process-once : (w : World) (by : ThreadRow) (pid tid : ℕ) → IsSoundWorld w → HasThreadsOnce w → Holds (KeepOnce w) (nt_create_process w by pid tid)
+create-process-once w by pid tid s once =
+    process-made (KeepOnce w) w by pid tid (λ new unused.
+    let v : World = basic (basic w (DrawsOrdinal by.number)) (DrawsOrdinal by.number) in
+    let drawn = once-all w (DrawsOrdinal by.number ∷ DrawsOrdinal by.number ∷ []) refl once in
+    new-once v.threads (new_thread tid pid (second_birth by)) drawn (unused-none v tid unused (sound-ordinal (basic w (DrawsOrdinal by.number)) by.number (sound-ordinal w by.number s))))
+
+create-thread-once : (w : World) (by : ThreadRow) (target : ProcArg) (tid : ℕ) → IsSoundWorld w → HasThreadsOnce w → Holds (KeepOnce w) (nt_create_thread w by target tid)
+create-thread-once w by target tid s once =
+    thread-made (KeepOnce w) w by target tid (λ pid live unused.
+    let v : World = basic w (DrawsOrdinal by.number) in
+    let drawn = once-all w (DrawsOrdinal by.number ∷ []) refl once in
+    new-once v.threads (new_thread tid pid (next_birth by)) drawn (unused-none v tid unused (sound-ordinal w by.number s)))
+
+service-once : (w : World) (by : ThreadRow) (call : ScriptCall) → IsSoundWorld w → HasThreadsOnce w → Holds (KeepOnce w) (service_of w by call)
+service-once w by (create_process pid tid) s once = create-process-once w by pid tid s once
+service-once w by (create_thread target tid) s once = create-thread-once w by target tid s once
+service-once w by (terminate_thread target code) s once = ending_holds w _ once (thread-ending w by target code)
+service-once w by (terminate_process target code) s once = ending_holds w _ once (process-ending w by target code)
+service-once w by (register_thread_terminate_port handle) s once = register_holds (KeepOnce w) w by handle (λ b new _. at b new)
+  where
+    at : (b : Birth) (new : Bool) → HasThreadsOnce (world_after w (when new (Registers by.number b ∷ [])))
+    at b true = once-step w (Registers by.number b) refl once
+    at b false = once
+service-once w by call s once = undying_holds w _ once (service-undying w by call refl)
+
+ready-once : (w : World) (by : ThreadRow) (call : ScriptCall) (o : Option WaitRow) → IsSoundWorld w → HasThreadsOnce w → KeepOnce w (ready_steps by call o w)
+ready-once w by call (Some x) s once = once
+ready-once w by call None s once = settled_holds (KeepOnce w) by (name_of_call call) (service_of w by call) (service-once w by call s once) (λ _ _. once)
+
+thread-once : (w : World) (tid : ℕ) (call : ScriptCall) (o : Option ThreadRow) → IsSoundWorld w → HasThreadsOnce w → KeepOnce w (thread_steps tid call o w)
+thread-once w tid call None s once = once
+thread-once w tid call (Some by) s once = ready-once w by call (wait_of w tid) s once
+
+-- Directives
 boot-once : (w : World) (pid tid : ℕ) → IsSoundWorld w → HasThreadsOnce w → Holds (KeepOnce w) (boot_line w pid tid)
 unfolding boot_line
 boot-once w pid tid s once =
     bind_holds (unused_test w pid tid) _ (KeepOnce w) (λ u is.
     let neither = not_refused (was_process w pid || was_thread w tid) OBJECT_NAME_COLLISION u is in
-    new-once w.threads (new_thread tid pid (directive_birth tid)) once (unused-none w tid (second (was_process w pid) (was_thread w tid) neither) s))
+    new-once w.threads (new_thread tid pid (directive_birth tid pid)) once (unused-none w tid (second (was_process w pid) (was_thread w tid) neither) s))
   where
     second : (a b : Bool) → (a || b) ≡ false → b ≡ false
     second a b off = grind arith
@@ -132,7 +153,7 @@ unfolding thread_line
 further-once w tid pid s once =
     bind_holds (thread_test w tid pid) _ (KeepOnce w) (λ u is.
     let found = holds_ok (λ _. (is_live w pid ≡ true) × (was_thread w tid ≡ false)) (thread_test w tid pid) u (tested-further w tid pid) is in
-    new-once w.threads (new_thread tid pid (directive_birth tid)) once (unused-none w tid found.1 s))
+    new-once w.threads (new_thread tid pid (directive_birth tid pid)) once (unused-none w tid found.1 s))
 
 dir-once : (w : World) (text : List ℕ) → HasThreadsOnce w → Holds (KeepOnce w) (dir_line w text)
 unfolding dir_line
@@ -151,7 +172,7 @@ line-once w (boot pid tid) s once = directed_holds (KeepOnce w) word.Boot (boot_
 line-once w (thread tid pid) s once = directed_holds (KeepOnce w) word.Thread (thread_line w tid pid) (further-once w tid pid s once) (λ _. once)
 line-once w (dir path) s once = directed_holds (KeepOnce w) word.Dir (dir_line w path) (dir-once w path once) (λ _. once)
 line-once w (link path target) s once = directed_holds (KeepOnce w) word.Link (link_line w path target) (link-once w path target once) (λ _. once)
-line-once w (run tid call) s once = thread-once w tid call (live_thread w tid) once
+line-once w (run tid call) s once = thread-once w tid call (live_thread w tid) s once
 
 frees-childless : (os : List ObjectName) → every is_childless (map Frees os) ≡ true
 frees-childless [] = refl

@@ -21,7 +21,7 @@ use Rattle.lpc_model.specs.Close.{close_handle, nt_close}
 use Rattle.lpc_model.specs.Counts.{asked, nt_duplicate_object, nt_query_object, rights_test}
 use Rattle.lpc_model.specs.Sweep.{sweep}
 use Rattle.lpc_model.specs.Closings.{ClosingsAreTold, is_closed_post}
-use Rattle.lpc_model.specs.Lines.{ProcArg, ScriptCall, ScriptLine, accept_connect_port, boot, close, complete_connect_port, connect_port, create_port, dir, duplicate_object, link, listen_port, query_object, register_thread_terminate_port, reply_port, reply_wait_receive_port, request_port, request_wait_reply_port, run, terminate_process, terminate_thread, thread}
+use Rattle.lpc_model.specs.Lines.{ProcArg, ScriptCall, ScriptLine, accept_connect_port, boot, close, complete_connect_port, connect_port, create_port, create_process, create_thread, dir, duplicate_object, link, listen_port, query_object, register_thread_terminate_port, reply_port, reply_wait_receive_port, request_port, request_wait_reply_port, run, terminate_process, terminate_thread, thread}
 use Rattle.lpc_model.specs.Machine.{Stepped, bare_steps, boot_line, dir_line, link_line, name_of_call, ready_steps, service_of, thread_line, thread_steps, thread_test, unused_test}
 use Rattle.lpc_model.specs.SoundWaits.{HasShutConnects, IsSoundWorld}
 use Rattle.lpc_model.proofs.Holding.{Holds, bind_holds, directed_holds, found_ok, holds_ok, settled_holds}
@@ -36,6 +36,8 @@ use Rattle.lpc_model.specs.declared.entry.Entry.TheVariants.{Answer}
 use Rattle.lpc_model.proofs.Ending.{answered_end, behind_dead, behind_told, die-pass, first-at, process-ends, rows-left, thread-ends, told-facts, turn-pass}
 use Rattle.lpc_model.proofs.SoundTerminate.{IsSafe, sound-of, told-safe}
 use Rattle.lpc_model.proofs.Closing.{behind, takes_away}
+use Rattle.lpc_model.proofs.Creating.{process-made, thread-made}
+use Rattle.lpc_model.specs.Creation.{nt_create_process, nt_create_thread}
 
 -- Services
 making-calm : (w : World) (port : Birth) (name : Option (List ℕ)) → Holds AreCalm (making w port name)
@@ -205,6 +207,12 @@ process-tells-end w by target code is = process-ends (TellsClosings w) w by targ
 safe : (w : World) → IsSoundWorld w → HasShutConnects w → IsSafe w
 safe w s shut = record { sound = s; shut = shut }
 
+create-process-calm : (w : World) (by : ThreadRow) (pid tid : ℕ) → Holds AreCalm (nt_create_process w by pid tid)
+create-process-calm w by pid tid = process-made AreCalm w by pid tid (λ _ _. refl)
+
+create-thread-calm : (w : World) (by : ThreadRow) (target : ProcArg) (tid : ℕ) → Holds AreCalm (nt_create_thread w by target tid)
+create-thread-calm w by target tid = thread-made AreCalm w by target tid (λ pid _ _. refl)
+
 service-tells : (w : World) (by : ThreadRow) (call : ScriptCall) → IsSoundWorld w → HasShutConnects w → Holds (TellsClosings w) (service_of w by call)
 service-tells w by (create_port name) s shut = calm_holds w _ (create-calm w by name)
 service-tells w by (connect_port name info) s shut = calm_holds w _ (connect-calm w by name info)
@@ -219,6 +227,8 @@ service-tells w by (register_thread_terminate_port handle) s shut = hushed_holds
 service-tells w by (close handle) s shut = close-tells w by handle s
 service-tells w by (duplicate_object handle access) s shut = calm_holds w _ (duplicate-calm w by handle access)
 service-tells w by (query_object handle) s shut = hushed_holds w _ (query-hushed w by handle)
+service-tells w by (create_process pid tid) s shut = calm_holds w _ (create-process-calm w by pid tid)
+service-tells w by (create_thread target tid) s shut = calm_holds w _ (create-thread-calm w by target tid)
 service-tells w by (terminate_thread target code) s shut = thread-tells-end w by target code (safe w s shut)
 service-tells w by (terminate_process target code) s shut = process-tells-end w by target code (safe w s shut)
 

@@ -7,7 +7,7 @@ use Rattle.lpc_base.specs.declared.status.TheConstants.{INVALID_PORT_HANDLE, SUC
 use Rattle.lpc_message.specs.declared.kind.TheConstants.{DATAGRAM, REQUEST}
 use Rattle.lpc_model.specs.World.{Birth, Creator, HandleRow, Message, MessageRow, PortRow, ThreadRow, WaitRow, World}
 use Rattle.lpc_model.specs.Found.{is_connection_port, is_queued, is_queued_connect, port_row}
-use Rattle.lpc_model.specs.Basics.{AddsHandle, AddsThread, Basic, Dies, DropsHandle, Empties, Enters, Receives, Registers, Tells, Unbinds, Unregisters, Wakes, Withdraws, world_after}
+use Rattle.lpc_model.specs.Basics.{AddsHandle, AddsProcess, AddsThread, Basic, Dies, DropsHandle, Empties, Enters, Receives, Registers, Tells, Unbinds, Unregisters, Wakes, Withdraws, world_after}
 use Rattle.lpc_model.specs.Message.{asks, message_test}
 use Rattle.lpc_model.specs.Entering.{enter, given_steps, receipt_steps, row_of, shown, takes, woken}
 use Rattle.lpc_model.specs.Named.{free_name, named_port}
@@ -17,7 +17,7 @@ use Rattle.lpc_model.specs.Connect.{ConnectAnswer, answer_test, answered_steps, 
 use Rattle.lpc_model.specs.Request.{answered_test, datagram_send_test, datagram_start, given_reply, nt_reply_port, nt_reply_wait_receive_port, nt_request_port, nt_request_wait_reply_port, optional_message, receive_steps, receive_test, request_start, send_test, sent_by}
 use Rattle.lpc_model.specs.Close.{close_handle, close_port, closed_row, is_last, nt_close, post_closed, server_of, told_of}
 use Rattle.lpc_model.specs.Counts.{asked, nt_duplicate_object, nt_query_object, rights_test}
-use Rattle.lpc_model.specs.Lines.{ScriptCall, accept_connect_port, close, complete_connect_port, connect_port, create_port, duplicate_object, listen_port, query_object, register_thread_terminate_port, reply_port, reply_wait_receive_port, request_port, request_wait_reply_port, terminate_process, terminate_thread}
+use Rattle.lpc_model.specs.Lines.{ScriptCall, accept_connect_port, close, complete_connect_port, connect_port, create_port, create_process, create_thread, duplicate_object, listen_port, query_object, register_thread_terminate_port, reply_port, reply_wait_receive_port, request_port, request_wait_reply_port, terminate_process, terminate_thread}
 use Rattle.lpc_model.specs.Machine.{service_of}
 use Rattle.lpc_model.proofs.Holding.{Holds, bind_holds, holds_ok}
 use Rattle.lpc_model.specs.Register.{is_registered, nt_register_thread_terminate_port, registration_test}
@@ -28,12 +28,13 @@ use Rattle.lpc_model.specs.Deaths.{is_died_post}
 use Rattle.lpc_model.proofs.SoundWorlds.{by_kind}
 
 -- Steps
--- no thread is made or ends by a step, and no registration goes; it tells of no end
+-- no process or thread is made or ends by a step, and no registration goes; it tells of no end
 abbrev pub is_undying : Basic → Bool
 is_undying (Enters m) = not (is_died_post m)
 is_undying (Dies who status) = false
 is_undying (Registers who b) = false
 is_undying (Unregisters who b) = false
+is_undying (AddsProcess p) = false
 is_undying (AddsThread t) = false
 is_undying b = true
 
@@ -199,6 +200,8 @@ register_holds P w by handle all =
 -- a call that ends no thread, and registers no port
 abbrev pub is_unending : ScriptCall → Bool
 is_unending (register_thread_terminate_port handle) = false
+is_unending (create_process pid tid) = false
+is_unending (create_thread target tid) = false
 is_unending (terminate_thread target code) = false
 is_unending (terminate_process target code) = false
 is_unending call = true
@@ -217,5 +220,7 @@ service-undying w by (register_thread_terminate_port handle) is = absurd (cc)
 service-undying w by (close handle) is = close-undying w by handle
 service-undying w by (duplicate_object handle access) is = duplicate-undying w by handle access
 service-undying w by (query_object handle) is = query-undying w by handle
+service-undying w by (create_process pid tid) is = absurd (cc)
+service-undying w by (create_thread target tid) is = absurd (cc)
 service-undying w by (terminate_thread target code) is = absurd (cc)
 service-undying w by (terminate_process target code) is = absurd (cc)

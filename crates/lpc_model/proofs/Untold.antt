@@ -12,7 +12,7 @@ use Rattle.lpc_model.specs.Tests.{handle_row}
 use Rattle.lpc_model.specs.Sweep.{free_unheld, sweep, unheld}
 use Rattle.lpc_model.specs.Closings.{is_closed_post}
 use Rattle.lpc_model.specs.SoundWaits.{is_connect_on}
-use Rattle.lpc_model.specs.Standing.{NamesWhatStands, is_to_port}
+use Rattle.lpc_model.specs.Standing.{NamesWhatStands, names_object, stands_as}
 use Rattle.lpc_model.specs.Untold.{IsUntold, is_closing_of, is_shut}
 use Rattle.lpc_model.proofs.Rows.{count-less, has-append, has-off, has_none-without_first}
 use Rattle.lpc_model.proofs.Births.{birth-same}
@@ -169,26 +169,24 @@ open-unconnected w b u opens = every-more (waits_shut w) (λ x. not (is_connect_
     at x is = parts (is_connect x) (same_birth x.port b) (is_open w x.port) (λ same. subst (λ c. is_open w c ≡ true) (sym (birth-same x.port b same)) opens) is
 
 -- an open port stands
+port-of : (w : World) (b : Birth) (k : ObjectKind) (c : Birth) → stands_as w k c ≡ true → (same_kind k kind.Port && same_birth c b) ≡ true → has (is_port b) w.ports ≡ true
+port-of w b kind.Port c stands is = subst (λ d. has (is_port d) w.ports ≡ true) (birth-same c b is) stands
+port-of w b kind.Section c stands is = absurd (cc)
+port-of w b kind.Token c stands is = absurd (cc)
+port-of w b kind.Process c stands is = absurd (cc)
+port-of w b kind.Thread c stands is = absurd (cc)
+
 pub open-stands : (w : World) (b : Birth) → NamesWhatStands w → is_open w b ≡ true → has (is_port b) w.ports ≡ true
 open-stands w b n is = at (first (has_handle_to b) w.handles) refl
   where
-    parts : (k s own : Bool) → (k && own) ≡ true → (k && s) ≡ true → own ≡ true
-    parts k s own one two = grind arith
-
-    second-true : (x y : Bool) → (x && y) ≡ true → y ≡ true
-    second-true x y is = grind arith
-
-    named : (t : HandleTable) → every (is_to_port w) t.rows ≡ true → (o : Option HandleRow) → first (λ h. names_port b h.object) t.rows ≡ o → has_handle_to b t ≡ true → has (is_port b) w.ports ≡ true
+    named : (t : HandleTable) → every (names_object w) t.rows ≡ true → (o : Option HandleRow) → first (λ h. names_port b h.object) t.rows ≡ o → has_handle_to b t ≡ true → has (is_port b) w.ports ≡ true
     named t all None none has_it = let never : false ≡ true = rw none at has_it in absurd (cc)
     named t all (Some h) found has_it =
-        let its = first-passes (λ h. names_port b h.object) t.rows h found in
-        let same = birth-same h.object.birth b (second-true (same_kind h.object.kind kind.Port) _ its) in
-        let stands = second-true (same_kind h.object.kind kind.Port) _ (every-first (is_to_port w) (λ h. names_port b h.object) t.rows h all found) in
-        subst (λ c. has (is_port c) w.ports ≡ true) same stands
+        port-of w b h.object.kind h.object.birth (every-first (names_object w) (λ h. names_port b h.object) t.rows h all found) (first-passes (λ h. names_port b h.object) t.rows h found)
 
     at : (o : Option HandleTable) → first (has_handle_to b) w.handles ≡ o → has (is_port b) w.ports ≡ true
     at None none = let never : false ≡ true = rw none at is in absurd (cc)
-    at (Some t) found = named t (every-first (λ t. every (is_to_port w) t.rows) (has_handle_to b) w.handles t n.handles found) (first (λ h. names_port b h.object) t.rows) refl (first-passes (has_handle_to b) w.handles t found)
+    at (Some t) found = named t (every-first (λ t. every (names_object w) t.rows) (has_handle_to b) w.handles t n.handles found) (first (λ h. names_port b h.object) t.rows) refl (first-passes (has_handle_to b) w.handles t found)
 
 -- Handles
 pub put-none : (p : HandleRow → Bool) (h : HandleRow) (rows : List HandleRow) → p h ≡ false → has p rows ≡ false → has p (put_handle h rows) ≡ false
@@ -244,18 +242,16 @@ added-untold w pid value access b untold alone u =
         waits-more w (basic w (AddsHandle pid (handle_row value (port_name b) access))) x (added-shut w pid (handle_row value (port_name b) access) x.port (flip x.port b apart)) is
 
 -- a further handle to an open port
-pub further-untold : (w : World) (pid : ℕ) (h : HandleRow) → is_open w h.object.birth ≡ true → IsUntold w → IsUntold (basic w (AddsHandle pid h))
+pub further-untold : (w : World) (pid : ℕ) (h : HandleRow) → (same_kind h.object.kind kind.Port ≡ true → is_open w h.object.birth ≡ true) → IsUntold w → IsUntold (basic w (AddsHandle pid h))
 further-untold w pid h opens u = untold-from w (basic w (AddsHandle pid h)) (λ b off. added-shut w pid h b (other b off) off) (λ b off. off) (λ all. all) u.once (λ all. all) u
   where
-    and-off : (k s : Bool) → s ≡ false → (k && s) ≡ false
-    and-off k s off = grind arith
-
-    apart : (b : Birth) → is_open w b ≡ false → (s : Bool) → same_birth h.object.birth b ≡ s → s ≡ false
-    apart b off false same = refl
-    apart b off true same = let is = subst (λ c. is_open w c ≡ true) (birth-same h.object.birth b same) opens in absurd (cc)
+    apart : (b : Birth) → is_open w b ≡ false → (k s : Bool) → same_kind h.object.kind kind.Port ≡ k → same_birth h.object.birth b ≡ s → (k && s) ≡ false
+    apart b off false s kinds same = refl
+    apart b off true false kinds same = refl
+    apart b off true true kinds same = let is = subst (λ c. is_open w c ≡ true) (birth-same h.object.birth b same) (opens kinds) in absurd (cc)
 
     other : (b : Birth) → is_open w b ≡ false → names_port b h.object ≡ false
-    other b off = and-off (same_kind h.object.kind kind.Port) (same_birth h.object.birth b) (apart b off (same_birth h.object.birth b) refl)
+    other b off = apart b off (same_kind h.object.kind kind.Port) (same_birth h.object.birth b) refl refl
 
 -- A connect that begins to wait
 pub offered-untold : (w : World) (x : WaitRow) → is_open w x.port ≡ false → every (λ m. not (is_closing_of x.port m)) w.messages ≡ true → IsUntold w → IsUntold (basic w (Awaits x))

@@ -13,8 +13,8 @@ use Rattle.lpc_names.specs.Walk.{Stands}
 use Rattle.lpc_names.specs.declared.names.Found.TheVariants.{Item}
 use Rattle.lpc_model.specs.declared.entry.Word.TheVariants as word
 use Rattle.lpc_model.specs.World.{Birth, MessageRow, ThreadRow, WaitRow, World, no_rows}
-use Rattle.lpc_model.specs.Found.{free_handle, handle_at, is_accepted, is_open, is_port, is_server_port, live_thread, live_threads, port_name, same_birth, wait_of, waits_as}
-use Rattle.lpc_model.specs.Basics.{Accepts, AddsHandle, Basic, Binds, Completes, DrawsIdentifier, DrawsOrdinal, Joins, Makes, Unregisters, basic, world_after}
+use Rattle.lpc_model.specs.Found.{free_handle, handle_at, is_accepted, is_open, is_port, is_server_port, live_thread, live_threads, port_name, same_birth, wait_of, waits_as, process_name, thread_name}
+use Rattle.lpc_model.specs.Basics.{Accepts, AddsHandle, Basic, Binds, Completes, DrawsIdentifier, DrawsOrdinal, Joins, Makes, Unregisters, basic, world_after, AddsProcess, AddsThread}
 use Rattle.lpc_model.specs.Sweep.{sweep}
 use Rattle.lpc_model.specs.Fields.{h, info, max}
 use Rattle.lpc_model.specs.Entering.{enter, row_of, woken}
@@ -24,7 +24,7 @@ use Rattle.lpc_model.specs.Tests.{PORT_ACCESS, handle_row, handles_test, next_bi
 use Rattle.lpc_model.specs.Connect.{Completable, ConnectAnswer, accept_steps, answer_of, answer_test, answered_steps, client_port, complete_steps, complete_test, connect_start, connect_steps, connect_wait, connection_request, create_steps, info_test, is_accepted_on, making, new_port, nt_accept_connect_port, nt_complete_connect_port, nt_connect_port, nt_create_port, refuse_steps, server_port}
 use Rattle.lpc_model.specs.Counts.{asked, nt_duplicate_object, rights_test}
 use Rattle.lpc_model.specs.Closings.{is_closed_post}
-use Rattle.lpc_model.specs.Lines.{ProcArg, ScriptCall, ScriptLine, accept_connect_port, boot, close, complete_connect_port, connect_port, create_port, dir, duplicate_object, link, listen_port, query_object, register_thread_terminate_port, reply_port, reply_wait_receive_port, request_port, request_wait_reply_port, run, terminate_process, terminate_thread, thread}
+use Rattle.lpc_model.specs.Lines.{ProcArg, ScriptCall, ScriptLine, accept_connect_port, boot, close, complete_connect_port, connect_port, create_port, create_process, create_thread, dir, duplicate_object, link, listen_port, query_object, register_thread_terminate_port, reply_port, reply_wait_receive_port, request_port, request_wait_reply_port, run, terminate_process, terminate_thread, thread}
 use Rattle.lpc_model.specs.Machine.{bare_steps, boot_line, dir_line, link_line, name_of_call, ready_steps, service_of, thread_line, thread_steps}
 use Rattle.lpc_model.specs.SoundWaits.{IsSoundWorld, can_stay_sound, is_connect_on}
 use Rattle.lpc_model.specs.Standing.{NamesWhatStands}
@@ -37,9 +37,7 @@ use Rattle.lpc_model.proofs.SoundWorlds.{by_kind}
 use Rattle.lpc_model.proofs.SoundQueues.{after-append}
 use Rattle.lpc_model.proofs.SoundAccept.{foreign-connect, unconnected}
 use Rattle.lpc_model.proofs.LinkedCalls.{unmade}
-use Rattle.lpc_model.proofs.HeldClose.{to-port-kind}
 use Rattle.lpc_model.proofs.Standing.{off-each}
-use Rattle.lpc_model.proofs.StandingCalls.{found-to-port}
 use Rattle.lpc_model.proofs.Told.{AreHushed, hushed-enter}
 use Rattle.lpc_model.proofs.ToldLines.{boot-hushed, datagram-hushed, die-hushed, dir-hushed, further-hushed, link-hushed, listen-hushed, query-hushed, receive-hushed, register-hushed, reply-hushed, request-hushed}
 use Rattle.lpc_model.proofs.Untold.{added-untold, further-untold, hushed-all, offered-untold, open-stands, swept-untold, tells_shut}
@@ -49,6 +47,9 @@ use Rattle.lpc_model.specs.declared.entry.CallName.TheVariants.{NtTerminateProce
 use Rattle.lpc_model.proofs.Ending.{end-keeps, process-ends, thread-ends, told-facts, world-ends}
 use Rattle.lpc_model.proofs.SoundTerminate.{IsSafe, die-safe, enter-safe, handle-safe, sound-of, unregister-safe}
 use Rattle.lpc_model.proofs.Closing.{behind}
+use Rattle.lpc_model.proofs.Creating.{process-made, thread-made}
+use Rattle.lpc_model.specs.Creation.{new_process, new_thread, nt_create_process, nt_create_thread, second_birth, second_handle}
+use Rattle.lpc_model.specs.Targets.{LIFE_ACCESS}
 
 -- the steps leave a world that tells of no open port
 abbrev pub KeepUntold : World → List Basic → Type 0
@@ -193,14 +194,14 @@ complete-untold w by handle s u =
     completed-untold w by c (holds_ok (λ (c : Completable). first (is_accepted_on c.client) w.waits ≡ Some c.wait) (complete_test w by handle) c (complete-found w by handle) at) s u)
 
 -- NtDuplicateObject
-duplicate-untold : (w : World) (by : ThreadRow) (handle : ℕ) (access : Option ℕ) → NamesWhatStands w → IsUntold w → Holds (KeepUntold w) (nt_duplicate_object w by handle access)
+duplicate-untold : (w : World) (by : ThreadRow) (handle : ℕ) (access : Option ℕ) → IsUntold w → Holds (KeepUntold w) (nt_duplicate_object w by handle access)
 unfolding nt_duplicate_object
-duplicate-untold w by handle access n u =
+duplicate-untold w by handle access u =
     bind_holds (own_handle w by handle) _ (KeepUntold w) (λ r is.
     bind_holds (rights_test r (asked r access)) _ (KeepUntold w) (λ _ _.
     bind_holds (handles_test w by.process 1) _ (KeepUntold w) (λ _ _.
     let at = found_ok (handle_at w by.process handle) INVALID_HANDLE r is in
-    further-untold w by.process (handle_row (free_handle w by.process) r.object (asked r access)) (handle-open w by.process handle r at (to-port-kind w r (found-to-port w by.process handle r n at))) u)))
+    further-untold w by.process (handle_row (free_handle w by.process) r.object (asked r access)) (handle-open w by.process handle r at) u)))
 
 -- NtTerminateThread and NtTerminateProcess
 record IsUntoldWorld (w : World) : Type 0 where
@@ -226,6 +227,22 @@ terminate-process-untold : (w : World) (by : ThreadRow) (target : ProcArg) (code
 terminate-process-untold w by target code s u =
     process-ends (KeepUntold w) w by target code (λ pid own _. world-ends IsUntold w by NtTerminateProcess own pid (code_status code) (live_threads w pid) (ended-untold pid (code_status code) (live_threads w pid) w s u))
 
+-- NtCreateProcess and NtCreateThread
+create-process-untold : (w : World) (by : ThreadRow) (pid tid : ℕ) → IsUntold w → Holds (KeepUntold w) (nt_create_process w by pid tid)
+create-process-untold w by pid tid u =
+    process-made (KeepUntold w) w by pid tid (λ _ _.
+    let bs = DrawsOrdinal by.number ∷ DrawsOrdinal by.number ∷ AddsProcess (new_process pid (Some by.process) (next_birth by)) ∷ AddsThread (new_thread tid pid (second_birth by)) ∷ [] in
+    let made : World = world_after w bs in
+    let first = handle_row (free_handle w by.process) (process_name (next_birth by)) LIFE_ACCESS in
+    further-untold (basic made (AddsHandle by.process first)) by.process (handle_row (second_handle w by) (thread_name (second_birth by)) LIFE_ACCESS) (λ is. absurd (cc))
+    (further-untold made by.process first (λ is. absurd (cc)) (hushed-all w bs refl u)))
+
+create-thread-untold : (w : World) (by : ThreadRow) (target : ProcArg) (tid : ℕ) → IsUntold w → Holds (KeepUntold w) (nt_create_thread w by target tid)
+create-thread-untold w by target tid u =
+    thread-made (KeepUntold w) w by target tid (λ pid _ _.
+    let bs = DrawsOrdinal by.number ∷ AddsThread (new_thread tid pid (next_birth by)) ∷ [] in
+    further-untold (world_after w bs) by.process (handle_row (free_handle w by.process) (thread_name (next_birth by)) LIFE_ACCESS) (λ is. absurd (cc)) (hushed-all w bs refl u))
+
 -- Calls
 service-untold : (w : World) (by : ThreadRow) (call : ScriptCall) → CanCall w by → IsSoundWorld w → NamesWhatStands w → IsUntold w → Holds (KeepUntold w) (service_of w by call)
 service-untold w by (create_port name) c s n u = create-untold w by name c s n u
@@ -239,8 +256,10 @@ service-untold w by (reply_port handle bytes) c s n u = hushed_holds w _ u (repl
 service-untold w by (reply_wait_receive_port handle bytes) c s n u = hushed_holds w _ u (receive-hushed w by handle bytes)
 service-untold w by (register_thread_terminate_port handle) c s n u = hushed_holds w _ u (register-hushed w by handle)
 service-untold w by (close handle) c s n u = close-untold w by handle s u
-service-untold w by (duplicate_object handle access) c s n u = duplicate-untold w by handle access n u
+service-untold w by (duplicate_object handle access) c s n u = duplicate-untold w by handle access u
 service-untold w by (query_object handle) c s n u = hushed_holds w _ u (query-hushed w by handle)
+service-untold w by (create_process pid tid) c s n u = create-process-untold w by pid tid u
+service-untold w by (create_thread target tid) c s n u = create-thread-untold w by target tid u
 service-untold w by (terminate_thread target code) c s n u = terminate-thread-untold w by target code s u
 service-untold w by (terminate_process target code) c s n u = terminate-process-untold w by target code s u
 

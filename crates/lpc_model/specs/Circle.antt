@@ -1,6 +1,6 @@
 -- What the processes of a group do and are told in a run, the circle of a process, and the law on two scripts: what a
 -- process is told follows from what its circle does and is told.
-use Rattle.std.specs.Prelude.{◌≡◌, ℕ, ◌==◌, ◌&&◌, ◌||◌, Bool, true, false, not, nat_lt, length, List, [], ◌∷◌, ◌++◌, map, Option, Some, None, Result, Ok, Err, is_none, option_map}
+use Rattle.std.specs.Prelude.{◌≡◌, ℕ, ◌==◌, ◌&&◌, ◌||◌, Bool, true, false, not, nat_lt, length, List, [], ◌∷◌, ◌++◌, map, Option, Some, None, Result, Ok, Err, is_none, option_map, if◌then◌else◌}
 use Rattle.std.specs.List.{list_any}
 use Rattle.lpc_base.specs.Rows.{every, first, passes, which}
 use Rattle.lpc_base.specs.declared.limits.TheConstants.{HEADER_SIZE}
@@ -12,9 +12,10 @@ use Rattle.lpc_names.specs.declared.names.Found.{Found}
 use Rattle.lpc_names.specs.declared.names.Found.TheVariants.{Directory, Item as PortThere}
 use Rattle.lpc_model.specs.declared.entry.Entry.{Entry}
 use Rattle.lpc_model.specs.declared.entry.Entry.TheVariants.{Answer, Busy, Died, Directive, NoThread, Waits, Wakes}
-use Rattle.lpc_model.specs.World.{Birth, PortRow, UsedThread, World}
+use Rattle.lpc_model.specs.World.{Birth, PortRow, ProcessRow, UsedThread, World}
 use Rattle.lpc_model.specs.Found.{was_process}
-use Rattle.lpc_model.specs.Lines.{ScriptCall, ScriptLine, accept_connect_port, boot, complete_connect_port, connect_port, create_port, dir, link, listen_port, close, duplicate_object, query_object, register_thread_terminate_port, reply_port, reply_wait_receive_port, request_port, request_wait_reply_port, run, terminate_process, terminate_thread, thread}
+use Rattle.lpc_model.specs.Lines.{ScriptCall, ScriptLine, accept_connect_port, boot, complete_connect_port, connect_port, create_port, dir, link, listen_port, close, duplicate_object, query_object, create_process, create_thread, register_thread_terminate_port, reply_port, reply_wait_receive_port, request_port, request_wait_reply_port, run, terminate_process, terminate_thread, thread}
+use Rattle.lpc_model.specs.Linked.{passes_or_none}
 use Rattle.lpc_model.specs.Machine.{step}
 use Rattle.lpc_model.specs.Run.{Along, State, first_state, said_in, world_behind}
 
@@ -149,8 +150,13 @@ is_fine_port group c p = elim p.kind [
   | _ ↦ true
 ]
 
+-- a process and the process that made it are both members, or both outsiders; what a directive made has no such process
+abbrev pub is_fine_process : Group → ProcessRow → Bool
+is_fine_process group p = passes_or_none p.maker (λ m. if group p.number then group m else not (group m))
+
 -- each tie between the processes of a world that c could learn by; one field for each kind of tie
 pub record IsFineWorld (group : Group) (c : ℕ) (w : World) : Type 0 where
+  pub processes : every (is_fine_process group) w.processes ≡ true
   pub ports : every (is_fine_port group c) w.ports ≡ true
 
 -- The circle: what each call of c must be
@@ -193,6 +199,8 @@ is_fine_call group w (register_thread_terminate_port handle) = true
 is_fine_call group w (close handle) = true
 is_fine_call group w (duplicate_object handle access) = true
 is_fine_call group w (query_object handle) = true
+is_fine_call group w (create_process pid tid) = is_no_outsider group w pid && is_no_outsiders_thread group w tid
+is_fine_call group w (create_thread target tid) = is_no_outsiders_thread group w tid
 is_fine_call group w (terminate_thread target code) = true
 is_fine_call group w (terminate_process target code) = true
 

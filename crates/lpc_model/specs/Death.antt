@@ -1,22 +1,21 @@
 -- Endings: threads end, and a process with its last one.
 use Rattle.std.specs.Prelude.{ℕ, Bool, List, [], ◌∷◌, ◌==◌, not, Option, None, Some, option_and_then, option_map, Result, Ok}
-use Rattle.lpc_base.specs.Rows.{first, given, when}
+use Rattle.lpc_base.specs.Rows.{given, when}
 use Rattle.lpc_base.specs.declared.status.Status.{Status}
-use Rattle.lpc_base.specs.declared.status.TheConstants.{INVALID_CID, INVALID_HANDLE, SUCCESS}
+use Rattle.lpc_base.specs.declared.status.TheConstants.{INVALID_CID, SUCCESS}
 use Rattle.lpc_message.specs.declared.kind.TheConstants.{CLIENT_DIED}
 use Rattle.lpc_model.specs.declared.entry.CallName.{CallName}
 use Rattle.lpc_model.specs.declared.entry.CallName.TheVariants.{NtTerminateProcess, NtTerminateThread}
 use Rattle.lpc_model.specs.declared.entry.Entry.TheVariants.{Answer}
-use Rattle.lpc_model.specs.declared.entry.ObjectKind.TheVariants as kind
-use Rattle.lpc_model.specs.declared.line.ProcArg.TheVariants.{By, Current}
-use Rattle.lpc_model.specs.Refusal.{found_or, refuse_if}
+use Rattle.lpc_model.specs.Refusal.{refuse_if}
 use Rattle.lpc_model.specs.Then.{◌>>=◌}
 use Rattle.lpc_model.specs.World.{Birth, Message, MessageRow, ThreadRow, WaitRow, World}
 use Rattle.lpc_model.specs.Message.{made}
-use Rattle.lpc_model.specs.Found.{handles_of, is_accepted, is_live, live_threads, port_row, route, same_birth, wait_of}
+use Rattle.lpc_model.specs.Found.{handles_of, is_accepted, is_live, live_threads, port_row, route, wait_of}
 use Rattle.lpc_model.specs.Basics.{Basic, Dies, Steps, Tells, Unregisters, Withdraws, doing, in_turn, provided, ◌▹◌}
 use Rattle.lpc_model.specs.Entering.{enter, row_of}
-use Rattle.lpc_model.specs.Tests.{client_of, live_test, object_test}
+use Rattle.lpc_model.specs.Targets.{process_target, thread_target}
+use Rattle.lpc_model.specs.Tests.{client_of, live_test}
 use Rattle.lpc_model.specs.Close.{birth_bytes, close_handle, cut_pair}
 use Rattle.lpc_model.specs.Lines.{ProcArg}
 
@@ -59,26 +58,7 @@ end_threads pid code threads =
     ▹ in_turn post_deaths threads
     ▹ provided (λ w. not (is_live w pid)) (end_process pid)
 
--- What a call is to end
--- the right that ending a thread or a process wants
-abbrev pub END_RIGHT : ℕ
-END_RIGHT = 1
-
--- the caller, or the thread that a handle names
-abbrev pub thread_target : World → ThreadRow → ProcArg → Result ThreadRow Status
-thread_target w by Current = Ok by
-thread_target w by (By handle) = do
-  birth ← object_test w by kind.Thread END_RIGHT handle
-  found_or (first (λ t. same_birth t.birth birth) w.threads) INVALID_HANDLE
-
--- the caller's process, or the one that a handle names
-abbrev pub process_target : World → ThreadRow → ProcArg → Result ℕ Status
-process_target w by Current = Ok by.process
-process_target w by (By handle) = do
-  birth ← object_test w by kind.Process END_RIGHT handle
-  p ← found_or (first (λ p. same_birth p.birth birth) w.processes) INVALID_HANDLE
-  Ok p.number
-
+-- The calls
 -- a call that ends its own thread has no answer
 abbrev pub answer_unless : Bool → ThreadRow → CallName → List Basic
 answer_unless ends by call = when (not ends) (Tells (Answer by.number call SUCCESS []) ∷ [])

@@ -10,6 +10,10 @@ use Rattle.lpc_model.specs.World.{Message, MessageRow, ObjectKind}
 abbrev pub h : ℕ → Field
 h value = record { name = name.H; value = Number value }
 
+-- a new handle to the first thread of a new process
+abbrev pub first_thread : ℕ → Field
+first_thread value = record { name = name.FirstThread; value = Number value }
+
 -- the identifier of what was sent
 abbrev pub id : ℕ → Field
 id n = record { name = name.Id; value = Number n }

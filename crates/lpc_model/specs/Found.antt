@@ -3,6 +3,7 @@ use Rattle.std.specs.Prelude.{ℕ, ◌==◌, ◌&&◌, ◌||◌, ◌+◌, ◌++�
 use Rattle.lpc_base.specs.Places.{least_handle}
 use Rattle.lpc_model.specs.declared.entry.ObjectKind.TheVariants as kind
 use Rattle.lpc_base.specs.declared.port_kind.PortKind.TheVariants.{Client, Connection, Server}
+pub use Rattle.lpc_base.specs.Births.{same_birth}
 use Rattle.lpc_base.specs.Rows.{each, first, has, count, passes, when, which}
 use Rattle.lpc_message.specs.declared.kind.TheConstants.{DATAGRAM}
 use Rattle.lpc_message.specs.declared.message.ClientId.{ClientId}
@@ -10,10 +11,6 @@ use Rattle.lpc_model.specs.Message.{asks, is_connection_request}
 use Rattle.lpc_model.specs.World.{World, Birth, ObjectKind, ObjectName, Message, ProcessRow, ThreadRow, HandleRow, HandleTable, PortRow, MessageRow, WaitRow, Accepted, Connect, Listen, Receive, Request}
 
 -- Names
--- two births are one
-abbrev pub same_birth : Birth → Birth → Bool
-same_birth a b = (a.maker == b.maker) && ((a.ordinal == b.ordinal) && (a.process == b.process))
-
 -- an optional name is this one
 abbrev pub is_the : Birth → Option Birth → Bool
 is_the b o = passes o (same_birth b)
@@ -45,6 +42,13 @@ is_process pid p = p.number == pid
 
 abbrev pub is_thread : ℕ → ThreadRow → Bool
 is_thread tid t = t.number == tid
+
+-- the process, and the thread, with a birth
+abbrev pub is_born_process : Birth → ProcessRow → Bool
+is_born_process b p = same_birth p.birth b
+
+abbrev pub is_born_thread : Birth → ThreadRow → Bool
+is_born_thread b t = same_birth t.birth b
 
 -- the live thread of a number
 abbrev pub is_live_thread : ℕ → ThreadRow → Bool

@@ -6,13 +6,13 @@ use Rattle.std.specs.Option.{ok_or}
 use Rattle.std.specs.Str.{bytes_eq}
 use Rattle.lpc_base.specs.declared.limits.TheConstants.{LINE_LIMIT}
 use Rattle.lpc_model.specs.declared.entry.CallName.{CallName}
-use Rattle.lpc_model.specs.declared.entry.CallName.TheVariants.{NtCreatePort, NtConnectPort, NtListenPort, NtAcceptConnectPort, NtCompleteConnectPort, NtRequestPort, NtRequestWaitReplyPort, NtReplyPort, NtReplyWaitReceivePort, NtRegisterThreadTerminatePort, NtClose, NtDuplicateObject, NtQueryObject, NtTerminateProcess, NtTerminateThread}
+use Rattle.lpc_model.specs.declared.entry.CallName.TheVariants.{NtCreatePort, NtConnectPort, NtListenPort, NtAcceptConnectPort, NtCompleteConnectPort, NtRequestPort, NtRequestWaitReplyPort, NtReplyPort, NtReplyWaitReceivePort, NtRegisterThreadTerminatePort, NtClose, NtDuplicateObject, NtQueryObject, NtCreateProcess, NtCreateThread, NtTerminateProcess, NtTerminateThread}
 use Rattle.lpc_model.specs.declared.entry.Word.{Word}
 use Rattle.lpc_model.specs.declared.entry.Word.TheVariants.{Boot, Thread, Dir, Link}
 use Rattle.lpc_model.specs.declared.line.ProcArg.TheVariants.{By, Current}
 use Rattle.lpc_model.specs.declared.fault.LineFault.{LineFault}
 use Rattle.lpc_model.specs.declared.fault.LineFault.TheVariants as fault
-use Rattle.lpc_model.specs.Lines.{ScriptCall, create_port, connect_port, listen_port, accept_connect_port, complete_connect_port, request_port, request_wait_reply_port, reply_port, reply_wait_receive_port, register_thread_terminate_port, close, duplicate_object, query_object, terminate_process, terminate_thread, ProcArg, ScriptLine, boot, thread, dir, link, run}
+use Rattle.lpc_model.specs.Lines.{ScriptCall, create_port, connect_port, listen_port, accept_connect_port, complete_connect_port, request_port, request_wait_reply_port, reply_port, reply_wait_receive_port, register_thread_terminate_port, close, duplicate_object, query_object, create_process, create_thread, terminate_process, terminate_thread, ProcArg, ScriptLine, boot, thread, dir, link, run}
 use Rattle.lpc_model.specs.Words.{fault_if, words, begins, number_word, id_word, is_id, message_word, info_word}
 use Rattle.lpc_model.specs.Text.{call_text, word_text}
 use Rattle.lpc_model.specs.Then.{◌>>=◌}
@@ -33,6 +33,8 @@ calls =
     ∷ NtClose
     ∷ NtDuplicateObject
     ∷ NtQueryObject
+    ∷ NtCreateProcess
+    ∷ NtCreateThread
     ∷ NtTerminateThread
     ∷ NtTerminateProcess
     ∷ []
@@ -119,6 +121,22 @@ target_word word =
       handle ← number_word word
       Ok (By handle))
 
+-- the numbers of a new process and of its first thread
+abbrev pub process_and_thread : List (List ℕ) → Result (ℕ × ℕ) LineFault
+process_and_thread others = do
+  two ← two_words others
+  pid ← id_word two.0
+  tid ← id_word two.1
+  Ok (pid, tid)
+
+-- the process that a thread is to be of, and the number of the thread
+abbrev pub target_and_thread : List (List ℕ) → Result (ProcArg × ℕ) LineFault
+target_and_thread others = do
+  two ← two_words others
+  target ← target_word two.0
+  tid ← id_word two.1
+  Ok (target, tid)
+
 -- what is to end, and the status with which it does
 abbrev pub target_and_code : List (List ℕ) → Result (ProcArg × ℕ) LineFault
 target_and_code others = do
@@ -193,6 +211,12 @@ call_words NtDuplicateObject others = do
 call_words NtQueryObject others = do
   handle ← one_handle others
   Ok (query_object handle)
+call_words NtCreateProcess others = do
+  made ← process_and_thread others
+  Ok (create_process made.0 made.1)
+call_words NtCreateThread others = do
+  made ← target_and_thread others
+  Ok (create_thread made.0 made.1)
 call_words NtTerminateThread others = do
   end ← target_and_code others
   Ok (terminate_thread end.0 end.1)
@@ -203,10 +227,8 @@ call_words NtTerminateProcess others = do
 -- a directive by the words behind it; a path may be any word
 unfoldable pub directive_words : Word → List (List ℕ) → Result ScriptLine LineFault
 directive_words Boot others = do
-  two ← two_words others
-  pid ← id_word two.0
-  tid ← id_word two.1
-  Ok (boot pid tid)
+  made ← process_and_thread others
+  Ok (boot made.0 made.1)
 directive_words Thread others = do
   two ← two_words others
   tid ← id_word two.0
@@ -263,10 +285,15 @@ read_line line =
     else (if not (list_all is_printable line) then Err fault.Byte
     else words_line (words line)))
 
--- the numbers of processes and threads, where a line has them, are from 1 to 2147483647
+-- the numbers of what a call makes, and of the processes and threads that a line names, are from 1 to 2147483647
+abbrev pub has_call_ids : ScriptCall → Bool
+has_call_ids (create_process pid tid) = is_id pid && is_id tid
+has_call_ids (create_thread target tid) = is_id tid
+has_call_ids call = true
+
 abbrev pub has_ids : ScriptLine → Bool
 has_ids (boot pid tid) = is_id pid && is_id tid
 has_ids (thread tid pid) = is_id tid && is_id pid
 has_ids (dir path) = true
 has_ids (link path target) = true
-has_ids (run tid call) = is_id tid
+has_ids (run tid call) = is_id tid && has_call_ids call

@@ -15,6 +15,8 @@ pub mod Request
 pub mod Counts
 pub mod Close
 pub mod Register
+pub mod Targets
+pub mod Creation
 pub mod Death
 pub mod Sweep
 pub mod Machine
@@ -45,3 +47,4 @@ pub mod Worked
 pub mod WorkedConnections
 pub mod WorkedClosings
 pub mod WorkedEndings
+pub mod WorkedCreations

@@ -10,7 +10,7 @@ use Rattle.lpc_model.specs.Tests.{handle_load, handles_test}
 use Rattle.lpc_model.specs.Connect.{info_test}
 use Rattle.lpc_model.specs.Request.{datagram_test}
 use Rattle.lpc_model.specs.Register.{is_registered, registration_test}
-use Rattle.lpc_model.specs.Machine.{thread_count_test}
+use Rattle.lpc_model.specs.Creation.{child_count_test, live_children, thread_count_test}
 
 -- one more of what is counted is granted below a limit, and refused once the limit is reached
 pub record IsGrantedBelow (limit counted : ℕ) (test : Result Unit Status) : Type 0 where
@@ -25,6 +25,14 @@ pub record IsGoodUpTo {A : Type 0} (limit size : ℕ) (test : Result A Status) (
 -- one handle more is granted to a process with fewer than 256, together with those that its waiting connects are to get
 abbrev pub LimitsHandles : Type 0
 LimitsHandles = (w : World) (pid : ℕ) → IsGrantedBelow 256 (handle_load w pid) (handles_test w pid 1)
+
+-- and two to a process with fewer than 255
+abbrev pub LimitsTwoHandles : Type 0
+LimitsTwoHandles = (w : World) (pid : ℕ) → IsGrantedBelow 255 (handle_load w pid) (handles_test w pid 2)
+
+-- one live child more is granted to a process with fewer than 64
+abbrev pub LimitsChildren : Type 0
+LimitsChildren = (w : World) (pid : ℕ) → IsGrantedBelow 64 (live_children w pid) (child_count_test w pid)
 
 -- one live thread more is granted to a process with fewer than 64
 abbrev pub LimitsThreads : Type 0

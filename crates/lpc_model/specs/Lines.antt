@@ -23,6 +23,8 @@ pub data ScriptCall : Type 0 where
   close : ℕ → ScriptCall
   duplicate_object : ℕ → Option ℕ → ScriptCall
   query_object : ℕ → ScriptCall
+  create_process : ℕ → ℕ → ScriptCall
+  create_thread : ProcArg → ℕ → ScriptCall
   terminate_thread : ProcArg → ℕ → ScriptCall
   terminate_process : ProcArg → ℕ → ScriptCall
 
@@ -49,6 +51,8 @@ call_of (call.RegisterThreadTerminatePort handle) = register_thread_terminate_po
 call_of (call.Close handle) = close handle
 call_of (call.DuplicateObject handle access) = duplicate_object handle access
 call_of (call.QueryObject handle) = query_object handle
+call_of (call.CreateProcess pid tid) = create_process pid tid
+call_of (call.CreateThread process tid) = create_thread process tid
 call_of (call.TerminateThread target code) = terminate_thread target code
 call_of (call.TerminateProcess target code) = terminate_process target code
 

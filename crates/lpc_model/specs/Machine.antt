@@ -1,17 +1,15 @@
 -- One line's step: a directive, or a call of a thread that can make one.
-use Rattle.std.specs.Prelude.{ℕ, ◌||◌, nat_le, true, List, [], ◌∷◌, Option, Some, None, Result, Ok, Err}
-use Rattle.lpc_base.specs.declared.limits.TheConstants.{THREAD_LIMIT}
+use Rattle.std.specs.Prelude.{ℕ, List, [], ◌∷◌, Option, Some, None, Result, Ok, Err}
 use Rattle.lpc_base.specs.declared.status.Status.{Status}
-use Rattle.lpc_base.specs.declared.status.TheConstants.{OBJECT_NAME_COLLISION, QUOTA_EXCEEDED, SUCCESS}
+use Rattle.lpc_base.specs.declared.status.TheConstants.{SUCCESS}
 use Rattle.lpc_model.specs.declared.entry.Entry.{Entry}
 use Rattle.lpc_model.specs.declared.entry.Entry.TheVariants.{Answer, Busy, Directive, NoThread}
 use Rattle.lpc_model.specs.declared.entry.Word.{Word}
 use Rattle.lpc_model.specs.declared.entry.Word.TheVariants as word
-use Rattle.lpc_model.specs.declared.entry.CallName.TheVariants.{NtAcceptConnectPort, NtCompleteConnectPort, NtConnectPort, NtCreatePort, NtListenPort, NtReplyPort, NtReplyWaitReceivePort, NtRequestPort, NtRequestWaitReplyPort, NtRegisterThreadTerminatePort, NtClose, NtDuplicateObject, NtQueryObject, NtTerminateProcess, NtTerminateThread}
-use Rattle.lpc_model.specs.Refusal.{refuse_if}
+use Rattle.lpc_model.specs.declared.entry.CallName.TheVariants.{NtAcceptConnectPort, NtCompleteConnectPort, NtConnectPort, NtCreatePort, NtListenPort, NtReplyPort, NtReplyWaitReceivePort, NtRequestPort, NtRequestWaitReplyPort, NtRegisterThreadTerminatePort, NtClose, NtDuplicateObject, NtQueryObject, NtCreateProcess, NtCreateThread, NtTerminateProcess, NtTerminateThread}
 use Rattle.lpc_model.specs.Then.{◌>>=◌}
-use Rattle.lpc_model.specs.World.{World, Birth, CallName, MessageRow, ProcessRow, ThreadRow, WaitRow}
-use Rattle.lpc_model.specs.Found.{live_count, live_thread, wait_of, was_process, was_thread}
+use Rattle.lpc_model.specs.World.{World, Birth, CallName, MessageRow, ThreadRow, WaitRow}
+use Rattle.lpc_model.specs.Found.{live_thread, wait_of}
 use Rattle.lpc_model.specs.Basics.{AddsProcess, AddsThread, Basic, Binds, Steps, Tells, entries_of, posts_of, world_after, ◌▹◌}
 use Rattle.lpc_model.specs.Sweep.{sweep}
 use Rattle.lpc_model.specs.Connect.{nt_accept_connect_port, nt_complete_connect_port, nt_connect_port, nt_create_port, nt_listen_port}
@@ -19,12 +17,14 @@ use Rattle.lpc_model.specs.Close.{nt_close}
 use Rattle.lpc_model.specs.Counts.{nt_duplicate_object, nt_query_object}
 use Rattle.lpc_model.specs.Register.{nt_register_thread_terminate_port}
 use Rattle.lpc_model.specs.Death.{nt_terminate_process, nt_terminate_thread}
+pub use Rattle.lpc_model.specs.Creation.{new_process, new_thread, thread_count_test, thread_test, unused_test, unused_thread_test}
+use Rattle.lpc_model.specs.Creation.{nt_create_process, nt_create_thread}
 pub use Rattle.lpc_model.specs.Tests.{live_test}
 use Rattle.lpc_model.specs.Named.{free_name, spelled_name}
 use Rattle.lpc_names.specs.Walk.{LinkTo, Stands}
 use Rattle.lpc_names.specs.declared.names.Found.TheVariants.{Directory}
 use Rattle.lpc_model.specs.Request.{nt_reply_port, nt_reply_wait_receive_port, nt_request_port, nt_request_wait_reply_port}
-use Rattle.lpc_model.specs.Lines.{ScriptCall, create_port, connect_port, listen_port, accept_connect_port, complete_connect_port, request_port, request_wait_reply_port, reply_port, reply_wait_receive_port, register_thread_terminate_port, close, duplicate_object, query_object, terminate_process, terminate_thread, ScriptLine, boot, thread, dir, link, run}
+use Rattle.lpc_model.specs.Lines.{ScriptCall, create_port, connect_port, listen_port, accept_connect_port, complete_connect_port, request_port, request_wait_reply_port, reply_port, reply_wait_receive_port, register_thread_terminate_port, close, duplicate_object, query_object, create_process, create_thread, terminate_process, terminate_thread, ScriptLine, boot, thread, dir, link, run}
 
 -- the name of a call
 abbrev pub name_of_call : ScriptCall → CallName
@@ -41,6 +41,8 @@ name_of_call (register_thread_terminate_port handle) = NtRegisterThreadTerminate
 name_of_call (close handle) = NtClose
 name_of_call (duplicate_object handle access) = NtDuplicateObject
 name_of_call (query_object handle) = NtQueryObject
+name_of_call (create_process pid tid) = NtCreateProcess
+name_of_call (create_thread target tid) = NtCreateThread
 name_of_call (terminate_thread target code) = NtTerminateThread
 name_of_call (terminate_process target code) = NtTerminateProcess
 
@@ -59,6 +61,8 @@ service_of w by (register_thread_terminate_port handle) = nt_register_thread_ter
 service_of w by (close handle) = nt_close w by handle
 service_of w by (duplicate_object handle access) = nt_duplicate_object w by handle access
 service_of w by (query_object handle) = nt_query_object w by handle
+service_of w by (create_process pid tid) = nt_create_process w by pid tid
+service_of w by (create_thread target tid) = nt_create_thread w by target tid
 service_of w by (terminate_thread target code) = nt_terminate_thread w by target code
 service_of w by (terminate_process target code) = nt_terminate_process w by target code
 
@@ -87,55 +91,21 @@ abbrev pub directed : Word → Result (List Basic) Status → List Basic
 directed word (Ok bs) = Tells (Directive word SUCCESS) ∷ bs
 directed word (Err s) = Tells (Directive word s) ∷ []
 
--- what a directive makes has maker 0 and its own number as ordinal
-abbrev pub directive_birth : ℕ → Birth
-directive_birth n = record { maker = 0; ordinal = n; process = 0 }
-
--- a process, and a live thread that has drawn and registered nothing yet
-abbrev pub new_process : ℕ → Option ℕ → Birth → ProcessRow
-new_process pid maker birth = record { number = pid; maker = maker; birth = birth }
-
-abbrev pub new_thread : ℕ → ℕ → Birth → ThreadRow
-new_thread tid pid birth = record {
-  number = tid;
-  process = pid;
-  birth = birth;
-  live = true;
-  next_identifier = 1;
-  next_ordinal = 1;
-  registrations = [];
-}
-
--- neither number was ever used
-abbrev pub unused_test : World → ℕ → ℕ → Result Unit Status
-unused_test w pid tid = refuse_if (was_process w pid || was_thread w tid) OBJECT_NAME_COLLISION
+-- What a directive makes has maker 0 and its own number as ordinal. It is of its own process: a process of itself.
+abbrev pub directive_birth : ℕ → ℕ → Birth
+directive_birth n pid = record { maker = 0; ordinal = n; process = pid }
 
 -- `boot`: a number that was ever used
 unfoldable pub boot_line : World → ℕ → ℕ → Result (List Basic) Status
 boot_line w pid tid = do
   _ ← unused_test w pid tid
-  Ok (AddsProcess (new_process pid None (directive_birth pid)) ∷ AddsThread (new_thread tid pid (directive_birth tid)) ∷ [])
-
--- the thread number was never used
-abbrev pub unused_thread_test : World → ℕ → Result Unit Status
-unused_thread_test w tid = refuse_if (was_thread w tid) OBJECT_NAME_COLLISION
-
--- the process has fewer than 64 live threads
-abbrev pub thread_count_test : World → ℕ → Result Unit Status
-thread_count_test w pid = refuse_if (nat_le THREAD_LIMIT (live_count w pid)) QUOTA_EXCEEDED
-
--- the tests of a further thread
-abbrev pub thread_test : World → ℕ → ℕ → Result Unit Status
-thread_test w tid pid = do
-  _ ← live_test w pid
-  _ ← unused_thread_test w tid
-  thread_count_test w pid
+  Ok (AddsProcess (new_process pid None (directive_birth pid pid)) ∷ AddsThread (new_thread tid pid (directive_birth tid pid)) ∷ [])
 
 -- `thread`: no such process, a thread number that was ever used, 64 live threads
 unfoldable pub thread_line : World → ℕ → ℕ → Result (List Basic) Status
 thread_line w tid pid = do
   _ ← thread_test w tid pid
-  Ok (AddsThread (new_thread tid pid (directive_birth tid)) ∷ [])
+  Ok (AddsThread (new_thread tid pid (directive_birth tid pid)) ∷ [])
 
 -- `dir`: a fault of the path, at which nothing may stand
 unfoldable pub dir_line : World → List ℕ → Result (List Basic) Status

@@ -1,10 +1,10 @@
--- What rows name stands: the ports of handles, of messages, of waits and of registrations.
-use Rattle.std.specs.Prelude.{◌≡◌, ℕ, ◌&&◌, ◌||◌, Bool, true, List}
+-- What rows name stands: the objects of handles, and the ports of messages, of waits and of registrations.
+use Rattle.std.specs.Prelude.{◌≡◌, ℕ, ◌&&◌, ◌||◌, Bool, true, false, List}
 use Rattle.std.specs.List.{AllByRecursion}
 use Rattle.lpc_base.specs.Rows.{every, has, passes}
 use Rattle.lpc_model.specs.declared.entry.ObjectKind.TheVariants as kind
-use Rattle.lpc_model.specs.World.{Birth, HandleRow, PortRow, WaitRow, World}
-use Rattle.lpc_model.specs.Found.{all_registrations, is_connected_to, is_paired_to, is_port, is_request, port_row, same_kind}
+use Rattle.lpc_model.specs.World.{Birth, HandleRow, ObjectKind, PortRow, WaitRow, World}
+use Rattle.lpc_model.specs.Found.{all_registrations, is_born_process, is_born_thread, is_connected_to, is_paired_to, is_port, is_request, port_row}
 use Rattle.lpc_model.specs.Lines.{ScriptLine}
 use Rattle.lpc_model.specs.Machine.{step}
 use Rattle.lpc_model.specs.Run.{run_of}
@@ -15,9 +15,16 @@ use Rattle.lpc_model.specs.SoundWaits.{HasShutConnects, IsSoundWorld}
 abbrev pub port_stands : World → Birth → Bool
 port_stands w b = has (is_port b) w.ports
 
--- a handle names a port that stands; there are no handles to other objects yet
-abbrev pub is_to_port : World → HandleRow → Bool
-is_to_port w h = same_kind h.object.kind kind.Port && has (is_port h.object.birth) w.ports
+-- the object of a name stands: a port, a process or a thread; there are no sections and tokens yet
+abbrev pub stands_as : World → ObjectKind → Birth → Bool
+stands_as w kind.Port b = port_stands w b
+stands_as w kind.Section b = false
+stands_as w kind.Token b = false
+stands_as w kind.Process b = has (is_born_process b) w.processes
+stands_as w kind.Thread b = has (is_born_thread b) w.threads
+
+abbrev pub names_object : World → HandleRow → Bool
+names_object w h = stands_as w h.object.kind h.object.birth
 
 -- the queue of a wait is that of the port, or of its connection port, or, for a request, of its other end
 abbrev pub is_near : WaitRow → PortRow → Bool
@@ -27,10 +34,10 @@ is_near x p = is_port x.queue p || (is_connected_to x.queue p || (is_request x &
 abbrev pub has_near_queue : World → WaitRow → Bool
 has_near_queue w x = passes (port_row w x.port) (is_near x)
 
--- each handle names a port that stands, each queued message was sent on one, each wait was made on one, near its queue, and
+-- each handle names an object that stands, each queued message was sent on one, each wait was made on one, near its queue, and
 -- live threads registered ports that stand
 pub record NamesWhatStands (w : World) : Type 0 where
-  pub handles : every (λ t. every (is_to_port w) t.rows) w.handles ≡ true
+  pub handles : every (λ t. every (names_object w) t.rows) w.handles ≡ true
   pub senders : every (λ m. has (is_port m.sender) w.ports) w.messages ≡ true
   pub queues : every (has_near_queue w) w.waits ≡ true
   pub registrations : every (port_stands w) (all_registrations w) ≡ true

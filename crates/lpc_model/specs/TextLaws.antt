@@ -6,7 +6,7 @@ use Rattle.lpc_model.specs.declared.entry.Entry.{Entry}
 use Rattle.lpc_model.specs.declared.entry.Entry.TheVariants.{Answer, Waits, Wakes, Busy, NoThread, Died, Directive}
 use Rattle.lpc_model.specs.declared.entry.Field.{Field}
 use Rattle.lpc_model.specs.declared.entry.FieldName.{FieldName}
-use Rattle.lpc_model.specs.declared.entry.FieldName.TheVariants.{H, Id, Ctx, Msg, Data, Max, Info, ObjectType, Access, Handles, Pointers}
+use Rattle.lpc_model.specs.declared.entry.FieldName.TheVariants.{H, FirstThread, Id, Ctx, Msg, Data, Max, Info, ObjectType, Access, Handles, Pointers}
 use Rattle.lpc_model.specs.declared.entry.Value.{Value}
 use Rattle.lpc_model.specs.declared.entry.Value.TheVariants.{Number, Hex, Kind, Bytes}
 
@@ -21,6 +21,7 @@ pub data Sort : Type 0 where
 -- an object by its name, and messages, what was read and what came with a connect as bytes
 abbrev pub sort_of : FieldName → Sort
 sort_of H = in_decimal
+sort_of FirstThread = in_decimal
 sort_of Id = in_decimal
 sort_of Ctx = in_hexadecimal
 sort_of Msg = as_bytes

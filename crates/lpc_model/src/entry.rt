@@ -27,13 +27,15 @@ pub enum CallName {
     NtClose,
     NtDuplicateObject,
     NtQueryObject,
+    NtCreateProcess,
+    NtCreateThread,
     NtTerminateThread,
     NtTerminateProcess,
 }
 
 impl CallName {
     /// Each call, in the order in which the grammar lists them.
-    pub const ALL: [CallName; 15] = [
+    pub const ALL: [CallName; 17] = [
         CallName::NtCreatePort,
         CallName::NtConnectPort,
         CallName::NtListenPort,
@@ -47,6 +49,8 @@ impl CallName {
         CallName::NtClose,
         CallName::NtDuplicateObject,
         CallName::NtQueryObject,
+        CallName::NtCreateProcess,
+        CallName::NtCreateThread,
         CallName::NtTerminateThread,
         CallName::NtTerminateProcess,
     ];
@@ -69,6 +73,8 @@ impl CallName {
             CallName::NtClose => b"NtClose",
             CallName::NtDuplicateObject => b"NtDuplicateObject",
             CallName::NtQueryObject => b"NtQueryObject",
+            CallName::NtCreateProcess => b"NtCreateProcess",
+            CallName::NtCreateThread => b"NtCreateThread",
             CallName::NtTerminateThread => b"NtTerminateThread",
             CallName::NtTerminateProcess => b"NtTerminateProcess",
         }
@@ -127,6 +133,8 @@ pub enum Outcome {
 pub enum FieldName {
     /// A handle value.
     H,
+    /// The value of a handle to the first thread of a new process.
+    FirstThread,
     /// A message identifier.
     Id,
     /// The context of a message that was received.

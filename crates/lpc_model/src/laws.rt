@@ -11,7 +11,7 @@ ghost use Rattle.lpc_model.specs.Deaths.{RunHasLivingRegistrations, RunHasSingle
 ghost use Rattle.lpc_model.specs.Lawful.{IsLawfulWorld, StepsKeepLaws};
 ghost use Rattle.lpc_model.specs.Left.{RunLeavesNothing};
 ghost use Rattle.lpc_model.specs.Untold.{IsUntold, RunKeepsUntold, StepsKeepUntold};
-ghost use Rattle.lpc_model.specs.Limits.{LimitsDatagrams, LimitsHandles, LimitsInfo, LimitsMessages, LimitsRegistrations, LimitsThreads};
+ghost use Rattle.lpc_model.specs.Limits.{LimitsChildren, LimitsDatagrams, LimitsHandles, LimitsInfo, LimitsMessages, LimitsRegistrations, LimitsThreads, LimitsTwoHandles};
 ghost use Rattle.lpc_model.specs.Connected.{ConnectedPortsReachEachOther};
 ghost use Rattle.lpc_model.specs.Queues.{FirstWaiterTakes, QueuesAreFirstInFirstOut};
 ghost use Rattle.lpc_model.specs.Run.{first_state};
@@ -44,7 +44,7 @@ pub fn law_completion_refuses_cut_pairs()
 /// stands.
 ///
 /// An object that no row counts for any longer goes at the end of the line in two passes; two are
-/// enough. Each handle names a port that stands, each queued message was sent on one, each wait
+/// enough. Each handle names an object that stands, each queued message was sent on one, each wait
 /// was made on one: its queue is that of this port, of its connection port or, for a request, of
 /// its other end; and live threads registered ports that stand. So no row is left that names a port that went. Before the first line none stands.
 pub fn law_held_objects()
@@ -128,14 +128,16 @@ pub fn law_lawful_worlds()
     ensures steps { StepsKeepLaws }
 {}
 
-/// Six limits are tested exactly: below a limit its test grants one more, from there on it refuses.
+/// Seven limits are tested exactly: below a limit its test grants one more, from there on it refuses.
 ///
-/// A process with fewer than 256 handles and waiting connects together is granted a further one, with 256 it is refused;
-/// so with 64 live threads of a process, with 32 datagrams of a port that aren't received, and with 16 ports that a
-/// thread registered. A message of lawful shape is good with a MessageSize of at most 256, and the bytes of a connect
+/// A process with fewer than 256 handles and waiting connects together is granted a further one, with 256 it is refused,
+/// and two where they are fewer than 255; so with 64 live processes that a process made, with 64 live threads of a
+/// process, with 32 datagrams of a port that aren't received, and with 16 ports that a thread registered. A message of lawful shape is good with a MessageSize of at most 256, and the bytes of a connect
 /// where they are at most 232. Which calls make which test stands with each call.
 pub fn law_limits()
     ensures handles { LimitsHandles }
+    ensures two_handles { LimitsTwoHandles }
+    ensures children { LimitsChildren }
     ensures threads { LimitsThreads }
     ensures datagrams { LimitsDatagrams }
     ensures registrations { LimitsRegistrations }

@@ -15,7 +15,7 @@ pub use entry::{
 pub use fault::LineFault;
 pub use fields::{
     completion_fields, handle_field, identifier_field, info_field, kept, message_field,
-    object_fields, receipt, refuse,
+    object_fields, process_fields, receipt, refuse,
 };
 pub use laws::{
     law_closings_are_told, law_completion_refuses_cut_pairs, law_connected_ports_reach_each_other,

@@ -78,6 +78,16 @@ pub enum Call<'a> {
     QueryObject {
         handle: u32,
     },
+    /// `NtCreateProcess PID TID`: makes a process with its first thread, and gives the caller a handle to each.
+    CreateProcess {
+        pid: u32,
+        tid: u32,
+    },
+    /// `NtCreateThread H|self TID`: makes a further thread of a process, and gives the caller a handle to it.
+    CreateThread {
+        process: ProcArg,
+        tid: u32,
+    },
     /// `NtTerminateThread H|self CODE`: ends a thread.
     TerminateThread {
         target: ProcArg,

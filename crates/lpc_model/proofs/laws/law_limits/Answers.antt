@@ -1,8 +1,14 @@
-use Rattle.lpc_model.proofs.Limits.{limits_datagrams, limits_handles, limits_info, limits_messages, limits_registrations, limits_threads}
+use Rattle.lpc_model.proofs.Limits.{limits_children, limits_datagrams, limits_handles, limits_info, limits_messages, limits_registrations, limits_threads, limits_two_handles}
 use Rattle.lpc_model.proofs.laws.law_limits.Goals as goal
 
 pub returns-clause-handles : goal.returns-clause-handles
 returns-clause-handles c = limits_handles
+
+pub returns-clause-two_handles : goal.returns-clause-two_handles
+returns-clause-two_handles c = limits_two_handles
+
+pub returns-clause-children : goal.returns-clause-children
+returns-clause-children c = limits_children
 
 pub returns-clause-threads : goal.returns-clause-threads
 returns-clause-threads c = limits_threads
