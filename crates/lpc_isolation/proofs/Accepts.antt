@@ -196,7 +196,7 @@ accept-fair m c u w by context value bytes a k is =
     let s = sides m c by a.wait is.fair is.offered is.queue in
     let j = joinable m c u w by bytes a k is in
     let made : is_fair_port m c (server_port (next_birth by) a.wait.queue) ≡ true = server-fair m c by a.wait.queue is.queue in
-    both _ _ made (both _ _ (both _ _ (same-number by.process) refl) (both _ _ (both _ _ s.in_only (both _ _ s.of_c (both _ _ j.clients j.servers))) refl))
+    both _ _ made (both _ _ (same-number by.process) (both _ _ (both _ _ s.in_only (both _ _ s.of_c (both _ _ j.clients j.servers))) refl))
 
 -- apart
 accept-apart : (m : Group) (c : ℕ) (u : World) (d : Whose) (w : World) (by : ThreadRow) (context value : ℕ) (bytes : List ℕ) (a : ConnectAnswer) → Caller m c u w by → IsAnswer m c w by bytes a → m by.process ≡ false → are_apart m c u d w (accept_steps by context value a) ≡ true

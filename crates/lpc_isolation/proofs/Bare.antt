@@ -5,7 +5,7 @@ use Rattle.lpc_model.specs.Lines.{ScriptLine}
 use Rattle.lpc_isolation.proofs.Served.{served_step}
 use Rattle.lpc_model.specs.Run.{said_in}
 use Rattle.lpc_model.specs.Circle.{Event, Group, Ran, inputs, is_fine_line, items, line_whose, told_event, members}
-use Rattle.lpc_isolation.proofs.Alone.{HasFinePorts, alone}
+use Rattle.lpc_isolation.proofs.Alone.{HasFineRows, alone}
 
 -- what happens at a line, before rows go
 abbrev pub bare_line_events : World → ScriptLine → List Event
@@ -21,10 +21,10 @@ bare_events w (Some line ∷ later) = bare_line_events w line ++ bare_events (se
 
 -- the group is a circle of c in such a run
 abbrev pub IsBareCircle : Group → ℕ → World → List (Option ScriptLine) → Type 0
-IsBareCircle group c w [] = HasFinePorts group c w
+IsBareCircle group c w [] = HasFineRows group c w
 IsBareCircle group c w (None ∷ later) = IsBareCircle group c w later
 IsBareCircle group c w (Some line ∷ later) =
-    HasFinePorts group c w × (is_fine_line group c w line ≡ true) × IsBareCircle group c (served_step w line).world later
+    HasFineRows group c w × (is_fine_line group c w line ≡ true) × IsBareCircle group c (served_step w line).world later
 
 -- The law
 -- what happens in the run of a script

@@ -5,7 +5,7 @@ use Rattle.lpc_model.specs.Lines.{ScriptLine}
 use Rattle.lpc_isolation.proofs.Served.{served_step}
 use Rattle.lpc_isolation.proofs.Sweeps.{served-firm, served-firm}
 use Rattle.lpc_model.specs.Circle.{Group, is_fine_line, is_seen, line_whose}
-use Rattle.lpc_isolation.proofs.Alone.{HasFinePorts}
+use Rattle.lpc_isolation.proofs.Alone.{HasFineRows}
 use Rattle.lpc_isolation.proofs.Bare.{BareIsolation}
 use Rattle.lpc_isolation.proofs.View.{view}
 use Rattle.lpc_model.specs.Grammar.{has_ids}
@@ -17,7 +17,7 @@ use Rattle.lpc_isolation.proofs.KnownLines.{Known, line-known}
 use Rattle.lpc_isolation.proofs.Heard.{Heard}
 use Rattle.lpc_isolation.proofs.Firm.{firm_none}
 
-keeps-view : (m : Group) (c : ℕ) → m c ≡ true → (w : World) (t : List Heard) (line : ScriptLine) → Stood m c w (record { seen = view m w; memo = t }) → HasFinePorts m c w → HasFinePorts m c (served_step w line).world → is_fine_line m c w line ≡ true → has_ids line ≡ true
+keeps-view : (m : Group) (c : ℕ) → m c ≡ true → (w : World) (t : List Heard) (line : ScriptLine) → Stood m c w (record { seen = view m w; memo = t }) → HasFineRows m c w → HasFineRows m c (served_step w line).world → is_fine_line m c w line ≡ true → has_ids line ≡ true
     → Played (player m c) (Stood m c) m c w (record { seen = view m w; memo = t }) line
 keeps-view m c c_in w t line st fine next ok fits = at (is_seen m (line_whose w line)) refl
   where
@@ -65,7 +65,7 @@ stood_none m c = record {
   seen = refl;
   firm = firm_none;
   kept = record {
-    fair = record { tables = refl; ports = refl; messages = refl; waits = refl; threads = refl; senders = refl; creators = refl; registrations = refl };
+    fair = record { tables = refl; ports = refl; messages = refl; waits = refl; threads = refl; senders = refl; creators = refl; registrations = refl; processes = refl; lives = refl };
     once = none-once;
     names = λ path. omega arith;
     paths = refl;

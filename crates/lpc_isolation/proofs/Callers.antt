@@ -1,5 +1,5 @@
 -- What every call's proof needs of its caller.
-use Rattle.std.proofs.Common.{◌≡◌, ℕ, List, [], true, false, Some, refl, ap, sym, ◌∙◌, arith}
+use Rattle.std.proofs.Common.{◌≡◌, ℕ, List, [], true, false, Some, refl, ap, sym, subst, ◌∙◌, arith}
 use Rattle.std.specs.Prelude.{◌==◌, Result, Ok, Err}
 use Rattle.std.proofs.lemmas.Bool.{eqb-true}
 use Rattle.lpc_base.specs.Rows.{which}
@@ -11,6 +11,8 @@ use Rattle.lpc_model.specs.World.{ThreadRow, WaitRow, World}
 use Rattle.lpc_model.specs.Found.{is_thread}
 use Rattle.lpc_model.specs.Basics.{Basic, entries_of, world_after}
 use Rattle.lpc_model.specs.Tests.{handle_load, handles_test, is_connect_of}
+use Rattle.lpc_model.specs.Then.{◌>>=◌}
+use Rattle.lpc_model.proofs.Holding.{Holds}
 use Rattle.lpc_model.specs.Circle.{Group, Whose, owner}
 use Rattle.lpc_isolation.proofs.Alone.{alone}
 use Rattle.lpc_isolation.proofs.Filters.{first-nowhere, which-where}
@@ -57,6 +59,24 @@ pub record Led (m : Group) (c : ℕ) (u : World) (d : Whose) (w : World) (bs led
 -- the same steps
 pub led-same : (m : Group) (c : ℕ) (u : World) (d : Whose) (w : World) (bs : List Basic) → are_ours m w bs ≡ true → Led m c u d w bs bs
 led-same m c u d w bs ours = record { world = run-ours m w bs ours; told = refl }
+
+-- two results: refused alike, or what they give stands in a relation
+abbrev pub Answered : {A : Type 0} → (A → A → Type 0) → Result A Status → Result A Status → Type 0
+Answered P (Ok x) (Ok y) = P x y
+Answered P (Ok x) (Err t) = ⊥
+Answered P (Err s) (Ok y) = ⊥
+Answered P (Err s) (Err t) = s ≡ t
+
+pub answered-same : {A : Type 0} (P : A → A → Type 0) (r s : Result A Status) → s ≡ r → Holds (λ x. P x x) r → Answered P r s
+answered-same {A} P r s same h = subst (λ s. Answered P r s) (sym same) (at r h)
+  where
+    at : (r : Result A Status) → Holds (λ x. P x x) r → Answered P r r
+    at (Ok x) h = h
+    at (Err s) h = refl
+
+pub answered-bind : {A B : Type 0} (P : B → B → Type 0) (r : Result A Status) (f g : A → Result B Status) → ((x : A) → r ≡ Ok x → Answered P (f x) (g x)) → Answered P (r >>= f) (r >>= g)
+answered-bind P (Ok x) f g h = h x refl
+answered-bind P (Err s) f g h = refl
 
 -- what a result gives, nothing where it is refused
 abbrev pub on_ok : {A B : Type 0} → Result A Status → (A → List B) → List B

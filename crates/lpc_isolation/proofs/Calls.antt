@@ -18,33 +18,42 @@ use Rattle.lpc_isolation.proofs.Served.{served, served_step, served_steps}
 use Rattle.lpc_model.proofs.Holding.{Holds, holds_ok}
 use Rattle.lpc_model.proofs.Usable.{live-number}
 use Rattle.lpc_model.specs.Circle.{Everyone, Group, Item, Nobody, Of, Told, Whose, entry_whose, is_seen, is_told_to, owned, owner, thread_whose}
-use Rattle.lpc_isolation.proofs.Alone.{HasFinePorts, alone}
+use Rattle.lpc_isolation.proofs.Alone.{HasFineRows, alone}
 use Rattle.lpc_isolation.proofs.Filters.{first-where}
 use Rattle.lpc_isolation.proofs.View.{both, one_of, other_of, our_wait, view}
-use Rattle.lpc_isolation.proofs.Basics.{are_ours}
 use Rattle.lpc_isolation.proofs.Fair.{Fair, is_fair_wait}
 use Rattle.lpc_isolation.proofs.Seen.{live-owner, live-view}
 use Rattle.lpc_isolation.proofs.Apart.{Owned, are_apart, is_heard, is_owned, owned-by}
-use Rattle.lpc_isolation.proofs.Callers.{Led, c-wait}
+use Rattle.lpc_isolation.proofs.Callers.{Answered, Led, c-wait, led-same}
 use Rattle.lpc_isolation.proofs.Listens.{own_entry}
 use Rattle.lpc_isolation.proofs.Play.{told_inputs, told_items}
 use Rattle.lpc_isolation.proofs.Lines.{Leads, Owes, accepts, is_done, led_line, next_entry}
 use Rattle.lpc_isolation.proofs.Serves.{is_call_of, is_orderly, orderly-done, orderly-used, tells_thread, same_owner}
 
+-- a call's list begins with an entry that tells its caller's process, and at its end no thread waits that it woke
+pub record Begins (w : World) (tid : ℕ) (bs : List Basic) : Type 0 where
+  pub step : Basic
+  pub rest : List Basic
+  pub entry : Entry
+  pub is : bs ≡ step ∷ rest
+  pub told : told step ≡ entry ∷ []
+  pub own : own_entry (step ∷ rest) ≡ entry
+  pub whose : (d : Whose) → entry_whose (world_after w bs) d entry ≡ thread_whose w tid
+  pub accepted : accepts entry ≡ true
+  pub done : every (is_done (world_after w bs)) (entries_of bs) ≡ true
+
 -- what a service owes to the call of a thread that waits for nothing
 pub record Serves (led : Leads) (m : Group) (c : ℕ) (w : World) (by : ThreadRow) (call : ScriptCall) : Type 0 where
-  pub apart : (u : World) (d : Whose) → u.used_threads ≡ w.used_threads → m by.process ≡ false → Holds (λ bs. HasFinePorts m c (world_after w bs) → are_apart m c u d w bs ≡ true) (served w by call)
-  pub same : by.process ≡ c → served (view m w) by call ≡ served w by call
-  pub ours : by.process ≡ c → Holds (λ bs. HasFinePorts m c (world_after w bs) → are_ours m w bs ≡ true) (served w by call)
-  pub leads : (u : World) (d : Whose) → u.used_threads ≡ w.used_threads → m by.process ≡ true → (by.process == c) ≡ false → Holds (λ bs. HasFinePorts m c (world_after w bs) → Led m c u d w bs (led (view m w) by call (own_entry bs))) (served w by call)
-  pub orderly : Holds (λ bs. is_call_of w by.number bs ≡ true) (served w by call)
+  pub apart : (d : Whose) → m by.process ≡ false → Holds (λ bs. HasFineRows m c (world_after w bs) → are_apart m c (world_after w bs) d w bs ≡ true) (served w by call)
+  pub own : (d : Whose) → by.process ≡ c → Answered (λ bs led. HasFineRows m c (world_after w bs) → Led m c (world_after w bs) d w bs led) (served w by call) (served (view m w) by call)
+  pub leads : (d : Whose) → m by.process ≡ true → (by.process == c) ≡ false → Holds (λ bs. HasFineRows m c (world_after w bs) → Led m c (world_after w bs) d w bs (led (view m w) by call (own_entry bs))) (served w by call)
+  pub begins : Holds (Begins w by.number) (served w by call)
   pub refuses : (s : Status) → served w by call ≡ Err s → (s.0 == SUCCESS.0) ≡ false
 
 -- what the list of a line owes
 record OwesAt (led : Leads) (m : Group) (c : ℕ) (w : World) (tid : ℕ) (call : ScriptCall) (bs : List Basic) : Type 0 where
   apart : is_seen m (thread_whose w tid) ≡ false → are_apart m c (world_after w bs) (thread_whose w tid) w bs ≡ true
-  same : is_seen (alone c) (thread_whose w tid) ≡ true → served_steps (run tid call) (view m w) ≡ bs
-  ours : is_seen (alone c) (thread_whose w tid) ≡ true → are_ours m w bs ≡ true
+  own : is_seen (alone c) (thread_whose w tid) ≡ true → Led m c (world_after w bs) (thread_whose w tid) w bs (served_steps (run tid call) (view m w))
   leads : is_seen m (thread_whose w tid) ≡ true → is_seen (alone c) (thread_whose w tid) ≡ false → Led m c (world_after w bs) (thread_whose w tid) w bs (led_line led (view m w) tid call (own_entry bs))
   first : is_seen m (thread_whose w tid) ≡ true → is_seen (alone c) (thread_whose w tid) ≡ false → (is : List Item) → next_entry (told_items (told_inputs m c (world_after w bs) (thread_whose w tid) (entries_of bs)) ++ is) ≡ own_entry bs
   done : every (is_done (world_after w bs)) (entries_of bs) ≡ true
@@ -53,7 +62,7 @@ owes-of : (led : Leads) (m : Group) (c : ℕ) (w : World) (tid : ℕ) (call : Sc
 owes-of led m c w tid call bs is o = from (subst (OwesAt led m c w tid call) (sym is) o)
   where
     from : OwesAt led m c w tid call (served_steps (run tid call) w) → Owes led m c w tid call
-    from o = record { apart = o.apart; same = o.same; ours = o.ours; leads = o.leads; first = o.first; done = o.done }
+    from o = record { apart = o.apart; own = o.own; leads = o.leads; first = o.first; done = o.done }
 
 -- a member's entry, other than c's, is the next of its inputs
 not-told : (c : ℕ) (whose : Whose) (e : Entry) → is_seen (alone c) whose ≡ false → is_told_to c whose (Told e) ≡ false
@@ -73,8 +82,7 @@ next-is m c u d e es is seen off =
 owes-lone : (led : Leads) (m : Group) (c : ℕ) (w : World) (tid : ℕ) (call : ScriptCall) (e : Entry) → entry_whose w (thread_whose w tid) e ≡ thread_whose w tid → accepts e ≡ false → is_done w e ≡ true → (is_seen (alone c) (thread_whose w tid) ≡ true → served_steps (run tid call) (view m w) ≡ Tells e ∷ []) → OwesAt led m c w tid call (Tells e ∷ [])
 owes-lone led m c w tid call e whose off done same = record {
   apart = λ out. let gone : is_heard m w (thread_whose w tid) e ≡ false = ap (is_seen m) whose ∙ out in rw gone refl;
-  same = same;
-  ours = λ is. refl;
+  own = λ is. subst (Led m c w (thread_whose w tid) w (Tells e ∷ [])) (sym (same is)) (led-same m c w (thread_whose w tid) w (Tells e ∷ []) refl);
   leads = λ seen other. let none : is_heard (alone c) w (thread_whose w tid) e ≡ false = ap (is_seen (alone c)) whose ∙ other in record { world = rw off refl; told = rw (none, off) refl };
   first = λ seen other is. next-is m c w (thread_whose w tid) e [] is (ap (is_seen m) whose ∙ seen) (ap (is_seen (alone c)) whose ∙ other);
   done = rw done refl;
@@ -203,8 +211,26 @@ headed w tid (Cuts b ∷ bs) is = absurd (cc)
 headed w tid (Unbinds b ∷ bs) is = absurd (cc)
 headed w tid (DropsHandle a b ∷ bs) is = absurd (cc)
 
-own-is : (w : World) (tid : ℕ) (bs : List Basic) (h : Headed w tid bs) → own_entry bs ≡ h.entry
+-- an orderly list begins so
+pub begins-of : (w : World) (tid : ℕ) (bs : List Basic) → is_call_of w tid bs ≡ true → Begins w tid bs
+begins-of w tid bs ok =
+    let h = headed w tid bs ok in
+    let used : (world_after w bs).used_threads ≡ w.used_threads = orderly-used w bs h.orderly in
+    record { step = h.step; rest = h.rest; entry = h.entry; is = h.is; told = h.told; own = h.own; whose = λ d. h.whose (world_after w bs) d used ∙ rw used refl; accepted = h.accepted; done = orderly-done w bs h.orderly }
+
+own-is : (w : World) (tid : ℕ) (bs : List Basic) (h : Begins w tid bs) → own_entry bs ≡ h.entry
 own-is w tid bs h = ap own_entry h.is ∙ h.own
+
+-- what holds in each world with the same used numbers holds in the one that an orderly list leaves
+pub settle : (P : World → List Basic → Type 0) (w : World) (tid : ℕ) (r : Result (List Basic) Status) → Holds (λ bs. is_call_of w tid bs ≡ true) r → ((u : World) → u.used_threads ≡ w.used_threads → Holds (P u) r) → Holds (λ bs. P (world_after w bs) bs) r
+settle P w tid (Ok bs) ok h = let head = headed w tid bs ok in h (world_after w bs) (orderly-used w bs head.orderly)
+settle P w tid (Err s) ok h = tt
+
+pub settle-own : (P : World → List Basic → List Basic → Type 0) (w : World) (tid : ℕ) (r s : Result (List Basic) Status) → Holds (λ bs. is_call_of w tid bs ≡ true) r → ((u : World) → u.used_threads ≡ w.used_threads → Answered (P u) r s) → Answered (λ bs led. P (world_after w bs) bs led) r s
+settle-own P w tid (Ok bs) (Ok led) ok h = let head = headed w tid bs ok in h (world_after w bs) (orderly-used w bs head.orderly)
+settle-own P w tid (Ok bs) (Err t) ok h = h w refl
+settle-own P w tid (Err s) (Ok led) ok h = h w refl
+settle-own P w tid (Err s) (Err t) ok h = h w refl
 
 -- a world of a run, seen from a call
 pub record Ready (m : Group) (c : ℕ) (w : World) (tid : ℕ) (by : ThreadRow) : Type 0 where
@@ -219,55 +245,64 @@ unfolding bare_steps
 called w tid call by live idle = rw (live, idle) refl
 
 -- c's call in the view
-c-called : (led : Leads) (m : Group) (c : ℕ) (w : World) (tid : ℕ) (call : ScriptCall) (by : ThreadRow) → Ready m c w tid by → Serves led m c w by call → is_seen (alone c) (thread_whose w tid) ≡ true → served_steps (run tid call) (view m w) ≡ settled by (name_of_call call) (served w by call)
-c-called led m c w tid call by r s is =
+c-called : (m : Group) (c : ℕ) (w : World) (tid : ℕ) (call : ScriptCall) (by : ThreadRow) → Ready m c w tid by → is_seen (alone c) (thread_whose w tid) ≡ true → served_steps (run tid call) (view m w) ≡ settled by (name_of_call call) (served (view m w) by call)
+c-called m c w tid call by r is =
     let own : owner w tid ≡ Some c = owner-c c w tid is in
-    let both_own : Some by.process ≡ Some c = sym (live-owner m c w tid by r.fair r.live) ∙ own in
-    let mine : by.process ≡ c = cc in
     called (view m w) tid call by (live-view m c w tid c r.fair own r.c_in ∙ r.live) (c-idle m c w tid r.c_in r.fair r.owned own ∙ r.idle)
-    ∙ ap (settled by (name_of_call call)) (s.same mine)
 
-owes-ok : (led : Leads) (m : Group) (c : ℕ) (w : World) (tid : ℕ) (call : ScriptCall) (by : ThreadRow) (bs : List Basic) → Ready m c w tid by → Serves led m c w by call → served w by call ≡ Ok bs → HasFinePorts m c (world_after w bs) → OwesAt led m c w tid call bs
+c-calls : (m : Group) (c : ℕ) (w : World) (tid : ℕ) (by : ThreadRow) → Ready m c w tid by → is_seen (alone c) (thread_whose w tid) ≡ true → by.process ≡ c
+c-calls m c w tid by r is = let both_own : Some by.process ≡ Some c = sym (live-owner m c w tid by r.fair r.live) ∙ owner-c c w tid is in cc
+
+owes-ok : (led : Leads) (m : Group) (c : ℕ) (w : World) (tid : ℕ) (call : ScriptCall) (by : ThreadRow) (bs : List Basic) → Ready m c w tid by → Serves led m c w by call → served w by call ≡ Ok bs → HasFineRows m c (world_after w bs) → OwesAt led m c w tid call bs
 owes-ok led m c w tid call by bs r s at fine =
     let number : by.number ≡ tid = live-number w tid by r.live in
     let own : owner w tid ≡ Some by.process = live-owner m c w tid by r.fair r.live in
     let u : World = world_after w bs in
     let d : Whose = thread_whose w tid in
-    let head : Headed w tid bs = subst (λ n. Headed w n bs) number (headed w by.number bs (holds_ok (λ bs. is_call_of w by.number bs ≡ true) (served w by call) bs s.orderly at)) in
-    let used : u.used_threads ≡ w.used_threads = orderly-used w bs head.orderly in
-    let whose : entry_whose u d head.entry ≡ d = head.whose u d used ∙ rw used refl in
+    let head : Begins w tid bs = subst (λ n. Begins w n bs) number (holds_ok (Begins w by.number) (served w by call) bs s.begins at) in
+    let whose : entry_whose u d head.entry ≡ d = head.whose d in
     record {
-      apart = λ out. holds_ok (λ bs. HasFinePorts m c (world_after w bs) → are_apart m c u d w bs ≡ true) (served w by call) bs (s.apart u d used (sym (owner-in m w tid by own) ∙ out)) at fine;
-      same = λ is. c-called led m c w tid call by r s is ∙ ap (settled by (name_of_call call)) at;
-      ours = λ is.
-          let both_own : Some by.process ≡ Some c = sym own ∙ owner-c c w tid is in
-          let mine : by.process ≡ c = cc in
-          holds_ok (λ bs. HasFinePorts m c (world_after w bs) → are_ours m w bs ≡ true) (served w by call) bs (s.ours mine) at fine;
+      apart = λ out. holds_ok (λ bs. HasFineRows m c (world_after w bs) → are_apart m c (world_after w bs) d w bs ≡ true) (served w by call) bs (s.apart d (sym (owner-in m w tid by own) ∙ out)) at fine;
+      own = λ is.
+          let P : List Basic → List Basic → Type 0 = λ bs led. HasFineRows m c (world_after w bs) → Led m c (world_after w bs) d w bs led in
+          let answered : Answered P (Ok bs) (served (view m w) by call) = subst (λ r. Answered P r (served (view m w) by call)) at (s.own d (c-calls m c w tid by r is)) in
+          subst (Led m c u d w bs) (sym (c-called m c w tid call by r is)) (taken (served (view m w) by call) answered);
       leads = λ seen other.
           let by_in : m by.process ≡ true = sym (owner-in m w tid by own) ∙ seen in
           let by_other : (by.process == c) ≡ false = sym (owner-in (alone c) w tid by own) ∙ other in
           let accepted : accepts (own_entry bs) ≡ true = ap accepts (own-is w tid bs head) ∙ head.accepted in
-          rw (accepted, live-view m c w tid by.process r.fair own by_in, r.live) (holds_ok (λ bs. HasFinePorts m c (world_after w bs) → Led m c u d w bs (led (view m w) by call (own_entry bs))) (served w by call) bs (s.leads u d used by_in by_other) at fine);
+          rw (accepted, live-view m c w tid by.process r.fair own by_in, r.live) (holds_ok (λ bs. HasFineRows m c (world_after w bs) → Led m c (world_after w bs) d w bs (led (view m w) by call (own_entry bs))) (served w by call) bs (s.leads d by_in by_other) at fine);
       first = λ seen other is.
           ap (λ bs'. next_entry (told_items (told_inputs m c u d (entries_of bs')) ++ is)) head.is
           ∙ ap (λ es. next_entry (told_items (told_inputs m c u d (es ++ entries_of head.rest)) ++ is)) head.told
           ∙ next-is m c u d head.entry (entries_of head.rest) is (ap (is_seen m) whose ∙ seen) (ap (is_seen (alone c)) whose ∙ other)
           ∙ sym (own-is w tid bs head);
-      done = orderly-done w bs head.orderly;
+      done = head.done;
     }
+  where
+    taken : (t : Result (List Basic) Status) → Answered (λ bs led. HasFineRows m c (world_after w bs) → Led m c (world_after w bs) (thread_whose w tid) w bs led) (Ok bs) t → Led m c (world_after w bs) (thread_whose w tid) w bs (settled by (name_of_call call) t)
+    taken (Ok led) is = is fine
+    taken (Err e) is = absurd is
 
-owes-settled : (led : Leads) (m : Group) (c : ℕ) (w : World) (tid : ℕ) (call : ScriptCall) (by : ThreadRow) (t : Result (List Basic) Status) → Ready m c w tid by → Serves led m c w by call → served w by call ≡ t → HasFinePorts m c (world_after w (settled by (name_of_call call) t)) → OwesAt led m c w tid call (settled by (name_of_call call) t)
+owes-settled : (led : Leads) (m : Group) (c : ℕ) (w : World) (tid : ℕ) (call : ScriptCall) (by : ThreadRow) (t : Result (List Basic) Status) → Ready m c w tid by → Serves led m c w by call → served w by call ≡ t → HasFineRows m c (world_after w (settled by (name_of_call call) t)) → OwesAt led m c w tid call (settled by (name_of_call call) t)
 owes-settled led m c w tid call by (Ok bs) r s at fine = owes-ok led m c w tid call by bs r s at fine
 owes-settled led m c w tid call by (Err e) r s at fine =
     let number : by.number ≡ tid = live-number w tid by r.live in
-    owes-lone led m c w tid call (entry.Answer by.number (name_of_call call) e []) (ap (thread_whose w) number) (s.refuses e at) refl (λ is. c-called led m c w tid call by r s is ∙ ap (settled by (name_of_call call)) at)
+    owes-lone led m c w tid call (entry.Answer by.number (name_of_call call) e []) (ap (thread_whose w) number) (s.refuses e at) refl (λ is.
+    let P : List Basic → List Basic → Type 0 = λ bs led. HasFineRows m c (world_after w bs) → Led m c (world_after w bs) (thread_whose w tid) w bs led in
+    let answered : Answered P (Err e) (served (view m w) by call) = subst (λ r. Answered P r (served (view m w) by call)) at (s.own (thread_whose w tid) (c-calls m c w tid by r is)) in
+    c-called m c w tid call by r is ∙ ap (settled by (name_of_call call)) (refused P (served (view m w) by call) answered))
+  where
+    refused : (P : List Basic → List Basic → Type 0) (t : Result (List Basic) Status) → Answered P (Err e) t → t ≡ Err e
+    refused P (Ok led) is = absurd is
+    refused P (Err s) is = ap (λ s. Err s) (sym is)
 
 -- the line of a call
-pub owes-call : (led : Leads) (m : Group) (c : ℕ) (w : World) (tid : ℕ) (call : ScriptCall) (by : ThreadRow) → Ready m c w tid by → Serves led m c w by call → HasFinePorts m c (served_step w (run tid call)).world → Owes led m c w tid call
+pub owes-call : (led : Leads) (m : Group) (c : ℕ) (w : World) (tid : ℕ) (call : ScriptCall) (by : ThreadRow) → Ready m c w tid by → Serves led m c w by call → HasFineRows m c (served_step w (run tid call)).world → Owes led m c w tid call
 owes-call led m c w tid call by r s fine =
     let is : served_steps (run tid call) w ≡ settled by (name_of_call call) (served w by call) = called w tid call by r.live r.idle in
     owes-of led m c w tid call (settled by (name_of_call call) (served w by call)) is
-    (owes-settled led m c w tid call by (served w by call) r s refl (subst (λ bs. HasFinePorts m c (world_after w bs)) is fine))
+    (owes-settled led m c w tid call by (served w by call) r s refl (subst (λ bs. HasFineRows m c (world_after w bs)) is fine))
 
 -- a line of a number that no live thread has, and one of a thread that waits
 pub nobody : (w : World) (tid : ℕ) (call : ScriptCall) → live_thread w tid ≡ None → served_steps (run tid call) w ≡ Tells (entry.NoThread tid) ∷ []

@@ -22,8 +22,8 @@ use Rattle.lpc_model.specs.SoundWaits.{IsSoundWorld}
 use Rattle.lpc_model.specs.Circle.{Group, Whose, is_fine_call}
 use Rattle.lpc_model.proofs.Holding.{Holds, bind_holds, found_ok}
 use Rattle.lpc_model.proofs.SoundQueues.{after-append}
-use Rattle.lpc_isolation.proofs.Alone.{HasFinePorts, alone}
-use Rattle.lpc_isolation.proofs.View.{both, other_of, our_table, same-number, view}
+use Rattle.lpc_isolation.proofs.Alone.{HasFineRows, alone}
+use Rattle.lpc_isolation.proofs.View.{both, other_of, our_table, same-number, view, one_of}
 use Rattle.lpc_isolation.proofs.Basics.{are_ours, ours-append}
 use Rattle.lpc_isolation.proofs.Fair.{are_fair, fair-append, is_fair_table, is_own}
 use Rattle.lpc_isolation.proofs.Seen.{bind-same, handle-own, handle-view}
@@ -44,7 +44,7 @@ use Rattle.lpc_isolation.proofs.Heard.{Heard, call_memo, entries_memo}
 use Rattle.lpc_isolation.proofs.Knows.{AllKnown, run-known}
 use Rattle.lpc_isolation.proofs.KnownCalls.{Hears}
 use Rattle.lpc_isolation.proofs.Instances.{At, Leading, caller}
-use Rattle.lpc_isolation.proofs.Thin.{Alive, Closed, handle_closed, thin, Lives}
+use Rattle.lpc_isolation.proofs.Thin.{Alive, Closed, handle_closed, port-live, thin}
 use Rattle.lpc_isolation.proofs.ThinCalls.{AreClosed, rows-closed}
 use Rattle.lpc_isolation.proofs.Fine.{FineAfter, makes_fine}
 use Rattle.lpc_isolation.proofs.Duplicates.{unnoted}
@@ -87,7 +87,7 @@ handle_count-view m c w o fair inside = ap length (named-same m o w.handles insi
 
 -- A handle goes
 -- steps where a test holds
-provided-good : (m : Group) (c : ℕ) (b : Birth) (test : World → Bool) (f : Steps) → Good m c b f → ((u w : World) → Sure m c u w → m b.process ≡ true → test (view m w) ≡ test w) → ((k : Alive) (ps : Lives) (u : World) → test (thin k ps u) ≡ test u) → Good m c b (provided test f)
+provided-good : (m : Group) (c : ℕ) (b : Birth) (test : World → Bool) (f : Steps) → Good m c b f → ((u w : World) → Sure m c u w → m b.process ≡ true → test (view m w) ≡ test w) → ((k : Alive) (u : World) → test (thin k u) ≡ test u) → Good m c b (provided test f)
 provided-good m c b test f g seen thinly = record {
   mild = λ w. at AreMild w refl (g.mild w);
   sent = λ w. at (λ bs. are_sent w bs ≡ true) w refl (g.sent w);
@@ -98,7 +98,7 @@ provided-good m c b test f g seen thinly = record {
   ours = λ u w s inside. at (λ bs. are_ours m w bs ≡ true) w refl (g.ours u w s inside);
   led = λ u d w s inside. ap-led u d w (test (view m w)) (seen u w s inside) (g.led u d w s inside);
   same = λ u w s mine. ap (λ e. when e (f (view m w))) (seen u w s (ap m mine ∙ s.c_in)) ∙ ap (λ bs. when (test w) bs) (g.same u w s mine);
-  alike = λ k ps u closed live. ap (λ e. when e (f (thin k ps u))) (thinly k ps u) ∙ ap (λ bs. when (test u) bs) (g.alike k ps u closed live);
+  alike = λ k u closed live. ap (λ e. when e (f (thin k u))) (thinly k u) ∙ ap (λ bs. when (test u) bs) (g.alike k u closed live);
   stands = λ k u closed live. at (AreClosed k) u refl (g.stands k u closed live);
 }
   where
@@ -128,7 +128,7 @@ drops-good m c b pid value f own g = record {
   ours = λ u w s inside. ours-append m w (f w) (DropsHandle pid value ∷ []) (g.ours u w s inside) refl;
   led = λ u d w s inside. led-append m c u d w (f w) (f (view m w)) (DropsHandle pid value ∷ []) (DropsHandle pid value ∷ []) (g.led u d w s inside) (led-same m c u d (world_after w (f w)) (DropsHandle pid value ∷ []) refl);
   same = λ u w s mine. ap (λ bs. bs ++ DropsHandle pid value ∷ []) (g.same u w s mine);
-  alike = λ k ps u closed live. ap (λ bs. bs ++ DropsHandle pid value ∷ []) (g.alike k ps u closed live);
+  alike = λ k u closed live. ap (λ bs. bs ++ DropsHandle pid value ∷ []) (g.alike k u closed live);
   stands = λ k u closed live. every-append _ (f u) (DropsHandle pid value ∷ []) (g.stands k u closed live) refl;
 }
 
@@ -136,7 +136,7 @@ pub handle-good : (m : Group) (c : ℕ) (pid : ℕ) (r : HandleRow) → r.object
 handle-good m c pid r own =
     drops-good m c r.object.birth pid r.value (provided (is_last r) (close_port r.object.birth)) own
     (provided-good m c r.object.birth (is_last r) (close_port r.object.birth) (close-good m c r.object.birth)
-    (λ u w s inside. ap (λ n. same_kind r.object.kind kind.Port && (n == 1)) (handle_count-view m c w r.object s.fair.tables inside)) (λ k ps u. refl))
+    (λ u w s inside. ap (λ n. same_kind r.object.kind kind.Port && (n == 1)) (handle_count-view m c w r.object s.fair.tables inside)) (λ k u. refl))
 
 -- whosever it is
 pub handle-mild : (w : World) (pid : ℕ) (r : HandleRow) → AreMild (close_handle pid r w)
@@ -180,10 +180,10 @@ pub refuses-close : (w : World) (by : ThreadRow) (handle : ℕ) → Refuses (ser
 unfolding nt_close
 refuses-close w by handle = bind (own_handle w by handle) _ (found (handle_at w by.process handle) INVALID_HANDLE refl) (λ r. tt)
 
-pub fair-close : (m : Group) (c : ℕ) (w : World) (by : ThreadRow) (known : List ℕ → Birth) (handle : ℕ) → At m c w by known → Holds (λ bs. HasFinePorts m c (world_after w bs) → are_fair m c w bs ≡ true) (served w by (close handle))
+pub fair-close : (m : Group) (c : ℕ) (w : World) (by : ThreadRow) (known : List ℕ → Birth) (handle : ℕ) → At m c w by known → Holds (λ bs. HasFineRows m c (world_after w bs) → are_fair m c w bs ≡ true) (served w by (close handle))
 fair-close m c w by known handle a =
     let k = caller m c w by known w a refl in
-    on-close (λ bs. HasFinePorts m c (world_after w bs) → are_fair m c w bs ≡ true) w by handle (λ r at fine. (good m c w w by handle r k at).fair w w (caller-sure m c w w by k))
+    on-close (λ bs. HasFineRows m c (world_after w bs) → are_fair m c w bs ≡ true) w by handle (λ r at fine. (good m c w w by handle r k at).fair w w (caller-sure m c w w by k))
 
 pub names-close : (m : Group) (c : ℕ) (u w : World) (by : ThreadRow) (handle : ℕ) → Caller m c u w by → Holds (λ bs. OnceBound (world_after w bs).bindings) (served w by (close handle))
 names-close m c u w by handle k = on-close (λ bs. OnceBound (world_after w bs).bindings) w by handle (λ r at. mild-bound w (close_handle by.process r w) ((good m c u w by handle r k at).mild w) k.bound)
@@ -197,10 +197,10 @@ sends-close u by handle = on-close (λ bs. are_sent u bs ≡ true) u by handle (
 pub asked-close : (m : Group) (c : ℕ) (w : World) (by : ThreadRow) (handle : ℕ) → Asked w → Caller m c w w by → Holds (λ bs. Asked (world_after w bs)) (served w by (close handle))
 asked-close m c w by handle a k = on-close (λ bs. Asked (world_after w bs)) w by handle (λ r at. (good m c w w by handle r k at).asked w w (caller-sure m c w w by k))
 
-pub apart-close : (m : Group) (c : ℕ) (u : World) (d : Whose) (w : World) (by : ThreadRow) (known : List ℕ → Birth) (handle : ℕ) → At m c w by known → u.used_threads ≡ w.used_threads → m by.process ≡ false → Holds (λ bs. HasFinePorts m c (world_after w bs) → are_apart m c u d w bs ≡ true) (served w by (close handle))
+pub apart-close : (m : Group) (c : ℕ) (u : World) (d : Whose) (w : World) (by : ThreadRow) (known : List ℕ → Birth) (handle : ℕ) → At m c w by known → u.used_threads ≡ w.used_threads → m by.process ≡ false → Holds (λ bs. HasFineRows m c (world_after w bs) → are_apart m c u d w bs ≡ true) (served w by (close handle))
 apart-close m c u d w by known handle a used out =
     let k = caller m c w by known u a used in
-    on-close (λ bs. HasFinePorts m c (world_after w bs) → are_apart m c u d w bs ≡ true) w by handle (λ r at fine.
+    on-close (λ bs. HasFineRows m c (world_after w bs) → are_apart m c u d w bs ≡ true) w by handle (λ r at fine.
     let b_out : m r.object.birth.process ≡ false = ap m (whose m c u w by handle r k at) ∙ out in
     both _ _ (rw (k.here, out) refl) ((good m c u w by handle r k at).apart u d w (caller-sure m c u w by k) b_out))
 
@@ -212,25 +212,25 @@ same-close m c w by known handle a mine fine =
     let here = found_ok (handle_at w by.process handle) INVALID_HANDLE r at in
     ap (λ bs. Ok (Tells (told_first by) ∷ bs)) ((good m c w w by handle r k here).same w w (caller-sure m c w w by k) (whose m c w w by handle r k here ∙ mine))))
 
-pub ours-close : (m : Group) (c : ℕ) (w : World) (by : ThreadRow) (known : List ℕ → Birth) (handle : ℕ) → At m c w by known → by.process ≡ c → Holds (λ bs. HasFinePorts m c (world_after w bs) → are_ours m w bs ≡ true) (served w by (close handle))
+pub ours-close : (m : Group) (c : ℕ) (w : World) (by : ThreadRow) (known : List ℕ → Birth) (handle : ℕ) → At m c w by known → by.process ≡ c → Holds (λ bs. HasFineRows m c (world_after w bs) → are_ours m w bs ≡ true) (served w by (close handle))
 ours-close m c w by known handle a mine =
     let k = caller m c w by known w a refl in
-    on-close (λ bs. HasFinePorts m c (world_after w bs) → are_ours m w bs ≡ true) w by handle (λ r at fine.
+    on-close (λ bs. HasFineRows m c (world_after w bs) → are_ours m w bs ≡ true) w by handle (λ r at fine.
     (good m c w w by handle r k at).ours w w (caller-sure m c w w by k) (ap m (whose m c w w by handle r k at ∙ mine) ∙ a.c_in))
 
 -- the same steps behind an entry
-tells-led : (m : Group) (c : ℕ) (u : World) (d : Whose) (w : World) (e : Entry) (bs led : List Basic) → Led m c u d w bs led → Led m c u d w (Tells e ∷ bs) (Tells e ∷ led)
+pub tells-led : (m : Group) (c : ℕ) (u : World) (d : Whose) (w : World) (e : Entry) (bs led : List Basic) → Led m c u d w bs led → Led m c u d w (Tells e ∷ bs) (Tells e ∷ led)
 tells-led m c u d w e bs led l = record { world = l.world; told = ap (λ es. cond (is_heard (alone c) u d e) (e ∷ es) es) l.told }
 
-pub leads-close : (m : Group) (c : ℕ) (u : World) (d : Whose) (w : World) (by : ThreadRow) (known : List ℕ → Birth) (handle : ℕ) → At m c w by known → u.used_threads ≡ w.used_threads → m by.process ≡ true → (by.process == c) ≡ false → Holds (λ bs. HasFinePorts m c (world_after w bs) → Leading m c u d w by known (close handle) bs) (served w by (close handle))
+pub leads-close : (m : Group) (c : ℕ) (u : World) (d : Whose) (w : World) (by : ThreadRow) (known : List ℕ → Birth) (handle : ℕ) → At m c w by known → u.used_threads ≡ w.used_threads → m by.process ≡ true → (by.process == c) ≡ false → Holds (λ bs. HasFineRows m c (world_after w bs) → Leading m c u d w by known (close handle) bs) (served w by (close handle))
 leads-close m c u d w by known handle a used by_in other =
     let k = caller m c w by known u a used in
-    on-close (λ bs. HasFinePorts m c (world_after w bs) → Leading m c u d w by known (close handle) bs) w by handle (λ r at fine.
+    on-close (λ bs. HasFineRows m c (world_after w bs) → Leading m c u d w by known (close handle) bs) w by handle (λ r at fine.
     rw (handle-view m w by.process handle by_in, at) (tells-led m c u d w (told_first by) (close_handle by.process r w) (close_handle by.process r (view m w))
     ((good m c u w by handle r k at).led u d w (caller-sure m c u w by k) (ap m (whose m c u w by handle r k at) ∙ by_in))))
 
-pub hears-close : (m : Group) (c : ℕ) (u w : World) (by : ThreadRow) (d : Whose) (memo : List Heard) → Caller m c u w by → Owned w w → Numbered w → Asked w → AllKnown m memo w → m by.process ≡ false → (handle : ℕ) → Holds (λ bs. HasFinePorts m c (world_after w bs) → Hears m c u d w memo bs) (served w by (close handle))
-hears-close m c u w by d memo k owned n a all out handle = on-close (λ bs. HasFinePorts m c (world_after w bs) → Hears m c u d w memo bs) w by handle (λ r at fine.
+pub hears-close : (m : Group) (c : ℕ) (u w : World) (by : ThreadRow) (d : Whose) (memo : List Heard) → Caller m c u w by → Owned w w → Numbered w → Asked w → AllKnown m memo w → m by.process ≡ false → (handle : ℕ) → Holds (λ bs. HasFineRows m c (world_after w bs) → Hears m c u d w memo bs) (served w by (close handle))
+hears-close m c u w by d memo k owned n a all out handle = on-close (λ bs. HasFineRows m c (world_after w bs) → Hears m c u d w memo bs) w by handle (λ r at fine.
     let g = good m c u w by handle r k at in
     let s = caller-sure m c u w by k in
     let b_out : m r.object.birth.process ≡ false = ap m (whose m c u w by handle r k at) ∙ out in
@@ -244,24 +244,28 @@ notes-close m c u w by memo k owned n a all by_in handle = on-close (λ bs. AllK
     unnoted m memo (world_after w (close_handle by.process r w)) (by.process == c) (run-known m memo w (close_handle by.process r w) (mild-known m memo w (close_handle by.process r w) ((good m c u w by handle r k at).mild w)) all))
 
 -- where rows have gone
-pub thin-handle : (k : Alive) (ps : Lives) (u : World) (pid : ℕ) (r : HandleRow) → Closed k u → handle_closed k r ≡ true → close_handle pid r (thin k ps u) ≡ close_handle pid r u
-thin-handle k ps u pid r closed live = ap (λ bs. when (is_last r u) bs ++ DropsHandle pid r.value ∷ []) ((close-good (λ p. true) 0 r.object.birth).alike k ps u closed (other_of (same_kind r.object.kind kind.Port) _ live))
+pub thin-handle : (k : Alive) (u : World) (pid : ℕ) (r : HandleRow) → Closed k u → handle_closed k r ≡ true → close_handle pid r (thin k u) ≡ close_handle pid r u
+thin-handle k u pid r closed live = at (same_kind r.object.kind kind.Port) refl
+  where
+    at : (e : Bool) → same_kind r.object.kind kind.Port ≡ e → close_handle pid r (thin k u) ≡ close_handle pid r u
+    at true port = ap (λ bs. when (is_last r u) bs ++ DropsHandle pid r.value ∷ []) ((close-good (λ p. true) 0 r.object.birth).alike k u closed (port-live k r.object live port))
+    at false off = rw off refl
 
-pub alike-close : (k : Alive) (ps : Lives) (u : World) (by : ThreadRow) (handle : ℕ) → Closed k u → served (thin k ps u) by (close handle) ≡ served u by (close handle)
+pub alike-close : (k : Alive) (u : World) (by : ThreadRow) (handle : ℕ) → Closed k u → served (thin k u) by (close handle) ≡ served u by (close handle)
 unfolding nt_close
-alike-close k ps u by handle c = bind-same (own_handle u by handle) _ _ (λ r at.
+alike-close k u by handle c = bind-same (own_handle u by handle) _ _ (λ r at.
     let live : handle_closed k r ≡ true = every-first (handle_closed k) (has_value handle) (handles_of u by.process) r (rows-closed k by.process u.handles (first (is_table by.process) u.handles) refl c.tables) (found_ok (handle_at u by.process handle) INVALID_HANDLE r at) in
-    ap (λ bs. Ok (Tells (told_first by) ∷ bs)) (thin-handle k ps u by.process r c live))
+    ap (λ bs. Ok (Tells (told_first by) ∷ bs)) (thin-handle k u by.process r c live))
 
 pub handle-stands : (k : Alive) (u : World) (pid : ℕ) (r : HandleRow) → Closed k u → handle_closed k r ≡ true → AreClosed k (close_handle pid r u)
-handle-stands k u pid r c live = every-append _ (provided (is_last r) (close_port r.object.birth) u) (DropsHandle pid r.value ∷ []) (gone (is_last r u)) refl
+handle-stands k u pid r c live = every-append _ (provided (is_last r) (close_port r.object.birth) u) (DropsHandle pid r.value ∷ []) (gone (is_last r u) refl) refl
   where
-    gone : (e : Bool) → AreClosed k (when e (close_port r.object.birth u))
-    gone true = (close-good (λ p. true) 0 r.object.birth).stands k u c (other_of (same_kind r.object.kind kind.Port) _ live)
-    gone false = refl
+    gone : (e : Bool) → is_last r u ≡ e → AreClosed k (when e (close_port r.object.birth u))
+    gone true last = (close-good (λ p. true) 0 r.object.birth).stands k u c (port-live k r.object live (one_of _ _ last))
+    gone false off = refl
 
-pub stands-close : (k : Alive) (u : World) (by : ThreadRow) (handle : ℕ) → IsSoundWorld u → Closed k u → k (next_birth by) ≡ true → Holds (AreClosed k) (served u by (close handle))
+pub stands-close : (k : Alive) (u : World) (by : ThreadRow) (handle : ℕ) → IsSoundWorld u → Closed k u → k.ports (next_birth by) ≡ true → Holds (AreClosed k) (served u by (close handle))
 stands-close k u by handle s c new = on-close (AreClosed k) u by handle (λ r at. handle-stands k u by.process r c (every-first (handle_closed k) (has_value handle) (handles_of u by.process) r (rows-closed k by.process u.handles (first (is_table by.process) u.handles) refl c.tables) at))
 
-pub fine-close : (m : Group) (c : ℕ) (after u : World) (by : ThreadRow) (handle : ℕ) → wait_of u by.number ≡ None → HasFinePorts m c after → Holds (FineAfter m c after u) (served u by (close handle))
+pub fine-close : (m : Group) (c : ℕ) (after u : World) (by : ThreadRow) (handle : ℕ) → wait_of u by.number ≡ None → HasFineRows m c after → Holds (FineAfter m c after u) (served u by (close handle))
 fine-close m c after u by handle idle f = on-close (FineAfter m c after u) u by handle (λ r at _. every-more _ (makes_fine m c) (mild-fine m c) (close_handle by.process r u) (handle-mild u by.process r))

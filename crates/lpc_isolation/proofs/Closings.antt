@@ -25,7 +25,7 @@ use Rattle.lpc_isolation.proofs.Play.{told_inputs}
 use Rattle.lpc_isolation.proofs.Paths.{is_path, leads, path-way}
 use Rattle.lpc_isolation.proofs.Asked.{Asked, basic-asked, is_settled}
 use Rattle.lpc_isolation.proofs.Heard.{entries_memo, takes_any}
-use Rattle.lpc_isolation.proofs.Thin.{Alive, is_closed, thin, wait_closed, Lives}
+use Rattle.lpc_isolation.proofs.Thin.{Alive, is_closed, thin, wait_closed}
 use Rattle.lpc_isolation.proofs.ThinCalls.{row-thin}
 use Rattle.lpc_isolation.proofs.Mild.{AreLosses, Sure, is_loss, losses-fair, losses-mild, losses-ours, losses-sent}
 use Rattle.lpc_isolation.proofs.Stages.{Good, Stage, then-good, then-stage}
@@ -105,7 +105,7 @@ receivers-end m c b = record {
   unseen = λ out u w x s known is. and-off (our_wait m x) _ (process-off m x (ap m (receiver-own m c x b (one_of _ _ known) is) ∙ out));
   agree = λ inside u w x s known ours. refl;
   inside = λ mine u w x s known is. mine-seen m c x s.c_in (one_of _ _ known) (receiver-own m c x b (one_of _ _ known) is ∙ mine);
-  thinly = λ k ps u x closed live. refl;
+  thinly = λ k u x closed live. refl;
 }
 
 -- Requests that were sent on it
@@ -116,7 +116,7 @@ requests-end m c b = record {
   unseen = λ out u w x s known is. and-off (our_wait m x) _ (process-off m x (ap m (made-own m c x b (one_of _ _ known) (other_of _ _ is)) ∙ out));
   agree = λ inside u w x s known ours. refl;
   inside = λ mine u w x s known is. mine-seen m c x s.c_in (one_of _ _ known) (made-own m c x b (one_of _ _ known) (other_of _ _ is) ∙ mine);
-  thinly = λ k ps u x closed live. refl;
+  thinly = λ k u x closed live. refl;
 }
 
 -- Requests and connects in its queue
@@ -127,7 +127,7 @@ queued-end m c b = record {
   unseen = λ out u w x s known is. and-off (our_wait m x) _ (queue-off m x b out (one_of _ _ (other_of _ _ is)));
   agree = λ inside u w x s known ours. refl;
   inside = λ mine u w x s known is. queue-seen m c x b s.c_in (one_of _ _ known) mine (one_of _ _ (other_of _ _ is));
-  thinly = λ k ps u x closed live. refl;
+  thinly = λ k u x closed live. refl;
 }
 
 offered-end : (m : Group) (c : ℕ) (b : Birth) → IsEnd m c b true (λ w. is_offered_to b)
@@ -137,7 +137,7 @@ offered-end m c b = record {
   unseen = λ out u w x s known is. and-off (our_wait m x) _ (queue-off m x b out (other_of _ _ is));
   agree = λ inside u w x s known ours. refl;
   inside = λ mine u w x s known is. queue-seen m c x b s.c_in (one_of _ _ known) mine (other_of _ _ is);
-  thinly = λ k ps u x closed live. refl;
+  thinly = λ k u x closed live. refl;
 }
 
 -- Across the pair
@@ -208,8 +208,8 @@ across-view m c w b x inside fair ours =
     let own : m x.port.process ≡ true = ap m (eqb-true _ _ (one_of _ _ fair)) ∙ one_of _ _ ours in
     ap (is_the b) (pair-view m w x.port own) ∙ the-seen m b (pair_of w x.port) inside
 
-across-thin : (k : Alive) (ps : Lives) (u : World) (b : Birth) (x : WaitRow) → wait_closed k x ≡ true → is_across (thin k ps u) b x ≡ is_across u b x
-across-thin k ps u b x live = rw (row-thin k ps u x.port live) refl
+across-thin : (k : Alive) (u : World) (b : Birth) (x : WaitRow) → wait_closed k x ≡ true → is_across (thin k u) b x ≡ is_across u b x
+across-thin k u b x live = rw (row-thin k u x.port live) refl
 
 -- a request across: on a server port its queue is the other end
 server-kind : (p : PortRow) (k : PortKind) → p.kind ≡ k → is_server_port p ≡ true → (q b : Birth) → p.pair ≡ Some b → leads q p ≡ true → same_birth q b ≡ true
@@ -265,7 +265,7 @@ requests-across m c b = record {
   unseen = λ out u w x s known is. and-off (our_wait m x) _ (request-off m c u w b x out s known is);
   agree = λ inside u w x s known ours. ap (λ e. is_request x && e) (across-view m c w b x inside (one_of _ _ known) ours);
   inside = λ mine u w x s known is. request-in m c u w b x mine s known is (known-way m c u w x s known);
-  thinly = λ k ps u x closed live. ap (λ e. is_request x && e) (across-thin k ps u b x live);
+  thinly = λ k u x closed live. ap (λ e. is_request x && e) (across-thin k u b x live);
 }
 
 -- receives across, on client ports
@@ -312,7 +312,7 @@ receives-across m c b = record {
       let own : m x.port.process ≡ true = ap m (eqb-true _ _ (one_of _ _ (one_of _ _ known))) ∙ one_of _ _ ours in
       rw (row-client m w x.port own, across-view m c w b x inside (one_of _ _ known) ours) refl;
   inside = λ mine u w x s known is. receive-in m c u w b x mine s known is;
-  thinly = λ k ps u x closed live. rw (row-thin k ps u x.port live) refl;
+  thinly = λ k u x closed live. rw (row-thin k u x.port live) refl;
 }
   where
     or-first : (a b : Bool) → a ≡ true → (a || b) ≡ true
@@ -359,7 +359,7 @@ accepted-across m c b = record {
   unseen = λ out u w x s known is. rw (accepted-takes x x.kind refl (one_of _ _ is)) (and-none (our_wait m x));
   agree = λ inside u w x s known ours. ap (λ e. is_accepted x && (is_made_on b x || e)) (across-view m c w b x inside (one_of _ _ known) ours);
   inside = λ mine u w x s known is. accepted-in m c u w b x mine s known is;
-  thinly = λ k ps u x closed live. ap (λ e. is_accepted x && (is_made_on b x || e)) (across-thin k ps u b x live);
+  thinly = λ k u x closed live. ap (λ e. is_accepted x && (is_made_on b x || e)) (across-thin k u b x live);
 }
   where
     and-none : (a : Bool) → (a && false) ≡ false
@@ -381,7 +381,7 @@ lone-stage m c b x loss silent asked apart closed = record {
     ours = λ u w s inside. losses-ours m b w (x ∷ []) inside all;
     led = λ u d w s inside. led-same m c u d w (x ∷ []) (losses-ours m b w (x ∷ []) inside all);
     same = λ u w s mine. refl;
-    alike = λ k ps u closed live. refl;
+    alike = λ k u closed live. refl;
     stands = λ k u _ live. both _ _ (closed k) refl;
   };
 }

@@ -20,7 +20,7 @@ use Rattle.lpc_names.specs.Walk.{lookup, free_path}
 use Rattle.lpc_model.specs.Tests.{handles_test, next_birth}
 use Rattle.lpc_model.proofs.Holding.{Holds, bind_holds}
 use Rattle.lpc_model.specs.Circle.{Group, Whose, is_fine_client, leads_inside, is_fine_port, names_inside, owner}
-use Rattle.lpc_isolation.proofs.Alone.{HasFinePorts}
+use Rattle.lpc_isolation.proofs.Alone.{HasFineRows}
 use Rattle.lpc_isolation.proofs.View.{both, same-number, view}
 use Rattle.lpc_isolation.proofs.Basics.{are_ours, ours-append, run-ours}
 use Rattle.lpc_isolation.proofs.Fair.{Fair, are_fair, fair-append, is_fair_message, is_fair_wait, owner-sent, owner-used, run-fair}
@@ -61,14 +61,14 @@ row by q bytes = row_of q (client_port by q) (connection_request by bytes)
 abbrev pub steps_of : World → ThreadRow → Birth → List ℕ → List Basic
 steps_of w by q bytes = connect_steps by q (connection_request by bytes) w
 
-every-last : {X : Type 0} (p : X → Bool) (xs : List X) (y : X) → every p (xs ++ y ∷ []) ≡ true → p y ≡ true
+pub every-last : {X : Type 0} (p : X → Bool) (xs : List X) (y : X) → every p (xs ++ y ∷ []) ≡ true → p y ≡ true
 every-last p [] y all = grind arith
 every-last p (x ∷ xs) y all = grind (arith, every-last p xs y)
 
-pub connect-fine : (m : Group) (c : ℕ) (w : World) (by : ThreadRow) (q : Birth) (bytes : List ℕ) → HasFinePorts m c (world_after w (steps_of w by q bytes)) → is_fine_client m c (next_birth by) q ≡ true
+pub connect-fine : (m : Group) (c : ℕ) (w : World) (by : ThreadRow) (q : Birth) (bytes : List ℕ) → HasFineRows m c (world_after w (steps_of w by q bytes)) → is_fine_client m c (next_birth by) q ≡ true
 connect-fine m c w by q bytes fine =
     every-last (is_fine_port m c) w.ports (client_port by q)
-    (subst (λ (ports : List PortRow). every (is_fine_port m c) ports ≡ true) (enter-ports (world_after w (starting by q bytes)) (row by q bytes)) fine)
+    (subst (λ (ports : List PortRow). every (is_fine_port m c) ports ≡ true) (enter-ports (world_after w (starting by q bytes)) (row by q bytes)) fine.1)
 
 -- fair
 connect_wait-fair : (m : Group) (c : ℕ) (by : ThreadRow) (q : Birth) (bytes : List ℕ) → m c ≡ true → is_fine_client m c (next_birth by) q ≡ true → is_fair_wait m c (connect_wait by q (connection_request by bytes)) ≡ true
@@ -139,11 +139,11 @@ unfolding nt_connect_port
 on-connect P w by name bytes then_ =
     bind_holds (info_test bytes) _ P (λ _ _. bind_holds (named_port w name) _ P (λ q at. bind_holds (handles_test w by.process 1) _ P (λ _ _. then_ q at)))
 
-pub connect-call-fair : (m : Group) (c : ℕ) (u w : World) (by : ThreadRow) (name bytes : List ℕ) → Caller m c u w by → Holds (λ bs. HasFinePorts m c (world_after w bs) → are_fair m c w bs ≡ true) (nt_connect_port w by name bytes)
-connect-call-fair m c u w by name bytes k = on-connect (λ bs. HasFinePorts m c (world_after w bs) → are_fair m c w bs ≡ true) w by name bytes (λ q at fine. connect-fair m c u w by q bytes k (connect-fine m c w by q bytes fine))
+pub connect-call-fair : (m : Group) (c : ℕ) (u w : World) (by : ThreadRow) (name bytes : List ℕ) → Caller m c u w by → Holds (λ bs. HasFineRows m c (world_after w bs) → are_fair m c w bs ≡ true) (nt_connect_port w by name bytes)
+connect-call-fair m c u w by name bytes k = on-connect (λ bs. HasFineRows m c (world_after w bs) → are_fair m c w bs ≡ true) w by name bytes (λ q at fine. connect-fair m c u w by q bytes k (connect-fine m c w by q bytes fine))
 
-pub connect-call-apart : (m : Group) (c : ℕ) (u : World) (d : Whose) (w : World) (by : ThreadRow) (name bytes : List ℕ) → Caller m c u w by → m by.process ≡ false → Holds (λ bs. HasFinePorts m c (world_after w bs) → are_apart m c u d w bs ≡ true) (nt_connect_port w by name bytes)
-connect-call-apart m c u d w by name bytes k out = on-connect (λ bs. HasFinePorts m c (world_after w bs) → are_apart m c u d w bs ≡ true) w by name bytes (λ q at fine. connect-apart m c u d w by q bytes k (connect-fine m c w by q bytes fine) out)
+pub connect-call-apart : (m : Group) (c : ℕ) (u : World) (d : Whose) (w : World) (by : ThreadRow) (name bytes : List ℕ) → Caller m c u w by → m by.process ≡ false → Holds (λ bs. HasFineRows m c (world_after w bs) → are_apart m c u d w bs ≡ true) (nt_connect_port w by name bytes)
+connect-call-apart m c u d w by name bytes k out = on-connect (λ bs. HasFineRows m c (world_after w bs) → are_apart m c u d w bs ≡ true) w by name bytes (λ q at fine. connect-apart m c u d w by q bytes k (connect-fine m c w by q bytes fine) out)
 
 -- of another member than c
 abbrev pub led_connect : World → ThreadRow → List ℕ → List ℕ → List Basic
@@ -160,8 +160,8 @@ named-view m w name q s q_in is = at (lookup w.bindings name) refl is
         let there : lookup (view m w).bindings name ≡ Ok (Item q) = lookup-view m w.bindings name q s q_in (r ∙ ap (λ b. Ok (Item b)) same) in
         rw there refl
 
-pub connect-call-led : (m : Group) (c : ℕ) (u : World) (d : Whose) (w : World) (by : ThreadRow) (name bytes : List ℕ) → Caller m c u w by → m by.process ≡ true → Holds (λ bs. HasFinePorts m c (world_after w bs) → Led m c u d w bs (led_connect (view m w) by name bytes)) (nt_connect_port w by name bytes)
-connect-call-led m c u d w by name bytes k is = on-connect (λ bs. HasFinePorts m c (world_after w bs) → Led m c u d w bs (led_connect (view m w) by name bytes)) w by name bytes (λ q at fine_next.
+pub connect-call-led : (m : Group) (c : ℕ) (u : World) (d : Whose) (w : World) (by : ThreadRow) (name bytes : List ℕ) → Caller m c u w by → m by.process ≡ true → Holds (λ bs. HasFineRows m c (world_after w bs) → Led m c u d w bs (led_connect (view m w) by name bytes)) (nt_connect_port w by name bytes)
+connect-call-led m c u d w by name bytes k is = on-connect (λ bs. HasFineRows m c (world_after w bs) → Led m c u d w bs (led_connect (view m w) by name bytes)) w by name bytes (λ q at fine_next.
     let fine = connect-fine m c w by q bytes fine_next in
     rw (named-view m w name q k.names (fine-in m c by q fine is) at, connect-view m c u w by q bytes k fine is) (led-same m c u d w (steps_of w by q bytes) (connect-ours m c u w by q bytes k fine is)))
 
@@ -192,8 +192,8 @@ c-connect m c u w by name bytes k mine inside =
     let fine : is_fine_client m c (next_birth by) q ≡ true = fine-both m c by q by_in q_in in
     ap (λ bs. Ok bs) (connect-view m c u w by q bytes k fine by_in)))))
 
-pub c-connect-ours : (m : Group) (c : ℕ) (u w : World) (by : ThreadRow) (name bytes : List ℕ) → Caller m c u w by → by.process ≡ c → Holds (λ bs. HasFinePorts m c (world_after w bs) → are_ours m w bs ≡ true) (nt_connect_port w by name bytes)
-c-connect-ours m c u w by name bytes k mine = on-connect (λ bs. HasFinePorts m c (world_after w bs) → are_ours m w bs ≡ true) w by name bytes (λ q at fine. connect-ours m c u w by q bytes k (connect-fine m c w by q bytes fine) (ap m mine ∙ k.c_in))
+pub c-connect-ours : (m : Group) (c : ℕ) (u w : World) (by : ThreadRow) (name bytes : List ℕ) → Caller m c u w by → by.process ≡ c → Holds (λ bs. HasFineRows m c (world_after w bs) → are_ours m w bs ≡ true) (nt_connect_port w by name bytes)
+c-connect-ours m c u w by name bytes k mine = on-connect (λ bs. HasFineRows m c (world_after w bs) → are_ours m w bs ≡ true) w by name bytes (λ q at fine. connect-ours m c u w by q bytes k (connect-fine m c w by q bytes fine) (ap m mine ∙ k.c_in))
 
 -- NtCreatePort's names
 pub c-making : (m : Group) (w : World) (b : Birth) (name : List ℕ) → SeenNames m w.bindings → names_inside m w name ≡ true → making (view m w) b (Some name) ≡ making w b (Some name)

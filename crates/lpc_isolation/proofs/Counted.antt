@@ -4,22 +4,24 @@ use Rattle.std.specs.Prelude.{◌&&◌, ◌||◌, ◌==◌, ◌+◌, is_none, le
 use Rattle.std.proofs.lemmas.Bool.{eqb-true}
 use Rattle.std.proofs.lemmas.List.Elements.{filter-append}
 use Rattle.lpc_base.specs.Rows.{count, each, every, has, which, first, when}
-use Rattle.lpc_base.proofs.RowMaps.{every-both}
+use Rattle.lpc_base.proofs.RowMaps.{every-both, every-first}
+use Rattle.lpc_base.proofs.RowWords.{first-passes}
 use Rattle.lpc_base.specs.declared.port_kind.PortKind.TheVariants.{Client, Connection, Server, Unnamed}
+use Rattle.lpc_model.specs.declared.entry.ObjectKind.{ObjectKind}
 use Rattle.lpc_model.specs.declared.entry.ObjectKind.TheVariants as kind
-use Rattle.lpc_model.specs.World.{Birth, HandleRow, HandleTable, MessageRow, ObjectName, PortKind, PortRow, WaitRow, World, ThreadRow}
-use Rattle.lpc_model.specs.Found.{handle_count, is_client_port, is_connected_to, is_cut, is_made_on, is_paired_to, is_port, is_request, is_sent_on, is_server_port, is_the, port_name, same_birth, same_kind, same_object, all_registrations, registered_by}
+use Rattle.lpc_model.specs.World.{Birth, HandleRow, HandleTable, MessageRow, ObjectName, PortKind, PortRow, ProcessRow, WaitRow, World, ThreadRow}
+use Rattle.lpc_model.specs.Found.{handle_count, is_client_port, is_connected_to, is_cut, is_life, lives_by, is_made_on, is_paired_to, is_port, is_request, is_sent_on, is_server_port, is_the, port_name, same_birth, same_kind, same_object, all_registrations, registered_by}
 use Rattle.lpc_model.specs.Standing.{is_near}
 use Rattle.lpc_model.proofs.Births.{birth-same}
 use Rattle.lpc_model.specs.Circle.{Group, is_fine_client, is_fine_port}
-use Rattle.lpc_isolation.proofs.Alone.{HasFinePorts}
-use Rattle.lpc_isolation.proofs.Served.{is_made_to, is_sent_to, is_standing, standing_count}
-use Rattle.lpc_isolation.proofs.View.{both, of_birth, one_of, other_of, our_message, our_port, our_wait, same-number, seen_pair, seen_port, view, our_thread}
-use Rattle.lpc_isolation.proofs.Filters.{has-inside, which-where, first-inside}
-use Rattle.lpc_isolation.proofs.Fair.{Fair, all_of, is_fair_message, is_fair_pair, is_fair_port, is_fair_wait, is_home, is_fair_thread}
+use Rattle.lpc_isolation.proofs.Alone.{HasFineRows}
+use Rattle.lpc_isolation.proofs.Served.{is_made_to, is_sent_to, is_standing, standing_as, standing_count, standing_holders}
+use Rattle.lpc_isolation.proofs.View.{both, of_birth, one_of, other_of, our_message, our_port, our_wait, same-number, seen_pair, seen_port, view, our_process, our_thread}
+use Rattle.lpc_isolation.proofs.Filters.{count-inside, every-any, first-inside, has-inside, which-where}
+use Rattle.lpc_isolation.proofs.Fair.{Fair, all_of, is_fair_message, is_fair_pair, is_fair_port, is_fair_wait, is_fair_life, is_fair_process, is_home, is_fair_thread, together}
 use Rattle.lpc_isolation.proofs.Callers.{c-wait}
 use Rattle.lpc_isolation.proofs.Mine.{the-seen}
-use Rattle.lpc_isolation.proofs.Thin.{Alive, Closed, handle_closed, message_closed, port_alive, port_cut, table_closed, thin, wait_closed, Lives, Agree, registered-thin}
+use Rattle.lpc_isolation.proofs.Thin.{Alive, Closed, handle_closed, message_closed, port_alive, port_cut, table_closed, thin, wait_closed, alive_as, lasts, object_alive, port-live, process_alive, registered-thin, thread_alive, thread_closed}
 use Rattle.lpc_isolation.proofs.Closings.{member-in}
 use Rattle.lpc_isolation.proofs.Closes.{handle_count-view}
 
@@ -204,33 +206,70 @@ sent-in m c b x c_in mine fair is =
     let s_in : m x.sender.process ≡ true = ap m sender ∙ c_in in
     grind arith
 
-pub standing-view : (m : Group) (c : ℕ) (w : World) (o : ObjectName) → m c ≡ true → o.birth.process ≡ c → Fair m c w → HasFinePorts m c w → standing_count (view m w) o ≡ standing_count w o
-standing-view m c w o c_in mine f fine =
-    let b : Birth = o.birth in
+ports-view : (m : Group) (c : ℕ) (w : World) (b : Birth) → m c ≡ true → b.process ≡ c → Fair m c w → HasFineRows m c w → standing_holders (view m w) b ≡ standing_holders w b
+ports-view m c w b c_in mine f fine =
     let pairs : count (is_paired_to b) (view m w).ports ≡ count (is_paired_to b) w.ports = count-shown (is_fair_port m c) (our_port m) (is_paired_to b) (is_paired_to b) (seen_port m) (λ p fair ours. the-seen m b p.pair (ap m mine ∙ c_in)) (λ p fair is. fair-pair-in m c b p c_in mine fair is) w.ports f.ports in
-    let ports : every (λ p. is_fair_port m c p && is_fine_port m c p) w.ports ≡ true = every-both (is_fair_port m c) (is_fine_port m c) _ (λ p a b. both _ _ a b) w.ports f.ports fine in
+    let ports : every (λ p. is_fair_port m c p && is_fine_port m c p) w.ports ≡ true = every-both (is_fair_port m c) (is_fine_port m c) _ (λ p a b. both _ _ a b) w.ports f.ports fine.1 in
     let standing : count (is_standing (view m w) b) (view m w).ports ≡ count (is_standing w b) w.ports = count-shown (λ p. is_fair_port m c p && is_fine_port m c p) (our_port m) (is_standing w b) (is_standing (view m w) b) (seen_port m) (λ p ok ours. standing-seen m c w b p c_in mine f ok) (λ p ok is. (near m c b p c_in mine (one_of _ _ ok) (other_of (is_fair_port m c p) _ ok) (one_of _ _ is)).inside) w.ports ports in
     let messages : count (is_sent_on b) (view m w).messages ≡ count (is_sent_on b) w.messages = ap length (which-where (is_fair_message m c) (our_message m) (is_sent_on b) (λ x fair is. sent-in m c b x c_in mine fair is) w.messages f.messages) in
     let waits : count (is_made_on b) (view m w).waits ≡ count (is_made_on b) w.waits = ap length (which-where (is_fair_wait m c) (our_wait m) (is_made_on b) (λ x fair is. c-wait m c x c_in fair (ap (λ n. n == c) (sym (eqb-true _ _ (one_of _ _ fair)) ∙ ap (λ (b : Birth). b.process) (birth-same x.port b is) ∙ mine) ∙ same-number c)) w.waits f.waits) in
     let registered : count (same_birth b) (all_registrations (view m w)) ≡ count (same_birth b) (all_registrations w) = ap length (registered-seen m b w.threads (ap m mine ∙ c_in) f.registrations) in
-    rw (handle_count-view m c w o f.tables (ap m mine ∙ c_in), pairs, standing, messages, waits, registered) refl
+    rw (pairs, standing, messages, waits, registered) refl
+
+-- a member's process is counted for by its threads, and a member's thread by itself
+which-alike : {X : Type 0} (f g : X → Bool) → ((x : X) → f x ≡ g x) → (xs : List X) → which f xs ≡ which g xs
+which-alike f g same [] = refl
+which-alike f g same (x ∷ xs) = rw (same x, which-alike f g same xs) refl
+
+abbrev homes_in : Birth → ThreadRow → ProcessRow → Bool
+homes_in b t p = same_birth p.birth b && (p.number == t.process)
+
+lives-in : (m : Group) (w : World) (b : Birth) (t : ThreadRow) → every (is_fair_process m) w.processes ≡ true → m b.process ≡ true → lives_by w b t ≡ true → our_thread m t ≡ true
+lives-in m w b t fair inside is = at (first (homes_in b t) w.processes) refl (other_of t.live _ is)
+  where
+    at : (o : Option ProcessRow) → first (homes_in b t) w.processes ≡ o → is_some o ≡ true → m t.process ≡ true
+    at None none is = absurd (cc)
+    at (Some p) some is =
+        let passed : homes_in b t p ≡ true = first-passes (homes_in b t) w.processes p some in
+        let same : m p.number ≡ m p.birth.process = together m p.number p.birth.process (every-first (is_fair_process m) (homes_in b t) w.processes p fair some) in
+        ap m (sym (eqb-true p.number t.process (other_of _ _ passed))) ∙ same ∙ of_birth m p.birth b (one_of _ _ passed) ∙ inside
+
+lives-seen : (m : Group) (w : World) (b : Birth) (t : ThreadRow) → every (is_fair_process m) w.processes ≡ true → m b.process ≡ true → lives_by (view m w) b t ≡ lives_by w b t
+lives-seen m w b t fair inside =
+    ap (λ e. t.live && e) (has-inside (is_fair_process m) (our_process m) (homes_in b t)
+    (λ p one is. together m p.number p.birth.process one ∙ of_birth m p.birth b (one_of _ _ is) ∙ inside) w.processes fair)
+
+lives_view : (m : Group) (c : ℕ) (w : World) (b : Birth) → m b.process ≡ true → Fair m c w → count (lives_by (view m w) b) (view m w).threads ≡ count (lives_by w b) w.threads
+lives_view m c w b inside f =
+    ap length (which-alike (lives_by (view m w) b) (lives_by w b) (λ t. lives-seen m w b t f.processes inside) (which (our_thread m) w.threads)
+    ∙ count-inside (our_thread m) (lives_by w b) (λ t is. lives-in m w b t f.processes inside is) w.threads)
+
+life_view : (m : Group) (c : ℕ) (w : World) (b : Birth) → m b.process ≡ true → Fair m c w → count (is_life b) (view m w).threads ≡ count (is_life b) w.threads
+life_view m c w b inside f = ap length (which-where (is_fair_life m) (our_thread m) (is_life b) (λ t fair is. together m t.process t.birth.process fair ∙ of_birth m t.birth b (other_of t.live _ is) ∙ inside) w.threads f.lives)
+
+as-view : (m : Group) (c : ℕ) (w : World) (k : ObjectKind) (b : Birth) → m c ≡ true → b.process ≡ c → Fair m c w → HasFineRows m c w → standing_as (view m w) k b ≡ standing_as w k b
+as-view m c w kind.Port b c_in mine f fine = ports-view m c w b c_in mine f fine
+as-view m c w kind.Section b c_in mine f fine = refl
+as-view m c w kind.Token b c_in mine f fine = refl
+as-view m c w kind.Process b c_in mine f fine = lives_view m c w b (ap m mine ∙ c_in) f
+as-view m c w kind.Thread b c_in mine f fine = life_view m c w b (ap m mine ∙ c_in) f
+
+pub standing-view : (m : Group) (c : ℕ) (w : World) (o : ObjectName) → m c ≡ true → o.birth.process ≡ c → Fair m c w → HasFineRows m c w → standing_count (view m w) o ≡ standing_count w o
+standing-view m c w o c_in mine f fine = rw (handle_count-view m c w o f.tables (ap m mine ∙ c_in), as-view m c w o.kind o.birth c_in mine f fine) refl
 
 -- Where rows have gone
 -- what a row names is alive
-handle-live : (k : Alive) (b : Birth) (hs : List HandleRow) → every (handle_closed k) hs ≡ true → k b ≡ false → which (λ h. same_object h.object (port_name b)) hs ≡ []
+handle-live : (k : Alive) (b : Birth) (hs : List HandleRow) → every (handle_closed k) hs ≡ true → k.ports b ≡ false → which (λ h. same_object h.object (port_name b)) hs ≡ []
 handle-live k b [] all dead = refl
 handle-live k b (h ∷ hs) all dead = at (same_object h.object (port_name b)) refl (handle-live k b hs (other_of _ _ all) dead)
   where
     at : (e : Bool) → same_object h.object (port_name b) ≡ e → which (λ h. same_object h.object (port_name b)) hs ≡ [] → which (λ h. same_object h.object (port_name b)) (h ∷ hs) ≡ []
     at true is rest =
-        let live : k h.object.birth ≡ true = named h (one_of _ _ all) (one_of _ _ is) in
-        let same : k h.object.birth ≡ k b = ap k (birth-same h.object.birth b (other_of (same_kind h.object.kind kind.Port) _ is)) in absurd (cc)
-      where
-        named : (h : HandleRow) → handle_closed k h ≡ true → same_kind h.object.kind kind.Port ≡ true → k h.object.birth ≡ true
-        named h closed is = grind arith
+        let live : k.ports h.object.birth ≡ true = port-live k h.object (one_of _ _ all) (one_of _ _ is) in
+        let same : k.ports h.object.birth ≡ k.ports b = ap k.ports (birth-same h.object.birth b (other_of (same_kind h.object.kind kind.Port) _ is)) in absurd (cc)
     at false off rest = rw off rest
 
-handles-live : (k : Alive) (b : Birth) (ts : List HandleTable) → every (table_closed k) ts ≡ true → k b ≡ false → which (λ h. same_object h.object (port_name b)) (each (λ t. t.rows) ts) ≡ []
+handles-live : (k : Alive) (b : Birth) (ts : List HandleTable) → every (table_closed k) ts ≡ true → k.ports b ≡ false → which (λ h. same_object h.object (port_name b)) (each (λ t. t.rows) ts) ≡ []
 handles-live k b [] all dead = refl
 handles-live k b (t ∷ ts) all dead =
     filter-append (λ h. same_object h.object (port_name b)) t.rows (each (λ t. t.rows) ts)
@@ -241,38 +280,38 @@ none-of : {X : Type 0} (p t : X → Bool) → ((x : X) → p x ≡ true → t x 
 none-of p t off [] all = refl
 none-of p t off (x ∷ xs) all = grind (arith, off x, none-of p t off xs)
 
-standing-live : (k : Alive) (u : World) (b : Birth) (p : PortRow) → Closed k u → port_cut k p ≡ true → is_standing u b p ≡ true → k p.birth ≡ true
-standing-live k u b p c cut is = at (k p.birth) refl
+standing-live : (k : Alive) (u : World) (b : Birth) (p : PortRow) → Closed k u → port_cut k p ≡ true → is_standing u b p ≡ true → k.ports p.birth ≡ true
+standing-live k u b p c cut is = at (k.ports p.birth) refl
   where
-    off-sent : (x : MessageRow) → k p.birth ≡ false → message_closed k x ≡ true → is_sent_to b p x ≡ false
+    off-sent : (x : MessageRow) → k.ports p.birth ≡ false → message_closed k x ≡ true → is_sent_to b p x ≡ false
     off-sent x dead closed = by (is_sent_to b p x) refl
       where
         by : (e : Bool) → is_sent_to b p x ≡ e → e ≡ false
-        by true here = let same : k x.sender ≡ k p.birth = ap k (birth-same x.sender p.birth (one_of _ _ here)) in absurd (cc)
+        by true here = let same : k.ports x.sender ≡ k.ports p.birth = ap k.ports (birth-same x.sender p.birth (one_of _ _ here)) in absurd (cc)
         by false off = refl
 
-    off-made : (x : WaitRow) → k p.birth ≡ false → wait_closed k x ≡ true → is_made_to p x ≡ false
+    off-made : (x : WaitRow) → k.ports p.birth ≡ false → wait_closed k x ≡ true → is_made_to p x ≡ false
     off-made x dead closed = by (is_made_to p x) refl
       where
         by : (e : Bool) → is_made_to p x ≡ e → e ≡ false
-        by true here = let same : k x.port ≡ k p.birth = ap k (birth-same x.port p.birth (one_of _ _ here)) in absurd (cc)
+        by true here = let same : k.ports x.port ≡ k.ports p.birth = ap k.ports (birth-same x.port p.birth (one_of _ _ here)) in absurd (cc)
         by false off = refl
 
-    off-told : (d : Birth) → k p.birth ≡ false → k d ≡ true → same_birth p.birth d ≡ false
+    off-told : (d : Birth) → k.ports p.birth ≡ false → k.ports d ≡ true → same_birth p.birth d ≡ false
     off-told d dead live = by (same_birth p.birth d) refl
       where
         by : (e : Bool) → same_birth p.birth d ≡ e → e ≡ false
-        by true here = let same : k p.birth ≡ k d = ap k (birth-same p.birth d here) in absurd (cc)
+        by true here = let same : k.ports p.birth ≡ k.ports d = ap k.ports (birth-same p.birth d here) in absurd (cc)
         by false off = refl
 
-    at : (e : Bool) → k p.birth ≡ e → e ≡ true
+    at : (e : Bool) → k.ports p.birth ≡ e → e ≡ true
     at true live = refl
     at false dead =
         let handles : handle_count u (port_name p.birth) ≡ 0 = ap length (handles-live k p.birth u.handles c.tables dead) in
         let sent : has (is_sent_to b p) u.messages ≡ false = none-of (message_closed k) (is_sent_to b p) (λ x closed. off-sent x dead closed) u.messages c.messages in
         let made : has (is_made_to p) u.waits ≡ false = none-of (wait_closed k) (is_made_to p) (λ x closed. off-made x dead closed) u.waits c.waits in
-        let told : has (same_birth p.birth) (all_registrations u) ≡ false = none-of k (same_birth p.birth) (λ d live. off-told d dead live) (all_registrations u) c.registrations in
-        let gone : is_cut p ≡ true = or-last (k p.birth) (is_cut p) dead cut in
+        let told : has (same_birth p.birth) (all_registrations u) ≡ false = none-of k.ports (same_birth p.birth) (λ d live. off-told d dead live) (all_registrations u) c.registrations in
+        let gone : is_cut p ≡ true = or-last (k.ports p.birth) (is_cut p) dead cut in
         let never : (is_connected_to b p && (false || not true)) ≡ true = rw (handles, sent, made, told, gone) at is in
         absurd (never-is (is_connected_to b p) never)
       where
@@ -283,20 +322,35 @@ standing-live k u b p c cut is = at (k p.birth) refl
         never-is true is = cc
         never-is false is = cc
 
-paired-live : (k : Alive) (b : Birth) (p : PortRow) → port_cut k p ≡ true → is_paired_to b p ≡ true → k p.birth ≡ true
+paired-live : (k : Alive) (b : Birth) (p : PortRow) → port_cut k p ≡ true → is_paired_to b p ≡ true → k.ports p.birth ≡ true
 paired-live k b p cut is = at p.pair refl is
   where
-    at : (o : Option Birth) → p.pair ≡ o → is_the b o ≡ true → k p.birth ≡ true
+    at : (o : Option Birth) → p.pair ≡ o → is_the b o ≡ true → k.ports p.birth ≡ true
     at None none is = absurd (cc)
-    at (Some q) some is = let it : (k p.birth || false) ≡ true = rw some at cut in grind arith
+    at (Some q) some is = let it : (k.ports p.birth || false) ≡ true = rw some at cut in grind arith
 
-pub standing-thin : (k : Alive) (ps : Lives) (u : World) (o : ObjectName) → Agree ps u → Closed k u → standing_count (thin k ps u) o ≡ standing_count u o
-standing-thin k ps u o agree c =
-    let b : Birth = o.birth in
+ports-thin : (k : Alive) (u : World) (b : Birth) → Closed k u → standing_holders (thin k u) b ≡ standing_holders u b
+ports-thin k u b c =
     let aside : List PortRow → ℕ = λ ports. count (is_standing u b) ports + (count (is_sent_on b) u.messages + (count (is_made_on b) u.waits + count (same_birth b) (all_registrations u))) in
     let pairs : count (is_paired_to b) (which (port_alive k) u.ports) ≡ count (is_paired_to b) u.ports = ap length (which-where (port_cut k) (port_alive k) (is_paired_to b) (λ p cut is. paired-live k b p cut is) u.ports c.cuts) in
     let standing : count (is_standing u b) (which (port_alive k) u.ports) ≡ count (is_standing u b) u.ports = ap length (which-where (port_cut k) (port_alive k) (is_standing u b) (λ p cut is. standing-live k u b p c cut is) u.ports c.cuts) in
-    let counted : List Birth → ℕ = λ bs. handle_count u o + cond (same_kind o.kind kind.Port) (count (is_paired_to b) (which (port_alive k) u.ports) + (count (λ p. is_connected_to b p && ((not (handle_count u (port_name p.birth) == 0) || (has (is_sent_to b p) u.messages || (has (is_made_to p) u.waits || has (same_birth p.birth) bs))) || not (is_cut p))) (which (port_alive k) u.ports) + (count (is_sent_on b) u.messages + (count (is_made_on b) u.waits + count (same_birth b) bs)))) 0 in
-    ap counted (registered-thin k ps u agree)
-    ∙ ap (λ n. handle_count u o + cond (same_kind o.kind kind.Port) (n + aside (which (port_alive k) u.ports)) 0) pairs
-    ∙ ap (λ n. handle_count u o + cond (same_kind o.kind kind.Port) (count (is_paired_to b) u.ports + (n + (count (is_sent_on b) u.messages + (count (is_made_on b) u.waits + count (same_birth b) (all_registrations u))))) 0) standing
+    let counted : List Birth → ℕ = λ bs. count (is_paired_to b) (which (port_alive k) u.ports) + (count (λ p. is_connected_to b p && ((not (handle_count u (port_name p.birth) == 0) || (has (is_sent_to b p) u.messages || (has (is_made_to p) u.waits || has (same_birth p.birth) bs))) || not (is_cut p))) (which (port_alive k) u.ports) + (count (is_sent_on b) u.messages + (count (is_made_on b) u.waits + count (same_birth b) bs))) in
+    ap counted (registered-thin k u c)
+    ∙ ap (λ n. n + aside (which (port_alive k) u.ports)) pairs
+    ∙ ap (λ n. count (is_paired_to b) u.ports + (n + (count (is_sent_on b) u.messages + (count (is_made_on b) u.waits + count (same_birth b) (all_registrations u))))) standing
+
+lives-thin : (k : Alive) (u : World) (b : Birth) → k.processes b ≡ true → Closed k u → count (lives_by (thin k u) b) (thin k u).threads ≡ count (lives_by u b) u.threads
+lives-thin k u b live c =
+    ap length (which-alike (lives_by (thin k u) b) (lives_by u b)
+    (λ t. ap (λ e. t.live && e) (has-inside (λ p. true) (process_alive k) (homes_in b t) (λ p any is. ap k.processes (birth-same p.birth b (one_of _ _ is)) ∙ live) u.processes (every-any u.processes))) (which (thread_alive k) u.threads)
+    ∙ which-where (thread_closed k) (thread_alive k) (lives_by u b) (λ t closed is. lasts k t closed (one_of _ _ is)) u.threads c.threads)
+
+as-thin : (k : Alive) (u : World) (s : ObjectKind) (b : Birth) → alive_as k s b ≡ true → Closed k u → standing_as (thin k u) s b ≡ standing_as u s b
+as-thin k u kind.Port b live c = ports-thin k u b c
+as-thin k u kind.Section b live c = refl
+as-thin k u kind.Token b live c = refl
+as-thin k u kind.Process b live c = lives-thin k u b live c
+as-thin k u kind.Thread b live c = ap length (which-where (thread_closed k) (thread_alive k) (is_life b) (λ t closed is. lasts k t closed (one_of _ _ is)) u.threads c.threads)
+
+pub standing-thin : (k : Alive) (u : World) (o : ObjectName) → object_alive k o ≡ true → Closed k u → standing_count (thin k u) o ≡ standing_count u o
+standing-thin k u o live c = ap (λ n. handle_count u o + n) (as-thin k u o.kind o.birth live c)

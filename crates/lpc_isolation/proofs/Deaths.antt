@@ -20,7 +20,7 @@ use Rattle.lpc_model.proofs.Closing.{takes_away}
 use Rattle.lpc_model.proofs.Ending.{die-pass}
 use Rattle.lpc_model.proofs.SoundQueues.{after-append}
 use Rattle.lpc_isolation.proofs.View.{both, one_of, our_wait, same-number, seen_pair, seen_port, view}
-use Rattle.lpc_isolation.proofs.Basics.{are_ours, sees_wait, sees_own}
+use Rattle.lpc_isolation.proofs.Basics.{sees_wait, sees_own}
 use Rattle.lpc_isolation.proofs.Fair.{are_fair, implies, is_fair_message, is_fair_wait, is_sent, owner-sent}
 use Rattle.lpc_isolation.proofs.Seen.{port-view}
 use Rattle.lpc_isolation.proofs.Filters.{first-kept, first-none_kept}
@@ -56,7 +56,7 @@ is_made_in pid (Some x) = x.port.process == pid
 -- and it stands
 abbrev is_live_port : Alive → Option WaitRow → Bool
 is_live_port k None = true
-is_live_port k (Some x) = k x.port
+is_live_port k (Some x) = k.ports x.port
 
 -- steps by which a closing takes rows away
 away-mild : (x : Basic) → takes_away x ≡ true → is_mild x ≡ true
@@ -104,8 +104,6 @@ module _ (m : Group) (c : ℕ) (u : World) (pid : ℕ) (c_in : m c ≡ true) (n 
     apart = goes-apart;
     mute = λ d w memo s k out. goes-mute d w memo out;
     led = λ d w s inside. led-same m c u d w (goes n code w) refl;
-    ours = λ w s mine. refl;
-    same = λ w s mine. refl;
   }
 
   -- as much is known behind it
@@ -187,8 +185,6 @@ module _ (m : Group) (c : ℕ) (u : World) (pid : ℕ) (c_in : m c ≡ true) (co
     apart = λ d w k out. let p = die-at w k in p.apart d w k.sure out;
     mute = λ d w memo k s out. let p = die-at w k in p.mute d w memo k.sure s out;
     led = λ d w k inside. let p = die-at w k in subst (Led m c u d w (die code t w)) (sym (die-view w k inside)) (p.led d w k.sure inside);
-    ours = λ w k mine. let p = die-at w k in p.ours w k.sure mine;
-    same = λ w k mine. let p = die-at w k in die-view w k (ap m mine ∙ c_in) ∙ p.same w k.sure mine;
   }
 
   pub die-steady : (w : World) → Steady m c u w → Steady m c u (world_after w (die code t w))
@@ -267,9 +263,6 @@ module _ (m : Group) (c : ℕ) (u : World) (pid : ℕ) (c_in : m c ≡ true) (t 
       mine right true is = routed-in m c w p q right c_in is to
       mine right false other = refl
 
-  queue-in : (w : World) (p : PortRow) (q : Birth) → Told m c u w pid t p q → pid ≡ c → m q.process ≡ true
-  queue-in w p q is mine = routed-in m c w p q is.right c_in (ap (λ n. n == c) (is.process ∙ mine) ∙ same-number c) is.to
-
   tells-apart : (d : Whose) (w : World) (p : PortRow) (q : Birth) → Sure m c u w → Told m c u w pid t p q → m pid ≡ false → are_apart m c u d w (enter (died_row t p q) w) ≡ true
   tells-apart d w p q s is out =
       let p_out : m p.birth.process ≡ false = ap m is.process ∙ out in
@@ -315,24 +308,6 @@ module _ (m : Group) (c : ℕ) (u : World) (pid : ℕ) (c_in : m c ≡ true) (t 
       at None row = led-same m c u d w [] refl
       at (Some p) row = routed p row (route w p) refl
 
-  -- c's ways lead to members
-  tells-same : (w : World) → Sure m c u w → pid ≡ c → tells t b (view m w) ≡ tells t b w
-  tells-same w s mine = seen-told w s inside ∙ at (port_row w b) refl
-    where
-      inside : m pid ≡ true
-      inside = ap m mine ∙ c_in
-
-      entered : (p : PortRow) (q : Birth) → Told m c u w pid t p q → in_view w p (seen_pair m (Some q)) ≡ enter (died_row t p q) w
-      entered p q is = let q_in : m q.process ≡ true = queue-in w p q is mine in rw q_in (tells-view w p q s is inside q_in)
-
-      routed : (p : PortRow) → port_row w b ≡ Some p → (o : Option Birth) → route w p ≡ o → in_view w p (seen_pair m o) ≡ given (option_map (λ q. died_row t p q) o) (λ y. enter y w)
-      routed p row None to = refl
-      routed p row (Some q) to = entered p q (told-row w p q s row to)
-
-      at : (o : Option PortRow) → port_row w b ≡ o → given o (λ p. in_view w p (seen_pair m (route w p))) ≡ given (option_and_then (λ p. option_map (λ q. died_row t p q) (route w p)) o) (λ y. enter y w)
-      at None row = refl
-      at (Some p) row = routed p row (route w p) refl
-
   tells-part : Part m c u pid (Steady m c u) (tells t b)
   tells-part = record {
     mild = tells-mild t b;
@@ -342,10 +317,6 @@ module _ (m : Group) (c : ℕ) (u : World) (pid : ℕ) (c_in : m c ≡ true) (t 
     apart = λ d w k out. on-told (λ bs. are_apart m c u d w bs ≡ true) t b w refl (λ p q row to. tells-apart d w p q k.sure (told-row w p q k.sure row to) out);
     mute = λ d w memo k n out. on-told (λ bs. entries_memo m (view m w) memo (told_inputs m c u d (entries_of bs)) ≡ memo) t b w refl (λ p q row to. tells-mute d w memo p q k.sure n (told-row w p q k.sure row to) out);
     led = λ d w k inside. tells-led d w k.sure inside;
-    ours = λ w k mine. on-told (λ bs. are_ours m w bs ≡ true) t b w refl (λ p q row to.
-        let is = told-row w p q k.sure row to in let s = k.sure in
-        enter-ours m w (died_row t p q) (both _ _ (ap m (is.process ∙ mine) ∙ c_in) (queue-in w p q is mine)) s.patient);
-    same = λ w k mine. tells-same w k.sure mine;
   }
 
   tells-safe : (w : World) → IsSafe w → IsSafe (world_after w (tells t b w))
@@ -360,8 +331,6 @@ module _ (m : Group) (c : ℕ) (u : World) (pid : ℕ) (c_in : m c ≡ true) (t 
     apart = λ d w k out. let s = k.sure in rw (unseen-thread m c w t.number pid s.fair (rw (sym s.used) own) out) refl;
     mute = λ d w memo k n out. refl;
     led = λ d w k inside. led-same m c u d w (leaves t.number b w) refl;
-    ours = λ w k mine. refl;
-    same = λ w k mine. refl;
   }
 
   leaves-steady : (w : World) → Steady m c u w → Steady m c u (world_after w (leaves t.number b w))
@@ -377,16 +346,16 @@ module _ (m : Group) (c : ℕ) (u : World) (pid : ℕ) (c_in : m c ≡ true) (t 
 
 -- Where rows have gone
 goes-remains : (k : Alive) (n : ℕ) (code : Status) → Remains k (goes n code)
-goes-remains k n code = record { alike = λ ps u agree closed. refl; stands = λ u closed. refl }
+goes-remains k n code = record { alike = λ u closed. refl; stands = λ u closed. refl }
 
 cut-remains : (k : Alive) (o : Option WaitRow) → is_live_port k o ≡ true → Remains k (cut_accepted o)
 cut-remains k None is = none-remains k
 cut-remains k (Some x) is = let g = (cut-off (λ p. true) 0 x.port).good in
-    provided-remains k (λ w. is_accepted x) (cut_pair x.port) (λ ps u agree. refl) (record { alike = λ ps u agree closed. g.alike k ps u closed is; stands = λ u closed. g.stands k u closed is })
+    provided-remains k (λ w. is_accepted x) (cut_pair x.port) (λ u closed. refl) (record { alike = λ u closed. g.alike k u closed is; stands = λ u closed. g.stands k u closed is })
 
 pub die-remains : (k : Alive) (code : Status) (t : ThreadRow) → Remains k (die code t)
 die-remains k code t = record {
-  alike = λ ps u agree closed. (at u closed).alike ps u agree closed;
+  alike = λ u closed. (at u closed).alike u closed;
   stands = λ u closed. (at u closed).stands u closed;
 }
   where
@@ -397,8 +366,8 @@ die-remains k code t = record {
     at : (u : World) → Closed k u → Remains k (goes t.number code ▹ cut_accepted (wait_of u t.number))
     at u closed = then-remains k (goes t.number code) (cut_accepted (wait_of u t.number)) (goes-remains k t.number code) (cut-remains k (wait_of u t.number) (live u closed (wait_of u t.number) refl))
 
-pub post-remains : (k : Alive) (t : ThreadRow) (b : Birth) → k b ≡ true → Remains k (post_death t b)
-post-remains k t b live = then-remains k (leaves t.number b) (tells t b) (record { alike = λ ps u agree closed. refl; stands = λ u closed. refl }) (record {
-  alike = λ ps u agree closed. rw (row-thin k ps u b live) refl;
-  stands = λ u closed. on-told (AreClosed k) t b u refl (λ p q row to. enter-closed k u (died_row t p q) (ap k (row-born u b p row) ∙ live));
+pub post-remains : (k : Alive) (t : ThreadRow) (b : Birth) → k.ports b ≡ true → Remains k (post_death t b)
+post-remains k t b live = then-remains k (leaves t.number b) (tells t b) (record { alike = λ u closed. refl; stands = λ u closed. refl }) (record {
+  alike = λ u closed. rw (row-thin k u b live) refl;
+  stands = λ u closed. on-told (AreClosed k) t b u refl (λ p q row to. enter-closed k u (died_row t p q) (ap k.ports (row-born u b p row) ∙ live));
 })

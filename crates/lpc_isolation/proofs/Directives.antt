@@ -43,8 +43,8 @@ succeeds (entry.NoThread who) = false
 succeeds (entry.Died who status) = false
 
 abbrev pub effect : World → ScriptLine → List Basic
-effect v (boot pid tid) = AddsProcess (new_process pid None (directive_birth pid)) ∷ AddsThread (new_thread tid pid (directive_birth tid)) ∷ []
-effect v (thread tid pid) = AddsThread (new_thread tid pid (directive_birth tid)) ∷ []
+effect v (boot pid tid) = AddsProcess (new_process pid None (directive_birth pid pid)) ∷ AddsThread (new_thread tid pid (directive_birth tid pid)) ∷ []
+effect v (thread tid pid) = AddsThread (new_thread tid pid (directive_birth tid pid)) ∷ []
 effect v (dir path) = on_ok (free_name v path) (λ p. Binds p (Stands Directory) ∷ [])
 effect v (link path target) = on_ok (spelled_name target) (λ to. on_ok (free_name v path) (λ p. Binds p (LinkTo to) ∷ []))
 effect v (run tid call) = []
@@ -154,7 +154,7 @@ boot-directs m w pid tid = record {
   refuses = bind (unused_test w pid tid) _ (if_refuses (was_process w pid || was_thread w tid) OBJECT_NAME_COLLISION refl) (λ _. tt);
   seen = λ is. bind_holds (unused_test w pid tid) _ (λ bs. view m (world_after w bs) ≡ world_after (view m w) (effect (view m w) (boot pid tid))) (λ _ _. run-ours m w (effect w (boot pid tid)) (rw is refl));
   hidden = λ out. bind_holds (unused_test w pid tid) _ (λ bs. view m (world_after w bs) ≡ view m w) (λ _ _.
-      basic-unseen m (basic w (AddsProcess (new_process pid None (directive_birth pid)))) (AddsThread (new_thread tid pid (directive_birth tid))) out refl ∙ basic-unseen m w (AddsProcess (new_process pid None (directive_birth pid))) out refl);
+      basic-unseen m (basic w (AddsProcess (new_process pid None (directive_birth pid pid)))) (AddsThread (new_thread tid pid (directive_birth tid pid))) out refl ∙ basic-unseen m w (AddsProcess (new_process pid None (directive_birth pid pid))) out refl);
 }
 
 pub thread-directs : (m : Group) (w : World) (tid pid : ℕ) → Directs m w (thread tid pid) word.Thread (Of pid) (thread_line w tid pid)
@@ -165,7 +165,7 @@ thread-directs m w tid pid = record {
   silent = bind_holds (thread_test w tid pid) _ (λ bs. entries_of bs ≡ []) (λ _ _. refl);
   refuses = bind (thread_test w tid pid) _ (bind (live_test w pid) _ (if_refuses (not (is_live w pid)) INVALID_CID refl) (λ _. bind (unused_thread_test w tid) _ (if_refuses (was_thread w tid) OBJECT_NAME_COLLISION refl) (λ _. if_refuses (nat_le THREAD_LIMIT (live_count w pid)) QUOTA_EXCEEDED refl))) (λ _. tt);
   seen = λ is. bind_holds (thread_test w tid pid) _ (λ bs. view m (world_after w bs) ≡ world_after (view m w) (effect (view m w) (thread tid pid))) (λ _ _. run-ours m w (effect w (thread tid pid)) (rw is refl));
-  hidden = λ out. bind_holds (thread_test w tid pid) _ (λ bs. view m (world_after w bs) ≡ view m w) (λ _ _. basic-unseen m w (AddsThread (new_thread tid pid (directive_birth tid))) out refl);
+  hidden = λ out. bind_holds (thread_test w tid pid) _ (λ bs. view m (world_after w bs) ≡ view m w) (λ _ _. basic-unseen m w (AddsThread (new_thread tid pid (directive_birth tid pid))) out refl);
 }
 
 free-named : (m : Group) (w : World) (text : List ℕ) (path : Path) → SeenNames m w.bindings → free_name w text ≡ Ok path → free_name (view m w) text ≡ Ok path

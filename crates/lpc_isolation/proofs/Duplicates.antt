@@ -4,9 +4,8 @@ use Rattle.std.specs.Prelude.{◌==◌}
 use Rattle.lpc_base.specs.Rows.{first}
 use Rattle.lpc_base.proofs.RowMaps.{every-first}
 use Rattle.lpc_base.specs.declared.status.TheConstants.{ACCESS_DENIED, INVALID_HANDLE}
-use Rattle.lpc_model.specs.declared.entry.ObjectKind.TheVariants as kind
 use Rattle.lpc_model.specs.World.{Birth, HandleRow, ThreadRow, World}
-use Rattle.lpc_model.specs.Found.{free_handle, handle_at, handles_of, has_value, is_table, wait_of, same_kind}
+use Rattle.lpc_model.specs.Found.{free_handle, handle_at, handles_of, has_value, is_table, wait_of}
 use Rattle.lpc_model.specs.Basics.{Basic, world_after}
 use Rattle.lpc_model.specs.Tests.{handles_test, includes, next_birth, own_handle}
 use Rattle.lpc_model.specs.Counts.{asked, duplicate_steps, nt_duplicate_object, rights_test}
@@ -15,11 +14,11 @@ use Rattle.lpc_isolation.proofs.Served.{served}
 use Rattle.lpc_model.specs.SoundWaits.{IsSoundWorld}
 use Rattle.lpc_model.specs.Circle.{Group, Whose, is_fine_call}
 use Rattle.lpc_model.proofs.Holding.{Holds, bind_holds, found_ok}
-use Rattle.lpc_isolation.proofs.Alone.{HasFinePorts}
+use Rattle.lpc_isolation.proofs.Alone.{HasFineRows}
 use Rattle.lpc_isolation.proofs.View.{same-number, view}
 use Rattle.lpc_isolation.proofs.Basics.{are_ours}
 use Rattle.lpc_isolation.proofs.Fair.{are_fair}
-use Rattle.lpc_isolation.proofs.Seen.{free-view, handle-own, handle-view, handle-port}
+use Rattle.lpc_isolation.proofs.Seen.{free-view, handle-own, handle-view}
 use Rattle.lpc_isolation.proofs.Apart.{Owned, are_apart}
 use Rattle.lpc_isolation.proofs.Callers.{handles_test-view, led-same}
 use Rattle.lpc_isolation.proofs.Sends.{Caller}
@@ -35,7 +34,7 @@ use Rattle.lpc_isolation.proofs.Heard.{Heard, call_memo}
 use Rattle.lpc_isolation.proofs.Knows.{AllKnown}
 use Rattle.lpc_isolation.proofs.KnownCalls.{Hears, still-hears}
 use Rattle.lpc_isolation.proofs.Instances.{At, Leading, caller}
-use Rattle.lpc_isolation.proofs.Thin.{Alive, Closed, handle_closed, thin, Lives}
+use Rattle.lpc_isolation.proofs.Thin.{Alive, Closed, handle_closed, thin}
 use Rattle.lpc_isolation.proofs.ThinCalls.{AreClosed, rows-closed}
 use Rattle.lpc_isolation.proofs.Fine.{FineAfter}
 
@@ -55,10 +54,9 @@ refuses-duplicate w by handle access =
     bind (own_handle w by handle) _ (found (handle_at w by.process handle) INVALID_HANDLE refl) (λ r.
     bind (rights_test r (asked r access)) _ (if_refuses (not (includes r.access (asked r access))) ACCESS_DENIED refl) (λ _. bind (handles_test w by.process 1) _ (handles w by.process 1) (λ _. tt)))
 
-pub fair-duplicate : (m : Group) (c : ℕ) (w : World) (by : ThreadRow) (known : List ℕ → Birth) (handle : ℕ) (access : Option ℕ) → At m c w by known → Holds (λ bs. HasFinePorts m c (world_after w bs) → are_fair m c w bs ≡ true) (served w by (duplicate_object handle access))
-fair-duplicate m c w by known handle access a = on-duplicate (λ bs. HasFinePorts m c (world_after w bs) → are_fair m c w bs ≡ true) w by handle access (λ r at fine.
-    let own : r.object.birth.process ≡ by.process = handle-own m c w by.process handle r a.fair at in
-    let port : same_kind r.object.kind kind.Port ≡ true = handle-port m c w by.process handle r a.fair at in rw (own, same-number by.process, port) refl)
+pub fair-duplicate : (m : Group) (c : ℕ) (w : World) (by : ThreadRow) (known : List ℕ → Birth) (handle : ℕ) (access : Option ℕ) → At m c w by known → Holds (λ bs. HasFineRows m c (world_after w bs) → are_fair m c w bs ≡ true) (served w by (duplicate_object handle access))
+fair-duplicate m c w by known handle access a = on-duplicate (λ bs. HasFineRows m c (world_after w bs) → are_fair m c w bs ≡ true) w by handle access (λ r at fine.
+    let own : r.object.birth.process ≡ by.process = handle-own m c w by.process handle r a.fair at in rw (own, same-number by.process) refl)
 
 pub names-duplicate : (m : Group) (c : ℕ) (u w : World) (by : ThreadRow) (handle : ℕ) (access : Option ℕ) → Caller m c u w by → Holds (λ bs. OnceBound (world_after w bs).bindings) (served w by (duplicate_object handle access))
 names-duplicate m c u w by handle access k = on-duplicate (λ bs. OnceBound (world_after w bs).bindings) w by handle access (λ r at. k.bound)
@@ -72,8 +70,8 @@ sends-duplicate u by handle access = on-duplicate (λ bs. are_sent u bs ≡ true
 pub asked-duplicate : (m : Group) (c : ℕ) (w : World) (by : ThreadRow) (handle : ℕ) (access : Option ℕ) → Asked w → Caller m c w w by → Holds (λ bs. Asked (world_after w bs)) (served w by (duplicate_object handle access))
 asked-duplicate m c w by handle access a k = on-duplicate (λ bs. Asked (world_after w bs)) w by handle access (λ r at. record { sorts = a.sorts; own = a.own; one = a.one })
 
-pub apart-duplicate : (m : Group) (c : ℕ) (u : World) (d : Whose) (w : World) (by : ThreadRow) (known : List ℕ → Birth) (handle : ℕ) (access : Option ℕ) → At m c w by known → u.used_threads ≡ w.used_threads → m by.process ≡ false → Holds (λ bs. HasFinePorts m c (world_after w bs) → are_apart m c u d w bs ≡ true) (served w by (duplicate_object handle access))
-apart-duplicate m c u d w by known handle access a used out = on-duplicate (λ bs. HasFinePorts m c (world_after w bs) → are_apart m c u d w bs ≡ true) w by handle access (λ r at fine. rw ((caller m c w by known u a used).here, out) refl)
+pub apart-duplicate : (m : Group) (c : ℕ) (u : World) (d : Whose) (w : World) (by : ThreadRow) (known : List ℕ → Birth) (handle : ℕ) (access : Option ℕ) → At m c w by known → u.used_threads ≡ w.used_threads → m by.process ≡ false → Holds (λ bs. HasFineRows m c (world_after w bs) → are_apart m c u d w bs ≡ true) (served w by (duplicate_object handle access))
+apart-duplicate m c u d w by known handle access a used out = on-duplicate (λ bs. HasFineRows m c (world_after w bs) → are_apart m c u d w bs ≡ true) w by handle access (λ r at fine. rw ((caller m c w by known u a used).here, out) refl)
 
 pub same-duplicate : (m : Group) (c : ℕ) (w : World) (by : ThreadRow) (known : List ℕ → Birth) (handle : ℕ) (access : Option ℕ) → At m c w by known → by.process ≡ c → is_fine_call m w (duplicate_object handle access) ≡ true → served (view m w) by (duplicate_object handle access) ≡ served w by (duplicate_object handle access)
 unfolding nt_duplicate_object
@@ -82,15 +80,15 @@ same-duplicate m c w by known handle access a mine fine =
     let test : handles_test (view m w) by.process 1 ≡ handles_test w by.process 1 = subst (λ p. handles_test (view m w) p 1 ≡ handles_test w p 1) (sym mine) (handles_test-view m c w 1 a.c_in a.fair) in
     rw (handle-view m w by.process handle by_in, test, free-view m w by.process by_in) refl
 
-pub ours-duplicate : (m : Group) (c : ℕ) (w : World) (by : ThreadRow) (known : List ℕ → Birth) (handle : ℕ) (access : Option ℕ) → At m c w by known → by.process ≡ c → Holds (λ bs. HasFinePorts m c (world_after w bs) → are_ours m w bs ≡ true) (served w by (duplicate_object handle access))
-ours-duplicate m c w by known handle access a mine = on-duplicate (λ bs. HasFinePorts m c (world_after w bs) → are_ours m w bs ≡ true) w by handle access (λ r at fine. refl)
+pub ours-duplicate : (m : Group) (c : ℕ) (w : World) (by : ThreadRow) (known : List ℕ → Birth) (handle : ℕ) (access : Option ℕ) → At m c w by known → by.process ≡ c → Holds (λ bs. HasFineRows m c (world_after w bs) → are_ours m w bs ≡ true) (served w by (duplicate_object handle access))
+ours-duplicate m c w by known handle access a mine = on-duplicate (λ bs. HasFineRows m c (world_after w bs) → are_ours m w bs ≡ true) w by handle access (λ r at fine. refl)
 
-pub leads-duplicate : (m : Group) (c : ℕ) (u : World) (d : Whose) (w : World) (by : ThreadRow) (known : List ℕ → Birth) (handle : ℕ) (access : Option ℕ) → At m c w by known → u.used_threads ≡ w.used_threads → m by.process ≡ true → (by.process == c) ≡ false → Holds (λ bs. HasFinePorts m c (world_after w bs) → Leading m c u d w by known (duplicate_object handle access) bs) (served w by (duplicate_object handle access))
-leads-duplicate m c u d w by known handle access a used by_in other = on-duplicate (λ bs. HasFinePorts m c (world_after w bs) → Leading m c u d w by known (duplicate_object handle access) bs) w by handle access (λ r at fine.
+pub leads-duplicate : (m : Group) (c : ℕ) (u : World) (d : Whose) (w : World) (by : ThreadRow) (known : List ℕ → Birth) (handle : ℕ) (access : Option ℕ) → At m c w by known → u.used_threads ≡ w.used_threads → m by.process ≡ true → (by.process == c) ≡ false → Holds (λ bs. HasFineRows m c (world_after w bs) → Leading m c u d w by known (duplicate_object handle access) bs) (served w by (duplicate_object handle access))
+leads-duplicate m c u d w by known handle access a used by_in other = on-duplicate (λ bs. HasFineRows m c (world_after w bs) → Leading m c u d w by known (duplicate_object handle access) bs) w by handle access (λ r at fine.
     rw (handle-view m w by.process handle by_in, at, free-view m w by.process by_in) (led-same m c u d w (duplicate_steps by (free_handle w by.process) r (asked r access)) refl))
 
-pub hears-duplicate : (m : Group) (c : ℕ) (u w : World) (by : ThreadRow) (d : Whose) (memo : List Heard) → Caller m c u w by → Owned w w → Numbered w → Asked w → AllKnown m memo w → m by.process ≡ false → (handle : ℕ) (access : Option ℕ) → Holds (λ bs. HasFinePorts m c (world_after w bs) → Hears m c u d w memo bs) (served w by (duplicate_object handle access))
-hears-duplicate m c u w by d memo k owned n a all out handle access = on-duplicate (λ bs. HasFinePorts m c (world_after w bs) → Hears m c u d w memo bs) w by handle access (λ r at fine.
+pub hears-duplicate : (m : Group) (c : ℕ) (u w : World) (by : ThreadRow) (d : Whose) (memo : List Heard) → Caller m c u w by → Owned w w → Numbered w → Asked w → AllKnown m memo w → m by.process ≡ false → (handle : ℕ) (access : Option ℕ) → Holds (λ bs. HasFineRows m c (world_after w bs) → Hears m c u d w memo bs) (served w by (duplicate_object handle access))
+hears-duplicate m c u w by d memo k owned n a all out handle access = on-duplicate (λ bs. HasFineRows m c (world_after w bs) → Hears m c u d w memo bs) w by handle access (λ r at fine.
     still-hears m c u d w memo (duplicate_steps by (free_handle w by.process) r (asked r access)) all (refl, refl))
 
 -- where an answer shows no message, nothing is noted
@@ -101,13 +99,13 @@ unnoted m memo v false all = all
 pub notes-duplicate : (m : Group) (c : ℕ) (u w : World) (by : ThreadRow) (memo : List Heard) → Caller m c u w by → Owned w w → Numbered w → Asked w → AllKnown m memo w → m by.process ≡ true → (handle : ℕ) (access : Option ℕ) → Holds (λ bs. AllKnown m (cond (by.process == c) memo (call_memo m (view m w) by (duplicate_object handle access) (own_entry bs) memo)) (world_after w bs)) (served w by (duplicate_object handle access))
 notes-duplicate m c u w by memo k owned n a all by_in handle access = on-duplicate (λ bs. AllKnown m (cond (by.process == c) memo (call_memo m (view m w) by (duplicate_object handle access) (own_entry bs) memo)) (world_after w bs)) w by handle access (λ r at. unnoted m memo w (by.process == c) all)
 
-pub alike-duplicate : (k : Alive) (ps : Lives) (u : World) (by : ThreadRow) (handle : ℕ) (access : Option ℕ) → Closed k u → served (thin k ps u) by (duplicate_object handle access) ≡ served u by (duplicate_object handle access)
+pub alike-duplicate : (k : Alive) (u : World) (by : ThreadRow) (handle : ℕ) (access : Option ℕ) → Closed k u → served (thin k u) by (duplicate_object handle access) ≡ served u by (duplicate_object handle access)
 unfolding nt_duplicate_object
-alike-duplicate k ps u by handle access c = refl
+alike-duplicate k u by handle access c = refl
 
-pub stands-duplicate : (k : Alive) (u : World) (by : ThreadRow) (handle : ℕ) (access : Option ℕ) → IsSoundWorld u → Closed k u → k (next_birth by) ≡ true → Holds (AreClosed k) (served u by (duplicate_object handle access))
+pub stands-duplicate : (k : Alive) (u : World) (by : ThreadRow) (handle : ℕ) (access : Option ℕ) → IsSoundWorld u → Closed k u → k.ports (next_birth by) ≡ true → Holds (AreClosed k) (served u by (duplicate_object handle access))
 stands-duplicate k u by handle access s c new = on-duplicate (AreClosed k) u by handle access (λ r at.
     let live : handle_closed k r ≡ true = every-first (handle_closed k) (has_value handle) (handles_of u by.process) r (rows-closed k by.process u.handles (first (is_table by.process) u.handles) refl c.tables) at in rw live refl)
 
-pub fine-duplicate : (m : Group) (c : ℕ) (after u : World) (by : ThreadRow) (handle : ℕ) (access : Option ℕ) → wait_of u by.number ≡ None → HasFinePorts m c after → Holds (FineAfter m c after u) (served u by (duplicate_object handle access))
+pub fine-duplicate : (m : Group) (c : ℕ) (after u : World) (by : ThreadRow) (handle : ℕ) (access : Option ℕ) → wait_of u by.number ≡ None → HasFineRows m c after → Holds (FineAfter m c after u) (served u by (duplicate_object handle access))
 fine-duplicate m c after u by handle access idle f = on-duplicate (FineAfter m c after u) u by handle access (λ r at _. refl)

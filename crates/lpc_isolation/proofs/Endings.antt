@@ -122,7 +122,7 @@ module _ (m : Group) (c : ℕ) (u : World) (pid : ℕ) (c_in : m c ≡ true) whe
 
   row-part : (rows : List HandleRow) (r : HandleRow) → is_own pid r ≡ true → Part m c u pid (has_rows rows) (close_handle pid r)
   row-part rows r own =
-      let home : r.object.birth.process ≡ pid = eqb-true r.object.birth.process pid (one_of _ _ own) in
+      let home : r.object.birth.process ≡ pid = eqb-true r.object.birth.process pid own in
       known-part m c u pid c_in (Sure m c u) (has_rows rows) (close_handle pid r) (rows-known rows) (good-part m c u pid c_in r.object.birth (close_handle pid r) home (handle-good m c pid r home))
 
   row-left : (r : HandleRow) (rows : List HandleRow) → is_own pid r ≡ true → (w : World) → has_rows (r ∷ rows) w → has_rows rows (world_after w (close_handle pid r w))
@@ -159,8 +159,6 @@ module _ (m : Group) (c : ℕ) (u : World) (pid : ℕ) (c_in : m c ≡ true) whe
     apart = λ d w k out. let p = process-at w k in p.apart d w (k, refl) out;
     mute = λ d w memo k n out. let p = process-at w k in p.mute d w memo (k, refl) n out;
     led = λ d w k inside. let p = process-at w k in subst (Led m c u d w (end_process pid w)) (sym (process-view w inside)) (p.led d w (k, refl) inside);
-    ours = λ w k mine. let p = process-at w k in p.ours w (k, refl) mine;
-    same = λ w k mine. let p = process-at w k in process-view w (ap m mine ∙ c_in) ∙ p.same w (k, refl) mine;
   }
 
   -- all of it
@@ -174,23 +172,23 @@ module _ (m : Group) (c : ℕ) (u : World) (pid : ℕ) (c_in : m c ≡ true) whe
 -- Where rows have gone
 process-remains : (k : Alive) (pid : ℕ) → Remains k (end_process pid)
 process-remains k pid = record {
-  alike = λ ps u agree closed. (at u closed).alike ps u agree closed;
+  alike = λ u closed. (at u closed).alike u closed;
   stands = λ u closed. (at u closed).stands u closed;
 }
   where
     row : (r : HandleRow) → handle_closed k r ≡ true → Remains k (close_handle pid r)
-    row r live = record { alike = λ ps u agree closed. thin-handle k ps u pid r closed live; stands = λ u closed. handle-stands k u pid r closed live }
+    row r live = record { alike = λ u closed. thin-handle k u pid r closed live; stands = λ u closed. handle-stands k u pid r closed live }
 
     at : (u : World) → Closed k u → Remains k (in_turn (close_handle pid) (handles_of u pid))
     at u closed = turn-remains k (handle_closed k) (close_handle pid) row (handles_of u pid) (rows-closed k pid u.handles (first (is_table pid) u.handles) refl closed.tables)
 
 -- ports that stand
 abbrev pub are_standing : Alive → ThreadRow → Bool
-are_standing k t = every k t.registrations
+are_standing k t = every k.ports t.registrations
 
 pub ends-remains : (k : Alive) (pid : ℕ) (code : Status) (ts : List ThreadRow) → every (are_standing k) ts ≡ true → Remains k (end_threads pid code ts)
 unfolding end_threads
 ends-remains k pid code ts all =
     then-remains k (in_turn (die code) ts) (in_turn post_deaths ts ▹ provided (λ w. not (is_live w pid)) (end_process pid)) (turn-remains k (are_standing k) (die code) (λ t is. die-remains k code t) ts all)
-    (then-remains k (in_turn post_deaths ts) (provided (λ w. not (is_live w pid)) (end_process pid)) (turn-remains k (are_standing k) post_deaths (λ t is. turn-remains k k (post_death t) (λ b live. post-remains k t b live) t.registrations is) ts all)
-    (provided-remains k (λ w. not (is_live w pid)) (end_process pid) (λ ps u agree. ap (λ e. not e) (is_live-thin k ps u pid agree)) (process-remains k pid)))
+    (then-remains k (in_turn post_deaths ts) (provided (λ w. not (is_live w pid)) (end_process pid)) (turn-remains k (are_standing k) post_deaths (λ t is. turn-remains k k.ports (post_death t) (λ b live. post-remains k t b live) t.registrations is) ts all)
+    (provided-remains k (λ w. not (is_live w pid)) (end_process pid) (λ u closed. ap (λ e. not e) (is_live-thin k u pid closed)) (process-remains k pid)))

@@ -25,7 +25,7 @@ use Rattle.lpc_isolation.proofs.Play.{is_told_input, told_inputs}
 use Rattle.lpc_isolation.proofs.Paths.{is_path}
 use Rattle.lpc_isolation.proofs.Asked.{Asked, asks_of, basic-asked, has_own, is_own, is_quiet, is_settled, is_sort, still-own}
 use Rattle.lpc_isolation.proofs.Heard.{Heard, entries_memo, entries-silent, is_silent, takes_any}
-use Rattle.lpc_isolation.proofs.Thin.{Alive, Closed, thin, wait_closed, Lives}
+use Rattle.lpc_isolation.proofs.Thin.{Alive, Closed, thin, wait_closed}
 use Rattle.lpc_isolation.proofs.ThinCalls.{AreClosed}
 use Rattle.lpc_isolation.proofs.Mild.{AreLosses, Sure, losses-fair, losses-mild, losses-ours, losses-sent}
 use Rattle.lpc_isolation.proofs.Lone.{is_lone, is_mute, lone-all, mute-all, quiet-all}
@@ -56,7 +56,7 @@ pub record IsEnd (m : Group) (c : ℕ) (b : Birth) (draws : Bool) (test : World 
   -- a member's closing ends in the view what it ends there in the world, and c's closing no other
   pub agree : m b.process ≡ true → (u w : World) (x : WaitRow) → Sure m c u w → is_known_wait m c u w x ≡ true → our_wait m x ≡ true → test (view m w) x ≡ test w x
   pub inside : b.process ≡ c → (u w : World) (x : WaitRow) → Sure m c u w → is_known_wait m c u w x ≡ true → test w x ≡ true → our_wait m x ≡ true
-  pub thinly : (k : Alive) (ps : Lives) (u : World) (x : WaitRow) → Closed k u → wait_closed k x ≡ true → test (thin k ps u) x ≡ test u x
+  pub thinly : (k : Alive) (u : World) (x : WaitRow) → Closed k u → wait_closed k x ≡ true → test (thin k u) x ≡ test u x
 
 -- Lists
 pub every-passing : {X : Type 0} (p t q : X → Bool) → ((x : X) → p x ≡ true → t x ≡ true → q x ≡ true) → (xs : List X) → every p xs ≡ true → every q (which t xs) ≡ true
@@ -311,8 +311,8 @@ module _ (m : Group) (c : ℕ) (b : Birth) (draws : Bool) (status : Status) (fie
       let all : every (our_wait m) (ending w) ≡ true = every-passing (is_known_wait m c u w) (test w) (our_wait m) (λ x known on. e.inside mine u w x s known on) w.waits (known-waits m c u w s) in
       ap (all_ended draws status fields) (seen u w s inside ∙ which-kept (our_wait m) (ending w) all)
 
-  alike : (k : Alive) (ps : Lives) (u : World) → Closed k u → ends (thin k ps u) ≡ ends u
-  alike k ps u closed = ap (all_ended draws status fields) (which-same (wait_closed k) (test (thin k ps u)) (test u) (λ x live. e.thinly k ps u x closed live) u.waits closed.waits)
+  alike : (k : Alive) (u : World) → Closed k u → ends (thin k u) ≡ ends u
+  alike k u closed = ap (all_ended draws status fields) (which-same (wait_closed k) (test (thin k u)) (test u) (λ x live. e.thinly k u x closed live) u.waits closed.waits)
 
   pub end-stage : Stage m c b (end_each test (ended draws status fields))
   end-stage = record {
@@ -327,7 +327,7 @@ module _ (m : Group) (c : ℕ) (b : Birth) (draws : Bool) (status : Status) (fie
       ours = λ u w s inside. losses-ours m b w (ends w) inside (losses-ended b draws status fields (ending w));
       led = λ u d w s inside. led u d w s inside;
       same = λ u w s mine. same u w s mine;
-      alike = λ k ps u closed live. alike k ps u closed;
+      alike = λ k u closed live. alike k u closed;
       stands = λ k u closed live. closed-ended k draws status fields (ending u);
     };
   }

@@ -5,9 +5,8 @@ use Rattle.std.proofs.lemmas.Bool.{eqb-true}
 use Rattle.lpc_base.specs.Rows.{every, first, has, passes}
 use Rattle.lpc_base.proofs.RowWords.{every-append, every-change, every-more, every-push, every-which, every-without, first-kept, first-push}
 use Rattle.lpc_base.proofs.RowMaps.{every-both, every-change_to, every-map, every-without_first}
-use Rattle.lpc_model.specs.World.{Accepted, Birth, Connect, Creator, HandleRow, HandleTable, Listen, MessageRow, PortRow, Receive, Request, ThreadRow, UsedThread, WaitKind, WaitRow, World}
-use Rattle.lpc_model.specs.declared.entry.ObjectKind.TheVariants as kind
-use Rattle.lpc_model.specs.Found.{has_value, is_client_port, is_connect, is_listen, is_own_of, is_port, is_queued, is_receive, is_server_port, is_table, is_thread, same_birth, same_kind, waits_as, waits_at}
+use Rattle.lpc_model.specs.World.{Accepted, Birth, Connect, Creator, HandleRow, HandleTable, Listen, MessageRow, PortRow, ProcessRow, Receive, Request, ThreadRow, UsedThread, WaitKind, WaitRow, World}
+use Rattle.lpc_model.specs.Found.{has_value, is_client_port, is_connect, is_listen, is_own_of, is_port, is_queued, is_receive, is_server_port, is_table, is_thread, same_birth, waits_as, waits_at}
 use Rattle.lpc_model.specs.Basics.{Accepts, AddsHandle, AddsProcess, AddsThread, Awaits, Basic, Binds, Completes, Cuts, DrawsIdentifier, DrawsOrdinal, DropsHandle, Empties, Enters, Frees, Joins, Makes, Receives, Takes, TakesConnect, Tells, Unbinds, Wakes, Withdraws, accepted, accepted_as, basic, completed, cut, is_end_of, joined, no_handles, past_identifier, past_ordinal, received, used, with_handle, without_handle, world_after, Dies, Registers, Unregisters, ended, registering, unregistering}
 use Rattle.lpc_model.specs.Circle.{Group, is_number, owner}
 use Rattle.lpc_isolation.proofs.View.{both, of_birth, one_of, other_of, same-number}
@@ -19,9 +18,9 @@ abbrev pub all_of : {X : Type 0} → Option X → (X → Bool) → Bool
 all_of None f = true
 all_of (Some x) f = f x
 
--- handles name ports that their process made
+-- handles name what their process made
 abbrev pub is_own : ℕ → HandleRow → Bool
-is_own pid h = (h.object.birth.process == pid) && same_kind h.object.kind kind.Port
+is_own pid h = h.object.birth.process == pid
 
 abbrev pub is_fair_table : HandleTable → Bool
 is_fair_table t = every (is_own t.process) t.rows
@@ -62,6 +61,26 @@ is_homed used t = passes (first (is_number t.number) used) (λ u. u.process == t
 abbrev pub is_fair_thread : ThreadRow → Bool
 is_fair_thread t = every (λ (b : Birth). b.process == t.process) t.registrations
 
+-- a process, and the one that made it, are both members or both outsiders; and so a thread's process, and the one that made the thread
+abbrev pub are_together : Group → ℕ → ℕ → Bool
+are_together m a b = implies (m a) (m b) && implies (m b) (m a)
+
+abbrev pub is_fair_process : Group → ProcessRow → Bool
+is_fair_process m p = are_together m p.number p.birth.process
+
+abbrev pub is_fair_life : Group → ThreadRow → Bool
+is_fair_life m t = are_together m t.process t.birth.process
+
+pub together : (m : Group) (a b : ℕ) → are_together m a b ≡ true → m a ≡ m b
+together m a b is = grind arith
+
+pub together-of : (m : Group) (a b : ℕ) → m a ≡ m b → are_together m a b ≡ true
+together-of m a b same = rw same (at (m b))
+  where
+    at : (e : Bool) → (implies e e && implies e e) ≡ true
+    at true = refl
+    at false = refl
+
 -- a message's client is the owner of its thread's number
 abbrev pub is_sent : List UsedThread → MessageRow → Bool
 is_sent used x = passes (first (is_number x.message.header.client.thread) used) (λ u. u.process == x.message.header.client.process)
@@ -79,6 +98,8 @@ pub record Fair (m : Group) (c : ℕ) (w : World) : Type 0 where
   pub senders : every (is_sent w.used_threads) w.messages ≡ true
   pub creators : every (is_created w.used_threads) w.ports ≡ true
   pub registrations : every is_fair_thread w.threads ≡ true
+  pub processes : every (is_fair_process m) w.processes ≡ true
+  pub lives : every (is_fair_life m) w.threads ≡ true
 
 -- what a step must be, so that it stays so
 abbrev pub is_server_at : Birth → PortRow → Bool
@@ -91,7 +112,7 @@ abbrev pub is_fair_step : Group → ℕ → World → Basic → Bool
 is_fair_step m c w (Awaits x) = is_fair_wait m c x
 is_fair_step m c w (Enters x) = is_fair_message m c x && is_sent w.used_threads x
 is_fair_step m c w (Makes p) = is_created w.used_threads p && is_fair_port m c p
-is_fair_step m c w (AddsThread t) = not (has (is_number t.number) w.used_threads) && is_fair_thread t
+is_fair_step m c w (AddsThread t) = not (has (is_number t.number) w.used_threads) && (is_fair_thread t && is_fair_life m t)
 is_fair_step m c w (AddsHandle pid h) = is_own pid h
 is_fair_step m c w (Joins client server context) =
     implies (m client.process) (m server.process) && (implies (server.process == c) (m client.process)
@@ -107,7 +128,7 @@ is_fair_step m c w (DrawsOrdinal who) = true
 is_fair_step m c w (Dies who status) = true
 is_fair_step m c w (Registers who b) = passes (first (is_number who) w.used_threads) (λ u. u.process == b.process)
 is_fair_step m c w (Unregisters who b) = true
-is_fair_step m c w (AddsProcess p) = true
+is_fair_step m c w (AddsProcess p) = is_fair_process m p
 is_fair_step m c w (Completes b) = true
 is_fair_step m c w (Withdraws who) = true
 is_fair_step m c w (Frees o) = false
@@ -228,17 +249,19 @@ registering-fair us who b t owned homed fair its =
 -- a step that is fair leaves a fair world
 pub keeps-fair : (m : Group) (c : ℕ) (w : World) (b : Basic) → is_fair_step m c w b ≡ true → Fair m c w → Fair m c (basic w b)
 keeps-fair m c w (Tells e) ok f = f
-keeps-fair m c w (Wakes who call status fields) ok f = record { tables = f.tables; ports = f.ports; messages = f.messages; waits = every-without (is_fair_wait m c) (waits_as who) w.waits f.waits; threads = f.threads; senders = f.senders; creators = f.creators; registrations = f.registrations }
-keeps-fair m c w (Awaits x) ok f = record { tables = f.tables; ports = f.ports; messages = f.messages; waits = every-push (is_fair_wait m c) w.waits x f.waits ok; threads = f.threads; senders = f.senders; creators = f.creators; registrations = f.registrations }
-keeps-fair m c w (Receives who q) ok f = record { tables = f.tables; ports = f.ports; messages = f.messages; waits = every-change (is_fair_wait m c) (waits_at who q) received (λ x is. is) w.waits f.waits; threads = f.threads; senders = f.senders; creators = f.creators; registrations = f.registrations }
-keeps-fair m c w (Accepts who reply) ok f = record { tables = f.tables; ports = f.ports; messages = f.messages; waits = every-change (is_fair_wait m c) (waits_as who) (accepted reply) (accepted-fair m c reply) w.waits f.waits; threads = f.threads; senders = f.senders; creators = f.creators; registrations = f.registrations }
-keeps-fair m c w (Enters x) ok f = record { tables = f.tables; ports = f.ports; messages = every-push (is_fair_message m c) w.messages x f.messages (one_of _ _ ok); waits = f.waits; threads = f.threads; senders = every-push (is_sent w.used_threads) w.messages x f.senders (other_of _ _ ok); creators = f.creators; registrations = f.registrations }
-keeps-fair m c w (Takes q) ok f = record { tables = f.tables; ports = f.ports; messages = every-without_first (is_fair_message m c) _ w.messages f.messages; waits = f.waits; threads = f.threads; senders = every-without_first (is_sent w.used_threads) _ w.messages f.senders; creators = f.creators; registrations = f.registrations }
-keeps-fair m c w (TakesConnect q) ok f = record { tables = f.tables; ports = f.ports; messages = every-without_first (is_fair_message m c) _ w.messages f.messages; waits = f.waits; threads = f.threads; senders = every-without_first (is_sent w.used_threads) _ w.messages f.senders; creators = f.creators; registrations = f.registrations }
-keeps-fair m c w (DrawsIdentifier who) ok f = record { tables = f.tables; ports = f.ports; messages = f.messages; waits = f.waits; threads = every-change (is_homed w.used_threads) (is_thread who) past_identifier (λ t is. is) w.threads f.threads; senders = f.senders; creators = f.creators; registrations = every-change is_fair_thread (is_thread who) past_identifier (λ t is. is) w.threads f.registrations }
-keeps-fair m c w (DrawsOrdinal who) ok f = record { tables = f.tables; ports = f.ports; messages = f.messages; waits = f.waits; threads = every-change (is_homed w.used_threads) (is_thread who) past_ordinal (λ t is. is) w.threads f.threads; senders = f.senders; creators = f.creators; registrations = every-change is_fair_thread (is_thread who) past_ordinal (λ t is. is) w.threads f.registrations }
-keeps-fair m c w (Dies who status) ok f = record { tables = f.tables; ports = f.ports; messages = f.messages; waits = every-without (is_fair_wait m c) (waits_as who) w.waits f.waits; threads = every-change (is_homed w.used_threads) (is_thread who) ended (λ t is. is) w.threads f.threads; senders = f.senders; creators = f.creators; registrations = every-change is_fair_thread (is_thread who) ended (λ t is. is) w.threads f.registrations }
+keeps-fair m c w (Wakes who call status fields) ok f = record { tables = f.tables; ports = f.ports; messages = f.messages; waits = every-without (is_fair_wait m c) (waits_as who) w.waits f.waits; threads = f.threads; senders = f.senders; creators = f.creators; registrations = f.registrations; processes = f.processes; lives = f.lives }
+keeps-fair m c w (Awaits x) ok f = record { tables = f.tables; ports = f.ports; messages = f.messages; waits = every-push (is_fair_wait m c) w.waits x f.waits ok; threads = f.threads; senders = f.senders; creators = f.creators; registrations = f.registrations; processes = f.processes; lives = f.lives }
+keeps-fair m c w (Receives who q) ok f = record { tables = f.tables; ports = f.ports; messages = f.messages; waits = every-change (is_fair_wait m c) (waits_at who q) received (λ x is. is) w.waits f.waits; threads = f.threads; senders = f.senders; creators = f.creators; registrations = f.registrations; processes = f.processes; lives = f.lives }
+keeps-fair m c w (Accepts who reply) ok f = record { tables = f.tables; ports = f.ports; messages = f.messages; waits = every-change (is_fair_wait m c) (waits_as who) (accepted reply) (accepted-fair m c reply) w.waits f.waits; threads = f.threads; senders = f.senders; creators = f.creators; registrations = f.registrations; processes = f.processes; lives = f.lives }
+keeps-fair m c w (Enters x) ok f = record { tables = f.tables; ports = f.ports; messages = every-push (is_fair_message m c) w.messages x f.messages (one_of _ _ ok); waits = f.waits; threads = f.threads; senders = every-push (is_sent w.used_threads) w.messages x f.senders (other_of _ _ ok); creators = f.creators; registrations = f.registrations; processes = f.processes; lives = f.lives }
+keeps-fair m c w (Takes q) ok f = record { tables = f.tables; ports = f.ports; messages = every-without_first (is_fair_message m c) _ w.messages f.messages; waits = f.waits; threads = f.threads; senders = every-without_first (is_sent w.used_threads) _ w.messages f.senders; creators = f.creators; registrations = f.registrations; processes = f.processes; lives = f.lives }
+keeps-fair m c w (TakesConnect q) ok f = record { tables = f.tables; ports = f.ports; messages = every-without_first (is_fair_message m c) _ w.messages f.messages; waits = f.waits; threads = f.threads; senders = every-without_first (is_sent w.used_threads) _ w.messages f.senders; creators = f.creators; registrations = f.registrations; processes = f.processes; lives = f.lives }
+keeps-fair m c w (DrawsIdentifier who) ok f = record { tables = f.tables; ports = f.ports; messages = f.messages; waits = f.waits; threads = every-change (is_homed w.used_threads) (is_thread who) past_identifier (λ t is. is) w.threads f.threads; senders = f.senders; creators = f.creators; registrations = every-change is_fair_thread (is_thread who) past_identifier (λ t is. is) w.threads f.registrations; processes = f.processes; lives = every-change (is_fair_life m) (is_thread who) past_identifier (λ t is. is) w.threads f.lives }
+keeps-fair m c w (DrawsOrdinal who) ok f = record { tables = f.tables; ports = f.ports; messages = f.messages; waits = f.waits; threads = every-change (is_homed w.used_threads) (is_thread who) past_ordinal (λ t is. is) w.threads f.threads; senders = f.senders; creators = f.creators; registrations = every-change is_fair_thread (is_thread who) past_ordinal (λ t is. is) w.threads f.registrations; processes = f.processes; lives = every-change (is_fair_life m) (is_thread who) past_ordinal (λ t is. is) w.threads f.lives }
+keeps-fair m c w (Dies who status) ok f = record { tables = f.tables; ports = f.ports; messages = f.messages; waits = every-without (is_fair_wait m c) (waits_as who) w.waits f.waits; threads = every-change (is_homed w.used_threads) (is_thread who) ended (λ t is. is) w.threads f.threads; senders = f.senders; creators = f.creators; registrations = every-change is_fair_thread (is_thread who) ended (λ t is. is) w.threads f.registrations; processes = f.processes; lives = every-change (is_fair_life m) (is_thread who) ended (λ t is. is) w.threads f.lives }
 keeps-fair m c w (Registers who b) ok f = record {
+  processes = f.processes;
+  lives = every-change (is_fair_life m) (is_thread who) (registering b) (λ t is. is) w.threads f.lives;
   tables = f.tables;
   ports = f.ports;
   messages = f.messages;
@@ -249,21 +272,25 @@ keeps-fair m c w (Registers who b) ok f = record {
   registrations = every-change_to (λ t. is_homed w.used_threads t && is_fair_thread t) is_fair_thread (is_thread who) (registering b) (λ t is its. registering-fair w.used_threads who b t ok (one_of _ _ is) (other_of (is_homed w.used_threads t) _ is) its) (λ t is off. other_of (is_homed w.used_threads t) _ is) w.threads
       (every-both (is_homed w.used_threads) is_fair_thread _ (λ t one two. both _ _ one two) w.threads f.threads f.registrations);
 }
-keeps-fair m c w (Unregisters who b) ok f = record { tables = f.tables; ports = f.ports; messages = f.messages; waits = f.waits; threads = every-change (is_homed w.used_threads) (is_thread who) (unregistering b) (λ t is. is) w.threads f.threads; senders = f.senders; creators = f.creators; registrations = every-change is_fair_thread (is_thread who) (unregistering b) (λ t is. every-without (λ c. c.process == t.process) (same_birth b) t.registrations is) w.threads f.registrations }
-keeps-fair m c w (AddsProcess p) ok f = record { tables = every-push is_fair_table w.handles (no_handles p.number) f.tables refl; ports = f.ports; messages = f.messages; waits = f.waits; threads = f.threads; senders = f.senders; creators = f.creators; registrations = f.registrations }
+keeps-fair m c w (Unregisters who b) ok f = record { tables = f.tables; ports = f.ports; messages = f.messages; waits = f.waits; threads = every-change (is_homed w.used_threads) (is_thread who) (unregistering b) (λ t is. is) w.threads f.threads; senders = f.senders; creators = f.creators; registrations = every-change is_fair_thread (is_thread who) (unregistering b) (λ t is. every-without (λ c. c.process == t.process) (same_birth b) t.registrations is) w.threads f.registrations; processes = f.processes; lives = every-change (is_fair_life m) (is_thread who) (unregistering b) (λ t is. is) w.threads f.lives }
+keeps-fair m c w (AddsProcess p) ok f = record { tables = every-push is_fair_table w.handles (no_handles p.number) f.tables refl; ports = f.ports; messages = f.messages; waits = f.waits; threads = f.threads; senders = f.senders; creators = f.creators; registrations = f.registrations; processes = every-push (is_fair_process m) w.processes p f.processes ok; lives = f.lives }
 keeps-fair m c w (AddsThread t) ok f = record {
+  processes = f.processes;
+  lives = every-push (is_fair_life m) w.threads t f.lives (other_of (is_fair_thread t) _ (other_of (not (has (is_number t.number) w.used_threads)) _ ok));
   tables = f.tables;
   ports = f.ports;
   messages = f.messages;
   waits = f.waits;
-  registrations = every-push is_fair_thread w.threads t f.registrations (other_of (not (has (is_number t.number) w.used_threads)) _ ok);
+  registrations = every-push is_fair_thread w.threads t f.registrations (one_of _ _ (other_of (not (has (is_number t.number) w.used_threads)) _ ok));
   senders = every-more (is_sent w.used_threads) _ (added-sent w.used_threads (used t)) w.messages f.senders;
   creators = every-more (is_created w.used_threads) _ (added-created w.used_threads (used t)) w.ports f.creators;
   threads = every-push (is_homed (w.used_threads ++ used t ∷ [])) w.threads t (every-more (is_homed w.used_threads) _ (added-home w.used_threads (used t)) w.threads f.threads)
       (rw (first-push (is_number t.number) w.used_threads (used t) (grind arith) (same-number t.number)) (same-number t.process));
 }
-keeps-fair m c w (Makes p) ok f = record { tables = f.tables; ports = every-push (is_fair_port m c) w.ports p f.ports (other_of _ _ ok); messages = f.messages; waits = f.waits; threads = f.threads; senders = f.senders; creators = every-push (is_created w.used_threads) w.ports p f.creators (one_of _ _ ok); registrations = f.registrations }
+keeps-fair m c w (Makes p) ok f = record { tables = f.tables; ports = every-push (is_fair_port m c) w.ports p f.ports (other_of _ _ ok); messages = f.messages; waits = f.waits; threads = f.threads; senders = f.senders; creators = every-push (is_created w.used_threads) w.ports p f.creators (one_of _ _ ok); registrations = f.registrations; processes = f.processes; lives = f.lives }
 keeps-fair m c w (Joins client server context) ok f = record {
+  processes = f.processes;
+  lives = f.lives;
   tables = f.tables;
   messages = f.messages;
   waits = f.waits;
@@ -275,15 +302,15 @@ keeps-fair m c w (Joins client server context) ok f = record {
       (every-both (λ p. is_no_server_at client p && is_server_at server p) (is_fair_port m c) _ (joined-fair m c client server context (grind arith) (grind arith)) w.ports
       (every-both (is_no_server_at client) (is_server_at server) _ (λ p a b. both _ _ a b) w.ports (grind arith) (grind arith)) f.ports);
 }
-keeps-fair m c w (Completes b) ok f = record { tables = f.tables; ports = every-change (is_fair_port m c) (is_port b) completed (λ p is. is) w.ports f.ports; messages = f.messages; waits = f.waits; threads = f.threads; senders = f.senders; creators = every-change (is_created w.used_threads) (is_port b) completed (λ p is. is) w.ports f.creators; registrations = f.registrations }
-keeps-fair m c w (Withdraws who) ok f = record { tables = f.tables; ports = f.ports; messages = every-without (is_fair_message m c) (is_own_of who) w.messages f.messages; waits = f.waits; threads = f.threads; senders = every-without (is_sent w.used_threads) (is_own_of who) w.messages f.senders; creators = f.creators; registrations = f.registrations }
+keeps-fair m c w (Completes b) ok f = record { tables = f.tables; ports = every-change (is_fair_port m c) (is_port b) completed (λ p is. is) w.ports f.ports; messages = f.messages; waits = f.waits; threads = f.threads; senders = f.senders; creators = every-change (is_created w.used_threads) (is_port b) completed (λ p is. is) w.ports f.creators; registrations = f.registrations; processes = f.processes; lives = f.lives }
+keeps-fair m c w (Withdraws who) ok f = record { tables = f.tables; ports = f.ports; messages = every-without (is_fair_message m c) (is_own_of who) w.messages f.messages; waits = f.waits; threads = f.threads; senders = every-without (is_sent w.used_threads) (is_own_of who) w.messages f.senders; creators = f.creators; registrations = f.registrations; processes = f.processes; lives = f.lives }
 keeps-fair m c w (Frees o) ok f = absurd (cc)
-keeps-fair m c w (Binds path node) ok f = record { tables = f.tables; ports = f.ports; messages = f.messages; waits = f.waits; threads = f.threads; senders = f.senders; creators = f.creators; registrations = f.registrations }
-keeps-fair m c w (AddsHandle pid h) ok f = record { tables = every-change_to is_fair_table is_fair_table (is_table pid) (with_handle h) (λ t is its. with-handle pid h ok t is its) (λ t is off. is) w.handles f.tables; ports = f.ports; messages = f.messages; waits = f.waits; threads = f.threads; senders = f.senders; creators = f.creators; registrations = f.registrations }
-keeps-fair m c w (Empties q) ok f = record { tables = f.tables; ports = f.ports; messages = every-without (is_fair_message m c) (is_queued q) w.messages f.messages; waits = f.waits; threads = f.threads; senders = every-without (is_sent w.used_threads) (is_queued q) w.messages f.senders; creators = f.creators; registrations = f.registrations }
-keeps-fair m c w (Cuts b) ok f = record { tables = f.tables; ports = every-change (is_fair_port m c) (is_end_of b) cut (cut-fair m c) w.ports f.ports; messages = f.messages; waits = f.waits; threads = f.threads; senders = f.senders; creators = every-change (is_created w.used_threads) (is_end_of b) cut (λ p is. is) w.ports f.creators; registrations = f.registrations }
-keeps-fair m c w (Unbinds b) ok f = record { tables = f.tables; ports = f.ports; messages = f.messages; waits = f.waits; threads = f.threads; senders = f.senders; creators = f.creators; registrations = f.registrations }
-keeps-fair m c w (DropsHandle pid value) ok f = record { tables = every-change is_fair_table (is_table pid) (without_handle value) (λ t is. every-without_first (is_own t.process) (has_value value) t.rows is) w.handles f.tables; ports = f.ports; messages = f.messages; waits = f.waits; threads = f.threads; senders = f.senders; creators = f.creators; registrations = f.registrations }
+keeps-fair m c w (Binds path node) ok f = record { tables = f.tables; ports = f.ports; messages = f.messages; waits = f.waits; threads = f.threads; senders = f.senders; creators = f.creators; registrations = f.registrations; processes = f.processes; lives = f.lives }
+keeps-fair m c w (AddsHandle pid h) ok f = record { tables = every-change_to is_fair_table is_fair_table (is_table pid) (with_handle h) (λ t is its. with-handle pid h ok t is its) (λ t is off. is) w.handles f.tables; ports = f.ports; messages = f.messages; waits = f.waits; threads = f.threads; senders = f.senders; creators = f.creators; registrations = f.registrations; processes = f.processes; lives = f.lives }
+keeps-fair m c w (Empties q) ok f = record { tables = f.tables; ports = f.ports; messages = every-without (is_fair_message m c) (is_queued q) w.messages f.messages; waits = f.waits; threads = f.threads; senders = every-without (is_sent w.used_threads) (is_queued q) w.messages f.senders; creators = f.creators; registrations = f.registrations; processes = f.processes; lives = f.lives }
+keeps-fair m c w (Cuts b) ok f = record { tables = f.tables; ports = every-change (is_fair_port m c) (is_end_of b) cut (cut-fair m c) w.ports f.ports; messages = f.messages; waits = f.waits; threads = f.threads; senders = f.senders; creators = every-change (is_created w.used_threads) (is_end_of b) cut (λ p is. is) w.ports f.creators; registrations = f.registrations; processes = f.processes; lives = f.lives }
+keeps-fair m c w (Unbinds b) ok f = record { tables = f.tables; ports = f.ports; messages = f.messages; waits = f.waits; threads = f.threads; senders = f.senders; creators = f.creators; registrations = f.registrations; processes = f.processes; lives = f.lives }
+keeps-fair m c w (DropsHandle pid value) ok f = record { tables = every-change is_fair_table (is_table pid) (without_handle value) (λ t is. every-without_first (is_own t.process) (has_value value) t.rows is) w.handles f.tables; ports = f.ports; messages = f.messages; waits = f.waits; threads = f.threads; senders = f.senders; creators = f.creators; registrations = f.registrations; processes = f.processes; lives = f.lives }
 
 abbrev pub are_fair : Group → ℕ → World → List Basic → Bool
 are_fair m c w [] = true

@@ -19,8 +19,8 @@ use Rattle.lpc_model.specs.Tests.{handles_test, next_birth, port_test}
 use Rattle.lpc_model.specs.Connect.{answer_test, complete_test, nt_accept_connect_port, nt_complete_connect_port, nt_listen_port, client_port, connect_wait, connection_request, listen_steps}
 use Rattle.lpc_model.specs.Lines.{accept_connect_port, complete_connect_port, connect_port, create_port, listen_port, reply_port, reply_wait_receive_port, request_port, request_wait_reply_port}
 use Rattle.lpc_isolation.proofs.Served.{served}
-use Rattle.lpc_model.specs.Circle.{Group, is_fine_client, is_fine_port}
-use Rattle.lpc_isolation.proofs.Alone.{HasFinePorts}
+use Rattle.lpc_model.specs.Circle.{Group, is_fine_client, is_fine_port, is_fine_process}
+use Rattle.lpc_isolation.proofs.Alone.{HasFineRows}
 use Rattle.lpc_model.proofs.Births.{birth-same, birth-self}
 use Rattle.lpc_isolation.proofs.View.{both, one_of, other_of, same-number}
 use Rattle.lpc_model.proofs.Holding.{Holds, bind_holds, holds_ok}
@@ -32,6 +32,7 @@ use Rattle.lpc_isolation.proofs.Thin.{Alive, Behind, port_alive, wait_closed}
 
 abbrev pub makes_fine : Group → ℕ → Basic → Bool
 makes_fine m c (Makes p) = is_fine_port m c p
+makes_fine m c (AddsProcess p) = is_fine_process m p
 makes_fine m c (Frees o) = false
 makes_fine m c b = true
 
@@ -47,17 +48,17 @@ every-same : {X : Type 0} (p : X → Bool) (f : X → X) → ((x : X) → p (f x
 every-same p f same [] = refl
 every-same p f same (x ∷ xs) = rw (same x, every-same p f same xs) refl
 
-basic-fine : (m : Group) (c : ℕ) (u : World) (b : Basic) → makes_fine m c b ≡ true → HasFinePorts m c u → HasFinePorts m c (basic u b)
-basic-fine m c u (Makes p) ok f = every-push (is_fine_port m c) u.ports p f ok
-basic-fine m c u (Joins client server context) ok f = every-same (is_fine_port m c) (joined client server context) (joined-fine m c client server context) u.ports ∙ f
-basic-fine m c u (Completes b) ok f = every-change (is_fine_port m c) (is_port b) completed (λ p is. is) u.ports f
+basic-fine : (m : Group) (c : ℕ) (u : World) (b : Basic) → makes_fine m c b ≡ true → HasFineRows m c u → HasFineRows m c (basic u b)
+basic-fine m c u (Makes p) ok f = (f.0, every-push (is_fine_port m c) u.ports p f.1 ok)
+basic-fine m c u (Joins client server context) ok f = (f.0, every-same (is_fine_port m c) (joined client server context) (joined-fine m c client server context) u.ports ∙ f.1)
+basic-fine m c u (Completes b) ok f = (f.0, every-change (is_fine_port m c) (is_port b) completed (λ p is. is) u.ports f.1)
 basic-fine m c u (Withdraws who) ok f = f
 basic-fine m c u (Frees o) ok f = absurd (cc)
 basic-fine m c u (Awaits x) ok f = f
 basic-fine m c u (Enters x) ok f = f
 basic-fine m c u (Binds path node) ok f = f
 basic-fine m c u (AddsHandle pid h) ok f = f
-basic-fine m c u (Cuts b) ok f = every-change (is_fine_port m c) (is_end_of b) cut (λ p is. is) u.ports f
+basic-fine m c u (Cuts b) ok f = (f.0, every-change (is_fine_port m c) (is_end_of b) cut (λ p is. is) u.ports f.1)
 basic-fine m c u (Empties q) ok f = f
 basic-fine m c u (Unbinds b) ok f = f
 basic-fine m c u (DropsHandle pid value) ok f = f
@@ -72,10 +73,10 @@ basic-fine m c u (DrawsOrdinal who) ok f = f
 basic-fine m c u (Dies who status) ok f = f
 basic-fine m c u (Registers who b) ok f = f
 basic-fine m c u (Unregisters who b) ok f = f
-basic-fine m c u (AddsProcess p) ok f = f
+basic-fine m c u (AddsProcess p) ok f = (every-push (is_fine_process m) u.processes p f.0 ok, f.1)
 basic-fine m c u (AddsThread t) ok f = f
 
-pub run-fine : (m : Group) (c : ℕ) (u : World) (bs : List Basic) → every (makes_fine m c) bs ≡ true → HasFinePorts m c u → HasFinePorts m c (world_after u bs)
+pub run-fine : (m : Group) (c : ℕ) (u : World) (bs : List Basic) → every (makes_fine m c) bs ≡ true → HasFineRows m c u → HasFineRows m c (world_after u bs)
 run-fine m c u [] ok f = f
 run-fine m c u (b ∷ bs) ok f = run-fine m c (basic u b) bs (other_of _ _ ok) (basic-fine m c u b (one_of _ _ ok) f)
 
@@ -119,23 +120,23 @@ connect-keeps u by q bytes idle =
     (λ z at. other-thread u by.number (takes x) z idle (sym (first-push_off (takes x) u.waits y refl) ∙ at))
     (has-push (keeps_client (next_birth by) by.number) u.waits y (both _ _ (birth-self (next_birth by)) (same-number by.number)))
 
-live-made : (k : Alive) (n : Birth) (tid : ℕ) (ws : List WaitRow) → every (wait_closed k) ws ≡ true → has (keeps_client n tid) ws ≡ true → k n ≡ true
+live-made : (k : Alive) (n : Birth) (tid : ℕ) (ws : List WaitRow) → every (wait_closed k) ws ≡ true → has (keeps_client n tid) ws ≡ true → k.ports n ≡ true
 live-made k n tid [] all is = absurd (cc)
 live-made k n tid (x ∷ xs) all is = at (keeps_client n tid x) refl is (live-made k n tid xs (other_of _ _ all))
   where
-    at : (b : Bool) → keeps_client n tid x ≡ b → has (keeps_client n tid) (x ∷ xs) ≡ true → (has (keeps_client n tid) xs ≡ true → k n ≡ true) → k n ≡ true
-    at true here is rest = ap k (sym (birth-same x.port n (one_of _ _ here))) ∙ one_of _ _ all
+    at : (b : Bool) → keeps_client n tid x ≡ b → has (keeps_client n tid) (x ∷ xs) ≡ true → (has (keeps_client n tid) xs ≡ true → k.ports n ≡ true) → k.ports n ≡ true
+    at true here is rest = ap k.ports (sym (birth-same x.port n (one_of _ _ here))) ∙ one_of _ _ all
     at false off is rest = rest (rw off at is)
 
-kept-last : {X : Type 0} (p k : X → Bool) (xs : List X) (y : X) → every p (which k (xs ++ y ∷ [])) ≡ true → k y ≡ true → p y ≡ true
+pub kept-last : {X : Type 0} (p k : X → Bool) (xs : List X) (y : X) → every p (which k (xs ++ y ∷ [])) ≡ true → k y ≡ true → p y ≡ true
 kept-last p k [] y all is = grind arith
 kept-last p k (x ∷ xs) y all is = grind (arith, kept-last p k xs y)
 
-connect-new : (m : Group) (c : ℕ) (after u : World) (by : ThreadRow) (q : Birth) (bytes : List ℕ) → wait_of u by.number ≡ None → HasFinePorts m c after → Behind after (world_after u (steps_of u by q bytes)) → is_fine_client m c (next_birth by) q ≡ true
+connect-new : (m : Group) (c : ℕ) (after u : World) (by : ThreadRow) (q : Birth) (bytes : List ℕ) → wait_of u by.number ≡ None → HasFineRows m c after → Behind after (world_after u (steps_of u by q bytes)) → is_fine_client m c (next_birth by) q ≡ true
 connect-new m c after u by q bytes idle fine r =
     let v : World = world_after u (steps_of u by q bytes) in
-    let live : r.alive (next_birth by) ≡ true = live-made r.alive (next_birth by) by.number v.waits r.closed.waits (connect-keeps u by q bytes idle) in
-    let here : every (is_fine_port m c) (which (port_alive r.alive) v.ports) ≡ true = subst (λ (w : World). every (is_fine_port m c) w.ports ≡ true) r.same fine in
+    let live : r.alive.ports (next_birth by) ≡ true = live-made r.alive (next_birth by) by.number v.waits r.closed.waits (connect-keeps u by q bytes idle) in
+    let here : every (is_fine_port m c) (which (port_alive r.alive) v.ports) ≡ true = subst (λ (w : World). every (is_fine_port m c) w.ports ≡ true) r.same fine.1 in
     kept-last (is_fine_port m c) (port_alive r.alive) u.ports (client_port by q)
     (subst (λ (ports : List PortRow). every (is_fine_port m c) (which (port_alive r.alive) ports) ≡ true) (enter-ports (world_after u (starting by q bytes)) (row by q bytes)) here) live
 
@@ -220,29 +221,29 @@ anyway : (m : Group) (c : ℕ) (after u : World) (r : Result (List Basic) Status
 anyway m c after u (Ok bs) is = λ _. is
 anyway m c after u (Err s) is = tt
 
-pub fine-create : (m : Group) (c : ℕ) (after u : World) (by : ThreadRow) (name : Option (List ℕ)) → wait_of u by.number ≡ None → HasFinePorts m c after → Holds (FineAfter m c after u) (served u by (create_port name))
+pub fine-create : (m : Group) (c : ℕ) (after u : World) (by : ThreadRow) (name : Option (List ℕ)) → wait_of u by.number ≡ None → HasFineRows m c after → Holds (FineAfter m c after u) (served u by (create_port name))
 fine-create m c after u by name idle f = anyway m c after u (served u by (create_port name)) (made-holds (AreFine m c) u by name (λ value. refl) (λ path value. refl))
 
-pub fine-connect : (m : Group) (c : ℕ) (after u : World) (by : ThreadRow) (name bytes : List ℕ) → wait_of u by.number ≡ None → HasFinePorts m c after → Holds (FineAfter m c after u) (served u by (connect_port name bytes))
+pub fine-connect : (m : Group) (c : ℕ) (after u : World) (by : ThreadRow) (name bytes : List ℕ) → wait_of u by.number ≡ None → HasFineRows m c after → Holds (FineAfter m c after u) (served u by (connect_port name bytes))
 fine-connect m c after u by name bytes idle f = on-connect (FineAfter m c after u) u by name bytes (λ q at r. let new = connect-new m c after u by q bytes idle f r in then-fine m c u (starting by q bytes) (row by q bytes) (rw new refl))
 
-pub fine-listen : (m : Group) (c : ℕ) (after u : World) (by : ThreadRow) (handle : ℕ) → wait_of u by.number ≡ None → HasFinePorts m c after → Holds (FineAfter m c after u) (served u by (listen_port handle))
+pub fine-listen : (m : Group) (c : ℕ) (after u : World) (by : ThreadRow) (handle : ℕ) → wait_of u by.number ≡ None → HasFineRows m c after → Holds (FineAfter m c after u) (served u by (listen_port handle))
 fine-listen m c after u by handle idle f = anyway m c after u (served u by (listen_port handle)) (listen-fine m c u by handle)
 
-pub fine-accept : (m : Group) (c : ℕ) (after u : World) (by : ThreadRow) (context : ℕ) (message : List ℕ) (accept : Bool) → wait_of u by.number ≡ None → HasFinePorts m c after → Holds (FineAfter m c after u) (served u by (accept_connect_port context message accept))
+pub fine-accept : (m : Group) (c : ℕ) (after u : World) (by : ThreadRow) (context : ℕ) (message : List ℕ) (accept : Bool) → wait_of u by.number ≡ None → HasFineRows m c after → Holds (FineAfter m c after u) (served u by (accept_connect_port context message accept))
 fine-accept m c after u by context message accept idle f = anyway m c after u (served u by (accept_connect_port context message accept)) (accept-fine m c u by context message accept)
 
-pub fine-complete : (m : Group) (c : ℕ) (after u : World) (by : ThreadRow) (handle : ℕ) → wait_of u by.number ≡ None → HasFinePorts m c after → Holds (FineAfter m c after u) (served u by (complete_connect_port handle))
+pub fine-complete : (m : Group) (c : ℕ) (after u : World) (by : ThreadRow) (handle : ℕ) → wait_of u by.number ≡ None → HasFineRows m c after → Holds (FineAfter m c after u) (served u by (complete_connect_port handle))
 fine-complete m c after u by handle idle f = anyway m c after u (served u by (complete_connect_port handle)) (complete-fine m c u by handle)
 
-pub fine-datagram : (m : Group) (c : ℕ) (after u : World) (by : ThreadRow) (handle : ℕ) (message : List ℕ) → wait_of u by.number ≡ None → HasFinePorts m c after → Holds (FineAfter m c after u) (served u by (request_port handle message))
+pub fine-datagram : (m : Group) (c : ℕ) (after u : World) (by : ThreadRow) (handle : ℕ) (message : List ℕ) → wait_of u by.number ≡ None → HasFineRows m c after → Holds (FineAfter m c after u) (served u by (request_port handle message))
 fine-datagram m c after u by handle message idle f = anyway m c after u (served u by (request_port handle message)) (datagram-fine m c u by handle message)
 
-pub fine-request : (m : Group) (c : ℕ) (after u : World) (by : ThreadRow) (handle : ℕ) (message : List ℕ) → wait_of u by.number ≡ None → HasFinePorts m c after → Holds (FineAfter m c after u) (served u by (request_wait_reply_port handle message))
+pub fine-request : (m : Group) (c : ℕ) (after u : World) (by : ThreadRow) (handle : ℕ) (message : List ℕ) → wait_of u by.number ≡ None → HasFineRows m c after → Holds (FineAfter m c after u) (served u by (request_wait_reply_port handle message))
 fine-request m c after u by handle message idle f = anyway m c after u (served u by (request_wait_reply_port handle message)) (request-fine m c u by handle message)
 
-pub fine-reply : (m : Group) (c : ℕ) (after u : World) (by : ThreadRow) (handle : ℕ) (message : List ℕ) → wait_of u by.number ≡ None → HasFinePorts m c after → Holds (FineAfter m c after u) (served u by (reply_port handle message))
+pub fine-reply : (m : Group) (c : ℕ) (after u : World) (by : ThreadRow) (handle : ℕ) (message : List ℕ) → wait_of u by.number ≡ None → HasFineRows m c after → Holds (FineAfter m c after u) (served u by (reply_port handle message))
 fine-reply m c after u by handle message idle f = anyway m c after u (served u by (reply_port handle message)) (reply-fine m c u by handle message)
 
-pub fine-receive : (m : Group) (c : ℕ) (after u : World) (by : ThreadRow) (handle : ℕ) (message : Option (List ℕ)) → wait_of u by.number ≡ None → HasFinePorts m c after → Holds (FineAfter m c after u) (served u by (reply_wait_receive_port handle message))
+pub fine-receive : (m : Group) (c : ℕ) (after u : World) (by : ThreadRow) (handle : ℕ) (message : Option (List ℕ)) → wait_of u by.number ≡ None → HasFineRows m c after → Holds (FineAfter m c after u) (served u by (reply_wait_receive_port handle message))
 fine-receive m c after u by handle message idle f = anyway m c after u (served u by (reply_wait_receive_port handle message)) (receive-fine m c u by handle message)

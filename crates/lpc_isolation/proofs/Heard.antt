@@ -18,7 +18,7 @@ use Rattle.lpc_model.specs.World.{Birth, MessageRow, PortRow, ThreadRow, UsedThr
 use Rattle.lpc_model.specs.Found.{is_listen, is_receive, live_thread, queue_of, wait_of, waits_as}
 use Rattle.lpc_model.specs.Basics.{Basic, entries_of, told}
 use Rattle.lpc_model.specs.Tests.{port_test}
-use Rattle.lpc_model.specs.Lines.{ScriptCall, ScriptLine, accept_connect_port, boot, close, complete_connect_port, connect_port, create_port, dir, duplicate_object, link, listen_port, query_object, reply_port, reply_wait_receive_port, request_port, request_wait_reply_port, run, thread, register_thread_terminate_port, terminate_thread, terminate_process}
+use Rattle.lpc_model.specs.Lines.{ScriptCall, ScriptLine, boot, dir, link, listen_port, reply_wait_receive_port, run, thread}
 use Rattle.lpc_model.specs.Circle.{Group, Item}
 use Rattle.lpc_isolation.proofs.View.{one_of, other_of, our_wait, view}
 use Rattle.lpc_isolation.proofs.Fair.{is_sent}
@@ -95,19 +95,7 @@ of_port (Err s) f memo = memo
 abbrev pub call_memo : Group → World → ThreadRow → ScriptCall → Entry → List Heard → List Heard
 call_memo m v by (listen_port handle) e memo = of_port (port_test v by handle) (λ p. taken_memo m e p.birth memo) memo
 call_memo m v by (reply_wait_receive_port handle bytes) e memo = of_port (port_test v by handle) (λ p. of_queue (queue_of v p) (λ q. taken_memo m e q memo) memo) memo
-call_memo m v by (create_port name) e memo = memo
-call_memo m v by (connect_port name info) e memo = memo
-call_memo m v by (accept_connect_port context message accept) e memo = memo
-call_memo m v by (complete_connect_port handle) e memo = memo
-call_memo m v by (request_port handle message) e memo = memo
-call_memo m v by (request_wait_reply_port handle message) e memo = memo
-call_memo m v by (reply_port handle message) e memo = memo
-call_memo m v by (close handle) e memo = memo
-call_memo m v by (duplicate_object handle access) e memo = memo
-call_memo m v by (query_object handle) e memo = memo
-call_memo m v by (register_thread_terminate_port handle) e memo = memo
-call_memo m v by (terminate_thread target code) e memo = memo
-call_memo m v by (terminate_process target code) e memo = memo
+call_memo m v by call e memo = memo
 
 abbrev pub caller_memo : Group → ℕ → World → ScriptCall → Entry → List Heard → Option ThreadRow → List Heard
 caller_memo m c v call e memo None = memo
@@ -136,19 +124,7 @@ silent-memo m v by (reply_wait_receive_port handle bytes) e memo none = at (port
     at : (r : Result PortRow Status) → of_port r (λ p. of_queue (queue_of v p) (λ q. taken_memo m e q memo) memo) memo ≡ memo
     at (Ok p) = queue (queue_of v p)
     at (Err s) = refl
-silent-memo m v by (create_port name) e memo none = refl
-silent-memo m v by (connect_port name info) e memo none = refl
-silent-memo m v by (accept_connect_port context message accept) e memo none = refl
-silent-memo m v by (complete_connect_port handle) e memo none = refl
-silent-memo m v by (request_port handle message) e memo none = refl
-silent-memo m v by (request_wait_reply_port handle message) e memo none = refl
-silent-memo m v by (reply_port handle message) e memo none = refl
-silent-memo m v by (close handle) e memo none = refl
-silent-memo m v by (duplicate_object handle access) e memo none = refl
-silent-memo m v by (query_object handle) e memo none = refl
-silent-memo m v by (register_thread_terminate_port handle) e memo none = refl
-silent-memo m v by (terminate_thread target code) e memo none = refl
-silent-memo m v by (terminate_process target code) e memo none = refl
+silent-memo m v by call e memo none = refl
 
 -- What is shown of a message is what it is
 pub record Reads (y : MessageRow) : Type 0 where

@@ -7,7 +7,7 @@ use Rattle.lpc_base.proofs.RowMaps.{every-first}
 use Rattle.lpc_model.specs.declared.entry.ObjectKind.{ObjectKind}
 use Rattle.lpc_model.specs.declared.entry.ObjectKind.TheVariants as kind
 use Rattle.lpc_model.specs.World.{Birth, MessageRow, ObjectName, PortRow, WaitRow, World}
-use Rattle.lpc_model.specs.Found.{handle_count, is_client_port, is_connected_to, is_cut, is_made_on, is_paired_to, is_port, is_sent_on, is_the, pair_of, pointer_count, port_name, port_row, same_birth, same_kind, all_registrations}
+use Rattle.lpc_model.specs.Found.{handle_count, is_client_port, is_connected_to, is_cut, is_made_on, is_paired_to, is_port, is_sent_on, is_the, pair_of, pointer_count, port_name, port_row, same_birth, all_registrations}
 use Rattle.lpc_model.specs.Sweep.{is_unheld}
 use Rattle.lpc_model.specs.Linked.{HasHeldPorts, IsLinked, is_mutual, names_nothing}
 use Rattle.lpc_model.specs.Standing.{NamesWhatStands, has_near_queue, is_near}
@@ -153,12 +153,12 @@ all-stand w b h = found-self w.ports h.linked.births (λ p. not (is_connected_to
         not-of : (a : Bool) → not a ≡ true → a ≡ false
         not-of a is = grind arith
 
-pub held-counts : (w : World) (o : ObjectName) → Held w → same_kind o.kind kind.Port ≡ true → standing_count w o ≡ pointer_count w o
-held-counts w o h is = at o.kind o.birth is
+pub held-counts : (w : World) (o : ObjectName) → Held w → standing_count w o ≡ pointer_count w o
+held-counts w o h = at o.kind o.birth
   where
-    at : (k : ObjectKind) (b : Birth) → same_kind k kind.Port ≡ true → standing_count w (record { kind = k; birth = b }) ≡ pointer_count w (record { kind = k; birth = b })
-    at kind.Port b is = ap (λ n. handle_count w (port_name b) + (count (is_paired_to b) w.ports + (n + (count (is_sent_on b) w.messages + (count (is_made_on b) w.waits + count (same_birth b) (all_registrations w)))))) (ap length (which-same (is_connected_to b) (λ p. is_aside w b p || not (is_cut p)) w.ports (all-stand w b h)))
-    at kind.Section b is = absurd (cc)
-    at kind.Token b is = absurd (cc)
-    at kind.Process b is = absurd (cc)
-    at kind.Thread b is = absurd (cc)
+    at : (k : ObjectKind) (b : Birth) → standing_count w (record { kind = k; birth = b }) ≡ pointer_count w (record { kind = k; birth = b })
+    at kind.Port b = ap (λ n. handle_count w (port_name b) + (count (is_paired_to b) w.ports + (n + (count (is_sent_on b) w.messages + (count (is_made_on b) w.waits + count (same_birth b) (all_registrations w)))))) (ap length (which-same (is_connected_to b) (λ p. is_aside w b p || not (is_cut p)) w.ports (all-stand w b h)))
+    at kind.Section b = refl
+    at kind.Token b = refl
+    at kind.Process b = refl
+    at kind.Thread b = refl

@@ -18,9 +18,12 @@ use Rattle.lpc_model.specs.declared.message.Message.{Message}
 use Rattle.lpc_model.specs.Message.{bytes_of}
 use Rattle.lpc_model.specs.Then.{◌>>=◌}
 use Rattle.lpc_model.specs.World.{MessageRow, UsedThread, World}
-use Rattle.lpc_model.specs.Words.{begins, fault_if, id_word, is_id, number_word, words}
-use Rattle.lpc_model.specs.Grammar.{call_line, directive_line, directive_named, directive_words, has_ids, one_word, is_printable, read_line, starts_call, thread_call, two_words, words_line}
-use Rattle.lpc_model.specs.Lines.{ScriptLine}
+use Rattle.lpc_model.specs.Words.{begins, fault_if, id_word, info_word, is_id, message_word, number_word, words}
+use Rattle.lpc_model.specs.Grammar.{accept_word, access_word, call_line, call_named, call_words, four_words, handle_and_message, handle_and_reply, has_call_ids, one_handle, process_and_thread, qos_word, target_and_code, target_and_thread, target_word, view_word, directive_line, directive_named, directive_words, has_ids, one_word, is_printable, read_line, starts_call, thread_call, two_words, words_line}
+use Rattle.lpc_model.specs.declared.entry.CallName.{CallName}
+use Rattle.lpc_model.specs.declared.entry.CallName.TheVariants.{NtAcceptConnectPort, NtClose, NtCompleteConnectPort, NtConnectPort, NtCreatePort, NtCreateProcess, NtCreateThread, NtDuplicateObject, NtListenPort, NtQueryObject, NtRegisterThreadTerminatePort, NtReplyPort, NtReplyWaitReceivePort, NtRequestPort, NtRequestWaitReplyPort, NtTerminateProcess, NtTerminateThread}
+use Rattle.lpc_model.specs.declared.line.ProcArg.{ProcArg}
+use Rattle.lpc_model.specs.Lines.{ScriptCall, ScriptLine}
 use Rattle.lpc_model.specs.Run.{numbered_line, said_from, said_in, unless_faulty}
 use Rattle.lpc_model.specs.Script.{script_lines}
 use Rattle.std.specs.List.{list_all}
@@ -108,13 +111,53 @@ id-says word = bind_says (number_word word) (λ n. fault_if (not (is_id n)) faul
 abbrev Ids : ScriptLine → Type 0
 Ids line = has_ids line ≡ true
 
+-- what a call makes
+abbrev HasCallIds : ScriptCall → Type 0
+HasCallIds call = has_call_ids call ≡ true
+
+process-says : (others : List (List ℕ)) → Says (λ (made : ℕ × ℕ). (is_id made.0 && is_id made.1) ≡ true) (process_and_thread others)
+process-says others =
+    let P : ℕ × ℕ → Type 0 = λ made. (is_id made.0 && is_id made.1) ≡ true in
+    bind_says (two_words others) _ P (λ two _. bind_says (id_word two.0) _ P (λ pid one. bind_says (id_word two.1) _ P (λ tid other.
+    both _ _ (says_ok IsId (id_word two.0) pid (id-says two.0) one) (says_ok IsId (id_word two.1) tid (id-says two.1) other))))
+
+target-says : (others : List (List ℕ)) → Says (λ (made : ProcArg × ℕ). is_id made.1 ≡ true) (target_and_thread others)
+target-says others =
+    let P : ProcArg × ℕ → Type 0 = λ made. is_id made.1 ≡ true in
+    bind_says (two_words others) _ P (λ two _. bind_says (target_word two.0) _ P (λ target _. bind_says (id_word two.1) _ P (λ tid other.
+    says_ok IsId (id_word two.1) tid (id-says two.1) other)))
+
+words-call : (name : CallName) (others : List (List ℕ)) → Says HasCallIds (call_words name others)
+unfolding call_words
+words-call NtCreateProcess others = bind_says (process_and_thread others) _ HasCallIds (λ made is. says_ok (λ (made : ℕ × ℕ). (is_id made.0 && is_id made.1) ≡ true) (process_and_thread others) made (process-says others) is)
+words-call NtCreateThread others = bind_says (target_and_thread others) _ HasCallIds (λ made is. says_ok (λ (made : ProcArg × ℕ). is_id made.1 ≡ true) (target_and_thread others) made (target-says others) is)
+words-call NtCreatePort others = bind_says (one_word others) _ HasCallIds (λ _ _. refl)
+words-call NtConnectPort others = bind_says (four_words others) _ HasCallIds (λ four _. bind_says (qos_word four.1) _ HasCallIds (λ _ _. bind_says (view_word four.2) _ HasCallIds (λ _ _. bind_says (info_word four.3) _ HasCallIds (λ _ _. refl))))
+words-call NtListenPort others = bind_says (one_handle others) _ HasCallIds (λ _ _. refl)
+words-call NtAcceptConnectPort others = bind_says (four_words others) _ HasCallIds (λ four _. bind_says (number_word four.0) _ HasCallIds (λ _ _. bind_says (message_word four.1) _ HasCallIds (λ _ _. bind_says (accept_word four.2) _ HasCallIds (λ _ _. bind_says (view_word four.3) _ HasCallIds (λ _ _. refl)))))
+words-call NtCompleteConnectPort others = bind_says (one_handle others) _ HasCallIds (λ _ _. refl)
+words-call NtRequestPort others = bind_says (handle_and_message others) _ HasCallIds (λ _ _. refl)
+words-call NtRequestWaitReplyPort others = bind_says (handle_and_message others) _ HasCallIds (λ _ _. refl)
+words-call NtReplyPort others = bind_says (handle_and_message others) _ HasCallIds (λ _ _. refl)
+words-call NtReplyWaitReceivePort others = bind_says (handle_and_reply others) _ HasCallIds (λ _ _. refl)
+words-call NtRegisterThreadTerminatePort others = bind_says (one_handle others) _ HasCallIds (λ _ _. refl)
+words-call NtClose others = bind_says (one_handle others) _ HasCallIds (λ _ _. refl)
+words-call NtDuplicateObject others = bind_says (two_words others) _ HasCallIds (λ two _. bind_says (number_word two.0) _ HasCallIds (λ _ _. bind_says (access_word two.1) _ HasCallIds (λ _ _. refl)))
+words-call NtQueryObject others = bind_says (one_handle others) _ HasCallIds (λ _ _. refl)
+words-call NtTerminateThread others = bind_says (target_and_code others) _ HasCallIds (λ _ _. refl)
+words-call NtTerminateProcess others = bind_says (target_and_code others) _ HasCallIds (λ _ _. refl)
+
+thread-says : (others : List (List ℕ)) → Says HasCallIds (thread_call others)
+thread-says [] = tt
+thread-says (word ∷ others) = bind_says (ok_or (call_named word) fault.Call) _ HasCallIds (λ name _. words-call name others)
+
 call-says : (front : List ℕ) (others : List (List ℕ)) → Says Ids (call_line front others)
 unfolding call_line
-call-says front others = bind_says (id_word front) _ Ids (λ tid is. bind_says (thread_call others) _ Ids (λ call _. says_ok IsId (id_word front) tid (id-says front) is))
+call-says front others = bind_says (id_word front) _ Ids (λ tid is. bind_says (thread_call others) _ Ids (λ call made. both _ _ (says_ok IsId (id_word front) tid (id-says front) is) (says_ok HasCallIds (thread_call others) call (thread-says others) made)))
 
 directive-says : (word : Word) (others : List (List ℕ)) → Says Ids (directive_words word others)
 unfolding directive_words
-directive-says Boot others = bind_says (two_words others) _ Ids (λ two _. bind_says (id_word two.0) _ Ids (λ pid one. bind_says (id_word two.1) _ Ids (λ tid other. both _ _ (says_ok IsId (id_word two.0) pid (id-says two.0) one) (says_ok IsId (id_word two.1) tid (id-says two.1) other))))
+directive-says Boot others = bind_says (process_and_thread others) _ Ids (λ made is. says_ok (λ (made : ℕ × ℕ). (is_id made.0 && is_id made.1) ≡ true) (process_and_thread others) made (process-says others) is)
 directive-says Thread others = bind_says (two_words others) _ Ids (λ two _. bind_says (id_word two.0) _ Ids (λ tid one. bind_says (id_word two.1) _ Ids (λ pid other. both _ _ (says_ok IsId (id_word two.0) tid (id-says two.0) one) (says_ok IsId (id_word two.1) pid (id-says two.1) other))))
 directive-says Dir others = bind_says (one_word others) _ Ids (λ path _. refl)
 directive-says Link others = bind_says (two_words others) _ Ids (λ two _. refl)

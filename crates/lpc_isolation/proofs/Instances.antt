@@ -8,21 +8,24 @@ use Rattle.lpc_model.specs.Found.{free_handle, live_thread, wait_of}
 use Rattle.lpc_model.specs.Basics.{Basic, world_after}
 use Rattle.lpc_model.specs.Connect.{ConnectAnswer, answer_test}
 use Rattle.lpc_model.specs.Tests.{next_birth, own_handle, port_test}
-use Rattle.lpc_model.specs.Lines.{ScriptCall, accept_connect_port, close, complete_connect_port, connect_port, create_port, duplicate_object, listen_port, query_object, reply_port, reply_wait_receive_port, request_port, request_wait_reply_port, register_thread_terminate_port, terminate_thread, terminate_process}
+use Rattle.lpc_model.specs.Lines.{ScriptCall, accept_connect_port, close, complete_connect_port, connect_port, create_port, duplicate_object, listen_port, query_object, reply_port, reply_wait_receive_port, request_port, request_wait_reply_port, register_thread_terminate_port, create_process, create_thread, terminate_thread, terminate_process}
 use Rattle.lpc_model.specs.Close.{close_steps}
 use Rattle.lpc_model.specs.Counts.{asked, duplicate_steps}
 use Rattle.lpc_model.specs.Death.{terminate_thread_steps, code_status, terminate_process_steps}
 use Rattle.lpc_model.specs.Register.{register_steps}
+use Rattle.lpc_model.specs.Creation.{create_process_steps, create_thread_steps, second_handle}
+use Rattle.lpc_model.specs.Targets.{process_target, thread_target}
+use Rattle.lpc_model.specs.declared.line.ProcArg.{ProcArg}
 use Rattle.lpc_isolation.proofs.Served.{served}
 use Rattle.lpc_model.specs.SoundWaits.{IsSoundWorld, HasShutConnects}
 use Rattle.lpc_model.proofs.Holding.{Holds}
 use Rattle.lpc_model.specs.Circle.{Group, Whose, is_fine_call, owner}
-use Rattle.lpc_isolation.proofs.Alone.{HasFinePorts}
+use Rattle.lpc_isolation.proofs.Alone.{HasFineRows}
 use Rattle.lpc_isolation.proofs.View.{view}
 use Rattle.lpc_isolation.proofs.Basics.{are_ours}
 use Rattle.lpc_isolation.proofs.Fair.{Fair}
 use Rattle.lpc_isolation.proofs.Apart.{Owned, are_apart}
-use Rattle.lpc_isolation.proofs.Callers.{Led, led-same, on_ok}
+use Rattle.lpc_isolation.proofs.Callers.{Answered, Led, answered-same, led-same, on_ok}
 use Rattle.lpc_isolation.proofs.Enter.{sound-patient}
 use Rattle.lpc_isolation.proofs.Create.{create-apart, create-c, create-led, create-ours, led_create}
 use Rattle.lpc_isolation.proofs.Reply.{led_reply_port, reply-apart, reply-call-led}
@@ -51,6 +54,18 @@ led_duplicate v by handle access = on_ok (own_handle v by handle) (λ r. duplica
 abbrev led_register : World → ThreadRow → ℕ → List Basic
 led_register v by handle = on_ok (port_test v by handle) (λ port. register_steps by port.birth)
 
+abbrev led_process : World → ThreadRow → ℕ → ℕ → List Basic
+led_process v by pid tid = create_process_steps by pid tid (free_handle v by.process) (second_handle v by)
+
+abbrev led_thread : World → ThreadRow → ProcArg → ℕ → List Basic
+led_thread v by target tid = on_ok (process_target v by target) (λ pid. create_thread_steps by tid pid (free_handle v by.process))
+
+abbrev led_end : World → ThreadRow → ProcArg → ℕ → List Basic
+led_end v by target code = on_ok (thread_target v by target) (λ t. terminate_thread_steps by (code_status code) t v)
+
+abbrev led_ends : World → ThreadRow → ProcArg → ℕ → List Basic
+led_ends v by target code = on_ok (process_target v by target) (λ pid. terminate_process_steps v by (code_status code) pid v)
+
 -- what a member other than c does in a view, by what it was told; the queue of an outsider's connect is known from before
 abbrev pub leads_by : Group → (List ℕ → Birth) → Leads
 leads_by m known v by (create_port name) e = led_create v by name
@@ -66,14 +81,16 @@ leads_by m known v by (close handle) e = led_close v by handle
 leads_by m known v by (duplicate_object handle access) e = led_duplicate v by handle access
 leads_by m known v by (query_object handle) e = []
 leads_by m known v by (register_thread_terminate_port handle) e = led_register v by handle
-leads_by m known v by (terminate_thread target code) e = terminate_thread_steps by (code_status code) by v
-leads_by m known v by (terminate_process target code) e = terminate_process_steps v by (code_status code) by.process v
+leads_by m known v by (create_process pid tid) e = led_process v by pid tid
+leads_by m known v by (create_thread target tid) e = led_thread v by target tid
+leads_by m known v by (terminate_thread target code) e = led_end v by target code
+leads_by m known v by (terminate_process target code) e = led_ends v by target code
 
 -- what holds where a thread that waits for nothing calls
 pub record At (m : Group) (c : ℕ) (w : World) (by : ThreadRow) (known : List ℕ → Birth) : Type 0 where
   pub c_in : m c ≡ true
   pub fair : Fair m c w
-  pub fine : HasFinePorts m c w
+  pub fine : HasFineRows m c w
   pub sound : IsSoundWorld w
   pub shut : HasShutConnects w
   pub owned : Owned w w
@@ -109,35 +126,41 @@ caller m c w by known u a used = record {
   asked = a.asked;
 }
 
--- whatever the circle says of the next world
-pub later : (P : List Basic → Type 0) (m : Group) (c : ℕ) (w : World) (r : Result (List Basic) Status) → Holds P r → Holds (λ bs. HasFinePorts m c (world_after w bs) → P bs) r
-later P m c w r h = holds-more P (λ bs. HasFinePorts m c (world_after w bs) → P bs) r (λ bs p fine. p) h
+-- of c: where the view answers as the world does, by members' steps, it changes as the world does
+pub own-same : (m : Group) (c : ℕ) (u : World) (d : Whose) (w : World) (by : ThreadRow) (call : ScriptCall) → served (view m w) by call ≡ served w by call → Holds (λ bs. HasFineRows m c (world_after w bs) → are_ours m w bs ≡ true) (served w by call) → Answered (λ bs led. HasFineRows m c (world_after w bs) → Led m c u d w bs led) (served w by call) (served (view m w) by call)
+own-same m c u d w by call same ours =
+    answered-same (λ bs led. HasFineRows m c (world_after w bs) → Led m c u d w bs led) (served w by call) (served (view m w) by call) same
+    (holds-more (λ bs. HasFineRows m c (world_after w bs) → are_ours m w bs ≡ true) (λ bs. HasFineRows m c (world_after w bs) → Led m c u d w bs bs) (served w by call) (λ bs h fine. led-same m c u d w bs (h fine)) ours)
 
-pub apart-create : (m : Group) (c : ℕ) (u : World) (d : Whose) (w : World) (by : ThreadRow) (known : List ℕ → Birth) (name : Option (List ℕ)) → At m c w by known → u.used_threads ≡ w.used_threads → m by.process ≡ false → Holds (λ bs. HasFinePorts m c (world_after w bs) → are_apart m c u d w bs ≡ true) (served w by (create_port name))
+-- whatever the circle says of the next world
+pub later : (P : List Basic → Type 0) (m : Group) (c : ℕ) (w : World) (r : Result (List Basic) Status) → Holds P r → Holds (λ bs. HasFineRows m c (world_after w bs) → P bs) r
+later P m c w r h = holds-more P (λ bs. HasFineRows m c (world_after w bs) → P bs) r (λ bs p fine. p) h
+
+pub apart-create : (m : Group) (c : ℕ) (u : World) (d : Whose) (w : World) (by : ThreadRow) (known : List ℕ → Birth) (name : Option (List ℕ)) → At m c w by known → u.used_threads ≡ w.used_threads → m by.process ≡ false → Holds (λ bs. HasFineRows m c (world_after w bs) → are_apart m c u d w bs ≡ true) (served w by (create_port name))
 apart-create m c u d w by known name a used out = later (λ bs. are_apart m c u d w bs ≡ true) m c w (served w by (create_port name)) (create-apart m c u d w by name a.fair a.own (caller m c w by known u a used).here out)
 
-pub apart-connect : (m : Group) (c : ℕ) (u : World) (d : Whose) (w : World) (by : ThreadRow) (known : List ℕ → Birth) (name bytes : List ℕ) → At m c w by known → u.used_threads ≡ w.used_threads → m by.process ≡ false → Holds (λ bs. HasFinePorts m c (world_after w bs) → are_apart m c u d w bs ≡ true) (served w by (connect_port name bytes))
+pub apart-connect : (m : Group) (c : ℕ) (u : World) (d : Whose) (w : World) (by : ThreadRow) (known : List ℕ → Birth) (name bytes : List ℕ) → At m c w by known → u.used_threads ≡ w.used_threads → m by.process ≡ false → Holds (λ bs. HasFineRows m c (world_after w bs) → are_apart m c u d w bs ≡ true) (served w by (connect_port name bytes))
 apart-connect m c u d w by known name info a used out = connect-call-apart m c u d w by name info (caller m c w by known u a used) out
 
-pub apart-listen : (m : Group) (c : ℕ) (u : World) (d : Whose) (w : World) (by : ThreadRow) (known : List ℕ → Birth) (handle : ℕ) → At m c w by known → u.used_threads ≡ w.used_threads → m by.process ≡ false → Holds (λ bs. HasFinePorts m c (world_after w bs) → are_apart m c u d w bs ≡ true) (served w by (listen_port handle))
+pub apart-listen : (m : Group) (c : ℕ) (u : World) (d : Whose) (w : World) (by : ThreadRow) (known : List ℕ → Birth) (handle : ℕ) → At m c w by known → u.used_threads ≡ w.used_threads → m by.process ≡ false → Holds (λ bs. HasFineRows m c (world_after w bs) → are_apart m c u d w bs ≡ true) (served w by (listen_port handle))
 apart-listen m c u d w by known handle a used out = later (λ bs. are_apart m c u d w bs ≡ true) m c w (served w by (listen_port handle)) (listen-call-apart m c u d w by handle (caller m c w by known u a used) out)
 
-pub apart-accept : (m : Group) (c : ℕ) (u : World) (d : Whose) (w : World) (by : ThreadRow) (known : List ℕ → Birth) (context : ℕ) (message : List ℕ) (accept : Bool) → At m c w by known → u.used_threads ≡ w.used_threads → m by.process ≡ false → Holds (λ bs. HasFinePorts m c (world_after w bs) → are_apart m c u d w bs ≡ true) (served w by (accept_connect_port context message accept))
+pub apart-accept : (m : Group) (c : ℕ) (u : World) (d : Whose) (w : World) (by : ThreadRow) (known : List ℕ → Birth) (context : ℕ) (message : List ℕ) (accept : Bool) → At m c w by known → u.used_threads ≡ w.used_threads → m by.process ≡ false → Holds (λ bs. HasFineRows m c (world_after w bs) → are_apart m c u d w bs ≡ true) (served w by (accept_connect_port context message accept))
 apart-accept m c u d w by known context bytes accept a used out = later (λ bs. are_apart m c u d w bs ≡ true) m c w (served w by (accept_connect_port context bytes accept)) (accept-call-apart m c u d w by context bytes accept (caller m c w by known u a used) out)
 
-pub apart-complete : (m : Group) (c : ℕ) (u : World) (d : Whose) (w : World) (by : ThreadRow) (known : List ℕ → Birth) (handle : ℕ) → At m c w by known → u.used_threads ≡ w.used_threads → m by.process ≡ false → Holds (λ bs. HasFinePorts m c (world_after w bs) → are_apart m c u d w bs ≡ true) (served w by (complete_connect_port handle))
+pub apart-complete : (m : Group) (c : ℕ) (u : World) (d : Whose) (w : World) (by : ThreadRow) (known : List ℕ → Birth) (handle : ℕ) → At m c w by known → u.used_threads ≡ w.used_threads → m by.process ≡ false → Holds (λ bs. HasFineRows m c (world_after w bs) → are_apart m c u d w bs ≡ true) (served w by (complete_connect_port handle))
 apart-complete m c u d w by known handle a used out = later (λ bs. are_apart m c u d w bs ≡ true) m c w (served w by (complete_connect_port handle)) (complete-call-apart m c u d w by handle (caller m c w by known u a used) out)
 
-pub apart-datagram : (m : Group) (c : ℕ) (u : World) (d : Whose) (w : World) (by : ThreadRow) (known : List ℕ → Birth) (handle : ℕ) (message : List ℕ) → At m c w by known → u.used_threads ≡ w.used_threads → m by.process ≡ false → Holds (λ bs. HasFinePorts m c (world_after w bs) → are_apart m c u d w bs ≡ true) (served w by (request_port handle message))
+pub apart-datagram : (m : Group) (c : ℕ) (u : World) (d : Whose) (w : World) (by : ThreadRow) (known : List ℕ → Birth) (handle : ℕ) (message : List ℕ) → At m c w by known → u.used_threads ≡ w.used_threads → m by.process ≡ false → Holds (λ bs. HasFineRows m c (world_after w bs) → are_apart m c u d w bs ≡ true) (served w by (request_port handle message))
 apart-datagram m c u d w by known handle bytes a used out = later (λ bs. are_apart m c u d w bs ≡ true) m c w (served w by (request_port handle bytes)) (request_port-apart m c u d w by handle bytes (caller m c w by known u a used) out)
 
-pub apart-request : (m : Group) (c : ℕ) (u : World) (d : Whose) (w : World) (by : ThreadRow) (known : List ℕ → Birth) (handle : ℕ) (message : List ℕ) → At m c w by known → u.used_threads ≡ w.used_threads → m by.process ≡ false → Holds (λ bs. HasFinePorts m c (world_after w bs) → are_apart m c u d w bs ≡ true) (served w by (request_wait_reply_port handle message))
+pub apart-request : (m : Group) (c : ℕ) (u : World) (d : Whose) (w : World) (by : ThreadRow) (known : List ℕ → Birth) (handle : ℕ) (message : List ℕ) → At m c w by known → u.used_threads ≡ w.used_threads → m by.process ≡ false → Holds (λ bs. HasFineRows m c (world_after w bs) → are_apart m c u d w bs ≡ true) (served w by (request_wait_reply_port handle message))
 apart-request m c u d w by known handle bytes a used out = later (λ bs. are_apart m c u d w bs ≡ true) m c w (served w by (request_wait_reply_port handle bytes)) (request-call-apart m c u d w by handle bytes (caller m c w by known u a used) out)
 
-pub apart-reply : (m : Group) (c : ℕ) (u : World) (d : Whose) (w : World) (by : ThreadRow) (known : List ℕ → Birth) (handle : ℕ) (message : List ℕ) → At m c w by known → u.used_threads ≡ w.used_threads → m by.process ≡ false → Holds (λ bs. HasFinePorts m c (world_after w bs) → are_apart m c u d w bs ≡ true) (served w by (reply_port handle message))
+pub apart-reply : (m : Group) (c : ℕ) (u : World) (d : Whose) (w : World) (by : ThreadRow) (known : List ℕ → Birth) (handle : ℕ) (message : List ℕ) → At m c w by known → u.used_threads ≡ w.used_threads → m by.process ≡ false → Holds (λ bs. HasFineRows m c (world_after w bs) → are_apart m c u d w bs ≡ true) (served w by (reply_port handle message))
 apart-reply m c u d w by known handle bytes a used out = let k = caller m c w by known u a used in later (λ bs. are_apart m c u d w bs ≡ true) m c w (served w by (reply_port handle bytes)) (reply-apart m c u d w by handle bytes a.c_in a.fair k.owned k.here out)
 
-pub apart-receive : (m : Group) (c : ℕ) (u : World) (d : Whose) (w : World) (by : ThreadRow) (known : List ℕ → Birth) (handle : ℕ) (message : Option (List ℕ)) → At m c w by known → u.used_threads ≡ w.used_threads → m by.process ≡ false → Holds (λ bs. HasFinePorts m c (world_after w bs) → are_apart m c u d w bs ≡ true) (served w by (reply_wait_receive_port handle message))
+pub apart-receive : (m : Group) (c : ℕ) (u : World) (d : Whose) (w : World) (by : ThreadRow) (known : List ℕ → Birth) (handle : ℕ) (message : Option (List ℕ)) → At m c w by known → u.used_threads ≡ w.used_threads → m by.process ≡ false → Holds (λ bs. HasFineRows m c (world_after w bs) → are_apart m c u d w bs ≡ true) (served w by (reply_wait_receive_port handle message))
 apart-receive m c u d w by known handle bytes a used out = later (λ bs. are_apart m c u d w bs ≡ true) m c w (served w by (reply_wait_receive_port handle bytes)) (receive-call-apart m c u d w by handle bytes (caller m c w by known u a used) out)
 
 pub same-create : (m : Group) (c : ℕ) (w : World) (by : ThreadRow) (known : List ℕ → Birth) (name : Option (List ℕ)) → At m c w by known → by.process ≡ c → is_fine_call m w (create_port name) ≡ true → served (view m w) by (create_port name) ≡ served w by (create_port name)
@@ -169,31 +192,31 @@ pub same-receive : (m : Group) (c : ℕ) (w : World) (by : ThreadRow) (known : L
 same-receive m c w by known handle None a mine fine = c-receive m c w w by handle None (caller m c w by known w a refl) mine a.ways refl
 same-receive m c w by known handle (Some bytes) a mine fine = c-receive m c w w by handle (Some bytes) (caller m c w by known w a refl) mine a.ways fine
 
-pub ours-create : (m : Group) (c : ℕ) (w : World) (by : ThreadRow) (known : List ℕ → Birth) (name : Option (List ℕ)) → At m c w by known → by.process ≡ c → Holds (λ bs. HasFinePorts m c (world_after w bs) → are_ours m w bs ≡ true) (served w by (create_port name))
+pub ours-create : (m : Group) (c : ℕ) (w : World) (by : ThreadRow) (known : List ℕ → Birth) (name : Option (List ℕ)) → At m c w by known → by.process ≡ c → Holds (λ bs. HasFineRows m c (world_after w bs) → are_ours m w bs ≡ true) (served w by (create_port name))
 ours-create m c w by known name a mine = later (λ bs. are_ours m w bs ≡ true) m c w (served w by (create_port name)) (create-ours m w by name (ap m mine ∙ a.c_in))
 
-pub ours-connect : (m : Group) (c : ℕ) (w : World) (by : ThreadRow) (known : List ℕ → Birth) (name bytes : List ℕ) → At m c w by known → by.process ≡ c → Holds (λ bs. HasFinePorts m c (world_after w bs) → are_ours m w bs ≡ true) (served w by (connect_port name bytes))
+pub ours-connect : (m : Group) (c : ℕ) (w : World) (by : ThreadRow) (known : List ℕ → Birth) (name bytes : List ℕ) → At m c w by known → by.process ≡ c → Holds (λ bs. HasFineRows m c (world_after w bs) → are_ours m w bs ≡ true) (served w by (connect_port name bytes))
 ours-connect m c w by known name info a mine = c-connect-ours m c w w by name info (caller m c w by known w a refl) mine
 
-pub ours-listen : (m : Group) (c : ℕ) (w : World) (by : ThreadRow) (known : List ℕ → Birth) (handle : ℕ) → At m c w by known → by.process ≡ c → Holds (λ bs. HasFinePorts m c (world_after w bs) → are_ours m w bs ≡ true) (served w by (listen_port handle))
+pub ours-listen : (m : Group) (c : ℕ) (w : World) (by : ThreadRow) (known : List ℕ → Birth) (handle : ℕ) → At m c w by known → by.process ≡ c → Holds (λ bs. HasFineRows m c (world_after w bs) → are_ours m w bs ≡ true) (served w by (listen_port handle))
 ours-listen m c w by known handle a mine = later (λ bs. are_ours m w bs ≡ true) m c w (served w by (listen_port handle)) (c-listen-ours m c w w by handle (caller m c w by known w a refl) mine)
 
-pub ours-accept : (m : Group) (c : ℕ) (w : World) (by : ThreadRow) (known : List ℕ → Birth) (context : ℕ) (message : List ℕ) (accept : Bool) → At m c w by known → by.process ≡ c → Holds (λ bs. HasFinePorts m c (world_after w bs) → are_ours m w bs ≡ true) (served w by (accept_connect_port context message accept))
+pub ours-accept : (m : Group) (c : ℕ) (w : World) (by : ThreadRow) (known : List ℕ → Birth) (context : ℕ) (message : List ℕ) (accept : Bool) → At m c w by known → by.process ≡ c → Holds (λ bs. HasFineRows m c (world_after w bs) → are_ours m w bs ≡ true) (served w by (accept_connect_port context message accept))
 ours-accept m c w by known context bytes accept a mine = later (λ bs. are_ours m w bs ≡ true) m c w (served w by (accept_connect_port context bytes accept)) (c-accept-ours m c w w by context bytes accept (caller m c w by known w a refl) mine)
 
-pub ours-complete : (m : Group) (c : ℕ) (w : World) (by : ThreadRow) (known : List ℕ → Birth) (handle : ℕ) → At m c w by known → by.process ≡ c → Holds (λ bs. HasFinePorts m c (world_after w bs) → are_ours m w bs ≡ true) (served w by (complete_connect_port handle))
+pub ours-complete : (m : Group) (c : ℕ) (w : World) (by : ThreadRow) (known : List ℕ → Birth) (handle : ℕ) → At m c w by known → by.process ≡ c → Holds (λ bs. HasFineRows m c (world_after w bs) → are_ours m w bs ≡ true) (served w by (complete_connect_port handle))
 ours-complete m c w by known handle a mine = later (λ bs. are_ours m w bs ≡ true) m c w (served w by (complete_connect_port handle)) (c-complete-ours m c w w by handle (caller m c w by known w a refl))
 
-pub ours-datagram : (m : Group) (c : ℕ) (w : World) (by : ThreadRow) (known : List ℕ → Birth) (handle : ℕ) (message : List ℕ) → At m c w by known → by.process ≡ c → Holds (λ bs. HasFinePorts m c (world_after w bs) → are_ours m w bs ≡ true) (served w by (request_port handle message))
+pub ours-datagram : (m : Group) (c : ℕ) (w : World) (by : ThreadRow) (known : List ℕ → Birth) (handle : ℕ) (message : List ℕ) → At m c w by known → by.process ≡ c → Holds (λ bs. HasFineRows m c (world_after w bs) → are_ours m w bs ≡ true) (served w by (request_port handle message))
 ours-datagram m c w by known handle bytes a mine = later (λ bs. are_ours m w bs ≡ true) m c w (served w by (request_port handle bytes)) (c-request_port-ours m c w w by handle bytes (caller m c w by known w a refl) mine)
 
-pub ours-request : (m : Group) (c : ℕ) (w : World) (by : ThreadRow) (known : List ℕ → Birth) (handle : ℕ) (message : List ℕ) → At m c w by known → by.process ≡ c → Holds (λ bs. HasFinePorts m c (world_after w bs) → are_ours m w bs ≡ true) (served w by (request_wait_reply_port handle message))
+pub ours-request : (m : Group) (c : ℕ) (w : World) (by : ThreadRow) (known : List ℕ → Birth) (handle : ℕ) (message : List ℕ) → At m c w by known → by.process ≡ c → Holds (λ bs. HasFineRows m c (world_after w bs) → are_ours m w bs ≡ true) (served w by (request_wait_reply_port handle message))
 ours-request m c w by known handle bytes a mine = later (λ bs. are_ours m w bs ≡ true) m c w (served w by (request_wait_reply_port handle bytes)) (c-request-ours m c w w by handle bytes (caller m c w by known w a refl) mine)
 
-pub ours-reply : (m : Group) (c : ℕ) (w : World) (by : ThreadRow) (known : List ℕ → Birth) (handle : ℕ) (message : List ℕ) → At m c w by known → by.process ≡ c → Holds (λ bs. HasFinePorts m c (world_after w bs) → are_ours m w bs ≡ true) (served w by (reply_port handle message))
+pub ours-reply : (m : Group) (c : ℕ) (w : World) (by : ThreadRow) (known : List ℕ → Birth) (handle : ℕ) (message : List ℕ) → At m c w by known → by.process ≡ c → Holds (λ bs. HasFineRows m c (world_after w bs) → are_ours m w bs ≡ true) (served w by (reply_port handle message))
 ours-reply m c w by known handle bytes a mine = later (λ bs. are_ours m w bs ≡ true) m c w (served w by (reply_port handle bytes)) (c-reply-ours m w by handle bytes)
 
-pub ours-receive : (m : Group) (c : ℕ) (w : World) (by : ThreadRow) (known : List ℕ → Birth) (handle : ℕ) (message : Option (List ℕ)) → At m c w by known → by.process ≡ c → Holds (λ bs. HasFinePorts m c (world_after w bs) → are_ours m w bs ≡ true) (served w by (reply_wait_receive_port handle message))
+pub ours-receive : (m : Group) (c : ℕ) (w : World) (by : ThreadRow) (known : List ℕ → Birth) (handle : ℕ) (message : Option (List ℕ)) → At m c w by known → by.process ≡ c → Holds (λ bs. HasFineRows m c (world_after w bs) → are_ours m w bs ≡ true) (served w by (reply_wait_receive_port handle message))
 ours-receive m c w by known handle bytes a mine = later (λ bs. are_ours m w bs ≡ true) m c w (served w by (reply_wait_receive_port handle bytes)) (c-receive-ours m c w w by handle bytes (caller m c w by known w a refl) mine)
 
 abbrev pub Leading : Group → ℕ → World → Whose → World → ThreadRow → (List ℕ → Birth) → ScriptCall → List Basic → Type 0
@@ -209,29 +232,29 @@ create-leads m c u d w by known name a by_in =
     both-hold P Q R (Ok bs) k p q = k bs p q
     both-hold P Q R (Err s) k p q = tt
 
-pub leads-create : (m : Group) (c : ℕ) (u : World) (d : Whose) (w : World) (by : ThreadRow) (known : List ℕ → Birth) (name : Option (List ℕ)) → At m c w by known → u.used_threads ≡ w.used_threads → m by.process ≡ true → (by.process == c) ≡ false → Holds (λ bs. HasFinePorts m c (world_after w bs) → Leading m c u d w by known (create_port name) bs) (served w by (create_port name))
+pub leads-create : (m : Group) (c : ℕ) (u : World) (d : Whose) (w : World) (by : ThreadRow) (known : List ℕ → Birth) (name : Option (List ℕ)) → At m c w by known → u.used_threads ≡ w.used_threads → m by.process ≡ true → (by.process == c) ≡ false → Holds (λ bs. HasFineRows m c (world_after w bs) → Leading m c u d w by known (create_port name) bs) (served w by (create_port name))
 leads-create m c u d w by known name a used by_in other = later (Leading m c u d w by known (create_port name)) m c w (served w by (create_port name)) (create-leads m c u d w by known name a by_in)
 
-pub leads-connect : (m : Group) (c : ℕ) (u : World) (d : Whose) (w : World) (by : ThreadRow) (known : List ℕ → Birth) (name bytes : List ℕ) → At m c w by known → u.used_threads ≡ w.used_threads → m by.process ≡ true → (by.process == c) ≡ false → Holds (λ bs. HasFinePorts m c (world_after w bs) → Leading m c u d w by known (connect_port name bytes) bs) (served w by (connect_port name bytes))
+pub leads-connect : (m : Group) (c : ℕ) (u : World) (d : Whose) (w : World) (by : ThreadRow) (known : List ℕ → Birth) (name bytes : List ℕ) → At m c w by known → u.used_threads ≡ w.used_threads → m by.process ≡ true → (by.process == c) ≡ false → Holds (λ bs. HasFineRows m c (world_after w bs) → Leading m c u d w by known (connect_port name bytes) bs) (served w by (connect_port name bytes))
 leads-connect m c u d w by known name info a used by_in other = connect-call-led m c u d w by name info (caller m c w by known u a used) by_in
 
-pub leads-listen : (m : Group) (c : ℕ) (u : World) (d : Whose) (w : World) (by : ThreadRow) (known : List ℕ → Birth) (handle : ℕ) → At m c w by known → u.used_threads ≡ w.used_threads → m by.process ≡ true → (by.process == c) ≡ false → Holds (λ bs. HasFinePorts m c (world_after w bs) → Leading m c u d w by known (listen_port handle) bs) (served w by (listen_port handle))
+pub leads-listen : (m : Group) (c : ℕ) (u : World) (d : Whose) (w : World) (by : ThreadRow) (known : List ℕ → Birth) (handle : ℕ) → At m c w by known → u.used_threads ≡ w.used_threads → m by.process ≡ true → (by.process == c) ≡ false → Holds (λ bs. HasFineRows m c (world_after w bs) → Leading m c u d w by known (listen_port handle) bs) (served w by (listen_port handle))
 leads-listen m c u d w by known handle a used by_in other = later (Leading m c u d w by known (listen_port handle)) m c w (served w by (listen_port handle)) (listen-call-led m c u d w by handle (caller m c w by known u a used) a.readable by_in other)
 
-pub leads-accept : (m : Group) (c : ℕ) (u : World) (d : Whose) (w : World) (by : ThreadRow) (known : List ℕ → Birth) (context : ℕ) (message : List ℕ) (accept : Bool) → At m c w by known → u.used_threads ≡ w.used_threads → m by.process ≡ true → (by.process == c) ≡ false → Holds (λ bs. HasFinePorts m c (world_after w bs) → Leading m c u d w by known (accept_connect_port context message accept) bs) (served w by (accept_connect_port context message accept))
+pub leads-accept : (m : Group) (c : ℕ) (u : World) (d : Whose) (w : World) (by : ThreadRow) (known : List ℕ → Birth) (context : ℕ) (message : List ℕ) (accept : Bool) → At m c w by known → u.used_threads ≡ w.used_threads → m by.process ≡ true → (by.process == c) ≡ false → Holds (λ bs. HasFineRows m c (world_after w bs) → Leading m c u d w by known (accept_connect_port context message accept) bs) (served w by (accept_connect_port context message accept))
 leads-accept m c u d w by known context bytes accept a used by_in other = later (Leading m c u d w by known (accept_connect_port context bytes accept)) m c w (served w by (accept_connect_port context bytes accept)) (accept-call-led m c u d w by context bytes accept (known bytes) (caller m c w by known u a used) (λ b is. a.knows bytes b by_in is) by_in other)
 
-pub leads-complete : (m : Group) (c : ℕ) (u : World) (d : Whose) (w : World) (by : ThreadRow) (known : List ℕ → Birth) (handle : ℕ) → At m c w by known → u.used_threads ≡ w.used_threads → m by.process ≡ true → (by.process == c) ≡ false → Holds (λ bs. HasFinePorts m c (world_after w bs) → Leading m c u d w by known (complete_connect_port handle) bs) (served w by (complete_connect_port handle))
+pub leads-complete : (m : Group) (c : ℕ) (u : World) (d : Whose) (w : World) (by : ThreadRow) (known : List ℕ → Birth) (handle : ℕ) → At m c w by known → u.used_threads ≡ w.used_threads → m by.process ≡ true → (by.process == c) ≡ false → Holds (λ bs. HasFineRows m c (world_after w bs) → Leading m c u d w by known (complete_connect_port handle) bs) (served w by (complete_connect_port handle))
 leads-complete m c u d w by known handle a used by_in other = later (Leading m c u d w by known (complete_connect_port handle)) m c w (served w by (complete_connect_port handle)) (complete-call-led m c u d w by handle (caller m c w by known u a used) by_in other)
 
-pub leads-datagram : (m : Group) (c : ℕ) (u : World) (d : Whose) (w : World) (by : ThreadRow) (known : List ℕ → Birth) (handle : ℕ) (message : List ℕ) → At m c w by known → u.used_threads ≡ w.used_threads → m by.process ≡ true → (by.process == c) ≡ false → Holds (λ bs. HasFinePorts m c (world_after w bs) → Leading m c u d w by known (request_port handle message) bs) (served w by (request_port handle message))
+pub leads-datagram : (m : Group) (c : ℕ) (u : World) (d : Whose) (w : World) (by : ThreadRow) (known : List ℕ → Birth) (handle : ℕ) (message : List ℕ) → At m c w by known → u.used_threads ≡ w.used_threads → m by.process ≡ true → (by.process == c) ≡ false → Holds (λ bs. HasFineRows m c (world_after w bs) → Leading m c u d w by known (request_port handle message) bs) (served w by (request_port handle message))
 leads-datagram m c u d w by known handle bytes a used by_in other = later (Leading m c u d w by known (request_port handle bytes)) m c w (served w by (request_port handle bytes)) (request_port-led m c u d w by handle bytes (caller m c w by known u a used) by_in)
 
-pub leads-request : (m : Group) (c : ℕ) (u : World) (d : Whose) (w : World) (by : ThreadRow) (known : List ℕ → Birth) (handle : ℕ) (message : List ℕ) → At m c w by known → u.used_threads ≡ w.used_threads → m by.process ≡ true → (by.process == c) ≡ false → Holds (λ bs. HasFinePorts m c (world_after w bs) → Leading m c u d w by known (request_wait_reply_port handle message) bs) (served w by (request_wait_reply_port handle message))
+pub leads-request : (m : Group) (c : ℕ) (u : World) (d : Whose) (w : World) (by : ThreadRow) (known : List ℕ → Birth) (handle : ℕ) (message : List ℕ) → At m c w by known → u.used_threads ≡ w.used_threads → m by.process ≡ true → (by.process == c) ≡ false → Holds (λ bs. HasFineRows m c (world_after w bs) → Leading m c u d w by known (request_wait_reply_port handle message) bs) (served w by (request_wait_reply_port handle message))
 leads-request m c u d w by known handle bytes a used by_in other = later (Leading m c u d w by known (request_wait_reply_port handle bytes)) m c w (served w by (request_wait_reply_port handle bytes)) (request-call-led m c u d w by handle bytes (caller m c w by known u a used) by_in)
 
-pub leads-reply : (m : Group) (c : ℕ) (u : World) (d : Whose) (w : World) (by : ThreadRow) (known : List ℕ → Birth) (handle : ℕ) (message : List ℕ) → At m c w by known → u.used_threads ≡ w.used_threads → m by.process ≡ true → (by.process == c) ≡ false → Holds (λ bs. HasFinePorts m c (world_after w bs) → Leading m c u d w by known (reply_port handle message) bs) (served w by (reply_port handle message))
+pub leads-reply : (m : Group) (c : ℕ) (u : World) (d : Whose) (w : World) (by : ThreadRow) (known : List ℕ → Birth) (handle : ℕ) (message : List ℕ) → At m c w by known → u.used_threads ≡ w.used_threads → m by.process ≡ true → (by.process == c) ≡ false → Holds (λ bs. HasFineRows m c (world_after w bs) → Leading m c u d w by known (reply_port handle message) bs) (served w by (reply_port handle message))
 leads-reply m c u d w by known handle bytes a used by_in other = let k = caller m c w by known u a used in later (Leading m c u d w by known (reply_port handle bytes)) m c w (served w by (reply_port handle bytes)) (reply-call-led m c u d w by handle bytes a.c_in a.fair k.owned k.once k.here other)
 
-pub leads-receive : (m : Group) (c : ℕ) (u : World) (d : Whose) (w : World) (by : ThreadRow) (known : List ℕ → Birth) (handle : ℕ) (message : Option (List ℕ)) → At m c w by known → u.used_threads ≡ w.used_threads → m by.process ≡ true → (by.process == c) ≡ false → Holds (λ bs. HasFinePorts m c (world_after w bs) → Leading m c u d w by known (reply_wait_receive_port handle message) bs) (served w by (reply_wait_receive_port handle message))
+pub leads-receive : (m : Group) (c : ℕ) (u : World) (d : Whose) (w : World) (by : ThreadRow) (known : List ℕ → Birth) (handle : ℕ) (message : Option (List ℕ)) → At m c w by known → u.used_threads ≡ w.used_threads → m by.process ≡ true → (by.process == c) ≡ false → Holds (λ bs. HasFineRows m c (world_after w bs) → Leading m c u d w by known (reply_wait_receive_port handle message) bs) (served w by (reply_wait_receive_port handle message))
 leads-receive m c u d w by known handle bytes a used by_in other = later (Leading m c u d w by known (reply_wait_receive_port handle bytes)) m c w (served w by (reply_wait_receive_port handle bytes)) (receive-call-led m c u d w by handle bytes (caller m c w by known u a used) a.readable by_in other)

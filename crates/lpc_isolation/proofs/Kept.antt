@@ -12,7 +12,7 @@ use Rattle.lpc_model.specs.Lines.{accept_connect_port, complete_connect_port, co
 use Rattle.lpc_isolation.proofs.Served.{served}
 use Rattle.lpc_model.proofs.Holding.{Holds}
 use Rattle.lpc_model.specs.Circle.{Group}
-use Rattle.lpc_isolation.proofs.Alone.{HasFinePorts}
+use Rattle.lpc_isolation.proofs.Alone.{HasFineRows}
 use Rattle.lpc_isolation.proofs.View.{one_of}
 use Rattle.lpc_isolation.proofs.Fair.{Fair, are_fair}
 use Rattle.lpc_isolation.proofs.Seen.{live-owner}
@@ -40,29 +40,29 @@ pub owned-sound : (m : Group) (c : ℕ) (w : World) → Fair m c w → HasSoundW
 owned-sound m c w f s = every-more (is_sound_wait w) (is_owned w) (λ x is. client-owner m c w x f (one_of _ _ is)) w.waits s
 
 -- each call's steps are fair
-pub fair-create : (m : Group) (c : ℕ) (w : World) (by : ThreadRow) (known : List ℕ → Birth) (name : Option (List ℕ)) → At m c w by known → Holds (λ bs. HasFinePorts m c (world_after w bs) → are_fair m c w bs ≡ true) (served w by (create_port name))
+pub fair-create : (m : Group) (c : ℕ) (w : World) (by : ThreadRow) (known : List ℕ → Birth) (name : Option (List ℕ)) → At m c w by known → Holds (λ bs. HasFineRows m c (world_after w bs) → are_fair m c w bs ≡ true) (served w by (create_port name))
 fair-create m c w by known name a = later (λ bs. are_fair m c w bs ≡ true) m c w (served w by (create_port name)) (create-fair m c w by name)
 
-pub fair-connect : (m : Group) (c : ℕ) (w : World) (by : ThreadRow) (known : List ℕ → Birth) (name bytes : List ℕ) → At m c w by known → Holds (λ bs. HasFinePorts m c (world_after w bs) → are_fair m c w bs ≡ true) (served w by (connect_port name bytes))
+pub fair-connect : (m : Group) (c : ℕ) (w : World) (by : ThreadRow) (known : List ℕ → Birth) (name bytes : List ℕ) → At m c w by known → Holds (λ bs. HasFineRows m c (world_after w bs) → are_fair m c w bs ≡ true) (served w by (connect_port name bytes))
 fair-connect m c w by known name info a = connect-call-fair m c w w by name info (caller m c w by known w a refl)
 
-pub fair-listen : (m : Group) (c : ℕ) (w : World) (by : ThreadRow) (known : List ℕ → Birth) (handle : ℕ) → At m c w by known → Holds (λ bs. HasFinePorts m c (world_after w bs) → are_fair m c w bs ≡ true) (served w by (listen_port handle))
+pub fair-listen : (m : Group) (c : ℕ) (w : World) (by : ThreadRow) (known : List ℕ → Birth) (handle : ℕ) → At m c w by known → Holds (λ bs. HasFineRows m c (world_after w bs) → are_fair m c w bs ≡ true) (served w by (listen_port handle))
 fair-listen m c w by known handle a = later (λ bs. are_fair m c w bs ≡ true) m c w (served w by (listen_port handle)) (listen-call-fair m c w w by handle (caller m c w by known w a refl))
 
-pub fair-accept : (m : Group) (c : ℕ) (w : World) (by : ThreadRow) (known : List ℕ → Birth) (context : ℕ) (message : List ℕ) (accept : Bool) → At m c w by known → Holds (λ bs. HasFinePorts m c (world_after w bs) → are_fair m c w bs ≡ true) (served w by (accept_connect_port context message accept))
+pub fair-accept : (m : Group) (c : ℕ) (w : World) (by : ThreadRow) (known : List ℕ → Birth) (context : ℕ) (message : List ℕ) (accept : Bool) → At m c w by known → Holds (λ bs. HasFineRows m c (world_after w bs) → are_fair m c w bs ≡ true) (served w by (accept_connect_port context message accept))
 fair-accept m c w by known context bytes accept a = later (λ bs. are_fair m c w bs ≡ true) m c w (served w by (accept_connect_port context bytes accept)) (accept-call-fair m c w w by context bytes accept (caller m c w by known w a refl))
 
-pub fair-complete : (m : Group) (c : ℕ) (w : World) (by : ThreadRow) (known : List ℕ → Birth) (handle : ℕ) → At m c w by known → Holds (λ bs. HasFinePorts m c (world_after w bs) → are_fair m c w bs ≡ true) (served w by (complete_connect_port handle))
+pub fair-complete : (m : Group) (c : ℕ) (w : World) (by : ThreadRow) (known : List ℕ → Birth) (handle : ℕ) → At m c w by known → Holds (λ bs. HasFineRows m c (world_after w bs) → are_fair m c w bs ≡ true) (served w by (complete_connect_port handle))
 fair-complete m c w by known handle a = later (λ bs. are_fair m c w bs ≡ true) m c w (served w by (complete_connect_port handle)) (complete-call-fair m c w w by handle (caller m c w by known w a refl))
 
-pub fair-datagram : (m : Group) (c : ℕ) (w : World) (by : ThreadRow) (known : List ℕ → Birth) (handle : ℕ) (message : List ℕ) → At m c w by known → Holds (λ bs. HasFinePorts m c (world_after w bs) → are_fair m c w bs ≡ true) (served w by (request_port handle message))
+pub fair-datagram : (m : Group) (c : ℕ) (w : World) (by : ThreadRow) (known : List ℕ → Birth) (handle : ℕ) (message : List ℕ) → At m c w by known → Holds (λ bs. HasFineRows m c (world_after w bs) → are_fair m c w bs ≡ true) (served w by (request_port handle message))
 fair-datagram m c w by known handle bytes a = later (λ bs. are_fair m c w bs ≡ true) m c w (served w by (request_port handle bytes)) (request_port-fair m c w w by handle bytes (caller m c w by known w a refl))
 
-pub fair-request : (m : Group) (c : ℕ) (w : World) (by : ThreadRow) (known : List ℕ → Birth) (handle : ℕ) (message : List ℕ) → At m c w by known → Holds (λ bs. HasFinePorts m c (world_after w bs) → are_fair m c w bs ≡ true) (served w by (request_wait_reply_port handle message))
+pub fair-request : (m : Group) (c : ℕ) (w : World) (by : ThreadRow) (known : List ℕ → Birth) (handle : ℕ) (message : List ℕ) → At m c w by known → Holds (λ bs. HasFineRows m c (world_after w bs) → are_fair m c w bs ≡ true) (served w by (request_wait_reply_port handle message))
 fair-request m c w by known handle bytes a = later (λ bs. are_fair m c w bs ≡ true) m c w (served w by (request_wait_reply_port handle bytes)) (request-call-fair m c w w by handle bytes (caller m c w by known w a refl))
 
-pub fair-reply : (m : Group) (c : ℕ) (w : World) (by : ThreadRow) (known : List ℕ → Birth) (handle : ℕ) (message : List ℕ) → At m c w by known → Holds (λ bs. HasFinePorts m c (world_after w bs) → are_fair m c w bs ≡ true) (served w by (reply_port handle message))
+pub fair-reply : (m : Group) (c : ℕ) (w : World) (by : ThreadRow) (known : List ℕ → Birth) (handle : ℕ) (message : List ℕ) → At m c w by known → Holds (λ bs. HasFineRows m c (world_after w bs) → are_fair m c w bs ≡ true) (served w by (reply_port handle message))
 fair-reply m c w by known handle bytes a = later (λ bs. are_fair m c w bs ≡ true) m c w (served w by (reply_port handle bytes)) (reply-fair m c w by handle bytes)
 
-pub fair-receive : (m : Group) (c : ℕ) (w : World) (by : ThreadRow) (known : List ℕ → Birth) (handle : ℕ) (message : Option (List ℕ)) → At m c w by known → Holds (λ bs. HasFinePorts m c (world_after w bs) → are_fair m c w bs ≡ true) (served w by (reply_wait_receive_port handle message))
+pub fair-receive : (m : Group) (c : ℕ) (w : World) (by : ThreadRow) (known : List ℕ → Birth) (handle : ℕ) (message : Option (List ℕ)) → At m c w by known → Holds (λ bs. HasFineRows m c (world_after w bs) → are_fair m c w bs ≡ true) (served w by (reply_wait_receive_port handle message))
 fair-receive m c w by known handle bytes a = later (λ bs. are_fair m c w bs ≡ true) m c w (served w by (reply_wait_receive_port handle bytes)) (receive-call-fair m c w w by handle bytes (caller m c w by known w a refl))

@@ -29,7 +29,7 @@ use Rattle.lpc_model.proofs.Births.{birth-same, birth-self}
 use Rattle.lpc_model.proofs.Holding.{Holds, bind_holds}
 use Rattle.lpc_model.proofs.Rows.{lone}
 use Rattle.lpc_model.specs.Circle.{Group, Whose, owner}
-use Rattle.lpc_isolation.proofs.Alone.{HasFinePorts}
+use Rattle.lpc_isolation.proofs.Alone.{HasFineRows}
 use Rattle.lpc_isolation.proofs.Filters.{first-kept, first-push_off}
 use Rattle.lpc_isolation.proofs.View.{both, one_of, other_of, our_wait, same-number, seen_port, view}
 use Rattle.lpc_isolation.proofs.Fair.{is_fair_message, is_fair_wait, is_sent, owner-sent}
@@ -327,7 +327,7 @@ received-silent v by p q rs (Some y) is = every-append (is_silent_step v) rs (ta
 -- An outsider's call
 module _ (m : Group) (c : ℕ) (u w : World) (by : ThreadRow) (d : Whose) (memo : List Heard) (k : Caller m c u w by) (owned : Owned w w) (n : Numbered w) (a : Asked w) (all : AllKnown m memo w) (out : m by.process ≡ false) where
   abbrev Next : List Basic → Type 0
-  Next bs = HasFinePorts m c (world_after w bs) → Hears m c u d w memo bs
+  Next bs = HasFineRows m c (world_after w bs) → Hears m c u d w memo bs
 
   anyway : (r : Result (List Basic) Status) → Holds (Still m memo w) r → Holds Next r
   anyway (Ok bs) is = λ _. still-hears m c u d w memo bs all is

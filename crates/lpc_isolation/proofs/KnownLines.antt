@@ -17,16 +17,15 @@ use Rattle.lpc_model.specs.Machine.{bare_steps, boot_line, dir_line, link_line, 
 use Rattle.lpc_isolation.proofs.Served.{served, served_step, served_steps}
 use Rattle.lpc_model.proofs.Holding.{bind_holds, directed_holds, holds_ok}
 use Rattle.lpc_model.specs.Circle.{Group, Item, Whose, is_fine_line, is_seen, line_whose, owned, owner, thread_whose}
-use Rattle.lpc_isolation.proofs.Alone.{HasFinePorts, alone}
+use Rattle.lpc_isolation.proofs.Alone.{HasFineRows, alone}
 use Rattle.lpc_isolation.proofs.View.{view}
 use Rattle.lpc_isolation.proofs.Seen.{live-owner, live-view}
 use Rattle.lpc_isolation.proofs.Apart.{Owned}
 use Rattle.lpc_isolation.proofs.Play.{absorbed, is_told_input, told_at, told_items}
 use Rattle.lpc_isolation.proofs.Lines.{OnceUsed, Owes, is_done, next_entry, turned}
-use Rattle.lpc_isolation.proofs.Calls.{busy, called, headed, nobody}
-use Rattle.lpc_isolation.proofs.Serves.{is_call_of, orderly-used}
+use Rattle.lpc_isolation.proofs.Calls.{busy, called, nobody}
 use Rattle.lpc_isolation.proofs.Listens.{own_entry}
-use Rattle.lpc_isolation.proofs.Instances.{At, caller, leads_by}
+use Rattle.lpc_isolation.proofs.Instances.{At, leads_by}
 use Rattle.lpc_isolation.proofs.Kept.{owned-sound}
 use Rattle.lpc_isolation.proofs.Heard.{Heard, call_memo, caller_memo, done-silent, entries-silent, entries_memo, is_silent, is_silent_step, line_memo, silent-memo, steps-silent}
 use Rattle.lpc_isolation.proofs.Knows.{AllKnown, are_known, known_queue, run-known}
@@ -46,22 +45,18 @@ lone-still m w t e silent = (refl, rw (silent (view m w)) refl)
 owner-seen : (m : Group) (w : World) (tid : ℕ) (by : ThreadRow) → owner w tid ≡ Some by.process → is_seen m (thread_whose w tid) ≡ m by.process
 owner-seen m w tid by own = ap (λ o. is_seen m (owned o)) own
 
-module _ (m : Group) (c : ℕ) (w : World) (t : List Heard) (tid : ℕ) (call : ScriptCall) (c_in : m c ≡ true) (st : Stood m c w (record { seen = view m w; memo = t })) (fine : HasFinePorts m c w) (next : HasFinePorts m c (served_step w (run tid call)).world) where
+module _ (m : Group) (c : ℕ) (w : World) (t : List Heard) (tid : ℕ) (call : ScriptCall) (c_in : m c ≡ true) (st : Stood m c w (record { seen = view m w; memo = t })) (fine : HasFineRows m c w) (next : HasFineRows m c (served_step w (run tid call)).world) where
   abbrev s : State
   s = record { seen = view m w; memo = t }
 
   own : Owned w w
   own = owned-sound m c w st.kept.fair st.firm.sound.waits
 
-  same-threads : (by : ThreadRow) (bs : List Basic) → At m c w by (known_queue t) → served w by call ≡ Ok bs → (world_after w bs).used_threads ≡ w.used_threads
-  same-threads by bs a is = orderly-used w bs (headed w by.number bs (holds_ok (λ bs. is_call_of w by.number bs ≡ true) (served w by call) bs ((lawful call).orderly m c w w by (caller m c w by (known_queue t) w a refl)) is)).orderly
-
   -- of an outsider
-  hears-settled : (by : ThreadRow) (d : Whose) (r : Result (List Basic) Status) → At m c w by (known_queue t) → m by.process ≡ false → served w by call ≡ r → HasFinePorts m c (world_after w (settled by (name_of_call call) r)) → Hears m c (world_after w (settled by (name_of_call call) r)) d w t (settled by (name_of_call call) r)
+  hears-settled : (by : ThreadRow) (d : Whose) (r : Result (List Basic) Status) → At m c w by (known_queue t) → m by.process ≡ false → served w by call ≡ r → HasFineRows m c (world_after w (settled by (name_of_call call) r)) → Hears m c (world_after w (settled by (name_of_call call) r)) d w t (settled by (name_of_call call) r)
   hears-settled by d (Ok bs) a out is fine' =
-      let u : World = world_after w bs in
-      holds_ok (λ bs. HasFinePorts m c (world_after w bs) → Hears m c u d w t bs) (served w by call) bs
-      ((lawful call).hears m c u w by d t (caller m c w by (known_queue t) u a (same-threads by bs a is)) own st.kept.numbered st.kept.asked st.known out) is fine'
+      holds_ok (λ bs. HasFineRows m c (world_after w bs) → Hears m c (world_after w bs) d w t bs) (served w by call) bs
+      ((lawful call).hears m c d w by (known_queue t) t a own st.kept.numbered st.kept.asked st.known out) is fine'
   hears-settled by d (Err e) a out is fine' = still-hears m c w d w t (Tells (entry.Answer by.number (name_of_call call) e []) ∷ []) st.known (refl, refl)
 
   hears-run : is_seen m (thread_whose w tid) ≡ false → Hears m c (served_step w (run tid call)).world (thread_whose w tid) w t (served_steps (run tid call) w)
@@ -73,7 +68,7 @@ module _ (m : Group) (c : ℕ) (w : World) (t : List Heard) (tid : ℕ) (call : 
           let is = called w tid call by live idle in
           let by_out : m by.process ≡ false = sym (owner-seen m w tid by (live-owner m c w tid by st.kept.fair live)) ∙ out in
           subst (λ bs. Hears m c (world_after w bs) (thread_whose w tid) w t bs) (sym is)
-          (hears-settled by (thread_whose w tid) (served w by call) (ready-at m c w s tid by c_in st fine live idle) by_out refl (subst (λ bs. HasFinePorts m c (world_after w bs)) is next))
+          (hears-settled by (thread_whose w tid) (served w by call) (ready-at m c w s tid by c_in st fine live idle) by_out refl (subst (λ bs. HasFineRows m c (world_after w bs)) is next))
 
       at : (o : Option ThreadRow) → live_thread w tid ≡ o → Hears m c (world_after w (served_steps (run tid call) w)) (thread_whose w tid) w t (served_steps (run tid call) w)
       at None none = subst (λ bs. Hears m c (world_after w bs) (thread_whose w tid) w t bs) (sym (nobody w tid call none)) (still-hears m c w (thread_whose w tid) w t (Tells (entry.NoThread tid) ∷ []) st.known (refl, refl))
@@ -94,7 +89,7 @@ module _ (m : Group) (c : ℕ) (w : World) (t : List Heard) (tid : ℕ) (call : 
   notes-settled : (by : ThreadRow) (r : Result (List Basic) Status) → At m c w by (known_queue t) → m by.process ≡ true → served w by call ≡ r → Notes (Some by) (settled by (name_of_call call) r)
   notes-settled by (Ok bs) a by_in is =
       holds_ok (λ bs. AllKnown m (cond (by.process == c) t (call_memo m (view m w) by call (own_entry bs) t)) (world_after w bs)) (served w by call) bs
-      ((lawful call).notes m c w w by t (caller m c w by (known_queue t) w a refl) own st.kept.numbered st.kept.asked st.known by_in) is
+      ((lawful call).notes m c w by (known_queue t) t a own st.kept.numbered st.kept.asked st.known by_in) is
   notes-settled by (Err e) a by_in is = notes-lone by (entry.Answer by.number (name_of_call call) e []) (silent-memo m (view m w) by call (entry.Answer by.number (name_of_call call) e []) t (λ q. refl))
 
   notes-run : is_seen m (thread_whose w tid) ≡ true → Notes (live_thread w tid) (served_steps (run tid call) w)
@@ -189,7 +184,7 @@ link-plain : (m : Group) (t : List Heard) (w : World) (path target : List ℕ) �
 unfolding bare_steps link_line
 link-plain m t w path target = directed_holds (Plain m t w) word.Link (link_line w path target) (bind_holds (spelled_name target) _ (Plain m t w) (λ _ _. bind_holds (free_name w path) _ (Plain m t w) (λ _ _. (refl, λ v. refl)))) (λ _. (refl, λ v. refl))
 
-pub line-known : (m : Group) (c : ℕ) (w : World) (t : List Heard) (line : ScriptLine) → m c ≡ true → Stood m c w (record { seen = view m w; memo = t }) → HasFinePorts m c w → HasFinePorts m c (served_step w line).world → OnceUsed (served_step w line).world → is_fine_line m c w line ≡ true → Known m c w t line
+pub line-known : (m : Group) (c : ℕ) (w : World) (t : List Heard) (line : ScriptLine) → m c ≡ true → Stood m c w (record { seen = view m w; memo = t }) → HasFineRows m c w → HasFineRows m c (served_step w line).world → OnceUsed (served_step w line).world → is_fine_line m c w line ≡ true → Known m c w t line
 line-known m c w t (run tid call) c_in st fine next once ok = run-line_known m c w t tid call c_in st fine next ok once
 line-known m c w t (boot pid tid) c_in st fine next once ok = directive-known m c w t (boot pid tid) (λ is. refl) st.known (boot-plain m t w pid tid)
 line-known m c w t (thread tid pid) c_in st fine next once ok = directive-known m c w t (thread tid pid) (λ is. refl) st.known (thread-plain m t w tid pid)

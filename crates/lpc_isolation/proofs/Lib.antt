@@ -51,8 +51,13 @@ pub mod Endings
 pub mod Counted
 pub mod Queries
 pub mod Registers
+pub mod Aims
 pub mod Terminates
 pub mod Held
+pub mod Laws
+pub mod Creates
+pub mod Born
+pub mod Grown
 pub mod Services
 pub mod ThinCalls
 pub mod Sweeps

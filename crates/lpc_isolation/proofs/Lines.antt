@@ -17,7 +17,6 @@ use Rattle.lpc_isolation.proofs.Alone.{alone}
 use Rattle.lpc_isolation.proofs.Bare.{bare_line_events}
 use Rattle.lpc_isolation.proofs.Filters.{first-kept, first-none_kept}
 use Rattle.lpc_isolation.proofs.View.{one_of, other_of, our_used, our_wait, view}
-use Rattle.lpc_isolation.proofs.Basics.{are_ours, run-ours}
 use Rattle.lpc_isolation.proofs.Apart.{absorb, absorb_all, are_apart, c_seen, heard, is_heard, run-apart, run-quiet}
 use Rattle.lpc_isolation.proofs.Callers.{Led}
 use Rattle.lpc_isolation.proofs.Listens.{own_entry}
@@ -180,8 +179,7 @@ shown_run led c v tid call is =
 -- what a call's line owes: of an outsider, of c, of another member
 pub record Owes (led : Leads) (m : Group) (c : ℕ) (w : World) (tid : ℕ) (call : ScriptCall) : Type 0 where
   pub apart : is_seen m (thread_whose w tid) ≡ false → are_apart m c (served_step w (run tid call)).world (thread_whose w tid) w (served_steps (run tid call) w) ≡ true
-  pub same : is_seen (alone c) (thread_whose w tid) ≡ true → served_steps (run tid call) (view m w) ≡ served_steps (run tid call) w
-  pub ours : is_seen (alone c) (thread_whose w tid) ≡ true → are_ours m w (served_steps (run tid call) w) ≡ true
+  pub own : is_seen (alone c) (thread_whose w tid) ≡ true → Led m c (served_step w (run tid call)).world (thread_whose w tid) w (served_steps (run tid call) w) (served_steps (run tid call) (view m w))
   pub leads : is_seen m (thread_whose w tid) ≡ true → is_seen (alone c) (thread_whose w tid) ≡ false
       → Led m c (served_step w (run tid call)).world (thread_whose w tid) w (served_steps (run tid call) w) (led_line led (view m w) tid call (own_entry (served_steps (run tid call) w)))
   pub first : is_seen m (thread_whose w tid) ≡ true → is_seen (alone c) (thread_whose w tid) ≡ false
@@ -237,7 +235,7 @@ turned led m c w tid call is o once seen = subst (λ b. Turned m c w tid call (c
     mine = ap (is_seen (alone c)) (thread-same m w tid once seen)
 
     at : (b : Bool) → is_seen (alone c) (thread_whose w tid) ≡ b → Turned m c w tid call (cond b (served_steps (run tid call) (view m w)) (led_line led (view m w) tid call (next_entry (told_items (told_at m c w (run tid call)) ++ is))))
-    at true is_c = subst (Turned m c w tid call) (sym (o.same is_c)) (record { world = sym (run-ours m w (served_steps (run tid call) w) (o.ours is_c)); told = refl })
+    at true is_c = let l = o.own is_c in record { world = sym l.world; told = sym l.told }
     at false other =
         let l = o.leads seen other in
         subst (λ e. Turned m c w tid call (led_line led (view m w) tid call e)) (sym (o.first seen other is)) (record { world = sym l.world; told = sym l.told })

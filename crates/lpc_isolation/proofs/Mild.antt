@@ -8,7 +8,7 @@ use Rattle.lpc_model.specs.Basics.{Basic, Cuts, DropsHandle, Empties, Enters, Ta
 use Rattle.lpc_model.specs.Entering.{takes}
 use Rattle.lpc_model.specs.Circle.{Group}
 use Rattle.lpc_model.proofs.Rows.{count-less}
-use Rattle.lpc_isolation.proofs.Alone.{HasFinePorts}
+use Rattle.lpc_isolation.proofs.Alone.{HasFineRows}
 use Rattle.lpc_isolation.proofs.View.{both, of_birth, one_of, other_of}
 use Rattle.lpc_isolation.proofs.Basics.{are_ours}
 use Rattle.lpc_isolation.proofs.Fair.{Fair, are_fair, run-fair}
@@ -250,7 +250,7 @@ pub record Sure (m : Group) (c : ℕ) (u w : World) : Type 0 where
   pub c_in : m c ≡ true
   pub used : u.used_threads ≡ w.used_threads
   pub fair : Fair m c w
-  pub fine : HasFinePorts m c w
+  pub fine : HasFineRows m c w
   pub owned : Owned u w
   pub patient : Patient w
   pub once : Once w

@@ -1,12 +1,11 @@
 -- What each line keeps, in a run in which a group is a circle of c.
 use Rattle.lpc_isolation.proofs.Services.{lawful}
-use Rattle.std.proofs.Common.{◌≡◌, ℕ, ◌≤◌, List, [], ◌∷◌, ◌++◌, Bool, true, false, Option, Some, None, refl, sym, subst, arith}
-use Rattle.std.specs.Prelude.{◌||◌, ◌==◌, ◌+◌, Result, Ok, Err}
-use Rattle.std.proofs.lemmas.Bool.{eqb-true}
-use Rattle.lpc_base.specs.Rows.{count, every, has}
+use Rattle.lpc_isolation.proofs.Laws.{at-most}
+use Rattle.std.proofs.Common.{◌≡◌, ℕ, List, [], ◌∷◌, Bool, true, false, Option, Some, None, refl, sym, subst, arith}
+use Rattle.std.specs.Prelude.{◌||◌, Result, Ok, Err}
+use Rattle.lpc_base.specs.Rows.{has}
 use Rattle.lpc_base.specs.declared.status.Status.{Status}
-use Rattle.lpc_base.proofs.RowWords.{count-none, count-push}
-use Rattle.lpc_model.specs.World.{Birth, ThreadRow, UsedThread, WaitRow, World}
+use Rattle.lpc_model.specs.World.{Birth, ThreadRow, WaitRow, World}
 use Rattle.lpc_model.specs.Found.{live_thread, wait_of, was_process, was_thread}
 use Rattle.lpc_model.specs.Basics.{AddsProcess, AddsThread, Basic, Binds, used, world_after}
 use Rattle.lpc_model.specs.Named.{free_name, spelled_name}
@@ -22,20 +21,19 @@ use Rattle.lpc_model.specs.Machine.{boot_line, dir_line, directed, directive_bir
 use Rattle.lpc_isolation.proofs.Served.{served, served_step}
 use Rattle.lpc_model.proofs.Holding.{Holds, bind_holds, holds_any, holds_ok, not_refused}
 use Rattle.lpc_model.specs.Circle.{Group, is_number}
-use Rattle.lpc_isolation.proofs.Alone.{HasFinePorts}
-use Rattle.lpc_isolation.proofs.Fair.{are_fair, run-fair}
+use Rattle.lpc_isolation.proofs.Alone.{HasFineRows}
+use Rattle.lpc_isolation.proofs.Fair.{are_fair, run-fair, together-of}
 use Rattle.lpc_base.proofs.RowWords.{every-push}
 use Rattle.std.specs.Prelude.{nat_le}
 use Rattle.lpc_model.specs.Words.{is_id}
-use Rattle.lpc_model.specs.Grammar.{has_ids}
+use Rattle.lpc_model.specs.Grammar.{has_call_ids, has_ids}
 use Rattle.lpc_isolation.proofs.View.{both, one_of, other_of}
 use Rattle.lpc_isolation.proofs.Asked.{Asked}
-use Rattle.lpc_isolation.proofs.Ids.{of_number}
+use Rattle.lpc_isolation.proofs.Ids.{Numbered, of_number}
 use Rattle.lpc_isolation.proofs.Paths.{are_paths, run-paths}
 use Rattle.lpc_isolation.proofs.Lines.{OnceUsed}
-use Rattle.lpc_isolation.proofs.Calls.{busy, called, headed, nobody}
-use Rattle.lpc_isolation.proofs.Serves.{is_call_of, orderly-used}
-use Rattle.lpc_isolation.proofs.Instances.{At, caller}
+use Rattle.lpc_isolation.proofs.Calls.{busy, called, nobody}
+use Rattle.lpc_isolation.proofs.Instances.{At}
 use Rattle.lpc_isolation.proofs.Bound.{OnceBound, once-bound, seen-names}
 use Rattle.lpc_isolation.proofs.Bindings.{free-unbound}
 use Rattle.lpc_isolation.proofs.Directives.{boot-directs, dir-directs, link-directs, thread-directs}
@@ -44,22 +42,6 @@ use Rattle.lpc_isolation.proofs.Knows.{known_queue}
 
 id-most : (n : ℕ) → is_id n ≡ true → nat_le n 2147483647 ≡ true
 id-most n is = other_of _ _ is
-
-same-used : (w v : World) → v.used_threads ≡ w.used_threads → OnceUsed w → OnceUsed v
-same-used w v same once tid = rw same (once tid)
-
-at-most : (tid : ℕ) (us : List UsedThread) (u : UsedThread) → has (is_number u.number) us ≡ false → count (is_number tid) us ≤ 1 → count (is_number tid) (us ++ u ∷ []) ≤ 1
-at-most tid us u new once = at (u.number == tid) refl
-  where
-    at : (b : Bool) → (u.number == tid) ≡ b → count (is_number tid) (us ++ u ∷ []) ≤ 1
-    at true is =
-        let same : u.number ≡ tid = eqb-true _ _ is in
-        let none : count (is_number tid) us ≡ 0 = count-none (is_number tid) us (subst (λ n. has (is_number n) us ≡ false) same new) in
-        rw (count-push (is_number tid) us u, none, is) (omega arith)
-    at false other = rw (count-push (is_number tid) us u, other) (few (count (is_number tid) us) once)
-      where
-        few : (n : ℕ) → n ≤ 1 → n + 0 ≤ 1
-        few n is = omega (arith, is)
 
 -- the two tests of a number
 not_either : (a b : Bool) → (a || b) ≡ false → b ≡ false
@@ -74,17 +56,17 @@ unfolding boot_line
 boot-next m c w pid tid ids n (Err s) is = n
 boot-next m c w pid tid ids n (Ok bs) is = at (was_process w pid || was_thread w tid) refl is
   where
-    at : (b : Bool) → (was_process w pid || was_thread w tid) ≡ b → (refuse_if b OBJECT_NAME_COLLISION >>= (λ (u : Unit {0}). Ok (AddsProcess (new_process pid None (directive_birth pid)) ∷ AddsThread (new_thread tid pid (directive_birth tid)) ∷ []))) ≡ Ok bs → Kept m c (world_after w bs)
+    at : (b : Bool) → (was_process w pid || was_thread w tid) ≡ b → (refuse_if b OBJECT_NAME_COLLISION >>= (λ (u : Unit {0}). Ok (AddsProcess (new_process pid None (directive_birth pid pid)) ∷ AddsThread (new_thread tid pid (directive_birth tid pid)) ∷ []))) ≡ Ok bs → Kept m c (world_after w bs)
     at true used is = absurd (cc)
     at false unused is =
         let new : has (is_number tid) w.used_threads ≡ false = not_either (was_process w pid) (was_thread w tid) unused in
-        let same : (AddsProcess (new_process pid None (directive_birth pid)) ∷ AddsThread (new_thread tid pid (directive_birth tid)) ∷ []) ≡ bs = cc in
+        let same : (AddsProcess (new_process pid None (directive_birth pid pid)) ∷ AddsThread (new_thread tid pid (directive_birth tid pid)) ∷ []) ≡ bs = cc in
         subst (λ bs. Kept m c (world_after w bs)) same (record {
-          fair = run-fair m c w (AddsProcess (new_process pid None (directive_birth pid)) ∷ AddsThread (new_thread tid pid (directive_birth tid)) ∷ []) (rw new refl) n.fair;
-          once = λ t. at-most t w.used_threads (used (new_thread tid pid (directive_birth tid))) new (n.once t);
+          fair = run-fair m c w (AddsProcess (new_process pid None (directive_birth pid pid)) ∷ AddsThread (new_thread tid pid (directive_birth tid pid)) ∷ []) (rw (new, together-of m pid pid refl) refl) n.fair;
+          once = λ t. at-most t w.used_threads (used (new_thread tid pid (directive_birth tid pid))) new (n.once t);
           names = n.names;
           paths = n.paths;
-          numbered = every-push of_number w.used_threads (used (new_thread tid pid (directive_birth tid))) n.numbered (both _ _ (id-most pid (one_of _ _ ids)) (id-most tid (other_of _ _ ids)));
+          numbered = every-push of_number w.used_threads (used (new_thread tid pid (directive_birth tid pid))) n.numbered (both _ _ (id-most pid (one_of _ _ ids)) (id-most tid (other_of _ _ ids)));
           asked = record { sorts = n.asked.sorts; own = n.asked.own; one = n.asked.one };
         })
 
@@ -93,11 +75,11 @@ unfolding thread_line
 thread-holds m c w tid pid ids n = bind_holds (thread_test w tid pid) _ (λ bs. Kept m c (world_after w bs)) (λ u is.
     let new : has (is_number tid) w.used_threads ≡ false = holds_ok (λ _. was_thread w tid ≡ false) (thread_test w tid pid) u (unused-number w tid pid) is in
     record {
-      fair = run-fair m c w (AddsThread (new_thread tid pid (directive_birth tid)) ∷ []) (rw new refl) n.fair;
-      once = λ t. at-most t w.used_threads (used (new_thread tid pid (directive_birth tid))) new (n.once t);
+      fair = run-fair m c w (AddsThread (new_thread tid pid (directive_birth tid pid)) ∷ []) (rw (new, together-of m pid pid refl) refl) n.fair;
+      once = λ t. at-most t w.used_threads (used (new_thread tid pid (directive_birth tid pid))) new (n.once t);
       names = n.names;
       paths = n.paths;
-      numbered = every-push of_number w.used_threads (used (new_thread tid pid (directive_birth tid))) n.numbered (both _ _ (id-most pid (other_of _ _ ids)) (id-most tid (one_of _ _ ids)));
+      numbered = every-push of_number w.used_threads (used (new_thread tid pid (directive_birth tid pid))) n.numbered (both _ _ (id-most pid (other_of _ _ ids)) (id-most tid (one_of _ _ ids)));
       asked = record { sorts = n.asked.sorts; own = n.asked.own; one = n.asked.one };
     })
 
@@ -117,35 +99,33 @@ directed-next : (m : Group) (c : ℕ) (w : World) (name : Word) (r : Result (Lis
 directed-next m c w name (Ok bs) n h = h
 directed-next m c w name (Err s) n h = n
 
-ok-next : (m : Group) (c : ℕ) (w : World) (by : ThreadRow) (known : List ℕ → Birth) (call : ScriptCall) (t : Result (List Basic) Status) → At m c w by known → Kept m c w → served w by call ≡ t → HasFinePorts m c (world_after w (settled by (name_of_call call) t)) → Kept m c (world_after w (settled by (name_of_call call) t))
-ok-next m c w by known call (Err s) a n is fine = n
-ok-next m c w by known call (Ok bs) a n is fine =
-    let head = headed w by.number bs (holds_ok (λ bs. is_call_of w by.number bs ≡ true) (served w by call) bs ((lawful call).orderly m c w w by (caller m c w by known w a refl)) is) in
-    record {
-      fair = run-fair m c w bs (holds_ok (λ bs. HasFinePorts m c (world_after w bs) → are_fair m c w bs ≡ true) (served w by call) bs ((lawful call).fair m c w by known a) is fine) n.fair;
-      once = same-used w (world_after w bs) (orderly-used w bs head.orderly) n.once;
-      names = holds_ok (λ bs. OnceBound (world_after w bs).bindings) (served w by call) bs ((lawful call).names m c w w by (caller m c w by known w a refl)) is;
-      paths = run-paths w bs (holds_ok (λ bs. are_paths w bs ≡ true) (served w by call) bs ((lawful call).paths m c w by n.paths (caller m c w by known w a refl)) is) n.paths;
-      numbered = subst (λ us. every of_number us ≡ true) (sym (orderly-used w bs head.orderly)) n.numbered;
-      asked = holds_ok (λ bs. Asked (world_after w bs)) (served w by call) bs ((lawful call).asked m c w by n.asked (caller m c w by known w a refl)) is;
-    }
+ok-next : (m : Group) (c : ℕ) (w : World) (by : ThreadRow) (known : List ℕ → Birth) (call : ScriptCall) (t : Result (List Basic) Status) → has_call_ids call ≡ true → At m c w by known → Kept m c w → served w by call ≡ t → HasFineRows m c (world_after w (settled by (name_of_call call) t)) → Kept m c (world_after w (settled by (name_of_call call) t))
+ok-next m c w by known call (Err s) ids a n is fine = n
+ok-next m c w by known call (Ok bs) ids a n is fine = record {
+  fair = run-fair m c w bs (holds_ok (λ bs. HasFineRows m c (world_after w bs) → are_fair m c w bs ≡ true) (served w by call) bs ((lawful call).fair m c w by known a) is fine) n.fair;
+  once = holds_ok (λ bs. OnceUsed (world_after w bs)) (served w by call) bs ((lawful call).once m c w by known a n.once) is;
+  names = holds_ok (λ bs. OnceBound (world_after w bs).bindings) (served w by call) bs ((lawful call).names m c w by known a) is;
+  paths = run-paths w bs (holds_ok (λ bs. are_paths w bs ≡ true) (served w by call) bs ((lawful call).paths m c w by known a n.paths) is) n.paths;
+  numbered = holds_ok (λ bs. Numbered (world_after w bs)) (served w by call) bs ((lawful call).numbered m c w by known a ids n.numbered) is;
+  asked = holds_ok (λ bs. Asked (world_after w bs)) (served w by call) bs ((lawful call).asked m c w by known a n.asked) is;
+}
 
-run-next : (m : Group) (c : ℕ) (w : World) (s : State) (tid : ℕ) (call : ScriptCall) → m c ≡ true → Stood m c w s → HasFinePorts m c w → HasFinePorts m c (served_step w (run tid call)).world → Kept m c (served_step w (run tid call)).world
-run-next m c w s tid call c_in st fine next = at (live_thread w tid) refl
+run-next : (m : Group) (c : ℕ) (w : World) (s : State) (tid : ℕ) (call : ScriptCall) → has_call_ids call ≡ true → m c ≡ true → Stood m c w s → HasFineRows m c w → HasFineRows m c (served_step w (run tid call)).world → Kept m c (served_step w (run tid call)).world
+run-next m c w s tid call ids c_in st fine next = at (live_thread w tid) refl
   where
     ready : (by : ThreadRow) → live_thread w tid ≡ Some by → (o : Option WaitRow) → wait_of w tid ≡ o → Kept m c (served_step w (run tid call)).world
     ready by live (Some x) waits = subst (λ bs. Kept m c (world_after w bs)) (sym (busy w tid call by x live waits)) st.kept
     ready by live None idle =
         let is = called w tid call by live idle in
         subst (λ bs. Kept m c (world_after w bs)) (sym is)
-        (ok-next m c w by (known_queue s.memo) call (served w by call) (ready-at m c w s tid by c_in st fine live idle) st.kept refl (subst (λ bs. HasFinePorts m c (world_after w bs)) is next))
+        (ok-next m c w by (known_queue s.memo) call (served w by call) ids (ready-at m c w s tid by c_in st fine live idle) st.kept refl (subst (λ bs. HasFineRows m c (world_after w bs)) is next))
 
     at : (o : Option ThreadRow) → live_thread w tid ≡ o → Kept m c (served_step w (run tid call)).world
     at None none = subst (λ bs. Kept m c (world_after w bs)) (sym (nobody w tid call none)) st.kept
     at (Some by) live = ready by live (wait_of w tid) refl
 
-pub line-next : (m : Group) (c : ℕ) (w : World) (s : State) (line : ScriptLine) → has_ids line ≡ true → m c ≡ true → Stood m c w s → HasFinePorts m c w → HasFinePorts m c (served_step w line).world → Kept m c (served_step w line).world
-line-next m c w s (run tid call) ids c_in st fine next = run-next m c w s tid call c_in st fine next
+pub line-next : (m : Group) (c : ℕ) (w : World) (s : State) (line : ScriptLine) → has_ids line ≡ true → m c ≡ true → Stood m c w s → HasFineRows m c w → HasFineRows m c (served_step w line).world → Kept m c (served_step w line).world
+line-next m c w s (run tid call) ids c_in st fine next = run-next m c w s tid call (other_of (is_id tid) _ ids) c_in st fine next
 line-next m c w s (boot pid tid) ids c_in st fine next = subst (λ bs. Kept m c (world_after w bs)) (sym (boot-directs m w pid tid).is) (boot-next m c w pid tid ids st.kept (boot_line w pid tid) refl)
 line-next m c w s (thread tid pid) ids c_in st fine next = subst (λ bs. Kept m c (world_after w bs)) (sym (thread-directs m w tid pid).is) (thread-next m c w tid pid ids st.kept (thread_line w tid pid) refl)
 line-next m c w s (dir path) ids c_in st fine next = subst (λ bs. Kept m c (world_after w bs)) (sym (dir-directs m w path (seen-names m w.bindings st.kept.names)).is) (directed-next m c w Dir (dir_line w path) st.kept (dir-next m c w path st.kept))

@@ -9,7 +9,6 @@ use Rattle.lpc_model.proofs.Closing.{then-holds}
 use Rattle.lpc_model.proofs.SoundQueues.{after-append}
 use Rattle.lpc_model.proofs.SoundTerminate.{IsSafe}
 use Rattle.lpc_isolation.proofs.View.{one_of, other_of, view}
-use Rattle.lpc_isolation.proofs.Basics.{are_ours, ours-append, run-ours}
 use Rattle.lpc_isolation.proofs.Fair.{are_fair, fair-append, run-fair, Fair}
 use Rattle.lpc_isolation.proofs.Apart.{apart-append, are_apart}
 use Rattle.lpc_isolation.proofs.Callers.{Led, led-same}
@@ -26,7 +25,7 @@ use Rattle.lpc_isolation.proofs.Heard.{Heard, entries_memo}
 use Rattle.lpc_isolation.proofs.Fine.{makes_fine, run-fine}
 use Rattle.lpc_isolation.proofs.Mild.{AreMild, Sure, is_mild, mild-fine, mild-orderly, mild-paths}
 use Rattle.lpc_isolation.proofs.Stages.{Good, mute-append}
-use Rattle.lpc_isolation.proofs.Thin.{Alive, Lives, thin, Agree, Closed, all_joining, thin-run, agree-run, closed-run}
+use Rattle.lpc_isolation.proofs.Thin.{Alive, thin, Closed, thin-run, closed-run}
 use Rattle.lpc_isolation.proofs.ThinCalls.{AreClosed}
 
 -- what a part owes in a world of which something is known, where threads of a process end
@@ -38,10 +37,8 @@ pub record Part (m : Group) (c : ℕ) (u : World) (pid : ℕ) (K : World → Typ
   -- of an outsider: the view loses only waits whose wakes are told, and no entry shows a member a connect
   pub apart : (d : Whose) (w : World) → K w → m pid ≡ false → are_apart m c u d w (f w) ≡ true
   pub mute : (d : Whose) (w : World) (memo : List Heard) → K w → Numbered u → m pid ≡ false → entries_memo m (view m w) memo (told_inputs m c u d (entries_of (f w))) ≡ memo
-  -- of a member: the view changes as by the part in the view, and of c by the same list
+  -- of a member: the view changes as by the part in the view
   pub led : (d : Whose) (w : World) → K w → m pid ≡ true → Led m c u d w (f w) (f (view m w))
-  pub ours : (w : World) → K w → pid ≡ c → are_ours m w (f w) ≡ true
-  pub same : (w : World) → K w → pid ≡ c → f (view m w) ≡ f w
 
 module _ (m : Group) (c : ℕ) (u : World) (pid : ℕ) (c_in : m c ≡ true) where
   -- a stage of the closing of a port of the process
@@ -54,8 +51,6 @@ module _ (m : Group) (c : ℕ) (u : World) (pid : ℕ) (c_in : m c ≡ true) whe
     apart = λ d w s out. g.apart u d w s (ap m own ∙ out);
     mute = λ d w memo s n out. g.mute u d w memo s n (ap m own ∙ out);
     led = λ d w s inside. g.led u d w s (ap m own ∙ inside);
-    ours = λ w s mine. g.ours u w s (ap m (own ∙ mine) ∙ c_in);
-    same = λ w s mine. g.same u w s (own ∙ mine);
   }
 
   -- where more is known
@@ -68,8 +63,6 @@ module _ (m : Group) (c : ℕ) (u : World) (pid : ℕ) (c_in : m c ≡ true) whe
     apart = λ d w l out. p.apart d w (knows w l) out;
     mute = λ d w memo l n out. p.mute d w memo (knows w l) n out;
     led = λ d w l inside. p.led d w (knows w l) inside;
-    ours = λ w l mine. p.ours w (knows w l) mine;
-    same = λ w l mine. p.same w (knows w l) mine;
   }
 
   -- nothing
@@ -82,8 +75,6 @@ module _ (m : Group) (c : ℕ) (u : World) (pid : ℕ) (c_in : m c ≡ true) whe
     apart = λ d w k out. refl;
     mute = λ d w memo k n out. refl;
     led = λ d w k inside. led-same m c u d w [] refl;
-    ours = λ w k mine. refl;
-    same = λ w k mine. refl;
   }
 
   -- one part, and then the next
@@ -99,11 +90,6 @@ module _ (m : Group) (c : ℕ) (u : World) (pid : ℕ) (c_in : m c ≡ true) whe
         let one : Led m c u d w (f w) (f (view m w)) = p.led d w k inside in
         led-append m c u d w (f w) (f (view m w)) (g (world_after w (f w))) (g (world_after (view m w) (f (view m w)))) one
         (subst (λ v. Led m c u d (world_after w (f w)) (g (world_after w (f w))) (g v)) one.world (q.led d (world_after w (f w)) (next w k) inside));
-    ours = λ w k mine. ours-append m w (f w) (g (world_after w (f w))) (p.ours w k mine) (q.ours (world_after w (f w)) (next w k) mine);
-    same = λ w k mine.
-        let one : f (view m w) ≡ f w = p.same w k mine in
-        let there : world_after (view m w) (f (view m w)) ≡ view m (world_after w (f w)) = ap (world_after (view m w)) one ∙ sym (run-ours m w (f w) (p.ours w k mine)) in
-        ap (λ bs. bs ++ g (world_after (view m w) (f (view m w)))) one ∙ ap (λ v. f w ++ g v) there ∙ ap (λ bs. f w ++ bs) (q.same (world_after w (f w)) (next w k) mine);
   }
 
   -- a part where a test holds, in the view as in the world
@@ -116,8 +102,6 @@ module _ (m : Group) (c : ℕ) (u : World) (pid : ℕ) (c_in : m c ≡ true) whe
     apart = λ d w k out. by (λ bs. are_apart m c u d w bs ≡ true) (f w) (test w) refl (p.apart d w k out);
     mute = λ d w memo k n out. by (λ bs. entries_memo m (view m w) memo (told_inputs m c u d (entries_of bs)) ≡ memo) (f w) (test w) refl (p.mute d w memo k n out);
     led = λ d w k inside. subst (λ e. Led m c u d w (when (test w) (f w)) (when e (f (view m w)))) (sym (seen w k inside)) (both-led d w (test w) (p.led d w k inside));
-    ours = λ w k mine. by (λ bs. are_ours m w bs ≡ true) (f w) (test w) refl (p.ours w k mine);
-    same = λ w k mine. ap (λ e. when e (f (view m w))) (seen w k (ap m mine ∙ c_in)) ∙ ap (λ bs. when (test w) bs) (p.same w k mine);
   }
     where
       by : (P : List Basic → Type 0) (bs : List Basic) (e : Bool) → P [] → P bs → P (when e bs)
@@ -171,20 +155,20 @@ turn-steady K p f keeps (x ∷ xs) all w k = then-holds K (f x) (in_turn f xs) w
 
 -- Where rows that nothing names have gone
 pub record Remains (k : Alive) (f : Steps) : Type 0 where
-  pub alike : (ps : Lives) (u : World) → Agree ps u → Closed k u → f (thin k ps u) ≡ f u
+  pub alike : (u : World) → Closed k u → f (thin k u) ≡ f u
   pub stands : (u : World) → Closed k u → AreClosed k (f u)
 
 pub none-remains : (k : Alive) → Remains k (doing [])
-none-remains k = record { alike = λ ps u agree closed. refl; stands = λ u closed. refl }
+none-remains k = record { alike = λ u closed. refl; stands = λ u closed. refl }
 
 pub then-remains : (k : Alive) (f g : Steps) → Remains k f → Remains k g → Remains k (f ▹ g)
 then-remains k f g p q = record {
-  alike = λ ps u agree closed.
-      let one : f (thin k ps u) ≡ f u = p.alike ps u agree closed in
+  alike = λ u closed.
+      let one : f (thin k u) ≡ f u = p.alike u closed in
       let stands : AreClosed k (f u) = p.stands u closed in
-      let there : world_after (thin k ps u) (f (thin k ps u)) ≡ thin k (all_joining ps (f u)) (world_after u (f u)) = ap (world_after (thin k ps u)) one ∙ sym (thin-run k ps u (f u) stands) in
-      ap (λ bs. bs ++ g (world_after (thin k ps u) (f (thin k ps u)))) one ∙ ap (λ v. f u ++ g v) there
-      ∙ ap (λ bs. f u ++ bs) (q.alike (all_joining ps (f u)) (world_after u (f u)) (agree-run k ps u (f u) stands agree) (closed-run k u (f u) stands closed));
+      let there : world_after (thin k u) (f (thin k u)) ≡ thin k (world_after u (f u)) = ap (world_after (thin k u)) one ∙ sym (thin-run k u (f u) stands) in
+      ap (λ bs. bs ++ g (world_after (thin k u) (f (thin k u)))) one ∙ ap (λ v. f u ++ g v) there
+      ∙ ap (λ bs. f u ++ bs) (q.alike (world_after u (f u)) (closed-run k u (f u) stands closed));
   stands = λ u closed.
       let one : AreClosed k (f u) = p.stands u closed in
       every-append _ (f u) (g (world_after u (f u))) one (q.stands (world_after u (f u)) (closed-run k u (f u) one closed));
@@ -194,9 +178,9 @@ pub turn-remains : {A : Type 0} (k : Alive) (p : A → Bool) (f : A → Steps) �
 turn-remains k p f each [] all = none-remains k
 turn-remains k p f each (x ∷ xs) all = then-remains k (f x) (in_turn f xs) (each x (one_of _ _ all)) (turn-remains k p f each xs (other_of _ _ all))
 
-pub provided-remains : (k : Alive) (test : World → Bool) (f : Steps) → ((ps : Lives) (u : World) → Agree ps u → test (thin k ps u) ≡ test u) → Remains k f → Remains k (provided test f)
+pub provided-remains : (k : Alive) (test : World → Bool) (f : Steps) → ((u : World) → Closed k u → test (thin k u) ≡ test u) → Remains k f → Remains k (provided test f)
 provided-remains k test f seen p = record {
-  alike = λ ps u agree closed. ap (λ e. when e (f (thin k ps u))) (seen ps u agree) ∙ ap (λ bs. when (test u) bs) (p.alike ps u agree closed);
+  alike = λ u closed. ap (λ e. when e (f (thin k u))) (seen u closed) ∙ ap (λ bs. when (test u) bs) (p.alike u closed);
   stands = λ u closed. by (f u) (test u) (p.stands u closed);
 }
   where

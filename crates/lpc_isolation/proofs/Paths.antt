@@ -12,7 +12,7 @@ use Rattle.lpc_model.specs.Basics.{Accepts, AddsHandle, AddsProcess, AddsThread,
 use Rattle.lpc_model.specs.Circle.{Group, is_fine_client, is_fine_port}
 use Rattle.lpc_model.proofs.Births.{birth-same}
 use Rattle.lpc_model.proofs.Rows.{first-map}
-use Rattle.lpc_isolation.proofs.Alone.{HasFinePorts}
+use Rattle.lpc_isolation.proofs.Alone.{HasFineRows}
 use Rattle.lpc_isolation.proofs.View.{both, of_birth, one_of, other_of}
 use Rattle.lpc_isolation.proofs.Fair.{Fair, implies, is_fair_wait}
 use Rattle.lpc_isolation.proofs.Mine.{Ways, is_way}
@@ -65,7 +65,7 @@ lead-way m c w x p Server k row fair fine on = let it : (is_cut p || is_the x.qu
 lead-way m c w x p Connection k row fair fine on = own-way m c w x p row fair (rw k at on)
 lead-way m c w x p Unnamed k row fair fine on = own-way m c w x p row fair (rw k at on)
 
-pub path-way : (m : Group) (c : ℕ) (w : World) (x : WaitRow) → HasFinePorts m c w → (is_fair_wait m c x && is_path w x) ≡ true → is_way m w x ≡ true
+pub path-way : (m : Group) (c : ℕ) (w : World) (x : WaitRow) → HasFineRows m c w → (is_fair_wait m c x && is_path w x) ≡ true → is_way m w x ≡ true
 path-way m c w x fine is = at (is_request x) refl (port_row w x.port) refl
   where
     or-other : (a b : Bool) → a ≡ true → (not a || b) ≡ true → b ≡ true
@@ -76,9 +76,9 @@ path-way m c w x fine is = at (is_request x) refl (port_row w x.port) refl
     at true on None row = let off : (not (is_request x) || false) ≡ true = rw row at (other_of (is_fair_wait m c x) _ is) in absurd (grind arith)
     at true on (Some p) row =
         let to : (not (is_request x) || leads x.queue p) ≡ true = rw row at (other_of (is_fair_wait m c x) _ is) in
-        lead-way m c w x p p.kind refl row (one_of _ _ is) (every-first (is_fine_port m c) (is_port x.port) w.ports p fine row) (or-other (is_request x) (leads x.queue p) on to)
+        lead-way m c w x p p.kind refl row (one_of _ _ is) (every-first (is_fine_port m c) (is_port x.port) w.ports p fine.1 row) (or-other (is_request x) (leads x.queue p) on to)
 
-pub paths-ways : (m : Group) (c : ℕ) (w : World) → Fair m c w → HasFinePorts m c w → Paths w → Ways m w
+pub paths-ways : (m : Group) (c : ℕ) (w : World) → Fair m c w → HasFineRows m c w → Paths w → Ways m w
 paths-ways m c w f fine all = every-more (λ x. is_fair_wait m c x && is_path w x) (is_way m w) (λ x is. path-way m c w x fine is) w.waits
     (every-both (is_fair_wait m c) (is_path w) _ (λ x one two. both _ _ one two) w.waits f.waits all)
 

@@ -10,7 +10,7 @@ use Rattle.lpc_model.specs.Lines.{ScriptLine}
 use Rattle.lpc_isolation.proofs.Served.{served_step}
 use Rattle.lpc_model.specs.Run.{said_in}
 use Rattle.lpc_model.specs.Circle.{Event, Everyone, Group, Item, Nobody, Of, Ran, Told, Whose, entry_whose, inputs, is_fine_line, is_input, is_item, is_seen, is_told_to, item_of, items, line_whose, members, told_event}
-use Rattle.lpc_isolation.proofs.Alone.{HasFinePorts, alone}
+use Rattle.lpc_isolation.proofs.Alone.{HasFineRows, alone}
 use Rattle.lpc_isolation.proofs.Bare.{IsBareCircle, BareIsolation, bare_events, bare_line_events}
 use Rattle.lpc_isolation.proofs.View.{one_of, other_of}
 
@@ -103,7 +103,7 @@ line-inputs m c w line = subst (λ b. map item_of (cond b (record { whose = line
 
 -- what each line of a circle's run owes
 abbrev pub Keeps : {S : Type 0} → Player S → (World → S → Type 0) → (ScriptLine → Bool) → Group → ℕ → Type 0
-Keeps {S} p Stands ok m c = (w : World) (v : S) (line : ScriptLine) → Stands w v → HasFinePorts m c w → HasFinePorts m c (served_step w line).world → is_fine_line m c w line ≡ true → ok line ≡ true → Played p Stands m c w v line
+Keeps {S} p Stands ok m c = (w : World) (v : S) (line : ScriptLine) → Stands w v → HasFineRows m c w → HasFineRows m c (served_step w line).world → is_fine_line m c w line ≡ true → ok line ≡ true → Played p Stands m c w v line
 
 -- every line that says something is as it must be
 abbrev pub are_ok : (ScriptLine → Bool) → List (Option ScriptLine) → Bool
@@ -111,7 +111,7 @@ are_ok ok [] = true
 are_ok ok (None ∷ later) = are_ok ok later
 are_ok ok (Some line ∷ later) = ok line && are_ok ok later
 
-head-fine : (m : Group) (c : ℕ) (w : World) (lines : List (Option ScriptLine)) → IsBareCircle m c w lines → HasFinePorts m c w
+head-fine : (m : Group) (c : ℕ) (w : World) (lines : List (Option ScriptLine)) → IsBareCircle m c w lines → HasFineRows m c w
 head-fine m c w [] is = is
 head-fine m c w (None ∷ later) is = head-fine m c w later is
 head-fine m c w (Some line ∷ later) is = is.0
@@ -135,7 +135,7 @@ pub plays : {S : Type 0} (p : Player S) (Stands : World → S → Type 0) (ok : 
 plays p Stands ok m c k w v [] is circle fit = refl
 plays p Stands ok m c k w v (None ∷ later) is circle fit = plays p Stands ok m c k w v later is circle fit
 plays p Stands ok m c k w v (Some line ∷ later) is circle fit =
-    let next : HasFinePorts m c (served_step w line).world = head-fine m c (served_step w line).world later circle.2 in
+    let next : HasFineRows m c (served_step w line).world = head-fine m c (served_step w line).world later circle.2 in
     items-append (alone c) (bare_line_events w line) (bare_events (served_step w line).world later)
     ∙ played-line p Stands m c w v line (items (alone c) (bare_events (served_step w line).world later)) (inputs m c (bare_events (served_step w line).world later)) (k w v line is circle.0 next circle.1 (one_of _ _ fit))
     (λ v is. plays p Stands ok m c k (served_step w line).world v later is circle.2 (other_of _ _ fit))

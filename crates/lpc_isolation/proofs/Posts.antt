@@ -70,7 +70,7 @@ posted : (m : Group) (c : ℕ) (u w : World) (b : Birth) (p : PortRow) (by : Cre
 posted m c u w b p by q s row made server =
     let birth : p.birth ≡ b = birth-same p.birth b (first-passes (is_port b) w.ports p row) in
     let client = client-of w p q server in
-    let fine : is_fine_client m c p.birth q ≡ true = fine-kind m c p q p.kind refl client.0 client.1 (every-first (is_fine_port m c) (is_port b) w.ports p s.fine row) in
+    let fine : is_fine_client m c p.birth q ≡ true = fine-kind m c p q p.kind refl client.0 client.1 (every-first (is_fine_port m c) (is_port b) w.ports p (s.fine).1 row) in
     let here : is_created w.used_threads p ≡ true = every-first (is_created w.used_threads) (is_port b) w.ports p s.fair.creators row in
     let created : ((by.client.process == p.birth.process) && passes (first (is_number by.client.thread) w.used_threads) (λ u. u.process == by.client.process)) ≡ true = rw made at here in
     record {
@@ -188,7 +188,7 @@ server-view m c u w b p s inside row = at (is_client_port p) p.completed refl
     opened : (o : Option Birth) → is_client_port p ≡ true → p.connection ≡ o → if_open (view m w) o ≡ if_open w o
     opened None kind to = refl
     opened (Some q) kind to =
-        let fine : is_fine_client m c p.birth q ≡ true = fine-kind m c p q p.kind refl kind to (every-first (is_fine_port m c) (is_port b) w.ports p s.fine row) in
+        let fine : is_fine_client m c p.birth q ≡ true = fine-kind m c p q p.kind refl kind to (every-first (is_fine_port m c) (is_port b) w.ports p (s.fine).1 row) in
         let q_in : m q.process ≡ true = post-inside m c p.birth q fine (ap (λ (b : Birth). m b.process) birth ∙ inside) in
         rw (open-view m c w q s.fair q_in) refl
 
@@ -250,8 +250,8 @@ post-good m c b = record {
   ours = λ u w s inside. ours u w s inside;
   led = λ u d w s inside. rw (post-view m c u w b s inside) (led-same m c u d w (post_closed b w) (ours u w s inside));
   same = λ u w s mine. post-view m c u w b s (ap m mine ∙ s.c_in);
-  alike = λ k ps u closed live. rw (row-thin k ps u b live) refl;
-  stands = λ k u closed live. on-post (AreClosed k) u b refl (λ p by q row made server. enter-closed k u (closed_row p q by) (ap k (birth-same p.birth b (first-passes (is_port b) u.ports p row)) ∙ live));
+  alike = λ k u closed live. rw (row-thin k u b live) refl;
+  stands = λ k u closed live. on-post (AreClosed k) u b refl (λ p by q row made server. enter-closed k u (closed_row p q by) (ap k.ports (birth-same p.birth b (first-passes (is_port b) u.ports p row)) ∙ live));
 }
   where
     enters-asked : (w : World) (y : MessageRow) → Asked w → are_asked w (enter y w) ≡ true → Asked (world_after w (enter y w))

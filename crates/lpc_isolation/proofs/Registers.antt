@@ -16,7 +16,7 @@ use Rattle.lpc_model.specs.Lines.{register_thread_terminate_port}
 use Rattle.lpc_model.specs.SoundWaits.{IsSoundWorld}
 use Rattle.lpc_model.specs.Circle.{Group, Whose, is_fine_call, owner, is_number}
 use Rattle.lpc_model.proofs.Holding.{Holds, bind_holds, holds_ok}
-use Rattle.lpc_isolation.proofs.Alone.{HasFinePorts}
+use Rattle.lpc_isolation.proofs.Alone.{HasFineRows}
 use Rattle.lpc_isolation.proofs.Served.{served}
 use Rattle.lpc_isolation.proofs.View.{both, same-number, view}
 use Rattle.lpc_isolation.proofs.Basics.{are_ours}
@@ -38,7 +38,7 @@ use Rattle.lpc_isolation.proofs.Heard.{Heard, call_memo}
 use Rattle.lpc_isolation.proofs.Knows.{AllKnown}
 use Rattle.lpc_isolation.proofs.KnownCalls.{Hears, still-hears}
 use Rattle.lpc_isolation.proofs.Instances.{At, Leading, caller}
-use Rattle.lpc_isolation.proofs.Thin.{Alive, Closed, Lives, thin}
+use Rattle.lpc_isolation.proofs.Thin.{Alive, Closed, thin}
 use Rattle.lpc_isolation.proofs.ThinCalls.{AreClosed, StandsBy, port-stands, port-thin}
 use Rattle.lpc_isolation.proofs.Fine.{FineAfter}
 use Rattle.lpc_isolation.proofs.Duplicates.{unnoted}
@@ -67,8 +67,8 @@ pub refuses-register : (w : World) (by : ThreadRow) (handle : ℕ) → Refuses (
 unfolding nt_register_thread_terminate_port
 refuses-register w by handle = bind (port_test w by handle) _ (port w by handle) (λ p. bind (registration_test by p.birth) _ (if_refuses (not (is_registered p.birth by) && nat_le REGISTRATION_LIMIT (length by.registrations)) QUOTA_EXCEEDED refl) (λ _. tt))
 
-pub fair-register : (m : Group) (c : ℕ) (w : World) (by : ThreadRow) (known : List ℕ → Birth) (handle : ℕ) → At m c w by known → Holds (λ bs. HasFinePorts m c (world_after w bs) → are_fair m c w bs ≡ true) (served w by (register_thread_terminate_port handle))
-fair-register m c w by known handle a = on-register (λ bs. HasFinePorts m c (world_after w bs) → are_fair m c w bs ≡ true) w by handle (λ p at new fine. is p (owner-used w by.number p.birth.process (own p at)) new)
+pub fair-register : (m : Group) (c : ℕ) (w : World) (by : ThreadRow) (known : List ℕ → Birth) (handle : ℕ) → At m c w by known → Holds (λ bs. HasFineRows m c (world_after w bs) → are_fair m c w bs ≡ true) (served w by (register_thread_terminate_port handle))
+fair-register m c w by known handle a = on-register (λ bs. HasFineRows m c (world_after w bs) → are_fair m c w bs ≡ true) w by handle (λ p at new fine. is p (owner-used w by.number p.birth.process (own p at)) new)
   where
     own : (p : PortRow) → port_test w by handle ≡ Ok p → owner w by.number ≡ Some p.birth.process
     own p at = a.own ∙ ap (λ n. Some n) (sym (port-process m c w w by handle p (caller m c w by known w a refl) at))
@@ -105,8 +105,8 @@ asked-register m c w by handle a k = on-register (λ bs. Asked (world_after w bs
     is p true = basic-asked w (Registers by.number p.birth) refl a
     is p false = a
 
-pub apart-register : (m : Group) (c : ℕ) (u : World) (d : Whose) (w : World) (by : ThreadRow) (known : List ℕ → Birth) (handle : ℕ) → At m c w by known → u.used_threads ≡ w.used_threads → m by.process ≡ false → Holds (λ bs. HasFinePorts m c (world_after w bs) → are_apart m c u d w bs ≡ true) (served w by (register_thread_terminate_port handle))
-apart-register m c u d w by known handle a used out = on-register (λ bs. HasFinePorts m c (world_after w bs) → are_apart m c u d w bs ≡ true) w by handle (λ p at new fine. is p new)
+pub apart-register : (m : Group) (c : ℕ) (u : World) (d : Whose) (w : World) (by : ThreadRow) (known : List ℕ → Birth) (handle : ℕ) → At m c w by known → u.used_threads ≡ w.used_threads → m by.process ≡ false → Holds (λ bs. HasFineRows m c (world_after w bs) → are_apart m c u d w bs ≡ true) (served w by (register_thread_terminate_port handle))
+apart-register m c u d w by known handle a used out = on-register (λ bs. HasFineRows m c (world_after w bs) → are_apart m c u d w bs ≡ true) w by handle (λ p at new fine. is p new)
   where
     k : Caller m c u w by
     k = caller m c w by known u a used
@@ -123,19 +123,19 @@ register-ours : (m : Group) (w : World) (by : ThreadRow) (b : Birth) (new : Bool
 register-ours m w by b true = refl
 register-ours m w by b false = refl
 
-pub ours-register : (m : Group) (c : ℕ) (w : World) (by : ThreadRow) (known : List ℕ → Birth) (handle : ℕ) → At m c w by known → by.process ≡ c → Holds (λ bs. HasFinePorts m c (world_after w bs) → are_ours m w bs ≡ true) (served w by (register_thread_terminate_port handle))
-ours-register m c w by known handle a mine = on-register (λ bs. HasFinePorts m c (world_after w bs) → are_ours m w bs ≡ true) w by handle (λ p at new fine. register-ours m w by p.birth new)
+pub ours-register : (m : Group) (c : ℕ) (w : World) (by : ThreadRow) (known : List ℕ → Birth) (handle : ℕ) → At m c w by known → by.process ≡ c → Holds (λ bs. HasFineRows m c (world_after w bs) → are_ours m w bs ≡ true) (served w by (register_thread_terminate_port handle))
+ours-register m c w by known handle a mine = on-register (λ bs. HasFineRows m c (world_after w bs) → are_ours m w bs ≡ true) w by handle (λ p at new fine. register-ours m w by p.birth new)
 
 -- of another member: the port is found in the view, and registered where it isn't yet
-pub leads-register : (m : Group) (c : ℕ) (u : World) (d : Whose) (w : World) (by : ThreadRow) (known : List ℕ → Birth) (handle : ℕ) → At m c w by known → u.used_threads ≡ w.used_threads → m by.process ≡ true → (by.process == c) ≡ false → Holds (λ bs. HasFinePorts m c (world_after w bs) → Leading m c u d w by known (register_thread_terminate_port handle) bs) (served w by (register_thread_terminate_port handle))
+pub leads-register : (m : Group) (c : ℕ) (u : World) (d : Whose) (w : World) (by : ThreadRow) (known : List ℕ → Birth) (handle : ℕ) → At m c w by known → u.used_threads ≡ w.used_threads → m by.process ≡ true → (by.process == c) ≡ false → Holds (λ bs. HasFineRows m c (world_after w bs) → Leading m c u d w by known (register_thread_terminate_port handle) bs) (served w by (register_thread_terminate_port handle))
 unfolding nt_register_thread_terminate_port
 leads-register m c u d w by known handle a used by_in other =
-    let P : List Basic → Type 0 = λ bs. HasFinePorts m c (world_after w bs) → Leading m c u d w by known (register_thread_terminate_port handle) bs in
+    let P : List Basic → Type 0 = λ bs. HasFineRows m c (world_after w bs) → Leading m c u d w by known (register_thread_terminate_port handle) bs in
     bind_holds (port_test w by handle) _ P (λ p at. bind_holds (registration_test by p.birth) _ P (λ _ _ fine.
     rw (port_test-view m c w by handle a.fair by_in, at) (led-same m c u d w (register_steps by p.birth) (register-ours m w by p.birth (not (is_registered p.birth by))))))
 
-pub hears-register : (m : Group) (c : ℕ) (u w : World) (by : ThreadRow) (d : Whose) (memo : List Heard) → Caller m c u w by → Owned w w → Numbered w → Asked w → AllKnown m memo w → m by.process ≡ false → (handle : ℕ) → Holds (λ bs. HasFinePorts m c (world_after w bs) → Hears m c u d w memo bs) (served w by (register_thread_terminate_port handle))
-hears-register m c u w by d memo k owned n a all out handle = on-register (λ bs. HasFinePorts m c (world_after w bs) → Hears m c u d w memo bs) w by handle (λ p at new fine. is p new)
+pub hears-register : (m : Group) (c : ℕ) (u w : World) (by : ThreadRow) (d : Whose) (memo : List Heard) → Caller m c u w by → Owned w w → Numbered w → Asked w → AllKnown m memo w → m by.process ≡ false → (handle : ℕ) → Holds (λ bs. HasFineRows m c (world_after w bs) → Hears m c u d w memo bs) (served w by (register_thread_terminate_port handle))
+hears-register m c u w by d memo k owned n a all out handle = on-register (λ bs. HasFineRows m c (world_after w bs) → Hears m c u d w memo bs) w by handle (λ p at new fine. is p new)
   where
     is : (p : PortRow) (new : Bool) → Hears m c u d w memo (Tells (told_first by) ∷ when new (Registers by.number p.birth ∷ []))
     is p true = still-hears m c u d w memo (Tells (told_first by) ∷ Registers by.number p.birth ∷ []) all (refl, refl)
@@ -148,18 +148,18 @@ notes-register m c u w by memo k owned n a all by_in handle = on-register (λ bs
     is p true = unnoted m memo w (by.process == c) all
     is p false = unnoted m memo w (by.process == c) all
 
-pub alike-register : (k : Alive) (ps : Lives) (u : World) (by : ThreadRow) (handle : ℕ) → Closed k u → served (thin k ps u) by (register_thread_terminate_port handle) ≡ served u by (register_thread_terminate_port handle)
+pub alike-register : (k : Alive) (u : World) (by : ThreadRow) (handle : ℕ) → Closed k u → served (thin k u) by (register_thread_terminate_port handle) ≡ served u by (register_thread_terminate_port handle)
 unfolding nt_register_thread_terminate_port
-alike-register k ps u by handle c = rw (port-thin k ps u by handle c) refl
+alike-register k u by handle c = rw (port-thin k u by handle c) refl
 
-pub stands-register : (k : Alive) (u : World) (by : ThreadRow) (handle : ℕ) → IsSoundWorld u → Closed k u → k (next_birth by) ≡ true → Holds (AreClosed k) (served u by (register_thread_terminate_port handle))
+pub stands-register : (k : Alive) (u : World) (by : ThreadRow) (handle : ℕ) → IsSoundWorld u → Closed k u → k.ports (next_birth by) ≡ true → Holds (AreClosed k) (served u by (register_thread_terminate_port handle))
 stands-register k u by handle s c new = on-register (AreClosed k) u by handle (λ p at new. is p (holds_ok (StandsBy k) (port_test u by handle) p (port-stands k u by handle c) at).here new)
   where
-    is : (p : PortRow) → k p.birth ≡ true → (new : Bool) → AreClosed k (Tells (told_first by) ∷ when new (Registers by.number p.birth ∷ []))
+    is : (p : PortRow) → k.ports p.birth ≡ true → (new : Bool) → AreClosed k (Tells (told_first by) ∷ when new (Registers by.number p.birth ∷ []))
     is p live true = rw live refl
     is p live false = refl
 
-pub fine-register : (m : Group) (c : ℕ) (after u : World) (by : ThreadRow) (handle : ℕ) → wait_of u by.number ≡ None → HasFinePorts m c after → Holds (FineAfter m c after u) (served u by (register_thread_terminate_port handle))
+pub fine-register : (m : Group) (c : ℕ) (after u : World) (by : ThreadRow) (handle : ℕ) → wait_of u by.number ≡ None → HasFineRows m c after → Holds (FineAfter m c after u) (served u by (register_thread_terminate_port handle))
 fine-register m c after u by handle idle f = on-register (FineAfter m c after u) u by handle (λ p at new. is p new)
   where
     is : (p : PortRow) (new : Bool) → FineAfter m c after u (Tells (told_first by) ∷ when new (Registers by.number p.birth ∷ []))

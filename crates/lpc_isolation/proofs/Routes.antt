@@ -8,7 +8,7 @@ use Rattle.lpc_base.proofs.RowMaps.{every-first}
 use Rattle.lpc_model.specs.World.{Birth, PortKind, PortRow, World}
 use Rattle.lpc_model.specs.Found.{context_of, if_open, is_open, is_port, is_server_port, port_row, route, way}
 use Rattle.lpc_model.specs.Circle.{Group, is_fine_client, is_fine_port}
-use Rattle.lpc_isolation.proofs.Alone.{HasFinePorts}
+use Rattle.lpc_isolation.proofs.Alone.{HasFineRows}
 use Rattle.lpc_isolation.proofs.View.{seen_pair, seen_port, view}
 use Rattle.lpc_isolation.proofs.Fair.{Fair, all_of, is_fair_pair, is_fair_port, is_home}
 use Rattle.lpc_isolation.proofs.Seen.{open-view}
@@ -21,10 +21,10 @@ pub record Right (m : Group) (c : ℕ) (w : World) (p : PortRow) : Type 0 where
   pub fair : is_fair_port m c p ≡ true
   pub fine : is_fine_port m c p ≡ true
 
-pub right-row : (m : Group) (c : ℕ) (w : World) (p : PortRow) → Fair m c w → HasFinePorts m c w → port_row w p.birth ≡ Some p → Right m c w p
+pub right-row : (m : Group) (c : ℕ) (w : World) (p : PortRow) → Fair m c w → HasFineRows m c w → port_row w p.birth ≡ Some p → Right m c w p
 right-row m c w p f fine at = record {
   fair = every-first (is_fair_port m c) (is_port p.birth) w.ports p f.ports at;
-  fine = every-first (is_fine_port m c) (is_port p.birth) w.ports p fine at;
+  fine = every-first (is_fine_port m c) (is_port p.birth) w.ports p fine.1 at;
 }
 
 -- the connection port of a member's client port is a member's

@@ -6,6 +6,7 @@ use Rattle.lpc_base.specs.Rows.{every, first, has, passes}
 use Rattle.lpc_base.proofs.RowWords.{first-passes}
 use Rattle.lpc_base.proofs.RowMaps.{every-first}
 use Rattle.lpc_base.specs.declared.status.Status.{Status}
+use Rattle.lpc_model.specs.declared.entry.ObjectKind.{ObjectKind}
 use Rattle.lpc_model.specs.declared.entry.ObjectKind.TheVariants as kind
 use Rattle.lpc_model.specs.Refusal.{found_or, refuse_if}
 use Rattle.lpc_model.specs.Then.{◌>>=◌}
@@ -17,7 +18,7 @@ use Rattle.lpc_model.proofs.Births.{birth-same}
 use Rattle.lpc_model.proofs.Holding.{Holds, bind_holds, found_holds, found_ok, holds_ok}
 use Rattle.lpc_model.specs.Circle.{Group, is_number, owner}
 use Rattle.lpc_isolation.proofs.Filters.{first-inside, first-nowhere, first-shown, first-where, has-inside}
-use Rattle.lpc_isolation.proofs.View.{of_birth, one_of, other_of, our_port, our_table, our_thread, same-number, seen_port, view}
+use Rattle.lpc_isolation.proofs.View.{of_birth, one_of, our_port, our_table, our_thread, same-number, seen_port, view}
 use Rattle.lpc_isolation.proofs.Fair.{Fair, is_fair_pair, is_fair_port, is_fair_table, is_home, is_homed, is_own}
 
 -- Handles
@@ -37,7 +38,7 @@ equal a b is = eqb-true a b is
 named-one : (pid : ℕ) (b : Birth) (h : HandleRow) → is_own pid h ≡ true → names_port b h.object ≡ true → (pid == b.process) ≡ true
 named-one pid b h own named =
     let two : (h.object.birth.process == b.process) ≡ true = grind arith in
-    let same : pid ≡ b.process = sym (eqb-true _ _ (one_of _ _ own)) ∙ eqb-true _ _ two in
+    let same : pid ≡ b.process = sym (eqb-true _ _ own) ∙ eqb-true _ _ two in
     rw same (same-number b.process)
 
 pub named-own : (pid : ℕ) (b : Birth) (rows : List HandleRow) → every (is_own pid) rows ≡ true → has (λ h. names_port b h.object) rows ≡ true → (pid == b.process) ≡ true
@@ -55,20 +56,10 @@ found-own m c w pid value h None f at is = absurd (cc)
 found-own m c w pid value h (Some t) f at is =
     let fair : is_fair_table t ≡ true = every-first is_fair_table (is_table pid) w.handles t f.tables at in
     let its : t.process ≡ pid = eqb-true _ _ (first-passes (is_table pid) w.handles t at) in
-    eqb-true _ _ (one_of _ _ (every-first (is_own t.process) (has_value value) t.rows h fair is)) ∙ its
+    eqb-true _ _ (every-first (is_own t.process) (has_value value) t.rows h fair is) ∙ its
 
 pub handle-own : (m : Group) (c : ℕ) (w : World) (pid value : ℕ) (h : HandleRow) → Fair m c w → handle_at w pid value ≡ Some h → h.object.birth.process ≡ pid
 handle-own m c w pid value h f is = found-own m c w pid value h (first (is_table pid) w.handles) f refl is
-
--- and there are handles to ports alone
-found-port : (m : Group) (c : ℕ) (w : World) (pid value : ℕ) (h : HandleRow) (o : Option HandleTable) → Fair m c w → first (is_table pid) w.handles ≡ o → first (has_value value) (rows_in o) ≡ Some h → same_kind h.object.kind kind.Port ≡ true
-found-port m c w pid value h None f at is = absurd (cc)
-found-port m c w pid value h (Some t) f at is =
-    let fair : is_fair_table t ≡ true = every-first is_fair_table (is_table pid) w.handles t f.tables at in
-    other_of (h.object.birth.process == t.process) _ (every-first (is_own t.process) (has_value value) t.rows h fair is)
-
-pub handle-port : (m : Group) (c : ℕ) (w : World) (pid value : ℕ) (h : HandleRow) → Fair m c w → handle_at w pid value ≡ Some h → same_kind h.object.kind kind.Port ≡ true
-handle-port m c w pid value h f is = found-port m c w pid value h (first (is_table pid) w.handles) f refl is
 
 -- Ports
 pub port-view : (m : Group) (w : World) (b : Birth) → m b.process ≡ true → port_row (view m w) b ≡ option_map (seen_port m) (port_row w b)
@@ -94,15 +85,15 @@ pub bind-map : {A B C : Type 0} (r : Result A Status) (f : A → Result B Status
 bind-map (Ok x) f k = refl
 bind-map (Err s) f k = refl
 
-pub object-view : (m : Group) (w : World) (by : ThreadRow) (rights value : ℕ) → m by.process ≡ true → object_test (view m w) by kind.Port rights value ≡ object_test w by kind.Port rights value
-object-view m w by rights value is = rw (handle-view m w by.process value is) refl
+pub object-view : (m : Group) (w : World) (by : ThreadRow) (kind : ObjectKind) (rights value : ℕ) → m by.process ≡ true → object_test (view m w) by kind rights value ≡ object_test w by kind rights value
+object-view m w by kind rights value is = rw (handle-view m w by.process value is) refl
 
 -- what a test gives
-pub object-own : (m : Group) (c : ℕ) (w : World) (by : ThreadRow) (rights value : ℕ) → Fair m c w → Holds (λ b. b.process ≡ by.process) (object_test w by kind.Port rights value)
-object-own m c w by rights value f =
+pub object-own : (m : Group) (c : ℕ) (w : World) (by : ThreadRow) (kind : ObjectKind) (rights value : ℕ) → Fair m c w → Holds (λ b. b.process ≡ by.process) (object_test w by kind rights value)
+object-own m c w by kind rights value f =
     let P : Birth → Type 0 = λ b. b.process ≡ by.process in
     bind_holds (own_handle w by value) _ P (λ h at.
-    bind_holds (refuse_if (not (same_kind h.object.kind kind.Port)) OBJECT_TYPE_MISMATCH) _ P (λ _ _.
+    bind_holds (refuse_if (not (same_kind h.object.kind kind)) OBJECT_TYPE_MISMATCH) _ P (λ _ _.
     bind_holds (refuse_if (not (includes h.access rights)) ACCESS_DENIED) _ P (λ _ _.
     handle-own m c w by.process value h f (found_ok (handle_at w by.process value) INVALID_HANDLE h at))))
 
@@ -112,15 +103,15 @@ port-own m c w by value f =
     bind_holds (object_test w by kind.Port PORT_RIGHT value) _ P (λ b at.
     found_holds P (port_row w b) INVALID_HANDLE (λ p row.
     let same : p.birth ≡ b = birth-same p.birth b (first-passes (is_port b) w.ports p row) in (
-      ap (λ (b : Birth). b.process) same ∙ holds_ok (λ b. b.process ≡ by.process) (object_test w by kind.Port PORT_RIGHT value) b (object-own m c w by PORT_RIGHT value f) at,
+      ap (λ (b : Birth). b.process) same ∙ holds_ok (λ b. b.process ≡ by.process) (object_test w by kind.Port PORT_RIGHT value) b (object-own m c w by kind.Port PORT_RIGHT value f) at,
       subst (λ b. port_row w b ≡ Some p) (sym same) row,
     )))
 
 pub port_test-view : (m : Group) (c : ℕ) (w : World) (by : ThreadRow) (value : ℕ) → Fair m c w → m by.process ≡ true → port_test (view m w) by value ≡ result_map (seen_port m) (port_test w by value)
 port_test-view m c w by value f is =
-    ap (λ r. r >>= (λ b. found_or (port_row (view m w) b) INVALID_HANDLE)) (object-view m w by PORT_RIGHT value is)
+    ap (λ r. r >>= (λ b. found_or (port_row (view m w) b) INVALID_HANDLE)) (object-view m w by kind.Port PORT_RIGHT value is)
     ∙ bind-same (object_test w by kind.Port PORT_RIGHT value) (λ b. found_or (port_row (view m w) b) INVALID_HANDLE) (λ b. result_map (seen_port m) (found_or (port_row w b) INVALID_HANDLE))
-    (λ b at. ap (λ o. found_or o INVALID_HANDLE) (port-view m w b (ap m (holds_ok (λ b. b.process ≡ by.process) (object_test w by kind.Port PORT_RIGHT value) b (object-own m c w by PORT_RIGHT value f) at) ∙ is))
+    (λ b at. ap (λ o. found_or o INVALID_HANDLE) (port-view m w b (ap m (holds_ok (λ b. b.process ≡ by.process) (object_test w by kind.Port PORT_RIGHT value) b (object-own m c w by kind.Port PORT_RIGHT value f) at) ∙ is))
     ∙ mapped-found (seen_port m) (port_row w b) INVALID_HANDLE)
     ∙ bind-map (object_test w by kind.Port PORT_RIGHT value) (λ b. found_or (port_row w b) INVALID_HANDLE) (seen_port m)
 

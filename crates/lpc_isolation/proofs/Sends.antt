@@ -19,7 +19,7 @@ use Rattle.lpc_model.specs.SoundWaits.{IsSoundWorld, HasShutConnects}
 use Rattle.lpc_model.proofs.Births.{birth-same}
 use Rattle.lpc_model.proofs.Holding.{Holds, bind_holds, found_ok, holds_ok}
 use Rattle.lpc_model.specs.Circle.{Group, Whose, owner}
-use Rattle.lpc_isolation.proofs.Alone.{HasFinePorts}
+use Rattle.lpc_isolation.proofs.Alone.{HasFineRows}
 use Rattle.lpc_isolation.proofs.Filters.{first-none_kept, which-where}
 use Rattle.lpc_isolation.proofs.View.{both, one_of, our_message, our_wait, same-number, seen_pair, seen_port, view}
 use Rattle.lpc_isolation.proofs.Basics.{are_ours, run-ours, sees_wait}
@@ -39,7 +39,7 @@ use Rattle.lpc_isolation.proofs.Routes.{Right, context-view, right-row, route-vi
 pub record Caller (m : Group) (c : ℕ) (u w : World) (by : ThreadRow) : Type 0 where
   pub c_in : m c ≡ true
   pub fair : Fair m c w
-  pub fine : HasFinePorts m c w
+  pub fine : HasFineRows m c w
   pub patient : Patient w
   pub owned : Owned u w
   pub here : owner u by.number ≡ Some by.process

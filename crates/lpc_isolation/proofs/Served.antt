@@ -1,20 +1,21 @@
 -- The machine whose rows never go: it counts for an object what counts for it once rows that nothing names have gone.
-use Rattle.std.specs.Prelude.{ℕ, ◌+◌, ◌==◌, ◌&&◌, ◌||◌, Bool, cond, not, List, [], ◌∷◌, Option, None, Some, Result, Ok}
+use Rattle.std.specs.Prelude.{ℕ, ◌+◌, ◌==◌, ◌&&◌, ◌||◌, Bool, not, List, [], ◌∷◌, Option, None, Some, Result, Ok}
 use Rattle.lpc_base.specs.Rows.{count, has}
 use Rattle.lpc_base.specs.declared.status.Status.{Status}
 use Rattle.lpc_base.specs.declared.status.TheConstants.{SUCCESS}
 use Rattle.lpc_model.specs.declared.entry.CallName.TheVariants.{NtQueryObject}
 use Rattle.lpc_model.specs.declared.entry.Entry.TheVariants.{Answer, Busy, NoThread}
 use Rattle.lpc_model.specs.declared.entry.Field.{Field}
+use Rattle.lpc_model.specs.declared.entry.ObjectKind.{ObjectKind}
 use Rattle.lpc_model.specs.declared.entry.ObjectKind.TheVariants as kind
 use Rattle.lpc_model.specs.Then.{◌>>=◌}
 use Rattle.lpc_model.specs.World.{Birth, HandleRow, MessageRow, ObjectName, PortRow, ThreadRow, WaitRow, World}
-use Rattle.lpc_model.specs.Found.{handle_count, is_client_port, is_connected_to, is_cut, is_made_on, is_paired_to, is_queued, is_sent_on, live_thread, port_name, same_kind, wait_of, same_birth, all_registrations}
+use Rattle.lpc_model.specs.Found.{handle_count, is_client_port, is_connected_to, is_cut, is_made_on, is_paired_to, holders, is_queued, is_sent_on, live_thread, port_name, wait_of, same_birth, all_registrations}
 use Rattle.lpc_model.specs.Basics.{Basic, Steps, Tells}
 use Rattle.lpc_model.specs.Fields.{object_fields}
 use Rattle.lpc_model.specs.Standing.{is_near}
 use Rattle.lpc_model.specs.Tests.{own_handle}
-use Rattle.lpc_model.specs.Lines.{ScriptCall, ScriptLine, accept_connect_port, boot, close, complete_connect_port, connect_port, create_port, dir, duplicate_object, link, listen_port, query_object, reply_port, reply_wait_receive_port, request_port, request_wait_reply_port, run, thread, register_thread_terminate_port, terminate_thread, terminate_process}
+use Rattle.lpc_model.specs.Lines.{ScriptCall, ScriptLine, boot, dir, link, query_object, run, thread}
 use Rattle.lpc_model.specs.Machine.{Stepped, bare_steps, landed, name_of_call, service_of, settled}
 
 -- What counts for an object
@@ -41,8 +42,15 @@ standing_holders v b =
     count (is_paired_to b) v.ports + (count (is_standing v b) v.ports + (count (is_sent_on b) v.messages
     + (count (is_made_on b) v.waits + count (same_birth b) (all_registrations v))))
 
+abbrev pub standing_as : World → ObjectKind → Birth → ℕ
+standing_as v kind.Port b = standing_holders v b
+standing_as v kind.Section b = holders v kind.Section b
+standing_as v kind.Token b = holders v kind.Token b
+standing_as v kind.Process b = holders v kind.Process b
+standing_as v kind.Thread b = holders v kind.Thread b
+
 abbrev pub standing_count : World → ObjectName → ℕ
-standing_count v o = handle_count v o + cond (same_kind o.kind kind.Port) (standing_holders v o.birth) 0
+standing_count v o = handle_count v o + standing_as v o.kind o.birth
 
 -- NtQueryObject
 abbrev pub standing_counts : World → HandleRow → List Field
@@ -58,20 +66,7 @@ standing_query v by value = own_handle v by value >>= (λ r. Ok (query_steps v b
 -- every other call is served as it is
 abbrev pub served : World → ThreadRow → ScriptCall → Result (List Basic) Status
 served w by (query_object handle) = standing_query w by handle
-served w by (create_port name) = service_of w by (create_port name)
-served w by (connect_port name info) = service_of w by (connect_port name info)
-served w by (listen_port handle) = service_of w by (listen_port handle)
-served w by (accept_connect_port context message accept) = service_of w by (accept_connect_port context message accept)
-served w by (complete_connect_port handle) = service_of w by (complete_connect_port handle)
-served w by (request_port handle message) = service_of w by (request_port handle message)
-served w by (request_wait_reply_port handle message) = service_of w by (request_wait_reply_port handle message)
-served w by (reply_port handle message) = service_of w by (reply_port handle message)
-served w by (reply_wait_receive_port handle reply) = service_of w by (reply_wait_receive_port handle reply)
-served w by (close handle) = service_of w by (close handle)
-served w by (duplicate_object handle access) = service_of w by (duplicate_object handle access)
-served w by (register_thread_terminate_port handle) = service_of w by (register_thread_terminate_port handle)
-served w by (terminate_thread target code) = service_of w by (terminate_thread target code)
-served w by (terminate_process target code) = service_of w by (terminate_process target code)
+served w by call = service_of w by call
 
 abbrev pub served_ready : ThreadRow → ScriptCall → Option WaitRow → Steps
 served_ready by call (Some x) w = Tells (Busy by.number) ∷ []

@@ -19,7 +19,7 @@ use Rattle.lpc_isolation.proofs.Sent.{append-sent, are_sent}
 use Rattle.lpc_isolation.proofs.Asked.{Asked}
 use Rattle.lpc_isolation.proofs.Ids.{Numbered}
 use Rattle.lpc_isolation.proofs.Heard.{Heard, entries_memo, entry_memo}
-use Rattle.lpc_isolation.proofs.Thin.{Alive, Closed, all_joining, closed-run, thin, thin-run, Lives}
+use Rattle.lpc_isolation.proofs.Thin.{Alive, Closed, closed-run, thin, thin-run}
 use Rattle.lpc_isolation.proofs.ThinCalls.{AreClosed}
 use Rattle.lpc_isolation.proofs.Mild.{AreLosses, AreMild, Sure, sure-losses}
 
@@ -37,8 +37,8 @@ pub record Good (m : Group) (c : ℕ) (b : Birth) (f : Steps) : Type 0 where
   pub led : (u : World) (d : Whose) (w : World) → Sure m c u w → m b.process ≡ true → Led m c u d w (f w) (f (view m w))
   pub same : (u w : World) → Sure m c u w → b.process ≡ c → f (view m w) ≡ f w
   -- where rows that nothing names have gone
-  pub alike : (k : Alive) (ps : Lives) (u : World) → Closed k u → k b ≡ true → f (thin k ps u) ≡ f u
-  pub stands : (k : Alive) (u : World) → Closed k u → k b ≡ true → AreClosed k (f u)
+  pub alike : (k : Alive) (u : World) → Closed k u → k.ports b ≡ true → f (thin k u) ≡ f u
+  pub stands : (k : Alive) (u : World) → Closed k u → k.ports b ≡ true → AreClosed k (f u)
 
 -- a stage, behind which all is as sure as before it
 pub record Stage (m : Group) (c : ℕ) (b : Birth) (f : Steps) : Type 0 where
@@ -88,12 +88,12 @@ then-good m c b f g s e = record {
       let one : f (view m w) ≡ f w = s.good.same u w sure mine in
       let there : world_after (view m w) (f (view m w)) ≡ view m (world_after w (f w)) = ap (world_after (view m w)) one ∙ sym (run-ours m w (f w) (s.good.ours u w sure b_in)) in
       ap (λ bs. bs ++ g (world_after (view m w) (f (view m w)))) one ∙ ap (λ v. f w ++ g v) there ∙ ap (λ bs. f w ++ bs) (e.same u (world_after w (f w)) (kept m c b f s u w sure) mine);
-  alike = λ k ps u closed live.
-      let one : f (thin k ps u) ≡ f u = s.good.alike k ps u closed live in
+  alike = λ k u closed live.
+      let one : f (thin k u) ≡ f u = s.good.alike k u closed live in
       let stands : AreClosed k (f u) = s.good.stands k u closed live in
-      let there : world_after (thin k ps u) (f (thin k ps u)) ≡ thin k (all_joining ps (f u)) (world_after u (f u)) = ap (world_after (thin k ps u)) one ∙ sym (thin-run k ps u (f u) stands) in
-      ap (λ bs. bs ++ g (world_after (thin k ps u) (f (thin k ps u)))) one ∙ ap (λ v. f u ++ g v) there
-      ∙ ap (λ bs. f u ++ bs) (e.alike k (all_joining ps (f u)) (world_after u (f u)) (closed-run k u (f u) stands closed) live);
+      let there : world_after (thin k u) (f (thin k u)) ≡ thin k (world_after u (f u)) = ap (world_after (thin k u)) one ∙ sym (thin-run k u (f u) stands) in
+      ap (λ bs. bs ++ g (world_after (thin k u) (f (thin k u)))) one ∙ ap (λ v. f u ++ g v) there
+      ∙ ap (λ bs. f u ++ bs) (e.alike k (world_after u (f u)) (closed-run k u (f u) stands closed) live);
   stands = λ k u closed live.
       let one : AreClosed k (f u) = s.good.stands k u closed live in
       every-append _ (f u) (g (world_after u (f u))) one (e.stands k (world_after u (f u)) (closed-run k u (f u) one closed) live);

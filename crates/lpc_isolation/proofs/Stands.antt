@@ -15,7 +15,7 @@ use Rattle.lpc_isolation.proofs.Served.{served_step}
 use Rattle.lpc_model.proofs.Holding.{holds_ok}
 use Rattle.lpc_model.proofs.Usable.{live-number}
 use Rattle.lpc_model.specs.Circle.{Everyone, Group, Item, Of, is_fine_call, is_fine_line, is_seen, items, line_whose, owner}
-use Rattle.lpc_isolation.proofs.Alone.{HasFinePorts, alone}
+use Rattle.lpc_isolation.proofs.Alone.{HasFineRows, alone}
 use Rattle.lpc_isolation.proofs.Bare.{bare_line_events}
 use Rattle.lpc_isolation.proofs.View.{view}
 use Rattle.lpc_isolation.proofs.Fair.{Fair}
@@ -94,7 +94,7 @@ knows-at m c w by memo f all bytes a by_in is =
     holds_ok (λ (a : ConnectAnswer). m a.wait.process ≡ false → known_queue memo bytes ≡ a.wait.queue) (answer_test w by bytes) a
     (knows-queue m memo w by bytes all by_in (λ b x named. reached-own m c w by.process x.queue f (reached-of (names_wait x b) (is_offered x) x.received (reaches w by.process x.queue) named))) is
 
-pub ready-at : (m : Group) (c : ℕ) (w : World) (s : State) (tid : ℕ) (by : ThreadRow) → m c ≡ true → Stood m c w s → HasFinePorts m c w → live_thread w tid ≡ Some by → wait_of w tid ≡ None → At m c w by (known_queue s.memo)
+pub ready-at : (m : Group) (c : ℕ) (w : World) (s : State) (tid : ℕ) (by : ThreadRow) → m c ≡ true → Stood m c w s → HasFineRows m c w → live_thread w tid ≡ Some by → wait_of w tid ≡ None → At m c w by (known_queue s.memo)
 ready-at m c w s tid by c_in st fine live idle =
     let number : by.number ≡ tid = live-number w tid by live in
     record {
@@ -124,7 +124,7 @@ line-call m c w tid call fine by own mine =
     same : (n : ℕ) → (n == n) ≡ true
     same n = grind (arith, nat_tests)
 
-pub owes-line : (m : Group) (c : ℕ) (w : World) (s : State) (tid : ℕ) (call : ScriptCall) → m c ≡ true → Stood m c w s → HasFinePorts m c w → HasFinePorts m c (served_step w (run tid call)).world → is_fine_line m c w (run tid call) ≡ true → Owes (leads_by m (known_queue s.memo)) m c w tid call
+pub owes-line : (m : Group) (c : ℕ) (w : World) (s : State) (tid : ℕ) (call : ScriptCall) → m c ≡ true → Stood m c w s → HasFineRows m c w → HasFineRows m c (served_step w (run tid call)).world → is_fine_line m c w (run tid call) ≡ true → Owes (leads_by m (known_queue s.memo)) m c w tid call
 owes-line m c w s tid call c_in st fine next line = at (live_thread w tid) refl
   where
     owned : Owned w w
@@ -148,7 +148,7 @@ pub record Line (m : Group) (c : ℕ) (w : World) (s : State) (line : ScriptLine
   pub shows : is_seen m (line_whose w line) ≡ true → (is : List Item) → (view m (served_step w line).world ≡ absorb_all (played_view m c s line (told_items (told_at m c w line) ++ is)) (told_at m c w line))
       × (items (alone c) (bare_line_events w line) ≡ played_items m c s line (told_items (told_at m c w line) ++ is))
 
-pub of-line : (m : Group) (c : ℕ) (w : World) (t : List Heard) (line : ScriptLine) → m c ≡ true → Stood m c w (record { seen = view m w; memo = t }) → HasFinePorts m c w → HasFinePorts m c (served_step w line).world → OnceUsed (served_step w line).world → is_fine_line m c w line ≡ true → Line m c w (record { seen = view m w; memo = t }) line
+pub of-line : (m : Group) (c : ℕ) (w : World) (t : List Heard) (line : ScriptLine) → m c ≡ true → Stood m c w (record { seen = view m w; memo = t }) → HasFineRows m c w → HasFineRows m c (served_step w line).world → OnceUsed (served_step w line).world → is_fine_line m c w line ≡ true → Line m c w (record { seen = view m w; memo = t }) line
 of-line m c w t (run tid call) c_in st fine next once line =
     let o = owes-line m c w (record { seen = view m w; memo = t }) tid call c_in st fine next line in
     record { hides = λ out. run-hidden (leads_by m (known_queue t)) m c w tid call c_in o out; shows = λ seen is. run-visible (leads_by m (known_queue t)) m c w tid call is c_in o st.kept.once once seen }

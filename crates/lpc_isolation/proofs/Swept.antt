@@ -11,17 +11,22 @@ use Rattle.lpc_model.specs.declared.entry.Word.TheVariants as word
 use Rattle.lpc_model.specs.World.{ThreadRow, WaitRow, World, no_rows}
 use Rattle.lpc_model.specs.Found.{live_thread, wait_of}
 use Rattle.lpc_model.specs.Named.{free_name, spelled_name}
-use Rattle.lpc_model.specs.Lines.{ScriptCall, ScriptLine, accept_connect_port, boot, close, complete_connect_port, connect_port, create_port, dir, duplicate_object, link, listen_port, query_object, reply_port, reply_wait_receive_port, request_port, request_wait_reply_port, run, thread, register_thread_terminate_port, terminate_thread, terminate_process}
+use Rattle.lpc_model.specs.Lines.{ScriptCall, ScriptLine, accept_connect_port, boot, complete_connect_port, connect_port, create_port, dir, link, listen_port, reply_port, reply_wait_receive_port, request_port, request_wait_reply_port, run, thread}
+use Rattle.lpc_model.specs.Grammar.{has_ids}
+use Rattle.lpc_isolation.proofs.Born.{born_none}
+use Rattle.lpc_isolation.proofs.Ids.{script-says}
+use Rattle.lpc_isolation.proofs.Play.{are_ok}
+use Rattle.lpc_isolation.proofs.View.{one_of, other_of}
 use Rattle.lpc_model.specs.Machine.{bare_steps, boot_line, dir_line, link_line, name_of_call, step, thread_line, thread_test, unused_test}
 use Rattle.lpc_isolation.proofs.Served.{served, served_ready, served_step, served_steps, served_thread}
 use Rattle.lpc_model.specs.Run.{Along, said_in, world_behind}
 use Rattle.lpc_model.specs.Circle.{Event, Everyone, Group, IsCircleIn, IsFineAt, IsFineWorld, Isolation, Nobody, Of, Ran, Told, Whose, entry_whose, events, inputs, is_fine_call, is_fine_line, is_item, is_seen, item_of, items, line_events, line_whose, members, owner, told_event}
-use Rattle.lpc_isolation.proofs.Alone.{HasFinePorts, alone}
+use Rattle.lpc_isolation.proofs.Alone.{HasFineRows, alone}
 use Rattle.lpc_isolation.proofs.Bare.{BareIsolation, IsBareCircle, bare_events, bare_line_events}
 use Rattle.lpc_model.proofs.Holding.{bind_holds, directed_holds, settled_holds}
 use Rattle.lpc_model.proofs.Usable.{live-number}
 use Rattle.lpc_isolation.proofs.BareLaw.{bare-isolation}
-use Rattle.lpc_isolation.proofs.Thin.{Alive, Behind, thin, Lives}
+use Rattle.lpc_isolation.proofs.Thin.{Alive, Behind, thin}
 use Rattle.lpc_isolation.proofs.Sweeps.{InStep, Sides, entries-same, line-behind}
 use Rattle.lpc_isolation.proofs.Firm.{firm_none}
 
@@ -30,49 +35,49 @@ map-same : {X Y : Type 0} (f g : X → Y) → ((x : X) → f x ≡ g x) → (xs 
 map-same f g same [] = refl
 map-same f g same (x ∷ xs) = rw (same x, map-same f g same xs) refl
 
-whose-thin : (k : Alive) (ps : Lives) (u : World) (line : ScriptLine) → line_whose (thin k ps u) line ≡ line_whose u line
-whose-thin k ps u (boot pid tid) = refl
-whose-thin k ps u (thread tid pid) = refl
-whose-thin k ps u (dir path) = refl
-whose-thin k ps u (link path target) = refl
-whose-thin k ps u (run tid call) = refl
+whose-thin : (k : Alive) (u : World) (line : ScriptLine) → line_whose (thin k u) line ≡ line_whose u line
+whose-thin k u (boot pid tid) = refl
+whose-thin k u (thread tid pid) = refl
+whose-thin k u (dir path) = refl
+whose-thin k u (link path target) = refl
+whose-thin k u (run tid call) = refl
 
-entry-thin : (k : Alive) (ps : Lives) (u : World) (d : Whose) (e : Entry) → entry_whose (thin k ps u) d e ≡ entry_whose u d e
-entry-thin k ps u d (entry.Answer tid call status fields) = refl
-entry-thin k ps u d (entry.Waits tid call fields) = refl
-entry-thin k ps u d (entry.Wakes tid call status fields) = refl
-entry-thin k ps u d (entry.Busy tid) = refl
-entry-thin k ps u d (entry.NoThread tid) = refl
-entry-thin k ps u d (entry.Died tid status) = refl
-entry-thin k ps u d (entry.Directive word status) = refl
+entry-thin : (k : Alive) (u : World) (d : Whose) (e : Entry) → entry_whose (thin k u) d e ≡ entry_whose u d e
+entry-thin k u d (entry.Answer tid call status fields) = refl
+entry-thin k u d (entry.Waits tid call fields) = refl
+entry-thin k u d (entry.Wakes tid call status fields) = refl
+entry-thin k u d (entry.Busy tid) = refl
+entry-thin k u d (entry.NoThread tid) = refl
+entry-thin k u d (entry.Died tid status) = refl
+entry-thin k u d (entry.Directive word status) = refl
 
 line-same : (w u : World) (line : ScriptLine) → Behind w u → InStep w u line → line_events w line ≡ bare_line_events u line
 line-same w u line r a =
-    let whose : line_whose w line ≡ line_whose u line = ap (λ v. line_whose v line) r.same ∙ whose-thin r.alive r.stood u line in
+    let whose : line_whose w line ≡ line_whose u line = ap (λ v. line_whose v line) r.same ∙ whose-thin r.alive u line in
     let told : (e : Entry) → told_event (step w line).world (line_whose u line) e ≡ told_event (served_step u line).world (line_whose u line) e
-    = λ e. ap (λ x. record { whose = x; item = Told e }) (ap (λ v. entry_whose v (line_whose u line) e) a.sides.behind.same ∙ entry-thin a.sides.behind.alive a.sides.behind.stood (served_step u line).world (line_whose u line) e) in
+    = λ e. ap (λ x. record { whose = x; item = Told e }) (ap (λ v. entry_whose v (line_whose u line) e) a.sides.behind.same ∙ entry-thin a.sides.behind.alive (served_step u line).world (line_whose u line) e) in
     ap (λ d. record { whose = d; item = Ran line } ∷ map (told_event (step w line).world d) (step w line).entries) whose
     ∙ ap (λ es. record { whose = line_whose u line; item = Ran line } ∷ map (told_event (step w line).world (line_whose u line)) es) (entries-same w u line a)
     ∙ ap (λ es. record { whose = line_whose u line; item = Ran line } ∷ es) (map-same (told_event (step w line).world (line_whose u line)) (told_event (served_step u line).world (line_whose u line)) told (served_step u line).entries)
 
-pub events-same : (w u : World) (lines : List (Option ScriptLine)) → Sides w u → events w lines ≡ bare_events u lines
-events-same w u [] t = refl
-events-same w u (None ∷ later) t = events-same w u later t
-events-same w u (Some line ∷ later) t =
-    let a = line-behind w u line t in
+pub events-same : (w u : World) (lines : List (Option ScriptLine)) → are_ok has_ids lines ≡ true → Sides w u → events w lines ≡ bare_events u lines
+events-same w u [] ids t = refl
+events-same w u (None ∷ later) ids t = events-same w u later ids t
+events-same w u (Some line ∷ later) ids t =
+    let a = line-behind w u line (one_of _ _ ids) t in
     ap (λ es. es ++ events (step w line).world later) (line-same w u line t.behind a)
-    ∙ ap (λ es. bare_line_events u line ++ es) (events-same (step w line).world (served_step u line).world later a.sides)
+    ∙ ap (λ es. bare_line_events u line ++ es) (events-same (step w line).world (served_step u line).world later (other_of _ _ ids) a.sides)
 
 -- of each line
-ready-fine : (m : Group) (c : ℕ) (after u : World) (by : ThreadRow) (call : ScriptCall) (o : Option WaitRow) → wait_of u by.number ≡ o → HasFinePorts m c after → FineAfter m c after u (served_ready by call o u)
+ready-fine : (m : Group) (c : ℕ) (after u : World) (by : ThreadRow) (call : ScriptCall) (o : Option WaitRow) → wait_of u by.number ≡ o → HasFineRows m c after → FineAfter m c after u (served_ready by call o u)
 ready-fine m c after u by call (Some x) is f = λ _. refl
 ready-fine m c after u by call None idle f = settled_holds (FineAfter m c after u) by (name_of_call call) (served u by call) ((lawful call).fine m c after u by idle f) (λ _ _ _. refl)
 
-thread-fine : (m : Group) (c : ℕ) (after u : World) (tid : ℕ) (call : ScriptCall) (o : Option ThreadRow) → live_thread u tid ≡ o → HasFinePorts m c after → FineAfter m c after u (served_thread tid call o u)
+thread-fine : (m : Group) (c : ℕ) (after u : World) (tid : ℕ) (call : ScriptCall) (o : Option ThreadRow) → live_thread u tid ≡ o → HasFineRows m c after → FineAfter m c after u (served_thread tid call o u)
 thread-fine m c after u tid call None live f = λ _. refl
 thread-fine m c after u tid call (Some by) live f = ready-fine m c after u by call (wait_of u tid) (ap (wait_of u) (live-number u tid by live)) f
 
-line-fine : (m : Group) (c : ℕ) (after u : World) (line : ScriptLine) → HasFinePorts m c after → FineAfter m c after u (served_steps line u)
+line-fine : (m : Group) (c : ℕ) (after u : World) (line : ScriptLine) → HasFineRows m c after → FineAfter m c after u (served_steps line u)
 unfolding bare_steps boot_line thread_line dir_line link_line
 line-fine m c after u (boot pid tid) f = λ _. directed_holds (AreFine m c) word.Boot (boot_line u pid tid) (bind_holds (unused_test u pid tid) _ (AreFine m c) (λ _ _. refl)) (λ _. refl)
 line-fine m c after u (thread tid pid) f = λ _. directed_holds (AreFine m c) word.Thread (thread_line u tid pid) (bind_holds (thread_test u tid pid) _ (AreFine m c) (λ _ _. refl)) (λ _. refl)
@@ -81,58 +86,53 @@ line-fine m c after u (link path target) f = λ _. directed_holds (AreFine m c) 
 line-fine m c after u (run tid call) f = thread-fine m c after u tid call (live_thread u tid) refl f
 
 -- The circle is one in the run whose rows never go
-call-inside : (m : Group) (k : Alive) (ps : Lives) (u : World) (call : ScriptCall) → is_fine_call m (thin k ps u) call ≡ is_fine_call m u call
-call-inside m k ps u (create_port None) = refl
-call-inside m k ps u (create_port (Some name)) = refl
-call-inside m k ps u (connect_port name info) = refl
-call-inside m k ps u (listen_port handle) = refl
-call-inside m k ps u (accept_connect_port context message accept) = refl
-call-inside m k ps u (complete_connect_port handle) = refl
-call-inside m k ps u (request_port handle message) = refl
-call-inside m k ps u (request_wait_reply_port handle message) = refl
-call-inside m k ps u (reply_port handle message) = refl
-call-inside m k ps u (reply_wait_receive_port handle None) = refl
-call-inside m k ps u (reply_wait_receive_port handle (Some message)) = refl
-call-inside m k ps u (close handle) = refl
-call-inside m k ps u (duplicate_object handle access) = refl
-call-inside m k ps u (query_object handle) = refl
-call-inside m k ps u (register_thread_terminate_port handle) = refl
-call-inside m k ps u (terminate_thread target code) = refl
-call-inside m k ps u (terminate_process target code) = refl
+call-inside : (m : Group) (k : Alive) (u : World) (call : ScriptCall) → is_fine_call m (thin k u) call ≡ is_fine_call m u call
+call-inside m k u (create_port None) = refl
+call-inside m k u (create_port (Some name)) = refl
+call-inside m k u (connect_port name info) = refl
+call-inside m k u (listen_port handle) = refl
+call-inside m k u (accept_connect_port context message accept) = refl
+call-inside m k u (complete_connect_port handle) = refl
+call-inside m k u (request_port handle message) = refl
+call-inside m k u (request_wait_reply_port handle message) = refl
+call-inside m k u (reply_port handle message) = refl
+call-inside m k u (reply_wait_receive_port handle None) = refl
+call-inside m k u (reply_wait_receive_port handle (Some message)) = refl
+call-inside m k u call = refl
 
-line-inside : (m : Group) (c : ℕ) (k : Alive) (ps : Lives) (u : World) (line : ScriptLine) → is_fine_line m c (thin k ps u) line ≡ is_fine_line m c u line
-line-inside m c k ps u (boot pid tid) = refl
-line-inside m c k ps u (thread tid pid) = refl
-line-inside m c k ps u (dir path) = refl
-line-inside m c k ps u (link path target) = refl
-line-inside m c k ps u (run tid call) = ap (λ b. not (passes (owner u tid) (λ p. p == c)) || b) (call-inside m k ps u call)
+line-inside : (m : Group) (c : ℕ) (k : Alive) (u : World) (line : ScriptLine) → is_fine_line m c (thin k u) line ≡ is_fine_line m c u line
+line-inside m c k u (boot pid tid) = refl
+line-inside m c k u (thread tid pid) = refl
+line-inside m c k u (dir path) = refl
+line-inside m c k u (link path target) = refl
+line-inside m c k u (run tid call) = ap (λ b. not (passes (owner u tid) (λ p. p == c)) || b) (call-inside m k u call)
 
-first-fine : (m : Group) (c : ℕ) (w : World) (lines : List (Option ScriptLine)) → Along (IsFineAt m c) w lines → IsFineWorld m c (world_behind w lines) → HasFinePorts m c w
+first-fine : (m : Group) (c : ℕ) (w : World) (lines : List (Option ScriptLine)) → Along (IsFineAt m c) w lines → IsFineWorld m c (world_behind w lines) → HasFineRows m c w
 unfolding world_behind
-first-fine m c w [] along last = last.ports
+first-fine m c w [] along last = (last.processes, last.ports)
 first-fine m c w (None ∷ later) along last = first-fine m c w later along last
-first-fine m c w (Some line ∷ later) along last = along.0.0.ports
+first-fine m c w (Some line ∷ later) along last = (along.0.0.processes, along.0.0.ports)
 
-circle-same : (m : Group) (c : ℕ) (w u : World) (lines : List (Option ScriptLine)) → Sides w u → HasFinePorts m c u → Along (IsFineAt m c) w lines → IsFineWorld m c (world_behind w lines) → IsBareCircle m c u lines
+circle-same : (m : Group) (c : ℕ) (w u : World) (lines : List (Option ScriptLine)) → are_ok has_ids lines ≡ true → Sides w u → HasFineRows m c u → Along (IsFineAt m c) w lines → IsFineWorld m c (world_behind w lines) → IsBareCircle m c u lines
 unfolding world_behind
-circle-same m c w u [] t fine along last = fine
-circle-same m c w u (None ∷ later) t fine along last = circle-same m c w u later t fine along last
-circle-same m c w u (Some line ∷ later) t fine along last =
+circle-same m c w u [] ids t fine along last = fine
+circle-same m c w u (None ∷ later) ids t fine along last = circle-same m c w u later ids t fine along last
+circle-same m c w u (Some line ∷ later) ids t fine along last =
     let r = t.behind in
-    let a = line-behind w u line t in
-    let next : HasFinePorts m c (step w line).world = first-fine m c (step w line).world later along.1 last in
-    let after : HasFinePorts m c (served_step u line).world = run-fine m c u (served_steps line u) (line-fine m c (step w line).world u line next a.sides.behind) fine in (
+    let a = line-behind w u line (one_of _ _ ids) t in
+    let next : HasFineRows m c (step w line).world = first-fine m c (step w line).world later along.1 last in
+    let after : HasFineRows m c (served_step u line).world = run-fine m c u (served_steps line u) (line-fine m c (step w line).world u line next a.sides.behind) fine in (
       fine,
-      sym (line-inside m c r.alive r.stood u line) ∙ sym (ap (λ v. is_fine_line m c v line) r.same) ∙ along.0.1,
-      circle-same m c (step w line).world (served_step u line).world later a.sides after along.1 last,
+      sym (line-inside m c r.alive u line) ∙ sym (ap (λ v. is_fine_line m c v line) r.same) ∙ along.0.1,
+      circle-same m c (step w line).world (served_step u line).world later (other_of _ _ ids) a.sides after along.1 last,
     )
 
 -- The law
 behind_none : Behind no_rows no_rows
-behind_none = record { alive = λ b. true; stood = record { processes = []; threads = [] }; agree = refl; same = refl; closed = record { tables = refl; ports = refl; messages = refl; waits = refl; registrations = refl; cuts = refl } }
+behind_none = record { alive = record { ports = λ b. true; processes = λ b. true; threads = λ b. true; homes = λ n. true }; same = refl; closed = record { tables = refl; ports = refl; messages = refl; waits = refl; registrations = refl; cuts = refl; threads = refl; processes = refl } }
 
 sides_none : Sides no_rows no_rows
-sides_none = record { firm = firm_none; ports = refl; bare = firm_none; sent = refl; behind = behind_none }
+sides_none = record { firm = firm_none; ports = refl; bare = firm_none; sent = refl; born = born_none; behind = behind_none }
 
 -- the items of a list of one process are those of that process alone
 one-member : (c pid : ℕ) → members (c ∷ []) pid ≡ alone c pid
@@ -156,9 +156,9 @@ items-same m k same (e ∷ es) = at (is_item m e) (is_item k e) (seen e.whose) (
 isolation_from : BareIsolation → Isolation
 isolation_from bare group c one two circle_one circle_two same =
     let m : Group = members group in
-    let first_run : events no_rows (said_in one) ≡ bare_events no_rows (said_in one) = events-same no_rows no_rows (said_in one) sides_none in
-    let second_run : events no_rows (said_in two) ≡ bare_events no_rows (said_in two) = events-same no_rows no_rows (said_in two) sides_none in
-    let inside : (script : List ℕ) → IsCircleIn group c script → IsBareCircle m c no_rows (said_in script) = λ script circle. circle-same m c no_rows no_rows (said_in script) sides_none refl circle.1.0 circle.1.1 in
+    let first_run : events no_rows (said_in one) ≡ bare_events no_rows (said_in one) = events-same no_rows no_rows (said_in one) (script-says one) sides_none in
+    let second_run : events no_rows (said_in two) ≡ bare_events no_rows (said_in two) = events-same no_rows no_rows (said_in two) (script-says two) sides_none in
+    let inside : (script : List ℕ) → IsCircleIn group c script → IsBareCircle m c no_rows (said_in script) = λ script circle. circle-same m c no_rows no_rows (said_in script) (script-says script) sides_none (refl, refl) circle.1.0 circle.1.1 in
     items-same (members (c ∷ [])) (alone c) (one-member c) (events no_rows (said_in one))
     ∙ ap (items (alone c)) first_run
     ∙ bare group c one two circle_one.0 (inside one circle_one) (inside two circle_two) (sym (ap (inputs m c) first_run) ∙ same ∙ ap (inputs m c) second_run)

@@ -1,13 +1,14 @@
 -- A world without some rows that no other row names: what each basic step and the sweep do to it.
-use Rattle.std.proofs.Common.{◌≡◌, ℕ, List, [], ◌∷◌, ◌++◌, Bool, true, false, not, map, Option, Some, None, refl, ap, sym, subst, ◌∙◌, arith}
-use Rattle.std.specs.Prelude.{◌&&◌, ◌||◌, ◌+◌, nat_lt, is_some}
-use Rattle.lpc_base.specs.Rows.{count, each, every, has, which, without, change, first}
-use Rattle.lpc_base.proofs.RowWords.{every-change, every-more, every-off, every-push, every-without}
-use Rattle.lpc_base.proofs.RowMaps.{every-both, every-without_first}
+use Rattle.std.proofs.Common.{◌≡◌, ◌≤◌, ℕ, List, [], ◌∷◌, ◌++◌, Bool, true, false, not, map, Option, Some, None, refl, ap, sym, subst, ◌∙◌, arith}
+use Rattle.std.specs.Prelude.{◌&&◌, ◌||◌, ◌+◌, ◌==◌, nat_lt, is_some}
+use Rattle.std.proofs.lemmas.Bool.{eqb-true}
+use Rattle.lpc_base.specs.Rows.{count, each, every, has, which, without, first}
+use Rattle.lpc_base.proofs.RowWords.{every-change, every-more, every-off, every-push, every-without, first-passes}
+use Rattle.lpc_base.proofs.RowMaps.{every-both, every-first, every-without_first}
 use Rattle.lpc_model.specs.declared.entry.ObjectKind.{ObjectKind}
 use Rattle.lpc_model.specs.declared.entry.ObjectKind.TheVariants as kind
 use Rattle.lpc_model.specs.World.{Birth, HandleRow, HandleTable, MessageRow, ObjectName, PortRow, ProcessRow, ThreadRow, WaitRow, World}
-use Rattle.lpc_model.specs.Found.{all_handles, handle_count, has_value, is_connected_to, is_cut, is_life, is_made_on, is_own_of, is_paired_to, is_port, is_queued, is_sent_on, is_table, is_the, is_thread, port_name, same_birth, same_kind, same_object, thread_name, waits_as, waits_at, all_registrations, registered_by, live_thread, live_threads, is_live, is_live_thread, lives_in}
+use Rattle.lpc_model.specs.Found.{all_handles, handle_count, has_value, is_connected_to, is_cut, is_life, is_made_on, is_own_of, is_paired_to, is_port, is_queued, is_sent_on, is_table, is_the, is_thread, holders, lives_by, port_name, process_name, same_birth, same_kind, same_object, thread_name, waits_as, waits_at, all_registrations, registered_by, live_thread, live_threads, is_live, is_live_thread, lives_in}
 use Rattle.lpc_model.specs.Basics.{Accepts, AddsHandle, AddsProcess, AddsThread, Awaits, Basic, Binds, Completes, Cuts, DrawsIdentifier, DrawsOrdinal, DropsHandle, Empties, Enters, Frees, Joins, Makes, Receives, Takes, TakesConnect, Tells, Unbinds, Wakes, Withdraws, accepted, basic, completed, cut, freed, is_end_of, joined, no_handles, past_identifier, past_ordinal, received, with_handle, without_handle, world_after, Dies, Registers, Unregisters, ended, registering, unregistering}
 use Rattle.lpc_model.specs.Sweep.{free_unheld, is_unheld, sweep, unheld}
 use Rattle.lpc_model.proofs.Births.{birth-same}
@@ -18,43 +19,46 @@ use Rattle.lpc_model.proofs.Swept.{lonely}
 use Rattle.lpc_model.proofs.SoundFrees.{freed-sound, is-zero, less-held, none-pass, sum-first, sum-second, which-all}
 use Rattle.lpc_model.proofs.SoundQueues.{after-append}
 use Rattle.lpc_model.proofs.Registrations.{all-pushed, all-changed, registering-all, unregistering-all}
-use Rattle.std.proofs.lemmas.List.Elements.{filter-append}
 use Rattle.lpc_message.specs.declared.message.ClientId.{ClientId}
 use Rattle.lpc_model.specs.Tests.{client_test}
-use Rattle.lpc_isolation.proofs.Filters.{count-inside, first-inside, kept-change, kept-push}
-use Rattle.lpc_isolation.proofs.View.{both, one_of, other_of}
+use Rattle.lpc_model.proofs.Rows.{has-off}
+use Rattle.lpc_isolation.proofs.Filters.{first-where, has-inside, kept-change, kept-push, which-where}
+use Rattle.lpc_isolation.proofs.View.{both, one_of, other_of, same-number}
 
--- the births of the ports that rows still name
-abbrev pub Alive : Type 0
-Alive = Birth → Bool
+-- the births of the ports, processes and threads that stand, and the numbers of processes that stand while they live
+pub record Alive : Type 0 where
+  pub ports : Birth → Bool
+  pub processes : Birth → Bool
+  pub threads : Birth → Bool
+  pub homes : ℕ → Bool
 
 abbrev pub port_alive : Alive → PortRow → Bool
-port_alive k p = k p.birth
+port_alive k p = k.ports p.birth
 
--- the processes and threads that stand
-pub record Lives : Type 0 where
-  pub processes : List ProcessRow
-  pub threads : List ThreadRow
+abbrev pub process_alive : Alive → ProcessRow → Bool
+process_alive k p = k.processes p.birth
 
--- The world without the others' rows, and with some processes and threads: no call reads processes, nor threads that have ended, so it
--- is no matter which of those have gone.
-abbrev pub thin : Alive → Lives → World → World
-thin k ps u = record u { processes = ps.processes; threads = ps.threads; ports = which (port_alive k) u.ports }
+abbrev pub thread_alive : Alive → ThreadRow → Bool
+thread_alive k t = k.threads t.birth
 
--- the threads that live stand
-abbrev pub living : List ThreadRow → List ThreadRow
-living ts = which (λ t. t.live) ts
-
-abbrev pub Agree : Lives → World → Type 0
-Agree ps u = living ps.threads ≡ living u.threads
+-- the world without the others' rows
+abbrev pub thin : Alive → World → World
+thin k u = record u { processes = which (process_alive k) u.processes; threads = which (thread_alive k) u.threads; ports = which (port_alive k) u.ports }
 
 -- what a row names is alive
-abbrev pub all_alive : Alive → Option Birth → Bool
-all_alive k None = true
-all_alive k (Some b) = k b
+abbrev pub all_alive : (Birth → Bool) → Option Birth → Bool
+all_alive f None = true
+all_alive f (Some b) = f b
+
+abbrev pub alive_as : Alive → ObjectKind → Birth → Bool
+alive_as k kind.Port b = k.ports b
+alive_as k kind.Section b = false
+alive_as k kind.Token b = false
+alive_as k kind.Process b = k.processes b
+alive_as k kind.Thread b = k.threads b
 
 abbrev pub object_alive : Alive → ObjectName → Bool
-object_alive k o = same_kind o.kind kind.Port && k o.birth
+object_alive k o = alive_as k o.kind o.birth
 
 abbrev pub handle_closed : Alive → HandleRow → Bool
 handle_closed k h = object_alive k h.object
@@ -63,33 +67,53 @@ abbrev pub table_closed : Alive → HandleTable → Bool
 table_closed k t = every (handle_closed k) t.rows
 
 abbrev pub port_closed : Alive → PortRow → Bool
-port_closed k p = not (k p.birth) || (all_alive k p.pair && all_alive k p.connection)
+port_closed k p = not (k.ports p.birth) || (all_alive k.ports p.pair && all_alive k.ports p.connection)
 
 abbrev pub message_closed : Alive → MessageRow → Bool
-message_closed k x = k x.sender
+message_closed k x = k.ports x.sender
 
 abbrev pub wait_closed : Alive → WaitRow → Bool
-wait_closed k x = k x.port
+wait_closed k x = k.ports x.port
+
+-- a port that a handle names is alive
+kind-live : (k : Alive) (s : ObjectKind) (b : Birth) → alive_as k s b ≡ true → same_kind s kind.Port ≡ true → k.ports b ≡ true
+kind-live k kind.Port b live port = live
+kind-live k kind.Section b live port = absurd (cc)
+kind-live k kind.Token b live port = absurd (cc)
+kind-live k kind.Process b live port = absurd (cc)
+kind-live k kind.Thread b live port = absurd (cc)
+
+pub port-live : (k : Alive) (o : ObjectName) → object_alive k o ≡ true → same_kind o.kind kind.Port ≡ true → k.ports o.birth ≡ true
+port-live k o live port = kind-live k o.kind o.birth live port
+
+-- a thread that lives stands, and so does its process, by each row of its number
+abbrev pub thread_closed : Alive → ThreadRow → Bool
+thread_closed k t = not t.live || (k.threads t.birth && k.homes t.process)
+
+abbrev pub process_closed : Alive → ProcessRow → Bool
+process_closed k p = not (k.homes p.number) || k.processes p.birth
 
 -- a port that has gone has no other end
 abbrev pub port_cut : Alive → PortRow → Bool
-port_cut k p = k p.birth || is_cut p
+port_cut k p = k.ports p.birth || is_cut p
 
--- what the rows that stand name, stands, and so does what live threads registered; handles name ports alone
+-- what the rows that stand name, stands, and so do what live threads registered, and the threads and processes that live
 pub record Closed (k : Alive) (u : World) : Type 0 where
   pub tables : every (table_closed k) u.handles ≡ true
   pub ports : every (port_closed k) u.ports ≡ true
   pub messages : every (message_closed k) u.messages ≡ true
   pub waits : every (wait_closed k) u.waits ≡ true
-  pub registrations : every k (all_registrations u) ≡ true
+  pub registrations : every k.ports (all_registrations u) ≡ true
   pub cuts : every (port_cut k) u.ports ≡ true
+  pub threads : every (thread_closed k) u.threads ≡ true
+  pub processes : every (process_closed k) u.processes ≡ true
 
 -- a step that names what is alive alone
 abbrev pub is_closed : Alive → Basic → Bool
 is_closed k (Awaits x) = wait_closed k x
 is_closed k (Enters x) = message_closed k x
-is_closed k (Makes p) = k p.birth && port_closed k p
-is_closed k (Joins client server context) = k client && k server
+is_closed k (Makes p) = k.ports p.birth && port_closed k p
+is_closed k (Joins client server context) = k.ports client && k.ports server
 is_closed k (Binds path node) = true
 is_closed k (AddsHandle pid h) = handle_closed k h
 is_closed k (Tells e) = true
@@ -101,10 +125,10 @@ is_closed k (TakesConnect q) = true
 is_closed k (DrawsIdentifier who) = true
 is_closed k (DrawsOrdinal who) = true
 is_closed k (Dies who status) = true
-is_closed k (Registers who b) = k b
+is_closed k (Registers who b) = k.ports b
 is_closed k (Unregisters who b) = true
-is_closed k (AddsProcess p) = true
-is_closed k (AddsThread t) = every k (registered_by t)
+is_closed k (AddsProcess p) = k.processes p.birth
+is_closed k (AddsThread t) = k.threads t.birth && (thread_closed k t && every k.ports (registered_by t))
 is_closed k (Completes b) = true
 is_closed k (Withdraws who) = true
 is_closed k (Frees o) = false
@@ -154,55 +178,40 @@ joined-alive k client server context p = at (is_port client p) (is_port server p
     at false true is it = rw (is, it) refl
     at false false is it = rw (is, it) refl
 
--- the processes and threads that stand, behind a step
-abbrev pub joining : Lives → Basic → Lives
-joining ps (AddsProcess p) = record ps { processes = ps.processes ++ p ∷ [] }
-joining ps (AddsThread t) = record ps { threads = ps.threads ++ t ∷ [] }
-joining ps (Dies who status) = record ps { threads = change (is_thread who) ended ps.threads }
-joining ps (DrawsIdentifier who) = record ps { threads = change (is_thread who) past_identifier ps.threads }
-joining ps (DrawsOrdinal who) = record ps { threads = change (is_thread who) past_ordinal ps.threads }
-joining ps (Registers who b) = record ps { threads = change (is_thread who) (registering b) ps.threads }
-joining ps (Unregisters who b) = record ps { threads = change (is_thread who) (unregistering b) ps.threads }
-joining ps b = ps
-
-abbrev pub all_joining : Lives → List Basic → Lives
-all_joining ps [] = ps
-all_joining ps (b ∷ bs) = all_joining (joining ps b) bs
-
-pub thin-basic : (k : Alive) (ps : Lives) (u : World) (b : Basic) → is_closed k b ≡ true → thin k (joining ps b) (basic u b) ≡ basic (thin k ps u) b
-thin-basic k ps u (Makes p) ok = rw (kept-push (port_alive k) u.ports p (one_of _ _ ok)) refl
-thin-basic k ps u (Joins client server context) ok = rw (which-map (port_alive k) (joined client server context) (joined-alive k client server context) u.ports) refl
-thin-basic k ps u (Completes b) ok = rw (kept-change (port_alive k) (is_port b) completed (λ p. refl) u.ports) refl
-thin-basic k ps u (Frees o) ok = absurd (cc)
-thin-basic k ps u (Awaits x) ok = refl
-thin-basic k ps u (Enters x) ok = refl
-thin-basic k ps u (Binds path node) ok = refl
-thin-basic k ps u (AddsHandle pid h) ok = refl
-thin-basic k ps u (Cuts b) ok = rw (kept-change (port_alive k) (is_end_of b) cut (λ p. refl) u.ports) refl
-thin-basic k ps u (Empties q) ok = refl
-thin-basic k ps u (Unbinds b) ok = refl
-thin-basic k ps u (DropsHandle pid value) ok = refl
-thin-basic k ps u (Tells e) ok = refl
-thin-basic k ps u (Wakes who call status fields) ok = refl
-thin-basic k ps u (Receives who q) ok = refl
-thin-basic k ps u (Accepts who reply) ok = refl
-thin-basic k ps u (Takes q) ok = refl
-thin-basic k ps u (TakesConnect q) ok = refl
-thin-basic k ps u (Withdraws who) ok = refl
-thin-basic k ps u (DrawsIdentifier who) ok = refl
-thin-basic k ps u (DrawsOrdinal who) ok = refl
-thin-basic k ps u (Dies who status) ok = refl
-thin-basic k ps u (Registers who b) ok = refl
-thin-basic k ps u (Unregisters who b) ok = refl
-thin-basic k ps u (AddsProcess p) ok = refl
-thin-basic k ps u (AddsThread t) ok = refl
+pub thin-basic : (k : Alive) (u : World) (b : Basic) → is_closed k b ≡ true → thin k (basic u b) ≡ basic (thin k u) b
+thin-basic k u (Makes p) ok = rw (kept-push (port_alive k) u.ports p (one_of _ _ ok)) refl
+thin-basic k u (Joins client server context) ok = rw (which-map (port_alive k) (joined client server context) (joined-alive k client server context) u.ports) refl
+thin-basic k u (Completes b) ok = rw (kept-change (port_alive k) (is_port b) completed (λ p. refl) u.ports) refl
+thin-basic k u (Frees o) ok = absurd (cc)
+thin-basic k u (Awaits x) ok = refl
+thin-basic k u (Enters x) ok = refl
+thin-basic k u (Binds path node) ok = refl
+thin-basic k u (AddsHandle pid h) ok = refl
+thin-basic k u (Cuts b) ok = rw (kept-change (port_alive k) (is_end_of b) cut (λ p. refl) u.ports) refl
+thin-basic k u (Empties q) ok = refl
+thin-basic k u (Unbinds b) ok = refl
+thin-basic k u (DropsHandle pid value) ok = refl
+thin-basic k u (Tells e) ok = refl
+thin-basic k u (Wakes who call status fields) ok = refl
+thin-basic k u (Receives who q) ok = refl
+thin-basic k u (Accepts who reply) ok = refl
+thin-basic k u (Takes q) ok = refl
+thin-basic k u (TakesConnect q) ok = refl
+thin-basic k u (Withdraws who) ok = refl
+thin-basic k u (DrawsIdentifier who) ok = rw (kept-change (thread_alive k) (is_thread who) past_identifier (λ t. refl) u.threads) refl
+thin-basic k u (DrawsOrdinal who) ok = rw (kept-change (thread_alive k) (is_thread who) past_ordinal (λ t. refl) u.threads) refl
+thin-basic k u (Dies who status) ok = rw (kept-change (thread_alive k) (is_thread who) ended (λ t. refl) u.threads) refl
+thin-basic k u (Registers who b) ok = rw (kept-change (thread_alive k) (is_thread who) (registering b) (λ t. refl) u.threads) refl
+thin-basic k u (Unregisters who b) ok = rw (kept-change (thread_alive k) (is_thread who) (unregistering b) (λ t. refl) u.threads) refl
+thin-basic k u (AddsProcess p) ok = rw (kept-push (process_alive k) u.processes p ok) refl
+thin-basic k u (AddsThread t) ok = rw (kept-push (thread_alive k) u.threads t (one_of _ _ ok)) refl
 
 put-closed : (k : Alive) (h : HandleRow) (t : HandleTable) → handle_closed k h ≡ true → table_closed k t ≡ true → table_closed k (with_handle h t) ≡ true
 put-closed k h t ok all =
     every-two (handle_closed k) (which (λ r. nat_lt r.value h.value) t.rows) h (which (λ r. nat_lt h.value r.value) t.rows)
     (every-kept (handle_closed k) (λ r. nat_lt r.value h.value) t.rows all) ok (every-kept (handle_closed k) (λ r. nat_lt h.value r.value) t.rows all)
 
-joined-closed : (k : Alive) (client server : Birth) (context : ℕ) → k client ≡ true → k server ≡ true → (p : PortRow) → port_closed k p ≡ true → port_closed k (joined client server context p) ≡ true
+joined-closed : (k : Alive) (client server : Birth) (context : ℕ) → k.ports client ≡ true → k.ports server ≡ true → (p : PortRow) → port_closed k p ≡ true → port_closed k (joined client server context p) ≡ true
 joined-closed k client server context one two p ok = at (is_port client p) (is_port server p) refl refl
   where
     at : (a b : Bool) → is_port client p ≡ a → is_port server p ≡ b → port_closed k (joined client server context p) ≡ true
@@ -213,113 +222,76 @@ joined-closed k client server context one two p ok = at (is_port client p) (is_p
 or-first : (a b : Bool) → a ≡ true → (a || b) ≡ true
 or-first a b is = grind arith
 
-joined-cut : (k : Alive) (client server : Birth) (context : ℕ) → k client ≡ true → k server ≡ true → (p : PortRow) → port_cut k p ≡ true → port_cut k (joined client server context p) ≡ true
+joined-cut : (k : Alive) (client server : Birth) (context : ℕ) → k.ports client ≡ true → k.ports server ≡ true → (p : PortRow) → port_cut k p ≡ true → port_cut k (joined client server context p) ≡ true
 joined-cut k client server context one two p ok = at (is_port client p) (is_port server p) refl refl
   where
     at : (a b : Bool) → is_port client p ≡ a → is_port server p ≡ b → port_cut k (joined client server context p) ≡ true
-    at true b is it = rw (is, ap k (birth-same p.birth client is) ∙ one) refl
-    at false true is it = rw (is, it, ap k (birth-same p.birth server it) ∙ two) refl
+    at true b is it = rw (is, ap k.ports (birth-same p.birth client is) ∙ one) refl
+    at false true is it = rw (is, it, ap k.ports (birth-same p.birth server it) ∙ two) refl
     at false false is it = rw (is, it) ok
 
+or-last : (a : Bool) {b : Bool} → b ≡ true → (a || b) ≡ true
+or-last a is = grind arith
+
 pub keeps-closed : (k : Alive) (u : World) (b : Basic) → is_closed k b ≡ true → Closed k u → Closed k (basic u b)
-keeps-closed k u (Awaits x) ok c = record { tables = c.tables; ports = c.ports; messages = c.messages; waits = every-push (wait_closed k) u.waits x c.waits ok; registrations = c.registrations; cuts = c.cuts }
-keeps-closed k u (Enters x) ok c = record { tables = c.tables; ports = c.ports; messages = every-push (message_closed k) u.messages x c.messages ok; waits = c.waits; registrations = c.registrations; cuts = c.cuts }
-keeps-closed k u (Makes p) ok c = record { tables = c.tables; ports = every-push (port_closed k) u.ports p c.ports (other_of _ _ ok); messages = c.messages; waits = c.waits; registrations = c.registrations; cuts = every-push (port_cut k) u.ports p c.cuts (or-first (k p.birth) (is_cut p) (one_of _ _ ok)) }
-keeps-closed k u (Joins client server context) ok c = record { tables = c.tables; ports = every-mapped (port_closed k) (joined client server context) (joined-closed k client server context (one_of _ _ ok) (other_of _ _ ok)) u.ports c.ports; messages = c.messages; waits = c.waits; registrations = c.registrations; cuts = every-mapped (port_cut k) (joined client server context) (joined-cut k client server context (one_of _ _ ok) (other_of _ _ ok)) u.ports c.cuts }
-keeps-closed k u (Binds path node) ok c = record { tables = c.tables; ports = c.ports; messages = c.messages; waits = c.waits; registrations = c.registrations; cuts = c.cuts }
-keeps-closed k u (AddsHandle pid h) ok c = record { tables = every-change (table_closed k) (is_table pid) (with_handle h) (λ t all. put-closed k h t ok all) u.handles c.tables; ports = c.ports; messages = c.messages; waits = c.waits; registrations = c.registrations; cuts = c.cuts }
-keeps-closed k u (Empties q) ok c = record { tables = c.tables; ports = c.ports; messages = every-without (message_closed k) (is_queued q) u.messages c.messages; waits = c.waits; registrations = c.registrations; cuts = c.cuts }
-keeps-closed k u (Cuts b) ok c = record { tables = c.tables; ports = every-change (port_closed k) (is_end_of b) cut (λ p is. grind arith) u.ports c.ports; messages = c.messages; waits = c.waits; registrations = c.registrations; cuts = every-change (port_cut k) (is_end_of b) cut (λ p is. grind arith) u.ports c.cuts }
-keeps-closed k u (Unbinds b) ok c = record { tables = c.tables; ports = c.ports; messages = c.messages; waits = c.waits; registrations = c.registrations; cuts = c.cuts }
-keeps-closed k u (DropsHandle pid value) ok c = record { tables = every-change (table_closed k) (is_table pid) (without_handle value) (λ t all. every-without_first (handle_closed k) (has_value value) t.rows all) u.handles c.tables; ports = c.ports; messages = c.messages; waits = c.waits; registrations = c.registrations; cuts = c.cuts }
-keeps-closed k u (AddsProcess p) ok c = record { tables = every-push (table_closed k) u.handles (no_handles p.number) c.tables refl; ports = c.ports; messages = c.messages; waits = c.waits; registrations = c.registrations; cuts = c.cuts }
-keeps-closed k u (AddsThread t) ok c = record { tables = c.tables; ports = c.ports; messages = c.messages; waits = c.waits; registrations = all-pushed k u.threads t ok c.registrations; cuts = c.cuts }
-keeps-closed k u (Wakes who call status fields) ok c = record { tables = c.tables; ports = c.ports; messages = c.messages; waits = every-without (wait_closed k) (waits_as who) u.waits c.waits; registrations = c.registrations; cuts = c.cuts }
-keeps-closed k u (Receives who q) ok c = record { tables = c.tables; ports = c.ports; messages = c.messages; waits = every-change (wait_closed k) (waits_at who q) received (λ x is. is) u.waits c.waits; registrations = c.registrations; cuts = c.cuts }
-keeps-closed k u (Accepts who reply) ok c = record { tables = c.tables; ports = c.ports; messages = c.messages; waits = every-change (wait_closed k) (waits_as who) (accepted reply) (λ x is. is) u.waits c.waits; registrations = c.registrations; cuts = c.cuts }
-keeps-closed k u (Takes q) ok c = record { tables = c.tables; ports = c.ports; messages = every-without_first (message_closed k) _ u.messages c.messages; waits = c.waits; registrations = c.registrations; cuts = c.cuts }
-keeps-closed k u (TakesConnect q) ok c = record { tables = c.tables; ports = c.ports; messages = every-without_first (message_closed k) _ u.messages c.messages; waits = c.waits; registrations = c.registrations; cuts = c.cuts }
-keeps-closed k u (Withdraws who) ok c = record { tables = c.tables; ports = c.ports; messages = every-without (message_closed k) (is_own_of who) u.messages c.messages; waits = c.waits; registrations = c.registrations; cuts = c.cuts }
-keeps-closed k u (Completes b) ok c = record { tables = c.tables; ports = every-change (port_closed k) (is_port b) completed (λ p is. is) u.ports c.ports; messages = c.messages; waits = c.waits; registrations = c.registrations; cuts = every-change (port_cut k) (is_port b) completed (λ p is. is) u.ports c.cuts }
-keeps-closed k u (DrawsIdentifier who) ok c = record { tables = c.tables; ports = c.ports; messages = c.messages; waits = c.waits; registrations = all-changed k (is_thread who) past_identifier (λ t is. is) u.threads c.registrations; cuts = c.cuts }
-keeps-closed k u (DrawsOrdinal who) ok c = record { tables = c.tables; ports = c.ports; messages = c.messages; waits = c.waits; registrations = all-changed k (is_thread who) past_ordinal (λ t is. is) u.threads c.registrations; cuts = c.cuts }
-keeps-closed k u (Dies who status) ok c = record { tables = c.tables; ports = c.ports; messages = c.messages; waits = every-without (wait_closed k) (waits_as who) u.waits c.waits; registrations = all-changed k (is_thread who) ended (λ t is. refl) u.threads c.registrations; cuts = c.cuts }
-keeps-closed k u (Registers who b) ok c = record { tables = c.tables; ports = c.ports; messages = c.messages; waits = c.waits; registrations = all-changed k (is_thread who) (registering b) (registering-all k b ok) u.threads c.registrations; cuts = c.cuts }
-keeps-closed k u (Unregisters who b) ok c = record { tables = c.tables; ports = c.ports; messages = c.messages; waits = c.waits; registrations = all-changed k (is_thread who) (unregistering b) (unregistering-all k b) u.threads c.registrations; cuts = c.cuts }
+keeps-closed k u (Awaits x) ok c = record { tables = c.tables; ports = c.ports; messages = c.messages; waits = every-push (wait_closed k) u.waits x c.waits ok; registrations = c.registrations; cuts = c.cuts; threads = c.threads; processes = c.processes }
+keeps-closed k u (Enters x) ok c = record { tables = c.tables; ports = c.ports; messages = every-push (message_closed k) u.messages x c.messages ok; waits = c.waits; registrations = c.registrations; cuts = c.cuts; threads = c.threads; processes = c.processes }
+keeps-closed k u (Makes p) ok c = record { tables = c.tables; ports = every-push (port_closed k) u.ports p c.ports (other_of _ _ ok); messages = c.messages; waits = c.waits; registrations = c.registrations; cuts = every-push (port_cut k) u.ports p c.cuts (or-first (k.ports p.birth) (is_cut p) (one_of _ _ ok)); threads = c.threads; processes = c.processes }
+keeps-closed k u (Joins client server context) ok c = record { tables = c.tables; ports = every-mapped (port_closed k) (joined client server context) (joined-closed k client server context (one_of _ _ ok) (other_of _ _ ok)) u.ports c.ports; messages = c.messages; waits = c.waits; registrations = c.registrations; cuts = every-mapped (port_cut k) (joined client server context) (joined-cut k client server context (one_of _ _ ok) (other_of _ _ ok)) u.ports c.cuts; threads = c.threads; processes = c.processes }
+keeps-closed k u (Binds path node) ok c = record { tables = c.tables; ports = c.ports; messages = c.messages; waits = c.waits; registrations = c.registrations; cuts = c.cuts; threads = c.threads; processes = c.processes }
+keeps-closed k u (AddsHandle pid h) ok c = record { tables = every-change (table_closed k) (is_table pid) (with_handle h) (λ t all. put-closed k h t ok all) u.handles c.tables; ports = c.ports; messages = c.messages; waits = c.waits; registrations = c.registrations; cuts = c.cuts; threads = c.threads; processes = c.processes }
+keeps-closed k u (Empties q) ok c = record { tables = c.tables; ports = c.ports; messages = every-without (message_closed k) (is_queued q) u.messages c.messages; waits = c.waits; registrations = c.registrations; cuts = c.cuts; threads = c.threads; processes = c.processes }
+keeps-closed k u (Cuts b) ok c = record { tables = c.tables; ports = every-change (port_closed k) (is_end_of b) cut (λ p is. grind arith) u.ports c.ports; messages = c.messages; waits = c.waits; registrations = c.registrations; cuts = every-change (port_cut k) (is_end_of b) cut (λ p is. grind arith) u.ports c.cuts; threads = c.threads; processes = c.processes }
+keeps-closed k u (Unbinds b) ok c = record { tables = c.tables; ports = c.ports; messages = c.messages; waits = c.waits; registrations = c.registrations; cuts = c.cuts; threads = c.threads; processes = c.processes }
+keeps-closed k u (DropsHandle pid value) ok c = record { tables = every-change (table_closed k) (is_table pid) (without_handle value) (λ t all. every-without_first (handle_closed k) (has_value value) t.rows all) u.handles c.tables; ports = c.ports; messages = c.messages; waits = c.waits; registrations = c.registrations; cuts = c.cuts; threads = c.threads; processes = c.processes }
+keeps-closed k u (AddsProcess p) ok c = record { tables = every-push (table_closed k) u.handles (no_handles p.number) c.tables refl; ports = c.ports; messages = c.messages; waits = c.waits; registrations = c.registrations; cuts = c.cuts; threads = c.threads; processes = every-push (process_closed k) u.processes p c.processes (or-last (not (k.homes p.number)) ok) }
+keeps-closed k u (AddsThread t) ok c = record { tables = c.tables; ports = c.ports; messages = c.messages; waits = c.waits; registrations = all-pushed k.ports u.threads t (other_of (thread_closed k t) _ (other_of (k.threads t.birth) _ ok)) c.registrations; cuts = c.cuts; threads = every-push (thread_closed k) u.threads t c.threads (one_of _ _ (other_of (k.threads t.birth) _ ok)); processes = c.processes }
+keeps-closed k u (Wakes who call status fields) ok c = record { tables = c.tables; ports = c.ports; messages = c.messages; waits = every-without (wait_closed k) (waits_as who) u.waits c.waits; registrations = c.registrations; cuts = c.cuts; threads = c.threads; processes = c.processes }
+keeps-closed k u (Receives who q) ok c = record { tables = c.tables; ports = c.ports; messages = c.messages; waits = every-change (wait_closed k) (waits_at who q) received (λ x is. is) u.waits c.waits; registrations = c.registrations; cuts = c.cuts; threads = c.threads; processes = c.processes }
+keeps-closed k u (Accepts who reply) ok c = record { tables = c.tables; ports = c.ports; messages = c.messages; waits = every-change (wait_closed k) (waits_as who) (accepted reply) (λ x is. is) u.waits c.waits; registrations = c.registrations; cuts = c.cuts; threads = c.threads; processes = c.processes }
+keeps-closed k u (Takes q) ok c = record { tables = c.tables; ports = c.ports; messages = every-without_first (message_closed k) _ u.messages c.messages; waits = c.waits; registrations = c.registrations; cuts = c.cuts; threads = c.threads; processes = c.processes }
+keeps-closed k u (TakesConnect q) ok c = record { tables = c.tables; ports = c.ports; messages = every-without_first (message_closed k) _ u.messages c.messages; waits = c.waits; registrations = c.registrations; cuts = c.cuts; threads = c.threads; processes = c.processes }
+keeps-closed k u (Withdraws who) ok c = record { tables = c.tables; ports = c.ports; messages = every-without (message_closed k) (is_own_of who) u.messages c.messages; waits = c.waits; registrations = c.registrations; cuts = c.cuts; threads = c.threads; processes = c.processes }
+keeps-closed k u (Completes b) ok c = record { tables = c.tables; ports = every-change (port_closed k) (is_port b) completed (λ p is. is) u.ports c.ports; messages = c.messages; waits = c.waits; registrations = c.registrations; cuts = every-change (port_cut k) (is_port b) completed (λ p is. is) u.ports c.cuts; threads = c.threads; processes = c.processes }
+keeps-closed k u (DrawsIdentifier who) ok c = record { tables = c.tables; ports = c.ports; messages = c.messages; waits = c.waits; registrations = all-changed k.ports (is_thread who) past_identifier (λ t is. is) u.threads c.registrations; cuts = c.cuts; threads = every-change (thread_closed k) (is_thread who) past_identifier (λ t is. is) u.threads c.threads; processes = c.processes }
+keeps-closed k u (DrawsOrdinal who) ok c = record { tables = c.tables; ports = c.ports; messages = c.messages; waits = c.waits; registrations = all-changed k.ports (is_thread who) past_ordinal (λ t is. is) u.threads c.registrations; cuts = c.cuts; threads = every-change (thread_closed k) (is_thread who) past_ordinal (λ t is. is) u.threads c.threads; processes = c.processes }
+keeps-closed k u (Dies who status) ok c = record { tables = c.tables; ports = c.ports; messages = c.messages; waits = every-without (wait_closed k) (waits_as who) u.waits c.waits; registrations = all-changed k.ports (is_thread who) ended (λ t is. refl) u.threads c.registrations; cuts = c.cuts; threads = every-change (thread_closed k) (is_thread who) ended (λ t is. refl) u.threads c.threads; processes = c.processes }
+keeps-closed k u (Registers who b) ok c = record { tables = c.tables; ports = c.ports; messages = c.messages; waits = c.waits; registrations = all-changed k.ports (is_thread who) (registering b) (registering-all k.ports b ok) u.threads c.registrations; cuts = c.cuts; threads = every-change (thread_closed k) (is_thread who) (registering b) (λ t is. is) u.threads c.threads; processes = c.processes }
+keeps-closed k u (Unregisters who b) ok c = record { tables = c.tables; ports = c.ports; messages = c.messages; waits = c.waits; registrations = all-changed k.ports (is_thread who) (unregistering b) (unregistering-all k.ports b) u.threads c.registrations; cuts = c.cuts; threads = every-change (thread_closed k) (is_thread who) (unregistering b) (λ t is. is) u.threads c.threads; processes = c.processes }
 keeps-closed k u (Tells e) ok c = c
 keeps-closed k u (Frees o) ok c = absurd (cc)
 
 -- The threads that live
-live-ended : (who : ℕ) (ts : List ThreadRow) → living (change (is_thread who) ended ts) ≡ without (is_thread who) (living ts)
-live-ended who [] = refl
-live-ended who (t ∷ ts) = grind (arith, live-ended who ts)
+pub lasts : (k : Alive) (t : ThreadRow) → thread_closed k t ≡ true → t.live ≡ true → thread_alive k t ≡ true
+lasts k t closed live = grind arith
 
-live-changed : (who : ℕ) (f : ThreadRow → ThreadRow) → ((t : ThreadRow) → (f t).live ≡ t.live) → (ps : Lives) (u : World) → Agree ps u → living (change (is_thread who) f ps.threads) ≡ living (change (is_thread who) f u.threads)
-live-changed who f same ps u agree =
-    kept-change (λ t. t.live) (is_thread who) f same ps.threads ∙ ap (change (is_thread who) f) agree ∙ sym (kept-change (λ t. t.live) (is_thread who) f same u.threads)
+pub live-thin : (k : Alive) (u : World) (tid : ℕ) → Closed k u → live_thread (thin k u) tid ≡ live_thread u tid
+live-thin k u tid c = first-where (thread_closed k) (thread_alive k) (is_live_thread tid) (λ t closed is. lasts k t closed (other_of _ _ is)) u.threads c.threads
 
-live-pushed : (t : ThreadRow) (ps : Lives) (u : World) → Agree ps u → living (ps.threads ++ t ∷ []) ≡ living (u.threads ++ t ∷ [])
-live-pushed t ps u agree = filter-append (λ t. t.live) ps.threads (t ∷ []) ∙ ap (λ ts. ts ++ living (t ∷ [])) agree ∙ sym (filter-append (λ t. t.live) u.threads (t ∷ []))
+pub threads-thin : (k : Alive) (u : World) (pid : ℕ) → Closed k u → live_threads (thin k u) pid ≡ live_threads u pid
+threads-thin k u pid c = which-where (thread_closed k) (thread_alive k) (lives_in pid) (λ t closed is. lasts k t closed (other_of _ _ is)) u.threads c.threads
 
-agree-basic : (k : Alive) (ps : Lives) (u : World) (b : Basic) → is_closed k b ≡ true → Agree ps u → Agree (joining ps b) (basic u b)
-agree-basic k ps u (AddsThread t) ok agree = live-pushed t ps u agree
-agree-basic k ps u (Dies who status) ok agree = live-ended who ps.threads ∙ ap (without (is_thread who)) agree ∙ sym (live-ended who u.threads)
-agree-basic k ps u (DrawsIdentifier who) ok agree = live-changed who past_identifier (λ t. refl) ps u agree
-agree-basic k ps u (DrawsOrdinal who) ok agree = live-changed who past_ordinal (λ t. refl) ps u agree
-agree-basic k ps u (Registers who b) ok agree = live-changed who (registering b) (λ t. refl) ps u agree
-agree-basic k ps u (Unregisters who b) ok agree = live-changed who (unregistering b) (λ t. refl) ps u agree
-agree-basic k ps u (AddsProcess p) ok agree = agree
-agree-basic k ps u (Tells e) ok agree = agree
-agree-basic k ps u (Wakes who call status fields) ok agree = agree
-agree-basic k ps u (Awaits x) ok agree = agree
-agree-basic k ps u (Receives who q) ok agree = agree
-agree-basic k ps u (Accepts who reply) ok agree = agree
-agree-basic k ps u (Enters x) ok agree = agree
-agree-basic k ps u (Takes q) ok agree = agree
-agree-basic k ps u (TakesConnect q) ok agree = agree
-agree-basic k ps u (Withdraws who) ok agree = agree
-agree-basic k ps u (Empties q) ok agree = agree
-agree-basic k ps u (Makes p) ok agree = agree
-agree-basic k ps u (Joins client server context) ok agree = agree
-agree-basic k ps u (Completes b) ok agree = agree
-agree-basic k ps u (Cuts b) ok agree = agree
-agree-basic k ps u (Binds path node) ok agree = agree
-agree-basic k ps u (Unbinds b) ok agree = agree
-agree-basic k ps u (AddsHandle pid h) ok agree = agree
-agree-basic k ps u (DropsHandle pid value) ok agree = agree
-agree-basic k ps u (Frees o) ok agree = absurd (cc)
+pub is_live-thin : (k : Alive) (u : World) (pid : ℕ) → Closed k u → is_live (thin k u) pid ≡ is_live u pid
+is_live-thin k u pid c = has-inside (thread_closed k) (thread_alive k) (lives_in pid) (λ t closed is. lasts k t closed (other_of _ _ is)) u.threads c.threads
 
-pub agree-run : (k : Alive) (ps : Lives) (u : World) (bs : List Basic) → every (is_closed k) bs ≡ true → Agree ps u → Agree (all_joining ps bs) (world_after u bs)
-agree-run k ps u [] ok agree = agree
-agree-run k ps u (b ∷ bs) ok agree = agree-run k (joining ps b) (basic u b) bs (other_of _ _ ok) (agree-basic k ps u b (one_of _ _ ok) agree)
+pub client-thin : (k : Alive) (u : World) (client : ClientId) → Closed k u → client_test (thin k u) client ≡ client_test u client
+client-thin k u client c = rw (live-thin k u client.thread c) refl
 
--- what is found of the threads that live
-pub live-thin : (k : Alive) (ps : Lives) (u : World) (tid : ℕ) → Agree ps u → live_thread (thin k ps u) tid ≡ live_thread u tid
-live-thin k ps u tid agree = sym (first-inside (λ t. t.live) (is_live_thread tid) (λ t is. other_of _ _ is) ps.threads) ∙ ap (first (is_live_thread tid)) agree ∙ first-inside (λ t. t.live) (is_live_thread tid) (λ t is. other_of _ _ is) u.threads
-
-pub threads-thin : (k : Alive) (ps : Lives) (u : World) (pid : ℕ) → Agree ps u → live_threads (thin k ps u) pid ≡ live_threads u pid
-threads-thin k ps u pid agree = sym (count-inside (λ t. t.live) (lives_in pid) (λ t is. other_of _ _ is) ps.threads) ∙ ap (which (lives_in pid)) agree ∙ count-inside (λ t. t.live) (lives_in pid) (λ t is. other_of _ _ is) u.threads
-
-pub is_live-thin : (k : Alive) (ps : Lives) (u : World) (pid : ℕ) → Agree ps u → is_live (thin k ps u) pid ≡ is_live u pid
-is_live-thin k ps u pid agree = ap is_some (sym (first-inside (λ t. t.live) (lives_in pid) (λ t is. other_of _ _ is) ps.threads) ∙ ap (first (lives_in pid)) agree ∙ first-inside (λ t. t.live) (lives_in pid) (λ t is. other_of _ _ is) u.threads)
-
-pub client-thin : (k : Alive) (ps : Lives) (u : World) (client : ClientId) → Agree ps u → client_test (thin k ps u) client ≡ client_test u client
-client-thin k ps u client agree = rw (live-thin k ps u client.thread agree) refl
-
-registered-live : (ts : List ThreadRow) → each registered_by (living ts) ≡ each registered_by ts
-registered-live [] = refl
-registered-live (t ∷ ts) = at t.live refl (registered-live ts)
+registered-live : (k : Alive) (ts : List ThreadRow) → every (thread_closed k) ts ≡ true → each registered_by (which (thread_alive k) ts) ≡ each registered_by ts
+registered-live k [] all = refl
+registered-live k (t ∷ ts) all = at (thread_alive k t) t.live refl refl (registered-live k ts (other_of _ _ all))
   where
-    at : (e : Bool) → t.live ≡ e → each registered_by (living ts) ≡ each registered_by ts → each registered_by (living (t ∷ ts)) ≡ each registered_by (t ∷ ts)
-    at true is rest = rw is (ap (λ bs. t.registrations ++ bs) rest)
-    at false is rest = rw is rest
+    at : (a e : Bool) → thread_alive k t ≡ a → t.live ≡ e → each registered_by (which (thread_alive k) ts) ≡ each registered_by ts → each registered_by (which (thread_alive k) (t ∷ ts)) ≡ each registered_by (t ∷ ts)
+    at true e alive is rest = rw alive (ap (λ bs. registered_by t ++ bs) rest)
+    at false true dead is rest = let never : thread_alive k t ≡ true = lasts k t (one_of _ _ all) is in absurd (cc)
+    at false false dead is rest = rw (dead, is) rest
 
-pub registered-thin : (k : Alive) (ps : Lives) (u : World) → Agree ps u → all_registrations (thin k ps u) ≡ all_registrations u
-registered-thin k ps u agree = sym (registered-live ps.threads) ∙ ap (each registered_by) agree ∙ registered-live u.threads
+pub registered-thin : (k : Alive) (u : World) → Closed k u → all_registrations (thin k u) ≡ all_registrations u
+registered-thin k u c = registered-live k u.threads c.threads
 
-pub thin-run : (k : Alive) (ps : Lives) (u : World) (bs : List Basic) → every (is_closed k) bs ≡ true → thin k (all_joining ps bs) (world_after u bs) ≡ world_after (thin k ps u) bs
-thin-run k ps u [] ok = refl
-thin-run k ps u (b ∷ bs) ok = thin-run k (joining ps b) (basic u b) bs (other_of _ _ ok) ∙ ap (λ v. world_after v bs) (thin-basic k ps u b (one_of _ _ ok))
+pub thin-run : (k : Alive) (u : World) (bs : List Basic) → every (is_closed k) bs ≡ true → thin k (world_after u bs) ≡ world_after (thin k u) bs
+thin-run k u [] ok = refl
+thin-run k u (b ∷ bs) ok = thin-run k (basic u b) bs (other_of _ _ ok) ∙ ap (λ v. world_after v bs) (thin-basic k u b (one_of _ _ ok))
 
 pub closed-run : (k : Alive) (u : World) (bs : List Basic) → every (is_closed k) bs ≡ true → Closed k u → Closed k (world_after u bs)
 closed-run k u [] ok c = c
@@ -329,13 +301,21 @@ closed-run k u (b ∷ bs) ok c = closed-run k (basic u b) bs (other_of _ _ ok) (
 -- a world from which rows have gone is this one without them
 pub record Behind (w u : World) : Type 0 where
   pub alive : Alive
-  pub stood : Lives
-  pub agree : Agree stood u
-  pub same : w ≡ thin alive stood u
+  pub same : w ≡ thin alive u
   pub closed : Closed alive u
 
+-- without a port, a process or a thread
+abbrev but_birth : Birth → (Birth → Bool) → Birth → Bool
+but_birth b f x = f x && not (same_birth x b)
+
 abbrev pub but : Birth → Alive → Alive
-but b k = λ x. k x && not (same_birth x b)
+but b k = record k { ports = but_birth b k.ports }
+
+abbrev but_process : World → Birth → Alive → Alive
+but_process u b k = record k { processes = but_birth b k.processes; homes = λ n. k.homes n && is_live u n }
+
+abbrev but_thread : Birth → Alive → Alive
+but_thread b k = record k { threads = but_birth b k.threads }
 
 swap : (a b : Birth) → same_birth a b ≡ false → same_birth b a ≡ false
 swap a b off = at (same_birth b a) refl
@@ -388,24 +368,54 @@ unnamed-of w b none =
       registrations = none-pass (same_birth b) (all_registrations w) (sum-second waits registered five);
     }
 
-handle-off : (k : Alive) (b : Birth) (h : HandleRow) → handle_closed k h ≡ true → not (same_object h.object (port_name b)) ≡ true → handle_closed (but b k) h ≡ true
-handle-off k b h ok off = grind arith
+-- a handle to another object
+port-apart : (k : Alive) (b : Birth) (s : ObjectKind) (x : Birth) → alive_as k s x ≡ true → not (same_kind s kind.Port && same_birth x b) ≡ true → alive_as (but b k) s x ≡ true
+port-apart k b kind.Port x live off = both _ _ live off
+port-apart k b kind.Section x live off = live
+port-apart k b kind.Token x live off = live
+port-apart k b kind.Process x live off = live
+port-apart k b kind.Thread x live off = live
 
-table-off : (k : Alive) (b : Birth) (t : HandleTable) → table_closed k t ≡ true → every (λ h. not (same_object h.object (port_name b))) t.rows ≡ true → table_closed (but b k) t ≡ true
-table-off k b t ok off = every-both (handle_closed k) (λ h. not (same_object h.object (port_name b))) (handle_closed (but b k)) (handle-off k b) t.rows ok off
+process-apart : (k : Alive) (u : World) (b : Birth) (s : ObjectKind) (x : Birth) → alive_as k s x ≡ true → not (same_kind s kind.Process && same_birth x b) ≡ true → alive_as (but_process u b k) s x ≡ true
+process-apart k u b kind.Port x live off = live
+process-apart k u b kind.Section x live off = live
+process-apart k u b kind.Token x live off = live
+process-apart k u b kind.Process x live off = both _ _ live off
+process-apart k u b kind.Thread x live off = live
 
-named-off : (k : Alive) (b : Birth) (o : Option Birth) → all_alive k o ≡ true → not (is_the b o) ≡ true → all_alive (but b k) o ≡ true
+thread-apart : (k : Alive) (b : Birth) (s : ObjectKind) (x : Birth) → alive_as k s x ≡ true → not (same_kind s kind.Thread && same_birth x b) ≡ true → alive_as (but_thread b k) s x ≡ true
+thread-apart k b kind.Port x live off = live
+thread-apart k b kind.Section x live off = live
+thread-apart k b kind.Token x live off = live
+thread-apart k b kind.Process x live off = live
+thread-apart k b kind.Thread x live off = both _ _ live off
+
+-- no handle names the object
+abbrev NoHandles : ObjectName → World → Type 0
+NoHandles o w = every (λ t. every (λ h. not (same_object h.object o)) t.rows) w.handles ≡ true
+
+tables-off : (k n : Alive) (o : ObjectName) (u : World) → ((s : ObjectKind) (x : Birth) → alive_as k s x ≡ true → not (same_kind s o.kind && same_birth x o.birth) ≡ true → alive_as n s x ≡ true) → NoHandles o u → every (table_closed k) u.handles ≡ true → every (table_closed n) u.handles ≡ true
+tables-off k n o u apart none all =
+    every-both (table_closed k) (λ t. every (λ h. not (same_object h.object o)) t.rows) (table_closed n)
+    (λ t closed off. every-both (handle_closed k) (λ h. not (same_object h.object o)) (handle_closed n) (λ h live off. apart h.object.kind h.object.birth live off) t.rows closed off) u.handles all none
+
+none-handles : (w : World) (o : ObjectName) → is_unheld w o ≡ true → NoHandles o w
+none-handles w o none =
+    let handles = handle_count w o in
+    every-each (λ h. not (same_object h.object o)) (λ t. t.rows) w.handles (none-pass (λ h. same_object h.object o) (all_handles w) (sum-first handles (holders w o.kind o.birth) (is-zero (handles + holders w o.kind o.birth) none)))
+
+named-off : (k : Alive) (b : Birth) (o : Option Birth) → all_alive k.ports o ≡ true → not (is_the b o) ≡ true → all_alive (but_birth b k.ports) o ≡ true
 named-off k b None ok off = refl
 named-off k b (Some x) ok off = rw (ok, swap b x (grind arith)) refl
 
-port-off : (k : Alive) (b : Birth) (p : PortRow) → port_closed k p ≡ true → (not (k p.birth) || (not (is_paired_to b p) && not (is_connected_to b p))) ≡ true → port_closed (but b k) p ≡ true
-port-off k b p ok off = at (k p.birth) refl
+port-off : (k : Alive) (b : Birth) (p : PortRow) → port_closed k p ≡ true → (not (k.ports p.birth) || (not (is_paired_to b p) && not (is_connected_to b p))) ≡ true → port_closed (but b k) p ≡ true
+port-off k b p ok off = at (k.ports p.birth) refl
   where
-    at : (e : Bool) → k p.birth ≡ e → port_closed (but b k) p ≡ true
+    at : (e : Bool) → k.ports p.birth ≡ e → port_closed (but b k) p ≡ true
     at false dead = rw dead refl
     at true live =
-        let pair : all_alive (but b k) p.pair ≡ true = named-off k b p.pair (grind arith) (grind arith) in
-        let connection : all_alive (but b k) p.connection ≡ true = named-off k b p.connection (grind arith) (grind arith) in
+        let pair : all_alive (but_birth b k.ports) p.pair ≡ true = named-off k b p.pair (grind arith) (grind arith) in
+        let connection : all_alive (but_birth b k.ports) p.connection ≡ true = named-off k b p.connection (grind arith) (grind arith) in
         rw (pair, connection) (grind arith)
 
 of-kept : {X : Type 0} (k s t : X → Bool) (xs : List X) → every (λ x. not (s x)) (which k xs) ≡ true → every (λ x. not (t x)) (which k xs) ≡ true → every (λ x. not (k x) || (not (s x) && not (t x))) xs ≡ true
@@ -420,25 +430,99 @@ cut-but : (k : Alive) (b : Birth) (ps : List PortRow) → every (is_lonely b) (w
 cut-but k b [] lonely cuts = refl
 cut-but k b (p ∷ ps) lonely cuts = grind (arith, cut-but k b ps)
 
-pub frees-one : (k : Alive) (ps : Lives) (u : World) (b : Birth) → Agree ps u → is_unheld (thin k ps u) (port_name b) ≡ true → every (is_lonely b) (thin k ps u).ports ≡ true → Closed k u → Closed (but b k) u
-frees-one k ps u b agree none lonely c =
-    let n = unnamed-of (thin k ps u) b none in
+pub frees-one : (k : Alive) (u : World) (b : Birth) → is_unheld (thin k u) (port_name b) ≡ true → every (is_lonely b) (thin k u).ports ≡ true → Closed k u → Closed (but b k) u
+frees-one k u b none lonely c =
+    let n = unnamed-of (thin k u) b none in
     record {
-      tables = every-both (table_closed k) (λ t. every (λ h. not (same_object h.object (port_name b))) t.rows) (table_closed (but b k)) (table-off k b) u.handles c.tables n.handles;
-      ports = every-both (port_closed k) (λ p. not (k p.birth) || (not (is_paired_to b p) && not (is_connected_to b p))) (port_closed (but b k)) (port-off k b) u.ports c.ports (of-kept (port_alive k) (is_paired_to b) (is_connected_to b) u.ports n.pairs n.connections);
+      tables = tables-off k (but b k) (port_name b) u (port-apart k b) n.handles c.tables;
+      ports = every-both (port_closed k) (λ p. not (k.ports p.birth) || (not (is_paired_to b p) && not (is_connected_to b p))) (port_closed (but b k)) (port-off k b) u.ports c.ports (of-kept (port_alive k) (is_paired_to b) (is_connected_to b) u.ports n.pairs n.connections);
       messages = every-both (message_closed k) (λ x. not (is_sent_on b x)) (message_closed (but b k)) (λ x ok off. grind arith) u.messages c.messages n.messages;
       waits = every-both (wait_closed k) (λ x. not (is_made_on b x)) (wait_closed (but b k)) (λ x ok off. grind arith) u.waits c.waits n.waits;
-      registrations = every-both k (λ c. not (same_birth b c)) (but b k) (λ c live off. both _ _ live (rw (swap b c (not-of (same_birth b c) off)) refl)) (all_registrations u) c.registrations (rw (registered-thin k ps u agree) at n.registrations);
+      registrations = every-both k.ports (λ c. not (same_birth b c)) (but_birth b k.ports) (λ d live off. both _ _ live (rw (swap b d (not-of (same_birth b d) off)) refl)) (all_registrations u) c.registrations (subst (λ bs. every (λ d. not (same_birth b d)) bs ≡ true) (registered-thin k u c) n.registrations);
       cuts = cut-but k b u.ports lonely c.cuts;
+      threads = c.threads;
+      processes = c.processes;
     }
   where
     not-of : (e : Bool) → not e ≡ true → e ≡ false
     not-of e is = grind arith
 
--- where a row of a thread goes, no thread of that birth lives
-lives-stay : (b : Birth) (ts : List ThreadRow) → every (λ t. not (is_life b t)) ts ≡ true → living (without (λ t. same_birth t.birth b) ts) ≡ living ts
-lives-stay b [] none = refl
-lives-stay b (t ∷ ts) none = grind (arith, lives-stay b ts)
+-- what holds of each row by a number that lives, holds of each row by its own
+every-self : {X : Type 0} (f : X → ℕ) (live : ℕ → Bool) (r : ℕ → X → Bool) (xs : List X) → ((n : ℕ) → live n ≡ true → every (r n) xs ≡ true) → every (λ x. not (live (f x)) || r (f x) x) xs ≡ true
+every-self f live r [] all = refl
+every-self f live r (x ∷ xs) all = both _ _ (at (live (f x)) refl) (every-self f live r xs (λ n is. other_of (r n x) _ (all n is)))
+  where
+    at : (e : Bool) → live (f x) ≡ e → (not e || r (f x) x) ≡ true
+    at true is = one_of _ _ (all (f x) is)
+    at false off = refl
+
+-- a thread that lives is one of its process's
+living-in : (ts : List ThreadRow) → every (λ t. not t.live || has (lives_in t.process) ts) ts ≡ true
+living-in [] = refl
+living-in (t ∷ ts) = both _ _ (at t.live refl) (every-more (λ x. not x.live || has (lives_in x.process) ts) (λ x. not x.live || has (lives_in x.process) (t ∷ ts)) (λ x is. more x (lives_in x.process t) refl is) ts (living-in ts))
+  where
+    at : (e : Bool) → t.live ≡ e → (not e || has (lives_in t.process) (t ∷ ts)) ≡ true
+    at true live = let here : lives_in t.process t ≡ true = rw (same-number t.process, live) refl in rw here refl
+    at false dead = refl
+
+    more : (x : ThreadRow) (e : Bool) → lives_in x.process t ≡ e → (not x.live || has (lives_in x.process) ts) ≡ true → (not x.live || has (lives_in x.process) (t ∷ ts)) ≡ true
+    more x true here is = rw here (or-last (not x.live) refl)
+    more x false off is = rw off is
+
+-- a process that no thread of its own lives in
+none-live : (k : Alive) (u : World) (b : Birth) → count (lives_by (thin k u) b) (thin k u).threads ≤ 0 → Closed k u → (n : ℕ) → is_live u n ≡ true → every (λ p. not (process_alive k p) || not (same_birth p.birth b && (p.number == n))) u.processes ≡ true
+none-live k u b none c n live = at (first (lives_in n) (thin k u).threads) refl (is_live-thin k u n c ∙ live)
+  where
+    at : (o : Option ThreadRow) → first (lives_in n) (thin k u).threads ≡ o → is_some o ≡ true → every (λ p. not (process_alive k p) || not (same_birth p.birth b && (p.number == n))) u.processes ≡ true
+    at None absent is = absurd (cc)
+    at (Some t) here is =
+        let passed : lives_in n t ≡ true = first-passes (lives_in n) (thin k u).threads t here in
+        let apart : not (lives_by (thin k u) b t) ≡ true = every-first (λ t. not (lives_by (thin k u) b t)) (lives_in n) (thin k u).threads t (none-pass (lives_by (thin k u) b) (thin k u).threads none) here in
+        let off : has (λ p. same_birth p.birth b && (p.number == t.process)) (thin k u).processes ≡ false = off-of t.live _ (other_of _ _ passed) apart in
+        subst (λ n. every (λ p. not (process_alive k p) || not (same_birth p.birth b && (p.number == n))) u.processes ≡ true) (eqb-true t.process n (one_of _ _ passed))
+        (none-which (process_alive k) (λ p. same_birth p.birth b && (p.number == t.process)) u.processes off)
+      where
+        off-of : (a d : Bool) → a ≡ true → not (a && d) ≡ true → d ≡ false
+        off-of a d is apart = grind arith
+
+frees-process : (k : Alive) (u : World) (b : Birth) → is_unheld (thin k u) (process_name b) ≡ true → Closed k u → Closed (but_process u b k) u
+frees-process k u b none c =
+    let v : World = thin k u in
+    let few = sum-second (handle_count v (process_name b)) (count (lives_by v b) v.threads) (is-zero (handle_count v (process_name b) + count (lives_by v b) v.threads) none) in
+    record {
+      tables = tables-off k (but_process u b k) (process_name b) u (process-apart k u b) (none-handles v (process_name b) none) c.tables;
+      ports = c.ports;
+      messages = c.messages;
+      waits = c.waits;
+      registrations = c.registrations;
+      cuts = c.cuts;
+      threads = every-both (thread_closed k) (λ t. not t.live || is_live u t.process) (thread_closed (but_process u b k)) (λ t closed lives. grind arith) u.threads c.threads (living-in u.threads);
+      processes = every-both (process_closed k) (λ p. not (is_live u p.number) || (not (process_alive k p) || not (same_birth p.birth b && (p.number == p.number)))) (process_closed (but_process u b k))
+          (λ p closed apart. goes (k.homes p.number) (is_live u p.number) (k.processes p.birth) (same_birth p.birth b) (p.number == p.number) (same-number p.number) closed apart) u.processes c.processes
+          (every-self (λ (p : ProcessRow). p.number) (is_live u) (λ n p. not (process_alive k p) || not (same_birth p.birth b && (p.number == n))) u.processes (none-live k u b few c));
+    }
+  where
+    goes : (h l a s e : Bool) → e ≡ true → (not h || a) ≡ true → (not l || (not a || not (s && e))) ≡ true → (not (h && l) || (a && not s)) ≡ true
+    goes h l a s e same closed apart = grind arith
+
+frees-thread : (k : Alive) (u : World) (b : Birth) → is_unheld (thin k u) (thread_name b) ≡ true → Closed k u → Closed (but_thread b k) u
+frees-thread k u b none c =
+    let v : World = thin k u in
+    let few = sum-second (handle_count v (thread_name b)) (count (is_life b) v.threads) (is-zero (handle_count v (thread_name b) + count (is_life b) v.threads) none) in
+    record {
+      tables = tables-off k (but_thread b k) (thread_name b) u (thread-apart k b) (none-handles v (thread_name b) none) c.tables;
+      ports = c.ports;
+      messages = c.messages;
+      waits = c.waits;
+      registrations = c.registrations;
+      cuts = c.cuts;
+      threads = every-both (thread_closed k) (λ t. not (thread_alive k t) || not (is_life b t)) (thread_closed (but_thread b k)) (λ t closed apart. goes t.live (k.threads t.birth) (k.homes t.process) (same_birth t.birth b) closed apart) u.threads c.threads
+          (none-which (thread_alive k) (is_life b) u.threads (has-off (is_life b) v.threads (none-pass (is_life b) v.threads few)));
+      processes = c.processes;
+    }
+  where
+    goes : (l a h s : Bool) → (not l || (a && h)) ≡ true → (not a || not (l && s)) ≡ true → (not l || ((a && not s) && h)) ≡ true
+    goes l a h s closed apart = grind arith
 
 lonely-at : (w : World) (b : Birth) → IsLinked w → is_unheld w (port_name b) ≡ true → every (is_lonely b) w.ports ≡ true
 lonely-at w b l none = every-more (λ p. not (is_unheld w (port_name p.birth)) || is_cut p) (is_lonely b) (λ p is. at p (is_port b p) refl is) w.ports (lonely w l)
@@ -450,29 +534,24 @@ lonely-at w b l none = every-more (λ p. not (is_unheld w (port_name p.birth)) |
 behind-one : (w u : World) (o : ObjectName) → IsLinked w → is_unheld w o ≡ true → Behind w u → Behind (basic w (Frees o)) u
 behind-one w u o l none r = at o.kind o.birth (subst (λ v. IsLinked v) r.same l) (subst (λ v. is_unheld v o ≡ true) r.same none)
   where
-    at : (s : ObjectKind) (b : Birth) → IsLinked (thin r.alive r.stood u) → is_unheld (thin r.alive r.stood u) (record { kind = s; birth = b }) ≡ true → Behind (freed w s b) u
+    at : (s : ObjectKind) (b : Birth) → IsLinked (thin r.alive u) → is_unheld (thin r.alive u) (record { kind = s; birth = b }) ≡ true → Behind (freed w s b) u
     at kind.Port b linked off = record {
       alive = but b r.alive;
-      stood = r.stood;
-      agree = r.agree;
-      same = ap (λ v. freed v kind.Port b) r.same ∙ ap (λ ps. record u { processes = r.stood.processes; threads = r.stood.threads; ports = ps }) (sym (which-but (port_alive r.alive) (is_port b) u.ports));
-      closed = frees-one r.alive r.stood u b r.agree off (lonely-at (thin r.alive r.stood u) b linked off) r.closed;
+      same = ap (λ v. freed v kind.Port b) r.same ∙ ap (λ ps. record (thin r.alive u) { ports = ps }) (sym (which-but (port_alive r.alive) (is_port b) u.ports));
+      closed = frees-one r.alive u b off (lonely-at (thin r.alive u) b linked off) r.closed;
     }
     at kind.Section b linked off = r
     at kind.Token b linked off = r
-    at kind.Process b linked off = record { alive = r.alive; stood = record { processes = without (λ p. same_birth p.birth b) r.stood.processes; threads = r.stood.threads }; agree = r.agree; same = ap (λ v. freed v kind.Process b) r.same; closed = r.closed }
-    at kind.Thread b linked off =
-        let v : World = thin r.alive r.stood u in
-        let handles = handle_count v (thread_name b) in
-        let lives = count (is_life b) r.stood.threads in
-        let few = sum-second handles lives (is-zero (handles + lives) off) in
-        record {
-          alive = r.alive;
-          stood = record { processes = r.stood.processes; threads = without (λ t. same_birth t.birth b) r.stood.threads };
-          agree = lives-stay b r.stood.threads (none-pass (is_life b) r.stood.threads few) ∙ r.agree;
-          same = ap (λ v. freed v kind.Thread b) r.same;
-          closed = r.closed;
-        }
+    at kind.Process b linked off = record {
+      alive = but_process u b r.alive;
+      same = ap (λ v. freed v kind.Process b) r.same ∙ ap (λ ps. record (thin r.alive u) { processes = ps }) (sym (which-but (process_alive r.alive) (λ p. same_birth p.birth b) u.processes));
+      closed = frees-process r.alive u b off r.closed;
+    }
+    at kind.Thread b linked off = record {
+      alive = but_thread b r.alive;
+      same = ap (λ v. freed v kind.Thread b) r.same ∙ ap (λ ts. record (thin r.alive u) { threads = ts }) (sym (which-but (thread_alive r.alive) (λ t. same_birth t.birth b) u.threads));
+      closed = frees-thread r.alive u b off r.closed;
+    }
 
 behind-all : (w u : World) (os : List ObjectName) → IsSoundWorld w → IsLinked w → every (is_unheld w) os ≡ true → Behind w u → Behind (world_after w (map Frees os)) u
 behind-all w u [] s l all r = r
