@@ -1,13 +1,13 @@
 // What a line says. A call or directive is an entry of its names and a case of its words.
-ghost use Rattle.std.specs.Prelude.{◌≡◌, ◌≤◌, codes, length, IfOk, IfSome, IsTrue};
+ghost use Rattle.std.specs.Prelude.{◌≡◌, ◌≤◌, ◌&&◌, codes, length, IfOk, IfSome, IsTrue};
 ghost use Rattle.std.specs.List.{list_all};
 ghost use Rattle.std.specs.Option.{option_copied, option_map};
 ghost use Rattle.lpc_base.specs.declared.limits.TheConstants.{LINE_LIMIT};
-ghost use Rattle.lpc_model.specs.declared.entry.CallName.TheVariants.{NtAcceptConnectPort, NtConnectPort, NtCreatePort, NtDuplicateObject};
+ghost use Rattle.lpc_model.specs.declared.entry.CallName.TheVariants.{NtAcceptConnectPort, NtConnectPort, NtCreatePort, NtCreateProcess, NtCreateThread, NtDuplicateObject, NtTerminateProcess, NtTerminateThread};
 ghost use Rattle.lpc_model.specs.declared.entry.Word.TheVariants.{Boot, Thread};
 ghost use Rattle.lpc_model.specs.Lines.{call_of, line_of};
-ghost use Rattle.lpc_model.specs.Words.{words};
-ghost use Rattle.lpc_model.specs.Grammar.{call_words, directive_words, has_ids};
+ghost use Rattle.lpc_model.specs.Words.{is_id, words};
+ghost use Rattle.lpc_model.specs.Grammar.{call_words, directive_words, has_call_ids, has_ids};
 ghost use Rattle.lpc_model.specs.Grammar as grammar;
 ghost use Rattle.lpc_script.specs.Gives.{Gives};
 
@@ -69,6 +69,28 @@ fn target(word: &[u8]) -> Result<ProcArg, LineFault>
     Ok(ProcArg::By(number(word)?))
 }
 
+/// The numbers of a new process and of its first thread.
+fn process_and_thread(text: &[u8]) -> Result<(u32, u32), LineFault>
+    ensures value { Gives (λ p. p) result (grammar.process_and_thread (words text.now)) }
+    ensures ids { IfOk result (λ p. IsTrue (is_id p.0 && is_id p.1)) }
+{
+    let (pid, tid) = two_words(text)?;
+    let pid = id(pid)?;
+    let tid = id(tid)?;
+    Ok((pid, tid))
+}
+
+/// The process that a thread is to be of, and the number of the thread.
+fn target_and_thread(text: &[u8]) -> Result<(ProcArg, u32), LineFault>
+    ensures value { Gives (λ p. p) result (grammar.target_and_thread (words text.now)) }
+    ensures ids { IfOk result (λ p. IsTrue (is_id p.1)) }
+{
+    let (word, tid) = two_words(text)?;
+    let target = target(word)?;
+    let tid = id(tid)?;
+    Ok((target, tid))
+}
+
 fn target_and_code(text: &[u8]) -> Result<(ProcArg, u32), LineFault>
     ensures { Gives (λ p. p) result (grammar.target_and_code (words text.now)) }
 {
@@ -124,7 +146,8 @@ fn handle_and_reply<'a>(
 
 #[tactic(auto, unfolding(lpc_model::specs::Grammar::call_words))]
 fn create_port(text: &[u8]) -> Result<Call<'_>, LineFault>
-    ensures { Gives call_of result (call_words NtCreatePort (words text.now)) }
+    ensures value { Gives call_of result (call_words NtCreatePort (words text.now)) }
+    ensures ids { IfOk result (λ call. IsTrue (has_call_ids (call_of call))) }
 {
     let word = one_word(text)?;
     if word == b"-".as_slice() {
@@ -136,7 +159,8 @@ fn create_port(text: &[u8]) -> Result<Call<'_>, LineFault>
 #[tactic(auto, unfolding(lpc_model::specs::Grammar::call_words))]
 fn connect_port<'a>(text: &'a [u8], scratch: &'a mut Scratch) -> Result<Call<'a>, LineFault>
     requires { length text.now ≤ LINE_LIMIT }
-    ensures { Gives call_of result (call_words NtConnectPort (words text.now)) }
+    ensures value { Gives call_of result (call_words NtConnectPort (words text.now)) }
+    ensures ids { IfOk result (λ call. IsTrue (has_call_ids (call_of call))) }
 {
     let (name, qos, view, info) = four_words(text)?;
     dash(qos)?;
@@ -147,7 +171,8 @@ fn connect_port<'a>(text: &'a [u8], scratch: &'a mut Scratch) -> Result<Call<'a>
 
 #[tactic(auto, unfolding(lpc_model::specs::Grammar::call_words))]
 fn duplicate_object<'a>(text: &[u8]) -> Result<Call<'a>, LineFault>
-    ensures { Gives call_of result (call_words NtDuplicateObject (words text.now)) }
+    ensures value { Gives call_of result (call_words NtDuplicateObject (words text.now)) }
+    ensures ids { IfOk result (λ call. IsTrue (has_call_ids (call_of call))) }
 {
     let (handle, rights) = two_words(text)?;
     let handle = number(handle)?;
@@ -158,7 +183,8 @@ fn duplicate_object<'a>(text: &[u8]) -> Result<Call<'a>, LineFault>
 #[tactic(auto, unfolding(lpc_model::specs::Grammar::call_words))]
 fn accept_connect_port<'a>(text: &[u8], scratch: &'a mut Scratch) -> Result<Call<'a>, LineFault>
     requires { length text.now ≤ LINE_LIMIT }
-    ensures { Gives call_of result (call_words NtAcceptConnectPort (words text.now)) }
+    ensures value { Gives call_of result (call_words NtAcceptConnectPort (words text.now)) }
+    ensures ids { IfOk result (λ call. IsTrue (has_call_ids (call_of call))) }
 {
     let (context, message, verdict, view) = four_words(text)?;
     let context = number(context)?;
@@ -172,11 +198,48 @@ fn accept_connect_port<'a>(text: &[u8], scratch: &'a mut Scratch) -> Result<Call
     })
 }
 
+#[tactic(auto, unfolding(lpc_model::specs::Grammar::call_words))]
+fn create_process<'a>(text: &[u8]) -> Result<Call<'a>, LineFault>
+    ensures value { Gives call_of result (call_words NtCreateProcess (words text.now)) }
+    ensures ids { IfOk result (λ call. IsTrue (has_call_ids (call_of call))) }
+{
+    let (pid, tid) = process_and_thread(text)?;
+    Ok(Call::CreateProcess { pid, tid })
+}
+
+#[tactic(auto, unfolding(lpc_model::specs::Grammar::call_words))]
+fn create_thread<'a>(text: &[u8]) -> Result<Call<'a>, LineFault>
+    ensures value { Gives call_of result (call_words NtCreateThread (words text.now)) }
+    ensures ids { IfOk result (λ call. IsTrue (has_call_ids (call_of call))) }
+{
+    let (process, tid) = target_and_thread(text)?;
+    Ok(Call::CreateThread { process, tid })
+}
+
+#[tactic(auto, unfolding(lpc_model::specs::Grammar::call_words))]
+fn terminate_thread<'a>(text: &[u8]) -> Result<Call<'a>, LineFault>
+    ensures value { Gives call_of result (call_words NtTerminateThread (words text.now)) }
+    ensures ids { IfOk result (λ call. IsTrue (has_call_ids (call_of call))) }
+{
+    let (target, code) = target_and_code(text)?;
+    Ok(Call::TerminateThread { target, code })
+}
+
+#[tactic(auto, unfolding(lpc_model::specs::Grammar::call_words))]
+fn terminate_process<'a>(text: &[u8]) -> Result<Call<'a>, LineFault>
+    ensures value { Gives call_of result (call_words NtTerminateProcess (words text.now)) }
+    ensures ids { IfOk result (λ call. IsTrue (has_call_ids (call_of call))) }
+{
+    let (target, code) = target_and_code(text)?;
+    Ok(Call::TerminateProcess { target, code })
+}
+
 /// A call by the words behind its name.
 #[tactic(auto, unfolding(lpc_model::specs::Grammar::call_words))]
 fn call<'a>(name: CallName, text: &'a [u8], scratch: &'a mut Scratch) -> Result<Call<'a>, LineFault>
     requires { length text.now ≤ LINE_LIMIT }
-    ensures { Gives call_of result (call_words name (words text.now)) }
+    ensures value { Gives call_of result (call_words name (words text.now)) }
+    ensures ids { IfOk result (λ call. IsTrue (has_call_ids (call_of call))) }
 {
     match name {
         CallName::NtCreatePort => create_port(text),
@@ -219,14 +282,10 @@ fn call<'a>(name: CallName, text: &'a [u8], scratch: &'a mut Scratch) -> Result<
             let handle = one_handle(text)?;
             Ok(Call::QueryObject { handle })
         }
-        CallName::NtTerminateThread => {
-            let (target, code) = target_and_code(text)?;
-            Ok(Call::TerminateThread { target, code })
-        }
-        CallName::NtTerminateProcess => {
-            let (target, code) = target_and_code(text)?;
-            Ok(Call::TerminateProcess { target, code })
-        }
+        CallName::NtCreateProcess => create_process(text),
+        CallName::NtCreateThread => create_thread(text),
+        CallName::NtTerminateThread => terminate_thread(text),
+        CallName::NtTerminateProcess => terminate_process(text),
     }
 }
 
@@ -236,9 +295,7 @@ fn boot(text: &[u8]) -> Result<Line<'_>, LineFault>
     ensures value { Gives line_of result (directive_words Boot (words text.now)) }
     ensures ids { IfOk result (λ line. IsTrue (has_ids (line_of line))) }
 {
-    let (pid, tid) = two_words(text)?;
-    let pid = id(pid)?;
-    let tid = id(tid)?;
+    let (pid, tid) = process_and_thread(text)?;
     Ok(Line::Boot { pid, tid })
 }
 

@@ -8,12 +8,12 @@ use Rattle.lpc_model.specs.Grammar.{call_named, directive_named}
 use Rattle.lpc_model.specs.Text.{eight_digits, call_text, word_text, name_text, kind_text, value_text, fields_text, by_text, rest_text}
 use Rattle.lpc_model.specs.TextLaws.{Sort, in_decimal, in_hexadecimal, as_kind, as_bytes, is_of_sort}
 use Rattle.lpc_model.specs.declared.entry.CallName.{CallName}
-use Rattle.lpc_model.specs.declared.entry.CallName.TheVariants.{NtCreatePort, NtConnectPort, NtListenPort, NtAcceptConnectPort, NtCompleteConnectPort, NtRequestPort, NtRequestWaitReplyPort, NtReplyPort, NtReplyWaitReceivePort, NtRegisterThreadTerminatePort, NtClose, NtDuplicateObject, NtQueryObject, NtTerminateProcess, NtTerminateThread}
+use Rattle.lpc_model.specs.declared.entry.CallName.TheVariants.{NtCreatePort, NtConnectPort, NtListenPort, NtAcceptConnectPort, NtCompleteConnectPort, NtRequestPort, NtRequestWaitReplyPort, NtReplyPort, NtReplyWaitReceivePort, NtRegisterThreadTerminatePort, NtClose, NtDuplicateObject, NtQueryObject, NtCreateProcess, NtCreateThread, NtTerminateProcess, NtTerminateThread}
 use Rattle.lpc_model.specs.declared.entry.Entry.{Entry}
 use Rattle.lpc_model.specs.declared.entry.Entry.TheVariants.{Answer, Waits, Wakes, Busy, NoThread, Died, Directive}
 use Rattle.lpc_model.specs.declared.entry.Field.{Field}
 use Rattle.lpc_model.specs.declared.entry.FieldName.{FieldName}
-use Rattle.lpc_model.specs.declared.entry.FieldName.TheVariants.{H, Id, Ctx, Msg, Data, Max, Info, ObjectType, Access, Handles, Pointers}
+use Rattle.lpc_model.specs.declared.entry.FieldName.TheVariants.{H, FirstThread, Id, Ctx, Msg, Data, Max, Info, ObjectType, Access, Handles, Pointers}
 use Rattle.lpc_model.specs.declared.entry.Value.{Value}
 use Rattle.lpc_model.specs.declared.entry.Value.TheVariants.{Number, Hex, Kind, Bytes}
 use Rattle.lpc_model.specs.declared.entry.ObjectKind.{ObjectKind}
@@ -91,6 +91,8 @@ call_named-text NtRegisterThreadTerminatePort = refl
 call_named-text NtClose = refl
 call_named-text NtDuplicateObject = refl
 call_named-text NtQueryObject = refl
+call_named-text NtCreateProcess = refl
+call_named-text NtCreateThread = refl
 call_named-text NtTerminateThread = refl
 call_named-text NtTerminateProcess = refl
 
@@ -113,6 +115,8 @@ call_plain NtRegisterThreadTerminatePort = refl
 call_plain NtClose = refl
 call_plain NtDuplicateObject = refl
 call_plain NtQueryObject = refl
+call_plain NtCreateProcess = refl
+call_plain NtCreateThread = refl
 call_plain NtTerminateThread = refl
 call_plain NtTerminateProcess = refl
 
@@ -146,11 +150,13 @@ read_name text =
     else (if bytes_eq text (codes "type") then ObjectType
     else (if bytes_eq text (codes "access") then Access
     else (if bytes_eq text (codes "handles") then Handles
-    else (if bytes_eq text (codes "pointers") then Pointers else Data)))))))))
+    else (if bytes_eq text (codes "pointers") then Pointers
+    else (if bytes_eq text (codes "thread") then FirstThread else Data))))))))))
 
 read_name-text : (name : FieldName) → read_name (name_text name) ≡ name
 unfolding read_name
 read_name-text H = refl
+read_name-text FirstThread = refl
 read_name-text Id = refl
 read_name-text Ctx = refl
 read_name-text Msg = refl
@@ -167,6 +173,7 @@ name_unique a b e = sym (read_name-text a) ∙ ap read_name e ∙ read_name-text
 
 pub name_plain : (name : FieldName) → is_plain (name_text name) ≡ true
 name_plain H = refl
+name_plain FirstThread = refl
 name_plain Id = refl
 name_plain Ctx = refl
 name_plain Msg = refl

@@ -83,6 +83,7 @@ pub(crate) fn field_name(name: FieldName) -> &'static [u8]
 {
     match name {
         FieldName::H => b"h",
+        FieldName::FirstThread => b"thread",
         FieldName::Id => b"id",
         FieldName::Ctx => b"ctx",
         FieldName::Msg => b"msg",
