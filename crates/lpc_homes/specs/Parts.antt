@@ -1,5 +1,6 @@
 -- The handles of each process: which part of the world they stand in.
-use Rattle.std.specs.Prelude.{ℕ, ◌+◌, ◌-◌, ◌<◌, ◌==◌, Bool, List, [], length, Option, Some, None, if◌then◌else◌}
+use Rattle.std.specs.Prelude.{ℕ, ◌+◌, ◌-◌, ◌<◌, ◌==◌, Bool, false, List, [], length, Option, Some, None, if◌then◌else◌}
+use Rattle.lpc_base.specs.Births.{same_birth}
 use Rattle.lpc_base.specs.Rows.{change, differ_by, each, first, has, without_first}
 use Rattle.lpc_base.specs.declared.limits.TheConstants.{HANDLE_LIMIT}
 use Rattle.lpc_handles.specs.Handles as handles
@@ -65,15 +66,25 @@ closing pid value parts = change (is_part pid) (closed value) parts
 abbrev pub HasFew : List Part → ℕ → Type 0
 HasFew parts pid = length (rows_at parts pid) < HANDLE_LIMIT
 
--- an object is the port, and a handle of the part names it
-abbrev pub is_the_port : Key → Object → Bool
-is_the_port port (object.Port key) = is_key key port
+-- the key of the port that an object is, none of another kind
+abbrev pub port_of : Object → Option Key
+port_of (object.Port key) = Some key
+port_of (object.Process birth) = None
+port_of (object.Thread birth) = None
 
-abbrev pub names_it : Key → ℕ × Row Object → Bool
-names_it port row = is_the_port port row.1.object
+-- an object is this one: a port of the same key, or a process or thread of the same birth
+abbrev pub is_object : Object → Object → Bool
+is_object (object.Port key) (object.Port other) = is_key other key
+is_object (object.Process birth) (object.Process other) = same_birth other birth
+is_object (object.Thread birth) (object.Thread other) = same_birth other birth
+is_object one other = false
 
-abbrev pub has_name_of : Key → Part → Bool
-has_name_of port part = has (names_it port) part.handles.rows
+-- a handle names the object, and a handle of the part does
+abbrev pub names_it : Object → ℕ × Row Object → Bool
+names_it object row = is_object object row.1.object
+
+abbrev pub has_name_of : Object → Part → Bool
+has_name_of object part = has (names_it object) part.handles.rows
 
 -- the handles of all processes
 abbrev pub all_rows : List Part → List (ℕ × Row Object)

@@ -1,22 +1,29 @@
 // What a handle names.
 ghost use Rattle.std.specs.Prelude.{◌≡◌};
-ghost use Rattle.lpc_homes.specs.declared.object.Object.TheVariants as object;
+ghost use Rattle.lpc_homes.specs.Parts.{port_of};
 
+use lpc_base::Birth;
 use lpc_slots::Key;
 
-/// What a handle names: a port, by its key.
+/// What a handle names.
 #[derive(Clone, Copy, PartialEq, Eq)]
 pub enum Object {
+    /// A port, by its key.
     Port(Key),
+    /// A process, by the name that it was made under.
+    Process(Birth),
+    /// A thread, by the name that it was made under.
+    Thread(Birth),
 }
 
 impl Object {
-    /// The key of the port that the object is.
-    pub fn port(self) -> Key
-        ensures { object.Port result ≡ self }
+    /// The key of the port that the object is: None exactly for another kind.
+    pub fn port(self) -> Option<Key>
+        ensures { result ≡ port_of self }
     {
         match self {
-            Object::Port(port) => port,
+            Object::Port(port) => Some(port),
+            Object::Process(_) | Object::Thread(_) => None,
         }
     }
 }

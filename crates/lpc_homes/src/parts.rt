@@ -99,15 +99,15 @@ pub fn close_handle(parts: &mut Vec<Part>, pid: u32, value: u32)
     parts[index].handles.close(value);
 }
 
-/// How many handles of all processes name the port.
-pub fn handles_to(parts: &[Part], port: Key) -> usize
+/// How many handles of all processes name the object.
+pub fn handles_to(parts: &[Part], object: Object) -> usize
     requires few { length parts.now ≤ 16 * LINES_LIMIT }
-    ensures count { result ≡ count (names_it port) (all_rows parts.now) }
+    ensures count { result ≡ count (names_it object) (all_rows parts.now) }
     ensures bound { result ≤ HANDLE_LIMIT * length parts.now }
 {
     let mut named = 0;
     for part in parts {
-        named += part.handles.count_of(Object::Port(port));
+        named += part.handles.count_of(object);
     }
     named
 }
@@ -115,17 +115,17 @@ pub fn handles_to(parts: &[Part], port: Key) -> usize
 /// A handle of the process names the port.
 pub fn reaches_port(parts: &[Part], pid: u32, port: Key) -> bool
     requires { has (is_part pid) parts.now ≡ true }
-    ensures { result ≡ has (names_it port) (rows_at parts.now pid) }
+    ensures { result ≡ has (names_it (Object.Port port)) (rows_at parts.now pid) }
 {
     handles_of(parts, pid).names(Object::Port(port))
 }
 
-/// A handle of some process names the port.
-pub fn names_port(parts: &[Part], port: Key) -> bool
-    ensures { result ≡ has (has_name_of port) parts.now }
+/// A handle of some process names the object.
+pub fn names(parts: &[Part], object: Object) -> bool
+    ensures { result ≡ has (has_name_of object) parts.now }
 {
     for part in parts {
-        if part.handles.names(Object::Port(port)) {
+        if part.handles.names(object) {
             return true;
         }
     }

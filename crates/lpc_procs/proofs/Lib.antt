@@ -1,2 +1,3 @@
+pub mod Counts
 pub mod Few
 pub mod Keeping

@@ -1,9 +1,12 @@
 -- What the table keeps of its rows and numbers.
-use Rattle.std.specs.Prelude.{ℕ, ◌≡◌, ◌==◌, Bool, true, false, nat_lt, List, Option, Some, None}
-use Rattle.lpc_base.specs.Rows.{differ_by, every, first}
+use Rattle.std.specs.Prelude.{ℕ, ◌≡◌, ◌==◌, ◌&&◌, Bool, true, false, map, nat_lt, List, Option, Some, None}
+use Rattle.lpc_base.specs.declared.birth.Birth.{Birth}
+use Rattle.lpc_base.specs.Rows.{change, count, differ_by, every, first}
+use Rattle.lpc_procs.specs.declared.rows.Counted.{Counted}
+use Rattle.lpc_procs.specs.declared.rows.ProcessRow.{ProcessRow}
 use Rattle.lpc_procs.specs.declared.rows.ThreadRow.{ThreadRow}
 use Rattle.lpc_procs.specs.declared.rows.UsedThread.{UsedThread}
-use Rattle.lpc_procs.specs.Procs.{is_used_thread}
+use Rattle.lpc_procs.specs.Procs.{is_made_by, is_process, is_process_born, is_used_thread, lives_in}
 
 -- a used number is of a process
 abbrev pub is_of : ℕ → Option UsedThread → Bool
@@ -22,8 +25,48 @@ are_single threads = differ_by (λ t. t.number) threads
 abbrev pub is_below : ℕ → ThreadRow → Bool
 is_below n t = nat_lt t.number n
 
+-- the processes, and the counts that stand beside them
+abbrev pub process_rows : List Counted → List ProcessRow
+process_rows rows = map (λ p. p.row) rows
+
+-- the count beside a process is that of its live threads
+abbrev pub is_counted : List ThreadRow → Counted → Bool
+is_counted threads p = p.live == count (lives_in p.row.number) threads
+
+-- a process has the number; it was made under the name; it is live, as its count tells
+abbrev pub has_number : ℕ → Counted → Bool
+has_number pid p = is_process pid p.row
+
+abbrev pub has_name : Birth → Counted → Bool
+has_name b p = is_process_born b p.row
+
+abbrev pub is_peopled : Counted → Bool
+is_peopled p = nat_lt 0 p.live
+
+-- a live process that this one made, as its count tells
+abbrev pub is_peopled_child : ℕ → Counted → Bool
+is_peopled_child pid p = is_made_by pid p.row && is_peopled p
+
+-- the count of a process that was found
+abbrev pub lives_in_first : Option Counted → ℕ
+lives_in_first None = 0
+lives_in_first (Some p) = p.live
+
+-- a process with this count beside it
+abbrev pub counting : ℕ → Counted → Counted
+counting live p = record p { live = live }
+
+-- the processes with the live threads of one counted anew
+abbrev pub recounted : List ThreadRow → ℕ → List Counted → List Counted
+recounted threads pid rows = change (has_number pid) (counting (count (lives_in pid) threads)) rows
+
 -- each thread's number is noted and below the limit of numbers, and no two threads have one
 pub record IsKept (threads : List ThreadRow) (used : List UsedThread) : Type 0 where
   pub noted : every (is_noted used) threads ≡ true
   pub single : are_single threads ≡ true
   pub low : every (is_below 2147483648) threads ≡ true
+
+-- what the table keeps: that, and the counts beside the processes
+pub record AreKept (processes : List Counted) (threads : List ThreadRow) (used : List UsedThread) : Type 0 where
+  pub rows : IsKept threads used
+  pub counts : every (is_counted threads) processes ≡ true

@@ -1,10 +1,13 @@
 -- What contracts see of processes and threads.
 use Rattle.std.specs.Prelude.{ℕ, ◌+◌, ◌-◌, ◌^◌, ◌<◌, ◌≤◌, ◌==◌, ◌&&◌, ◌++◌, ◌∷◌, Bool, false, List, [], is_some, length, max, not, option_and_then, option_map, Option, slice_get}
-use Rattle.lpc_base.specs.Rows.{change, each, first, has, when, without}
+use Rattle.lpc_base.specs.Births.{same_birth}
+use Rattle.lpc_base.specs.Rows.{change, each, first, has, passes, when, without}
 use Rattle.lpc_base.specs.declared.birth.Birth.{Birth}
 use Rattle.lpc_base.specs.declared.limits.TheConstants.{REGISTRATION_LIMIT}
 use Rattle.lpc_message.specs.declared.message.ClientId.{ClientId}
 use Rattle.lpc_slots.specs.declared.Key.{Key}
+use Rattle.lpc_procs.specs.declared.rows.BornThread.{BornThread}
+use Rattle.lpc_procs.specs.declared.rows.Life.{Life}
 use Rattle.lpc_procs.specs.declared.rows.Number.{Number}
 use Rattle.lpc_procs.specs.declared.rows.Number.TheVariants as number
 use Rattle.lpc_procs.specs.declared.rows.ProcessRow.{ProcessRow}
@@ -49,13 +52,6 @@ process_at s pid = first (is_process pid) s.processes
 abbrev pub thread_at : Table → ℕ → Option ThreadRow
 thread_at s tid = first (is_thread tid) s.threads
 
--- the table without the process of a number, and without the thread of a number, with this room for more
-abbrev pub without_process : Table → ℕ → ℕ → Table
-without_process s pid room = record s { processes = without (is_process pid) s.processes; process_room = room }
-
-abbrev pub without_thread : Table → ℕ → ℕ → Table
-without_thread s tid room = record s { threads = without (is_thread tid) s.threads; thread_room = room }
-
 -- a thread is live and of the process, and a thread is live and has the number
 abbrev pub lives_in : ℕ → ThreadRow → Bool
 lives_in pid t = (t.process == pid) && t.live
@@ -67,16 +63,12 @@ is_live_thread tid t = (t.number == tid) && t.live
 abbrev pub is_live_client : ClientId → ThreadRow → Bool
 is_live_client client t = (t.number == client.thread) && ((t.process == client.process) && t.live)
 
--- a thread is of the process, live or ended; no thread is of it
-abbrev pub is_in : ℕ → ThreadRow → Bool
-is_in pid t = t.process == pid
+-- a process was made by this one, and is live
+abbrev pub is_made_by : ℕ → ProcessRow → Bool
+is_made_by pid p = passes p.maker (λ maker. maker == pid)
 
-abbrev pub lacks_threads : List ThreadRow → ProcessRow → Bool
-lacks_threads threads p = not (has (is_in p.number) threads)
-
--- a thread has ended
-abbrev pub has_ended : ThreadRow → Bool
-has_ended t = not t.live
+abbrev pub is_live_child : List ThreadRow → ℕ → ProcessRow → Bool
+is_live_child threads pid p = is_made_by pid p && has (lives_in p.number) threads
 
 -- the number of the first thread that passes, and of the first process that does
 abbrev pub first_thread : (ThreadRow → Bool) → Table → Option ℕ
@@ -85,6 +77,42 @@ first_thread test s = option_map (λ t. t.number) (first test s.threads)
 abbrev pub first_process : (ProcessRow → Bool) → Table → Option ℕ
 first_process test s = option_map (λ p. p.number) (first test s.processes)
 
+-- Names
+-- a process was made under the name, and a thread was
+abbrev pub is_process_born : Birth → ProcessRow → Bool
+is_process_born b p = same_birth p.birth b
+
+abbrev pub is_thread_born : Birth → ThreadRow → Bool
+is_thread_born b t = same_birth t.birth b
+
+-- a live thread of the name; a live thread of a process of the name
+abbrev pub is_life : Birth → ThreadRow → Bool
+is_life b t = t.live && is_thread_born b t
+
+abbrev pub lives_by : Table → Birth → ThreadRow → Bool
+lives_by s b t = t.live && has (λ p. is_process_born b p && is_process t.process p) s.processes
+
+-- the name of a thread and whether it is live; the same of a process, which is live where a live thread is of it
+abbrev pub thread_life : ThreadRow → Life
+thread_life t = record { birth = t.birth; live = t.live }
+
+abbrev pub process_life : List ThreadRow → ProcessRow → Life
+process_life threads p = record { birth = p.birth; live = has (lives_in p.number) threads }
+
+-- the first thread of the name, as it is told
+abbrev pub born_thread : ThreadRow → BornThread
+born_thread t = record { number = t.number; process = t.process; live = t.live }
+
+abbrev pub thread_born : Table → Birth → Option BornThread
+thread_born s b = option_map born_thread (first (is_thread_born b) s.threads)
+
+-- the table without the processes of the name, and without the threads of the name, with this room for more
+abbrev pub without_process_born : Table → Birth → ℕ → Table
+without_process_born s b room = record s { processes = without (is_process_born b) s.processes; process_room = room }
+
+abbrev pub without_thread_born : Table → Birth → ℕ → Table
+without_thread_born s b room = record s { threads = without (is_thread_born b) s.threads; thread_room = room }
+
 -- Registrations
 -- the registration of a port that was made under a name
 abbrev pub registration : Key → Birth → Registration
@@ -92,7 +120,7 @@ registration port birth = record { port = port; birth = birth }
 
 -- a registration is of the port that was made under a name
 abbrev pub is_of_birth : Birth → Registration → Bool
-is_of_birth b r = (b.maker == r.birth.maker) && ((b.ordinal == r.birth.ordinal) && (b.process == r.birth.process))
+is_of_birth b r = same_birth b r.birth
 
 -- a thread registered the port with a birth
 abbrev pub has_registered : Birth → ThreadRow → Bool

@@ -1,10 +1,11 @@
 //! Processes and threads, the numbers that were ever used, what threads draw, and the ports that they registered.
 #![tactic(auto)]
 
+mod births;
 mod lists;
 mod procs;
 mod registrations;
 mod rows;
 
 pub use procs::Procs;
-pub use rows::{Number, ProcessRow, Registration, ThreadRow, UsedThread};
+pub use rows::{BornThread, Life, Number, ProcessRow, Registration, ThreadRow, UsedThread};

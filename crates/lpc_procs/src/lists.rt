@@ -1,20 +1,22 @@
 // Searches and changes of plain lists of rows.
-ghost use Rattle.std.specs.Prelude.{◌≡◌, ◌==◌, ◌≤◌, option_map, vec_len, vec_capacity};
-ghost use Rattle.lpc_base.specs.Rows.{count, first, has, without};
+ghost use Rattle.std.specs.Prelude.{◌≡◌, ◌==◌, option_map, vec_len, vec_capacity};
+ghost use Rattle.lpc_base.specs.Rows.{count, first, has};
+ghost use Rattle.lpc_procs.specs.Kept.{process_rows, recounted};
 ghost use Rattle.lpc_procs.specs.Procs as procs;
-ghost use Rattle.lpc_procs.specs.Procs.{has_ended, is_in, is_live_client, is_live_thread, is_process, is_thread, is_used_thread, lacks_threads, lives_in, used_process};
+ghost use Rattle.lpc_procs.specs.Procs.{is_live_client, is_live_thread, is_process, is_used_thread, lives_in, used_process};
 
+use crate::rows::Counted;
 use crate::{ProcessRow, ThreadRow, UsedThread};
 use lpc_base::Birth;
 use lpc_message::ClientId;
 
 /// The process that has the number.
-pub fn process_at(rows: &[ProcessRow], pid: u32) -> Option<ProcessRow>
-    ensures { result ≡ first (is_process pid) rows.now }
+pub fn process_at(rows: &[Counted], pid: u32) -> Option<ProcessRow>
+    ensures { result ≡ first (is_process pid) (process_rows rows.now) }
 {
     for p in rows {
-        if p.number == pid {
-            return Some(*p);
+        if p.row.number == pid {
+            return Some(p.row);
         }
     }
     None
@@ -133,58 +135,18 @@ pub fn first_live(threads: &[ThreadRow], pid: u32) -> Option<u32>
     None
 }
 
-/// The number of the first thread that has ended.
-pub fn first_ended(threads: &[ThreadRow]) -> Option<u32>
-    ensures { result ≡ option_map (λ t. t.number) (first has_ended threads.now) }
-{
-    for t in threads {
-        if !t.live {
-            return Some(t.number);
-        }
-    }
-    None
-}
-
-/// A thread is of the process, live or ended.
-pub fn has_thread(threads: &[ThreadRow], pid: u32) -> bool
-    ensures { result ≡ has (is_in pid) threads.now }
-{
-    for t in threads {
-        if t.process == pid {
-            return true;
-        }
-    }
-    false
-}
-
-/// The number of the first process that no thread is of.
-pub fn first_empty(rows: &[ProcessRow], threads: &[ThreadRow]) -> Option<u32>
-    ensures { result ≡ option_map (λ p. p.number) (first (lacks_threads threads.now) rows.now) }
-{
-    for p in rows {
-        if !has_thread(threads, p.number) {
-            return Some(p.number);
-        }
-    }
-    None
-}
-
-/// Takes away the process that has the number.
-pub fn remove_process(rows: &mut Vec<ProcessRow>, pid: u32)
-    ensures rows { rows.new.items ≡ without (is_process pid) rows.old.items }
-    ensures fewer { vec_len rows.new ≤ vec_len rows.old }
+/// Counts the live threads of a process anew.
+pub fn recount(rows: &mut Vec<Counted>, threads: &[ThreadRow], pid: u32)
+    ensures rows { rows.new.items ≡ recounted threads.now pid rows.old.items }
+    ensures len { vec_len rows.new ≡ vec_len rows.old }
     ensures room { vec_capacity rows.new ≡ vec_capacity rows.old }
 {
-    rows.retain(|p| p.number != pid);
-}
-
-/// Takes away the thread that has the number.
-pub fn remove_thread(rows: &mut Vec<ThreadRow>, tid: u32)
-    ensures rows { rows.new.items ≡ without (is_thread tid) rows.old.items }
-    ensures fewer { vec_len rows.new ≤ vec_len rows.old }
-    ensures room { vec_capacity rows.new ≡ vec_capacity rows.old }
-{
-    rows.retain(|t| t.number != tid);
+    let live = live_in(threads, pid);
+    for p in rows.iter_mut() {
+        if p.row.number == pid {
+            p.live = live;
+        }
+    }
 }
 
 /// The name of the object that a thread makes next.

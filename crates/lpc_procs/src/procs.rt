@@ -1,13 +1,17 @@
 // The table of processes and threads.
-ghost use Rattle.std.specs.Prelude.{◌≡◌, ◌-◌, ◌*◌, ◌<◌, ◌≤◌, ◌++◌, ◌∷◌, [], true, false, length, is_some, option_map, Some, IsSomeAnd, OnOk, OnErr, IfSome};
+ghost use Rattle.std.specs.Prelude.{◌≡◌, ◌-◌, ◌*◌, ◌<◌, ◌≤◌, ◌++◌, ◌∷◌, [], true, false, length, is_some, option_map, slice_get, Some, IsSomeAnd, OnOk, OnErr, IfSome};
 ghost use Rattle.std.specs.List.{position};
 ghost use Rattle.lpc_base.specs.Room.{grown_room};
 ghost use Rattle.lpc_base.specs.Rows.{count, first, has};
 ghost use Rattle.lpc_base.specs.declared.limits.TheConstants.{REGISTRATION_LIMIT};
 ghost use Rattle.lpc_procs.specs.Procs as procs;
-ghost use Rattle.lpc_procs.specs.Procs.{HasIdentifierLeft, HasOrdinalLeft, HasRegistrationLeft, IsNumber, all_registrations, birth_of, ended, first_process, first_thread, first_untold, has_ended, has_registered, is_live_client, is_live_thread, is_of_birth, is_thread, lacks_threads, live_registrations, lives_in, most_rows, nothing, past_birth, past_identifier, process_at, registering, registration, thread_at, unregistering, used_process, with_room, with_thread, without_process, without_thread};
+ghost use Rattle.lpc_procs.specs.Procs.{HasIdentifierLeft, HasOrdinalLeft, HasRegistrationLeft, IsNumber, all_registrations, birth_of, ended, first_process, first_thread, first_untold, has_registered, is_life, is_live_child, is_live_client, is_live_thread, is_of_birth, is_process_born, is_thread, live_registrations, lives_by, lives_in, most_rows, nothing, past_birth, past_identifier, process_at, process_life, registering, registration, thread_at, thread_born, thread_life, unregistering, used_process, with_room, with_thread, without_process_born, without_thread_born};
 
-use crate::{Number, ProcessRow, Registration, ThreadRow, UsedThread, lists, registrations};
+use crate::rows::Counted;
+use crate::{
+    BornThread, Life, Number, ProcessRow, Registration, ThreadRow, UsedThread, births, lists,
+    registrations,
+};
 use arrayvec::ArrayVec;
 use lpc_base::{Birth, OutOfMemory, reserve_rows};
 use lpc_message::ClientId;
@@ -18,10 +22,11 @@ use std::marker::Model;
 /// The processes and threads of a machine, and every number that was ever used for one.
 ///
 /// A number is used once. It stays used when the row of its process or thread goes, so no number names two things in
-/// a run. Contracts see the rows in order of making, the used numbers, and the room.
+/// a run. Contracts see the rows in order of making, the used numbers, and the room; they don't see the count of live
+/// threads that stands beside each process, which tells at once whether the process is live.
 #[derive(Drop)]
 pub struct Procs {
-    processes: Vec<ProcessRow>,
+    processes: Vec<Counted>,
     threads: Vec<ThreadRow>,
     used_processes: Vec<u32>,
     used_threads: Vec<UsedThread>,
@@ -30,12 +35,12 @@ pub struct Procs {
 impl Model for Procs {
     ghost use Rattle.std.specs.Prelude.{◌-◌, min, vec_len, vec_capacity};
     ghost use Rattle.lpc_procs.specs.Procs.{Table};
-    ghost use Rattle.lpc_procs.specs.Kept.{IsKept};
+    ghost use Rattle.lpc_procs.specs.Kept.{AreKept, process_rows};
 
     ghost Value = { Table };
 
     ghost view = { λ s. record {
-      processes = s.processes.items;
+      processes = process_rows s.processes.items;
       threads = s.threads.items;
       used_processes = s.used_processes.items;
       used_threads = s.used_threads.items;
@@ -43,7 +48,7 @@ impl Model for Procs {
       thread_room = min (vec_capacity s.threads - vec_len s.threads) (vec_capacity s.used_threads - vec_len s.used_threads);
     } };
 
-    ghost invariant = { λ s. IsKept s.threads.items s.used_threads.items };
+    ghost invariant = { λ s. AreKept s.processes.items s.threads.items s.used_threads.items };
 }
 
 impl Procs {
@@ -94,11 +99,13 @@ impl Procs {
           process_room = self.old.process_room - 1;
         } }
     {
-        self.processes.push_reserved(ProcessRow {
+        let row = ProcessRow {
             number: pid,
             maker,
             birth,
-        });
+        };
+        let live = lists::live_in(&self.threads, pid);
+        self.processes.push_reserved(Counted { row, live });
         self.used_processes.push_reserved(pid);
     }
 
@@ -137,6 +144,7 @@ impl Procs {
             number: tid,
             process: pid,
         });
+        lists::recount(&mut self.processes, &self.threads, pid);
     }
 
     /// The number was ever used for a process, or for a thread; its row may have gone.
@@ -251,7 +259,10 @@ impl Procs {
         ensures table { self.new ≡ with_thread self.old tid ended }
     {
         let place = self.place(tid);
-        self.threads[place].live = false;
+        let row = &mut self.threads[place];
+        let pid = row.process;
+        row.live = false;
+        lists::recount(&mut self.processes, &self.threads, pid);
     }
 
     /// Registers a port with the thread, which has a row and registered fewer than 16, behind those that it had.
@@ -332,18 +343,67 @@ impl Procs {
         registrations::first_untold(&self.threads, pid)
     }
 
-    /// The number of the first thread that has ended: None exactly where there is none.
-    pub fn first_ended(&self) -> Option<u32>
-        ensures number { result ≡ first_thread has_ended self.now }
+    /// How many processes that this one made are live: a live thread is of them.
+    pub fn live_children(&self, pid: u32) -> usize
+        ensures count { result ≡ count (is_live_child self.now.threads pid) self.now.processes }
     {
-        lists::first_ended(&self.threads)
+        births::children(&self.processes, pid)
     }
 
-    /// The number of the first process none of whose threads has a row: None exactly where there is none.
-    pub fn first_empty(&self) -> Option<u32>
-        ensures number { result ≡ first_process (lacks_threads self.now.threads) self.now }
+    /// The number of the first process that was made under the name: None exactly where there is none.
+    pub fn process_born(&self, birth: Birth) -> Option<u32>
+        ensures number { result ≡ first_process (is_process_born birth) self.now }
     {
-        lists::first_empty(&self.processes, &self.threads)
+        births::process(&self.processes, birth)
+    }
+
+    /// The first thread that was made under the name, live or ended: None exactly where there is none.
+    pub fn thread_born(&self, birth: Birth) -> Option<BornThread>
+        ensures thread { result ≡ thread_born self.now birth }
+    {
+        births::thread(&self.threads, birth)
+    }
+
+    /// The name of the process at a place, and whether it is live. Places go from 0 in the order of making.
+    pub fn process_in(&self, place: usize) -> Life
+        requires place { place < length self.now.processes }
+        ensures life { option_map (process_life self.now.threads)
+            (slice_get self.now.processes place) ≡ Some result }
+    {
+        let p = &self.processes[place];
+        Life {
+            birth: p.row.birth,
+            live: births::is_peopled(p),
+        }
+    }
+
+    /// The name of the thread at a place, and whether it is live. Places go from 0 in the order of making.
+    pub fn thread_in(&self, place: usize) -> Life
+        requires place { place < length self.now.threads }
+        ensures life { option_map thread_life (slice_get self.now.threads place) ≡ Some result }
+    {
+        let t = &self.threads[place];
+        Life {
+            birth: t.birth,
+            live: t.live,
+        }
+    }
+
+    /// How many live threads were made under the name.
+    pub fn lives_of_thread(&self, birth: Birth) -> usize
+        ensures count { result ≡ count (is_life birth) self.now.threads }
+        ensures bound { result ≤ length self.now.threads }
+    {
+        births::lives_of_thread(&self.threads, birth)
+    }
+
+    /// How many live threads are of the process that was made under the name; one process at most was.
+    pub fn lives_of_process(&self, birth: Birth) -> usize
+        requires one { count (is_process_born birth) self.now.processes ≤ 1 }
+        ensures count { result ≡ count (lives_by self.now birth) self.now.threads }
+        ensures bound { result ≤ length self.now.threads }
+    {
+        births::lives_of_process(&self.processes, birth)
     }
 
     /// The process that made a process that has a row, none where a directive did.
@@ -373,22 +433,23 @@ impl Procs {
         self.thread(tid).live
     }
 
-    /// Removes the row that a process has. Its number stays used, so the room need not grow.
-    pub fn free_process(&mut self, pid: u32)
-        requires present { is_some (process_at self.old pid) ≡ true }
-        ensures table { self.new ≡ without_process self.old pid self.new.process_room }
+    /// Removes the rows of the processes that were made under the name. Their numbers stay used, so the room need not
+    /// grow.
+    pub fn free_process_born(&mut self, birth: Birth)
+        ensures table { self.new ≡ without_process_born self.old birth self.new.process_room }
         ensures room { self.old.process_room ≤ self.new.process_room }
     {
-        lists::remove_process(&mut self.processes, pid);
+        births::remove_processes(&mut self.processes, birth);
     }
 
-    /// Removes the row that a thread has. Its number stays used, so the room need not grow.
-    pub fn free_thread(&mut self, tid: u32)
-        requires present { is_some (thread_at self.old tid) ≡ true }
-        ensures table { self.new ≡ without_thread self.old tid self.new.thread_room }
+    /// Removes the rows of the threads that were made under the name, of which none is live. Their numbers stay used, so
+    /// the room need not grow.
+    pub fn free_thread_born(&mut self, birth: Birth)
+        requires ended { has (is_life birth) self.old.threads ≡ false }
+        ensures table { self.new ≡ without_thread_born self.old birth self.new.thread_room }
         ensures room { self.old.thread_room ≤ self.new.thread_room }
     {
-        lists::remove_thread(&mut self.threads, tid);
+        births::remove_threads(&mut self.threads, birth);
     }
 
     // The row of a process that is present.

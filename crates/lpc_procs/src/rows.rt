@@ -24,6 +24,35 @@ pub struct ProcessRow {
     pub birth: Birth,
 }
 
+/// A process, and beside it the count of its live threads.
+#[derive(Clone, Copy)]
+pub struct Counted {
+    /// The process.
+    pub row: ProcessRow,
+    /// How many live threads are of it.
+    pub live: usize,
+}
+
+/// The name of a process or thread, and whether it is live.
+#[derive(Clone, Copy)]
+pub struct Life {
+    /// The name that it was made under.
+    pub birth: Birth,
+    /// Not yet ended; of a process, that a live thread is of it.
+    pub live: bool,
+}
+
+/// A thread as it is told to who knows its name.
+#[derive(Clone, Copy)]
+pub struct BornThread {
+    /// From 1 to 2147483647.
+    pub number: u32,
+    /// The number of its process.
+    pub process: u32,
+    /// Not yet ended.
+    pub live: bool,
+}
+
 /// A port that is to be told of a thread's end.
 #[derive(Clone, Copy, Default)]
 pub struct Registration {

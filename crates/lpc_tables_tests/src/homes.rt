@@ -1,8 +1,9 @@
 // The handles of each process, with ample memory.
-ghost use Rattle.std.specs.Prelude.{◌≡◌, ◌<◌, true};
+ghost use Rattle.std.specs.Prelude.{◌≡◌, ◌<◌, ◌≤◌, true, vec_len};
 ghost use Rattle.lpc_base.specs.Rows.{has};
 ghost use Rattle.lpc_homes.specs.Parts.{HasFew, are_single_parts, is_part, spare_at};
 
+use lpc_base::Birth;
 use lpc_handles::Table;
 use lpc_homes::Object;
 use lpc_homes::parts::{self, Part};
@@ -18,14 +19,34 @@ fn port() -> Key {
     }
 }
 
-// Process 2, which has room for a handle and none yet, gets one to the port.
-fn gives(rt: &impl Abort, parts: &mut Vec<Part>)
+// The name of what thread 24 of process 20 makes first.
+fn birth() -> Birth {
+    Birth {
+        maker: 24,
+        ordinal: 1,
+        process: 20,
+    }
+}
+
+// Process 2, which has room for a handle and none yet, gets one to the object.
+fn gives(rt: &impl Abort, parts: &mut Vec<Part>, object: Object)
     requires one { are_single_parts parts.old.items ≡ true }
     requires part { has (is_part 2) parts.old.items ≡ true }
     requires room { HasFew parts.old.items 2 → 0 < spare_at parts.old.items 2 }
+    ensures len { vec_len parts.new ≡ vec_len parts.old }
 {
-    let value = parts::add_handle(parts, 2, Object::Port(port()), 1);
+    let value = parts::add_handle(parts, 2, object, 1);
     assert!(rt; value.ok() == Some(4));
+}
+
+// One handle names the process of the name; none names the thread of that name, or the port.
+fn names_the_process_alone(rt: &impl Abort, parts: &Vec<Part>)
+    requires { vec_len parts.now ≤ 1 }
+{
+    let (process, thread) = (Object::Process(birth()), Object::Thread(birth()));
+    assert!(rt; parts::handles_to(parts, process) == 1);
+    assert!(rt; parts::names(parts, process) && !parts::names(parts, thread));
+    assert!(rt; !parts::names(parts, Object::Port(port())));
 }
 
 #[test]
@@ -36,6 +57,27 @@ fn process_gets_a_handle_to_a_port(rt: HostRuntime) -> Result<(), Fail> {
         handles: Table::new(rt.alloc()),
     })?;
     parts::reserve_handles(&mut parts, 2, 1)?;
-    gives(&rt, &mut parts);
+    gives(&rt, &mut parts, Object::Port(port()));
+    Ok(())
+}
+
+#[test]
+fn process_gets_a_handle_to_a_process(rt: HostRuntime) -> Result<(), Fail> {
+    let mut parts: Vec<Part> = Vec::new(rt.alloc());
+    parts.push(Part {
+        process: 2,
+        handles: Table::new(rt.alloc()),
+    })?;
+    parts::reserve_handles(&mut parts, 2, 1)?;
+    gives(&rt, &mut parts, Object::Process(birth()));
+    names_the_process_alone(&rt, &parts);
+    Ok(())
+}
+
+#[test]
+fn port_alone_has_a_key(rt: HostRuntime) -> Result<(), Fail> {
+    assert!(&rt; Object::Port(port()).port() == Some(port()));
+    assert!(&rt; Object::Process(birth()).port().is_none());
+    assert!(&rt; Object::Thread(birth()).port().is_none());
     Ok(())
 }

@@ -1,5 +1,5 @@
 // The calls with ample memory, over rows written out by hand.
-ghost use Rattle.std.specs.Prelude.{◌≡◌, IsSomeAnd, is_some, true};
+ghost use Rattle.std.specs.Prelude.{◌≡◌, ◌<◌, IsSomeAnd, is_some, length, true};
 ghost use Rattle.lpc_procs.specs.Procs.{HasOrdinalLeft, birth_of, process_at, thread_at};
 ghost use Rattle.lpc_procs.specs.declared.rows.Number.TheVariants as number;
 
@@ -134,8 +134,9 @@ fn number_of_a_row_that_goes_stays_used(rt: HostRuntime) -> Result<(), Fail> {
     procs.add_process(20, Some(16), made(20));
     procs.add_thread(24, 20, made(24));
     shows_births(&rt, &procs);
-    procs.free_thread(24);
-    procs.free_process(20);
+    procs.end_thread(24);
+    procs.free_thread_born(made(24));
+    procs.free_process_born(made(20));
     counts(&rt, &procs, (0, 0), (0, 0));
     shows_used(&rt, &procs, 20, 24);
     Ok(())
@@ -204,31 +205,64 @@ fn ended_thread_tells_its_ports_in_their_order(rt: HostRuntime) -> Result<(), Fa
     Ok(())
 }
 
-// The first live thread of process 20, the first thread that has ended, and the first process without a thread.
-fn finds(
-    rt: &impl Abort,
-    procs: &Procs,
-    live: Option<u32>,
-    ended: Option<u32>,
-    empty: Option<u32>,
-) {
+// The first live thread of process 20.
+fn finds(rt: &impl Abort, procs: &Procs, live: Option<u32>) {
     assert!(rt; procs.first_live(20) == live);
-    assert!(rt; procs.first_ended() == ended);
-    assert!(rt; procs.first_empty() == empty);
 }
 
 #[test]
-fn what_has_ended_is_found_in_the_order_of_making(rt: HostRuntime) -> Result<(), Fail> {
+fn what_lives_is_found_in_the_order_of_making(rt: HostRuntime) -> Result<(), Fail> {
     let mut procs = Procs::new(rt.alloc());
     procs.reserve(1, 2)?;
     procs.add_process(20, None, made(20));
-    finds(&rt, &procs, None, None, Some(20));
+    finds(&rt, &procs, None);
     procs.add_thread(28, 20, made(28));
     procs.add_thread(24, 20, made(24));
-    finds(&rt, &procs, Some(28), None, None);
+    finds(&rt, &procs, Some(28));
     procs.end_thread(28);
-    finds(&rt, &procs, Some(24), Some(28), None);
-    procs.free_thread(28);
-    finds(&rt, &procs, Some(24), None, None);
+    finds(&rt, &procs, Some(24));
+    Ok(())
+}
+
+// Process 20 and thread 24 are found under their names, and no process under the thread's.
+fn finds_by_name(rt: &impl Abort, procs: &Procs, live: bool) {
+    assert!(rt; procs.process_born(made(20)) == Some(20));
+    assert!(rt; procs.process_born(made(24)).is_none());
+    let Some(found) = procs.thread_born(made(24)) else {
+        assert!(rt; false);
+        return;
+    };
+    assert!(rt; (found.number, found.process, found.live) == (24, 20, live));
+}
+
+// Whether process 20 and thread 24, each the first of its kind, are live, as their places and their names tell it.
+fn tells_lives(rt: &impl Abort, procs: &Procs, live: bool)
+    requires process { 0 < length procs.now.processes }
+    requires thread { 0 < length procs.now.threads }
+{
+    let (process, thread) = (procs.process_in(0), procs.thread_in(0));
+    assert!(rt; process.birth == made(20) && process.live == live);
+    assert!(rt; thread.birth == made(24) && thread.live == live);
+    assert!(rt; (procs.lives_of_thread(made(24)) == 1) == live);
+}
+
+// How many live children process 16 has, of which process 20 is one, and process 20 has none.
+fn counts_children(rt: &impl Abort, procs: &Procs, live: usize) {
+    assert!(rt; (procs.live_children(16), procs.live_children(20)) == (live, 0));
+}
+
+#[test]
+fn what_has_ended_is_found_and_told_as_not_live(rt: HostRuntime) -> Result<(), Fail> {
+    let mut procs = Procs::new(rt.alloc());
+    procs.reserve(1, 1)?;
+    procs.add_process(20, Some(16), made(20));
+    procs.add_thread(24, 20, made(24));
+    finds_by_name(&rt, &procs, true);
+    tells_lives(&rt, &procs, true);
+    counts_children(&rt, &procs, 1);
+    procs.end_thread(24);
+    finds_by_name(&rt, &procs, false);
+    tells_lives(&rt, &procs, false);
+    counts_children(&rt, &procs, 0);
     Ok(())
 }

@@ -6,6 +6,6 @@ use Rattle.lpc_homes.proofs.parts.handles_to.Given as goal
 
 abbrev pub invariant-loop-part : goal.invariant-loop-part
 invariant-loop-part l = record {
-  sum : l.named + count (names_it l.port) (all_rows (drop l.part-index l.parts)) ≡ count (names_it l.port) (all_rows l.parts);
+  sum : l.named + count (names_it l.object) (all_rows (drop l.part-index l.parts)) ≡ count (names_it l.object) (all_rows l.parts);
   most : l.named ≤ HANDLE_LIMIT * l.part-index;
 }

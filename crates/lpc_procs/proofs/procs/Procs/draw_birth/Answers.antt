@@ -1,5 +1,6 @@
 use Rattle.std.proofs.Common.{refl, sym, arith}
 use Rattle.lpc_procs.specs.Procs.{HasOrdinalLeft, past_birth}
+use Rattle.lpc_procs.proofs.Counts.{counts-set}
 use Rattle.lpc_procs.proofs.Keeping.{changed_at, kept-at, row_is}
 use Rattle.lpc_procs.proofs.procs.Procs.draw_birth.Goals as goal
 
@@ -19,10 +20,14 @@ returns-clause-birth c =
 pub invariant_of-self : goal.invariant_of-self
 invariant_of-self c =
     let is = sym (rw (← c.self.view_is) at c.place-place.ensures) in
-    kept-at past_birth c.self.inside.threads.items c.self.inside.used_threads.items c.place-place.result c.args.tid c.index_mut-row.result.now (record { number = λ t. refl; process = λ t. refl }) c.self.invariant is c.index_mut-row.ensures.value
+    let found = row_is c.self.inside.threads.items c.place-place.result c.args.tid c.index_mut-row.result.now is c.index_mut-row.ensures.value in
+    record {
+      rows = kept-at past_birth c.self.inside.threads.items c.self.inside.used_threads.items c.place-place.result c.args.tid c.index_mut-row.result.now (record { number = λ t. refl; process = λ t. refl }) c.self.invariant.rows is c.index_mut-row.ensures.value;
+      counts = counts-set c.self.inside.threads.items c.place-place.result c.index_mut-row.result.now (past_birth c.index_mut-row.result.now) found.here refl refl c.self.inside.processes.items c.self.invariant.counts;
+    }
 
 pub returns-clause-table : goal.returns-clause-table
 returns-clause-table c =
     let is = sym (rw (← c.self.view_is) at c.place-place.ensures) in
-    let same = changed_at past_birth c.self.inside.threads.items c.place-place.result c.args.tid c.index_mut-row.result.now c.self.invariant.single is c.index_mut-row.ensures.value in
+    let same = changed_at past_birth c.self.inside.threads.items c.place-place.result c.args.tid c.index_mut-row.result.now c.self.invariant.rows.single is c.index_mut-row.ensures.value in
     rw (← c.self.view_is, ← same) refl

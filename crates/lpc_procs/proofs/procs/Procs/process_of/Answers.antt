@@ -6,4 +6,4 @@ use Rattle.lpc_procs.proofs.procs.Procs.process_of.Goals as goal
 
 pub returns-clause-row : goal.returns-clause-row
 returns-clause-row c =
-    rw (← c.self.view_is, c.process_of.ensures, c.deref.ensures.value) (process-noted c.args.tid c.self.inside.used_threads.items c.self.inside.threads.items (first (is_thread c.args.tid) c.self.inside.threads.items) c.self.invariant.noted refl)
+    rw (← c.self.view_is, c.process_of.ensures, c.deref.ensures.value) (process-noted c.args.tid c.self.inside.used_threads.items c.self.inside.threads.items (first (is_thread c.args.tid) c.self.inside.threads.items) c.self.invariant.rows.noted refl)

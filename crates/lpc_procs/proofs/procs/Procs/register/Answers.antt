@@ -1,5 +1,6 @@
 use Rattle.std.proofs.Common.{refl, sym, arith}
 use Rattle.lpc_procs.specs.Procs.{HasRegistrationLeft, registering, registration}
+use Rattle.lpc_procs.proofs.Counts.{counts-set}
 use Rattle.lpc_procs.proofs.Keeping.{changed_at, kept-at, registered-as, row_is}
 use Rattle.lpc_procs.proofs.procs.Procs.register.Goals as goal
 
@@ -13,12 +14,16 @@ push-requires c =
 pub invariant_of-self : goal.invariant_of-self
 invariant_of-self c =
     let is = sym (rw (← c.self.view_is) at c.place-place.ensures) in
+    let found = row_is c.self.inside.threads.items c.place-place.result c.args.tid c.index_mut.result.now is c.index_mut.ensures.value in
     let row = registered-as c.index_mut.result.now c.push.new.self _ c.push.ensures.items in
-    rw row (kept-at (registering (registration c.args.port c.args.birth)) c.self.inside.threads.items c.self.inside.used_threads.items c.place-place.result c.args.tid c.index_mut.result.now (record { number = λ t. refl; process = λ t. refl }) c.self.invariant is c.index_mut.ensures.value)
+    rw row (record {
+      rows = kept-at (registering (registration c.args.port c.args.birth)) c.self.inside.threads.items c.self.inside.used_threads.items c.place-place.result c.args.tid c.index_mut.result.now (record { number = λ t. refl; process = λ t. refl }) c.self.invariant.rows is c.index_mut.ensures.value;
+      counts = counts-set c.self.inside.threads.items c.place-place.result c.index_mut.result.now (registering (registration c.args.port c.args.birth) c.index_mut.result.now) found.here refl refl c.self.inside.processes.items c.self.invariant.counts;
+    })
 
 pub returns : goal.returns
 returns c =
     let is = sym (rw (← c.self.view_is) at c.place-place.ensures) in
-    let same = changed_at (registering (registration c.args.port c.args.birth)) c.self.inside.threads.items c.place-place.result c.args.tid c.index_mut.result.now c.self.invariant.single is c.index_mut.ensures.value in
+    let same = changed_at (registering (registration c.args.port c.args.birth)) c.self.inside.threads.items c.place-place.result c.args.tid c.index_mut.result.now c.self.invariant.rows.single is c.index_mut.ensures.value in
     let row = registered-as c.index_mut.result.now c.push.new.self _ c.push.ensures.items in
     record { table = rw (← c.self.view_is, row, ← same) refl }

@@ -1,17 +1,22 @@
 use Rattle.std.proofs.Common.{refl, sym}
 use Rattle.lpc_procs.specs.Procs.{unregistering}
-use Rattle.lpc_procs.proofs.Keeping.{changed_at, kept-at, registered-as}
+use Rattle.lpc_procs.proofs.Counts.{counts-set}
+use Rattle.lpc_procs.proofs.Keeping.{changed_at, kept-at, registered-as, row_is}
 use Rattle.lpc_procs.proofs.procs.Procs.unregister.Goals as goal
 
 pub invariant_of-self : goal.invariant_of-self
 invariant_of-self c =
     let is = sym (rw (← c.self.view_is) at c.place-place.ensures) in
+    let found = row_is c.self.inside.threads.items c.place-place.result c.args.tid c.index_mut.result.now is c.index_mut.ensures.value in
     let row = registered-as c.index_mut.result.now c.forget.new.registered _ c.forget.ensures in
-    rw row (kept-at (unregistering c.args.birth) c.self.inside.threads.items c.self.inside.used_threads.items c.place-place.result c.args.tid c.index_mut.result.now (record { number = λ t. refl; process = λ t. refl }) c.self.invariant is c.index_mut.ensures.value)
+    rw row (record {
+      rows = kept-at (unregistering c.args.birth) c.self.inside.threads.items c.self.inside.used_threads.items c.place-place.result c.args.tid c.index_mut.result.now (record { number = λ t. refl; process = λ t. refl }) c.self.invariant.rows is c.index_mut.ensures.value;
+      counts = counts-set c.self.inside.threads.items c.place-place.result c.index_mut.result.now (unregistering c.args.birth c.index_mut.result.now) found.here refl refl c.self.inside.processes.items c.self.invariant.counts;
+    })
 
 pub returns : goal.returns
 returns c =
     let is = sym (rw (← c.self.view_is) at c.place-place.ensures) in
-    let same = changed_at (unregistering c.args.birth) c.self.inside.threads.items c.place-place.result c.args.tid c.index_mut.result.now c.self.invariant.single is c.index_mut.ensures.value in
+    let same = changed_at (unregistering c.args.birth) c.self.inside.threads.items c.place-place.result c.args.tid c.index_mut.result.now c.self.invariant.rows.single is c.index_mut.ensures.value in
     let row = registered-as c.index_mut.result.now c.forget.new.registered _ c.forget.ensures in
     record { table = rw (← c.self.view_is, row, ← same) refl }

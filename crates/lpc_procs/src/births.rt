@@ -1,0 +1,112 @@
+// What is found and taken away by the name that a process or thread was made under.
+ghost use Rattle.std.specs.Prelude.{◌≡◌, ◌≤◌, option_map, vec_len, vec_capacity};
+ghost use Rattle.lpc_base.specs.Births.{same_birth};
+ghost use Rattle.lpc_base.specs.Rows.{count, first, without};
+ghost use Rattle.lpc_procs.specs.Kept.{has_name, is_peopled, is_peopled_child, lives_in_first, process_rows};
+ghost use Rattle.lpc_procs.specs.Procs.{born_thread, is_life, is_made_by, is_process_born, is_thread_born};
+
+use crate::rows::Counted;
+use crate::{BornThread, ProcessRow, ThreadRow};
+use lpc_base::Birth;
+
+// The name is this one.
+fn is_name(name: Birth, birth: Birth) -> bool
+    ensures { result ≡ same_birth name birth }
+{
+    name == birth
+}
+
+// The process was made by this one.
+fn is_made_by(row: ProcessRow, pid: u32) -> bool
+    ensures { result ≡ is_made_by pid row }
+{
+    match row.maker {
+        Some(maker) => maker == pid,
+        None => false,
+    }
+}
+
+/// A live thread is of the process, as its count tells.
+pub fn is_peopled(p: &Counted) -> bool
+    ensures { result ≡ is_peopled p.now }
+{
+    p.live > 0
+}
+
+/// How many live processes the process made.
+pub fn children(rows: &[Counted], pid: u32) -> usize
+    ensures { result ≡ count (is_peopled_child pid) rows.now }
+{
+    rows.iter()
+        .filter(|p| is_made_by(p.row, pid) && is_peopled(p))
+        .count()
+}
+
+/// The number of the first process of the name.
+pub fn process(rows: &[Counted], birth: Birth) -> Option<u32>
+    ensures { result
+        ≡ option_map (λ p. p.number) (first (is_process_born birth) (process_rows rows.now)) }
+{
+    for p in rows {
+        if is_name(p.row.birth, birth) {
+            return Some(p.row.number);
+        }
+    }
+    None
+}
+
+/// The first thread of the name.
+pub fn thread(threads: &[ThreadRow], birth: Birth) -> Option<BornThread>
+    ensures { result ≡ option_map born_thread (first (is_thread_born birth) threads.now) }
+{
+    for t in threads {
+        if is_name(t.birth, birth) {
+            return Some(BornThread {
+                number: t.number,
+                process: t.process,
+                live: t.live,
+            });
+        }
+    }
+    None
+}
+
+/// How many live threads have the name.
+pub fn lives_of_thread(threads: &[ThreadRow], birth: Birth) -> usize
+    ensures { result ≡ count (is_life birth) threads.now }
+{
+    threads
+        .iter()
+        .filter(|t| t.live && is_name(t.birth, birth))
+        .count()
+}
+
+/// How many live threads the first process of the name has, as its count tells.
+pub fn lives_of_process(rows: &[Counted], birth: Birth) -> usize
+    ensures { result ≡ lives_in_first (first (has_name birth) rows.now) }
+{
+    for p in rows {
+        if is_name(p.row.birth, birth) {
+            return p.live;
+        }
+    }
+    0
+}
+
+/// Takes away the processes of the name.
+pub fn remove_processes(rows: &mut Vec<Counted>, birth: Birth)
+    ensures rows { rows.new.items ≡ without (has_name birth) rows.old.items }
+    ensures fewer { vec_len rows.new ≤ vec_len rows.old }
+    ensures room { vec_capacity rows.new ≡ vec_capacity rows.old }
+{
+    rows.retain(|p| !is_name(p.row.birth, birth));
+}
+
+/// Takes away the threads of the name.
+pub fn remove_threads(rows: &mut Vec<ThreadRow>, birth: Birth)
+    ensures rows { rows.new.items ≡ without (is_thread_born birth) rows.old.items }
+    ensures fewer { vec_len rows.new ≤ vec_len rows.old }
+    ensures room { vec_capacity rows.new ≡ vec_capacity rows.old }
+{
+    rows.retain(|t| !is_name(t.birth, birth));
+}
