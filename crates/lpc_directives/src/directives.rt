@@ -1,29 +1,27 @@
 // The directives that make processes, threads, directories and links: refusals in their order, else the steps.
-ghost use Rattle.std.specs.Prelude.{◌≡◌, ◌<◌, ◌≤◌, OnErr, OnOk, true, false};
-ghost use Rattle.lpc_base.specs.Rows.{has};
-ghost use Rattle.lpc_model.specs.Found.{is_process, is_table, was_thread};
+ghost use Rattle.std.specs.Prelude.{◌≡◌, ◌<◌, OnErr, true};
 ghost use Rattle.lpc_model.specs.Machine as model;
 ghost use Rattle.lpc_model.specs.Machine.{boot_line, dir_line, link_line, thread_line};
 ghost use Rattle.lpc_world.specs.Bound.{status_of_binding};
 ghost use Rattle.lpc_procs.specs.Procs.{IsNumber};
 ghost use Rattle.lpc_world.specs.Does.{Directs};
-ghost use Rattle.lpc_world.specs.Kept.{Roomy, Same, lacks_name_room, lacks_process_room, lacks_thread_parts, lacks_thread_room};
+ghost use Rattle.lpc_world.specs.Kept.{lacks_name_room, lacks_process_room, lacks_thread_room};
 ghost use Rattle.lpc_base.specs.declared.limits.TheConstants.{LINES_LIMIT};
 
-use lpc_base::limits::THREAD_LIMIT;
-use lpc_base::status::{INVALID_CID, OBJECT_NAME_COLLISION, QUOTA_EXCEEDED, SUCCESS};
+use lpc_base::status::{OBJECT_NAME_COLLISION, SUCCESS};
 use lpc_base::{Birth, OutOfMemory, Status};
 use lpc_names::{BindFault, status_of};
+use lpc_steps::{thread_reserve, thread_test};
 use lpc_world::World;
 
-/// What a directive makes has maker 0 and its own number as ordinal.
-fn directive_birth(number: u32) -> Birth
-    ensures { result ≡ model.directive_birth number }
+/// What a directive makes has maker 0 and its own number as ordinal, and is of its own process.
+fn directive_birth(number: u32, process: u32) -> Birth
+    ensures { result ≡ model.directive_birth number process }
 {
     Birth {
         maker: 0,
         ordinal: number,
-        process: 0,
+        process,
     }
 }
 
@@ -57,8 +55,8 @@ pub fn boot(world: &mut World, pid: u32, tid: u32) -> Result<Status, OutOfMemory
     thread_reserve(world)?;
     world.procs_reserve(1, 1)?;
     world.begin_call();
-    world.procs_add_process(pid, None, directive_birth(pid));
-    world.procs_add_thread(tid, pid, directive_birth(tid));
+    world.procs_add_process(pid, None, directive_birth(pid, pid));
+    world.procs_add_thread(tid, pid, directive_birth(tid, pid));
     Ok(SUCCESS)
 }
 
@@ -81,7 +79,7 @@ pub fn thread(world: &mut World, tid: u32, pid: u32) -> Result<Status, OutOfMemo
     thread_reserve(world)?;
     world.procs_reserve(0, 1)?;
     world.begin_call();
-    world.procs_add_thread(tid, pid, directive_birth(tid));
+    world.procs_add_thread(tid, pid, directive_birth(tid, pid));
     Ok(SUCCESS)
 }
 
@@ -117,35 +115,4 @@ pub fn link(world: &mut World, path: &[u8], target: &[u8]) -> Result<Status, Out
     let status = bound_status(world.names_add_link(path, target))?;
     world.begin_call();
     Ok(status)
-}
-
-/// Why a process gets no further thread.
-fn thread_test(world: &World, tid: u32, pid: u32) -> Result<(), Status>
-    ensures test { result ≡ model.thread_test world.now.rows tid pid }
-    ensures process { OnOk result (has (is_process pid) world.now.rows.processes ≡ true) }
-    ensures table { OnOk result (has (is_table pid) world.now.rows.handles ≡ true) }
-    ensures new { OnOk result (was_thread world.now.rows tid ≡ false) }
-{
-    if !world.is_live(pid) {
-        return Err(INVALID_CID);
-    }
-    if world.was_thread(tid) {
-        return Err(OBJECT_NAME_COLLISION);
-    }
-    if world.live_count(pid) >= THREAD_LIMIT {
-        return Err(QUOTA_EXCEEDED);
-    }
-    Ok(())
-}
-
-/// Makes room for what a thread may keep: its wait, and the message that it asks with.
-fn thread_reserve(world: &mut World) -> Result<(), OutOfMemory>
-    ensures same { Same world.old world.new }
-    ensures waits { OnOk result (1 ≤ world.new.room.waits) }
-    ensures messages { OnOk result (1 ≤ world.new.room.messages) }
-    ensures room { Roomy world.old.room world.new.room }
-    ensures wanting { OnErr result (lacks_thread_parts world.old ≡ true) }
-{
-    world.waits_reserve(1)?;
-    world.messages_reserve(1)
 }

@@ -6,7 +6,7 @@ ghost use Rattle.lpc_model.specs.Found.{free_handle, is_table};
 ghost use Rattle.lpc_model.specs.Tests as tests;
 ghost use Rattle.lpc_steps.specs.Clauses.{IsUnderName, handle_for, object_for, port_for};
 ghost use Rattle.lpc_world.specs.Clauses.{Answers, HasHandleRoom, HasSmallLoad, port_at, row_shown, with_handle};
-ghost use Rattle.lpc_world.specs.Kept.{CanMake};
+ghost use Rattle.lpc_world.specs.Kept.{CanMake, handle_room};
 ghost use Rattle.lpc_world.specs.Names.{stands};
 ghost use Rattle.lpc_world.specs.Ready.{HasRow, is_ready};
 ghost use Rattle.lpc_world.specs.Shown.{birth_of, kind_of, object_stands};
@@ -62,12 +62,25 @@ pub fn object_at(
     Ok(row.object)
 }
 
+/// The kind of an object.
+pub fn kind_of(object: Object) -> ObjectKind
+    ensures { result ≡ kind_of object }
+{
+    match object {
+        Object::Port(_) => ObjectKind::Port,
+        Object::Process(_) => ObjectKind::Process,
+        Object::Thread(_) => ObjectKind::Thread,
+    }
+}
+
 /// The object is of the kind.
 fn is_of_kind(object: Object, kind: ObjectKind) -> bool
     ensures { result ≡ found.same_kind (kind_of object) kind }
 {
     match object {
         Object::Port(_) => matches!(kind, ObjectKind::Port),
+        Object::Process(_) => matches!(kind, ObjectKind::Process),
+        Object::Thread(_) => matches!(kind, ObjectKind::Thread),
     }
 }
 
@@ -78,8 +91,10 @@ pub fn port_at(world: &World, tid: u32, handle: u32) -> Result<Key, Status>
     ensures stands { IfOk result (λ key. stands world.now.births.ports key ≡ true) }
     ensures name { IfOk result (λ key. IsUnderName world.now key) }
 {
-    let object = object_at(world, tid, handle, ObjectKind::Port, 1)?;
-    Ok(object.port())
+    match object_at(world, tid, handle, ObjectKind::Port, 1)? {
+        Object::Port(port) => Ok(port),
+        Object::Process(_) | Object::Thread(_) => unreachable!(),
+    }
 }
 
 /// The process may have one more handle: with those that its waiting connects are to get it has fewer than 256.
@@ -108,6 +123,7 @@ pub fn give_handle(world: &mut World, pid: u32, object: Object, access: u32) -> 
     ensures calls { world.new.calls ≡ world.old.calls }
     ensures loose { world.new.loose ≡ world.old.loose }
     ensures made { world.new.made ≤ world.old.made + 1 }
+    ensures places { handle_room world.old.room pid ≤ handle_room world.new.room pid + 1 }
 {
     match world.handles_add(pid, object, access) {
         Ok(value) => value,

@@ -1,17 +1,20 @@
 -- Each process and each thread has a number and a birth of its own.
-use Rattle.std.proofs.Common.{◌≡◌, ℕ, ◌+◌, ◌≤◌, List, [], ◌∷◌, ◌++◌, Bool, true, false, cond, refl, subst, arith}
+use Rattle.std.proofs.Common.{◌≡◌, ℕ, ◌+◌, ◌≤◌, List, [], ◌∷◌, ◌++◌, Bool, true, false, not, cond, Some, refl, subst, ◌∙◌, arith}
 use Rattle.std.specs.Prelude.{◌==◌, ◌&&◌}
 use Rattle.std.proofs.lemmas.Bool.Decides.{nat_tests}
 use Rattle.lpc_base.specs.declared.birth.Birth.{Birth}
-use Rattle.lpc_base.specs.Rows.{change, count, every, has, without}
+use Rattle.lpc_base.specs.Rows.{change, count, every, first, has, without}
 use Rattle.lpc_base.proofs.Differ.{differ-push, differ-without}
-use Rattle.lpc_base.proofs.RowWords.{count-none, count-push, every-change, every-more, every-push, every-without, has-kept, has-push}
+use Rattle.lpc_base.proofs.RowMaps.{every-first}
+use Rattle.lpc_base.proofs.RowWords.{count-none, count-push, every-change, every-more, every-push, every-without, has-change, has-kept, has-push}
+use Rattle.lpc_model.specs.Basics.{past_ordinal}
 use Rattle.lpc_model.specs.Found.{is_thread, same_birth}
-use Rattle.lpc_model.specs.World.{ProcessRow, ThreadRow, UsedThread}
+use Rattle.lpc_model.specs.Tests.{next_birth}
+use Rattle.lpc_model.specs.World.{ProcessRow, ThreadRow, UsedThread, World}
 use Rattle.lpc_model.proofs.Births.{birth-same}
 use Rattle.lpc_model.proofs.Rows.{count-change, count-less}
-use Rattle.lpc_world.specs.Lawful.{AreBorn, can_begin, drew, drew_own, is_birth_of, is_noted, is_noted_process, is_process_by, is_thread_by, was_drawn}
-use Rattle.lpc_world.proofs.Drawn.{unnoted, was-drawn-by, was-drawn-less, was-drawn-push}
+use Rattle.lpc_world.specs.Lawful.{AreBorn, AreBornIn, can_begin, drew, drew_own, is_birth_of, is_noted, is_noted_process, is_numbered, is_process_by, is_thread_by, was_drawn}
+use Rattle.lpc_world.proofs.Drawn.{not-drawn, unnoted, was-drawn-by, was-drawn-less, was-drawn-push}
 
 choose : (c x y z : Bool) → (y ≡ true → z ≡ true) → cond c x y ≡ true → cond c x z ≡ true
 choose true x y z more h = h
@@ -39,6 +42,7 @@ module _ (f : ThreadRow → ThreadRow) (number : (t : ThreadRow) → (f t).numbe
         processes_noted = h.processes_noted;
         processes_born = processes-more used ts used vs later ps h.processes_born;
         threads_born = every-change (λ t. is_birth_of used vs t.number t.birth) (is_thread who) f (λ t is. rw (number t, birth t) is) ts (threads-more used ts used vs later ts h.threads_born);
+        threads_numbered = every-change is_numbered (is_thread who) f (λ t is. rw (number t) is) ts h.threads_numbered;
         process_births = h.process_births;
         thread_births = λ b. rw (count-change (is_thread_by b) (is_thread who) f (λ t. rw (birth t) refl) ts) (h.thread_births b);
       }
@@ -114,14 +118,15 @@ module _ (ps : List ProcessRow) (ts : List ThreadRow) (ns : List ℕ) (used : Li
             (has-push (λ n. n == p.number) ns p.number (grind (arith, nat_tests)));
         processes_born = every-push (λ q. is_birth_of used ts q.number q.birth) ps p h.processes_born (begun used ts p.number p.birth drawn begins);
         threads_born = h.threads_born;
+        threads_numbered = h.threads_numbered;
         process_births = births-push (λ (q : ProcessRow). q.birth) ps p h.process_births first;
         thread_births = h.thread_births;
       }
 
   -- a thread more, whose number was never used
-  pub born-thread : (t : ThreadRow) (u : UsedThread) → every (is_noted used) ts ≡ true → has (λ x. x.number == t.number) used ≡ false → (has (drew t.birth) ts ≡ true → was_drawn used ts t.birth ≡ true) → can_begin ts t.number t.birth ≡ true → ((t.birth.maker == 0) ≡ false → has (is_thread_by t.birth) ts ≡ false)
+  pub born-thread : (t : ThreadRow) (u : UsedThread) → is_numbered t ≡ true → every (is_noted used) ts ≡ true → has (λ x. x.number == t.number) used ≡ false → (has (drew t.birth) ts ≡ true → was_drawn used ts t.birth ≡ true) → can_begin ts t.number t.birth ≡ true → ((t.birth.maker == 0) ≡ false → has (is_thread_by t.birth) ts ≡ false)
       → AreBorn ps (ts ++ t ∷ []) ns (used ++ u ∷ [])
-  born-thread t u noted new drawn begins other =
+  born-thread t u numbered noted new drawn begins other =
       let none = unnoted (λ (x : ThreadRow). x.number) (λ n. has (λ x. x.number == n) used) t.number ts noted new in
       let first = fresh (λ (x : ThreadRow). x.number) (λ x. x.birth) used ts t.number t.birth ts h.threads_born none begins other in
       let vs = ts ++ t ∷ [] in
@@ -132,6 +137,7 @@ module _ (ps : List ProcessRow) (ts : List ThreadRow) (ns : List ℕ) (used : Li
         processes_noted = h.processes_noted;
         processes_born = processes-more used ts vused vs later ps h.processes_born;
         threads_born = every-push (λ x. is_birth_of vused vs x.number x.birth) ts t (threads-more used ts vused vs later ts h.threads_born) (birth-more used ts vused vs later t.number t.birth (begun used ts t.number t.birth drawn begins));
+        threads_numbered = every-push is_numbered ts t h.threads_numbered numbered;
         process_births = h.process_births;
         thread_births = births-push (λ (x : ThreadRow). x.birth) ts t h.thread_births first;
       }
@@ -145,6 +151,7 @@ module _ (ps : List ProcessRow) (ts : List ThreadRow) (ns : List ℕ) (used : Li
         processes_noted = h.processes_noted;
         processes_born = processes-more used ts used (without goes ts) later ps h.processes_born;
         threads_born = every-without (λ x. is_birth_of used (without goes ts) x.number x.birth) goes ts (threads-more used ts used (without goes ts) later ts h.threads_born);
+        threads_numbered = every-without is_numbered goes ts h.threads_numbered;
         process_births = h.process_births;
         thread_births = λ b. count-less (is_thread_by b) goes ts 1 (h.thread_births b);
       }
@@ -155,6 +162,52 @@ module _ (ps : List ProcessRow) (ts : List ThreadRow) (ns : List ℕ) (used : Li
     processes_noted = every-without (is_noted_process ns) goes ps h.processes_noted;
     processes_born = every-without (λ q. is_birth_of used ts q.number q.birth) goes ps h.processes_born;
     threads_born = h.threads_born;
+    threads_numbered = h.threads_numbered;
     process_births = λ b. count-less (is_process_by b) goes ps 1 (h.process_births b);
     thread_births = h.thread_births;
   }
+
+-- What a thread draws next is no row's birth
+module _ (used : List UsedThread) (ts : List ThreadRow) (tid : ℕ) (t : ThreadRow) (at : first (is_thread tid) ts ≡ Some t) (numbered : every is_numbered ts ≡ true) where
+  not-next : (n : ℕ) (b : Birth) → is_birth_of used ts n b ≡ true → same_birth b (next_birth t) ≡ false
+  not-next n b was = by_same (same_birth b (next_birth t)) refl
+    where
+      zero-off : (m : ℕ) → not (m == 0) ≡ true → (m == 0) ≡ false
+      zero-off m is = grind arith
+
+      drawn-as : (c x y : Bool) → c ≡ false → cond c x y ≡ true → y ≡ true
+      drawn-as true x y off h = absurd (cc)
+      drawn-as false x y off h = h
+
+      all-drew : (x y : Bool) → (x && y) ≡ true → y ≡ true
+      all-drew x y is = grind arith
+
+      by_same : (c : Bool) → same_birth b (next_birth t) ≡ c → c ≡ false
+      by_same false is = refl
+      by_same true is =
+          let own = zero-off t.number (every-first is_numbered (is_thread tid) ts t numbered at) in
+          let here : is_birth_of used ts n (next_birth t) ≡ true = subst (λ c. is_birth_of used ts n c ≡ true) (birth-same b (next_birth t) is) was in
+          let was_drawn_by : was_drawn used ts (next_birth t) ≡ true = drawn-as (t.number == 0) _ _ own here in
+          let drew_it : drew_own (next_birth t) t ≡ true = every-first (drew_own (next_birth t)) (is_thread tid) ts t (all-drew _ _ was_drawn_by) at in
+          let no = not-drawn t in
+          absurd (cc)
+
+  none-next : {X : Type 0} (number : X → ℕ) (birth : X → Birth) (xs : List X) → every (λ x. is_birth_of used ts (number x) (birth x)) xs ≡ true → has (λ x. same_birth (birth x) (next_birth t)) xs ≡ false
+  none-next number birth [] all = refl
+  none-next number birth (x ∷ xs) all = grind (arith, not-next (number x) (birth x), none-next number birth xs)
+
+pub next-process : (w : World) (tid : ℕ) (t : ThreadRow) → AreBornIn w → first (is_thread tid) w.threads ≡ Some t → has (is_process_by (next_birth t)) w.processes ≡ false
+next-process w tid t h at = none-next w.used_threads w.threads tid t at h.threads_numbered (λ (p : ProcessRow). p.number) (λ p. p.birth) w.processes h.processes_born
+
+-- its maker is a thread, and no directive
+pub next-maker : (w : World) (tid : ℕ) (t : ThreadRow) → AreBornIn w → first (is_thread tid) w.threads ≡ Some t → (t.number == 0) ≡ false
+next-maker w tid t h at = off t.number (every-first is_numbered (is_thread tid) w.threads t h.threads_numbered at)
+  where
+    off : (m : ℕ) → not (m == 0) ≡ true → (m == 0) ≡ false
+    off m is = grind arith
+
+-- nor is it once it is drawn
+pub next-thread : (w : World) (tid : ℕ) (t : ThreadRow) → AreBornIn w → first (is_thread tid) w.threads ≡ Some t → has (is_thread_by (next_birth t)) (change (is_thread tid) past_ordinal w.threads) ≡ false
+next-thread w tid t h at =
+    has-change (is_thread_by (next_birth t)) (is_thread tid) past_ordinal (λ x. refl) w.threads
+    ∙ none-next w.used_threads w.threads tid t at h.threads_numbered (λ (x : ThreadRow). x.number) (λ x. x.birth) w.threads h.threads_born

@@ -32,10 +32,11 @@ use Rattle.lpc_waits.specs.declared.WaitRow as table
 use Rattle.lpc_world.specs.Kept.{is_pending, is_pending_in, rows_by}
 use Rattle.lpc_world.specs.Lawful.{are_single}
 use Rattle.lpc_world.specs.Names.{name_of, stands}
-use Rattle.lpc_homes.specs.Parts.{is_part, is_the_port, names_it, rows_at}
+use Rattle.lpc_homes.specs.Parts.{is_part, names_it, rows_at}
 use Rattle.lpc_world.specs.Ready.{wait_in, waiter}
 use Rattle.lpc_world.specs.Shown.{AreNamed, Births, Tables, all_pass, binding_refs, birth_of, births_of, call_of_wait, name_by, node_refs, object_stands, port_birth, shown_handle, shown_kind, shown_wait, wait_refs}
 use Rattle.lpc_homes.specs.declared.object.Object.{Object}
+use Rattle.lpc_homes.specs.declared.object.Object.TheVariants as object
 use Rattle.lpc_world.proofs.Finds as finds
 use Rattle.lpc_world.proofs.Follows as follows
 use Rattle.lpc_world.proofs.Readings as readings
@@ -236,10 +237,10 @@ module _ (it : Tables) (is : AreNamed (births_of it.ports) it) where
       no false = refl
 
   -- a handle of the process names the port
-  reached_same : (key : Key) → stands m.ports key ≡ true → (row : ℕ × Row Object) → object_stands m row.1.object ≡ true → names_port (name_of m.ports key) (name_by g row.1.object) ≡ is_the_port key row.1.object
-  reached_same key stand row ok = readings.named_same it is key stand row ok
+  reached_same : (key : Key) → stands m.ports key ≡ true → (row : ℕ × Row Object) → object_stands m row.1.object ≡ true → names_port (name_of m.ports key) (name_by g row.1.object) ≡ names_it (object.Port key) row
+  reached_same key stand row ok = readings.named_same it is (object.Port key) stand row ok
 
-  pub reached : (pid : ℕ) (key : Key) → stands m.ports key ≡ true → reaches rows pid (name_of m.ports key) ≡ has (names_it key) (rows_at it.parts pid)
+  pub reached : (pid : ℕ) (key : Key) → stands m.ports key ≡ true → reaches rows pid (name_of m.ports key) ≡ has (names_it (object.Port key)) (rows_at it.parts pid)
   reached pid key stand =
       ap (λ hs. has (λ (h : model.HandleRow). names_port (name_of m.ports key) h.object) hs) (readings.handles_are it is pid)
-      ∙ has-map (shown_handle g) (λ row. object_stands m row.1.object) (names_it key) (λ h. names_port (name_of m.ports key) h.object) (reached_same key stand) (rows_at it.parts pid) (readings.rows_stand it is (first (is_part pid) it.parts) pid refl)
+      ∙ has-map (shown_handle g) (λ row. object_stands m row.1.object) (names_it (object.Port key)) (λ h. names_port (name_of m.ports key) h.object) (reached_same key stand) (rows_at it.parts pid) (readings.rows_stand it is (first (is_part pid) it.parts) pid refl)

@@ -1,5 +1,6 @@
--- How many rows count for a port: the tables count what the definitions count.
-use Rattle.std.proofs.Common.{◌≡◌, ◌≤◌, ℕ, List, [], ◌∷◌, ◌++◌, Bool, true, length, map, refl, ap, sym, ◌∙◌, arith}
+-- How many rows count for an object: the tables count what the definitions count.
+use Rattle.std.proofs.Common.{◌≡◌, ◌≤◌, ℕ, List, [], ◌∷◌, ◌++◌, Bool, true, length, map, refl, ap, sym, subst, ◌∙◌, arith}
+use Rattle.std.specs.Prelude.{◌&&◌, ◌==◌}
 use Rattle.std.proofs.lemmas.List.{length-map, map-append}
 use Rattle.lpc_base.specs.declared.birth.Birth.{Birth}
 use Rattle.lpc_base.specs.Rows.{count, each, every}
@@ -7,25 +8,51 @@ use Rattle.lpc_base.proofs.RowMaps.{count-map, every-map}
 use Rattle.lpc_base.proofs.RowWords.{count-bound, every-append, every-back, every-front}
 use Rattle.lpc_handles.specs.declared.table.Row.{Row}
 use Rattle.lpc_model.specs.Found as found
-use Rattle.lpc_model.specs.Found.{port_name}
 use Rattle.lpc_ports.specs.Table as ports
 use Rattle.lpc_ports.specs.declared.Port.{Port}
 use Rattle.lpc_ports.specs.declared.messages.QueuedMessage.{QueuedMessage}
+use Rattle.lpc_procs.specs.Procs as procs
 use Rattle.lpc_slots.specs.declared.Key.{Key}
 use Rattle.lpc_waits.specs.Table as waits
 use Rattle.lpc_waits.specs.declared.WaitRow.{WaitRow}
 use Rattle.lpc_world.specs.Kept.{is_alive, rows_by}
-use Rattle.lpc_world.specs.Lawful.{AreLawful}
+use Rattle.lpc_world.specs.Lawful.{AreLawful, is_process_by}
 use Rattle.lpc_world.specs.Names.{name_of, stands}
-use Rattle.lpc_homes.specs.Parts.{all_rows, is_the_port, names_it}
-use Rattle.lpc_world.specs.Shown.{Tables, AreNamed, Births, all_pass, birth_of, births_of, message_refs, name_by, object_stands, part_refs, port_refs, ports_in, shown_handle, shown_message, shown_part, shown_port, shown_wait, wait_refs}
+use Rattle.lpc_homes.specs.Parts.{all_rows, names_it}
+use Rattle.lpc_world.specs.Shown.{Tables, AreNamed, Births, all_pass, birth_of, births_of, message_refs, name_by, object_stands, part_refs, port_refs, ports_in, shown_handle, shown_message, shown_part, shown_port, shown_process, shown_thread, shown_wait, wait_refs}
 use Rattle.lpc_homes.specs.declared.object.Object.{Object}
-use Rattle.lpc_homes.specs.declared.object.Object.TheVariants as object
 use Rattle.lpc_homes.specs.declared.parts.Part.{Part}
 use Rattle.lpc_world.proofs.Follows as follows
 use Rattle.lpc_world.proofs.Lawful.{waits-fit}
+use Rattle.lpc_world.proofs.Readings as readings
+use Rattle.lpc_world.proofs.Readings.{count-shown, has-shown}
 use Rattle.lpc_world.proofs.Unheld.{the_same}
 
+-- Handles that name an object
+module _ (it : Tables) (is : AreNamed (births_of it.ports) it) (o : Object) (there : object_stands (births_of it.ports) o ≡ true) where
+  abbrev g : Object → Birth
+  g = birth_of (births_of it.ports)
+
+  abbrev stand : Object → Bool
+  stand = object_stands (births_of it.ports)
+
+  rows_shown : (parts : List Part) → each (λ t. t.rows) (map (shown_part g) parts) ≡ map (shown_handle g) (all_rows parts)
+  rows_shown [] = refl
+  rows_shown (part ∷ parts) =
+      ap (λ hs. map (shown_handle g) part.handles.rows ++ hs) (rows_shown parts) ∙ sym (map-append (shown_handle g) part.handles.rows (all_rows parts))
+
+  rows_stand : (parts : List Part) → every (all_pass part_refs stand) parts ≡ true → every (λ row. stand row.1.object) (all_rows parts) ≡ true
+  rows_stand [] all = refl
+  rows_stand (part ∷ parts) all =
+      every-append (λ (row : ℕ × Row Object). stand row.1.object) part.handles.rows (all_rows parts)
+      (sym (every-map stand (λ (row : ℕ × Row Object). row.1.object) part.handles.rows) ∙ grind arith) (rows_stand parts (grind arith))
+
+  pub handles_counted : found.handle_count (rows_by it) (name_by g o) ≡ count (names_it o) (all_rows it.parts)
+  handles_counted =
+      ap (count (λ h. found.same_object h.object (name_by g o))) (rows_shown it.parts)
+      ∙ count-map (shown_handle g) (λ row. stand row.1.object) (names_it o) (λ h. found.same_object h.object (name_by g o)) (readings.named_same it is o there) (all_rows it.parts) (rows_stand it.parts is.refs.in_handles)
+
+-- Rows that count for a port
 module _ (it : Tables) (is : AreNamed (births_of it.ports) it) (key : Key) (there : stands (births_of it.ports).ports key ≡ true) where
   abbrev n : Births
   n = births_of it.ports
@@ -38,28 +65,6 @@ module _ (it : Tables) (is : AreNamed (births_of it.ports) it) (key : Key) (ther
 
   abbrev b : Birth
   b = name_of n.ports key
-
-  rows_shown : (parts : List Part) → each (λ t. t.rows) (map (shown_part f) parts) ≡ map (shown_handle f) (all_rows parts)
-  rows_shown [] = refl
-  rows_shown (part ∷ parts) =
-      ap (λ hs. map (shown_handle f) part.handles.rows ++ hs) (rows_shown parts) ∙ sym (map-append (shown_handle f) part.handles.rows (all_rows parts))
-
-  rows_stand : (parts : List Part) → every (all_pass part_refs ok) parts ≡ true → every (λ row. ok row.1.object) (all_rows parts) ≡ true
-  rows_stand [] all = refl
-  rows_stand (part ∷ parts) all =
-      every-append (λ (row : ℕ × Row Object). ok row.1.object) part.handles.rows (all_rows parts)
-      (sym (every-map ok (λ (row : ℕ × Row Object). row.1.object) part.handles.rows) ∙ grind arith) (rows_stand parts (grind arith))
-
-  handle_same : (row : ℕ × Row Object) → ok row.1.object ≡ true → found.same_object (name_by f row.1.object) (port_name b) ≡ names_it key row
-  handle_same row stand = named row.1.object stand
-    where
-      named : (o : Object) → ok o ≡ true → found.same_object (name_by f o) (port_name b) ≡ is_the_port key o
-      named (object.Port other) one = follows.agree it is other key one there
-
-  pub handles_counted : found.handle_count (rows_by it) (port_name b) ≡ count (names_it key) (all_rows it.parts)
-  handles_counted =
-      ap (count (λ h. found.same_object h.object (port_name b))) (rows_shown it.parts)
-      ∙ count-map (shown_handle f) (λ row. ok row.1.object) (names_it key) (λ h. found.same_object h.object (port_name b)) handle_same (all_rows it.parts) (rows_stand it.parts is.refs.in_handles)
 
   paired_same : (row : Key × Port) → all_pass port_refs ok row ≡ true → found.is_paired_to b (shown_port f row) ≡ ports.is_paired_to key row
   paired_same row all = the_same it is key there row.1.pair (every-front ok (ports_in row.1.pair) (ports_in row.1.connection) all)
@@ -84,6 +89,22 @@ module _ (it : Tables) (is : AreNamed (births_of it.ports) it) (key : Key) (ther
 
   pub made_counted : count (found.is_made_on b) (rows_by it).waits ≡ count (waits.is_made_on key) it.waits.rows
   made_counted = count-map (shown_wait f) (all_pass wait_refs ok) (waits.is_made_on key) (found.is_made_on b) made_same it.waits.rows is.refs.in_waits
+
+-- Live threads that count for a process, and for a thread
+module _ (it : Tables) (calls made : ℕ) (is : AreLawful it calls made) (b : Birth) where
+  pub born-once : count (procs.is_process_born b) it.procs.processes ≤ 1
+  born-once = subst (λ (n : ℕ). n ≤ 1) (count-shown shown_process (procs.is_process_born b) (is_process_by b) (λ p. refl) it.procs.processes) (is.born.process_births b)
+
+  pub process-lives : count (found.lives_by (rows_by it) b) (rows_by it).threads ≡ count (procs.lives_by it.procs b) it.procs.threads
+  process-lives =
+      count-shown shown_thread (procs.lives_by it.procs b) (found.lives_by (rows_by it) b)
+      (λ t. ap (λ c. t.live && c) (has-shown shown_process (λ p. procs.is_process_born b p && procs.is_process t.process p) (λ p. found.same_birth p.birth b && (p.number == t.process)) (λ p. refl) it.procs.processes)) it.procs.threads
+
+  pub thread-lives : count (found.is_life b) (rows_by it).threads ≡ count (procs.is_life b) it.procs.threads
+  thread-lives = count-shown shown_thread (procs.is_life b) (found.is_life b) (λ t. refl) it.procs.threads
+
+  pub threads-few : length it.procs.threads ≤ made
+  threads-few = omega (arith, is.lawful.rows, length-map it.procs.threads shown_thread)
 
 -- each of these counts is no more than was made
 module _ (it : Tables) (calls made : ℕ) (is : AreLawful it calls made) (key : Key) (there : stands (births_of it.ports).ports key ≡ true) where

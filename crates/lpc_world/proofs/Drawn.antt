@@ -147,7 +147,7 @@ drawn-port w p there h = record {
 }
 
 -- what a thread draws next it has not drawn, and so no port has it
-not-drawn : (t : ThreadRow) → drew_own (next_birth t) t ≡ false
+pub not-drawn : (t : ThreadRow) → drew_own (next_birth t) t ≡ false
 not-drawn t = grind (arith, nat_tests)
 
 pub fresh-birth : (w : World) (tid : ℕ) (t : ThreadRow) → AreDrawn w → first (is_thread tid) w.threads ≡ Some t → t.number ≡ tid → first (is_port (next_birth t)) w.ports ≡ None

@@ -1,6 +1,6 @@
 -- A thread registers a port, a registration goes, and a thread ends: what each leaves of a lawful world.
-use Rattle.std.proofs.Common.{◌≡◌, ◌+◌, ◌*◌, ◌<◌, ◌≤◌, ◌∙◌, ℕ, List, [], ◌∷◌, ◌++◌, true, false, length, refl, arith}
-use Rattle.std.specs.Prelude.{◌==◌}
+use Rattle.std.proofs.Common.{◌≡◌, ◌+◌, ◌*◌, ◌<◌, ◌≤◌, ◌∙◌, ℕ, List, [], ◌∷◌, ◌++◌, Bool, true, false, length, refl, arith}
+use Rattle.std.specs.Prelude.{not, ◌&&◌, ◌||◌, ◌==◌}
 use Rattle.std.proofs.lemmas.Bool.{eqb-true}
 use Rattle.std.proofs.lemmas.Bool.Decides.{nat_tests}
 use Rattle.std.proofs.lemmas.List.{length-append}
@@ -21,10 +21,14 @@ module _ (f : ThreadRow → ThreadRow) (same : (t : ThreadRow) → (f t).number 
   changed-draws : (n who : ℕ) (ts : List ThreadRow) → every (draws_at_most n) ts ≡ true → every (draws_at_most n) (change (is_thread who) f ts) ≡ true
   changed-draws n who ts all = every-change (draws_at_most n) (is_thread who) f (λ t there. rw (names t, ordinals t) there) ts all
 
-  changed-housed : (w v : World) (who : ℕ) (ts : List ThreadRow) → v.processes ≡ w.processes → v.handles ≡ w.handles → every (is_housed w) ts ≡ true → every (is_housed v) (change (is_thread who) f ts) ≡ true
-  changed-housed w v who ts ps hs all =
-      every-change (is_housed v) (is_thread who) f (λ t there. rw (home t) there) ts
+  changed-housed : (w v : World) (who : ℕ) (ts : List ThreadRow) → ((t : ThreadRow) → (f t).live ≡ true → t.live ≡ true) → v.processes ≡ w.processes → v.handles ≡ w.handles → every (is_housed w) ts ≡ true → every (is_housed v) (change (is_thread who) f ts) ≡ true
+  changed-housed w v who ts lived ps hs all =
+      every-change (is_housed v) (is_thread who) f (λ t there. rw (home t) (homely (f t).live t.live _ _ (lived t) there)) ts
       (every-more (is_housed w) (is_housed v) (λ t there. rw (ps, hs) there) ts all)
+    where
+      homely : (later now stands table : Bool) → (later ≡ true → now ≡ true) → ((not now || stands) && table) ≡ true → ((not later || stands) && table) ≡ true
+      homely false now stands table lived is = grind arith
+      homely true now stands table lived is = let live : now ≡ true = lived refl in grind (arith, live)
 
 -- One thread has a number
 only-one : (who : ℕ) (t : ThreadRow) (ts : List ThreadRow) → is_thread who t ≡ true → are_single_threads (t ∷ ts) ≡ true → has (is_thread who) ts ≡ false
@@ -109,7 +113,7 @@ lawful-register w calls made a b who c h lt place one there =
       budget = omega (arith, lt, more);
       rows = grind (arith, h.rows, length-change (is_thread who) (registering c) w.threads);
       draws = changed-draws (registering c) (λ t. refl) (λ t. refl) (λ t. refl) (λ t. refl) (made + 1) who w.threads h.draws;
-      housed = changed-housed (registering c) (λ t. refl) (λ t. refl) (λ t. refl) (λ t. refl) w (record w { threads = change (is_thread who) (registering c) w.threads }) who w.threads refl refl h.housed;
+      housed = changed-housed (registering c) (λ t. refl) (λ t. refl) (λ t. refl) (λ t. refl) w (record w { threads = change (is_thread who) (registering c) w.threads }) who w.threads (λ t is. is) refl refl h.housed;
       tables_used = h.tables_used;
       tables_single = h.tables_single;
       tables_few = h.tables_few;
@@ -134,7 +138,7 @@ lawful-unregister w calls made a b who c h =
       budget = omega (arith, budget, less);
       rows = grind (arith, h.rows, length-change (is_thread who) (unregistering c) w.threads);
       draws = changed-draws (unregistering c) (λ t. refl) (λ t. refl) (λ t. refl) (λ t. refl) (made + 1) who w.threads h.draws;
-      housed = changed-housed (unregistering c) (λ t. refl) (λ t. refl) (λ t. refl) (λ t. refl) w (record w { threads = change (is_thread who) (unregistering c) w.threads }) who w.threads refl refl h.housed;
+      housed = changed-housed (unregistering c) (λ t. refl) (λ t. refl) (λ t. refl) (λ t. refl) w (record w { threads = change (is_thread who) (unregistering c) w.threads }) who w.threads (λ t is. is) refl refl h.housed;
       tables_used = h.tables_used;
       tables_single = h.tables_single;
       tables_few = h.tables_few;
@@ -182,7 +186,7 @@ lawful-ended w calls made a b who h ready kept =
       budget = omega (arith, budget, kept);
       rows = grind (arith, h.rows, length-change (is_thread who) ended w.threads);
       draws = changed-draws ended (λ t. refl) (λ t. refl) (λ t. refl) (λ t. refl) (made + 1) who w.threads h.draws;
-      housed = changed-housed ended (λ t. refl) (λ t. refl) (λ t. refl) (λ t. refl) w (record w { threads = change (is_thread who) ended w.threads }) who w.threads refl refl h.housed;
+      housed = changed-housed ended (λ t. refl) (λ t. refl) (λ t. refl) (λ t. refl) w (record w { threads = change (is_thread who) ended w.threads }) who w.threads (λ t is. absurd (cc)) refl refl h.housed;
       tables_used = h.tables_used;
       tables_single = h.tables_single;
       tables_few = h.tables_few;

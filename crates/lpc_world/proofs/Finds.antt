@@ -16,15 +16,16 @@ use Rattle.lpc_world.specs.Ready.{caller, is_ready, thread_in, wait_in, waiter}
 use Rattle.lpc_world.proofs.Lawful.{place-left}
 
 -- Callers
--- a thread that passes is in a process that stands and has a table of handles
-pub housed_first : (w : World) (p : ThreadRow → Bool) (t : ThreadRow) → every (is_housed w) w.threads ≡ true → first p w.threads ≡ Some t → (has (is_process t.process) w.processes ≡ true) × (has (is_table t.process) w.handles ≡ true)
-housed_first w p t all found =
+-- a live thread that passes is in a process that stands and has a table of handles
+housed_first : (w : World) (p : ThreadRow → Bool) (t : ThreadRow) → t.live ≡ true → every (is_housed w) w.threads ≡ true → first p w.threads ≡ Some t → (has (is_process t.process) w.processes ≡ true) × (has (is_table t.process) w.handles ≡ true)
+housed_first w p t live all found =
     let one : is_housed w t ≡ true = every-first (is_housed w) p w.threads t all found in
-    both (has (is_process t.process) w.processes) (has (is_table t.process) w.handles) one
+    both t.live (has (is_process t.process) w.processes) (has (is_table t.process) w.handles) live one
   where
-    both : (a b : Bool) → a && b ≡ true → (a ≡ true) × (b ≡ true)
-    both true b e = (refl, e)
-    both false b e = absurd (cc)
+    both : (l a b : Bool) → l ≡ true → ((not l || a) && b) ≡ true → (a ≡ true) × (b ≡ true)
+    both true true b live e = (refl, e)
+    both true false b live e = absurd (cc)
+    both false a b live e = absurd (cc)
 
 -- a live thread that is found has the number, stands, and is the caller
 pub record IsCaller (w : World) (tid : ℕ) (t : ThreadRow) : Type 0 where
@@ -43,7 +44,7 @@ is_caller w tid t all found = record {
   caller_is = sym (ap thread_in found);
   number = eqb-true t.number tid (lives (t.number == tid) t.live (first-passes (is_live_thread tid) w.threads t found)).0;
   there = has-first (is_live_thread tid) (is_thread tid) (λ x h. (lives (x.number == tid) x.live h).0) w.threads t found;
-  table = (housed_first w (is_live_thread tid) t all found).1;
+  table = (housed_first w (is_live_thread tid) t (lives (t.number == tid) t.live (first-passes (is_live_thread tid) w.threads t found)).1 all found).1;
 }
 
 -- a thread that can make a call is found
@@ -69,8 +70,9 @@ live_process w pid all live = of_first (first (lives_in pid) w.threads) refl liv
     of_first : (o : Option ThreadRow) → first (lives_in pid) w.threads ≡ o → is_some o ≡ true → (has (is_process pid) w.processes ≡ true) × (has (is_table pid) w.handles ≡ true)
     of_first None found there = absurd (cc)
     of_first (Some t) found there =
-        let own : t.process ≡ pid = eqb-true t.process pid (lives (t.process == pid) t.live (first-passes (lives_in pid) w.threads t found)).0 in
-        subst (λ q. (has (is_process q) w.processes ≡ true) × (has (is_table q) w.handles ≡ true)) own (housed_first w (lives_in pid) t all found)
+        let is = lives (t.process == pid) t.live (first-passes (lives_in pid) w.threads t found) in
+        let own : t.process ≡ pid = eqb-true t.process pid is.0 in
+        subst (λ q. (has (is_process q) w.processes ≡ true) × (has (is_table q) w.handles ≡ true)) own (housed_first w (lives_in pid) t is.1 all found)
 
 -- Waits
 turned : (a b : ℕ) → (a == b) ≡ (b == a)

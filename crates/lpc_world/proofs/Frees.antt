@@ -66,9 +66,13 @@ module _ (it : Tables) (is : AreNamed (births_of it.ports) it) (key : Key) (room
 
   stands_less : (o : Object) → ok o ≡ true → object_stands m o ≡ true
   stands_less (object.Port k) there = rw names_less (stands-without n.ports key k (grind arith) (grind arith))
+  stands_less (object.Process birth) there = refl
+  stands_less (object.Thread birth) there = refl
 
   name_less : (o : Object) → ok o ≡ true → birth_of m o ≡ birth_of n o
   name_less (object.Port k) there = rw names_less (name-without n.ports key k (grind arith))
+  name_less (object.Process birth) there = refl
+  name_less (object.Thread birth) there = refl
 
   pub keeps : KeepsOthers key n.ports m.ports
   keeps = record {

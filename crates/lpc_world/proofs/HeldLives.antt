@@ -1,277 +1,149 @@
--- A thread that has ended, and a process without a thread, is counted for by no row, and goes ahead of the sweep.
-use Rattle.std.proofs.Common.{◌≡◌, ℕ, ◌+◌, ◌≤◌, List, [], ◌∷◌, Bool, true, false, not, length, map, Option, Some, None, option_map, refl, ap, sym, subst, ◌∙◌, arith}
-use Rattle.std.specs.Prelude.{◌==◌, ◌&&◌, ◌||◌, IfNone, IfSome}
-use Rattle.std.proofs.lemmas.Bool.{eqb-true}
+-- A thread that has ended, and a process without a live thread, goes ahead of the sweep where no handle names it.
+use Rattle.std.proofs.Common.{◌≡◌, ℕ, ◌+◌, ◌≤◌, zero, suc, List, [], ◌∷◌, Bool, true, false, not, length, slice_get, Option, Some, None, option_map, refl, ap, sym, subst, ◌∙◌, arith}
+use Rattle.std.specs.Prelude.{◌==◌, ◌&&◌, ◌||◌}
 use Rattle.std.proofs.lemmas.Bool.Decides.{nat_tests}
 use Rattle.lpc_base.specs.declared.birth.Birth.{Birth}
-use Rattle.lpc_base.specs.Rows.{every, first, has, without}
-use Rattle.lpc_base.proofs.Differ.{one-row}
-use Rattle.lpc_base.proofs.RowMaps.{every-both, every-map, every-none}
-use Rattle.lpc_base.proofs.RowWords.{count-none, every-more, first-passes, has_none-more}
-use Rattle.lpc_model.specs.declared.entry.ObjectKind.TheVariants as kind
-use Rattle.lpc_model.specs.World.{HandleRow, HandleTable, ObjectName, ProcessRow, ThreadRow, World}
+use Rattle.lpc_base.specs.Rows.{count, every, has}
+use Rattle.lpc_base.proofs.RowWords.{every-more}
+use Rattle.lpc_model.specs.World.{ObjectName, ProcessRow, ThreadRow, World}
 use Rattle.lpc_model.specs.Basics.{Frees, basic, world_after}
-use Rattle.lpc_model.specs.Found.{all_handles, handle_count, holders, is_life, is_process, is_thread, kind_rank, lives_by, process_name, same_birth, same_kind, same_object, thread_name}
-use Rattle.lpc_model.specs.Linked.{AreLivesHeld}
-use Rattle.lpc_model.specs.Standing.{is_to_port}
+use Rattle.lpc_model.specs.Found.{handle_count, holders, is_life, lives_by, lives_in, process_name, same_birth, thread_name}
 use Rattle.lpc_model.specs.Sweep.{is_unheld, sweep}
 use Rattle.lpc_model.proofs.Births.{birth-self}
 use Rattle.lpc_model.proofs.FreedFirst.{process_first, thread_first}
-use Rattle.lpc_model.proofs.Handles.{count-has}
-use Rattle.lpc_model.proofs.HeldClose.{to-port-kind}
-use Rattle.lpc_model.proofs.HeldSteps.{held-some}
-use Rattle.lpc_model.proofs.Rows.{has-found, has-more, has-off, lone}
+use Rattle.lpc_model.proofs.SweptLives.{same-thread}
+use Rattle.lpc_homes.specs.Parts.{has_name_of}
+use Rattle.lpc_homes.specs.declared.object.Object.{Object}
 use Rattle.lpc_procs.specs.Procs as procs
+use Rattle.lpc_procs.specs.declared.rows.Life.{Life}
 use Rattle.lpc_procs.specs.declared.rows.ProcessRow as process_row
 use Rattle.lpc_procs.specs.declared.rows.ThreadRow as thread_row
-use Rattle.lpc_world.specs.Held.{CanSweep, SweepsAhead, has_ended, is_empty, is_ended, is_in}
-use Rattle.lpc_world.specs.Kept.{Kept, is_alive}
-use Rattle.lpc_world.specs.Lawful.{AreBornIn, are_single_threads, is_process_by, is_thread_by}
-use Rattle.lpc_world.specs.Shown.{shown_process, shown_thread}
-use Rattle.lpc_world.proofs.HeldPorts.{can_freed, has_in, roomy_same, roomy_then}
-use Rattle.lpc_world.proofs.Readings.{has-shown}
-use Rattle.lpc_world.proofs.Vacated.{AreOver}
+use Rattle.lpc_world.specs.Held.{CanSweep, HasHeldThreads, SweepsAhead, has_holders}
+use Rattle.lpc_world.specs.Kept.{Kept, Roomy, rows_by}
+use Rattle.lpc_world.specs.Lawful.{AreLawful}
+use Rattle.lpc_world.specs.Shown.{Tables, birth_of, births_of, name_by, object_stands, shown_process, shown_thread}
+use Rattle.lpc_world.proofs.HeldPorts.{can_freed, mapped_at, named-counted, roomy_same, roomy_then, zero_has}
+use Rattle.lpc_world.proofs.Readings.{has-shown, named_is}
 
--- No handle is to a thread or a process
-module _ (w : World) (o : ObjectName) (other : same_kind kind.Port o.kind ≡ false) where
-  not-it : (h : HandleRow) → is_to_port w h ≡ true → same_object h.object o ≡ false
-  not-it h to =
-      let is : kind_rank h.object.kind ≡ 0 = eqb-true _ _ (to-port-kind w h to) in
-      let off : same_kind h.object.kind o.kind ≡ false = subst (λ n. (n == kind_rank o.kind) ≡ false) (sym is) other in
-      rw off refl
+-- What holds an object: a handle, or another row that counts for it
+sums : (a b : ℕ) → not ((a + b) == 0) ≡ (not (b == 0) || not (a == 0))
+sums a b = grind (arith, nat_tests)
 
-  none-in : (hs : List HandleRow) → every (is_to_port w) hs ≡ true → has (λ h. same_object h.object o) hs ≡ false
-  none-in [] all = refl
-  none-in (h ∷ hs) all = grind (arith, not-it h, none-in hs)
-
-  none-at : (ts : List HandleTable) → every (λ t. every (is_to_port w) t.rows) ts ≡ true → has (λ t. has (λ h. same_object h.object o) t.rows) ts ≡ false
-  none-at [] all = refl
-  none-at (t ∷ ts) all = grind (arith, none-in t.rows, none-at ts)
-
-  -- so no row counts for it where none but handles do
-  pub unheld-by : CanSweep w → holders w o.kind o.birth ≡ 0 → is_unheld w o ≡ true
-  unheld-by can none = zero _ _ (count-none (λ (h : HandleRow). same_object h.object o) (all_handles w) (has_in (λ (h : HandleRow). same_object h.object o) (λ t. t.rows) w.handles ∙ none-at w.handles can.standing.handles)) none
-    where
-      zero : (a b : ℕ) → a ≡ 0 → b ≡ 0 → ((a + b) == 0) ≡ true
-      zero a b one two = rw (one, two) refl
-
--- two tests that the same rows pass
-without-alike : {X : Type 0} (p q : X → Bool) (xs : List X) → every (λ y. not (p y) || q y) xs ≡ true → every (λ y. not (q y) || p y) xs ≡ true → without p xs ≡ without q xs
-without-alike p q [] one two = refl
-without-alike p q (x ∷ xs) one two = grind (arith, without-alike p q xs)
-
-left_true : (a b : Bool) → (a && b) ≡ true → a ≡ true
-left_true a b is = grind arith
-
-right_true : (a b : Bool) → (a && b) ≡ true → b ≡ true
-right_true a b is = grind arith
-
--- The thread of a number, which has ended
-module _ (w : World) (born : AreBornIn w) (tid : ℕ) (t : ThreadRow) (at : first (is_ended tid) w.threads ≡ Some t) where
-  own : is_thread tid t ≡ true
-  own = left_true _ _ (first-passes (is_ended tid) w.threads t at)
-
-  over : not t.live ≡ true
-  over = right_true _ _ (first-passes (is_ended tid) w.threads t at)
-
-  none-alive : has (is_life t.birth) w.threads ≡ false
-  none-alive =
-      has-off (is_life t.birth) w.threads (every-more (λ y. not (is_thread_by t.birth y) || not y.live) (λ y. not (is_life t.birth y)) (λ y is. parts y.live (is_thread_by t.birth y) is) w.threads
-      (lone (is_thread_by t.birth) (λ y. not y.live) (is_ended tid) w.threads t (born.thread_births t.birth) at (birth-self t.birth) over))
-    where
-      parts : (l b : Bool) → (not b || not l) ≡ true → not (l && b) ≡ true
-      parts l b is = grind arith
-
-  ended-unheld : CanSweep w → is_unheld w (thread_name t.birth) ≡ true
-  ended-unheld can = unheld-by w (thread_name t.birth) refl can (count-none (is_life t.birth) w.threads none-alive)
-
-  ended-goes : are_single_threads w.threads ≡ true → without (is_thread tid) w.threads ≡ without (is_thread_by t.birth) w.threads
-  ended-goes single =
-      without-alike (is_thread tid) (is_thread_by t.birth) w.threads
-      (lone (is_thread tid) (is_thread_by t.birth) (is_ended tid) w.threads t (one-row (λ (y : ThreadRow). y.number) tid w.threads single) at own (birth-self t.birth))
-      (lone (is_thread_by t.birth) (is_thread tid) (is_ended tid) w.threads t (born.thread_births t.birth) at (birth-self t.birth) own)
-
-pub ended-there : (tid : ℕ) (ts : List ThreadRow) → has (is_ended tid) ts ≡ true → has (is_thread tid) ts ≡ true
-ended-there tid ts there = has-more (is_ended tid) (is_thread tid) (λ t is. left_true _ _ is) ts there
-
--- and no row of its number lives
-pub over-ended : (tid : ℕ) (ts : List ThreadRow) → are_single_threads ts ≡ true → has (is_ended tid) ts ≡ true → AreOver (is_thread tid) ts
-over-ended tid ts single there = by_row (first (is_ended tid) ts) refl
+pub none-hold : (w : World) (o : ObjectName) → is_unheld w o ≡ true → has_holders w o ≡ false
+none-hold w o none = parts (handle_count w o) (holders w o.kind o.birth) none
   where
-    by_row : (o : Option ThreadRow) → first (is_ended tid) ts ≡ o → AreOver (is_thread tid) ts
-    by_row None at = let no : has (is_ended tid) ts ≡ false = rw at refl in absurd (cc)
-    by_row (Some t) at =
-        let passes = first-passes (is_ended tid) ts t at in
-        lone (is_thread tid) (λ y. not y.live) (is_ended tid) ts t (one-row (λ (y : ThreadRow). y.number) tid ts single) at (left_true _ _ passes) (right_true _ _ passes)
+    parts : (a b : ℕ) → ((a + b) == 0) ≡ true → not (b == 0) ≡ false
+    parts a b is = grind (arith, nat_tests)
 
--- what a row leaves that goes ahead
-pub record IsAhead (w v : World) : Type 0 where
-  pub can : CanSweep v
-  pub leaves : world_after v (sweep v) ≡ world_after w (sweep w)
+held-by : (w : World) (o : ObjectName) → not (is_unheld w o) ≡ (has_holders w o || not (handle_count w o == 0))
+held-by w o = sums (handle_count w o) (holders w o.kind o.birth)
 
-ahead-by : (w v : World) (o : ObjectName) → v ≡ basic w (Frees o) → CanSweep w → is_unheld w o ≡ true → world_after (basic w (Frees o)) (sweep (basic w (Frees o))) ≡ world_after w (sweep w) → IsAhead w v
-ahead-by w v o is can none same = record {
-  can = subst CanSweep (sym is) (can_freed w o can none);
-  leaves = ap (λ (u : World). world_after u (sweep u)) is ∙ same;
-}
+-- so where something lives no handle is asked for
+pub held-living : (w : World) (o : ObjectName) → has_holders w o ≡ true → true ≡ not (is_unheld w o)
+held-living w o lives = sym (held-by w o ∙ ap (λ c. c || not (handle_count w o == 0)) lives)
 
-pub thread-ahead : (w v : World) (tid : ℕ) → AreBornIn w → are_single_threads w.threads ≡ true → CanSweep w → has_ended w tid ≡ true → v ≡ record w { threads = without (is_thread tid) w.threads } → IsAhead w v
-thread-ahead w v tid born single can there is = by_row (first (is_ended tid) w.threads) refl
-  where
-    by_row : (o : Option ThreadRow) → first (is_ended tid) w.threads ≡ o → IsAhead w v
-    by_row None at = let no : has (is_ended tid) w.threads ≡ false = rw at refl in absurd (cc)
-    by_row (Some t) at =
-        let none = ended-unheld w born tid t at can in
-        ahead-by w v (thread_name t.birth) (is ∙ ap (λ ts. record w { threads = ts }) (ended-goes w born tid t at single)) can none (thread_first w t.birth none)
+pub held-named : (it : Tables) (calls made : ℕ) (is : AreLawful it calls made) (o : Object) → object_stands (births_of it.ports) o ≡ true → has_holders (rows_by it) (name_by (birth_of (births_of it.ports)) o) ≡ false
+    → has (has_name_of o) it.parts ≡ not (is_unheld (rows_by it) (name_by (birth_of (births_of it.ports)) o))
+held-named it calls made is o there none =
+    let name = name_by (birth_of (births_of it.ports)) o in
+    sym (held-by (rows_by it) name ∙ ap (λ c. c || not (handle_count (rows_by it) name == 0)) none ∙ (named-counted (rows_by it) name ∙ named_is it is.named o there))
 
--- The process of a number, of which no thread is
-module _ (w : World) (born : AreBornIn w) (pid : ℕ) (p : ProcessRow) (at : first (is_process pid) w.processes ≡ Some p) (empty : has (is_in pid) w.threads ≡ false) where
-  its-own : is_process pid p ≡ true
-  its-own = first-passes (is_process pid) w.processes p at
+-- Rows at a place, of which no two have one birth
+has-front : {X : Type 0} (q : X → Bool) (y : X) (ys : List X) → has q ys ≡ false → has q (y ∷ ys) ≡ q y
+has-front q y ys none = grind (arith, none)
 
-  other-home : (n : ℕ) (ps : List ProcessRow) → (n == pid) ≡ false → every (λ q. not (is_process_by p.birth q) || is_process pid q) ps ≡ true → has (λ q. same_birth q.birth p.birth && (q.number == n)) ps ≡ false
-  other-home n [] off all = refl
-  other-home n (q ∷ qs) off all =
-      let rest = other-home n qs off (right_true _ _ all) in
-      let here = apart (same_birth q.birth p.birth) q.number (left_true _ _ all) in
-      rw (here, rest) refl
+has-back : {X : Type 0} (q : X → Bool) (y : X) (ys : List X) → q y ≡ false → has q (y ∷ ys) ≡ has q ys
+has-back q y ys off = rw off refl
+
+module _ {X : Type 0} (birth : X → Birth) (live q : X → Bool) where
+  none-other : (b : Birth) → ((x : X) → q x ≡ (same_birth (birth x) b && live x)) → (xs : List X) → count (λ x. same_birth (birth x) b) xs ≤ 0 → has q xs ≡ false
+  none-other b is [] few = refl
+  none-other b is (x ∷ xs) few = grind (arith, is x, none-other b is xs)
+
+  some-there : (xs : List X) (place : ℕ) (x : X) → slice_get xs place ≡ Some x → 1 ≤ count (λ y. same_birth (birth y) (birth x)) xs
+  some-there [] place x at = absurd (cc)
+  some-there (y ∷ ys) zero x at =
+      let own : same_birth (birth x) (birth x) ≡ true = birth-self (birth x) in
+      let is : y ≡ x = cc in
+      subst (λ z. 1 ≤ count (λ v. same_birth (birth v) (birth x)) (z ∷ ys)) (sym is) (grind (arith, own))
+  some-there (y ∷ ys) (suc place) x at = grind (arith, some-there ys place x at)
+
+  -- the row itself tells what one of its birth does
+  pub alone-at : (xs : List X) (place : ℕ) (x : X) → slice_get xs place ≡ Some x → ((y : X) → q y ≡ (same_birth (birth y) (birth x) && live y)) → count (λ y. same_birth (birth y) (birth x)) xs ≤ 1 → has q xs ≡ live x
+  alone-at [] place x at is few = absurd (cc)
+  alone-at (y ∷ ys) zero x at is few =
+      let same : y ≡ x = cc in
+      let own : same_birth (birth y) (birth x) ≡ true = subst (λ z. same_birth (birth z) (birth x) ≡ true) (sym same) (birth-self (birth x)) in
+      let rest : count (λ v. same_birth (birth v) (birth x)) ys ≤ 0 = grind (arith, own, few) in
+      let none = none-other (birth x) is ys rest in
+      let here : q y ≡ live y = rw own at (is y) in
+      has-front q y ys none ∙ here ∙ ap live same
+  alone-at (y ∷ ys) (suc place) x at is few =
+      let some = some-there ys place x at in
+      let off : same_birth (birth y) (birth x) ≡ false = grind (arith, some, few) in
+      let here : q y ≡ false = rw off at (is y) in
+      let rest : count (λ v. same_birth (birth v) (birth x)) ys ≤ 1 = grind (arith, off, few) in
+      has-back q y ys here ∙ alone-at ys place x at is rest
+
+-- A thread at a place, and a process at one
+module _ (it : Tables) (calls made : ℕ) (is : AreLawful it calls made) where
+  abbrev rows : World
+  rows = rows_by it
+
+  -- it has this birth, and tells whether a live thread counts for it
+  pub record IsThreadAt (place : ℕ) (life : Life) : Type 0 where
+    pub birth : option_map (λ (t : ThreadRow). t.birth) (slice_get rows.threads place) ≡ Some life.birth
+    pub live : life.live ≡ has_holders rows (thread_name life.birth)
+
+  swapped : (a b : Bool) → (a && b) ≡ (b && a)
+  swapped a b = grind arith
+
+  pub thread-at : (place : ℕ) (life : Life) → option_map procs.thread_life (slice_get it.procs.threads place) ≡ Some life → IsThreadAt place life
+  thread-at place life at = by_row (slice_get it.procs.threads place) refl at
     where
-      apart : (b : Bool) (m : ℕ) → (not b || (m == pid)) ≡ true → (b && (m == n)) ≡ false
-      apart b m one = grind (arith, nat_tests)
+      same : (a b : Life) → let x : Option Life = Some a in let y : Option Life = Some b in x ≡ y → a ≡ b
+      same a b e = cc
 
-  none-lives : has (lives_by w p.birth) w.threads ≡ false
-  none-lives =
-      let all = lone (is_process_by p.birth) (is_process pid) (is_process pid) w.processes p (born.process_births p.birth) at (birth-self p.birth) its-own in
-      has_none-more (is_in pid) (lives_by w p.birth) (λ t off. parts t.live _ (other-home t.process w.processes off all)) w.threads empty
+      by_row : (o : Option thread_row.ThreadRow) → slice_get it.procs.threads place ≡ o → option_map procs.thread_life o ≡ Some life → IsThreadAt place life
+      by_row None here at = absurd (cc)
+      by_row (Some row) here at =
+          let t = shown_thread row in
+          let its : slice_get rows.threads place ≡ Some t = mapped_at shown_thread it.procs.threads place ∙ ap (option_map shown_thread) here in
+          let lives = alone-at (λ (x : ThreadRow). x.birth) (λ x. x.live) (is_life t.birth) rows.threads place t its (λ y. swapped y.live (same_birth y.birth t.birth)) (is.born.thread_births t.birth) in
+          subst (IsThreadAt place) (same (procs.thread_life row) life at) (record {
+            birth = ap (option_map (λ (x : ThreadRow). x.birth)) its;
+            live = sym (zero_has (is_life t.birth) rows.threads ∙ lives);
+          })
+
+  pub record IsProcessAt (place : ℕ) (life : Life) : Type 0 where
+    pub birth : option_map (λ (p : ProcessRow). p.birth) (slice_get rows.processes place) ≡ Some life.birth
+    pub live : life.live ≡ has_holders rows (process_name life.birth)
+
+  pub process-at : (place : ℕ) (life : Life) → option_map (procs.process_life it.procs.threads) (slice_get it.procs.processes place) ≡ Some life → IsProcessAt place life
+  process-at place life at = by_row (slice_get it.procs.processes place) refl at
     where
-      parts : (l b : Bool) → b ≡ false → (l && b) ≡ false
-      parts l b is = grind arith
+      same : (a b : Life) → let x : Option Life = Some a in let y : Option Life = Some b in x ≡ y → a ≡ b
+      same a b e = cc
 
-  empty-unheld : CanSweep w → is_unheld w (process_name p.birth) ≡ true
-  empty-unheld can = unheld-by w (process_name p.birth) refl can (count-none (lives_by w p.birth) w.threads none-lives)
+      turned : (l : Bool) (n m : ℕ) → (l && (n == m)) ≡ ((m == n) && l)
+      turned l n m = grind (arith, nat_tests)
 
-  empty-goes : without (is_process pid) w.processes ≡ without (is_process_by p.birth) w.processes
-  empty-goes =
-      without-alike (is_process pid) (is_process_by p.birth) w.processes
-      (lone (is_process pid) (is_process_by p.birth) (is_process pid) w.processes p (one-row (λ (y : ProcessRow). y.number) pid w.processes born.processes_single) at its-own (birth-self p.birth))
-      (lone (is_process_by p.birth) (is_process pid) (is_process pid) w.processes p (born.process_births p.birth) at (birth-self p.birth) its-own)
+      by_row : (o : Option process_row.ProcessRow) → slice_get it.procs.processes place ≡ o → option_map (procs.process_life it.procs.threads) o ≡ Some life → IsProcessAt place life
+      by_row None here at = absurd (cc)
+      by_row (Some row) here at =
+          let p = shown_process row in
+          let its : slice_get rows.processes place ≡ Some p = mapped_at shown_process it.procs.processes place ∙ ap (option_map shown_process) here in
+          let home = λ (t : ThreadRow). alone-at (λ (x : ProcessRow). x.birth) (λ x. x.number == t.process) (λ x. same_birth x.birth p.birth && (x.number == t.process)) rows.processes place p its (λ y. refl) (is.born.process_births p.birth) in
+          let lives : has (lives_by rows p.birth) rows.threads ≡ has (lives_in p.number) rows.threads = λ i. has (λ (t : ThreadRow). (ap (λ c. t.live && c) (home t) ∙ turned t.live p.number t.process) i) rows.threads in
+          let told : has (procs.lives_in row.number) it.procs.threads ≡ has (lives_in p.number) rows.threads = sym (has-shown shown_thread (procs.lives_in row.number) (lives_in p.number) (λ t. refl) it.procs.threads) in
+          subst (IsProcessAt place) (same (procs.process_life it.procs.threads row) life at) (record {
+            birth = ap (option_map (λ (x : ProcessRow). x.birth)) its;
+            live = told ∙ sym (zero_has (lives_by rows p.birth) rows.threads ∙ lives);
+          })
 
-not-true : (a : Bool) → not a ≡ true → a ≡ false
-not-true a is = grind arith
-
-pub empty-there : (w : World) (pid : ℕ) → is_empty w pid ≡ true → has (is_process pid) w.processes ≡ true
-empty-there w pid is = left_true _ _ is
-
-pub empty-none : (w : World) (pid : ℕ) → is_empty w pid ≡ true → has (is_in pid) w.threads ≡ false
-empty-none w pid is = not-true _ (right_true _ _ is)
-
-pub process-ahead : (w v : World) (pid : ℕ) → AreBornIn w → CanSweep w → is_empty w pid ≡ true → v ≡ record w { processes = without (is_process pid) w.processes } → IsAhead w v
-process-ahead w v pid born can there is = by_row (first (is_process pid) w.processes) refl
-  where
-    empty : has (is_in pid) w.threads ≡ false
-    empty = empty-none w pid there
-
-    by_row : (o : Option ProcessRow) → first (is_process pid) w.processes ≡ o → IsAhead w v
-    by_row None at =
-        let yes = empty-there w pid there in
-        let no : has (is_process pid) w.processes ≡ false = rw at refl in absurd (cc)
-    by_row (Some p) at =
-        let none = empty-unheld w born pid p at empty can in
-        ahead-by w v (process_name p.birth) (is ∙ ap (λ ps. record w { processes = ps }) (empty-goes w born pid p at empty)) can none (process_first w p.birth none)
-
--- Where each thread lives, and each process has one, some row counts for each
-every-self : {X : Type 0} (q : X → X → Bool) (xs : List X) → every (λ x. q x x) xs ≡ true → every (λ x. has (q x) xs) xs ≡ true
-every-self q [] all = refl
-every-self q (x ∷ xs) all =
-    let rest = every-more (λ y. has (q y) xs) (λ y. has (q y) (x ∷ xs)) (λ y is. grind arith) xs (every-self q xs (right_true _ _ all)) in
-    let own : q x x ≡ true = left_true _ _ all in
-    let here : has (q x) (x ∷ xs) ≡ true = rw own refl in
-    rw (here, rest) refl
-
-has-kept-by : {X : Type 0} (a s r : X → Bool) → ((x : X) → a x ≡ true → s x ≡ true → r x ≡ true) → (xs : List X) → every a xs ≡ true → has s xs ≡ true → has r xs ≡ true
-has-kept-by a s r both [] all is = absurd (cc)
-has-kept-by a s r both (x ∷ xs) all is = grind (arith, both x, has-kept-by a s r both xs)
-
-counted-for : (a b : ℕ) → 1 ≤ b → not ((a + b) == 0) ≡ true
-counted-for a b some = held-some (a + b) (omega (arith, some))
-
-abbrev pub is_peopled : World → ProcessRow → Bool
-is_peopled w p = has (is_in p.number) w.threads
-
-pub lives-held : (w : World) → every is_alive w.threads ≡ true → every (is_peopled w) w.processes ≡ true → AreLivesHeld w
-lives-held w live peopled = record {
-  threads = every-more (λ t. has (is_life t.birth) w.threads) (λ t. not (is_unheld w (thread_name t.birth))) (λ t is. counted-for (handle_count w (thread_name t.birth)) _ (count-has (is_life t.birth) w.threads is)) w.threads
-      (every-self (λ t y. is_life t.birth y) w.threads (every-more is_alive (λ t. is_life t.birth t) (λ t is. rw (is, birth-self t.birth) refl) w.threads live));
-  processes = every-both (is_peopled w) (λ p. has (λ q. same_birth q.birth p.birth && (q.number == p.number)) w.processes) (λ p. not (is_unheld w (process_name p.birth)))
-      (λ p some own. counted-for (handle_count w (process_name p.birth)) _ (count-has (lives_by w p.birth) w.threads (has-kept-by is_alive (is_in p.number) (lives_by w p.birth) (λ t is in_it. lived t p.birth p.number is in_it own) w.threads live some)))
-      w.processes peopled (every-self (λ p q. same_birth q.birth p.birth && (q.number == p.number)) w.processes (each-own w.processes));
-}
-  where
-    each-own : (ps : List ProcessRow) → every (λ p. same_birth p.birth p.birth && (p.number == p.number)) ps ≡ true
-    each-own [] = refl
-    each-own (p ∷ ps) = let own = birth-self p.birth in grind (arith, nat_tests, each-own ps)
-
-    lived : (t : ThreadRow) (b : Birth) (n : ℕ) → t.live ≡ true → (t.process == n) ≡ true → has (λ q. same_birth q.birth b && (q.number == n)) w.processes ≡ true → lives_by w b t ≡ true
-    lived t b n is in_it own =
-        let home : has (λ q. same_birth q.birth b && (q.number == t.process)) w.processes ≡ true = subst (λ m. has (λ (q : ProcessRow). same_birth q.birth b && (q.number == m)) w.processes ≡ true) (sym (eqb-true t.process n in_it)) own in
-        rw (is, home) refl
-
--- What the tables find
-pub none-ended : (ts : List thread_row.ThreadRow) (o : Option ℕ) → o ≡ option_map (λ t. t.number) (first procs.has_ended ts) → IfNone o (every is_alive (map shown_thread ts) ≡ true)
-none-ended ts None is = every-map is_alive shown_thread ts ∙ every-more (λ t. not (procs.has_ended t)) (λ t. t.live) (λ t h. twice t.live h) ts (every-none procs.has_ended ts (mapped-none (first procs.has_ended ts) is))
-  where
-    twice : (l : Bool) → not (not l) ≡ true → l ≡ true
-    twice l h = grind arith
-
-    mapped-none : (o : Option thread_row.ThreadRow) → None ≡ option_map (λ t. t.number) o → o ≡ None
-    mapped-none None e = refl
-    mapped-none (Some t) e = absurd (cc)
-none-ended ts (Some tid) is = tt
-
-pub one-ended : (ts : List thread_row.ThreadRow) (o : Option ℕ) → o ≡ option_map (λ t. t.number) (first procs.has_ended ts) → IfSome o (λ tid. has (is_ended tid) (map shown_thread ts) ≡ true)
-one-ended ts None is = tt
-one-ended ts (Some tid) is = by_row (first procs.has_ended ts) refl is
-  where
-    by_row : (o : Option thread_row.ThreadRow) → first procs.has_ended ts ≡ o → Some tid ≡ option_map (λ t. t.number) o → has (is_ended tid) (map shown_thread ts) ≡ true
-    by_row None at e = absurd (cc)
-    by_row (Some t) at e =
-        let same : t.number ≡ tid = cc in
-        let over = first-passes procs.has_ended ts t at in
-        let passes : is_ended tid (shown_thread t) ≡ true = rw (same, over) (grind (arith, nat_tests)) in
-        has-shown shown_thread (λ x. is_ended tid (shown_thread x)) (is_ended tid) (λ x. refl) ts ∙ has-found (λ x. is_ended tid (shown_thread x)) procs.has_ended ts t at passes
-
--- a process of which no thread is
-module _ (w : World) (ps : List process_row.ProcessRow) (ts : List thread_row.ThreadRow) (ps_are : w.processes ≡ map shown_process ps) (ts_are : w.threads ≡ map shown_thread ts) where
-  in-same : (pid : ℕ) → has (is_in pid) w.threads ≡ has (procs.is_in pid) ts
-  in-same pid = ap (has (is_in pid)) ts_are ∙ has-shown shown_thread (procs.is_in pid) (is_in pid) (λ t. refl) ts
-
-  pub none-empty : (o : Option ℕ) → o ≡ option_map (λ p. p.number) (first (procs.lacks_threads ts) ps) → every is_alive w.threads ≡ true → IfNone o (AreLivesHeld w)
-  none-empty None is live =
-      lives-held w live (ap (every (is_peopled w)) ps_are ∙ (every-map (is_peopled w) shown_process ps ∙ every-more (λ p. not (procs.lacks_threads ts p)) (λ p. is_peopled w (shown_process p)) (λ p h. in-same p.number ∙ twice (has (procs.is_in p.number) ts) h) ps (every-none (procs.lacks_threads ts) ps (mapped-none (first (procs.lacks_threads ts) ps) is))))
-    where
-      twice : (l : Bool) → not (not l) ≡ true → l ≡ true
-      twice l h = grind arith
-
-      mapped-none : (o : Option process_row.ProcessRow) → None ≡ option_map (λ p. p.number) o → o ≡ None
-      mapped-none None e = refl
-      mapped-none (Some p) e = absurd (cc)
-  none-empty (Some pid) is live = tt
-
-  pub one-empty : (o : Option ℕ) → o ≡ option_map (λ p. p.number) (first (procs.lacks_threads ts) ps) → IfSome o (λ pid. is_empty w pid ≡ true)
-  one-empty None is = tt
-  one-empty (Some pid) is = by_row (first (procs.lacks_threads ts) ps) refl is
-    where
-      both : (a b : Bool) → a ≡ true → b ≡ false → (a && not b) ≡ true
-      both a b one two = rw (one, two) refl
-
-      by_row : (o : Option process_row.ProcessRow) → first (procs.lacks_threads ts) ps ≡ o → Some pid ≡ option_map (λ p. p.number) o → is_empty w pid ≡ true
-      by_row None at e = absurd (cc)
-      by_row (Some p) at e =
-          let same : p.number ≡ pid = cc in
-          let off : has (procs.is_in p.number) ts ≡ false = not-true _ (first-passes (procs.lacks_threads ts) ps p at) in
-          let own : procs.is_process pid p ≡ true = rw same (grind (arith, nat_tests)) in
-          both _ _ (ap (has (is_process pid)) ps_are ∙ (has-shown shown_process (procs.is_process pid) (is_process pid) (λ q. refl) ps ∙ has-found (procs.is_process pid) (procs.lacks_threads ts) ps p at own))
-          (in-same pid ∙ (ap (λ n. has (procs.is_in n) ts) (sym same) ∙ off))
+  -- what the table wants of a thread that goes
+  pub no-life : (b : Birth) → has_holders rows (thread_name b) ≡ false → has (procs.is_life b) it.procs.threads ≡ false
+  no-life b none = sym (has-shown shown_thread (procs.is_life b) (is_life b) (λ t. refl) it.procs.threads) ∙ (sym (zero_has (is_life b) rows.threads) ∙ none)
 
 -- Rows that go one after the other
 pub ahead_same : (w : Kept) → CanSweep w.rows → SweepsAhead w w
@@ -285,6 +157,29 @@ ahead_then u v w one two = record {
   made = omega (arith, one.made, two.made);
   room = roomy_then _ _ _ one.room two.room;
 }
+
+-- what no row counts for goes
+module _ (u v : Kept) (b : Birth) (calls : v.calls ≡ u.calls) (made : v.made ≤ u.made) (room : Roomy u.room v.room) (can : CanSweep u.rows) where
+  ahead-by : (o : ObjectName) → v.rows ≡ basic u.rows (Frees o) → is_unheld u.rows o ≡ true → world_after (basic u.rows (Frees o)) (sweep (basic u.rows (Frees o))) ≡ world_after u.rows (sweep u.rows) → SweepsAhead u v
+  ahead-by o went none same = record {
+    can = subst CanSweep (sym went) (can_freed u.rows o can none);
+    leaves = ap (λ (w : World). world_after w (sweep w)) went ∙ same;
+    calls = calls;
+    made = made;
+    room = room;
+  }
+
+  pub thread-ahead : v.rows ≡ basic u.rows (Frees (thread_name b)) → is_unheld u.rows (thread_name b) ≡ true → SweepsAhead u v
+  thread-ahead went none = ahead-by (thread_name b) went none (thread_first u.rows b none)
+
+  pub process-ahead : v.rows ≡ basic u.rows (Frees (process_name b)) → is_unheld u.rows (process_name b) ≡ true → SweepsAhead u v
+  process-ahead went none = ahead-by (process_name b) went none (process_first u.rows b none)
+
+-- threads that are held stay so where a process goes
+pub threads-held : (w : World) (b : Birth) → is_unheld w (process_name b) ≡ true → HasHeldThreads w → HasHeldThreads (basic w (Frees (process_name b)))
+threads-held w b none held =
+    let v = basic w (Frees (process_name b)) in
+    every-more (λ t. not (is_unheld w (thread_name t.birth))) (λ t. not (is_unheld v (thread_name t.birth))) (λ t is. ap (λ n. not (n == 0)) (same-thread w (process_name b) t.birth none) ∙ is) w.threads held
 
 -- no row is left, of which one would not pass
 pub none_left : {X : Type 0} (p : X → Bool) (xs : List X) → length xs ≤ 0 → every p xs ≡ true

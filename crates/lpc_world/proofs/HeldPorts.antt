@@ -7,7 +7,7 @@ use Rattle.lpc_names.specs.Binding.{has_name}
 use Rattle.lpc_names.specs.Walk.{Bindings, LinkTo, Stands}
 use Rattle.lpc_names.specs.declared.names.Found.TheVariants.{Directory, Item}
 use Rattle.lpc_model.specs.World.{HandleRow, MessageRow, ObjectName, PortRow, WaitRow, World}
-use Rattle.lpc_model.specs.Found.{all_handles, all_registrations, handle_count, is_connected_to, is_made_on, is_open, is_paired_to, is_port, is_queued, is_sent_on, is_the, names_port, pair_of, port_name, port_row, same_birth}
+use Rattle.lpc_model.specs.Found.{all_handles, all_registrations, handle_count, is_connected_to, is_made_on, is_open, is_paired_to, is_port, is_queued, is_sent_on, is_the, pair_of, port_name, port_row, same_birth, same_object}
 use Rattle.lpc_model.specs.SoundWaits.{leads_open}
 use Rattle.lpc_model.specs.Sweep.{is_unheld}
 use Rattle.lpc_model.specs.Basics.{Frees, basic, freed}
@@ -28,10 +28,8 @@ use Rattle.lpc_ports.specs.declared.Port.{Port}
 use Rattle.lpc_slots.proofs.Walk.{drop_row}
 use Rattle.lpc_slots.specs.declared.Key.{Key}
 use Rattle.lpc_world.specs.Names.{name_of, stands}
-use Rattle.lpc_world.specs.Kept.{Kept, Room, Roomy}
-use Rattle.lpc_homes.specs.declared.object.Object.{Object}
-use Rattle.lpc_homes.specs.declared.object.Object.TheVariants as object
-use Rattle.lpc_world.specs.Shown.{AreNamed, Births, Tables, birth_of, births_of, name_by, shown_port}
+use Rattle.lpc_world.specs.Kept.{Room, Roomy}
+use Rattle.lpc_world.specs.Shown.{AreNamed, Births, Tables, birth_of, births_of, shown_port}
 use Rattle.lpc_world.proofs.Follows.{is_own, own_birth, own_ports}
 use Rattle.lpc_world.proofs.Registered.{registered-live}
 use Rattle.lpc_world.specs.Held.{CanSweep, is_joined_to, is_named}
@@ -40,12 +38,12 @@ has_or : {X : Type 0} (p q : X → Bool) (xs : List X) → has (λ x. p x || q x
 has_or p q [] = refl
 has_or p q (x ∷ xs) = grind (arith, has_or p q xs)
 
--- A port has a handle where it is open
+-- Handles
 pub has_in : {X Y : Type 0} (p : Y → Bool) (f : X → List Y) (xs : List X) → has p (each f xs) ≡ has (λ x. has p (f x)) xs
 has_in p f [] = refl
 has_in p f (x ∷ xs) = grind (arith, has-append p (f x) (each f xs), has_in p f xs)
 
-zero_has : {X : Type 0} (p : X → Bool) (xs : List X) → not (count p xs == 0) ≡ has p xs
+pub zero_has : {X : Type 0} (p : X → Bool) (xs : List X) → not (count p xs == 0) ≡ has p xs
 zero_has p [] = refl
 zero_has p (x ∷ xs) = at (p x) refl (zero_has p xs)
   where
@@ -53,8 +51,12 @@ zero_has p (x ∷ xs) = at (p x) refl (zero_has p xs)
     at true is later = grind arith
     at false is later = grind (arith, later)
 
+-- an object has a handle where one of a process's names it
+pub named-counted : (w : World) (o : ObjectName) → not (handle_count w o == 0) ≡ has (λ t. has (λ h. same_object h.object o) t.rows) w.handles
+named-counted w o = zero_has (λ (h : HandleRow). same_object h.object o) (all_handles w) ∙ has_in (λ (h : HandleRow). same_object h.object o) (λ t. t.rows) w.handles
+
 counted : (w : World) (b : Birth) → not (handle_count w (port_name b) == 0) ≡ is_open w b
-counted w b = zero_has (λ (h : HandleRow). names_port b h.object) (all_handles w) ∙ has_in (λ (h : HandleRow). names_port b h.object) (λ t. t.rows) w.handles
+counted w b = named-counted w (port_name b)
 
 -- What is open is what names, and the queues of messages, are of
 module _ (w : World) (b : Birth) (off : is_open w b ≡ false) where
@@ -125,10 +127,8 @@ paired_held w b q p can found own pair =
     not_true false h = refl
 
 -- so the port that no row counts for can go
-pub free_port : (w : Kept) (o : Object) (key : Key) → object.Port key ≡ o → CanSweep w.rows → is_unheld w.rows (name_by (birth_of w.births) o) ≡ true → is_named w.rows (name_of w.births.ports key) ≡ false
-free_port w o key is can none =
-    let here : is_unheld w.rows (port_name (name_of w.births.ports key)) ≡ true = subst (λ q. is_unheld w.rows (name_by (birth_of w.births) q) ≡ true) (sym is) none in
-    held_as w.rows (name_of w.births.ports key) can ∙ ap not here
+pub free_port : (w : World) (b : Birth) → CanSweep w → is_unheld w (port_name b) ≡ true → is_named w b ≡ false
+free_port w b can none = held_as w b can ∙ ap not none
 
 -- what goes leaves threads that have ended without registrations
 living-freed : (w : World) (o : ObjectName) → HasLivingRegistrations w → HasLivingRegistrations (basic w (Frees o))
@@ -157,7 +157,7 @@ every_at p [] place x all here = absurd (cc)
 every_at p (y ∷ ys) zero x all here = grind arith
 every_at p (y ∷ ys) (suc place) x all here = grind (arith, every_at p ys place x)
 
-mapped_at : {X Y : Type 0} (g : X → Y) (xs : List X) (place : ℕ) → slice_get (map g xs) place ≡ option_map g (slice_get xs place)
+pub mapped_at : {X Y : Type 0} (g : X → Y) (xs : List X) (place : ℕ) → slice_get (map g xs) place ≡ option_map g (slice_get xs place)
 mapped_at g [] place = refl
 mapped_at g (x ∷ xs) zero = refl
 mapped_at g (x ∷ xs) (suc place) = mapped_at g xs place
@@ -186,26 +186,28 @@ module _ (it : Tables) (is : AreNamed (births_of it.ports) it) where
             birth = rw (mapped_at (shown_port (birth_of n)) it.ports.ports place, here) (ap Some (sym (own_birth (λ (r : Port). r.birth) it.ports.ports row ok) ∙ ap (name_of n.ports) key_is));
           }
 
--- Ports held so far
-pub held_on : (w : World) (ports : List PortRow) (place : ℕ) (b : Birth) → option_map (λ (p : PortRow). p.birth) (slice_get ports place) ≡ Some b → is_unheld w (port_name b) ≡ false
-    → every (λ p. not (is_unheld w (port_name p.birth))) (drop place ports) ≡ every (λ p. not (is_unheld w (port_name p.birth))) (drop (place + 1) ports)
-held_on w ports place b at held = by_row (slice_get ports place) refl at
-  where
-    same : (a b : Birth) → let x : Option Birth = Some a in let y : Option Birth = Some b in x ≡ y → a ≡ b
-    same a b e = cc
+-- Rows held so far
+module _ {X : Type 0} (birth : X → Birth) (held : Birth → Bool) where
+  pub held_on : (xs : List X) (place : ℕ) (b : Birth) → option_map birth (slice_get xs place) ≡ Some b → held b ≡ true → every (λ x. held (birth x)) (drop place xs) ≡ every (λ x. held (birth x)) (drop (place + 1) xs)
+  held_on xs place b at is = by_row (slice_get xs place) refl at
+    where
+      same : (a c : Birth) → let x : Option Birth = Some a in let y : Option Birth = Some c in x ≡ y → a ≡ c
+      same a c e = cc
 
-    by_row : (o : Option PortRow) → slice_get ports place ≡ o → option_map (λ (p : PortRow). p.birth) o ≡ Some b
-        → every (λ p. not (is_unheld w (port_name p.birth))) (drop place ports) ≡ every (λ p. not (is_unheld w (port_name p.birth))) (drop (place + 1) ports)
-    by_row None here at = absurd (cc)
-    by_row (Some p) here at =
-        let one : not (is_unheld w (port_name p.birth)) ≡ true = rw (same p.birth b at, held) refl in
-        ap (every (λ p. not (is_unheld w (port_name p.birth)))) (drop_row ports place p here) ∙ ap (λ c. c && every (λ p. not (is_unheld w (port_name p.birth))) (drop (place + 1) ports)) one
+      by_row : (o : Option X) → slice_get xs place ≡ o → option_map birth o ≡ Some b → every (λ x. held (birth x)) (drop place xs) ≡ every (λ x. held (birth x)) (drop (place + 1) xs)
+      by_row None here at = absurd (cc)
+      by_row (Some x) here at =
+          let one : held (birth x) ≡ true = ap held (same (birth x) b at) ∙ is in
+          ap (every (λ y. held (birth y))) (drop_row xs place x here) ∙ ap (λ c. c && every (λ y. held (birth y)) (drop (place + 1) xs)) one
 
--- a port at a place is among the ports
-pub row_at_place : (ports : List PortRow) (place : ℕ) (b : Birth) → option_map (λ (p : PortRow). p.birth) (slice_get ports place) ≡ Some b → has (is_port b) ports ≡ true
-row_at_place [] place b at = absurd (cc)
-row_at_place (p ∷ ps) zero b at = let is : p.birth ≡ b = cc in let own : is_port p.birth p ≡ true = birth-self p.birth in subst (λ d. has (is_port d) (p ∷ ps) ≡ true) is (rw own refl)
-row_at_place (p ∷ ps) (suc place) b at = grind (arith, row_at_place ps place b at)
+-- a row at a place is among the rows
+pub row_at_place : {X : Type 0} (birth : X → Birth) (xs : List X) (place : ℕ) (b : Birth) → option_map birth (slice_get xs place) ≡ Some b → has (λ x. same_birth (birth x) b) xs ≡ true
+row_at_place birth [] place b at = absurd (cc)
+row_at_place birth (x ∷ xs) zero b at =
+    let is : birth x ≡ b = cc in
+    let own : same_birth (birth x) (birth x) ≡ true = birth-self (birth x) in
+    subst (λ d. has (λ y. same_birth (birth y) d) (x ∷ xs) ≡ true) is (rw own refl)
+row_at_place birth (x ∷ xs) (suc place) b at = grind (arith, row_at_place birth xs place b at)
 
 -- all rows were passed
 pub drop_all : {X : Type 0} (xs : List X) (n : ℕ) → length xs ≤ n → drop n xs ≡ []

@@ -145,7 +145,7 @@ lawful-room w calls made a b c d h more most = record {
 module _ (f : ThreadRow → ThreadRow) (same : (t : ThreadRow) → (f t).number ≡ t.number) (home : (t : ThreadRow) → (f t).process ≡ t.process) (lives : (t : ThreadRow) → (f t).live ≡ t.live) (kept : (t : ThreadRow) → (f t).registrations ≡ t.registrations) where
   housed-drawn : (w : World) (who : ℕ) (ts : List ThreadRow) (v : World) → v.processes ≡ w.processes → v.handles ≡ w.handles → every (is_housed w) ts ≡ true → every (is_housed v) (change (is_thread who) f ts) ≡ true
   housed-drawn w who ts v ps hs all =
-      every-change (is_housed v) (is_thread who) f (λ t there. rw (home t) there) ts
+      every-change (is_housed v) (is_thread who) f (λ t there. rw (home t, lives t) there) ts
       (every-more (is_housed w) (is_housed v) (λ t there. rw (ps, hs) there) ts all)
 
   pub lawful-drawn : (w : World) (calls made a b who : ℕ) → IsLawful w calls made a b → made + owed_rows w < 16 * calls → every (draws_at_most (made + 1 + 1)) (change (is_thread who) f w.threads) ≡ true

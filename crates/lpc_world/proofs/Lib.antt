@@ -31,6 +31,7 @@ pub mod ReceivesAt
 pub mod HeldPorts
 pub mod Vacated
 pub mod HeldLives
+pub mod Lives
 pub mod Withdrawn
 pub mod Counted
 pub mod Cut

@@ -112,9 +112,13 @@ module _ (it : Tables) (is : AreNamed (births_of it.ports) it) (key : Key) (row 
 
   stands_more : (o : Object) → object_stands n o ≡ true → object_stands m o ≡ true
   stands_more (object.Port k) there = rw names_push (stands-push n.ports key row.birth k there)
+  stands_more (object.Process birth) there = refl
+  stands_more (object.Thread birth) there = refl
 
   name_more : (o : Object) → object_stands n o ≡ true → birth_of m o ≡ birth_of n o
   name_more (object.Port k) there = rw names_push (name-push n.ports key row.birth k there)
+  name_more (object.Process birth) there = refl
+  name_more (object.Thread birth) there = refl
 
   pub keeps : KeepsNames n.ports m.ports
   keeps = record { name = λ k there. name_more (object.Port k) there; there = λ k there. stands_more (object.Port k) there }

@@ -118,6 +118,8 @@ module _ (it : Tables) (is : AreNamed (births_of it.ports) it) (b : Birth) (fres
     where
       named : (o : Object) → object_stands (births_of it.ports) o ≡ true → names_port b (shown_handle f (row.0, record { object = o; access = row.1.access })).object ≡ false
       named (object.Port key) stand = grind (arith, other-name f it.ports.ports b key)
+      named (object.Process birth) stand = refl
+      named (object.Thread birth) stand = refl
 
   rows-off : (hs : List (ℕ × Row Object)) → every (object_stands (births_of it.ports)) (map (λ row. row.1.object) hs) ≡ true → has (λ h. names_port b h.object) (map (shown_handle f) hs) ≡ false
   rows-off [] all = refl

@@ -13,7 +13,7 @@ use Rattle.lpc_message.specs.declared.kind.TheConstants.{DATAGRAM}
 use Rattle.lpc_model.specs.World as model
 use Rattle.lpc_model.specs.Closings.{is_closed_post}
 use Rattle.lpc_model.specs.Found as found
-use Rattle.lpc_model.specs.Found.{has_handle_to, is_port, is_table, names_port, port_row, same_birth, wait_of, waits_as}
+use Rattle.lpc_model.specs.Found.{is_port, is_table, port_row, same_object, wait_of, waits_as}
 use Rattle.lpc_model.specs.Tests.{handle_row}
 use Rattle.lpc_ports.specs.Table as ports
 use Rattle.lpc_ports.specs.Table.{PortTable, row_at}
@@ -30,7 +30,7 @@ use Rattle.lpc_waits.specs.declared.WaitKind.TheVariants as wait
 use Rattle.lpc_waits.specs.declared.WaitRow.{WaitRow}
 use Rattle.lpc_world.specs.Names.{name_of, names_of, some_stands, stands}
 use Rattle.lpc_world.specs.Kept.{Kept, is_asking, kept_by, rows_by}
-use Rattle.lpc_homes.specs.Parts.{has_name_of, is_part, is_the_port, names_it, rows_at, rows_in}
+use Rattle.lpc_homes.specs.Parts.{has_name_of, is_object, is_part, names_it, rows_at, rows_in}
 use Rattle.lpc_world.specs.Ready.{HasRow, IsStanding, IsWait, port_in, port_of, wait_in, waiter}
 use Rattle.lpc_world.specs.Shown.{Tables, AreNamed, Births, all_pass, birth_of, births_of, message_refs, name_by, object_stands, part_refs, port_refs, ports_in, shown_handle, shown_kind, shown_message, shown_part, shown_port, shown_wait, wait_refs}
 use Rattle.lpc_homes.specs.declared.object.Object.{Object}
@@ -159,6 +159,8 @@ module _ (it : Tables) (is : AreNamed (births_of it.ports) it) where
 
     pub has_row : (o : Object) → object_stands n o ≡ true → HasRow k o
     has_row (object.Port key) stand = standing key stand
+    has_row (object.Process birth) stand = tt
+    has_row (object.Thread birth) stand = tt
 
     pub rows_of : (o : Option (Row Object)) → IfSome o (λ row. object_stands n row.object ≡ true) → IfSome o (λ row. HasRow k row.object)
     rows_of None stand = tt
@@ -272,17 +274,29 @@ module _ (it : Tables) (is : AreNamed (births_of it.ports) it) where
   pub is_at : (pid value : ℕ) (o : Option (Row Object)) → o ≡ handles.at (rows_at it.parts pid) value → IsAt pid value o
   is_at pid value o is = at_by pid value o (sym is)
 
-  -- an open port
-  pub named_same : (key : Key) → stands n.ports key ≡ true → (row : ℕ × Row Object) → object_stands n row.1.object ≡ true → names_port (name_of n.ports key) (name_by f row.1.object) ≡ is_the_port key row.1.object
-  named_same key stand row ok = named (row.1.object) ok
-    where
-      named : (o : Object) → object_stands n o ≡ true → names_port (name_of n.ports key) (name_by f o) ≡ is_the_port key o
-      named (object.Port other) one = follows.agree it is other key one stand
+  -- what names an object
+  object_same : (o : Object) → object_stands n o ≡ true → (other : Object) → object_stands n other ≡ true → same_object (name_by f other) (name_by f o) ≡ is_object o other
+  object_same (object.Port key) one (object.Port other) two = follows.agree it is other key two one
+  object_same (object.Port key) one (object.Process birth) two = refl
+  object_same (object.Port key) one (object.Thread birth) two = refl
+  object_same (object.Process birth) one (object.Port key) two = refl
+  object_same (object.Process birth) one (object.Process other) two = refl
+  object_same (object.Process birth) one (object.Thread other) two = refl
+  object_same (object.Thread birth) one (object.Port key) two = refl
+  object_same (object.Thread birth) one (object.Process other) two = refl
+  object_same (object.Thread birth) one (object.Thread other) two = refl
 
-  opened_same : (key : Key) → stands n.ports key ≡ true → (part : Part) → all_pass part_refs (object_stands n) part ≡ true → has_handle_to (name_of n.ports key) (shown_part f part) ≡ has_name_of key part
-  opened_same key stand part ok =
-      has-map (shown_handle f) (λ row. object_stands n row.1.object) (names_it key) (λ h. names_port (name_of n.ports key) h.object) (named_same key stand) part.handles.rows
+  pub named_same : (o : Object) → object_stands n o ≡ true → (row : ℕ × Row Object) → object_stands n row.1.object ≡ true → same_object (name_by f row.1.object) (name_by f o) ≡ names_it o row
+  named_same o stand row ok = object_same o stand row.1.object ok
+
+  part_same : (o : Object) → object_stands n o ≡ true → (part : Part) → all_pass part_refs (object_stands n) part ≡ true → has (λ (h : model.HandleRow). same_object h.object (name_by f o)) (shown_part f part).rows ≡ has_name_of o part
+  part_same o stand part ok =
+      has-map (shown_handle f) (λ row. object_stands n row.1.object) (names_it o) (λ h. same_object h.object (name_by f o)) (named_same o stand) part.handles.rows
       (sym (every-map (object_stands n) (λ (row : ℕ × Row Object). row.1.object) part.handles.rows) ∙ ok)
 
-  pub open_is : (key : Key) → stands n.ports key ≡ true → found.is_open rows (name_of n.ports key) ≡ has (has_name_of key) it.parts
-  open_is key stand = has-map (shown_part f) (all_pass part_refs (object_stands n)) (has_name_of key) (has_handle_to (name_of n.ports key)) (opened_same key stand) it.parts is.refs.in_handles
+  pub named_is : (o : Object) → object_stands n o ≡ true → has (λ (t : model.HandleTable). has (λ h. same_object h.object (name_by f o)) t.rows) rows.handles ≡ has (has_name_of o) it.parts
+  named_is o stand = has-map (shown_part f) (all_pass part_refs (object_stands n)) (has_name_of o) (λ (t : model.HandleTable). has (λ h. same_object h.object (name_by f o)) t.rows) (part_same o stand) it.parts is.refs.in_handles
+
+  -- an open port
+  pub open_is : (key : Key) → stands n.ports key ≡ true → found.is_open rows (name_of n.ports key) ≡ has (has_name_of (object.Port key)) it.parts
+  open_is key stand = named_is (object.Port key) stand

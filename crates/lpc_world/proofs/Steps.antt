@@ -1,6 +1,6 @@
 -- For each changing call: the tables stay lawful.
 use Rattle.std.proofs.Common.{◌≡◌, ℕ, ◌+◌, ◌*◌, ◌-◌, ◌<◌, ◌≤◌, ◌^◌, List, [], ◌∷◌, ◌++◌, true, false, cond, length, Option, Some, None, refl, ap, sym, subst, ◌∙◌, arith}
-use Rattle.std.specs.Prelude.{IsSome, IsSomeAnd, is_some, nat_le, option_map, ◌==◌}
+use Rattle.std.specs.Prelude.{IsSome, IsSomeAnd, is_some, nat_le, not, option_map, ◌==◌}
 use Rattle.std.proofs.lemmas.Bool.{eqb-true}
 use Rattle.std.proofs.lemmas.Bool.Decides.{nat_tests}
 use Rattle.lpc_base.specs.declared.birth.Birth.{Birth}
@@ -124,6 +124,9 @@ module _ (it : Tables) (calls made : ℕ) (is : AreLawful it calls made) where
     promised = is.promised;
   }
 
+  some-number : (m : ℕ) → 1 ≤ m → not (m == 0) ≡ true
+  some-number m above = grind (arith, nat_tests)
+
   -- processes and threads
   pub added_process : (row : ProcessRow) (part : Part) (room : ℕ) → part.handles.rows ≡ [] → part.process ≡ row.number → made + owed_rows rows < 16 * calls → has (λ m. m == row.number) it.procs.used_processes ≡ false
       → can_begin rows.threads row.number row.birth ≡ true → ((row.birth.maker == 0) ≡ false → has (is_process_by row.birth) rows.processes ≡ false)
@@ -143,18 +146,18 @@ module _ (it : Tables) (calls made : ℕ) (is : AreLawful it calls made) where
       → owed_rows (rows_by (record it { procs = record it.procs { processes = it.procs.processes ++ row ∷ []; used_processes = it.procs.used_processes ++ row.number ∷ []; process_room = room }; parts = it.parts ++ part ∷ [] })) ≡ owed_rows rows
   process_owed row part room none same = rw (changes.adds_process it is.named row part room none same) (owed.owed-process rows row.number)
 
-  pub added_thread : (row : ThreadRow) (room : ℕ) → has (λ u. u.number == row.number) rows.used_threads ≡ false → made + owed_rows rows < 16 * calls → draws_at_most 1 (shown_thread row) ≡ true → row.registered.items ≡ [] → is_housed rows (shown_thread row) ≡ true
+  pub added_thread : (row : ThreadRow) (room : ℕ) → 1 ≤ row.number → has (λ u. u.number == row.number) rows.used_threads ≡ false → made + owed_rows rows < 16 * calls → draws_at_most 1 (shown_thread row) ≡ true → row.registered.items ≡ [] → is_housed rows (shown_thread row) ≡ true
       → owed_waits rows < it.waits.spare → owed_messages rows < it.ports.message_room
       → can_begin rows.threads row.number row.birth ≡ true → ((row.birth.maker == 0) ≡ false → has (is_thread_by row.birth) rows.threads ≡ false)
       → AreLawful (record it { procs = record it.procs { threads = it.procs.threads ++ row ∷ []; used_threads = it.procs.used_threads ++ (record { number = row.number; process = row.process }) ∷ []; thread_room = room } }) calls (made + 1)
-  added_thread row room unused lt young none home wait_room message_room begins other = record {
+  added_thread row room above unused lt young none home wait_room message_room begins other = record {
     named = changes.threaded it is.named _;
     lawful = rw (changes.adds_thread it is.named row room) (lawful.lawful-thread rows calls made it.waits.spare it.ports.message_room (shown_thread row) _ is.lawful lt young (rw none refl) home wait_room message_room);
     counted = more_counted it.ports it.waits made is.counted;
     registered = every-push (has_named_ports n) it.procs.threads row is.registered (rw none refl);
     headed = is.headed;
     drawn = rw (changes.adds_thread it is.named row room) (drawn.drawn-thread rows (shown_thread row) _ refl unused is.drawn);
-    born = subst AreBornIn (sym (changes.adds_thread it is.named row room)) (born.born-thread rows.processes rows.threads rows.used_processes rows.used_threads is.born (shown_thread row) (record { number = row.number; process = row.process }) is.drawn.threads_noted unused (λ there. drawn.drew-drawn rows row.birth there is.drawn) begins other);
+    born = subst AreBornIn (sym (changes.adds_thread it is.named row room)) (born.born-thread rows.processes rows.threads rows.used_processes rows.used_threads is.born (shown_thread row) (record { number = row.number; process = row.process }) (some-number row.number above) is.drawn.threads_noted unused (λ there. drawn.drew-drawn rows row.birth there is.drawn) begins other);
     promised = is.promised;
   }
 
@@ -316,7 +319,7 @@ none_lawful space none = record {
   registered = refl;
   headed = refl;
   drawn = record { threads_single = refl; threads_noted = refl; ports_drawn = refl };
-  born = record { processes_single = refl; processes_noted = refl; processes_born = refl; threads_born = refl; process_births = λ b. omega arith; thread_births = λ b. omega arith };
+  born = record { processes_single = refl; processes_noted = refl; processes_born = refl; threads_born = refl; threads_numbered = refl; process_births = λ b. omega arith; thread_births = λ b. omega arith };
   promised = promised.none-promised;
 }
 
@@ -487,6 +490,28 @@ module _ (it : Tables) (calls made : ℕ) (is : AreLawful it calls made) where
           let own : r.number ≡ who = eqb-true r.number who (first-passes (is_thread who) all.threads r is') in
           let P : Birth → Type 0 = λ x. first (is_port x) all.ports ≡ None in
           subst P (same (next_birth r) b h) (drawn.fresh-birth all who r is.drawn is' own)
+
+  -- nor the birth of a process or a thread
+  pub next_born : (who : ℕ) (b : Birth) → option_map next_birth (first (is_thread who) all.threads) ≡ Some b → (has (is_process_by b) all.processes ≡ false) × (has (is_thread_by b) (change (is_thread who) basics.past_ordinal all.threads) ≡ false)
+  next_born who b at = by_thread (first (is_thread who) all.threads) refl at
+    where
+      same : (a b : Birth) → let x : Option Birth = Some a in let y : Option Birth = Some b in x ≡ y → a ≡ b
+      same a b e = cc
+
+      by_thread : (o : Option model.ThreadRow) → first (is_thread who) all.threads ≡ o → option_map next_birth o ≡ Some b → (has (is_process_by b) all.processes ≡ false) × (has (is_thread_by b) (change (is_thread who) basics.past_ordinal all.threads) ≡ false)
+      by_thread None is' h = absurd (cc)
+      by_thread (Some r) is' h =
+          subst (λ x. (has (is_process_by x) all.processes ≡ false) × (has (is_thread_by x) (change (is_thread who) basics.past_ordinal all.threads) ≡ false)) (same (next_birth r) b h)
+          (born.next-process all who r is.born is', born.next-thread all who r is.born is')
+
+  pub next_made : (who : ℕ) (b : Birth) → option_map next_birth (first (is_thread who) all.threads) ≡ Some b → (b.maker == 0) ≡ false
+  next_made who b at = by_thread (first (is_thread who) all.threads) refl at
+    where
+      by_thread : (o : Option model.ThreadRow) → first (is_thread who) all.threads ≡ o → option_map next_birth o ≡ Some b → (b.maker == 0) ≡ false
+      by_thread None is' h = absurd (cc)
+      by_thread (Some r) is' h =
+          let same : next_birth r ≡ b = cc in
+          subst (λ (x : Birth). (x.maker == 0) ≡ false) same (born.next-maker all who r is.born is')
 
   pub now_drawn : (who : ℕ) (b : Birth) → option_map next_birth (first (is_thread who) all.threads) ≡ Some b → has (drew b) (change (is_thread who) basics.past_ordinal all.threads) ≡ true
   now_drawn who b at = by_thread (first (is_thread who) all.threads) refl at

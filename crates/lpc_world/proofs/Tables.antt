@@ -1,5 +1,5 @@
 -- The handles of each process, as the definitions have them.
-use Rattle.std.proofs.Common.{◌≡◌, ℕ, ◌*◌, ◌<◌, ◌≤◌, ◌&&◌, ◌||◌, List, [], ◌∷◌, true, false, length, map, Option, Some, None, option_map, refl, ap, sym, subst, ◌∙◌, arith}
+use Rattle.std.proofs.Common.{◌≡◌, ℕ, ◌*◌, ◌<◌, ◌≤◌, ◌&&◌, ◌||◌, List, [], ◌∷◌, true, false, Bool, cond, length, map, Option, Some, None, option_map, refl, ap, sym, subst, ◌∙◌, arith}
 use Rattle.std.specs.Prelude.{Result, Ok, Err, IfOk, OnErr, OnOk, is_some, nat_le, ◌==◌, ◌+◌}
 use Rattle.std.proofs.lemmas.Bool.{eqb-true}
 use Rattle.std.proofs.lemmas.List.{length-map}
@@ -95,6 +95,34 @@ module _ (it : Tables) (calls made : ℕ) (is : AreLawful it calls made) where
   pub handed_owed : (pid : ℕ) (row : Row Object) (r : Result ℕ TableFault) (new : List Part) → IfOk r (λ v. new ≡ change (is_part pid) (handed v row) it.parts) → OnErr r (new ≡ it.parts) → kept.owed_rows (rows_by (record it { parts = new })) ≤ kept.owed_rows rows + 1
   handed_owed pid row (Ok v) new more same = rw (more, changes.hands it is.named pid v row) (owed.owed-handle rows pid (shown_handle (birth_of (births_of it.ports)) (v, row)) (steps.single_object it calls made is row.object))
   handed_owed pid row (Err e) new more same = rw same (omega arith)
+
+  -- which takes one place for handles at most
+  less_spare : (pid value other : ℕ) (row : Row Object) (parts : List Part) → spare_at parts other ≤ spare_at (change (is_part pid) (handed value row) parts) other + 1
+  less_spare pid value other row [] = omega arith
+  less_spare pid value other row (part ∷ parts) = at (is_part other part) refl (less_spare pid value other row parts)
+    where
+      later : Part
+      later = cond (is_part pid part) (handed value row part) part
+
+      fewer : (c : Bool) → part.handles.spare ≤ (cond c (handed value row part) part).handles.spare + 1
+      fewer true = omega arith
+      fewer false = omega arith
+
+      same : (c : Bool) → (cond c (handed value row part) part).process ≡ part.process
+      same true = refl
+      same false = refl
+
+      at : (c : Bool) → is_part other part ≡ c → spare_at parts other ≤ spare_at (change (is_part pid) (handed value row) parts) other + 1 → spare_at (part ∷ parts) other ≤ spare_at (later ∷ change (is_part pid) (handed value row) parts) other + 1
+      at true is rest =
+          let is_later : is_part other later ≡ true = ap (λ n. n == other) (same (is_part pid part)) ∙ is in
+          rw (is, is_later) (fewer (is_part pid part))
+      at false is rest =
+          let off : is_part other later ≡ false = ap (λ n. n == other) (same (is_part pid part)) ∙ is in
+          rw (is, off) rest
+
+  pub handed_spare : (pid : ℕ) (row : Row Object) (r : Result ℕ TableFault) (new : List Part) → IfOk r (λ v. new ≡ change (is_part pid) (handed v row) it.parts) → OnErr r (new ≡ it.parts) → spare_at it.parts pid ≤ spare_at new pid + 1
+  handed_spare pid row (Ok v) new more same = rw more (less_spare pid v pid row it.parts)
+  handed_spare pid row (Err e) new more same = rw same (omega arith)
 
   pub hands_or_not : (pid : ℕ) (row : Row Object) (r : Result ℕ TableFault) (new : List Part) → IfOk r (λ v. new ≡ change (is_part pid) (handed v row) it.parts) → IfOk r (λ v. rows_by (record it { parts = new }) ≡ basic rows (AddsHandle pid (shown_handle (birth_of (births_of it.ports)) (v, row))))
   hands_or_not pid row (Ok v) new more = rw more (changes.hands it is.named pid v row)

@@ -20,9 +20,10 @@ use Rattle.lpc_slots.specs.declared.Key.{Key}
 use Rattle.lpc_waits.specs.Table as waits
 use Rattle.lpc_waits.specs.declared.WaitRow.{WaitRow}
 use Rattle.lpc_world.specs.Names.{name_of, stands}
-use Rattle.lpc_homes.specs.Parts.{has_name_of, is_the_port, names_it}
+use Rattle.lpc_homes.specs.Parts.{has_name_of, is_object, names_it}
 use Rattle.lpc_world.specs.Shown.{Tables, AllPass, AreNamed, Births, all_pass, binding_refs, birth_in, birth_of, births_of, message_refs, node_refs, object_stands, part_refs, port_refs, ports_in, shown_binding, shown_by, shown_message, shown_port, shown_wait, wait_refs}
 use Rattle.lpc_homes.specs.declared.object.Object.{Object}
+use Rattle.lpc_homes.specs.declared.object.Object.TheVariants as object
 use Rattle.lpc_world.proofs.Follows as follows
 use Rattle.lpc_world.proofs.Naming.{key_turned}
 use Rattle.lpc_world.proofs.Readings as readings
@@ -30,7 +31,7 @@ use Rattle.lpc_world.proofs.Readings as readings
 -- a row of the tables names the port
 abbrev pub is_named_in : Tables → Key → Bool
 is_named_in it key =
-    has (has_name_of key) it.parts || (has (ports.is_joined_to key) it.ports.ports || (has (ports.is_message_at key) it.ports.messages
+    has (has_name_of (object.Port key)) it.parts || (has (ports.is_joined_to key) it.ports.ports || (has (ports.is_message_at key) it.ports.messages
     || (has (waits.is_wait_at key) it.waits.rows || has_name is_key key it.space.bindings)))
 
 -- The tests of rows agree
@@ -97,10 +98,10 @@ both_off false r off = (refl, off)
 
 -- Where no row names the port, each object that a row names is another
 abbrev pub is_other : Key → Object → Bool
-is_other key o = not (is_the_port key o)
+is_other key o = not (is_object (object.Port key) o)
 
 module _ (key : Key) where
-  handles_off : (rows : List (ℕ × Row Object)) → has (names_it key) rows ≡ false → every (is_other key) (map (λ row. row.1.object) rows) ≡ true
+  handles_off : (rows : List (ℕ × Row Object)) → has (names_it (object.Port key)) rows ≡ false → every (is_other key) (map (λ row. row.1.object) rows) ≡ true
   handles_off [] none = refl
   handles_off (row ∷ rows) none = grind (arith, handles_off rows)
 
@@ -128,7 +129,7 @@ module _ (key : Key) where
 
   pub others_pass : (it : Tables) → is_named_in it key ≡ false → AllPass (is_other key) it
   others_pass it none = record {
-    in_handles = every-off (has_name_of key) (all_pass part_refs (is_other key)) (λ part off. handles_off part.handles.rows off) it.parts (grind arith);
+    in_handles = every-off (has_name_of (object.Port key)) (all_pass part_refs (is_other key)) (λ part off. handles_off part.handles.rows off) it.parts (grind arith);
     in_ports = every-off (ports.is_joined_to key) (all_pass port_refs (is_other key)) port_off it.ports.ports (grind arith);
     in_messages = every-off (ports.is_message_at key) (all_pass message_refs (is_other key)) message_off it.ports.messages (grind arith);
     in_waits = every-off (waits.is_wait_at key) (all_pass wait_refs (is_other key)) wait_off it.waits.rows (grind arith);

@@ -1,21 +1,22 @@
--- The row of a thread that has ended, and of a process without a thread, goes: the tables stay lawful, and no room is lost.
-use Rattle.std.proofs.Common.{◌≡◌, ℕ, ◌+◌, ◌≤◌, List, [], ◌∷◌, Bool, true, false, not, refl, sym, subst, arith}
+-- The row of a thread that has ended, and of a process without a live thread, goes: the tables stay lawful, and no room is lost.
+use Rattle.std.proofs.Common.{◌≡◌, ℕ, ◌+◌, ◌≤◌, List, Bool, true, false, not, refl, sym, subst, ◌∙◌, arith}
 use Rattle.std.specs.Prelude.{◌==◌, ◌&&◌, ◌||◌}
-use Rattle.std.proofs.lemmas.Bool.Decides.{nat_tests}
+use Rattle.lpc_base.specs.declared.birth.Birth.{Birth}
 use Rattle.lpc_base.specs.Rows.{every, has, without}
 use Rattle.lpc_base.proofs.RowMaps.{every-both, without-map}
 use Rattle.lpc_base.proofs.RowWords.{count-bound, every-more, every-off, every-without}
 use Rattle.lpc_model.specs.World.{ProcessRow, ThreadRow, World}
-use Rattle.lpc_model.specs.Found.{is_live_thread, is_process, is_thread}
+use Rattle.lpc_model.specs.Found.{is_life, is_live_thread, is_process, lives_by, process_name, same_birth, thread_name}
 use Rattle.lpc_model.proofs.Rows.{count-without, has-without}
 use Rattle.lpc_procs.specs.Procs as procs
-use Rattle.lpc_world.specs.Held.{is_in}
+use Rattle.lpc_world.specs.Held.{has_holders}
 use Rattle.lpc_world.specs.Kept.{HandleRoom, Roomy, is_alive, rows_by}
-use Rattle.lpc_world.specs.Lawful.{AreBornIn, AreLawful, IsLawful, draws_at_most, has_named_ports, is_housed, is_of}
+use Rattle.lpc_world.specs.Lawful.{AreBornIn, AreLawful, IsLawful, draws_at_most, has_named_ports, is_housed, is_of, is_process_by, is_thread_by}
 use Rattle.lpc_world.specs.Shown.{Tables, births_of, shown_process, shown_thread}
 use Rattle.lpc_world.proofs.Born as born
 use Rattle.lpc_world.proofs.Changes as changes
 use Rattle.lpc_world.proofs.Drawn as drawn
+use Rattle.lpc_world.proofs.HeldPorts.{zero_has}
 use Rattle.lpc_world.proofs.Registered.{registered-less_threads}
 use Rattle.lpc_world.proofs.Rooms.{room}
 
@@ -50,25 +51,23 @@ lawful-less w calls made a b goes over h =
         parts : (g l m : Bool) → (not g || not l) ≡ true → (not g || not (m && l)) ≡ true
         parts g l m is = grind arith
 
--- another process stays
-other-stays : (n pid : ℕ) (ps : List ProcessRow) → (n == pid) ≡ false → has (is_process n) ps ≡ true → has (is_process n) (without (is_process pid) ps) ≡ true
-other-stays n pid ps off there = has-without (is_process n) (is_process pid) ps (apart ps) there
+-- the process of a live thread stays
+still-there : (n : ℕ) (b : Birth) (ps : List ProcessRow) → has (λ p. same_birth p.birth b && (p.number == n)) ps ≡ false → has (is_process n) ps ≡ true → has (is_process n) (without (is_process_by b) ps) ≡ true
+still-there n b ps none there =
+    has-without (is_process n) (is_process_by b) ps (every-off (λ p. same_birth p.birth b && (p.number == n)) (λ p. not (is_process_by b p) || not (is_process n p)) (λ p off. parts (is_process_by b p) (is_process n p) off) ps none) there
   where
-    one : (m : ℕ) → (not (m == pid) || not (m == n)) ≡ true
-    one m = grind (arith, nat_tests)
+    parts : (x y : Bool) → (x && y) ≡ false → (not x || not y) ≡ true
+    parts x y off = grind arith
 
-    apart : (qs : List ProcessRow) → every (λ q. not (is_process pid q) || not (is_process n q)) qs ≡ true
-    apart [] = refl
-    apart (q ∷ qs) = rw (one q.number, apart qs) refl
-
-lawful-vacated : (w : World) (calls made a b pid : ℕ) → has (is_in pid) w.threads ≡ false → IsLawful w calls made a b → IsLawful (record w { processes = without (is_process pid) w.processes }) calls made a b
-lawful-vacated w calls made a b pid empty h = record {
+lawful-vacated : (w : World) (calls made a c : ℕ) (b : Birth) → has (lives_by w b) w.threads ≡ false → IsLawful w calls made a c → IsLawful (record w { processes = without (is_process_by b) w.processes }) calls made a c
+lawful-vacated w calls made a c b empty h = record {
   few = h.few;
   budget = h.budget;
-  rows = omega (arith, h.rows, count-bound (λ p. not (is_process pid p)) w.processes);
+  rows = omega (arith, h.rows, count-bound (λ p. not (is_process_by b p)) w.processes);
   draws = h.draws;
-  housed = every-both (is_housed w) (λ t. not (is_in pid t)) (is_housed (record w { processes = without (is_process pid) w.processes })) (λ t home off. both _ _ _ (λ there. other-stays t.process pid w.processes (not-true _ off) there) home) w.threads h.housed
-      (every-off (is_in pid) (λ t. not (is_in pid t)) (λ t off. rw off refl) w.threads empty);
+  housed = every-both (is_housed w) (λ t. not (lives_by w b t)) (is_housed (record w { processes = without (is_process_by b) w.processes }))
+      (λ t home off. both t.live _ _ _ _ (λ none there. still-there t.process b w.processes none there) home off) w.threads h.housed
+      (every-off (lives_by w b) (λ t. not (lives_by w b t)) (λ t off. rw off refl) w.threads empty);
   tables_used = h.tables_used;
   tables_single = h.tables_single;
   tables_few = h.tables_few;
@@ -81,43 +80,49 @@ lawful-vacated w calls made a b pid empty h = record {
   messages_fit = h.messages_fit;
 }
   where
-    both : (x y z : Bool) → (x ≡ true → y ≡ true) → (x && z) ≡ true → (y && z) ≡ true
-    both x y z more is = grind (arith, more)
-
-    not-true : (x : Bool) → not x ≡ true → x ≡ false
-    not-true x is = grind arith
+    both : (l home there later table : Bool) → (home ≡ false → there ≡ true → later ≡ true) → ((not l || there) && table) ≡ true → not (l && home) ≡ true → ((not l || later) && table) ≡ true
+    both false home there later table stays is off = is
+    both true true there later table stays is off = absurd (cc)
+    both true false true later table stays is off = rw (stays refl refl) is
+    both true false false later table stays is off = absurd (cc)
 
 module _ (it : Tables) (calls made : ℕ) (is : AreLawful it calls made) where
   abbrev rows : World
   rows = rows_by it
 
-  pub thread-shown : (tid left : ℕ) → rows_by (record it { procs = procs.without_thread it.procs tid left }) ≡ record rows { threads = without (is_thread tid) rows.threads }
-  thread-shown tid left = rw (without-map shown_thread (λ _. true) (procs.is_thread tid) (is_thread tid) (λ t _. refl) it.procs.threads (changes.all_true it is.named it.procs.threads)) refl
+  pub thread-shown : (b : Birth) (left : ℕ) → rows_by (record it { procs = procs.without_thread_born it.procs b left }) ≡ record rows { threads = without (is_thread_by b) rows.threads }
+  thread-shown b left = rw (without-map shown_thread (λ _. true) (procs.is_thread_born b) (is_thread_by b) (λ t _. refl) it.procs.threads (changes.all_true it is.named it.procs.threads)) refl
 
-  pub process-shown : (pid left : ℕ) → rows_by (record it { procs = procs.without_process it.procs pid left }) ≡ record rows { processes = without (is_process pid) rows.processes }
-  process-shown pid left = rw (without-map shown_process (λ _. true) (procs.is_process pid) (is_process pid) (λ p _. refl) it.procs.processes (changes.all_true it is.named it.procs.processes)) refl
+  pub process-shown : (b : Birth) (left : ℕ) → rows_by (record it { procs = procs.without_process_born it.procs b left }) ≡ record rows { processes = without (is_process_by b) rows.processes }
+  process-shown b left = rw (without-map shown_process (λ _. true) (procs.is_process_born b) (is_process_by b) (λ p _. refl) it.procs.processes (changes.all_true it is.named it.procs.processes)) refl
 
-  pub thread-gone : (tid left : ℕ) → AreOver (is_thread tid) rows.threads → AreLawful (record it { procs = procs.without_thread it.procs tid left }) calls made
-  thread-gone tid left over = record {
+  pub thread-gone : (b : Birth) (left : ℕ) → has_holders rows (thread_name b) ≡ false → AreLawful (record it { procs = procs.without_thread_born it.procs b left }) calls made
+  thread-gone b left none = record {
     named = changes.threaded it is.named _;
-    lawful = rw (thread-shown tid left) (lawful-less rows calls made it.waits.spare it.ports.message_room (is_thread tid) over is.lawful);
+    lawful = rw (thread-shown b left) (lawful-less rows calls made it.waits.spare it.ports.message_room (is_thread_by b) over is.lawful);
     counted = is.counted;
-    registered = every-without (has_named_ports (births_of it.ports)) (procs.is_thread tid) it.procs.threads is.registered;
+    registered = every-without (has_named_ports (births_of it.ports)) (procs.is_thread_born b) it.procs.threads is.registered;
     headed = is.headed;
-    drawn = rw (thread-shown tid left) (drawn.drawn-less rows (is_thread tid) is.drawn);
-    born = subst AreBornIn (sym (thread-shown tid left)) (born.born-less-threads rows.processes rows.threads rows.used_processes rows.used_threads is.born (is_thread tid));
+    drawn = rw (thread-shown b left) (drawn.drawn-less rows (is_thread_by b) is.drawn);
+    born = subst AreBornIn (sym (thread-shown b left)) (born.born-less-threads rows.processes rows.threads rows.used_processes rows.used_threads is.born (is_thread_by b));
     promised = is.promised;
   }
+    where
+      parts : (l s : Bool) → (l && s) ≡ false → (not s || not l) ≡ true
+      parts l s off = grind arith
 
-  pub process-gone : (pid left : ℕ) → has (is_in pid) rows.threads ≡ false → AreLawful (record it { procs = procs.without_process it.procs pid left }) calls made
-  process-gone pid left empty = record {
+      over : AreOver (is_thread_by b) rows.threads
+      over = every-off (is_life b) (λ t. not (is_thread_by b t) || not t.live) (λ t off. parts t.live (is_thread_by b t) off) rows.threads (sym (zero_has (is_life b) rows.threads) ∙ none)
+
+  pub process-gone : (b : Birth) (left : ℕ) → has_holders rows (process_name b) ≡ false → AreLawful (record it { procs = procs.without_process_born it.procs b left }) calls made
+  process-gone b left none = record {
     named = changes.threaded it is.named _;
-    lawful = rw (process-shown pid left) (lawful-vacated rows calls made it.waits.spare it.ports.message_room pid empty is.lawful);
+    lawful = rw (process-shown b left) (lawful-vacated rows calls made it.waits.spare it.ports.message_room b (sym (zero_has (lives_by rows b) rows.threads) ∙ none) is.lawful);
     counted = is.counted;
     registered = is.registered;
     headed = is.headed;
     drawn = drawn.same-drawn rows _ refl refl refl is.drawn;
-    born = subst AreBornIn (sym (process-shown pid left)) (born.born-less-processes rows.processes rows.threads rows.used_processes rows.used_threads is.born (is_process pid));
+    born = subst AreBornIn (sym (process-shown b left)) (born.born-less-processes rows.processes rows.threads rows.used_processes rows.used_threads is.born (is_process_by b));
     promised = is.promised;
   }
 

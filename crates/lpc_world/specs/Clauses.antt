@@ -22,6 +22,7 @@ use Rattle.lpc_names.specs.declared.fault.NameFault.{NameFault}
 use Rattle.lpc_names.specs.declared.names.Found.TheVariants.{Directory, Item}
 use Rattle.lpc_ports.specs.declared.Creator.{Creator}
 use Rattle.lpc_ports.specs.declared.messages.Message.{Message}
+use Rattle.lpc_procs.specs.declared.rows.BornThread.{BornThread}
 use Rattle.lpc_slots.specs.declared.Key.{Key}
 use Rattle.lpc_waits.specs.Table as table
 use Rattle.lpc_waits.specs.declared.Wait.{Wait}
@@ -64,6 +65,17 @@ has_port w key = has (is_port (birth_at w key)) w.rows.ports
 -- the birth of the port at a place, in the order of making
 abbrev pub birth_in_place : Kept → ℕ → Option Birth
 birth_in_place w place = option_map (λ p. p.birth) (slice_get w.rows.ports place)
+
+-- the birth of the thread, and of the process, at a place
+abbrev pub thread_in_place : Kept → ℕ → Option Birth
+thread_in_place w place = option_map (λ t. t.birth) (slice_get w.rows.threads place)
+
+abbrev pub process_in_place : Kept → ℕ → Option Birth
+process_in_place w place = option_map (λ p. p.birth) (slice_get w.rows.processes place)
+
+-- a thread as it is told to who knows its birth
+abbrev pub born_thread : model.ThreadRow → BornThread
+born_thread t = record { number = t.number; process = t.process; live = t.live }
 
 -- no row names the port
 abbrev pub is_unheld_at : Kept → Key → Bool

@@ -1,9 +1,9 @@
 -- What holds a port in the tables, and when the rows that no row names can go.
-use Rattle.std.specs.Prelude.{◌≡◌, ℕ, ◌==◌, ◌&&◌, ◌||◌, ◌≤◌, Bool, not}
-use Rattle.lpc_base.specs.Rows.{has}
+use Rattle.std.specs.Prelude.{◌≡◌, ◌==◌, ◌||◌, ◌≤◌, Bool, not, true}
+use Rattle.lpc_base.specs.Rows.{every, has}
 use Rattle.lpc_names.specs.Binding.{has_name}
-use Rattle.lpc_model.specs.World.{Birth, MessageRow, PortRow, ThreadRow, WaitRow, World}
-use Rattle.lpc_model.specs.Found.{is_connected_to, is_made_on, is_open, is_paired_to, is_process, is_queued, is_sent_on, same_birth}
+use Rattle.lpc_model.specs.World.{Birth, MessageRow, ObjectName, PortRow, WaitRow, World}
+use Rattle.lpc_model.specs.Found.{holders, is_connected_to, is_made_on, is_open, is_paired_to, is_queued, is_sent_on, process_name, same_birth, thread_name}
 use Rattle.lpc_model.specs.Deaths.{HasLivingRegistrations}
 use Rattle.lpc_model.specs.Linked.{IsLinked}
 use Rattle.lpc_model.specs.OpenQueues.{HasOpenQueues}
@@ -11,7 +11,7 @@ use Rattle.lpc_model.specs.SoundWaits.{IsSoundWorld}
 use Rattle.lpc_model.specs.Standing.{NamesWhatStands}
 use Rattle.lpc_world.specs.Kept.{Kept, Roomy, registered_ports}
 use Rattle.lpc_model.specs.Basics.{world_after}
-use Rattle.lpc_model.specs.Sweep.{sweep}
+use Rattle.lpc_model.specs.Sweep.{is_unheld, sweep}
 
 -- a port has this one as its other end or as its connection port
 abbrev pub is_joined_to : Birth → PortRow → Bool
@@ -41,19 +41,17 @@ is_registered_port w b = has (same_birth b) (registered_ports w)
 abbrev pub is_named : World → Birth → Bool
 is_named w b = is_named_by_row w b || is_registered_port w b
 
--- the thread of a number, where it has ended
-abbrev pub is_ended : ℕ → ThreadRow → Bool
-is_ended tid t = (t.number == tid) && not t.live
+-- a row but handles counts for an object
+abbrev pub has_holders : World → ObjectName → Bool
+has_holders w o = not (holders w o.kind o.birth == 0)
 
-abbrev pub has_ended : World → ℕ → Bool
-has_ended w tid = has (is_ended tid) w.threads
+-- some row counts for each thread
+abbrev pub HasHeldThreads : World → Type 0
+HasHeldThreads w = every (λ t. not (is_unheld w (thread_name t.birth))) w.threads ≡ true
 
--- a thread of a process, ended or not; a process stands, and no row of a thread is of it
-abbrev pub is_in : ℕ → ThreadRow → Bool
-is_in pid t = t.process == pid
-
-abbrev pub is_empty : World → ℕ → Bool
-is_empty w pid = has (is_process pid) w.processes && not (has (is_in pid) w.threads)
+-- some row counts for each process
+abbrev pub HasHeldProcesses : World → Type 0
+HasHeldProcesses w = every (λ p. not (is_unheld w (process_name p.birth))) w.processes ≡ true
 
 -- what the lines keep, so that each object that no row counts for can go
 pub record CanSweep (w : World) : Type 0 where

@@ -35,9 +35,10 @@ is_of threads x = has (is_live_thread x.thread) threads
 abbrev pub draws_at_most : ℕ → ThreadRow → Bool
 draws_at_most n t = nat_le t.next_identifier n && nat_le t.next_ordinal n
 
--- the process of a thread stands, and has a table of handles
+-- the process of a thread stands while the thread lives, and has a table of handles; the row of a thread that has ended may
+-- stand longer than that of its process
 abbrev pub is_housed : World → ThreadRow → Bool
-is_housed w t = has (is_process t.process) w.processes && has (is_table t.process) w.handles
+is_housed w t = (not t.live || has (is_process t.process) w.processes) && has (is_table t.process) w.handles
 
 -- a receive waits on an empty queue, and a listen on one without connection requests
 abbrev pub is_quiet : List MessageRow → WaitRow → Bool
@@ -54,7 +55,7 @@ pub record IsLawful (w : World) (calls made waits messages : ℕ) : Type 0 where
   pub budget : made + owed_rows w ≤ CALL_BUDGET * calls
   pub rows : length w.processes + length w.threads + length w.ports ≤ made
   pub draws : every (draws_at_most (made + 1)) w.threads ≡ true
-  -- each thread's process stands, and has one table of handles
+  -- each live thread's process stands, and each thread's has one table of handles
   pub housed : every (is_housed w) w.threads ≡ true
   pub tables_used : every (is_used w.used_processes) w.handles ≡ true
   pub tables_single : are_single_tables w.handles ≡ true
@@ -127,12 +128,17 @@ is_process_by b p = same_birth p.birth b
 abbrev pub is_thread_by : Birth → ThreadRow → Bool
 is_thread_by b t = same_birth t.birth b
 
+-- a thread's number is no 0, which is the maker of what a directive makes
+abbrev pub is_numbered : ThreadRow → Bool
+is_numbered t = not (t.number == 0)
+
 -- each process and each thread has a number and a birth of its own
 pub record AreBorn (processes : List ProcessRow) (threads : List ThreadRow) (numbers : List ℕ) (used : List UsedThread) : Type 0 where
   pub processes_single : are_single_processes processes ≡ true
   pub processes_noted : every (is_noted_process numbers) processes ≡ true
   pub processes_born : every (λ p. is_birth_of used threads p.number p.birth) processes ≡ true
   pub threads_born : every (λ t. is_birth_of used threads t.number t.birth) threads ≡ true
+  pub threads_numbered : every is_numbered threads ≡ true
   pub process_births : (b : Birth) → count (is_process_by b) processes ≤ 1
   pub thread_births : (b : Birth) → count (is_thread_by b) threads ≤ 1
 

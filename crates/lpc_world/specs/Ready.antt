@@ -55,13 +55,15 @@ port_in (Some p) = p
 unfoldable pub port_of : World → Birth → PortRow
 port_of w b = port_in (port_row w b)
 
--- a port that stands is found under its name, and an object that stands has its row
+-- a port that stands is found under its name, and a port that stands has its row
 pub record IsStanding (w : Kept) (key : Key) : Type 0 where
   pub found : port_row w.rows (name_of w.births.ports key) ≡ Some (port_of w.rows (name_of w.births.ports key))
   pub birth : let p = port_of w.rows (name_of w.births.ports key) in p.birth ≡ name_of w.births.ports key
 
 abbrev pub HasRow : Kept → Object → Type 0
 HasRow w (object.Port key) = IsStanding w key
+HasRow w (object.Process birth) = Unit
+HasRow w (object.Thread birth) = Unit
 
 -- the wait of a thread that waits
 abbrev pub no_wait : WaitRow

@@ -44,16 +44,22 @@ use Rattle.lpc_homes.specs.declared.parts.Part.{Part}
 pub record Births : Type 0 where
   pub ports : Names
 
--- the birth of an object, and whether it stands
+-- the birth of an object, and whether its key stands; a process and a thread are named by their births, and have none
 abbrev pub birth_of : Births → Object → Birth
 birth_of n (object.Port key) = name_of n.ports key
+birth_of n (object.Process birth) = birth
+birth_of n (object.Thread birth) = birth
 
 abbrev pub object_stands : Births → Object → Bool
 object_stands n (object.Port key) = stands n.ports key
+object_stands n (object.Process birth) = true
+object_stands n (object.Thread birth) = true
 
 -- the kind of an object, and its name
 abbrev pub kind_of : Object → ObjectKind
 kind_of (object.Port key) = kind.Port
+kind_of (object.Process birth) = kind.Process
+kind_of (object.Thread birth) = kind.Thread
 
 abbrev pub name_by : (Object → Birth) → Object → ObjectName
 name_by f o = record { kind = kind_of o; birth = f o }

@@ -31,6 +31,7 @@ mod dying;
 mod ending;
 mod freeing;
 mod lending;
+mod lives;
 mod names;
 mod reading;
 
@@ -138,7 +139,10 @@ impl World {
         requires stands { has (is_thread tid) self.old.rows.threads ≡ true }
         requires budget { CanMake self.old }
         ensures birth { birth_next self.old.rows tid ≡ Some result }
+        ensures maker { (result.maker == 0) ≡ false }
         ensures fresh { port_row self.new.rows result ≡ None }
+        ensures process { has (is_process_by result) self.new.rows.processes ≡ false }
+        ensures thread { has (is_thread_by result) self.new.rows.threads ≡ false }
         ensures drawn { has (drew result) self.new.rows.threads ≡ true }
         ensures step { IsMakingStep (after self.old (DrawsOrdinal tid)) self.old self.new }
         ensures loose { self.new.loose ≡ self.old.loose }
@@ -364,6 +368,7 @@ impl World {
         ensures loose { self.new.loose ≡ self.old.loose }
         ensures made { self.new.made ≤ self.old.made + 1 }
         ensures same { OnErr result (self.new ≡ self.old) }
+        ensures places { handle_room self.old.room pid ≤ handle_room self.new.room pid + 1 }
     {
         parts::add_handle(&mut self.parts, pid, object, access)
     }

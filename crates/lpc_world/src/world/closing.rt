@@ -68,7 +68,7 @@ impl World {
         requires { object_stands self.now.births object ≡ true }
         ensures { result ≡ handle_count self.now.rows (name_at self.now object) }
     {
-        parts::handles_to(&self.parts, object.port())
+        parts::handles_to(&self.parts, object)
     }
 
     /// How many rows count for an object, its handles among them.
@@ -76,8 +76,21 @@ impl World {
         requires { object_stands self.now.births object ≡ true }
         ensures { result ≡ pointer_count self.now.rows (name_at self.now object) }
     {
-        let port = object.port();
-        parts::handles_to(&self.parts, port) + self.holders_of(port)
+        parts::handles_to(&self.parts, object) + self.holders_of(object)
+    }
+
+    /// How many rows but handles count for an object.
+    fn holders_of(&self, object: Object) -> usize
+        requires { object_stands self.now.births object ≡ true }
+        ensures holders { let o = name_at self.now object in
+            result ≡ holders self.now.rows o.kind o.birth }
+        ensures few { result ≤ 5 * self.now.made }
+    {
+        match object {
+            Object::Port(port) => self.holders_of_port(port),
+            Object::Process(birth) => self.procs.lives_of_process(birth),
+            Object::Thread(birth) => self.procs.lives_of_thread(birth),
+        }
     }
 
     /// How many registrations of live threads name a port.
@@ -91,7 +104,7 @@ impl World {
     }
 
     /// How many rows but handles count for a port: ports, messages, waits, and registrations.
-    fn holders_of(&self, port: Key) -> usize
+    fn holders_of_port(&self, port: Key) -> usize
         requires { stands self.now.births.ports port ≡ true }
         ensures holders { result ≡ holders self.now.rows kind.Port (birth_at self.now port) }
         ensures few { result ≤ 5 * self.now.made }

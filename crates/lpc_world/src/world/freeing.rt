@@ -1,20 +1,22 @@
 // Objects that no row counts for go.
-ghost use Rattle.std.specs.Prelude.{◌≡◌, ◌+◌, ◌<◌, ◌≤◌, [], true, false, IfNone, IfSome, Some, length, not};
-ghost use Rattle.lpc_base.specs.Rows.{every};
+ghost use Rattle.std.specs.Prelude.{◌≡◌, ◌<◌, ◌≤◌, [], true, false, IfNone, IfSome, Some, length, not};
+ghost use Rattle.lpc_base.specs.Rows.{has};
 ghost use Rattle.lpc_model.specs.Basics.{world_after, Frees};
-ghost use Rattle.lpc_model.specs.Found.{port_name};
+ghost use Rattle.lpc_model.specs.Found.{is_born_process, is_born_thread, port_name, process_name, thread_name};
 ghost use Rattle.lpc_model.specs.Linked.{AreLivesHeld, HasHeldPorts};
 ghost use Rattle.lpc_model.specs.Sweep as model;
 ghost use Rattle.lpc_model.specs.Sweep.{is_unheld};
 ghost use Rattle.lpc_world.specs.Held as held;
-ghost use Rattle.lpc_world.specs.Held.{CanSweep, SweepsAhead, has_ended, is_empty};
-ghost use Rattle.lpc_world.specs.Kept.{Roomy, is_alive};
+ghost use Rattle.lpc_world.specs.Held.{CanSweep, HasHeldProcesses, HasHeldThreads, SweepsAhead, has_holders};
+ghost use Rattle.lpc_world.specs.Kept.{Roomy};
 ghost use Rattle.lpc_world.specs.Names.{KeepsOthers, stands};
 ghost use Rattle.lpc_world.specs.Shown.{object_stands};
-ghost use Rattle.lpc_world.specs.Clauses.{after, birth_at, birth_in_place, has_port, is_unheld_at, name_at};
+ghost use Rattle.lpc_world.specs.Clauses.{after, birth_at, birth_in_place, has_port, is_unheld_at, name_at, process_in_place, thread_in_place};
 
 use crate::world::World;
+use lpc_base::Birth;
 use lpc_homes::{Object, parts};
+use lpc_procs::Life;
 use lpc_slots::Key;
 
 impl World {
@@ -23,7 +25,7 @@ impl World {
         requires { stands self.now.births.ports port ≡ true }
         ensures { result ≡ held.is_named_by_row self.now.rows (birth_at self.now port) }
     {
-        parts::names_port(&self.parts, port)
+        parts::names(&self.parts, Object::Port(port))
             || self.ports.is_named(port)
             || self.waits.is_named(port)
             || self.names.has_name(port)
@@ -90,38 +92,31 @@ impl World {
         None
     }
 
-    /// The row of an object that no row counts for goes. Its room is spare then.
-    pub fn free(&mut self, object: Object)
-        requires stands { object_stands self.old.births object ≡ true }
-        requires can { CanSweep self.old.rows }
-        requires unheld { is_unheld self.old.rows (name_at self.old object) ≡ true }
-        ensures rows { self.new.rows ≡ after self.old (Frees (name_at self.old object)) }
-        ensures calls { self.new.calls ≡ self.old.calls }
-        ensures made { self.new.made ≤ self.old.made }
-        ensures loose { self.new.loose ≡ true }
-        ensures room { Roomy self.old.room self.new.room }
+    /// A process or thread has a handle, or is held by a live thread. No handle is asked for where one lives.
+    fn is_life_held(&self, object: Object, live: bool) -> bool
+        requires stands { object_stands self.now.births object ≡ true }
+        requires live { live ≡ has_holders self.now.rows (name_at self.now object) }
+        ensures { result ≡ not (is_unheld self.now.rows (name_at self.now object)) }
     {
-        self.ports_free(object.port());
-        self.loose = true;
+        live || parts::names(&self.parts, object)
     }
 
-    /// Each object goes that no row counts for, and then each that only those counted for: the threads that have ended, the
-    /// processes without a thread, and ports. There is nothing to do where no row went since the last time.
-    pub fn sweep(&mut self)
-        requires can { CanSweep self.old.rows }
-        requires still { self.old.loose ≡ false → model.unheld self.old.rows ≡ [] }
-        ensures rows { self.new.rows ≡ world_after self.old.rows (model.sweep self.old.rows) }
-        ensures calls { self.new.calls ≡ self.old.calls }
-        ensures made { self.new.made ≤ self.old.made }
-        ensures loose { self.new.loose ≡ false }
-        ensures room { Roomy self.old.room self.new.room }
+    /// The thread at a place, in the order of making, and whether a live thread counts for it, which is itself.
+    fn thread_life(&self, place: usize) -> Life
+        requires { place < length self.now.rows.threads }
+        ensures birth { thread_in_place self.now place ≡ Some result.birth }
+        ensures live { result.live ≡ has_holders self.now.rows (thread_name result.birth) }
     {
-        if self.loose {
-            self.free_ended();
-            self.free_empty();
-            self.free_unheld();
-            self.loose = false;
-        }
+        self.procs.thread_in(place)
+    }
+
+    /// The process at a place, in the order of making, and whether a live thread counts for it.
+    fn process_life(&self, place: usize) -> Life
+        requires { place < length self.now.rows.processes }
+        ensures birth { process_in_place self.now place ≡ Some result.birth }
+        ensures live { result.live ≡ has_holders self.now.rows (process_name result.birth) }
+    {
+        self.procs.process_in(place)
     }
 
     /// How many threads have a row.
@@ -138,78 +133,108 @@ impl World {
         self.procs.processes()
     }
 
-    /// The first thread that has ended: None exactly where each thread lives.
-    fn ended_thread(&self) -> Option<u32>
-        ensures none { IfNone result (every is_alive self.now.rows.threads ≡ true) }
-        ensures ended { IfSome result (λ tid. has_ended self.now.rows tid ≡ true) }
+    /// The oldest thread that no row holds: None exactly where each thread is held.
+    fn unheld_thread(&self) -> Option<Birth>
+        ensures none { IfNone result (HasHeldThreads self.now.rows) }
+        ensures row { IfSome result
+            (λ b. has (is_born_thread b) self.now.rows.threads ≡ true) }
+        ensures unheld { IfSome result (λ b. is_unheld self.now.rows (thread_name b) ≡ true) }
     {
-        self.procs.first_ended()
+        for place in 0..self.thread_count() {
+            let thread = self.thread_life(place);
+            if !self.is_life_held(Object::Thread(thread.birth), thread.live) {
+                return Some(thread.birth);
+            }
+        }
+        None
     }
 
-    /// The first process of which no thread is, where each thread lives: None exactly where each process has one, so that
-    /// some row counts for each thread and each process.
-    fn empty_process(&self) -> Option<u32>
-        requires { every is_alive self.now.rows.threads ≡ true }
-        ensures none { IfNone result (AreLivesHeld self.now.rows) }
-        ensures empty { IfSome result (λ pid. is_empty self.now.rows pid ≡ true) }
+    /// The oldest process that no row holds: None exactly where each process is held.
+    fn unheld_process(&self) -> Option<Birth>
+        ensures none { IfNone result (HasHeldProcesses self.now.rows) }
+        ensures row { IfSome result
+            (λ b. has (is_born_process b) self.now.rows.processes ≡ true) }
+        ensures unheld { IfSome result (λ b. is_unheld self.now.rows (process_name b) ≡ true) }
     {
-        self.procs.first_empty()
+        for place in 0..self.process_count() {
+            let process = self.process_life(place);
+            if !self.is_life_held(Object::Process(process.birth), process.live) {
+                return Some(process.birth);
+            }
+        }
+        None
     }
 
-    /// The row of a thread that has ended goes.
-    fn threads_free(&mut self, tid: u32)
+    /// The row of an object that no row counts for goes. Its room is spare then.
+    pub fn free(&mut self, object: Object)
+        requires stands { object_stands self.old.births object ≡ true }
         requires can { CanSweep self.old.rows }
-        requires ended { has_ended self.old.rows tid ≡ true }
-        ensures ahead { SweepsAhead self.old self.new }
-        ensures fewer { length self.new.rows.threads + 1 ≤ length self.old.rows.threads }
+        requires unheld { is_unheld self.old.rows (name_at self.old object) ≡ true }
+        ensures rows { self.new.rows ≡ after self.old (Frees (name_at self.old object)) }
+        ensures calls { self.new.calls ≡ self.old.calls }
+        ensures made { self.new.made ≤ self.old.made }
+        ensures loose { self.new.loose ≡ true }
+        ensures room { Roomy self.old.room self.new.room }
     {
-        self.procs.free_thread(tid);
+        match object {
+            Object::Port(port) => self.ports_free(port),
+            Object::Process(birth) => self.processes_free(birth),
+            Object::Thread(birth) => self.threads_free(birth),
+        }
     }
 
-    /// The row of a process goes of which no thread is. Its number and its table of handles stay.
-    fn processes_free(&mut self, pid: u32)
+    /// Each object goes that no row counts for, and then each that only those counted for: the threads that have ended, the
+    /// processes without a live thread, and ports. There is nothing to do where no row went since the last time.
+    pub fn sweep(&mut self)
         requires can { CanSweep self.old.rows }
-        requires empty { is_empty self.old.rows pid ≡ true }
-        ensures ahead { SweepsAhead self.old self.new }
-        ensures threads { self.new.rows.threads ≡ self.old.rows.threads }
-        ensures fewer { length self.new.rows.processes + 1 ≤ length self.old.rows.processes }
+        requires still { self.old.loose ≡ false → model.unheld self.old.rows ≡ [] }
+        ensures rows { self.new.rows ≡ world_after self.old.rows (model.sweep self.old.rows) }
+        ensures calls { self.new.calls ≡ self.old.calls }
+        ensures made { self.new.made ≤ self.old.made }
+        ensures loose { self.new.loose ≡ false }
+        ensures room { Roomy self.old.room self.new.room }
     {
-        self.procs.free_process(pid);
+        if self.loose {
+            self.free_threads();
+            self.free_processes();
+            self.free_ports();
+            self.loose = false;
+        }
     }
 
-    /// While there is a thread that has ended, its row goes.
-    fn free_ended(&mut self)
+    /// While there is a thread that no row counts for, it goes.
+    fn free_threads(&mut self)
         requires can { CanSweep self.old.rows }
         ensures ahead { SweepsAhead self.old self.new }
-        ensures lives { every is_alive self.new.rows.threads ≡ true }
+        ensures held { HasHeldThreads self.new.rows }
     {
         for freed in 0..self.thread_count() {
             let _ = freed;
-            match self.ended_thread() {
-                Some(tid) => self.threads_free(tid),
+            match self.unheld_thread() {
+                Some(birth) => self.free(Object::Thread(birth)),
                 None => return,
             }
         }
     }
 
-    /// While there is a process of which no thread is, its row goes. Each thread lives.
-    fn free_empty(&mut self)
+    /// While there is a process that no row counts for, it goes. Some row counts for each thread.
+    fn free_processes(&mut self)
         requires can { CanSweep self.old.rows }
-        requires lives { every is_alive self.old.rows.threads ≡ true }
+        requires threads { HasHeldThreads self.old.rows }
         ensures ahead { SweepsAhead self.old self.new }
         ensures held { AreLivesHeld self.new.rows }
     {
         for freed in 0..self.process_count() {
             let _ = freed;
-            match self.empty_process() {
-                Some(pid) => self.processes_free(pid),
+            match self.unheld_process() {
+                Some(birth) => self.free(Object::Process(birth)),
                 None => return,
             }
         }
     }
 
     /// While there is a port that no row counts for, it goes. Some row counts for each thread and each process.
-    fn free_unheld(&mut self)
+    fn free_ports(&mut self)
         requires can { CanSweep self.old.rows }
         requires lives { AreLivesHeld self.old.rows }
         ensures rows { self.new.rows ≡ world_after self.old.rows (model.sweep self.old.rows) }
@@ -226,6 +251,32 @@ impl World {
         }
     }
 
+    /// The row of a thread that has ended goes.
+    fn threads_free(&mut self, birth: Birth)
+        requires ended { has_holders self.old.rows (thread_name birth) ≡ false }
+        ensures rows { self.new.rows ≡ after self.old (Frees (thread_name birth)) }
+        ensures calls { self.new.calls ≡ self.old.calls }
+        ensures made { self.new.made ≤ self.old.made }
+        ensures loose { self.new.loose ≡ true }
+        ensures room { Roomy self.old.room self.new.room }
+    {
+        self.loose = true;
+        self.procs.free_thread_born(birth);
+    }
+
+    /// The row of a process goes of which no thread lives. Its number and its table of handles stay.
+    fn processes_free(&mut self, birth: Birth)
+        requires empty { has_holders self.old.rows (process_name birth) ≡ false }
+        ensures rows { self.new.rows ≡ after self.old (Frees (process_name birth)) }
+        ensures calls { self.new.calls ≡ self.old.calls }
+        ensures made { self.new.made ≤ self.old.made }
+        ensures loose { self.new.loose ≡ true }
+        ensures room { Roomy self.old.room self.new.room }
+    {
+        self.loose = true;
+        self.procs.free_process_born(birth);
+    }
+
     /// A port that no row names goes. Its room is spare then.
     fn ports_free(&mut self, port: Key)
         requires stands { stands self.old.births.ports port ≡ true }
@@ -235,9 +286,10 @@ impl World {
         ensures others { KeepsOthers port self.old.births.ports self.new.births.ports }
         ensures calls { self.new.calls ≡ self.old.calls }
         ensures made { self.new.made ≤ self.old.made }
-        ensures loose { self.new.loose ≡ self.old.loose }
+        ensures loose { self.new.loose ≡ true }
         ensures room { Roomy self.old.room self.new.room }
     {
+        self.loose = true;
         self.ports.free(port);
     }
 }

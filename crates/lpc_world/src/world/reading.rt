@@ -140,7 +140,7 @@ impl World {
         requires { stands self.now.births.ports port ≡ true }
         ensures { result ≡ found.is_open self.now.rows (birth_at self.now port) }
     {
-        parts::names_port(&self.parts, port)
+        parts::names(&self.parts, Object::Port(port))
     }
 
     // Ports and queues.

@@ -46,3 +46,8 @@ pub returns-clause-made : goal.returns-clause-made
 returns-clause-made c =
     let owed = tables.handed_owed (tables_of c.self.inside.procs c.self.inside.parts.items c.self.inside.ports c.self.inside.waits c.self.inside.names) c.self.inside.calls c.self.inside.made c.self.invariant c.args.pid (record { object = c.args.object; access = c.args.access }) c.add_handle.result c.add_handle.new.parts.items c.add_handle.ensures.parts c.add_handle.ensures.same in
     rw (← c.self.view_is) (omega (arith, owed))
+
+pub returns-clause-places : goal.returns-clause-places
+returns-clause-places c =
+    rw (← c.self.view_is, tables.room_at c.self.inside.parts.items c.args.pid, tables.room_at c.add_handle.new.parts.items c.args.pid)
+    (tables.handed_spare (tables_of c.self.inside.procs c.self.inside.parts.items c.self.inside.ports c.self.inside.waits c.self.inside.names) c.self.inside.calls c.self.inside.made c.self.invariant c.args.pid (record { object = c.args.object; access = c.args.access }) c.add_handle.result c.add_handle.new.parts.items c.add_handle.ensures.parts c.add_handle.ensures.same)

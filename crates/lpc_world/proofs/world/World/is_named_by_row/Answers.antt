@@ -1,21 +1,22 @@
 use Rattle.std.proofs.Common.{◌≡◌, ap, ◌∙◌, arith}
 use Rattle.lpc_base.specs.Rows.{has}
 use Rattle.lpc_homes.specs.Parts.{has_name_of}
+use Rattle.lpc_homes.specs.declared.object.Object.TheVariants as object
 use Rattle.lpc_world.specs.Shown.{tables_of}
 use Rattle.lpc_world.proofs.Unheld as unheld
 use Rattle.lpc_world.proofs.world.World.is_named_by_row.Goals as goal
-use Rattle.lpc_world.proofs.world.World.is_named_by_row.Goals.{then-names_port, else-names_port, then-is_named, else-is_named}
+use Rattle.lpc_world.proofs.world.World.is_named_by_row.Goals.{then-names, else-names, then-is_named, else-is_named}
 
 pub returns-then-is_named-2 : goal.returns-then-is_named-2
 returns-then-is_named-2 c =
     let there = rw (← c.self.view_is) at c.requires in
     let held = unheld.held_is (tables_of c.self.inside.procs c.self.inside.parts.items c.self.inside.ports c.self.inside.waits c.self.inside.names) c.self.invariant.named c.args.port there in
-    let by_handle : c.names_port.result ≡ has (has_name_of c.args.port) c.self.inside.parts.items = c.names_port.ensures ∙ ap (λ ps. has (has_name_of c.args.port) ps) c.deref.ensures.value in
+    let by_handle : c.names.result ≡ has (has_name_of (object.Port c.args.port)) c.self.inside.parts.items = c.names.ensures ∙ ap (λ ps. has (has_name_of (object.Port c.args.port)) ps) c.deref.ensures.value in
     rw (← c.self.view_is, held)
     (elim c.if-is_named.branch [
-      | then-is_named w ↦ elim c.if-names_port.branch [
-        | then-names_port v ↦ grind (arith, by_handle)
-        | else-names_port v ↦ grind (arith, v.is_named.ensures)
+      | then-is_named w ↦ elim c.if-names.branch [
+        | then-names v ↦ grind (arith, by_handle)
+        | else-names v ↦ grind (arith, v.is_named.ensures)
       ]
       | else-is_named w ↦ grind (arith, w.is_named-else-is_named.ensures)
     ])
@@ -24,12 +25,12 @@ pub returns-else-is_named-2 : goal.returns-else-is_named-2
 returns-else-is_named-2 c =
     let there = rw (← c.self.view_is) at c.requires in
     let held = unheld.held_is (tables_of c.self.inside.procs c.self.inside.parts.items c.self.inside.ports c.self.inside.waits c.self.inside.names) c.self.invariant.named c.args.port there in
-    let by_handle : c.names_port.result ≡ has (has_name_of c.args.port) c.self.inside.parts.items = c.names_port.ensures ∙ ap (λ ps. has (has_name_of c.args.port) ps) c.deref.ensures.value in
+    let by_handle : c.names.result ≡ has (has_name_of (object.Port c.args.port)) c.self.inside.parts.items = c.names.ensures ∙ ap (λ ps. has (has_name_of (object.Port c.args.port)) ps) c.deref.ensures.value in
     rw (← c.self.view_is, held)
     (elim c.if-is_named.branch [
       | then-is_named w ↦ absurd (cc)
-      | else-is_named w ↦ elim c.if-names_port.branch [
-        | then-names_port v ↦ absurd (cc)
-        | else-names_port v ↦ grind (arith, by_handle, v.is_named.ensures, w.is_named-else-is_named.ensures, c.has_name.ensures)
+      | else-is_named w ↦ elim c.if-names.branch [
+        | then-names v ↦ absurd (cc)
+        | else-names v ↦ grind (arith, by_handle, v.is_named.ensures, w.is_named-else-is_named.ensures, c.has_name.ensures)
       ]
     ])

@@ -1,11 +1,12 @@
 use Rattle.std.proofs.Common.{ap, sym, ◌∙◌}
 use Rattle.lpc_base.specs.Rows.{has}
-use Rattle.lpc_world.specs.Shown.{tables_of}
 use Rattle.lpc_homes.specs.Parts.{has_name_of}
+use Rattle.lpc_homes.specs.declared.object.Object.TheVariants as object
+use Rattle.lpc_world.specs.Shown.{tables_of}
 use Rattle.lpc_world.proofs.Readings as readings
 use Rattle.lpc_world.proofs.world.World.is_open.Goals as goal
 
 pub returns : goal.returns
 returns c =
     let there = rw (← c.self.view_is) at c.requires in
-    rw (← c.self.view_is) (c.names_port.ensures ∙ ap (λ ps. has (has_name_of c.args.port) ps) c.deref.ensures.value ∙ sym (readings.open_is (tables_of c.self.inside.procs c.self.inside.parts.items c.self.inside.ports c.self.inside.waits c.self.inside.names) c.self.invariant.named c.args.port there))
+    rw (← c.self.view_is) (c.names.ensures ∙ ap (λ ps. has (has_name_of (object.Port c.args.port)) ps) c.deref.ensures.value ∙ sym (readings.open_is (tables_of c.self.inside.procs c.self.inside.parts.items c.self.inside.ports c.self.inside.waits c.self.inside.names) c.self.invariant.named c.args.port there))

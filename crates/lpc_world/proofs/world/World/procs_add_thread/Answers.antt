@@ -15,4 +15,4 @@ invariant_of-self c =
     let waits = there.wait_room in
     let messages = there.message_room in
     rw c.add_thread.ensures.table
-    (steps.added_thread (tables_of c.self.inside.procs c.self.inside.parts.items c.self.inside.ports c.self.inside.waits c.self.inside.names) c.self.inside.calls c.self.inside.made c.self.invariant (record { number = c.args.tid; process = c.args.pid; birth = c.args.birth; live = true; next_identifier = 1; next_ordinal = 1; registered = record { items = [] } }) (c.self.inside.procs.thread_room - 1) there.new there.budget refl refl (rw (there.process, there.table) refl) (omega (arith, waits)) (omega (arith, messages)) there.birth there.fresh)
+    (steps.added_thread (tables_of c.self.inside.procs c.self.inside.parts.items c.self.inside.ports c.self.inside.waits c.self.inside.names) c.self.inside.calls c.self.inside.made c.self.invariant (record { number = c.args.tid; process = c.args.pid; birth = c.args.birth; live = true; next_identifier = 1; next_ordinal = 1; registered = record { items = [] } }) (c.self.inside.procs.thread_room - 1) there.number.above there.new there.budget refl refl (rw (there.process, there.table) refl) (omega (arith, waits)) (omega (arith, messages)) there.birth there.fresh)

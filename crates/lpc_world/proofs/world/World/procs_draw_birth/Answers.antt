@@ -28,6 +28,15 @@ returns-clause-fresh c = steps.fresh_birth (tables_of c.self.inside.procs c.self
 pub returns-clause-drawn : goal.returns-clause-drawn
 returns-clause-drawn c = rw (c.draw_birth.ensures.table, ap (λ (v : World). v.threads) (changes.draws_ordinal (tables_of c.self.inside.procs c.self.inside.parts.items c.self.inside.ports c.self.inside.waits c.self.inside.names) c.self.invariant.named c.args.tid)) (steps.now_drawn (tables_of c.self.inside.procs c.self.inside.parts.items c.self.inside.ports c.self.inside.waits c.self.inside.names) c.self.inside.calls c.self.inside.made c.self.invariant c.args.tid c.draw_birth.result (steps.drawn_birth (tables_of c.self.inside.procs c.self.inside.parts.items c.self.inside.ports c.self.inside.waits c.self.inside.names) c.self.inside.calls c.self.inside.made c.self.invariant c.args.tid c.draw_birth.result c.draw_birth.ensures.birth))
 
+pub returns-clause-process : goal.returns-clause-process
+returns-clause-process c = rw c.draw_birth.ensures.table (steps.next_born (tables_of c.self.inside.procs c.self.inside.parts.items c.self.inside.ports c.self.inside.waits c.self.inside.names) c.self.inside.calls c.self.inside.made c.self.invariant c.args.tid c.draw_birth.result (steps.drawn_birth (tables_of c.self.inside.procs c.self.inside.parts.items c.self.inside.ports c.self.inside.waits c.self.inside.names) c.self.inside.calls c.self.inside.made c.self.invariant c.args.tid c.draw_birth.result c.draw_birth.ensures.birth)).0
+
+pub returns-clause-thread : goal.returns-clause-thread
+returns-clause-thread c = rw (c.draw_birth.ensures.table, ap (λ (v : World). v.threads) (changes.draws_ordinal (tables_of c.self.inside.procs c.self.inside.parts.items c.self.inside.ports c.self.inside.waits c.self.inside.names) c.self.invariant.named c.args.tid)) (steps.next_born (tables_of c.self.inside.procs c.self.inside.parts.items c.self.inside.ports c.self.inside.waits c.self.inside.names) c.self.inside.calls c.self.inside.made c.self.invariant c.args.tid c.draw_birth.result (steps.drawn_birth (tables_of c.self.inside.procs c.self.inside.parts.items c.self.inside.ports c.self.inside.waits c.self.inside.names) c.self.inside.calls c.self.inside.made c.self.invariant c.args.tid c.draw_birth.result c.draw_birth.ensures.birth)).1
+
+pub returns-clause-maker : goal.returns-clause-maker
+returns-clause-maker c = steps.next_made (tables_of c.self.inside.procs c.self.inside.parts.items c.self.inside.ports c.self.inside.waits c.self.inside.names) c.self.inside.calls c.self.inside.made c.self.invariant c.args.tid c.draw_birth.result (steps.drawn_birth (tables_of c.self.inside.procs c.self.inside.parts.items c.self.inside.ports c.self.inside.waits c.self.inside.names) c.self.inside.calls c.self.inside.made c.self.invariant c.args.tid c.draw_birth.result c.draw_birth.ensures.birth)
+
 pub returns-clause-step : goal.returns-clause-step
 returns-clause-step c = record {
   rows = rw (← c.self.view_is, c.draw_birth.ensures.table) (changes.draws_ordinal (tables_of c.self.inside.procs c.self.inside.parts.items c.self.inside.ports c.self.inside.waits c.self.inside.names) c.self.invariant.named c.args.tid);

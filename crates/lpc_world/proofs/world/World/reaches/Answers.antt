@@ -1,6 +1,7 @@
 use Rattle.std.proofs.Common.{ap, sym, ◌∙◌}
 use Rattle.lpc_base.specs.Rows.{has}
 use Rattle.lpc_homes.specs.Parts.{names_it, rows_at}
+use Rattle.lpc_homes.specs.declared.object.Object.TheVariants as object
 use Rattle.lpc_world.proofs.Connecting as connecting
 use Rattle.lpc_world.proofs.Readings as readings
 use Rattle.lpc_world.specs.Shown.{tables_of}
@@ -15,5 +16,5 @@ pub returns : goal.returns
 returns c =
     let there = rw (← c.self.view_is) at c.requires.port in
     rw (← c.self.view_is) (c.reaches_port.ensures
-    ∙ ap (λ ps. has (names_it c.args.port) (rows_at ps c.args.pid)) c.deref.ensures.value
+    ∙ ap (λ ps. has (names_it (object.Port c.args.port)) (rows_at ps c.args.pid)) c.deref.ensures.value
     ∙ sym (connecting.reached (tables_of c.self.inside.procs c.self.inside.parts.items c.self.inside.ports c.self.inside.waits c.self.inside.names) c.self.invariant.named c.args.pid c.args.port there))

@@ -9,7 +9,7 @@ use Rattle.lpc_world.specs.Held.{CanSweep}
 use Rattle.lpc_world.specs.Names.{name_of}
 use Rattle.lpc_world.proofs.HeldLives.{ahead_same, ahead_then}
 use Rattle.lpc_world.proofs.HeldPorts.{can_freed, length_less, none_unheld}
-use Rattle.lpc_world.proofs.world.World.free_unheld.Goals as goal
+use Rattle.lpc_world.proofs.world.World.free_ports.Goals as goal
 
 pub loop-freed-init : goal.loop-freed-init
 loop-freed-init c = record { ahead = ahead_same c.args.self.now c.requires.can; lives = c.requires.lives; fewer = omega arith }

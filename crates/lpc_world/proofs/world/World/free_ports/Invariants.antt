@@ -1,7 +1,7 @@
 use Rattle.std.proofs.Common.{◌+◌, ◌≤◌, length}
 use Rattle.lpc_model.specs.Linked.{AreLivesHeld}
 use Rattle.lpc_world.specs.Held.{SweepsAhead}
-use Rattle.lpc_world.proofs.world.World.free_unheld.Given as goal
+use Rattle.lpc_world.proofs.world.World.free_ports.Given as goal
 
 -- the sweep still leaves the same, and there is a port less for each that went
 abbrev pub invariant-loop-freed : goal.invariant-loop-freed

@@ -1,6 +1,6 @@
 use Rattle.std.proofs.Common.{◌+◌, ◌≤◌, length}
 use Rattle.lpc_world.specs.Held.{SweepsAhead}
-use Rattle.lpc_world.proofs.world.World.free_ended.Given as goal
+use Rattle.lpc_world.proofs.world.World.free_threads.Given as goal
 
 -- the sweep still leaves the same, and there is a row less for each that went
 abbrev pub invariant-loop-freed : goal.invariant-loop-freed
