@@ -6,9 +6,11 @@ pub mod Paid
 pub mod Turns
 pub mod Five
 pub mod Untelling
+pub mod Aimed
 pub mod CanEnd
 pub mod Mute
 pub mod OwnEnds
 pub mod Registrations
 pub mod Dead
 pub mod Lives
+pub mod Makes

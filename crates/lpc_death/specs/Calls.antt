@@ -1,5 +1,5 @@
 -- What the parts of the calls find and do.
-use Rattle.std.specs.Prelude.{ℕ, Bool, List, [], ◌∷◌, nat_le}
+use Rattle.std.specs.Prelude.{ℕ, ◌+◌, ◌||◌, Bool, List, [], ◌∷◌, nat_le}
 use Rattle.lpc_base.specs.declared.status.TheConstants.{SUCCESS}
 use Rattle.lpc_handles.specs.declared.table.Row.{Row}
 use Rattle.lpc_model.specs.declared.entry.CallName.TheVariants.{NtQueryObject}
@@ -9,9 +9,10 @@ use Rattle.lpc_model.specs.Basics.{Basic, Tells}
 use Rattle.lpc_model.specs.Counts.{duplicate_steps}
 use Rattle.lpc_model.specs.Found.{free_handle}
 use Rattle.lpc_model.specs.World as model
-use Rattle.lpc_model.specs.World.{ThreadRow}
+use Rattle.lpc_model.specs.World.{ThreadRow, World}
+use Rattle.lpc_model.specs.Creation.{create_process_steps, create_thread_steps, second_handle}
 use Rattle.lpc_world.specs.Clauses.{row_shown}
-use Rattle.lpc_world.specs.Kept.{Kept, handle_room, owed_handles}
+use Rattle.lpc_world.specs.Kept.{Kept, handle_room, lacks_process_room, lacks_thread_room, owed_handles}
 use Rattle.lpc_steps.specs.declared.closing.Closed.{Closed}
 use Rattle.lpc_homes.specs.declared.object.Object.{Object}
 
@@ -23,10 +24,27 @@ telling by fields = Tells (Answer by.number NtQueryObject SUCCESS fields) ∷ []
 abbrev pub granting : Kept → ThreadRow → ℕ → Row Object → List Basic
 granting w by handle row = duplicate_steps by (free_handle w.rows by.process) (row_shown w handle row) row.access
 
--- without memory there is no room for a further handle of the thread's process
+-- without memory there is no room for a further handle of the thread's process; nor for two
 abbrev pub lacks_handle_room : Kept → ThreadRow → Bool
 lacks_handle_room w by = nat_le (handle_room w.room by.process) (owed_handles w.rows by.process)
+
+abbrev pub lacks_two_handles_room : Kept → ThreadRow → Bool
+lacks_two_handles_room w by = nat_le (handle_room w.room by.process) (owed_handles w.rows by.process + 1)
+
+-- nor for a process with its first thread and a handle to each; nor for a thread and a handle to it
+abbrev pub lacks_child_room : Kept → ThreadRow → Bool
+lacks_child_room w by = lacks_process_room w || lacks_two_handles_room w by
+
+abbrev pub lacks_member_room : Kept → ThreadRow → Bool
+lacks_member_room w by = lacks_thread_room w || lacks_handle_room w by
 
 -- the connect that made a closed port
 abbrev pub creator_of : Closed → model.Creator
 creator_of c = record { client = c.client; identifier = c.message_id }
+
+-- a thread makes a process with its first thread, and a further thread of a process; its own gets the least free handles
+abbrev pub making_process : World → ThreadRow → ℕ → ℕ → List Basic
+making_process w by pid tid = create_process_steps by pid tid (free_handle w by.process) (second_handle w by)
+
+abbrev pub making_thread : World → ThreadRow → ℕ → ℕ → List Basic
+making_thread w by tid pid = create_thread_steps by tid pid (free_handle w by.process)

@@ -146,8 +146,11 @@ fn close_last(world: &mut World, object: Object, out: &mut Entries)
     ensures spare { out.new.spare + length world.old.rows.waits
         ≡ out.old.spare + length world.new.rows.waits }
 {
+    let Object::Port(port) = object else {
+        return;
+    };
     if has_one_handle(world, object) {
-        close_port(world, object.port(), out);
+        close_port(world, port, out);
     }
 }
 

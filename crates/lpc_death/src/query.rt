@@ -9,8 +9,8 @@ ghost use Rattle.lpc_world.specs.Ready.{HasRoom, caller, is_ready};
 
 use lpc_base::Status;
 use lpc_base::status::SUCCESS;
-use lpc_model::{CallName, Entries, Entry, Fields, ObjectKind, Outcome, object_fields, refuse};
-use lpc_steps::own_handle;
+use lpc_model::{CallName, Entries, Entry, Fields, Outcome, object_fields, refuse};
+use lpc_steps::{kind_of, own_handle};
 use lpc_world::World;
 
 /// What is told of the object of a handle: INVALID_HANDLE where no handle has the value.
@@ -25,7 +25,7 @@ fn counts(world: &World, tid: u32, handle: u32) -> Result<Fields, Status>
 {
     let row = own_handle(world, tid, handle)?;
     Ok(object_fields(
-        ObjectKind::Port,
+        kind_of(row.object),
         row.access,
         world.handles_to(row.object),
         world.pointers_to(row.object),

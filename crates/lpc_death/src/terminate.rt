@@ -1,31 +1,27 @@
 // The calls that end threads and processes.
-ghost use Rattle.std.specs.Prelude.{◌≡◌, ◌+◌, ◌≤◌, ◌<◌, Err, false, true, length};
+ghost use Rattle.std.specs.Prelude.{◌≡◌, ◌+◌, ◌++◌, ◌≤◌, ◌<◌, ◌∷◌, [], Some, true, length};
 ghost use Rattle.lpc_base.specs.Rows.{count, has};
 ghost use Rattle.lpc_base.specs.declared.limits.TheConstants.{LINES_LIMIT};
 ghost use Rattle.lpc_death.specs.Closing.{CanCloseAll};
 ghost use Rattle.lpc_death.specs.Dying.{ending_entries};
-ghost use Rattle.lpc_death.specs.Ends.{CanEnd, telling_ends};
+ghost use Rattle.lpc_death.specs.Ends.{CanEnd, ended_outcome, told_unless, telling_ends};
 ghost use Rattle.lpc_model.specs.Deaths.{HasSingleRegistrations};
 ghost use Rattle.lpc_model.specs.Death as model;
-ghost use Rattle.lpc_model.specs.Found.{is_table, same_kind};
+ghost use Rattle.lpc_model.specs.Found.{is_table, live_thread, live_threads};
 ghost use Rattle.lpc_model.specs.Lines.{terminate_process, terminate_thread};
-ghost use Rattle.lpc_model.specs.declared.entry.ObjectKind.TheVariants.{Port};
 ghost use Rattle.lpc_world.specs.Called.{Served};
-ghost use Rattle.lpc_steps.specs.Clauses.{object_for};
 ghost use Rattle.lpc_world.specs.Does.{Took};
 ghost use Rattle.lpc_world.specs.Kept.{CanMake, is_alive};
-ghost use Rattle.lpc_world.specs.Ready.{HasRoom, is_ready};
+ghost use Rattle.lpc_world.specs.Ready.{HasRoom, caller, is_ready};
 
 use crate::dying::{die, die_all};
 use crate::process::end_process;
+use crate::targets::{living_process, living_thread};
 use crate::tell::tell_all;
 use lpc_base::Status;
-use lpc_model::{CallName, Entries, ObjectKind, Outcome, ProcArg, refuse};
-use lpc_steps::object_at;
+use lpc_base::status::SUCCESS;
+use lpc_model::{CallName, Entries, Entry, Fields, Outcome, ProcArg, refuse};
 use lpc_world::World;
-
-/// The right to a process or thread that ending it wants.
-const END_RIGHT: u32 = 1;
 
 /// Threads of a process have ended: the ports that they registered are told of it, and the process ends where none of its
 /// threads lives. It takes no memory.
@@ -49,16 +45,61 @@ fn end_told(world: &mut World, pid: u32, out: &mut Entries)
     }
 }
 
-/// Why a handle names no process or thread that can end. Each handle names a port, so none does.
-fn refusal(world: &World, by: u32, handle: u32, kind: ObjectKind) -> Status
-    requires ready { is_ready world.now.rows by ≡ true }
-    requires other { same_kind Port kind ≡ false }
-    ensures { object_for world.now.rows by kind model.END_RIGHT handle ≡ Err result }
+/// A live thread ends: it dies, the ports that it registered are told of it, and its process ends with its last thread.
+fn end_thread(world: &mut World, tid: u32, pid: u32, code: Status, out: &mut Entries)
+    requires live { let t = caller world.old.rows tid in
+        live_thread world.old.rows tid ≡ Some t }
+    requires own { let t = caller world.old.rows tid in
+        t.process ≡ pid }
+    requires table { has (is_table pid) world.old.rows.handles ≡ true }
+    requires can { CanEnd world.old.rows }
+    requires spare { ending_entries world.old.rows ≤ out.old.spare }
+    requires budget { CanMake world.old }
+    ensures took { let t = caller world.old.rows tid in
+        let steps = model.end_threads pid code (t ∷ []) world.old.rows in
+        Took steps world.old world.new out.old out.new }
+    ensures calls { world.new.calls ≡ world.old.calls }
+    ensures spare { out.old.spare + ending_entries world.new.rows
+        ≤ out.new.spare + ending_entries world.old.rows }
 {
-    match object_at(world, by, handle, kind, END_RIGHT) {
-        Ok(_) => unreachable!(),
-        Err(status) => status,
+    die(world, tid, code, out);
+    end_told(world, pid, out);
+}
+
+/// The live threads of a process end, as `end_thread` ends one.
+fn end_threads(world: &mut World, pid: u32, code: Status, out: &mut Entries)
+    requires table { has (is_table pid) world.old.rows.handles ≡ true }
+    requires can { CanEnd world.old.rows }
+    requires spare { ending_entries world.old.rows ≤ out.old.spare }
+    requires budget { CanMake world.old }
+    ensures took { let threads = live_threads world.old.rows pid in
+        let steps = model.end_threads pid code threads world.old.rows in
+        Took steps world.old world.new out.old out.new }
+    ensures calls { world.new.calls ≡ world.old.calls }
+    ensures spare { out.old.spare + ending_entries world.new.rows
+        ≤ out.new.spare + ending_entries world.old.rows }
+{
+    die_all(world, pid, code, out);
+    end_told(world, pid, out);
+}
+
+/// A call that doesn't end its own thread is answered; one that does ends without an answer.
+fn answer_unless(own: bool, tid: u32, call: CallName, out: &mut Entries) -> Outcome
+    requires spare { 1 ≤ out.old.spare }
+    ensures list { out.new.list ≡ out.old.list ++ told_unless own tid call }
+    ensures spare { out.old.spare ≤ out.new.spare + 1 }
+    ensures outcome { result ≡ ended_outcome own }
+{
+    if own {
+        return Outcome::Gone;
     }
+    out.push(Entry::Answer {
+        tid,
+        call,
+        status: SUCCESS,
+        fields: Fields::none(),
+    });
+    Outcome::Answered(SUCCESS)
 }
 
 /// `NtTerminateThread`: a thread ends, with its wait and the message that it waits with; the client port of its accepted
@@ -66,7 +107,8 @@ fn refusal(world: &World, by: u32, handle: u32, kind: ObjectKind) -> Status
 /// thread: the process's handles are closed. A call that ends its own thread has no answer.
 ///
 /// Refusals, in this order: INVALID_HANDLE where no handle of the caller's process has the value; OBJECT_TYPE_MISMATCH
-/// where it names no thread. It takes no memory.
+/// where it names no thread; ACCESS_DENIED where it lacks the right; INVALID_CID where the thread has ended. It takes no
+/// memory.
 pub fn nt_terminate_thread(
     world: &mut World,
     by: u32,
@@ -85,16 +127,14 @@ pub fn nt_terminate_thread(
 {
     let caller = world.caller(by);
     world.begin_call();
-    match target {
-        ProcArg::Current => {
-            die(world, by, Status(code), out);
-            end_told(world, caller.process, out);
-            Outcome::Gone
+    match living_thread(world, by, target) {
+        Ok(thread) => {
+            let own = thread.number == caller.number;
+            let outcome = answer_unless(own, caller.number, CallName::NtTerminateThread, out);
+            end_thread(world, thread.number, thread.process, Status(code), out);
+            outcome
         }
-        ProcArg::By(handle) => {
-            let status = refusal(world, by, handle, ObjectKind::Thread);
-            refuse(caller.number, CallName::NtTerminateThread, status, out)
-        }
+        Err(status) => refuse(caller.number, CallName::NtTerminateThread, status, out),
     }
 }
 
@@ -103,7 +143,8 @@ pub fn nt_terminate_thread(
 /// process has no answer.
 ///
 /// Refusals, in this order: INVALID_HANDLE where no handle of the caller's process has the value; OBJECT_TYPE_MISMATCH
-/// where it names no process. It takes no memory.
+/// where it names no process; ACCESS_DENIED where it lacks the right; INVALID_CID where the process has ended. It takes no
+/// memory.
 pub fn nt_terminate_process(
     world: &mut World,
     by: u32,
@@ -122,15 +163,13 @@ pub fn nt_terminate_process(
 {
     let caller = world.caller(by);
     world.begin_call();
-    match target {
-        ProcArg::Current => {
-            die_all(world, caller.process, Status(code), out);
-            end_told(world, caller.process, out);
-            Outcome::Gone
+    match living_process(world, by, target) {
+        Ok(pid) => {
+            let own = pid == caller.process;
+            let outcome = answer_unless(own, caller.number, CallName::NtTerminateProcess, out);
+            end_threads(world, pid, Status(code), out);
+            outcome
         }
-        ProcArg::By(handle) => {
-            let status = refusal(world, by, handle, ObjectKind::Process);
-            refuse(caller.number, CallName::NtTerminateProcess, status, out)
-        }
+        Err(status) => refuse(caller.number, CallName::NtTerminateProcess, status, out),
     }
 }

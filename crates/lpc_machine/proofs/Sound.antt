@@ -45,7 +45,7 @@ module _ (old taken : Kept) (before list : List Entry) (line : ScriptLine) (s : 
   pub is_still : taken.loose ≡ false → unheld taken.rows ≡ []
   is_still none =
       let loose_is : taken.loose ≡ loosened false (bare_steps line old.rows) = ap (λ (l : Left). l.loose) takes ∙ ap (λ b. loosened b (bare_steps line old.rows)) s.still in
-      ap unheld rows_are ∙ (let t = s.lawful in quiet_line old.rows line t.sound t.names t.held (sym loose_is ∙ none))
+      ap unheld rows_are ∙ (let t = s.lawful in quiet_line old.rows line t.sound t.held (sym loose_is ∙ none))
 
   -- the sweep leaves the world of the line's step
   pub swept_is : (new : World) → new ≡ world_after taken.rows (sweep taken.rows) → new ≡ (let e = step old.rows line in e.world)

@@ -1,14 +1,14 @@
 -- Which lines may need memory, and which make a call.
 use Rattle.std.specs.Prelude.{◌≡◌, ◌==◌, ℕ, Bool, true, false, IsOk}
 use Rattle.lpc_connect.specs.Room.{lacks_connect_room, lacks_port_room, lacks_room_for}
-use Rattle.lpc_death.specs.Calls.{lacks_handle_room}
+use Rattle.lpc_death.specs.Calls.{lacks_child_room, lacks_handle_room, lacks_member_room}
 use Rattle.lpc_model.specs.World.{World}
 use Rattle.lpc_model.specs.Machine.{boot_line, dir_line, link_line, service_of, thread_line}
 use Rattle.lpc_world.specs.Kept.{Kept, lacks_name_room, lacks_process_room, lacks_thread_room}
 use Rattle.lpc_world.specs.Ready.{caller, is_ready}
-use Rattle.lpc_model.specs.Lines.{ScriptCall, ScriptLine, boot, thread, dir, link, run, accept_connect_port, connect_port, create_port, duplicate_object, register_thread_terminate_port, request_port}
+use Rattle.lpc_model.specs.Lines.{ScriptCall, ScriptLine, boot, thread, dir, link, run, accept_connect_port, connect_port, create_port, create_process, create_thread, duplicate_object, register_thread_terminate_port, request_port}
 
--- the calls whose step may take memory: they make a port, a further handle, a message that no thread waits with, or a place
+-- the calls whose step may take memory: they make a port, a process, a thread, a further handle, a message that no thread waits with, or a place
 -- for one that is to tell of a thread's end; a refusal of a connect makes none of these
 abbrev pub call_takes_memory : ScriptCall → Bool
 call_takes_memory (create_port name) = true
@@ -17,6 +17,8 @@ call_takes_memory (accept_connect_port context message accept) = accept
 call_takes_memory (request_port handle message) = true
 call_takes_memory (register_thread_terminate_port handle) = true
 call_takes_memory (duplicate_object handle access) = true
+call_takes_memory (create_process pid tid) = true
+call_takes_memory (create_thread target tid) = true
 call_takes_memory call = false
 
 -- the lines whose step may take memory; every other step always answers
@@ -45,7 +47,8 @@ GoesOn w (run tid call) = (is_ready w tid ≡ true) × IsOk (service_of w (calle
 
 -- There is no room for what a thread's call makes: a port with its handle, and its name; a client port with its handle and
 -- the message that is to tell that it is closed; a server port with its handle; a message that no thread waits with, or one
--- that is to tell of a thread's end; a further handle. What the other calls need was reserved when their threads were made.
+-- that is to tell of a thread's end; a further handle; a process with its first thread and a handle to each; a thread with a
+-- handle. What the other calls need was reserved when their threads were made.
 abbrev pub lacks_call_room : Kept → ℕ → ScriptCall → Bool
 lacks_call_room w tid (create_port name) = lacks_room_for w (caller w.rows tid) name
 lacks_call_room w tid (connect_port name info) = lacks_connect_room w (caller w.rows tid)
@@ -53,6 +56,8 @@ lacks_call_room w tid (accept_connect_port context message accept) = lacks_port_
 lacks_call_room w tid (request_port handle message) = w.room.messages == 0
 lacks_call_room w tid (register_thread_terminate_port handle) = w.room.messages == 0
 lacks_call_room w tid (duplicate_object handle access) = lacks_handle_room w (caller w.rows tid)
+lacks_call_room w tid (create_process pid new) = lacks_child_room w (caller w.rows tid)
+lacks_call_room w tid (create_thread target new) = lacks_member_room w (caller w.rows tid)
 lacks_call_room w tid call = false
 
 -- there is no room for what a line makes

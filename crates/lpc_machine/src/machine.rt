@@ -3,7 +3,7 @@ ghost use Rattle.std.specs.Prelude.{◌≡◌, ◌≤◌, ◌<◌, ◌+◌, [], 
 ghost use Rattle.lpc_model.specs.World.{no_rows};
 ghost use Rattle.lpc_model.specs.Found as found;
 ghost use Rattle.lpc_model.specs.Found.{live_thread};
-ghost use Rattle.lpc_model.specs.Grammar.{has_ids};
+ghost use Rattle.lpc_model.specs.Grammar.{has_call_ids, has_ids};
 ghost use Rattle.lpc_model.specs.Lines.{call_of, line_of};
 ghost use Rattle.lpc_model.specs.Lines as script;
 ghost use Rattle.lpc_model.specs.Linked.{HasHeldRows};
@@ -31,7 +31,8 @@ use lpc_connect::{
     nt_listen_port,
 };
 use lpc_death::{
-    nt_close, nt_duplicate_object, nt_query_object, nt_terminate_process, nt_terminate_thread,
+    nt_close, nt_create_process, nt_create_thread, nt_duplicate_object, nt_query_object,
+    nt_terminate_process, nt_terminate_thread,
 };
 use lpc_directives::{boot, directory, link, thread};
 use lpc_model::{Call, Entries, Entry, Line, Outcome, Word};
@@ -84,6 +85,7 @@ fn serve(
     requires calls { world.old.calls < LINES_LIMIT }
     requires can { CanClose world.old.rows }
     requires ends { CanEnd world.old.rows }
+    requires ids { has_call_ids (call_of call.now) ≡ true }
     ensures serves { MayServe by (call_of call.now) result world.old world.new out.old out.new }
     ensures wanting { OnErr result (lacks_call_room world.old by (call_of call.now) ≡ true) }
     ensures free { call_takes_memory (call_of call.now) ≡ false → IsOk result }
@@ -116,6 +118,8 @@ fn serve(
             nt_duplicate_object(world, by, *handle, *access, out)
         }
         Call::QueryObject { handle } => Ok(nt_query_object(world, by, *handle, out)),
+        Call::CreateProcess { pid, tid } => nt_create_process(world, by, *pid, *tid, out),
+        Call::CreateThread { process, tid } => nt_create_thread(world, by, *process, *tid, out),
         Call::TerminateThread { target, code } => {
             Ok(nt_terminate_thread(world, by, *target, *code, out))
         }
@@ -130,6 +134,7 @@ fn run(world: &mut World, tid: u32, call: &Call<'_>, out: &mut Entries) -> Resul
     requires room { HasRoom world.old out.old }
     requires calls { world.old.calls < LINES_LIMIT }
     requires settled { IsSettled world.old }
+    requires ids { has_call_ids (call_of call.now) ≡ true }
     ensures takes { let t = live_thread world.old.rows tid in
         let steps = thread_steps tid (call_of call.now) t world.old.rows in
         OnOk result (Took steps world.old world.new out.old out.new) }
@@ -238,10 +243,10 @@ impl Machine {
     /// from 1 to 2147483647, and fewer than 1,000,000 directives and service calls were made before it.
     ///
     /// After want of memory nothing has changed but the room. Only directives, `NtCreatePort`, `NtConnectPort`,
-    /// `NtAcceptConnectPort` to accept, `NtRequestPort`, `NtRegisterThreadTerminatePort` and `NtDuplicateObject` take
-    /// memory, only where they aren't refused, and they want for it only where the room for what they make wasn't there;
-    /// every other line is answered. A directive, and a call of a thread that lives and doesn't wait, counts as a call,
-    /// refused or not.
+    /// `NtAcceptConnectPort` to accept, `NtRequestPort`, `NtRegisterThreadTerminatePort`, `NtDuplicateObject`,
+    /// `NtCreateProcess` and `NtCreateThread` take memory, only where they aren't refused, and they want for it only where
+    /// the room for what they make wasn't there; every other line is answered. A directive, and a call of a thread that
+    /// lives and doesn't wait, counts as a call, refused or not.
     pub fn step(&mut self, line: &Line<'_>, out: &mut Entries) -> Result<(), OutOfMemory>
         requires empty { out.old.list ≡ [] }
         requires room { HasRoom self.old out.old }

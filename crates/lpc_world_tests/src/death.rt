@@ -53,8 +53,8 @@ fn queries(rt: &impl Abort, machine: &mut Machine, out: &mut Entries) -> Result<
     makes(rt, machine, out, &query, answer)
 }
 
-// A close of the handle ends so.
-fn closes(
+/// A close of the handle by thread 24 ends so.
+pub fn closes(
     rt: &impl Abort,
     machine: &mut Machine,
     out: &mut Entries,

@@ -2,6 +2,8 @@
 // hand.
 ghost use Rattle.std.specs.Prelude.{◌≡◌, ◌≤◌, ◌<◌, ◌+◌, true};
 ghost use Rattle.lpc_base.specs.declared.limits.TheConstants.{LINES_LIMIT};
+ghost use Rattle.lpc_model.specs.Grammar.{has_ids};
+ghost use Rattle.lpc_model.specs.Lines.{close, run};
 ghost use Rattle.lpc_world.specs.Names.{stands};
 ghost use Rattle.lpc_world.specs.Ready.{is_ready};
 
@@ -78,20 +80,26 @@ fn registers_by_a_line(
     makes(rt, machine, out, &register, answer)
 }
 
-// Thread 28 ends itself with status 7.
-fn ends_a_thread(rt: &impl Abort, machine: &mut Machine, out: &mut Entries) -> Result<(), Fail>
+/// The thread ends itself with status 7.
+pub fn ends_a_thread(
+    rt: &impl Abort,
+    machine: &mut Machine,
+    out: &mut Entries,
+    tid: u32,
+) -> Result<(), Fail>
+    requires thread { has_ids (run tid (close 0)) ≡ true }
     requires few { machine.old.calls < 1000000 }
     ensures calls { machine.new.calls ≤ machine.old.calls + 1 }
 {
     let end = Line::Run {
-        tid: 28,
+        tid,
         call: Call::TerminateThread {
             target: ProcArg::Current,
             code: 7,
         },
     };
     let died = Entry::Died {
-        tid: 28,
+        tid,
         status: Status(7),
     };
     makes(rt, machine, out, &end, died)
@@ -123,7 +131,7 @@ fn ends(rt: &impl Abort, machine: &mut Machine, out: &mut Entries) -> Result<(),
     begins(rt, machine, out)?;
     registers_by_a_line(rt, machine, out)?;
     assert!(rt; machine.objects() == 4);
-    ends_a_thread(rt, machine, out)?;
+    ends_a_thread(rt, machine, out, 28)?;
     assert!(rt; machine.objects() == 3);
     ends_the_process(rt, machine, out)?;
     assert!(rt; machine.objects() == 0);

@@ -7,6 +7,8 @@ mod common;
 #[cfg(test)]
 mod connect;
 #[cfg(test)]
+mod creating;
+#[cfg(test)]
 mod death;
 #[cfg(test)]
 mod ending;

@@ -9,6 +9,6 @@ use Rattle.lpc_death.proofs.close.close_last.Goals as goal
 pub close_port-requires-clause-untold : goal.close_port-requires-clause-untold
 close_port-requires-clause-untold c =
     let w = c.args.world.now in
-    let b = name_of w.births.ports c.port.result in
-    let one : has_one_handle w.rows (port_name b) ≡ true = sym (rw (← c.port.ensures) at c.has_one_handle.ensures) ∙ c.if-has_one_handle.true in
+    let b = name_of w.births.ports c.in-Port.port in
+    let one : has_one_handle w.rows (port_name b) ≡ true = sym c.has_one_handle.ensures ∙ c.if-has_one_handle.true in
     last-untold w.rows b c.requires.can.untold (eqb-true (handle_count w.rows (port_name b)) 1 one)

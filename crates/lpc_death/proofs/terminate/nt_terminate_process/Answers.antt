@@ -1,70 +1,27 @@
-use Rattle.std.proofs.Common.{◌∙◌, ap, subst}
-use Rattle.lpc_model.specs.Basics.{Steps, ◌▹◌}
-use Rattle.lpc_model.specs.Death.{code_status}
-use Rattle.lpc_model.specs.Found.{live_threads}
-use Rattle.lpc_model.specs.Lines.{terminate_process}
-use Rattle.lpc_model.specs.World.{ThreadRow}
-use Rattle.lpc_model.specs.declared.entry.CallName.TheVariants.{NtTerminateProcess}
-use Rattle.lpc_model.specs.declared.line.ProcArg.TheVariants.{By}
-use Rattle.lpc_world.specs.Does.{Left, Took}
+use Rattle.std.proofs.Common.{◌≡◌, ◌∙◌, ap, subst, sym}
+use Rattle.std.specs.Prelude.{◌==◌, Ok, Err}
+use Rattle.lpc_model.specs.World.{ThreadRow, World}
 use Rattle.lpc_world.specs.Ready.{caller}
-use Rattle.lpc_steps.proofs.Composed.{took-then}
-use Rattle.lpc_death.specs.Dying.{dying_all}
-use Rattle.lpc_death.specs.Ends.{telling_ends}
-use Rattle.lpc_death.proofs.CanEnd.{died-can, died-single, died-table}
-use Rattle.lpc_death.proofs.OwnEnds.{served-refusal, process-ends-own, process-gone, process-refused, took-counted}
+use Rattle.lpc_death.specs.Ends.{living_process}
+use Rattle.lpc_death.proofs.OwnEnds.{served-process, served-process-refused}
 use Rattle.lpc_death.proofs.terminate.nt_terminate_process.Goals as goal
 
-pub end_told-requires-clause-table : goal.end_told-requires-clause-table
-end_told-requires-clause-table c =
-    let w = c.args.world.now.rows in
-    let code = code_status c.args.code in
-    let pid = c.caller-caller.result.process in
-    let left = ap (λ (l : Left). l.world) c.die_all.ensures.took in
-    rw (left, c.begin_call.ensures.rows) (died-table code (live_threads w c.caller-caller.result.process) pid w c.caller-caller.ensures.table)
-
-pub end_told-requires-clause-can : goal.end_told-requires-clause-can
-end_told-requires-clause-can c =
-    let w = c.args.world.now.rows in
-    let code = code_status c.args.code in
-    let left = ap (λ (l : Left). l.world) c.die_all.ensures.took in
-    rw (left, c.begin_call.ensures.rows) (died-can code (live_threads w c.caller-caller.result.process) w c.requires.can.close)
-
-pub end_told-requires-clause-single : goal.end_told-requires-clause-single
-end_told-requires-clause-single c =
-    let w = c.args.world.now.rows in
-    let code = code_status c.args.code in
-    let left = ap (λ (l : Left). l.world) c.die_all.ensures.took in
-    rw (left, c.begin_call.ensures.rows) (died-single code (live_threads w c.caller-caller.result.process) w c.requires.can.single)
-
-pub returns-in-Current-clause-served : goal.returns-in-Current-clause-served
-returns-in-Current-clause-served c =
+pub returns-in-Ok-clause-served : goal.returns-in-Ok-clause-served
+returns-in-Ok-clause-served c =
     let old = c.args.world.now in
-    let counted = c.begin_call.new.self in
-    let dead = c.die_all.new.world in
-    let new = c.end_told.new.world in
-    let before = c.args.out.now in
-    let after = c.end_told.new.out in
-    let tid = c.args.by in
-    let pid = c.caller-caller.result.process in
-    let dies : Steps = dying_all (code_status c.args.code) pid in
-    let tells : Steps = telling_ends pid in
-    let both = took-then dies tells counted dead new before c.die_all.new.out after c.die_all.ensures.took c.end_told.ensures.took in
-    let took = took-counted (dies ▹ tells) old counted new before after c.begin_call.ensures.rows c.begin_call.ensures.loose both in
-    let same = ap (λ (t : ThreadRow). t.process) c.caller-caller.ensures.row in
-    let is = ap (λ p. (dying_all (code_status c.args.code) p ▹ telling_ends p) old.rows) same ∙ process-ends-own old.rows tid c.args.code c.requires.can c.requires.ready in
-    rw (c.in-Current.is) (record {
-      takes = subst (λ bs. Took bs old new before after) is took;
-      outcome = process-gone old.rows tid c.args.code c.requires.ready;
-      calls = c.end_told.ensures.calls ∙ (c.die_all.ensures.calls ∙ c.begin_call.ensures.calls);
-    })
+    let mid = c.begin_call.new.self in
+    let rows = c.begin_call.ensures.rows in
+    let number = ap (λ (x : ThreadRow). x.number) c.caller-caller.ensures.row in
+    let process = ap (λ (x : ThreadRow). x.process) c.caller-caller.ensures.row in
+    let found = subst (λ (w : World). living_process w (caller w c.args.by) c.args.target ≡ Ok c.in-Ok.pid) rows (sym c.living_process.ensures.process ∙ c.in-Ok.is) in
+    served-process c.args.by c.args.code c.args.target c.in-Ok.pid _ c.answer_unless-outcome.result old mid c.end_threads.new.world c.args.out.now c.answer_unless-outcome.new.out c.end_threads.new.out found
+    (ap (λ m. c.in-Ok.pid == m) process) rows c.begin_call.ensures.loose (rw number at c.answer_unless-outcome.ensures.list) c.end_threads.ensures.took c.answer_unless-outcome.ensures.outcome (c.end_threads.ensures.calls ∙ c.begin_call.ensures.calls)
 
-pub returns-in-By-clause-served : goal.returns-in-By-clause-served
-returns-in-By-clause-served c =
+pub returns-in-Err-clause-served : goal.returns-in-Err-clause-served
+returns-in-Err-clause-served c =
     let old = c.args.world.now in
-    let tid = c.args.by in
-    let number = ap (λ (t : ThreadRow). t.number) c.caller-caller.ensures.row in
-    let refused = rw (c.begin_call.ensures.rows) at c.refusal-status.ensures in
-    rw (c.in-By.is) (served-refusal tid (caller old.rows tid).number (terminate_process (By c.in-By.handle) c.args.code) NtTerminateProcess c.refusal-status.result c.refuse.result old c.begin_call.new.self c.args.out.now c.refuse.new.out
-    (process-refused old.rows (caller old.rows tid) c.in-By.handle c.args.code c.refusal-status.result refused)
-    c.begin_call.ensures.rows c.begin_call.ensures.loose c.begin_call.ensures.calls (rw number at c.refuse.ensures.list) c.refuse.ensures.outcome)
+    let mid = c.begin_call.new.self in
+    let rows = c.begin_call.ensures.rows in
+    let number = ap (λ (x : ThreadRow). x.number) c.caller-caller.ensures.row in
+    let found = subst (λ (w : World). living_process w (caller w c.args.by) c.args.target ≡ Err c.in-Err.status) rows (sym c.living_process.ensures.process ∙ c.in-Err.is) in
+    served-process-refused c.args.by c.args.code c.args.target c.in-Err.status c.refuse.result old mid c.args.out.now c.refuse.new.out found rows c.begin_call.ensures.loose c.begin_call.ensures.calls (rw number at c.refuse.ensures.list) c.refuse.ensures.outcome
