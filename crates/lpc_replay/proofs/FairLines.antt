@@ -5,7 +5,7 @@ use Rattle.lpc_base.specs.declared.status.Status.{Status}
 use Rattle.lpc_model.specs.Basics.{Tells}
 use Rattle.lpc_model.specs.Connect.{nt_connect_port}
 use Rattle.lpc_model.specs.Found.{live_thread, wait_of}
-use Rattle.lpc_model.specs.Lines.{ScriptCall, ScriptLine, accept_connect_port, boot, close, complete_connect_port, connect_port, create_port, dir, duplicate_object, link, listen_port, query_object, register_thread_terminate_port, reply_port, reply_wait_receive_port, request_port, request_wait_reply_port, run, terminate_process, terminate_thread, thread}
+use Rattle.lpc_model.specs.Lines.{ScriptCall, ScriptLine, accept_connect_port, boot, close, complete_connect_port, connect_port, create_port, create_process, create_thread, dir, duplicate_object, link, listen_port, query_object, register_thread_terminate_port, reply_port, reply_wait_receive_port, request_port, request_wait_reply_port, run, terminate_process, terminate_thread, thread}
 use Rattle.lpc_model.specs.Machine.{bare_steps, boot_line, dir_line, link_line, name_of_call, ready_steps, service_of, steps, thread_line, thread_steps}
 use Rattle.lpc_model.specs.Request.{nt_request_wait_reply_port}
 use Rattle.lpc_model.specs.World.{ThreadRow, WaitRow, World}
@@ -21,7 +21,7 @@ use Rattle.lpc_replay.proofs.FairAccept.{accept_fair}
 use Rattle.lpc_replay.proofs.FairClose.{close_fair}
 use Rattle.lpc_replay.proofs.FairComplete.{complete_fair}
 use Rattle.lpc_replay.proofs.FairConnect.{connect_fails, connect_fair}
-use Rattle.lpc_replay.proofs.FairCounts.{duplicate_fair, query_fair}
+use Rattle.lpc_replay.proofs.FairCounts.{create_process_fair, create_thread_fair, duplicate_fair, query_fair}
 use Rattle.lpc_replay.proofs.FairCreate.{create_fair}
 use Rattle.lpc_replay.proofs.FairDatagram.{datagram_fair}
 use Rattle.lpc_replay.proofs.FairDirectives.{boot_fair, dir_fair, further_fair, link_fair}
@@ -47,6 +47,8 @@ service_fair w tid by (register_thread_terminate_port handle) are live safe h = 
 service_fair w tid by (close handle) are live safe h = close_fair w tid by handle live h
 service_fair w tid by (duplicate_object handle access) are live safe h = duplicate_fair w _ by handle access
 service_fair w tid by (query_object handle) are live safe h = query_fair w _ by handle
+service_fair w tid by (create_process pid new) are live safe h = create_process_fair w _ by pid new
+service_fair w tid by (create_thread target new) are live safe h = create_thread_fair w _ by target new
 service_fair w tid by (terminate_thread target code) are live safe h = terminate_thread_fair w tid by target code live safe h
 service_fair w tid by (terminate_process target code) are live safe h = terminate_process_fair w tid by target code live safe h
 
@@ -65,6 +67,8 @@ refused_fair w line by (register_thread_terminate_port handle) s is = (tt, tt)
 refused_fair w line by (close handle) s is = (tt, tt)
 refused_fair w line by (duplicate_object handle access) s is = (tt, tt)
 refused_fair w line by (query_object handle) s is = (tt, tt)
+refused_fair w line by (create_process pid new) s is = (tt, tt)
+refused_fair w line by (create_thread target new) s is = (tt, tt)
 refused_fair w line by (terminate_thread target code) s is = (tt, tt)
 refused_fair w line by (terminate_process target code) s is = (tt, tt)
 

@@ -15,7 +15,8 @@ use Rattle.lpc_model.specs.declared.entry.CallName.TheVariants.{NtTerminateProce
 use Rattle.lpc_model.specs.declared.line.ProcArg.{ProcArg}
 use Rattle.lpc_model.specs.Basics.{Basic, DropsHandle, basic, in_turn, world_after}
 use Rattle.lpc_model.specs.Close.{close_handle, close_port, is_accepted_across, is_last, is_offered_to}
-use Rattle.lpc_model.specs.Death.{answer_unless, code_status, die, end_process, end_threads, nt_terminate_process, nt_terminate_thread, post_deaths, process_target}
+use Rattle.lpc_model.specs.Death.{answer_unless, code_status, die, end_process, end_threads, nt_terminate_process, nt_terminate_thread, post_deaths}
+use Rattle.lpc_model.specs.Targets.{process_target}
 use Rattle.lpc_model.specs.Fields.{info}
 use Rattle.lpc_model.specs.Found.{handles_of, is_live, is_live_thread, live_thread, live_threads, lives_in}
 use Rattle.lpc_model.specs.Lines.{ScriptLine, run, terminate_process, terminate_thread}

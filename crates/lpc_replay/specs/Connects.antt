@@ -19,7 +19,7 @@ use Rattle.lpc_model.specs.Lines.{ScriptCall, ScriptLine, accept_connect_port, c
 use Rattle.lpc_model.specs.Close.{is_accepted_across, is_last, is_offered_to}
 use Rattle.lpc_model.specs.Tests.{own_handle}
 use Rattle.lpc_model.specs.Connect.{Completable, ConnectAnswer, answer_of, answer_test, complete_test}
-use Rattle.lpc_model.specs.Death.{process_target, thread_target}
+use Rattle.lpc_model.specs.Targets.{process_target, thread_target}
 use Rattle.lpc_model.specs.Machine.{step}
 
 -- A completion wakes the thread: the call's handle names a server port that can be completed, on whose other end the

@@ -3,6 +3,7 @@ ghost use Rattle.std.specs.Prelude.{ℕ, List};
 ghost use Rattle.lpc_model.specs.Worked.{WorkedTranscripts};
 ghost use Rattle.lpc_model.specs.WorkedConnections.{WorkedConnections};
 ghost use Rattle.lpc_model.specs.WorkedClosings.{WorkedClosings};
+ghost use Rattle.lpc_model.specs.WorkedCreations.{WorkedCreations};
 ghost use Rattle.lpc_model.specs.WorkedEndings.{WorkedEndings};
 ghost use Rattle.lpc_replay.specs.Laws.{ConnectsReturn, MisfitsRefused, RefusalsIdle, RefusalsStay, RequestsReturn, WaitsEnd};
 
@@ -37,4 +38,5 @@ pub fn law_worked_transcripts()
     ensures connections { WorkedConnections }
     ensures closings { WorkedClosings }
     ensures endings { WorkedEndings }
+    ensures creations { WorkedCreations }
 {}

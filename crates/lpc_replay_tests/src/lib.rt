@@ -9,6 +9,8 @@ mod common;
 #[cfg(test)]
 mod connections;
 #[cfg(test)]
+mod creations;
+#[cfg(test)]
 mod endings;
 #[cfg(test)]
 mod replay;

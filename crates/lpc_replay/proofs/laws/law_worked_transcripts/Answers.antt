@@ -1,5 +1,6 @@
 use Rattle.lpc_model.proofs.WorkedClosings.{worked_closings}
 use Rattle.lpc_model.proofs.WorkedConnections.{worked_connections}
+use Rattle.lpc_model.proofs.WorkedCreations.{worked_creations}
 use Rattle.lpc_model.proofs.WorkedEndings.{worked_endings}
 use Rattle.lpc_model.proofs.WorkedTranscripts.{worked_transcripts}
 use Rattle.lpc_replay.proofs.laws.law_worked_transcripts.Goals as goal
@@ -15,3 +16,6 @@ returns-clause-closings c = worked_closings
 
 pub returns-clause-endings : goal.returns-clause-endings
 returns-clause-endings c = worked_endings
+
+pub returns-clause-creations : goal.returns-clause-creations
+returns-clause-creations c = worked_creations
