@@ -97,6 +97,19 @@ def endings(lines):
         yield "24 NtClose 8"
 
 
+def creations(lines):
+    """A process makes another with two threads, ends one thread and then the process, and closes what it held."""
+    yield from ("boot 20 24",)
+    for child in range(1_000, 1_000 + (lines - 1) // 7):
+        yield f"24 NtCreateProcess {child} {2 * child}"
+        yield f"24 NtCreateThread 4 {2 * child + 1}"
+        yield "24 NtTerminateThread 8 0"
+        yield "24 NtTerminateProcess 4 0"
+        yield "24 NtClose 4"
+        yield "24 NtClose 8"
+        yield "24 NtClose 12"
+
+
 def peak(process):
     """The highest resident size of a running process so far, in MiB; 0 where it has ended."""
     try:
@@ -128,7 +141,14 @@ def main():
     print("| Script | Lines | Seconds | Lines a second | Peak memory, MiB | Status |")
     print("|---|---|---|---|---|---|")
     with tempfile.TemporaryDirectory() as folder:
-        kinds = ((requests, LONG), (datagrams, LONG), (closings, LONG), (endings, LONG), (connects, SHORT))
+        kinds = (
+            (requests, LONG),
+            (datagrams, LONG),
+            (closings, LONG),
+            (endings, LONG),
+            (creations, LONG),
+            (connects, SHORT),
+        )
         for kind, sizes in kinds:
             for size in sizes:
                 text = list(kind(size))

@@ -2,9 +2,7 @@
 
 CALLS = {
     "NtCallbackReturn",
-    "NtCreateProcess",
     "NtCreateSection",
-    "NtCreateThread",
     "NtCreateWaitablePort",
     "NtImpersonateClientOfPort",
     "NtImpersonateThread",

@@ -11,6 +11,7 @@ LATIN = 0x100
 # The fields that show a number: what the number is.
 NUMBERS = {
     "h": "handle",
+    "thread": "handle of its thread",
     "id": "identifier",
     "max": "longest message",
     "handles": "handles",
@@ -74,7 +75,7 @@ def of_field(found, name, value):
         return [_row("context", f"{value} ({int(value, 16)})")]
     if name == "access":
         use = "with" if int(value, 16) & USE_RIGHT else "without"
-        return [_row("access", f"{value}, {use} the right to use the port")]
+        return [_row("access", f"{value}, {use} the right to use the {found.field('type') or 'object'}")]
     if name == "type":
         return [_row("kind of object", value)]
     return [_row(NUMBERS[name], f"{value} bytes with its header" if name == "max" else value)]
@@ -97,11 +98,17 @@ def of_message(found):
     ]
     rows += of_data(found.data, "data")
     if found.type in (message.PORT_CLOSED, message.CLIENT_DIED) and len(found.data) == BIRTH.size:
-        maker, number = BIRTH.unpack(found.data)
-        closed = found.type == message.PORT_CLOSED
-        told = f"thread {maker}, the port that it made as number {number}" if closed else f"thread {number} died"
-        rows.append(_row("", f"({told})"))
+        rows.append(_row("", f"({_of_birth(found, *BIRTH.unpack(found.data))})"))
     return ["message", *(f"  {it}" for it in rows)]
+
+
+def _of_birth(found, maker, number):
+    """What the data of an end tell: who made the port or the thread, and as which of all things that it made."""
+    if found.type == message.PORT_CLOSED:
+        return f"thread {maker}, the port that it made as number {number}"
+    if maker:
+        return f"thread {found.thread} died, which thread {maker} made as number {number}"
+    return f"thread {number} died"
 
 
 def of_data(found, label):

@@ -52,13 +52,13 @@ class Step:
                 known = self.own = self.own or entry
             if known is not entry:
                 self.further.append(entry)
-        self.own_is_first = self.own is None or all(it.kind != "wake" for it in entries[: entries.index(self.own)])
+        self.first = entries[0] if entries else None
         kinds = [it.kind for it in entries if it is not self.own]
         self.deaths_are_first = kinds == sorted(kinds, key=lambda it: it != "died")
 
     def maker(self):
         """The call or directive of the line, as far as it is told; `died` where the line ends threads."""
-        return self.own.call if self.own else "died" if self.deaths else None
+        return "died" if self.deaths else self.own.call if self.own else None
 
 
 def steps(transcript):
@@ -114,8 +114,8 @@ def _of_step(line, wanted, got, context):
         whose = f"of thread {entry.thread}" if entry.kind in ("died", "wake") else "of the line's own thread"
         rule, means = reasons.rule("*", "own"), reasons.MEANS["further"]
         found.append(Difference(line, None, entry, f"a further entry {whose}", rule, means))
-    if wanted.own_is_first and not got.own_is_first:
-        says = "the entry of the line's own thread stands behind a wake"
+    if wanted.own and wanted.own is wanted.first and got.own and got.own is not got.first:
+        says = f"the entry of the line's own thread stands behind a {'wake' if got.first.kind == 'wake' else 'death'}"
         found.append(Difference(line, wanted.own, got.own, says, reasons.rule("*", "first"), reasons.MEANS["first"]))
     return found + _of_wakes(line, wanted, got, maker, context)
 

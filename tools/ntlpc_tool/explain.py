@@ -203,7 +203,8 @@ class Explanation:
         if re.fullmatch(r"[0-9A-Fa-f]+", word):
             return ["hexadecimal digits have 0x before them", *self.tried(b"0x" + word.encode())]
         if word == "self":
-            return ["the word self stands for the handle of NtTerminateThread and NtTerminateProcess alone"]
+            calls = "NtCreateThread, NtTerminateThread and NtTerminateProcess"
+            return [f"the word self stands for the handle of {calls} alone"]
         return ["it isn't made of digits alone"]
 
     def why_out_of_range(self, word):

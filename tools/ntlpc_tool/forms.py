@@ -21,6 +21,8 @@ CALLS = {
     "NtReplyPort": ("H", "MSG"),
     "NtReplyWaitReceivePort": ("H", "[MSG]"),
     "NtRegisterThreadTerminatePort": ("H",),
+    "NtCreateProcess": ("PID", "TID"),
+    "NtCreateThread": ("H|self", "TID"),
     "NtTerminateThread": ("H|self", "CODE"),
     "NtTerminateProcess": ("H|self", "CODE"),
     "NtClose": ("H",),

@@ -81,6 +81,20 @@ REFUSALS = {
         ("c000021f", "the message fits no request through this port"),
     ),
     "NtRegisterThreadTerminatePort": (*HANDLE, ("c0000044", "the thread has registered 16 other ports")),
+    "NtCreateProcess": (
+        ("c0000035", "the number of the process or of the thread was used before"),
+        ("c0000044", "the caller's process has 64 live children"),
+        ("c0000044", "two handles more would be more than 256, threads that wait in a connect counted among them"),
+    ),
+    "NtCreateThread": (
+        NO_HANDLE,
+        ("c0000024", "the handle is one to something that is no process"),
+        ("c0000022", "the handle doesn't grant the right to make a thread of the process"),
+        ("c000000b", "the process has ended"),
+        ("c0000035", "the number of the thread was used before"),
+        ("c0000044", "the process has 64 live threads"),
+        ("c0000044", "the caller's process has 256 handles, its threads that wait in a connect counted among them"),
+    ),
     "NtTerminateThread": (
         NO_HANDLE,
         ("c0000024", "the handle is one to something that is no thread"),
@@ -143,7 +157,8 @@ RULES = {
         TRANSCRIPT,
     ),
     ("*", "first"): (
-        "The entry of the line's own thread is the first of its step, and the wakes follow it.",
+        "The entry of the line's own thread is the first of its step, and the threads that died and the wakes follow "
+        "it.",
         TRANSCRIPT,
     ),
     ("*", "thread"): (
@@ -151,17 +166,18 @@ RULES = {
         TRANSCRIPT,
     ),
     ("died", "own"): (
-        "A thread that ends itself has no answer, neither alone nor with its process: its own entry is that it died.",
+        "A thread that ends itself has no answer, neither alone nor with its process, by self or by a handle: its own "
+        "entry is that it died. One that ends others has its answer, and their deaths stand behind it.",
         ENDING,
     ),
     ("died", "who"): (
-        "NtTerminateThread ends the thread that calls, NtTerminateProcess all live threads of its process, in the "
+        "NtTerminateThread ends the thread that it names, NtTerminateProcess all live threads of the process, in the "
         "order in which they were made.",
         ENDING,
     ),
     ("died", "code"): ("A thread dies with the code of the call, in 8 hexadecimal digits.", ENDING),
     ("died", "first"): (
-        "All threads that a line ends die before it tells of anything else.",
+        "All threads that a line ends die before it tells of anything else, but for the answer of its call.",
         ENDING,
     ),
     ("*", "call"): ("An answer and a wait name the call of the line; a wake names the call that waited.", TRANSCRIPT),
@@ -216,6 +232,11 @@ RULES = {
         "once its handle is closed.",
         SHARED,
     ),
+    ("NtCreateProcess", "thread"): (
+        "The handle to the new process is the least multiple of 4, from 4, that no handle of the caller's process has, "
+        "and `thread`, the handle to its first thread, the next one that is free.",
+        of_call("NtCreateProcess"),
+    ),
     ("NtConnectPort", "h"): (
         "The client's handle is the least multiple of 4, from 4, that is free in its process when the connection is "
         "completed.",
@@ -237,19 +258,20 @@ RULES = {
         of_call("NtConnectPort"),
     ),
     ("NtQueryObject", "type"): (
-        "`type` is the kind of object that the handle names, `port` so far.",
+        "`type` is the kind of object that the handle names: `port`, `process` or `thread`.",
         of_call("NtQueryObject"),
     ),
     ("NtQueryObject", "access"): (
-        "`access` is what this very handle grants: 001f0001 for a new port's, and for a duplicate's the ACCESS that "
-        "was given, or for `same` what the other handle grants.",
+        "`access` is what this very handle grants: 001f0001 for a new port's, 00000001 for that of a new process or "
+        "thread, and for a duplicate's the ACCESS that was given, or for `same` what the other handle grants.",
         of_call("NtQueryObject"),
     ),
-    ("NtQueryObject", "handles"): ("`handles` is how many handles name the port.", of_call("NtQueryObject")),
+    ("NtQueryObject", "handles"): ("`handles` is how many handles name the object.", of_call("NtQueryObject")),
     ("NtQueryObject", "pointers"): (
-        "`pointers` counts the handles to the port, the ports whose other end it is, the client and server ports whose"
-        " connection port it is, the queued messages that were sent on it, the waits that were made on it, and the "
-        "live threads that registered it.",
+        "`pointers` counts the handles to the object. For a port it also counts the ports whose other end it is, the "
+        "client and server ports whose connection port it is, the queued messages that were sent on it, the waits that "
+        "were made on it, and the live threads that registered it; for a process its live threads; for a thread one "
+        "while it lives.",
         of_call("NtQueryObject"),
     ),
     # Messages.
@@ -285,12 +307,12 @@ RULES = {
     ("*", "which bytes"): (_SENT, WRITTEN),
     ("*", "which closing"): (
         "The data of a client port's end are 8 bytes, low bytes first: the number of the thread that connected, and "
-        "which of the ports that this thread has made the client port was, from 1.",
+        "which of the things that this thread has made the client port was, from 1: ports, processes and threads.",
         TOLD,
     ),
     ("*", "which death"): (
-        "The data of a thread's end are 8 bytes, low bytes first: who made the thread, 0 for a directive, and then the "
-        "thread's number.",
+        "The data of a thread's end are 8 bytes, low bytes first: the thread that made it, and which of the things "
+        "that this one has made it was, from 1; for a thread of a directive 0, and its own number.",
         DIED,
     ),
     # Wakes, by the call of the line and the call that waited.
@@ -362,9 +384,10 @@ RULES = {
     ),
     ("end", "ENTRIES"): ("The second number is how many entries were printed.", TRANSCRIPT),
     ("end", "OBJECTS"): (
-        "Live threads, their processes and the ports that are left are counted. A port that nothing names any longer "
-        "goes at the end of the line: no handle, no port as its other end or its connection port, no queued message "
-        "that was sent on it, no wait that was made on it, and no live thread that registered it.",
+        "Processes, threads and ports that are left are counted: live threads and their processes, those that have "
+        "ended and that a handle names, and ports. A port that nothing names any longer goes at the end of the line: "
+        "no handle, no port as its other end or its connection port, no queued message that was sent on it, no wait "
+        "that was made on it, and no live thread that registered it.",
         SHARED,
     ),
     ("stop", "LINE"): ("The script stops at its first faulty line; the lines before it are run and printed.", FAULTS),
@@ -411,10 +434,11 @@ MEANS = {
     "returns": "the call returns at once, where it has to wait",
     "fields": "its answer has other parts",
     "h=": "it counts other handles of the process as taken",
+    "thread=": "it counts other handles of the process as taken",
     "id=": "the thread drew more or fewer identifiers before this line",
     "ctx=": "the message came with the context of another connection, or of none",
-    "handles=": "more or fewer handles name the port there",
-    "pointers=": "more or fewer rows count for the port there",
+    "handles=": "more or fewer handles name the object there",
+    "pointers=": "more or fewer rows count for the object there",
     "value": "it tells another value",
     "which message": "it took another message from the queue than the oldest one",
     "port closed": "nothing told the server that the client's port closed",

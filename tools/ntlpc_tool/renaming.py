@@ -8,6 +8,9 @@ import dataclasses
 
 from ntlpc_tool import facts, script_lines, statuses
 
+# The fields that show a new handle.
+HANDLES = ("h", "thread")
+
 
 class Bijection:
     """Pairs of a wanted name and the got one, by whose names they are."""
@@ -47,9 +50,9 @@ class Renaming:
         problems, fields = [], []
         for name, value in got.fields:
             right = wanted.field(name)
-            if name in ("h", "id") and right is not None:
+            if name in (*HANDLES, "id") and right is not None:
                 bijection, whose, told = self._kind(name, wanted)
-                wrong = bijection.fit(whose, int(right), int(value), new=name == "h" and self.script is not None)
+                wrong = bijection.fit(whose, int(right), int(value), new=name in HANDLES and self.script is not None)
                 problems += [f"{told}: {wrong}"] if wrong else []
                 value = value if wrong else right
             fields.append((name, value))

@@ -5,7 +5,9 @@ transcript has an entry.
 """
 from ntlpc_tool import inputs, statuses
 
+# The places of the process and the thread among a line's words; those of what a call makes.
 DIRECTIVES_OF_THREADS = {"boot": (1, 2), "thread": (2, 1)}
+CALLS_OF_THREADS = {"NtCreateProcess": (2, 3), "NtCreateThread": (3,)}
 
 
 class Script:
@@ -24,15 +26,41 @@ class Script:
         return [] if text.startswith("#") else [it for it in text.split(" ") if it]
 
     def processes(self, transcript):
-        """The process of each thread that a directive made, where the transcript tells that it did."""
-        found = {}
+        """The process of each thread that a directive or a call made, where the transcript tells that it did."""
+        found, handles = {}, {}
         for entry in transcript.entries:
             places = DIRECTIVES_OF_THREADS.get(entry.call)
             words = self.words(entry.line)
-            if places and entry.kind == "directive" and entry.status == statuses.SUCCESS and len(words) == 3:
+            if entry.status != statuses.SUCCESS:
+                continue
+            if places and entry.kind == "directive" and len(words) == 3:
                 process, thread = (number(words[it]) for it in places)
                 found[thread] = process
+            elif entry.kind == "answer" and len(words) == 4:
+                _follow(entry, words, found, handles)
         return found
+
+
+def _follow(entry, words, found, handles):
+    """Adds what a call made: the process of a thread, and the process that a handle of the caller's process names.
+
+    A handle that is closed needs no care: a call that takes it for one to a process is refused.
+    """
+    owner, value = found.get(entry.thread), entry.field("h")
+    named = owner if words[2] == "self" else handles.get((owner, number(words[2])))
+    if entry.call == "NtCreateProcess":
+        named = found[number(words[3])] = number(words[2])
+    if entry.call == "NtCreateThread" and named is not None:
+        found[number(words[3])] = named
+    elif entry.call in ("NtCreateProcess", "NtDuplicateObject") and value is not None:
+        handles[owner, int(value)] = named
+
+
+def made_by(words):
+    """Those of a line's words that name the processes and threads which it makes."""
+    call = words[1] if len(words) == 4 else ""
+    places = {"boot": (1, 2), "thread": (1,)}.get(words[0], ()) if len(words) == 3 else CALLS_OF_THREADS.get(call, ())
+    return [words[it] for it in places]
 
 
 def number(word):

@@ -154,7 +154,7 @@ class Picture:
         elif entry.call == "NtAcceptConnectPort":
             self._accepted(entry)
         elif entry.call not in ("NtReplyPort", "NtCompleteConnectPort"):
-            told = " ".join(f"{name}={value}" for name, value in entry.fields if name != "type")
+            told = " ".join(f"{name}={value}" for name, value in entry.fields if value != "port")
             self._note(entry.thread, "call", f"{entry.line} {self._words(entry)}{': ' * bool(told)}{told}")
 
     def _wait(self, entry, _):

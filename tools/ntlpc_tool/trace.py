@@ -82,8 +82,7 @@ class Trace:
         found = BINDING.fullmatch(text)
         name, text = found.groups() if found else (None, text)
         words = [it for it in text.split(" ") if it]
-        if words[:1] in (["boot"], ["thread"]):
-            self._name(words)
+        self._name(words)
         told = [self._word(it) for it in words]
         if name is not None:
             self._bind(name, told)
@@ -98,9 +97,8 @@ class Trace:
             self.process_of.setdefault(thread, process)
 
     def _name(self, words):
-        """Gives the names that a directive makes their numbers."""
-        made = words[1:3] if words[0] == "boot" else words[1:2]
-        for word in made:
+        """Gives the names that a directive or a call makes their numbers."""
+        for word in script_lines.made_by(words):
             found = NAME.fullmatch(word)
             if found and word in self.numbers:
                 raise self._wrong(f"{word} is bound twice; it is {self.numbers[word]} since line {self.bound_at[word]}")
@@ -128,7 +126,7 @@ class Trace:
             return f"r:{self._word(process)}.{self._word(thread)}.{self._identifier(identifier)}:{rest}"
         if word.startswith("@"):
             if word not in self.numbers:
-                raise self._wrong(f"{word} is unknown: no boot or thread line above makes it")
+                raise self._wrong(f"{word} is unknown: no line above makes it")
             return str(self.numbers[word])
         return self._value(word) if word.startswith("$") else word
 
@@ -159,7 +157,8 @@ class Trace:
         """The `P.T.M` of the message that a call received, or of the one that it sent."""
         symbol = self._symbol(name)
         if symbol.call not in RECEIVES:
-            return f"{symbol.process}.{symbol.thread}.{self._field(name, symbol, 'id')}"
+            identifier = self._field(name, symbol, "id")
+            return f"{self._process(symbol)}.{symbol.thread}.{identifier}"
         shown = message.Message.read(bytes.fromhex(self._raw(name, symbol, "msg")))
         return f"{shown.process}.{shown.thread}.{shown.message_id}"
 
@@ -176,6 +175,13 @@ class Trace:
         return value
 
     # What the program tells.
+
+    def _process(self, symbol):
+        """The process of a symbol's thread. That of a thread which a call made is told by what the program printed."""
+        if symbol.process is not None:
+            return symbol.process
+        script = script_lines.Script("\n".join(self.script).encode("latin-1"))
+        return script.processes(self._told).get(symbol.thread)
 
     def _raw(self, name, symbol, field):
         """A field of the answer or the wait of a symbol's call, or of the wake that ended it."""

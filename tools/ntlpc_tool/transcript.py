@@ -20,6 +20,7 @@ HEADER = "[0-9a-f]{%d}" % (2 * message.HEADER_SIZE)
 # The fields: the form of each value, and how it is told.
 FIELDS = {
     "h": (DECIMAL, "a decimal number"),
+    "thread": (DECIMAL, "a decimal number"),
     "id": (DECIMAL, "a decimal number"),
     "ctx": (HEX8, "8 hexadecimal digits in lower case"),
     "msg": (HEADER + BYTES, "at least 24 bytes, each as 2 hexadecimal digits in lower case"),

@@ -345,6 +345,52 @@ class Alignment(unittest.TestCase):
         self.assertEqual([(it.line, it.says) for it in found], [(3, "the entry is missing")])
 
 
+class EndsOfOthers(unittest.TestCase):
+    """A thread ends another process by a handle: its answer, who dies, and who wakes."""
+
+    CLOSED = message(5, 32, 36, 1, "2400000001000000")
+    LINES = [
+        "1 28 NtReplyWaitReceivePort wait",
+        "2 24 NtTerminateProcess 00000000",
+        "2 ~36 died 00000001",
+        f"2 *28 NtReplyWaitReceivePort 00000000 ctx=00000007 msg={CLOSED}",
+        "end 2 4 5",
+    ]
+
+    def check(self, got, *wanted):
+        found = [(it.says, it.rule, it.means) for it in between(self.LINES, got)]
+        self.assertEqual(found, [(says, reasons.RULES[key], reasons.MEANS[means]) for says, key, means in wanted])
+
+    def test_an_answer_behind_a_death(self):
+        got = [self.LINES[it] for it in (0, 2, 1, 3, 4)]
+        says = "the entry of the line's own thread stands behind a death"
+        self.check(got, (says, ("*", "first"), "first"))
+
+    def test_no_answer(self):
+        got = [self.LINES[it] for it in (0, 2, 3, 4)]
+        self.check(got, ("the entry is missing", ("*", "own"), "missing"))
+
+    def test_an_end_that_is_not_told(self):
+        got = [self.LINES[it] for it in (0, 1, 2, 4)]
+        self.check(got, ("thread 28 has to wake", ("*", "port closed"), "asleep"))
+
+    def test_a_thread_that_lives_on(self):
+        got = [self.LINES[it] for it in (0, 1, 3, 4)]
+        self.check(got, ("thread 36 has to die", ("died", "who"), "lives"))
+
+    def test_another_maker_in_the_data(self):
+        died = message(6, 32, 36, 0, "1800000002000000")
+        wanted = f"3 24 NtReplyWaitReceivePort 00000000 ctx=00000007 msg={died}"
+        (found,) = between([wanted], [wanted[:-16] + "0000000024000000"])
+        self.assertEqual(found.rule, reasons.RULES["*", "which death"])
+
+    def test_another_handle_to_the_thread(self):
+        wanted = "2 24 NtCreateProcess 00000000 h=4 thread=8"
+        (found,) = between([wanted], [wanted.replace("thread=8", "thread=12")])
+        self.assertEqual(found.rule, reasons.RULES["NtCreateProcess", "thread"])
+        self.assertEqual(found.means, reasons.MEANS["thread="])
+
+
 class Names(unittest.TestCase):
     """--up-to-names."""
 
@@ -400,6 +446,23 @@ class Names(unittest.TestCase):
         got = [*wanted[:2], "3 24 NtCreatePort 00000000 h=8", "4 36 NtCreatePort 00000000 h=12"]
         told = ["handles of process 20: 4 is 8", "handles of process 32: 4 is 12"]
         self.assertEqual(self.between(wanted, got, script), ([], told))
+
+    def test_both_handles_to_what_is_made(self):
+        script = b"boot 20 24\n24 NtCreateProcess 32 36\n24 NtClose 8\n24 NtCreateThread 4 40\n40 NtCreatePort -\n"
+        wanted = [
+            "1 - boot 00000000",
+            "2 24 NtCreateProcess 00000000 h=4 thread=8",
+            "3 24 NtClose 00000000",
+            "4 24 NtCreateThread 00000000 h=8",
+            "5 40 NtCreatePort 00000000 h=4",
+        ]
+        got = [wanted[0], "2 24 NtCreateProcess 00000000 h=20 thread=24", wanted[2]]
+        got += ["4 24 NtCreateThread 00000000 h=28", "5 40 NtCreatePort 00000000 h=16"]
+        told = ["handles of process 20: 4 is 20, 8 is 24, 8 is 28", "handles of process 32: 4 is 16"]
+        self.assertEqual(self.between(wanted, got, script), ([], told))
+        got[1] = "2 24 NtCreateProcess 00000000 h=20 thread=20"
+        found, _ = self.between(wanted, got, script)
+        self.assertEqual(found[0].says, "a handle of process 20: 8 is wanted, got 20, which stands for 4")
 
 
 class Command(support.WithFolder):

@@ -140,6 +140,15 @@ class Events(unittest.TestCase):
         ]
         self.assertEqual(mermaid(self.DEATHS)[-5:], wanted)
 
+    def test_a_thread_that_ends_another_process_has_its_call(self):
+        told = ["1 24 NtCreateProcess 00000000 h=4 thread=8", "2 24 NtTerminateProcess 00000000", "2 ~36 died 00000007"]
+        wanted = [
+            "Note over T24: 1 NtCreateProcess: h=4 thread=8",
+            "Note over T24: 2 NtTerminateProcess",
+            "Note over T36: 2 died, code 00000007",
+        ]
+        self.assertEqual(mermaid(told)[-3:], wanted)
+
     def test_the_thread_that_ends_the_others_is_the_scripts(self):
         script = b"28 NtReplyWaitReceivePort 4\n36 NtListenPort 4\n40 NtTerminateProcess self 7\n"
         wanted = [

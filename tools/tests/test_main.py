@@ -157,6 +157,7 @@ class Forms(unittest.TestCase):
             "NtReplyWaitReceivePort": "TID NtReplyWaitReceivePort H [MSG]",
             "NtAcceptConnectPort": "TID NtAcceptConnectPort CTX MSG accept|refuse VIEW",
             "NtDuplicateObject": "TID NtDuplicateObject H ACCESS|same",
+            "NtCreateThread": "TID NtCreateThread H|self TID",
             "NtTerminateThread": "TID NtTerminateThread H|self CODE",
             "NtTerminateProcess": "TID NtTerminateProcess H|self CODE",
         }

@@ -104,6 +104,21 @@ class Lines(unittest.TestCase):
         source = [BOOT[0], self.CONNECT[0], "40 NtReplyPort 4 r:@server.@main.$link:"]
         self.assertEqual(script_of(source, told)[2], "40 NtReplyPort 4 r:20.24.9:")
 
+    def test_what_a_call_makes_has_names(self):
+        made = ["$child = @main NtCreateProcess @client @ui", "24 NtCreateProcess 00000000 h=4 thread=8"]
+        more = ["$more = @main NtCreateThread $child @worker", "24 NtCreateThread 00000000 h=12"]
+        own = ["@main NtCreateThread self @own", "24 NtCreateThread 00000000 h=16"]
+        front = BOOT, made, more, own
+        self.assertEqual(self.of(BOOT, (made[0], None)), "24 NtCreateProcess 28 32")
+        self.assertEqual(self.of(BOOT, made, (more[0], None)), "24 NtCreateThread 4 36")
+        self.assertEqual(self.of(*front, ("@main NtTerminateThread $child.thread 0", None)), "24 NtTerminateThread 8 0")
+        for thread, client in (("ui", "28.32"), ("worker", "28.36"), ("own", "20.40")):
+            sent = [f"$sent = @{thread} NtRequestPort 4 d:", f"{client[3:]} NtRequestPort 00000000 id=3"]
+            reply = ("@main NtReplyPort 4 r:$sent:", None)
+            self.assertEqual(self.of(*front, sent, reply), f"24 NtReplyPort 4 r:{client}.3:")
+        twice = self.wrong(*front, ("@main NtCreateThread self @ui", None))
+        self.assertEqual(twice, "line 5: @ui is bound twice; it is 32 since line 2")
+
     def test_what_has_no_names_stays_as_it_is(self):
         source = ["# $a @b", "", "  dir  \\$x@y ", "link \\a.$b \\c", "boot 4 8", "r:x"]
         self.assertEqual(script_of(source, []), source)
@@ -122,12 +137,8 @@ class Lines(unittest.TestCase):
     # What can't become a script.
 
     def test_unknown_names(self):
-        self.assertEqual(
-            self.wrong(("@x NtClose 4", None)), "line 1: @x is unknown: no boot or thread line above makes it"
-        )
-        self.assertEqual(
-            self.wrong(BOOT, ("thread @t @p", None)), "line 2: @p is unknown: no boot or thread line above makes it"
-        )
+        self.assertEqual(self.wrong(("@x NtClose 4", None)), "line 1: @x is unknown: no line above makes it")
+        self.assertEqual(self.wrong(BOOT, ("thread @t @p", None)), "line 2: @p is unknown: no line above makes it")
         for word in ("$x", "$x.ctx", "r:$x:41", "r:1.2.$x:"):
             told = self.wrong(BOOT, (f"@main NtReplyPort 4 {word}", None))
             self.assertEqual(told, "line 2: $x is unknown: no line above binds it")

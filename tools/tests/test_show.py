@@ -139,6 +139,20 @@ end 2 4 3
         self.assertIn("(thread 36 died)", shown)
         self.assertEqual(shown[-1], "no thread waits")
 
+    def test_a_thread_that_a_call_made_is_told_with_its_maker(self):
+        died = b"08002000060000002000000024000000000000000000000018000000" + b"02000000"
+        told = [it.strip() for it in support.run("show", source=self.TRANSCRIPT % died).stdout.splitlines()]
+        self.assertIn("(thread 36 died, which thread 24 made as number 2)", told)
+
+    def test_what_makes_and_names_processes_is_told(self):
+        text = b"1 24 NtCreateProcess 00000000 h=4 thread=8\n"
+        text += b"2 24 NtQueryObject 00000000 type=process access=00000001 handles=1 pointers=2\n"
+        told = [" ".join(it.split()) for it in support.run("show", source=text).stdout.splitlines()]
+        self.assertEqual(told[1:3], ["handle 4", "handle of its thread 8"])
+        self.assertEqual(told[4:6], ["kind of object process", "access 00000001, with the right to use the process"])
+        lines = support.run("json", source=text).stdout.splitlines()
+        self.assertEqual(json.loads(lines[0])["fields"], {"h": 4, "thread": 8})
+
     def test_json_has_the_code_as_the_status(self):
         lines = support.run("json", source=self.TRANSCRIPT % self.DIED).stdout.splitlines()
         wanted = {"line": 2, "kind": "died", "thread": 40, "call": None, "status": "00000007"}
