@@ -19,7 +19,7 @@ use Rattle.lpc_model.proofs.LinkedSteps.{is_plain, plain-all}
 use Rattle.lpc_model.proofs.SoundTerminate.{die-safe, enter-safe, unregister-safe}
 use Rattle.lpc_model.proofs.Told.{hushed-enter}
 use Rattle.lpc_model.proofs.ToldLines.{die-hushed}
-use Rattle.lpc_model.proofs.Untold.{hushed-all}
+use Rattle.lpc_model.proofs.SingleClosings.{hushed-all}
 use Rattle.lpc_world.specs.Registered.{Death}
 use Rattle.lpc_death.specs.Closing.{CanCloseAll}
 use Rattle.lpc_death.specs.Dying.{dying, telling_one, told_row}
@@ -28,12 +28,12 @@ use Rattle.lpc_death.proofs.HandlesKept.{KeepHandles, keeps_handles, kept-all, k
 -- Threads that end
 dead-can : (code : Status) (t : ThreadRow) (w : World) → CanCloseAll w → CanCloseAll (behind (die code t) w)
 dead-can code t w can =
-    let untold = can.untold in
+    let untold = can.single_closings in
     let safe = die-safe code t w (record { sound = can.sound; shut = untold.connects }) in
     record {
       sound = safe.sound;
       linked = plain-all w (die code t w) (every-more is_ending is_plain ending-plain (die code t w) (die-ending code t w)) can.linked;
-      untold = hushed-all w (die code t w) (die-hushed code t w) untold;
+      single_closings = hushed-all w (die code t w) (die-hushed code t w) untold;
     }
 
 pub died-can : (code : Status) (ts : List ThreadRow) (w : World) → CanCloseAll w → CanCloseAll (behind_dead code ts w)
@@ -50,22 +50,22 @@ teller u = record { number = u.client.thread; process = u.client.process; birth 
 
 entered-can : (m : MessageRow) (w : World) → not (is_closed_post m) ≡ true → CanCloseAll w → CanCloseAll (behind (enter m) w)
 entered-can m w other can =
-    let untold = can.untold in
+    let untold = can.single_closings in
     let safe = enter-safe m w (record { sound = can.sound; shut = untold.connects }) in
     record {
       sound = safe.sound;
       linked = plain-all w (enter m w) (every-more is_ending is_plain ending-plain (enter m w) (ending-enter m w)) can.linked;
-      untold = hushed-all w (enter m w) (hushed-enter m w other) untold;
+      single_closings = hushed-all w (enter m w) (hushed-enter m w other) untold;
     }
 
 unregistered-can : (n : ℕ) (b : Birth) (w : World) → CanCloseAll w → CanCloseAll (basic w (Unregisters n b))
 unregistered-can n b w can =
-    let untold = can.untold in
+    let untold = can.single_closings in
     let safe = unregister-safe n b w (record { sound = can.sound; shut = untold.connects }) in
     record {
       sound = safe.sound;
       linked = plain-all w (Unregisters n b ∷ []) refl can.linked;
-      untold = hushed-all w (Unregisters n b ∷ []) refl untold;
+      single_closings = hushed-all w (Unregisters n b ∷ []) refl untold;
     }
 
 told-can : (u : Death) (w : World) → CanCloseAll w → CanCloseAll (behind (telling_one u) w)

@@ -7,7 +7,7 @@ use Rattle.lpc_model.specs.declared.entry.ObjectKind.TheVariants as kind
 use Rattle.lpc_model.specs.World.{Birth, MessageRow, PortRow, World}
 use Rattle.lpc_model.specs.Found.{port_row}
 use Rattle.lpc_model.specs.Basics.{AddsHandle, AddsProcess, Basic, DropsHandle, Empties, Frees, Unbinds, Wakes, Withdraws, basic, freed, world_after}
-use Rattle.lpc_model.specs.Close.{close_port, post_closed, told_of}
+use Rattle.lpc_model.specs.Close.{close_port, post_closed, closing_post}
 use Rattle.lpc_model.specs.Entering.{enter}
 use Rattle.lpc_model.proofs.Closing.{close-pass, stage_five, takes_away}
 use Rattle.lpc_model.proofs.LinkedSteps.{is_steady}
@@ -43,9 +43,9 @@ kept-given w (Some m) = every-more is_steady keeps_handles kept-steady (enter m 
 kept-post : (b : Birth) (w : World) → KeepHandles (post_closed b w)
 kept-post b w = at (port_row w b)
   where
-    at : (o : Option PortRow) → KeepHandles (given o (λ p. given (told_of w p) (λ m. enter m w)))
+    at : (o : Option PortRow) → KeepHandles (given o (λ p. given (closing_post w p) (λ m. enter m w)))
     at None = refl
-    at (Some p) = kept-given w (told_of w p)
+    at (Some p) = kept-given w (closing_post w p)
 
 freed-kept : (w : World) (kind : ObjectKind) (b : Birth) → (freed w kind b).handles ≡ w.handles
 freed-kept w kind.Port b = refl

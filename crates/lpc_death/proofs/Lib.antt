@@ -1,7 +1,7 @@
 pub mod Steps
 pub mod Posted
 pub mod HandlesKept
-pub mod Untold
+pub mod FreshClosings
 pub mod Paid
 pub mod Turns
 pub mod Five

@@ -8,9 +8,9 @@ use Rattle.lpc_base.proofs.RowWords.{every-append}
 use Rattle.lpc_model.specs.declared.entry.Outcome.TheVariants as outcome
 use Rattle.lpc_model.specs.World.{Birth, HandleRow, MessageRow, PortRow, ThreadRow, WaitRow, World}
 use Rattle.lpc_model.specs.Basics.{Basic, DropsHandle, Empties, Receives, Tells, Unbinds, Unregisters, Wakes, Withdraws, basic, in_turn, outcome_of}
-use Rattle.lpc_model.specs.Close.{close_handle, close_port, is_last, post_closed, told_of}
-use Rattle.lpc_model.specs.Death.{die, end_process, end_threads, post_death, post_deaths, told_death}
-use Rattle.lpc_model.specs.Entering.{enter, given_steps, receipt_steps, shown, takes, woken}
+use Rattle.lpc_model.specs.Close.{close_handle, close_port, is_last, post_closed, closing_post}
+use Rattle.lpc_model.specs.Death.{die, end_process, end_threads, post_death, post_deaths, death_post}
+use Rattle.lpc_model.specs.Entering.{enter, given_steps, received_steps, shown, takes, woken}
 use Rattle.lpc_model.specs.Found.{handles_of, is_live, port_row}
 use Rattle.lpc_model.specs.Message.{asks}
 use Rattle.lpc_model.proofs.Closing.{close-pass, stage_five, takes_away}
@@ -41,7 +41,7 @@ mute-away (Unbinds b) is = refl
 mute-away x is = absurd (cc)
 
 -- a message enters
-mute-receipt : (m : MessageRow) → AreMute (receipt_steps m)
+mute-receipt : (m : MessageRow) → AreMute (received_steps m)
 mute-receipt m = at (asks m.message)
   where
     at : (a : Bool) → every is_mute (when a (Receives m.message.header.client.thread m.queue ∷ [])) ≡ true
@@ -51,11 +51,11 @@ mute-receipt m = at (asks m.message)
 mute-given : (m : MessageRow) (x : WaitRow) → AreMute (given_steps x m ++ woken SUCCESS (shown x m) x ∷ [])
 mute-given m x =
     by_kind (λ x. every is_mute (given_steps x m ++ woken SUCCESS (shown x m) x ∷ []) ≡ true)
-    (λ x r. every-append is_mute (receipt_steps m) _ (mute-receipt m) refl)
-    (λ x. every-append is_mute (receipt_steps m) _ (mute-receipt m) refl)
-    (λ x. every-append is_mute (receipt_steps m) _ (mute-receipt m) refl)
-    (λ x r. every-append is_mute (receipt_steps m) _ (mute-receipt m) refl)
-    (λ x r reply. every-append is_mute (receipt_steps m) _ (mute-receipt m) refl) x
+    (λ x r. every-append is_mute (received_steps m) _ (mute-receipt m) refl)
+    (λ x. every-append is_mute (received_steps m) _ (mute-receipt m) refl)
+    (λ x. every-append is_mute (received_steps m) _ (mute-receipt m) refl)
+    (λ x r. every-append is_mute (received_steps m) _ (mute-receipt m) refl)
+    (λ x r reply. every-append is_mute (received_steps m) _ (mute-receipt m) refl) x
 
 mute-enter : (m : MessageRow) (w : World) → AreMute (enter m w)
 mute-enter m w = at (first (takes m) w.waits)
@@ -72,9 +72,9 @@ mute-told (Some m) w = mute-enter m w
 mute-closed : (b : Birth) (w : World) → AreMute (post_closed b w)
 mute-closed b w = at (port_row w b)
   where
-    at : (o : Option PortRow) → AreMute (given o (λ p. given (told_of w p) (λ m. enter m w)))
+    at : (o : Option PortRow) → AreMute (given o (λ p. given (closing_post w p) (λ m. enter m w)))
     at None = refl
-    at (Some p) = mute-told (told_of w p) w
+    at (Some p) = mute-told (closing_post w p) w
 
 mute-handle : (pid : ℕ) (r : HandleRow) (w : World) → AreMute (close_handle pid r w)
 mute-handle pid r w = at (is_last r w)
@@ -85,7 +85,7 @@ mute-handle pid r w = at (is_last r w)
 
 -- all of it
 mute-death : (t : ThreadRow) (b : Birth) (w : World) → AreMute (post_death t b w)
-mute-death t b w = mute-told (told_death (basic w (Unregisters t.number b)) t b) (basic w (Unregisters t.number b))
+mute-death t b w = mute-told (death_post (basic w (Unregisters t.number b)) t b) (basic w (Unregisters t.number b))
 
 mute-end : (pid : ℕ) (code : Status) (ts : List ThreadRow) (w : World) → AreMute (end_threads pid code ts w)
 unfolding end_threads

@@ -8,7 +8,7 @@ use Rattle.lpc_model.specs.declared.entry.ObjectKind.TheVariants as kind
 use Rattle.lpc_model.specs.World.{Birth, HandleRow, HandleTable, MessageRow, ObjectName, PortRow, World}
 use Rattle.lpc_model.specs.Found.{handle_at, handle_count, has_value, is_client_port, is_open, is_port, is_table, names_port, port_name, port_row, rows_in, same_birth}
 use Rattle.lpc_model.specs.Basics.{Basic, Completes, Cuts, DropsHandle, Frees, Joins, Makes, basic, completed, cut, is_end_of, without_handle, world_after}
-use Rattle.lpc_model.specs.Close.{close_port, told_of}
+use Rattle.lpc_model.specs.Close.{close_port, closing_post}
 use Rattle.lpc_model.specs.Tests.{handle_row}
 use Rattle.lpc_model.proofs.Births.{birth-same, birth-self}
 use Rattle.lpc_model.proofs.Closing.{cut-is, fewer-uncut, stage_five, uncut}
@@ -16,14 +16,14 @@ use Rattle.lpc_model.proofs.Handles.{open-count}
 use Rattle.lpc_model.proofs.LinkedClose.{port-steady}
 use Rattle.lpc_model.proofs.LinkedSteps.{is_steady}
 use Rattle.lpc_model.proofs.Rows.{count-change}
-use Rattle.lpc_model.proofs.Untold.{dropped-shut}
+use Rattle.lpc_model.proofs.SingleClosings.{dropped-shut}
 use Rattle.lpc_world.specs.Kept.{is_open_client, open_clients, owed_rows}
-use Rattle.lpc_world.specs.Untold.{is_client_of}
+use Rattle.lpc_world.specs.OwedClosings.{is_client_of}
 use Rattle.lpc_world.proofs.OwnMessages.{count-fewer, count-some, count-taken_by}
 use Rattle.lpc_world.proofs.Owed.{owed-drop}
 use Rattle.lpc_death.specs.Closing.{closes_last, closing_rows, last_rows}
 use Rattle.lpc_death.proofs.HandlesKept.{handles-kept}
-use Rattle.lpc_death.proofs.Untold.{client-row, count-both, counted-open, told-client}
+use Rattle.lpc_death.proofs.FreshClosings.{client-row, count-both, counted-open, told-client}
 
 -- A port stays of its kind while it is closed
 clients-step : (w : World) (s : Basic) (b : Birth) → is_steady s ≡ true → closing_rows (basic w s) b ≡ closing_rows w b
@@ -50,7 +50,7 @@ five-clients w b =
     ap (λ (v : World). closing_rows v b) (cut-is w b) ∙ (clients-step (uncut w b) (Cuts b) b refl ∙ ap (count (is_client_of b)) less.ports)
 
 -- and is a client port where its closing is told of
-pub told-rows : (w : World) (b : Birth) (p : PortRow) (m : MessageRow) → port_row w b ≡ Some p → told_of w p ≡ Some m → 1 ≤ closing_rows w b
+pub told-rows : (w : World) (b : Birth) (p : PortRow) (m : MessageRow) → port_row w b ≡ Some p → closing_post w p ≡ Some m → 1 ≤ closing_rows w b
 told-rows w b p m row told = count-some (is_client_of b) w.ports (client-row b w.ports p row (told-client w p m told))
 
 -- Handles of an object: without the handle that goes there is one less

@@ -19,7 +19,7 @@ use Rattle.lpc_model.proofs.LinkedClose.{handle-plain}
 use Rattle.lpc_model.proofs.LinkedSteps.{plain-all}
 use Rattle.lpc_model.proofs.SoundClose.{close_handle-sound}
 use Rattle.lpc_model.proofs.SoundQueues.{after-append}
-use Rattle.lpc_model.proofs.UntoldClose.{handle-untold}
+use Rattle.lpc_model.proofs.SingleClosingsClose.{handle-untold}
 use Rattle.lpc_world.specs.Does.{Left, left_by}
 use Rattle.lpc_world.specs.Shown.{shown_handle}
 use Rattle.lpc_steps.proofs.Composed.{left-then, left_further}
@@ -43,13 +43,13 @@ table-left w pid r there = ap (has (is_table pid)) (tables-left w pid r) ∙ (ha
 
 -- What is kept
 pub can-close : (w : World) → CanCloseAll w → CanClose w
-can-close w can = record { pairs = can.linked.pairs; untold = can.untold }
+can-close w can = record { pairs = can.linked.pairs; single_closings = can.single_closings }
 
 pub closed-can : (w : World) (pid : ℕ) (r : HandleRow) → handle_at w pid r.value ≡ Some r → CanCloseAll w → CanCloseAll (world_after w (close_handle pid r w))
 closed-can w pid r at can = record {
   sound = close_handle-sound w pid r at can.sound;
   linked = plain-all w (close_handle pid r w) (handle-plain w pid r) can.linked;
-  untold = handle-untold w pid r at can.sound can.untold;
+  single_closings = handle-untold w pid r at can.sound can.single_closings;
 }
 
 -- All handles: behind the first of them, what is left to be done leaves what all of it leaves

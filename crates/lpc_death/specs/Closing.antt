@@ -7,21 +7,21 @@ use Rattle.lpc_model.specs.Close.{close_port}
 use Rattle.lpc_model.specs.Found.{handle_count, same_kind}
 use Rattle.lpc_model.specs.Linked.{IsLinked}
 use Rattle.lpc_model.specs.SoundWaits.{IsSoundWorld}
-use Rattle.lpc_model.specs.Untold.{IsUntold, is_closing_of}
+use Rattle.lpc_model.specs.SingleClosings.{HasSingleClosings, is_closing_of}
 use Rattle.lpc_model.specs.World.{Birth, ObjectName, World}
 use Rattle.lpc_world.specs.Closing.{HasMutualPairs}
-use Rattle.lpc_world.specs.Untold.{is_client_of}
+use Rattle.lpc_world.specs.OwedClosings.{is_client_of}
 
 -- a handle can be closed: the other end of each port is the other's, and of an open port no message tells that it is closed
 pub record CanClose (w : World) : Type 0 where
   pub pairs : HasMutualPairs w
-  pub untold : IsUntold w
+  pub single_closings : HasSingleClosings w
 
 -- all handles of a process can be closed, one after the other: besides, waits are sound and ports linked
 pub record CanCloseAll (w : World) : Type 0 where
   pub sound : IsSoundWorld w
   pub linked : IsLinked w
-  pub untold : IsUntold w
+  pub single_closings : HasSingleClosings w
 
 -- a message in a queue tells that the port is closed
 abbrev pub is_told : World → Birth → Bool

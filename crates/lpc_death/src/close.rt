@@ -22,7 +22,7 @@ use lpc_handles::Row;
 use lpc_message::kind;
 use lpc_model::{CallName, Entries, Entry, Fields, Message, Outcome, refuse};
 use lpc_slots::Key;
-use lpc_steps::{Closed, deliver, end_all, own_handle, told_of};
+use lpc_steps::{Closed, deliver, end_all, own_handle, closing_post};
 use lpc_world::{Ending, Object, World};
 
 /// The message that tells of a closed port: it is of the connect that made the port, and names the port by its birth.
@@ -52,7 +52,7 @@ fn post_closed(world: &mut World, port: Key, out: &mut Entries)
     ensures spare { out.new.spare + length world.old.rows.waits
         ≡ out.old.spare + length world.new.rows.waits }
 {
-    if let Some(closed) = told_of(world, port) {
+    if let Some(closed) = closing_post(world, port) {
         let message = closed_message(&closed);
         deliver(world, closed.queue, port, closed.context, &message, out);
     }

@@ -21,7 +21,7 @@ use Rattle.lpc_model.specs.Found.{is_queued, is_queued_connect, waits_as}
 use Rattle.lpc_model.specs.Lines.{accept_connect_port, complete_connect_port, connect_port, create_port, listen_port, reply_port, reply_wait_receive_port, request_port, request_wait_reply_port}
 use Rattle.lpc_isolation.proofs.Served.{served}
 use Rattle.lpc_model.specs.Message.{message_test}
-use Rattle.lpc_model.specs.Request.{answered_test, datagram_start, nt_reply_port, nt_reply_wait_receive_port, nt_request_port, nt_request_wait_reply_port, receive_steps, receive_wait, request_start, sent_by}
+use Rattle.lpc_model.specs.Request.{reply_test, datagram_start, nt_reply_port, nt_reply_wait_receive_port, nt_request_port, nt_request_wait_reply_port, receive_steps, receive_wait, request_start, sent_by}
 use Rattle.lpc_model.specs.Request.{request_wait}
 use Rattle.lpc_model.specs.Tests.{port_test}
 use Rattle.lpc_model.specs.World.{Accepted, Birth, Connect, Listen, MessageRow, PortRow, Receive, Request, ThreadRow, WaitKind, WaitRow, World}
@@ -109,7 +109,7 @@ complete-asked : (m : Group) (c : ℕ) (w : World) (by : ThreadRow) (handle : �
 complete-asked m c w by handle a k = on-complete (AskedBy w) m c w w by handle k (λ r is.
     rw (settled-quiet w (is_accepted_on r.client) r.wait a (k.once r.wait.thread) is.found (accepted-settled r.client r.wait r.wait.kind refl (first-passes (is_accepted_on r.client) w.waits r.wait is.found))) refl)
 
-fit-quiet : (m : Group) (c : ℕ) (w : World) (by : ThreadRow) (p : PortRow) (b : Message) (x : WaitRow) → Asked w → Caller m c w w by → answered_test w p b ≡ Ok x → is_quiet w.messages x.thread ≡ true
+fit-quiet : (m : Group) (c : ℕ) (w : World) (by : ThreadRow) (p : PortRow) (b : Message) (x : WaitRow) → Asked w → Caller m c w w by → reply_test w p b ≡ Ok x → is_quiet w.messages x.thread ≡ true
 fit-quiet m c w by p b x a k at =
     let found = answered-fit w p b x at in
     let fit = first-passes (fits w p.birth b) w.waits x found in
@@ -118,7 +118,7 @@ fit-quiet m c w by p b x a k at =
 reply-asked : (m : Group) (c : ℕ) (w : World) (by : ThreadRow) (handle : ℕ) (bytes : List ℕ) → Asked w → Caller m c w w by → Holds (AskedBy w) (nt_reply_port w by handle bytes)
 unfolding nt_reply_port
 reply-asked m c w by handle bytes a k =
-    bind_holds (port_test w by handle) _ (AskedBy w) (λ p _. bind_holds (message_test bytes) _ (AskedBy w) (λ b _. bind_holds (answered_test w p b) _ (AskedBy w) (λ x at. rw (fit-quiet m c w by p b x a k at) refl)))
+    bind_holds (port_test w by handle) _ (AskedBy w) (λ p _. bind_holds (message_test bytes) _ (AskedBy w) (λ b _. bind_holds (reply_test w p b) _ (AskedBy w) (λ x at. rw (fit-quiet m c w by p b x a k at) refl)))
 
 abbrev received_rest : ThreadRow → PortRow → Birth → Option MessageRow → List Basic
 received_rest by p q (Some y) = take_steps y

@@ -14,7 +14,7 @@ use Rattle.lpc_model.specs.Found.{free_handle, is_queued, is_queued_connect}
 use Rattle.lpc_model.specs.Basics.{Accepts, AddsHandle, AddsProcess, AddsThread, Awaits, Basic, Binds, Completes, Cuts, DrawsIdentifier, DrawsOrdinal, DropsHandle, Empties, Enters, Frees, Joins, Makes, Receives, Takes, TakesConnect, Tells, Unbinds, Wakes, Withdraws, basic, world_after, Dies, Registers, Unregisters}
 use Rattle.lpc_model.specs.Entering.{given_steps, row_of, shown, take_connect_steps, take_steps, takes, woken}
 use Rattle.lpc_model.specs.Connect.{client_port, connect_start, connection_request, create_steps, listen_steps, making, named_steps, nt_create_port}
-use Rattle.lpc_model.specs.Request.{answered_test, datagram_start, nt_reply_port, receive_steps, reply, request_start, sent_by}
+use Rattle.lpc_model.specs.Request.{reply_test, datagram_start, nt_reply_port, receive_steps, reply, request_start, sent_by}
 use Rattle.lpc_model.specs.Tests.{handles_test, next_birth, port_test}
 use Rattle.lpc_model.specs.Lines.{accept_connect_port, complete_connect_port, connect_port, create_port, listen_port, reply_port, reply_wait_receive_port, request_port, request_wait_reply_port}
 use Rattle.lpc_isolation.proofs.Served.{served}
@@ -134,7 +134,7 @@ reply-none : (w : World) (by : ThreadRow) (handle : ℕ) (bytes : List ℕ) → 
 unfolding nt_reply_port
 reply-none w by handle bytes =
     let P : List Basic → Type 0 = λ bs. every binds_none bs ≡ true in
-    bind_holds (port_test w by handle) _ P (λ p _. bind_holds (message_test bytes) _ P (λ a _. bind_holds (answered_test w p a) _ P (λ x _. refl)))
+    bind_holds (port_test w by handle) _ P (λ p _. bind_holds (message_test bytes) _ P (λ a _. bind_holds (reply_test w p a) _ P (λ x _. refl)))
 
 -- what each call leaves of the names
 abbrev Bound : World → List Basic → Type 0

@@ -11,7 +11,7 @@ use Rattle.lpc_model.specs.World.{Birth, MessageRow, PortRow, ThreadRow, WaitRow
 use Rattle.lpc_model.specs.Found.{is_accepted, is_port, port_row, route, wait_of, waits_as}
 use Rattle.lpc_model.specs.Basics.{Basic, Dies, Enters, Steps, Unregisters, Withdraws, basic, doing, entries_of, world_after, ◌▹◌, Wakes, Empties, Unbinds}
 use Rattle.lpc_model.specs.Close.{cut_pair}
-use Rattle.lpc_model.specs.Death.{cut_accepted, die, died_message, post_death, told_death}
+use Rattle.lpc_model.specs.Death.{cut_accepted, die, died_message, post_death, death_post}
 use Rattle.lpc_model.specs.Entering.{enter, row_of, takes, given_steps, woken, shown}
 use Rattle.lpc_model.specs.Circle.{Group, Whose, owner}
 use Rattle.lpc_model.proofs.Births.{birth-same}
@@ -196,7 +196,7 @@ abbrev leaves : ℕ → Birth → Steps
 leaves n b = doing (Unregisters n b ∷ [])
 
 abbrev tells : ThreadRow → Birth → Steps
-tells t b w = given (told_death w t b) (λ y. enter y w)
+tells t b w = given (death_post w t b) (λ y. enter y w)
 
 abbrev died_row : ThreadRow → PortRow → Birth → MessageRow
 died_row t p q = row_of q p (died_message t)

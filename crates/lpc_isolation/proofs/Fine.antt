@@ -14,7 +14,7 @@ use Rattle.lpc_model.specs.Entering.{enter, given_steps, row_of, shown, take_con
 use Rattle.lpc_model.specs.Refusal.{refuse_if}
 use Rattle.lpc_model.specs.declared.message.Message.{Message}
 use Rattle.lpc_message.specs.declared.kind.TheConstants.{DATAGRAM, REQUEST}
-use Rattle.lpc_model.specs.Request.{answered_test, datagram_send_test, datagram_start, given_reply, nt_reply_port, nt_reply_wait_receive_port, nt_request_port, nt_request_wait_reply_port, optional_message, receive_steps, receive_test, receive_wait, request_start, send_test, sent_by}
+use Rattle.lpc_model.specs.Request.{reply_test, datagram_send_test, datagram_start, given_reply, nt_reply_port, nt_reply_wait_receive_port, nt_request_port, nt_request_wait_reply_port, optional_message, receive_steps, receive_test, receive_wait, request_start, send_test, sent_by}
 use Rattle.lpc_model.specs.Tests.{handles_test, next_birth, port_test}
 use Rattle.lpc_model.specs.Connect.{answer_test, complete_test, nt_accept_connect_port, nt_complete_connect_port, nt_listen_port, client_port, connect_wait, connection_request, listen_steps}
 use Rattle.lpc_model.specs.Lines.{accept_connect_port, complete_connect_port, connect_port, create_port, listen_port, reply_port, reply_wait_receive_port, request_port, request_wait_reply_port}
@@ -196,11 +196,11 @@ request-fine m c u by handle bytes = bind_holds (send_test u by handle bytes) _ 
 
 reply-fine : (m : Group) (c : ℕ) (u : World) (by : ThreadRow) (handle : ℕ) (bytes : List ℕ) → Holds (AreFine m c) (nt_reply_port u by handle bytes)
 unfolding nt_reply_port
-reply-fine m c u by handle bytes = bind_holds (port_test u by handle) _ (AreFine m c) (λ p _. bind_holds (message_test bytes) _ (AreFine m c) (λ b _. bind_holds (answered_test u p b) _ (AreFine m c) (λ x _. refl)))
+reply-fine m c u by handle bytes = bind_holds (port_test u by handle) _ (AreFine m c) (λ p _. bind_holds (message_test bytes) _ (AreFine m c) (λ b _. bind_holds (reply_test u p b) _ (AreFine m c) (λ x _. refl)))
 
 replied-fine : (m : Group) (c : ℕ) (u : World) (p : PortRow) (o : Option Message) → Holds (AreFine m c) (given_reply u p o)
 replied-fine m c u p None = refl
-replied-fine m c u p (Some b) = bind_holds (answered_test u p b) _ (AreFine m c) (λ x _. refl)
+replied-fine m c u p (Some b) = bind_holds (reply_test u p b) _ (AreFine m c) (λ x _. refl)
 
 received-fine : (m : Group) (c : ℕ) (by : ThreadRow) (p : PortRow) (q : Birth) (rs : List Basic) (o : Option MessageRow) → AreFine m c rs → AreFine m c (receive_steps by p q rs o)
 received-fine m c by p q rs None ok = every-append (makes_fine m c) rs (Awaits (receive_wait by p.birth q) ∷ []) ok refl

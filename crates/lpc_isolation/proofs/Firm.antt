@@ -6,33 +6,33 @@ use Rattle.lpc_model.specs.Machine.{bare_steps, step}
 use Rattle.lpc_model.specs.Linked.{IsLinked}
 use Rattle.lpc_model.specs.SoundWaits.{HasShutConnects, IsSoundWorld}
 use Rattle.lpc_model.specs.Standing.{NamesWhatStands}
-use Rattle.lpc_model.specs.Untold.{IsUntold}
+use Rattle.lpc_model.specs.SingleClosings.{HasSingleClosings}
 use Rattle.lpc_model.proofs.SoundLines.{line-sound, sound_none, sound_step}
 use Rattle.lpc_model.proofs.LinkedLines.{line_linked, linked_none, linked_step}
 use Rattle.lpc_model.proofs.StandingCalls.{names_line, names_none, names_step}
-use Rattle.lpc_model.proofs.UntoldLines.{untold_line, untold_none, untold_step}
+use Rattle.lpc_model.proofs.SingleClosingsLines.{untold_line, untold_none, untold_step}
 
 -- waits are sound, ports are linked, what rows name stands, and closings are told once
 pub record Firm (w : World) : Type 0 where
   pub sound : IsSoundWorld w
   pub linked : IsLinked w
   pub names : NamesWhatStands w
-  pub untold : IsUntold w
+  pub single_closings : HasSingleClosings w
 
 -- so no connect waits on an open port
 pub firm-shut : (w : World) → Firm w → HasShutConnects w
-firm-shut w f = let t = f.untold in t.connects
+firm-shut w f = let t = f.single_closings in t.connects
 
 -- before the first line, and behind each, before and behind the sweep
 pub firm_none : Firm no_rows
-firm_none = record { sound = sound_none; linked = linked_none; names = names_none; untold = untold_none }
+firm_none = record { sound = sound_none; linked = linked_none; names = names_none; single_closings = untold_none }
 
 pub firm-line : (w : World) (line : ScriptLine) → Firm w → Firm (world_after w (bare_steps line w))
 firm-line w line f = record {
   sound = line-sound w line f.sound (firm-shut w f);
   linked = line_linked w line f.sound f.linked;
   names = names_line w line f.sound (firm-shut w f) f.linked f.names;
-  untold = untold_line w line f.sound f.names f.untold;
+  single_closings = untold_line w line f.sound f.names f.single_closings;
 }
 
 pub firm-step : (w : World) (line : ScriptLine) → Firm w → Firm (step w line).world
@@ -40,5 +40,5 @@ firm-step w line f = record {
   sound = sound_step w line f.sound (firm-shut w f);
   linked = linked_step w line f.sound (firm-shut w f) f.linked;
   names = names_step w line f.sound (firm-shut w f) f.linked f.names;
-  untold = untold_step w line f.sound f.names f.untold;
+  single_closings = untold_step w line f.sound f.names f.single_closings;
 }

@@ -21,7 +21,7 @@ use Rattle.lpc_model.specs.Found.{fits, is_accepted, is_offered, is_queued, is_q
 use Rattle.lpc_model.specs.Basics.{Awaits, Basic, entries_of, world_after}
 use Rattle.lpc_model.specs.Entering.{enter, given_steps, row_of, shown, take_connect_steps, take_steps, takes, woken}
 use Rattle.lpc_model.specs.Connect.{connect_wait, connection_request, is_accepted_on, listen_steps, names_connect, nt_accept_connect_port, nt_complete_connect_port}
-use Rattle.lpc_model.specs.Request.{answered_test, datagram_start, datagram_steps, nt_reply_port, receive_steps, receive_wait, reply, request_start, request_steps, request_wait, sent_by}
+use Rattle.lpc_model.specs.Request.{reply_test, datagram_start, datagram_steps, nt_reply_port, receive_steps, receive_wait, reply, request_start, request_steps, request_wait, sent_by}
 use Rattle.lpc_model.specs.Tests.{port_test}
 use Rattle.lpc_model.specs.Lines.{ScriptCall, accept_connect_port, complete_connect_port, connect_port, create_port, listen_port, reply_port, reply_wait_receive_port, request_port, request_wait_reply_port}
 use Rattle.lpc_isolation.proofs.Served.{served}
@@ -84,7 +84,7 @@ complete-still m c u w by memo handle k = on-complete (Still m memo w) m c u w b
     let on : (is_accepted r.wait || (is_offered r.wait || is_request r.wait)) ≡ true = rw (one_of (is_accepted r.wait) (same_birth r.wait.port r.client) (first-passes (is_accepted_on r.client) w.waits r.wait is.found)) refl in
     (refl, rw (wake-silent m w (is_accepted_on r.client) r.wait k.once is.found on) refl))
 
-answer-silent : (m : Group) (c : ℕ) (u w : World) (by : ThreadRow) (p : PortRow) (b : Message) (x : WaitRow) → Caller m c u w by → answered_test w p b ≡ Ok x → not (passes (wait_of (view m w) x.thread) takes_any) ≡ true
+answer-silent : (m : Group) (c : ℕ) (u w : World) (by : ThreadRow) (p : PortRow) (b : Message) (x : WaitRow) → Caller m c u w by → reply_test w p b ≡ Ok x → not (passes (wait_of (view m w) x.thread) takes_any) ≡ true
 answer-silent m c u w by p b x k at =
     let found = answered-fit w p b x at in
     let fit = first-passes (fits w p.birth b) w.waits x found in
@@ -93,7 +93,7 @@ answer-silent m c u w by p b x k at =
 reply-still : (m : Group) (c : ℕ) (u w : World) (by : ThreadRow) (memo : List Heard) (handle : ℕ) (bytes : List ℕ) → Caller m c u w by → Holds (Still m memo w) (nt_reply_port w by handle bytes)
 unfolding nt_reply_port
 reply-still m c u w by memo handle bytes k =
-    bind_holds (port_test w by handle) _ (Still m memo w) (λ p _. bind_holds (message_test bytes) _ (Still m memo w) (λ b _. bind_holds (answered_test w p b) _ (Still m memo w) (λ x at.
+    bind_holds (port_test w by handle) _ (Still m memo w) (λ p _. bind_holds (message_test bytes) _ (Still m memo w) (λ b _. bind_holds (reply_test w p b) _ (Still m memo w) (λ x at.
     (refl, rw (answer-silent m c u w by p b x k at) refl))))
 
 create-still : (m : Group) (w : World) (by : ThreadRow) (memo : List Heard) (name : Option (List ℕ)) → Holds (Still m memo w) (served w by (create_port name))

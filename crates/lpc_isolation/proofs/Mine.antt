@@ -17,7 +17,7 @@ use Rattle.lpc_model.specs.Then.{◌>>=◌}
 use Rattle.lpc_model.specs.Refusal.{found_or, refuse_if}
 use Rattle.lpc_model.specs.World.{Birth, PortRow, ThreadRow, WaitRow, World}
 use Rattle.lpc_model.specs.Found.{fits, fitted, is_live_thread, is_port, is_request, is_the, live_thread, pair_of, port_row, same_birth}
-use Rattle.lpc_model.specs.Request.{answered_test, nt_reply_port}
+use Rattle.lpc_model.specs.Request.{reply_test, nt_reply_port}
 use Rattle.lpc_model.specs.Tests.{client_test, fit_test, is_client, port_test}
 use Rattle.lpc_model.proofs.Holding.{Holds, bind_holds, holds_ok, not_refused}
 use Rattle.lpc_model.specs.Circle.{Group, is_no_outsider, is_no_outsiders_thread, names_no_outsider, owner}
@@ -168,7 +168,7 @@ c-fitted m c w port a f ways port_in client_in =
     (every-both (is_fair_wait m c) (is_way m w) _ (λ x one two. both _ _ one two) w.waits f.waits ways)
 
 -- the answer of a message of c's
-pub c-answered : (m : Group) (c : ℕ) (w : World) (port : PortRow) (a : Message) → Fair m c w → Ways m w → m port.birth.process ≡ true → is_no_outsiders_thread m w a.header.client.thread ≡ true → answered_test (view m w) port a ≡ answered_test w port a
+pub c-answered : (m : Group) (c : ℕ) (w : World) (port : PortRow) (a : Message) → Fair m c w → Ways m w → m port.birth.process ≡ true → is_no_outsiders_thread m w a.header.client.thread ≡ true → reply_test (view m w) port a ≡ reply_test w port a
 c-answered m c w port a f ways port_in inside =
     ap (λ b. refuse_if (not b) INVALID_CID >>= (λ u. fit_test (view m w) port.birth a)) (c-client m c w a.header.client f inside)
     ∙ bind-same (client_test w a.header.client) (λ u. fit_test (view m w) port.birth a) (λ u. fit_test w port.birth a) (λ u is.
@@ -214,4 +214,4 @@ pub c-reply-ours : (m : Group) (w : World) (by : ThreadRow) (handle : ℕ) (byte
 unfolding nt_reply_port
 c-reply-ours m w by handle bytes =
     let P : List Basic → Type 0 = λ bs. are_ours m w bs ≡ true in
-    bind_holds (port_test w by handle) _ P (λ port _. bind_holds (message_test bytes) _ P (λ a _. bind_holds (answered_test w port a) _ P (λ x _. refl)))
+    bind_holds (port_test w by handle) _ P (λ port _. bind_holds (message_test bytes) _ P (λ a _. bind_holds (reply_test w port a) _ P (λ x _. refl)))

@@ -12,7 +12,7 @@ use Rattle.lpc_model.specs.Found.{fits, is_queued, is_queued_connect, wait_of, w
 use Rattle.lpc_model.specs.Basics.{Basic, world_after}
 use Rattle.lpc_model.specs.Entering.{enter, given_steps, row_of, shown, take_connect_steps, take_steps, takes, woken}
 use Rattle.lpc_model.specs.Connect.{client_port, connect_start, connection_request, listen_steps}
-use Rattle.lpc_model.specs.Request.{answered_test, datagram_start, request_start, nt_reply_port, receive_steps, reply, sent_by}
+use Rattle.lpc_model.specs.Request.{reply_test, datagram_start, request_start, nt_reply_port, receive_steps, reply, sent_by}
 use Rattle.lpc_model.specs.Lines.{accept_connect_port, complete_connect_port, connect_port, create_port, listen_port, reply_port, reply_wait_receive_port, request_port, request_wait_reply_port}
 use Rattle.lpc_isolation.proofs.Served.{served}
 use Rattle.lpc_model.specs.Message.{message_test}
@@ -89,7 +89,7 @@ reply-orderly : (w : World) (by : ThreadRow) (handle : ℕ) (bytes : List ℕ) �
 unfolding nt_reply_port
 reply-orderly w by handle bytes =
     let P : List Basic → Type 0 = λ bs. is_call_of w by.number bs ≡ true in
-    bind_holds (port_test w by handle) _ P (λ p _. bind_holds (message_test bytes) _ P (λ a _. bind_holds (answered_test w p a) _ P (λ x _. rw (same-number by.number) refl)))
+    bind_holds (port_test w by handle) _ P (λ p _. bind_holds (message_test bytes) _ P (λ a _. bind_holds (reply_test w p a) _ P (λ x _. rw (same-number by.number) refl)))
 
 -- of each call
 pub orderly-create : (m : Group) (c : ℕ) (u w : World) (by : ThreadRow) (name : Option (List ℕ)) → Caller m c u w by → Holds (λ bs. is_call_of w by.number bs ≡ true) (served w by (create_port name))

@@ -13,7 +13,7 @@ use Rattle.lpc_model.specs.Message.{asks}
 use Rattle.lpc_model.specs.Found.{if_open, is_client_port, is_open, is_port, port_row, wait_of, waits_as}
 use Rattle.lpc_model.specs.Basics.{Basic, Enters, basic, entries_of, world_after}
 use Rattle.lpc_model.specs.Entering.{enter, given_steps, shown, takes, woken}
-use Rattle.lpc_model.specs.Close.{closed_row, post_closed, server_of, told_of}
+use Rattle.lpc_model.specs.Close.{closed_row, post_closed, server_of, closing_post}
 use Rattle.lpc_model.proofs.Births.{birth-same, birth-self}
 use Rattle.lpc_model.specs.Circle.{Group, Whose, is_fine_client, is_fine_port, is_number, owner}
 use Rattle.lpc_isolation.proofs.View.{both, one_of, other_of, our_wait, same-number, seen_port, view}
@@ -101,7 +101,7 @@ on-post P w b none some = at (port_row w b) refl
     by-server p row None server = none
     by-server p row (Some q) server = by-creator p q row server p.creator refl
 
-    at : (o : Option PortRow) → port_row w b ≡ o → P (given o (λ p. given (told_of w p) (λ y. enter y w)))
+    at : (o : Option PortRow) → port_row w b ≡ o → P (given o (λ p. given (closing_post w p) (λ y. enter y w)))
     at None row = none
     at (Some p) row = by-server p row (server_of w p) refl
 
@@ -197,11 +197,11 @@ server-view m c u w b p s inside row = at (is_client_port p) p.completed refl
     at true false kind = refl
     at false d kind = refl
 
-told-view : (m : Group) (c : ℕ) (u w : World) (b : Birth) (p : PortRow) → Sure m c u w → m b.process ≡ true → port_row w b ≡ Some p → told_of (view m w) (seen_port m p) ≡ told_of w p
+told-view : (m : Group) (c : ℕ) (u w : World) (b : Birth) (p : PortRow) → Sure m c u w → m b.process ≡ true → port_row w b ≡ Some p → closing_post (view m w) (seen_port m p) ≡ closing_post w p
 told-view m c u w b p s inside row = ap (λ o. option_and_then (λ queue. option_map (closed_row p queue) p.creator) o) (server-view m c u w b p s inside row)
 
 post-view : (m : Group) (c : ℕ) (u w : World) (b : Birth) → Sure m c u w → m b.process ≡ true → post_closed b (view m w) ≡ post_closed b w
-post-view m c u w b s inside = ap (λ o. given o (λ p. given (told_of (view m w) p) (λ y. enter y (view m w)))) (port-view m w b inside) ∙ at (port_row w b) refl
+post-view m c u w b s inside = ap (λ o. given o (λ p. given (closing_post (view m w) p) (λ y. enter y (view m w)))) (port-view m w b inside) ∙ at (port_row w b) refl
   where
     by-creator : (p : PortRow) (q : Birth) → port_row w b ≡ Some p → server_of w p ≡ Some q → (o : Option Creator) → p.creator ≡ o → given (option_map (closed_row p q) o) (λ y. enter y (view m w)) ≡ given (option_map (closed_row p q) o) (λ y. enter y w)
     by-creator p q row server None made = refl
@@ -211,7 +211,7 @@ post-view m c u w b s inside = ap (λ o. given o (λ p. given (told_of (view m w
     by-server p row None server = refl
     by-server p row (Some q) server = by-creator p q row server p.creator refl
 
-    at : (o : Option PortRow) → port_row w b ≡ o → given (option_map (seen_port m) o) (λ p. given (told_of (view m w) p) (λ y. enter y (view m w))) ≡ given o (λ p. given (told_of w p) (λ y. enter y w))
+    at : (o : Option PortRow) → port_row w b ≡ o → given (option_map (seen_port m) o) (λ p. given (closing_post (view m w) p) (λ y. enter y (view m w))) ≡ given o (λ p. given (closing_post w p) (λ y. enter y w))
     at None row = refl
     at (Some p) row = ap (λ o. given o (λ y. enter y (view m w))) (told-view m c u w b p s inside row) ∙ by-server p row (server_of w p) refl
 

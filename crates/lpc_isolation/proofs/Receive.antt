@@ -19,7 +19,7 @@ use Rattle.lpc_model.specs.Then.{◌>>=◌}
 use Rattle.lpc_model.specs.World.{Birth, MessageRow, PortKind, PortRow, ThreadRow, WaitRow, World}
 use Rattle.lpc_model.specs.Found.{if_open, is_open, is_queued, is_server_port, queue_of, waits_as}
 use Rattle.lpc_model.specs.Basics.{Awaits, Basic, Tells, basic, entries_of, told, world_after}
-use Rattle.lpc_model.specs.Request.{answered_test, given_reply, is_spent, nt_reply_wait_receive_port, optional_message, receive_steps, receive_test, receive_wait, reply}
+use Rattle.lpc_model.specs.Request.{reply_test, given_reply, is_spent, nt_reply_wait_receive_port, optional_message, receive_steps, receive_test, receive_wait, reply}
 use Rattle.lpc_model.specs.Entering.{take_steps}
 use Rattle.lpc_model.specs.Tests.{port_test}
 use Rattle.lpc_model.proofs.Births.{birth-same}
@@ -114,11 +114,11 @@ on-receive P m c u w by handle bytes k then_ =
     })))))
 
 -- what the reply is
-pub replied-as : (P : List Basic → Type 0) (w : World) (p : PortRow) (a : Option Message) (replied : List Basic) → given_reply w p a ≡ Ok replied → (a ≡ None → P []) → ((b : Message) (x : WaitRow) → a ≡ Some b → answered_test w p b ≡ Ok x → P (reply x b ∷ [])) → P replied
+pub replied-as : (P : List Basic → Type 0) (w : World) (p : PortRow) (a : Option Message) (replied : List Basic) → given_reply w p a ≡ Ok replied → (a ≡ None → P []) → ((b : Message) (x : WaitRow) → a ≡ Some b → reply_test w p b ≡ Ok x → P (reply x b ∷ [])) → P replied
 replied-as P w p None replied is none some = let same : [] ≡ replied = cc in subst P same (none refl)
-replied-as P w p (Some b) replied is none some = at (answered_test w p b) refl is
+replied-as P w p (Some b) replied is none some = at (reply_test w p b) refl is
   where
-    at : (r : Result WaitRow Status) → answered_test w p b ≡ r → (r >>= (λ x. Ok (reply x b ∷ []))) ≡ Ok replied → P replied
+    at : (r : Result WaitRow Status) → reply_test w p b ≡ r → (r >>= (λ x. Ok (reply x b ∷ []))) ≡ Ok replied → P replied
     at (Ok x) found is = let same : (reply x b ∷ []) ≡ replied = cc in subst P same (some b x refl found)
     at (Err s) found is = absurd (cc)
 
@@ -185,7 +185,7 @@ pub led-tells : (m : Group) (c : ℕ) (u : World) (d : Whose) (w : World) (e : E
 led-tells m c u d w e bs led off l = record { world = l.world; told = rw off l.told }
 
 -- the reply part
-led-woken : (m : Group) (c : ℕ) (u : World) (d : Whose) (w : World) (by : ThreadRow) (p : PortRow) (b : Message) (y : WaitRow) → Caller m c u w by → (by.process == c) ≡ false → answered_test w p b ≡ Ok y → Led m c u d w (reply y b ∷ []) (led_reply (view m w) b)
+led-woken : (m : Group) (c : ℕ) (u : World) (d : Whose) (w : World) (by : ThreadRow) (p : PortRow) (b : Message) (y : WaitRow) → Caller m c u w by → (by.process == c) ≡ false → reply_test w p b ≡ Ok y → Led m c u d w (reply y b ∷ []) (led_reply (view m w) b)
 led-woken m c u d w by p b y k other at =
     let l = led-wakes m c u d w by p.birth b y k.c_in k.fair k.owned k.once k.here other (answered-fit w p b y at) in
     record { world = l.world; told = sym (rw (not-c c u d by.number by.process NtReplyPort SUCCESS [] k.here other) refl) ∙ l.told }
@@ -272,12 +272,12 @@ receive-led m c u d w by handle (Some bs) a p q replied k readable by_in other i
 
     found : (t : Result Message Status) → message_test bs ≡ t → (t >>= (λ b. Ok (Some b))) ≡ Ok a → Led m c u d w (Tells (own by o) ∷ replied ++ rest by p.birth q o) (on_ok t (λ b. led_reply (view m w) b) ++ led_received m (view m w) by p.birth q (own by o))
     found (Err s) t is = absurd (cc)
-    found (Ok b) t is = answered (answered_test w p b) refl (subst (λ a. given_reply w p a ≡ Ok replied) (sym some) r.replies)
+    found (Ok b) t is = answered (reply_test w p b) refl (subst (λ a. given_reply w p a ≡ Ok replied) (sym some) r.replies)
       where
         some : Some b ≡ a
         some = cc
 
-        answered : (t : Result WaitRow Status) → answered_test w p b ≡ t → (t >>= (λ x. Ok (reply x b ∷ []))) ≡ Ok replied → Led m c u d w (Tells (own by o) ∷ replied ++ rest by p.birth q o) (led_reply (view m w) b ++ led_received m (view m w) by p.birth q (own by o))
+        answered : (t : Result WaitRow Status) → reply_test w p b ≡ t → (t >>= (λ x. Ok (reply x b ∷ []))) ≡ Ok replied → Led m c u d w (Tells (own by o) ∷ replied ++ rest by p.birth q o) (led_reply (view m w) b ++ led_received m (view m w) by p.birth q (own by o))
         answered (Err s) t is = absurd (cc)
         answered (Ok y) t is =
             let same : replied ≡ reply y b ∷ [] = cc in

@@ -21,7 +21,7 @@ use Rattle.lpc_model.specs.Message.{message_test}
 use Rattle.lpc_model.specs.Named.{as_status, free_name, named_port, port_found}
 use Rattle.lpc_model.specs.World.{Birth, PortRow, ThreadRow, World}
 use Rattle.lpc_model.specs.Connect.{ConnectAnswer, is_accepted_on, names_connect, answer_test, answered_steps, complete_test, completion_test, info_test, making, nt_accept_connect_port, nt_complete_connect_port, nt_connect_port, nt_create_port, nt_listen_port}
-use Rattle.lpc_model.specs.Request.{answered_test, is_spent, datagram_send_test, datagram_test, given_reply, nt_reply_port, nt_reply_wait_receive_port, nt_request_port, nt_request_wait_reply_port, optional_message, receive_test, send_test}
+use Rattle.lpc_model.specs.Request.{reply_test, is_spent, datagram_send_test, datagram_test, given_reply, nt_reply_port, nt_reply_wait_receive_port, nt_request_port, nt_request_wait_reply_port, optional_message, receive_test, send_test}
 use Rattle.lpc_model.specs.Tests.{PORT_RIGHT, client_test, handle_load, includes, is_client, next_birth, handles_test, object_test, own_handle, port_test}
 use Rattle.lpc_model.specs.Lines.{accept_connect_port, complete_connect_port, connect_port, create_port, listen_port, reply_port, reply_wait_receive_port, request_port, request_wait_reply_port}
 use Rattle.lpc_isolation.proofs.Served.{served}
@@ -83,7 +83,7 @@ made w b (Some name) = bind (free_name w name) _ (named (free_path w.bindings na
 to-port : (w : World) (name : List ℕ) → Refuses (named_port w name)
 to-port w name = bind (as_status (lookup w.bindings name)) _ (named (lookup w.bindings name)) port-found
 
-answered : (w : World) (p : PortRow) (a : Message) → Refuses (answered_test w p a)
+answered : (w : World) (p : PortRow) (a : Message) → Refuses (reply_test w p a)
 answered w p a = bind (client_test w a.header.client) _ (client w a.header.client) (λ _. found (fitted w p.birth a) REPLY_MESSAGE_MISMATCH refl)
 
 send : (w : World) (by : ThreadRow) (handle : ℕ) (bytes : List ℕ) → Refuses (send_test w by handle bytes)
@@ -115,7 +115,7 @@ receive w p = bind (found_or (queue_of w p) PORT_DISCONNECTED) _ (found (queue_o
 
 given : (w : World) (p : PortRow) (a : Option Message) → Refuses (given_reply w p a)
 given w p None = tt
-given w p (Some a) = bind (answered_test w p a) _ (answered w p a) (λ x. tt)
+given w p (Some a) = bind (reply_test w p a) _ (answered w p a) (λ x. tt)
 
 -- the services
 pub refuses-create : (w : World) (by : ThreadRow) (name : Option (List ℕ)) → Refuses (served w by (create_port name))
@@ -148,7 +148,7 @@ refuses-request w by handle bytes = bind (send_test w by handle bytes) _ (send w
 
 pub refuses-reply : (w : World) (by : ThreadRow) (handle : ℕ) (message : List ℕ) → Refuses (served w by (reply_port handle message))
 unfolding nt_reply_port
-refuses-reply w by handle bytes = bind (port_test w by handle) _ (port w by handle) (λ p. bind (message_test bytes) _ (message bytes) (λ m. bind (answered_test w p m) _ (answered w p m) (λ x. tt)))
+refuses-reply w by handle bytes = bind (port_test w by handle) _ (port w by handle) (λ p. bind (message_test bytes) _ (message bytes) (λ m. bind (reply_test w p m) _ (answered w p m) (λ x. tt)))
 
 pub refuses-receive : (w : World) (by : ThreadRow) (handle : ℕ) (message : Option (List ℕ)) → Refuses (served w by (reply_wait_receive_port handle message))
 unfolding nt_reply_wait_receive_port

@@ -17,7 +17,7 @@ use Rattle.lpc_model.specs.Message.{as_reply, message_test}
 use Rattle.lpc_model.specs.World.{Birth, PortRow, ThreadRow, WaitRow, World}
 use Rattle.lpc_model.specs.Found.{fits, fitted, is_port, is_request, is_the, pair_of, port_row, same_birth, wait_of, waits_as}
 use Rattle.lpc_model.specs.Basics.{Basic}
-use Rattle.lpc_model.specs.Request.{answered_test, nt_reply_port, reply, reply_steps}
+use Rattle.lpc_model.specs.Request.{reply_test, nt_reply_port, reply, reply_steps}
 use Rattle.lpc_model.specs.Tests.{client_test, port_test}
 use Rattle.lpc_model.proofs.Births.{birth-same}
 use Rattle.lpc_model.proofs.Holding.{Holds, bind_holds, found_holds, holds_ok}
@@ -72,17 +72,17 @@ fit-other m c w port a x f c_in out at = other (x.process == c) refl
     other false is = refl
 
 -- the wait that is answered
-pub answered-fits : (w : World) (port : PortRow) (a : Message) → Holds (λ x. fitted w port.birth a ≡ Some x) (answered_test w port a)
+pub answered-fits : (w : World) (port : PortRow) (a : Message) → Holds (λ x. fitted w port.birth a ≡ Some x) (reply_test w port a)
 answered-fits w port a =
     let P : WaitRow → Type 0 = λ x. fitted w port.birth a ≡ Some x in
     bind_holds (client_test w a.header.client) _ P (λ _ _.
     found_holds P (fitted w port.birth a) REPLY_MESSAGE_MISMATCH (λ x at. at))
 
-pub answered-fit : (w : World) (port : PortRow) (a : Message) (x : WaitRow) → answered_test w port a ≡ Ok x → fitted w port.birth a ≡ Some x
-answered-fit w port a x is = holds_ok (λ x. fitted w port.birth a ≡ Some x) (answered_test w port a) x (answered-fits w port a) is
+pub answered-fit : (w : World) (port : PortRow) (a : Message) (x : WaitRow) → reply_test w port a ≡ Ok x → fitted w port.birth a ≡ Some x
+answered-fit w port a x is = holds_ok (λ x. fitted w port.birth a ≡ Some x) (reply_test w port a) x (answered-fits w port a) is
 
 -- An outsider's reply
-pub wakes-apart : (m : Group) (c : ℕ) (u : World) (d : Whose) (w : World) (port : PortRow) (a : Message) (x : WaitRow) → m c ≡ true → Fair m c w → Owned u w → m port.birth.process ≡ false → answered_test w port a ≡ Ok x → are_apart m c u d w (reply x a ∷ []) ≡ true
+pub wakes-apart : (m : Group) (c : ℕ) (u : World) (d : Whose) (w : World) (port : PortRow) (a : Message) (x : WaitRow) → m c ≡ true → Fair m c w → Owned u w → m port.birth.process ≡ false → reply_test w port a ≡ Ok x → are_apart m c u d w (reply x a ∷ []) ≡ true
 wakes-apart m c u d w port a x c_in f owned out is =
     let at : fitted w port.birth a ≡ Some x = answered-fit w port a x is in
     both _ _ (both _ _ (end-apart m c u d w x SUCCESS (msg (as_reply a) ∷ []) owned (every-first (is_owned u) (fits w port.birth a) w.waits x owned at) (fit-other m c w port.birth a x f c_in out at)) refl) refl
@@ -93,7 +93,7 @@ reply-apart m c u d w by handle bytes c_in f owned here out =
     let P : List Basic → Type 0 = λ bs. are_apart m c u d w bs ≡ true in
     bind_holds (port_test w by handle) _ P (λ port at.
     bind_holds (message_test bytes) _ P (λ a _.
-    bind_holds (answered_test w port a) _ P (λ x is.
+    bind_holds (reply_test w port a) _ P (λ x is.
     let port_out : m port.birth.process ≡ false = ap m (holds_ok _ (port_test w by handle) port (port-own m c w by handle f) at).0 ∙ out in
     rw (here, out) (wakes-apart m c u d w port a x c_in f owned port_out is))))
 
@@ -101,7 +101,7 @@ pub reply-fair : (m : Group) (c : ℕ) (w : World) (by : ThreadRow) (handle : �
 unfolding nt_reply_port
 reply-fair m c w by handle bytes =
     let P : List Basic → Type 0 = λ bs. are_fair m c w bs ≡ true in
-    bind_holds (port_test w by handle) _ P (λ port _. bind_holds (message_test bytes) _ P (λ a _. bind_holds (answered_test w port a) _ P (λ x _. refl)))
+    bind_holds (port_test w by handle) _ P (λ port _. bind_holds (message_test bytes) _ P (λ a _. bind_holds (reply_test w port a) _ P (λ x _. refl)))
 
 -- A member's reply, by its answer alone: where it was accepted, the client's thread waits no longer
 abbrev pub led_reply : World → Message → List Basic
@@ -179,5 +179,5 @@ reply-call-led m c u d w by handle bytes c_in f owned once here other =
     let P : List Basic → Type 0 = λ bs. Led m c u d w bs (led_reply_port (view m w) bytes) in
     bind_holds (port_test w by handle) _ P (λ port _.
     bind_holds (message_test bytes) _ P (λ a at.
-    bind_holds (answered_test w port a) _ P (λ x is.
+    bind_holds (reply_test w port a) _ P (λ x is.
     rw at (led-wakes m c u d w by port.birth a x c_in f owned once here other (answered-fit w port a x is)))))

@@ -25,7 +25,7 @@ use Rattle.lpc_model.specs.Named.{as_status, named_port, port_found}
 use Rattle.lpc_model.specs.Entering.{enter, given_steps, row_of, shown, take_connect_steps, take_steps, takes, woken}
 use Rattle.lpc_model.specs.Tests.{client_test, is_client, handles_test, includes, next_birth, object_test, own_handle, port_test}
 use Rattle.lpc_model.specs.Connect.{Completable, ConnectAnswer, accept_steps, answer_test, client_port, complete_test, completion_test, connect_start, connection_request, is_accepted_on, listen_steps, names_connect, nt_accept_connect_port, nt_complete_connect_port, nt_connect_port, nt_create_port, nt_listen_port}
-use Rattle.lpc_model.specs.Request.{Sendable, answered_test, datagram_send_test, datagram_start, datagram_test, given_reply, nt_reply_port, nt_reply_wait_receive_port, nt_request_port, nt_request_wait_reply_port, optional_message, receive_steps, receive_test, request_start, send_test, sent_by}
+use Rattle.lpc_model.specs.Request.{Sendable, reply_test, datagram_send_test, datagram_start, datagram_test, given_reply, nt_reply_port, nt_reply_wait_receive_port, nt_request_port, nt_request_wait_reply_port, optional_message, receive_steps, receive_test, request_start, send_test, sent_by}
 use Rattle.lpc_model.specs.SoundWaits.{IsSoundWorld, is_sound_as, is_sound_wait, leads_open, waiter_of}
 use Rattle.lpc_model.proofs.Births.{birth-same}
 use Rattle.lpc_model.proofs.Holding.{Holds, bind_holds, found_holds, found_ok, holds_ok, not_refused}
@@ -281,7 +281,7 @@ reply-thin k u by handle bytes c =
 pub reply-closed : (k : Alive) (u : World) (by : ThreadRow) (handle : ℕ) (bytes : List ℕ) → Holds (AreClosed k) (nt_reply_port u by handle bytes)
 unfolding nt_reply_port
 reply-closed k u by handle bytes =
-    bind_holds (port_test u by handle) _ (AreClosed k) (λ p _. bind_holds (message_test bytes) _ (AreClosed k) (λ m _. bind_holds (answered_test u p m) _ (AreClosed k) (λ x _. refl)))
+    bind_holds (port_test u by handle) _ (AreClosed k) (λ p _. bind_holds (message_test bytes) _ (AreClosed k) (λ m _. bind_holds (reply_test u p m) _ (AreClosed k) (λ x _. refl)))
 
 given-thin : (k : Alive) (u : World) (p : PortRow) (o : Option Message) → Closed k u → given_reply (thin k u) p o ≡ given_reply u p o
 given-thin k u p None c = refl
@@ -294,7 +294,7 @@ receive-thin k u by handle bytes c =
 
 replied-closed : (k : Alive) (u : World) (p : PortRow) (o : Option Message) → Holds (AreClosed k) (given_reply u p o)
 replied-closed k u p None = refl
-replied-closed k u p (Some m) = bind_holds (answered_test u p m) _ (AreClosed k) (λ x _. refl)
+replied-closed k u p (Some m) = bind_holds (reply_test u p m) _ (AreClosed k) (λ x _. refl)
 
 received-closed : (k : Alive) (by : ThreadRow) (p : PortRow) (q : Birth) (rs : List Basic) (o : Option MessageRow) → k.ports p.birth ≡ true → AreClosed k rs → AreClosed k (receive_steps by p q rs o)
 received-closed k by p q rs None port ok = every-append (is_closed k) rs _ ok (rw port refl)

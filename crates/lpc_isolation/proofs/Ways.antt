@@ -16,7 +16,7 @@ use Rattle.lpc_model.specs.Refusal.{found_or, refuse_if}
 use Rattle.lpc_model.specs.declared.message.Message.{Message}
 use Rattle.lpc_model.specs.World.{PortKind}
 use Rattle.lpc_message.specs.declared.kind.TheConstants.{DATAGRAM, REQUEST}
-use Rattle.lpc_model.specs.Request.{Sendable, answered_test, datagram_send_test, datagram_test, datagram_start, given_reply, nt_reply_port, nt_reply_wait_receive_port, nt_request_port, nt_request_wait_reply_port, optional_message, receive_steps, receive_test, receive_wait, request_start, send_test, sent_by}
+use Rattle.lpc_model.specs.Request.{Sendable, reply_test, datagram_send_test, datagram_test, datagram_start, given_reply, nt_reply_port, nt_reply_wait_receive_port, nt_request_port, nt_request_wait_reply_port, optional_message, receive_steps, receive_test, receive_wait, request_start, send_test, sent_by}
 use Rattle.lpc_model.specs.Tests.{PORT_RIGHT, handles_test, next_birth, object_test, port_test}
 use Rattle.lpc_model.specs.Connect.{answer_test, client_port, complete_test, nt_accept_connect_port, nt_complete_connect_port, nt_listen_port, listen_steps}
 use Rattle.lpc_model.specs.Lines.{accept_connect_port, complete_connect_port, connect_port, create_port, listen_port, reply_port, reply_wait_receive_port, request_port, request_wait_reply_port}
@@ -154,11 +154,11 @@ datagram-paths u by handle bytes = bind_holds (datagram_send_test u by handle by
 
 reply-still : (u : World) (by : ThreadRow) (handle : ℕ) (bytes : List ℕ) → Holds (AreStill) (nt_reply_port u by handle bytes)
 unfolding nt_reply_port
-reply-still u by handle bytes = bind_holds (port_test u by handle) _ (AreStill) (λ p _. bind_holds (message_test bytes) _ (AreStill) (λ b _. bind_holds (answered_test u p b) _ (AreStill) (λ x _. refl)))
+reply-still u by handle bytes = bind_holds (port_test u by handle) _ (AreStill) (λ p _. bind_holds (message_test bytes) _ (AreStill) (λ b _. bind_holds (reply_test u p b) _ (AreStill) (λ x _. refl)))
 
 replied-still : (u : World) (p : PortRow) (o : Option Message) → Holds (AreStill) (given_reply u p o)
 replied-still u p None = refl
-replied-still u p (Some b) = bind_holds (answered_test u p b) _ (AreStill) (λ x _. refl)
+replied-still u p (Some b) = bind_holds (reply_test u p b) _ (AreStill) (λ x _. refl)
 
 received-still : (by : ThreadRow) (p : PortRow) (q : Birth) (rs : List Basic) (o : Option MessageRow) → AreStill rs → AreStill (receive_steps by p q rs o)
 received-still by p q rs None ok = every-append (stays) rs (Awaits (receive_wait by p.birth q) ∷ []) ok refl

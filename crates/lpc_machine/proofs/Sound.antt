@@ -33,7 +33,7 @@ module _ (old taken : Kept) (before list : List Entry) (line : ScriptLine) (s : 
   pub can_sweep : CanSweep taken.rows
   can_sweep =
       let t = s.lawful in
-      let shut = t.untold in
+      let shut = t.single_closings in
       subst CanSweep (sym rows_are) (record {
         sound = line-sound old.rows line t.sound shut.connects;
         linked = line_linked old.rows line t.sound t.linked;

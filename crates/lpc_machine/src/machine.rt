@@ -11,7 +11,7 @@ ghost use Rattle.lpc_model.specs.Standing.{NamesWhatStands};
 ghost use Rattle.lpc_model.specs.Closings.{ClosingsAreTold};
 ghost use Rattle.lpc_model.specs.Deaths.{DeathsAreTold, HasLivingRegistrations, HasSingleRegistrations};
 ghost use Rattle.lpc_model.specs.Left.{LeavesNothing};
-ghost use Rattle.lpc_model.specs.Untold.{IsUntold};
+ghost use Rattle.lpc_model.specs.SingleClosings.{HasSingleClosings};
 ghost use Rattle.lpc_base.specs.declared.limits.TheConstants.{LINES_LIMIT};
 ghost use Rattle.lpc_model.specs.Machine.{bare_steps, step, thread_steps};
 ghost use Rattle.lpc_model.specs.SoundWaits.{HasSoundWaits};
@@ -260,7 +260,7 @@ impl Machine {
         ensures held { HasHeldRows self.new.rows }
         ensures named { NamesWhatStands self.new.rows }
         ensures closings { OnOk result (ClosingsAreTold self.old.rows (line_of line.now)) }
-        ensures untold { IsUntold self.new.rows }
+        ensures single_closings { HasSingleClosings self.new.rows }
         ensures deaths { OnOk result (DeathsAreTold self.old.rows (line_of line.now)) }
         ensures registered { HasLivingRegistrations self.new.rows }
         ensures once { HasSingleRegistrations self.new.rows }

@@ -11,8 +11,8 @@ use Rattle.lpc_model.specs.Message.{asks, message_of}
 use Rattle.lpc_model.specs.Found.{handles_of, is_accepted, is_live, port_row, wait_of}
 use Rattle.lpc_model.specs.Basics.{Basic, Cuts, Dies, DropsHandle, Empties, Frees, Steps, Unregisters, Withdraws, doing, end_each, in_turn, provided, world_after, ◌▹◌}
 use Rattle.lpc_model.specs.Entering.{enter}
-use Rattle.lpc_model.specs.Close.{close_handle, close_port, closed_row, cut_pair, drop_name, empty_queue, end_accepted, end_offered, end_receives, end_request, end_requests, is_accepted_across, is_last, is_offered_to, is_queued_request, is_receive_across, is_receiver, is_request_across, is_request_on, post_closed, server_of, told_of, wake}
-use Rattle.lpc_model.specs.Death.{cut_accepted, die, end_process, end_threads, post_death, post_deaths, told_death}
+use Rattle.lpc_model.specs.Close.{close_handle, close_port, closed_row, cut_pair, drop_name, empty_queue, end_accepted, end_offered, end_receives, end_request, end_requests, is_accepted_across, is_last, is_offered_to, is_queued_request, is_receive_across, is_receiver, is_request_across, is_request_on, post_closed, server_of, closing_post, wake}
+use Rattle.lpc_model.specs.Death.{cut_accepted, die, end_process, end_threads, post_death, post_deaths, death_post}
 use Rattle.lpc_model.specs.Lines.{ScriptLine}
 use Rattle.lpc_model.specs.Sweep.{free_unheld, sweep, unheld}
 use Rattle.lpc_model.proofs.Closing.{behind}
@@ -103,7 +103,7 @@ module _ (s : Receipt) (quiet : asks (message_of s.bytes) ≡ false) (w : World)
       queued p None = none_balances v dry
       queued p (Some queue) = by_creator p queue p.creator
 
-      at : (o : Option PortRow) → IsEntered s quiet w line v (given o (λ p. given (told_of v p) (λ m. enter m v)))
+      at : (o : Option PortRow) → IsEntered s quiet w line v (given o (λ p. given (closing_post v p) (λ m. enter m v)))
       at None = none_balances v dry
       at (Some p) = queued p (server_of v p)
 
@@ -135,7 +135,7 @@ module _ (s : Receipt) (quiet : asks (message_of s.bytes) ≡ false) (w : World)
   die_balances code t v dry = then_balances (doing (Dies t.number code ∷ Withdraws t.number ∷ [])) (cut_accepted (wait_of v t.number)) (plain_balances (doing (Dies t.number code ∷ Withdraws t.number ∷ [])) (λ v. refl)) (accepted_balances (wait_of v t.number)) v dry
 
   told_balances : (t : ThreadRow) (b : Birth) → Balances (post_death t b)
-  told_balances t b = then_balances (doing (Unregisters t.number b ∷ [])) (λ w. given (told_death w t b) (λ m. enter m w)) (plain_balances (doing (Unregisters t.number b ∷ [])) (λ v. refl)) (λ v dry. at v dry (told_death v t b))
+  told_balances t b = then_balances (doing (Unregisters t.number b ∷ [])) (λ w. given (death_post w t b) (λ m. enter m w)) (plain_balances (doing (Unregisters t.number b ∷ [])) (λ v. refl)) (λ v dry. at v dry (death_post v t b))
     where
       at : (v : World) → HasDryQueues w v → (o : Option MessageRow) → IsEntered s quiet w line v (given o (λ m. enter m v))
       at v dry None = none_balances v dry

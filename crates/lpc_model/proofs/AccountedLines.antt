@@ -19,12 +19,12 @@ use Rattle.lpc_model.specs.Message.{asks, message_of, message_test}
 use Rattle.lpc_model.specs.Fields.{receipt}
 use Rattle.lpc_model.specs.Found.{is_connection_port, is_queued, is_queued_connect, live_thread, live_threads, queue_of, wait_of}
 use Rattle.lpc_model.specs.Basics.{AddsHandle, Basic, Receives, Registers, Takes, Tells, Wakes, world_after}
-use Rattle.lpc_model.specs.Entering.{receipt_steps, row_of}
+use Rattle.lpc_model.specs.Entering.{received_steps, row_of}
 use Rattle.lpc_model.specs.Named.{free_name, named_port, spelled_name}
 use Rattle.lpc_model.specs.Refusal.{found_or, refuse_if}
 use Rattle.lpc_model.specs.Tests.{PORT_ACCESS, handle_row, handles_test, next_birth, own_handle, port_test}
 use Rattle.lpc_model.specs.Connect.{ConnectAnswer, answer_test, answered_steps, client_port, complete_test, connect_start, connection_request, info_test, listen_steps, making, nt_accept_connect_port, nt_complete_connect_port, nt_connect_port, nt_create_port, nt_listen_port}
-use Rattle.lpc_model.specs.Request.{answered_test, datagram_send_test, datagram_start, given_reply, is_spent, nt_reply_port, nt_reply_wait_receive_port, nt_request_port, nt_request_wait_reply_port, optional_message, receive_steps, receive_test, request_start, send_test, sent_by}
+use Rattle.lpc_model.specs.Request.{reply_test, datagram_send_test, datagram_start, given_reply, is_spent, nt_reply_port, nt_reply_wait_receive_port, nt_request_port, nt_request_wait_reply_port, optional_message, receive_steps, receive_test, request_start, send_test, sent_by}
 use Rattle.lpc_model.specs.Close.{close_handle, nt_close}
 use Rattle.lpc_model.specs.Counts.{asked, nt_duplicate_object, nt_query_object, rights_test}
 use Rattle.lpc_model.specs.Death.{code_status, end_threads}
@@ -59,7 +59,7 @@ create-level w by name =
     bind_holds (making w (next_birth by) name) _ AreLevel (λ made at.
     bind_holds (handles_test w by.process 1) _ AreLevel (λ _ _. every-append is_level made (AddsHandle by.process (handle_row _ _ PORT_ACCESS) ∷ []) (holds_ok AreLevel (making w (next_birth by) name) made (making-level w (next_birth by) name) at) refl))
 
-receipt-level : (m : MessageRow) → AreLevel (receipt_steps m)
+receipt-level : (m : MessageRow) → AreLevel (received_steps m)
 receipt-level m = at (asks m.message)
   where
     at : (a : Bool) → AreLevel (when a (Receives m.message.header.client.thread m.queue ∷ []))
@@ -94,7 +94,7 @@ unfolding nt_reply_port
 reply-level w by handle bytes =
     bind_holds (port_test w by handle) _ AreLevel (λ port _.
     bind_holds (message_test bytes) _ AreLevel (λ m _.
-    bind_holds (answered_test w port m) _ AreLevel (λ x _. refl)))
+    bind_holds (reply_test w port m) _ AreLevel (λ x _. refl)))
 
 register-level : (w : World) (by : ThreadRow) (handle : ℕ) → Holds AreLevel (nt_register_thread_terminate_port w by handle)
 register-level w by handle = register_holds AreLevel w by handle (λ b new _. at b new)
@@ -154,7 +154,7 @@ module _ (s : Receipt) (quiet : asks (message_of s.bytes) ≡ false) (w : World)
 
   given-replies : (port : PortRow) (o : Option Message) → Holds (λ bs. are_replies bs ≡ true) (given_reply w port o)
   given-replies port None = refl
-  given-replies port (Some m) = bind_holds (answered_test w port m) _ (λ bs. are_replies bs ≡ true) (λ x _. refl)
+  given-replies port (Some m) = bind_holds (reply_test w port m) _ (λ bs. are_replies bs ≡ true) (λ x _. refl)
 
   receive_from : (port : PortRow) → Holds (λ queue. queue_of w port ≡ Some queue) (receive_test w port)
   receive_from port =

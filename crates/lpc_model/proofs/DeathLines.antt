@@ -18,8 +18,8 @@ use Rattle.lpc_model.specs.Basics.{AddsThread, Basic, Cuts, Dies, DrawsIdentifie
 use Rattle.lpc_model.specs.Entering.{enter, given_steps, shown, takes, woken}
 use Rattle.lpc_model.specs.Close.{close_handle}
 use Rattle.lpc_model.specs.Targets.{LIFE_RIGHT, thread_target}
-use Rattle.lpc_model.specs.Death.{answer_unless, code_status, cut_accepted, die, end_process, end_threads, nt_terminate_process, nt_terminate_thread, post_death, post_deaths, told_death}
-use Rattle.lpc_model.specs.Deaths.{DeathsAreTold, TellsDeaths, ended_registrations, ending_registrations, is_died_post, leaves, rank_of, registration, registrations_of, rises, tells_end, told_endings}
+use Rattle.lpc_model.specs.Death.{answer_unless, code_status, cut_accepted, die, end_process, end_threads, nt_terminate_process, nt_terminate_thread, post_death, post_deaths, death_post}
+use Rattle.lpc_model.specs.Deaths.{DeathsAreTold, TellsDeaths, ended_registrations, ending_registrations, is_died_post, leaves, rank_of, registration, registrations_of, rises, death_posts, deaths_posted}
 use Rattle.lpc_model.proofs.Closing.{behind, takes_away}
 use Rattle.lpc_model.proofs.Rows.{first-change}
 use Rattle.lpc_model.proofs.Told.{posts-append, which-append}
@@ -51,10 +51,10 @@ append-assoc (x ∷ xs) ys zs = grind (arith, append-assoc xs ys zs)
 posts-both : (xs ys : List Basic) → which is_died_post (posts_of (xs ++ ys)) ≡ which is_died_post (posts_of xs) ++ which is_died_post (posts_of ys)
 posts-both xs ys = ap (which is_died_post) (posts-append xs ys) ∙ which-append is_died_post (posts_of xs) (posts_of ys)
 
-told-both : (w : World) (xs ys : List Basic) → told_endings w (xs ++ ys) ≡ told_endings w xs ++ told_endings (world_after w xs) ys
+told-both : (w : World) (xs ys : List Basic) → deaths_posted w (xs ++ ys) ≡ deaths_posted w xs ++ deaths_posted (world_after w xs) ys
 told-both w [] ys = refl
 told-both w (x ∷ xs) ys =
-    ap (λ ms. tells_end w x ++ ms) (told-both (basic w x) xs ys) ∙ sym (append-assoc (tells_end w x) (told_endings (basic w x) xs) (told_endings (world_after (basic w x) xs) ys))
+    ap (λ ms. death_posts w x ++ ms) (told-both (basic w x) xs ys) ∙ sym (append-assoc (death_posts w x) (deaths_posted (basic w x) xs) (deaths_posted (world_after (basic w x) xs) ys))
 
 leaves-both : (xs ys : List Basic) → each leaves (xs ++ ys) ≡ each leaves xs ++ each leaves ys
 leaves-both [] ys = refl
@@ -80,7 +80,7 @@ silent-post : (b : Basic) → is_silent b ≡ true → which is_died_post (poste
 silent-post (Enters m) is = grind arith
 silent-post b is = refl
 
-silent-tell : (w : World) (b : Basic) → is_silent b ≡ true → tells_end w b ≡ []
+silent-tell : (w : World) (b : Basic) → is_silent b ≡ true → death_posts w b ≡ []
 silent-tell w (Unregisters who b) is = absurd (cc)
 silent-tell w b is = refl
 
@@ -103,10 +103,10 @@ silent-posts [] all = refl
 silent-posts (b ∷ bs) all =
     which-append is_died_post (posted b) (posts_of bs) ∙ (ap (λ ms. ms ++ which is_died_post (posts_of bs)) (silent-post b (first-true (is_silent b) (every is_silent bs) all)) ∙ silent-posts bs (second-true (is_silent b) (every is_silent bs) all))
 
-silent-told : (w : World) (bs : List Basic) → every is_silent bs ≡ true → told_endings w bs ≡ []
+silent-told : (w : World) (bs : List Basic) → every is_silent bs ≡ true → deaths_posted w bs ≡ []
 silent-told w [] all = refl
 silent-told w (b ∷ bs) all =
-    ap (λ ms. ms ++ told_endings (basic w b) bs) (silent-tell w b (first-true (is_silent b) (every is_silent bs) all)) ∙ silent-told (basic w b) bs (second-true (is_silent b) (every is_silent bs) all)
+    ap (λ ms. ms ++ deaths_posted (basic w b) bs) (silent-tell w b (first-true (is_silent b) (every is_silent bs) all)) ∙ silent-told (basic w b) bs (second-true (is_silent b) (every is_silent bs) all)
 
 silent-leaves : (bs : List Basic) → every is_silent bs ≡ true → each leaves bs ≡ []
 silent-leaves [] all = refl
@@ -139,7 +139,7 @@ undying-tells w bs all =
 
 pub tells-both : (w : World) (xs ys : List Basic) → rises (each rank_of (xs ++ ys)) ≡ true → TellsDeaths w xs → TellsDeaths (world_after w xs) ys → TellsDeaths w (xs ++ ys)
 tells-both w xs ys order one two = record {
-  told = posts-both xs ys ∙ (ap (λ ms. ms ++ which is_died_post (posts_of ys)) one.told ∙ (ap (λ ms. told_endings w xs ++ ms) two.told ∙ sym (told-both w xs ys)));
+  told = posts-both xs ys ∙ (ap (λ ms. ms ++ which is_died_post (posts_of ys)) one.told ∙ (ap (λ ms. deaths_posted w xs ++ ms) two.told ∙ sym (told-both w xs ys)));
   registrations = leaves-both xs ys ∙ (ap (λ rs. rs ++ each leaves ys) one.registrations ∙ (ap (λ rs. ending_registrations w xs ++ rs) two.registrations ∙ sym (registrations-both w xs ys)));
   order = order;
 }
@@ -203,7 +203,7 @@ rows-kept w bs all (t ∷ ts) rows = (row-kept w t bs all rows.0, rows-kept w bs
 
 -- Registrations that go
 -- what is told depends on the thread's name alone
-same-death : (w : World) (u t : ThreadRow) (b : Birth) → u.number ≡ t.number → u.process ≡ t.process → u.birth ≡ t.birth → told_death w u b ≡ told_death w t b
+same-death : (w : World) (u t : ThreadRow) (b : Birth) → u.number ≡ t.number → u.process ≡ t.process → u.birth ≡ t.birth → death_post w u b ≡ death_post w t b
 same-death w u t b one two three = rw (one, two, three) refl
 
 told-given : (w : World) (t : ThreadRow) (b : Birth) (o : Option MessageRow) → ((m : MessageRow) → o ≡ Some m → is_died_post m ≡ true) → which is_died_post (posts_of (given o (λ m. enter m w))) ≡ given o (λ m. m ∷ [])
@@ -214,7 +214,7 @@ told-given w t b (Some m) died =
     let none = silent-posts steps (every-more is_undying is_silent undying-silent steps taken) in
     let is = died m refl in rw (is, none) refl
 
-enter-told : (w : World) (o : Option MessageRow) → told_endings w (given o (λ m. enter m w)) ≡ []
+enter-told : (w : World) (o : Option MessageRow) → deaths_posted w (given o (λ m. enter m w)) ≡ []
 enter-told w None = refl
 enter-told w (Some m) =
     let taken = undying-taken m (first (takes m) w.waits) in
@@ -237,19 +237,19 @@ enter-undead w (Some m) =
 
 -- what some steps tell of the registrations that go by them
 abbrev ToldHere : World → List Basic → Type 0
-ToldHere w bs = which is_died_post (posts_of bs) ≡ told_endings w bs
+ToldHere w bs = which is_died_post (posts_of bs) ≡ deaths_posted w bs
 
 here-both : (w : World) (xs ys : List Basic) → ToldHere w xs → ToldHere (world_after w xs) ys → ToldHere w (xs ++ ys)
-here-both w xs ys one two = posts-both xs ys ∙ (ap (λ ms. ms ++ which is_died_post (posts_of ys)) one ∙ (ap (λ ms. told_endings w xs ++ ms) two ∙ sym (told-both w xs ys)))
+here-both w xs ys one two = posts-both xs ys ∙ (ap (λ ms. ms ++ which is_died_post (posts_of ys)) one ∙ (ap (λ ms. deaths_posted w xs ++ ms) two ∙ sym (told-both w xs ys)))
 
 death-here : (t : ThreadRow) (b : Birth) (w : World) → IsRowOf w t → ToldHere w (post_death t b w)
 death-here t b w r =
     let v = basic w (Unregisters t.number b) in
-    let o = told_death v t b in
+    let o = death_post v t b in
     told-given v t b o (λ m some. let facts = told-facts t b m v some in facts.died)
-    ∙ (sym (nil-right (given o (λ m. m ∷ []))) ∙ (ap (λ ms. given o (λ m. m ∷ []) ++ ms) (sym (enter-told v o)) ∙ ap (λ ms. ms ++ told_endings v (given o (λ m. enter m v))) (sym tells)))
+    ∙ (sym (nil-right (given o (λ m. m ∷ []))) ∙ (ap (λ ms. given o (λ m. m ∷ []) ++ ms) (sym (enter-told v o)) ∙ ap (λ ms. ms ++ deaths_posted v (given o (λ m. enter m v))) (sym tells)))
   where
-    tells : tells_end w (Unregisters t.number b) ≡ given (told_death (basic w (Unregisters t.number b)) t b) (λ m. m ∷ [])
+    tells : death_posts w (Unregisters t.number b) ≡ given (death_post (basic w (Unregisters t.number b)) t b) (λ m. m ∷ [])
     tells = rw r.at (ap (λ p. given p (λ m. m ∷ [])) (same-death w r.row t b r.number r.process r.birth))
 
 deaths-here : (t : ThreadRow) (bs : List Birth) (w : World) → IsRowOf w t → ToldHere w (in_turn (post_death t) bs w)
@@ -270,7 +270,7 @@ deaths-leave t [] w = refl
 deaths-leave t (b ∷ bs) w =
     let v = basic w (Unregisters t.number b) in
     leaves-both (post_death t b w) (in_turn (post_death t) bs (behind (post_death t b) w))
-    ∙ (ap (λ rs. (registration t.number b ∷ rs) ++ each leaves (in_turn (post_death t) bs (behind (post_death t b) w))) (enter-leaves v (told_death v t b)) ∙ ap (λ rs. registration t.number b ∷ rs) (deaths-leave t bs (behind (post_death t b) w)))
+    ∙ (ap (λ rs. (registration t.number b ∷ rs) ++ each leaves (in_turn (post_death t) bs (behind (post_death t b) w))) (enter-leaves v (death_post v t b)) ∙ ap (λ rs. registration t.number b ∷ rs) (deaths-leave t bs (behind (post_death t b) w)))
 
 all-leave : (ts : List ThreadRow) (w : World) → each leaves (in_turn post_deaths ts w) ≡ each registrations_of ts
 all-leave [] w = refl
@@ -279,7 +279,7 @@ all-leave (t ∷ ts) w =
     ∙ (ap (λ rs. rs ++ each leaves (in_turn post_deaths ts (behind (post_deaths t) w))) (deaths-leave t t.registrations w) ∙ ap (λ rs. registrations_of t ++ rs) (all-leave ts (behind (post_deaths t) w)))
 
 pub death-still : (t : ThreadRow) (b : Birth) (w : World) → every is_still (post_death t b w) ≡ true
-death-still t b w = enter-undead (basic w (Unregisters t.number b)) (told_death (basic w (Unregisters t.number b)) t b)
+death-still t b w = enter-undead (basic w (Unregisters t.number b)) (death_post (basic w (Unregisters t.number b)) t b)
 
 -- Threads that end
 -- each is found by its number, and lives; no two have one number

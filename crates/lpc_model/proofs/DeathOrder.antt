@@ -10,9 +10,9 @@ use Rattle.lpc_model.specs.World.{Birth, MessageRow, ThreadRow, WaitRow, World}
 use Rattle.lpc_model.specs.Found.{is_accepted, wait_of}
 use Rattle.lpc_model.specs.Basics.{Basic, Cuts, Dies, DropsHandle, Enters, Receives, Steps, Unbinds, Unregisters, Withdraws, basic, end_each, in_turn, world_after}
 use Rattle.lpc_model.specs.Message.{asks}
-use Rattle.lpc_model.specs.Entering.{enter, given_steps, receipt_steps, shown, takes, woken}
+use Rattle.lpc_model.specs.Entering.{enter, given_steps, received_steps, shown, takes, woken}
 use Rattle.lpc_model.specs.Close.{cut_pair, end_accepted, end_request, is_accepted_across, is_receive_across, is_request_across, wake}
-use Rattle.lpc_model.specs.Death.{cut_accepted, die, post_death, post_deaths, told_death}
+use Rattle.lpc_model.specs.Death.{cut_accepted, die, post_death, post_deaths, death_post}
 use Rattle.lpc_model.specs.Deaths.{is_died_post, rank_of, rises}
 use Rattle.lpc_model.proofs.Closing.{behind}
 use Rattle.lpc_model.proofs.Ending.{turn-pass}
@@ -135,7 +135,7 @@ die-rank code t w =
     every-append (has_rank 0) first (cut_accepted (wait_of w t.number) (world_after w first)) refl (accepted-rank (wait_of w t.number) (world_after w first))
 
 -- Registrations that go
-receipt-rank : (m : MessageRow) → every (has_rank 1) (receipt_steps m) ≡ true
+receipt-rank : (m : MessageRow) → every (has_rank 1) (received_steps m) ≡ true
 receipt-rank m = at (asks m.message)
   where
     at : (a : Bool) → every (has_rank 1) (when a (Receives m.message.header.client.thread m.queue ∷ [])) ≡ true
@@ -145,11 +145,11 @@ receipt-rank m = at (asks m.message)
 given-rank : (m : MessageRow) (x : WaitRow) → every (has_rank 1) (given_steps x m ++ woken SUCCESS (shown x m) x ∷ []) ≡ true
 given-rank m x =
     by_kind (λ x. every (has_rank 1) (given_steps x m ++ woken SUCCESS (shown x m) x ∷ []) ≡ true)
-    (λ x r. every-append (has_rank 1) (receipt_steps m) _ (receipt-rank m) refl)
-    (λ x. every-append (has_rank 1) (receipt_steps m) _ (receipt-rank m) refl)
-    (λ x. every-append (has_rank 1) (receipt_steps m) _ (receipt-rank m) refl)
-    (λ x r. every-append (has_rank 1) (receipt_steps m) _ (receipt-rank m) refl)
-    (λ x r reply. every-append (has_rank 1) (receipt_steps m) _ (receipt-rank m) refl) x
+    (λ x r. every-append (has_rank 1) (received_steps m) _ (receipt-rank m) refl)
+    (λ x. every-append (has_rank 1) (received_steps m) _ (receipt-rank m) refl)
+    (λ x. every-append (has_rank 1) (received_steps m) _ (receipt-rank m) refl)
+    (λ x r. every-append (has_rank 1) (received_steps m) _ (receipt-rank m) refl)
+    (λ x r reply. every-append (has_rank 1) (received_steps m) _ (receipt-rank m) refl) x
 
 enter-rank : (m : MessageRow) (w : World) → every (has_rank 1) (enter m w) ≡ true
 enter-rank m w = both _ _ (posts (is_died_post m)) (at (first (takes m) w.waits))
@@ -166,7 +166,7 @@ enter-rank m w = both _ _ (posts (is_died_post m)) (at (first (takes m) w.waits)
     at (Some x) = given-rank m x
 
 death-rank : (t : ThreadRow) (b : Birth) (w : World) → every (has_rank 1) (post_death t b w) ≡ true
-death-rank t b w = at (told_death v t b)
+death-rank t b w = at (death_post v t b)
   where
     v : World
     v = basic w (Unregisters t.number b)

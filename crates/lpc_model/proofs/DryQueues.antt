@@ -15,7 +15,7 @@ use Rattle.lpc_model.specs.Message.{asks, is_connection_request, message_of}
 use Rattle.lpc_model.specs.Fields.{msg, receipt}
 use Rattle.lpc_model.specs.Found.{is_listen, is_open, is_own_of, is_queued, is_queued_connect, is_receive, is_the, port_row, same_birth, waits_as, waits_at}
 use Rattle.lpc_model.specs.Basics.{Accepts, Awaits, Basic, Dies, Empties, Enters, Frees, Receives, Takes, TakesConnect, Wakes, Withdraws, accepted, basic, freed, received, world_after}
-use Rattle.lpc_model.specs.Entering.{enter, given_steps, receipt_steps, shown, takes, woken}
+use Rattle.lpc_model.specs.Entering.{enter, given_steps, received_steps, shown, takes, woken}
 use Rattle.lpc_model.specs.Tests.{is_client}
 use Rattle.lpc_model.specs.SoundWaits.{IsSoundWorld, has_come, is_joined, is_sound_wait, waiter_of}
 use Rattle.lpc_model.specs.Lines.{ScriptLine}
@@ -86,14 +86,14 @@ dry-all w v (b ∷ bs) all dry =
     dry-all w (basic v b) bs later (dry-step w v b here dry)
 
 -- A message that enters
-soft-receipt : (m : MessageRow) → every is_soft (receipt_steps m) ≡ true
+soft-receipt : (m : MessageRow) → every is_soft (received_steps m) ≡ true
 soft-receipt m = at (asks m.message)
   where
     at : (a : Bool) → every is_soft (when a (Receives m.message.header.client.thread m.queue ∷ [])) ≡ true
     at true = refl
     at false = refl
 
-level-receipt : (m : MessageRow) → every is_level (receipt_steps m) ≡ true
+level-receipt : (m : MessageRow) → every is_level (received_steps m) ≡ true
 level-receipt m = at (asks m.message)
   where
     at : (a : Bool) → every is_level (when a (Receives m.message.header.client.thread m.queue ∷ [])) ≡ true
@@ -155,12 +155,12 @@ module _ (s : Receipt) (quiet : asks (message_of s.bytes) ≡ false) (w : World)
   enter-none v m none dry = record { balanced = level-balanced s quiet w line v (Enters m ∷ []) refl; dry = kept-dry v m none dry }
 
   -- a listen takes it
-  enter-listen : (v : World) (m : MessageRow) (x : WaitRow) → is_connection_request m.message ≡ true → HasDryQueues w v → IsEntered v (Enters m ∷ TakesConnect m.queue ∷ receipt_steps m ++ woken SUCCESS (msg m.message ∷ []) x ∷ [])
+  enter-listen : (v : World) (m : MessageRow) (x : WaitRow) → is_connection_request m.message ≡ true → HasDryQueues w v → IsEntered v (Enters m ∷ TakesConnect m.queue ∷ received_steps m ++ woken SUCCESS (msg m.message ∷ []) x ∷ [])
   enter-listen v m x connects dry =
-      let rest = receipt_steps m ++ woken SUCCESS (msg m.message ∷ []) x ∷ [] in
+      let rest = received_steps m ++ woken SUCCESS (msg m.message ∷ []) x ∷ [] in
       record {
-        balanced = level-balanced s quiet w line v (Enters m ∷ TakesConnect m.queue ∷ rest) (every-append is_level (receipt_steps m) _ (level-receipt m) refl);
-        dry = dry-all w (basic (basic v (Enters m)) (TakesConnect m.queue)) rest (every-append is_soft (receipt_steps m) _ (soft-receipt m) refl)
+        balanced = level-balanced s quiet w line v (Enters m ∷ TakesConnect m.queue ∷ rest) (every-append is_level (received_steps m) _ (level-receipt m) refl);
+        dry = dry-all w (basic (basic v (Enters m)) (TakesConnect m.queue)) rest (every-append is_soft (received_steps m) _ (soft-receipt m) refl)
             (fewer-dry w v (without_first (is_queued_connect m.queue) (v.messages ++ m ∷ [])) (λ q off. connect-off q v.messages m connects off) dry);
       }
 
@@ -169,14 +169,14 @@ module _ (s : Receipt) (quiet : asks (message_of s.bytes) ≡ false) (w : World)
   seen-as None m is = absurd (cc)
   seen-as (Some q) m is = let same : m.queue ≡ q = birth-same m.queue q is in rw (sym same) refl
 
-  enter-receive : (v : World) (m : MessageRow) (x : WaitRow) → has (is_queued m.queue) v.messages ≡ false → is_the m.queue (waited_on w x.thread) ≡ true → HasDryQueues w v → IsEntered v (Enters m ∷ Takes m.queue ∷ receipt_steps m ++ woken SUCCESS (receipt m) x ∷ [])
+  enter-receive : (v : World) (m : MessageRow) (x : WaitRow) → has (is_queued m.queue) v.messages ≡ false → is_the m.queue (waited_on w x.thread) ≡ true → HasDryQueues w v → IsEntered v (Enters m ∷ Takes m.queue ∷ received_steps m ++ woken SUCCESS (receipt m) x ∷ [])
   enter-receive v m x none its dry =
       let u = basic (basic v (Enters m)) (Takes m.queue) in
-      let rest = receipt_steps m ++ woken SUCCESS (receipt m) x ∷ [] in
+      let rest = received_steps m ++ woken SUCCESS (receipt m) x ∷ [] in
       let all : without_first (is_queued m.queue) (v.messages ++ m ∷ []) ≡ v.messages = without_first-push (is_queued m.queue) v.messages m none (birth-self m.queue) in
       record {
         balanced = at (asks m.message) all;
-        dry = dry-all w u rest (every-append is_soft (receipt_steps m) _ (soft-receipt m) refl) (fewer-dry w v (without_first (is_queued m.queue) (v.messages ++ m ∷ [])) (λ q off. rw all off) dry);
+        dry = dry-all w u rest (every-append is_soft (received_steps m) _ (soft-receipt m) refl) (fewer-dry w v (without_first (is_queued m.queue) (v.messages ++ m ∷ [])) (λ q off. rw all off) dry);
       }
     where
       -- it stands, and is shown then

@@ -12,13 +12,13 @@ use Rattle.lpc_model.specs.World.{Birth, Creator, HandleRow, HandleTable, Messag
 use Rattle.lpc_model.specs.Found.{handle_at, handles_of, has_value, is_accepted, is_live, is_open, is_port, is_table, live_threads, port_row, route, rows_in, wait_of, way}
 use Rattle.lpc_model.specs.Message.{asks}
 use Rattle.lpc_model.specs.Basics.{Accepts, AddsHandle, AddsProcess, AddsThread, Awaits, Basic, Binds, Completes, Cuts, Dies, DrawsIdentifier, DrawsOrdinal, DropsHandle, Empties, Frees, Joins, Makes, Receives, Registers, Steps, Unbinds, Unregisters, Wakes, Withdraws, basic, doing, in_turn, provided, without_handle, world_after, ◌▹◌}
-use Rattle.lpc_model.specs.Entering.{enter, given_steps, receipt_steps, row_of, shown, takes, woken}
+use Rattle.lpc_model.specs.Entering.{enter, given_steps, received_steps, row_of, shown, takes, woken}
 use Rattle.lpc_model.specs.Refusal.{refuse_if}
 use Rattle.lpc_model.specs.Lines.{ProcArg}
 use Rattle.lpc_model.specs.Tests.{live_test}
-use Rattle.lpc_model.specs.Close.{close_handle, close_port, closed_row, cut_pair, is_last, post_closed, server_of, told_of}
+use Rattle.lpc_model.specs.Close.{close_handle, close_port, closed_row, cut_pair, is_last, post_closed, server_of, closing_post}
 use Rattle.lpc_model.specs.Targets.{process_target, thread_target}
-use Rattle.lpc_model.specs.Death.{answer_unless, code_status, cut_accepted, die, died_message, end_process, end_threads, nt_terminate_process, nt_terminate_thread, post_death, post_deaths, told_death}
+use Rattle.lpc_model.specs.Death.{answer_unless, code_status, cut_accepted, die, died_message, end_process, end_threads, nt_terminate_process, nt_terminate_thread, post_death, post_deaths, death_post}
 use Rattle.lpc_model.specs.SoundWaits.{IsSoundWorld}
 use Rattle.lpc_model.proofs.Holding.{Holds, bind_holds, not_refused}
 use Rattle.lpc_model.proofs.Closing.{behind, close-pass, pair-pass, stage_five, takes_away, then-holds}
@@ -67,7 +67,7 @@ away-ending (Empties q) is = refl
 away-ending (Unbinds b) is = refl
 away-ending x is = absurd (cc)
 
-ending-receipt : (m : MessageRow) → AreEnding (receipt_steps m)
+ending-receipt : (m : MessageRow) → AreEnding (received_steps m)
 ending-receipt m = at (asks m.message)
   where
     at : (a : Bool) → every is_ending (when a (Receives m.message.header.client.thread m.queue ∷ [])) ≡ true
@@ -77,11 +77,11 @@ ending-receipt m = at (asks m.message)
 ending-given : (m : MessageRow) (x : WaitRow) → AreEnding (given_steps x m ++ woken SUCCESS (shown x m) x ∷ [])
 ending-given m x =
     by_kind (λ x. every is_ending (given_steps x m ++ woken SUCCESS (shown x m) x ∷ []) ≡ true)
-    (λ x r. every-append is_ending (receipt_steps m) _ (ending-receipt m) refl)
-    (λ x. every-append is_ending (receipt_steps m) _ (ending-receipt m) refl)
-    (λ x. every-append is_ending (receipt_steps m) _ (ending-receipt m) refl)
-    (λ x r. every-append is_ending (receipt_steps m) _ (ending-receipt m) refl)
-    (λ x r reply. every-append is_ending (receipt_steps m) _ (ending-receipt m) refl) x
+    (λ x r. every-append is_ending (received_steps m) _ (ending-receipt m) refl)
+    (λ x. every-append is_ending (received_steps m) _ (ending-receipt m) refl)
+    (λ x. every-append is_ending (received_steps m) _ (ending-receipt m) refl)
+    (λ x r. every-append is_ending (received_steps m) _ (ending-receipt m) refl)
+    (λ x r reply. every-append is_ending (received_steps m) _ (ending-receipt m) refl) x
 
 pub ending-enter : (m : MessageRow) (w : World) → AreEnding (enter m w)
 ending-enter m w = at (first (takes m) w.waits)
@@ -108,7 +108,7 @@ ending-told None w = refl
 ending-told (Some m) w = ending-enter m w
 
 pub ending-death : (t : ThreadRow) (b : Birth) (w : World) → AreEnding (post_death t b w)
-ending-death t b w = ending-told (told_death (basic w (Unregisters t.number b)) t b) (basic w (Unregisters t.number b))
+ending-death t b w = ending-told (death_post (basic w (Unregisters t.number b)) t b) (basic w (Unregisters t.number b))
 
 closed-ending : (b : Birth) (w : World) → AreEnding (post_closed b w)
 closed-ending b w = at (port_row w b)
@@ -121,7 +121,7 @@ closed-ending b w = at (port_row w b)
     queued p None = refl
     queued p (Some queue) = by_creator p queue p.creator
 
-    at : (o : Option PortRow) → AreEnding (given o (λ p. given (told_of w p) (λ m. enter m w)))
+    at : (o : Option PortRow) → AreEnding (given o (λ p. given (closing_post w p) (λ m. enter m w)))
     at None = refl
     at (Some p) = queued p (server_of w p)
 
@@ -176,7 +176,7 @@ route-open w p q = at (is_open w p.birth) refl
     at true opens is = way-open w q p opens is
     at false off is = absurd (cc)
 
-pub told-facts : (t : ThreadRow) (b : Birth) (m : MessageRow) (w : World) → told_death w t b ≡ Some m → IsToldDeath w m
+pub told-facts : (t : ThreadRow) (b : Birth) (m : MessageRow) (w : World) → death_post w t b ≡ Some m → IsToldDeath w m
 told-facts t b m w = at (port_row w b) refl
   where
     routed : (p : PortRow) → port_row w b ≡ Some p → (o : Option Birth) → route w p ≡ o → option_map (λ q. row_of q p (died_message t)) o ≡ Some m → IsToldDeath w m
@@ -236,11 +236,11 @@ abbrev pub behind_told : Status → List ThreadRow → World → World
 behind_told code ts w = behind (in_turn post_deaths ts) (behind_dead code ts w)
 
 module _ (P : World → Type 0) (dies : (code : Status) (t : ThreadRow) (w : World) → P w → P (behind (die code t) w)) (leaves : (n : ℕ) (b : Birth) (w : World) → P w → P (basic w (Unregisters n b)))
-    (posts : (t : ThreadRow) (b : Birth) (m : MessageRow) (w : World) → told_death w t b ≡ Some m → P w → P (behind (enter m) w)) where
+    (posts : (t : ThreadRow) (b : Birth) (m : MessageRow) (w : World) → death_post w t b ≡ Some m → P w → P (behind (enter m) w)) where
   post-keeps : (t : ThreadRow) (b : Birth) (w : World) → P w → P (behind (post_death t b) w)
-  post-keeps t b w is = at (told_death (basic w (Unregisters t.number b)) t b) refl (leaves t.number b w is)
+  post-keeps t b w is = at (death_post (basic w (Unregisters t.number b)) t b) refl (leaves t.number b w is)
     where
-      at : (o : Option MessageRow) → told_death (basic w (Unregisters t.number b)) t b ≡ o → P (basic w (Unregisters t.number b)) → P (world_after (basic w (Unregisters t.number b)) (given o (λ m. enter m (basic w (Unregisters t.number b)))))
+      at : (o : Option MessageRow) → death_post (basic w (Unregisters t.number b)) t b ≡ o → P (basic w (Unregisters t.number b)) → P (world_after (basic w (Unregisters t.number b)) (given o (λ m. enter m (basic w (Unregisters t.number b)))))
       at None none is = is
       at (Some m) some is = posts t b m (basic w (Unregisters t.number b)) some is
 

@@ -23,7 +23,7 @@ use Rattle.lpc_model.specs.declared.fault.LineFault.TheVariants as fault
 use Rattle.lpc_model.specs.Then.{◌>>=◌}
 use Rattle.lpc_model.specs.Message.{bytes_of, message_of}
 use Rattle.lpc_model.specs.Lines.{ScriptCall, ScriptLine, accept_connect_port, reply_port, reply_wait_receive_port, request_port, request_wait_reply_port, run}
-use Rattle.lpc_model.specs.Words.{begins, cut, hex_message, hex_or_fault, hex_word, id_word, info_word, message_word, number_word, parts, reply_message, three_parts, words}
+use Rattle.lpc_model.specs.Words.{begins, split_once, hex_message, hex_or_fault, hex_word, id_word, info_word, message_word, number_word, parts, reply_message, three_parts, words}
 use Rattle.lpc_model.specs.Grammar.{accept_word, access_word, call_line, call_named, call_words, directive_line, directive_named, directive_words, four_words, given_message, handle_and_message, handle_and_reply, is_printable, one_handle, one_or_two_words, one_word, qos_word, read_line, starts_call, process_and_thread, target_and_code, target_and_thread, thread_call, two_words, view_word, words_line}
 use Rattle.lpc_model.specs.Run.{numbered_line, said_from, unless_faulty}
 
@@ -92,7 +92,7 @@ made_bytes client identifier digits =
 reply_bytes : (text : List ℕ) → Gives AreBytes (reply_message text)
 unfolding reply_message
 reply_bytes text =
-    then_gives (ok_or (cut 58 text) fault.Message) _ AreBytes (λ two _.
+    then_gives (ok_or (split_once 58 text) fault.Message) _ AreBytes (λ two _.
     then_gives (ok_or (three_parts (parts 46 two.0)) fault.Message) _ AreBytes (λ numbers _.
     then_gives (number_word numbers.0) _ AreBytes (λ process _.
     then_gives (number_word numbers.1) _ AreBytes (λ thread _.

@@ -14,7 +14,7 @@ use Rattle.lpc_model.proofs.Holding.{Holds, bind_holds, holds_ok}
 use Rattle.lpc_model.specs.Basics.{DrawsOrdinal, Makes}
 use Rattle.lpc_model.specs.Found.{free_handle, is_offered, is_port, port_name, port_row, same_birth, waits_as}
 use Rattle.lpc_model.specs.Connect.{accept_steps, refuse_steps, names_connect, server_port}
-use Rattle.lpc_model.specs.Linked.{IsLinked, is_end_port, is_lone_offer, is_unjoined}
+use Rattle.lpc_model.specs.Linked.{IsLinked, is_root_port, is_lone_offer, is_unjoined}
 use Rattle.lpc_model.specs.SoundWaits.{can_stay_sound}
 use Rattle.lpc_model.proofs.Births.{birth-same}
 use Rattle.lpc_model.proofs.Usable.{CanCall}
@@ -32,7 +32,7 @@ elsewhere w by x y own = by_kind (λ y. can_stay_sound w y ≡ true → not (wai
     right : (a : Bool) → (a || true) ≡ true
     right a = grind arith
 
-pub lone-parts : (w : World) (x : WaitRow) → is_offered x ≡ true → is_lone_offer w x ≡ true → (is_end_port w x.queue ≡ true) × (passes (port_row w x.port) is_unjoined ≡ true)
+pub lone-parts : (w : World) (x : WaitRow) → is_offered x ≡ true → is_lone_offer w x ≡ true → (is_root_port w x.queue ≡ true) × (passes (port_row w x.port) is_unjoined ≡ true)
 lone-parts w x of lone = (one _ _ _ of lone, two _ _ _ of lone)
   where
     one : (o a b : Bool) → o ≡ true → (not o || (a && b)) ≡ true → a ≡ true

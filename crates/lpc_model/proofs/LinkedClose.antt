@@ -8,7 +8,7 @@ use Rattle.lpc_model.specs.Found.{port_row}
 use Rattle.lpc_model.specs.Basics.{Basic, DropsHandle, Empties, Unbinds, Wakes, Withdraws}
 use Rattle.lpc_model.specs.Entering.{enter}
 use Rattle.lpc_model.specs.Tests.{own_handle}
-use Rattle.lpc_model.specs.Close.{close_handle, close_port, closed_row, is_last, nt_close, post_closed, server_of, told_of}
+use Rattle.lpc_model.specs.Close.{close_handle, close_port, closed_row, is_last, nt_close, post_closed, server_of, closing_post}
 use Rattle.lpc_model.specs.Linked.{IsLinked}
 use Rattle.lpc_model.proofs.Holding.{Holds, bind_holds}
 use Rattle.lpc_model.proofs.Closing.{close-pass, stage_five, takes_away}
@@ -35,7 +35,7 @@ posted-steady b w = at (port_row w b)
     queued p None = refl
     queued p (Some queue) = by_creator p queue p.creator
 
-    at : (o : Option PortRow) → AreSteady (given o (λ p. given (told_of w p) (λ m. enter m w)))
+    at : (o : Option PortRow) → AreSteady (given o (λ p. given (closing_post w p) (λ m. enter m w)))
     at None = refl
     at (Some p) = queued p (server_of w p)
 

@@ -16,7 +16,7 @@ use Rattle.lpc_model.specs.Basics.{Binds, DrawsOrdinal, Makes}
 use Rattle.lpc_model.specs.World.{Path}
 use Rattle.lpc_model.specs.Found.{free_handle, port_name}
 use Rattle.lpc_model.specs.Connect.{new_port}
-use Rattle.lpc_model.specs.Linked.{IsLinked, is_end_port, leads_to_end}
+use Rattle.lpc_model.specs.Linked.{IsLinked, is_root_port, leads_to_root}
 use Rattle.lpc_model.proofs.Usable.{CanCall}
 use Rattle.lpc_model.proofs.LinkedSteps.{linked-same, made-found, made-linked, plain-all}
 use Rattle.lpc_model.proofs.LinkedCalls.{KeepLinked, unmade}
@@ -26,8 +26,8 @@ created-linked : (w : World) (by : ThreadRow) (kind : PortKind) → CanCall w by
 created-linked w by kind c s l =
     made-linked (basic w (DrawsOrdinal by.number)) (new_port (next_birth by) kind) (unmade w by c s) refl refl (plain-all w (DrawsOrdinal by.number ∷ []) refl l)
 
-bound-linked : (w : World) (path : Path) (port : Birth) → is_end_port w port ≡ true → IsLinked w → IsLinked (basic w (Binds path (Stands (Item port))))
-bound-linked w path port is l = linked-same w (basic w (Binds path (Stands (Item port)))) refl (λ all. all) (λ all. every-push (λ b. leads_to_end w b.1) w.bindings (path, Stands (Item port)) all is) l
+bound-linked : (w : World) (path : Path) (port : Birth) → is_root_port w port ≡ true → IsLinked w → IsLinked (basic w (Binds path (Stands (Item port))))
+bound-linked w path port is l = linked-same w (basic w (Binds path (Stands (Item port)))) refl (λ all. all) (λ all. every-push (λ b. leads_to_root w b.1) w.bindings (path, Stands (Item port)) all is) l
 
 making-linked : (w : World) (by : ThreadRow) (name : Option (List ℕ)) (value : ℕ) → CanCall w by → IsSoundWorld w → IsLinked w → Holds (λ made. KeepLinked w (create_steps by made value)) (making w (next_birth by) name)
 making-linked w by None value c s l =
@@ -37,7 +37,7 @@ making-linked w by (Some name) value c s l =
     let port = new_port (next_birth by) Connection in
     let drawn = basic w (DrawsOrdinal by.number) in
     let found = made-found drawn port (unmade w by c s) in
-    let ends : is_end_port (basic drawn (Makes port)) (next_birth by) ≡ true = rw found refl in
+    let ends : is_root_port (basic drawn (Makes port)) (next_birth by) ≡ true = rw found refl in
     plain-all _ (AddsHandle by.process (handle_row value (port_name (next_birth by)) PORT_ACCESS) ∷ []) refl
     (bound-linked (basic drawn (Makes port)) path (next_birth by) ends (created-linked w by Connection c s l)))
 

@@ -12,7 +12,7 @@ use Rattle.lpc_model.specs.World.{Birth, Node, ObjectKind, ObjectName, PortRow, 
 use Rattle.lpc_model.specs.Found.{all_registrations, is_connected_to, is_made_on, is_offered, is_open, is_paired_to, is_port, is_the, pair_of, pointer_count, port_name, port_row, same_birth, waits_as}
 use Rattle.lpc_model.specs.Basics.{Accepts, Frees, Joins, accepted, basic, freed, joined, paired, world_after}
 use Rattle.lpc_model.specs.Sweep.{free_unheld, is_unheld, sweep, unheld}
-use Rattle.lpc_model.specs.Linked.{IsLinked, is_end_port, is_lone_offer, is_mutual, is_rooted, is_unjoined, leads_to_end, names_nothing, passes_or_none}
+use Rattle.lpc_model.specs.Linked.{IsLinked, is_root_port, is_lone_offer, is_mutual, is_rooted, is_unjoined, leads_to_root, names_nothing, passes_or_none}
 use Rattle.lpc_model.specs.SoundWaits.{IsSoundWorld, is_sound_wait, leads_open}
 use Rattle.lpc_model.proofs.Rows.{count-less, first-map}
 use Rattle.lpc_model.proofs.Births.{birth-same}
@@ -62,7 +62,7 @@ module _ (w : World) (client server : Birth) (context who : ℕ) (reply : List �
   abbrev joined_world : World
   joined_world = basic w (Joins client server context)
 
-  ends-joined : (c : Birth) → is_end_port w c ≡ true → is_end_port joined_world c ≡ true
+  ends-joined : (c : Birth) → is_root_port w c ≡ true → is_root_port joined_world c ≡ true
   ends-joined c is = at (port_row w c) refl
     where
       no-both : (a b : Bool) → (a && b) ≡ true → (a && not b) ≡ false
@@ -76,7 +76,7 @@ module _ (w : World) (client server : Birth) (context who : ℕ) (reply : List �
           of None (Some b) is = absurd (cc)
           of (Some b) c is = absurd (cc)
 
-      at : (o : Option PortRow) → port_row w c ≡ o → is_end_port joined_world c ≡ true
+      at : (o : Option PortRow) → port_row w c ≡ o → is_root_port joined_world c ≡ true
       at None none = let never : false ≡ true = rw none at is in absurd (cc)
       at (Some r) here =
           let was : names_nothing r ≡ true = rw here at is in
@@ -169,7 +169,7 @@ module _ (w : World) (client server : Birth) (context who : ℕ) (reply : List �
     rooted = rw (every-map (is_rooted joined_world) (joined client server context) w.ports) (every-more (is_rooted w) (λ p. is_rooted joined_world (joined client server context p)) (λ p is. rw (joined-connection client server context p) (option-kept p.connection _ _ ends-joined is)) w.ports l.rooted);
     offers = every-change_to (λ x. is_lone_offer w x && is_other x) (is_lone_offer joined_world) (waits_as who) (accepted reply) (λ x _ _. accepted-lone x) (λ x both off. offer-joined x (first-true _ _ both) (second-true _ _ both) off) w.waits
         (every-both (is_lone_offer w) is_other (λ x. is_lone_offer w x && is_other x) (λ x one two. both-true _ _ one two) w.waits l.offers can.others);
-    targets = every-more (λ b. leads_to_end w b.1) (λ b. leads_to_end joined_world b.1) (λ x. leads-kept w joined_world ends-joined x.1) w.bindings l.targets;
+    targets = every-more (λ b. leads_to_root w b.1) (λ b. leads_to_root joined_world b.1) (λ x. leads-kept w joined_world ends-joined x.1) w.bindings l.targets;
   }
     where
       first-true : (x y : Bool) → (x && y) ≡ true → x ≡ true
@@ -218,13 +218,13 @@ port-gone w b few s l =
     let unpaired = none-pass (is_paired_to b) w.ports (omega (arith, held)) in
     let unconnected = none-pass (is_connected_to b) w.ports (omega (arith, held)) in
     let closed = unopen w b few in
-    let ends : (c : Birth) → same_birth c b ≡ false → is_end_port w c ≡ true → is_end_port v c ≡ true = λ c off is. rw (row-freed w b c off) is in
+    let ends : (c : Birth) → same_birth c b ≡ false → is_root_port w c ≡ true → is_root_port v c ≡ true = λ c off is. rw (row-freed w b c off) is in
     record {
       births = λ c. count-less (is_port c) (is_port b) w.ports 1 (l.births c);
       pairs = every-without (is_mutual v) (is_port b) w.ports (every-both (is_mutual w) (λ p. not (is_paired_to b p)) (is_mutual v) (λ p is off. freed-option w b (λ u c. is_the p.birth (pair_of u c)) (λ c apart one. same-pair w b c p.birth apart one) p.pair (not-true _ off) is) w.ports l.pairs unpaired);
-      rooted = every-without (is_rooted v) (is_port b) w.ports (every-both (is_rooted w) (λ p. not (is_connected_to b p)) (is_rooted v) (λ p is off. freed-option w b is_end_port ends p.connection (not-true _ off) is) w.ports l.rooted unconnected);
+      rooted = every-without (is_rooted v) (is_port b) w.ports (every-both (is_rooted w) (λ p. not (is_connected_to b p)) (is_rooted v) (λ p is off. freed-option w b is_root_port ends p.connection (not-true _ off) is) w.ports l.rooted unconnected);
       offers = every-both (λ x. is_lone_offer w x && not (is_made_on b x)) (is_sound_wait w) (is_lone_offer v) (λ x both sound. gone-offer w b closed x both sound) w.waits (every-both (is_lone_offer w) (λ x. not (is_made_on b x)) (λ x. is_lone_offer w x && not (is_made_on b x)) (λ x one two. both-true _ _ one two) w.waits l.offers made) s.waits;
-      targets = every-both (λ x. leads_to_end w x.1) (λ x. leads_open w x.1) (λ x. leads_to_end v x.1) (λ x one two. gone-leads w b closed x.1 one two) w.bindings l.targets s.names;
+      targets = every-both (λ x. leads_to_root w x.1) (λ x. leads_open w x.1) (λ x. leads_to_root v x.1) (λ x one two. gone-leads w b closed x.1 one two) w.bindings l.targets s.names;
     }
   where
     not-true : (x : Bool) → not x ≡ true → x ≡ false
@@ -243,14 +243,14 @@ port-gone w b few s l =
         (λ x m both sound.
         let opens : is_open w x.queue ≡ true = grind arith in
         let made : same_birth x.port b ≡ false = grind arith in
-        let one : is_end_port w x.queue ≡ true = grind arith in
+        let one : is_root_port w x.queue ≡ true = grind arith in
         let two : passes (port_row w x.port) is_unjoined ≡ true = grind arith in
-        let queue : is_end_port (basic w (Frees (port_name b))) x.queue ≡ true = rw (row-freed w b x.queue (other-open w b x.queue closed opens)) one in
+        let queue : is_root_port (basic w (Frees (port_name b))) x.queue ≡ true = rw (row-freed w b x.queue (other-open w b x.queue closed opens)) one in
         let port : passes (port_row (basic w (Frees (port_name b))) x.port) is_unjoined ≡ true = rw (row-freed w b x.port made) two in
         both-true _ _ queue port)
         (λ x m r both sound. refl)
 
-    gone-leads : (w : World) (b : Birth) → is_open w b ≡ false → (node : Node Birth) → leads_to_end w node ≡ true → leads_open w node ≡ true → leads_to_end (basic w (Frees (port_name b))) node ≡ true
+    gone-leads : (w : World) (b : Birth) → is_open w b ≡ false → (node : Node Birth) → leads_to_root w node ≡ true → leads_open w node ≡ true → leads_to_root (basic w (Frees (port_name b))) node ≡ true
     gone-leads w b closed (LinkTo target) one two = refl
     gone-leads w b closed (Stands Directory) one two = refl
     gone-leads w b closed (Stands (Item port)) one two = rw (row-freed w b port (other-open w b port closed two)) one

@@ -10,7 +10,7 @@ use Rattle.lpc_names.specs.declared.names.Found.TheVariants.{Directory, Item}
 use Rattle.lpc_model.specs.World.{Birth, Node, PortRow, WaitRow, World}
 use Rattle.lpc_model.specs.Found.{is_offered, is_port, is_the, pair_of, port_row, same_birth, waits_as, waits_at}
 use Rattle.lpc_model.specs.Basics.{Accepts, AddsHandle, AddsProcess, AddsThread, Awaits, Basic, Binds, Completes, Cuts, Dies, DrawsIdentifier, DrawsOrdinal, DropsHandle, Empties, Enters, Frees, Joins, Makes, Receives, Registers, Takes, TakesConnect, Tells, Unbinds, Unregisters, Wakes, Withdraws, accepted, basic, completed, cut, is_end_of, received, world_after}
-use Rattle.lpc_model.specs.Linked.{IsLinked, is_end_port, is_lone_offer, is_mutual, is_rooted, is_unjoined, leads_to_end, names_nothing, passes_or_none}
+use Rattle.lpc_model.specs.Linked.{IsLinked, is_root_port, is_lone_offer, is_mutual, is_rooted, is_unjoined, leads_to_root, names_nothing, passes_or_none}
 use Rattle.lpc_model.proofs.Births.{birth-same, birth-self}
 use Rattle.lpc_model.proofs.SoundPairs.{tied}
 use Rattle.lpc_model.proofs.SoundTies.{completed-birth}
@@ -21,7 +21,7 @@ use Rattle.lpc_model.proofs.SoundWorlds.{by_kind}
 -- what is linked by one world is by another, where what ports stand for stays
 pub record Upholds (w v : World) : Type 0 where
   pub pairs : (b c : Birth) → is_the b (pair_of w c) ≡ true → is_the b (pair_of v c) ≡ true
-  pub ends : (c : Birth) → is_end_port w c ≡ true → is_end_port v c ≡ true
+  pub ends : (c : Birth) → is_root_port w c ≡ true → is_root_port v c ≡ true
 
 pub option-kept : {A : Type 0} (o : Option A) (p q : A → Bool) → ((x : A) → p x ≡ true → q x ≡ true) → passes_or_none o p ≡ true → passes_or_none o q ≡ true
 option-kept None p q more is = refl
@@ -33,26 +33,26 @@ mutual-kept w v u p is = option-kept p.pair _ _ (λ q. u.pairs p.birth q) is
 pub rooted-kept : (w v : World) → Upholds w v → (p : PortRow) → is_rooted w p ≡ true → is_rooted v p ≡ true
 rooted-kept w v u p is = option-kept p.connection _ _ u.ends is
 
-pub target-kept : (w v : World) → Upholds w v → (node : Node Birth) → leads_to_end w node ≡ true → leads_to_end v node ≡ true
+pub target-kept : (w v : World) → Upholds w v → (node : Node Birth) → leads_to_root w node ≡ true → leads_to_root v node ≡ true
 target-kept w v u (LinkTo target) is = refl
 target-kept w v u (Stands Directory) is = refl
 target-kept w v u (Stands (Item port)) is = u.ends port is
 
 -- Steps that leave ports as they are
 -- the rest of a world but its ports may change, with no more names to ports, and no more connects that aren't accepted
-pub linked-same : (w v : World) → v.ports ≡ w.ports → (every (is_lone_offer w) w.waits ≡ true → every (is_lone_offer w) v.waits ≡ true) → (every (λ b. leads_to_end w b.1) w.bindings ≡ true → every (λ b. leads_to_end w b.1) v.bindings ≡ true) → IsLinked w → IsLinked v
+pub linked-same : (w v : World) → v.ports ≡ w.ports → (every (is_lone_offer w) w.waits ≡ true → every (is_lone_offer w) v.waits ≡ true) → (every (λ b. leads_to_root w b.1) w.bindings ≡ true → every (λ b. leads_to_root w b.1) v.bindings ≡ true) → IsLinked w → IsLinked v
 linked-same w v same waits names l = record {
   births = rw same l.births;
   pairs = subst (λ ps. every (is_mutual (tied ps [])) ps ≡ true) (sym same) l.pairs;
   rooted = subst (λ ps. every (is_rooted (tied ps [])) ps ≡ true) (sym same) l.rooted;
   offers = subst (λ ps. every (is_lone_offer (tied ps [])) v.waits ≡ true) (sym same) (waits l.offers);
-  targets = every-more (λ b. leads_to_end w b.1) (λ b. leads_to_end v b.1) (λ b. target-kept w v up b.1) v.bindings (names l.targets);
+  targets = every-more (λ b. leads_to_root w b.1) (λ b. leads_to_root v b.1) (λ b. target-kept w v up b.1) v.bindings (names l.targets);
 }
   where
     up : Upholds w v
     up = record {
       pairs = λ b c is. subst (λ ps. is_the b (pair_of (tied ps []) c) ≡ true) (sym same) is;
-      ends = λ c is. subst (λ ps. is_end_port (tied ps []) c ≡ true) (sym same) is;
+      ends = λ c is. subst (λ ps. is_root_port (tied ps []) c ≡ true) (sym same) is;
     }
 
 accepted-offer : (w : World) (reply : List ℕ) (x : WaitRow) → is_lone_offer w x ≡ true → is_lone_offer w (accepted reply x) ≡ true
@@ -64,7 +64,7 @@ is_portless (LinkTo target) = true
 is_portless (Stands Directory) = true
 is_portless (Stands (Item port)) = false
 
-portless-leads : (w : World) (node : Node Birth) → is_portless node ≡ true → leads_to_end w node ≡ true
+portless-leads : (w : World) (node : Node Birth) → is_portless node ≡ true → leads_to_root w node ≡ true
 portless-leads w (LinkTo target) is = refl
 portless-leads w (Stands Directory) is = refl
 portless-leads w (Stands (Item port)) is = absurd (cc)
@@ -119,7 +119,7 @@ alike-linked w v f a same waits names l = record {
   pairs = subst (λ ps. every (is_mutual v) ps ≡ true) (sym same) (rw (every-map (is_mutual v) f w.ports) (every-more (is_mutual w) (λ p. is_mutual v (f p)) (λ p is. rw (a.birth p, a.pair p) (mutual-kept w v up p is)) w.ports l.pairs));
   rooted = subst (λ ps. every (is_rooted v) ps ≡ true) (sym same) (rw (every-map (is_rooted v) f w.ports) (every-more (is_rooted w) (λ p. is_rooted v (f p)) (λ p is. rw (a.connection p) (rooted-kept w v up p is)) w.ports l.rooted));
   offers = subst (λ xs. every (is_lone_offer v) xs ≡ true) (sym waits) (every-more (is_lone_offer w) (is_lone_offer v) (λ x. offer x) w.waits l.offers);
-  targets = subst (λ bs. every (λ b. leads_to_end v b.1) bs ≡ true) (sym names) (every-more (λ b. leads_to_end w b.1) (λ b. leads_to_end v b.1) (λ b. target-kept w v up b.1) w.bindings l.targets);
+  targets = subst (λ bs. every (λ b. leads_to_root v b.1) bs ≡ true) (sym names) (every-more (λ b. leads_to_root w b.1) (λ b. leads_to_root v b.1) (λ b. target-kept w v up b.1) w.bindings l.targets);
 }
   where
     row : (c : Birth) → port_row v c ≡ option_map f (port_row w c)
@@ -143,7 +143,7 @@ alike-linked w v f a same waits names l = record {
     either n e u ee uu one two is = grind (arith, one, two)
 
     offer : (x : WaitRow) → is_lone_offer w x ≡ true → is_lone_offer v x ≡ true
-    offer x is = either (not (is_offered x)) (is_end_port w x.queue) (passes (port_row w x.port) is_unjoined) (is_end_port v x.queue) (passes (port_row v x.port) is_unjoined) (up.ends x.queue) (λ one. rw (row x.port) (passing is_unjoined (λ p is. rw (a.pair p, a.connection p) is) (port_row w x.port) one)) is
+    offer x is = either (not (is_offered x)) (is_root_port w x.queue) (passes (port_row w x.port) is_unjoined) (is_root_port v x.queue) (passes (port_row v x.port) is_unjoined) (up.ends x.queue) (λ one. rw (row x.port) (passing is_unjoined (λ p is. rw (a.pair p, a.connection p) is) (port_row w x.port) one)) is
 
 -- a connection that is completed
 completed-alike : (c : Birth) → IsAlike (λ p. cond (is_port c p) (completed p) p)
@@ -199,10 +199,10 @@ cut-passes w b c t more is = at (port_row w c) refl
 lone-parts : (n e u ee uu : Bool) → (e ≡ true → ee ≡ true) → (u ≡ true → uu ≡ true) → (n || (e && u)) ≡ true → (n || (ee && uu)) ≡ true
 lone-parts n e u ee uu one two is = grind (arith, one, two)
 
-pub offer-kept : (w v : World) → ((c : Birth) → is_end_port w c ≡ true → is_end_port v c ≡ true) → (x : WaitRow) → (passes (port_row w x.port) is_unjoined ≡ true → passes (port_row v x.port) is_unjoined ≡ true) → is_lone_offer w x ≡ true → is_lone_offer v x ≡ true
-offer-kept w v ends x stays is = lone-parts (not (is_offered x)) (is_end_port w x.queue) (passes (port_row w x.port) is_unjoined) (is_end_port v x.queue) (passes (port_row v x.port) is_unjoined) (ends x.queue) stays is
+pub offer-kept : (w v : World) → ((c : Birth) → is_root_port w c ≡ true → is_root_port v c ≡ true) → (x : WaitRow) → (passes (port_row w x.port) is_unjoined ≡ true → passes (port_row v x.port) is_unjoined ≡ true) → is_lone_offer w x ≡ true → is_lone_offer v x ≡ true
+offer-kept w v ends x stays is = lone-parts (not (is_offered x)) (is_root_port w x.queue) (passes (port_row w x.port) is_unjoined) (is_root_port v x.queue) (passes (port_row v x.port) is_unjoined) (ends x.queue) stays is
 
-pub leads-kept : (w v : World) → ((c : Birth) → is_end_port w c ≡ true → is_end_port v c ≡ true) → (node : Node Birth) → leads_to_end w node ≡ true → leads_to_end v node ≡ true
+pub leads-kept : (w v : World) → ((c : Birth) → is_root_port w c ≡ true → is_root_port v c ≡ true) → (node : Node Birth) → leads_to_root w node ≡ true → leads_to_root v node ≡ true
 leads-kept w v ends (LinkTo target) is = refl
 leads-kept w v ends (Stands Directory) is = refl
 leads-kept w v ends (Stands (Item port)) is = ends port is
@@ -210,13 +210,13 @@ leads-kept w v ends (Stands (Item port)) is = ends port is
 cut-linked : (w : World) (b : Birth) → IsLinked w → IsLinked (basic w (Cuts b))
 cut-linked w b l =
     let v = basic w (Cuts b) in
-    let ends = λ (c : Birth) (is : is_end_port w c ≡ true). cut-passes w b c names_nothing cut-end is in
+    let ends = λ (c : Birth) (is : is_root_port w c ≡ true). cut-passes w b c names_nothing cut-end is in
     record {
       births = λ c. rw (count-mapped (λ p. cond (is_end_of b p) (cut p) p) (λ p. cut-birth (is_end_of b p) p) c w.ports) (l.births c);
       pairs = every-change_to (is_mutual w) (is_mutual v) (is_end_of b) cut (λ p was is. refl) (λ p was off. cut-mutual w b p was off) w.ports l.pairs;
       rooted = every-change (is_rooted v) (is_end_of b) cut (λ p is. is) w.ports (every-more (is_rooted w) (is_rooted v) (λ p is. option-kept p.connection _ _ ends is) w.ports l.rooted);
       offers = every-more (is_lone_offer w) (is_lone_offer v) (λ x. offer-kept w v ends x (λ is. cut-passes w b x.port is_unjoined cut-unjoined is)) w.waits l.offers;
-      targets = every-more (λ b. leads_to_end w b.1) (λ b. leads_to_end v b.1) (λ x. leads-kept w v ends x.1) w.bindings l.targets;
+      targets = every-more (λ b. leads_to_root w b.1) (λ b. leads_to_root v b.1) (λ x. leads-kept w v ends x.1) w.bindings l.targets;
     }
 
 -- Plain steps
@@ -246,12 +246,12 @@ plain-linked w (Makes p) is l = absurd (cc)
 plain-linked w (Joins client server context) is l = absurd (cc)
 plain-linked w (Completes b) is l = alike-linked w (basic w (Completes b)) (λ p. cond (is_port b p) (completed p) p) (completed-alike b) refl refl refl l
 plain-linked w (Frees o) is l = absurd (cc)
-plain-linked w (Binds path node) is l = linked-same w (basic w (Binds path node)) refl (λ all. all) (λ all. every-push (λ b. leads_to_end w b.1) w.bindings (path, node) all (portless-leads w node is)) l
+plain-linked w (Binds path node) is l = linked-same w (basic w (Binds path node)) refl (λ all. all) (λ all. every-push (λ b. leads_to_root w b.1) w.bindings (path, node) all (portless-leads w node is)) l
 plain-linked w (AddsHandle pid h) is l = linked-same w (basic w (AddsHandle pid h)) refl (λ all. all) (λ all. all) l
 plain-linked w (Withdraws who) is l = linked-same w (basic w (Withdraws who)) refl (λ all. all) (λ all. all) l
 plain-linked w (Empties q) is l = linked-same w (basic w (Empties q)) refl (λ all. all) (λ all. all) l
 plain-linked w (Cuts b) is l = cut-linked w b l
-plain-linked w (Unbinds b) is l = linked-same w (basic w (Unbinds b)) refl (λ all. all) (every-without (λ b. leads_to_end w b.1) (is_name same_birth b) w.bindings) l
+plain-linked w (Unbinds b) is l = linked-same w (basic w (Unbinds b)) refl (λ all. all) (every-without (λ b. leads_to_root w b.1) (is_name same_birth b) w.bindings) l
 plain-linked w (DropsHandle pid value) is l = linked-same w (basic w (DropsHandle pid value)) refl (λ all. all) (λ all. all) l
 
 pub plain-all : (w : World) (bs : List Basic) → every is_plain bs ≡ true → IsLinked w → IsLinked (world_after w bs)
@@ -289,14 +289,14 @@ one-new p b ports few none = at (is_port b p) refl
 pub made-linked : (w : World) (p : PortRow) → has (is_port p.birth) w.ports ≡ false → p.pair ≡ None → is_rooted w p ≡ true → IsLinked w → IsLinked (basic w (Makes p))
 made-linked w p new cut root l =
     let v = basic w (Makes p) in
-    let ends = λ (c : Birth) (is : is_end_port w c ≡ true). push-passes w p c names_nothing is in
+    let ends = λ (c : Birth) (is : is_root_port w c ≡ true). push-passes w p c names_nothing is in
     let up : Upholds w v = record { pairs = λ b c is. push-pair w p b c is; ends = ends } in
     record {
       births = λ b. one-new p b w.ports (l.births b) new;
       pairs = every-push (is_mutual v) w.ports p (every-more (is_mutual w) (is_mutual v) (mutual-kept w v up) w.ports l.pairs) (rw cut refl);
       rooted = every-push (is_rooted v) w.ports p (every-more (is_rooted w) (is_rooted v) (rooted-kept w v up) w.ports l.rooted) (rooted-kept w v up p root);
       offers = every-more (is_lone_offer w) (is_lone_offer v) (λ x. offer-kept w v ends x (λ is. push-passes w p x.port is_unjoined is)) w.waits l.offers;
-      targets = every-more (λ b. leads_to_end w b.1) (λ b. leads_to_end v b.1) (λ x. leads-kept w v ends x.1) w.bindings l.targets;
+      targets = every-more (λ b. leads_to_root w b.1) (λ b. leads_to_root v b.1) (λ x. leads-kept w v ends x.1) w.bindings l.targets;
     }
 
 -- the new port is found

@@ -13,7 +13,7 @@ use Rattle.lpc_model.specs.World.{Birth, ObjectKind, ObjectName, ThreadRow, Wait
 use Rattle.lpc_model.specs.Found.{handles_of, is_live, is_live_thread, is_thread, live_thread, live_threads, same_birth, wait_of}
 use Rattle.lpc_model.specs.Basics.{AddsThread, Basic, Dies, DrawsIdentifier, DrawsOrdinal, Frees, Registers, Unregisters, basic, ended, freed, in_turn, past_identifier, past_ordinal, provided, registering, unregistering, world_after, ◌▹◌}
 use Rattle.lpc_model.specs.Close.{close_handle}
-use Rattle.lpc_model.specs.Death.{code_status, die, end_process, end_threads, nt_terminate_process, nt_terminate_thread, post_death, post_deaths, told_death}
+use Rattle.lpc_model.specs.Death.{code_status, die, end_process, end_threads, nt_terminate_process, nt_terminate_thread, post_death, post_deaths, death_post}
 use Rattle.lpc_model.specs.Deaths.{HasLivingRegistrations, has_living_registrations}
 use Rattle.lpc_model.specs.Named.{free_name, spelled_name}
 use Rattle.lpc_model.specs.Sweep.{free_unheld, sweep, unheld}
@@ -129,7 +129,7 @@ with_registrations t rs = record t { registrations = rs }
 post-owed : (t : ThreadRow) (ts : List ThreadRow) (b : Birth) (rs : List Birth) (w : World) → AreOwed (with_registrations t (b ∷ rs) ∷ ts) w → AreOwed (with_registrations t rs ∷ ts) (behind (post_death t b) w)
 post-owed t ts b rs w owes =
     let v = basic w (Unregisters t.number b) in
-    let told = given (told_death v t b) (λ m. enter m v) in
+    let told = given (death_post v t b) (λ m. enter m v) in
     owed-all (with_registrations t rs ∷ ts) v told (ending-death t b w) (death-still t b w) gone
   where
     here : (r : ThreadRow) → is_owed (with_registrations t (b ∷ rs) ∷ ts) r ≡ true → is_thread t.number r ≡ true → is_owed (with_registrations t rs ∷ ts) (unregistering b r) ≡ true

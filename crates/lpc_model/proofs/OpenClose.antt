@@ -9,8 +9,8 @@ use Rattle.lpc_model.specs.World.{Birth, Creator, MessageRow, PortRow, WaitRow, 
 use Rattle.lpc_model.specs.Found.{is_client_port, is_open, is_port, is_queued, is_queued_connect, is_the, port_row, same_birth}
 use Rattle.lpc_model.specs.Basics.{Cuts, world_after}
 use Rattle.lpc_model.specs.Entering.{enter, given_steps, shown, takes, woken}
-use Rattle.lpc_model.specs.Close.{close_port, closed_row, post_closed, server_of, told_of}
-use Rattle.lpc_model.specs.Linked.{IsLinked, is_end_port, is_lone_offer, is_rooted, leads_to_end, names_nothing, passes_or_none}
+use Rattle.lpc_model.specs.Close.{close_port, closed_row, post_closed, server_of, closing_post}
+use Rattle.lpc_model.specs.Linked.{IsLinked, is_root_port, is_lone_offer, is_rooted, leads_to_root, names_nothing, passes_or_none}
 use Rattle.lpc_model.specs.SoundWaits.{IsSoundWorld}
 use Rattle.lpc_model.proofs.Births.{birth-same}
 use Rattle.lpc_model.proofs.Usable.{if-open, if-same}
@@ -23,7 +23,7 @@ use Rattle.lpc_model.proofs.LinkedSteps.{linked-same, plain-all}
 pub five-linked : (w : World) (b : Birth) → IsLinked w → IsLinked (stage_five w b)
 five-linked w b l =
     let less = fewer-uncut w b in
-    let before = linked-same w (uncut w b) less.ports (less.waits (is_lone_offer w)) (less.bindings (λ b. leads_to_end w b.1)) l in
+    let before = linked-same w (uncut w b) less.ports (less.waits (is_lone_offer w)) (less.bindings (λ b. leads_to_root w b.1)) l in
     subst IsLinked (sym (cut-is w b)) (plain-all (uncut w b) (Cuts b ∷ []) refl before)
 
 -- The queue to which a closing is told
@@ -35,7 +35,7 @@ only-if : (c : Bool) (o : Option Birth) (q : Birth) → is_the q (if c then o el
 only-if true o q is = is
 only-if false o q is = absurd (cc)
 
-end-apart : (w : World) (b q : Birth) (p : PortRow) → port_row w b ≡ Some p → is_the q p.connection ≡ true → is_end_port w q ≡ true → same_birth q b ≡ false
+end-apart : (w : World) (b q : Birth) (p : PortRow) → port_row w b ≡ Some p → is_the q p.connection ≡ true → is_root_port w q ≡ true → same_birth q b ≡ false
 end-apart w b q p row its ends = at (same_birth q b) refl
   where
     never : (o n : Option Birth) → is_the q n ≡ true → (is_none o && is_none n) ≡ true → false ≡ true
@@ -55,9 +55,9 @@ told-apart w b q p l row at =
     let its = only-if (is_client_port p && p.completed) p.connection q (if-same w (if is_client_port p && p.completed then p.connection else None) q at) in
     end-apart w b q p row its (rooted-end p.connection its (every-first (is_rooted w) (is_port b) w.ports p l.rooted row))
   where
-    rooted-end : (o : Option Birth) → is_the q o ≡ true → passes_or_none o (is_end_port w) ≡ true → is_end_port w q ≡ true
+    rooted-end : (o : Option Birth) → is_the q o ≡ true → passes_or_none o (is_root_port w) ≡ true → is_root_port w q ≡ true
     rooted-end None is all = absurd (cc)
-    rooted-end (Some c) is all = subst (λ d. is_end_port w d ≡ true) (sym (birth-same q c is)) all
+    rooted-end (Some c) is all = subst (λ d. is_root_port w d ≡ true) (sym (birth-same q c is)) all
 
 -- What is posted
 abbrev messages_behind : World → MessageRow → Option WaitRow → List MessageRow
@@ -88,7 +88,7 @@ module _ (Q : List MessageRow → Type 0) (keeps : (test : MessageRow → Bool) 
       queued p None passes = all
       queued p (Some q) passes = by_creator p q p.creator (λ by. passes q by refl)
 
-      at : (o : Option PortRow) → port_row w b ≡ o → Q (world_after w (given o (λ p. given (told_of w p) (λ m. enter m w)))).messages
+      at : (o : Option PortRow) → port_row w b ≡ o → Q (world_after w (given o (λ p. given (closing_post w p) (λ m. enter m w)))).messages
       at None row = all
       at (Some p) row = queued p (server_of w p) (λ q by found. new p q by row found)
 

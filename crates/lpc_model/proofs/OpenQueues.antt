@@ -19,12 +19,12 @@ use Rattle.lpc_model.specs.Basics.{Accepts, AddsHandle, AddsProcess, AddsThread,
 use Rattle.lpc_model.specs.Sweep.{free_unheld, sweep, unheld}
 use Rattle.lpc_model.specs.Message.{asks, message_test}
 use Rattle.lpc_model.specs.Fields.{h, info, max}
-use Rattle.lpc_model.specs.Entering.{enter, given_steps, receipt_steps, row_of, shown, takes, woken}
+use Rattle.lpc_model.specs.Entering.{enter, given_steps, received_steps, row_of, shown, takes, woken}
 use Rattle.lpc_model.specs.Named.{free_name, named_port, spelled_name}
 use Rattle.lpc_model.specs.Refusal.{found_or, refuse_if}
 use Rattle.lpc_model.specs.Tests.{PORT_ACCESS, handle_row, handles_test, next_birth, own_handle, port_test}
 use Rattle.lpc_model.specs.Connect.{Completable, ConnectAnswer, accept_steps, answer_of, answer_test, answered_steps, client_port, complete_steps, complete_test, connect_start, connection_request, create_steps, info_test, listen_steps, making, names_connect, new_port, nt_accept_connect_port, nt_complete_connect_port, nt_connect_port, nt_create_port, nt_listen_port, refuse_steps, server_port}
-use Rattle.lpc_model.specs.Request.{Sendable, answered_test, datagram_send_test, datagram_start, datagram_test, given_reply, is_spent, nt_reply_port, nt_reply_wait_receive_port, nt_request_port, nt_request_wait_reply_port, optional_message, receive_steps, receive_test, request_start, send_test, sent_by}
+use Rattle.lpc_model.specs.Request.{Sendable, reply_test, datagram_send_test, datagram_start, datagram_test, given_reply, is_spent, nt_reply_port, nt_reply_wait_receive_port, nt_request_port, nt_request_wait_reply_port, optional_message, receive_steps, receive_test, request_start, send_test, sent_by}
 use Rattle.lpc_model.specs.Lines.{ProcArg, ScriptCall, ScriptLine, accept_connect_port, boot, close, complete_connect_port, connect_port, create_port, create_process, create_thread, dir, duplicate_object, link, listen_port, query_object, register_thread_terminate_port, reply_port, reply_wait_receive_port, request_port, request_wait_reply_port, run, terminate_process, terminate_thread, thread}
 use Rattle.lpc_model.specs.Machine.{bare_steps, boot_line, dir_line, link_line, name_of_call, ready_steps, service_of, thread_line, thread_steps, thread_test, unused_test}
 use Rattle.lpc_model.specs.Close.{close_handle, close_port, is_last, nt_close}
@@ -185,7 +185,7 @@ handled w pid object access one q =
 both-true : (a b : Bool) → a ≡ true → b ≡ true → (a && b) ≡ true
 both-true a b one two = grind arith
 
-open-receipt : (w : World) (m : MessageRow) → AreOpen w (receipt_steps m)
+open-receipt : (w : World) (m : MessageRow) → AreOpen w (received_steps m)
 open-receipt w m = at (asks m.message)
   where
     at : (a : Bool) → AreOpen w (when a (Receives m.message.header.client.thread m.queue ∷ []))
@@ -195,11 +195,11 @@ open-receipt w m = at (asks m.message)
 open-given : (w : World) (m : MessageRow) (x : WaitRow) → AreOpen w (given_steps x m ++ woken SUCCESS (shown x m) x ∷ [])
 open-given w m x =
     by_kind (λ x. AreOpen w (given_steps x m ++ woken SUCCESS (shown x m) x ∷ []))
-    (λ x r. every-append (is_open_step w) (receipt_steps m) _ (open-receipt w m) refl)
-    (λ x. every-append (is_open_step w) (receipt_steps m) _ (open-receipt w m) refl)
-    (λ x. every-append (is_open_step w) (receipt_steps m) _ (open-receipt w m) refl)
-    (λ x r. every-append (is_open_step w) (receipt_steps m) _ (open-receipt w m) refl)
-    (λ x r reply. every-append (is_open_step w) (receipt_steps m) _ (open-receipt w m) refl) x
+    (λ x r. every-append (is_open_step w) (received_steps m) _ (open-receipt w m) refl)
+    (λ x. every-append (is_open_step w) (received_steps m) _ (open-receipt w m) refl)
+    (λ x. every-append (is_open_step w) (received_steps m) _ (open-receipt w m) refl)
+    (λ x r. every-append (is_open_step w) (received_steps m) _ (open-receipt w m) refl)
+    (λ x r reply. every-append (is_open_step w) (received_steps m) _ (open-receipt w m) refl) x
 
 -- a message enters a queue that is open in one world, in a later one
 open-enter : (w : World) (m : MessageRow) (v : World) → is_open w m.queue ≡ true → AreOpen w (enter m v)
@@ -348,12 +348,12 @@ unfolding nt_reply_port
 reply-open w by handle bytes =
     bind_holds (port_test w by handle) _ (AreOpen w) (λ port _.
     bind_holds (message_test bytes) _ (AreOpen w) (λ m _.
-    bind_holds (answered_test w port m) _ (AreOpen w) (λ x _. refl)))
+    bind_holds (reply_test w port m) _ (AreOpen w) (λ x _. refl)))
 
 -- NtReplyWaitReceivePort
 given-reply-open : (w : World) (port : PortRow) (m : Option Message) → Holds (AreOpen w) (given_reply w port m)
 given-reply-open w port None = refl
-given-reply-open w port (Some m) = bind_holds (answered_test w port m) _ (AreOpen w) (λ x _. refl)
+given-reply-open w port (Some m) = bind_holds (reply_test w port m) _ (AreOpen w) (λ x _. refl)
 
 -- a receive waits only on an open queue
 receive-at : (w : World) (port : PortRow) → Holds (λ queue. is_open w queue ≡ true) (receive_test w port)

@@ -10,7 +10,7 @@ use Rattle.lpc_model.specs.Closings.{ClosingsAreTold, RunTellsClosings}
 use Rattle.lpc_model.specs.Linked.{HasHeldRows, RunHoldsRows}
 use Rattle.lpc_model.specs.OpenQueues.{HasOpenQueues, RunKeepsQueuesOpen}
 use Rattle.lpc_model.specs.Standing.{NamesWhatStands, RunNamesWhatStands}
-use Rattle.lpc_model.specs.Untold.{IsUntold, RunKeepsUntold}
+use Rattle.lpc_model.specs.SingleClosings.{HasSingleClosings, RunHasSingleClosings}
 use Rattle.lpc_model.specs.SoundWaits.{HasSoundWaits, RefusesCutPairsAlone, RunRefusesCutPairsAlone, RunStaysSound}
 use Rattle.lpc_model.proofs.SoundPairs.{refuses_cut_pairs}
 use Rattle.lpc_model.proofs.SoundLines.{sound_none, sound_step, sound_waits}
@@ -18,7 +18,7 @@ use Rattle.lpc_model.proofs.LinkedLines.{held_step, linked_none, linked_step}
 use Rattle.lpc_model.proofs.StandingCalls.{names_none, names_step}
 use Rattle.lpc_model.proofs.OpenQueues.{queues_none, queues_step}
 use Rattle.lpc_model.proofs.ToldLines.{closings_told}
-use Rattle.lpc_model.proofs.UntoldLines.{untold_none, untold_step}
+use Rattle.lpc_model.proofs.SingleClosingsLines.{untold_none, untold_step}
 use Rattle.lpc_model.specs.Deaths.{DeathsAreTold, HasLivingRegistrations, HasSingleRegistrations, RunHasLivingRegistrations, RunHasSingleRegistrations, RunTellsDeaths}
 use Rattle.lpc_model.proofs.ThreadsOnce.{once_step}
 use Rattle.lpc_model.proofs.DeathLines.{deaths_told}
@@ -39,7 +39,7 @@ lawful_none = record {
   held = record { ports = refl; lives = record { threads = refl; processes = refl } };
   queues = queues_none;
   names = names_none;
-  untold = untold_none;
+  single_closings = untold_none;
   threads = λ n. grind arith;
   registrations = refl;
   single = refl;
@@ -49,13 +49,13 @@ lawful_none = record {
 
 -- and behind each line
 pub lawful_step : (w : World) (line : ScriptLine) → IsLawfulWorld w → IsLawfulWorld (step w line).world
-lawful_step w line t = let shut = t.untold in let safe : IsSafe w = record { sound = t.sound; shut = shut.connects } in record {
+lawful_step w line t = let shut = t.single_closings in let safe : IsSafe w = record { sound = t.sound; shut = shut.connects } in record {
   sound = sound_step w line t.sound shut.connects;
   linked = linked_step w line t.sound shut.connects t.linked;
   held = held_step w line t.sound t.linked;
   queues = queues_step w line t.sound shut.connects t.linked t.queues;
   names = names_step w line t.sound shut.connects t.linked t.names;
-  untold = untold_step w line t.sound t.names t.untold;
+  single_closings = untold_step w line t.sound t.names t.single_closings;
   threads = once_step w line t.sound t.threads;
   registrations = living_registrations_step w line t.sound t.threads t.registrations;
   single = single_step w line t.sound t.threads t.single;
@@ -97,11 +97,11 @@ queues_run bytes = trace-keeps HasOpenQueues (λ w t. t.queues) no_rows (said_in
 pub names_run : (bytes : List ℕ) → RunNamesWhatStands bytes
 names_run bytes = trace-keeps NamesWhatStands (λ w t. t.names) no_rows (said_in bytes) lawful_none
 
-pub untold_run : (bytes : List ℕ) → RunKeepsUntold bytes
-untold_run bytes = trace-keeps IsUntold (λ w t. t.untold) no_rows (said_in bytes) lawful_none
+pub untold_run : (bytes : List ℕ) → RunHasSingleClosings bytes
+untold_run bytes = trace-keeps HasSingleClosings (λ w t. t.single_closings) no_rows (said_in bytes) lawful_none
 
 pub closings_told_run : (bytes : List ℕ) → RunTellsClosings bytes
-closings_told_run bytes = along-keeps ClosingsAreTold (λ w line t. let shut = t.untold in closings_told w line t.sound shut.connects) no_rows (said_in bytes) lawful_none
+closings_told_run bytes = along-keeps ClosingsAreTold (λ w line t. let shut = t.single_closings in closings_told w line t.sound shut.connects) no_rows (said_in bytes) lawful_none
 
 pub deaths_told_run : (bytes : List ℕ) → RunTellsDeaths bytes
 deaths_told_run bytes = along-keeps DeathsAreTold (λ w line t. deaths_told w line t.sound t.threads) no_rows (said_in bytes) lawful_none

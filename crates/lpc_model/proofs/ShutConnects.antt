@@ -6,7 +6,7 @@ use Rattle.lpc_model.specs.World.{World}
 use Rattle.lpc_model.specs.Found.{waits_as, waits_at}
 use Rattle.lpc_model.specs.Basics.{Accepts, AddsHandle, AddsProcess, Awaits, Basic, Dies, DropsHandle, Frees, Receives, Wakes, basic, received, world_after}
 use Rattle.lpc_model.specs.SoundWaits.{HasShutConnects}
-use Rattle.lpc_model.proofs.Untold.{dropped-shut, waits-more, waits_shut}
+use Rattle.lpc_model.proofs.SingleClosings.{dropped-shut, waits-more, waits_shut}
 use Rattle.lpc_model.proofs.Ending.{AreEnding, is_ending}
 
 shut-step : (w : World) (b : Basic) → is_ending b ≡ true → HasShutConnects w → HasShutConnects (basic w b)

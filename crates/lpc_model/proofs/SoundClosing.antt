@@ -11,7 +11,7 @@ use Rattle.lpc_model.specs.Found.{is_accepted, is_made_on, is_offered, is_port, 
 use Rattle.lpc_model.specs.Basics.{Basic, Cuts, Empties, Enters, Steps, doing, basic, cut, end_each, is_end_of, world_after, ◌▹◌}
 use Rattle.lpc_model.specs.Fields.{info}
 use Rattle.lpc_model.specs.Entering.{enter, given_steps, shown, takes, woken}
-use Rattle.lpc_model.specs.Close.{close_port, closed_row, cut_pair, drop_name, empty_queue, end_accepted, end_offered, end_receives, end_request, end_requests, is_accepted_across, is_across, is_offered_to, is_queued_request, is_receive_across, is_receiver, is_request_across, is_request_on, post_closed, server_of, told_of, wake}
+use Rattle.lpc_model.specs.Close.{close_port, closed_row, cut_pair, drop_name, empty_queue, end_accepted, end_offered, end_receives, end_request, end_requests, is_accepted_across, is_across, is_offered_to, is_queued_request, is_receive_across, is_receiver, is_request_across, is_request_on, post_closed, server_of, closing_post, wake}
 use Rattle.lpc_model.specs.SoundWaits.{IsSoundWorld}
 use Rattle.lpc_model.proofs.Rows.{every-left}
 use Rattle.lpc_model.proofs.SoundPairs.{every-any, tied}
@@ -95,7 +95,7 @@ posted-less w b s = at (port_row w b)
     queued p None = less-none w s
     queued p (Some queue) = by_creator p queue p.creator
 
-    at : (o : Option PortRow) → IsLess w (world_after w (given o (λ p. given (told_of w p) (λ m. enter m w))))
+    at : (o : Option PortRow) → IsLess w (world_after w (given o (λ p. given (closing_post w p) (λ m. enter m w))))
     at None = less-none w s
     at (Some p) = queued p (server_of w p)
 

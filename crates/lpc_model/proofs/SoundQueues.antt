@@ -10,7 +10,7 @@ use Rattle.lpc_model.specs.World.{Accepted, Birth, Connect, Listen, MessageRow, 
 use Rattle.lpc_model.specs.Found.{is_accepted, is_queued, is_queued_connect, same_birth, waits_as, waits_at}
 use Rattle.lpc_model.specs.Message.{asks, is_connection_request}
 use Rattle.lpc_model.specs.Basics.{Basic, Enters, Receives, basic, received, world_after}
-use Rattle.lpc_model.specs.Entering.{enter, given_steps, receipt_steps, shown, take_connect_steps, take_steps, takes, woken}
+use Rattle.lpc_model.specs.Entering.{enter, given_steps, received_steps, shown, take_connect_steps, take_steps, takes, woken}
 use Rattle.lpc_model.specs.Tests.{is_client}
 use Rattle.lpc_model.specs.SoundWaits.{IsSoundWorld, can_stay_sound, has_client_port, is_answerable, is_message_of, is_sound_accepted, is_sound_connect, is_sound_listen, is_sound_receive, is_sound_request, waiter_of}
 use Rattle.lpc_model.proofs.Rows.{count-change, has-append, has-without_first, has_none-without_first, lone, without_first-push}
@@ -111,7 +111,7 @@ taken-sure w test m at =
     (λ off. connect-sure w rest x (has-without_first (is_message_of x) test w.messages m at (other-message x m off)) is))
     (λ x r reply is. marked-case (λ y. is_sure v y ≡ true) (mark x) (record x { kind = Accepted r reply }) (λ _. is) (λ _. is))
 
-sound-taken : (w : World) (test : MessageRow → Bool) (m : MessageRow) → first test w.messages ≡ Some m → IsSoundWorld w → IsSoundWorld (world_after (with_messages w (without_first test w.messages)) (receipt_steps m))
+sound-taken : (w : World) (test : MessageRow → Bool) (m : MessageRow) → first test w.messages ≡ Some m → IsSoundWorld w → IsSoundWorld (world_after (with_messages w (without_first test w.messages)) (received_steps m))
 sound-taken w test m at s =
     let v = with_messages w (without_first test w.messages) in
     sound-marked v (asks m.message) m.message.header.client.thread m.queue
@@ -198,11 +198,11 @@ quiet-marked w true who q tid quiet = every-change (is_quiet tid) (waits_at who 
 quiet-marked w false who q tid quiet = quiet
 
 -- each wait is sound once the message has entered, and is taken again
-sound-back : (w : World) (m : MessageRow) (x : WaitRow) (waking : Basic) → ((v : World) → every (is_quiet x.thread) v.waits ≡ true → IsSoundWorld v → IsSoundWorld (basic v waking)) → every (is_quiet x.thread) w.waits ≡ true → every (is_ready w m) w.waits ≡ true → WaitOnce w.waits → InOrder w → IsTied w.ports w.waits → IsSoundWorld (world_after w (receipt_steps m ++ waking ∷ []))
+sound-back : (w : World) (m : MessageRow) (x : WaitRow) (waking : Basic) → ((v : World) → every (is_quiet x.thread) v.waits ≡ true → IsSoundWorld v → IsSoundWorld (basic v waking)) → every (is_quiet x.thread) w.waits ≡ true → every (is_ready w m) w.waits ≡ true → WaitOnce w.waits → InOrder w → IsTied w.ports w.waits → IsSoundWorld (world_after w (received_steps m ++ waking ∷ []))
 sound-back w m x waking wakes quiet all once t ties =
     let who = m.message.header.client.thread in
     let after = sound-marked w (asks m.message) who m.queue (every-more (is_ready w m) (λ y. is_sure w (marked (asks m.message) who m.queue y)) (given-sure w m) w.waits all) once t ties in
-    rw (after-append w (receipt_steps m) (waking ∷ [])) (wakes (world_after w (receipt_steps m)) (quiet-marked w (asks m.message) who m.queue x.thread quiet) after)
+    rw (after-append w (received_steps m) (waking ∷ [])) (wakes (world_after w (received_steps m)) (quiet-marked w (asks m.message) who m.queue x.thread quiet) after)
 
 -- a waiter takes the message at once
 abbrev Given : World → MessageRow → WaitRow → Type 0
@@ -218,7 +218,7 @@ sound-given w m all once t ties =
     let none = has_none-more (λ n. takes n y) (is_queued m.queue) (λ n off. receives-other x m n here off) w.messages nothing in
     let waking = woken SUCCESS (shown y m) y in
     let back = sound-back w m y waking (λ v off s. sound-wakes-quiet v y.thread y.call SUCCESS (shown y m) off s) quiet all once t ties in
-    subst (λ v. IsSoundWorld (world_after v (receipt_steps m ++ waking ∷ []))) (sym (world-taken w (is_queued m.queue) m none (birth-self m.queue))) back)
+    subst (λ v. IsSoundWorld (world_after v (received_steps m ++ waking ∷ []))) (sym (world-taken w (is_queued m.queue) m none (birth-self m.queue))) back)
     (λ x is quiet here.
     let y : WaitRow = record x { kind = Listen } in
     let nothing : has (λ n. takes n y) w.messages ≡ false = grind arith in
@@ -227,7 +227,7 @@ sound-given w m all once t ties =
     let back = sound-back w m y waking (λ v off s. sound-wakes-quiet v y.thread y.call SUCCESS (shown y m) off s) quiet all once t ties in
     let self = birth-self m.queue in
     let own : is_queued_connect m.queue m ≡ true = grind arith in
-    subst (λ v. IsSoundWorld (world_after v (receipt_steps m ++ waking ∷ []))) (sym (world-taken w (is_queued_connect m.queue) m none own)) back)
+    subst (λ v. IsSoundWorld (world_after v (received_steps m ++ waking ∷ []))) (sym (world-taken w (is_queued_connect m.queue) m none own)) back)
     (λ x r is quiet here. absurd (cc))
     (λ x r reply is quiet here. absurd (cc))
 

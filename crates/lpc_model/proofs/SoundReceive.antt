@@ -10,7 +10,7 @@ use Rattle.lpc_model.specs.Found.{is_open, port_row, is_queued, queue_of, same_b
 use Rattle.lpc_model.specs.Basics.{Awaits, Basic, world_after}
 use Rattle.lpc_model.specs.Entering.{take_steps, takes}
 use Rattle.lpc_model.specs.Tests.{client_of, is_client, port_test}
-use Rattle.lpc_model.specs.Request.{answered_test, given_reply, is_spent, nt_reply_wait_receive_port, optional_message, receive_steps, receive_test, receive_wait}
+use Rattle.lpc_model.specs.Request.{reply_test, given_reply, is_spent, nt_reply_wait_receive_port, optional_message, receive_steps, receive_test, receive_wait}
 use Rattle.lpc_model.specs.Refusal.{found_or, refuse_if}
 use Rattle.lpc_model.specs.SoundWaits.{IsSoundWorld, is_joined}
 use Rattle.lpc_model.proofs.Rows.{first-less, has-none}
@@ -33,7 +33,7 @@ record IsReplied (w : World) (bs : List Basic) : Type 0 where
 replied : (w : World) (port : PortRow) (o : Option Message) → IsSoundWorld w → Holds (IsReplied w) (given_reply w port o)
 replied w port None s = record { waits = w.waits; world = refl; idle = λ tid none. none; sound = s }
 replied w port (Some m) s =
-    bind_holds (answered_test w port m) _ (IsReplied w) (λ x at.
+    bind_holds (reply_test w port m) _ (IsReplied w) (λ x at.
     record { waits = without (waits_as x.thread) w.waits; world = refl; idle = λ tid none. first-less (waits_as tid) (waits_as x.thread) w.waits none; sound = replied-sound w port m x at s })
 
 -- a receive finds its queue open, and a message can come where none stands in it

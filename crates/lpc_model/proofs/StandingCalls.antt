@@ -18,14 +18,14 @@ use Rattle.lpc_model.specs.Basics.{Accepts, AddsHandle, AddsProcess, AddsThread,
 use Rattle.lpc_model.specs.Sweep.{sweep}
 use Rattle.lpc_model.specs.Message.{asks, message_test}
 use Rattle.lpc_model.specs.Fields.{h, info, max}
-use Rattle.lpc_model.specs.Entering.{enter, given_steps, receipt_steps, row_of, shown, takes, woken}
+use Rattle.lpc_model.specs.Entering.{enter, given_steps, received_steps, row_of, shown, takes, woken}
 use Rattle.lpc_model.specs.Named.{free_name, named_port, spelled_name}
 use Rattle.lpc_model.specs.Refusal.{found_or, refuse_if}
 use Rattle.lpc_model.specs.Tests.{PORT_ACCESS, handle_row, handles_test, next_birth, own_handle, port_test}
 use Rattle.lpc_model.specs.Connect.{Completable, ConnectAnswer, accept_steps, answer_of, answer_test, answered_steps, client_port, complete_steps, complete_test, connect_steps, connect_wait, connection_request, create_steps, info_test, listen_steps, making, names_connect, new_port, nt_accept_connect_port, nt_complete_connect_port, nt_connect_port, nt_create_port, nt_listen_port, refuse_steps, server_port}
-use Rattle.lpc_model.specs.Request.{Sendable, answered_test, datagram_send_test, datagram_start, datagram_test, given_reply, is_spent, nt_reply_port, nt_reply_wait_receive_port, nt_request_port, nt_request_wait_reply_port, optional_message, receive_steps, receive_test, receive_wait, request_start, request_wait, send_test, sent_by}
+use Rattle.lpc_model.specs.Request.{Sendable, reply_test, datagram_send_test, datagram_start, datagram_test, given_reply, is_spent, nt_reply_port, nt_reply_wait_receive_port, nt_request_port, nt_request_wait_reply_port, optional_message, receive_steps, receive_test, receive_wait, request_start, request_wait, send_test, sent_by}
 use Rattle.lpc_model.specs.Counts.{asked, nt_duplicate_object, nt_query_object, rights_test}
-use Rattle.lpc_model.specs.Close.{close_handle, close_port, closed_row, cut_pair, end_accepted, end_request, is_accepted_across, is_across, is_last, is_receive_across, is_receiver, is_request_across, nt_close, post_closed, server_of, told_of, wake}
+use Rattle.lpc_model.specs.Close.{close_handle, close_port, closed_row, cut_pair, end_accepted, end_request, is_accepted_across, is_across, is_last, is_receive_across, is_receiver, is_request_across, nt_close, post_closed, server_of, closing_post, wake}
 use Rattle.lpc_model.specs.Lines.{ProcArg, ScriptCall, ScriptLine, accept_connect_port, boot, close, complete_connect_port, connect_port, create_port, create_process, create_thread, dir, duplicate_object, link, listen_port, query_object, register_thread_terminate_port, reply_port, reply_wait_receive_port, request_port, request_wait_reply_port, run, terminate_process, terminate_thread, thread}
 use Rattle.lpc_model.specs.Machine.{bare_steps, boot_line, dir_line, link_line, name_of_call, ready_steps, service_of, thread_line, thread_steps, thread_test, unused_test}
 use Rattle.lpc_model.specs.SoundWaits.{HasShutConnects, IsSoundWorld}
@@ -70,7 +70,7 @@ both-true : (a b : Bool) → a ≡ true → b ≡ true → (a && b) ≡ true
 both-true a b one two = grind arith
 
 -- Messages that enter
-naming-receipt : (w : World) (m : MessageRow) → AreNaming w (receipt_steps m)
+naming-receipt : (w : World) (m : MessageRow) → AreNaming w (received_steps m)
 naming-receipt w m = at (asks m.message)
   where
     at : (a : Bool) → AreNaming w (when a (Receives m.message.header.client.thread m.queue ∷ []))
@@ -80,11 +80,11 @@ naming-receipt w m = at (asks m.message)
 naming-given : (w : World) (m : MessageRow) (x : WaitRow) → AreNaming w (given_steps x m ++ woken SUCCESS (shown x m) x ∷ [])
 naming-given w m x =
     by_kind (λ x. AreNaming w (given_steps x m ++ woken SUCCESS (shown x m) x ∷ []))
-    (λ x r. every-append (is_naming w) (receipt_steps m) _ (naming-receipt w m) refl)
-    (λ x. every-append (is_naming w) (receipt_steps m) _ (naming-receipt w m) refl)
-    (λ x. every-append (is_naming w) (receipt_steps m) _ (naming-receipt w m) refl)
-    (λ x r. every-append (is_naming w) (receipt_steps m) _ (naming-receipt w m) refl)
-    (λ x r reply. every-append (is_naming w) (receipt_steps m) _ (naming-receipt w m) refl) x
+    (λ x r. every-append (is_naming w) (received_steps m) _ (naming-receipt w m) refl)
+    (λ x. every-append (is_naming w) (received_steps m) _ (naming-receipt w m) refl)
+    (λ x. every-append (is_naming w) (received_steps m) _ (naming-receipt w m) refl)
+    (λ x r. every-append (is_naming w) (received_steps m) _ (naming-receipt w m) refl)
+    (λ x r reply. every-append (is_naming w) (received_steps m) _ (naming-receipt w m) refl) x
 
 -- a message enters that was sent on a port that stands in one world, in a later one
 naming-enter : (w : World) (m : MessageRow) (v : World) → has (is_port m.sender) w.ports ≡ true → AreNaming w (enter m v)
@@ -337,12 +337,12 @@ unfolding nt_reply_port
 reply-names w by handle bytes =
     bind_holds (port_test w by handle) _ (AreNaming w) (λ port _.
     bind_holds (message_test bytes) _ (AreNaming w) (λ m _.
-    bind_holds (answered_test w port m) _ (AreNaming w) (λ x _. refl)))
+    bind_holds (reply_test w port m) _ (AreNaming w) (λ x _. refl)))
 
 -- NtReplyWaitReceivePort
 given-names : (w : World) (port : PortRow) (m : Option Message) → Holds (AreNaming w) (given_reply w port m)
 given-names w port None = refl
-given-names w port (Some m) = bind_holds (answered_test w port m) _ (AreNaming w) (λ x _. refl)
+given-names w port (Some m) = bind_holds (reply_test w port m) _ (AreNaming w) (λ x _. refl)
 
 receive-at : (w : World) (port : PortRow) → Holds (λ queue. queue_of w port ≡ Some queue) (receive_test w port)
 receive-at w port =
@@ -391,7 +391,7 @@ posted-names b w = at (port_row w b) refl
     queued p None stands = refl
     queued p (Some queue) stands = by_creator p queue p.creator stands
 
-    at : (o : Option PortRow) → port_row w b ≡ o → AreNaming w (given o (λ p. given (told_of w p) (λ m. enter m w)))
+    at : (o : Option PortRow) → port_row w b ≡ o → AreNaming w (given o (λ p. given (closing_post w p) (λ m. enter m w)))
     at None row = refl
     at (Some p) row = queued p (server_of w p) (subst (λ c. has (is_port c) w.ports ≡ true) (sym (birth-same p.birth b (first-passes (is_port b) w.ports p row))) (row-stands w b p row))
 

@@ -6,14 +6,14 @@ use Rattle.lpc_model.specs.World.{Birth, Message, MessageRow, PortRow, ThreadRow
 use Rattle.lpc_model.specs.Found.{is_queued}
 use Rattle.lpc_model.specs.Basics.{Basic}
 use Rattle.lpc_model.specs.Tests.{port_test}
-use Rattle.lpc_model.specs.Request.{answered_test, given_reply, nt_reply_wait_receive_port, optional_message, receive_steps, receive_test}
+use Rattle.lpc_model.specs.Request.{reply_test, given_reply, nt_reply_wait_receive_port, optional_message, receive_steps, receive_test}
 use Rattle.lpc_model.proofs.Holding.{Holds, bind_holds, holds_ok}
 use Rattle.lpc_model.proofs.LinkedSteps.{is_steady}
 use Rattle.lpc_model.proofs.SteadySteps.{AreSteady, steady-receipt}
 
 given-steady : (w : World) (port : PortRow) (m : Option Message) → Holds AreSteady (given_reply w port m)
 given-steady w port None = refl
-given-steady w port (Some m) = bind_holds (answered_test w port m) _ AreSteady (λ x _. refl)
+given-steady w port (Some m) = bind_holds (reply_test w port m) _ AreSteady (λ x _. refl)
 
 received-steady : (by : ThreadRow) (port : PortRow) (queue : Birth) (replied : List Basic) (o : Option MessageRow) → AreSteady replied → AreSteady (receive_steps by port queue replied o)
 received-steady by port queue replied (Some m) steady = every-append is_steady replied _ steady (steady-receipt m)

@@ -319,9 +319,9 @@ pub swept_none_world : (w : World) → unheld w ≡ [] → world_after w (sweep 
 swept_none_world w none = ap (world_after w) (swept_none w none)
 
 -- where each row is named by a row, nothing goes
-which-none : {X : Type 0} (p : X → Bool) (xs : List X) → every (λ x. not (p x)) xs ≡ true → which p xs ≡ []
-which-none p [] off = refl
-which-none p (x ∷ xs) off = grind (arith, which-none p xs)
+which-off : {X : Type 0} (p : X → Bool) (xs : List X) → every (λ x. not (p x)) xs ≡ true → which p xs ≡ []
+which-off p [] off = refl
+which-off p (x ∷ xs) off = grind (arith, which-off p xs)
 
 pub unheld_ports : (w : World) → AreLivesHeld w → HasHeldPorts w → unheld w ≡ []
 unheld_ports w lives ports =
@@ -329,7 +329,7 @@ unheld_ports w lives ports =
     let ps = map (λ (p : ProcessRow). process_name p.birth) w.processes in
     let ts = map (λ (t : ThreadRow). thread_name t.birth) w.threads in
     let xs = map (λ (p : PortRow). port_name p.birth) w.ports in
-    which-none (is_unheld w) (object_names w)
+    which-off (is_unheld w) (object_names w)
     (every-append held ps (ts ++ xs) (every-map held (λ p. process_name p.birth) w.processes ∙ lives.processes)
     (every-append held ts xs (every-map held (λ t. thread_name t.birth) w.threads ∙ lives.threads) (every-map held (λ p. port_name p.birth) w.ports ∙ ports)))
 

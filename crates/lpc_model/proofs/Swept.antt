@@ -10,7 +10,7 @@ use Rattle.lpc_model.specs.World.{Birth, ObjectKind, ObjectName, PortRow, World}
 use Rattle.lpc_model.specs.Found.{all_registrations, handle_count, is_connected_to, is_made_on, is_paired_to, is_port, is_sent_on, is_the, pair_of, port_name, port_row, process_name, same_birth, same_kind, same_object, thread_name}
 use Rattle.lpc_model.specs.Basics.{Frees, basic, freed, world_after}
 use Rattle.lpc_model.specs.Sweep.{free_unheld, is_unheld, sweep, unheld}
-use Rattle.lpc_model.specs.Linked.{HasHeldPorts, IsLinked, is_end_port, is_mutual, is_rooted, names_nothing, passes_or_none}
+use Rattle.lpc_model.specs.Linked.{HasHeldPorts, IsLinked, is_root_port, is_mutual, is_rooted, names_nothing, passes_or_none}
 use Rattle.lpc_model.proofs.Rows.{count_none, has-found, has-without}
 use Rattle.lpc_model.proofs.Births.{birth-same, birth-self}
 use Rattle.lpc_model.proofs.SoundQueues.{after-append}
@@ -226,14 +226,14 @@ found-self (z ∷ zs) one P holds =
     by_birth r at false is = holds r (rw is at)
 
 -- what a port is connected to names nothing
-pub connected-end : (w : World) → IsLinked w → (c : Birth) → has (is_connected_to c) w.ports ≡ true → is_end_port w c ≡ true
+pub connected-end : (w : World) → IsLinked w → (c : Birth) → has (is_connected_to c) w.ports ≡ true → is_root_port w c ≡ true
 connected-end w l c is = at (first (is_connected_to c) w.ports) refl is
   where
-    root : (o : Option Birth) → is_the c o ≡ true → passes_or_none o (is_end_port w) ≡ true → is_end_port w c ≡ true
+    root : (o : Option Birth) → is_the c o ≡ true → passes_or_none o (is_root_port w) ≡ true → is_root_port w c ≡ true
     root None its rooted = absurd (cc)
-    root (Some d) its rooted = let same : c ≡ d = birth-same c d its in subst (λ b. is_end_port w b ≡ true) (sym same) rooted
+    root (Some d) its rooted = let same : c ≡ d = birth-same c d its in subst (λ b. is_root_port w b ≡ true) (sym same) rooted
 
-    at : (o : Option PortRow) → first (is_connected_to c) w.ports ≡ o → is_some o ≡ true → is_end_port w c ≡ true
+    at : (o : Option PortRow) → first (is_connected_to c) w.ports ≡ o → is_some o ≡ true → is_root_port w c ≡ true
     at None none some = absurd (cc)
     at (Some p) here some = root p.connection (first-passes (is_connected_to c) w.ports p here) (every-first (is_rooted w) (is_connected_to c) w.ports p l.rooted here)
 

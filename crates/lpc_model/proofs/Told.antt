@@ -8,10 +8,10 @@ use Rattle.lpc_model.specs.Message.{asks}
 use Rattle.lpc_model.specs.World.{Birth, Creator, HandleRow, MessageRow, ObjectName, PortRow, WaitRow, World}
 use Rattle.lpc_model.specs.Found.{handle_at, if_open, is_client_port, is_connect, is_port, port_row}
 use Rattle.lpc_model.specs.Basics.{AddsHandle, Awaits, Basic, Cuts, DropsHandle, Empties, Enters, Frees, Receives, Unbinds, Wakes, Withdraws, basic, cut, is_end_of, posted, posts_of, world_after}
-use Rattle.lpc_model.specs.Entering.{enter, given_steps, receipt_steps, shown, takes, woken}
+use Rattle.lpc_model.specs.Entering.{enter, given_steps, received_steps, shown, takes, woken}
 use Rattle.lpc_model.specs.Sweep.{free_unheld, sweep, unheld}
-use Rattle.lpc_model.specs.Closings.{closes, is_closed_post, told_closed, told_closings}
-use Rattle.lpc_model.specs.Close.{close_handle, close_port, closed_row, cut_pair, drop_name, empty_queue, end_receives, end_request, end_requests, is_last, is_receiver, is_request_on, post_closed, server_of, told_of, wake}
+use Rattle.lpc_model.specs.Closings.{closes, is_closed_post, closing_posts, closings_posted}
+use Rattle.lpc_model.specs.Close.{close_handle, close_port, closed_row, cut_pair, drop_name, empty_queue, end_receives, end_request, end_requests, is_last, is_receiver, is_request_on, post_closed, server_of, closing_post, wake}
 use Rattle.lpc_model.specs.SoundWaits.{IsSoundWorld}
 use Rattle.lpc_model.proofs.SoundWorlds.{by_kind}
 use Rattle.lpc_model.proofs.SoundCuts.{cut-row, no-row}
@@ -89,23 +89,23 @@ append-assoc : {X : Type 0} (xs ys zs : List X) → (xs ++ ys) ++ zs ≡ xs ++ (
 append-assoc [] ys zs = refl
 append-assoc (x ∷ xs) ys zs = grind (arith, append-assoc xs ys zs)
 
-pub told-append : (w : World) (xs ys : List Basic) → told_closings w (xs ++ ys) ≡ told_closings w xs ++ told_closings (world_after w xs) ys
+pub told-append : (w : World) (xs ys : List Basic) → closings_posted w (xs ++ ys) ≡ closings_posted w xs ++ closings_posted (world_after w xs) ys
 told-append w [] ys = refl
 told-append w (x ∷ xs) ys =
-    ap (λ ms. each (told_closed w) (closes w x) ++ ms) (told-append (basic w x) xs ys) ∙ sym (append-assoc (each (told_closed w) (closes w x)) (told_closings (basic w x) xs) (told_closings (world_after (basic w x) xs) ys))
+    ap (λ ms. each (closing_posts w) (closes w x) ++ ms) (told-append (basic w x) xs ys) ∙ sym (append-assoc (each (closing_posts w) (closes w x)) (closings_posted (basic w x) xs) (closings_posted (world_after (basic w x) xs) ys))
 
-pub told-none : (w : World) (bs : List Basic) → every is_dropless bs ≡ true → told_closings w bs ≡ []
+pub told-none : (w : World) (bs : List Basic) → every is_dropless bs ≡ true → closings_posted w bs ≡ []
 told-none w [] all = refl
 told-none w (b ∷ bs) all =
     let here = first-true (is_dropless b) (every is_dropless bs) all in
     let later = second-true (is_dropless b) (every is_dropless bs) all in
     rw (dropless-basic w b here) (told-none (basic w b) bs later)
 
-pub told-before : (w : World) (xs ys : List Basic) → every is_dropless ys ≡ true → told_closings w (xs ++ ys) ≡ told_closings w xs
-told-before w xs ys all = told-append w xs ys ∙ (ap (λ ms. told_closings w xs ++ ms) (told-none (world_after w xs) ys all) ∙ nil-right (told_closings w xs))
+pub told-before : (w : World) (xs ys : List Basic) → every is_dropless ys ≡ true → closings_posted w (xs ++ ys) ≡ closings_posted w xs
+told-before w xs ys all = told-append w xs ys ∙ (ap (λ ms. closings_posted w xs ++ ms) (told-none (world_after w xs) ys all) ∙ nil-right (closings_posted w xs))
 
-told-behind : (w : World) (xs ys : List Basic) → every is_dropless xs ≡ true → told_closings w (xs ++ ys) ≡ told_closings (world_after w xs) ys
-told-behind w xs ys all = told-append w xs ys ∙ ap (λ ms. ms ++ told_closings (world_after w xs) ys) (told-none w xs all)
+told-behind : (w : World) (xs ys : List Basic) → every is_dropless xs ≡ true → closings_posted w (xs ++ ys) ≡ closings_posted (world_after w xs) ys
+told-behind w xs ys all = told-append w xs ys ∙ ap (λ ms. ms ++ closings_posted (world_after w xs) ys) (told-none w xs all)
 
 calm-dropless : (bs : List Basic) → AreCalm bs → every is_dropless bs ≡ true
 calm-dropless bs all = every-more is_calm is_dropless (λ b is. first-true (is_dropless b) (is_mute b) is) bs all
@@ -120,7 +120,7 @@ unfolding sweep
 sweep-dropless w = every-append is_dropless (free_unheld w) (free_unheld (world_after w (free_unheld w))) (frees-dropless (unheld w)) (frees-dropless (unheld (world_after w (free_unheld w))))
 
 -- Messages that enter
-pub hushed-receipt : (m : MessageRow) → AreHushed (receipt_steps m)
+pub hushed-receipt : (m : MessageRow) → AreHushed (received_steps m)
 hushed-receipt m = at (asks m.message)
   where
     at : (a : Bool) → every is_hushed (when a (Receives m.message.header.client.thread m.queue ∷ [])) ≡ true
@@ -130,11 +130,11 @@ hushed-receipt m = at (asks m.message)
 hushed-given : (m : MessageRow) (x : WaitRow) → AreHushed (given_steps x m ++ woken SUCCESS (shown x m) x ∷ [])
 hushed-given m x =
     by_kind (λ x. every is_hushed (given_steps x m ++ woken SUCCESS (shown x m) x ∷ []) ≡ true)
-    (λ x r. every-append is_hushed (receipt_steps m) _ (hushed-receipt m) refl)
-    (λ x. every-append is_hushed (receipt_steps m) _ (hushed-receipt m) refl)
-    (λ x. every-append is_hushed (receipt_steps m) _ (hushed-receipt m) refl)
-    (λ x r. every-append is_hushed (receipt_steps m) _ (hushed-receipt m) refl)
-    (λ x r reply. every-append is_hushed (receipt_steps m) _ (hushed-receipt m) refl) x
+    (λ x r. every-append is_hushed (received_steps m) _ (hushed-receipt m) refl)
+    (λ x. every-append is_hushed (received_steps m) _ (hushed-receipt m) refl)
+    (λ x. every-append is_hushed (received_steps m) _ (hushed-receipt m) refl)
+    (λ x r. every-append is_hushed (received_steps m) _ (hushed-receipt m) refl)
+    (λ x r reply. every-append is_hushed (received_steps m) _ (hushed-receipt m) refl) x
 
 hushed-taken : (m : MessageRow) (o : Option WaitRow) → AreHushed (given o (λ x. given_steps x m ++ woken SUCCESS (shown x m) x ∷ []))
 hushed-taken m None = refl
@@ -190,26 +190,26 @@ same-server w v p same = at (cond (is_client_port p && p.completed) p.connection
     at None = refl
     at (Some b) = rw same refl
 
-same-told : (w v : World) (p : PortRow) → v.handles ≡ w.handles → given (told_of v (cut p)) (λ m. m ∷ []) ≡ given (told_of w p) (λ m. m ∷ [])
+same-told : (w v : World) (p : PortRow) → v.handles ≡ w.handles → given (closing_post v (cut p)) (λ m. m ∷ []) ≡ given (closing_post w p) (λ m. m ∷ [])
 same-told w v p same = rw (same-server w v p same) refl
 
 end-own : (b : Birth) (p : PortRow) → is_port b p ≡ true → cond (is_end_of b p) (cut p) p ≡ cut p
 end-own b p own = rw own refl
 
-posted-told : (w v : World) (b : Birth) → v.handles ≡ w.handles → v.ports ≡ change (is_end_of b) cut w.ports → which is_closed_post (posts_of (post_closed b v)) ≡ told_closed w b
+posted-told : (w v : World) (b : Birth) → v.handles ≡ w.handles → v.ports ≡ change (is_end_of b) cut w.ports → which is_closed_post (posts_of (post_closed b v)) ≡ closing_posts w b
 posted-told w v b handles ports = at (port_row w b) refl
   where
     row : port_row v b ≡ port_row (basic w (Cuts b)) b
     row = rw ports refl
 
-    at : (o : Option PortRow) → port_row w b ≡ o → which is_closed_post (posts_of (post_closed b v)) ≡ given o (λ p. given (told_of w p) (λ m. m ∷ []))
+    at : (o : Option PortRow) → port_row w b ≡ o → which is_closed_post (posts_of (post_closed b v)) ≡ given o (λ p. given (closing_post w p) (λ m. m ∷ []))
     at None none = rw (row, no-row w b b none) refl
     at (Some p) here =
         let own = first-passes (is_port b) w.ports p here in
         let cut_here : port_row v b ≡ Some (cut p) = row ∙ cut-row w b b p here ∙ ap Some (end-own b p own) in
         rw cut_here (posted-given v (cut p) (server_of v (cut p)) ∙ same-told w v p handles)
 
-close-told : (w : World) (b : Birth) → IsSoundWorld w → which is_closed_post (posts_of (close_port b w)) ≡ told_closed w b
+close-told : (w : World) (b : Birth) → IsSoundWorld w → which is_closed_post (posts_of (close_port b w)) ≡ closing_posts w b
 unfolding close_port
 close-told w b s =
     let t = five-shut w b s in
@@ -240,7 +240,7 @@ posted-dropless b w = at (port_row w b)
     queued p None = refl
     queued p (Some queue) = by_creator p queue p.creator
 
-    at : (o : Option PortRow) → every is_dropless (given o (λ p. given (told_of w p) (λ m. enter m w))) ≡ true
+    at : (o : Option PortRow) → every is_dropless (given o (λ p. given (closing_post w p) (λ m. enter m w))) ≡ true
     at None = refl
     at (Some p) = queued p (server_of w p)
 
@@ -250,7 +250,7 @@ close-dropless w b = close-pass is_dropless away-dropless b w refl (posted-dropl
 -- Lists of steps
 -- what steps tell of closings is what they close
 abbrev pub TellsClosings : World → List Basic → Type 0
-TellsClosings w bs = which is_closed_post (posts_of bs) ≡ told_closings w bs
+TellsClosings w bs = which is_closed_post (posts_of bs) ≡ closings_posted w bs
 
 pub calm-tells : (w : World) (bs : List Basic) → AreCalm bs → TellsClosings w bs
 calm-tells w bs calm = rw (told-none w bs (calm-dropless bs calm)) (calm-posts bs calm)
@@ -258,20 +258,20 @@ calm-tells w bs calm = rw (told-none w bs (calm-dropless bs calm)) (calm-posts b
 pub tells-append : (w : World) (xs ys : List Basic) → TellsClosings w xs → TellsClosings (world_after w xs) ys → TellsClosings w (xs ++ ys)
 tells-append w xs ys one two =
     ap (which is_closed_post) (posts-append xs ys) ∙ (which-append is_closed_post (posts_of xs) (posts_of ys) ∙ (ap (λ ms. ms ++ which is_closed_post (posts_of ys)) one
-    ∙ (ap (λ ms. told_closings w xs ++ ms) two ∙ sym (told-append w xs ys))))
+    ∙ (ap (λ ms. closings_posted w xs ++ ms) two ∙ sym (told-append w xs ys))))
 
 -- NtClose
 same-last : (w v : World) (r : HandleRow) → v.handles ≡ w.handles → is_last r v ≡ is_last r w
 same-last w v r same = rw same refl
 
 -- what is told of a port is the same once it is cut
-told-shut : (w v : World) (b : Birth) → v.handles ≡ w.handles → v.ports ≡ change (is_end_of b) cut w.ports → told_closed v b ≡ told_closed w b
+told-shut : (w v : World) (b : Birth) → v.handles ≡ w.handles → v.ports ≡ change (is_end_of b) cut w.ports → closing_posts v b ≡ closing_posts w b
 told-shut w v b handles ports = at (port_row w b) refl
   where
     row : port_row v b ≡ port_row (basic w (Cuts b)) b
     row = rw ports refl
 
-    at : (o : Option PortRow) → port_row w b ≡ o → told_closed v b ≡ given o (λ p. given (told_of w p) (λ m. m ∷ []))
+    at : (o : Option PortRow) → port_row w b ≡ o → closing_posts v b ≡ given o (λ p. given (closing_post w p) (λ m. m ∷ []))
     at None none = rw (row, no-row w b b none) refl
     at (Some p) here =
         let own = first-passes (is_port b) w.ports p here in
@@ -281,11 +281,11 @@ told-shut w v b handles ports = at (port_row w b) refl
 pub handle-tells : (w : World) (pid : ℕ) (r : HandleRow) → handle_at w pid r.value ≡ Some r → IsSoundWorld w → TellsClosings w (close_handle pid r w)
 handle-tells w pid r at s = by_last (is_last r w) refl
   where
-    dropped : (v : World) (last : Bool) → v.handles ≡ w.handles → is_last r w ≡ last → told_closings v (DropsHandle pid r.value ∷ []) ≡ each (told_closed v) (when last (r.object.birth ∷ []))
+    dropped : (v : World) (last : Bool) → v.handles ≡ w.handles → is_last r w ≡ last → closings_posted v (DropsHandle pid r.value ∷ []) ≡ each (closing_posts v) (when last (r.object.birth ∷ []))
     dropped v last same is =
         let test : is_last r v ≡ last = same-last w v r same ∙ is in
         let closed : closes v (DropsHandle pid r.value) ≡ when last (r.object.birth ∷ []) = rw (shut-found w v pid r same at, test) refl in
-        nil-right (each (told_closed v) (closes v (DropsHandle pid r.value))) ∙ ap (each (told_closed v)) closed
+        nil-right (each (closing_posts v) (closes v (DropsHandle pid r.value))) ∙ ap (each (closing_posts v)) closed
 
     by_last : (last : Bool) → is_last r w ≡ last → TellsClosings w (when last (close_port r.object.birth w) ++ DropsHandle pid r.value ∷ [])
     by_last true is =
@@ -293,8 +293,8 @@ handle-tells w pid r at s = by_last (is_last r w) refl
         let bs = close_port b w in
         let v = world_after w bs in
         let shut = close-shut w b s in
-        let posts : which is_closed_post (posts_of (bs ++ DropsHandle pid r.value ∷ [])) ≡ told_closed w b = rw (posts-append bs (DropsHandle pid r.value ∷ []), nil-right (posts_of bs)) (close-told w b s) in
-        let closed : told_closings w (bs ++ DropsHandle pid r.value ∷ []) ≡ told_closed w b =
-        told-behind w bs (DropsHandle pid r.value ∷ []) (close-dropless w b) ∙ (dropped v true shut.handles is ∙ (nil-right (told_closed v b) ∙ told-shut w v b shut.handles shut.ports)) in
+        let posts : which is_closed_post (posts_of (bs ++ DropsHandle pid r.value ∷ [])) ≡ closing_posts w b = rw (posts-append bs (DropsHandle pid r.value ∷ []), nil-right (posts_of bs)) (close-told w b s) in
+        let closed : closings_posted w (bs ++ DropsHandle pid r.value ∷ []) ≡ closing_posts w b =
+        told-behind w bs (DropsHandle pid r.value ∷ []) (close-dropless w b) ∙ (dropped v true shut.handles is ∙ (nil-right (closing_posts v b) ∙ told-shut w v b shut.handles shut.ports)) in
         posts ∙ sym closed
     by_last false off = sym (dropped w false refl off)

@@ -16,7 +16,7 @@ use Rattle.lpc_model.specs.Named.{free_name, named_port, spelled_name}
 use Rattle.lpc_model.specs.Refusal.{refuse_if}
 use Rattle.lpc_model.specs.Tests.{PORT_ACCESS, handle_row, handles_test, next_birth, own_handle, port_test}
 use Rattle.lpc_model.specs.Connect.{ConnectAnswer, answer_test, answered_steps, client_port, complete_test, connect_start, connection_request, info_test, listen_steps, making, nt_accept_connect_port, nt_complete_connect_port, nt_connect_port, nt_create_port, nt_listen_port}
-use Rattle.lpc_model.specs.Request.{answered_test, datagram_send_test, datagram_start, given_reply, nt_reply_port, nt_reply_wait_receive_port, nt_request_port, nt_request_wait_reply_port, optional_message, receive_steps, receive_test, request_start, send_test, sent_by}
+use Rattle.lpc_model.specs.Request.{reply_test, datagram_send_test, datagram_start, given_reply, nt_reply_port, nt_reply_wait_receive_port, nt_request_port, nt_request_wait_reply_port, optional_message, receive_steps, receive_test, request_start, send_test, sent_by}
 use Rattle.lpc_model.specs.Close.{close_handle, nt_close}
 use Rattle.lpc_model.specs.Counts.{asked, nt_duplicate_object, nt_query_object, rights_test}
 use Rattle.lpc_model.specs.Sweep.{sweep}
@@ -29,7 +29,7 @@ use Rattle.lpc_model.proofs.Sweeping.{step_swept}
 use Rattle.lpc_model.proofs.SoundClose.{close_handle-sound, found-value}
 use Rattle.lpc_model.proofs.Told.{AreCalm, AreHushed, TellsClosings, calm-all, calm-tells, handle-tells, hushed-enter, hushed-receipt, is_calm, is_hushed, sweep-dropless, tells-append, told-before}
 use Rattle.lpc_model.specs.Register.{is_registered, nt_register_thread_terminate_port, register_steps, registration_test}
-use Rattle.lpc_model.specs.Death.{answer_unless, code_status, die, end_process, end_threads, nt_terminate_process, nt_terminate_thread, post_death, post_deaths, told_death}
+use Rattle.lpc_model.specs.Death.{answer_unless, code_status, die, end_process, end_threads, nt_terminate_process, nt_terminate_thread, post_death, post_deaths, death_post}
 use Rattle.lpc_model.specs.declared.entry.CallName.{CallName}
 use Rattle.lpc_model.specs.declared.entry.CallName.TheVariants.{NtRegisterThreadTerminatePort, NtTerminateProcess, NtTerminateThread}
 use Rattle.lpc_model.specs.declared.entry.Entry.TheVariants.{Answer}
@@ -96,11 +96,11 @@ unfolding nt_reply_port
 reply-hushed w by handle bytes =
     bind_holds (port_test w by handle) _ AreHushed (λ port _.
     bind_holds (message_test bytes) _ AreHushed (λ m _.
-    bind_holds (answered_test w port m) _ AreHushed (λ x _. refl)))
+    bind_holds (reply_test w port m) _ AreHushed (λ x _. refl)))
 
 given-hushed : (w : World) (port : PortRow) (m : Option Message) → Holds AreHushed (given_reply w port m)
 given-hushed w port None = refl
-given-hushed w port (Some m) = bind_holds (answered_test w port m) _ AreHushed (λ x _. refl)
+given-hushed w port (Some m) = bind_holds (reply_test w port m) _ AreHushed (λ x _. refl)
 
 received-hushed : (by : ThreadRow) (port : PortRow) (queue : Birth) (replied : List Basic) (o : Option MessageRow) → AreHushed replied → AreHushed (receive_steps by port queue replied o)
 received-hushed by port queue replied (Some m) hushed = every-append is_hushed replied _ hushed (hushed-receipt m)
@@ -168,9 +168,9 @@ pub die-hushed : (code : Status) (t : ThreadRow) (w : World) → AreHushed (die 
 die-hushed code t w = die-pass is_hushed away-hushed (λ n c. refl) (λ b. refl) code t w
 
 death-hushed : (t : ThreadRow) (b : Birth) (w : World) → AreHushed (post_death t b w)
-death-hushed t b w = at (told_death (basic w (Unregisters t.number b)) t b) refl
+death-hushed t b w = at (death_post (basic w (Unregisters t.number b)) t b) refl
   where
-    at : (o : Option MessageRow) → told_death (basic w (Unregisters t.number b)) t b ≡ o → AreHushed (given o (λ m. enter m (basic w (Unregisters t.number b))))
+    at : (o : Option MessageRow) → death_post (basic w (Unregisters t.number b)) t b ≡ o → AreHushed (given o (λ m. enter m (basic w (Unregisters t.number b))))
     at None none = refl
     at (Some m) some = let told = told-facts t b m (basic w (Unregisters t.number b)) some in hushed-enter m (basic w (Unregisters t.number b)) told.other
 

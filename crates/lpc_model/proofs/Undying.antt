@@ -9,13 +9,13 @@ use Rattle.lpc_model.specs.World.{Birth, Creator, HandleRow, Message, MessageRow
 use Rattle.lpc_model.specs.Found.{is_connection_port, is_queued, is_queued_connect, port_row}
 use Rattle.lpc_model.specs.Basics.{AddsHandle, AddsProcess, AddsThread, Basic, Dies, DropsHandle, Empties, Enters, Receives, Registers, Tells, Unbinds, Unregisters, Wakes, Withdraws, world_after}
 use Rattle.lpc_model.specs.Message.{asks, message_test}
-use Rattle.lpc_model.specs.Entering.{enter, given_steps, receipt_steps, row_of, shown, takes, woken}
+use Rattle.lpc_model.specs.Entering.{enter, given_steps, received_steps, row_of, shown, takes, woken}
 use Rattle.lpc_model.specs.Named.{free_name, named_port}
 use Rattle.lpc_model.specs.Refusal.{refuse_if}
 use Rattle.lpc_model.specs.Tests.{PORT_ACCESS, handle_row, handles_test, next_birth, own_handle, port_test}
 use Rattle.lpc_model.specs.Connect.{ConnectAnswer, answer_test, answered_steps, client_port, complete_test, connect_start, connection_request, info_test, listen_steps, making, nt_accept_connect_port, nt_complete_connect_port, nt_connect_port, nt_create_port, nt_listen_port}
-use Rattle.lpc_model.specs.Request.{answered_test, datagram_send_test, datagram_start, given_reply, nt_reply_port, nt_reply_wait_receive_port, nt_request_port, nt_request_wait_reply_port, optional_message, receive_steps, receive_test, request_start, send_test, sent_by}
-use Rattle.lpc_model.specs.Close.{close_handle, close_port, closed_row, is_last, nt_close, post_closed, server_of, told_of}
+use Rattle.lpc_model.specs.Request.{reply_test, datagram_send_test, datagram_start, given_reply, nt_reply_port, nt_reply_wait_receive_port, nt_request_port, nt_request_wait_reply_port, optional_message, receive_steps, receive_test, request_start, send_test, sent_by}
+use Rattle.lpc_model.specs.Close.{close_handle, close_port, closed_row, is_last, nt_close, post_closed, server_of, closing_post}
 use Rattle.lpc_model.specs.Counts.{asked, nt_duplicate_object, nt_query_object, rights_test}
 use Rattle.lpc_model.specs.Lines.{ScriptCall, accept_connect_port, close, complete_connect_port, connect_port, create_port, create_process, create_thread, duplicate_object, listen_port, query_object, register_thread_terminate_port, reply_port, reply_wait_receive_port, request_port, request_wait_reply_port, terminate_process, terminate_thread}
 use Rattle.lpc_model.specs.Machine.{service_of}
@@ -42,7 +42,7 @@ abbrev pub AreUndying : List Basic → Type 0
 AreUndying bs = every is_undying bs ≡ true
 
 -- a message enters
-undying-receipt : (m : MessageRow) → AreUndying (receipt_steps m)
+undying-receipt : (m : MessageRow) → AreUndying (received_steps m)
 undying-receipt m = at (asks m.message)
   where
     at : (a : Bool) → every is_undying (when a (Receives m.message.header.client.thread m.queue ∷ [])) ≡ true
@@ -52,11 +52,11 @@ undying-receipt m = at (asks m.message)
 undying-given : (m : MessageRow) (x : WaitRow) → AreUndying (given_steps x m ++ woken SUCCESS (shown x m) x ∷ [])
 undying-given m x =
     by_kind (λ x. every is_undying (given_steps x m ++ woken SUCCESS (shown x m) x ∷ []) ≡ true)
-    (λ x r. every-append is_undying (receipt_steps m) _ (undying-receipt m) refl)
-    (λ x. every-append is_undying (receipt_steps m) _ (undying-receipt m) refl)
-    (λ x. every-append is_undying (receipt_steps m) _ (undying-receipt m) refl)
-    (λ x r. every-append is_undying (receipt_steps m) _ (undying-receipt m) refl)
-    (λ x r reply. every-append is_undying (receipt_steps m) _ (undying-receipt m) refl) x
+    (λ x r. every-append is_undying (received_steps m) _ (undying-receipt m) refl)
+    (λ x. every-append is_undying (received_steps m) _ (undying-receipt m) refl)
+    (λ x. every-append is_undying (received_steps m) _ (undying-receipt m) refl)
+    (λ x r. every-append is_undying (received_steps m) _ (undying-receipt m) refl)
+    (λ x r reply. every-append is_undying (received_steps m) _ (undying-receipt m) refl) x
 
 pub undying-taken : (m : MessageRow) (o : Option WaitRow) → AreUndying (given o (λ x. given_steps x m ++ woken SUCCESS (shown x m) x ∷ []))
 undying-taken m None = refl
@@ -87,7 +87,7 @@ posted-undying b w = at (port_row w b)
     queued p None = refl
     queued p (Some queue) = by_creator p queue p.creator
 
-    at : (o : Option PortRow) → AreUndying (given o (λ p. given (told_of w p) (λ m. enter m w)))
+    at : (o : Option PortRow) → AreUndying (given o (λ p. given (closing_post w p) (λ m. enter m w)))
     at None = refl
     at (Some p) = queued p (server_of w p)
 
@@ -159,11 +159,11 @@ unfolding nt_reply_port
 reply-undying w by handle bytes =
     bind_holds (port_test w by handle) _ AreUndying (λ port _.
     bind_holds (message_test bytes) _ AreUndying (λ m _.
-    bind_holds (answered_test w port m) _ AreUndying (λ x _. refl)))
+    bind_holds (reply_test w port m) _ AreUndying (λ x _. refl)))
 
 given-undying : (w : World) (port : PortRow) (m : Option Message) → Holds AreUndying (given_reply w port m)
 given-undying w port None = refl
-given-undying w port (Some m) = bind_holds (answered_test w port m) _ AreUndying (λ x _. refl)
+given-undying w port (Some m) = bind_holds (reply_test w port m) _ AreUndying (λ x _. refl)
 
 received-undying : (by : ThreadRow) (port : PortRow) (queue : Birth) (replied : List Basic) (o : Option MessageRow) → AreUndying replied → AreUndying (receive_steps by port queue replied o)
 received-undying by port queue replied (Some m) undying = every-append is_undying replied _ undying (undying-receipt m)

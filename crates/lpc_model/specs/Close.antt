@@ -102,11 +102,11 @@ closed_row p queue by =
 abbrev pub server_of : World → PortRow → Option Birth
 server_of w p = if_open w (if is_client_port p && p.completed then p.connection else None)
 
-abbrev pub told_of : World → PortRow → Option MessageRow
-told_of w p = option_and_then (λ queue. option_map (closed_row p queue) p.creator) (server_of w p)
+abbrev pub closing_post : World → PortRow → Option MessageRow
+closing_post w p = option_and_then (λ queue. option_map (closed_row p queue) p.creator) (server_of w p)
 
 abbrev pub post_closed : Birth → Steps
-post_closed b w = given (port_row w b) (λ p. given (told_of w p) (λ m. enter m w))
+post_closed b w = given (port_row w b) (λ p. given (closing_post w p) (λ m. enter m w))
 
 -- the six steps, each in the world that the one before it left
 unfoldable pub close_port : Birth → Steps

@@ -5,7 +5,7 @@ use Rattle.lpc_message.specs.declared.kind.TheConstants.{PORT_CLOSED}
 use Rattle.lpc_model.specs.World.{Birth, MessageRow, World}
 use Rattle.lpc_model.specs.Found.{handle_at, port_row}
 use Rattle.lpc_model.specs.Basics.{Basic, DropsHandle, basic}
-use Rattle.lpc_model.specs.Close.{is_last, told_of}
+use Rattle.lpc_model.specs.Close.{is_last, closing_post}
 use Rattle.lpc_model.specs.Lines.{ScriptLine}
 use Rattle.lpc_model.specs.Machine.{step, steps}
 use Rattle.lpc_model.specs.Run.{Along, first_state, said_in}
@@ -21,18 +21,18 @@ closes w b = []
 
 -- what is told of a closed port: one message to its connection port, where it is a completed client port and the
 -- connection port is open
-abbrev pub told_closed : World → Birth → List MessageRow
-told_closed w b = given (port_row w b) (λ p. given (told_of w p) (λ m. m ∷ []))
+abbrev pub closing_posts : World → Birth → List MessageRow
+closing_posts w b = given (port_row w b) (λ p. given (closing_post w p) (λ m. m ∷ []))
 
 -- what is told of the ports whose last handles go by some steps, each seen when its handle goes
-abbrev pub told_closings : World → List Basic → List MessageRow
-told_closings w [] = []
-told_closings w (b ∷ bs) = each (told_closed w) (closes w b) ++ told_closings (basic w b) bs
+abbrev pub closings_posted : World → List Basic → List MessageRow
+closings_posted w [] = []
+closings_posted w (b ∷ bs) = each (closing_posts w) (closes w b) ++ closings_posted (basic w b) bs
 
 -- the messages of a line that tell of closed ports are those of the ports that lose their last handles by it
 abbrev pub ClosingsAreTold : World → ScriptLine → Type 0
 ClosingsAreTold w line =
-    which is_closed_post (step w line).posts ≡ told_closings w (steps line w)
+    which is_closed_post (step w line).posts ≡ closings_posted w (steps line w)
 
 -- each line of a script tells so
 abbrev pub RunTellsClosings : List ℕ → Type 0

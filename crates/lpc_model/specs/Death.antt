@@ -34,14 +34,14 @@ die code t w = (doing (Dies t.number code ∷ Withdraws t.number ∷ []) ▹ cut
 abbrev pub died_message : ThreadRow → Message
 died_message t = made CLIENT_DIED (client_of t) 0 (birth_bytes t.birth)
 
-abbrev pub told_death : World → ThreadRow → Birth → Option MessageRow
-told_death w t b =
+abbrev pub death_post : World → ThreadRow → Birth → Option MessageRow
+death_post w t b =
     option_and_then (λ p. option_map (λ queue. row_of queue p (died_message t)) (route w p)) (port_row w b)
 
 -- the registration goes, and then the message enters
 abbrev pub post_death : ThreadRow → Birth → Steps
 post_death t b =
-    doing (Unregisters t.number b ∷ []) ▹ (λ w. given (told_death w t b) (λ m. enter m w))
+    doing (Unregisters t.number b ∷ []) ▹ (λ w. given (death_post w t b) (λ m. enter m w))
 
 abbrev pub post_deaths : ThreadRow → Steps
 post_deaths t = in_turn (post_death t) t.registrations

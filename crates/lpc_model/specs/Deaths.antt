@@ -6,7 +6,7 @@ use Rattle.lpc_message.specs.declared.kind.TheConstants.{CLIENT_DIED}
 use Rattle.lpc_model.specs.World.{Birth, MessageRow, ThreadRow, World}
 use Rattle.lpc_model.specs.Found.{is_thread, live_thread, same_birth}
 use Rattle.lpc_model.specs.Basics.{Basic, Dies, DropsHandle, Enters, Unbinds, Unregisters, basic, posts_of}
-use Rattle.lpc_model.specs.Death.{told_death}
+use Rattle.lpc_model.specs.Death.{death_post}
 use Rattle.lpc_model.specs.Lines.{ScriptLine}
 use Rattle.lpc_model.specs.Machine.{steps}
 use Rattle.lpc_model.specs.Run.{Along, first_state, run_of, said_in}
@@ -43,14 +43,14 @@ leaves b = []
 
 -- what is told of a registration that goes, as the world is then: one message to the port's route, where the port is open and
 -- has one, sent on that port in the name of the thread, whose data are the thread's birth
-abbrev pub tells_end : World → Basic → List MessageRow
-tells_end w (Unregisters who b) =
-    given (first (is_thread who) w.threads) (λ t. given (told_death w t b) (λ m. m ∷ []))
-tells_end w b = []
+abbrev pub death_posts : World → Basic → List MessageRow
+death_posts w (Unregisters who b) =
+    given (first (is_thread who) w.threads) (λ t. given (death_post w t b) (λ m. m ∷ []))
+death_posts w b = []
 
-abbrev pub told_endings : World → List Basic → List MessageRow
-told_endings w [] = []
-told_endings w (b ∷ bs) = tells_end w b ++ told_endings (basic w b) bs
+abbrev pub deaths_posted : World → List Basic → List MessageRow
+deaths_posted w [] = []
+deaths_posted w (b ∷ bs) = death_posts w b ++ deaths_posted (basic w b) bs
 
 -- when a step comes in its line: first threads end, then registrations go and are told of, and then handles are closed, which
 -- begins with a port's name where its last handle goes
@@ -70,7 +70,7 @@ rises (n ∷ ns) = every (nat_le n) ns && rises ns
 -- The messages that tell of ends are those of the registrations that go, and these are the ones of the threads that end. They
 -- go and are told behind the end of the last of these threads, and before any handle goes.
 pub record TellsDeaths (w : World) (bs : List Basic) : Type 0 where
-  pub told : which is_died_post (posts_of bs) ≡ told_endings w bs
+  pub told : which is_died_post (posts_of bs) ≡ deaths_posted w bs
   pub registrations : each leaves bs ≡ ending_registrations w bs
   pub order : rises (each rank_of bs) ≡ true
 

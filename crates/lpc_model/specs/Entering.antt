@@ -15,16 +15,16 @@ abbrev pub woken : Status → List Field → WaitRow → Basic
 woken status fields x = Wakes x.thread x.call status fields
 
 -- a message that is taken is received, where its sender waits for an answer
-abbrev pub receipt_steps : MessageRow → List Basic
-receipt_steps m = when (asks m.message) (Receives m.message.header.client.thread m.queue ∷ [])
+abbrev pub received_steps : MessageRow → List Basic
+received_steps m = when (asks m.message) (Receives m.message.header.client.thread m.queue ∷ [])
 
 -- the oldest message of its queue is taken
 abbrev pub take_steps : MessageRow → List Basic
-take_steps m = Takes m.queue ∷ receipt_steps m
+take_steps m = Takes m.queue ∷ received_steps m
 
 -- the oldest connection request of its queue is taken
 abbrev pub take_connect_steps : MessageRow → List Basic
-take_connect_steps m = TakesConnect m.queue ∷ receipt_steps m
+take_connect_steps m = TakesConnect m.queue ∷ received_steps m
 
 -- the waiter takes what enters a queue, which is a connection request or isn't: a receive takes each message, a listen
 -- connection requests alone

@@ -11,7 +11,7 @@ use Rattle.lpc_model.specs.Machine.{step}
 use Rattle.lpc_model.specs.OpenQueues.{HasOpenQueues}
 use Rattle.lpc_model.specs.SoundWaits.{IsSoundWorld}
 use Rattle.lpc_model.specs.Standing.{NamesWhatStands}
-use Rattle.lpc_model.specs.Untold.{IsUntold}
+use Rattle.lpc_model.specs.SingleClosings.{HasSingleClosings}
 
 -- a thread number has one row at most
 abbrev pub HasThreadsOnce : World → Type 0
@@ -26,7 +26,7 @@ pub record IsLawfulWorld (w : World) : Type 0 where
   pub held : HasHeldRows w
   pub queues : HasOpenQueues w
   pub names : NamesWhatStands w
-  pub untold : IsUntold w
+  pub single_closings : HasSingleClosings w
   pub threads : HasThreadsOnce w
   pub registrations : HasLivingRegistrations w
   pub single : HasSingleRegistrations w

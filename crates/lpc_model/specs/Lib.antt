@@ -40,7 +40,7 @@ pub mod Deaths
 pub mod Left
 pub mod Accounts
 pub mod Creators
-pub mod Untold
+pub mod SingleClosings
 pub mod Lawful
 pub mod Transcript
 pub mod Worked

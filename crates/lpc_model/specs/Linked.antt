@@ -25,12 +25,12 @@ abbrev pub is_mutual : World → PortRow → Bool
 is_mutual w p = passes_or_none p.pair (λ q. is_the p.birth (pair_of w q))
 
 -- a port that stands under a birth names nothing
-abbrev pub is_end_port : World → Birth → Bool
-is_end_port w c = passes (port_row w c) names_nothing
+abbrev pub is_root_port : World → Birth → Bool
+is_root_port w c = passes (port_row w c) names_nothing
 
 -- a port's connection port stands, and names nothing
 abbrev pub is_rooted : World → PortRow → Bool
-is_rooted w p = passes_or_none p.connection (is_end_port w)
+is_rooted w p = passes_or_none p.connection (is_root_port w)
 
 -- the client port of a connect that isn't accepted: it stands, has a connection port, and no other end
 abbrev pub is_unjoined : PortRow → Bool
@@ -38,13 +38,13 @@ is_unjoined p = is_none p.pair && is_some p.connection
 
 -- a connect that isn't accepted is to a port that names nothing, and its client port isn't joined yet
 abbrev pub is_lone_offer : World → WaitRow → Bool
-is_lone_offer w x = not (is_offered x) || (is_end_port w x.queue && passes (port_row w x.port) is_unjoined)
+is_lone_offer w x = not (is_offered x) || (is_root_port w x.queue && passes (port_row w x.port) is_unjoined)
 
 -- a name leads to a port that names nothing, where it leads to a port
-abbrev pub leads_to_end : World → Node Birth → Bool
-leads_to_end w (LinkTo target) = true
-leads_to_end w (Stands Directory) = true
-leads_to_end w (Stands (Item port)) = is_end_port w port
+abbrev pub leads_to_root : World → Node Birth → Bool
+leads_to_root w (LinkTo target) = true
+leads_to_root w (Stands Directory) = true
+leads_to_root w (Stands (Item port)) = is_root_port w port
 
 -- No two ports have one birth; other ends and connection ports stand, connects that wait for an answer are as they are
 -- above, and names lead to ports that name nothing.
@@ -53,7 +53,7 @@ pub record IsLinked (w : World) : Type 0 where
   pub pairs : every (is_mutual w) w.ports ≡ true
   pub rooted : every (is_rooted w) w.ports ≡ true
   pub offers : every (is_lone_offer w) w.waits ≡ true
-  pub targets : every (λ b. leads_to_end w b.1) w.bindings ≡ true
+  pub targets : every (λ b. leads_to_root w b.1) w.bindings ≡ true
 
 -- some row counts for each port
 abbrev pub HasHeldPorts : World → Type 0

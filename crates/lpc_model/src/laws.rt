@@ -10,7 +10,7 @@ ghost use Rattle.lpc_model.specs.Creators.{RunKeepsConnects};
 ghost use Rattle.lpc_model.specs.Deaths.{RunHasLivingRegistrations, RunHasSingleRegistrations, RunTellsDeaths};
 ghost use Rattle.lpc_model.specs.Lawful.{IsLawfulWorld, StepsKeepLaws};
 ghost use Rattle.lpc_model.specs.Left.{RunLeavesNothing};
-ghost use Rattle.lpc_model.specs.Untold.{IsUntold, RunKeepsUntold, StepsKeepUntold};
+ghost use Rattle.lpc_model.specs.SingleClosings.{HasSingleClosings, RunHasSingleClosings, StepsKeepSingleClosings};
 ghost use Rattle.lpc_model.specs.Limits.{LimitsChildren, LimitsDatagrams, LimitsHandles, LimitsInfo, LimitsMessages, LimitsRegistrations, LimitsThreads, LimitsTwoHandles};
 ghost use Rattle.lpc_model.specs.Connected.{ConnectedPortsReachEachOther};
 ghost use Rattle.lpc_model.specs.Queues.{FirstWaiterTakes, QueuesAreFirstInFirstOut};
@@ -82,9 +82,9 @@ pub fn law_open_queues()
 pub fn law_closings_are_told()
     ensures runs { (script : List ℕ) → RunTellsClosings script }
     ensures creators { (script : List ℕ) → RunKeepsConnects script }
-    ensures untold_first { IsUntold first_state }
-    ensures untold_steps { StepsKeepUntold }
-    ensures untold_runs { (script : List ℕ) → RunKeepsUntold script }
+    ensures single_closings_first { HasSingleClosings first_state }
+    ensures single_closings_steps { StepsKeepSingleClosings }
+    ensures single_closings_runs { (script : List ℕ) → RunHasSingleClosings script }
 {}
 
 /// In every script the messages that tell of threads' ends are, line by line, those of the ports

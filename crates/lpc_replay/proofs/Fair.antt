@@ -8,7 +8,7 @@ use Rattle.lpc_base.specs.declared.birth.Birth.{Birth}
 use Rattle.lpc_base.specs.declared.status.Status.{Status}
 use Rattle.lpc_base.specs.declared.status.TheConstants.{SUCCESS}
 use Rattle.lpc_model.specs.Basics.{Accepts, Awaits, Basic, Dies, Frees, Receives, Tells, Wakes, accepted, accepted_as, basic, entries_of, freed, going_on, told, world_after}
-use Rattle.lpc_model.specs.Entering.{enter, given_steps, receipt_steps, shown, take_connect_steps, take_steps, takes, woken}
+use Rattle.lpc_model.specs.Entering.{enter, given_steps, received_steps, shown, take_connect_steps, take_steps, takes, woken}
 use Rattle.lpc_model.specs.Found.{is_accepted, is_listen, is_receive, is_request, same_birth}
 use Rattle.lpc_model.specs.Lines.{ScriptLine}
 use Rattle.lpc_model.specs.Message.{asks, is_connection_request}
@@ -152,7 +152,7 @@ pub when_fair : (w : World) (line : ScriptLine) (b : Bool) (bs : List Basic) →
 when_fair w line true bs fair = fair
 when_fair w line false bs fair = tt
 
-pub receipt_fair : (w : World) (line : ScriptLine) (m : MessageRow) → AreFair w line (receipt_steps m)
+pub receipt_fair : (w : World) (line : ScriptLine) (m : MessageRow) → AreFair w line (received_steps m)
 receipt_fair w line m = when_fair w line (asks m.message) (Receives m.message.header.client.thread m.queue ∷ []) (tt, tt)
 
 pub take_fair : (w : World) (line : ScriptLine) (m : MessageRow) → AreFair w line (take_steps m)

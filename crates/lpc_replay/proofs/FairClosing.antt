@@ -9,8 +9,8 @@ use Rattle.lpc_base.specs.declared.birth.Birth.{Birth}
 use Rattle.lpc_base.specs.declared.status.Status.{Status}
 use Rattle.lpc_base.specs.declared.status.TheConstants.{LPC_REPLY_LOST, PORT_CONNECTION_REFUSED, PORT_DISCONNECTED, SUCCESS}
 use Rattle.lpc_model.specs.Basics.{Basic, Cuts, Dies, Empties, Enters, Steps, Takes, TakesConnect, Tells, Unbinds, Unregisters, Wakes, Withdraws, basic, cut, doing, end_each, is_end_of, world_after, ◌▹◌}
-use Rattle.lpc_model.specs.Close.{close_port, closed_row, cut_pair, drop_name, empty_queue, end_accepted, end_offered, end_receives, end_request, end_requests, is_accepted_across, is_offered_to, is_queued_request, is_receive_across, is_receiver, is_request_across, is_request_on, post_closed, server_of, told_of, wake}
-use Rattle.lpc_model.specs.Entering.{enter, given_steps, receipt_steps, shown, takes, woken}
+use Rattle.lpc_model.specs.Close.{close_port, closed_row, cut_pair, drop_name, empty_queue, end_accepted, end_offered, end_receives, end_request, end_requests, is_accepted_across, is_offered_to, is_queued_request, is_receive_across, is_receiver, is_request_across, is_request_on, post_closed, server_of, closing_post, wake}
+use Rattle.lpc_model.specs.Entering.{enter, given_steps, received_steps, shown, takes, woken}
 use Rattle.lpc_model.specs.Fields.{info}
 use Rattle.lpc_model.specs.Found.{is_accepted, is_listen, is_made_on, is_port, is_receive, is_request, is_the, pair_of, port_row}
 use Rattle.lpc_model.specs.Lines.{ScriptLine}
@@ -128,17 +128,17 @@ handles-all v (x ∷ bs) all =
 pub enter-keeps : (m : MessageRow) (v : World) → asks m.message ≡ false → KeepKnown (enter m v)
 enter-keeps m v quiet = at (first (takes m) v.waits)
   where
-    receipt : KeepKnown (receipt_steps m)
+    receipt : KeepKnown (received_steps m)
     receipt = rw quiet refl
 
     taken : (x : WaitRow) → KeepKnown (given_steps x m ++ woken SUCCESS (shown x m) x ∷ [])
     taken x =
         by_kind (λ x. KeepKnown (given_steps x m ++ woken SUCCESS (shown x m) x ∷ []))
-        (λ x r. every-append keeps_known (receipt_steps m) _ receipt refl)
-        (λ x. every-append keeps_known (receipt_steps m) _ receipt refl)
-        (λ x. every-append keeps_known (receipt_steps m) _ receipt refl)
-        (λ x r. every-append keeps_known (receipt_steps m) _ receipt refl)
-        (λ x r reply. every-append keeps_known (receipt_steps m) _ receipt refl) x
+        (λ x r. every-append keeps_known (received_steps m) _ receipt refl)
+        (λ x. every-append keeps_known (received_steps m) _ receipt refl)
+        (λ x. every-append keeps_known (received_steps m) _ receipt refl)
+        (λ x r. every-append keeps_known (received_steps m) _ receipt refl)
+        (λ x r reply. every-append keeps_known (received_steps m) _ receipt refl) x
 
     at : (o : Option WaitRow) → KeepKnown (given o (λ x. given_steps x m ++ woken SUCCESS (shown x m) x ∷ []))
     at None = refl
@@ -155,7 +155,7 @@ posted-keeps b v = at (port_row v b)
     queued p None = refl
     queued p (Some queue) = by_creator p queue p.creator
 
-    at : (o : Option PortRow) → KeepKnown (given o (λ p. given (told_of v p) (λ m. enter m v)))
+    at : (o : Option PortRow) → KeepKnown (given o (λ p. given (closing_post v p) (λ m. enter m v)))
     at None = refl
     at (Some p) = queued p (server_of v p)
 
@@ -260,7 +260,7 @@ module _ (w : World) (line : ScriptLine) (o : World) (P : WaitRow → Type 0) (c
           queued p None = tt
           queued p (Some queue) = by_creator p queue p.creator
 
-          at : (p : Option PortRow) → AreFair w line (given p (λ p. given (told_of v p) (λ m. enter m v)))
+          at : (p : Option PortRow) → AreFair w line (given p (λ p. given (closing_post v p) (λ m. enter m v)))
           at None = tt
           at (Some p) = queued p (server_of v p)
 

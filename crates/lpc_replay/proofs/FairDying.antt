@@ -12,7 +12,7 @@ use Rattle.lpc_base.specs.declared.status.Status.{Status}
 use Rattle.lpc_message.specs.declared.kind.TheConstants.{CLIENT_DIED}
 use Rattle.lpc_model.specs.Basics.{Basic, Cuts, Dies, Empties, Enters, Steps, Takes, TakesConnect, Tells, Unbinds, Unregisters, Wakes, Withdraws, basic, ended, in_turn, unregistering, world_after}
 use Rattle.lpc_model.specs.Close.{cut_pair, is_accepted_across}
-use Rattle.lpc_model.specs.Death.{cut_accepted, die, post_death, post_deaths, told_death}
+use Rattle.lpc_model.specs.Death.{cut_accepted, die, post_death, post_deaths, death_post}
 use Rattle.lpc_model.specs.Deaths.{is_died_post}
 use Rattle.lpc_model.specs.Entering.{enter}
 use Rattle.lpc_model.specs.Found.{is_accepted, is_connect, is_open, is_port, is_the, is_thread, pair_of, same_birth, wait_of, waits_as}
@@ -89,9 +89,9 @@ quiet-died : (m : MessageRow) → is_died_post m ≡ true → asks m.message ≡
 quiet-died m is = let kind : m.message.header.kind ≡ CLIENT_DIED = eqb-true _ _ is in rw kind refl
 
 told_keeps : (t : ThreadRow) (b : Birth) (v : World) → KeepKnown (post_death t b v)
-told_keeps t b v = at (told_death (basic v (Unregisters t.number b)) t b) refl
+told_keeps t b v = at (death_post (basic v (Unregisters t.number b)) t b) refl
   where
-    at : (o : Option MessageRow) → told_death (basic v (Unregisters t.number b)) t b ≡ o → KeepKnown (given o (λ m. enter m (basic v (Unregisters t.number b))))
+    at : (o : Option MessageRow) → death_post (basic v (Unregisters t.number b)) t b ≡ o → KeepKnown (given o (λ m. enter m (basic v (Unregisters t.number b))))
     at None none = refl
     at (Some m) is = let told = told-facts t b m (basic v (Unregisters t.number b)) is in enter-keeps m (basic v (Unregisters t.number b)) (quiet-died m told.died)
 
@@ -175,7 +175,7 @@ module _ (w : World) (line : ScriptLine) (P : WaitRow → Type 0) (calls : (x : 
 
   -- What is told of them
   told_on : (t : ThreadRow) (b : Birth) → AreFairOn w line w P calls (post_death t b)
-  told_on t b v k = (tt, at (told_death (basic v (Unregisters t.number b)) t b))
+  told_on t b v k = (tt, at (death_post (basic v (Unregisters t.number b)) t b))
     where
       at : (o : Option MessageRow) → AreFair w line (given o (λ m. enter m (basic v (Unregisters t.number b))))
       at None = tt

@@ -9,7 +9,7 @@ use Rattle.lpc_model.specs.Found.{is_queued, live_thread}
 use Rattle.lpc_model.specs.Lines.{ScriptLine, reply_wait_receive_port, run}
 use Rattle.lpc_model.specs.Message.{message_test}
 use Rattle.lpc_model.specs.Replies.{Reply, reply_of}
-use Rattle.lpc_model.specs.Request.{answered_test, given_reply, nt_reply_wait_receive_port, optional_message, receive_steps, receive_test, receive_wait}
+use Rattle.lpc_model.specs.Request.{reply_test, given_reply, nt_reply_wait_receive_port, optional_message, receive_steps, receive_test, receive_wait}
 use Rattle.lpc_model.specs.Tests.{port_test}
 use Rattle.lpc_model.specs.World.{MessageRow, PortRow, ThreadRow, World}
 use Rattle.lpc_model.specs.declared.message.Message.{Message}
@@ -27,8 +27,8 @@ receive_fair w line by port queue bs (Some m) fair = ((tt, tt), all_append (IsFa
 -- the reply that a receive makes first
 given_message_fair : (w : World) (line : ScriptLine) (r : Reply) (by : ThreadRow) (port : PortRow) (m : Message) → HaveTheirCalls w → reply_of line ≡ Some r → AreBytes r.bytes → live_thread w r.by ≡ Some by → port_test w by r.handle ≡ Ok port → message_test r.bytes ≡ Ok m → Holds (AreFair w line) (given_reply w port (Some m))
 given_message_fair w line r by port m h is_reply are live at is =
-    bind_holds (answered_test w port m) _ (AreFair w line) (λ x fit.
-    (holds_ok _ (answered_test w port m) x (returned_fair w line r by port m h is_reply are live at is) fit, tt))
+    bind_holds (reply_test w port m) _ (AreFair w line) (λ x fit.
+    (holds_ok _ (reply_test w port m) x (returned_fair w line r by port m h is_reply are live at is) fit, tt))
 
 given_reply_fair : (w : World) (tid : ℕ) (by : ThreadRow) (handle : ℕ) (bytes : Option (List ℕ)) (port : PortRow) (o : Option Message) → HasBytes (reply_wait_receive_port handle bytes) → HaveTheirCalls w → live_thread w tid ≡ Some by → port_test w by handle ≡ Ok port → optional_message bytes ≡ Ok o → Holds (AreFair w (run tid (reply_wait_receive_port handle bytes))) (given_reply w port o)
 given_reply_fair w tid by handle None port None are h live at is = tt

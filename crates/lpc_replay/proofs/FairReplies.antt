@@ -12,7 +12,7 @@ use Rattle.lpc_model.specs.Lines.{ScriptLine}
 use Rattle.lpc_model.specs.Message.{as_reply, bytes_of, message_of, message_test}
 use Rattle.lpc_model.specs.Refusal.{refuse_if}
 use Rattle.lpc_model.specs.Replies.{Reply, as_returned, message_in, port_of, reply_of}
-use Rattle.lpc_model.specs.Request.{answered_test, optional_message, reply}
+use Rattle.lpc_model.specs.Request.{reply_test, optional_message, reply}
 use Rattle.lpc_model.specs.Tests.{PORT_RIGHT, client_test, includes, object_test, own_handle, port_test}
 use Rattle.lpc_model.specs.World.{HandleRow, PortRow, ThreadRow, WaitRow, World}
 use Rattle.lpc_model.specs.declared.entry.FieldName.TheVariants.{Msg}
@@ -57,7 +57,7 @@ pub optional_holds : (bytes : List ℕ) → Holds (λ o. (m : Message) × (o ≡
 optional_holds bytes = bind_holds (message_test bytes) _ (λ o. (m : Message) × (o ≡ Some m) × (message_test bytes ≡ Ok m)) (λ m is. (m, refl, is))
 
 -- a reply that isn't refused fits a wait
-pub answered_holds : (w : World) (port : PortRow) (m : Message) → Holds (λ x. fitted w port.birth m ≡ Some x) (answered_test w port m)
+pub answered_holds : (w : World) (port : PortRow) (m : Message) → Holds (λ x. fitted w port.birth m ≡ Some x) (reply_test w port m)
 answered_holds w port m =
     let P : WaitRow → Type 0 = λ x. fitted w port.birth m ≡ Some x in
     bind_holds (client_test w m.header.client) _ P (λ _ _. found_holds P (fitted w port.birth m) REPLY_MESSAGE_MISMATCH (λ x fit. fit))
@@ -99,7 +99,7 @@ fits_request w port m x is =
     fit_request (x.thread == m.header.client.thread) (x.process == m.header.client.process) (x.identifier == m.header.message_id) (is_request x)
     (x.received && (same_birth x.queue port || is_the port (pair_of w x.port))) is
 
-pub returned_fair : (w : World) (line : ScriptLine) (r : Reply) (by : ThreadRow) (port : PortRow) (m : Message) → HaveTheirCalls w → reply_of line ≡ Some r → AreBytes r.bytes → live_thread w r.by ≡ Some by → port_test w by r.handle ≡ Ok port → message_test r.bytes ≡ Ok m → Holds (λ x. IsFair w line (reply x m)) (answered_test w port m)
+pub returned_fair : (w : World) (line : ScriptLine) (r : Reply) (by : ThreadRow) (port : PortRow) (m : Message) → HaveTheirCalls w → reply_of line ≡ Some r → AreBytes r.bytes → live_thread w r.by ≡ Some by → port_test w by r.handle ≡ Ok port → message_test r.bytes ≡ Ok m → Holds (λ x. IsFair w line (reply x m)) (reply_test w port m)
 returned_fair w line r by port m h is_reply are live at is =
     let P : WaitRow → Type 0 = λ x. IsFair w line (reply x m) in
     bind_holds (client_test w m.header.client) _ P (λ _ _.

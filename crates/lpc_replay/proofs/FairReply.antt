@@ -5,7 +5,7 @@ use Rattle.lpc_model.specs.Found.{live_thread}
 use Rattle.lpc_model.specs.Lines.{reply_port, run}
 use Rattle.lpc_model.specs.Message.{message_test}
 use Rattle.lpc_model.specs.Replies.{Reply}
-use Rattle.lpc_model.specs.Request.{answered_test, nt_reply_port}
+use Rattle.lpc_model.specs.Request.{reply_test, nt_reply_port}
 use Rattle.lpc_model.specs.Tests.{port_test}
 use Rattle.lpc_model.specs.World.{ThreadRow, World}
 use Rattle.lpc_model.proofs.GivenBytes.{AreBytes}
@@ -21,5 +21,5 @@ reply_fair w tid by handle bytes are live h =
     let P = AreFair w line in
     bind_holds (port_test w by handle) _ P (λ port at.
     bind_holds (message_test bytes) _ P (λ m is.
-    bind_holds (answered_test w port m) _ P (λ x fit.
-    ((tt, tt), (holds_ok _ (answered_test w port m) x (returned_fair w line r by port m h refl are live at is) fit, tt)))))
+    bind_holds (reply_test w port m) _ P (λ x fit.
+    ((tt, tt), (holds_ok _ (reply_test w port m) x (returned_fair w line r by port m h refl are live at is) fit, tt)))))

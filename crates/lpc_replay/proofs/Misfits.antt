@@ -6,14 +6,14 @@ use Rattle.lpc_base.specs.declared.status.TheConstants.{INVALID_CID, REPLY_MESSA
 use Rattle.lpc_model.specs.Basics.{Basic, Tells, entries_of}
 use Rattle.lpc_model.specs.Found.{fitted, handle_at, live_thread}
 use Rattle.lpc_model.specs.Replies.{IsRefused, Reply, fitted_wait, is_refusal, message_in, port_of}
-use Rattle.lpc_model.specs.Request.{answered_test}
+use Rattle.lpc_model.specs.Request.{reply_test}
 use Rattle.lpc_model.specs.Tests.{client_test, is_client}
 use Rattle.lpc_model.specs.World.{PortRow, ThreadRow, WaitRow, World}
 use Rattle.lpc_model.specs.declared.entry.Entry.{Entry}
 use Rattle.lpc_model.specs.declared.message.Message.{Message}
 use Rattle.lpc_replay.proofs.Failing.{Fails, bind_ends, found_fails, refuse_fails}
 
-pub answered_fails : (w : World) (port : PortRow) (m : Message) → Fails (answered_test w port m)
+pub answered_fails : (w : World) (port : PortRow) (m : Message) → Fails (reply_test w port m)
 answered_fails w port m =
     bind_ends (client_test w m.header.client) _ (λ (x : WaitRow). Unit {0}) (refuse_fails (not (is_client w m.header.client)) INVALID_CID refl) (λ _ _.
     found_fails (fitted w port.birth m) REPLY_MESSAGE_MISMATCH refl)

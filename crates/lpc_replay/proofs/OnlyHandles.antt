@@ -12,7 +12,7 @@ use Rattle.lpc_model.specs.Found.{all_handles, handle_count, handles_of, has_han
 use Rattle.lpc_model.specs.World.{HandleRow, HandleTable, World}
 use Rattle.lpc_model.proofs.Births.{birth-self}
 use Rattle.lpc_model.proofs.Rows.{count_none}
-use Rattle.lpc_model.proofs.Untold.{dropped-shut}
+use Rattle.lpc_model.proofs.SingleClosings.{dropped-shut}
 use Rattle.lpc_replay.specs.Connects.{is_only_with}
 
 -- of handles in tables, where one passes that is the first of a process and no other does, none of another process's does

@@ -10,7 +10,7 @@ use Rattle.lpc_model.specs.Found.{fitted, is_queued, live_thread, queue_of}
 use Rattle.lpc_model.specs.Message.{message_test}
 use Rattle.lpc_model.specs.Refusal.{found_or, refuse_if}
 use Rattle.lpc_model.specs.Replies.{Reply, fitted_wait}
-use Rattle.lpc_model.specs.Request.{answered_test, given_reply, is_spent, nt_reply_wait_receive_port, optional_message, receive_steps, receive_test}
+use Rattle.lpc_model.specs.Request.{reply_test, given_reply, is_spent, nt_reply_wait_receive_port, optional_message, receive_steps, receive_test}
 use Rattle.lpc_model.specs.Tests.{port_test}
 use Rattle.lpc_model.specs.World.{MessageRow, PortRow, ThreadRow, WaitRow, World}
 use Rattle.lpc_model.specs.declared.entry.CallName.TheVariants.{NtReplyWaitReceivePort}
@@ -32,13 +32,13 @@ receive_fails w port =
 
 given_fails : (w : World) (port : PortRow) (o : Option Message) → Fails (given_reply w port o)
 given_fails w port None = tt
-given_fails w port (Some m) = bind_ends (answered_test w port m) _ (λ (bs : List Basic). Unit {0}) (answered_fails w port m) (λ _ _. tt)
+given_fails w port (Some m) = bind_ends (reply_test w port m) _ (λ (bs : List Basic). Unit {0}) (answered_fails w port m) (λ _ _. tt)
 
 -- the reply that a receive makes first fits, so a misfit makes none
 made_fits : (w : World) (port : PortRow) (m : Message) → Holds (λ (bs : List Basic). (x : WaitRow) × (fitted w port.birth m ≡ Some x)) (given_reply w port (Some m))
 made_fits w port m =
-    bind_holds (answered_test w port m) _ (λ (bs : List Basic). (x : WaitRow) × (fitted w port.birth m ≡ Some x)) (λ x fit.
-    (x, holds_ok _ (answered_test w port m) x (answered_holds w port m) fit))
+    bind_holds (reply_test w port m) _ (λ (bs : List Basic). (x : WaitRow) × (fitted w port.birth m ≡ Some x)) (λ x fit.
+    (x, holds_ok _ (reply_test w port m) x (answered_holds w port m) fit))
 
 no_made : (w : World) (r : Reply) (by : ThreadRow) (port : PortRow) (o : Option Message) (bs : List Basic) → live_thread w r.by ≡ Some by → port_test w by r.handle ≡ Ok port → optional_message (Some r.bytes) ≡ Ok o → fitted_wait w r ≡ None → given_reply w port o ≡ Ok bs → ⊥
 no_made w r by port o bs live at is misfit made =

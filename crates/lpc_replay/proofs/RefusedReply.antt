@@ -5,7 +5,7 @@ use Rattle.lpc_base.specs.declared.status.TheConstants.{SUCCESS}
 use Rattle.lpc_model.specs.Found.{live_thread}
 use Rattle.lpc_model.specs.Message.{message_test}
 use Rattle.lpc_model.specs.Replies.{Reply, fitted_wait}
-use Rattle.lpc_model.specs.Request.{answered_test, nt_reply_port, reply_steps}
+use Rattle.lpc_model.specs.Request.{reply_test, nt_reply_port, reply_steps}
 use Rattle.lpc_model.specs.Tests.{port_test}
 use Rattle.lpc_model.specs.World.{ThreadRow, WaitRow, World}
 use Rattle.lpc_model.specs.declared.entry.CallName.TheVariants.{NtReplyPort}
@@ -22,7 +22,7 @@ reply_misfits w r by live misfit =
     let P = OneRefusal r.by in
     bind_ends (port_test w by r.handle) _ P (port_fails w by r.handle) (λ port at.
     bind_ends (message_test r.bytes) _ P (message_fails r.bytes) (λ m is.
-    bind_ends (answered_test w port m) _ P (answered_fails w port m) (λ x fit.
+    bind_ends (reply_test w port m) _ P (answered_fails w port m) (λ x fit.
     absurd (no_fit w r by port.birth m x live (holds_ok _ _ port (port_holds w by r.handle) at) (holds_ok _ _ m (message_holds r.by r.handle r.bytes) is) misfit (holds_ok _ _ x (answered_holds w port m) fit)))))
 
 made_reply : (tid : ℕ) (by : ThreadRow) (x : WaitRow) (m : Message) → StaysWhereRefused tid (reply_steps by x m)
@@ -36,4 +36,4 @@ reply_stays w tid by handle bytes =
     let P = StaysWhereRefused tid in
     bind_holds (port_test w by handle) _ P (λ port _.
     bind_holds (message_test bytes) _ P (λ m _.
-    bind_holds (answered_test w port m) _ P (λ x _. made_reply tid by x m)))
+    bind_holds (reply_test w port m) _ P (λ x _. made_reply tid by x m)))

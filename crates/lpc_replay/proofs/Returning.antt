@@ -20,7 +20,7 @@ right_along : (w : World) (lines : List (Option ScriptLine)) → AllByRecursion 
 right_along w [] are h l = tt
 right_along w (None ∷ later) are h l = right_along w later are.1 h l
 right_along w (Some line ∷ later) are h l =
-    let untold = l.untold in
+    let untold = l.single_closings in
     let fair = steps_fair w line are.0 (record { sound = l.sound; shut = untold.connects }) h in
     (entries_fair w line (steps line w) fair, right_along (step w line).world later are.1 (steps_keep w line w (steps line w) fair h) (lawful_step w line l))
 

@@ -20,7 +20,7 @@ use Rattle.lpc_world.specs.Shown.{shown_thread}
 
 -- the wait that a message fits through a port, or why there is none
 abbrev pub answered_by : Kept → Key → Message → Result WaitRow Status
-answered_by w port m = request.answered_test w.rows (row_at w port) m
+answered_by w port m = request.reply_test w.rows (row_at w port) m
 
 -- a thread's reply wakes the thread that asked
 abbrev pub Returns : ℕ → ℕ → Message → Kept → Kept → Listed → Listed → Type 0

@@ -13,7 +13,7 @@ ghost use Rattle.lpc_world.specs.Kept.{HasWholeBudget, Roomy, StaysReady};
 ghost use Rattle.lpc_world.specs.Names.{stands};
 ghost use Rattle.lpc_world.specs.Ready.{HasRoom, is_ready};
 
-use crate::reply::{answered_test, as_reply};
+use crate::reply::{reply_test, as_reply};
 use lpc_base::Status;
 use lpc_base::status::SUCCESS;
 use lpc_model::{
@@ -154,7 +154,7 @@ fn reply_and_receive(
     let port = port_at(world, tid, handle)?;
     let message = kept(&read_message(reply)?);
     let queue = receive_test(world, port)?;
-    let thread = answered_test(world, port, &message)?;
+    let thread = reply_test(world, port, &message)?;
     let by = world.caller(tid);
     let replied = Some(Replied { thread, message });
     Ok(take_or_wait(world, &by, port, queue, &replied, out))

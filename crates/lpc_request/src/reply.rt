@@ -32,7 +32,7 @@ pub fn as_reply(message: &Message) -> Message
 }
 
 /// The thread whose wait a reply fits through a port: no such client, a message that fits no wait.
-pub fn answered_test(world: &World, port: Key, message: &Message) -> Result<u32, Status>
+pub fn reply_test(world: &World, port: Key, message: &Message) -> Result<u32, Status>
     requires port { stands world.now.births.ports port ≡ true }
     requires name { (row_at world.now port).birth ≡ name_at world.now port }
     ensures found { Finds (waiter world.now.rows) result (answered_by world.now port message.now) }
@@ -67,7 +67,7 @@ fn reply(
 {
     let port = port_at(world, tid, handle)?;
     let message = kept(&read_message(message)?);
-    let answered = answered_test(world, port, &message)?;
+    let answered = reply_test(world, port, &message)?;
     send_reply(world, tid, answered, &message, out);
     Ok(Outcome::Answered(SUCCESS))
 }

@@ -7,7 +7,7 @@ use Rattle.std.proofs.lemmas.Bool.Decides.{nat_tests}
 use Rattle.std.proofs.lemmas.List.{take_all}
 use Rattle.std.proofs.lemmas.List.Sums.{position_or_len_is}
 use Rattle.lpc_model.specs.Script.{script_lines}
-use Rattle.lpc_model.specs.Words.{parts, words, is_empty, cut, three_parts}
+use Rattle.lpc_model.specs.Words.{parts, words, is_empty, split_once, three_parts}
 
 lines_at : (bs : List ℕ) (i : ℕ) → i < length bs → get_or bs i 0 ≡ 10 → ((k : ℕ) → k < i → get_or bs k 0 ≡ 10 → ⊥) → script_lines bs ≡ take i bs ∷ script_lines (drop (suc i) bs)
 unfolding script_lines
@@ -120,16 +120,16 @@ position_here : (c : ℕ) (bs : List ℕ) (i : ℕ) → i ≤ length bs → (i <
 position_here c bs i h at none = position_or_len_is (λ b. eqb b c) bs i 0 h (λ k lt. ne_eqb _ _ (none k lt)) (λ lt. eq-eqb _ _ (at lt))
 
 -- the cut before and behind the first byte
-pub cut_here : (c : ℕ) (bs : List ℕ) (i : ℕ) → i < length bs → get_or bs i 0 ≡ c → ((k : ℕ) → k < i → get_or bs k 0 ≡ c → ⊥) → cut c bs ≡ Some (take i bs, take (length bs - (i + 1)) (drop (i + 1) bs))
-unfolding cut
+pub cut_here : (c : ℕ) (bs : List ℕ) (i : ℕ) → i < length bs → get_or bs i 0 ≡ c → ((k : ℕ) → k < i → get_or bs k 0 ≡ c → ⊥) → split_once c bs ≡ Some (take i bs, take (length bs - (i + 1)) (drop (i + 1) bs))
+unfolding split_once
 cut_here c bs i h at none =
     let is = position_here c bs i (omega arith) (λ lt. at) none in
     let inside : eqb i (length bs) ≡ false = ne_eqb _ _ (λ e. omega arith) in
     rw (is, inside, rest_is, add-one) refl
 
 -- no byte, no cut
-pub cut_end : (c : ℕ) (bs : List ℕ) → ((k : ℕ) → k < length bs → get_or bs k 0 ≡ c → ⊥) → cut c bs ≡ None
-unfolding cut
+pub cut_end : (c : ℕ) (bs : List ℕ) → ((k : ℕ) → k < length bs → get_or bs k 0 ≡ c → ⊥) → split_once c bs ≡ None
+unfolding split_once
 cut_end c bs none =
     let is = position_here c bs (length bs) (omega arith) (λ lt. absurd (omega arith)) none in
     let end : eqb (length bs) (length bs) ≡ true = eq-eqb _ _ refl in

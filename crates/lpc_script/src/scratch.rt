@@ -5,7 +5,7 @@ ghost use Rattle.lpc_model.specs.Words.{hex_word, hex_message, info_word, reply_
 ghost use Rattle.lpc_script.specs.Gives.{Gives, behind};
 
 use crate::number::number;
-use crate::words::{cut, three_parts};
+use crate::words::{split_once, three_parts};
 use hex::decode_to_slice;
 use lpc_base::OutOfMemory;
 use lpc_base::limits::{HEADER_SIZE, LINE_LIMIT};
@@ -124,7 +124,7 @@ impl Scratch {
         requires { length text.now ≤ LINE_LIMIT }
         ensures { Gives (λ bytes. bytes.now) result (reply_message text.now) }
     {
-        let (numbers, digits) = cut(text, b':').ok_or(LineFault::Message)?;
+        let (numbers, digits) = split_once(text, b':').ok_or(LineFault::Message)?;
         let (process, thread, message_id) = three_parts(numbers).ok_or(LineFault::Message)?;
         let process = number(process)?;
         let thread = number(thread)?;

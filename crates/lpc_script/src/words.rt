@@ -9,11 +9,11 @@ ghost use Rattle.lpc_script.specs.Gives.{Gives, seen_four, seen_one_or_two, seen
 use lpc_model::LineFault;
 
 /// What stands before the first byte `by`, and what after it; none where it isn't there.
-pub fn cut(text: &[u8], by: u8) -> Option<(&[u8], &[u8])>
+pub fn split_once(text: &[u8], by: u8) -> Option<(&[u8], &[u8])>
     ensures parts { MatchOption result
         (parts by text.now ≡ text.now ∷ [])
         (λ p. parts by text.now ≡ p.0.now ∷ parts by p.1.now) }
-    ensures first { option_map seen_two result ≡ spec.cut by text.now }
+    ensures first { option_map seen_two result ≡ spec.split_once by text.now }
     ensures front { IfSome result (λ p. length p.0.now ≤ length text.now) }
     ensures back { IfSome result (λ p. length p.1.now ≤ length text.now) }
 {
@@ -50,7 +50,7 @@ pub fn next_word(text: &[u8]) -> Option<(&[u8], &[u8])>
     if text.is_empty() {
         return None;
     }
-    if let Some((word, rest)) = cut(text, b' ') {
+    if let Some((word, rest)) = split_once(text, b' ') {
         return Some((word, rest));
     }
     Some((text, &[]))
@@ -122,9 +122,9 @@ pub fn one_or_two_words(text: &[u8]) -> Result<(&[u8], Option<&[u8]>), LineFault
 pub fn three_parts(text: &[u8]) -> Option<(&[u8], &[u8], &[u8])>
     ensures { option_map seen_three result ≡ spec.three_parts (parts 46 text.now) }
 {
-    let (first, rest) = cut(text, b'.')?;
-    let (second, third) = cut(rest, b'.')?;
-    if let Some((_, _)) = cut(third, b'.') {
+    let (first, rest) = split_once(text, b'.')?;
+    let (second, third) = split_once(rest, b'.')?;
+    if let Some((_, _)) = split_once(third, b'.') {
         return None;
     }
     Some((first, second, third))

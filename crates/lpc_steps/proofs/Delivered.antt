@@ -16,7 +16,7 @@ use Rattle.lpc_model.specs.Message.{asks, is_connection_request}
 use Rattle.lpc_model.specs.Found.{is_listen, is_queued, is_queued_connect, is_receive, same_birth, waits_as, waits_at}
 use Rattle.lpc_model.specs.Basics.{Basic, Enters, Receives, Wakes, basic, entries_of, received, told, world_after}
 use Rattle.lpc_model.specs.Fields.{msg, receipt}
-use Rattle.lpc_model.specs.Entering.{enter, given_steps, receipt_steps, shown, take_connect_steps, take_steps, takes, woken}
+use Rattle.lpc_model.specs.Entering.{enter, given_steps, received_steps, shown, take_connect_steps, take_steps, takes, woken}
 use Rattle.lpc_model.proofs.SoundQueues.{after-append}
 use Rattle.lpc_model.specs.Sweep.{loosened, loosens}
 use Rattle.lpc_world.specs.Does.{Left, left_by}
@@ -50,11 +50,11 @@ taker-queue m x h = name_is x.queue m.queue (both (is_receive x || (is_listen x 
 passed-as : (w : World) (m : MessageRow) (k : WaitKind) (q : Birth) → q ≡ m.queue
     → ((elim k [ Receive ↦ true | _ ↦ false ]) || ((elim k [ Listen ↦ true | _ ↦ false ]) && is_connection_request m.message)) && same_birth q m.queue ≡ true
     → not ((elim k [ Receive ↦ true | _ ↦ false ]) && has (is_queued q) w.messages) && not ((elim k [ Listen ↦ true | _ ↦ false ]) && has (is_queued_connect q) w.messages) ≡ true
-    → world_after (basic w (Enters m)) (elim k [ Listen ↦ take_connect_steps m | _ ↦ take_steps m ]) ≡ world_after w (receipt_steps m)
+    → world_after (basic w (Enters m)) (elim k [ Listen ↦ take_connect_steps m | _ ↦ take_steps m ]) ≡ world_after w (received_steps m)
 passed-as w m (Request n) q own takes quiet = absurd (cc)
 passed-as w m Receive q own takes quiet =
     let none : has (is_queued m.queue) w.messages ≡ false = subst (λ (b : Birth). has (is_queued b) w.messages ≡ false) own (off (has (is_queued q) w.messages) quiet) in
-    ap (λ (v : World). world_after v (receipt_steps m)) (taken-by w m (is_queued m.queue) (same-birth m.queue) none)
+    ap (λ (v : World). world_after v (received_steps m)) (taken-by w m (is_queued m.queue) (same-birth m.queue) none)
   where
     off : (b : Bool) → not b && true ≡ true → b ≡ false
     off true h = absurd (cc)
@@ -62,7 +62,7 @@ passed-as w m Receive q own takes quiet =
 passed-as w m Listen q own takes quiet =
     let none : has (is_queued_connect m.queue) w.messages ≡ false = subst (λ (b : Birth). has (is_queued_connect b) w.messages ≡ false) own (off (has (is_queued_connect q) w.messages) quiet) in
     let asks : is_connection_request m.message ≡ true = (both (is_connection_request m.message) (same_birth q m.queue) takes).0 in
-    ap (λ (v : World). world_after v (receipt_steps m)) (taken-by w m (is_queued_connect m.queue) (rw (same-birth m.queue, asks) refl) none)
+    ap (λ (v : World). world_after v (received_steps m)) (taken-by w m (is_queued_connect m.queue) (rw (same-birth m.queue, asks) refl) none)
   where
     off : (b : Bool) → not b ≡ true → b ≡ false
     off true h = absurd (cc)
@@ -70,7 +70,7 @@ passed-as w m Listen q own takes quiet =
 passed-as w m (Connect n) q own takes quiet = absurd (cc)
 passed-as w m (Accepted n reply) q own takes quiet = absurd (cc)
 
-pub passed : (w : World) (m : MessageRow) (x : WaitRow) → takes m x ≡ true → is_quiet w.messages x ≡ true → world_after w (Enters m ∷ given_steps x m) ≡ world_after w (receipt_steps m)
+pub passed : (w : World) (m : MessageRow) (x : WaitRow) → takes m x ≡ true → is_quiet w.messages x ≡ true → world_after w (Enters m ∷ given_steps x m) ≡ world_after w (received_steps m)
 passed w m x takes quiet = passed-as w m x.kind x.queue (taker-queue m x takes) takes quiet
 
 pub passed-asking : (w : World) (m : MessageRow) (x : WaitRow) → takes m x ≡ true → is_quiet w.messages x ≡ true → asks m.message ≡ true → world_after w (Enters m ∷ given_steps x m) ≡ basic w (Receives m.message.header.client.thread m.queue)

@@ -3,7 +3,7 @@ use Rattle.std.specs.Prelude.{List, Option}
 use Rattle.lpc_base.specs.declared.status.TheConstants.{LPC_REPLY_LOST, PORT_DISCONNECTED}
 use Rattle.lpc_model.specs.World.{Birth, MessageRow, WaitRow}
 use Rattle.lpc_model.specs.Basics.{Basic, Steps, end_each}
-use Rattle.lpc_model.specs.Close.{closed_message, end_accepted, end_offered, end_request, server_of, told_of, wake}
+use Rattle.lpc_model.specs.Close.{closed_message, end_accepted, end_offered, end_request, server_of, closing_post, wake}
 use Rattle.lpc_slots.specs.declared.Key.{Key}
 use Rattle.lpc_world.specs.Clauses.{birth_at, port_at}
 use Rattle.lpc_world.specs.Kept.{Kept}
@@ -31,7 +31,7 @@ abbrev pub server_at : Kept → Key → Option Birth
 server_at w port = server_of w.rows (port_at w port)
 
 abbrev pub told_at : Kept → Key → Option MessageRow
-told_at w port = told_of w.rows (port_at w port)
+told_at w port = closing_post w.rows (port_at w port)
 
 -- the message that this is told by
 abbrev pub closed_row_of : Kept → Key → Closed → MessageRow

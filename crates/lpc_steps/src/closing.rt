@@ -26,7 +26,7 @@ pub struct Closed {
 }
 
 /// What is told of a port that is closed: None where it isn't a completed client port whose connection port is open.
-pub fn told_of(world: &World, port: Key) -> Option<Closed>
+pub fn closing_post(world: &World, port: Key) -> Option<Closed>
     requires { stands world.now.births.ports port ≡ true }
     ensures row { row_at world.now port ≡ Some (port_at world.now port) }
     ensures told { Finds result (closed_row_of world.now port) (told_at world.now port) }

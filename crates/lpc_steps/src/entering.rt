@@ -9,7 +9,7 @@ ghost use Rattle.lpc_world.specs.Kept.{CanMake, Roomy, StaysUnqueued};
 ghost use Rattle.lpc_world.specs.Names.{stands};
 ghost use Rattle.lpc_world.specs.Ready.{waiter};
 ghost use Rattle.lpc_world.specs.Shown.{row_with};
-ghost use Rattle.lpc_world.specs.Untold.{is_owed};
+ghost use Rattle.lpc_world.specs.OwedClosings.{is_owed};
 
 use crate::message::{asks_to_connect, wants_answer};
 use crate::waiting::{taken_fields, tell_wake, waiting_call};

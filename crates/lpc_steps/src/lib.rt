@@ -12,7 +12,7 @@ mod queues;
 mod threads;
 mod waiting;
 
-pub use closing::{Closed, told_of};
+pub use closing::{Closed, closing_post};
 pub use connections::{Completable, answered_connect, completion_test, is_connection};
 pub use ending::end_all;
 pub use entering::deliver;

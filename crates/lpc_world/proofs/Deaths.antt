@@ -98,7 +98,7 @@ module _ (it : Tables) (calls made : ℕ) (is : AreLawful it calls made) where
   rows = rows_by it
 
   -- what is found of a thread that has ended
-  pub record IsUntold (pid tid : ℕ) (r : Registration) : Type 0 where
+  pub record HasSingleClosings (pid tid : ℕ) (r : Registration) : Type 0 where
     pub thread : ThreadRow
     pub row : first (procs.is_thread tid) it.procs.threads ≡ Some thread
     pub process : thread.process ≡ pid
@@ -106,14 +106,14 @@ module _ (it : Tables) (calls made : ℕ) (is : AreLawful it calls made) where
     pub death : first (λ _. true) (untold_of rows pid) ≡ Some (death_by (shown_thread thread) r.birth)
     pub named : is_under_name n r ≡ true
 
-  pub untold_found : (pid tid : ℕ) (r : Registration) → procs.first_untold it.procs.threads pid ≡ Some (tid, r) → IsUntold pid tid r
+  pub untold_found : (pid tid : ℕ) (r : Registration) → procs.first_untold it.procs.threads pid ≡ Some (tid, r) → HasSingleClosings pid tid r
   untold_found pid tid r found = by_thread (first (procs.is_untold pid) it.procs.threads) refl found
     where
       first_of_all : (rs : List Registration) → slice_get rs 0 ≡ Some r → every (is_under_name n) rs ≡ true → is_under_name n r ≡ true
       first_of_all [] at all = absurd (cc)
       first_of_all (x ∷ rs) at all = let same : x ≡ r = cc in subst (λ (y : Registration). is_under_name n y ≡ true) same (grind arith)
 
-      by_thread : (o : Option ThreadRow) → first (procs.is_untold pid) it.procs.threads ≡ o → option_and_then procs.first_registration o ≡ Some (tid, r) → IsUntold pid tid r
+      by_thread : (o : Option ThreadRow) → first (procs.is_untold pid) it.procs.threads ≡ o → option_and_then procs.first_registration o ≡ Some (tid, r) → HasSingleClosings pid tid r
       by_thread None here at = absurd (cc)
       by_thread (Some t) here at =
           let parts = pair-of t.number tid r (procs.first_registered t) at in
@@ -138,7 +138,7 @@ module _ (it : Tables) (calls made : ℕ) (is : AreLawful it calls made) where
   some_birth : (a b : Birth) → let x : Option Birth = Some a in let y : Option Birth = Some b in x ≡ y → a ≡ b
   some_birth a b e = cc
 
-  pub untold_is : (pid tid : ℕ) (r : Registration) (b : Birth) → IsUntold pid tid r → option_map (λ (t : ThreadRow). t.birth) (first (procs.is_thread tid) it.procs.threads) ≡ Some b
+  pub untold_is : (pid tid : ℕ) (r : Registration) (b : Birth) → HasSingleClosings pid tid r → option_map (λ (t : ThreadRow). t.birth) (first (procs.is_thread tid) it.procs.threads) ≡ Some b
       → first (λ _. true) (untold_of rows pid) ≡ Some (record { client = record { process = pid; thread = tid }; birth = b; port = r.birth })
   untold_is pid tid r b u at =
       let own : u.thread.birth ≡ b = some_birth u.thread.birth b (sym (ap (option_map (λ (t : ThreadRow). t.birth)) u.row) ∙ at) in

@@ -30,7 +30,7 @@ use Rattle.lpc_world.proofs.Owed.{owed-free}
 use Rattle.lpc_world.proofs.OwnMessages.{count-left}
 use Rattle.lpc_world.proofs.Registered.{registered-less}
 use Rattle.lpc_world.proofs.Rooms.{room}
-use Rattle.lpc_world.proofs.Untold.{told-free}
+use Rattle.lpc_world.proofs.OwedClosings.{told-free}
 use Rattle.lpc_world.proofs.Unheld.{is_named_in, is_other, others_pass}
 
 -- rows whose objects pass two tests

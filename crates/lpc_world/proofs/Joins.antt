@@ -24,7 +24,7 @@ use Rattle.lpc_world.proofs.Owed.{owed-map}
 use Rattle.lpc_world.proofs.Follows as follows
 use Rattle.lpc_world.proofs.Naming.{key_is}
 use Rattle.lpc_world.proofs.Rooms.{room}
-use Rattle.lpc_world.proofs.Untold.{told-map}
+use Rattle.lpc_world.proofs.OwedClosings.{told-map}
 
 -- rows that all pass a test, changed by a map that the shown rows follow
 pub map-follows : {X Y : Type 0} (g : X → Y) (ok : X → Bool) (h : X → X) (k : Y → Y) → ((x : X) → ok x ≡ true → g (h x) ≡ k (g x)) → (xs : List X) → every ok xs ≡ true → map g (map h xs) ≡ map k (map g xs)

@@ -26,8 +26,8 @@ use Rattle.lpc_world.specs.Kept.{is_alive, is_asking, is_pending, is_unsent, owe
 use Rattle.lpc_world.proofs.Owed.{none-taken, owed-drop, owed-handle, owed-process, owed-shut}
 use Rattle.lpc_world.proofs.Registered.{registered-change, registered-push}
 use Rattle.lpc_world.proofs.OwnMessages.{asking-pending, count-left, count-taken_by, own-change, own-end, own-enter, own-keep, own-take, own-wait, own-withdraw}
-use Rattle.lpc_world.proofs.Untold.{asks_no_closing, closings-fit, one-place, told-enter, told-make, told-take, told-withdraw}
-use Rattle.lpc_world.specs.Untold.{TellsOnce, closing_places, is_owed}
+use Rattle.lpc_world.proofs.OwedClosings.{asks_no_closing, closings-fit, one-place, told-enter, told-make, told-take, told-withdraw}
+use Rattle.lpc_world.specs.OwedClosings.{TellsOnce, closing_places, is_owed}
 use Rattle.lpc_world.specs.Lawful.{IsLawful, are_single, draws_at_most, is_housed, is_of, is_quiet, is_used}
 
 turned : (a b : ℕ) → (a == b) ≡ (b == a)

@@ -1,6 +1,6 @@
 pub mod Owed
 pub mod OwnMessages
-pub mod Untold
+pub mod OwedClosings
 pub mod Changes
 pub mod Connecting
 pub mod Finds

@@ -10,7 +10,7 @@ use Rattle.lpc_model.specs.Closings.{is_closed_post}
 use Rattle.lpc_model.specs.Found.{is_queued, waits_as}
 use Rattle.lpc_world.specs.Kept.{HandleRoom, Room, Roomy, is_alive, is_asking, is_room, owed_messages, owed_waits, registered_ports, room_in}
 use Rattle.lpc_world.specs.Lawful.{are_single}
-use Rattle.lpc_world.specs.Untold.{closing_places}
+use Rattle.lpc_world.specs.OwedClosings.{closing_places}
 use Rattle.lpc_world.proofs.Lawful.{owed-port, owed-taken, owed-withdrawn}
 use Rattle.lpc_world.proofs.Registered.{registered-push}
 

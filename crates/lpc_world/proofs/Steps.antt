@@ -35,7 +35,7 @@ use Rattle.lpc_world.specs.Names.{are_apart, name_of, stands}
 use Rattle.lpc_world.specs.Shown.{Tables, Births, all_pass, birth_of, births_of, message_refs, object_stands, port_refs, pulled_row, shown_handle, shown_message, shown_port, shown_process, shown_thread, shown_used, shown_wait, tables_of, wait_refs, with_message}
 use Rattle.lpc_homes.specs.Parts.{are_single_parts, handed, is_part, roomed, spare_at}
 use Rattle.lpc_world.specs.Kept.{has_queued, is_alive, is_asking, is_unsent, owed_messages, owed_rows, owed_waits, rows_by}
-use Rattle.lpc_world.specs.Untold.{TellsOnce, closing_places, is_owed}
+use Rattle.lpc_world.specs.OwedClosings.{TellsOnce, closing_places, is_owed}
 use Rattle.lpc_world.specs.Lawful.{AreBornIn, AreLawful, IsCounted, IsPromised, can_begin, draws_at_most, drew, has_header, has_named_ports, is_housed, is_process_by, is_quiet, is_thread_by}
 use Rattle.lpc_homes.specs.declared.object.Object.{Object}
 use Rattle.lpc_homes.specs.declared.object.Object.TheVariants as object

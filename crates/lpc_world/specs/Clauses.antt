@@ -33,7 +33,7 @@ use Rattle.lpc_world.specs.Lawful.{is_quiet}
 use Rattle.lpc_world.specs.Names.{name_of}
 use Rattle.lpc_world.specs.Ready.{port_of, waiter}
 use Rattle.lpc_world.specs.Shown.{birth_of, name_by, port_with, pulled_row, row_with, waiting_row, with_message}
-use Rattle.lpc_world.specs.Untold.{TellsOnce, closing_places}
+use Rattle.lpc_world.specs.OwedClosings.{TellsOnce, closing_places}
 use Rattle.lpc_homes.specs.declared.object.Object.{Object}
 
 -- What is found

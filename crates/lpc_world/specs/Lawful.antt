@@ -6,7 +6,7 @@ use Rattle.lpc_base.specs.Rows.{count, differ_by, every, has}
 use Rattle.lpc_model.specs.World.{World, HandleTable, MessageRow, ProcessRow, ThreadRow, UsedThread, WaitRow}
 use Rattle.lpc_model.specs.Found.{is_accepted, is_connect, is_listen, is_live_thread, is_own_of, is_process, is_queued, is_queued_connect, is_receive, is_table, same_birth}
 use Rattle.lpc_model.specs.Tests.{is_connect_of}
-use Rattle.lpc_model.specs.Untold.{is_closing_of}
+use Rattle.lpc_model.specs.SingleClosings.{is_closing_of}
 use Rattle.lpc_ports.specs.Table.{PortTable}
 use Rattle.lpc_ports.specs.declared.messages.QueuedMessage.{QueuedMessage}
 use Rattle.lpc_procs.specs.declared.rows.ThreadRow as procs
@@ -17,7 +17,7 @@ use Rattle.lpc_homes.specs.declared.parts.Part.{Part}
 use Rattle.lpc_world.specs.Kept.{CALL_BUDGET, owed_messages, owed_rows, owed_waits, pends_as, rows_by}
 use Rattle.lpc_world.specs.Names.{name_of, stands}
 use Rattle.lpc_world.specs.Shown.{AreNamed, Births, Tables, births_of}
-use Rattle.lpc_world.specs.Untold.{is_client_of}
+use Rattle.lpc_world.specs.OwedClosings.{is_client_of}
 
 -- no thread waits twice
 abbrev pub are_single : List WaitRow → Bool

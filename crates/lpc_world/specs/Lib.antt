@@ -1,6 +1,6 @@
 pub mod Names
 pub mod Shown
-pub mod Untold
+pub mod OwedClosings
 pub mod Kept
 pub mod Lawful
 pub mod Ready

@@ -19,7 +19,7 @@ ghost use Rattle.lpc_world.specs.Shown.{object_stands};
 ghost use Rattle.lpc_world.specs.Lawful.{can_begin, drew, is_process_by, is_quiet, is_thread_by};
 ghost use Rattle.lpc_world.specs.Kept.{CanMake, HasWholeBudget, IsMakingStep, IsStep, Roomy, Same, StaysReady, StaysUnqueued, handle_room, has_queued, is_unsent, owed_handles, owed_messages, owed_waits, process_rows};
 ghost use Rattle.lpc_world.specs.Ready.{IsWait};
-ghost use Rattle.lpc_world.specs.Untold.{closing_places, is_owed};
+ghost use Rattle.lpc_world.specs.OwedClosings.{closing_places, is_owed};
 ghost use Rattle.lpc_base.specs.declared.limits.TheConstants.{HANDLE_LIMIT, HEADER_SIZE, LINES_LIMIT, MESSAGE_LIMIT};
 ghost use Rattle.lpc_world.specs.Clauses.{HasFewHandles, HasHandlePlaces, HasHandleRoom, HasLeft, HasSmallLoad, IsAwaited, TellsOnceOn, after, and_message, and_port, and_process, and_thread, birth_at, birth_next, connects, has_message, has_table, has_taker, identifier_next, new_wait, oldest, pends, pulled, sent, waiting_with, with_handle, with_port, without_wait};
 

@@ -11,7 +11,7 @@ use Rattle.lpc_death.proofs.Five.{five-is}
 use Rattle.lpc_death.proofs.HandlesKept.{handles-kept}
 use Rattle.lpc_death.proofs.Paid.{five-clients}
 use Rattle.lpc_death.proofs.Steps.{took-one}
-use Rattle.lpc_death.proofs.Untold.{five-untold}
+use Rattle.lpc_death.proofs.FreshClosings.{five-untold}
 use Rattle.lpc_death.proofs.close.close_port.Goals as goal
 
 -- the world before the post is that behind the first five steps

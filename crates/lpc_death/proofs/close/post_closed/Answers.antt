@@ -7,17 +7,17 @@ use Rattle.lpc_world.specs.Does.{left_by}
 use Rattle.lpc_world.specs.Names.{name_of}
 use Rattle.lpc_world.specs.Ready.{port_of}
 use Rattle.lpc_world.specs.Shown.{row_with}
-use Rattle.lpc_world.specs.Untold.{is_owed}
+use Rattle.lpc_world.specs.OwedClosings.{is_owed}
 use Rattle.lpc_death.proofs.Paid.{told-rows}
 use Rattle.lpc_death.proofs.Posted.{posted, unposted}
-use Rattle.lpc_death.proofs.Untold.{place-kept}
+use Rattle.lpc_death.proofs.FreshClosings.{place-kept}
 use Rattle.lpc_death.proofs.close.post_closed.Goals as goal
 
 pub deliver-requires-clause-closing : goal.deliver-requires-clause-closing
 deliver-requires-clause-closing c =
     let w = c.args.world.now in
     let b = name_of w.births.ports c.args.port in
-    λ tells. place-kept w.rows b (port_of w.rows b) (closed_row_of w c.args.port c.in-Some.closed) c.told_of.ensures.row c.in-Some.ensures.told c.requires.untold
+    λ tells. place-kept w.rows b (port_of w.rows b) (closed_row_of w c.args.port c.in-Some.closed) c.closing_post.ensures.row c.in-Some.ensures.told c.requires.untold
 
 pub deliver-requires-clause-other : goal.deliver-requires-clause-other
 deliver-requires-clause-other c =
@@ -32,17 +32,17 @@ returns-in-Some-clause-takes c =
     let context = c.in-Some.closed.context in
     c.deliver.ensures.takes
     ∙ ap (λ (m : Message). left_by w.rows c.args.out.now.list w.loose (enter (row_with w.births queue c.args.port context m) w.rows)) c.closed_message-message.ensures
-    ∙ ap (λ (bs : List Basic). left_by w.rows c.args.out.now.list w.loose bs) (sym (posted w.rows b (port_of w.rows b) (Some (closed_row_of w c.args.port c.in-Some.closed)) c.told_of.ensures.row c.in-Some.ensures.told))
+    ∙ ap (λ (bs : List Basic). left_by w.rows c.args.out.now.list w.loose bs) (sym (posted w.rows b (port_of w.rows b) (Some (closed_row_of w c.args.port c.in-Some.closed)) c.closing_post.ensures.row c.in-Some.ensures.told))
 
 pub returns-in_default-clause-takes : goal.returns-in_default-clause-takes
 returns-in_default-clause-takes c =
     let w = c.args.world.now in
     let b = name_of w.births.ports c.args.port in
-    unposted w.rows b (port_of w.rows b) c.args.out.now.list w.loose c.told_of.ensures.row c.in_default.ensures.told
+    unposted w.rows b (port_of w.rows b) c.args.out.now.list w.loose c.closing_post.ensures.row c.in_default.ensures.told
 
 pub returns-in-Some-clause-made : goal.returns-in-Some-clause-made
 returns-in-Some-clause-made c =
     let w = c.args.world.now in
     let b = name_of w.births.ports c.args.port in
-    let one = told-rows w.rows b (port_of w.rows b) (closed_row_of w c.args.port c.in-Some.closed) c.told_of.ensures.row c.in-Some.ensures.told in
+    let one = told-rows w.rows b (port_of w.rows b) (closed_row_of w c.args.port c.in-Some.closed) c.closing_post.ensures.row c.in-Some.ensures.told in
     omega (arith, one, c.deliver.ensures.made)

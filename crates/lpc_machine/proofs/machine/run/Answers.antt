@@ -7,11 +7,11 @@ use Rattle.lpc_machine.proofs.Called.{busy, called}
 use Rattle.lpc_machine.proofs.machine.run.Goals as goal
 
 pub serve-requires-clause-can : goal.serve-requires-clause-can
-serve-requires-clause-can c = let t = c.requires.settled.lawful in record { pairs = t.linked.pairs; untold = t.untold }
+serve-requires-clause-can c = let t = c.requires.settled.lawful in record { pairs = t.linked.pairs; single_closings = t.single_closings }
 
 pub serve-requires-clause-ends : goal.serve-requires-clause-ends
 serve-requires-clause-ends c = let t = c.requires.settled.lawful in record {
-  close = record { sound = t.sound; linked = t.linked; untold = t.untold };
+  close = record { sound = t.sound; linked = t.linked; single_closings = t.single_closings };
   threads = t.threads;
   registrations = t.registrations;
   single = t.single;

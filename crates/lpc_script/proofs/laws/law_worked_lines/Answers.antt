@@ -1,12 +1,12 @@
 use Rattle.std.proofs.Common.{refl, arith}
 use Rattle.std.proofs.lemmas.Bool.Decides.{nat_tests}
-use Rattle.lpc_model.specs.Words.{words, digits_word, decimal_word, hexadecimal_word, number_word, id_word, hex_word, cut, three_parts, reply_message, message_word, info_word}
+use Rattle.lpc_model.specs.Words.{words, digits_word, decimal_word, hexadecimal_word, number_word, id_word, hex_word, split_once, three_parts, reply_message, message_word, info_word}
 use Rattle.lpc_model.specs.Grammar.{read_line, call_named, directive_named, call_words, directive_words, call_line, directive_line, accept_word, one_word, one_or_two_words, two_words, four_words}
 use Rattle.hex.specs.Hex.{decode_pairs}
 use Rattle.lpc_script.proofs.laws.law_worked_lines.Goals as goal
 
 pub returns : goal.returns
-unfolding words digits_word decimal_word hexadecimal_word number_word id_word hex_word cut three_parts reply_message message_word info_word accept_word read_line call_named directive_named call_words directive_words call_line directive_line one_word one_or_two_words two_words four_words decode_pairs
+unfolding words digits_word decimal_word hexadecimal_word number_word id_word hex_word split_once three_parts reply_message message_word info_word accept_word read_line call_named directive_named call_words directive_words call_line directive_line one_word one_or_two_words two_words four_words decode_pairs
 returns c = record {
   boot_of_a_process = refl;
   thread_in_hexadecimal = refl;

@@ -29,11 +29,11 @@ returns-clause-held c = (sound.stays_settled c.self.inside.world c.take.new.worl
 pub returns-clause-named : goal.returns-clause-named
 returns-clause-named c = (sound.stays_settled c.self.inside.world c.take.new.world c.args.out.now.list c.take.new.out.list (line_of c.args.line.now) c.self.invariant c.requires.empty c.in_ok-take.ensures.takes c.sweep.new.self c.sweep.ensures.rows c.sweep.ensures.loose).lawful.names
 
-pub returns-clause-untold : goal.returns-clause-untold
-returns-clause-untold c = (sound.stays_settled c.self.inside.world c.take.new.world c.args.out.now.list c.take.new.out.list (line_of c.args.line.now) c.self.invariant c.requires.empty c.in_ok-take.ensures.takes c.sweep.new.self c.sweep.ensures.rows c.sweep.ensures.loose).lawful.untold
+pub returns-clause-single_closings : goal.returns-clause-single_closings
+returns-clause-single_closings c = (sound.stays_settled c.self.inside.world c.take.new.world c.args.out.now.list c.take.new.out.list (line_of c.args.line.now) c.self.invariant c.requires.empty c.in_ok-take.ensures.takes c.sweep.new.self c.sweep.ensures.rows c.sweep.ensures.loose).lawful.single_closings
 
 pub returns-clause-closings : goal.returns-clause-closings
-returns-clause-closings c = rw (← c.self.view_is) (let t = c.self.invariant.lawful in let shut = t.untold in closings_told c.self.inside.world.rows (line_of c.args.line.now) t.sound shut.connects)
+returns-clause-closings c = rw (← c.self.view_is) (let t = c.self.invariant.lawful in let shut = t.single_closings in closings_told c.self.inside.world.rows (line_of c.args.line.now) t.sound shut.connects)
 
 pub returns-clause-deaths : goal.returns-clause-deaths
 returns-clause-deaths c = rw (← c.self.view_is) (let t = c.self.invariant.lawful in deaths_told c.self.inside.world.rows (line_of c.args.line.now) t.sound t.threads)

@@ -10,7 +10,7 @@ use Rattle.lpc_model.specs.Basics.{Cuts, DropsHandle, basic, world_after}
 use Rattle.lpc_model.specs.Tests.{own_handle}
 use Rattle.lpc_model.specs.Close.{close_handle, close_port, closed_row, is_last, nt_close, post_closed}
 use Rattle.lpc_model.specs.SoundWaits.{IsSoundWorld, is_connect_on}
-use Rattle.lpc_model.specs.Untold.{IsUntold, is_closing_of, is_shut}
+use Rattle.lpc_model.specs.SingleClosings.{HasSingleClosings, is_closing_of, is_shut}
 use Rattle.lpc_model.proofs.Rows.{has-off}
 use Rattle.lpc_model.proofs.Births.{birth-same}
 use Rattle.lpc_model.proofs.Holding.{Holds, bind_holds, found_ok}
@@ -21,13 +21,13 @@ use Rattle.lpc_model.proofs.SoundClose.{found-value, last-closes, shut-found}
 use Rattle.lpc_model.proofs.Closing.{behind, closed-is, cut-is, fewer-uncut, stage_five, uncut}
 use Rattle.lpc_model.proofs.OpenClose.{posted-messages, posted-pass}
 use Rattle.lpc_model.proofs.Standing.{off-each}
-use Rattle.lpc_model.proofs.Untold.{dropped-shut, dropped-untold, fewer-untold, first-once, hushed-all, open-unconnected, open-untold, tells-more, tells_shut, waits-more, waits_shut}
+use Rattle.lpc_model.proofs.SingleClosings.{dropped-shut, dropped-untold, fewer-untold, first-once, hushed-all, open-unconnected, open-untold, tells-more, tells_shut, waits-more, waits_shut}
 
-five-untold : (w : World) (b : Birth) → IsUntold w → IsUntold (stage_five w b)
-five-untold w b u = subst IsUntold (sym (cut-is w b)) (hushed-all (uncut w b) (Cuts b ∷ []) refl (fewer-untold w (uncut w b) (fewer-uncut w b) u))
+five-untold : (w : World) (b : Birth) → HasSingleClosings w → HasSingleClosings (stage_five w b)
+five-untold w b u = subst HasSingleClosings (sym (cut-is w b)) (hushed-all (uncut w b) (Cuts b ∷ []) refl (fewer-untold w (uncut w b) (fewer-uncut w b) u))
 
 -- the last handle of a port that is closed
-module _ (w : World) (pid : ℕ) (r : HandleRow) (at : handle_at w pid r.value ≡ Some r) (last : is_last r w ≡ true) (s : IsSoundWorld w) (u : IsUntold w) where
+module _ (w : World) (pid : ℕ) (r : HandleRow) (at : handle_at w pid r.value ≡ Some r) (last : is_last r w ≡ true) (s : IsSoundWorld w) (u : HasSingleClosings w) where
   abbrev closing : Birth
   closing = r.object.birth
 
@@ -40,7 +40,7 @@ module _ (w : World) (pid : ℕ) (r : HandleRow) (at : handle_at w pid r.value �
   abbrev dropped : World
   dropped = basic closed (DropsHandle pid r.value)
 
-  told : IsUntold five
+  told : HasSingleClosings five
   told = five-untold w closing u
 
   less : IsLess five closed
@@ -94,26 +94,26 @@ module _ (w : World) (pid : ℕ) (r : HandleRow) (at : handle_at w pid r.value �
       of : (k : Bool) → same_birth p.birth b ≡ k → count (is_closing_of b) (five.messages ++ closed_row p q by ∷ []) ≤ 1
       of k is = sum (count (is_closing_of b) five.messages) _ (is_closing_of b (closed_row p q by)) (count-push (is_closing_of b) five.messages (closed_row p q by)) none (told.once b)
 
-  last-untold : IsUntold dropped
+  last-untold : HasSingleClosings dropped
   last-untold = record {
     closed = posted-pass (tells_shut dropped) closing five (every-more (tells_shut five) (tells_shut dropped) (λ m. tells-more five dropped m (stays_shut m.sender) (no_connect m.sender)) five.messages told.closed) (λ p q by row found. tells_of p q by row);
     once = λ b. posted-messages (λ ms. count (is_closing_of b) ms ≤ 1) (first-once (is_closing_of b)) closing five (told.once b) (λ p q by row found. told_once b p q by row);
     connects = every-more (waits_shut five) (waits_shut dropped) (λ x. waits-more five dropped x (stays_shut x.port)) closed.waits (less.waits (waits_shut five) told.connects);
   }
 
-pub handle-untold : (w : World) (pid : ℕ) (r : HandleRow) → handle_at w pid r.value ≡ Some r → IsSoundWorld w → IsUntold w → IsUntold (world_after w (close_handle pid r w))
+pub handle-untold : (w : World) (pid : ℕ) (r : HandleRow) → handle_at w pid r.value ≡ Some r → IsSoundWorld w → HasSingleClosings w → HasSingleClosings (world_after w (close_handle pid r w))
 handle-untold w pid r at s u = by_last (is_last r w) refl
   where
-    by_last : (last : Bool) → is_last r w ≡ last → IsUntold (world_after w (when last (close_port r.object.birth w) ++ DropsHandle pid r.value ∷ []))
+    by_last : (last : Bool) → is_last r w ≡ last → HasSingleClosings (world_after w (when last (close_port r.object.birth w) ++ DropsHandle pid r.value ∷ []))
     by_last true is =
         let b = r.object.birth in
         let bs = close_port b w in
         let same : world_after w (bs ++ DropsHandle pid r.value ∷ []) ≡ basic (world_after w bs) (DropsHandle pid r.value) = after-append w bs (DropsHandle pid r.value ∷ []) in
-        subst IsUntold (sym same) (subst (λ (v : World). IsUntold (basic v (DropsHandle pid r.value))) (sym (closed-is w b)) (last-untold w pid r at is s u))
+        subst HasSingleClosings (sym same) (subst (λ (v : World). HasSingleClosings (basic v (DropsHandle pid r.value))) (sym (closed-is w b)) (last-untold w pid r at is s u))
     by_last false more = dropped-untold w pid r.value u
 
-pub close-untold : (w : World) (by : ThreadRow) (handle : ℕ) → IsSoundWorld w → IsUntold w → Holds (λ bs. IsUntold (world_after w bs)) (nt_close w by handle)
+pub close-untold : (w : World) (by : ThreadRow) (handle : ℕ) → IsSoundWorld w → HasSingleClosings w → Holds (λ bs. HasSingleClosings (world_after w bs)) (nt_close w by handle)
 unfolding nt_close
 close-untold w by handle s u =
-    bind_holds (own_handle w by handle) _ (λ bs. IsUntold (world_after w bs)) (λ r is.
+    bind_holds (own_handle w by handle) _ (λ bs. HasSingleClosings (world_after w bs)) (λ r is.
     handle-untold w by.process r (found-value w by.process handle r (found_ok (handle_at w by.process handle) INVALID_HANDLE r is)) s u)

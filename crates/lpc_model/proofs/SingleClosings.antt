@@ -13,7 +13,7 @@ use Rattle.lpc_model.specs.Sweep.{free_unheld, sweep, unheld}
 use Rattle.lpc_model.specs.Closings.{is_closed_post}
 use Rattle.lpc_model.specs.SoundWaits.{is_connect_on}
 use Rattle.lpc_model.specs.Standing.{NamesWhatStands, names_object, stands_as}
-use Rattle.lpc_model.specs.Untold.{IsUntold, is_closing_of, is_shut}
+use Rattle.lpc_model.specs.SingleClosings.{HasSingleClosings, is_closing_of, is_shut}
 use Rattle.lpc_model.proofs.Rows.{count-less, has-append, has-off, has_none-without_first}
 use Rattle.lpc_model.proofs.Births.{birth-same}
 use Rattle.lpc_model.proofs.SoundWorlds.{by_kind}
@@ -45,7 +45,7 @@ waits-more w v x one is = waits-parts (is_connect x) (is_open w x.port) (is_open
 
 -- a world in which no further port is open, on no further port a connect waits, and no message more tells of a closing
 untold-from : (w v : World) → ((b : Birth) → is_open w b ≡ false → is_open v b ≡ false) → ((b : Birth) → has (is_connect_on b) w.waits ≡ false → has (is_connect_on b) v.waits ≡ false)
-    → (every (tells_shut w) w.messages ≡ true → every (tells_shut w) v.messages ≡ true) → ((b : Birth) → count (is_closing_of b) v.messages ≤ 1) → (every (waits_shut w) w.waits ≡ true → every (waits_shut w) v.waits ≡ true) → IsUntold w → IsUntold v
+    → (every (tells_shut w) w.messages ≡ true → every (tells_shut w) v.messages ≡ true) → ((b : Birth) → count (is_closing_of b) v.messages ≤ 1) → (every (waits_shut w) w.waits ≡ true → every (waits_shut w) v.waits ≡ true) → HasSingleClosings w → HasSingleClosings v
 untold-from w v shut connects messages once waits u = record {
   closed = every-more (tells_shut w) (tells_shut v) (λ m. tells-more w v m (shut m.sender) (connects m.sender)) v.messages (messages u.closed);
   once = once;
@@ -53,17 +53,17 @@ untold-from w v shut connects messages once waits u = record {
 }
 
 -- the messages alone, and the waits alone
-messages-untold : (w : World) (ms : List MessageRow) → (every (tells_shut w) w.messages ≡ true → every (tells_shut w) ms ≡ true) → ((b : Birth) → count (is_closing_of b) ms ≤ 1) → IsUntold w → IsUntold (record w { messages = ms })
+messages-untold : (w : World) (ms : List MessageRow) → (every (tells_shut w) w.messages ≡ true → every (tells_shut w) ms ≡ true) → ((b : Birth) → count (is_closing_of b) ms ≤ 1) → HasSingleClosings w → HasSingleClosings (record w { messages = ms })
 messages-untold w ms all once u = record { closed = all u.closed; once = once; connects = u.connects }
 
-waits-untold : (w : World) (xs : List WaitRow) → ((b : Birth) → has (is_connect_on b) w.waits ≡ false → has (is_connect_on b) xs ≡ false) → (every (waits_shut w) w.waits ≡ true → every (waits_shut w) xs ≡ true) → IsUntold w → IsUntold (record w { waits = xs })
+waits-untold : (w : World) (xs : List WaitRow) → ((b : Birth) → has (is_connect_on b) w.waits ≡ false → has (is_connect_on b) xs ≡ false) → (every (waits_shut w) w.waits ≡ true → every (waits_shut w) xs ≡ true) → HasSingleClosings w → HasSingleClosings (record w { waits = xs })
 waits-untold w xs none all u = untold-from w (record w { waits = xs }) (λ b off. off) none (λ all. all) u.once all u
 
 -- fewer rows
 at-most : (k n : ℕ) → k ≤ n → n ≤ 1 → k ≤ 1
 at-most k n one two = omega (arith, one, two)
 
-pub fewer-untold : (w v : World) → IsFewer w v → IsUntold w → IsUntold v
+pub fewer-untold : (w v : World) → IsFewer w v → HasSingleClosings w → HasSingleClosings v
 fewer-untold w v l u =
     untold-from w v (λ b off. subst (λ hs. is_open (record w { handles = hs }) b ≡ false) (sym l.handles) off) (λ b off. has-off (is_connect_on b) v.waits (l.waits (λ x. not (is_connect_on b x)) (off-each (is_connect_on b) w.waits off)))
     (l.messages (tells_shut w)) (λ b. at-most _ _ (l.counts (is_closing_of b)) (u.once b)) (l.waits (waits_shut w)) u
@@ -100,14 +100,14 @@ either a b is = grind arith
 not-both : (a b : Bool) → not a ≡ true → not (a && b) ≡ true
 not-both a b is = grind arith
 
-freed-untold : (w : World) (k : ObjectKind) (b : Birth) → IsUntold w → IsUntold (freed w k b)
+freed-untold : (w : World) (k : ObjectKind) (b : Birth) → HasSingleClosings w → HasSingleClosings (freed w k b)
 freed-untold w kind.Port b u = record { closed = u.closed; once = u.once; connects = u.connects }
 freed-untold w kind.Section b u = u
 freed-untold w kind.Token b u = u
 freed-untold w kind.Process b u = record { closed = u.closed; once = u.once; connects = u.connects }
 freed-untold w kind.Thread b u = record { closed = u.closed; once = u.once; connects = u.connects }
 
-hushed-step : (w : World) (b : Basic) → is_hushed b ≡ true → IsUntold w → IsUntold (basic w b)
+hushed-step : (w : World) (b : Basic) → is_hushed b ≡ true → HasSingleClosings w → HasSingleClosings (basic w b)
 hushed-step w (Tells e) is u = u
 hushed-step w (Wakes who call status fields) is u = waits-untold w _ (λ b. has_none-without (is_connect_on b) (waits_as who) w.waits) (every-without (waits_shut w) (waits_as who) w.waits) u
 hushed-step w (Dies who status) is u = untold-from w (basic w (Dies who status)) (λ b off. off) (λ b. has_none-without (is_connect_on b) (waits_as who) w.waits) (λ all. all) u.once (every-without (waits_shut w) (waits_as who) w.waits) u
@@ -125,7 +125,7 @@ hushed-step w (DropsHandle pid value) is u = absurd (cc)
 hushed-step w (Frees o) is u = freed-untold w o.kind o.birth u
 hushed-step w b is u = record { closed = u.closed; once = u.once; connects = u.connects }
 
-pub hushed-all : (w : World) (bs : List Basic) → AreHushed bs → IsUntold w → IsUntold (world_after w bs)
+pub hushed-all : (w : World) (bs : List Basic) → AreHushed bs → HasSingleClosings w → HasSingleClosings (world_after w bs)
 hushed-all w [] all u = u
 hushed-all w (b ∷ bs) all u =
     let here = first-true (is_hushed b) (every is_hushed bs) all in
@@ -142,7 +142,7 @@ frees-hushed : (os : List ObjectName) → AreHushed (map Frees os)
 frees-hushed [] = refl
 frees-hushed (o ∷ os) = frees-hushed os
 
-pub swept-untold : (w : World) → IsUntold w → IsUntold (world_after w (sweep w))
+pub swept-untold : (w : World) → HasSingleClosings w → HasSingleClosings (world_after w (sweep w))
 unfolding sweep
 swept-untold w u =
     let v = world_after w (free_unheld w) in
@@ -150,7 +150,7 @@ swept-untold w u =
 
 -- Open ports
 -- of an open port no message tells that it is closed, and no connect waits on it
-pub open-untold : (w : World) (b : Birth) → IsUntold w → is_open w b ≡ true → every (λ m. not (is_closing_of b m)) w.messages ≡ true
+pub open-untold : (w : World) (b : Birth) → HasSingleClosings w → is_open w b ≡ true → every (λ m. not (is_closing_of b m)) w.messages ≡ true
 open-untold w b u opens = every-more (tells_shut w) (λ m. not (is_closing_of b m)) at w.messages u.closed
   where
     parts : (s c o h : Bool) → (s ≡ true → o ≡ true) → (not c || (not o && not h)) ≡ true → not (s && c) ≡ true
@@ -159,7 +159,7 @@ open-untold w b u opens = every-more (tells_shut w) (λ m. not (is_closing_of b 
     at : (m : MessageRow) → tells_shut w m ≡ true → not (is_closing_of b m) ≡ true
     at m is = parts (same_birth m.sender b) (is_closed_post m) (is_open w m.sender) (has (is_connect_on m.sender) w.waits) (λ same. subst (λ c. is_open w c ≡ true) (sym (birth-same m.sender b same)) opens) is
 
-pub open-unconnected : (w : World) (b : Birth) → IsUntold w → is_open w b ≡ true → every (λ x. not (is_connect_on b x)) w.waits ≡ true
+pub open-unconnected : (w : World) (b : Birth) → HasSingleClosings w → is_open w b ≡ true → every (λ x. not (is_connect_on b x)) w.waits ≡ true
 open-unconnected w b u opens = every-more (waits_shut w) (λ x. not (is_connect_on b x)) at w.waits u.connects
   where
     parts : (c s o : Bool) → (s ≡ true → o ≡ true) → not (c && o) ≡ true → not (c && s) ≡ true
@@ -209,14 +209,14 @@ added-shut w pid h b other off = has_none-change (has_handle_to b) (is_table pid
 pub dropped-shut : (w : World) (pid value : ℕ) (b : Birth) → is_open w b ≡ false → is_open (basic w (DropsHandle pid value)) b ≡ false
 dropped-shut w pid value b off = has_none-change (has_handle_to b) (is_table pid) (without_handle value) (λ t none. has_none-without_first (λ h. names_port b h.object) (has_value value) t.rows none) w.handles off
 
-pub dropped-untold : (w : World) (pid value : ℕ) → IsUntold w → IsUntold (basic w (DropsHandle pid value))
+pub dropped-untold : (w : World) (pid value : ℕ) → HasSingleClosings w → HasSingleClosings (basic w (DropsHandle pid value))
 dropped-untold w pid value u = untold-from w (basic w (DropsHandle pid value)) (dropped-shut w pid value) (λ b off. off) (λ all. all) u.once (λ all. all) u
 
 -- a handle to a port of which no message tells, and on which no connect waits
 apart-sender : (s c : Bool) → c ≡ true → not (s && c) ≡ true → s ≡ false
 apart-sender s c one two = grind arith
 
-pub added-untold : (w : World) (pid value access : ℕ) (b : Birth) → every (λ m. not (is_closing_of b m)) w.messages ≡ true → every (λ x. not (is_connect_on b x)) w.waits ≡ true → IsUntold w → IsUntold (basic w (AddsHandle pid (handle_row value (port_name b) access)))
+pub added-untold : (w : World) (pid value access : ℕ) (b : Birth) → every (λ m. not (is_closing_of b m)) w.messages ≡ true → every (λ x. not (is_connect_on b x)) w.waits ≡ true → HasSingleClosings w → HasSingleClosings (basic w (AddsHandle pid (handle_row value (port_name b) access)))
 added-untold w pid value access b untold alone u =
     let h = handle_row value (port_name b) access in
     let v = basic w (AddsHandle pid h) in
@@ -242,7 +242,7 @@ added-untold w pid value access b untold alone u =
         waits-more w (basic w (AddsHandle pid (handle_row value (port_name b) access))) x (added-shut w pid (handle_row value (port_name b) access) x.port (flip x.port b apart)) is
 
 -- a further handle to an open port
-pub further-untold : (w : World) (pid : ℕ) (h : HandleRow) → (same_kind h.object.kind kind.Port ≡ true → is_open w h.object.birth ≡ true) → IsUntold w → IsUntold (basic w (AddsHandle pid h))
+pub further-untold : (w : World) (pid : ℕ) (h : HandleRow) → (same_kind h.object.kind kind.Port ≡ true → is_open w h.object.birth ≡ true) → HasSingleClosings w → HasSingleClosings (basic w (AddsHandle pid h))
 further-untold w pid h opens u = untold-from w (basic w (AddsHandle pid h)) (λ b off. added-shut w pid h b (other b off) off) (λ b off. off) (λ all. all) u.once (λ all. all) u
   where
     apart : (b : Birth) → is_open w b ≡ false → (k s : Bool) → same_kind h.object.kind kind.Port ≡ k → same_birth h.object.birth b ≡ s → (k && s) ≡ false
@@ -254,7 +254,7 @@ further-untold w pid h opens u = untold-from w (basic w (AddsHandle pid h)) (λ 
     other b off = apart b off (same_kind h.object.kind kind.Port) (same_birth h.object.birth b) refl refl
 
 -- A connect that begins to wait
-pub offered-untold : (w : World) (x : WaitRow) → is_open w x.port ≡ false → every (λ m. not (is_closing_of x.port m)) w.messages ≡ true → IsUntold w → IsUntold (basic w (Awaits x))
+pub offered-untold : (w : World) (x : WaitRow) → is_open w x.port ≡ false → every (λ m. not (is_closing_of x.port m)) w.messages ≡ true → HasSingleClosings w → HasSingleClosings (basic w (Awaits x))
 offered-untold w x shut untold u =
     let v = basic w (Awaits x) in
     record {

@@ -6,7 +6,7 @@ use Rattle.lpc_base.specs.declared.port_kind.PortKind.TheVariants.{Client}
 use Rattle.lpc_message.specs.declared.kind.TheConstants.{PORT_CLOSED}
 use Rattle.lpc_model.specs.Found.{is_client_port, is_port}
 use Rattle.lpc_model.specs.Message.{asks}
-use Rattle.lpc_model.specs.Untold.{is_closing_of}
+use Rattle.lpc_model.specs.SingleClosings.{is_closing_of}
 use Rattle.lpc_model.specs.World.{Birth, PortRow, World}
 use Rattle.lpc_model.specs.declared.message.Message.{Message}
 

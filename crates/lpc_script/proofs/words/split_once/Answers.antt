@@ -1,6 +1,6 @@
 use Rattle.std.proofs.Common.{arith, sym}
 use Rattle.lpc_script.proofs.Parts.{parts_here, parts_end, cut_here, cut_end}
-use Rattle.lpc_script.proofs.words.cut.Goals as goal
+use Rattle.lpc_script.proofs.words.split_once.Goals as goal
 
 pub returns-then-text-i-clause-parts : goal.returns-then-text-i-clause-parts
 returns-then-text-i-clause-parts c = parts_here _ _ _ (omega arith) c.if-text-i.true c.loop-i.invariant

@@ -28,7 +28,7 @@ use Rattle.lpc_model.specs.Lines.{ProcArg, ScriptCall, ScriptLine, accept_connec
 use Rattle.lpc_model.specs.Machine.{bare_steps, boot_line, dir_line, link_line, name_of_call, ready_steps, service_of, thread_line, thread_steps}
 use Rattle.lpc_model.specs.SoundWaits.{IsSoundWorld, can_stay_sound, is_connect_on}
 use Rattle.lpc_model.specs.Standing.{NamesWhatStands}
-use Rattle.lpc_model.specs.Untold.{IsUntold, StepsKeepUntold, is_closing_of}
+use Rattle.lpc_model.specs.SingleClosings.{HasSingleClosings, StepsKeepSingleClosings, is_closing_of}
 use Rattle.lpc_model.proofs.Rows.{has-found}
 use Rattle.lpc_model.proofs.Births.{birth-same}
 use Rattle.lpc_model.proofs.Holding.{Holds, bind_holds, directed_holds, found_ok, holds_ok, settled_holds}
@@ -40,8 +40,8 @@ use Rattle.lpc_model.proofs.LinkedCalls.{unmade}
 use Rattle.lpc_model.proofs.Standing.{off-each}
 use Rattle.lpc_model.proofs.Told.{AreHushed, hushed-enter}
 use Rattle.lpc_model.proofs.ToldLines.{boot-hushed, datagram-hushed, die-hushed, dir-hushed, further-hushed, link-hushed, listen-hushed, query-hushed, receive-hushed, register-hushed, reply-hushed, request-hushed}
-use Rattle.lpc_model.proofs.Untold.{added-untold, further-untold, hushed-all, offered-untold, open-stands, swept-untold, tells_shut}
-use Rattle.lpc_model.proofs.UntoldClose.{close-untold, handle-untold}
+use Rattle.lpc_model.proofs.SingleClosings.{added-untold, further-untold, hushed-all, offered-untold, open-stands, swept-untold, tells_shut}
+use Rattle.lpc_model.proofs.SingleClosingsClose.{close-untold, handle-untold}
 use Rattle.lpc_model.specs.Death.{code_status, die, end_threads, nt_terminate_process, nt_terminate_thread}
 use Rattle.lpc_model.specs.declared.entry.CallName.TheVariants.{NtTerminateProcess, NtTerminateThread}
 use Rattle.lpc_model.proofs.Ending.{end-keeps, process-ends, thread-ends, told-facts, world-ends}
@@ -53,9 +53,9 @@ use Rattle.lpc_model.specs.Targets.{LIFE_ACCESS}
 
 -- the steps leave a world that tells of no open port
 abbrev pub KeepUntold : World → List Basic → Type 0
-KeepUntold w bs = IsUntold (world_after w bs)
+KeepUntold w bs = HasSingleClosings (world_after w bs)
 
-hushed_holds : (w : World) (r : Result (List Basic) Status) → IsUntold w → Holds AreHushed r → Holds (KeepUntold w) r
+hushed_holds : (w : World) (r : Result (List Basic) Status) → HasSingleClosings w → Holds AreHushed r → Holds (KeepUntold w) r
 hushed_holds w (Ok bs) u all = hushed-all w bs all u
 hushed_holds w (Err s) u all = tt
 
@@ -84,7 +84,7 @@ next-alone : (w : World) (by : ThreadRow) → CanCall w by → IsSoundWorld w �
 next-alone w by c s = off-each (is_connect_on (next_birth by)) w.waits (unconnected w by c s)
 
 -- NtCreatePort
-making-untold : (w : World) (by : ThreadRow) (name : Option (List ℕ)) (value : ℕ) → CanCall w by → IsSoundWorld w → NamesWhatStands w → IsUntold w → Holds (λ made. KeepUntold w (create_steps by made value)) (making w (next_birth by) name)
+making-untold : (w : World) (by : ThreadRow) (name : Option (List ℕ)) (value : ℕ) → CanCall w by → IsSoundWorld w → NamesWhatStands w → HasSingleClosings w → Holds (λ made. KeepUntold w (create_steps by made value)) (making w (next_birth by) name)
 making-untold w by None value c s n u =
     let bs = DrawsOrdinal by.number ∷ Makes (new_port (next_birth by) Unnamed) ∷ [] in
     added-untold (world_after w bs) by.process value PORT_ACCESS (next_birth by) (next-untold w by c s n) (next-alone w by c s) (hushed-all w bs refl u)
@@ -93,7 +93,7 @@ making-untold w by (Some name) value c s n u =
     let bs = DrawsOrdinal by.number ∷ Makes (new_port (next_birth by) Connection) ∷ Binds path (Stands (Item (next_birth by))) ∷ [] in
     added-untold (world_after w bs) by.process value PORT_ACCESS (next_birth by) (next-untold w by c s n) (next-alone w by c s) (hushed-all w bs refl u))
 
-create-untold : (w : World) (by : ThreadRow) (name : Option (List ℕ)) → CanCall w by → IsSoundWorld w → NamesWhatStands w → IsUntold w → Holds (KeepUntold w) (nt_create_port w by name)
+create-untold : (w : World) (by : ThreadRow) (name : Option (List ℕ)) → CanCall w by → IsSoundWorld w → NamesWhatStands w → HasSingleClosings w → Holds (KeepUntold w) (nt_create_port w by name)
 unfolding nt_create_port
 create-untold w by name c s n u =
     let value = free_handle w by.process in
@@ -102,7 +102,7 @@ create-untold w by name c s n u =
     holds_ok (λ made. KeepUntold w (create_steps by made value)) (making w (next_birth by) name) made (making-untold w by name value c s n u) at))
 
 -- NtConnectPort
-connected-untold : (w : World) (by : ThreadRow) (connection : Birth) (bytes : List ℕ) → CanCall w by → IsSoundWorld w → NamesWhatStands w → IsUntold w → KeepUntold w (connect_steps by connection (connection_request by bytes) w)
+connected-untold : (w : World) (by : ThreadRow) (connection : Birth) (bytes : List ℕ) → CanCall w by → IsSoundWorld w → NamesWhatStands w → HasSingleClosings w → KeepUntold w (connect_steps by connection (connection_request by bytes) w)
 connected-untold w by connection bytes c s n u =
     let m = connection_request by bytes in
     let x = connect_wait by connection m in
@@ -111,7 +111,7 @@ connected-untold w by connection bytes c s n u =
     hushed-all waiting (enter (row_of connection (client_port by connection) m) waiting) (hushed-enter (row_of connection (client_port by connection) m) waiting refl)
     (offered-untold (world_after w bs) x (next-shut w by c s n) (next-untold w by c s n) (hushed-all w bs refl u))
 
-connect-untold : (w : World) (by : ThreadRow) (name bytes : List ℕ) → CanCall w by → IsSoundWorld w → NamesWhatStands w → IsUntold w → Holds (KeepUntold w) (nt_connect_port w by name bytes)
+connect-untold : (w : World) (by : ThreadRow) (name bytes : List ℕ) → CanCall w by → IsSoundWorld w → NamesWhatStands w → HasSingleClosings w → Holds (KeepUntold w) (nt_connect_port w by name bytes)
 unfolding nt_connect_port
 connect-untold w by name bytes c s n u =
     bind_holds (info_test bytes) _ (KeepUntold w) (λ _ _.
@@ -119,7 +119,7 @@ connect-untold w by name bytes c s n u =
     bind_holds (handles_test w by.process 1) _ (KeepUntold w) (λ _ _. connected-untold w by connection bytes c s n u)))
 
 -- NtAcceptConnectPort
-accepted-untold : (w : World) (by : ThreadRow) (context value : ℕ) (a : ConnectAnswer) → CanCall w by → IsSoundWorld w → NamesWhatStands w → IsUntold w → KeepUntold w (accept_steps by context value a)
+accepted-untold : (w : World) (by : ThreadRow) (context value : ℕ) (a : ConnectAnswer) → CanCall w by → IsSoundWorld w → NamesWhatStands w → HasSingleClosings w → KeepUntold w (accept_steps by context value a)
 accepted-untold w by context value a c s n u =
     let server = next_birth by in
     let bs = DrawsOrdinal by.number ∷ Makes (server_port server a.wait.queue) ∷ [] in
@@ -127,7 +127,7 @@ accepted-untold w by context value a c s n u =
     hushed-all held (Accepts a.wait.thread a.message.body ∷ Joins a.wait.port server context ∷ []) refl
     (added-untold (world_after w bs) by.process value PORT_ACCESS server (next-untold w by c s n) (next-alone w by c s) (hushed-all w bs refl u))
 
-accept-untold : (w : World) (by : ThreadRow) (context : ℕ) (bytes : List ℕ) (accept : Bool) → CanCall w by → IsSoundWorld w → NamesWhatStands w → IsUntold w → Holds (KeepUntold w) (nt_accept_connect_port w by context bytes accept)
+accept-untold : (w : World) (by : ThreadRow) (context : ℕ) (bytes : List ℕ) (accept : Bool) → CanCall w by → IsSoundWorld w → NamesWhatStands w → HasSingleClosings w → Holds (KeepUntold w) (nt_accept_connect_port w by context bytes accept)
 unfolding nt_accept_connect_port
 accept-untold w by context bytes accept c s n u = bind_holds (answer_test w by bytes) _ (KeepUntold w) (λ a _. answered accept a)
   where
@@ -148,7 +148,7 @@ complete-found w by handle =
     found_ok (first (is_accepted_on client) w.waits) PORT_DISCONNECTED x wait)))))
 
 -- so no message tells of that port
-waited-untold : (w : World) (b : Birth) → IsUntold w → has (is_connect_on b) w.waits ≡ true → every (λ m. not (is_closing_of b m)) w.messages ≡ true
+waited-untold : (w : World) (b : Birth) → HasSingleClosings w → has (is_connect_on b) w.waits ≡ true → every (λ m. not (is_closing_of b m)) w.messages ≡ true
 waited-untold w b u waited = every-more (tells_shut w) (λ m. not (is_closing_of b m)) at w.messages u.closed
   where
     parts : (s c o h : Bool) → (s ≡ true → h ≡ true) → (not c || (not o && not h)) ≡ true → not (s && c) ≡ true
@@ -161,7 +161,7 @@ waited-untold w b u waited = every-more (tells_shut w) (λ m. not (is_closing_of
 its-maker : (w : World) (x : WaitRow) → is_accepted x ≡ true → can_stay_sound w x ≡ true → (x.port.maker == x.thread) ≡ true
 its-maker w = by_kind (λ x. is_accepted x ≡ true → can_stay_sound w x ≡ true → (x.port.maker == x.thread) ≡ true) (λ x m of is. absurd (cc)) (λ x of is. absurd (cc)) (λ x of is. absurd (cc)) (λ x m of is. absurd (cc)) (λ x m r of is. grind arith)
 
-completed-untold : (w : World) (by : ThreadRow) (c : Completable) → first (is_accepted_on c.client) w.waits ≡ Some c.wait → IsSoundWorld w → IsUntold w → KeepUntold w (complete_steps by (free_handle w c.wait.process) c)
+completed-untold : (w : World) (by : ThreadRow) (c : Completable) → first (is_accepted_on c.client) w.waits ≡ Some c.wait → IsSoundWorld w → HasSingleClosings w → KeepUntold w (complete_steps by (free_handle w c.wait.process) c)
 completed-untold w by c found s u =
     let pid = c.wait.process in
     let its = first-passes (is_accepted_on c.client) w.waits c.wait found in
@@ -187,14 +187,14 @@ completed-untold w by c found s u =
     connects : (a on o : Bool) → a ≡ true → (a && on) ≡ true → ((o || a) && on) ≡ true
     connects a on o one two = grind arith
 
-complete-untold : (w : World) (by : ThreadRow) (handle : ℕ) → IsSoundWorld w → IsUntold w → Holds (KeepUntold w) (nt_complete_connect_port w by handle)
+complete-untold : (w : World) (by : ThreadRow) (handle : ℕ) → IsSoundWorld w → HasSingleClosings w → Holds (KeepUntold w) (nt_complete_connect_port w by handle)
 unfolding nt_complete_connect_port
 complete-untold w by handle s u =
     bind_holds (complete_test w by handle) _ (KeepUntold w) (λ c at.
     completed-untold w by c (holds_ok (λ (c : Completable). first (is_accepted_on c.client) w.waits ≡ Some c.wait) (complete_test w by handle) c (complete-found w by handle) at) s u)
 
 -- NtDuplicateObject
-duplicate-untold : (w : World) (by : ThreadRow) (handle : ℕ) (access : Option ℕ) → IsUntold w → Holds (KeepUntold w) (nt_duplicate_object w by handle access)
+duplicate-untold : (w : World) (by : ThreadRow) (handle : ℕ) (access : Option ℕ) → HasSingleClosings w → Holds (KeepUntold w) (nt_duplicate_object w by handle access)
 unfolding nt_duplicate_object
 duplicate-untold w by handle access u =
     bind_holds (own_handle w by handle) _ (KeepUntold w) (λ r is.
@@ -206,29 +206,29 @@ duplicate-untold w by handle access u =
 -- NtTerminateThread and NtTerminateProcess
 record IsUntoldWorld (w : World) : Type 0 where
   safe : IsSafe w
-  untold : IsUntold w
+  single_closings : HasSingleClosings w
 
 end-untold : (pid : ℕ) (code : Status) (ts : List ThreadRow) (w : World) → IsUntoldWorld w → IsUntoldWorld (behind (end_threads pid code ts) w)
 end-untold =
-    end-keeps IsUntoldWorld (λ code t w is. record { safe = die-safe code t w is.safe; untold = hushed-all w (die code t w) (die-hushed code t w) is.untold })
-    (λ n b w is. record { safe = unregister-safe n b w is.safe; untold = hushed-all w (Unregisters n b ∷ []) refl is.untold })
-    (λ t b m w some is. let told = told-facts t b m w some in record { safe = enter-safe m w is.safe; untold = hushed-all w (enter m w) (hushed-enter m w told.other) is.untold })
+    end-keeps IsUntoldWorld (λ code t w is. record { safe = die-safe code t w is.safe; single_closings = hushed-all w (die code t w) (die-hushed code t w) is.single_closings })
+    (λ n b w is. record { safe = unregister-safe n b w is.safe; single_closings = hushed-all w (Unregisters n b ∷ []) refl is.single_closings })
+    (λ t b m w some is. let told = told-facts t b m w some in record { safe = enter-safe m w is.safe; single_closings = hushed-all w (enter m w) (hushed-enter m w told.other) is.single_closings })
     (λ w is. sound-of w is.safe)
-    (λ w pid r at is. record { safe = handle-safe w pid r at is.safe; untold = handle-untold w pid r at (sound-of w is.safe) is.untold })
+    (λ w pid r at is. record { safe = handle-safe w pid r at is.safe; single_closings = handle-untold w pid r at (sound-of w is.safe) is.single_closings })
 
-ended-untold : (pid : ℕ) (code : Status) (ts : List ThreadRow) (w : World) → IsSoundWorld w → IsUntold w → IsUntold (behind (end_threads pid code ts) w)
-ended-untold pid code ts w s u = let t = end-untold pid code ts w (record { safe = record { sound = s; shut = u.connects }; untold = u }) in t.untold
+ended-untold : (pid : ℕ) (code : Status) (ts : List ThreadRow) (w : World) → IsSoundWorld w → HasSingleClosings w → HasSingleClosings (behind (end_threads pid code ts) w)
+ended-untold pid code ts w s u = let t = end-untold pid code ts w (record { safe = record { sound = s; shut = u.connects }; single_closings = u }) in t.single_closings
 
-terminate-thread-untold : (w : World) (by : ThreadRow) (target : ProcArg) (code : ℕ) → IsSoundWorld w → IsUntold w → Holds (KeepUntold w) (nt_terminate_thread w by target code)
+terminate-thread-untold : (w : World) (by : ThreadRow) (target : ProcArg) (code : ℕ) → IsSoundWorld w → HasSingleClosings w → Holds (KeepUntold w) (nt_terminate_thread w by target code)
 terminate-thread-untold w by target code s u =
-    thread-ends (KeepUntold w) w by target code (λ t own _ _. world-ends IsUntold w by NtTerminateThread own t.process (code_status code) (t ∷ []) (ended-untold t.process (code_status code) (t ∷ []) w s u))
+    thread-ends (KeepUntold w) w by target code (λ t own _ _. world-ends HasSingleClosings w by NtTerminateThread own t.process (code_status code) (t ∷ []) (ended-untold t.process (code_status code) (t ∷ []) w s u))
 
-terminate-process-untold : (w : World) (by : ThreadRow) (target : ProcArg) (code : ℕ) → IsSoundWorld w → IsUntold w → Holds (KeepUntold w) (nt_terminate_process w by target code)
+terminate-process-untold : (w : World) (by : ThreadRow) (target : ProcArg) (code : ℕ) → IsSoundWorld w → HasSingleClosings w → Holds (KeepUntold w) (nt_terminate_process w by target code)
 terminate-process-untold w by target code s u =
-    process-ends (KeepUntold w) w by target code (λ pid own _. world-ends IsUntold w by NtTerminateProcess own pid (code_status code) (live_threads w pid) (ended-untold pid (code_status code) (live_threads w pid) w s u))
+    process-ends (KeepUntold w) w by target code (λ pid own _. world-ends HasSingleClosings w by NtTerminateProcess own pid (code_status code) (live_threads w pid) (ended-untold pid (code_status code) (live_threads w pid) w s u))
 
 -- NtCreateProcess and NtCreateThread
-create-process-untold : (w : World) (by : ThreadRow) (pid tid : ℕ) → IsUntold w → Holds (KeepUntold w) (nt_create_process w by pid tid)
+create-process-untold : (w : World) (by : ThreadRow) (pid tid : ℕ) → HasSingleClosings w → Holds (KeepUntold w) (nt_create_process w by pid tid)
 create-process-untold w by pid tid u =
     process-made (KeepUntold w) w by pid tid (λ _ _.
     let bs = DrawsOrdinal by.number ∷ DrawsOrdinal by.number ∷ AddsProcess (new_process pid (Some by.process) (next_birth by)) ∷ AddsThread (new_thread tid pid (second_birth by)) ∷ [] in
@@ -237,14 +237,14 @@ create-process-untold w by pid tid u =
     further-untold (basic made (AddsHandle by.process first)) by.process (handle_row (second_handle w by) (thread_name (second_birth by)) LIFE_ACCESS) (λ is. absurd (cc))
     (further-untold made by.process first (λ is. absurd (cc)) (hushed-all w bs refl u)))
 
-create-thread-untold : (w : World) (by : ThreadRow) (target : ProcArg) (tid : ℕ) → IsUntold w → Holds (KeepUntold w) (nt_create_thread w by target tid)
+create-thread-untold : (w : World) (by : ThreadRow) (target : ProcArg) (tid : ℕ) → HasSingleClosings w → Holds (KeepUntold w) (nt_create_thread w by target tid)
 create-thread-untold w by target tid u =
     thread-made (KeepUntold w) w by target tid (λ pid _ _.
     let bs = DrawsOrdinal by.number ∷ AddsThread (new_thread tid pid (next_birth by)) ∷ [] in
     further-untold (world_after w bs) by.process (handle_row (free_handle w by.process) (thread_name (next_birth by)) LIFE_ACCESS) (λ is. absurd (cc)) (hushed-all w bs refl u))
 
 -- Calls
-service-untold : (w : World) (by : ThreadRow) (call : ScriptCall) → CanCall w by → IsSoundWorld w → NamesWhatStands w → IsUntold w → Holds (KeepUntold w) (service_of w by call)
+service-untold : (w : World) (by : ThreadRow) (call : ScriptCall) → CanCall w by → IsSoundWorld w → NamesWhatStands w → HasSingleClosings w → Holds (KeepUntold w) (service_of w by call)
 service-untold w by (create_port name) c s n u = create-untold w by name c s n u
 service-untold w by (connect_port name info) c s n u = connect-untold w by name info c s n u
 service-untold w by (listen_port handle) c s n u = hushed_holds w _ u (listen-hushed w by handle)
@@ -263,17 +263,17 @@ service-untold w by (create_thread target tid) c s n u = create-thread-untold w 
 service-untold w by (terminate_thread target code) c s n u = terminate-thread-untold w by target code s u
 service-untold w by (terminate_process target code) c s n u = terminate-process-untold w by target code s u
 
-ready-untold : (w : World) (by : ThreadRow) (call : ScriptCall) (o : Option WaitRow) → (o ≡ None → CanCall w by) → IsSoundWorld w → NamesWhatStands w → IsUntold w → KeepUntold w (ready_steps by call o w)
+ready-untold : (w : World) (by : ThreadRow) (call : ScriptCall) (o : Option WaitRow) → (o ≡ None → CanCall w by) → IsSoundWorld w → NamesWhatStands w → HasSingleClosings w → KeepUntold w (ready_steps by call o w)
 ready-untold w by call (Some x) c s n u = u
 ready-untold w by call None c s n u = settled_holds (KeepUntold w) by (name_of_call call) (service_of w by call) (service-untold w by call (c refl) s n u) (λ _ _. u)
 
-thread-untold : (w : World) (tid : ℕ) (call : ScriptCall) (o : Option ThreadRow) → live_thread w tid ≡ o → IsSoundWorld w → NamesWhatStands w → IsUntold w → KeepUntold w (thread_steps tid call o w)
+thread-untold : (w : World) (tid : ℕ) (call : ScriptCall) (o : Option ThreadRow) → live_thread w tid ≡ o → IsSoundWorld w → NamesWhatStands w → HasSingleClosings w → KeepUntold w (thread_steps tid call o w)
 thread-untold w tid call None live s n u = u
 thread-untold w tid call (Some by) live s n u = ready-untold w by call (wait_of w tid) (λ idle. can-call w tid by live idle s) s n u
 
 -- Lines
 -- before rows go
-pub untold_line : (w : World) (line : ScriptLine) → IsSoundWorld w → NamesWhatStands w → IsUntold w → IsUntold (world_after w (bare_steps line w))
+pub untold_line : (w : World) (line : ScriptLine) → IsSoundWorld w → NamesWhatStands w → HasSingleClosings w → HasSingleClosings (world_after w (bare_steps line w))
 unfolding bare_steps
 untold_line w (boot pid tid) s n u = directed_holds (KeepUntold w) word.Boot (boot_line w pid tid) (hushed_holds w (boot_line w pid tid) u (boot-hushed w pid tid)) (λ _. u)
 untold_line w (thread tid pid) s n u = directed_holds (KeepUntold w) word.Thread (thread_line w tid pid) (hushed_holds w (thread_line w tid pid) u (further-hushed w tid pid)) (λ _. u)
@@ -282,10 +282,10 @@ untold_line w (link path target) s n u = directed_holds (KeepUntold w) word.Link
 untold_line w (run tid call) s n u = thread-untold w tid call (live_thread w tid) refl s n u
 
 -- the step of a line
-pub untold_step : StepsKeepUntold
+pub untold_step : StepsKeepSingleClosings
 untold_step w line s n u =
     let bs = bare_steps line w in
     rw (after-append w bs (sweep (world_after w bs))) (swept-untold (world_after w bs) (untold_line w line s n u))
 
-pub untold_none : IsUntold no_rows
+pub untold_none : HasSingleClosings no_rows
 untold_none = record { closed = refl; once = λ b. grind arith; connects = refl }

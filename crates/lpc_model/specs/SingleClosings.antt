@@ -21,16 +21,16 @@ is_shut w b = not (is_open w b) && not (has (is_connect_on b) w.waits)
 
 -- each message that tells of a closed port names one that isn't open and stays so, and no other tells of that port; a
 -- connect waits on a port that isn't open yet
-pub record IsUntold (w : World) : Type 0 where
+pub record HasSingleClosings (w : World) : Type 0 where
   pub closed : every (λ m. not (is_closed_post m) || is_shut w m.sender) w.messages ≡ true
   pub once : (b : Birth) → count (is_closing_of b) w.messages ≤ 1
   pub connects : HasShutConnects w
 
 -- the step of each line keeps that in a sound world in which what rows name stands
-abbrev pub StepsKeepUntold : Type 0
-StepsKeepUntold =
-    (w : World) (line : ScriptLine) → IsSoundWorld w → NamesWhatStands w → IsUntold w → IsUntold (step w line).world
+abbrev pub StepsKeepSingleClosings : Type 0
+StepsKeepSingleClosings =
+    (w : World) (line : ScriptLine) → IsSoundWorld w → NamesWhatStands w → HasSingleClosings w → HasSingleClosings (step w line).world
 
 -- each line of a script leaves such a world
-abbrev pub RunKeepsUntold : List ℕ → Type 0
-RunKeepsUntold bytes = AllByRecursion (λ s. IsUntold s.world) (run_of bytes)
+abbrev pub RunHasSingleClosings : List ℕ → Type 0
+RunHasSingleClosings bytes = AllByRecursion (λ s. HasSingleClosings s.world) (run_of bytes)

@@ -3,7 +3,7 @@ use Rattle.lpc_model.specs.Close.{closed_message}
 use Rattle.lpc_world.specs.Clauses.{birth_at, port_at}
 use Rattle.lpc_world.specs.Shown.{shown_creator}
 use Rattle.lpc_steps.proofs.Told.{told_is}
-use Rattle.lpc_steps.proofs.closing.told_of.Goals as goal
+use Rattle.lpc_steps.proofs.closing.closing_post.Goals as goal
 
 pub returns-clause-told : goal.returns-clause-told
 returns-clause-told c =

@@ -2,13 +2,13 @@
 use Rattle.std.proofs.Common.{◌≡◌, ◌∙◌, ◌+◌, List, [], ◌∷◌, ◌++◌, ◌&&◌, Bool, true, false, not, Some, refl, ap, sym, subst, arith}
 use Rattle.lpc_base.specs.Rows.{count, each, every, first, has}
 use Rattle.lpc_base.proofs.RowWords.{count-none}
-use Rattle.lpc_model.specs.Close.{told_of}
+use Rattle.lpc_model.specs.Close.{closing_post}
 use Rattle.lpc_model.specs.Found.{handle_count, has_handle_to, is_client_port, is_open, is_port, names_port, port_name, port_row}
-use Rattle.lpc_model.specs.Untold.{IsUntold, is_closing_of}
+use Rattle.lpc_model.specs.SingleClosings.{HasSingleClosings, is_closing_of}
 use Rattle.lpc_model.specs.World.{Birth, HandleRow, HandleTable, MessageRow, PortRow, World}
 use Rattle.lpc_model.proofs.Closing.{cut-is, fewer-uncut, stage_five, uncut}
 use Rattle.lpc_death.specs.Closing.{is_told}
-use Rattle.lpc_model.proofs.Untold.{open-untold}
+use Rattle.lpc_model.proofs.SingleClosings.{open-untold}
 
 -- A port that handles name is open
 abbrev names_it : Birth → HandleRow → Bool
@@ -44,7 +44,7 @@ each-silent p [] none = refl
 each-silent p (m ∷ ms) none = grind (arith, each-silent p ms)
 
 -- none tells it of the port of a last handle
-pub last-untold : (w : World) (b : Birth) → IsUntold w → handle_count w (port_name b) ≡ 1 → is_told w b ≡ false
+pub last-untold : (w : World) (b : Birth) → HasSingleClosings w → handle_count w (port_name b) ≡ 1 → is_told w b ≡ false
 last-untold w b u one = silent (is_closing_of b) w.messages (open-untold w b u (counted-open w b one))
 
 -- the first five steps of the closing bring none
@@ -55,7 +55,7 @@ five-untold w b none =
     subst (λ (v : World). is_told v b ≡ false) (sym (cut-is w b)) (silent (is_closing_of b) (uncut w b).messages left)
 
 -- What is told of is a client port
-pub told-client : (w : World) (p : PortRow) (m : MessageRow) → told_of w p ≡ Some m → is_client_port p ≡ true
+pub told-client : (w : World) (p : PortRow) (m : MessageRow) → closing_post w p ≡ Some m → is_client_port p ≡ true
 told-client w p m told = at (is_client_port p) refl
   where
     at : (client : Bool) → is_client_port p ≡ client → is_client_port p ≡ true
@@ -70,6 +70,6 @@ client-row b (q ∷ ps) p row client = elim (is_port b q) as (λ here. is_port b
 ] refl
 
 -- so its place is kept for the message
-pub place-kept : (w : World) (b : Birth) (p : PortRow) (m : MessageRow) → port_row w b ≡ Some p → told_of w p ≡ Some m → is_told w b ≡ false
+pub place-kept : (w : World) (b : Birth) (p : PortRow) (m : MessageRow) → port_row w b ≡ Some p → closing_post w p ≡ Some m → is_told w b ≡ false
     → (has (λ p. is_port b p && is_client_port p) w.ports && not (is_told w b)) ≡ true
 place-kept w b p m row told none = rw (client-row b w.ports p row (told-client w p m told), none) refl
