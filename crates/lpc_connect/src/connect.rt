@@ -144,8 +144,8 @@ fn make_client(world: &mut World, by: &ThreadRow, birth: Birth, connection: Key)
     world.ports_add(PortKind::Client, birth, Some(connection), Some(creator))
 }
 
-/// A connect begins: its thread draws the identifier, makes the client port and waits, and the connection request enters
-/// the queue of the connection port.
+/// A connect begins: its thread draws the identifier, makes the client port and waits, and the connection request
+/// enters the queue of the connection port.
 fn start(world: &mut World, by: &ThreadRow, connection: Key, message: &Message, out: &mut Entries)
     requires spare { 2 ≤ out.old.spare }
     requires ports { 0 < world.old.room.ports }
@@ -189,13 +189,13 @@ fn start(world: &mut World, by: &ThreadRow, connection: Key, message: &Message, 
     deliver(world, connection, port, 0, message, out);
 }
 
-/// `NtConnectPort`: asks for a connection to the port that a path leads to, with bytes that go with the request, and waits
-/// for the end of the connect. The caller's process is to get a handle to the client port, for which there is room then,
-/// as there is for the message that is to tell that the port is closed.
+/// `NtConnectPort`: asks for a connection to the port that a path leads to, with bytes that go with the request, and
+/// waits for the end of the connect. The caller's process is to get a handle to the client port, for which there is
+/// room then, as there is for the message that is to tell that the port is closed.
 ///
 /// Refusals, in this order: PORT_MESSAGE_TOO_LONG where there are more than 232 bytes; the fault of the name, or
-/// OBJECT_TYPE_MISMATCH where a directory stands there; QUOTA_EXCEEDED where the process has 256 handles, with those that
-/// its waiting connects are to get. After want of memory nothing has changed but the room.
+/// OBJECT_TYPE_MISMATCH where a directory stands there; QUOTA_EXCEEDED where the process has 256 handles, with those
+/// that its waiting connects are to get. After want of memory nothing has changed but the room.
 pub fn nt_connect_port(
     world: &mut World,
     by: u32,

@@ -1,4 +1,5 @@
--- What a closing makes and what it pays: the message of an open client port is owed, and no longer behind its last handle.
+-- What a closing makes and what it pays: the message of an open client port is owed, and no longer behind its last
+-- handle.
 use Rattle.std.proofs.Common.{◌≡◌, ◌∙◌, ℕ, ◌+◌, ◌≤◌, List, [], ◌∷◌, Bool, true, false, cond, Some, refl, ap, sym, subst, arith}
 use Rattle.std.specs.Prelude.{◌==◌, ◌&&◌}
 use Rattle.std.proofs.lemmas.Bool.{eqb-true}
@@ -123,7 +124,8 @@ drop-pays w pid value b opens shut =
         let is : is_open (basic w (DropsHandle pid value)) p.birth ≡ false = subst (λ (c : Birth). is_open (basic w (DropsHandle pid value)) c ≡ false) (sym same) shut in
         (rw (its.1, was) refl, rw (its.1, is) refl)
 
--- What the close of a handle makes it pays: behind the closing of its port, where it is the last one, so much less is owed
+-- What the close of a handle makes it pays: behind the closing of its port, where it is the last one, so much less is
+-- owed
 pub close-pays : (w : World) (pid value access : ℕ) (k : ObjectKind) (b : Birth) → handle_at w pid value ≡ Some (handle_row value (record { kind = k; birth = b }) access)
     → (let o : ObjectName = record { kind = k; birth = b } in let v = world_after w (closes_last o w) in owed_rows (basic v (DropsHandle pid value)) + last_rows w o ≤ owed_rows v)
 close-pays w pid value access kind.Port b here = by_count (handle_count w (port_name b) == 1) refl

@@ -58,8 +58,8 @@ fn post_closed(world: &mut World, port: Key, out: &mut Entries)
     }
 }
 
-/// The queue of a port is emptied: the requests in it end, and the connects to it that aren't accepted; its other messages
-/// go.
+/// The queue of a port is emptied: the requests in it end, and the connects to it that aren't accepted; its other
+/// messages go.
 fn empty_queue(world: &mut World, port: Key, out: &mut Entries)
     requires port { stands world.old.births.ports port ≡ true }
     requires pairs { HasMutualPairs world.old.rows }
@@ -78,8 +78,8 @@ fn empty_queue(world: &mut World, port: Key, out: &mut Entries)
     world.messages_empty(port);
 }
 
-/// A port is cut off from its other end: requests that were sent there end, receives that wait there on a client port, and
-/// the connect that was accepted and isn't completed.
+/// A port is cut off from its other end: requests that were sent there end, receives that wait there on a client port,
+/// and the connect that was accepted and isn't completed.
 pub(crate) fn cut_pair(world: &mut World, port: Key, out: &mut Entries)
     requires port { stands world.old.births.ports port ≡ true }
     requires pairs { HasMutualPairs world.old.rows }
@@ -182,10 +182,10 @@ pub(crate) fn close_handle(
     world.handles_close(pid, value);
 }
 
-/// `NtClose`: a handle goes. With the last handle of a port the port is closed: its name goes; receives and listens made
-/// on it or waiting on its queue end; requests sent on it end; its queue is emptied, and the connects that wait on it end;
-/// it is cut off from its other end, whose requests and receives end; and that a completed client port is closed is posted
-/// to its connection port.
+/// `NtClose`: a handle goes. With the last handle of a port the port is closed: its name goes; receives and listens
+/// made on it or waiting on its queue end; requests sent on it end; its queue is emptied, and the connects that wait on
+/// it end; it is cut off from its other end, whose requests and receives end; and that a completed client port is
+/// closed is posted to its connection port.
 ///
 /// Refusal: INVALID_HANDLE where no handle of the caller's process has the value. It takes no memory.
 #[tactic(auto, unfolding(lpc_model::specs::Close::nt_close))]

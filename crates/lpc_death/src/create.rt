@@ -48,13 +48,13 @@ fn process_test(world: &World, by: u32, pid: u32, tid: u32) -> Result<(), Status
     Ok(())
 }
 
-/// `NtCreateProcess`: the caller makes a process and then its first thread, and its process gets a handle to each, in this
-/// order.
+/// `NtCreateProcess`: the caller makes a process and then its first thread, and its process gets a handle to each, in
+/// this order.
 ///
-/// Refusals, in this order: OBJECT_NAME_COLLISION where a number was ever used; QUOTA_EXCEEDED where the caller's process
-/// has 64 live children; QUOTA_EXCEEDED where two more handles, with those that its waiting connects are to get, would be
-/// over 256. OutOfMemory comes only where it isn't refused and there is no room for what it makes; nothing has changed then
-/// but the room.
+/// Refusals, in this order: OBJECT_NAME_COLLISION where a number was ever used; QUOTA_EXCEEDED where the caller's
+/// process has 64 live children; QUOTA_EXCEEDED where two more handles, with those that its waiting connects are to
+/// get, would be over 256. OutOfMemory comes only where it isn't refused and there is no room for what it makes;
+/// nothing has changed then but the room.
 pub fn nt_create_process(
     world: &mut World,
     by: u32,
@@ -117,8 +117,8 @@ fn member_test(world: &World, by: u32, target: ProcArg, tid: u32) -> Result<u32,
     Ok(pid)
 }
 
-/// `NtCreateThread`: the caller makes a thread of its own process, or of the one that a handle names, and its process gets
-/// a handle to it.
+/// `NtCreateThread`: the caller makes a thread of its own process, or of the one that a handle names, and its process
+/// gets a handle to it.
 ///
 /// Refusals, in this order: INVALID_HANDLE where no handle of the caller's process has the value; OBJECT_TYPE_MISMATCH
 /// where it names no process; ACCESS_DENIED where the handle lacks the right; INVALID_CID where the process has ended;

@@ -15,9 +15,9 @@ use lpc_model::{CallName, Entries, Entry, Outcome, handle_field, refuse};
 use lpc_steps::{give_handle, handles_test, own_handle};
 use lpc_world::{Object, World};
 
-/// The handle that a thread's process is to get: INVALID_HANDLE where no handle has the value, ACCESS_DENIED where a right
-/// is asked for that the handle lacks, QUOTA_EXCEEDED where the process has 256 handles, with those that its waiting
-/// connects are to get.
+/// The handle that a thread's process is to get: INVALID_HANDLE where no handle has the value, ACCESS_DENIED where a
+/// right is asked for that the handle lacks, QUOTA_EXCEEDED where the process has 256 handles, with those that its
+/// waiting connects are to get.
 #[tactic(auto, unfolding(lpc_model::specs::Counts::nt_duplicate_object))]
 fn duplicate_test(
     world: &World,
@@ -50,9 +50,9 @@ fn duplicate_test(
 /// asked for, or those of the handle where none are.
 ///
 /// Refusals, in this order: INVALID_HANDLE where no handle of the process has the value; ACCESS_DENIED where a right is
-/// asked for that the handle lacks; QUOTA_EXCEEDED where the process has 256 handles, with those that its waiting connects
-/// are to get. OutOfMemory comes only where it isn't refused and there is no room for the handle; nothing has changed then
-/// but the room.
+/// asked for that the handle lacks; QUOTA_EXCEEDED where the process has 256 handles, with those that its waiting
+/// connects are to get. OutOfMemory comes only where it isn't refused and there is no room for the handle; nothing has
+/// changed then but the room.
 pub fn nt_duplicate_object(
     world: &mut World,
     by: u32,

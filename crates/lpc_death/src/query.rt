@@ -32,8 +32,8 @@ fn counts(world: &World, tid: u32, handle: u32) -> Result<Fields, Status>
     ))
 }
 
-/// `NtQueryObject`: tells of the object that a handle names: its kind, the rights of the handle, how many handles of all
-/// processes name it, and how many rows count for it.
+/// `NtQueryObject`: tells of the object that a handle names: its kind, the rights of the handle, how many handles of
+/// all processes name it, and how many rows count for it.
 ///
 /// Refusal: INVALID_HANDLE where no handle of the caller's process has the value. It takes no memory.
 pub fn nt_query_object(world: &mut World, by: u32, handle: u32, out: &mut Entries) -> Outcome

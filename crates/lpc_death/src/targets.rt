@@ -23,8 +23,9 @@ pub(crate) const LIFE_ACCESS: u32 = 1;
 /// The right to a process or a thread that the calls on one want.
 const LIFE_RIGHT: u32 = 1;
 
-/// The number of the caller's process, or of the one that a handle names: INVALID_HANDLE where no handle of the caller's
-/// process has the value, OBJECT_TYPE_MISMATCH where it names no process, ACCESS_DENIED where it lacks the right.
+/// The number of the caller's process, or of the one that a handle names: INVALID_HANDLE where no handle of the
+/// caller's process has the value, OBJECT_TYPE_MISMATCH where it names no process, ACCESS_DENIED where it lacks the
+/// right.
 pub(crate) fn process_target(world: &World, by: u32, target: ProcArg) -> Result<u32, Status>
     requires { is_ready world.now.rows by ≡ true }
     ensures { result
@@ -69,9 +70,9 @@ fn named_thread(world: &World, by: u32, handle: u32) -> Result<BornThread, Statu
     }
 }
 
-/// The thread that a call is to end, which lives: the caller, or the one that a handle names. INVALID_HANDLE where no handle
-/// of the caller's process has the value, OBJECT_TYPE_MISMATCH where it names no thread, ACCESS_DENIED where it lacks the
-/// right, INVALID_CID where the thread has ended.
+/// The thread that a call is to end, which lives: the caller, or the one that a handle names. INVALID_HANDLE where no
+/// handle of the caller's process has the value, OBJECT_TYPE_MISMATCH where it names no thread, ACCESS_DENIED where it
+/// lacks the right, INVALID_CID where the thread has ended.
 pub(crate) fn living_thread(world: &World, by: u32, target: ProcArg) -> Result<BornThread, Status>
     requires ready { is_ready world.now.rows by ≡ true }
     requires sound { IsSoundWorld world.now.rows }

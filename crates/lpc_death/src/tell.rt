@@ -20,8 +20,8 @@ fn died_message(death: &Death) -> Message
     telling(kind::CLIENT_DIED, death.client, 0, death.birth)
 }
 
-/// That a thread has ended is posted on a port that it registered, where that is open and has a way. The registration goes
-/// first, whose place for the message that is owed the message takes.
+/// That a thread has ended is posted on a port that it registered, where that is open and has a way. The registration
+/// goes first, whose place for the message that is owed the message takes.
 fn post_death(world: &mut World, death: &Death, out: &mut Entries)
     requires registered { let who = death.now.client.thread in
         has_registered world.old.rows who death.now.registered ≡ true }
@@ -44,9 +44,9 @@ fn post_death(world: &mut World, death: &Death, out: &mut Entries)
     }
 }
 
-/// Each port that a thread of the process registered, which has ended, is told of the end: thread by thread in the order of
-/// making, and of each in the order of registration. It takes no memory, and makes no row but the messages that the
-/// registrations owed.
+/// Each port that a thread of the process registered, which has ended, is told of the end: thread by thread in the
+/// order of making, and of each in the order of registration. It takes no memory, and makes no row but the messages
+/// that the registrations owed.
 pub(crate) fn tell_all(world: &mut World, pid: u32, out: &mut Entries)
     requires single { HasSingleRegistrations world.old.rows }
     requires spare { length world.old.rows.waits ≤ out.old.spare }

@@ -23,8 +23,8 @@ use lpc_base::status::SUCCESS;
 use lpc_model::{CallName, Entries, Entry, Fields, Outcome, ProcArg, refuse};
 use lpc_world::World;
 
-/// Threads of a process have ended: the ports that they registered are told of it, and the process ends where none of its
-/// threads lives. It takes no memory.
+/// Threads of a process have ended: the ports that they registered are told of it, and the process ends where none of
+/// its threads lives. It takes no memory.
 fn end_told(world: &mut World, pid: u32, out: &mut Entries)
     requires table { has (is_table pid) world.old.rows.handles ≡ true }
     requires can { CanCloseAll world.old.rows }
@@ -102,13 +102,13 @@ fn answer_unless(own: bool, tid: u32, call: CallName, out: &mut Entries) -> Outc
     Outcome::Answered(SUCCESS)
 }
 
-/// `NtTerminateThread`: a thread ends, with its wait and the message that it waits with; the client port of its accepted
-/// connect is cut off from its other end. The ports that it registered are told of it, and its process ends with its last
-/// thread: the process's handles are closed. A call that ends its own thread has no answer.
+/// `NtTerminateThread`: a thread ends, with its wait and the message that it waits with; the client port of its
+/// accepted connect is cut off from its other end. The ports that it registered are told of it, and its process ends
+/// with its last thread: the process's handles are closed. A call that ends its own thread has no answer.
 ///
 /// Refusals, in this order: INVALID_HANDLE where no handle of the caller's process has the value; OBJECT_TYPE_MISMATCH
-/// where it names no thread; ACCESS_DENIED where it lacks the right; INVALID_CID where the thread has ended. It takes no
-/// memory.
+/// where it names no thread; ACCESS_DENIED where it lacks the right; INVALID_CID where the thread has ended. It takes
+/// no memory.
 pub fn nt_terminate_thread(
     world: &mut World,
     by: u32,
@@ -138,13 +138,13 @@ pub fn nt_terminate_thread(
     }
 }
 
-/// `NtTerminateProcess`: the live threads of a process end, in the order of making, each as `NtTerminateThread` ends one.
-/// The ports that they registered are told of it, and the process ends: its handles are closed. A call that ends its own
-/// process has no answer.
+/// `NtTerminateProcess`: the live threads of a process end, in the order of making, each as `NtTerminateThread` ends
+/// one. The ports that they registered are told of it, and the process ends: its handles are closed. A call that ends
+/// its own process has no answer.
 ///
 /// Refusals, in this order: INVALID_HANDLE where no handle of the caller's process has the value; OBJECT_TYPE_MISMATCH
-/// where it names no process; ACCESS_DENIED where it lacks the right; INVALID_CID where the process has ended. It takes no
-/// memory.
+/// where it names no process; ACCESS_DENIED where it lacks the right; INVALID_CID where the process has ended. It takes
+/// no memory.
 pub fn nt_terminate_process(
     world: &mut World,
     by: u32,

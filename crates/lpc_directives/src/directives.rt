@@ -85,8 +85,8 @@ pub fn thread(world: &mut World, tid: u32, pid: u32) -> Result<Status, OutOfMemo
 
 /// `dir`: makes a directory of the name space.
 ///
-/// Refusal: the fault of the path, or OBJECT_NAME_COLLISION where something stands there. It wants for memory only where
-/// there is no room for a name; then nothing has changed but the room.
+/// Refusal: the fault of the path, or OBJECT_NAME_COLLISION where something stands there. It wants for memory only
+/// where there is no room for a name; then nothing has changed but the room.
 #[tactic(auto, unfolding(lpc_model::specs::Machine::dir_line))]
 pub fn directory(world: &mut World, path: &[u8]) -> Result<Status, OutOfMemory>
     requires calls { world.old.calls < LINES_LIMIT }

@@ -52,7 +52,8 @@ closed value part = record part {
   };
 }
 
--- the parts of all processes, with one more handle, with so much room, or without the handle of a value, in that of a process
+-- the parts of all processes, with one more handle, with so much room, or without the handle of a value, in that of a
+-- process
 abbrev pub handing : ℕ → ℕ → Object → ℕ → List Part → List Part
 handing pid value object access parts = change (is_part pid) (handed value (record { object = object; access = access })) parts
 

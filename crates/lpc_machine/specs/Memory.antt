@@ -8,8 +8,8 @@ use Rattle.lpc_world.specs.Kept.{Kept, lacks_name_room, lacks_process_room, lack
 use Rattle.lpc_world.specs.Ready.{caller, is_ready}
 use Rattle.lpc_model.specs.Lines.{ScriptCall, ScriptLine, boot, thread, dir, link, run, accept_connect_port, connect_port, create_port, create_process, create_thread, duplicate_object, register_thread_terminate_port, request_port}
 
--- the calls whose step may take memory: they make a port, a process, a thread, a further handle, a message that no thread waits with, or a place
--- for one that is to tell of a thread's end; a refusal of a connect makes none of these
+-- the calls whose step may take memory: they make a port, a process, a thread, a further handle, a message that no
+-- thread waits with, or a place for one that is to tell of a thread's end; a refusal of a connect makes none of these
 abbrev pub call_takes_memory : ScriptCall → Bool
 call_takes_memory (create_port name) = true
 call_takes_memory (connect_port name info) = true
@@ -45,10 +45,10 @@ GoesOn w (dir path) = IsOk (dir_line w path)
 GoesOn w (link path target) = IsOk (link_line w path target)
 GoesOn w (run tid call) = (is_ready w tid ≡ true) × IsOk (service_of w (caller w tid) call)
 
--- There is no room for what a thread's call makes: a port with its handle, and its name; a client port with its handle and
--- the message that is to tell that it is closed; a server port with its handle; a message that no thread waits with, or one
--- that is to tell of a thread's end; a further handle; a process with its first thread and a handle to each; a thread with a
--- handle. What the other calls need was reserved when their threads were made.
+-- There is no room for what a thread's call makes: a port with its handle, and its name; a client port with its handle
+-- and the message that is to tell that it is closed; a server port with its handle; a message that no thread waits
+-- with, or one that is to tell of a thread's end; a further handle; a process with its first thread and a handle to
+-- each; a thread with a handle. What the other calls need was reserved when their threads were made.
 abbrev pub lacks_call_room : Kept → ℕ → ScriptCall → Bool
 lacks_call_room w tid (create_port name) = lacks_room_for w (caller w.rows tid) name
 lacks_call_room w tid (connect_port name info) = lacks_connect_room w (caller w.rows tid)

@@ -244,9 +244,9 @@ impl Machine {
     ///
     /// After want of memory nothing has changed but the room. Only directives, `NtCreatePort`, `NtConnectPort`,
     /// `NtAcceptConnectPort` to accept, `NtRequestPort`, `NtRegisterThreadTerminatePort`, `NtDuplicateObject`,
-    /// `NtCreateProcess` and `NtCreateThread` take memory, only where they aren't refused, and they want for it only where
-    /// the room for what they make wasn't there; every other line is answered. A directive, and a call of a thread that
-    /// lives and doesn't wait, counts as a call, refused or not.
+    /// `NtCreateProcess` and `NtCreateThread` take memory, only where they aren't refused, and they want for it only
+    /// where the room for what they make wasn't there; every other line is answered. A directive, and a call of a
+    /// thread that lives and doesn't wait, counts as a call, refused or not.
     pub fn step(&mut self, line: &Line<'_>, out: &mut Entries) -> Result<(), OutOfMemory>
         requires empty { out.old.list ≡ [] }
         requires room { HasRoom self.old out.old }

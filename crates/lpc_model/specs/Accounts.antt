@@ -1,5 +1,5 @@
--- Messages that ask for no answer are accounted for: each that was posted stands in its queue, was received from it, or was
--- lost when the queue's port closed. So is each that tells of a thread's end or of a closed port.
+-- Messages that ask for no answer are accounted for: each that was posted stands in its queue, was received from it, or
+-- was lost when the queue's port closed. So is each that tells of a thread's end or of a closed port.
 use Rattle.std.specs.Prelude.{◌≡◌, ℕ, ◌+◌, ◌++◌, ◌&&◌, ◌==◌, Bool, false, List, [], ◌∷◌, Option, None, Some, option_and_then, option_map, Result, Ok, Err}
 use Rattle.std.specs.Str.{bytes_eq}
 use Rattle.lpc_base.specs.Rows.{count}
@@ -67,8 +67,8 @@ received_on w (run tid (reply_wait_receive_port handle reply)) =
     option_and_then (λ by. queue_at w (port_test w by handle)) (live_thread w tid)
 received_on w line = None
 
--- an entry shows such a message as received from the queue: that on which its thread waited before the line, or that of the
--- port that the line's receive names
+-- an entry shows such a message as received from the queue: that on which its thread waited before the line, or that of
+-- the port that the line's receive names
 abbrev pub is_received : Receipt → World → ScriptLine → Entry → Bool
 is_received r w line (Wakes tid call status fields) = is_the r.queue (waited_on w tid) && shows_receipt r fields
 is_received r w line (Answer tid call status fields) = is_the r.queue (received_on w line) && shows_receipt r fields

@@ -12,9 +12,9 @@ use Rattle.lpc_model.specs.declared.entry.ObjectKind.TheVariants as kind
 use Rattle.lpc_model.specs.World.{World, Birth, CallName, ObjectKind, ObjectName, ProcessRow, ThreadRow, UsedThread, HandleRow, HandleTable, PortRow, MessageRow, WaitKind, WaitRow, Accepted, Connect, Node, Path}
 use Rattle.lpc_model.specs.Found.{has_value, is_own_of, is_paired_to, is_port, is_queued, is_queued_connect, is_table, is_thread, same_birth, waits_as, waits_at}
 
--- An entry, or one change of the rows that belong together: a wait that ends, with its entry; a thread that ends, with its
--- entry and its wait; the two ends of a pair; a process, with its number and its empty table of handles; a thread, with its
--- number; or else one row.
+-- An entry, or one change of the rows that belong together: a wait that ends, with its entry; a thread that ends, with
+-- its entry and its wait; the two ends of a pair; a process, with its number and its empty table of handles; a thread,
+-- with its number; or else one row.
 pub data Basic : Type 0 where
   -- an entry of the line's own thread or directive
   Tells : Entry → Basic

@@ -64,7 +64,8 @@ empty_queue b =
     ▹ doing (Empties b ∷ [])
 
 -- 5: It is cut off from its other end: requests that were sent there end, and receives that wait there, where the other
--- end is a client port. A connect that was accepted and isn't completed ends; nothing was sent or waits on its client port.
+-- end is a client port. A connect that was accepted and isn't completed ends; nothing was sent or waits on its client
+-- port.
 abbrev pub is_across : World → Birth → WaitRow → Bool
 is_across w b x = is_the b (pair_of w x.port)
 
@@ -88,8 +89,8 @@ cut_pair b =
 abbrev pub birth_bytes : Birth → List ℕ
 birth_bytes b = little_bytes 4 b.maker ++ little_bytes 4 b.ordinal
 
--- 6: that a completed client port is closed is posted to its connection port, where that is open: a message of the connect
--- that made the port, with the context of the accept, whose data name the port by its birth
+-- 6: that a completed client port is closed is posted to its connection port, where that is open: a message of the
+-- connect that made the port, with the context of the accept, whose data name the port by its birth
 abbrev pub closed_message : Creator → Birth → Message
 closed_message by b =
     made PORT_CLOSED by.client by.identifier (birth_bytes b)

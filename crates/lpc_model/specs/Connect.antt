@@ -127,7 +127,8 @@ nt_listen_port w by handle = do
 abbrev pub reaches : World → ℕ → Birth → Bool
 reaches w pid b = has (λ h. names_port b h.object) (handles_of w pid)
 
--- the message names a connect that was received and isn't accepted, to a connection port that the caller's process reaches
+-- the message names a connect that was received and isn't accepted, to a connection port that the caller's process
+-- reaches
 abbrev pub names_connect : World → ThreadRow → Message → WaitRow → Bool
 names_connect w by m x =
     names_wait x m && (is_offered x && (x.received && reaches w by.process x.queue))
@@ -191,9 +192,9 @@ pub record Completable : Type 0 where
   pub client : Birth
   pub wait : WaitRow
 
--- The tests of a completion behind that of the handle: no server port, completed already, the pair is cut. In each world
--- that a script leaves, the connect of a pair waits until it is completed, so it is found: PORT_DISCONNECTED tells of cut
--- pairs alone.
+-- The tests of a completion behind that of the handle: no server port, completed already, the pair is cut. In each
+-- world that a script leaves, the connect of a pair waits until it is completed, so it is found: PORT_DISCONNECTED
+-- tells of cut pairs alone.
 abbrev pub completion_test : World → PortRow → Result Completable Status
 completion_test w port = do
   _ ← refuse_if (not (is_server_port port)) INVALID_PORT_HANDLE

@@ -21,7 +21,8 @@ pub record ReachesBy (w : World) (queue : Birth) (from to : PortRow) : Type 0 wh
   pub enters : route w from ≡ Some queue
   pub receives : queue_of w to ≡ Some queue
 
--- the ports of a connection reach each other: the client port by its own queue, the server port by its connection port's
+-- the ports of a connection reach each other: the client port by its own queue, the server port by its connection
+-- port's
 pub record ReachEachOther (w : World) (client server : PortRow) (connection : Birth) : Type 0 where
   pub to_client : ReachesBy w client.birth server client
   pub to_server : ReachesBy w connection client server

@@ -29,8 +29,8 @@ cut_accepted (Some x) = provided (λ w. is_accepted x) (cut_pair x.port)
 abbrev pub die : Status → ThreadRow → Steps
 die code t w = (doing (Dies t.number code ∷ Withdraws t.number ∷ []) ▹ cut_accepted (wait_of w t.number)) w
 
--- 2: that a thread has ended is posted on each port that it registered, where that is open and has a way: a message in the
--- thread's name, whose data name it by its birth
+-- 2: that a thread has ended is posted on each port that it registered, where that is open and has a way: a message in
+-- the thread's name, whose data name it by its birth
 abbrev pub died_message : ThreadRow → Message
 died_message t = made CLIENT_DIED (client_of t) 0 (birth_bytes t.birth)
 
@@ -51,7 +51,8 @@ post_deaths t = in_turn (post_death t) t.registrations
 abbrev pub end_process : ℕ → Steps
 end_process pid w = in_turn (close_handle pid) (handles_of w pid) w
 
--- threads of a process end: all of them with their waits, then they are told of, and then the process ends with its last one
+-- threads of a process end: all of them with their waits, then they are told of, and then the process ends with its
+-- last one
 unfoldable pub end_threads : ℕ → Status → List ThreadRow → Steps
 end_threads pid code threads =
     in_turn (die code) threads

@@ -1,4 +1,5 @@
--- What is told of threads that end: each port that such a thread registered is told once, where it is open and has a way.
+-- What is told of threads that end: each port that such a thread registered is told once, where it is open and has a
+-- way.
 use Rattle.std.specs.Prelude.{◌≡◌, ℕ, ◌==◌, ◌&&◌, ◌||◌, ◌++◌, Bool, true, List, [], ◌∷◌, length, map, nat_le, not}
 use Rattle.std.specs.List.{AllByRecursion}
 use Rattle.lpc_base.specs.Rows.{each, every, first, given, when, which}
@@ -26,8 +27,8 @@ registration who b = record { thread = who; port = b }
 abbrev pub registrations_of : ThreadRow → List Registration
 registrations_of t = map (registration t.number) t.registrations
 
--- the registrations of the live thread that ends by a step, in the order in which they were made, and of those that end by
--- some steps, thread by thread
+-- the registrations of the live thread that ends by a step, in the order in which they were made, and of those that end
+-- by some steps, thread by thread
 abbrev pub ended_registrations : World → Basic → List Registration
 ended_registrations w (Dies who status) = given (live_thread w who) registrations_of
 ended_registrations w b = []
@@ -41,8 +42,8 @@ abbrev pub leaves : Basic → List Registration
 leaves (Unregisters who b) = registration who b ∷ []
 leaves b = []
 
--- what is told of a registration that goes, as the world is then: one message to the port's route, where the port is open and
--- has one, sent on that port in the name of the thread, whose data are the thread's birth
+-- what is told of a registration that goes, as the world is then: one message to the port's route, where the port is
+-- open and has one, sent on that port in the name of the thread, whose data are the thread's birth
 abbrev pub death_posts : World → Basic → List MessageRow
 death_posts w (Unregisters who b) =
     given (first (is_thread who) w.threads) (λ t. given (death_post w t b) (λ m. m ∷ []))
@@ -52,8 +53,8 @@ abbrev pub deaths_posted : World → List Basic → List MessageRow
 deaths_posted w [] = []
 deaths_posted w (b ∷ bs) = death_posts w b ++ deaths_posted (basic w b) bs
 
--- when a step comes in its line: first threads end, then registrations go and are told of, and then handles are closed, which
--- begins with a port's name where its last handle goes
+-- when a step comes in its line: first threads end, then registrations go and are told of, and then handles are closed,
+-- which begins with a port's name where its last handle goes
 abbrev pub rank_of : Basic → List ℕ
 rank_of (Dies who status) = 0 ∷ []
 rank_of (Unregisters who b) = 1 ∷ []
@@ -67,8 +68,8 @@ abbrev pub rises : List ℕ → Bool
 rises [] = true
 rises (n ∷ ns) = every (nat_le n) ns && rises ns
 
--- The messages that tell of ends are those of the registrations that go, and these are the ones of the threads that end. They
--- go and are told behind the end of the last of these threads, and before any handle goes.
+-- The messages that tell of ends are those of the registrations that go, and these are the ones of the threads that
+-- end. They go and are told behind the end of the last of these threads, and before any handle goes.
 pub record TellsDeaths (w : World) (bs : List Basic) : Type 0 where
   pub told : which is_died_post (posts_of bs) ≡ deaths_posted w bs
   pub registrations : each leaves bs ≡ ending_registrations w bs

@@ -38,8 +38,8 @@ msg m = record { name = name.Msg; value = Bytes (record { items = bytes_of m }) 
 abbrev pub receipt : MessageRow → List Field
 receipt m = ctx m.context ∷ msg m.message ∷ []
 
--- what a query tells of an object: its kind, the rights of the handle, how many handles name it, and how many rows count
--- for it
+-- what a query tells of an object: its kind, the rights of the handle, how many handles name it, and how many rows
+-- count for it
 abbrev pub object_fields : ObjectKind → ℕ → ℕ → ℕ → List Field
 object_fields kind access handles pointers =
     record { name = name.ObjectType; value = Kind kind }

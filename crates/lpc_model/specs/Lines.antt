@@ -7,8 +7,8 @@ use Rattle.lpc_model.specs.declared.line.Line.{Line}
 pub use Rattle.lpc_model.specs.declared.line.ProcArg.{ProcArg}
 use Rattle.lpc_model.specs.declared.line.Line.TheVariants as line
 
--- a system call with its arguments; a message and a name are their bytes, and an unnamed port has none; a further handle
--- without rights of its own has those of the handle
+-- a system call with its arguments; a message and a name are their bytes, and an unnamed port has none; a further
+-- handle without rights of its own has those of the handle
 pub data ScriptCall : Type 0 where
   create_port : Option (List ℕ) → ScriptCall
   connect_port : List ℕ → List ℕ → ScriptCall

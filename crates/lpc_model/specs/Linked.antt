@@ -69,8 +69,8 @@ pub record HasHeldRows (w : World) : Type 0 where
   pub ports : HasHeldPorts w
   pub lives : AreLivesHeld w
 
--- the step of each line keeps ports linked, and leaves no object that no row counts for, where no connect waits on an open
--- port
+-- the step of each line keeps ports linked, and leaves no object that no row counts for, where no connect waits on an
+-- open port
 abbrev pub StepsHoldRows : Type 0
 StepsHoldRows =
     (w : World) (line : ScriptLine) → IsSoundWorld w → HasShutConnects w → IsLinked w →

@@ -21,7 +21,8 @@ free_unheld w = map Frees (unheld w)
 unfoldable pub sweep : Steps
 sweep = free_unheld ▹ free_unheld
 
--- a step takes a row away that may count for an object, or what in it counts: a join takes the other end that a port had
+-- a step takes a row away that may count for an object, or what in it counts: a join takes the other end that a port
+-- had
 abbrev pub loosens : Basic → Bool
 loosens (Wakes who call status fields) = true
 loosens (Dies who status) = true

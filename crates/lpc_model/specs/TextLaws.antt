@@ -17,8 +17,8 @@ pub data Sort : Type 0 where
   as_kind : Sort
   as_bytes : Sort
 
--- handles, message identifiers, lengths and counts are printed in decimal, contexts and rights in hexadecimal, the kind of
--- an object by its name, and messages, what was read and what came with a connect as bytes
+-- handles, message identifiers, lengths and counts are printed in decimal, contexts and rights in hexadecimal, the kind
+-- of an object by its name, and messages, what was read and what came with a connect as bytes
 abbrev pub sort_of : FieldName → Sort
 sort_of H = in_decimal
 sort_of FirstThread = in_decimal

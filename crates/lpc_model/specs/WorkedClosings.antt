@@ -12,7 +12,8 @@ pub record WorkedClosings : Type 0 where
   pub accepted_connect_ends : transcript (codes "dir \\Windows\nboot 20 24\nboot 32 36\n24 NtCreatePort \\Windows\\ApiPort\n36 NtConnectPort \\Windows\\ApiPort - - d:4869\n24 NtListenPort 4\n24 NtAcceptConnectPort 0 r:32.36.1:4e6f refuse -\n36 NtConnectPort \\Windows\\ApiPort - - -\n24 NtListenPort 4\n24 NtAcceptConnectPort 0 r:32.36.2: accept -\n24 NtClose 8\n36 NtConnectPort \\Windows\\None - - -\n") ≡ codes "1 - dir 00000000\n2 - boot 00000000\n3 - boot 00000000\n4 24 NtCreatePort 00000000 h=4\n5 36 NtConnectPort wait id=1\n6 24 NtListenPort 00000000 msg=02001a000a000000200000002400000001000000000000004869\n7 24 NtAcceptConnectPort 00000000\n7 *36 NtConnectPort c0000041 info=4e6f\n8 36 NtConnectPort wait id=2\n9 24 NtListenPort 00000000 msg=000018000a00000020000000240000000200000000000000\n10 24 NtAcceptConnectPort 00000000 h=8\n11 24 NtClose 00000000\n11 *36 NtConnectPort c0000041 info=\n12 36 NtConnectPort c0000034\nend 12 14 5\n"
   -- Only the last of two handles to a port closes it; then its name is free and its clients are cut off.
   pub last_of_two_handles : transcript (codes "dir \\Windows\nboot 20 24\nboot 32 36\n24 NtCreatePort \\Windows\\ApiPort\n36 NtConnectPort \\Windows\\ApiPort - - -\n24 NtListenPort 4\n24 NtAcceptConnectPort 7 r:32.36.1: accept -\n24 NtCompleteConnectPort 8\n24 NtDuplicateObject 4 same\n36 NtRequestWaitReplyPort 4 d:61\n24 NtClose 4\n24 NtQueryObject 12\n24 NtClose 12\n36 NtRequestPort 4 d:61\n36 NtConnectPort \\Windows\\ApiPort - - -\n") ≡ codes "1 - dir 00000000\n2 - boot 00000000\n3 - boot 00000000\n4 24 NtCreatePort 00000000 h=4\n5 36 NtConnectPort wait id=1\n6 24 NtListenPort 00000000 msg=000018000a00000020000000240000000100000000000000\n7 24 NtAcceptConnectPort 00000000 h=8\n8 24 NtCompleteConnectPort 00000000\n8 *36 NtConnectPort 00000000 h=4 max=256 info=\n9 24 NtDuplicateObject 00000000 h=12\n10 36 NtRequestWaitReplyPort wait id=2\n11 24 NtClose 00000000\n12 24 NtQueryObject 00000000 type=port access=001f0001 handles=1 pointers=3\n13 24 NtClose 00000000\n13 *36 NtRequestWaitReplyPort c0000253\n14 36 NtRequestPort c0000037\n15 36 NtConnectPort c0000034\nend 15 17 7\n"
-  -- A server port closes while a thread of its client waits in a receive; that thread is busy, so the client can't close.
+  -- A server port closes while a thread of its client waits in a receive; that thread is busy, so the client can't
+  -- close.
   pub receive_across_a_server_port : transcript (codes "dir \\Windows\nboot 20 24\nboot 32 36\n24 NtCreatePort \\Windows\\ApiPort\n36 NtConnectPort \\Windows\\ApiPort - - -\n24 NtListenPort 4\n24 NtAcceptConnectPort 7 r:32.36.1: accept -\n24 NtCompleteConnectPort 8\nthread 28 20\n24 NtReplyWaitReceivePort 4\n28 NtReplyWaitReceivePort 8\n36 NtRequestPort 4 d:61\n36 NtRequestPort 4 d:\n24 NtRequestPort 8 d:62\n36 NtReplyWaitReceivePort 4\n36 NtReplyWaitReceivePort 4\n36 NtClose 4\n24 NtClose 8\n") ≡ codes "1 - dir 00000000\n2 - boot 00000000\n3 - boot 00000000\n4 24 NtCreatePort 00000000 h=4\n5 36 NtConnectPort wait id=1\n6 24 NtListenPort 00000000 msg=000018000a00000020000000240000000100000000000000\n7 24 NtAcceptConnectPort 00000000 h=8\n8 24 NtCompleteConnectPort 00000000\n8 *36 NtConnectPort 00000000 h=4 max=256 info=\n9 - thread 00000000\n10 24 NtReplyWaitReceivePort wait\n11 28 NtReplyWaitReceivePort wait\n12 36 NtRequestPort 00000000 id=2\n12 *24 NtReplyWaitReceivePort 00000000 ctx=00000007 msg=01001900030000002000000024000000020000000000000061\n13 36 NtRequestPort 00000000 id=3\n13 *28 NtReplyWaitReceivePort 00000000 ctx=00000007 msg=000018000300000020000000240000000300000000000000\n14 24 NtRequestPort 00000000 id=1\n15 36 NtReplyWaitReceivePort 00000000 ctx=00000000 msg=01001900030000001400000018000000010000000000000062\n16 36 NtReplyWaitReceivePort wait\n17 36 busy\n18 24 NtClose 00000000\n18 *36 NtReplyWaitReceivePort c0000037\nend 18 22 7\n"
   -- A server closes one of two connections, in which a request waits.
   pub one_of_two_connections : transcript (codes "dir \\Windows\nboot 20 24\nboot 32 36\n24 NtCreatePort \\Windows\\ApiPort\n36 NtConnectPort \\Windows\\ApiPort - - -\n24 NtListenPort 4\n24 NtAcceptConnectPort 7 r:32.36.1: accept -\n24 NtCompleteConnectPort 8\nboot 40 44\n44 NtConnectPort \\Windows\\ApiPort - - -\n24 NtListenPort 4\n24 NtAcceptConnectPort 9 r:40.44.1: accept -\n24 NtCompleteConnectPort 12\n36 NtRequestWaitReplyPort 4 d:61\n24 NtClose 8\n") ≡ codes "1 - dir 00000000\n2 - boot 00000000\n3 - boot 00000000\n4 24 NtCreatePort 00000000 h=4\n5 36 NtConnectPort wait id=1\n6 24 NtListenPort 00000000 msg=000018000a00000020000000240000000100000000000000\n7 24 NtAcceptConnectPort 00000000 h=8\n8 24 NtCompleteConnectPort 00000000\n8 *36 NtConnectPort 00000000 h=4 max=256 info=\n9 - boot 00000000\n10 44 NtConnectPort wait id=1\n11 24 NtListenPort 00000000 msg=000018000a000000280000002c0000000100000000000000\n12 24 NtAcceptConnectPort 00000000 h=12\n13 24 NtCompleteConnectPort 00000000\n13 *44 NtConnectPort 00000000 h=4 max=256 info=\n14 36 NtRequestWaitReplyPort wait id=2\n15 24 NtClose 00000000\n15 *36 NtRequestWaitReplyPort c0000253\nend 15 18 10\n"

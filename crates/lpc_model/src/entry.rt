@@ -352,8 +352,8 @@ impl Entries {
         Ok(Entries { list, read })
     }
 
-    /// Makes spare room for so many more entries, which takes memory only where there is less of it. After want of memory
-    /// nothing has changed.
+    /// Makes spare room for so many more entries, which takes memory only where there is less of it. After want of
+    /// memory nothing has changed.
     pub fn reserve(&mut self, more: usize) -> Result<(), OutOfMemory>
         ensures list { self.new.list ≡ self.old.list }
         ensures read { self.new.read ≡ self.old.read }

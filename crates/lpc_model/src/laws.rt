@@ -46,7 +46,8 @@ pub fn law_completion_refuses_cut_pairs()
 /// An object that no row counts for any longer goes at the end of the line in two passes; two are
 /// enough. Each handle names an object that stands, each queued message was sent on one, each wait
 /// was made on one: its queue is that of this port, of its connection port or, for a request, of
-/// its other end; and live threads registered ports that stand. So no row is left that names a port that went. Before the first line none stands.
+/// its other end; and live threads registered ports that stand. So no row is left that names a port that went. Before
+/// the first line none stands.
 pub fn law_held_objects()
     ensures first { IsLinked first_state }
     ensures steps { StepsHoldRows }
@@ -130,10 +131,11 @@ pub fn law_lawful_worlds()
 
 /// Seven limits are tested exactly: below a limit its test grants one more, from there on it refuses.
 ///
-/// A process with fewer than 256 handles and waiting connects together is granted a further one, with 256 it is refused,
-/// and two where they are fewer than 255; so with 64 live processes that a process made, with 64 live threads of a
-/// process, with 32 datagrams of a port that aren't received, and with 16 ports that a thread registered. A message of lawful shape is good with a MessageSize of at most 256, and the bytes of a connect
-/// where they are at most 232. Which calls make which test stands with each call.
+/// A process with fewer than 256 handles and waiting connects together is granted a further one, with 256 it is
+/// refused, and two where they are fewer than 255; so with 64 live processes that a process made, with 64 live threads
+/// of a process, with 32 datagrams of a port that aren't received, and with 16 ports that a thread registered. A
+/// message of lawful shape is good with a MessageSize of at most 256, and the bytes of a connect where they are at most
+/// 232. Which calls make which test stands with each call.
 pub fn law_limits()
     ensures handles { LimitsHandles }
     ensures two_handles { LimitsTwoHandles }

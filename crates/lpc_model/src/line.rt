@@ -11,8 +11,8 @@ pub enum ProcArg {
 
 /// A system call with its arguments, as a line spells it.
 ///
-/// A message is the whole message, header and data, and a name is a word as it stands; both are tested by the call, not by
-/// the line.
+/// A message is the whole message, header and data, and a name is a word as it stands; both are tested by the call, not
+/// by the line.
 #[derive(Clone, Copy)]
 pub enum Call<'a> {
     /// `NtCreatePort NAME`: makes a connection port of that name, or an unnamed port where the word is `-`.
@@ -54,8 +54,8 @@ pub enum Call<'a> {
         handle: u32,
         message: &'a [u8],
     },
-    /// `NtReplyWaitReceivePort H [MSG]`: replies where a message is given, and then takes the oldest message of a port's
-    /// queue, or waits for one.
+    /// `NtReplyWaitReceivePort H [MSG]`: replies where a message is given, and then takes the oldest message of a
+    /// port's queue, or waits for one.
     ReplyWaitReceivePort {
         handle: u32,
         reply: Option<&'a [u8]>,
@@ -68,8 +68,8 @@ pub enum Call<'a> {
     Close {
         handle: u32,
     },
-    /// `NtDuplicateObject H ACCESS`: makes another handle to the object of a handle, with the rights of ACCESS, or where
-    /// that is `same` with those of the handle.
+    /// `NtDuplicateObject H ACCESS`: makes another handle to the object of a handle, with the rights of ACCESS, or
+    /// where that is `same` with those of the handle.
     DuplicateObject {
         handle: u32,
         access: Option<u32>,
@@ -100,8 +100,8 @@ pub enum Call<'a> {
     },
 }
 
-/// What one line of a script says. Process and thread numbers are from 1 to 2147483647. A path is a word as it stands; it
-/// is tested by the directive, not by the line.
+/// What one line of a script says. Process and thread numbers are from 1 to 2147483647. A path is a word as it stands;
+/// it is tested by the directive, not by the line.
 #[derive(Clone, Copy)]
 pub enum Line<'a> {
     /// `boot PID TID`: makes a process with its first thread.

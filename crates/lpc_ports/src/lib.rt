@@ -77,8 +77,8 @@ fn is_the(key: Key, other: Option<Key>) -> bool
 
 /// All ports, and the messages in their queues, each in the order of making.
 ///
-/// A port has a row from `add` to `free`. Here it counts as open while it has one: whether a handle names it isn't known
-/// to this table. No call but `reserve` takes memory. This project's own.
+/// A port has a row from `add` to `free`. Here it counts as open while it has one: whether a handle names it isn't
+/// known to this table. No call but `reserve` takes memory. This project's own.
 #[derive(Drop)]
 pub struct Ports {
     ports: Slots<Port>,

@@ -442,8 +442,8 @@ impl Procs {
         births::remove_processes(&mut self.processes, birth);
     }
 
-    /// Removes the rows of the threads that were made under the name, of which none is live. Their numbers stay used, so
-    /// the room need not grow.
+    /// Removes the rows of the threads that were made under the name, of which none is live. Their numbers stay used,
+    /// so the room need not grow.
     pub fn free_thread_born(&mut self, birth: Birth)
         requires ended { has (is_life birth) self.old.threads ≡ false }
         ensures table { self.new ≡ without_thread_born self.old birth self.new.thread_room }

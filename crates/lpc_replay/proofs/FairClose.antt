@@ -1,4 +1,5 @@
--- What NtClose tells is right: connects end by the closing of the port that they are to, or of an end of their connection.
+-- What NtClose tells is right: connects end by the closing of the port that they are to, or of an end of their
+-- connection.
 use Rattle.std.proofs.Common.{All, Bool, List, [], arith, false, refl, suc, true, ℕ, ◌++◌, ◌∷◌, ◌≡◌}
 use Rattle.std.specs.List.{AllByRecursion}
 use Rattle.std.specs.Prelude.{Contains, Ok, Some, ◌||◌}

@@ -1,5 +1,5 @@
--- What the closing of a port tells is right: requests end without success, receives and listens by any line, and connects
--- to that port or of an end of their connection by what the line says of them.
+-- What the closing of a port tells is right: requests end without success, receives and listens by any line, and
+-- connects to that port or of an end of their connection by what the line says of them.
 use Rattle.std.proofs.Common.{Bool, List, [], arith, cond, false, refl, true, ◌++◌, ◌∙◌, ◌∷◌, ◌≡◌, ap}
 use Rattle.std.specs.List.{AllByRecursion}
 use Rattle.std.specs.Prelude.{None, Option, Some, option_and_then, option_map, ◌&&◌, ◌==◌, ◌||◌, if◌then◌else◌}

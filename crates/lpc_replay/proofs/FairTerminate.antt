@@ -1,5 +1,5 @@
--- What NtTerminateThread and NtTerminateProcess tell is right: connects of other processes end by the ports to which the
--- process alone has handles, where it ends with its last thread.
+-- What NtTerminateThread and NtTerminateProcess tell is right: connects of other processes end by the ports to which
+-- the process alone has handles, where it ends with its last thread.
 use Rattle.std.proofs.Common.{Bool, List, [], arith, false, not, refl, subst, sym, true, ℕ, ◌∙◌, ◌∷◌, ◌≡◌}
 use Rattle.std.specs.List.{AllByRecursion}
 use Rattle.std.specs.Prelude.{None, Option, Some, ◌&&◌, ◌==◌, ◌||◌}

@@ -15,7 +15,8 @@ use Rattle.lpc_model.proofs.Rows.{count_none}
 use Rattle.lpc_model.proofs.SingleClosings.{dropped-shut}
 use Rattle.lpc_replay.specs.Connects.{is_only_with}
 
--- of handles in tables, where one passes that is the first of a process and no other does, none of another process's does
+-- of handles in tables, where one passes that is the first of a process and no other does, none of another process's
+-- does
 module _ (pid : ℕ) (test : HandleRow → Bool) (r : HandleRow) (rows : List HandleRow) (is : test r ≡ true) where
   abbrev all_rows : List HandleTable → List HandleRow
   all_rows ts = each (λ t. t.rows) ts

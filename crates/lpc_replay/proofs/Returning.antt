@@ -1,4 +1,5 @@
--- Each request that returns with success is returned by a reply that fits it, and each connect that wakes by its answer.
+-- Each request that returns with success is returned by a reply that fits it, and each connect that wakes by its
+-- answer.
 use Rattle.std.proofs.Common.{List, [], ◌∷◌}
 use Rattle.std.specs.List.{AllByRecursion}
 use Rattle.std.specs.Prelude.{None, Option, Some}

@@ -34,8 +34,8 @@ pub record IsCompletedBy (w : World) (by handle tid : ℕ) (status : Status) (fi
   pub succeeds : status ≡ SUCCESS
   pub shows : fields ≡ h (free_handle w found.wait.process) ∷ max MESSAGE_LIMIT ∷ info (answer_of found.wait) ∷ []
 
--- A refusal wakes the thread: the call's message names the thread's connect, which was received and isn't accepted, to a
--- connection port that the caller's process reaches. The thread is told the message's data.
+-- A refusal wakes the thread: the call's message names the thread's connect, which was received and isn't accepted, to
+-- a connection port that the caller's process reaches. The thread is told the message's data.
 pub record IsRefusedBy (w : World) (by : ℕ) (bytes : List ℕ) (tid : ℕ) (status : Status) (fields : List Field) : Type 0 where
   pub caller : ThreadRow
   pub found : ConnectAnswer
@@ -45,8 +45,9 @@ pub record IsRefusedBy (w : World) (by : ℕ) (bytes : List ℕ) (tid : ℕ) (st
   pub refuses : status ≡ PORT_CONNECTION_REFUSED
   pub shows : fields ≡ info found.message.body ∷ []
 
--- A closing wakes the thread: the call's handle is the last one of a port. The thread's connect isn't accepted and is to
--- that port, or it is accepted and its connection isn't completed, and the port is an end of it. The thread is told no data.
+-- A closing wakes the thread: the call's handle is the last one of a port. The thread's connect isn't accepted and is
+-- to that port, or it is accepted and its connection isn't completed, and the port is an end of it. The thread is told
+-- no data.
 pub record IsClosedBy (w : World) (by handle tid : ℕ) (status : Status) (fields : List Field) : Type 0 where
   pub caller : ThreadRow
   pub row : HandleRow
@@ -82,10 +83,10 @@ EndsProcess w by call pid = ⊥
 abbrev pub is_only_with : World → ℕ → Birth → Bool
 is_only_with w pid b = every (λ t. is_table pid t || not (has_handle_to b t)) w.handles
 
--- The end of a process wakes the thread, which is of another one: the call ends the process, which alone has handles to an
--- open port. The thread's connect isn't accepted and is to that port, or it is accepted and its connection isn't completed,
--- and the port is an end of it. The thread is told no data. A connect of the process itself ends with its thread instead,
--- and has no answer.
+-- The end of a process wakes the thread, which is of another one: the call ends the process, which alone has handles to
+-- an open port. The thread's connect isn't accepted and is to that port, or it is accepted and its connection isn't
+-- completed, and the port is an end of it. The thread is told no data. A connect of the process itself ends with its
+-- thread instead, and has no answer.
 pub record IsEndedBy (w : World) (by : ℕ) (call : ScriptCall) (tid : ℕ) (status : Status) (fields : List Field) : Type 0 where
   pub caller : ThreadRow
   pub process : ℕ

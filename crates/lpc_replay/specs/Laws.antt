@@ -31,7 +31,8 @@ RefusalsIdle script = RefusedRepliesAreIdle (script_lines script)
 unfoldable pub ConnectsReturn : List ℕ → Type 0
 ConnectsReturn script = Along ConnectsReturnByAnswer first_state (said_in script)
 
--- a process with a circle in this script and in another one, and with the same inputs in both, does and is told the same
+-- a process with a circle in this script and in another one, and with the same inputs in both, does and is told the
+-- same
 unfoldable pub ClientsApart : List ℕ → Type 0
 ClientsApart script =
     (group : List ℕ) (c : ℕ) (other : List ℕ) → IsCircleIn group c script → IsCircleIn group c other

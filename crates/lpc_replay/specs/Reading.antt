@@ -38,8 +38,8 @@ pub record IsRead (script old new : List ℕ) : Type 0 where
 abbrev pub IsTaken : List ℕ → List ℕ → Type 0
 IsTaken old new = (read : List ℕ) × (old ≡ read ++ new)
 
--- Of what a source had left and has left, where it tells its bytes: this script is read; and, unless it passes a limit, it
--- is all.
+-- Of what a source had left and has left, where it tells its bytes: this script is read; and, unless it passes a limit,
+-- it is all.
 abbrev pub Reads : Option (List ℕ) → Option (List ℕ) → List ℕ → Type 0
 Reads left left' script = Told left left' (λ old new. old ≡ script ++ new)
 
@@ -60,7 +60,7 @@ ended_part (b ∷ bs) = if list_any (λ c. c == 10) (b ∷ bs) then b ∷ ended_
 abbrev pub ended_lines : List ℕ → List (List ℕ)
 ended_lines bytes = script_lines (ended_part bytes)
 
--- What is read holds a faulty line, whatever comes behind it: a line that is ended by byte 10 is faulty, or what is read
--- passes a limit. So a rest without byte 10 counts as soon as it is too long, or is of a line too many.
+-- What is read holds a faulty line, whatever comes behind it: a line that is ended by byte 10 is faulty, or what is
+-- read passes a limit. So a rest without byte 10 counts as soon as it is too long, or is of a line too many.
 abbrev pub has_fault : List ℕ → Bool
 has_fault read = passes_limit read || not (is_well_formed (ended_lines read))

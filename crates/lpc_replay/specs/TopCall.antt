@@ -63,8 +63,8 @@ pub record IsBrokenOff (sent sent' : Option (List ℕ)) (script rest : List ℕ)
 abbrev pub BreaksOff : Option (List ℕ) → Option (List ℕ) → Option (List ℕ) → Option (List ℕ) → Type 0
 BreaksOff left left' sent sent' = Told left left' (IsBrokenOff sent sent')
 
--- What is sent begins the transcript of what is read, wherever the replay ends: also where the sink fails or memory runs
--- out, and where the source fails.
+-- What is sent begins the transcript of what is read, wherever the replay ends: also where the sink fails or memory
+-- runs out, and where the source fails.
 pub record IsBegun (sent sent' : Option (List ℕ)) (script rest : List ℕ) : Type 0 where
   pub read : List ℕ
   pub parts : script ≡ read ++ rest

@@ -9,18 +9,19 @@ ghost use Rattle.lpc_replay.specs.Laws.{ConnectsReturn, MisfitsRefused, Refusals
 
 /// Completion by a fitting reply, a connect's return by its answer, and the end of each wait, in every script.
 ///
-/// A request that returns with success does so by a wake, in the step of a reply call whose message fits its wait through
-/// the port that the call's handle names, and it shows that call's own bytes with type 2 and SectionSize 0 and all others
-/// as they are. A reply call whose message fits no wait through that port, or whose handle names no port, is refused, by a
-/// status or because its thread can't call. A reply call that is refused for whatever cause changes nothing; without its
-/// line the others tell the same, in a script of at most 1,000,000 lines with no faulty line before it, line numbers aside.
+/// A request that returns with success does so by a wake, in the step of a reply call whose message fits its wait
+/// through the port that the call's handle names, and it shows that call's own bytes with type 2 and SectionSize 0 and
+/// all others as they are. A reply call whose message fits no wait through that port, or whose handle names no port, is
+/// refused, by a status or because its thread can't call. A reply call that is refused for whatever cause changes
+/// nothing; without its line the others tell the same, in a script of at most 1,000,000 lines with no faulty line
+/// before it, line numbers aside.
 ///
-/// A connect returns only by its answer or by a closing: one that wakes does so in the step of the call that completes its
-/// connection, with success; or in the step of the call that refuses it and whose message names it, with
-/// PORT_CONNECTION_REFUSED; or with the same status in the step that closes the last handle of the port that it is to, or,
-/// once it is accepted, of an end of its connection; or in the step that ends another process, with its last thread, where
-/// that process alone has handles to such a port. It is told what that call gives it, which is no data where a port is
-/// closed. Its own call never answers success.
+/// A connect returns only by its answer or by a closing: one that wakes does so in the step of the call that completes
+/// its connection, with success; or in the step of the call that refuses it and whose message names it, with
+/// PORT_CONNECTION_REFUSED; or with the same status in the step that closes the last handle of the port that it is to,
+/// or, once it is accepted, of an end of its connection; or in the step that ends another process, with its last
+/// thread, where that process alone has handles to such a port. It is told what that call gives it, which is no data
+/// where a port is closed. Its own call never answers success.
 ///
 /// A thread that waits before a line and doesn't behind it is woken in that line, or ends in it.
 pub fn law_completion()

@@ -47,7 +47,8 @@ impl From<Failed> for PlayError {
     }
 }
 
-/// Runs the lines of a script one after the other and sends what each tells. Answers the fault of the first faulty line.
+/// Runs the lines of a script one after the other and sends what each tells. Answers the fault of the first faulty
+/// line.
 fn play_lines<K: Sink>(
     alloc: Global,
     playback: &mut Playback,
@@ -134,8 +135,8 @@ fn play_all<K: Sink>(
     Ok(fault.is_none())
 }
 
-/// Runs the lines of a script that are ended by byte 10, from its first line on, and sends what they tell. The last line
-/// is sent only where one of them is faulty.
+/// Runs the lines of a script that are ended by byte 10, from its first line on, and sends what they tell. The last
+/// line is sent only where one of them is faulty.
 fn play_ended_lines<K: Sink>(
     alloc: Global,
     playback: &mut Playback,
@@ -186,8 +187,8 @@ pub fn play<K: Sink>(alloc: Global, script: &[u8], sink: &mut K) -> Result<bool,
     play_all(alloc, &mut playback, &mut scratch, script, sink)
 }
 
-/// Sends what the lines of a script tell that are ended by byte 10: of a script that was broken off. Where one of them is
-/// faulty, what is sent is the transcript. Answers whether each of them was well formed.
+/// Sends what the lines of a script tell that are ended by byte 10: of a script that was broken off. Where one of them
+/// is faulty, what is sent is the transcript. Answers whether each of them was well formed.
 pub fn play_ended<K: Sink>(alloc: Global, script: &[u8], sink: &mut K) -> Result<bool, PlayError>
     ensures told { IfOk result (λ whole. whole ≡ true →
         Adds (K.sent sink.old) (K.sent sink.new) (body (ended_part script.now))) }

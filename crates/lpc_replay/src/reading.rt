@@ -13,8 +13,8 @@ use std::alloc::Global;
 pub enum ReadEnd {
     /// The source answered its end, or the bytes read pass a limit. A rest without byte 10 is a line too.
     Finished,
-    /// The source failed, and the bytes read pass no limit. A rest without byte 10 is no line, since more of it may have
-    /// been left.
+    /// The source failed, and the bytes read pass no limit. A rest without byte 10 is no line, since more of it may
+    /// have been left.
     SourceFailed,
 }
 

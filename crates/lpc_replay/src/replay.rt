@@ -110,16 +110,16 @@ fn replay<S: Source, K: Sink>(alloc: Global, source: &mut S, sink: &mut K) -> u8
 /// The words `replay` replay the script that the source gives: each line is run in its turn, and what it tells is sent
 /// to the sink. Status 0: the script was read to its end, every line was well formed, and all was sent. 2: a line was
 /// faulty; the lines before it were run, and `stop` with its number and its fault was sent. 3: the source failed, and
-/// no line read before was faulty; what the lines tell that are ended by byte 10 was sent, and no last line. 4: the sink
-/// failed. 5: memory ran out; what some first lines tell was sent, each whole, and no last line. Other words answer 64,
-/// send the usage line and read nothing.
+/// no line read before was faulty; what the lines tell that are ended by byte 10 was sent, and no last line. 4: the
+/// sink failed. 5: memory ran out; what some first lines tell was sent, each whole, and no last line. Other words
+/// answer 64, send the usage line and read nothing.
 ///
-/// Whatever the status, what was sent is a front of the transcript of what was read, or of the usage line: nothing else is
-/// sent, and nothing twice. Where a write failed the status is 4, and where a read failed it isn't 0.
+/// Whatever the status, what was sent is a front of the transcript of what was read, or of the usage line: nothing else
+/// is sent, and nothing twice. Where a write failed the status is 4, and where a read failed it isn't 0.
 ///
-/// Where the source fails, a rest that isn't ended by byte 10 is no line, since more of it may have been left. But a rest
-/// that passes a limit is a faulty line, whatever comes behind it: once its byte 16,385 was read, or once a byte of line
-/// 1,000,001 was read. Then the status isn't 3.
+/// Where the source fails, a rest that isn't ended by byte 10 is no line, since more of it may have been left. But a
+/// rest that passes a limit is a faulty line, whatever comes behind it: once its byte 16,385 was read, or once a byte
+/// of line 1,000,001 was read. Then the status isn't 3.
 pub fn run_words<S: Source, K: Sink>(
     alloc: Global,
     words: &[String],
@@ -129,8 +129,8 @@ pub fn run_words<S: Source, K: Sink>(
     // The status is one of six.
     ensures statuses { is_one_of (0 ∷ 2 ∷ 3 ∷ 4 ∷ 5 ∷ 64 ∷ []) result ≡ true }
 
-    // The words are none of the forms: the usage line is sent, or a front of it where the sink fails, nothing is read, and
-    // want of memory is no answer.
+    // The words are none of the forms: the usage line is sent, or a front of it where the sink fails, nothing is read,
+    // and want of memory is no answer.
     ensures words { result ≡ 64 → is_replay words.now ≡ false }
     ensures no_form { is_replay words.now ≡ false →
         is_one_of (64 ∷ 4 ∷ []) result ≡ true }
@@ -144,8 +144,8 @@ pub fn run_words<S: Source, K: Sink>(
         Replays (S.left source.old) (S.left source.new) (K.sent sink.old) (K.sent sink.new) }
     ensures whole { result ≡ 0 → IsFormed true (S.left source.old) }
 
-    // The script is read up to a faulty line, and its transcript is sent. A rest without byte 10 is such a line only where
-    // the source answered its end, or where the rest passes a limit.
+    // The script is read up to a faulty line, and its transcript is sent. A rest without byte 10 is such a line only
+    // where the source answered its end, or where the rest passes a limit.
     ensures stopped { result ≡ 2 →
         Stops (S.left source.old) (S.left source.new) (K.sent sink.old) (K.sent sink.new) }
     ensures faulty { result ≡ 2 → IsFormed false (S.left source.old) }
@@ -170,8 +170,8 @@ pub fn run_words<S: Source, K: Sink>(
     // Behind its end or a failure the source is asked for nothing, and for at most 4,096 bytes at once before.
     ensures asked { IsAskedForPieces (S.asked source.old) (S.asked source.new) }
 
-    // A failure is answered only where it was counted, and no count falls. Where the sink counted one the status is 4, and
-    // where the source did it isn't 0.
+    // A failure is answered only where it was counted, and no count falls. Where the sink counted one the status is 4,
+    // and where the source did it isn't 0.
     ensures source_failed { result ≡ 3 → Rose (S.faults source.old) (S.faults source.new) }
     ensures source_still { result ≡ 0 → S.faults source.new ≡ S.faults source.old }
     ensures sink_failed { result ≡ 4 → Rose (K.faults sink.old) (K.faults sink.new) }
@@ -191,8 +191,8 @@ pub fn run_words<S: Source, K: Sink>(
         EndsAsFormed (S.left source.old) result }
 
     // In the script read a request returns with success only by a reply that fits it. A reply that fits no wait is
-    // refused, a refused reply changes nothing, and without its line the others tell the same. A connect returns only by
-    // its answer or by a closing. A wait ends only by a wake or with its thread.
+    // refused, a refused reply changes nothing, and without its line the others tell the same. A connect returns only
+    // by its answer or by a closing. A wait ends only by a wake or with its thread.
     ensures returns { result ≡ 0 → IfSome (S.left source.old) RequestsReturn }
     ensures refused { result ≡ 0 → IfSome (S.left source.old) MisfitsRefused }
     ensures unchanged { result ≡ 0 → IfSome (S.left source.old) RefusalsStay }
@@ -200,14 +200,15 @@ pub fn run_words<S: Source, K: Sink>(
     ensures answered { result ≡ 0 → IfSome (S.left source.old) ConnectsReturn }
     ensures ended { result ≡ 0 → IfSome (S.left source.old) WaitsEnd }
 
-    // In the script read whoever asked to be told of a thread's end is told once, behind all ends of that line and before it
-    // closes a handle; what tells of ends and of closed ports is accounted for, and nothing is left where no process lives.
+    // In the script read whoever asked to be told of a thread's end is told once, behind all ends of that line and
+    // before it closes a handle; what tells of ends and of closed ports is accounted for, and nothing is left where no
+    // process lives.
     ensures deaths { result ≡ 0 → IfSome (S.left source.old) RunTellsDeaths }
     ensures accounted { result ≡ 0 → IfSome (S.left source.old) RunAccountsForDeaths }
     ensures nothing_left { result ≡ 0 → IfSome (S.left source.old) RunLeavesNothing }
 
-    // In the script read and in any other in which a list of processes is a circle of a process too, and which has the same
-    // inputs of the two, the process does and is told the same.
+    // In the script read and in any other in which a list of processes is a circle of a process too, and which has the
+    // same inputs of the two, the process does and is told the same.
     ensures apart { result ≡ 0 → IfSome (S.left source.old) ClientsApart }
 {
     if !is_replay(words) {

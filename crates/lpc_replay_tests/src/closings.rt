@@ -1,5 +1,5 @@
-// Closings through whole scripts: of server ports, of the last of two handles, and under a receive across. The transcripts are
-// written out by hand.
+// Closings through whole scripts: of server ports, of the last of two handles, and under a receive across. The
+// transcripts are written out by hand.
 use crate::common::replayed;
 use std::test::Fail;
 

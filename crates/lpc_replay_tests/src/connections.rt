@@ -1,4 +1,5 @@
-// Connections through whole scripts: from a named port to requests on two pairs. The transcripts are written out by hand.
+// Connections through whole scripts: from a named port to requests on two pairs. The transcripts are written out by
+// hand.
 use crate::common::{replayed, replayed_with};
 use std::test::Fail;
 

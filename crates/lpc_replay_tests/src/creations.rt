@@ -2,8 +2,8 @@
 use crate::common::replayed;
 use std::test::Fail;
 
-// A process is made with a thread, a further thread by the handle to the process; a number that was used is refused. Each
-// of the two handles finds its object until that has ended: the thread, and then the process with its last thread.
+// A process is made with a thread, a further thread by the handle to the process; a number that was used is refused.
+// Each of the two handles finds its object until that has ended: the thread, and then the process with its last thread.
 #[test]
 fn a_child_is_made_and_ended_by_its_handles(rt: HostRuntime) -> Result<(), Fail> {
     replayed(

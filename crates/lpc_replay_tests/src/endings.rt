@@ -2,8 +2,9 @@
 use crate::common::replayed;
 use std::test::Fail;
 
-// A client's other thread ends the process while the server has its request. The server is told of the thread's end first,
-// since that thread registered its port, and then of the port, which closes with the process. Its reply finds no client.
+// A client's other thread ends the process while the server has its request. The server is told of the thread's end
+// first, since that thread registered its port, and then of the port, which closes with the process. Its reply finds no
+// client.
 #[test]
 fn a_client_dies_with_a_request_received(rt: HostRuntime) -> Result<(), Fail> {
     replayed(

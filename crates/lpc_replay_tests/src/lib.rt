@@ -1,5 +1,5 @@
-//! Tests of whole replays: scripts, and what is sent for them. They stand in a crate of their own, so that the crate that
-//! they test is proved once.
+//! Tests of whole replays: scripts, and what is sent for them. They stand in a crate of their own, so that the crate
+//! that they test is proved once.
 #![tactic(auto)]
 
 #[cfg(test)]

@@ -1,5 +1,5 @@
--- A reply that is made, and then the oldest message taken or a wait begun: the steps in the order of the definition, and
--- what they leave in the order in which they are taken.
+-- A reply that is made, and then the oldest message taken or a wait begun: the steps in the order of the definition,
+-- and what they leave in the order in which they are taken.
 use Rattle.std.proofs.Common.{◌≡◌, List, [], ◌∷◌, ◌++◌, Bool, true, false, Option, Some, None, refl, ap, sym, ◌∙◌, append_assoc}
 use Rattle.lpc_base.specs.Rows.{when}
 use Rattle.lpc_base.specs.declared.birth.Birth.{Birth}

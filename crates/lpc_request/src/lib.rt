@@ -1,4 +1,5 @@
-//! The calls that send, receive and reply, and the one that registers a port. Each is its definition's refusals in their order, and then its steps.
+//! The calls that send, receive and reply, and the one that registers a port. Each is its definition's refusals in
+//! their order, and then its steps.
 #![tactic(auto)]
 
 mod receive;

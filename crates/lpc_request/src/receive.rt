@@ -160,13 +160,13 @@ fn reply_and_receive(
     Ok(take_or_wait(world, &by, port, queue, &replied, out))
 }
 
-/// `NtReplyWaitReceivePort`: replies, where it is given a message, and then takes the oldest message of the port's queue
-/// or waits for one.
+/// `NtReplyWaitReceivePort`: replies, where it is given a message, and then takes the oldest message of the port's
+/// queue or waits for one.
 ///
 /// Refusals in their order: no such handle, no port, no right; a message of wrong shape, one that is too long;
-/// PORT_DISCONNECTED where the queue isn't open, or where nothing will ever come; INVALID_CID where no live thread has the
-/// message's process and thread; REPLY_MESSAGE_MISMATCH where the message fits no wait through the port. The refusals of
-/// the message are those of a message that is given. It takes no memory.
+/// PORT_DISCONNECTED where the queue isn't open, or where nothing will ever come; INVALID_CID where no live thread has
+/// the message's process and thread; REPLY_MESSAGE_MISMATCH where the message fits no wait through the port. The
+/// refusals of the message are those of a message that is given. It takes no memory.
 pub fn nt_reply_wait_receive_port(
     world: &mut World,
     by: u32,

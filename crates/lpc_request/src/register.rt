@@ -36,11 +36,12 @@ fn register_test(world: &World, tid: u32, handle: u32) -> Result<Key, Status>
 }
 
 /// `NtRegisterThreadTerminatePort`: the port of a handle is registered with the thread, behind those that it registered
-/// before: when the thread ends, a message that tells so is posted on it. A port that is registered already changes nothing.
+/// before: when the thread ends, a message that tells so is posted on it. A port that is registered already changes
+/// nothing.
 ///
-/// Refusals in their order: no such handle, no port, no right; QUOTA_EXCEEDED where the thread registered 16 other ports,
-/// be they open or closed. OutOfMemory comes only where it isn't refused, the port isn't registered yet, and there is no
-/// room for the message that is to tell of the thread's end; nothing has changed then but the room.
+/// Refusals in their order: no such handle, no port, no right; QUOTA_EXCEEDED where the thread registered 16 other
+/// ports, be they open or closed. OutOfMemory comes only where it isn't refused, the port isn't registered yet, and
+/// there is no room for the message that is to tell of the thread's end; nothing has changed then but the room.
 #[tactic(auto, unfolding(lpc_model::specs::Register::nt_register_thread_terminate_port))]
 pub fn nt_register_thread_terminate_port(
     world: &mut World,

@@ -402,8 +402,8 @@ fn words_line<'a>(text: &'a [u8], scratch: &'a mut Scratch) -> Result<Option<Lin
 ///
 /// The line is given without the byte 10 that ends it. Its messages lie in the scratch, its names and paths in the line
 /// itself. A byte past the 16,384th is found before all else (`Long`), then a byte outside 32 to 126 (`Byte`), then the
-/// faults of the words from left to right: the first word, the call's name, the count of words and the words themselves.
-/// The grammar and the order of the faults are this project's own.
+/// faults of the words from left to right: the first word, the call's name, the count of words and the words
+/// themselves. The grammar and the order of the faults are this project's own.
 #[tactic(auto, unfolding(lpc_model::specs::Grammar::read_line))]
 pub fn read_line<'a>(
     bytes: &'a [u8],

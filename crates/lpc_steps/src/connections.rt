@@ -72,7 +72,8 @@ fn is_answered(world: &World, pid: u32, client: ClientId, identifier: u32) -> bo
 }
 
 /// The connection of a server port, where it can be completed: INVALID_PORT_HANDLE for another kind of port,
-/// INVALID_PARAMETER where it was completed, PORT_DISCONNECTED where its pair is cut or no accepted connect waits there.
+/// INVALID_PARAMETER where it was completed, PORT_DISCONNECTED where its pair is cut or no accepted connect waits
+/// there.
 pub fn completion_test(world: &World, port: Key) -> Result<Completable, Status>
     requires { stands world.now.births.ports port ≡ true }
     ensures test { Answers result (completion_at world.now port)

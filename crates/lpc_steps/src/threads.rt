@@ -10,8 +10,8 @@ use lpc_base::status::{INVALID_CID, OBJECT_NAME_COLLISION, QUOTA_EXCEEDED};
 use lpc_base::{OutOfMemory, Status};
 use lpc_world::World;
 
-/// Why a process gets no further thread: INVALID_CID where it doesn't live, OBJECT_NAME_COLLISION where the number was ever
-/// used for a thread, QUOTA_EXCEEDED where it has 64 live threads.
+/// Why a process gets no further thread: INVALID_CID where it doesn't live, OBJECT_NAME_COLLISION where the number was
+/// ever used for a thread, QUOTA_EXCEEDED where it has 64 live threads.
 pub fn thread_test(world: &World, tid: u32, pid: u32) -> Result<(), Status>
     ensures test { result ≡ model.thread_test world.now.rows tid pid }
     ensures process { OnOk result (has (is_process pid) world.now.rows.processes ≡ true) }

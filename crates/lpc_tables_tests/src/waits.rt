@@ -115,8 +115,8 @@ fn accepted_is_found_by_port(rt: &impl Abort, waits: &Waits, accepted: bool) {
     assert!(rt; waits.accepted_port(5).is_none());
 }
 
-// The connect of thread 4 is found as accepted by both ends of its connection, ports 3 and 1, or none is. In queue 2 the
-// first connect is found that isn't accepted.
+// The connect of thread 4 is found as accepted by both ends of its connection, ports 3 and 1, or none is. In queue 2
+// the first connect is found that isn't accepted.
 fn accepted_is_found_by_pair(rt: &impl Abort, waits: &Waits, accepted: bool) {
     assert!(rt; waits.accepted_at(key(3), Some(key(1))) == if accepted { Some(4) } else { None });
     assert!(rt; waits.accepted_at(key(3), None).is_none());

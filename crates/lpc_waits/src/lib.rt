@@ -59,7 +59,8 @@ pub struct Wait {
     pub kind: WaitKind,
     /// The port on which the call was made; for a connect its client port.
     pub port: Key,
-    /// The port whose queue the request or the connection request entered, or on whose queue a receive or a listen waits.
+    /// The port whose queue the request or the connection request entered, or on whose queue a receive or a listen
+    /// waits.
     pub queue: Key,
     /// The identifier of the request or the connection request; 0 for a receive and a listen.
     pub identifier: u32,
@@ -245,8 +246,8 @@ impl Waits {
         None
     }
 
-    /// The thread that waits with an accepted connect made on a port, or on the other, where there is one, the one that has
-    /// waited longest: None exactly where there is none.
+    /// The thread that waits with an accepted connect made on a port, or on the other, where there is one, the one that
+    /// has waited longest: None exactly where there is none.
     pub fn accepted_at(&self, port: Key, other: Option<Key>) -> Option<u32>
         ensures { result ≡ first_thread (is_accepted_at port other) self.now }
     {
@@ -271,8 +272,8 @@ impl Waits {
         None
     }
 
-    /// The thread that waits with a receive made on a port, the one that has waited longest: None exactly where there is
-    /// none.
+    /// The thread that waits with a receive made on a port, the one that has waited longest: None exactly where there
+    /// is none.
     pub fn receive_on(&self, port: Key) -> Option<u32>
         ensures { result ≡ first_thread (is_receive_on port) self.now }
     {
@@ -297,8 +298,8 @@ impl Waits {
         None
     }
 
-    /// The thread that waits with a request on a queue that isn't received, the one that has waited longest: None exactly
-    /// where there is none.
+    /// The thread that waits with a request on a queue that isn't received, the one that has waited longest: None
+    /// exactly where there is none.
     pub fn unreceived_request_in(&self, queue: Key) -> Option<u32>
         ensures { result ≡ first_thread (is_unreceived_request_in queue) self.now }
     {

@@ -1,5 +1,5 @@
--- For each change that gives no object a key: the tables' new rows are the step of the rows that they stood for, and name
--- what stands.
+-- For each change that gives no object a key: the tables' new rows are the step of the rows that they stood for, and
+-- name what stands.
 use Rattle.std.proofs.Common.{◌≡◌, ℕ, List, [], ◌∷◌, ◌++◌, Bool, true, length, map, refl, ap, sym, ◌∙◌, arith, Option, Some, None}
 use Rattle.std.specs.Prelude.{nat_lt}
 use Rattle.lpc_base.specs.declared.birth.Birth.{Birth}

@@ -1,5 +1,5 @@
--- A port and its other end are cut off from each other. Where pairs are mutual, the ports that lose their other end in the
--- table are those of the definition: the port, and each that has it as its other end.
+-- A port and its other end are cut off from each other. Where pairs are mutual, the ports that lose their other end in
+-- the table are those of the definition: the port, and each that has it as its other end.
 use Rattle.std.proofs.Common.{◌≡◌, ℕ, List, [], ◌∷◌, Bool, true, false, cond, not, ◌||◌, ◌&&◌, map, Option, Some, None, option_map, refl, ap, sym, subst, ◌∙◌, arith}
 use Rattle.std.specs.Prelude.{option_and_then}
 use Rattle.std.specs.Option.{option_map_or}

@@ -1,5 +1,5 @@
--- What isn't told yet of threads that have ended: the table finds the first of it. And what a thread that can make a call has
--- registered.
+-- What isn't told yet of threads that have ended: the table finds the first of it. And what a thread that can make a
+-- call has registered.
 use Rattle.std.proofs.Common.{◌≡◌, ◌<◌, ◌≤◌, ◌∙◌, ℕ, List, [], ◌∷◌, Bool, true, false, length, map, Option, Some, None, option_map, refl, ap, sym, subst, arith}
 use Rattle.std.specs.Prelude.{◌==◌, Err, MatchOption, Ok, nat_le, is_some, option_and_then, slice_get}
 use Rattle.std.proofs.lemmas.Bool.{eqb-true}

@@ -1,5 +1,5 @@
--- A thread registers a port, a registration goes, and a thread ends: the tables stay lawful, and stand for the step of the
--- rows that they stood for.
+-- A thread registers a port, a registration goes, and a thread ends: the tables stay lawful, and stand for the step of
+-- the rows that they stood for.
 use Rattle.std.proofs.Common.{◌≡◌, ◌+◌, ◌*◌, ◌<◌, ◌∙◌, ℕ, List, [], ◌∷◌, true, false, length, map, Option, Some, None, option_map, refl, ap, sym, subst, arith}
 use Rattle.std.specs.Prelude.{IsSomeAnd, is_some}
 use Rattle.std.proofs.lemmas.List.{length-map}

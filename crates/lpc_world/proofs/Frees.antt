@@ -1,5 +1,5 @@
--- A port less, which no row names: what else stood stands under its name, and the new rows are the step of the rows that
--- the tables stood for.
+-- A port less, which no row names: what else stood stands under its name, and the new rows are the step of the rows
+-- that the tables stood for.
 use Rattle.std.proofs.Common.{◌≡◌, ℕ, ◌+◌, ◌≤◌, List, Bool, true, false, not, map, refl, ap, ◌∙◌, arith, subst, sym}
 use Rattle.std.specs.Prelude.{◌&&◌}
 use Rattle.lpc_base.specs.declared.birth.Birth.{Birth}

@@ -1,5 +1,5 @@
--- Ports whose rows are changed, each keeping its key and its birth: the tables' new rows are the step of the rows that they
--- stood for, and stay lawful.
+-- Ports whose rows are changed, each keeping its key and its birth: the tables' new rows are the step of the rows that
+-- they stood for, and stay lawful.
 use Rattle.std.proofs.Common.{◌≡◌, ℕ, List, [], ◌∷◌, ◌++◌, Bool, true, false, cond, map, Option, Some, None, refl, ap, sym, ◌∙◌, arith, subst}
 use Rattle.std.proofs.lemmas.List.{length-map}
 use Rattle.lpc_base.specs.Rows.{change, count, every}

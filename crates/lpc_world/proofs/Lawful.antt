@@ -395,8 +395,8 @@ waits-fit ts (x ∷ xs) one all =
     let n = place-left ts xs x.thread (grind arith) (grind arith) (grind arith) (grind arith) in
     grind (arith, n)
 
--- Messages that ask are no more than live threads, and those that tell of closings no more than client ports, with one too
--- that enters
+-- Messages that ask are no more than live threads, and those that tell of closings no more than client ports, with one
+-- too that enters
 pub places : (w : World) (calls made a b : ℕ) (m : MessageRow) → IsLawful w calls made a b → (is_asking m ≡ true → is_unsent w m.message.header.client.thread ≡ true) → TellsOnce w m.message m.sender
     → (count is_asking w.messages + cond (is_asking m) 1 0 ≤ count is_alive w.threads) × (count is_closed_post w.messages + cond (is_closed_post m) 1 0 ≤ count is_client_port w.ports)
 places w calls made a b m h asks once =

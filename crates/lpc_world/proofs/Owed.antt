@@ -1,5 +1,5 @@
--- What each change of handles and ports leaves of the rows that are owed: a handle more makes one more owed at most, and
--- without a handle or a port no more are.
+-- What each change of handles and ports leaves of the rows that are owed: a handle more makes one more owed at most,
+-- and without a handle or a port no more are.
 use Rattle.std.proofs.Common.{◌≡◌, ◌+◌, ◌≤◌, ℕ, List, [], ◌∷◌, ◌++◌, Bool, true, false, map, None, refl, ap, arith, subst}
 use Rattle.std.specs.Prelude.{◌&&◌}
 use Rattle.lpc_base.specs.declared.birth.Birth.{Birth}

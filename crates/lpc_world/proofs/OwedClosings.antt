@@ -15,8 +15,8 @@ use Rattle.lpc_model.proofs.Births.{birth-same, birth-self}
 use Rattle.lpc_world.specs.OwedClosings.{TellsOnce, is_client_of, is_owed, tells_closing}
 use Rattle.lpc_world.proofs.OwnMessages.{count-fewer, count-left, count-less, count-one_less, count-some}
 
--- What each change of the messages and ports leaves: of each birth, the messages that tell of its closing are no more than
--- its client ports
+-- What each change of the messages and ports leaves: of each birth, the messages that tell of its closing are no more
+-- than its client ports
 abbrev pub AreTold : List MessageRow → List PortRow → Type 0
 AreTold ms ps = (b : Birth) → count (is_closing_of b) ms ≤ count (is_client_of b) ps
 

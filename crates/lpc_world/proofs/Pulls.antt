@@ -1,5 +1,5 @@
--- The oldest connection request of a queue is taken: what is found in the table is what is found in the rows, the new rows
--- are the step of those that stood, and stay lawful.
+-- The oldest connection request of a queue is taken: what is found in the table is what is found in the rows, the new
+-- rows are the step of those that stood, and stay lawful.
 use Rattle.std.proofs.Common.{◌≡◌, ℕ, ◌+◌, ◌≤◌, ◌&&◌, ◌==◌, List, [], ◌∷◌, Bool, true, false, cond, length, Option, Some, None, option_map, refl, ap, sym, subst, ◌∙◌, arith}
 use Rattle.std.specs.Prelude.{IsSome, is_some}
 use Rattle.std.proofs.lemmas.Bool.Decides.{nat_tests}

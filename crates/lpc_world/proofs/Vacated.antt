@@ -1,4 +1,5 @@
--- The row of a thread that has ended, and of a process without a live thread, goes: the tables stay lawful, and no room is lost.
+-- The row of a thread that has ended, and of a process without a live thread, goes: the tables stay lawful, and no room
+-- is lost.
 use Rattle.std.proofs.Common.{◌≡◌, ℕ, ◌+◌, ◌≤◌, List, Bool, true, false, not, refl, sym, subst, ◌∙◌, arith}
 use Rattle.std.specs.Prelude.{◌==◌, ◌&&◌, ◌||◌}
 use Rattle.lpc_base.specs.declared.birth.Birth.{Birth}

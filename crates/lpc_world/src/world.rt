@@ -1,10 +1,10 @@
 // The tables together: reading calls find what the definitions find, a changing call is one basic step or a part of one
-// and takes no memory, and a reserving call makes room and changes nothing else. The binding of a name where there is no
-// spare room takes memory.
+// and takes no memory, and a reserving call makes room and changes nothing else. The binding of a name where there is
+// no spare room takes memory.
 //
-// Each call that adds a row or draws a number asks for the spare room, and that fewer than 16 rows and numbers were made
-// for each call so far, with those that are owed: each open client port owes the message that tells that it is closed,
-// and each registration the one that tells of its thread's end.
+// Each call that adds a row or draws a number asks for the spare room, and that fewer than 16 rows and numbers were
+// made for each call so far, with those that are owed: each open client port owes the message that tells that it is
+// closed, and each registration the one that tells of its thread's end.
 ghost use Rattle.std.specs.Prelude.{◌≡◌, ◌+◌, ◌<◌, ◌≤◌, ◌==◌, ◌↔◌, ◌||◌, [], None, Some, true, false, IfSome, IfNone, IfOk, IsErr, OnOk, OnErr, is_some, length};
 ghost use Rattle.lpc_base.specs.Room.{grown_room};
 ghost use Rattle.lpc_base.specs.Rows.{has};
@@ -151,8 +151,8 @@ impl World {
         self.procs.draw_birth(tid)
     }
 
-    /// Adds a process, without threads and handles. Its number is from 1 to 2,147,483,647 and was never used. Its birth is
-    /// that of a directive with this number, or a thread has drawn it and no process has it.
+    /// Adds a process, without threads and handles. Its number is from 1 to 2,147,483,647 and was never used. Its birth
+    /// is that of a directive with this number, or a thread has drawn it and no process has it.
     pub fn procs_add_process(&mut self, pid: u32, maker: Option<u32>, birth: Birth)
         requires room { 0 < self.old.room.processes }
         requires budget { CanMake self.old }
@@ -178,7 +178,8 @@ impl World {
     }
 
     /// Adds a live thread to a process that stands; it has drawn nothing yet. Its number is from 1 to 2,147,483,647 and
-    /// was never used. Its birth is that of a directive with this number, or a thread has drawn it and no thread has it.
+    /// was never used. Its birth is that of a directive with this number, or a thread has drawn it and no thread has
+    /// it.
     pub fn procs_add_thread(&mut self, tid: u32, pid: u32, birth: Birth)
         requires room { 0 < self.old.room.threads }
         requires wait_room { 0 < self.old.room.waits }
@@ -202,9 +203,9 @@ impl World {
         self.procs.add_thread(tid, pid, birth);
     }
 
-    /// Adds a port, and answers its key. It has no pair yet, and its context is 0. Its birth was drawn, and no port has it.
-    /// `creator` is the connect that makes a client port. A client port takes a place for the message that is to tell that
-    /// it is closed.
+    /// Adds a port, and answers its key. It has no pair yet, and its context is 0. Its birth was drawn, and no port has
+    /// it. `creator` is the connect that makes a client port. A client port takes a place for the message that is to
+    /// tell that it is closed.
     pub fn ports_add(
         &mut self,
         kind: PortKind,
@@ -233,10 +234,10 @@ impl World {
         port
     }
 
-    /// A message enters the queue of a port, on which no thread waits that takes it. A request or connection request has
-    /// its place: its sender waits with it, and it stands in no queue yet. So has one that tells that a client port is
-    /// closed: it is sent on that port, and none in a queue tells so yet. Every other message has the room that was made
-    /// for it.
+    /// A message enters the queue of a port, on which no thread waits that takes it. A request or connection request
+    /// has its place: its sender waits with it, and it stands in no queue yet. So has one that tells that a client port
+    /// is closed: it is sent on that port, and none in a queue tells so yet. Every other message has the room that was
+    /// made for it.
     pub fn ports_send(&mut self, queue: Key, sender: Key, context: u32, bytes: &[u8])
         requires queue { stands self.old.births.ports queue ≡ true }
         requires sender { stands self.old.births.ports sender ≡ true }
@@ -276,8 +277,8 @@ impl World {
         Some(self.ports.pull(message))
     }
 
-    /// The thread's own messages leave their queues: the request or connection request with which it waits, where it isn't
-    /// received yet. Nothing changes where there is none.
+    /// The thread's own messages leave their queues: the request or connection request with which it waits, where it
+    /// isn't received yet. Nothing changes where there is none.
     pub fn messages_withdraw(&mut self, tid: u32)
         ensures step { IsStep (after self.old (Withdraws tid)) self.old self.new }
         ensures loose { self.new.loose ≡ (has_queued self.old.rows tid || self.old.loose) }
@@ -287,8 +288,9 @@ impl World {
         self.loose |= self.ports.withdraw(tid);
     }
 
-    /// A live thread that doesn't wait begins to wait, and what it waits for doesn't stand in the queue. Its place was made with
-    /// the thread. A connect of a process finds room for the handle that it is to get, within its number of handles.
+    /// A live thread that doesn't wait begins to wait, and what it waits for doesn't stand in the queue. Its place was
+    /// made with the thread. A connect of a process finds room for the handle that it is to get, within its number of
+    /// handles.
     pub fn waits_add(&mut self, tid: u32, wait: Wait)
         requires live { has (is_live_thread tid) self.old.rows.threads ≡ true }
         requires ready { has (waits_as tid) self.old.rows.waits ≡ false }
@@ -319,8 +321,8 @@ impl World {
         self.waits.set_message(tid, bytes);
     }
 
-    /// Ends the wait of a thread of which no own message stands in a queue, and answers it: None exactly where the thread
-    /// doesn't wait.
+    /// Ends the wait of a thread of which no own message stands in a queue, and answers it: None exactly where the
+    /// thread doesn't wait.
     pub fn waits_end(&mut self, tid: u32) -> Option<Wait>
         requires { has_queued self.old.rows tid ≡ false }
         ensures some { is_some result ≡ has (waits_as tid) self.old.rows.waits }
@@ -334,8 +336,8 @@ impl World {
         self.waits.end(tid)
     }
 
-    /// The request or connect of a thread to a queue is received, where it waits there. Its message stands in no queue any
-    /// more.
+    /// The request or connect of a thread to a queue is received, where it waits there. Its message stands in no queue
+    /// any more.
     pub fn waits_receive(&mut self, tid: u32, queue: Key)
         requires queue { stands self.old.births.ports queue ≡ true }
         requires left { has_queued self.old.rows tid ≡ false }
@@ -350,9 +352,9 @@ impl World {
     }
 
     /// Gives a process the least free handle, and answers its value; Quota exactly where the process has 256 handles,
-    /// and then nothing changes. Where it has fewer, it has fewer than 256 with those that its waiting connects are to get
-    /// too, and there is room for one more beside them. With its first handle a client port owes the message that is to
-    /// tell that it is closed.
+    /// and then nothing changes. Where it has fewer, it has fewer than 256 with those that its waiting connects are to
+    /// get too, and there is room for one more beside them. With its first handle a client port owes the message that
+    /// is to tell that it is closed.
     pub fn handles_add(&mut self, pid: u32, object: Object, access: u32) -> Result<u32, TableFault>
         requires table { has (is_table pid) self.old.rows.handles ≡ true }
         requires load { HasFewHandles self.old.rows pid → HasSmallLoad self.old.rows pid }

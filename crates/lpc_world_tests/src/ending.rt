@@ -1,5 +1,5 @@
-// A port that a thread registers, and a thread and a process that end, with ample memory. The entries are written out by
-// hand.
+// A port that a thread registers, and a thread and a process that end, with ample memory. The entries are written out
+// by hand.
 ghost use Rattle.std.specs.Prelude.{◌≡◌, ◌≤◌, ◌<◌, ◌+◌, true};
 ghost use Rattle.lpc_base.specs.declared.limits.TheConstants.{LINES_LIMIT};
 ghost use Rattle.lpc_model.specs.Grammar.{has_ids};

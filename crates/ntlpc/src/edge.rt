@@ -98,8 +98,8 @@ impl<W: Write> Sink for Output<W> {
 
     ghost sure = { λ _. 0 };
 
-    /// The writer then holds the bytes that are answered as sent, behind what it held. A write that fails adds none. It is
-    /// counted once, and not tried again.
+    /// The writer then holds the bytes that are answered as sent, behind what it held. A write that fails adds none. It
+    /// is counted once, and not tried again.
     fn write(&mut self, from: &[u8]) -> Result<usize, Failed>
         requires { 0 < length from.now }
         ensures some { IfOk result (λ n. 1 ≤ n) }

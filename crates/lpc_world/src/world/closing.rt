@@ -47,8 +47,8 @@ impl World {
         self.ports.cut(port);
     }
 
-    /// The handle of a process with a value goes. No row is made, and with the last handle of a client port the message that
-    /// tells of its closing is no longer owed.
+    /// The handle of a process with a value goes. No row is made, and with the last handle of a client port the message
+    /// that tells of its closing is no longer owed.
     pub fn handles_close(&mut self, pid: u32, value: u32)
         requires table { has (is_table pid) self.old.rows.handles ≡ true }
         ensures rows { self.new.rows ≡ after self.old (DropsHandle pid value) }

@@ -1,5 +1,5 @@
-// The changes that a connection makes: its ports are joined and completed, a connect is accepted, and a connection request
-// is taken from its queue.
+// The changes that a connection makes: its ports are joined and completed, a connect is accepted, and a connection
+// request is taken from its queue.
 ghost use Rattle.std.specs.Prelude.{◌≡◌, ◌≤◌, ◌<◌, ◌||◌, true, false, IfSome, IfNone, is_some, length};
 ghost use Rattle.lpc_base.specs.Rows.{has};
 ghost use Rattle.lpc_model.specs.Basics.{Accepts, TakesConnect};
@@ -37,8 +37,8 @@ impl World {
         self.ports.set_completed(port, completed);
     }
 
-    /// A waiting thread's connect, which was received and isn't accepted yet, is accepted with the data of an answer. With
-    /// None, and where the thread waits for something else, nothing changes.
+    /// A waiting thread's connect, which was received and isn't accepted yet, is accepted with the data of an answer.
+    /// With None, and where the thread waits for something else, nothing changes.
     pub fn waits_set_accepted(&mut self, tid: u32, accepted: Option<Accepted>)
         requires waits { has (waits_as tid) self.old.rows.waits ≡ true }
         requires offered { is_accepted (waiter self.old.rows tid) ≡ false }

@@ -52,8 +52,8 @@ impl World {
         Ok(())
     }
 
-    /// A port is registered with a thread that registered fewer than 16, behind those. There is a place for the message that
-    /// is to tell of the thread's end.
+    /// A port is registered with a thread that registered fewer than 16, behind those. There is a place for the message
+    /// that is to tell of the thread's end.
     pub fn procs_register(&mut self, tid: u32, port: Key)
         requires thread { has (is_thread tid) self.old.rows.threads ≡ true }
         requires port { stands self.old.births.ports port ≡ true }
@@ -116,8 +116,8 @@ impl World {
         self.procs.first_live(pid)
     }
 
-    /// What isn't told yet of the threads of a process that have ended, of the thread that was made first the port that it
-    /// registered first: None exactly where all is told.
+    /// What isn't told yet of the threads of a process that have ended, of the thread that was made first the port that
+    /// it registered first: None exactly where all is told.
     pub fn first_untold(&self, pid: u32) -> Option<Death>
         ensures found { Finds result death_shown
             (first (λ _. true) (untold_of self.now.rows pid)) }

@@ -183,8 +183,8 @@ impl World {
         }
     }
 
-    /// Each object goes that no row counts for, and then each that only those counted for: the threads that have ended, the
-    /// processes without a live thread, and ports. There is nothing to do where no row went since the last time.
+    /// Each object goes that no row counts for, and then each that only those counted for: the threads that have ended,
+    /// the processes without a live thread, and ports. There is nothing to do where no row went since the last time.
     pub fn sweep(&mut self)
         requires can { CanSweep self.old.rows }
         requires still { self.old.loose ≡ false → model.unheld self.old.rows ≡ [] }
