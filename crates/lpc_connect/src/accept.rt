@@ -165,11 +165,12 @@ fn accept_connect(
 /// port then, with a handle for the caller's process; its client waits on, until the connection is completed. A refused
 /// one ends; where no row names its client port, that goes at the end of the line.
 ///
-/// Refusals, in this order: a message of wrong shape, one that is too long; INVALID_CID where no live thread has the
-/// message's process and thread; REPLY_MESSAGE_MISMATCH where the message names no connect that was received and isn't
-/// accepted, to a connection port that the caller's process has a handle to; to accept, QUOTA_EXCEEDED where the
-/// process has 256 handles, with those that its waiting connects are to get. To refuse takes no memory; after want of
-/// memory nothing has changed but the room.
+/// Refusals, in this order: INVALID_PARAMETER where the message has no lawful shape; PORT_MESSAGE_TOO_LONG where its
+/// MessageSize is above 256; INVALID_CID where no live thread has the message's process and thread;
+/// REPLY_MESSAGE_MISMATCH where the message names no connect that was received and isn't accepted, to a connection port
+/// that the caller's process has a handle to; to accept, QUOTA_EXCEEDED where the process has 256 handles, with those
+/// that its waiting connects are to get. To refuse takes no memory. To accept, OutOfMemory comes only where the call
+/// isn't refused and there is no room for the server port or for its handle; nothing has changed then but the room.
 pub fn nt_accept_connect_port(
     world: &mut World,
     by: u32,

@@ -95,9 +95,10 @@ fn complete(world: &mut World, by: &ThreadRow, connection: Connection, out: &mut
 /// `NtCompleteConnectPort`: completes the connection of a server port. The client gets its handle, the least that is
 /// free then, and its thread wakes.
 ///
-/// Refusals in their order: no such handle, no port, no right; INVALID_PORT_HANDLE where it isn't a server port;
-/// INVALID_PARAMETER where it was completed; PORT_DISCONNECTED where its pair is cut, or where no accepted connect
-/// waits on its other end, which no line of a script meets. It takes no memory.
+/// Refusals in their order: INVALID_HANDLE where no handle of the caller's process has the value; OBJECT_TYPE_MISMATCH
+/// where it names no port; ACCESS_DENIED where it lacks the right; INVALID_PORT_HANDLE where the port isn't a server
+/// port; INVALID_PARAMETER where it was completed; PORT_DISCONNECTED where its pair is cut, or where no accepted
+/// connect waits on its other end, which no line of a script meets. It takes no memory.
 #[tactic(auto, unfolding(lpc_model::specs::Connect::nt_complete_connect_port))]
 pub fn nt_complete_connect_port(
     world: &mut World,

@@ -195,7 +195,9 @@ fn start(world: &mut World, by: &ThreadRow, connection: Key, message: &Message, 
 ///
 /// Refusals, in this order: PORT_MESSAGE_TOO_LONG where there are more than 232 bytes; the fault of the name, or
 /// OBJECT_TYPE_MISMATCH where a directory stands there; QUOTA_EXCEEDED where the process has 256 handles, with those
-/// that its waiting connects are to get. After want of memory nothing has changed but the room.
+/// that its waiting connects are to get. OutOfMemory comes only where it isn't refused and there is no room for the
+/// client port, for its handle or for the message that is to tell that it is closed; nothing has changed then but the
+/// room.
 pub fn nt_connect_port(
     world: &mut World,
     by: u32,

@@ -129,8 +129,9 @@ fn create(world: &mut World, by: &ThreadRow, name: Option<&[u8]>, out: &mut Entr
 /// path of that name leads to from then on; without one it is a port for the threads of the caller's process.
 ///
 /// Refusals, in this order: the fault of the name, or OBJECT_NAME_COLLISION where something stands there;
-/// QUOTA_EXCEEDED where the process has 256 handles, with those that its waiting connects are to get. After want of
-/// memory nothing has changed but the room.
+/// QUOTA_EXCEEDED where the process has 256 handles, with those that its waiting connects are to get. OutOfMemory comes
+/// only where it isn't refused and there is no room for the port, for its handle or for its name; nothing has changed
+/// then but the room.
 #[tactic(auto, unfolding(lpc_model::specs::Connect::nt_create_port))]
 pub fn nt_create_port(
     world: &mut World,

@@ -108,8 +108,9 @@ fn listen(world: &mut World, tid: u32, handle: u32, out: &mut Entries) -> Result
 
 /// `NtListenPort`: takes the oldest connection request of the connection port of a handle, or waits for one.
 ///
-/// Refusals in their order: no such handle, no port, no right; INVALID_PORT_HANDLE where the port isn't a connection
-/// port. It takes no memory.
+/// Refusals in their order: INVALID_HANDLE where no handle of the caller's process has the value; OBJECT_TYPE_MISMATCH
+/// where it names no port; ACCESS_DENIED where it lacks the right; INVALID_PORT_HANDLE where the port isn't a
+/// connection port. It takes no memory.
 pub fn nt_listen_port(world: &mut World, by: u32, handle: u32, out: &mut Entries) -> Outcome
     requires ready { is_ready world.old.rows by ≡ true }
     requires room { HasRoom world.old out.old }

@@ -60,7 +60,9 @@ impl<O: Copy> Table<O> {
         }
     }
 
-    /// Makes room for so many further handles. OutOfMemory leaves the handles as they were.
+    /// Makes room for so many further handles. Room that is there already counts.
+    ///
+    /// OutOfMemory comes only where that room wasn't there; the handles stay as they are, and the room never shrinks.
     pub fn reserve(&mut self, more: usize) -> Result<(), OutOfMemory>
         ensures room { OnOk result (more ≤ self.new.spare) }
         ensures wanting { OnErr result (self.old.spare < more) }

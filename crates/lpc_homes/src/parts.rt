@@ -49,6 +49,9 @@ pub fn handles_of(parts: &[Part], pid: u32) -> &Table<Object>
 }
 
 /// Gives a process the least free handle, and answers its value.
+///
+/// Quota comes exactly where the process has 256 handles, and then nothing changes. Otherwise there is room that
+/// `reserve_handles` made.
 pub fn add_handle(
     parts: &mut Vec<Part>,
     pid: u32,
@@ -70,7 +73,9 @@ pub fn add_handle(
     parts[index].handles.add(object, access)
 }
 
-/// Makes room for so many further handles of a process.
+/// Makes room for so many further handles of a process. Room that is there already counts.
+///
+/// OutOfMemory comes only where that room wasn't there; the handles stay as they are, and the room never shrinks.
 pub fn reserve_handles(parts: &mut Vec<Part>, pid: u32, more: usize) -> Result<(), OutOfMemory>
     requires one { are_single_parts parts.old.items ≡ true }
     requires part { has (is_part pid) parts.old.items ≡ true }

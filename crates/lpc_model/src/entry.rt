@@ -11,7 +11,7 @@ use lpc_base::{OutOfMemory, Status, reserve_rows, status};
 use std::alloc::Global;
 use std::marker::Model;
 
-/// The calls, by Windows NT's own names.
+/// The calls, by Windows NT's own names, which scripts and transcripts spell so.
 #[derive(Clone, Copy, PartialEq, Eq)]
 pub enum CallName {
     NtCreatePort,
@@ -81,7 +81,7 @@ impl CallName {
     }
 }
 
-/// The directives.
+/// The directives, each by the word that a line begins with.
 #[derive(Clone, Copy, PartialEq, Eq)]
 pub enum Word {
     Boot,
@@ -107,7 +107,7 @@ impl Word {
     }
 }
 
-/// The kinds of object.
+/// The kinds of object. No line makes a section or a token so far.
 #[derive(Clone, Copy, PartialEq, Eq)]
 pub enum ObjectKind {
     Port,
@@ -340,6 +340,8 @@ impl Model for Entries {
 
 impl Entries {
     /// No entries, and the buffer for the bytes of a memory read.
+    ///
+    /// OutOfMemory comes where memory for the buffer is wanting; no clause tells more of when it does.
     pub fn new(alloc: Global) -> Result<Entries, OutOfMemory>
         ensures list { IfOk result (λ e. e.list ≡ []) }
         ensures read { IfOk result (λ e. e.read ≡ []) }

@@ -169,6 +169,9 @@ fn play_ended_lines<K: Sink>(
 }
 
 /// Sends the transcript of a script. Answers whether every line was well formed.
+///
+/// `SinkFailed`: the sink failed, and counted that; a front of the transcript was sent. `OutOfMemory`: memory ran out;
+/// what some first lines tell was sent, each whole, and no last line. The sink counted no failure then.
 pub fn play<K: Sink>(alloc: Global, script: &[u8], sink: &mut K) -> Result<bool, PlayError>
     ensures sent { OnOk result (Adds (K.sent sink.old) (K.sent sink.new) (transcript script.now)) }
     ensures whole { IfOk result (λ whole. whole ≡ is_well_formed (script_lines script.now)) }
@@ -189,6 +192,9 @@ pub fn play<K: Sink>(alloc: Global, script: &[u8], sink: &mut K) -> Result<bool,
 
 /// Sends what the lines of a script tell that are ended by byte 10: of a script that was broken off. Where one of them
 /// is faulty, what is sent is the transcript. Answers whether each of them was well formed.
+///
+/// `SinkFailed`: the sink failed, and counted that; a front of the transcript was sent. `OutOfMemory`: memory ran out;
+/// what some first lines tell was sent, each whole, and no last line. The sink counted no failure then.
 pub fn play_ended<K: Sink>(alloc: Global, script: &[u8], sink: &mut K) -> Result<bool, PlayError>
     ensures told { IfOk result (λ whole. whole ≡ true →
         Adds (K.sent sink.old) (K.sent sink.new) (body (ended_part script.now))) }

@@ -41,6 +41,8 @@ impl Model for Playback {
 
 impl Playback {
     /// Before the first line.
+    ///
+    /// OutOfMemory comes where memory for the entries' buffer is wanting; no clause tells more of when it does.
     pub fn new(alloc: Global) -> Result<Playback, OutOfMemory>
         ensures { IfOk result (λ p. p ≡ record { at = begin; text = [] }) }
     {
@@ -61,7 +63,11 @@ impl Playback {
         &self.text
     }
 
-    /// Runs the next line, and has the text of what it tells ready. Answers its fault where it is faulty.
+    /// Runs the next line, and has the text of what it tells ready. Answers its fault where it is faulty, and then the
+    /// script has run no further.
+    ///
+    /// OutOfMemory comes where memory for the line's step, its entries or their text is wanting; no clause tells more
+    /// of when it does, or of what it leaves.
     pub fn run_line(
         &mut self,
         alloc: Global,
@@ -94,6 +100,9 @@ impl Playback {
     }
 
     /// Has the last line ready: of a script that was run to its end, or of one whose next line has this fault.
+    ///
+    /// OutOfMemory comes where memory for the text is wanting; no clause tells more of when it does. The script has run
+    /// no further.
     #[tactic(auto, unfolding(crate::specs::Playing::last_text))]
     pub fn end(&mut self, fault: Option<LineFault>) -> Result<(), OutOfMemory>
         ensures text { OnOk result (self.new.text ≡ last_text self.old.at fault) }

@@ -75,6 +75,9 @@ pub fn ended(script: &[u8]) -> &[u8]
 ///
 /// It ends early where the bytes read pass a limit: a byte is one too many of its line, or is of a line too many. So
 /// a script is at most as long as the limits allow, and one piece, and no failure comes behind a byte too many.
+///
+/// OutOfMemory comes where memory for the bytes is wanting, and the source counted no failure; no clause tells more of
+/// when it does. Some first bytes were taken from the source then.
 pub fn read_script<S: Source>(alloc: Global, source: &mut S) -> Result<ReadScript, OutOfMemory>
     ensures read { IfOk result (λ s. Reads (S.left source.old) (S.left source.new) s.bytes.items) }
     ensures finished { IfOk result (λ s. s.end ≡ Finished →

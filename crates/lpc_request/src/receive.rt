@@ -13,7 +13,7 @@ ghost use Rattle.lpc_world.specs.Kept.{HasWholeBudget, Roomy, StaysReady};
 ghost use Rattle.lpc_world.specs.Names.{stands};
 ghost use Rattle.lpc_world.specs.Ready.{HasRoom, is_ready};
 
-use crate::reply::{reply_test, as_reply};
+use crate::reply::{as_reply, reply_test};
 use lpc_base::Status;
 use lpc_base::status::SUCCESS;
 use lpc_model::{
@@ -163,10 +163,12 @@ fn reply_and_receive(
 /// `NtReplyWaitReceivePort`: replies, where it is given a message, and then takes the oldest message of the port's
 /// queue or waits for one.
 ///
-/// Refusals in their order: no such handle, no port, no right; a message of wrong shape, one that is too long;
-/// PORT_DISCONNECTED where the queue isn't open, or where nothing will ever come; INVALID_CID where no live thread has
-/// the message's process and thread; REPLY_MESSAGE_MISMATCH where the message fits no wait through the port. The
-/// refusals of the message are those of a message that is given. It takes no memory.
+/// Refusals in their order: INVALID_HANDLE where no handle of the caller's process has the value; OBJECT_TYPE_MISMATCH
+/// where it names no port; ACCESS_DENIED where it lacks the right; INVALID_PARAMETER where the message has no lawful
+/// shape; PORT_MESSAGE_TOO_LONG where its MessageSize is above 256; PORT_DISCONNECTED where the queue isn't open, or
+/// where nothing will ever come; INVALID_CID where no live thread has the message's process and thread;
+/// REPLY_MESSAGE_MISMATCH where the message fits no wait through the port. The refusals of the message are those of a
+/// message that is given. It takes no memory.
 pub fn nt_reply_wait_receive_port(
     world: &mut World,
     by: u32,

@@ -16,7 +16,8 @@ use lpc_slots::Key;
 use lpc_steps::port_at;
 use lpc_world::World;
 
-/// The port that a thread is to register: the handle, 16 others.
+/// The port that a thread is to register: the refusals of its handle, and QUOTA_EXCEEDED where the thread registered 16
+/// others.
 #[tactic(auto, unfolding(lpc_model::specs::Register::nt_register_thread_terminate_port))]
 fn register_test(world: &World, tid: u32, handle: u32) -> Result<Key, Status>
     requires { is_ready world.now.rows tid ≡ true }
@@ -39,7 +40,8 @@ fn register_test(world: &World, tid: u32, handle: u32) -> Result<Key, Status>
 /// before: when the thread ends, a message that tells so is posted on it. A port that is registered already changes
 /// nothing.
 ///
-/// Refusals in their order: no such handle, no port, no right; QUOTA_EXCEEDED where the thread registered 16 other
+/// Refusals in their order: INVALID_HANDLE where no handle of the caller's process has the value; OBJECT_TYPE_MISMATCH
+/// where it names no port; ACCESS_DENIED where it lacks the right; QUOTA_EXCEEDED where the thread registered 16 other
 /// ports, be they open or closed. OutOfMemory comes only where it isn't refused, the port isn't registered yet, and
 /// there is no room for the message that is to tell of the thread's end; nothing has changed then but the room.
 #[tactic(auto, unfolding(lpc_model::specs::Register::nt_register_thread_terminate_port))]

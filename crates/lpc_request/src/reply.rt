@@ -31,7 +31,8 @@ pub fn as_reply(message: &Message) -> Message
     reply
 }
 
-/// The thread whose wait a reply fits through a port: no such client, a message that fits no wait.
+/// The thread whose wait a reply fits through a port: INVALID_CID where no live thread has the message's process and
+/// thread, REPLY_MESSAGE_MISMATCH where the message fits no wait through the port.
 pub fn reply_test(world: &World, port: Key, message: &Message) -> Result<u32, Status>
     requires port { stands world.now.births.ports port ≡ true }
     requires name { (row_at world.now port).birth ≡ name_at world.now port }
@@ -100,9 +101,10 @@ fn send_reply(world: &mut World, tid: u32, answered: u32, message: &Message, out
 
 /// `NtReplyPort`: replies to a request, and wakes the thread that asked.
 ///
-/// Refusals in their order: no such handle, no port, no right; a message of wrong shape, one that is too long;
-/// INVALID_CID where no live thread has the message's process and thread; REPLY_MESSAGE_MISMATCH where the message fits
-/// no wait through the port. It takes no memory.
+/// Refusals in their order: INVALID_HANDLE where no handle of the caller's process has the value; OBJECT_TYPE_MISMATCH
+/// where it names no port; ACCESS_DENIED where it lacks the right; INVALID_PARAMETER where the message has no lawful
+/// shape; PORT_MESSAGE_TOO_LONG where its MessageSize is above 256; INVALID_CID where no live thread has the message's
+/// process and thread; REPLY_MESSAGE_MISMATCH where the message fits no wait through the port. It takes no memory.
 pub fn nt_reply_port(
     world: &mut World,
     by: u32,

@@ -122,9 +122,11 @@ fn datagram_test(world: &World, tid: u32, handle: u32, bytes: &[u8]) -> Result<S
 
 /// `NtRequestPort`: sends a datagram on the port of a handle, and goes on.
 ///
-/// Refusals in their order: no such handle, no port, no right; a message of wrong shape, one that is too long;
-/// PORT_DISCONNECTED where the port has no route; QUOTA_EXCEEDED where 32 datagrams of it aren't received. OutOfMemory
-/// comes only where it isn't refused and there is no room for its message; nothing has changed then but the room.
+/// Refusals in their order: INVALID_HANDLE where no handle of the caller's process has the value; OBJECT_TYPE_MISMATCH
+/// where it names no port; ACCESS_DENIED where it lacks the right; INVALID_PARAMETER where the message has no lawful
+/// shape; PORT_MESSAGE_TOO_LONG where its MessageSize is above 256; PORT_DISCONNECTED where the port has no route;
+/// QUOTA_EXCEEDED where 32 datagrams of the port aren't received. OutOfMemory comes only where it isn't refused and
+/// there is no room for its message; nothing has changed then but the room.
 #[tactic(auto, unfolding(lpc_model::specs::Request::nt_request_port))]
 pub fn nt_request_port(
     world: &mut World,
@@ -225,8 +227,10 @@ fn request(
 
 /// `NtRequestWaitReplyPort`: sends a request on the port of a handle, and waits for the reply.
 ///
-/// Refusals in their order: no such handle, no port, no right; a message of wrong shape, one that is too long;
-/// PORT_DISCONNECTED where the port has no route. It takes no memory.
+/// Refusals in their order: INVALID_HANDLE where no handle of the caller's process has the value; OBJECT_TYPE_MISMATCH
+/// where it names no port; ACCESS_DENIED where it lacks the right; INVALID_PARAMETER where the message has no lawful
+/// shape; PORT_MESSAGE_TOO_LONG where its MessageSize is above 256; PORT_DISCONNECTED where the port has no route. It
+/// takes no memory.
 pub fn nt_request_wait_reply_port(
     world: &mut World,
     by: u32,

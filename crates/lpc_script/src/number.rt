@@ -8,7 +8,8 @@ use lpc_model::LineFault;
 /// The greatest number of a process or thread.
 const GREATEST_ID: u32 = 2_147_483_647;
 
-/// Digits of a base as a number of 32 bits.
+/// Digits of a base as a number of 32 bits; `Number` where a byte is no digit of it, or the number is above
+/// 4,294,967,295.
 #[tactic(auto, unfolding(lpc_model::specs::Words::digits_word))]
 fn digits(text: &[u8], base: u32) -> Result<u32, LineFault>
     requires least { 2 ≤ base }
@@ -28,6 +29,7 @@ fn digits(text: &[u8], base: u32) -> Result<u32, LineFault>
     Ok(value as u32)
 }
 
+/// A decimal number without leading zeros; `Number` for any other word, and where it is above 4,294,967,295.
 #[tactic(auto, unfolding(lpc_model::specs::Words::decimal_word))]
 fn decimal(word: &[u8]) -> Result<u32, LineFault>
     ensures { Gives (λ n. n) result (decimal_word word.now) }
@@ -38,6 +40,7 @@ fn decimal(word: &[u8]) -> Result<u32, LineFault>
     digits(word, 10)
 }
 
+/// One to eight hexadecimal digits as a number; `Number` for any other text.
 #[tactic(auto, unfolding(lpc_model::specs::Words::hexadecimal_word))]
 fn hexadecimal(text: &[u8]) -> Result<u32, LineFault>
     ensures { Gives (λ n. n) result (hexadecimal_word text.now) }
@@ -48,7 +51,8 @@ fn hexadecimal(text: &[u8]) -> Result<u32, LineFault>
     digits(text, 16)
 }
 
-/// A number: decimal without leading zeros, or `0x` and one to eight hexadecimal digits.
+/// A number: decimal without leading zeros, or `0x` and one to eight hexadecimal digits. `Number` for any other word,
+/// and where it is above 4,294,967,295.
 #[tactic(auto, unfolding(lpc_model::specs::Words::number_word))]
 pub fn number(word: &[u8]) -> Result<u32, LineFault>
     ensures { Gives (λ n. n) result (number_word word.now) }
@@ -59,7 +63,7 @@ pub fn number(word: &[u8]) -> Result<u32, LineFault>
     decimal(word)
 }
 
-/// The number of a process or thread.
+/// The number of a process or thread, from 1 to 2,147,483,647; `Number` for any other word.
 #[tactic(auto, unfolding(lpc_model::specs::Words::id_word))]
 pub fn id(word: &[u8]) -> Result<u32, LineFault>
     ensures value { Gives (λ n. n) result (id_word word.now) }

@@ -18,7 +18,7 @@ use crate::words::{four_words, next_word, one_or_two_words, one_word, two_words}
 use lpc_base::limits::LINE_LIMIT;
 use lpc_model::{Call, CallName, Line, LineFault, ProcArg, Word};
 
-/// The word `-`, the one that may stand for a quality of service or for a view so far.
+/// The word `-`, the one that may stand for a quality of service or for a view so far; `Word` for any other.
 fn dash(word: &[u8]) -> Result<(), LineFault>
     ensures { Gives (λ nothing. tt) result (grammar.fixed_word (codes "-") word.now) }
 {
@@ -28,7 +28,7 @@ fn dash(word: &[u8]) -> Result<(), LineFault>
     Ok(())
 }
 
-/// Whether a connect is accepted.
+/// Whether a connect is accepted: `accept` or `refuse`; `Word` for any other word.
 #[tactic(auto, unfolding(lpc_model::specs::Grammar::accept_word))]
 fn accept(word: &[u8]) -> Result<bool, LineFault>
     ensures { Gives (λ accepted. accepted) result (grammar.accept_word word.now) }

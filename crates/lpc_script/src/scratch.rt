@@ -35,6 +35,8 @@ impl Model for Scratch {
 
 impl Scratch {
     /// Room for 16,384 bytes.
+    ///
+    /// OutOfMemory comes where memory for it is wanting; no clause tells more of when it does.
     pub fn new(alloc: Global) -> Result<Scratch, OutOfMemory>
         ensures { IfOk result (λ s. length s ≡ LINE_LIMIT) }
     {
@@ -45,6 +47,9 @@ impl Scratch {
     }
 
     /// The message that a word spells.
+    ///
+    /// `Message` where the word has none of the forms; then `Number` for the first number of an `r:` that is none; then
+    /// `Hex` where the digits are no pairs of hexadecimal digits.
     #[tactic(auto, unfolding(lpc_model::specs::Words::message_word))]
     pub(crate) fn message(&mut self, word: &[u8]) -> Result<&[u8], LineFault>
         requires { length word.now ≤ LINE_LIMIT }
@@ -67,6 +72,8 @@ impl Scratch {
     }
 
     /// The bytes that come with a connect, as a word spells them.
+    ///
+    /// `Message` where the word has none of the forms, `Hex` where its digits are no pairs of hexadecimal digits.
     #[tactic(auto, unfolding(lpc_model::specs::Words::info_word))]
     pub(crate) fn info(&mut self, word: &[u8]) -> Result<&[u8], LineFault>
         requires { length word.now ≤ LINE_LIMIT }
@@ -81,7 +88,7 @@ impl Scratch {
         Err(LineFault::Message)
     }
 
-    /// A front, and behind it the bytes that digits stand for.
+    /// A front, and behind it the bytes that digits stand for; `Hex` where they are no pairs of hexadecimal digits.
     fn behind(&mut self, front: &[u8], digits: &[u8]) -> Result<&[u8], LineFault>
         requires front { length front.now ≤ HEADER_SIZE }
         requires digits { length digits.now ≤ LINE_LIMIT }
@@ -91,7 +98,8 @@ impl Scratch {
         Ok(&self.room[..end])
     }
 
-    /// The message whose data digits stand for, with its header made.
+    /// The message whose data digits stand for, with its header made; `Hex` where they are no pairs of hexadecimal
+    /// digits.
     fn hex_message(
         &mut self,
         client: ClientId,
@@ -119,6 +127,9 @@ impl Scratch {
     }
 
     /// The message that replies to the client and the identifier in front of the first colon.
+    ///
+    /// `Message` where there is no colon, or not three parts in front of it; then `Number` for the first part that is
+    /// no number; then `Hex` where the digits are no pairs of hexadecimal digits.
     #[tactic(auto, unfolding(lpc_model::specs::Words::reply_message))]
     fn reply_message(&mut self, text: &[u8]) -> Result<&[u8], LineFault>
         requires { length text.now ≤ LINE_LIMIT }
@@ -133,7 +144,8 @@ impl Scratch {
     }
 }
 
-/// Writes a front over room, and behind it the bytes that digits stand for; how many bytes there are then.
+/// Writes a front over room, and behind it the bytes that digits stand for; how many bytes there are then. `Hex` where
+/// they are no pairs of hexadecimal digits.
 fn fill(room: &mut [u8], front: &[u8], digits: &[u8]) -> Result<usize, LineFault>
     requires { length front.now + length digits.now / 2 ≤ length room.old }
     ensures value { Gives (λ end. take end room.new) result
@@ -147,7 +159,8 @@ fn fill(room: &mut [u8], front: &[u8], digits: &[u8]) -> Result<usize, LineFault
     Ok(front.len() + size)
 }
 
-/// Writes the bytes that digits stand for over room of half their number.
+/// Writes the bytes that digits stand for over room of half their number; `Hex` where they are no pairs of hexadecimal
+/// digits.
 #[tactic(auto, unfolding(lpc_model::specs::Words::hex_word))]
 fn decode(digits: &[u8], room: &mut [u8]) -> Result<(), LineFault>
     requires { length room.old ≡ length digits.now / 2 }

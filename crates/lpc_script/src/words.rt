@@ -56,7 +56,7 @@ pub fn next_word(text: &[u8]) -> Option<(&[u8], &[u8])>
     Some((text, &[]))
 }
 
-/// The word of a text that has exactly one.
+/// The word of a text that has exactly one; `Count` where it has none or more.
 #[tactic(auto, unfolding(lpc_model::specs::Grammar::one_word))]
 pub fn one_word(text: &[u8]) -> Result<&[u8], LineFault>
     ensures value { Gives (λ word. word.now) result (grammar.one_word (words text.now)) }
@@ -69,7 +69,7 @@ pub fn one_word(text: &[u8]) -> Result<&[u8], LineFault>
     Ok(word)
 }
 
-/// The words of a text that has exactly two.
+/// The words of a text that has exactly two; `Count` where it has fewer or more.
 #[tactic(auto, unfolding(lpc_model::specs::Grammar::two_words))]
 pub fn two_words(text: &[u8]) -> Result<(&[u8], &[u8]), LineFault>
     ensures value { Gives seen_two result (grammar.two_words (words text.now)) }
@@ -83,7 +83,7 @@ pub fn two_words(text: &[u8]) -> Result<(&[u8], &[u8]), LineFault>
     Ok((first, second))
 }
 
-/// The words of a text that has exactly four.
+/// The words of a text that has exactly four; `Count` where it has fewer or more.
 #[tactic(auto, unfolding(lpc_model::specs::Grammar::four_words))]
 pub fn four_words(text: &[u8]) -> Result<(&[u8], &[u8], &[u8], &[u8]), LineFault>
     ensures value { Gives seen_four result (grammar.four_words (words text.now)) }
@@ -100,7 +100,7 @@ pub fn four_words(text: &[u8]) -> Result<(&[u8], &[u8], &[u8], &[u8]), LineFault
     Ok((first, second, third, fourth))
 }
 
-/// The words of a text that has one or two.
+/// The words of a text that has one or two; `Count` where it has none or more.
 #[tactic(auto, unfolding(lpc_model::specs::Grammar::one_or_two_words))]
 pub fn one_or_two_words(text: &[u8]) -> Result<(&[u8], Option<&[u8]>), LineFault>
     ensures value { Gives seen_one_or_two result (grammar.one_or_two_words (words text.now)) }
@@ -117,7 +117,7 @@ pub fn one_or_two_words(text: &[u8]) -> Result<(&[u8], Option<&[u8]>), LineFault
     Ok((first, Some(second)))
 }
 
-/// The parts between the dots of a text that has exactly two.
+/// The three parts of a text that has exactly two dots, between these; none where it has fewer or more.
 #[tactic(auto, unfolding(lpc_model::specs::Words::three_parts))]
 pub fn three_parts(text: &[u8]) -> Option<(&[u8], &[u8], &[u8])>
     ensures { option_map seen_three result ≡ spec.three_parts (parts 46 text.now) }

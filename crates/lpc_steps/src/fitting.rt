@@ -17,7 +17,7 @@ use lpc_slots::Key;
 use lpc_waits::{Wait, WaitKind};
 use lpc_world::World;
 
-/// A live thread has the client's process and thread.
+/// A live thread has the client's process and thread; INVALID_CID where none has.
 pub fn client_test(world: &World, client: ClientId) -> Result<(), Status>
     ensures { result ≡ tests.client_test world.now.rows client }
 {

@@ -84,7 +84,8 @@ fn is_of_kind(object: Object, kind: ObjectKind) -> bool
     }
 }
 
-/// The port that a handle of the thread's process names, with the right to use it.
+/// The port that a handle of the thread's process names, with the right to use it: INVALID_HANDLE where no handle has
+/// the value, OBJECT_TYPE_MISMATCH where it names no port, ACCESS_DENIED where it lacks the right.
 pub fn port_at(world: &World, tid: u32, handle: u32) -> Result<Key, Status>
     requires { is_ready world.now.rows tid ≡ true }
     ensures port { Answers result (port_at world.now) (port_for world.now.rows tid handle) }
@@ -97,7 +98,8 @@ pub fn port_at(world: &World, tid: u32, handle: u32) -> Result<Key, Status>
     }
 }
 
-/// The process may have one more handle: with those that its waiting connects are to get it has fewer than 256.
+/// The process may have one more handle; QUOTA_EXCEEDED where it has 256, with those that its waiting connects are to
+/// get.
 pub fn handles_test(world: &World, pid: u32) -> Result<(), Status>
     requires { has (is_table pid) world.now.rows.handles ≡ true }
     ensures full { result ≡ tests.handles_test world.now.rows pid 1 }

@@ -13,6 +13,7 @@ use lpc_base::{PortKind, Status};
 use lpc_slots::Key;
 use lpc_world::World;
 
+/// The port, where there is one and it is open.
 pub(crate) fn if_open(world: &World, port: Option<Key>) -> Option<Key>
     requires { some_stands world.now.births.ports port ≡ true }
     ensures name { some_birth world.now result
@@ -47,6 +48,7 @@ pub fn route(world: &World, port: Key) -> Option<Key>
     }
 }
 
+/// The queue of a port's own: itself, or a server port's connection port; none where that port isn't open.
 fn queue_of(world: &World, port: Key) -> Option<Key>
     requires { stands world.now.births.ports port ≡ true }
     ensures queue { some_birth world.now result ≡ queue_at world.now port }
@@ -59,6 +61,7 @@ fn queue_of(world: &World, port: Key) -> Option<Key>
     }
 }
 
+/// Nothing will ever come on the port: a client port whose pair is cut, and whose queue is empty.
 fn is_spent(world: &World, port: Key, queue: Key) -> bool
     requires port { stands world.now.births.ports port ≡ true }
     requires queue { stands world.now.births.ports queue ≡ true }
@@ -106,7 +109,7 @@ pub fn context(world: &World, port: Key) -> u32
     }
 }
 
-/// Fewer than 32 datagrams of the port stand in queues.
+/// A further datagram may be sent on the port; QUOTA_EXCEEDED where 32 that were sent on it stand in queues.
 pub fn datagram_test(world: &World, port: Key) -> Result<(), Status>
     requires { stands world.now.births.ports port ≡ true }
     ensures { result ≡ request.datagram_test world.now.rows (port_at world.now port) }

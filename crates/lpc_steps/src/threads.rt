@@ -31,6 +31,8 @@ pub fn thread_test(world: &World, tid: u32, pid: u32) -> Result<(), Status>
 }
 
 /// Makes room for what a thread may keep: its wait, and the message that it asks with.
+///
+/// OutOfMemory comes only where the room for one of them wasn't there; nothing has changed then but the room.
 pub fn thread_reserve(world: &mut World) -> Result<(), OutOfMemory>
     ensures same { Same world.old world.new }
     ensures waits { OnOk result (1 ≤ world.new.room.waits) }

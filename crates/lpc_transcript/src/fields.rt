@@ -42,7 +42,8 @@ fn put_field(
     put_value(alloc, into, value, read)
 }
 
-// The fields, with these bytes where a memory read stands.
+/// The fields, with these bytes where a memory read stands. Where memory is wanting, what stood before still begins the
+/// text.
 #[tactic(auto, using(std::proofs::Common::append_assoc, crate::proofs::Begins::begins_before))]
 pub(crate) fn put_fields(
     alloc: Global,

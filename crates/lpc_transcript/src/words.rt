@@ -1,4 +1,5 @@
-// The words of a transcript's line, each put behind the text so far.
+// The words of a transcript's line, each put behind the text so far. Each may want for memory: what stood before still
+// begins the text then.
 ghost use Rattle.std.specs.Prelude.{◌≡◌, ◌≤◌, ◌++◌, length, decimal, OnErr};
 ghost use Rattle.lpc_base.specs.declared.limits.TheConstants.{MESSAGE_LIMIT};
 ghost use Rattle.hex.specs.Hex.{encode_lower};
@@ -9,6 +10,7 @@ use lpc_base::{OutOfMemory, Status};
 use lpc_model::{CallName, FieldName, ObjectKind, Word};
 use std::alloc::Global;
 
+/// Bytes as they stand.
 pub(crate) fn put(into: &mut Vec<u8>, bytes: &[u8]) -> Result<(), OutOfMemory>
     ensures ok { Puts into.old.items into.new.items bytes.now result }
     ensures err { OnErr result (BeginsWith into.new.items into.old.items) }
@@ -19,6 +21,7 @@ pub(crate) fn put(into: &mut Vec<u8>, bytes: &[u8]) -> Result<(), OutOfMemory>
     Ok(())
 }
 
+/// A number in decimal.
 pub(crate) fn put_number(into: &mut Vec<u8>, number: u64) -> Result<(), OutOfMemory>
     ensures ok { Puts into.old.items into.new.items (decimal number) result }
     ensures err { OnErr result (BeginsWith into.new.items into.old.items) }
@@ -26,6 +29,7 @@ pub(crate) fn put_number(into: &mut Vec<u8>, number: u64) -> Result<(), OutOfMem
     put(into, itoa::Buffer::new().format(number).as_bytes())
 }
 
+/// A number of up to 128 bits in decimal.
 pub(crate) fn put_long_number(into: &mut Vec<u8>, number: u128) -> Result<(), OutOfMemory>
     ensures ok { Puts into.old.items into.new.items (decimal number) result }
     ensures err { OnErr result (BeginsWith into.new.items into.old.items) }
@@ -33,7 +37,7 @@ pub(crate) fn put_long_number(into: &mut Vec<u8>, number: u128) -> Result<(), Ou
     put(into, itoa::Buffer::new().format(number).as_bytes())
 }
 
-// Eight hexadecimal digits.
+/// A number as eight hexadecimal digits.
 pub(crate) fn put_digits(into: &mut Vec<u8>, number: u32) -> Result<(), OutOfMemory>
     ensures ok { Puts into.old.items into.new.items (eight_digits number) result }
     ensures err { OnErr result (BeginsWith into.new.items into.old.items) }
@@ -43,7 +47,7 @@ pub(crate) fn put_digits(into: &mut Vec<u8>, number: u32) -> Result<(), OutOfMem
     put(into, &digits)
 }
 
-// The bytes of a field, which has room for this many.
+/// The bytes of a field, at most 256, as pairs of hexadecimal digits.
 pub(crate) fn put_bytes(into: &mut Vec<u8>, bytes: &[u8]) -> Result<(), OutOfMemory>
     requires { length bytes.now ≤ MESSAGE_LIMIT }
     ensures ok { Puts into.old.items into.new.items (encode_lower bytes.now) result }
@@ -55,7 +59,7 @@ pub(crate) fn put_bytes(into: &mut Vec<u8>, bytes: &[u8]) -> Result<(), OutOfMem
     put(into, digits)
 }
 
-// The bytes of a memory read, of which there may be too many for a buffer on the stack.
+/// The bytes of a memory read as pairs of hexadecimal digits. There may be too many for a buffer on the stack.
 pub(crate) fn put_read(alloc: Global, into: &mut Vec<u8>, bytes: &[u8]) -> Result<(), OutOfMemory>
     ensures ok { Puts into.old.items into.new.items (encode_lower bytes.now) result }
     ensures err { OnErr result (BeginsWith into.new.items into.old.items) }
@@ -66,6 +70,7 @@ pub(crate) fn put_read(alloc: Global, into: &mut Vec<u8>, bytes: &[u8]) -> Resul
     put(into, digits.as_bytes())
 }
 
+/// The word for a kind of object.
 pub(crate) fn kind_name(kind: ObjectKind) -> &'static [u8]
     ensures { result.now ≡ kind_text kind }
 {
@@ -78,6 +83,7 @@ pub(crate) fn kind_name(kind: ObjectKind) -> &'static [u8]
     }
 }
 
+/// The name of a field, as transcripts spell it.
 pub(crate) fn field_name(name: FieldName) -> &'static [u8]
     ensures { result.now ≡ name_text name }
 {
@@ -97,7 +103,7 @@ pub(crate) fn field_name(name: FieldName) -> &'static [u8]
     }
 }
 
-// A thread and its call.
+/// A thread and its call.
 #[tactic(auto, using(std::proofs::Common::append_assoc, crate::proofs::Begins::begins_before))]
 pub(crate) fn put_by(into: &mut Vec<u8>, tid: u32, call: CallName) -> Result<(), OutOfMemory>
     ensures ok { Puts into.old.items into.new.items (by_text tid call) result }
@@ -117,7 +123,7 @@ fn put_status(into: &mut Vec<u8>, status: Status) -> Result<(), OutOfMemory>
     put_digits(into, status.0)
 }
 
-// A thread, its call and the status with which the call ended.
+/// A thread, its call and the status with which the call ended.
 #[tactic(auto, using(std::proofs::Common::append_assoc, crate::proofs::Begins::begins_before))]
 pub(crate) fn put_ended(
     into: &mut Vec<u8>,
@@ -132,7 +138,7 @@ pub(crate) fn put_ended(
     put_status(into, status)
 }
 
-// A thread that made no call, and why.
+/// A thread that made no call, and why.
 #[tactic(auto, using(std::proofs::Common::append_assoc, crate::proofs::Begins::begins_before))]
 pub(crate) fn put_state(into: &mut Vec<u8>, tid: u32, state: &[u8]) -> Result<(), OutOfMemory>
     ensures ok { Puts into.old.items into.new.items (decimal tid ++ state.now) result }
@@ -142,6 +148,7 @@ pub(crate) fn put_state(into: &mut Vec<u8>, tid: u32, state: &[u8]) -> Result<()
     put(into, state)
 }
 
+/// A thread that died, and the status with which it did.
 #[tactic(auto, using(std::proofs::Common::append_assoc, crate::proofs::Begins::begins_before))]
 pub(crate) fn put_death(into: &mut Vec<u8>, tid: u32, status: Status) -> Result<(), OutOfMemory>
     ensures ok { Puts into.old.items into.new.items (died_text tid status) result }
@@ -153,6 +160,7 @@ pub(crate) fn put_death(into: &mut Vec<u8>, tid: u32, status: Status) -> Result<
     put_status(into, status)
 }
 
+/// A directive and its status.
 #[tactic(auto, using(std::proofs::Common::append_assoc, crate::proofs::Begins::begins_before))]
 pub(crate) fn put_directive(
     into: &mut Vec<u8>,

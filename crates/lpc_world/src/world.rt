@@ -378,6 +378,8 @@ impl World {
     // Room.
 
     /// Makes room for so many further processes, with their tables of handles, and for so many further threads.
+    ///
+    /// OutOfMemory comes only where that room wasn't there; nothing has changed then but the room.
     pub fn procs_reserve(&mut self, processes: usize, threads: usize) -> Result<(), OutOfMemory>
         ensures same { Same self.old self.new }
         ensures room { Roomy self.old.room self.new.room }
@@ -396,6 +398,8 @@ impl World {
     }
 
     /// Makes room for so many further ports.
+    ///
+    /// OutOfMemory comes only where that room wasn't there; nothing has changed then but the room.
     pub fn ports_reserve(&mut self, more: usize) -> Result<(), OutOfMemory>
         ensures same { Same self.old self.new }
         ensures room { Roomy self.old.room self.new.room }
@@ -426,6 +430,8 @@ impl World {
     }
 
     /// Makes room for so many messages beyond those that are owed.
+    ///
+    /// OutOfMemory comes only where that room wasn't there; nothing has changed then but the room.
     pub fn messages_reserve(&mut self, more: u32) -> Result<(), OutOfMemory>
         ensures same { Same self.old self.new }
         ensures room { Roomy self.old.room self.new.room }
@@ -439,6 +445,8 @@ impl World {
     }
 
     /// Makes room for so many waits beyond those that are owed.
+    ///
+    /// OutOfMemory comes only where that room wasn't there; nothing has changed then but the room.
     pub fn waits_reserve(&mut self, more: u32) -> Result<(), OutOfMemory>
         ensures same { Same self.old self.new }
         ensures room { Roomy self.old.room self.new.room }
@@ -452,6 +460,8 @@ impl World {
     }
 
     /// Makes room for so many further handles of a process, beside those that its waiting connects are to get.
+    ///
+    /// OutOfMemory comes only where that room wasn't there; nothing has changed then but the room.
     pub fn handles_reserve(&mut self, pid: u32, more: u32) -> Result<(), OutOfMemory>
         requires { has (is_table pid) self.old.rows.handles ≡ true }
         ensures same { Same self.old self.new }

@@ -33,7 +33,8 @@ impl World {
         self.procs.is_registered(tid, self.port(port).birth)
     }
 
-    /// The thread has this port registered already, or may register a further one: it has fewer than 16.
+    /// The thread has this port registered already, or may register a further one; QUOTA_EXCEEDED where it registered
+    /// 16 others.
     pub fn registration_test(&self, tid: u32, port: Key) -> Result<(), Status>
         requires ready { is_ready self.now.rows tid ≡ true }
         requires port { stands self.now.births.ports port ≡ true }

@@ -75,6 +75,8 @@ impl World {
     }
 
     /// Makes room for so many further names.
+    ///
+    /// OutOfMemory comes only where that room wasn't there; nothing has changed then but the room.
     pub fn names_reserve(&mut self, more: usize) -> Result<(), OutOfMemory>
         ensures same { Same self.old self.new }
         ensures room { Roomy self.old.room self.new.room }
