@@ -21,7 +21,7 @@ PATH = (
     ("c000003a", "an inner component of the path is missing, or is no directory"),
     ("c0000033", "a link gives way to a path of more than 256 bytes, or is the 33rd on the way"),
 )
-ROOM = (("c0000044", "the process has 256 handles, its threads that wait in a connect counted among them"),)
+QUOTA = (("c0000044", "the process has 256 handles, its threads that wait in a connect counted among them"),)
 CLOSED = "c0000037"
 NO_HANDLE, NO_RIGHT = HANDLE[0], ("c0000022", "ACCESS has a bit that the handle's own access lacks")
 NO_WAY = (CLOSED, "the pair of the port is cut or was never made, or the port to which the message would go isn't open")
@@ -40,13 +40,13 @@ REFUSALS = {
         *PATH,
         ("c0000035", "something stands at the path already"),
     ),
-    "NtCreatePort": (*PATH, ("c0000035", "something stands there already"), *ROOM),
+    "NtCreatePort": (*PATH, ("c0000035", "something stands there already"), *QUOTA),
     "NtConnectPort": (
         ("c000002f", "INFO has more than 232 bytes"),
         *PATH,
         ("c0000034", "nothing stands there"),
         ("c0000024", "a directory stands there"),
-        *ROOM,
+        *QUOTA,
     ),
     "NtListenPort": (*HANDLE, ("c0000042", "the port is no connection port")),
     "NtAcceptConnectPort": (
@@ -57,7 +57,7 @@ REFUSALS = {
             "the message names no connect that was received, isn't accepted, and went to a port of the caller's "
             "process",
         ),
-        *ROOM,
+        *QUOTA,
     ),
     "NtCompleteConnectPort": (
         *HANDLE,
@@ -108,7 +108,7 @@ REFUSALS = {
         ("c000000b", "the process has ended"),
     ),
     "NtClose": (NO_HANDLE,),
-    "NtDuplicateObject": (NO_HANDLE, NO_RIGHT, *ROOM),
+    "NtDuplicateObject": (NO_HANDLE, NO_RIGHT, *QUOTA),
     "NtQueryObject": (NO_HANDLE,),
 }
 
