@@ -1,9 +1,9 @@
 // The receive, which may make a reply first.
 ghost use Rattle.std.specs.Prelude.{option_copied, ◌≡◌, ◌≤◌, ◌<◌, Some, None, true, false, ◌+◌};
-ghost use Rattle.lpc_base.specs.Rows.{has};
+ghost use Rattle.lpc_base.specs.Rows.{first, has};
 ghost use Rattle.lpc_base.specs.declared.limits.TheConstants.{LINES_LIMIT};
 ghost use Rattle.lpc_model.specs.Basics.{outcome_of};
-ghost use Rattle.lpc_model.specs.Found.{is_live_thread, waits_as};
+ghost use Rattle.lpc_model.specs.Found.{is_live_thread, is_queued, waits_as};
 ghost use Rattle.lpc_model.specs.Lines.{reply_wait_receive_port};
 ghost use Rattle.lpc_request.specs.Called.{Received};
 ghost use Rattle.lpc_request.specs.Replied.{RepliesFirst, TakesOrWaits, may_be_told, receive_by};
@@ -58,6 +58,47 @@ fn make_reply(world: &mut World, replied: &Option<Replied>, out: &mut Entries)
     }
 }
 
+/// The thread waits for a message of a queue in which none stands; a reply is made before.
+fn wait_for_message(
+    world: &mut World,
+    by: &ThreadRow,
+    port: Key,
+    queue: Key,
+    replied: &Option<Replied>,
+    out: &mut Entries,
+)
+    requires spare { 2 ≤ out.old.spare }
+    requires budget { HasWholeBudget world.old }
+    requires live { has (is_live_thread by.now.number) world.old.rows.threads ≡ true }
+    requires ready { has (waits_as by.now.number) world.old.rows.waits ≡ false }
+    requires port { stands world.old.births.ports port ≡ true }
+    requires queue { stands world.old.births.ports queue ≡ true }
+    requires name { (row_at world.old port).birth ≡ name_at world.old port }
+    requires empty { first (is_queued (name_at world.old queue)) world.old.rows.messages ≡ None }
+    requires told { may_be_told world.old.rows replied.now }
+    ensures takes { TakesOrWaits by.now port queue replied.now world.old world.new out.old out.new }
+    ensures calls { world.new.calls ≡ world.old.calls }
+    ensures spare { out.old.spare ≤ out.new.spare + 2 }
+{
+    out.push(Entry::Waits {
+        tid: by.number,
+        call: CallName::NtReplyWaitReceivePort,
+        fields: Fields::none(),
+    });
+    make_reply(world, replied, out);
+    world.waits_add(
+        by.number,
+        Wait {
+            process: by.process,
+            kind: WaitKind::Receive,
+            port,
+            queue,
+            identifier: 0,
+            received: false,
+        },
+    );
+}
+
 /// The oldest message of the queue is taken, or the thread waits for one; a reply is made before.
 fn take_or_wait(
     world: &mut World,
@@ -97,23 +138,7 @@ fn take_or_wait(
             Outcome::Answered(SUCCESS)
         }
         None => {
-            out.push(Entry::Waits {
-                tid: by.number,
-                call: CallName::NtReplyWaitReceivePort,
-                fields: Fields::none(),
-            });
-            make_reply(world, replied, out);
-            world.waits_add(
-                by.number,
-                Wait {
-                    process: by.process,
-                    kind: WaitKind::Receive,
-                    port,
-                    queue,
-                    identifier: 0,
-                    received: false,
-                },
-            );
+            wait_for_message(world, by, port, queue, replied, out);
             Outcome::Waits
         }
     }

@@ -1,4 +1,4 @@
-use Rattle.std.proofs.Common.{rules, ◌≡◌, true, false, refl, ap, sym, ◌∙◌}
+use Rattle.std.proofs.Common.{◌≡◌, true, false, refl, ap, sym, ◌∙◌}
 use Rattle.lpc_base.specs.declared.status.TheConstants.{SUCCESS}
 use Rattle.lpc_model.specs.declared.entry.CallName.TheVariants.{NtReplyWaitReceivePort}
 use Rattle.lpc_model.specs.declared.entry.Entry.{Entry}
@@ -11,9 +11,6 @@ use Rattle.lpc_model.specs.Message.{asks, message_of}
 use Rattle.lpc_world.specs.Shown.{pulled_row}
 use Rattle.lpc_request.proofs.Received.{taken}
 use Rattle.lpc_request.proofs.receive.take_or_wait.Goals as goal
-
-pub waits_add-requires-clause-ready : goal.waits_add-requires-clause-ready
-waits_add-requires-clause-ready c = c.make_reply-in-None.ensures.still.ready c.args.by.now.number (search rules)
 
 pub returns-then-wants_answer-clause-takes : goal.returns-then-wants_answer-clause-takes
 returns-then-wants_answer-clause-takes c =
