@@ -94,7 +94,8 @@ impl Procs {
         requires number { IsNumber pid }
         requires new { procs.was_used self.old (Number.Process pid) ≡ false }
         ensures table { self.new ≡ record self.old {
-          processes = self.old.processes ++ (record { number = pid; maker = maker; birth = birth }) ∷ [];
+          processes = self.old.processes
+              ++ (record { number = pid; maker = maker; birth = birth }) ∷ [];
           used_processes = self.old.used_processes ++ pid ∷ [];
           process_room = self.old.process_room - 1;
         } }
