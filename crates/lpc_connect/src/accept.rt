@@ -87,7 +87,7 @@ fn accept_test(
 {
     let answer = answer_test(world, by.number, bytes)?;
     if accept {
-        handles_test(world, by.process)?;
+        handles_test(world, by.process, 1)?;
     }
     Ok(answer)
 }

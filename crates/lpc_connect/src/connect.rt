@@ -58,7 +58,7 @@ fn connect_test(world: &World, by: &ThreadRow, name: &[u8], info: &[u8]) -> Resu
 {
     info_test(info)?;
     let connection = world.named_port(name)?;
-    handles_test(world, by.process)?;
+    handles_test(world, by.process, 1)?;
     Ok(connection)
 }
 

@@ -45,7 +45,7 @@ fn create_test(world: &World, by: &ThreadRow, name: Option<&[u8]>) -> Result<(),
     if let Some(path) = name {
         world.name_test(path)?;
     }
-    handles_test(world, by.process)
+    handles_test(world, by.process, 1)
 }
 
 /// Makes a connection port that a path names, and answers its key.

@@ -13,7 +13,7 @@ ghost use Rattle.lpc_world.specs.Called.{MayServe, service};
 ghost use Rattle.lpc_world.specs.Ready.{HasRoom, caller, is_ready};
 
 use crate::targets::{LIFE_ACCESS, process_target};
-use lpc_base::limits::{CHILD_LIMIT, HANDLE_LIMIT};
+use lpc_base::limits::CHILD_LIMIT;
 use lpc_base::status::{OBJECT_NAME_COLLISION, QUOTA_EXCEEDED, SUCCESS};
 use lpc_base::{OutOfMemory, Status};
 use lpc_homes::Object;
@@ -42,10 +42,7 @@ fn process_test(world: &World, by: u32, pid: u32, tid: u32) -> Result<(), Status
     if world.live_children(maker) >= CHILD_LIMIT {
         return Err(QUOTA_EXCEEDED);
     }
-    if world.handle_load(maker) >= HANDLE_LIMIT - 1 {
-        return Err(QUOTA_EXCEEDED);
-    }
-    Ok(())
+    handles_test(world, maker, 2)
 }
 
 /// `NtCreateProcess`: the caller makes a process and then its first thread, and its process gets a handle to each, in
@@ -113,7 +110,7 @@ fn member_test(world: &World, by: u32, target: ProcArg, tid: u32) -> Result<u32,
 {
     let pid = process_target(world, by, target)?;
     thread_test(world, tid, pid)?;
-    handles_test(world, world.caller(by).process)?;
+    handles_test(world, world.caller(by).process, 1)?;
     Ok(pid)
 }
 

@@ -39,7 +39,7 @@ fn duplicate_test(
     if row.access & access != access {
         return Err(ACCESS_DENIED);
     }
-    handles_test(world, world.caller(tid).process)?;
+    handles_test(world, world.caller(tid).process, 1)?;
     Ok(Row {
         object: row.object,
         access,

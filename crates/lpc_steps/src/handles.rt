@@ -1,6 +1,7 @@
 // Handles: what a handle of a caller's process names, and a handle that a process is given.
 ghost use Rattle.std.specs.Prelude.{◌+◌, ◌<◌, ◌≡◌, ◌≤◌, Err, IfOk, Ok, OnOk, Some, true};
 ghost use Rattle.lpc_base.specs.Rows.{has};
+ghost use Rattle.lpc_base.specs.declared.limits.TheConstants.{HANDLE_LIMIT};
 ghost use Rattle.lpc_model.specs.Found as found;
 ghost use Rattle.lpc_model.specs.Found.{free_handle, is_table};
 ghost use Rattle.lpc_model.specs.Tests as tests;
@@ -98,14 +99,15 @@ pub fn port_at(world: &World, tid: u32, handle: u32) -> Result<Key, Status>
     }
 }
 
-/// The process may have one more handle; QUOTA_EXCEEDED where it has 256, with those that its waiting connects are to
-/// get.
-pub fn handles_test(world: &World, pid: u32) -> Result<(), Status>
-    requires { has (is_table pid) world.now.rows.handles ≡ true }
-    ensures full { result ≡ tests.handles_test world.now.rows pid 1 }
-    ensures few { OnOk result (HasSmallLoad world.now.rows pid) }
+/// The process may have so many more handles, of which there are at most 256; QUOTA_EXCEEDED where it would have over 256
+/// then, with those that its waiting connects are to get.
+pub fn handles_test(world: &World, pid: u32, more: usize) -> Result<(), Status>
+    requires table { has (is_table pid) world.now.rows.handles ≡ true }
+    requires within { more ≤ HANDLE_LIMIT }
+    ensures full { result ≡ tests.handles_test world.now.rows pid more }
+    ensures few { OnOk result (tests.handle_load world.now.rows pid + more ≤ HANDLE_LIMIT) }
 {
-    if world.handle_load(pid) >= HANDLE_LIMIT {
+    if world.handle_load(pid) > HANDLE_LIMIT - more {
         return Err(QUOTA_EXCEEDED);
     }
     Ok(())

@@ -109,7 +109,7 @@ fn gets_a_handle(rt: &impl Abort, world: &mut World, port: Key) -> Result<(), Fa
 {
     let by = world.caller(24);
     world.handles_reserve(by.process, 1)?;
-    let Ok(()) = handles_test(world, by.process) else {
+    let Ok(()) = handles_test(world, by.process, 1) else {
         return Ok(assert!(rt; false));
     };
     world.begin_call();
