@@ -81,10 +81,14 @@ pub path-join : (target rest : List ℕ) → begins_part rest ≡ true → path_
 path-join [] rest h = refl
 path-join (b ∷ bs) rest h = parts-append bs rest h
 
+-- a text with a byte isn't empty
+some-byte : (byte : ℕ) (bytes : List ℕ) → is_empty (byte ∷ bytes) ≡ false
+some-byte byte bytes = grind (arith, nat_tests)
+
 -- the front of a path, with one more component
 pub front-more : (front names : List ℕ) (b : ℕ) → (is_empty front || (b == 92)) ≡ true → path_of (front ++ b ∷ take (name_length names) names) ≡ path_of front ++ take (name_length names) names ∷ []
 front-more [] names b h = name-alone names
-front-more (f ∷ fs) names b h = parts-append fs (b ∷ take (name_length names) names) h ∙ ap (λ ps. parts_of fs ++ ps) (name-alone names)
+front-more (f ∷ fs) names b h = parts-append fs (b ∷ take (name_length names) names) (rw (some-byte f fs) at h) ∙ ap (λ ps. parts_of fs ++ ps) (name-alone names)
 
 onto-same : (x y : ℕ) (xs ys : List ℕ) → same_path (onto_first x (parts_of xs)) (onto_first y (parts_of ys)) ≡ (nat_eq x y && same_path (parts_of xs) (parts_of ys))
 onto-same x y xs ys = let s = parts-some xs in let t = parts-some ys in rw (s.2, t.2) (and-assoc (nat_eq x y) _ _)
@@ -170,7 +174,7 @@ later [] = false
 later (p ∷ ps) = list_any is_empty ps
 
 onto-later : (b : ℕ) (bs : List ℕ) → list_any is_empty (onto_first b (parts_of bs)) ≡ later (parts_of bs)
-onto-later b bs = let s = parts-some bs in rw s.2 refl
+onto-later b bs = let s = parts-some bs in rw (s.2, some-byte b s.0) refl
 
 later-onto : (b : ℕ) (bs : List ℕ) → later (onto_first b (parts_of bs)) ≡ later (parts_of bs)
 later-onto b bs = let s = parts-some bs in rw s.2 refl

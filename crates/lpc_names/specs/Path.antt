@@ -1,5 +1,5 @@
 -- A path as the list of its components, and the texts that spell one.
-use Rattle.std.specs.Prelude.{ℕ, suc, ◌+◌, ◌≤◌, ◌==◌, nat_lt, nat_eq, Bool, true, false, ◌||◌, if◌then◌else◌, List, [], ◌∷◌, length, Result, Ok, Err}
+use Rattle.std.specs.Prelude.{ℕ, suc, ◌+◌, ◌≤◌, ◌==◌, nat_lt, nat_eq, Bool, ◌||◌, if◌then◌else◌, List, [], ◌∷◌, length, Result, Ok, Err}
 use Rattle.std.specs.List.{list_any}
 use Rattle.std.specs.Cmp.Lexicographic.{pointwise}
 use Rattle.lpc_names.specs.declared.fault.NameFault.{NameFault}
@@ -23,10 +23,9 @@ abbrev pub parts_of : List ℕ → Path
 parts_of [] = [] ∷ []
 parts_of (byte ∷ bytes) = if byte == 92 then [] ∷ parts_of bytes else onto_first byte (parts_of bytes)
 
--- a part without a byte
+-- a text without a byte
 abbrev pub is_empty : List ℕ → Bool
-is_empty [] = true
-is_empty (byte ∷ bytes) = false
+is_empty text = length text == 0
 
 -- how many bytes a path has: its components, each with the backslash in front of it
 abbrev pub size_of : Path → ℕ
