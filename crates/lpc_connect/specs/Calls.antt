@@ -13,28 +13,22 @@ use Rattle.lpc_model.specs.Machine.{service_of}
 use Rattle.lpc_model.specs.World.{ThreadRow, World}
 use Rattle.lpc_model.specs.declared.message.Message.{Message}
 use Rattle.lpc_slots.specs.declared.Key.{Key}
+use Rattle.lpc_world.specs.Clauses.{birth_at, port_at}
 use Rattle.lpc_world.specs.Kept.{Kept}
-use Rattle.lpc_world.specs.Names.{name_of}
-use Rattle.lpc_world.specs.Ready.{port_of, waiter}
+use Rattle.lpc_world.specs.Ready.{waiter}
 
 -- Rows
 -- the thread stands, with this row
 abbrev pub HasThread : World → ThreadRow → Type 0
 HasThread w t = first (is_thread t.number) w.threads ≡ Some t
 
--- the wait of a thread is under its own number, and the message with which it waits was received
-abbrev pub IsOwnWait : World → ℕ → Type 0
-IsOwnWait w tid = let x = waiter w tid in x.thread ≡ tid
-
+-- the message with which a thread waits was received
 abbrev pub was_received : World → ℕ → Bool
 was_received w tid = let x = waiter w tid in x.received
 
--- the birth of the port at a key, and the one that its row has
-abbrev pub birth_at : Kept → Key → Birth
-birth_at w key = name_of w.births.ports key
-
+-- the birth that the row of the port at a key has
 abbrev pub row_birth : Kept → Key → Birth
-row_birth w key = let p = port_of w.rows (birth_at w key) in p.birth
+row_birth w key = let p = port_at w key in p.birth
 
 -- Ports and connects
 -- a port is made by these steps, and gets the least free handle

@@ -1,12 +1,7 @@
 -- The room that the calls need, and the room that they keep.
-use Rattle.std.specs.Prelude.{ℕ, ◌≤◌, ◌<◌, ◌==◌, ◌&&◌, ◌||◌, Bool, nat_le, is_some, List, Option}
+use Rattle.std.specs.Prelude.{ℕ, ◌≤◌, ◌==◌, ◌&&◌, ◌||◌, Bool, nat_le, is_some, List, Option}
 use Rattle.lpc_model.specs.World.{ThreadRow}
 use Rattle.lpc_world.specs.Kept.{Kept, handle_room, owed_handles}
-
--- a further handle goes into the table of a process, beside those that its waiting connects are
--- to get
-abbrev pub HasHandleRoom : Kept → ℕ → Type 0
-HasHandleRoom w pid = owed_handles w.rows pid < handle_room w.room pid
 
 -- no process lost room for handles
 abbrev pub KeepsHandleRoom : Kept → Kept → Type 0

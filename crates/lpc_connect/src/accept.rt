@@ -2,8 +2,9 @@
 ghost use Rattle.std.specs.Prelude.{◌≡◌, ◌≤◌, ◌<◌, Ok, Err, true, false, IfErr, IfOk, IsOk, OnOk, OnErr, MatchResult, ◌+◌};
 ghost use Rattle.lpc_base.specs.Rows.{has};
 ghost use Rattle.lpc_base.specs.declared.limits.TheConstants.{HANDLE_LIMIT, LINES_LIMIT};
-ghost use Rattle.lpc_connect.specs.Calls.{Answering, HasThread, IsOwnWait, accepting, answer_with, shown_answer, was_received};
-ghost use Rattle.lpc_connect.specs.Room.{HasHandleRoom, lacks_port_room};
+ghost use Rattle.lpc_world.specs.Clauses.{HasHandleRoom, IsOwnWait};
+ghost use Rattle.lpc_connect.specs.Calls.{Answering, HasThread, accepting, answer_with, shown_answer, was_received};
+ghost use Rattle.lpc_connect.specs.Room.{lacks_port_room};
 ghost use Rattle.lpc_model.specs.Connect as connect;
 ghost use Rattle.lpc_model.specs.Found.{is_offered, is_table, waits_as};
 ghost use Rattle.lpc_model.specs.Lines.{accept_connect_port};

@@ -2,7 +2,8 @@
 ghost use Rattle.std.specs.Prelude.{◌≡◌, ◌≤◌, ◌<◌, Ok, Err, IfOk, MatchResult, true, false, ◌+◌};
 ghost use Rattle.lpc_base.specs.Rows.{has};
 ghost use Rattle.lpc_base.specs.declared.limits.TheConstants.{LINES_LIMIT};
-ghost use Rattle.lpc_connect.specs.Calls.{IsOwnWait, completing, shown_connection};
+ghost use Rattle.lpc_world.specs.Clauses.{IsOwnWait};
+ghost use Rattle.lpc_connect.specs.Calls.{completing, shown_connection};
 ghost use Rattle.lpc_model.specs.Connect as connect;
 ghost use Rattle.lpc_model.specs.Found.{is_accepted, waits_as};
 ghost use Rattle.lpc_model.specs.Lines.{complete_connect_port};

@@ -2,8 +2,9 @@
 ghost use Rattle.std.specs.Prelude.{◌≡◌, ◌≤◌, ◌<◌, ◌+◌, Ok, Err, None, Some, IfErr, IfOk, OnOk, OnErr, false, length, true};
 ghost use Rattle.lpc_base.specs.Rows.{has};
 ghost use Rattle.lpc_base.specs.declared.limits.TheConstants.{HANDLE_LIMIT, HEADER_SIZE, LINES_LIMIT, MESSAGE_LIMIT};
-ghost use Rattle.lpc_connect.specs.Calls.{HasThread, birth_at, connecting, draws};
-ghost use Rattle.lpc_connect.specs.Room.{HasHandleRoom, KeepsHandleRoom, lacks_connect_room};
+ghost use Rattle.lpc_world.specs.Clauses.{HasHandleRoom, birth_at};
+ghost use Rattle.lpc_connect.specs.Calls.{HasThread, connecting, draws};
+ghost use Rattle.lpc_connect.specs.Room.{KeepsHandleRoom, lacks_connect_room};
 ghost use Rattle.lpc_model.specs.Basics.{basic, world_after, Makes};
 ghost use Rattle.lpc_model.specs.Connect as connect;
 ghost use Rattle.lpc_model.specs.Found.{is_live_thread, is_table, is_thread, port_row, waits_as};

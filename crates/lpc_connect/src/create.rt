@@ -3,7 +3,8 @@ ghost use Rattle.std.specs.Prelude.{◌≡◌, ◌≤◌, ◌<◌, ◌+◌, Ok, 
 ghost use Rattle.lpc_base.specs.Rows.{has};
 ghost use Rattle.lpc_base.specs.declared.limits.TheConstants.{HANDLE_LIMIT, LINES_LIMIT};
 ghost use Rattle.lpc_connect.specs.Calls.{HasThread, creating};
-ghost use Rattle.lpc_connect.specs.Room.{HasHandleRoom, KeepsHandleRoom, lacks_room_for};
+ghost use Rattle.lpc_world.specs.Clauses.{HasHandleRoom};
+ghost use Rattle.lpc_connect.specs.Room.{KeepsHandleRoom, lacks_room_for};
 ghost use Rattle.lpc_model.specs.Basics.{world_after};
 ghost use Rattle.lpc_model.specs.Connect as connect;
 ghost use Rattle.lpc_model.specs.Found.{is_table, port_row};

@@ -2,7 +2,8 @@
 ghost use Rattle.std.specs.Prelude.{◌≡◌, ◌≤◌, ◌<◌, Ok, Err, true, false, IfOk, MatchResult, ◌+◌};
 ghost use Rattle.lpc_base.specs.Rows.{has};
 ghost use Rattle.lpc_base.specs.declared.limits.TheConstants.{LINES_LIMIT};
-ghost use Rattle.lpc_connect.specs.Calls.{birth_at, listening, row_birth};
+ghost use Rattle.lpc_world.specs.Clauses.{birth_at};
+ghost use Rattle.lpc_connect.specs.Calls.{listening, row_birth};
 ghost use Rattle.lpc_model.specs.Basics.{outcome_of};
 ghost use Rattle.lpc_model.specs.Found.{is_live_thread, waits_as};
 ghost use Rattle.lpc_model.specs.Lines.{listen_port};

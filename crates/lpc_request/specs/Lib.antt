@@ -1,4 +1,3 @@
 pub mod Called
 pub mod Replied
-pub mod Rows
 pub mod Sent

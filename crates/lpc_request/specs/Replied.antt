@@ -10,7 +10,7 @@ use Rattle.lpc_model.specs.Request as request
 use Rattle.lpc_model.specs.Request.{reply}
 use Rattle.lpc_model.specs.declared.message.Message.{Message}
 use Rattle.lpc_procs.specs.declared.rows.ThreadRow.{ThreadRow}
-use Rattle.lpc_request.specs.Rows.{name_at, row_at}
+use Rattle.lpc_world.specs.Clauses.{birth_at, port_at}
 use Rattle.lpc_request.specs.declared.receive.Replied.{Replied}
 use Rattle.lpc_slots.specs.declared.Key.{Key}
 use Rattle.lpc_world.specs.Does.{Took}
@@ -20,7 +20,7 @@ use Rattle.lpc_world.specs.Shown.{shown_thread}
 
 -- the wait that a message fits through a port, or why there is none
 abbrev pub answered_by : Kept → Key → Message → Result WaitRow Status
-answered_by w port m = request.reply_test w.rows (row_at w port) m
+answered_by w port m = request.reply_test w.rows (port_at w port) m
 
 -- a thread's reply wakes the thread that asked
 abbrev pub Returns : ℕ → ℕ → Message → Kept → Kept → Listed → Listed → Type 0
@@ -43,7 +43,7 @@ may_be_told w (Some r) = (has (waits_as r.thread) w.waits ≡ true) × (has_queu
 -- a thread's receive on a port, behind a reply: the oldest message of the queue is taken, or the thread waits
 abbrev pub receive_by : ThreadRow → Key → Key → Option Replied → Kept → List Basic
 receive_by by port queue replied w =
-    request.receive_steps (shown_thread by) (row_at w port) (name_at w queue) (replied_steps w.rows replied) (first (is_queued (name_at w queue)) w.rows.messages)
+    request.receive_steps (shown_thread by) (port_at w port) (birth_at w queue) (replied_steps w.rows replied) (first (is_queued (birth_at w queue)) w.rows.messages)
 
 abbrev pub TakesOrWaits : ThreadRow → Key → Key → Option Replied → Kept → Kept → Listed → Listed → Type 0
 TakesOrWaits by port queue replied old new before after =

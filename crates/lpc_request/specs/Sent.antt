@@ -6,7 +6,7 @@ use Rattle.lpc_model.specs.Listed.{Listed}
 use Rattle.lpc_model.specs.Request as request
 use Rattle.lpc_model.specs.declared.message.Message.{Message}
 use Rattle.lpc_procs.specs.declared.rows.ThreadRow.{ThreadRow}
-use Rattle.lpc_request.specs.Rows.{name_at, row_at}
+use Rattle.lpc_world.specs.Clauses.{birth_at, port_at}
 use Rattle.lpc_request.specs.declared.send.Sendable.{Sendable}
 use Rattle.lpc_slots.specs.declared.Key.{Key}
 use Rattle.lpc_world.specs.Does.{Took}
@@ -16,7 +16,7 @@ use Rattle.lpc_world.specs.Shown.{shown_thread}
 
 -- a message that may be sent, with the rows of its port and its queue
 abbrev pub shown : Kept → Sendable → request.Sendable
-shown w s = record { port = row_at w s.port; message = s.message; queue = name_at w s.queue }
+shown w s = record { port = port_at w s.port; message = s.message; queue = birth_at w s.queue }
 
 -- the tests of a message that a thread sends on a handle, and those of a datagram
 abbrev pub may_send : Kept → ℕ → ℕ → List ℕ → Result request.Sendable Status
@@ -28,8 +28,8 @@ may_post w tid handle bytes = request.datagram_send_test w.rows (caller w.rows t
 -- a thread sends a message on a port to a queue as a datagram, and as a request
 abbrev pub Sends : ThreadRow → Key → Key → Message → Kept → Kept → Listed → Listed → Type 0
 Sends by port queue m old new before after =
-    Took (request.datagram_steps (shown_thread by) (row_at old port) (name_at old queue) (request.sent_by (shown_thread by) DATAGRAM m) old.rows) old new before after
+    Took (request.datagram_steps (shown_thread by) (port_at old port) (birth_at old queue) (request.sent_by (shown_thread by) DATAGRAM m) old.rows) old new before after
 
 abbrev pub Requests : ThreadRow → Key → Key → Message → Kept → Kept → Listed → Listed → Type 0
 Requests by port queue m old new before after =
-    Took (request.request_steps (shown_thread by) (row_at old port) (name_at old queue) (request.sent_by (shown_thread by) REQUEST m) old.rows) old new before after
+    Took (request.request_steps (shown_thread by) (port_at old port) (birth_at old queue) (request.sent_by (shown_thread by) REQUEST m) old.rows) old new before after

@@ -5,10 +5,11 @@ ghost use Rattle.lpc_base.specs.declared.limits.TheConstants.{LINES_LIMIT};
 ghost use Rattle.lpc_model.specs.Basics.{outcome_of};
 ghost use Rattle.lpc_model.specs.Found.{is_live_thread, is_queued, waits_as};
 ghost use Rattle.lpc_model.specs.Lines.{reply_wait_receive_port};
+ghost use Rattle.lpc_steps.specs.Clauses.{IsUnderName};
 ghost use Rattle.lpc_request.specs.Called.{Received};
 ghost use Rattle.lpc_request.specs.Replied.{RepliesFirst, TakesOrWaits, may_be_told, receive_by};
-ghost use Rattle.lpc_request.specs.Rows.{name_at, row_at};
 ghost use Rattle.lpc_world.specs.Called.{Served};
+ghost use Rattle.lpc_world.specs.Clauses.{birth_at};
 ghost use Rattle.lpc_world.specs.Kept.{HasWholeBudget, Roomy, StaysReady};
 ghost use Rattle.lpc_world.specs.Names.{stands};
 ghost use Rattle.lpc_world.specs.Ready.{HasRoom, is_ready};
@@ -73,8 +74,8 @@ fn wait_for_message(
     requires ready { has (waits_as by.now.number) world.old.rows.waits ≡ false }
     requires port { stands world.old.births.ports port ≡ true }
     requires queue { stands world.old.births.ports queue ≡ true }
-    requires name { (row_at world.old port).birth ≡ name_at world.old port }
-    requires empty { first (is_queued (name_at world.old queue)) world.old.rows.messages ≡ None }
+    requires name { IsUnderName world.old port }
+    requires empty { first (is_queued (birth_at world.old queue)) world.old.rows.messages ≡ None }
     requires told { may_be_told world.old.rows replied.now }
     ensures takes { TakesOrWaits by.now port queue replied.now world.old world.new out.old out.new }
     ensures calls { world.new.calls ≡ world.old.calls }
@@ -114,7 +115,7 @@ fn take_or_wait(
     requires ready { has (waits_as by.now.number) world.old.rows.waits ≡ false }
     requires port { stands world.old.births.ports port ≡ true }
     requires queue { stands world.old.births.ports queue ≡ true }
-    requires name { (row_at world.old port).birth ≡ name_at world.old port }
+    requires name { IsUnderName world.old port }
     requires told { may_be_told world.old.rows replied.now }
     ensures takes { TakesOrWaits by.now port queue replied.now world.old world.new out.old out.new }
     ensures outcome { let steps = receive_by by.now port queue replied.now world.old in

@@ -5,9 +5,10 @@ ghost use Rattle.lpc_base.specs.declared.limits.TheConstants.{LINES_LIMIT};
 ghost use Rattle.lpc_model.specs.Found.{waits_as};
 ghost use Rattle.lpc_model.specs.Lines.{reply_port};
 ghost use Rattle.lpc_model.specs.Message as kept;
+ghost use Rattle.lpc_steps.specs.Clauses.{IsUnderName};
 ghost use Rattle.lpc_request.specs.Called.{Answered};
 ghost use Rattle.lpc_request.specs.Replied.{Returns, answered_by};
-ghost use Rattle.lpc_request.specs.Rows.{Finds, name_at, row_at};
+ghost use Rattle.lpc_world.specs.Clauses.{Answers};
 ghost use Rattle.lpc_world.specs.Called.{Served};
 ghost use Rattle.lpc_world.specs.Kept.{has_queued};
 ghost use Rattle.lpc_world.specs.Names.{stands};
@@ -35,8 +36,9 @@ pub fn as_reply(message: &Message) -> Message
 /// thread, REPLY_MESSAGE_MISMATCH where the message fits no wait through the port.
 pub fn reply_test(world: &World, port: Key, message: &Message) -> Result<u32, Status>
     requires port { stands world.now.births.ports port ≡ true }
-    requires name { (row_at world.now port).birth ≡ name_at world.now port }
-    ensures found { Finds (waiter world.now.rows) result (answered_by world.now port message.now) }
+    requires name { IsUnderName world.now port }
+    ensures found { Answers result (waiter world.now.rows)
+        (answered_by world.now port message.now) }
     ensures waits { IfOk result (λ tid. has (waits_as tid) world.now.rows.waits ≡ true) }
     ensures left { IfOk result (λ tid. has_queued world.now.rows tid ≡ false) }
 {

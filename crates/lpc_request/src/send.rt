@@ -5,8 +5,9 @@ ghost use Rattle.lpc_base.specs.declared.limits.TheConstants.{LINES_LIMIT};
 ghost use Rattle.lpc_model.specs.Found.{is_live_thread, is_thread, waits_as};
 ghost use Rattle.lpc_model.specs.Lines.{request_port, request_wait_reply_port};
 ghost use Rattle.lpc_model.specs.Request as request;
+ghost use Rattle.lpc_steps.specs.Clauses.{IsUnderName};
 ghost use Rattle.lpc_request.specs.Called.{Asked};
-ghost use Rattle.lpc_request.specs.Rows.{Finds, name_at, row_at};
+ghost use Rattle.lpc_world.specs.Clauses.{Answers};
 ghost use Rattle.lpc_request.specs.Sent.{Requests, Sends, may_post, may_send, shown};
 ghost use Rattle.lpc_world.specs.Called.{MayServe, Served};
 ghost use Rattle.lpc_world.specs.Kept.{HasWholeBudget};
@@ -38,11 +39,11 @@ pub struct Sendable {
 /// The tests of a message that is sent: the handle, the message, no route.
 fn send_test(world: &World, tid: u32, handle: u32, bytes: &[u8]) -> Result<Sendable, Status>
     requires { is_ready world.now.rows tid ≡ true }
-    ensures found { Finds (shown world.now) result (may_send world.now tid handle bytes.now) }
+    ensures found { Answers result (shown world.now) (may_send world.now tid handle bytes.now) }
     ensures port { IfOk result (λ s. stands world.now.births.ports s.port ≡ true) }
     ensures queue { IfOk result (λ s. stands world.now.births.ports s.queue ≡ true) }
     ensures name { IfOk result
-        (λ s. (row_at world.now s.port).birth ≡ name_at world.now s.port) }
+        (λ s. IsUnderName world.now s.port) }
 {
     let port = port_at(world, tid, handle)?;
     let message = kept(&read_message(bytes)?);
@@ -88,7 +89,7 @@ fn send_datagram(
     requires thread { has (is_thread by.now.number) world.old.rows.threads ≡ true }
     requires port { stands world.old.births.ports port ≡ true }
     requires queue { stands world.old.births.ports queue ≡ true }
-    requires name { (row_at world.old port).birth ≡ name_at world.old port }
+    requires name { IsUnderName world.old port }
     requires room { 0 < world.old.room.messages }
     ensures takes { Sends by.now port queue message.now world.old world.new out.old out.new }
     ensures calls { world.new.calls ≡ world.old.calls }
@@ -109,11 +110,11 @@ fn send_datagram(
 /// The tests of a datagram: those of a message that is sent, and 32 datagrams that aren't received.
 fn datagram_test(world: &World, tid: u32, handle: u32, bytes: &[u8]) -> Result<Sendable, Status>
     requires { is_ready world.now.rows tid ≡ true }
-    ensures found { Finds (shown world.now) result (may_post world.now tid handle bytes.now) }
+    ensures found { Answers result (shown world.now) (may_post world.now tid handle bytes.now) }
     ensures port { IfOk result (λ s. stands world.now.births.ports s.port ≡ true) }
     ensures queue { IfOk result (λ s. stands world.now.births.ports s.queue ≡ true) }
     ensures name { IfOk result
-        (λ s. (row_at world.now s.port).birth ≡ name_at world.now s.port) }
+        (λ s. IsUnderName world.now s.port) }
 {
     let sent = send_test(world, tid, handle, bytes)?;
     lpc_steps::datagram_test(world, sent.port)?;
@@ -175,7 +176,7 @@ fn send_request(
     requires ready { has (waits_as by.now.number) world.old.rows.waits ≡ false }
     requires port { stands world.old.births.ports port ≡ true }
     requires queue { stands world.old.births.ports queue ≡ true }
-    requires name { (row_at world.old port).birth ≡ name_at world.old port }
+    requires name { IsUnderName world.old port }
     ensures takes { Requests by.now port queue message.now world.old world.new out.old out.new }
     ensures calls { world.new.calls ≡ world.old.calls }
     ensures spare { out.old.spare ≤ out.new.spare + 2 }
