@@ -5,7 +5,7 @@ use Rattle.std.proofs.lemmas.Bool.Decides.{nat_tests}
 use Rattle.lpc_base.specs.Rows.{change, count, first, has, which}
 use Rattle.lpc_base.proofs.RowWords.{has-change}
 use Rattle.lpc_model.specs.Basics.{AddsHandle, AddsProcess, AddsThread, DrawsOrdinal, basic, no_handles, past_ordinal, put_handle, with_handle}
-use Rattle.lpc_model.specs.Creation.{create_process_steps, gives_life, new_process, new_thread, second_birth, second_handle}
+use Rattle.lpc_model.specs.Creation.{create_process_steps, gives_life, making_process, new_process, new_thread, second_birth, second_handle}
 use Rattle.lpc_model.specs.Found.{free_handle, handles_of, is_table, is_thread, process_name, rows_in, thread_name}
 use Rattle.lpc_model.specs.Targets.{LIFE_ACCESS}
 use Rattle.lpc_model.specs.Tests.{handle_load, handle_row, is_connect_of, next_birth}
@@ -25,7 +25,6 @@ use Rattle.lpc_model.specs.Machine.{settled}
 use Rattle.lpc_world.specs.Called.{Served, called, service}
 use Rattle.lpc_world.specs.Kept.{Kept}
 use Rattle.lpc_world.specs.Ready.{caller}
-use Rattle.lpc_death.specs.Calls.{making_process}
 
 pub begins : (ts : List ThreadRow) (n : ℕ) (b : Birth) → (b.maker == 0) ≡ false → has (drew b) ts ≡ true → can_begin ts n b ≡ true
 begins ts n b off drawn = rw off drawn

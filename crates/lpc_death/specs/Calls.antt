@@ -9,8 +9,7 @@ use Rattle.lpc_model.specs.Basics.{Basic, Tells}
 use Rattle.lpc_model.specs.Counts.{duplicate_steps}
 use Rattle.lpc_model.specs.Found.{free_handle}
 use Rattle.lpc_model.specs.World as model
-use Rattle.lpc_model.specs.World.{ThreadRow, World}
-use Rattle.lpc_model.specs.Creation.{create_process_steps, create_thread_steps, second_handle}
+use Rattle.lpc_model.specs.World.{ThreadRow}
 use Rattle.lpc_world.specs.Clauses.{row_shown}
 use Rattle.lpc_world.specs.Kept.{Kept, handle_room, lacks_process_room, lacks_thread_room, owed_handles}
 use Rattle.lpc_steps.specs.declared.closing.Closed.{Closed}
@@ -41,10 +40,3 @@ lacks_member_room w by = lacks_thread_room w || lacks_handle_room w by
 -- the connect that made a closed port
 abbrev pub creator_of : Closed → model.Creator
 creator_of c = record { client = c.client; identifier = c.message_id }
-
--- a thread makes a process with its first thread, and a further thread of a process; its own gets the least free handles
-abbrev pub making_process : World → ThreadRow → ℕ → ℕ → List Basic
-making_process w by pid tid = create_process_steps by pid tid (free_handle w by.process) (second_handle w by)
-
-abbrev pub making_thread : World → ThreadRow → ℕ → ℕ → List Basic
-making_thread w by tid pid = create_thread_steps by tid pid (free_handle w by.process)

@@ -3,7 +3,8 @@ ghost use Rattle.std.specs.Prelude.{◌≡◌, ◌+◌, ◌<◌, ◌≤◌, fals
 ghost use Rattle.lpc_base.specs.Rows.{has};
 ghost use Rattle.lpc_base.specs.declared.limits.TheConstants.{HANDLE_LIMIT};
 ghost use Rattle.lpc_base.specs.declared.limits.TheConstants.{LINES_LIMIT};
-ghost use Rattle.lpc_death.specs.Calls.{lacks_child_room, lacks_member_room, making_process, making_thread};
+ghost use Rattle.lpc_model.specs.Creation.{making_process, making_thread};
+ghost use Rattle.lpc_death.specs.Calls.{lacks_child_room, lacks_member_room};
 ghost use Rattle.lpc_model.specs.Found.{is_process, is_table, was_process, was_thread};
 ghost use Rattle.lpc_model.specs.Tests.{handle_load};
 ghost use Rattle.lpc_world.specs.Clauses.{HasSmallLoad};

@@ -16,7 +16,7 @@ use Rattle.lpc_model.specs.Words.{is_id}
 use Rattle.lpc_model.specs.World.{Birth, ProcessRow, ThreadRow, UsedThread, World}
 use Rattle.lpc_model.specs.Found.{free_handle, is_live, live_count, lives_in, process_name, thread_name, was_process, was_thread}
 use Rattle.lpc_model.specs.Basics.{AddsProcess, AddsThread, Basic, DrawsOrdinal, Tells, basic, used, world_after}
-use Rattle.lpc_model.specs.Creation.{child_count_test, create_process_steps, create_thread_steps, gives_life, is_live_child, live_children, new_process, new_thread, nt_create_process, nt_create_thread, second_birth, second_handle, thread_test, unused_test, unused_thread_test}
+use Rattle.lpc_model.specs.Creation.{child_count_test, create_process_steps, gives_life, is_live_child, live_children, making_process, making_thread, new_process, new_thread, nt_create_process, nt_create_thread, second_birth, second_handle, thread_test, unused_test, unused_thread_test}
 use Rattle.lpc_model.specs.Targets.{process_target}
 use Rattle.lpc_model.specs.Tests.{handles_test, live_test, next_birth}
 use Rattle.lpc_model.specs.Lines.{create_process, create_thread}
@@ -53,16 +53,10 @@ use Rattle.lpc_isolation.proofs.Aims.{process-thin, process-view, process-whose,
 use Rattle.lpc_isolation.proofs.Laws.{Lawful, Room, at-most, home-live}
 
 -- whatever holds of the steps holds of the call
-abbrev process_steps : World → ThreadRow → ℕ → ℕ → List Basic
-process_steps w by pid tid = create_process_steps by pid tid (free_handle w by.process) (second_handle w by)
-
-abbrev thread_steps : World → ThreadRow → ℕ → ℕ → List Basic
-thread_steps w by tid pid = create_thread_steps by tid pid (free_handle w by.process)
-
-on-process : (P : List Basic → Type 0) (w : World) (by : ThreadRow) (pid tid : ℕ) → (was_process w pid ≡ false → was_thread w tid ≡ false → P (process_steps w by pid tid)) → Holds P (served w by (create_process pid tid))
+on-process : (P : List Basic → Type 0) (w : World) (by : ThreadRow) (pid tid : ℕ) → (was_process w pid ≡ false → was_thread w tid ≡ false → P (making_process w by pid tid)) → Holds P (served w by (create_process pid tid))
 on-process P w by pid tid all = process-made P w by pid tid all
 
-on-thread : (P : List Basic → Type 0) (w : World) (by : ThreadRow) (target : ProcArg) (tid : ℕ) → ((pid : ℕ) → process_target w by target ≡ Ok pid → is_live w pid ≡ true → was_thread w tid ≡ false → P (thread_steps w by tid pid)) → Holds P (served w by (create_thread target tid))
+on-thread : (P : List Basic → Type 0) (w : World) (by : ThreadRow) (target : ProcArg) (tid : ℕ) → ((pid : ℕ) → process_target w by target ≡ Ok pid → is_live w pid ≡ true → was_thread w tid ≡ false → P (making_thread w by tid pid)) → Holds P (served w by (create_thread target tid))
 unfolding nt_create_thread
 on-thread P w by target tid all =
     bind_holds (process_target w by target) _ P (λ pid at.
@@ -93,7 +87,7 @@ kept-owner us u tid pid own = at (first (is_number tid) us) refl own
     at (Some x) some own = rw (pushed-kept (is_number tid) us u x some) own
 
 -- what it tells is its caller's
-process-begins : (w : World) (by : ThreadRow) (pid tid : ℕ) → owner w by.number ≡ Some by.process → Begins w by.number (process_steps w by pid tid)
+process-begins : (w : World) (by : ThreadRow) (pid tid : ℕ) → owner w by.number ≡ Some by.process → Begins w by.number (making_process w by pid tid)
 process-begins w by pid tid own = record {
   step = Tells (Answer by.number NtCreateProcess SUCCESS (h (free_handle w by.process) ∷ first_thread (second_handle w by) ∷ []));
   rest = DrawsOrdinal by.number ∷ DrawsOrdinal by.number ∷ AddsProcess (new_process pid (Some by.process) (next_birth by)) ∷ AddsThread (new_thread tid pid (second_birth by)) ∷ gives_life by (free_handle w by.process) (process_name (next_birth by)) ∷ gives_life by (second_handle w by) (thread_name (second_birth by)) ∷ [];
@@ -106,7 +100,7 @@ process-begins w by pid tid own = record {
   done = refl;
 }
 
-thread-begins : (w : World) (by : ThreadRow) (tid pid : ℕ) → owner w by.number ≡ Some by.process → Begins w by.number (thread_steps w by tid pid)
+thread-begins : (w : World) (by : ThreadRow) (tid pid : ℕ) → owner w by.number ≡ Some by.process → Begins w by.number (making_thread w by tid pid)
 thread-begins w by tid pid own = record {
   step = Tells (Answer by.number NtCreateThread SUCCESS (h (free_handle w by.process) ∷ []));
   rest = DrawsOrdinal by.number ∷ AddsThread (new_thread tid pid (next_birth by)) ∷ gives_life by (free_handle w by.process) (thread_name (next_birth by)) ∷ [];
@@ -144,28 +138,28 @@ fair-rows t u s one two three = grind arith
 fair-row : (t u s : Bool) → t ≡ true → u ≡ false → s ≡ true → ((not u && t) && (s && true)) ≡ true
 fair-row t u s one two three = grind arith
 
-process-fair : (m : Group) (c : ℕ) (w : World) (by : ThreadRow) (pid tid : ℕ) → m pid ≡ m by.process → was_thread w tid ≡ false → are_fair m c w (process_steps w by pid tid) ≡ true
+process-fair : (m : Group) (c : ℕ) (w : World) (by : ThreadRow) (pid tid : ℕ) → m pid ≡ m by.process → was_thread w tid ≡ false → are_fair m c w (making_process w by pid tid) ≡ true
 process-fair m c w by pid tid same unused = fair-rows (are_together m pid by.process) (was_thread w tid) (by.process == by.process) (together-of m pid by.process same) unused (same-number by.process)
 
-thread-fair : (m : Group) (c : ℕ) (w : World) (by : ThreadRow) (tid pid : ℕ) → m pid ≡ m by.process → was_thread w tid ≡ false → are_fair m c w (thread_steps w by tid pid) ≡ true
+thread-fair : (m : Group) (c : ℕ) (w : World) (by : ThreadRow) (tid pid : ℕ) → m pid ≡ m by.process → was_thread w tid ≡ false → are_fair m c w (making_thread w by tid pid) ≡ true
 thread-fair m c w by tid pid same unused = fair-row (are_together m pid by.process) (was_thread w tid) (by.process == by.process) (together-of m pid by.process same) unused (same-number by.process)
 
 -- An outsider's
-process-apart : (m : Group) (c : ℕ) (u : World) (d : Whose) (w : World) (by : ThreadRow) (pid tid : ℕ) → Fair m c w → owner w by.number ≡ Some by.process → owner u by.number ≡ Some by.process → m by.process ≡ false → m pid ≡ false → are_apart m c u d w (process_steps w by pid tid) ≡ true
+process-apart : (m : Group) (c : ℕ) (u : World) (d : Whose) (w : World) (by : ThreadRow) (pid tid : ℕ) → Fair m c w → owner w by.number ≡ Some by.process → owner u by.number ≡ Some by.process → m by.process ≡ false → m pid ≡ false → are_apart m c u d w (making_process w by pid tid) ≡ true
 process-apart m c u d w by pid tid f own here out pid_out =
     let v : World = basic w (DrawsOrdinal by.number) in
     let first_draw = unseen-thread m c w by.number by.process f own out in
     let next_draw = unseen-thread m c v by.number by.process (keeps-fair m c w (DrawsOrdinal by.number) refl f) own out in
     rw (here, out, first_draw, next_draw, pid_out) refl
 
-thread-apart : (m : Group) (c : ℕ) (u : World) (d : Whose) (w : World) (by : ThreadRow) (tid pid : ℕ) → Fair m c w → owner w by.number ≡ Some by.process → owner u by.number ≡ Some by.process → m by.process ≡ false → m pid ≡ false → are_apart m c u d w (thread_steps w by tid pid) ≡ true
+thread-apart : (m : Group) (c : ℕ) (u : World) (d : Whose) (w : World) (by : ThreadRow) (tid pid : ℕ) → Fair m c w → owner w by.number ≡ Some by.process → owner u by.number ≡ Some by.process → m by.process ≡ false → m pid ≡ false → are_apart m c u d w (making_thread w by tid pid) ≡ true
 thread-apart m c u d w by tid pid f own here out pid_out = rw (here, out, unseen-thread m c w by.number by.process f own out, pid_out) refl
 
 -- A member's
-process-ours : (m : Group) (w : World) (by : ThreadRow) (pid tid : ℕ) → m pid ≡ true → are_ours m w (process_steps w by pid tid) ≡ true
+process-ours : (m : Group) (w : World) (by : ThreadRow) (pid tid : ℕ) → m pid ≡ true → are_ours m w (making_process w by pid tid) ≡ true
 process-ours m w by pid tid inside = rw inside refl
 
-thread-ours : (m : Group) (w : World) (by : ThreadRow) (tid pid : ℕ) → m pid ≡ true → are_ours m w (thread_steps w by tid pid) ≡ true
+thread-ours : (m : Group) (w : World) (by : ThreadRow) (tid pid : ℕ) → m pid ≡ true → are_ours m w (making_thread w by tid pid) ≡ true
 thread-ours m w by tid pid inside = rw inside refl
 
 -- the second handle in a view
@@ -176,7 +170,7 @@ second-view m w by inside =
     ∙ ap (λ v. free_handle v by.process) (sym (run-ours m w (b (free_handle w by.process) ∷ []) refl))
     ∙ free-view m (basic w (b (free_handle w by.process))) by.process inside
 
-steps-view : (m : Group) (w : World) (by : ThreadRow) (pid tid : ℕ) → m by.process ≡ true → process_steps (view m w) by pid tid ≡ process_steps w by pid tid
+steps-view : (m : Group) (w : World) (by : ThreadRow) (pid tid : ℕ) → m by.process ≡ true → making_process (view m w) by pid tid ≡ making_process w by pid tid
 steps-view m w by pid tid inside = ap (λ n. create_process_steps by pid tid n (second_handle (view m w) by)) (free-view m w by.process inside) ∙ ap (create_process_steps by pid tid (free_handle w by.process)) (second-view m w by inside)
 
 -- c's tests in its view
@@ -263,9 +257,9 @@ thread-alike k u by target tid c =
     rw (process-thin k u by target c) (bind-same (process_target u by target) _ _ (λ pid at. rw (is_live-thin k u pid c, threads-thin k u pid c) refl))
 
 -- the circle's word on the process, where the line ends: it lives
-process-fine : (m : Group) (c : ℕ) (after u : World) (by : ThreadRow) (pid tid : ℕ) → HasFineRows m c after → FineAfter m c after u (process_steps u by pid tid)
+process-fine : (m : Group) (c : ℕ) (after u : World) (by : ThreadRow) (pid tid : ℕ) → HasFineRows m c after → FineAfter m c after u (making_process u by pid tid)
 process-fine m c after u by pid tid fine r =
-    let v : World = world_after u (process_steps u by pid tid) in
+    let v : World = world_after u (making_process u by pid tid) in
     let k : Alive = r.alive in
     let p : ProcessRow = new_process pid (Some by.process) (next_birth by) in
     let t : ThreadRow = new_thread tid pid (second_birth by) in
@@ -289,7 +283,7 @@ names-process p t h one two three = grind arith
 names-thread : (t h : Bool) → t ≡ true → h ≡ true → ((t && ((t && h) && true)) && (t && true)) ≡ true
 names-thread t h one two = grind arith
 
-process-stands : (k : Alive) (u : World) (by : ThreadRow) (pid tid : ℕ) → Room k u by (create_process pid tid) → was_process u pid ≡ false → AreClosed k (process_steps u by pid tid)
+process-stands : (k : Alive) (u : World) (by : ThreadRow) (pid tid : ℕ) → Room k u by (create_process pid tid) → was_process u pid ≡ false → AreClosed k (making_process u by pid tid)
 process-stands k u by pid tid room new = names-process (k.processes (next_birth by)) (k.threads (second_birth by)) (k.homes pid) room.process room.second (room.home pid (rw (same-number pid, new) refl))
 
 -- refusals
@@ -313,12 +307,12 @@ process-lawful pid tid = record {
   asked = λ m c w by known a b. on-process (λ bs. Asked (world_after w bs)) w by pid tid (λ _ _. record { sorts = b.sorts; own = b.own; one = b.one });
   sent = λ u by s live. on-process (λ bs. are_sent u bs ≡ true) u by pid tid (λ _ _. refl);
   apart = λ m c d w by known a out. on-process (λ bs. HasFineRows m c (world_after w bs) → are_apart m c (world_after w bs) d w bs ≡ true) w by pid tid (λ _ _ fine.
-      process-apart m c (world_after w (process_steps w by pid tid)) d w by pid tid a.fair a.own (kept-owner w.used_threads (used (new_thread tid pid (second_birth by))) by.number by.process a.own) out (made-group m c by pid w.processes fine.0 ∙ out));
+      process-apart m c (world_after w (making_process w by pid tid)) d w by pid tid a.fair a.own (kept-owner w.used_threads (used (new_thread tid pid (second_birth by))) by.number by.process a.own) out (made-group m c by pid w.processes fine.0 ∙ out));
   own = λ m c d w by known a mine fine. own-after m c d w by known a mine fine;
   leads = λ m c d w by known a by_in other. on-process (λ bs. HasFineRows m c (world_after w bs) → Leading m c (world_after w bs) d w by known (create_process pid tid) bs) w by pid tid (λ _ _ fine.
-      subst (Led m c (world_after w (process_steps w by pid tid)) d w (process_steps w by pid tid)) (sym (steps-view m w by pid tid by_in)) (led-same m c (world_after w (process_steps w by pid tid)) d w (process_steps w by pid tid) (process-ours m w by pid tid (made-group m c by pid w.processes fine.0 ∙ by_in))));
+      subst (Led m c (world_after w (making_process w by pid tid)) d w (making_process w by pid tid)) (sym (steps-view m w by pid tid by_in)) (led-same m c (world_after w (making_process w by pid tid)) d w (making_process w by pid tid) (process-ours m w by pid tid (made-group m c by pid w.processes fine.0 ∙ by_in))));
   hears = λ m c d w by known memo a owned n b all out. on-process (λ bs. HasFineRows m c (world_after w bs) → Hears m c (world_after w bs) d w memo bs) w by pid tid (λ _ _ fine.
-      still-hears m c (world_after w (process_steps w by pid tid)) d w memo (process_steps w by pid tid) all (refl, refl));
+      still-hears m c (world_after w (making_process w by pid tid)) d w memo (making_process w by pid tid) all (refl, refl));
   notes = λ m c w by known memo a owned n b all by_in. on-process (λ bs. AllKnown m (cond (by.process == c) memo memo) (world_after w bs)) w by pid tid (λ _ _. unnoted m memo w (by.process == c) all);
   alike = λ k u by live c. process-alike k u by pid tid c;
   stands = λ k u by live s c room. on-process (AreClosed k) u by pid tid (λ new _. process-stands k u by pid tid room new);
@@ -329,7 +323,7 @@ process-lawful pid tid = record {
     own-after m c d w by known a mine fine =
         answered-same (λ bs led. HasFineRows m c (world_after w bs) → Led m c (world_after w bs) d w bs led) (served w by (create_process pid tid)) (served (view m w) by (create_process pid tid)) (process-same m c w by known pid tid a mine fine)
         (on-process (λ bs. HasFineRows m c (world_after w bs) → Led m c (world_after w bs) d w bs bs) w by pid tid (λ _ _ after.
-        led-same m c (world_after w (process_steps w by pid tid)) d w (process_steps w by pid tid) (process-ours m w by pid tid (made-group m c by pid w.processes after.0 ∙ ap m mine ∙ a.c_in))))
+        led-same m c (world_after w (making_process w by pid tid)) d w (making_process w by pid tid) (process-ours m w by pid tid (made-group m c by pid w.processes after.0 ∙ ap m mine ∙ a.c_in))))
 
 -- refusals
 thread-refuses : (target : ProcArg) (tid : ℕ) → (w : World) (by : ThreadRow) → Refuses (served w by (create_thread target tid))
@@ -352,12 +346,12 @@ thread-lawful target tid = record {
   asked = λ m c w by known a b. on-thread (λ bs. Asked (world_after w bs)) w by target tid (λ _ _ _ _. record { sorts = b.sorts; own = b.own; one = b.one });
   sent = λ u by s live. on-thread (λ bs. are_sent u bs ≡ true) u by target tid (λ _ _ _ _. refl);
   apart = λ m c d w by known a out. on-thread (λ bs. HasFineRows m c (world_after w bs) → are_apart m c (world_after w bs) d w bs ≡ true) w by target tid (λ pid at _ _ fine.
-      thread-apart m c (world_after w (thread_steps w by tid pid)) d w by tid pid a.fair a.own (kept-owner w.used_threads (used (new_thread tid pid (next_birth by))) by.number by.process a.own) out (target-group m c w by target pid a.fair at ∙ out));
+      thread-apart m c (world_after w (making_thread w by tid pid)) d w by tid pid a.fair a.own (kept-owner w.used_threads (used (new_thread tid pid (next_birth by))) by.number by.process a.own) out (target-group m c w by target pid a.fair at ∙ out));
   own = λ m c d w by known a mine fine. own-after m c d w by known a mine fine;
   leads = λ m c d w by known a by_in other. on-thread (λ bs. HasFineRows m c (world_after w bs) → Leading m c (world_after w bs) d w by known (create_thread target tid) bs) w by target tid (λ pid at _ _ fine.
-      rw (process-view m c w by target by_in a.fair, at, free-view m w by.process by_in) (led-same m c (world_after w (thread_steps w by tid pid)) d w (thread_steps w by tid pid) (thread-ours m w by tid pid (target-group m c w by target pid a.fair at ∙ by_in))));
+      rw (process-view m c w by target by_in a.fair, at, free-view m w by.process by_in) (led-same m c (world_after w (making_thread w by tid pid)) d w (making_thread w by tid pid) (thread-ours m w by tid pid (target-group m c w by target pid a.fair at ∙ by_in))));
   hears = λ m c d w by known memo a owned n b all out. on-thread (λ bs. HasFineRows m c (world_after w bs) → Hears m c (world_after w bs) d w memo bs) w by target tid (λ pid _ _ _ fine.
-      still-hears m c (world_after w (thread_steps w by tid pid)) d w memo (thread_steps w by tid pid) all (refl, refl));
+      still-hears m c (world_after w (making_thread w by tid pid)) d w memo (making_thread w by tid pid) all (refl, refl));
   notes = λ m c w by known memo a owned n b all by_in. on-thread (λ bs. AllKnown m (cond (by.process == c) memo memo) (world_after w bs)) w by target tid (λ _ _ _ _. unnoted m memo w (by.process == c) all);
   alike = λ k u by live c. thread-alike k u by target tid c;
   stands = λ k u by live s c room. on-thread (AreClosed k) u by target tid (λ pid _ lives _. names-thread (k.threads (next_birth by)) (k.homes pid) room.thread (home-live k u pid c lives));
@@ -368,4 +362,4 @@ thread-lawful target tid = record {
     own-after m c d w by known a mine fine =
         answered-same (λ bs led. HasFineRows m c (world_after w bs) → Led m c (world_after w bs) d w bs led) (served w by (create_thread target tid)) (served (view m w) by (create_thread target tid)) (thread-same m c w by known target tid a mine fine)
         (on-thread (λ bs. HasFineRows m c (world_after w bs) → Led m c (world_after w bs) d w bs bs) w by target tid (λ pid at _ _ after.
-        led-same m c (world_after w (thread_steps w by tid pid)) d w (thread_steps w by tid pid) (thread-ours m w by tid pid (target-group m c w by target pid a.fair at ∙ ap m mine ∙ a.c_in))))
+        led-same m c (world_after w (making_thread w by tid pid)) d w (making_thread w by tid pid) (thread-ours m w by tid pid (target-group m c w by target pid a.fair at ∙ ap m mine ∙ a.c_in))))

@@ -13,7 +13,7 @@ use Rattle.lpc_model.specs.Close.{close_steps}
 use Rattle.lpc_model.specs.Counts.{asked, duplicate_steps}
 use Rattle.lpc_model.specs.Death.{terminate_thread_steps, code_status, terminate_process_steps}
 use Rattle.lpc_model.specs.Register.{register_steps}
-use Rattle.lpc_model.specs.Creation.{create_process_steps, create_thread_steps, second_handle}
+use Rattle.lpc_model.specs.Creation.{making_process, making_thread}
 use Rattle.lpc_model.specs.Targets.{process_target, thread_target}
 use Rattle.lpc_model.specs.declared.line.ProcArg.{ProcArg}
 use Rattle.lpc_isolation.proofs.Served.{served}
@@ -54,11 +54,8 @@ led_duplicate v by handle access = on_ok (own_handle v by handle) (λ r. duplica
 abbrev led_register : World → ThreadRow → ℕ → List Basic
 led_register v by handle = on_ok (port_test v by handle) (λ port. register_steps by port.birth)
 
-abbrev led_process : World → ThreadRow → ℕ → ℕ → List Basic
-led_process v by pid tid = create_process_steps by pid tid (free_handle v by.process) (second_handle v by)
-
 abbrev led_thread : World → ThreadRow → ProcArg → ℕ → List Basic
-led_thread v by target tid = on_ok (process_target v by target) (λ pid. create_thread_steps by tid pid (free_handle v by.process))
+led_thread v by target tid = on_ok (process_target v by target) (making_thread v by tid)
 
 abbrev led_end : World → ThreadRow → ProcArg → ℕ → List Basic
 led_end v by target code = on_ok (thread_target v by target) (λ t. terminate_thread_steps by (code_status code) t v)
@@ -81,7 +78,7 @@ leads_by m known v by (close handle) e = led_close v by handle
 leads_by m known v by (duplicate_object handle access) e = led_duplicate v by handle access
 leads_by m known v by (query_object handle) e = []
 leads_by m known v by (register_thread_terminate_port handle) e = led_register v by handle
-leads_by m known v by (create_process pid tid) e = led_process v by pid tid
+leads_by m known v by (create_process pid tid) e = making_process v by pid tid
 leads_by m known v by (create_thread target tid) e = led_thread v by target tid
 leads_by m known v by (terminate_thread target code) e = led_end v by target code
 leads_by m known v by (terminate_process target code) e = led_ends v by target code

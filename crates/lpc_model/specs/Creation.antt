@@ -88,13 +88,17 @@ abbrev pub second_handle : World → ThreadRow → ℕ
 second_handle w by =
     free_handle (basic w (gives_life by (free_handle w by.process) (process_name (next_birth by)))) by.process
 
+-- with the least free handles
+abbrev pub making_process : World → ThreadRow → ℕ → ℕ → List Basic
+making_process w by pid tid = create_process_steps by pid tid (free_handle w by.process) (second_handle w by)
+
 -- NtCreateProcess: a number that was ever used, 64 live children, too many handles
 unfoldable pub nt_create_process : World → ThreadRow → ℕ → ℕ → Result (List Basic) Status
 nt_create_process w by pid tid = do
   _ ← unused_test w pid tid
   _ ← child_count_test w by.process
   _ ← handles_test w by.process 2
-  Ok (create_process_steps by pid tid (free_handle w by.process) (second_handle w by))
+  Ok (making_process w by pid tid)
 
 -- the caller makes a thread of a process, and gets a handle to it
 abbrev pub create_thread_steps : ThreadRow → ℕ → ℕ → ℕ → List Basic
@@ -105,6 +109,10 @@ create_thread_steps by tid pid value =
     ∷ gives_life by value (thread_name (next_birth by))
     ∷ []
 
+-- with the least free handle
+abbrev pub making_thread : World → ThreadRow → ℕ → ℕ → List Basic
+making_thread w by tid pid = create_thread_steps by tid pid (free_handle w by.process)
+
 -- NtCreateThread: the handle, a process that has ended, a thread number that was ever used, 64 live threads, too many
 -- handles
 unfoldable pub nt_create_thread : World → ThreadRow → ProcArg → ℕ → Result (List Basic) Status
@@ -112,4 +120,4 @@ nt_create_thread w by target tid = do
   pid ← process_target w by target
   _ ← thread_test w tid pid
   _ ← handles_test w by.process 1
-  Ok (create_thread_steps by tid pid (free_handle w by.process))
+  Ok (making_thread w by tid pid)
