@@ -1,8 +1,8 @@
 -- What is told of closings: each completed client port that loses its last handle is told of once.
-use Rattle.std.specs.Prelude.{◌≡◌, ℕ, ◌==◌, ◌++◌, Bool, List, [], ◌∷◌}
+use Rattle.std.specs.Prelude.{◌≡◌, ℕ, ◌++◌, Bool, List, [], ◌∷◌}
 use Rattle.lpc_base.specs.Rows.{each, given, when, which}
-use Rattle.lpc_message.specs.declared.kind.TheConstants.{PORT_CLOSED}
 use Rattle.lpc_model.specs.World.{Birth, MessageRow, World}
+use Rattle.lpc_model.specs.Message.{tells_closing}
 use Rattle.lpc_model.specs.Found.{handle_at, port_row}
 use Rattle.lpc_model.specs.Basics.{Basic, DropsHandle, basic}
 use Rattle.lpc_model.specs.Close.{is_last, closing_post}
@@ -12,7 +12,7 @@ use Rattle.lpc_model.specs.Run.{Along, first_state, said_in}
 
 -- a message that tells of a closed port
 abbrev pub is_closed_post : MessageRow → Bool
-is_closed_post m = m.message.header.kind == PORT_CLOSED
+is_closed_post m = tells_closing m.message
 
 -- the port whose last handle goes by a step
 abbrev pub closes : World → Basic → List Birth

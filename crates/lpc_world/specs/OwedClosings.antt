@@ -1,11 +1,10 @@
 -- Client ports of whose closing no message tells yet, the messages that tell of closings, and those whose place is owed.
-use Rattle.std.specs.Prelude.{◌≡◌, ℕ, ◌==◌, ◌&&◌, ◌||◌, not, Bool, true}
+use Rattle.std.specs.Prelude.{◌≡◌, ℕ, ◌&&◌, ◌||◌, not, Bool, true}
 use Rattle.lpc_base.specs.Rows.{has}
 use Rattle.lpc_base.specs.declared.port_kind.PortKind.{PortKind}
 use Rattle.lpc_base.specs.declared.port_kind.PortKind.TheVariants.{Client}
-use Rattle.lpc_message.specs.declared.kind.TheConstants.{PORT_CLOSED}
 use Rattle.lpc_model.specs.Found.{is_client_port, is_port}
-use Rattle.lpc_model.specs.Message.{asks}
+use Rattle.lpc_model.specs.Message.{asks, tells_closing}
 use Rattle.lpc_model.specs.SingleClosings.{is_closing_of}
 use Rattle.lpc_model.specs.World.{Birth, PortRow, World}
 use Rattle.lpc_model.specs.declared.message.Message.{Message}
@@ -13,10 +12,6 @@ use Rattle.lpc_model.specs.declared.message.Message.{Message}
 -- the client port of a birth
 abbrev pub is_client_of : Birth → PortRow → Bool
 is_client_of b p = is_port b p && is_client_port p
-
--- a message tells that the port on which it was sent is closed
-abbrev pub tells_closing : Message → Bool
-tells_closing m = m.header.kind == PORT_CLOSED
 
 -- a message has a place that is owed: that of its sender's own message where it asks, that of its port's closing where it
 -- tells of one
