@@ -6,7 +6,7 @@ use Rattle.lpc_base.specs.declared.status.Status.{Status}
 use Rattle.lpc_base.proofs.RowWords.{every-change, every-more}
 use Rattle.lpc_model.specs.Basics.{Unregisters, basic, ended, in_turn, world_after}
 use Rattle.lpc_model.specs.Closings.{is_closed_post}
-use Rattle.lpc_model.specs.Death.{die}
+use Rattle.lpc_model.specs.Death.{die, dying}
 use Rattle.lpc_model.specs.Deaths.{HasSingleRegistrations, registers_once}
 use Rattle.lpc_model.specs.Entering.{enter}
 use Rattle.lpc_model.specs.Found.{is_table, is_thread}
@@ -22,7 +22,7 @@ use Rattle.lpc_model.proofs.ToldLines.{die-hushed}
 use Rattle.lpc_model.proofs.SingleClosings.{hushed-all}
 use Rattle.lpc_world.specs.Registered.{Death}
 use Rattle.lpc_death.specs.Closing.{CanCloseAll}
-use Rattle.lpc_death.specs.Dying.{dying, telling_one, told_row}
+use Rattle.lpc_death.specs.Dying.{telling_one, told_row}
 use Rattle.lpc_death.proofs.HandlesKept.{KeepHandles, keeps_handles, kept-all, kept-away, kept-given}
 
 -- Threads that end

@@ -11,7 +11,7 @@ use Rattle.lpc_model.specs.declared.entry.Entry.{Entry}
 use Rattle.lpc_model.specs.declared.entry.Entry.TheVariants.{Died}
 use Rattle.lpc_model.specs.Basics.{Basic, Cuts, Dies, Empties, Unbinds, Wakes, Withdraws, basic, cut, doing, ended, in_turn, is_end_of, world_after, ◌▹◌}
 use Rattle.lpc_model.specs.Close.{cut_pair}
-use Rattle.lpc_model.specs.Death.{cut_accepted, die}
+use Rattle.lpc_model.specs.Death.{cut_accepted, die, dying}
 use Rattle.lpc_model.specs.Found.{is_accepted, is_live_thread, is_thread, lives_in, live_threads, waits_as}
 use Rattle.lpc_model.specs.Linked.{is_mutual}
 use Rattle.lpc_model.specs.Listed.{Listed}
@@ -28,7 +28,7 @@ use Rattle.lpc_world.specs.Registered.{accepted_port_in}
 use Rattle.lpc_steps.proofs.Composed.{left-then, left_further}
 use Rattle.lpc_world.proofs.Dying.{fewer-alive}
 use Rattle.lpc_steps.proofs.Endings.{pairs-kept, which-none}
-use Rattle.lpc_death.specs.Dying.{dying, dying_all, ending_entries}
+use Rattle.lpc_death.specs.Dying.{dying_all, ending_entries}
 use Rattle.lpc_model.specs.Lawful.{HasThreadsOnce}
 
 -- A thread that ends

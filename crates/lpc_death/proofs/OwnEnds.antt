@@ -6,7 +6,7 @@ use Rattle.lpc_base.specs.declared.status.Status.{Status}
 use Rattle.lpc_base.proofs.RowWords.{first-passes}
 use Rattle.lpc_model.specs.Basics.{Steps, Tells, doing, outcome_of, ◌▹◌}
 use Rattle.lpc_model.specs.declared.entry.Outcome.TheVariants as outcome
-use Rattle.lpc_model.specs.Death.{answer_unless, code_status, end_threads, nt_terminate_process, nt_terminate_thread, terminate_process_steps, terminate_thread_steps}
+use Rattle.lpc_model.specs.Death.{answer_unless, code_status, dying, end_threads, nt_terminate_process, nt_terminate_thread, terminate_process_steps, terminate_thread_steps}
 use Rattle.lpc_model.specs.Targets.{process_target, thread_target}
 use Rattle.lpc_model.specs.Refusal.{refuse_if}
 use Rattle.lpc_model.specs.Then.{◌>>=◌}
@@ -30,7 +30,6 @@ use Rattle.lpc_world.specs.Does.{Took}
 use Rattle.lpc_world.specs.Kept.{Kept}
 use Rattle.lpc_world.specs.Ready.{caller, is_ready, thread_in}
 use Rattle.lpc_world.proofs.Finds.{not_ready}
-use Rattle.lpc_death.specs.Dying.{dying}
 use Rattle.lpc_death.specs.Ends.{CanEnd, ended_outcome, living_process, living_thread, told_unless, telling_ends}
 use Rattle.lpc_steps.proofs.Composed.{took-then}
 use Rattle.lpc_death.proofs.CanEnd.{one-dead}

@@ -7,7 +7,7 @@ use Rattle.lpc_base.specs.Rows.{change, count, each, every, first, has, which}
 use Rattle.lpc_base.specs.declared.status.Status.{Status}
 use Rattle.lpc_base.proofs.RowWords.{every-more, first-passes}
 use Rattle.lpc_model.specs.Basics.{Steps, ended, in_turn, provided, world_after, ◌▹◌}
-use Rattle.lpc_model.specs.Death.{die, end_process, end_threads, post_death, post_deaths}
+use Rattle.lpc_model.specs.Death.{die, dying, end_process, end_threads, post_death, post_deaths}
 use Rattle.lpc_model.specs.Deaths.{HasLivingRegistrations, has_living_registrations}
 use Rattle.lpc_model.specs.Found.{is_live, is_live_thread, is_thread, live_thread, live_threads, lives_in}
 use Rattle.lpc_model.specs.World.{Birth, ThreadRow, World}
@@ -15,15 +15,12 @@ use Rattle.lpc_model.proofs.Closing.{behind}
 use Rattle.lpc_model.proofs.DeathLines.{die-threads}
 use Rattle.lpc_model.proofs.Ending.{behind_dead}
 use Rattle.lpc_model.proofs.SoundQueues.{after-append}
-use Rattle.lpc_world.specs.Registered.{Death, death_by, has_ended_in}
-use Rattle.lpc_death.specs.Dying.{dying, dying_all, telling_all, telling_one}
+use Rattle.lpc_world.specs.Registered.{death_by, deaths_of, has_ended_in}
+use Rattle.lpc_death.specs.Dying.{dying_all, telling_all, telling_one}
 use Rattle.lpc_death.specs.Ends.{telling_ends}
 use Rattle.lpc_model.specs.Lawful.{HasThreadsOnce}
 
 -- Deaths that are told in turn
-abbrev deaths_of : ThreadRow → List Death
-deaths_of t = map (death_by t) t.registrations
-
 turn-append : {A : Type 0} (f : A → Steps) (xs ys : List A) (w : World) → in_turn f (xs ++ ys) w ≡ (in_turn f xs ▹ in_turn f ys) w
 turn-append f [] ys w = refl
 turn-append f (x ∷ xs) ys w =

@@ -1,7 +1,8 @@
 // Threads that end.
 ghost use Rattle.std.specs.Prelude.{◌≡◌, ◌+◌, ◌≤◌, ◌∷◌, [], true};
 ghost use Rattle.lpc_base.specs.Rows.{has};
-ghost use Rattle.lpc_death.specs.Dying.{dying, dying_all, ending_entries};
+ghost use Rattle.lpc_model.specs.Death.{dying};
+ghost use Rattle.lpc_death.specs.Dying.{dying_all, ending_entries};
 ghost use Rattle.lpc_model.specs.Lawful.{HasThreadsOnce};
 ghost use Rattle.lpc_model.specs.Basics.{Dies, Withdraws};
 ghost use Rattle.lpc_model.specs.Found.{is_live_thread};

@@ -4,6 +4,7 @@ use Rattle.lpc_base.specs.Rows.{given, when}
 use Rattle.lpc_base.specs.declared.status.Status.{Status}
 use Rattle.lpc_base.specs.declared.status.TheConstants.{INVALID_CID, SUCCESS}
 use Rattle.lpc_message.specs.declared.kind.TheConstants.{CLIENT_DIED}
+use Rattle.lpc_message.specs.declared.message.ClientId.{ClientId}
 use Rattle.lpc_model.specs.declared.entry.CallName.{CallName}
 use Rattle.lpc_model.specs.declared.entry.CallName.TheVariants.{NtTerminateProcess, NtTerminateThread}
 use Rattle.lpc_model.specs.declared.entry.Entry.TheVariants.{Answer}
@@ -25,18 +26,26 @@ abbrev pub cut_accepted : Option WaitRow → Steps
 cut_accepted None = doing []
 cut_accepted (Some x) = provided (λ w. is_accepted x) (cut_pair x.port)
 
--- 1: a thread ends with its wait; its own message leaves its queue, where it still stands there
+-- 1: a thread ends with its wait, by its number; its own message leaves its queue, where it still stands there
+abbrev pub dying : Status → ℕ → Steps
+dying code tid w = (doing (Dies tid code ∷ Withdraws tid ∷ []) ▹ cut_accepted (wait_of w tid)) w
+
 abbrev pub die : Status → ThreadRow → Steps
-die code t w = (doing (Dies t.number code ∷ Withdraws t.number ∷ []) ▹ cut_accepted (wait_of w t.number)) w
+die code t = dying code t.number
 
 -- 2: that a thread has ended is posted on each port that it registered, where that is open and has a way: a message in
 -- the thread's name, whose data name it by its birth
+abbrev pub end_message : ClientId → Birth → Message
+end_message client birth = made CLIENT_DIED client 0 (birth_bytes birth)
+
+abbrev pub end_post : World → Birth → Message → Option MessageRow
+end_post w port m = option_and_then (λ p. option_map (λ queue. row_of queue p m) (route w p)) (port_row w port)
+
 abbrev pub died_message : ThreadRow → Message
-died_message t = made CLIENT_DIED (client_of t) 0 (birth_bytes t.birth)
+died_message t = end_message (client_of t) t.birth
 
 abbrev pub death_post : World → ThreadRow → Birth → Option MessageRow
-death_post w t b =
-    option_and_then (λ p. option_map (λ queue. row_of queue p (died_message t)) (route w p)) (port_row w b)
+death_post w t port = end_post w port (died_message t)
 
 -- the registration goes, and then the message enters
 abbrev pub post_death : ThreadRow → Birth → Steps

@@ -26,28 +26,24 @@ use Rattle.lpc_world.specs.Lawful.{AreLawful, are_single_threads, has_named_port
 use Rattle.lpc_world.specs.Names.{name_of, stands}
 use Rattle.lpc_world.specs.Ready.{caller, is_ready, thread_in}
 use Rattle.lpc_world.specs.Registered as registered
-use Rattle.lpc_world.specs.Registered.{Death, HasFewRegistrations, accepted_port_in, death_by, has_ended_in, registrations_of, untold_of}
+use Rattle.lpc_world.specs.Registered.{Death, HasFewRegistrations, accepted_port_in, death_by, deaths_of, has_ended_in, registrations_of, untold_of}
 use Rattle.lpc_world.specs.Shown.{Births, Tables, all_pass, birth_of, births_of, object_stands, shown_thread, shown_wait, wait_refs}
 use Rattle.lpc_world.proofs.Connecting.{accepted_kind}
 use Rattle.lpc_world.proofs.Naming.{name_is}
 use Rattle.lpc_world.proofs.Readings as readings
 use Rattle.lpc_world.proofs.Registered.{births-registered}
 
--- the deaths of a thread's ports
-abbrev deaths : model.ThreadRow → List Death
-deaths t = map (death_by t) t.registrations
-
 abbrev head_of : ThreadRow → Option Death
 head_of t = option_map (λ (r : Registration). death_by (shown_thread t) r.birth) (procs.first_registered t)
 
 -- the first is that of the first thread of the process that has ended and has registrations
-pub first_untold_is : (pid : ℕ) (ts : List ThreadRow) → first (λ _. true) (each deaths (which (has_ended_in pid) (map shown_thread ts))) ≡ option_and_then head_of (first (procs.is_untold pid) ts)
+pub first_untold_is : (pid : ℕ) (ts : List ThreadRow) → first (λ _. true) (each deaths_of (which (has_ended_in pid) (map shown_thread ts))) ≡ option_and_then head_of (first (procs.is_untold pid) ts)
 first_untold_is pid [] = refl
 first_untold_is pid (t ∷ ts) = at (first_untold_is pid ts) (has_ended_in pid (shown_thread t)) refl t.registered.items refl
   where
-    at : first (λ _. true) (each deaths (which (has_ended_in pid) (map shown_thread ts))) ≡ option_and_then head_of (first (procs.is_untold pid) ts)
+    at : first (λ _. true) (each deaths_of (which (has_ended_in pid) (map shown_thread ts))) ≡ option_and_then head_of (first (procs.is_untold pid) ts)
         → (c : Bool) → has_ended_in pid (shown_thread t) ≡ c → (rs : List Registration) → t.registered.items ≡ rs
-        → first (λ _. true) (each deaths (which (has_ended_in pid) (map shown_thread (t ∷ ts)))) ≡ option_and_then head_of (first (procs.is_untold pid) (t ∷ ts))
+        → first (λ _. true) (each deaths_of (which (has_ended_in pid) (map shown_thread (t ∷ ts)))) ≡ option_and_then head_of (first (procs.is_untold pid) (t ∷ ts))
     at later false off rs is = let none : procs.is_untold pid t ≡ false = grind (arith, off) in rw (off, none) later
     at later true here [] is = let none : procs.is_untold pid t ≡ false = rw is (grind (arith, here)) in rw (here, none, is) later
     at later true here (r ∷ rs) is = let some : procs.is_untold pid t ≡ true = rw is (grind (arith, here)) in rw (here, some, is) refl

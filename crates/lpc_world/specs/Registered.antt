@@ -39,10 +39,14 @@ death_by t b = record { client = client_of t; birth = t.birth; port = b }
 abbrev pub death_shown : code.Death → Death
 death_shown u = record { client = u.client; birth = u.birth; port = u.registered }
 
+-- what the ports that a thread registered are to be told of it
+abbrev pub deaths_of : ThreadRow → List Death
+deaths_of t = map (death_by t) t.registrations
+
 -- what isn't told yet of the threads of a process that have ended, thread by thread in the order of making, and of each in
 -- the order of registration
 abbrev pub untold_of : World → ℕ → List Death
-untold_of w pid = each (λ t. map (death_by t) t.registrations) (which (has_ended_in pid) w.threads)
+untold_of w pid = each deaths_of (which (has_ended_in pid) w.threads)
 
 -- a thread has ended
 abbrev pub with_ended : World → ℕ → World

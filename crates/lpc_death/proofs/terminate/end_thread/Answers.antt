@@ -7,10 +7,9 @@ use Rattle.lpc_world.specs.Does.{Left, Took}
 use Rattle.lpc_world.specs.Ready.{caller}
 use Rattle.lpc_steps.proofs.Composed.{took-then}
 use Rattle.lpc_death.specs.Closing.{CanCloseAll}
-use Rattle.lpc_death.specs.Dying.{dying}
 use Rattle.lpc_death.specs.Ends.{telling_ends}
 use Rattle.lpc_death.proofs.CanEnd.{died-can, died-single, died-table}
-use Rattle.lpc_model.specs.Death.{end_threads}
+use Rattle.lpc_model.specs.Death.{dying, end_threads}
 use Rattle.lpc_death.proofs.OwnEnds.{thread-dead, thread-ends-by}
 use Rattle.lpc_death.proofs.terminate.end_thread.Goals as goal
 
