@@ -3,11 +3,11 @@
 use Rattle.std.proofs.Common.{◌≡◌, ◌∙◌, ℕ, ◌+◌, ◌≤◌, List, [], ◌∷◌, Bool, true, false, cond, Some, refl, ap, sym, subst, arith}
 use Rattle.std.specs.Prelude.{◌==◌, ◌&&◌}
 use Rattle.std.proofs.lemmas.Bool.{eqb-true}
-use Rattle.lpc_base.specs.Rows.{change, count, each, every, first, when, without_first}
+use Rattle.lpc_base.specs.Rows.{change, count, every, first, when, without_first}
 use Rattle.lpc_model.specs.declared.entry.ObjectKind.{ObjectKind}
 use Rattle.lpc_model.specs.declared.entry.ObjectKind.TheVariants as kind
 use Rattle.lpc_model.specs.World.{Birth, HandleRow, HandleTable, MessageRow, ObjectName, PortRow, World}
-use Rattle.lpc_model.specs.Found.{handle_at, handle_count, has_value, is_client_port, is_open, is_port, is_table, names_port, port_name, port_row, rows_in, same_birth}
+use Rattle.lpc_model.specs.Found.{handle_at, handle_count, handles_in, has_value, is_client_port, is_open, is_port, is_table, names_port, port_name, port_row, rows_in, same_birth}
 use Rattle.lpc_model.specs.Basics.{Basic, Completes, Cuts, DropsHandle, Frees, Joins, Makes, basic, completed, cut, is_end_of, without_handle, world_after}
 use Rattle.lpc_model.specs.Close.{close_port, closing_post}
 use Rattle.lpc_model.specs.Tests.{handle_row}
@@ -55,9 +55,6 @@ pub told-rows : (w : World) (b : Birth) (p : PortRow) (m : MessageRow) → port_
 told-rows w b p m row told = count-some (is_client_of b) w.ports (client-row b w.ports p row (told-client w p m told))
 
 -- Handles of an object: without the handle that goes there is one less
-abbrev handles_in : List HandleTable → List HandleRow
-handles_in ts = each (λ t. t.rows) ts
-
 less-named : (p : HandleRow → Bool) (pid value : ℕ) (ts : List HandleTable) → count p (handles_in (change (is_table pid) (without_handle value) ts)) ≤ count p (handles_in ts)
 less-named p pid value [] = omega arith
 less-named p pid value (t ∷ ts) = at (is_table pid t) refl (less-named p pid value ts)

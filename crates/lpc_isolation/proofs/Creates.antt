@@ -14,13 +14,13 @@ use Rattle.lpc_model.specs.declared.line.ProcArg.{ProcArg}
 use Rattle.lpc_model.specs.Fields.{first_thread, h}
 use Rattle.lpc_model.specs.Words.{is_id}
 use Rattle.lpc_model.specs.World.{Birth, ProcessRow, ThreadRow, UsedThread, World}
-use Rattle.lpc_model.specs.Found.{free_handle, is_live, live_count, lives_in, process_name, thread_name, was_process, was_thread}
+use Rattle.lpc_model.specs.Found.{free_handle, is_live, is_used_thread, live_count, lives_in, process_name, thread_name, was_process, was_thread}
 use Rattle.lpc_model.specs.Basics.{AddsProcess, AddsThread, Basic, DrawsOrdinal, Tells, basic, used, world_after}
 use Rattle.lpc_model.specs.Creation.{child_count_test, create_process_steps, gives_life, is_live_child, live_children, making_process, making_thread, new_process, new_thread, nt_create_process, nt_create_thread, second_birth, second_handle, thread_test, unused_test, unused_thread_test}
 use Rattle.lpc_model.specs.Targets.{process_target}
 use Rattle.lpc_model.specs.Tests.{handles_test, live_test, next_birth}
 use Rattle.lpc_model.specs.Lines.{create_process, create_thread}
-use Rattle.lpc_model.specs.Circle.{Group, Whose, is_fine_call, is_fine_process, is_no_outsider, is_no_outsiders_thread, is_number, owned, owner}
+use Rattle.lpc_model.specs.Circle.{Group, Whose, is_fine_call, is_fine_process, is_no_outsider, is_no_outsiders_thread, owned, owner}
 use Rattle.lpc_model.proofs.Creating.{process-made, tested-further}
 use Rattle.lpc_model.proofs.Holding.{Holds, bind_holds, holds_ok}
 use Rattle.lpc_isolation.proofs.Served.{served}
@@ -79,12 +79,12 @@ target-group : (m : Group) (c : ℕ) (w : World) (by : ThreadRow) (target : Proc
 target-group m c w by target pid f at = holds_ok (λ pid. m pid ≡ m by.process) (process_target w by target) pid (process-whose m c w by target f) at
 
 -- the owner of a number stays
-kept-owner : (us : List UsedThread) (u : UsedThread) (tid pid : ℕ) → option_map (λ (u : UsedThread). u.process) (first (is_number tid) us) ≡ Some pid → option_map (λ (u : UsedThread). u.process) (first (is_number tid) (us ++ u ∷ [])) ≡ Some pid
-kept-owner us u tid pid own = at (first (is_number tid) us) refl own
+kept-owner : (us : List UsedThread) (u : UsedThread) (tid pid : ℕ) → option_map (λ (u : UsedThread). u.process) (first (is_used_thread tid) us) ≡ Some pid → option_map (λ (u : UsedThread). u.process) (first (is_used_thread tid) (us ++ u ∷ [])) ≡ Some pid
+kept-owner us u tid pid own = at (first (is_used_thread tid) us) refl own
   where
-    at : (o : Option UsedThread) → first (is_number tid) us ≡ o → option_map (λ (u : UsedThread). u.process) o ≡ Some pid → option_map (λ (u : UsedThread). u.process) (first (is_number tid) (us ++ u ∷ [])) ≡ Some pid
+    at : (o : Option UsedThread) → first (is_used_thread tid) us ≡ o → option_map (λ (u : UsedThread). u.process) o ≡ Some pid → option_map (λ (u : UsedThread). u.process) (first (is_used_thread tid) (us ++ u ∷ [])) ≡ Some pid
     at None none own = absurd (cc)
-    at (Some x) some own = rw (pushed-kept (is_number tid) us u x some) own
+    at (Some x) some own = rw (pushed-kept (is_used_thread tid) us u x some) own
 
 -- what it tells is its caller's
 process-begins : (w : World) (by : ThreadRow) (pid tid : ℕ) → owner w by.number ≡ Some by.process → Begins w by.number (making_process w by pid tid)
@@ -121,15 +121,15 @@ id-most n is = other_of _ _ is
 live-most : (m : Group) (c : ℕ) (w : World) (pid : ℕ) → Fair m c w → Numbered w → is_live w pid ≡ true → nat_le pid 2147483647 ≡ true
 live-most m c w pid f n live = at (first (lives_in pid) w.threads) refl live
   where
-    used_by : (t : ThreadRow) (o : Option UsedThread) → first (is_number t.number) w.used_threads ≡ o → passes o (λ u. u.process == t.process) ≡ true → nat_le t.process 2147483647 ≡ true
+    used_by : (t : ThreadRow) (o : Option UsedThread) → first (is_used_thread t.number) w.used_threads ≡ o → passes o (λ u. u.process == t.process) ≡ true → nat_le t.process 2147483647 ≡ true
     used_by t None none is = absurd (cc)
-    used_by t (Some u) some is = subst (λ i. nat_le i 2147483647 ≡ true) (eqb-true u.process t.process is) (one_of _ _ (every-first of_number (is_number t.number) w.used_threads u n some))
+    used_by t (Some u) some is = subst (λ i. nat_le i 2147483647 ≡ true) (eqb-true u.process t.process is) (one_of _ _ (every-first of_number (is_used_thread t.number) w.used_threads u n some))
 
     at : (o : Option ThreadRow) → first (lives_in pid) w.threads ≡ o → is_some o ≡ true → nat_le pid 2147483647 ≡ true
     at None none is = absurd (cc)
     at (Some t) some is =
         let homed : is_homed w.used_threads t ≡ true = every-first (is_homed w.used_threads) (lives_in pid) w.threads t f.threads some in
-        subst (λ i. nat_le i 2147483647 ≡ true) (eqb-true t.process pid (one_of _ _ (first-passes (lives_in pid) w.threads t some))) (used_by t (first (is_number t.number) w.used_threads) refl homed)
+        subst (λ i. nat_le i 2147483647 ≡ true) (eqb-true t.process pid (one_of _ _ (first-passes (lives_in pid) w.threads t some))) (used_by t (first (is_used_thread t.number) w.used_threads) refl homed)
 
 -- Rows that are fair
 fair-rows : (t u s : Bool) → t ≡ true → u ≡ false → s ≡ true → (t && ((not u && t) && (s && (s && true)))) ≡ true
@@ -188,11 +188,11 @@ number-view m w pid fine = at (m pid) (was_process w pid) refl refl fine
     at false true out was ok = absurd (cc)
 
 thread-number-view : (m : Group) (w : World) (tid : ℕ) → is_no_outsiders_thread m w tid ≡ true → was_thread (view m w) tid ≡ was_thread w tid
-thread-number-view m w tid fine = at (first (is_number tid) w.used_threads) refl fine
+thread-number-view m w tid fine = at (first (is_used_thread tid) w.used_threads) refl fine
   where
-    at : (o : Option UsedThread) → first (is_number tid) w.used_threads ≡ o → (is_none (option_map (λ (u : UsedThread). u.process) o) || passes (option_map (λ (u : UsedThread). u.process) o) m) ≡ true → was_thread (view m w) tid ≡ was_thread w tid
-    at None none ok = ap is_some (first-none_kept (our_used m) (is_number tid) w.used_threads none ∙ sym none)
-    at (Some u) some ok = ap is_some (first-kept (our_used m) (is_number tid) w.used_threads u some ok ∙ sym some)
+    at : (o : Option UsedThread) → first (is_used_thread tid) w.used_threads ≡ o → (is_none (option_map (λ (u : UsedThread). u.process) o) || passes (option_map (λ (u : UsedThread). u.process) o) m) ≡ true → was_thread (view m w) tid ≡ was_thread w tid
+    at None none ok = ap is_some (first-none_kept (our_used m) (is_used_thread tid) w.used_threads none ∙ sym none)
+    at (Some u) some ok = ap is_some (first-kept (our_used m) (is_used_thread tid) w.used_threads u some ok ∙ sym some)
 
 -- the live processes that c made
 count-agree : {X : Type 0} (p k test other : X → Bool) → ((x : X) → p x ≡ true → k x ≡ true → other x ≡ test x) → ((x : X) → p x ≡ true → test x ≡ true → k x ≡ true) → (xs : List X) → every p xs ≡ true → count other (which k xs) ≡ count test xs

@@ -6,9 +6,9 @@ use Rattle.lpc_base.specs.Rows.{every, first, has, passes}
 use Rattle.lpc_base.proofs.RowWords.{every-append, every-change, every-more, every-push, every-which, every-without, first-kept, first-push}
 use Rattle.lpc_base.proofs.RowMaps.{every-both, every-change_to, every-map, every-without_first}
 use Rattle.lpc_model.specs.World.{Accepted, Birth, Connect, Creator, HandleRow, HandleTable, Listen, MessageRow, PortRow, ProcessRow, Receive, Request, ThreadRow, UsedThread, WaitKind, WaitRow, World}
-use Rattle.lpc_model.specs.Found.{has_value, is_client_port, is_connect, is_listen, is_own_of, is_port, is_queued, is_receive, is_server_port, is_table, is_thread, same_birth, waits_as, waits_at}
+use Rattle.lpc_model.specs.Found.{has_value, is_client_port, is_connect, is_listen, is_own_of, is_port, is_queued, is_receive, is_server_port, is_table, is_thread, is_used_thread, same_birth, waits_as, waits_at}
 use Rattle.lpc_model.specs.Basics.{Accepts, AddsHandle, AddsProcess, AddsThread, Awaits, Basic, Binds, Completes, Cuts, DrawsIdentifier, DrawsOrdinal, DropsHandle, Empties, Enters, Frees, Joins, Makes, Receives, Takes, TakesConnect, Tells, Unbinds, Wakes, Withdraws, accepted, accepted_as, basic, completed, cut, is_end_of, joined, no_handles, past_identifier, past_ordinal, received, used, with_handle, without_handle, world_after, Dies, Registers, Unregisters, ended, registering, unregistering}
-use Rattle.lpc_model.specs.Circle.{Group, is_number, owner}
+use Rattle.lpc_model.specs.Circle.{Group, owner}
 use Rattle.lpc_isolation.proofs.View.{both, of_birth, one_of, other_of, same-number}
 
 abbrev pub implies : Bool → Bool → Bool
@@ -55,7 +55,7 @@ is_fair_wait m c x =
 
 -- a thread's number was used for its process
 abbrev pub is_homed : List UsedThread → ThreadRow → Bool
-is_homed used t = passes (first (is_number t.number) used) (λ u. u.process == t.process)
+is_homed used t = passes (first (is_used_thread t.number) used) (λ u. u.process == t.process)
 
 -- a thread registered ports of its process
 abbrev pub is_fair_thread : ThreadRow → Bool
@@ -83,11 +83,11 @@ together-of m a b same = rw same (at (m b))
 
 -- a message's client is the owner of its thread's number
 abbrev pub is_sent : List UsedThread → MessageRow → Bool
-is_sent used x = passes (first (is_number x.message.header.client.thread) used) (λ u. u.process == x.message.header.client.process)
+is_sent used x = passes (first (is_used_thread x.message.header.client.thread) used) (λ u. u.process == x.message.header.client.process)
 
 -- the client of the connect that made a port is a thread of the port's process
 abbrev pub is_created : List UsedThread → PortRow → Bool
-is_created used p = all_of p.creator (λ by. (by.client.process == p.birth.process) && passes (first (is_number by.client.thread) used) (λ u. u.process == by.client.process))
+is_created used p = all_of p.creator (λ by. (by.client.process == p.birth.process) && passes (first (is_used_thread by.client.thread) used) (λ u. u.process == by.client.process))
 
 pub record Fair (m : Group) (c : ℕ) (w : World) : Type 0 where
   pub tables : every is_fair_table w.handles ≡ true
@@ -112,7 +112,7 @@ abbrev pub is_fair_step : Group → ℕ → World → Basic → Bool
 is_fair_step m c w (Awaits x) = is_fair_wait m c x
 is_fair_step m c w (Enters x) = is_fair_message m c x && is_sent w.used_threads x
 is_fair_step m c w (Makes p) = is_created w.used_threads p && is_fair_port m c p
-is_fair_step m c w (AddsThread t) = not (has (is_number t.number) w.used_threads) && (is_fair_thread t && is_fair_life m t)
+is_fair_step m c w (AddsThread t) = not (has (is_used_thread t.number) w.used_threads) && (is_fair_thread t && is_fair_life m t)
 is_fair_step m c w (AddsHandle pid h) = is_own pid h
 is_fair_step m c w (Joins client server context) =
     implies (m client.process) (m server.process) && (implies (server.process == c) (m client.process)
@@ -126,7 +126,7 @@ is_fair_step m c w (TakesConnect q) = true
 is_fair_step m c w (DrawsIdentifier who) = true
 is_fair_step m c w (DrawsOrdinal who) = true
 is_fair_step m c w (Dies who status) = true
-is_fair_step m c w (Registers who b) = passes (first (is_number who) w.used_threads) (λ u. u.process == b.process)
+is_fair_step m c w (Registers who b) = passes (first (is_used_thread who) w.used_threads) (λ u. u.process == b.process)
 is_fair_step m c w (Unregisters who b) = true
 is_fair_step m c w (AddsProcess p) = is_fair_process m p
 is_fair_step m c w (Completes b) = true
@@ -171,32 +171,32 @@ joined-fair m c client server context one two p kinds is = at (is_port client p)
     at false false here it = rw (here, it) is
 
 added-home : (us : List UsedThread) (u : UsedThread) (t : ThreadRow) → is_homed us t ≡ true → is_homed (us ++ u ∷ []) t ≡ true
-added-home us u t is = at (first (is_number t.number) us) refl is
+added-home us u t is = at (first (is_used_thread t.number) us) refl is
   where
-    at : (o : Option UsedThread) → first (is_number t.number) us ≡ o → passes o (λ u. u.process == t.process) ≡ true → is_homed (us ++ u ∷ []) t ≡ true
+    at : (o : Option UsedThread) → first (is_used_thread t.number) us ≡ o → passes o (λ u. u.process == t.process) ≡ true → is_homed (us ++ u ∷ []) t ≡ true
     at None none is = absurd (cc)
-    at (Some x) some is = rw (first-kept (is_number t.number) us u x some) is
+    at (Some x) some is = rw (first-kept (is_used_thread t.number) us u x some) is
 
 added-sent : (us : List UsedThread) (u : UsedThread) (x : MessageRow) → is_sent us x ≡ true → is_sent (us ++ u ∷ []) x ≡ true
-added-sent us u x is = at (first (is_number x.message.header.client.thread) us) refl is
+added-sent us u x is = at (first (is_used_thread x.message.header.client.thread) us) refl is
   where
-    at : (o : Option UsedThread) → first (is_number x.message.header.client.thread) us ≡ o → passes o (λ u. u.process == x.message.header.client.process) ≡ true → is_sent (us ++ u ∷ []) x ≡ true
+    at : (o : Option UsedThread) → first (is_used_thread x.message.header.client.thread) us ≡ o → passes o (λ u. u.process == x.message.header.client.process) ≡ true → is_sent (us ++ u ∷ []) x ≡ true
     at None none is = absurd (cc)
-    at (Some y) some is = rw (first-kept (is_number x.message.header.client.thread) us u y some) is
+    at (Some y) some is = rw (first-kept (is_used_thread x.message.header.client.thread) us u y some) is
 
 added-created : (us : List UsedThread) (u : UsedThread) (p : PortRow) → is_created us p ≡ true → is_created (us ++ u ∷ []) p ≡ true
 added-created us u p is = at p.creator refl
   where
     at : (o : Option Creator) → p.creator ≡ o → is_created (us ++ u ∷ []) p ≡ true
     at None none = rw none refl
-    at (Some by) some = rw some (both _ _ (one_of _ _ own) (found (first (is_number by.client.thread) us) refl (other_of (by.client.process == p.birth.process) _ own)))
+    at (Some by) some = rw some (both _ _ (one_of _ _ own) (found (first (is_used_thread by.client.thread) us) refl (other_of (by.client.process == p.birth.process) _ own)))
       where
-        own : ((by.client.process == p.birth.process) && passes (first (is_number by.client.thread) us) (λ u. u.process == by.client.process)) ≡ true
+        own : ((by.client.process == p.birth.process) && passes (first (is_used_thread by.client.thread) us) (λ u. u.process == by.client.process)) ≡ true
         own = rw some at is
 
-        found : (o : Option UsedThread) → first (is_number by.client.thread) us ≡ o → passes o (λ u. u.process == by.client.process) ≡ true → passes (first (is_number by.client.thread) (us ++ u ∷ [])) (λ u. u.process == by.client.process) ≡ true
+        found : (o : Option UsedThread) → first (is_used_thread by.client.thread) us ≡ o → passes o (λ u. u.process == by.client.process) ≡ true → passes (first (is_used_thread by.client.thread) (us ++ u ∷ [])) (λ u. u.process == by.client.process) ≡ true
         found None none is = absurd (cc)
-        found (Some x) some is = rw (first-kept (is_number by.client.thread) us u x some) is
+        found (Some x) some is = rw (first-kept (is_used_thread by.client.thread) us u x some) is
 
 joined-created : (us : List UsedThread) (client server : Birth) (context : ℕ) (p : PortRow) → is_created us p ≡ true → is_created us (joined client server context p) ≡ true
 joined-created us client server context p is = at (is_port client p) (is_port server p) refl refl
@@ -211,7 +211,7 @@ cut-fair m c p is = both _ _ (one_of _ _ is) refl
 
 -- the message of an owner
 pub owner-sent : (w : World) (x : MessageRow) (pid : ℕ) → owner w x.message.header.client.thread ≡ Some pid → x.message.header.client.process ≡ pid → is_sent w.used_threads x ≡ true
-owner-sent w x pid own same = at (first (is_number x.message.header.client.thread) w.used_threads) own
+owner-sent w x pid own same = at (first (is_used_thread x.message.header.client.thread) w.used_threads) own
   where
     at : (o : Option UsedThread) → option_map (λ (u : UsedThread). u.process) o ≡ Some pid → passes o (λ u. u.process == x.message.header.client.process) ≡ true
     at None own = absurd (cc)
@@ -221,8 +221,8 @@ owner-sent w x pid own same = at (first (is_number x.message.header.client.threa
         pid-same u own = cc
 
 -- a thread's number was used for its owner
-pub owner-used : (w : World) (tid pid : ℕ) → owner w tid ≡ Some pid → passes (first (is_number tid) w.used_threads) (λ u. u.process == pid) ≡ true
-owner-used w tid pid own = at (first (is_number tid) w.used_threads) own
+pub owner-used : (w : World) (tid pid : ℕ) → owner w tid ≡ Some pid → passes (first (is_used_thread tid) w.used_threads) (λ u. u.process == pid) ≡ true
+owner-used w tid pid own = at (first (is_used_thread tid) w.used_threads) own
   where
     at : (o : Option UsedThread) → option_map (λ (u : UsedThread). u.process) o ≡ Some pid → passes o (λ u. u.process == pid) ≡ true
     at None own = absurd (cc)
@@ -230,17 +230,17 @@ owner-used w tid pid own = at (first (is_number tid) w.used_threads) own
 
 -- and the owner of a message
 pub sent-owner : (w : World) (x : MessageRow) → is_sent w.used_threads x ≡ true → owner w x.message.header.client.thread ≡ Some x.message.header.client.process
-sent-owner w x is = at (first (is_number x.message.header.client.thread) w.used_threads) is
+sent-owner w x is = at (first (is_used_thread x.message.header.client.thread) w.used_threads) is
   where
     at : (o : Option UsedThread) → passes o (λ u. u.process == x.message.header.client.process) ≡ true → option_map (λ (u : UsedThread). u.process) o ≡ Some x.message.header.client.process
     at None is = absurd (cc)
     at (Some u) is = ap (λ p. Some p) (eqb-true _ _ is)
 
 -- a thread whose port is registered is the port's process's
-registering-fair : (us : List UsedThread) (who : ℕ) (b : Birth) (t : ThreadRow) → passes (first (is_number who) us) (λ u. u.process == b.process) ≡ true → is_homed us t ≡ true → is_fair_thread t ≡ true → is_thread who t ≡ true → is_fair_thread (registering b t) ≡ true
+registering-fair : (us : List UsedThread) (who : ℕ) (b : Birth) (t : ThreadRow) → passes (first (is_used_thread who) us) (λ u. u.process == b.process) ≡ true → is_homed us t ≡ true → is_fair_thread t ≡ true → is_thread who t ≡ true → is_fair_thread (registering b t) ≡ true
 registering-fair us who b t owned homed fair its =
-    let there : passes (first (is_number who) us) (λ u. u.process == t.process) ≡ true = subst (λ n. passes (first (is_number n) us) (λ u. u.process == t.process) ≡ true) (eqb-true _ _ its) homed in
-    every-push (λ (d : Birth). d.process == t.process) t.registrations b fair (at (first (is_number who) us) owned there)
+    let there : passes (first (is_used_thread who) us) (λ u. u.process == t.process) ≡ true = subst (λ n. passes (first (is_used_thread n) us) (λ u. u.process == t.process) ≡ true) (eqb-true _ _ its) homed in
+    every-push (λ (d : Birth). d.process == t.process) t.registrations b fair (at (first (is_used_thread who) us) owned there)
   where
     at : (o : Option UsedThread) → passes o (λ u. u.process == b.process) ≡ true → passes o (λ u. u.process == t.process) ≡ true → (b.process == t.process) ≡ true
     at None one two = absurd (cc)
@@ -276,16 +276,16 @@ keeps-fair m c w (Unregisters who b) ok f = record { tables = f.tables; ports = 
 keeps-fair m c w (AddsProcess p) ok f = record { tables = every-push is_fair_table w.handles (no_handles p.number) f.tables refl; ports = f.ports; messages = f.messages; waits = f.waits; threads = f.threads; senders = f.senders; creators = f.creators; registrations = f.registrations; processes = every-push (is_fair_process m) w.processes p f.processes ok; lives = f.lives }
 keeps-fair m c w (AddsThread t) ok f = record {
   processes = f.processes;
-  lives = every-push (is_fair_life m) w.threads t f.lives (other_of (is_fair_thread t) _ (other_of (not (has (is_number t.number) w.used_threads)) _ ok));
+  lives = every-push (is_fair_life m) w.threads t f.lives (other_of (is_fair_thread t) _ (other_of (not (has (is_used_thread t.number) w.used_threads)) _ ok));
   tables = f.tables;
   ports = f.ports;
   messages = f.messages;
   waits = f.waits;
-  registrations = every-push is_fair_thread w.threads t f.registrations (one_of _ _ (other_of (not (has (is_number t.number) w.used_threads)) _ ok));
+  registrations = every-push is_fair_thread w.threads t f.registrations (one_of _ _ (other_of (not (has (is_used_thread t.number) w.used_threads)) _ ok));
   senders = every-more (is_sent w.used_threads) _ (added-sent w.used_threads (used t)) w.messages f.senders;
   creators = every-more (is_created w.used_threads) _ (added-created w.used_threads (used t)) w.ports f.creators;
   threads = every-push (is_homed (w.used_threads ++ used t ∷ [])) w.threads t (every-more (is_homed w.used_threads) _ (added-home w.used_threads (used t)) w.threads f.threads)
-      (rw (first-push (is_number t.number) w.used_threads (used t) (grind arith) (same-number t.number)) (same-number t.process));
+      (rw (first-push (is_used_thread t.number) w.used_threads (used t) (grind arith) (same-number t.number)) (same-number t.process));
 }
 keeps-fair m c w (Makes p) ok f = record { tables = f.tables; ports = every-push (is_fair_port m c) w.ports p f.ports (other_of _ _ ok); messages = f.messages; waits = f.waits; threads = f.threads; senders = f.senders; creators = every-push (is_created w.used_threads) w.ports p f.creators (one_of _ _ ok); registrations = f.registrations; processes = f.processes; lives = f.lives }
 keeps-fair m c w (Joins client server context) ok f = record {

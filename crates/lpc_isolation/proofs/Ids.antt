@@ -27,7 +27,8 @@ use Rattle.lpc_model.specs.Lines.{ScriptCall, ScriptLine}
 use Rattle.lpc_model.specs.Run.{numbered_line, said_from, said_in, unless_faulty}
 use Rattle.lpc_model.specs.Script.{script_lines}
 use Rattle.std.specs.List.{list_all}
-use Rattle.lpc_model.specs.Circle.{is_number}
+use Rattle.lpc_model.specs.Found.{is_used_thread}
+use Rattle.lpc_model.proofs.GivenBytes.{Gives, gives_ok, then_gives}
 use Rattle.lpc_isolation.proofs.View.{both, one_of, other_of, same-number}
 use Rattle.lpc_isolation.proofs.Fair.{is_sent}
 use Rattle.lpc_isolation.proofs.Takes.{is_readable}
@@ -49,13 +50,13 @@ Numbered w = every of_number w.used_threads ≡ true
 
 pub reads-back : (us : List UsedThread) → every of_number us ≡ true → (x : MessageRow) → is_sent us x ≡ true → is_readable x ≡ true
 unfolding bytes_of
-reads-back us all x sent = at (first (is_number x.message.header.client.thread) us) refl sent
+reads-back us all x sent = at (first (is_used_thread x.message.header.client.thread) us) refl sent
   where
-    at : (o : Option UsedThread) → first (is_number x.message.header.client.thread) us ≡ o → passes o (λ u. u.process == x.message.header.client.process) ≡ true → is_readable x ≡ true
+    at : (o : Option UsedThread) → first (is_used_thread x.message.header.client.thread) us ≡ o → passes o (λ u. u.process == x.message.header.client.process) ≡ true → is_readable x ≡ true
     at None none is = absurd (cc)
     at (Some u) some is =
         let same : u.process ≡ x.message.header.client.process = eqb-true _ _ is in
-        let few : nat_le x.message.header.client.process 2147483647 ≡ true = subst (λ n. nat_le n 2147483647 ≡ true) same (one_of _ _ (every-first of_number (is_number x.message.header.client.thread) us u all some)) in
+        let few : nat_le x.message.header.client.process 2147483647 ≡ true = subst (λ n. nat_le n 2147483647 ≡ true) same (one_of _ _ (every-first of_number (is_used_thread x.message.header.client.thread) us u all some)) in
         rw (client-back x.message.header x.message.body few) (same-number x.message.header.client.process)
 
 -- and so does its thread
@@ -64,13 +65,13 @@ thread-back h body few = word-back h.client.thread few
 
 pub thread-reads : (us : List UsedThread) → every of_number us ≡ true → (x : MessageRow) → is_sent us x ≡ true → (header_of (bytes_of x.message)).client.thread ≡ x.message.header.client.thread
 unfolding bytes_of
-thread-reads us all x sent = at (first (is_number x.message.header.client.thread) us) refl sent
+thread-reads us all x sent = at (first (is_used_thread x.message.header.client.thread) us) refl sent
   where
-    at : (o : Option UsedThread) → first (is_number x.message.header.client.thread) us ≡ o → passes o (λ u. u.process == x.message.header.client.process) ≡ true → (header_of (bytes_of x.message)).client.thread ≡ x.message.header.client.thread
+    at : (o : Option UsedThread) → first (is_used_thread x.message.header.client.thread) us ≡ o → passes o (λ u. u.process == x.message.header.client.process) ≡ true → (header_of (bytes_of x.message)).client.thread ≡ x.message.header.client.thread
     at None none is = absurd (cc)
     at (Some u) some is =
-        let same : u.number ≡ x.message.header.client.thread = eqb-true _ _ (first-passes (is_number x.message.header.client.thread) us u some) in
-        let few : nat_le x.message.header.client.thread 2147483647 ≡ true = subst (λ n. nat_le n 2147483647 ≡ true) same (other_of _ _ (every-first of_number (is_number x.message.header.client.thread) us u all some)) in
+        let same : u.number ≡ x.message.header.client.thread = eqb-true _ _ (first-passes (is_used_thread x.message.header.client.thread) us u some) in
+        let few : nat_le x.message.header.client.thread 2147483647 ≡ true = subst (λ n. nat_le n 2147483647 ≡ true) same (other_of _ _ (every-first of_number (is_used_thread x.message.header.client.thread) us u all some)) in
         thread-back x.message.header x.message.body few
 
 -- and its kind, where that is a number of two bytes
@@ -85,28 +86,16 @@ pub all-readable : (w : World) → Numbered w → every (is_sent w.used_threads)
 all-readable w all sent = every-more (is_sent w.used_threads) is_readable (reads-back w.used_threads all) w.messages sent
 
 -- What a line says has such numbers
-abbrev Says : {A : Type 0} → (A → Type 0) → Result A LineFault → Type 0
-Says P (Ok x) = P x
-Says P (Err e) = Unit {0}
-
-bind_says : {A B : Type 0} (r : Result A LineFault) (f : A → Result B LineFault) (P : B → Type 0) → ((x : A) → r ≡ Ok x → Says P (f x)) → Says P (r >>= f)
-bind_says (Ok x) f P h = h x refl
-bind_says (Err e) f P h = tt
-
-says_ok : {A : Type 0} (P : A → Type 0) (r : Result A LineFault) (x : A) → Says P r → r ≡ Ok x → P x
-says_ok P (Ok y) x h is = let same : y ≡ x = cc in subst P same h
-says_ok P (Err e) x h is = absurd (cc)
-
 abbrev IsId : ℕ → Type 0
 IsId n = is_id n ≡ true
 
-unfaulted : (n : ℕ) (b : Bool) → is_id n ≡ b → Says IsId (fault_if (not b) fault.Number >>= (λ _. Ok n))
+unfaulted : (n : ℕ) (b : Bool) → is_id n ≡ b → Gives IsId (fault_if (not b) fault.Number >>= (λ _. Ok n))
 unfaulted n true is = is
 unfaulted n false is = tt
 
-id-says : (word : List ℕ) → Says IsId (id_word word)
+id-says : (word : List ℕ) → Gives IsId (id_word word)
 unfolding id_word
-id-says word = bind_says (number_word word) (λ n. fault_if (not (is_id n)) fault.Number >>= (λ _. Ok n)) IsId (λ n _. unfaulted n (is_id n) refl)
+id-says word = then_gives (number_word word) (λ n. fault_if (not (is_id n)) fault.Number >>= (λ _. Ok n)) IsId (λ n _. unfaulted n (is_id n) refl)
 
 abbrev Ids : ScriptLine → Type 0
 Ids line = has_ids line ≡ true
@@ -115,87 +104,87 @@ Ids line = has_ids line ≡ true
 abbrev HasCallIds : ScriptCall → Type 0
 HasCallIds call = has_call_ids call ≡ true
 
-process-says : (others : List (List ℕ)) → Says (λ (made : ℕ × ℕ). (is_id made.0 && is_id made.1) ≡ true) (process_and_thread others)
+process-says : (others : List (List ℕ)) → Gives (λ (made : ℕ × ℕ). (is_id made.0 && is_id made.1) ≡ true) (process_and_thread others)
 process-says others =
     let P : ℕ × ℕ → Type 0 = λ made. (is_id made.0 && is_id made.1) ≡ true in
-    bind_says (two_words others) _ P (λ two _. bind_says (id_word two.0) _ P (λ pid one. bind_says (id_word two.1) _ P (λ tid other.
-    both _ _ (says_ok IsId (id_word two.0) pid (id-says two.0) one) (says_ok IsId (id_word two.1) tid (id-says two.1) other))))
+    then_gives (two_words others) _ P (λ two _. then_gives (id_word two.0) _ P (λ pid one. then_gives (id_word two.1) _ P (λ tid other.
+    both _ _ (gives_ok IsId (id_word two.0) pid (id-says two.0) one) (gives_ok IsId (id_word two.1) tid (id-says two.1) other))))
 
-target-says : (others : List (List ℕ)) → Says (λ (made : ProcArg × ℕ). is_id made.1 ≡ true) (target_and_thread others)
+target-says : (others : List (List ℕ)) → Gives (λ (made : ProcArg × ℕ). is_id made.1 ≡ true) (target_and_thread others)
 target-says others =
     let P : ProcArg × ℕ → Type 0 = λ made. is_id made.1 ≡ true in
-    bind_says (two_words others) _ P (λ two _. bind_says (target_word two.0) _ P (λ target _. bind_says (id_word two.1) _ P (λ tid other.
-    says_ok IsId (id_word two.1) tid (id-says two.1) other)))
+    then_gives (two_words others) _ P (λ two _. then_gives (target_word two.0) _ P (λ target _. then_gives (id_word two.1) _ P (λ tid other.
+    gives_ok IsId (id_word two.1) tid (id-says two.1) other)))
 
-words-call : (name : CallName) (others : List (List ℕ)) → Says HasCallIds (call_words name others)
+words-call : (name : CallName) (others : List (List ℕ)) → Gives HasCallIds (call_words name others)
 unfolding call_words
-words-call NtCreateProcess others = bind_says (process_and_thread others) _ HasCallIds (λ made is. says_ok (λ (made : ℕ × ℕ). (is_id made.0 && is_id made.1) ≡ true) (process_and_thread others) made (process-says others) is)
-words-call NtCreateThread others = bind_says (target_and_thread others) _ HasCallIds (λ made is. says_ok (λ (made : ProcArg × ℕ). is_id made.1 ≡ true) (target_and_thread others) made (target-says others) is)
-words-call NtCreatePort others = bind_says (one_word others) _ HasCallIds (λ _ _. refl)
-words-call NtConnectPort others = bind_says (four_words others) _ HasCallIds (λ four _. bind_says (qos_word four.1) _ HasCallIds (λ _ _. bind_says (view_word four.2) _ HasCallIds (λ _ _. bind_says (info_word four.3) _ HasCallIds (λ _ _. refl))))
-words-call NtListenPort others = bind_says (one_handle others) _ HasCallIds (λ _ _. refl)
-words-call NtAcceptConnectPort others = bind_says (four_words others) _ HasCallIds (λ four _. bind_says (number_word four.0) _ HasCallIds (λ _ _. bind_says (message_word four.1) _ HasCallIds (λ _ _. bind_says (accept_word four.2) _ HasCallIds (λ _ _. bind_says (view_word four.3) _ HasCallIds (λ _ _. refl)))))
-words-call NtCompleteConnectPort others = bind_says (one_handle others) _ HasCallIds (λ _ _. refl)
-words-call NtRequestPort others = bind_says (handle_and_message others) _ HasCallIds (λ _ _. refl)
-words-call NtRequestWaitReplyPort others = bind_says (handle_and_message others) _ HasCallIds (λ _ _. refl)
-words-call NtReplyPort others = bind_says (handle_and_message others) _ HasCallIds (λ _ _. refl)
-words-call NtReplyWaitReceivePort others = bind_says (handle_and_reply others) _ HasCallIds (λ _ _. refl)
-words-call NtRegisterThreadTerminatePort others = bind_says (one_handle others) _ HasCallIds (λ _ _. refl)
-words-call NtClose others = bind_says (one_handle others) _ HasCallIds (λ _ _. refl)
-words-call NtDuplicateObject others = bind_says (two_words others) _ HasCallIds (λ two _. bind_says (number_word two.0) _ HasCallIds (λ _ _. bind_says (access_word two.1) _ HasCallIds (λ _ _. refl)))
-words-call NtQueryObject others = bind_says (one_handle others) _ HasCallIds (λ _ _. refl)
-words-call NtTerminateThread others = bind_says (target_and_code others) _ HasCallIds (λ _ _. refl)
-words-call NtTerminateProcess others = bind_says (target_and_code others) _ HasCallIds (λ _ _. refl)
+words-call NtCreateProcess others = then_gives (process_and_thread others) _ HasCallIds (λ made is. gives_ok (λ (made : ℕ × ℕ). (is_id made.0 && is_id made.1) ≡ true) (process_and_thread others) made (process-says others) is)
+words-call NtCreateThread others = then_gives (target_and_thread others) _ HasCallIds (λ made is. gives_ok (λ (made : ProcArg × ℕ). is_id made.1 ≡ true) (target_and_thread others) made (target-says others) is)
+words-call NtCreatePort others = then_gives (one_word others) _ HasCallIds (λ _ _. refl)
+words-call NtConnectPort others = then_gives (four_words others) _ HasCallIds (λ four _. then_gives (qos_word four.1) _ HasCallIds (λ _ _. then_gives (view_word four.2) _ HasCallIds (λ _ _. then_gives (info_word four.3) _ HasCallIds (λ _ _. refl))))
+words-call NtListenPort others = then_gives (one_handle others) _ HasCallIds (λ _ _. refl)
+words-call NtAcceptConnectPort others = then_gives (four_words others) _ HasCallIds (λ four _. then_gives (number_word four.0) _ HasCallIds (λ _ _. then_gives (message_word four.1) _ HasCallIds (λ _ _. then_gives (accept_word four.2) _ HasCallIds (λ _ _. then_gives (view_word four.3) _ HasCallIds (λ _ _. refl)))))
+words-call NtCompleteConnectPort others = then_gives (one_handle others) _ HasCallIds (λ _ _. refl)
+words-call NtRequestPort others = then_gives (handle_and_message others) _ HasCallIds (λ _ _. refl)
+words-call NtRequestWaitReplyPort others = then_gives (handle_and_message others) _ HasCallIds (λ _ _. refl)
+words-call NtReplyPort others = then_gives (handle_and_message others) _ HasCallIds (λ _ _. refl)
+words-call NtReplyWaitReceivePort others = then_gives (handle_and_reply others) _ HasCallIds (λ _ _. refl)
+words-call NtRegisterThreadTerminatePort others = then_gives (one_handle others) _ HasCallIds (λ _ _. refl)
+words-call NtClose others = then_gives (one_handle others) _ HasCallIds (λ _ _. refl)
+words-call NtDuplicateObject others = then_gives (two_words others) _ HasCallIds (λ two _. then_gives (number_word two.0) _ HasCallIds (λ _ _. then_gives (access_word two.1) _ HasCallIds (λ _ _. refl)))
+words-call NtQueryObject others = then_gives (one_handle others) _ HasCallIds (λ _ _. refl)
+words-call NtTerminateThread others = then_gives (target_and_code others) _ HasCallIds (λ _ _. refl)
+words-call NtTerminateProcess others = then_gives (target_and_code others) _ HasCallIds (λ _ _. refl)
 
-thread-says : (others : List (List ℕ)) → Says HasCallIds (thread_call others)
+thread-says : (others : List (List ℕ)) → Gives HasCallIds (thread_call others)
 thread-says [] = tt
-thread-says (word ∷ others) = bind_says (ok_or (call_named word) fault.Call) _ HasCallIds (λ name _. words-call name others)
+thread-says (word ∷ others) = then_gives (ok_or (call_named word) fault.Call) _ HasCallIds (λ name _. words-call name others)
 
-call-says : (front : List ℕ) (others : List (List ℕ)) → Says Ids (call_line front others)
+call-says : (front : List ℕ) (others : List (List ℕ)) → Gives Ids (call_line front others)
 unfolding call_line
-call-says front others = bind_says (id_word front) _ Ids (λ tid is. bind_says (thread_call others) _ Ids (λ call made. both _ _ (says_ok IsId (id_word front) tid (id-says front) is) (says_ok HasCallIds (thread_call others) call (thread-says others) made)))
+call-says front others = then_gives (id_word front) _ Ids (λ tid is. then_gives (thread_call others) _ Ids (λ call made. both _ _ (gives_ok IsId (id_word front) tid (id-says front) is) (gives_ok HasCallIds (thread_call others) call (thread-says others) made)))
 
-directive-says : (word : Word) (others : List (List ℕ)) → Says Ids (directive_words word others)
+directive-says : (word : Word) (others : List (List ℕ)) → Gives Ids (directive_words word others)
 unfolding directive_words
-directive-says Boot others = bind_says (process_and_thread others) _ Ids (λ made is. says_ok (λ (made : ℕ × ℕ). (is_id made.0 && is_id made.1) ≡ true) (process_and_thread others) made (process-says others) is)
-directive-says Thread others = bind_says (two_words others) _ Ids (λ two _. bind_says (id_word two.0) _ Ids (λ tid one. bind_says (id_word two.1) _ Ids (λ pid other. both _ _ (says_ok IsId (id_word two.0) tid (id-says two.0) one) (says_ok IsId (id_word two.1) pid (id-says two.1) other))))
-directive-says Dir others = bind_says (one_word others) _ Ids (λ path _. refl)
-directive-says Link others = bind_says (two_words others) _ Ids (λ two _. refl)
+directive-says Boot others = then_gives (process_and_thread others) _ Ids (λ made is. gives_ok (λ (made : ℕ × ℕ). (is_id made.0 && is_id made.1) ≡ true) (process_and_thread others) made (process-says others) is)
+directive-says Thread others = then_gives (two_words others) _ Ids (λ two _. then_gives (id_word two.0) _ Ids (λ tid one. then_gives (id_word two.1) _ Ids (λ pid other. both _ _ (gives_ok IsId (id_word two.0) tid (id-says two.0) one) (gives_ok IsId (id_word two.1) pid (id-says two.1) other))))
+directive-says Dir others = then_gives (one_word others) _ Ids (λ path _. refl)
+directive-says Link others = then_gives (two_words others) _ Ids (λ two _. refl)
 
-word-says : (front : List ℕ) (others : List (List ℕ)) → Says Ids (directive_line front others)
+word-says : (front : List ℕ) (others : List (List ℕ)) → Gives Ids (directive_line front others)
 unfolding directive_line
-word-says front others = bind_says (ok_or (directive_named front) fault.Word) _ Ids (λ word _. directive-says word others)
+word-says front others = then_gives (ok_or (directive_named front) fault.Word) _ Ids (λ word _. directive-says word others)
 
 abbrev SomeIds : Option ScriptLine → Type 0
 SomeIds None = Unit {0}
 SomeIds (Some line) = Ids line
 
-some-says : (b : Bool) (front : List ℕ) (others : List (List ℕ)) → Says SomeIds ((if b then call_line front others else directive_line front others) >>= (λ line. Ok (Some line)))
-some-says true front others = bind_says (call_line front others) _ SomeIds (λ line is. says_ok Ids (call_line front others) line (call-says front others) is)
-some-says false front others = bind_says (directive_line front others) _ SomeIds (λ line is. says_ok Ids (directive_line front others) line (word-says front others) is)
+some-says : (b : Bool) (front : List ℕ) (others : List (List ℕ)) → Gives SomeIds ((if b then call_line front others else directive_line front others) >>= (λ line. Ok (Some line)))
+some-says true front others = then_gives (call_line front others) _ SomeIds (λ line is. gives_ok Ids (call_line front others) line (call-says front others) is)
+some-says false front others = then_gives (directive_line front others) _ SomeIds (λ line is. gives_ok Ids (directive_line front others) line (word-says front others) is)
 
-words-say : (ws : List (List ℕ)) → Says SomeIds (words_line ws)
+words-say : (ws : List (List ℕ)) → Gives SomeIds (words_line ws)
 words-say [] = tt
 words-say (front ∷ others) = some-says (starts_call front) front others
 
-line-says : (line : List ℕ) → Says SomeIds (read_line line)
+line-says : (line : List ℕ) → Gives SomeIds (read_line line)
 unfolding read_line
 line-says line = at (nat_lt LINE_LIMIT (length line)) (begins (codes "#") line) (list_all is_printable line)
   where
-    at : (a b d : Bool) → Says SomeIds (if a then Err fault.Long else (if b then Ok None else (if not d then Err fault.Byte else words_line (words line))))
+    at : (a b d : Bool) → Gives SomeIds (if a then Err fault.Long else (if b then Ok None else (if not d then Err fault.Byte else words_line (words line))))
     at true b d = tt
     at false true d = tt
     at false false false = tt
     at false false true = words-say (words line)
 
-numbered-says : (n : ℕ) (line : List ℕ) → Says SomeIds (numbered_line n line)
+numbered-says : (n : ℕ) (line : List ℕ) → Gives SomeIds (numbered_line n line)
 numbered-says n line = at (nat_lt LINES_LIMIT n)
   where
-    at : (a : Bool) → Says SomeIds (if a then Err fault.Lines else read_line line)
+    at : (a : Bool) → Gives SomeIds (if a then Err fault.Lines else read_line line)
     at true = tt
     at false = line-says line
 
-said-says : (r : Result (Option ScriptLine) LineFault) (later : List (Option ScriptLine)) → Says SomeIds r → are_ok has_ids later ≡ true → are_ok has_ids (unless_faulty r later) ≡ true
+said-says : (r : Result (Option ScriptLine) LineFault) (later : List (Option ScriptLine)) → Gives SomeIds r → are_ok has_ids later ≡ true → are_ok has_ids (unless_faulty r later) ≡ true
 said-says (Err e) later is rest = refl
 said-says (Ok None) later is rest = rest
 said-says (Ok (Some line)) later is rest = both _ _ is rest

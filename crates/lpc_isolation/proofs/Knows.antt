@@ -11,7 +11,7 @@ use Rattle.lpc_model.specs.declared.message.Message.{Message}
 use Rattle.lpc_model.specs.Message.{message_test}
 use Rattle.lpc_model.specs.Refusal.{found_or}
 use Rattle.lpc_model.specs.World.{Accepted, Birth, Connect, Listen, Receive, Request, ThreadRow, WaitKind, WaitRow, World}
-use Rattle.lpc_model.specs.Found.{is_offered, is_the, waits_as, waits_at}
+use Rattle.lpc_model.specs.Found.{is_offered, is_the, no_birth, waits_as, waits_at}
 use Rattle.lpc_model.specs.Basics.{Accepts, AddsHandle, AddsProcess, AddsThread, Awaits, Basic, Binds, Completes, Cuts, DrawsIdentifier, DrawsOrdinal, DropsHandle, Empties, Enters, Frees, Joins, Makes, Receives, Takes, TakesConnect, Tells, Unbinds, Wakes, Withdraws, accepted, basic, received, world_after, Dies, Registers, Unregisters}
 use Rattle.lpc_model.specs.Tests.{client_test}
 use Rattle.lpc_model.specs.Connect.{ConnectAnswer, answer_test, names_connect}
@@ -89,9 +89,6 @@ run-known m memo w [] ok all = all
 run-known m memo w (b ∷ bs) ok all = run-known m memo (basic w b) bs (other_of _ _ ok) (basic-known m memo w b (one_of _ _ ok) all)
 
 -- the queue that an answer's bytes name
-abbrev no_birth : Birth
-no_birth = record { maker = 0; ordinal = 0; process = 0 }
-
 abbrev queue_or : Option Birth → Birth
 queue_or None = no_birth
 queue_or (Some q) = q

@@ -6,14 +6,14 @@ use Rattle.lpc_base.specs.Rows.{count, first, has}
 use Rattle.lpc_base.proofs.RowWords.{count-none, count-push, first-passes}
 use Rattle.lpc_base.proofs.RowMaps.{every-first}
 use Rattle.lpc_model.specs.World.{Birth, ThreadRow, UsedThread, World}
-use Rattle.lpc_model.specs.Found.{is_live, live_thread, lives_in, wait_of, was_process}
+use Rattle.lpc_model.specs.Found.{is_live, is_used_thread, live_thread, lives_in, wait_of, was_process}
 use Rattle.lpc_model.specs.Basics.{world_after}
 use Rattle.lpc_model.specs.Grammar.{has_call_ids}
 use Rattle.lpc_model.specs.Tests.{next_birth}
 use Rattle.lpc_model.specs.Creation.{second_birth}
 use Rattle.lpc_model.specs.Lines.{ScriptCall, create_process}
 use Rattle.lpc_model.specs.SoundWaits.{IsSoundWorld}
-use Rattle.lpc_model.specs.Circle.{Group, Whose, is_fine_call, is_number}
+use Rattle.lpc_model.specs.Circle.{Group, Whose, is_fine_call}
 use Rattle.lpc_model.proofs.Holding.{Holds}
 use Rattle.lpc_isolation.proofs.Served.{served}
 use Rattle.lpc_isolation.proofs.Alone.{HasFineRows}
@@ -41,15 +41,15 @@ use Rattle.lpc_isolation.proofs.Instances.{At, Leading}
 pub same-used : (w v : World) → v.used_threads ≡ w.used_threads → OnceUsed w → OnceUsed v
 same-used w v same once tid = rw same (once tid)
 
-pub at-most : (tid : ℕ) (us : List UsedThread) (u : UsedThread) → has (is_number u.number) us ≡ false → count (is_number tid) us ≤ 1 → count (is_number tid) (us ++ u ∷ []) ≤ 1
+pub at-most : (tid : ℕ) (us : List UsedThread) (u : UsedThread) → has (is_used_thread u.number) us ≡ false → count (is_used_thread tid) us ≤ 1 → count (is_used_thread tid) (us ++ u ∷ []) ≤ 1
 at-most tid us u new once = at (u.number == tid) refl
   where
-    at : (b : Bool) → (u.number == tid) ≡ b → count (is_number tid) (us ++ u ∷ []) ≤ 1
+    at : (b : Bool) → (u.number == tid) ≡ b → count (is_used_thread tid) (us ++ u ∷ []) ≤ 1
     at true is =
         let same : u.number ≡ tid = eqb-true _ _ is in
-        let none : count (is_number tid) us ≡ 0 = count-none (is_number tid) us (subst (λ n. has (is_number n) us ≡ false) same new) in
-        rw (count-push (is_number tid) us u, none, is) (omega arith)
-    at false other = rw (count-push (is_number tid) us u, other) (few (count (is_number tid) us) once)
+        let none : count (is_used_thread tid) us ≡ 0 = count-none (is_used_thread tid) us (subst (λ n. has (is_used_thread n) us ≡ false) same new) in
+        rw (count-push (is_used_thread tid) us u, none, is) (omega arith)
+    at false other = rw (count-push (is_used_thread tid) us u, other) (few (count (is_used_thread tid) us) once)
       where
         few : (n : ℕ) → n ≤ 1 → n + 0 ≤ 1
         few n is = omega (arith, is)

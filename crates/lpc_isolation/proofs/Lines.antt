@@ -8,11 +8,11 @@ use Rattle.lpc_base.specs.declared.status.TheConstants.{SUCCESS}
 use Rattle.lpc_model.specs.declared.entry.Entry.{Entry}
 use Rattle.lpc_model.specs.declared.entry.Entry.TheVariants as entry
 use Rattle.lpc_model.specs.World.{ThreadRow, UsedThread, WaitRow, World}
-use Rattle.lpc_model.specs.Found.{live_thread, waits_as}
+use Rattle.lpc_model.specs.Found.{is_used_thread, live_thread, waits_as}
 use Rattle.lpc_model.specs.Basics.{Basic, entries_of, world_after}
 use Rattle.lpc_model.specs.Lines.{ScriptCall, run}
 use Rattle.lpc_isolation.proofs.Served.{served_step, served_steps}
-use Rattle.lpc_model.specs.Circle.{Everyone, Event, Group, Item, Nobody, Of, Ran, Told, Whose, entry_whose, is_item, is_number, is_seen, is_told_to, item_of, items, owned, owner, thread_whose, told_event}
+use Rattle.lpc_model.specs.Circle.{Everyone, Event, Group, Item, Nobody, Of, Ran, Told, Whose, entry_whose, is_item, is_seen, is_told_to, item_of, items, owned, owner, thread_whose, told_event}
 use Rattle.lpc_isolation.proofs.Alone.{alone}
 use Rattle.lpc_isolation.proofs.Bare.{bare_line_events}
 use Rattle.lpc_isolation.proofs.Filters.{first-kept, first-none_kept}
@@ -24,7 +24,7 @@ use Rattle.lpc_isolation.proofs.Play.{told_at, told_inputs, told_items, is_told_
 
 -- Owners in a view
 abbrev pub OnceUsed : World → Type 0
-OnceUsed w = (tid : ℕ) → count (is_number tid) w.used_threads ≤ 1
+OnceUsed w = (tid : ℕ) → count (is_used_thread tid) w.used_threads ≤ 1
 
 abbrev seen_owner : Group → Option ℕ → Option ℕ
 seen_owner m None = None
@@ -39,15 +39,15 @@ used-out k q [] x once at out = refl
 used-out k q (y ∷ ys) x once at out = grind (arith, none-left k q ys, used-out k q ys x)
 
 pub owner-view : (m : Group) (w : World) (tid : ℕ) → OnceUsed w → owner (view m w) tid ≡ seen_owner m (owner w tid)
-owner-view m w tid once = at (first (is_number tid) w.used_threads) refl
+owner-view m w tid once = at (first (is_used_thread tid) w.used_threads) refl
   where
-    at : (o : Option UsedThread) → first (is_number tid) w.used_threads ≡ o → owner (view m w) tid ≡ seen_owner m (option_map (λ (u : UsedThread). u.process) o)
-    at None none = rw (first-none_kept (our_used m) (is_number tid) w.used_threads none) refl
+    at : (o : Option UsedThread) → first (is_used_thread tid) w.used_threads ≡ o → owner (view m w) tid ≡ seen_owner m (option_map (λ (u : UsedThread). u.process) o)
+    at None none = rw (first-none_kept (our_used m) (is_used_thread tid) w.used_threads none) refl
     at (Some x) some = inside (m x.process) refl
       where
         inside : (b : Bool) → m x.process ≡ b → owner (view m w) tid ≡ cond b (Some x.process) None
-        inside true is = rw (first-kept (our_used m) (is_number tid) w.used_threads x some is) refl
-        inside false out = rw (used-out (our_used m) (is_number tid) w.used_threads x (once tid) some out) refl
+        inside true is = rw (first-kept (our_used m) (is_used_thread tid) w.used_threads x some is) refl
+        inside false out = rw (used-out (our_used m) (is_used_thread tid) w.used_threads x (once tid) some out) refl
 
 -- whom c hears of is the same in a view
 whose-view : (m : Group) (c : ℕ) (o : Option ℕ) → m c ≡ true → is_seen (alone c) (owned (seen_owner m o)) ≡ is_seen (alone c) (owned o)

@@ -6,7 +6,7 @@ use Rattle.std.specs.Prelude.{◌||◌, Result, Ok, Err}
 use Rattle.lpc_base.specs.Rows.{has}
 use Rattle.lpc_base.specs.declared.status.Status.{Status}
 use Rattle.lpc_model.specs.World.{Birth, ThreadRow, WaitRow, World}
-use Rattle.lpc_model.specs.Found.{live_thread, wait_of, was_process, was_thread}
+use Rattle.lpc_model.specs.Found.{is_used_thread, live_thread, wait_of, was_process, was_thread}
 use Rattle.lpc_model.specs.Basics.{AddsProcess, AddsThread, Basic, Binds, used, world_after}
 use Rattle.lpc_model.specs.Named.{free_name, spelled_name}
 use Rattle.lpc_model.specs.Refusal.{refuse_if}
@@ -20,7 +20,7 @@ use Rattle.lpc_model.specs.Lines.{ScriptCall, ScriptLine, boot, dir, link, run, 
 use Rattle.lpc_model.specs.Machine.{boot_line, dir_line, directed, directive_birth, link_line, live_test, name_of_call, new_process, new_thread, settled, thread_count_test, thread_line, thread_test, unused_thread_test}
 use Rattle.lpc_isolation.proofs.Served.{served, served_step}
 use Rattle.lpc_model.proofs.Holding.{Holds, bind_holds, holds_any, holds_ok, not_refused}
-use Rattle.lpc_model.specs.Circle.{Group, is_number}
+use Rattle.lpc_model.specs.Circle.{Group}
 use Rattle.lpc_isolation.proofs.Alone.{HasFineRows}
 use Rattle.lpc_isolation.proofs.Fair.{are_fair, run-fair, together-of}
 use Rattle.lpc_base.proofs.RowWords.{every-push}
@@ -59,7 +59,7 @@ boot-next m c w pid tid ids n (Ok bs) is = at (was_process w pid || was_thread w
     at : (b : Bool) → (was_process w pid || was_thread w tid) ≡ b → (refuse_if b OBJECT_NAME_COLLISION >>= (λ (u : Unit {0}). Ok (AddsProcess (new_process pid None (directive_birth pid pid)) ∷ AddsThread (new_thread tid pid (directive_birth tid pid)) ∷ []))) ≡ Ok bs → Kept m c (world_after w bs)
     at true used is = absurd (cc)
     at false unused is =
-        let new : has (is_number tid) w.used_threads ≡ false = not_either (was_process w pid) (was_thread w tid) unused in
+        let new : has (is_used_thread tid) w.used_threads ≡ false = not_either (was_process w pid) (was_thread w tid) unused in
         let same : (AddsProcess (new_process pid None (directive_birth pid pid)) ∷ AddsThread (new_thread tid pid (directive_birth tid pid)) ∷ []) ≡ bs = cc in
         subst (λ bs. Kept m c (world_after w bs)) same (record {
           fair = run-fair m c w (AddsProcess (new_process pid None (directive_birth pid pid)) ∷ AddsThread (new_thread tid pid (directive_birth tid pid)) ∷ []) (rw (new, together-of m pid pid refl) refl) n.fair;
@@ -73,7 +73,7 @@ boot-next m c w pid tid ids n (Ok bs) is = at (was_process w pid || was_thread w
 thread-holds : (m : Group) (c : ℕ) (w : World) (tid pid : ℕ) → has_ids (thread tid pid) ≡ true → Kept m c w → Holds (λ bs. Kept m c (world_after w bs)) (thread_line w tid pid)
 unfolding thread_line
 thread-holds m c w tid pid ids n = bind_holds (thread_test w tid pid) _ (λ bs. Kept m c (world_after w bs)) (λ u is.
-    let new : has (is_number tid) w.used_threads ≡ false = holds_ok (λ _. was_thread w tid ≡ false) (thread_test w tid pid) u (unused-number w tid pid) is in
+    let new : has (is_used_thread tid) w.used_threads ≡ false = holds_ok (λ _. was_thread w tid ≡ false) (thread_test w tid pid) u (unused-number w tid pid) is in
     record {
       fair = run-fair m c w (AddsThread (new_thread tid pid (directive_birth tid pid)) ∷ []) (rw (new, together-of m pid pid refl) refl) n.fair;
       once = λ t. at-most t w.used_threads (used (new_thread tid pid (directive_birth tid pid))) new (n.once t);

@@ -10,12 +10,12 @@ use Rattle.lpc_base.specs.declared.status.TheConstants.{SUCCESS}
 use Rattle.lpc_model.specs.declared.entry.Entry.TheVariants as entry
 use Rattle.lpc_model.specs.World.{Accepted, Birth, Connect, Creator, Listen, MessageRow, PortKind, PortRow, Receive, Request, WaitKind, WaitRow, World}
 use Rattle.lpc_model.specs.Message.{asks}
-use Rattle.lpc_model.specs.Found.{if_open, is_client_port, is_open, is_port, port_row, wait_of, waits_as}
+use Rattle.lpc_model.specs.Found.{if_open, is_client_port, is_open, is_port, is_used_thread, port_row, wait_of, waits_as}
 use Rattle.lpc_model.specs.Basics.{Basic, Enters, basic, entries_of, world_after}
 use Rattle.lpc_model.specs.Entering.{enter, given_steps, shown, takes, woken}
 use Rattle.lpc_model.specs.Close.{closed_row, post_closed, server_of, closing_post}
 use Rattle.lpc_model.proofs.Births.{birth-same, birth-self}
-use Rattle.lpc_model.specs.Circle.{Group, Whose, is_fine_client, is_fine_port, is_number, owner}
+use Rattle.lpc_model.specs.Circle.{Group, Whose, is_fine_client, is_fine_port, owner}
 use Rattle.lpc_isolation.proofs.View.{both, one_of, other_of, our_wait, same-number, seen_port, view}
 use Rattle.lpc_isolation.proofs.Filters.{first-kept}
 use Rattle.lpc_isolation.proofs.Basics.{are_ours}
@@ -72,7 +72,7 @@ posted m c u w b p by q s row made server =
     let client = client-of w p q server in
     let fine : is_fine_client m c p.birth q ≡ true = fine-kind m c p q p.kind refl client.0 client.1 (every-first (is_fine_port m c) (is_port b) w.ports p (s.fine).1 row) in
     let here : is_created w.used_threads p ≡ true = every-first (is_created w.used_threads) (is_port b) w.ports p s.fair.creators row in
-    let created : ((by.client.process == p.birth.process) && passes (first (is_number by.client.thread) w.used_threads) (λ u. u.process == by.client.process)) ≡ true = rw made at here in
+    let created : ((by.client.process == p.birth.process) && passes (first (is_used_thread by.client.thread) w.used_threads) (λ u. u.process == by.client.process)) ≡ true = rw made at here in
     record {
       row = row;
       birth = birth;

@@ -7,14 +7,14 @@ use Rattle.lpc_model.specs.declared.entry.CallName.TheVariants.{NtRegisterThread
 use Rattle.lpc_model.specs.declared.entry.Entry.{Entry}
 use Rattle.lpc_model.specs.declared.entry.Entry.TheVariants.{Answer}
 use Rattle.lpc_model.specs.World.{Birth, PortRow, ThreadRow, World}
-use Rattle.lpc_model.specs.Found.{wait_of}
+use Rattle.lpc_model.specs.Found.{is_used_thread, wait_of}
 use Rattle.lpc_model.specs.Basics.{Basic, Registers, Tells, world_after}
 use Rattle.lpc_base.specs.declared.limits.TheConstants.{REGISTRATION_LIMIT}
 use Rattle.lpc_model.specs.Register.{is_registered, nt_register_thread_terminate_port, register_steps, registration_test}
 use Rattle.lpc_model.specs.Tests.{next_birth, port_test}
 use Rattle.lpc_model.specs.Lines.{register_thread_terminate_port}
 use Rattle.lpc_model.specs.SoundWaits.{IsSoundWorld}
-use Rattle.lpc_model.specs.Circle.{Group, Whose, is_fine_call, owner, is_number}
+use Rattle.lpc_model.specs.Circle.{Group, Whose, is_fine_call, owner}
 use Rattle.lpc_model.proofs.Holding.{Holds, bind_holds, holds_ok}
 use Rattle.lpc_isolation.proofs.Alone.{HasFineRows}
 use Rattle.lpc_isolation.proofs.Served.{served}
@@ -73,7 +73,7 @@ fair-register m c w by known handle a = on-register (λ bs. HasFineRows m c (wor
     own : (p : PortRow) → port_test w by handle ≡ Ok p → owner w by.number ≡ Some p.birth.process
     own p at = a.own ∙ ap (λ n. Some n) (sym (port-process m c w w by handle p (caller m c w by known w a refl) at))
 
-    is : (p : PortRow) → passes (first (is_number by.number) w.used_threads) (λ u. u.process == p.birth.process) ≡ true → (new : Bool) → are_fair m c w (Tells (told_first by) ∷ when new (Registers by.number p.birth ∷ [])) ≡ true
+    is : (p : PortRow) → passes (first (is_used_thread by.number) w.used_threads) (λ u. u.process == p.birth.process) ≡ true → (new : Bool) → are_fair m c w (Tells (told_first by) ∷ when new (Registers by.number p.birth ∷ [])) ≡ true
     is p owned true = both _ _ owned refl
     is p owned false = refl
 

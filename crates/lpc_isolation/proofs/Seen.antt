@@ -11,12 +11,12 @@ use Rattle.lpc_model.specs.declared.entry.ObjectKind.TheVariants as kind
 use Rattle.lpc_model.specs.Refusal.{found_or, refuse_if}
 use Rattle.lpc_model.specs.Then.{◌>>=◌}
 use Rattle.lpc_model.specs.World.{Birth, HandleRow, HandleTable, PortRow, ThreadRow, UsedThread, World}
-use Rattle.lpc_model.specs.Found.{free_handle, handle_at, handles_of, has_handle_to, has_value, is_live_thread, is_open, is_port, is_table, live_thread, names_port, port_row, rows_in, same_kind}
+use Rattle.lpc_model.specs.Found.{free_handle, handle_at, handles_of, has_handle_to, has_value, is_live_thread, is_open, is_port, is_table, is_used_thread, live_thread, names_port, port_row, rows_in, same_kind}
 use Rattle.lpc_base.specs.declared.status.TheConstants.{ACCESS_DENIED, INVALID_HANDLE, OBJECT_TYPE_MISMATCH}
 use Rattle.lpc_model.specs.Tests.{PORT_RIGHT, includes, object_test, own_handle, port_test}
 use Rattle.lpc_model.proofs.Births.{birth-same}
 use Rattle.lpc_model.proofs.Holding.{Holds, bind_holds, found_holds, found_ok, holds_ok}
-use Rattle.lpc_model.specs.Circle.{Group, is_number, owner}
+use Rattle.lpc_model.specs.Circle.{Group, owner}
 use Rattle.lpc_isolation.proofs.Filters.{first-inside, first-nowhere, first-shown, first-where, has-inside}
 use Rattle.lpc_isolation.proofs.View.{of_birth, one_of, our_port, our_table, our_thread, same-number, seen_port, view}
 use Rattle.lpc_isolation.proofs.Fair.{Fair, is_fair_pair, is_fair_port, is_fair_table, is_home, is_homed, is_own}
@@ -131,12 +131,12 @@ c-port m c p c_in own fair = at p.pair refl
 -- Threads
 -- a thread's process is the owner of its number
 pub homed-number : (w : World) (tid : ℕ) (t : ThreadRow) → is_homed w.used_threads t ≡ true → t.number ≡ tid → owner w tid ≡ Some t.process
-homed-number w tid t homed number = at (first (is_number t.number) w.used_threads) refl number homed
+homed-number w tid t homed number = at (first (is_used_thread t.number) w.used_threads) refl number homed
   where
-    at : (o : Option UsedThread) → first (is_number t.number) w.used_threads ≡ o → t.number ≡ tid → passes o (λ u. u.process == t.process) ≡ true → owner w tid ≡ Some t.process
+    at : (o : Option UsedThread) → first (is_used_thread t.number) w.used_threads ≡ o → t.number ≡ tid → passes o (λ u. u.process == t.process) ≡ true → owner w tid ≡ Some t.process
     at None none number is = absurd (cc)
     at (Some u) some number is =
-        let here : first (is_number tid) w.used_threads ≡ Some u = ap (λ n. first (is_number n) w.used_threads) (sym number) ∙ some in
+        let here : first (is_used_thread tid) w.used_threads ≡ Some u = ap (λ n. first (is_used_thread n) w.used_threads) (sym number) ∙ some in
         rw here (ap (λ n. Some n) (eqb-true _ _ is))
 
 homed-owner : (m : Group) (c : ℕ) (w : World) (tid : ℕ) (t : ThreadRow) → is_homed w.used_threads t ≡ true → is_live_thread tid t ≡ true → owner w tid ≡ Some t.process

@@ -52,11 +52,11 @@ abbrev pub Gives : {A E : Type 0} → (A → Type 0) → Result A E → Type 0
 Gives P (Ok x) = P x
 Gives P (Err e) = Unit {0}
 
-then_gives : {A B E : Type 0} (r : Result A E) (f : A → Result B E) (P : B → Type 0) → ((x : A) → r ≡ Ok x → Gives P (f x)) → Gives P (r >>= f)
+pub then_gives : {A B E : Type 0} (r : Result A E) (f : A → Result B E) (P : B → Type 0) → ((x : A) → r ≡ Ok x → Gives P (f x)) → Gives P (r >>= f)
 then_gives (Ok x) f P h = h x refl
 then_gives (Err e) f P h = tt
 
-gives_ok : {A E : Type 0} (P : A → Type 0) (r : Result A E) (x : A) → Gives P r → r ≡ Ok x → P x
+pub gives_ok : {A E : Type 0} (P : A → Type 0) (r : Result A E) (x : A) → Gives P r → r ≡ Ok x → P x
 gives_ok P (Ok y) x h is = let same : y ≡ x = cc in subst P same h
 gives_ok P (Err e) x h is = absurd (cc)
 

@@ -14,7 +14,7 @@ use Rattle.lpc_names.specs.declared.names.Found.TheVariants.{Item}
 use Rattle.lpc_model.specs.declared.entry.ObjectKind.TheVariants as kind
 use Rattle.lpc_model.specs.declared.entry.Word.TheVariants as word
 use Rattle.lpc_model.specs.World.{Birth, HandleRow, Message, MessageRow, ObjectKind, ObjectName, PortRow, ThreadRow, WaitRow, World, no_rows}
-use Rattle.lpc_model.specs.Found.{free_handle, handle_at, has_handle_to, is_accepted, is_connection_port, is_open, is_own_of, is_queued, is_queued_connect, is_table, live_thread, live_threads, port_name, queue_of, wait_of, waits_as, waits_at}
+use Rattle.lpc_model.specs.Found.{free_handle, handle_at, has_handle_to, is_accepted, is_connection_port, is_open, is_own_of, is_queued, is_queued_connect, is_table, is_taken, live_thread, live_threads, port_name, queue_of, wait_of, waits_as, waits_at}
 use Rattle.lpc_model.specs.Basics.{Accepts, AddsHandle, AddsProcess, AddsThread, Awaits, Basic, Binds, Completes, Cuts, Dies, DrawsIdentifier, DrawsOrdinal, DropsHandle, Empties, Enters, Frees, Joins, Makes, Receives, Registers, Takes, TakesConnect, Tells, Unbinds, Unregisters, Wakes, Withdraws, accepted, basic, freed, no_handles, received, world_after, with_handle}
 use Rattle.lpc_model.specs.Sweep.{free_unheld, sweep, unheld}
 use Rattle.lpc_model.specs.Message.{asks, message_test}
@@ -69,9 +69,6 @@ enters_open w m = is_open w m.queue
 abbrev waits_open : World → WaitRow → Bool
 waits_open w x = x.received || is_open w x.queue
 
-abbrev was_received : WaitRow → Bool
-was_received x = not (is_accepted x) || x.received
-
 -- one world behind another: open ports stay open, and so do the queues of messages and waits
 record KeepsOpen (w v : World) : Type 0 where
   opens : StayOpen w v
@@ -81,7 +78,7 @@ either-more : (r a b : Bool) → (a ≡ true → b ≡ true) → (r || a) ≡ tr
 either-more r a b more is = grind (arith, more)
 
 kept : (w v : World) → StayOpen w v → (every (enters_open w) w.messages ≡ true → every (enters_open w) v.messages ≡ true) → (every (waits_open w) w.waits ≡ true → every (waits_open w) v.waits ≡ true)
-    → (every was_received w.waits ≡ true → every was_received v.waits ≡ true) → KeepsOpen w v
+    → (every is_taken w.waits ≡ true → every is_taken v.waits ≡ true) → KeepsOpen w v
 kept w v opens messages waits accepts = record {
   opens = opens;
   queues = λ q. record {
@@ -95,7 +92,7 @@ kept w v opens messages waits accepts = record {
 messages-kept : (w : World) (messages : List MessageRow) → (every (enters_open w) w.messages ≡ true → every (enters_open w) messages ≡ true) → KeepsOpen w (record w { messages = messages })
 messages-kept w messages all = kept w (record w { messages = messages }) (λ b is. is) all (λ all. all) (λ all. all)
 
-waits-kept : (w : World) (waits : List WaitRow) → (every (waits_open w) w.waits ≡ true → every (waits_open w) waits ≡ true) → (every was_received w.waits ≡ true → every was_received waits ≡ true) → KeepsOpen w (record w { waits = waits })
+waits-kept : (w : World) (waits : List WaitRow) → (every (waits_open w) w.waits ≡ true → every (waits_open w) waits ≡ true) → (every is_taken w.waits ≡ true → every is_taken waits ≡ true) → KeepsOpen w (record w { waits = waits })
 waits-kept w waits all accepts = kept w (record w { waits = waits }) (λ b is. is) (λ all. all) all accepts
 
 -- a basic step that keeps queues open whatever stands behind it: it gives and takes no handle and accepts nothing, and what
@@ -136,9 +133,9 @@ right a b is = grind arith
 -- a step that passes in a world keeps queues open in each later one
 step-kept : (w v : World) (b : Basic) → StayOpen w v → is_open_step w b ≡ true → KeepsOpen v (basic v b)
 step-kept w v (Tells e) stay is = kept v v (λ b is. is) (λ all. all) (λ all. all) (λ all. all)
-step-kept w v (Wakes who call status fields) stay is = waits-kept v _ (every-without (waits_open v) (waits_as who) v.waits) (every-without was_received (waits_as who) v.waits)
-step-kept w v (Awaits x) stay is = waits-kept v _ (λ all. every-push (waits_open v) v.waits x all (right x.received _ (stay x.queue (first-true (is_open w x.queue) _ is)))) (λ all. every-push was_received v.waits x all (left _ x.received (second-true (is_open w x.queue) _ is)))
-step-kept w v (Receives who queue) stay is = waits-kept v _ (every-change (waits_open v) (waits_at who queue) received (λ x is. refl) v.waits) (every-change was_received (waits_at who queue) received (λ x is. right (not (is_accepted x)) true refl) v.waits)
+step-kept w v (Wakes who call status fields) stay is = waits-kept v _ (every-without (waits_open v) (waits_as who) v.waits) (every-without is_taken (waits_as who) v.waits)
+step-kept w v (Awaits x) stay is = waits-kept v _ (λ all. every-push (waits_open v) v.waits x all (right x.received _ (stay x.queue (first-true (is_open w x.queue) _ is)))) (λ all. every-push is_taken v.waits x all (left _ x.received (second-true (is_open w x.queue) _ is)))
+step-kept w v (Receives who queue) stay is = waits-kept v _ (every-change (waits_open v) (waits_at who queue) received (λ x is. refl) v.waits) (every-change is_taken (waits_at who queue) received (λ x is. right (not (is_accepted x)) true refl) v.waits)
 step-kept w v (Accepts who reply) stay is = absurd (cc)
 step-kept w v (Enters m) stay is = messages-kept v _ (λ all. every-push (enters_open v) v.messages m all (stay m.queue is))
 step-kept w v (Takes q) stay is = messages-kept v _ (every-without_first (enters_open v) (is_queued q) v.messages)
@@ -146,7 +143,7 @@ step-kept w v (TakesConnect q) stay is = messages-kept v _ (every-without_first 
 step-kept w v (Withdraws who) stay is = messages-kept v _ (every-without (enters_open v) (is_own_of who) v.messages)
 step-kept w v (DrawsIdentifier who) stay is = kept v (basic v (DrawsIdentifier who)) (λ b is. is) (λ all. all) (λ all. all) (λ all. all)
 step-kept w v (DrawsOrdinal who) stay is = kept v (basic v (DrawsOrdinal who)) (λ b is. is) (λ all. all) (λ all. all) (λ all. all)
-step-kept w v (Dies who status) stay is = kept v (basic v (Dies who status)) (λ b is. is) (λ all. all) (every-without (waits_open v) (waits_as who) v.waits) (every-without was_received (waits_as who) v.waits)
+step-kept w v (Dies who status) stay is = kept v (basic v (Dies who status)) (λ b is. is) (λ all. all) (every-without (waits_open v) (waits_as who) v.waits) (every-without is_taken (waits_as who) v.waits)
 step-kept w v (Registers who b) stay is = kept v (basic v (Registers who b)) (λ b is. is) (λ all. all) (λ all. all) (λ all. all)
 step-kept w v (Unregisters who b) stay is = kept v (basic v (Unregisters who b)) (λ b is. is) (λ all. all) (λ all. all) (λ all. all)
 step-kept w v (AddsProcess p) stay is = kept v (basic v (AddsProcess p)) (λ b is. has-kept (has_handle_to b) v.handles (no_handles p.number) is) (λ all. all) (λ all. all) (λ all. all)
@@ -270,12 +267,12 @@ received-alone w by m x at s = named-alone w by m x (λ y. y.received) at (named
 
 accepted-alone : (w : World) (who : ℕ) (reply : List ℕ) → every (λ y. not (waits_as who y) || y.received) w.waits ≡ true → HasOpenQueues w → HasOpenQueues (basic w (Accepts who reply))
 accepted-alone w who reply alone q =
-    let both = every-both was_received (λ y. not (waits_as who y) || y.received) (λ y. was_received y && (not (waits_as who y) || y.received)) (λ y one two. both-true _ _ one two) w.waits q.accepts alone in
+    let both = every-both is_taken (λ y. not (waits_as who y) || y.received) (λ y. is_taken y && (not (waits_as who y) || y.received)) (λ y one two. both-true _ _ one two) w.waits q.accepts alone in
     record {
       messages = q.messages;
       waits = every-change (waits_open w) (waits_as who) (accepted reply) (λ x is. is) w.waits q.waits;
-      accepts = every-change_to (λ y. was_received y && (not (waits_as who y) || y.received)) was_received (waits_as who) (accepted reply)
-          (λ y is own. right (not (is_accepted (accepted reply y))) y.received (its (waits_as who y) y.received own (second-true (was_received y) _ is))) (λ y is off. first-true (was_received y) _ is) w.waits both;
+      accepts = every-change_to (λ y. is_taken y && (not (waits_as who y) || y.received)) is_taken (waits_as who) (accepted reply)
+          (λ y is own. right (not (is_accepted (accepted reply y))) y.received (its (waits_as who y) y.received own (second-true (is_taken y) _ is))) (λ y is off. first-true (is_taken y) _ is) w.waits both;
     }
   where
     its : (a r : Bool) → a ≡ true → (not a || r) ≡ true → r ≡ true
@@ -379,15 +376,15 @@ receive-open w by handle bytes =
 
 -- NtClose
 -- what waits to be received does so on the queue of an open port, in a sound world where accepted connects were received
-waits-open : (w : World) (x : WaitRow) → is_sound_wait w x ≡ true → was_received x ≡ true → waits_open w x ≡ true
+waits-open : (w : World) (x : WaitRow) → is_sound_wait w x ≡ true → is_taken x ≡ true → waits_open w x ≡ true
 waits-open w =
-    by_kind (λ x. is_sound_wait w x ≡ true → was_received x ≡ true → waits_open w x ≡ true)
+    by_kind (λ x. is_sound_wait w x ≡ true → is_taken x ≡ true → waits_open w x ≡ true)
     (λ x m is was. grind arith) (λ x is was. grind arith) (λ x is was. grind arith) (λ x m is was. grind arith) (λ x m reply is was. grind arith)
 
-from-sound : (w : World) → IsSoundWorld w → every (enters_open w) w.messages ≡ true → every was_received w.waits ≡ true → HasOpenQueues w
+from-sound : (w : World) → IsSoundWorld w → every (enters_open w) w.messages ≡ true → every is_taken w.waits ≡ true → HasOpenQueues w
 from-sound w s messages accepts = record {
   messages = messages;
-  waits = every-both (is_sound_wait w) was_received (waits_open w) (waits-open w) w.waits s.waits accepts;
+  waits = every-both (is_sound_wait w) is_taken (waits_open w) (waits-open w) w.waits s.waits accepts;
   accepts = accepts;
 }
 
@@ -406,7 +403,7 @@ closed-open w pid r at s l q = by_last (is_last r w) refl (close_handle-sound w 
         let opens = but-opens v pid r (shut.sound.tables pid) (shut-found w v pid r shut.handles at) in
         let elsewhere : every (is_elsewhere v b) v.messages ≡ true = subst (λ hs. every (is_elsewhere (record w { handles = hs }) b) v.messages ≡ true) (sym shut.handles) (closed-messages w b s l q.messages) in
         let messages = every-more (is_elsewhere v b) (enters_open u) (λ m is. opens m.queue (not-true _ (second-true (is_open v m.queue) _ is)) (first-true (is_open v m.queue) _ is)) v.messages elsewhere in
-        subst HasOpenQueues (sym same) (from-sound u (subst IsSoundWorld same sound) messages (closed-waits w b s was_received q.accepts))
+        subst HasOpenQueues (sym same) (from-sound u (subst IsSoundWorld same sound) messages (closed-waits w b s is_taken q.accepts))
     by_last false more sound =
         let u = basic w (DropsHandle pid r.value) in
         let opens = still-open w pid r (s.tables pid) at more in

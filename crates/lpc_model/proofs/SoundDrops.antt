@@ -2,10 +2,10 @@
 use Rattle.std.proofs.Common.{◌≡◌, ℕ, ◌+◌, ◌≤◌, List, [], ◌∷◌, ◌++◌, Bool, true, false, cond, Some, refl, arith}
 use Rattle.std.specs.Prelude.{◌==◌}
 use Rattle.std.proofs.lemmas.Bool.Decides.{nat_tests}
-use Rattle.lpc_base.specs.Rows.{change, count, each, first, has, without_first}
+use Rattle.lpc_base.specs.Rows.{change, count, first, has, without_first}
 use Rattle.lpc_base.proofs.RowWords.{change-none}
 use Rattle.lpc_model.specs.World.{Birth, HandleRow, HandleTable, World}
-use Rattle.lpc_model.specs.Found.{all_handles, handle_at, has_value, is_open, is_table, names_port, rows_in}
+use Rattle.lpc_model.specs.Found.{all_handles, handle_at, handles_in, has_value, is_open, is_table, names_port, rows_in}
 use Rattle.lpc_model.specs.Basics.{DropsHandle, basic, without_handle}
 use Rattle.lpc_model.proofs.Rows.{count_none}
 use Rattle.lpc_model.proofs.Handles.{has-each, open-count}
@@ -29,9 +29,6 @@ apart-sum a b c d is = omega (arith, is)
 
 later-sum : (a b c d : ℕ) → a + c ≡ b → (d + a) + c ≡ d + b
 later-sum a b c d is = omega (arith, is)
-
-abbrev handles_in : List HandleTable → List HandleRow
-handles_in ts = each (λ t. t.rows) ts
 
 pub drop-count : (p : HandleRow → Bool) (pid value : ℕ) (ts : List HandleTable) (r : HandleRow) → count (is_table pid) ts ≤ 1 → first (has_value value) (rows_in (first (is_table pid) ts)) ≡ Some r
     → count p (handles_in (change (is_table pid) (without_handle value) ts)) + one_if (p r) ≡ count p (handles_in ts)

@@ -12,6 +12,7 @@ use Rattle.lpc_model.specs.Sweep.{free_unheld, is_unheld, unheld}
 use Rattle.lpc_model.proofs.Births.{birth-same, birth-self}
 use Rattle.lpc_model.proofs.Rows.{every-left}
 use Rattle.lpc_model.proofs.SoundFrees.{is-zero, less-held, none-pass, sum-second, which-all}
+use Rattle.lpc_model.proofs.Sweeping.{is_among}
 
 -- Counts of live threads
 -- rows that go count for nothing where they don't pass
@@ -115,25 +116,22 @@ list-thread (o ∷ os) w b all =
     list-thread os (basic w (Frees o)) b (every-more (is_unheld w) (is_unheld (basic w (Frees o))) (less-held w o) os later) ∙ same-thread w o b here
 
 -- Rows that go
-abbrev is_listed : List ObjectName → ObjectName → Bool
-is_listed os n = has (λ o. same_object n o) os
-
 -- fewer rows, of which none is listed
 record IsThinned {X : Type 0} (name : X → ObjectName) (os : List ObjectName) (xs ys : List X) : Type 0 where
   keeps : (f : X → Bool) → every f xs ≡ true → every f ys ≡ true
-  gone : every (λ x. not (is_listed os (name x))) ys ≡ true
+  gone : every (λ x. not (is_among os (name x))) ys ≡ true
 
-unlisted : {X : Type 0} (name : X → ObjectName) (xs : List X) → every (λ x. not (is_listed [] (name x))) xs ≡ true
+unlisted : {X : Type 0} (name : X → ObjectName) (xs : List X) → every (λ x. not (is_among [] (name x))) xs ≡ true
 unlisted name [] = refl
 unlisted name (x ∷ xs) = unlisted name xs
 
-listed-parts : (n o : ObjectName) (os : List ObjectName) → not (same_object n o) ≡ true → not (is_listed os n) ≡ true → not (is_listed (o ∷ os) n) ≡ true
+listed-parts : (n o : ObjectName) (os : List ObjectName) → not (same_object n o) ≡ true → not (is_among os n) ≡ true → not (is_among (o ∷ os) n) ≡ true
 listed-parts n o os one two = grind arith
 
 thinned : {X : Type 0} (name : X → ObjectName) (o : ObjectName) (os : List ObjectName) (xs ys zs : List X) → ((f : X → Bool) → every f xs ≡ true → every f ys ≡ true) → every (λ x. not (same_object (name x) o)) ys ≡ true → IsThinned name os ys zs → IsThinned name (o ∷ os) xs zs
 thinned name o os xs ys zs keeps off later = record {
   keeps = λ f all. later.keeps f (keeps f all);
-  gone = every-both (λ x. not (same_object (name x) o)) (λ x. not (is_listed os (name x))) (λ x. not (is_listed (o ∷ os) (name x))) (λ x one two. listed-parts (name x) o os one two) zs (later.keeps (λ x. not (same_object (name x) o)) off) later.gone;
+  gone = every-both (λ x. not (same_object (name x) o)) (λ x. not (is_among os (name x))) (λ x. not (is_among (o ∷ os) (name x))) (λ x one two. listed-parts (name x) o os one two) zs (later.keeps (λ x. not (same_object (name x) o)) off) later.gone;
 }
 
 every-any : {X : Type 0} (p : X → Bool) → ((x : X) → p x ≡ true) → (xs : List X) → every p xs ≡ true
@@ -169,20 +167,20 @@ processes-freed (o ∷ os) w = at o.kind o.birth (processes-freed os)
     at kind.Thread b later = thinned _ (record { kind = kind.Thread; birth = b }) os w.processes w.processes _ (λ f all. all) (every-any _ (λ t. refl) w.processes) (later (freed w kind.Thread b))
 
 -- Rows that no row names are listed
-members : {X : Type 0} (w : World) (name : X → ObjectName) → ((x : X) → same_object (name x) (name x) ≡ true) → (xs : List X) → every (λ x. not (is_unheld w (name x)) || is_listed (which (is_unheld w) (map name xs)) (name x)) xs ≡ true
+members : {X : Type 0} (w : World) (name : X → ObjectName) → ((x : X) → same_object (name x) (name x) ≡ true) → (xs : List X) → every (λ x. not (is_unheld w (name x)) || is_among (which (is_unheld w) (map name xs)) (name x)) xs ≡ true
 members w name own [] = refl
 members {X = X} w name own (z ∷ zs) = at (members w name own zs) (is_unheld w (name z)) refl
   where
-    more : (n o : ObjectName) (os : List ObjectName) (u : Bool) → (not u || is_listed os n) ≡ true → (not u || is_listed (o ∷ os) n) ≡ true
+    more : (n o : ObjectName) (os : List ObjectName) (u : Bool) → (not u || is_among os n) ≡ true → (not u || is_among (o ∷ os) n) ≡ true
     more n o os u is = grind arith
 
-    head : (n : ObjectName) (os : List ObjectName) → same_object n n ≡ true → is_listed (n ∷ os) n ≡ true
+    head : (n : ObjectName) (os : List ObjectName) → same_object n n ≡ true → is_among (n ∷ os) n ≡ true
     head n os is = rw is refl
 
-    at : every (λ x. not (is_unheld w (name x)) || is_listed (which (is_unheld w) (map name zs)) (name x)) zs ≡ true → (u : Bool) → is_unheld w (name z) ≡ u → every (λ x. not (is_unheld w (name x)) || is_listed (which (is_unheld w) (map name (z ∷ zs))) (name x)) (z ∷ zs) ≡ true
+    at : every (λ x. not (is_unheld w (name x)) || is_among (which (is_unheld w) (map name zs)) (name x)) zs ≡ true → (u : Bool) → is_unheld w (name z) ≡ u → every (λ x. not (is_unheld w (name x)) || is_among (which (is_unheld w) (map name (z ∷ zs))) (name x)) (z ∷ zs) ≡ true
     at later true is =
         let first = head (name z) (which (is_unheld w) (map name zs)) (own z) in
-        let rest = every-more (λ x. not (is_unheld w (name x)) || is_listed (which (is_unheld w) (map name zs)) (name x)) (λ x. not (is_unheld w (name x)) || is_listed (name z ∷ which (is_unheld w) (map name zs)) (name x)) (λ x one. more (name x) (name z) (which (is_unheld w) (map name zs)) (is_unheld w (name x)) one) zs later in grind arith
+        let rest = every-more (λ x. not (is_unheld w (name x)) || is_among (which (is_unheld w) (map name zs)) (name x)) (λ x. not (is_unheld w (name x)) || is_among (name z ∷ which (is_unheld w) (map name zs)) (name x)) (λ x one. more (name x) (name z) (which (is_unheld w) (map name zs)) (is_unheld w (name x)) one) zs later in grind arith
     at later false is = grind (arith, later)
 
 has-front : {X : Type 0} (p g : X → Bool) (xs ys : List X) → has p (which g xs) ≡ true → has p (which g (xs ++ ys)) ≡ true
@@ -214,9 +212,9 @@ module _ (w : World) where
       let one = threads-freed (unheld w) w in
       let two = threads-freed (unheld once_swept) once_swept in
       let rest = map (λ (p : PortRow). port_name p.birth) w.ports in
-      let listed = every-more (λ (t : ThreadRow). not (is_unheld w (thread_name t.birth)) || is_listed (which (is_unheld w) (map (λ t. thread_name t.birth) w.threads)) (thread_name t.birth)) (λ (t : ThreadRow). not (is_unheld w (thread_name t.birth)) || is_listed (unheld w) (thread_name t.birth))
+      let listed = every-more (λ (t : ThreadRow). not (is_unheld w (thread_name t.birth)) || is_among (which (is_unheld w) (map (λ t. thread_name t.birth) w.threads)) (thread_name t.birth)) (λ (t : ThreadRow). not (is_unheld w (thread_name t.birth)) || is_among (unheld w) (thread_name t.birth))
       (λ t is. listed-more (is_unheld w (thread_name t.birth)) _ _ (λ here. has-behind (λ o. same_object (thread_name t.birth) o) (is_unheld w) (map (λ p. process_name p.birth) w.processes) (map (λ t. thread_name t.birth) w.threads ++ rest) (has-front (λ o. same_object (thread_name t.birth) o) (is_unheld w) (map (λ t. thread_name t.birth) w.threads) rest here)) is) w.threads (members w (λ t. thread_name t.birth) (λ t. birth-self t.birth) w.threads) in
-      let held = every-both (λ (t : ThreadRow). not (is_unheld w (thread_name t.birth)) || is_listed (unheld w) (thread_name t.birth)) (λ t. not (is_listed (unheld w) (thread_name t.birth))) (λ t. not (is_unheld w (thread_name t.birth))) (λ t one two. held-left _ _ one two) once_swept.threads (one.keeps _ listed) one.gone in
+      let held = every-both (λ (t : ThreadRow). not (is_unheld w (thread_name t.birth)) || is_among (unheld w) (thread_name t.birth)) (λ t. not (is_among (unheld w) (thread_name t.birth))) (λ t. not (is_unheld w (thread_name t.birth))) (λ t one two. held-left _ _ one two) once_swept.threads (one.keeps _ listed) one.gone in
       every-more (λ t. not (is_unheld w (thread_name t.birth))) (λ t. not (is_unheld twice_swept (thread_name t.birth))) (λ t is. swept-same _ _ (list-thread (unheld once_swept) once_swept t.birth (which-all (is_unheld once_swept) _) ∙ list-thread (unheld w) w t.birth (which-all (is_unheld w) _)) is) twice_swept.threads (two.keeps _ held)
 
   pub processes-held : every (λ p. not (is_unheld twice_swept (process_name p.birth))) twice_swept.processes ≡ true
@@ -224,7 +222,7 @@ module _ (w : World) where
       let one = processes-freed (unheld w) w in
       let two = processes-freed (unheld once_swept) once_swept in
       let rest = map (λ (t : ThreadRow). thread_name t.birth) w.threads ++ map (λ (p : PortRow). port_name p.birth) w.ports in
-      let listed = every-more (λ (p : ProcessRow). not (is_unheld w (process_name p.birth)) || is_listed (which (is_unheld w) (map (λ p. process_name p.birth) w.processes)) (process_name p.birth)) (λ (p : ProcessRow). not (is_unheld w (process_name p.birth)) || is_listed (unheld w) (process_name p.birth))
+      let listed = every-more (λ (p : ProcessRow). not (is_unheld w (process_name p.birth)) || is_among (which (is_unheld w) (map (λ p. process_name p.birth) w.processes)) (process_name p.birth)) (λ (p : ProcessRow). not (is_unheld w (process_name p.birth)) || is_among (unheld w) (process_name p.birth))
       (λ p is. listed-more (is_unheld w (process_name p.birth)) _ _ (λ here. has-front (λ o. same_object (process_name p.birth) o) (is_unheld w) (map (λ p. process_name p.birth) w.processes) rest here) is) w.processes (members w (λ p. process_name p.birth) (λ p. birth-self p.birth) w.processes) in
-      let held = every-both (λ (p : ProcessRow). not (is_unheld w (process_name p.birth)) || is_listed (unheld w) (process_name p.birth)) (λ p. not (is_listed (unheld w) (process_name p.birth))) (λ p. not (is_unheld w (process_name p.birth))) (λ p one two. held-left _ _ one two) once_swept.processes (one.keeps _ listed) one.gone in
+      let held = every-both (λ (p : ProcessRow). not (is_unheld w (process_name p.birth)) || is_among (unheld w) (process_name p.birth)) (λ p. not (is_among (unheld w) (process_name p.birth))) (λ p. not (is_unheld w (process_name p.birth))) (λ p one two. held-left _ _ one two) once_swept.processes (one.keeps _ listed) one.gone in
       every-more (λ p. not (is_unheld w (process_name p.birth))) (λ p. not (is_unheld twice_swept (process_name p.birth))) (λ p is. swept-same _ _ (list-process (unheld once_swept) once_swept p.birth (which-all (is_unheld once_swept) _) ∙ list-process (unheld w) w p.birth (which-all (is_unheld w) _)) is) twice_swept.processes (two.keeps _ held)

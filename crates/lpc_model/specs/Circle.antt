@@ -13,7 +13,7 @@ use Rattle.lpc_names.specs.declared.names.Found.TheVariants.{Directory, Item as 
 use Rattle.lpc_model.specs.declared.entry.Entry.{Entry}
 use Rattle.lpc_model.specs.declared.entry.Entry.TheVariants.{Answer, Busy, Died, Directive, NoThread, Waits, Wakes}
 use Rattle.lpc_model.specs.World.{Birth, PortRow, ProcessRow, UsedThread, World}
-use Rattle.lpc_model.specs.Found.{was_process}
+use Rattle.lpc_model.specs.Found.{is_used_thread, was_process}
 use Rattle.lpc_model.specs.Lines.{ScriptCall, ScriptLine, accept_connect_port, boot, complete_connect_port, connect_port, create_port, dir, link, listen_port, close, duplicate_object, query_object, create_process, create_thread, register_thread_terminate_port, reply_port, reply_wait_receive_port, request_port, request_wait_reply_port, run, terminate_process, terminate_thread, thread}
 use Rattle.lpc_model.specs.Linked.{passes_or_none}
 use Rattle.lpc_model.specs.Machine.{step}
@@ -30,11 +30,8 @@ members pids = λ pid. list_any (λ p. p == pid) pids
 
 -- Whose it is
 -- the process of the thread that has, or had, a number; none where the number was never used for a thread
-abbrev pub is_number : ℕ → UsedThread → Bool
-is_number tid u = u.number == tid
-
 abbrev pub owner : World → ℕ → Option ℕ
-owner w tid = option_map (λ (u : UsedThread). u.process) (first (is_number tid) w.used_threads)
+owner w tid = option_map (λ (u : UsedThread). u.process) (first (is_used_thread tid) w.used_threads)
 
 -- whom a line or an entry is of: a process, everyone, or nobody, where no thread has or had its number
 pub data Whose : Type 0 where

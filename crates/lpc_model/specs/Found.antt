@@ -1,5 +1,5 @@
 -- What is found in the world: filters and counts of its rows.
-use Rattle.std.specs.Prelude.{ℕ, ◌==◌, ◌&&◌, ◌||◌, ◌+◌, ◌++◌, Bool, true, false, List, [], length, map, Option, Some, None, is_none, option_and_then, if◌then◌else◌}
+use Rattle.std.specs.Prelude.{ℕ, ◌==◌, ◌&&◌, ◌||◌, ◌+◌, ◌++◌, Bool, true, false, not, List, [], length, map, Option, Some, None, is_none, option_and_then, if◌then◌else◌}
 use Rattle.lpc_base.specs.Places.{least_handle}
 use Rattle.lpc_model.specs.declared.entry.ObjectKind.TheVariants as kind
 use Rattle.lpc_base.specs.declared.port_kind.PortKind.TheVariants.{Client, Connection, Server}
@@ -8,12 +8,16 @@ use Rattle.lpc_base.specs.Rows.{each, first, has, count, passes, when, which}
 use Rattle.lpc_message.specs.declared.kind.TheConstants.{DATAGRAM}
 use Rattle.lpc_message.specs.declared.message.ClientId.{ClientId}
 use Rattle.lpc_model.specs.Message.{asks, is_connection_request}
-use Rattle.lpc_model.specs.World.{World, Birth, ObjectKind, ObjectName, Message, ProcessRow, ThreadRow, HandleRow, HandleTable, PortRow, MessageRow, WaitRow, Accepted, Connect, Listen, Receive, Request}
+use Rattle.lpc_model.specs.World.{World, Birth, ObjectKind, ObjectName, Message, ProcessRow, ThreadRow, HandleRow, HandleTable, PortRow, MessageRow, WaitRow, UsedThread, Accepted, Connect, Listen, Receive, Request}
 
 -- Names
 -- an optional name is this one
 abbrev pub is_the : Birth → Option Birth → Bool
 is_the b o = passes o (same_birth b)
+
+-- the name of nothing, where a row or an answer must have one
+abbrev pub no_birth : Birth
+no_birth = record { maker = 0; ordinal = 0; process = 0 }
 
 -- the kinds of object, told apart by a number
 abbrev pub kind_rank : ObjectKind → ℕ
@@ -77,9 +81,12 @@ live_count w pid = count (lives_in pid) w.threads
 abbrev pub was_process : World → ℕ → Bool
 was_process w pid = has (λ n. n == pid) w.used_processes
 
--- the number was ever used for a thread
+-- the thread that has, or had, a number; the number was ever used for a thread
+abbrev pub is_used_thread : ℕ → UsedThread → Bool
+is_used_thread tid u = u.number == tid
+
 abbrev pub was_thread : World → ℕ → Bool
-was_thread w tid = has (λ u. u.number == tid) w.used_threads
+was_thread w tid = has (is_used_thread tid) w.used_threads
 
 -- Handles
 -- the handles of a process
@@ -241,6 +248,10 @@ is_accepted x = elim x.kind [
 abbrev pub is_connect : WaitRow → Bool
 is_connect x = is_offered x || is_accepted x
 
+-- a connect that is accepted was received
+abbrev pub is_taken : WaitRow → Bool
+is_taken x = not (is_accepted x) || x.received
+
 -- a wait for the reply to a request
 abbrev pub is_request : WaitRow → Bool
 is_request x = elim x.kind [
@@ -286,9 +297,12 @@ fitted w port m = first (fits w port m) w.waits
 abbrev pub same_object : ObjectName → ObjectName → Bool
 same_object a b = same_kind a.kind b.kind && same_birth a.birth b.birth
 
--- the handles of all processes, and how many of them name an object
+-- the handles in some tables, those of all processes, and how many of them name an object
+abbrev pub handles_in : List HandleTable → List HandleRow
+handles_in tables = each (λ t. t.rows) tables
+
 abbrev pub all_handles : World → List HandleRow
-all_handles w = each (λ t. t.rows) w.handles
+all_handles w = handles_in w.handles
 
 abbrev pub handle_count : World → ObjectName → ℕ
 handle_count w o = count (λ h. same_object h.object o) (all_handles w)

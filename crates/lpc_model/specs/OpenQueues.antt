@@ -1,9 +1,9 @@
 -- Open queues: messages stand in queues of open ports alone, and what waits to be received waits there.
-use Rattle.std.specs.Prelude.{◌≡◌, ℕ, ◌||◌, not, true, List}
+use Rattle.std.specs.Prelude.{◌≡◌, ℕ, ◌||◌, true, List}
 use Rattle.std.specs.List.{AllByRecursion}
 use Rattle.lpc_base.specs.Rows.{every}
 use Rattle.lpc_model.specs.World.{World}
-use Rattle.lpc_model.specs.Found.{is_accepted, is_open}
+use Rattle.lpc_model.specs.Found.{is_open, is_taken}
 use Rattle.lpc_model.specs.Lines.{ScriptLine}
 use Rattle.lpc_model.specs.Machine.{step}
 use Rattle.lpc_model.specs.Run.{run_of}
@@ -15,7 +15,7 @@ use Rattle.lpc_model.specs.SoundWaits.{HasShutConnects, IsSoundWorld}
 pub record HasOpenQueues (w : World) : Type 0 where
   pub messages : every (λ m. is_open w m.queue) w.messages ≡ true
   pub waits : every (λ x. x.received || is_open w x.queue) w.waits ≡ true
-  pub accepts : every (λ x. not (is_accepted x) || x.received) w.waits ≡ true
+  pub accepts : every is_taken w.waits ≡ true
 
 -- the step of each line keeps that in a sound world whose ports are linked, and where no connect waits on an open port
 abbrev pub StepsKeepQueuesOpen : Type 0

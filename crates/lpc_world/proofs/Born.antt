@@ -8,12 +8,12 @@ use Rattle.lpc_base.proofs.Differ.{differ-push, differ-without}
 use Rattle.lpc_base.proofs.RowMaps.{every-first}
 use Rattle.lpc_base.proofs.RowWords.{count-none, count-push, every-change, every-more, every-push, every-without, has-change, has-kept, has-push}
 use Rattle.lpc_model.specs.Basics.{past_ordinal}
-use Rattle.lpc_model.specs.Found.{is_thread, same_birth}
+use Rattle.lpc_model.specs.Found.{is_born_process, is_born_thread, is_thread, same_birth}
 use Rattle.lpc_model.specs.Tests.{next_birth}
 use Rattle.lpc_model.specs.World.{ProcessRow, ThreadRow, UsedThread, World}
 use Rattle.lpc_model.proofs.Births.{birth-same}
 use Rattle.lpc_model.proofs.Rows.{count-change, count-less}
-use Rattle.lpc_world.specs.Lawful.{AreBorn, AreBornIn, can_begin, drew, drew_own, is_birth_of, is_noted, is_noted_process, is_numbered, is_process_by, is_thread_by, was_drawn}
+use Rattle.lpc_world.specs.Lawful.{AreBorn, AreBornIn, can_begin, drew, drew_own, is_birth_of, is_noted, is_noted_process, is_numbered, was_drawn}
 use Rattle.lpc_world.proofs.Drawn.{not-drawn, unnoted, was-drawn-by, was-drawn-less, was-drawn-push}
 
 choose : (c x y z : Bool) → (y ≡ true → z ≡ true) → cond c x y ≡ true → cond c x z ≡ true
@@ -44,7 +44,7 @@ module _ (f : ThreadRow → ThreadRow) (number : (t : ThreadRow) → (f t).numbe
         threads_born = every-change (λ t. is_birth_of used vs t.number t.birth) (is_thread who) f (λ t is. rw (number t, birth t) is) ts (threads-more used ts used vs later ts h.threads_born);
         threads_numbered = every-change is_numbered (is_thread who) f (λ t is. rw (number t) is) ts h.threads_numbered;
         process_births = h.process_births;
-        thread_births = λ b. rw (count-change (is_thread_by b) (is_thread who) f (λ t. rw (birth t) refl) ts) (h.thread_births b);
+        thread_births = λ b. rw (count-change (is_born_thread b) (is_thread who) f (λ t. rw (birth t) refl) ts) (h.thread_births b);
       }
 
 -- A birth under which something new begins is no row's
@@ -106,7 +106,7 @@ births-push birth xs y few none b = few-push (λ x. same_birth (birth x) b) xs y
 
 module _ (ps : List ProcessRow) (ts : List ThreadRow) (ns : List ℕ) (used : List UsedThread) (h : AreBorn ps ts ns used) where
   -- a process more, whose number was never used
-  pub born-process : (p : ProcessRow) → has (λ n. n == p.number) ns ≡ false → (has (drew p.birth) ts ≡ true → was_drawn used ts p.birth ≡ true) → can_begin ts p.number p.birth ≡ true → ((p.birth.maker == 0) ≡ false → has (is_process_by p.birth) ps ≡ false)
+  pub born-process : (p : ProcessRow) → has (λ n. n == p.number) ns ≡ false → (has (drew p.birth) ts ≡ true → was_drawn used ts p.birth ≡ true) → can_begin ts p.number p.birth ≡ true → ((p.birth.maker == 0) ≡ false → has (is_born_process p.birth) ps ≡ false)
       → AreBorn (ps ++ p ∷ []) ts (ns ++ p.number ∷ []) used
   born-process p new drawn begins other =
       let none = unnoted (λ (q : ProcessRow). q.number) (λ n. has (λ m. m == n) ns) p.number ps h.processes_noted new in
@@ -124,7 +124,7 @@ module _ (ps : List ProcessRow) (ts : List ThreadRow) (ns : List ℕ) (used : Li
       }
 
   -- a thread more, whose number was never used
-  pub born-thread : (t : ThreadRow) (u : UsedThread) → is_numbered t ≡ true → every (is_noted used) ts ≡ true → has (λ x. x.number == t.number) used ≡ false → (has (drew t.birth) ts ≡ true → was_drawn used ts t.birth ≡ true) → can_begin ts t.number t.birth ≡ true → ((t.birth.maker == 0) ≡ false → has (is_thread_by t.birth) ts ≡ false)
+  pub born-thread : (t : ThreadRow) (u : UsedThread) → is_numbered t ≡ true → every (is_noted used) ts ≡ true → has (λ x. x.number == t.number) used ≡ false → (has (drew t.birth) ts ≡ true → was_drawn used ts t.birth ≡ true) → can_begin ts t.number t.birth ≡ true → ((t.birth.maker == 0) ≡ false → has (is_born_thread t.birth) ts ≡ false)
       → AreBorn ps (ts ++ t ∷ []) ns (used ++ u ∷ [])
   born-thread t u numbered noted new drawn begins other =
       let none = unnoted (λ (x : ThreadRow). x.number) (λ n. has (λ x. x.number == n) used) t.number ts noted new in
@@ -153,7 +153,7 @@ module _ (ps : List ProcessRow) (ts : List ThreadRow) (ns : List ℕ) (used : Li
         threads_born = every-without (λ x. is_birth_of used (without goes ts) x.number x.birth) goes ts (threads-more used ts used (without goes ts) later ts h.threads_born);
         threads_numbered = every-without is_numbered goes ts h.threads_numbered;
         process_births = h.process_births;
-        thread_births = λ b. count-less (is_thread_by b) goes ts 1 (h.thread_births b);
+        thread_births = λ b. count-less (is_born_thread b) goes ts 1 (h.thread_births b);
       }
 
   pub born-less-processes : (goes : ProcessRow → Bool) → AreBorn (without goes ps) ts ns used
@@ -163,7 +163,7 @@ module _ (ps : List ProcessRow) (ts : List ThreadRow) (ns : List ℕ) (used : Li
     processes_born = every-without (λ q. is_birth_of used ts q.number q.birth) goes ps h.processes_born;
     threads_born = h.threads_born;
     threads_numbered = h.threads_numbered;
-    process_births = λ b. count-less (is_process_by b) goes ps 1 (h.process_births b);
+    process_births = λ b. count-less (is_born_process b) goes ps 1 (h.process_births b);
     thread_births = h.thread_births;
   }
 
@@ -196,7 +196,7 @@ module _ (used : List UsedThread) (ts : List ThreadRow) (tid : ℕ) (t : ThreadR
   none-next number birth [] all = refl
   none-next number birth (x ∷ xs) all = grind (arith, not-next (number x) (birth x), none-next number birth xs)
 
-pub next-process : (w : World) (tid : ℕ) (t : ThreadRow) → AreBornIn w → first (is_thread tid) w.threads ≡ Some t → has (is_process_by (next_birth t)) w.processes ≡ false
+pub next-process : (w : World) (tid : ℕ) (t : ThreadRow) → AreBornIn w → first (is_thread tid) w.threads ≡ Some t → has (is_born_process (next_birth t)) w.processes ≡ false
 next-process w tid t h at = none-next w.used_threads w.threads tid t at h.threads_numbered (λ (p : ProcessRow). p.number) (λ p. p.birth) w.processes h.processes_born
 
 -- its maker is a thread, and no directive
@@ -207,7 +207,7 @@ next-maker w tid t h at = off t.number (every-first is_numbered (is_thread tid) 
     off m is = grind arith
 
 -- nor is it once it is drawn
-pub next-thread : (w : World) (tid : ℕ) (t : ThreadRow) → AreBornIn w → first (is_thread tid) w.threads ≡ Some t → has (is_thread_by (next_birth t)) (change (is_thread tid) past_ordinal w.threads) ≡ false
+pub next-thread : (w : World) (tid : ℕ) (t : ThreadRow) → AreBornIn w → first (is_thread tid) w.threads ≡ Some t → has (is_born_thread (next_birth t)) (change (is_thread tid) past_ordinal w.threads) ≡ false
 next-thread w tid t h at =
-    has-change (is_thread_by (next_birth t)) (is_thread tid) past_ordinal (λ x. refl) w.threads
+    has-change (is_born_thread (next_birth t)) (is_thread tid) past_ordinal (λ x. refl) w.threads
     ∙ none-next w.used_threads w.threads tid t at h.threads_numbered (λ (x : ThreadRow). x.number) (λ x. x.birth) w.threads h.threads_born

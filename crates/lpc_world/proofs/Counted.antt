@@ -16,7 +16,8 @@ use Rattle.lpc_slots.specs.declared.Key.{Key}
 use Rattle.lpc_waits.specs.Table as waits
 use Rattle.lpc_waits.specs.declared.WaitRow.{WaitRow}
 use Rattle.lpc_world.specs.Kept.{is_alive, rows_by}
-use Rattle.lpc_world.specs.Lawful.{AreLawful, is_process_by}
+use Rattle.lpc_model.specs.Found.{is_born_process}
+use Rattle.lpc_world.specs.Lawful.{AreLawful}
 use Rattle.lpc_world.specs.Names.{name_of, stands}
 use Rattle.lpc_homes.specs.Parts.{all_rows, names_it}
 use Rattle.lpc_world.specs.Shown.{Tables, AreNamed, Births, all_pass, birth_of, births_of, message_refs, name_by, object_stands, part_refs, port_refs, ports_in, shown_handle, shown_message, shown_part, shown_port, shown_process, shown_thread, shown_wait, wait_refs}
@@ -93,7 +94,7 @@ module _ (it : Tables) (is : AreNamed (births_of it.ports) it) (key : Key) (ther
 -- Live threads that count for a process, and for a thread
 module _ (it : Tables) (calls made : ℕ) (is : AreLawful it calls made) (b : Birth) where
   pub born-once : count (procs.is_process_born b) it.procs.processes ≤ 1
-  born-once = subst (λ (n : ℕ). n ≤ 1) (count-shown shown_process (procs.is_process_born b) (is_process_by b) (λ p. refl) it.procs.processes) (is.born.process_births b)
+  born-once = subst (λ (n : ℕ). n ≤ 1) (count-shown shown_process (procs.is_process_born b) (is_born_process b) (λ p. refl) it.procs.processes) (is.born.process_births b)
 
   pub process-lives : count (found.lives_by (rows_by it) b) (rows_by it).threads ≡ count (procs.lives_by it.procs b) it.procs.threads
   process-lives =

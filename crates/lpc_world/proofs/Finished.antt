@@ -10,12 +10,12 @@ use Rattle.lpc_handles.specs.declared.table.Row.{Row}
 use Rattle.lpc_model.specs.World as model
 use Rattle.lpc_model.specs.World.{World}
 use Rattle.lpc_model.specs.Basics.{AddsHandle, basic}
-use Rattle.lpc_model.specs.Found.{handles_of, is_accepted, is_connect, is_table, wait_of, waits_as}
+use Rattle.lpc_model.specs.Found.{handles_of, is_accepted, is_connect, is_table, is_taken, wait_of, waits_as}
 use Rattle.lpc_model.specs.Tests.{is_connect_of}
 use Rattle.lpc_waits.specs.Table as waits
 use Rattle.lpc_waits.specs.Table.{WaitTable}
 use Rattle.lpc_world.specs.Kept.{has_queued, is_pending_in, owed_rows, rows_by}
-use Rattle.lpc_world.specs.Lawful.{AreLawful, IsPromised, is_taken}
+use Rattle.lpc_world.specs.Lawful.{AreLawful, IsPromised}
 use Rattle.lpc_homes.specs.Parts.{handed, is_part, rows_at, spare_at}
 use Rattle.lpc_world.specs.Ready.{wait_in, waiter}
 use Rattle.lpc_world.specs.Shown.{AreNamed, Births, Tables, birth_of, births_of, object_stands, shown_handle}

@@ -6,7 +6,7 @@ use Rattle.lpc_base.specs.Rows.{first, has, passes}
 use Rattle.lpc_base.proofs.RowMaps.{every-first, first-map, mapped-twice}
 use Rattle.lpc_base.proofs.RowWords.{first-passes}
 use Rattle.lpc_model.specs.Close.{is_accepted_across, is_across, is_offered_to, is_queued_request, is_receive_across, is_receiver, is_request_across, is_request_on}
-use Rattle.lpc_model.specs.Found.{is_accepted, is_client_port, is_connect, is_made_on, is_offered, is_port, is_receive, is_request, is_the, pair_of, port_row, same_birth, waits_as}
+use Rattle.lpc_model.specs.Found.{is_accepted, is_client_port, is_connect, is_made_on, is_offered, is_port, is_receive, is_request, is_taken, is_the, pair_of, port_row, same_birth, waits_as}
 use Rattle.lpc_model.specs.Linked.{is_mutual}
 use Rattle.lpc_model.specs.World as model
 use Rattle.lpc_model.specs.World.{PortRow, WaitRow, World}
@@ -21,7 +21,7 @@ use Rattle.lpc_waits.specs.declared.WaitKind.TheVariants as wait
 use Rattle.lpc_waits.specs.declared.WaitRow as table
 use Rattle.lpc_world.specs.Closing.{HasMutualPairs, client_across, ends, is_of_connects, withdraws}
 use Rattle.lpc_world.specs.Kept.{has_queued, is_pending, is_pending_in, rows_by}
-use Rattle.lpc_world.specs.Lawful.{AreLawful, is_taken}
+use Rattle.lpc_world.specs.Lawful.{AreLawful}
 use Rattle.lpc_world.specs.Names.{name_of, some_stands, stands}
 use Rattle.lpc_world.specs.Ready.{waiter}
 use Rattle.lpc_world.specs.Shown.{Births, all_pass, birth_of, births_of, object_stands, shown_kind, shown_wait, wait_refs}

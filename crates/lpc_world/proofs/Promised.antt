@@ -10,10 +10,10 @@ use Rattle.lpc_base.proofs.RowWords.{first-passes, count-push, every-change, eve
 use Rattle.lpc_handles.specs.declared.table.Row.{Row}
 use Rattle.lpc_model.specs.World.{HandleRow, HandleTable, WaitRow}
 use Rattle.lpc_model.specs.Basics.{no_handles, put_handle, received, with_handle}
-use Rattle.lpc_model.specs.Found.{is_accepted, is_connect, is_offered, is_table, rows_in, waits_as}
+use Rattle.lpc_model.specs.Found.{is_accepted, is_connect, is_offered, is_table, is_taken, rows_in, waits_as}
 use Rattle.lpc_model.specs.Tests.{is_connect_of}
 use Rattle.lpc_homes.specs.Parts.{are_single_parts, handed, is_part, roomed, spare_at, spare_in}
-use Rattle.lpc_world.specs.Lawful.{IsPromised, are_single, are_single_tables, has_places, is_at_home, is_taken, is_within}
+use Rattle.lpc_world.specs.Lawful.{IsPromised, are_single, are_single_tables, has_places, is_at_home, is_within}
 use Rattle.lpc_homes.specs.declared.object.Object.{Object}
 use Rattle.lpc_homes.specs.declared.parts.Part.{Part}
 

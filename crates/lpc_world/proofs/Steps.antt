@@ -11,8 +11,7 @@ use Rattle.lpc_handles.specs.declared.table.Row.{Row}
 use Rattle.lpc_model.specs.World as model
 use Rattle.lpc_model.specs.World.{World}
 use Rattle.lpc_model.specs.Basics as basics
-use Rattle.lpc_model.specs.Basics.{AddsHandle, AddsProcess, AddsThread, Awaits, DrawsIdentifier, DrawsOrdinal, Enters, Makes, Receives, Takes, basic}
-use Rattle.lpc_model.specs.Found.{is_port, is_live_thread, is_process, is_queued, is_thread, waits_as}
+use Rattle.lpc_model.specs.Found.{is_port, is_live_thread, is_process, is_queued, is_thread, waits_as, is_born_process, is_born_thread}
 use Rattle.lpc_model.specs.Entering.{takes}
 use Rattle.lpc_model.specs.Message.{message_of}
 use Rattle.lpc_model.specs.Tests.{next_birth}
@@ -36,7 +35,7 @@ use Rattle.lpc_world.specs.Shown.{Tables, Births, all_pass, birth_of, births_of,
 use Rattle.lpc_homes.specs.Parts.{are_single_parts, handed, is_part, roomed, spare_at}
 use Rattle.lpc_world.specs.Kept.{has_queued, is_alive, is_asking, is_unsent, owed_messages, owed_rows, owed_waits, rows_by}
 use Rattle.lpc_world.specs.OwedClosings.{TellsOnce, closing_places, is_owed}
-use Rattle.lpc_world.specs.Lawful.{AreBornIn, AreLawful, IsCounted, IsPromised, can_begin, draws_at_most, drew, has_header, has_named_ports, is_housed, is_process_by, is_quiet, is_thread_by}
+use Rattle.lpc_world.specs.Lawful.{AreBornIn, AreLawful, IsCounted, IsPromised, can_begin, draws_at_most, drew, has_header, has_named_ports, is_housed, is_quiet}
 use Rattle.lpc_homes.specs.declared.object.Object.{Object}
 use Rattle.lpc_homes.specs.declared.object.Object.TheVariants as object
 use Rattle.lpc_homes.specs.declared.parts.Part.{Part}
@@ -129,7 +128,7 @@ module _ (it : Tables) (calls made : ℕ) (is : AreLawful it calls made) where
 
   -- processes and threads
   pub added_process : (row : ProcessRow) (part : Part) (room : ℕ) → part.handles.rows ≡ [] → part.process ≡ row.number → made + owed_rows rows < 16 * calls → has (λ m. m == row.number) it.procs.used_processes ≡ false
-      → can_begin rows.threads row.number row.birth ≡ true → ((row.birth.maker == 0) ≡ false → has (is_process_by row.birth) rows.processes ≡ false)
+      → can_begin rows.threads row.number row.birth ≡ true → ((row.birth.maker == 0) ≡ false → has (is_born_process row.birth) rows.processes ≡ false)
       → AreLawful (record it { procs = record it.procs { processes = it.procs.processes ++ row ∷ []; used_processes = it.procs.used_processes ++ row.number ∷ []; process_room = room }; parts = it.parts ++ part ∷ [] }) calls (made + 1)
   added_process row part room none same lt new begins other = record {
     named = changes.processed it is.named _ part none;
@@ -148,7 +147,7 @@ module _ (it : Tables) (calls made : ℕ) (is : AreLawful it calls made) where
 
   pub added_thread : (row : ThreadRow) (room : ℕ) → 1 ≤ row.number → has (λ u. u.number == row.number) rows.used_threads ≡ false → made + owed_rows rows < 16 * calls → draws_at_most 1 (shown_thread row) ≡ true → row.registered.items ≡ [] → is_housed rows (shown_thread row) ≡ true
       → owed_waits rows < it.waits.spare → owed_messages rows < it.ports.message_room
-      → can_begin rows.threads row.number row.birth ≡ true → ((row.birth.maker == 0) ≡ false → has (is_thread_by row.birth) rows.threads ≡ false)
+      → can_begin rows.threads row.number row.birth ≡ true → ((row.birth.maker == 0) ≡ false → has (is_born_thread row.birth) rows.threads ≡ false)
       → AreLawful (record it { procs = record it.procs { threads = it.procs.threads ++ row ∷ []; used_threads = it.procs.used_threads ++ (record { number = row.number; process = row.process }) ∷ []; thread_room = room } }) calls (made + 1)
   added_thread row room above unused lt young none home wait_room message_room begins other = record {
     named = changes.threaded it is.named _;
@@ -492,16 +491,16 @@ module _ (it : Tables) (calls made : ℕ) (is : AreLawful it calls made) where
           subst P (same (next_birth r) b h) (drawn.fresh-birth all who r is.drawn is' own)
 
   -- nor the birth of a process or a thread
-  pub next_born : (who : ℕ) (b : Birth) → option_map next_birth (first (is_thread who) all.threads) ≡ Some b → (has (is_process_by b) all.processes ≡ false) × (has (is_thread_by b) (change (is_thread who) basics.past_ordinal all.threads) ≡ false)
+  pub next_born : (who : ℕ) (b : Birth) → option_map next_birth (first (is_thread who) all.threads) ≡ Some b → (has (is_born_process b) all.processes ≡ false) × (has (is_born_thread b) (change (is_thread who) basics.past_ordinal all.threads) ≡ false)
   next_born who b at = by_thread (first (is_thread who) all.threads) refl at
     where
       same : (a b : Birth) → let x : Option Birth = Some a in let y : Option Birth = Some b in x ≡ y → a ≡ b
       same a b e = cc
 
-      by_thread : (o : Option model.ThreadRow) → first (is_thread who) all.threads ≡ o → option_map next_birth o ≡ Some b → (has (is_process_by b) all.processes ≡ false) × (has (is_thread_by b) (change (is_thread who) basics.past_ordinal all.threads) ≡ false)
+      by_thread : (o : Option model.ThreadRow) → first (is_thread who) all.threads ≡ o → option_map next_birth o ≡ Some b → (has (is_born_process b) all.processes ≡ false) × (has (is_born_thread b) (change (is_thread who) basics.past_ordinal all.threads) ≡ false)
       by_thread None is' h = absurd (cc)
       by_thread (Some r) is' h =
-          subst (λ x. (has (is_process_by x) all.processes ≡ false) × (has (is_thread_by x) (change (is_thread who) basics.past_ordinal all.threads) ≡ false)) (same (next_birth r) b h)
+          subst (λ x. (has (is_born_process x) all.processes ≡ false) × (has (is_born_thread x) (change (is_thread who) basics.past_ordinal all.threads) ≡ false)) (same (next_birth r) b h)
           (born.next-process all who r is.born is', born.next-thread all who r is.born is')
 
   pub next_made : (who : ℕ) (b : Birth) → option_map next_birth (first (is_thread who) all.threads) ≡ Some b → (b.maker == 0) ≡ false

@@ -15,10 +15,9 @@ use Rattle.lpc_model.specs.World as model
 use Rattle.lpc_model.specs.World.{World}
 use Rattle.lpc_model.specs.Basics.{AddsHandle, basic}
 use Rattle.lpc_model.specs.Found as found
-use Rattle.lpc_model.specs.Found.{free_handle, handles_of, is_table}
+use Rattle.lpc_model.specs.Found.{free_handle, handles_of, is_table, is_taken}
 use Rattle.lpc_model.specs.Tests.{handle_load, is_connect_of}
 use Rattle.lpc_waits.specs.Table as waits
-use Rattle.lpc_waits.specs.Table.{WaitTable}
 use Rattle.lpc_waits.specs.declared.Accepted.{Accepted}
 use Rattle.lpc_waits.specs.declared.Wait.{Wait}
 use Rattle.lpc_waits.specs.declared.WaitKind.{WaitKind}
@@ -27,8 +26,8 @@ use Rattle.lpc_waits.specs.declared.WaitRow.{WaitRow}
 use Rattle.lpc_world.specs.Shown.{Tables, birth_of, births_of, object_stands, shown_handle, shown_kind, shown_part, shown_wait}
 use Rattle.lpc_homes.specs.Parts.{are_single_parts, handed, is_part, roomed, rows_at, rows_in, spare_at, spare_in}
 use Rattle.lpc_world.specs.Kept as kept
-use Rattle.lpc_world.specs.Kept.{HandleRoom, is_room, room_of_part, rows_by}
-use Rattle.lpc_world.specs.Lawful.{AreLawful, are_single_tables, is_taken, is_within}
+use Rattle.lpc_world.specs.Kept.{is_room, room_of_part, rows_by}
+use Rattle.lpc_world.specs.Lawful.{AreLawful, are_single_tables, is_within}
 use Rattle.lpc_homes.specs.declared.object.Object.{Object}
 use Rattle.lpc_homes.specs.declared.parts.Part.{Part}
 use Rattle.lpc_world.proofs.Changes as changes

@@ -7,12 +7,12 @@ use Rattle.lpc_base.specs.Rows.{every, has, without}
 use Rattle.lpc_base.proofs.RowMaps.{every-both, without-map}
 use Rattle.lpc_base.proofs.RowWords.{count-bound, every-more, every-off, every-without}
 use Rattle.lpc_model.specs.World.{ProcessRow, ThreadRow, World}
-use Rattle.lpc_model.specs.Found.{is_life, is_live_thread, is_process, lives_by, process_name, same_birth, thread_name}
+use Rattle.lpc_model.specs.Found.{is_born_process, is_born_thread, is_life, is_live_thread, is_process, lives_by, process_name, same_birth, thread_name}
 use Rattle.lpc_model.proofs.Rows.{count-without, has-without}
 use Rattle.lpc_procs.specs.Procs as procs
 use Rattle.lpc_world.specs.Held.{has_holders}
 use Rattle.lpc_world.specs.Kept.{HandleRoom, Roomy, is_alive, rows_by}
-use Rattle.lpc_world.specs.Lawful.{AreBornIn, AreLawful, IsLawful, draws_at_most, has_named_ports, is_housed, is_of, is_process_by, is_thread_by}
+use Rattle.lpc_world.specs.Lawful.{AreBornIn, AreLawful, IsLawful, draws_at_most, has_named_ports, is_housed, is_of}
 use Rattle.lpc_world.specs.Shown.{Tables, births_of, shown_process, shown_thread}
 use Rattle.lpc_world.proofs.Born as born
 use Rattle.lpc_world.proofs.Changes as changes
@@ -53,20 +53,20 @@ lawful-less w calls made a b goes over h =
         parts g l m is = grind arith
 
 -- the process of a live thread stays
-still-there : (n : ℕ) (b : Birth) (ps : List ProcessRow) → has (λ p. same_birth p.birth b && (p.number == n)) ps ≡ false → has (is_process n) ps ≡ true → has (is_process n) (without (is_process_by b) ps) ≡ true
+still-there : (n : ℕ) (b : Birth) (ps : List ProcessRow) → has (λ p. same_birth p.birth b && (p.number == n)) ps ≡ false → has (is_process n) ps ≡ true → has (is_process n) (without (is_born_process b) ps) ≡ true
 still-there n b ps none there =
-    has-without (is_process n) (is_process_by b) ps (every-off (λ p. same_birth p.birth b && (p.number == n)) (λ p. not (is_process_by b p) || not (is_process n p)) (λ p off. parts (is_process_by b p) (is_process n p) off) ps none) there
+    has-without (is_process n) (is_born_process b) ps (every-off (λ p. same_birth p.birth b && (p.number == n)) (λ p. not (is_born_process b p) || not (is_process n p)) (λ p off. parts (is_born_process b p) (is_process n p) off) ps none) there
   where
     parts : (x y : Bool) → (x && y) ≡ false → (not x || not y) ≡ true
     parts x y off = grind arith
 
-lawful-vacated : (w : World) (calls made a c : ℕ) (b : Birth) → has (lives_by w b) w.threads ≡ false → IsLawful w calls made a c → IsLawful (record w { processes = without (is_process_by b) w.processes }) calls made a c
+lawful-vacated : (w : World) (calls made a c : ℕ) (b : Birth) → has (lives_by w b) w.threads ≡ false → IsLawful w calls made a c → IsLawful (record w { processes = without (is_born_process b) w.processes }) calls made a c
 lawful-vacated w calls made a c b empty h = record {
   few = h.few;
   budget = h.budget;
-  rows = omega (arith, h.rows, count-bound (λ p. not (is_process_by b p)) w.processes);
+  rows = omega (arith, h.rows, count-bound (λ p. not (is_born_process b p)) w.processes);
   draws = h.draws;
-  housed = every-both (is_housed w) (λ t. not (lives_by w b t)) (is_housed (record w { processes = without (is_process_by b) w.processes }))
+  housed = every-both (is_housed w) (λ t. not (lives_by w b t)) (is_housed (record w { processes = without (is_born_process b) w.processes }))
       (λ t home off. both t.live _ _ _ _ (λ none there. still-there t.process b w.processes none there) home off) w.threads h.housed
       (every-off (lives_by w b) (λ t. not (lives_by w b t)) (λ t off. rw off refl) w.threads empty);
   tables_used = h.tables_used;
@@ -91,29 +91,29 @@ module _ (it : Tables) (calls made : ℕ) (is : AreLawful it calls made) where
   abbrev rows : World
   rows = rows_by it
 
-  pub thread-shown : (b : Birth) (left : ℕ) → rows_by (record it { procs = procs.without_thread_born it.procs b left }) ≡ record rows { threads = without (is_thread_by b) rows.threads }
-  thread-shown b left = rw (without-map shown_thread (λ _. true) (procs.is_thread_born b) (is_thread_by b) (λ t _. refl) it.procs.threads (changes.all_true it is.named it.procs.threads)) refl
+  pub thread-shown : (b : Birth) (left : ℕ) → rows_by (record it { procs = procs.without_thread_born it.procs b left }) ≡ record rows { threads = without (is_born_thread b) rows.threads }
+  thread-shown b left = rw (without-map shown_thread (λ _. true) (procs.is_thread_born b) (is_born_thread b) (λ t _. refl) it.procs.threads (changes.all_true it is.named it.procs.threads)) refl
 
-  pub process-shown : (b : Birth) (left : ℕ) → rows_by (record it { procs = procs.without_process_born it.procs b left }) ≡ record rows { processes = without (is_process_by b) rows.processes }
-  process-shown b left = rw (without-map shown_process (λ _. true) (procs.is_process_born b) (is_process_by b) (λ p _. refl) it.procs.processes (changes.all_true it is.named it.procs.processes)) refl
+  pub process-shown : (b : Birth) (left : ℕ) → rows_by (record it { procs = procs.without_process_born it.procs b left }) ≡ record rows { processes = without (is_born_process b) rows.processes }
+  process-shown b left = rw (without-map shown_process (λ _. true) (procs.is_process_born b) (is_born_process b) (λ p _. refl) it.procs.processes (changes.all_true it is.named it.procs.processes)) refl
 
   pub thread-gone : (b : Birth) (left : ℕ) → has_holders rows (thread_name b) ≡ false → AreLawful (record it { procs = procs.without_thread_born it.procs b left }) calls made
   thread-gone b left none = record {
     named = changes.threaded it is.named _;
-    lawful = rw (thread-shown b left) (lawful-less rows calls made it.waits.spare it.ports.message_room (is_thread_by b) over is.lawful);
+    lawful = rw (thread-shown b left) (lawful-less rows calls made it.waits.spare it.ports.message_room (is_born_thread b) over is.lawful);
     counted = is.counted;
     registered = every-without (has_named_ports (births_of it.ports)) (procs.is_thread_born b) it.procs.threads is.registered;
     headed = is.headed;
-    drawn = rw (thread-shown b left) (drawn.drawn-less rows (is_thread_by b) is.drawn);
-    born = subst AreBornIn (sym (thread-shown b left)) (born.born-less-threads rows.processes rows.threads rows.used_processes rows.used_threads is.born (is_thread_by b));
+    drawn = rw (thread-shown b left) (drawn.drawn-less rows (is_born_thread b) is.drawn);
+    born = subst AreBornIn (sym (thread-shown b left)) (born.born-less-threads rows.processes rows.threads rows.used_processes rows.used_threads is.born (is_born_thread b));
     promised = is.promised;
   }
     where
       parts : (l s : Bool) → (l && s) ≡ false → (not s || not l) ≡ true
       parts l s off = grind arith
 
-      over : AreOver (is_thread_by b) rows.threads
-      over = every-off (is_life b) (λ t. not (is_thread_by b t) || not t.live) (λ t off. parts t.live (is_thread_by b t) off) rows.threads (sym (zero_has (is_life b) rows.threads) ∙ none)
+      over : AreOver (is_born_thread b) rows.threads
+      over = every-off (is_life b) (λ t. not (is_born_thread b t) || not t.live) (λ t off. parts t.live (is_born_thread b t) off) rows.threads (sym (zero_has (is_life b) rows.threads) ∙ none)
 
   pub process-gone : (b : Birth) (left : ℕ) → has_holders rows (process_name b) ≡ false → AreLawful (record it { procs = procs.without_process_born it.procs b left }) calls made
   process-gone b left none = record {
@@ -123,7 +123,7 @@ module _ (it : Tables) (calls made : ℕ) (is : AreLawful it calls made) where
     registered = is.registered;
     headed = is.headed;
     drawn = drawn.same-drawn rows _ refl refl refl is.drawn;
-    born = subst AreBornIn (sym (process-shown b left)) (born.born-less-processes rows.processes rows.threads rows.used_processes rows.used_threads is.born (is_process_by b));
+    born = subst AreBornIn (sym (process-shown b left)) (born.born-less-processes rows.processes rows.threads rows.used_processes rows.used_threads is.born (is_born_process b));
     promised = is.promised;
   }
 

@@ -4,7 +4,7 @@ use Rattle.lpc_base.specs.declared.birth.Birth.{Birth}
 use Rattle.lpc_base.specs.declared.limits.TheConstants.{HANDLE_LIMIT, HEADER_SIZE, LINES_LIMIT}
 use Rattle.lpc_base.specs.Rows.{count, differ_by, every, has}
 use Rattle.lpc_model.specs.World.{World, HandleTable, MessageRow, ProcessRow, ThreadRow, UsedThread, WaitRow}
-use Rattle.lpc_model.specs.Found.{is_accepted, is_connect, is_listen, is_live_thread, is_own_of, is_process, is_queued, is_queued_connect, is_receive, is_table, same_birth}
+use Rattle.lpc_model.specs.Found.{is_born_process, is_born_thread, is_connect, is_listen, is_live_thread, is_own_of, is_process, is_queued, is_queued_connect, is_receive, is_table, is_taken, is_used_thread, same_birth}
 use Rattle.lpc_model.specs.Tests.{is_connect_of}
 use Rattle.lpc_model.specs.SingleClosings.{is_closing_of}
 use Rattle.lpc_ports.specs.Table.{PortTable}
@@ -85,7 +85,7 @@ are_single_threads threads = differ_by (λ t. t.number) threads
 
 -- a thread's number was used
 abbrev pub is_noted : List UsedThread → ThreadRow → Bool
-is_noted used t = has (λ u. u.number == t.number) used
+is_noted used t = has (is_used_thread t.number) used
 
 -- the thread has drawn the birth; it has, where it is the birth's maker
 abbrev pub drew : Birth → ThreadRow → Bool
@@ -97,7 +97,7 @@ drew_own b t = not (t.number == b.maker) || nat_lt b.ordinal t.next_ordinal
 -- A birth was drawn: the number of its maker was used, and the maker has drawn the birth, where its row stands. The row goes
 -- when the maker has ended, and what it made may stay.
 abbrev pub was_drawn : List UsedThread → List ThreadRow → Birth → Bool
-was_drawn used threads b = has (λ u. u.number == b.maker) used && every (drew_own b) threads
+was_drawn used threads b = has (is_used_thread b.maker) used && every (drew_own b) threads
 
 -- a port's birth was drawn by its maker, so that what is drawn next is no port's
 pub record AreDrawn (w : World) : Type 0 where
@@ -121,13 +121,6 @@ is_birth_of used threads number b = if b.maker == 0 then b.ordinal == number els
 abbrev pub can_begin : List ThreadRow → ℕ → Birth → Bool
 can_begin threads number b = if b.maker == 0 then b.ordinal == number else has (drew b) threads
 
--- the process with a birth, and the thread with a birth
-abbrev pub is_process_by : Birth → ProcessRow → Bool
-is_process_by b p = same_birth p.birth b
-
-abbrev pub is_thread_by : Birth → ThreadRow → Bool
-is_thread_by b t = same_birth t.birth b
-
 -- a thread's number is no 0, which is the maker of what a directive makes
 abbrev pub is_numbered : ThreadRow → Bool
 is_numbered t = not (t.number == 0)
@@ -139,8 +132,8 @@ pub record AreBorn (processes : List ProcessRow) (threads : List ThreadRow) (num
   pub processes_born : every (λ p. is_birth_of used threads p.number p.birth) processes ≡ true
   pub threads_born : every (λ t. is_birth_of used threads t.number t.birth) threads ≡ true
   pub threads_numbered : every is_numbered threads ≡ true
-  pub process_births : (b : Birth) → count (is_process_by b) processes ≤ 1
-  pub thread_births : (b : Birth) → count (is_thread_by b) threads ≤ 1
+  pub process_births : (b : Birth) → count (is_born_process b) processes ≤ 1
+  pub thread_births : (b : Birth) → count (is_born_thread b) threads ≤ 1
 
 abbrev pub AreBornIn : World → Type 0
 AreBornIn w = AreBorn w.processes w.threads w.used_processes w.used_threads
@@ -155,10 +148,6 @@ is_within waits t = nat_le (length t.rows + count (is_connect_of t.process) wait
 -- the process of a connect has a table of handles
 abbrev pub is_at_home : List HandleTable → WaitRow → Bool
 is_at_home handles x = not (is_connect x) || has (is_table x.process) handles
-
--- a connect that is accepted was received
-abbrev pub is_taken : WaitRow → Bool
-is_taken x = not (is_accepted x) || x.received
 
 -- each waiting connect can be completed without memory, and within the number of handles
 pub record IsPromised (waits : List WaitRow) (handles : List HandleTable) (parts : List Part) : Type 0 where

@@ -6,7 +6,7 @@ use Rattle.lpc_base.specs.declared.port_kind.PortKind.TheVariants.{Unnamed}
 use Rattle.lpc_model.specs.declared.entry.CallName.TheVariants.{NtReplyWaitReceivePort}
 use Rattle.lpc_model.specs.Listed.{Listed}
 use Rattle.lpc_model.specs.World.{World, PortRow, Receive, ThreadRow, WaitRow}
-use Rattle.lpc_model.specs.Found.{is_listen, is_request, live_thread, port_row, wait_of}
+use Rattle.lpc_model.specs.Found.{is_listen, is_request, live_thread, no_birth, port_row, wait_of}
 use Rattle.lpc_waits.specs.Table as table
 use Rattle.lpc_waits.specs.declared.Wait.{Wait}
 use Rattle.lpc_world.specs.Names.{name_of, stands}
@@ -42,9 +42,6 @@ unfoldable pub caller : World → ℕ → ThreadRow
 caller w tid = thread_in (live_thread w tid)
 
 -- the row of a port that stands
-abbrev pub no_birth : Birth
-no_birth = record { maker = 0; ordinal = 0; process = 0 }
-
 abbrev pub no_port : PortRow
 no_port = record { birth = no_birth; kind = Unnamed; connection = None; pair = None; context = 0; completed = false; creator = None }
 

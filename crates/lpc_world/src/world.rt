@@ -9,14 +9,14 @@ ghost use Rattle.std.specs.Prelude.{◌≡◌, ◌+◌, ◌<◌, ◌≤◌, ◌=
 ghost use Rattle.lpc_base.specs.Room.{grown_room};
 ghost use Rattle.lpc_base.specs.Rows.{has};
 ghost use Rattle.lpc_model.specs.World.{no_rows};
-ghost use Rattle.lpc_model.specs.Found.{free_handle, handles_of, is_live_thread, is_process, is_table, is_thread, port_row, was_process, was_thread, waits_as};
+ghost use Rattle.lpc_model.specs.Found.{free_handle, handles_of, is_live_thread, is_process, is_table, is_thread, port_row, was_process, was_thread, waits_as, is_born_process, is_born_thread};
 ghost use Rattle.lpc_model.specs.Basics.{AddsProcess, AddsThread, Awaits, DrawsIdentifier, DrawsOrdinal, Receives, Takes, Withdraws};
 ghost use Rattle.lpc_model.specs.Machine.{new_process, new_thread};
 ghost use Rattle.lpc_model.specs.Message.{message_of};
 ghost use Rattle.lpc_procs.specs.Procs.{IsNumber, most_rows};
 ghost use Rattle.lpc_world.specs.Names.{KeepsNames, name_of, some_stands, stands};
 ghost use Rattle.lpc_world.specs.Shown.{object_stands};
-ghost use Rattle.lpc_world.specs.Lawful.{can_begin, drew, is_process_by, is_quiet, is_thread_by};
+ghost use Rattle.lpc_world.specs.Lawful.{can_begin, drew, is_quiet};
 ghost use Rattle.lpc_world.specs.Kept.{CanMake, HasWholeBudget, IsMakingStep, IsStep, Roomy, Same, StaysReady, StaysUnqueued, handle_room, has_queued, is_unsent, owed_handles, owed_messages, owed_waits, process_rows};
 ghost use Rattle.lpc_world.specs.Ready.{IsWait};
 ghost use Rattle.lpc_world.specs.OwedClosings.{closing_places, is_owed};
@@ -141,8 +141,8 @@ impl World {
         ensures birth { birth_next self.old.rows tid ≡ Some result }
         ensures maker { (result.maker == 0) ≡ false }
         ensures fresh { port_row self.new.rows result ≡ None }
-        ensures process { has (is_process_by result) self.new.rows.processes ≡ false }
-        ensures thread { has (is_thread_by result) self.new.rows.threads ≡ false }
+        ensures process { has (is_born_process result) self.new.rows.processes ≡ false }
+        ensures thread { has (is_born_thread result) self.new.rows.threads ≡ false }
         ensures drawn { has (drew result) self.new.rows.threads ≡ true }
         ensures step { IsMakingStep (after self.old (DrawsOrdinal tid)) self.old self.new }
         ensures loose { self.new.loose ≡ self.old.loose }
@@ -160,7 +160,7 @@ impl World {
         requires new { was_process self.old.rows pid ≡ false }
         requires birth { can_begin self.old.rows.threads pid birth ≡ true }
         requires fresh { (birth.maker == 0) ≡ false
-            → has (is_process_by birth) self.old.rows.processes ≡ false }
+            → has (is_born_process birth) self.old.rows.processes ≡ false }
         ensures rows { self.new.rows
             ≡ after self.old (AddsProcess (new_process pid maker birth)) }
         ensures births { self.new.births ≡ self.old.births }
@@ -191,7 +191,7 @@ impl World {
         requires table { has (is_table pid) self.old.rows.handles ≡ true }
         requires birth { can_begin self.old.rows.threads tid birth ≡ true }
         requires fresh { (birth.maker == 0) ≡ false
-            → has (is_thread_by birth) self.old.rows.threads ≡ false }
+            → has (is_born_thread birth) self.old.rows.threads ≡ false }
         ensures rows { self.new.rows ≡ after self.old (AddsThread (new_thread tid pid birth)) }
         ensures births { self.new.births ≡ self.old.births }
         ensures calls { self.new.calls ≡ self.old.calls }

@@ -1,7 +1,7 @@
 use Rattle.std.proofs.Common.{length, ap, arith}
 use Rattle.lpc_model.specs.World.{World}
 use Rattle.lpc_world.specs.Kept.{registered_ports, rows_by}
-use Rattle.lpc_world.specs.Lawful.{is_thread_by}
+use Rattle.lpc_model.specs.Found.{is_born_thread}
 use Rattle.lpc_world.specs.Shown.{tables_of}
 use Rattle.lpc_world.proofs.HeldLives as lives
 use Rattle.lpc_world.proofs.Registered.{registered-less_threads}
@@ -26,11 +26,11 @@ returns-clause-made c =
     let w = rows_by (tables_of c.self.inside.procs c.self.inside.parts.items c.self.inside.ports c.self.inside.waits c.self.inside.names) in
     let shown = vacated.thread-shown (tables_of c.self.inside.procs c.self.inside.parts.items c.self.inside.ports c.self.inside.waits c.self.inside.names) c.self.inside.calls c.self.inside.made c.self.invariant c.args.birth c.free_thread_born.new.self.thread_room in
     let owed = ap (λ (v : World). length (registered_ports v)) shown in
-    let less = registered-less_threads (is_thread_by c.args.birth) w.threads in
+    let less = registered-less_threads (is_born_thread c.args.birth) w.threads in
     rw (← c.self.view_is, c.free_thread_born.ensures.table) (omega (arith, owed, less))
 
 pub returns-clause-room : goal.returns-clause-room
 returns-clause-room c =
     let w = rows_by (tables_of c.self.inside.procs c.self.inside.parts.items c.self.inside.ports c.self.inside.waits c.self.inside.names) in
     let shown = vacated.thread-shown (tables_of c.self.inside.procs c.self.inside.parts.items c.self.inside.ports c.self.inside.waits c.self.inside.names) c.self.inside.calls c.self.inside.made c.self.invariant c.args.birth c.free_thread_born.new.self.thread_room in
-    rw (← c.self.view_is, c.free_thread_born.ensures.table) (rw (ap (λ (v : World). v.threads) shown) (vacated.room-less _ _ _ _ _ _ w _ c.free_thread_born.new.self.thread_room (is_thread_by c.args.birth) c.free_thread_born.ensures.room))
+    rw (← c.self.view_is, c.free_thread_born.ensures.table) (rw (ap (λ (v : World). v.threads) shown) (vacated.room-less _ _ _ _ _ _ w _ c.free_thread_born.new.self.thread_room (is_born_thread c.args.birth) c.free_thread_born.ensures.room))
