@@ -6,7 +6,7 @@ use Rattle.std.proofs.lemmas.List.{append-nil}
 use Rattle.lpc_base.specs.declared.status.Status.{Status}
 use Rattle.lpc_base.specs.Rows.{change, count, every, first, has, which, without}
 use Rattle.lpc_base.proofs.RowMaps.{every-change_to}
-use Rattle.lpc_base.proofs.RowWords.{change-none, count-bound, first-passes}
+use Rattle.lpc_base.proofs.RowWords.{change-none, count-bound, first-passes, none-counted}
 use Rattle.lpc_model.specs.declared.entry.Entry.{Entry}
 use Rattle.lpc_model.specs.declared.entry.Entry.TheVariants.{Died}
 use Rattle.lpc_model.specs.Basics.{Basic, Cuts, Dies, Empties, Unbinds, Wakes, Withdraws, basic, cut, doing, ended, in_turn, is_end_of, world_after, ◌▹◌}
@@ -20,7 +20,7 @@ use Rattle.lpc_model.proofs.Closing.{behind, takes_away}
 use Rattle.lpc_model.proofs.DeathLines.{die-threads}
 use Rattle.lpc_model.proofs.Ending.{die-pass}
 use Rattle.lpc_model.proofs.LinkedSteps.{cut-mutual}
-use Rattle.lpc_model.proofs.Rows.{count-change, count_none, every-left, has-found, has-off}
+use Rattle.lpc_model.proofs.Rows.{count-change, every-left, has-found, has-off}
 use Rattle.lpc_world.specs.Closing.{HasMutualPairs}
 use Rattle.lpc_world.specs.Does.{Left, Took, left_by}
 use Rattle.lpc_world.specs.Kept.{Kept, is_alive}
@@ -154,7 +154,7 @@ living-left pid (u ∷ us) rest t once same = at (lives_in pid u) refl (living-l
         let number : u.number ≡ t.number = ap (λ (v : ThreadRow). v.number) one in
         let own : is_thread t.number u ≡ true = grind (arith, nat_tests) in
         let none : count (is_thread t.number) us ≤ 0 = grind (arith, own) in
-        rw (own, gone (u.process == pid), change-none (is_thread t.number) ended us (count_none (is_thread t.number) us none)) tail
+        rw (own, gone (u.process == pid), change-none (is_thread t.number) ended us (none-counted (is_thread t.number) us none)) tail
     at false off later =
         let rows : which (lives_in pid) us ≡ t ∷ rest = rw off at same in
         let few : count (is_thread t.number) us ≤ 1 = grind arith in

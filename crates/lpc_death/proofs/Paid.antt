@@ -4,6 +4,7 @@ use Rattle.std.proofs.Common.{◌≡◌, ◌∙◌, ℕ, ◌+◌, ◌≤◌, Lis
 use Rattle.std.specs.Prelude.{◌==◌, ◌&&◌}
 use Rattle.std.proofs.lemmas.Bool.{eqb-true}
 use Rattle.lpc_base.specs.Rows.{change, count, every, first, when, without_first}
+use Rattle.lpc_base.proofs.Births.{birth-same, birth-self}
 use Rattle.lpc_model.specs.declared.entry.ObjectKind.{ObjectKind}
 use Rattle.lpc_model.specs.declared.entry.ObjectKind.TheVariants as kind
 use Rattle.lpc_model.specs.World.{Birth, HandleRow, HandleTable, MessageRow, ObjectName, PortRow, World}
@@ -11,7 +12,6 @@ use Rattle.lpc_model.specs.Found.{handle_at, handle_count, handles_in, has_value
 use Rattle.lpc_model.specs.Basics.{Basic, Completes, Cuts, DropsHandle, Frees, Joins, Makes, basic, completed, cut, is_end_of, without_handle, world_after}
 use Rattle.lpc_model.specs.Close.{close_port, closing_post}
 use Rattle.lpc_model.specs.Tests.{handle_row}
-use Rattle.lpc_model.proofs.Births.{birth-same, birth-self}
 use Rattle.lpc_model.proofs.Closing.{cut-is, fewer-uncut, stage_five, uncut}
 use Rattle.lpc_model.proofs.Handles.{open-count}
 use Rattle.lpc_model.proofs.LinkedClose.{port-steady}

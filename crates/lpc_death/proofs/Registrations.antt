@@ -6,6 +6,7 @@ use Rattle.std.proofs.lemmas.Bool.Decides.{nat_tests}
 use Rattle.std.proofs.lemmas.List.{append-nil}
 use Rattle.lpc_base.specs.Rows.{change, each, every, first, given, has, when, which, without}
 use Rattle.lpc_base.proofs.RowWords.{change-none, every-change, first-passes}
+use Rattle.lpc_base.proofs.Births.{birth-same, birth-self}
 use Rattle.lpc_model.specs.declared.entry.Entry.{Entry}
 use Rattle.lpc_model.specs.Basics.{Enters, Receives, Takes, TakesConnect, Unregisters, basic, doing, in_turn, unregistering, world_after}
 use Rattle.lpc_model.specs.Deaths.{HasSingleRegistrations, are_different, registers_once}
@@ -16,7 +17,6 @@ use Rattle.lpc_model.specs.Message.{asks}
 use Rattle.lpc_model.specs.declared.message.Message.{Message}
 use Rattle.lpc_slots.specs.declared.Key.{Key}
 use Rattle.lpc_model.specs.World.{Accepted, Birth, Connect, Listen, MessageRow, PortRow, Receive, Request, ThreadRow, WaitRow, World}
-use Rattle.lpc_model.proofs.Births.{birth-same, birth-self}
 use Rattle.lpc_model.proofs.SingleRegistrations.{different-less}
 use Rattle.lpc_model.proofs.SoundWorlds.{by_kind}
 use Rattle.lpc_world.specs.Clauses.{birth_at, port_at, row_at}

@@ -1,11 +1,13 @@
 -- NtAcceptConnectPort in a view.
 use Rattle.std.proofs.Common.{◌≡◌, ℕ, List, [], ◌∷◌, ◌++◌, Bool, true, false, cond, map, not, Option, Some, None, refl, ap, sym, subst, ◌∙◌, arith}
 use Rattle.std.specs.Prelude.{◌&&◌, ◌||◌, ◌==◌, Ok, nat_lt}
-use Rattle.std.proofs.lemmas.Bool.{eqb-true}
+use Rattle.std.proofs.lemmas.Bool.{and_from, eqb-true}
 use Rattle.std.proofs.lemmas.Bool.Decides.{nat_tests}
 use Rattle.lpc_base.specs.Rows.{every, first, given, has}
 use Rattle.lpc_base.proofs.RowWords.{every-more, every-push, first-passes}
 use Rattle.lpc_base.proofs.RowMaps.{every-first}
+use Rattle.lpc_base.proofs.Bools.{first-true, same-number}
+use Rattle.lpc_base.proofs.Births.{birth-same, birth-self}
 use Rattle.lpc_base.specs.declared.status.TheConstants.{PORT_CONNECTION_REFUSED, REPLY_MESSAGE_MISMATCH}
 use Rattle.lpc_model.specs.declared.message.Message.{Message}
 use Rattle.lpc_model.specs.Message.{message_test}
@@ -18,11 +20,10 @@ use Rattle.lpc_model.specs.Connect.{ConnectAnswer, accept_steps, answer_test, na
 use Rattle.lpc_model.specs.SoundWaits.{is_connect_on, is_past, lacks_connects, can_stay_as, can_stay_sound}
 use Rattle.lpc_model.specs.Entering.{woken}
 use Rattle.lpc_model.specs.Tests.{PORT_ACCESS, client_test, handle_row, handles_test, next_birth}
-use Rattle.lpc_model.proofs.Births.{birth-same, birth-self}
 use Rattle.lpc_model.proofs.Holding.{Holds, bind_holds, found_ok, holds_ok}
 use Rattle.lpc_model.specs.Circle.{Group, Whose, names_no_outsider}
 use Rattle.lpc_isolation.proofs.Filters.{first-kept, first-where, shown, shown-push}
-use Rattle.lpc_isolation.proofs.View.{both, one_of, our_port, our_wait, same-number, seen_port, view}
+use Rattle.lpc_isolation.proofs.View.{our_port, our_wait, seen_port, view}
 use Rattle.lpc_isolation.proofs.Basics.{are_ours, basic-unseen, joins-new, run-ours}
 use Rattle.lpc_isolation.proofs.Fair.{Fair, are_fair, implies, is_fair_port, is_fair_table, is_fair_wait, is_no_server_at, is_server_at}
 use Rattle.lpc_isolation.proofs.Seen.{bind-same, free-view, handles-view, named-own}
@@ -77,7 +78,7 @@ answer-found m c u w by bytes k =
       found = found;
       fair = every-first (is_fair_wait m c) (names_connect w by b) w.waits x k.fair.waits found;
       offered = offered-in (names_wait x b) (is_offered x) x.received (reaches w by.process x.queue) passed;
-      names = one_of _ _ passed;
+      names = first-true _ _ passed;
       queue = reached-own m c w by.process x.queue k.fair (reached-of (names_wait x b) (is_offered x) x.received (reaches w by.process x.queue) passed);
     })))
 
@@ -89,7 +90,7 @@ pub record Sides (m : Group) (c : ℕ) (by : ThreadRow) (x : WaitRow) : Type 0 w
 
 sides : (m : Group) (c : ℕ) (by : ThreadRow) (x : WaitRow) → is_fair_wait m c x ≡ true → is_offered x ≡ true → x.queue.process ≡ by.process → Sides m c by x
 sides m c by x fair offered queue =
-    let port : x.port.process ≡ x.process = eqb-true _ _ (one_of _ _ fair) in
+    let port : x.port.process ≡ x.process = eqb-true _ _ (first-true _ _ fair) in
     let same : m x.port.process ≡ m x.process = ap m port in
     let q : m x.queue.process ≡ m by.process = ap m queue in
     let qc : (x.queue.process == c) ≡ (by.process == c) = ap (λ p. p == c) queue in
@@ -130,7 +131,7 @@ client-stands : (w : World) (x : WaitRow) (k : WaitKind) → x.kind ≡ k → is
 client-stands w x (Request a) k offered stays = let none : false ≡ true = rw k at offered in absurd (cc)
 client-stands w x Receive k offered stays = let none : false ≡ true = rw k at offered in absurd (cc)
 client-stands w x Listen k offered stays = let none : false ≡ true = rw k at offered in absurd (cc)
-client-stands w x (Connect a) k offered stays = one_of _ _ stays
+client-stands w x (Connect a) k offered stays = first-true _ _ stays
 client-stands w x (Accepted a b) k offered stays = let none : false ≡ true = rw k at offered in absurd (cc)
 
 -- so the new port is another one
@@ -175,7 +176,7 @@ joinable m c u w by bytes a k is =
     offered-connect x is = grind arith
 
     on-own : (x : WaitRow) → is_connect x ≡ true → is_connect_on x.port x ≡ true
-    on-own x is = both _ _ is (self x.port)
+    on-own x is = and_from _ _ is (self x.port)
       where
         self : (b : Birth) → same_birth b b ≡ true
         self b = grind (arith, nat_tests)
@@ -196,7 +197,7 @@ accept-fair m c u w by context value bytes a k is =
     let s = sides m c by a.wait is.fair is.offered is.queue in
     let j = joinable m c u w by bytes a k is in
     let made : is_fair_port m c (server_port (next_birth by) a.wait.queue) ≡ true = server-fair m c by a.wait.queue is.queue in
-    both _ _ made (both _ _ (same-number by.process) (both _ _ (both _ _ s.in_only (both _ _ s.of_c (both _ _ j.clients j.servers))) refl))
+    and_from _ _ made (and_from _ _ (same-number by.process) (and_from _ _ (and_from _ _ s.in_only (and_from _ _ s.of_c (and_from _ _ j.clients j.servers))) refl))
 
 -- apart
 accept-apart : (m : Group) (c : ℕ) (u : World) (d : Whose) (w : World) (by : ThreadRow) (context value : ℕ) (bytes : List ℕ) (a : ConnectAnswer) → Caller m c u w by → IsAnswer m c w by bytes a → m by.process ≡ false → are_apart m c u d w (accept_steps by context value a) ≡ true
@@ -261,8 +262,8 @@ accept-led m c u d w by context bytes a queue known k is by_in other =
   where
     at : (b : Bool) → m a.wait.process ≡ b → Led m c u d w (accept_steps by context (free_handle w by.process) a) (cond b (given (wait_of (view m w) a.message.header.client.thread) (λ x. accept_steps by context (free_handle w by.process) (record { message = a.message; wait = x }))) (lone_steps by context (free_handle w by.process) queue))
     at true x_in =
-        let ours : our_wait m a.wait ≡ true = both _ _ x_in (ap m is.queue ∙ by_in) in
-        let there : wait_of w a.message.header.client.thread ≡ Some a.wait = once-first (names_connect w by a.message) (waits_as a.message.header.client.thread) (λ y passed. one_of _ _ (one_of _ _ passed)) w.waits a.wait (k.once a.message.header.client.thread) is.found in
+        let ours : our_wait m a.wait ≡ true = and_from _ _ x_in (ap m is.queue ∙ by_in) in
+        let there : wait_of w a.message.header.client.thread ≡ Some a.wait = once-first (names_connect w by a.message) (waits_as a.message.header.client.thread) (λ y passed. first-true _ _ (first-true _ _ passed)) w.waits a.wait (k.once a.message.header.client.thread) is.found in
         rw (first-kept (our_wait m) (waits_as a.message.header.client.thread) w.waits a.wait there ours) (led-same m c u d w (accept_steps by context (free_handle w by.process) a) (accept-ours m c u w by context (free_handle w by.process) bytes a k is by_in x_in))
     at false out = subst (λ q. Led m c u d w (accept_steps by context (free_handle w by.process) a) (lone_steps by context (free_handle w by.process) q)) (sym (known out)) (accept-lost m c u d w by context (free_handle w by.process) bytes a k is by_in other out)
 
@@ -303,7 +304,7 @@ refuse-apart m c u d w by bytes a k is out =
     let client_out : m a.wait.port.process ≡ false = other-side (m a.wait.port.process) (m by.process) out s.in_only in
     let x_out : m a.wait.process ≡ false = sym (ap m s.port) ∙ client_out in
     let owned : is_owned u a.wait ≡ true = every-first (is_owned u) (names_connect w by a.message) w.waits a.wait k.owned is.found in
-    rw (k.here, out) (both _ _ (both _ _ (end-apart m c u d w a.wait PORT_CONNECTION_REFUSED (info a.message.body ∷ []) k.owned owned (out-other m c a.wait.process k.c_in x_out)) refl) refl)
+    rw (k.here, out) (and_from _ _ (and_from _ _ (end-apart m c u d w a.wait PORT_CONNECTION_REFUSED (info a.message.body ∷ []) k.owned owned (out-other m c a.wait.process k.c_in x_out)) refl) refl)
   where
     other-side : (a b : Bool) → b ≡ false → implies a b ≡ true → a ≡ false
     other-side a b off is = grind arith
@@ -350,8 +351,8 @@ refuse-led m c u d w by bytes a k is by_in other =
   where
     at : (b : Bool) → m a.wait.process ≡ b → Led m c u d w (refuse_steps by a) (cond b (given (wait_of (view m w) a.message.header.client.thread) (λ x. refuse_steps by (record { message = a.message; wait = x }))) [])
     at true x_in =
-        let ours : our_wait m a.wait ≡ true = both _ _ x_in (ap m is.queue ∙ by_in) in
-        let there : wait_of w a.message.header.client.thread ≡ Some a.wait = once-first (names_connect w by a.message) (waits_as a.message.header.client.thread) (λ y passed. one_of _ _ (one_of _ _ passed)) w.waits a.wait (k.once a.message.header.client.thread) is.found in
+        let ours : our_wait m a.wait ≡ true = and_from _ _ x_in (ap m is.queue ∙ by_in) in
+        let there : wait_of w a.message.header.client.thread ≡ Some a.wait = once-first (names_connect w by a.message) (waits_as a.message.header.client.thread) (λ y passed. first-true _ _ (first-true _ _ passed)) w.waits a.wait (k.once a.message.header.client.thread) is.found in
         rw (first-kept (our_wait m) (waits_as a.message.header.client.thread) w.waits a.wait there ours) (led-same m c u d w (refuse_steps by a) (refuse-ours m w by a))
     at false out = refuse-lost m c u d w by bytes a k is other out
 

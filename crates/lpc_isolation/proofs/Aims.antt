@@ -1,9 +1,12 @@
 -- What a call on a process or a thread is of, in a view, and where rows that nothing names have gone.
 use Rattle.std.proofs.Common.{◌≡◌, ℕ, Bool, true, false, not, Some, refl, ap, ◌∙◌, arith}
+use Rattle.std.proofs.lemmas.Bool.{and_from}
 use Rattle.std.specs.Prelude.{◌||◌, Result, Ok}
 use Rattle.lpc_base.specs.Rows.{every, first}
 use Rattle.lpc_base.proofs.RowWords.{first-passes}
 use Rattle.lpc_base.proofs.RowMaps.{every-first}
+use Rattle.lpc_base.proofs.Bools.{or-last, same-number}
+use Rattle.lpc_base.proofs.Births.{birth-same}
 use Rattle.lpc_base.specs.declared.status.Status.{Status}
 use Rattle.lpc_base.specs.declared.status.TheConstants.{ACCESS_DENIED, INVALID_HANDLE, OBJECT_TYPE_MISMATCH}
 use Rattle.lpc_model.specs.declared.entry.ObjectKind.{ObjectKind}
@@ -17,9 +20,8 @@ use Rattle.lpc_model.specs.Found.{handle_at, handles_of, has_value, is_born_proc
 use Rattle.lpc_model.specs.Targets.{LIFE_RIGHT, process_target, thread_target}
 use Rattle.lpc_model.specs.Tests.{includes, object_test, own_handle}
 use Rattle.lpc_model.specs.Circle.{Group}
-use Rattle.lpc_model.proofs.Births.{birth-same}
 use Rattle.lpc_model.proofs.Holding.{Holds, bind_holds, found_holds, found_ok, holds_ok, not_refused}
-use Rattle.lpc_isolation.proofs.View.{both, of_birth, our_process, our_thread, same-number, view}
+use Rattle.lpc_isolation.proofs.View.{of_birth, our_process, our_thread, view}
 use Rattle.lpc_isolation.proofs.Fair.{Fair, is_fair_life, is_fair_process, together}
 use Rattle.lpc_isolation.proofs.Filters.{first-inside, first-where}
 use Rattle.lpc_isolation.proofs.Seen.{bind-same, object-own, object-view}
@@ -130,9 +132,6 @@ process-thin k u by (By handle) c =
     (λ p is. ap k.processes (birth-same p.birth b is) ∙ holds_ok (λ b. k.processes b ≡ true) (object_test u by kind.Process LIFE_RIGHT handle) b (object-lives k u by kind.Process handle k.processes (kind-process k) c) at) u.processes))
 
 -- What holds of each row that lives in a process holds of the thread, where it lives
-or-last : (a b : Bool) → a ≡ true → (not a || b) ≡ true → b ≡ true
-or-last a b is it = grind arith
-
 pub thread-row : (p : ThreadRow → ThreadRow → Bool) (w : World) (by : ThreadRow) (target : ProcArg) → live_thread w by.number ≡ Some by → Holds (λ t. t.live ≡ true → every (p t) w.threads ≡ true → p t t ≡ true) (thread_target w by target)
 thread-row p w by Current live = λ _ all. every-first (p by) (is_live_thread by.number) w.threads by all live
 thread-row p w by (By handle) live =
@@ -141,4 +140,4 @@ thread-row p w by (By handle) live =
     found_holds P (first (is_born_thread b) w.threads) INVALID_HANDLE (λ t here lives all. every-first (p t) (is_born_thread b) w.threads t all here))
 
 pub lives-row : (p : ThreadRow → Bool) (t : ThreadRow) → t.live ≡ true → (not (lives_in t.process t) || p t) ≡ true → p t ≡ true
-lives-row p t live is = or-last (lives_in t.process t) (p t) (both _ _ (same-number t.process) live) is
+lives-row p t live is = or-last (lives_in t.process t) (p t) (and_from _ _ (same-number t.process) live) is

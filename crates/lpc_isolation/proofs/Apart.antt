@@ -1,13 +1,14 @@
 -- An outsider's line: the view loses the waits whose ends are told to members, and c is told nothing.
 use Rattle.std.proofs.Common.{◌≡◌, ℕ, List, [], ◌∷◌, ◌++◌, Bool, true, false, cond, not, Option, Some, None, refl, ap, sym, ◌∙◌, arith}
 use Rattle.std.specs.Prelude.{◌&&◌, ◌||◌, ◌==◌}
-use Rattle.std.proofs.lemmas.Bool.{eqb-true}
+use Rattle.std.proofs.lemmas.Bool.{and_from, and_left, eqb-true, not-true}
 use Rattle.std.proofs.lemmas.List.Elements.{filter-append}
 use Rattle.lpc_base.specs.Rows.{every, first, given, passes, when, which}
 use Rattle.lpc_base.specs.declared.status.Status.{Status}
 use Rattle.lpc_base.specs.declared.status.TheConstants.{SUCCESS}
 use Rattle.lpc_base.proofs.RowWords.{every-change, first-passes, has_none-more}
 use Rattle.lpc_base.proofs.RowMaps.{every-first}
+use Rattle.lpc_base.proofs.Bools.{first-true, second-true}
 use Rattle.lpc_model.specs.declared.entry.CallName.{CallName}
 use Rattle.lpc_model.specs.declared.entry.Entry.{Entry}
 use Rattle.lpc_model.specs.declared.entry.Entry.TheVariants as entry
@@ -20,7 +21,7 @@ use Rattle.lpc_model.specs.Entering.{enter, given_steps, shown, takes, woken}
 use Rattle.lpc_model.specs.Circle.{Everyone, Group, Nobody, Of, Whose, entry_whose, is_seen, owned, owner, thread_whose}
 use Rattle.lpc_isolation.proofs.Alone.{alone}
 use Rattle.lpc_isolation.proofs.Filters.{first-nowhere, first-outside}
-use Rattle.lpc_isolation.proofs.View.{both, not_both, of_birth, one_of, other_of, our_message, our_wait, view}
+use Rattle.lpc_isolation.proofs.View.{of_birth, our_message, our_wait, view}
 use Rattle.lpc_isolation.proofs.Basics.{basic-ours, basic-unseen, is_regular, sees, sees_at, sees_wait}
 use Rattle.lpc_isolation.proofs.Fair.{Fair, is_fair_wait}
 use Rattle.lpc_isolation.proofs.Enter.{Patient, is_patient, listen-first, receive-first, taker-process}
@@ -80,41 +81,38 @@ is_apart m c u d w (Cuts b) = not (sees m w (Cuts b))
 is_apart m c u d w (Unbinds b) = not (sees m w (Unbinds b))
 is_apart m c u d w (DropsHandle pid value) = not (sees m w (DropsHandle pid value))
 
-from_not : (b : Bool) → not b ≡ true → b ≡ false
-from_not b is = grind arith
-
 wakes-apart : (m : Group) (u w : World) (who : ℕ) (call : CallName) (status : Status) (fields : List Field) (b : Bool) → is_seen m (thread_whose u who) ≡ b → (b || not (sees_wait m w who)) ≡ true
     → view m (basic w (Wakes who call status fields)) ≡ absorb_all (view m w) (cond b (entry.Wakes who call status fields ∷ []) [])
 wakes-apart m u w who call status fields true is ok = basic-ours m w (Wakes who call status fields) refl refl
-wakes-apart m u w who call status fields false is ok = basic-unseen m w (Wakes who call status fields) (from_not _ ok) refl
+wakes-apart m u w who call status fields false is ok = basic-unseen m w (Wakes who call status fields) (not-true _ ok) refl
 
 basic-apart : (m : Group) (c : ℕ) (u : World) (d : Whose) (w : World) (b : Basic) → is_apart m c u d w b ≡ true → is_regular m w b ≡ true → view m (basic w b) ≡ absorb_all (view m w) (heard m u d (told b))
-basic-apart m c u d w (Tells e) is ok = rw (from_not _ is) refl
-basic-apart m c u d w (Wakes who call status fields) is ok = wakes-apart m u w who call status fields (is_seen m (thread_whose u who)) refl (one_of _ _ is)
-basic-apart m c u d w (Awaits x) is ok = basic-unseen m w (Awaits x) (from_not _ is) ok
-basic-apart m c u d w (Receives who q) is ok = basic-unseen m w (Receives who q) (from_not _ is) ok
-basic-apart m c u d w (Accepts who reply) is ok = basic-unseen m w (Accepts who reply) (from_not _ is) ok
-basic-apart m c u d w (Enters x) is ok = basic-unseen m w (Enters x) (from_not _ is) ok
-basic-apart m c u d w (Takes q) is ok = basic-unseen m w (Takes q) (from_not _ is) ok
-basic-apart m c u d w (TakesConnect q) is ok = basic-unseen m w (TakesConnect q) (from_not _ is) ok
-basic-apart m c u d w (Withdraws who) is ok = basic-unseen m w (Withdraws who) (from_not _ is) ok
-basic-apart m c u d w (DrawsIdentifier who) is ok = basic-unseen m w (DrawsIdentifier who) (from_not _ is) ok
-basic-apart m c u d w (DrawsOrdinal who) is ok = basic-unseen m w (DrawsOrdinal who) (from_not _ is) ok
-basic-apart m c u d w (Dies who status) is ok = rw (from_not (is_seen m (thread_whose u who)) (one_of _ _ is)) (basic-unseen m w (Dies who status) (from_not _ (other_of (not (is_seen m (thread_whose u who))) _ is)) ok)
-basic-apart m c u d w (Registers who b) is ok = basic-unseen m w (Registers who b) (from_not _ is) ok
-basic-apart m c u d w (Unregisters who b) is ok = basic-unseen m w (Unregisters who b) (from_not _ is) ok
-basic-apart m c u d w (AddsProcess p) is ok = basic-unseen m w (AddsProcess p) (from_not _ is) ok
-basic-apart m c u d w (AddsThread t) is ok = basic-unseen m w (AddsThread t) (from_not _ is) ok
-basic-apart m c u d w (Makes p) is ok = basic-unseen m w (Makes p) (from_not _ is) ok
-basic-apart m c u d w (Joins client server context) is ok = basic-unseen m w (Joins client server context) (from_not _ is) ok
-basic-apart m c u d w (Completes b) is ok = basic-unseen m w (Completes b) (from_not _ is) ok
-basic-apart m c u d w (Frees b) is ok = basic-unseen m w (Frees b) (from_not _ is) ok
-basic-apart m c u d w (Binds path node) is ok = basic-unseen m w (Binds path node) (from_not _ is) ok
-basic-apart m c u d w (AddsHandle pid h) is ok = basic-unseen m w (AddsHandle pid h) (from_not _ is) ok
-basic-apart m c u d w (Empties q) is ok = basic-unseen m w (Empties q) (from_not _ is) ok
-basic-apart m c u d w (Cuts b) is ok = basic-unseen m w (Cuts b) (from_not _ is) ok
-basic-apart m c u d w (Unbinds b) is ok = basic-unseen m w (Unbinds b) (from_not _ is) ok
-basic-apart m c u d w (DropsHandle pid value) is ok = basic-unseen m w (DropsHandle pid value) (from_not _ is) ok
+basic-apart m c u d w (Tells e) is ok = rw (not-true _ is) refl
+basic-apart m c u d w (Wakes who call status fields) is ok = wakes-apart m u w who call status fields (is_seen m (thread_whose u who)) refl (first-true _ _ is)
+basic-apart m c u d w (Awaits x) is ok = basic-unseen m w (Awaits x) (not-true _ is) ok
+basic-apart m c u d w (Receives who q) is ok = basic-unseen m w (Receives who q) (not-true _ is) ok
+basic-apart m c u d w (Accepts who reply) is ok = basic-unseen m w (Accepts who reply) (not-true _ is) ok
+basic-apart m c u d w (Enters x) is ok = basic-unseen m w (Enters x) (not-true _ is) ok
+basic-apart m c u d w (Takes q) is ok = basic-unseen m w (Takes q) (not-true _ is) ok
+basic-apart m c u d w (TakesConnect q) is ok = basic-unseen m w (TakesConnect q) (not-true _ is) ok
+basic-apart m c u d w (Withdraws who) is ok = basic-unseen m w (Withdraws who) (not-true _ is) ok
+basic-apart m c u d w (DrawsIdentifier who) is ok = basic-unseen m w (DrawsIdentifier who) (not-true _ is) ok
+basic-apart m c u d w (DrawsOrdinal who) is ok = basic-unseen m w (DrawsOrdinal who) (not-true _ is) ok
+basic-apart m c u d w (Dies who status) is ok = rw (not-true (is_seen m (thread_whose u who)) (first-true _ _ is)) (basic-unseen m w (Dies who status) (not-true _ (second-true (not (is_seen m (thread_whose u who))) _ is)) ok)
+basic-apart m c u d w (Registers who b) is ok = basic-unseen m w (Registers who b) (not-true _ is) ok
+basic-apart m c u d w (Unregisters who b) is ok = basic-unseen m w (Unregisters who b) (not-true _ is) ok
+basic-apart m c u d w (AddsProcess p) is ok = basic-unseen m w (AddsProcess p) (not-true _ is) ok
+basic-apart m c u d w (AddsThread t) is ok = basic-unseen m w (AddsThread t) (not-true _ is) ok
+basic-apart m c u d w (Makes p) is ok = basic-unseen m w (Makes p) (not-true _ is) ok
+basic-apart m c u d w (Joins client server context) is ok = basic-unseen m w (Joins client server context) (not-true _ is) ok
+basic-apart m c u d w (Completes b) is ok = basic-unseen m w (Completes b) (not-true _ is) ok
+basic-apart m c u d w (Frees b) is ok = basic-unseen m w (Frees b) (not-true _ is) ok
+basic-apart m c u d w (Binds path node) is ok = basic-unseen m w (Binds path node) (not-true _ is) ok
+basic-apart m c u d w (AddsHandle pid h) is ok = basic-unseen m w (AddsHandle pid h) (not-true _ is) ok
+basic-apart m c u d w (Empties q) is ok = basic-unseen m w (Empties q) (not-true _ is) ok
+basic-apart m c u d w (Cuts b) is ok = basic-unseen m w (Cuts b) (not-true _ is) ok
+basic-apart m c u d w (Unbinds b) is ok = basic-unseen m w (Unbinds b) (not-true _ is) ok
+basic-apart m c u d w (DropsHandle pid value) is ok = basic-unseen m w (DropsHandle pid value) (not-true _ is) ok
 
 -- a list of such steps
 abbrev pub are_apart : Group → ℕ → World → Whose → World → List Basic → Bool
@@ -124,14 +122,14 @@ are_apart m c u d w (b ∷ bs) = (is_apart m c u d w b && is_regular m w b) && a
 pub run-apart : (m : Group) (c : ℕ) (u : World) (d : Whose) (w : World) (bs : List Basic) → are_apart m c u d w bs ≡ true → view m (world_after w bs) ≡ absorb_all (view m w) (heard m u d (entries_of bs))
 run-apart m c u d w [] ok = refl
 run-apart m c u d w (b ∷ bs) ok =
-    run-apart m c u d (basic w b) bs (other_of _ _ ok)
-    ∙ ap (λ v. absorb_all v (heard m u d (entries_of bs))) (basic-apart m c u d w b (one_of _ _ (one_of _ _ ok)) (other_of _ _ (one_of _ _ ok)))
+    run-apart m c u d (basic w b) bs (second-true _ _ ok)
+    ∙ ap (λ v. absorb_all v (heard m u d (entries_of bs))) (basic-apart m c u d w b (first-true _ _ (first-true _ _ ok)) (second-true _ _ (first-true _ _ ok)))
     ∙ sym (absorb-append (view m w) (heard m u d (told b)) (heard m u d (entries_of bs)))
     ∙ sym (ap (absorb_all (view m w)) (filter-append (is_heard m u d) (told b) (entries_of bs)))
 
 pub apart-append : (m : Group) (c : ℕ) (u : World) (d : Whose) (w : World) (bs cs : List Basic) → are_apart m c u d w bs ≡ true → are_apart m c u d (world_after w bs) cs ≡ true → are_apart m c u d w (bs ++ cs) ≡ true
 apart-append m c u d w [] cs one two = two
-apart-append m c u d w (b ∷ bs) cs one two = both _ _ (one_of _ _ one) (apart-append m c u d (basic w b) bs cs (other_of _ _ one) two)
+apart-append m c u d w (b ∷ bs) cs one two = and_from _ _ (first-true _ _ one) (apart-append m c u d (basic w b) bs cs (second-true _ _ one) two)
 
 -- c is told nothing
 pub c_seen : (m : Group) (c : ℕ) (whose : Whose) → m c ≡ true → is_seen m whose ≡ false → is_seen (alone c) whose ≡ false
@@ -144,8 +142,8 @@ c_seen m c Everyone c_in out = absurd (cc)
 c_seen m c Nobody c_in out = refl
 
 basic-quiet : (m : Group) (c : ℕ) (u : World) (d : Whose) (w : World) (b : Basic) → m c ≡ true → is_apart m c u d w b ≡ true → heard (alone c) u d (told b) ≡ []
-basic-quiet m c u d w (Tells e) c_in is = let off : is_seen (alone c) (entry_whose u d e) ≡ false = c_seen m c (entry_whose u d e) c_in (from_not (is_heard m u d e) is) in rw off refl
-basic-quiet m c u d w (Wakes who call status fields) c_in is = let off : is_seen (alone c) (thread_whose u who) ≡ false = from_not (is_seen (alone c) (thread_whose u who)) (other_of _ _ is) in rw off refl
+basic-quiet m c u d w (Tells e) c_in is = let off : is_seen (alone c) (entry_whose u d e) ≡ false = c_seen m c (entry_whose u d e) c_in (not-true (is_heard m u d e) is) in rw off refl
+basic-quiet m c u d w (Wakes who call status fields) c_in is = let off : is_seen (alone c) (thread_whose u who) ≡ false = not-true (is_seen (alone c) (thread_whose u who)) (second-true _ _ is) in rw off refl
 basic-quiet m c u d w (Awaits x) c_in is = refl
 basic-quiet m c u d w (Receives who q) c_in is = refl
 basic-quiet m c u d w (Accepts who reply) c_in is = refl
@@ -155,7 +153,7 @@ basic-quiet m c u d w (TakesConnect q) c_in is = refl
 basic-quiet m c u d w (Withdraws who) c_in is = refl
 basic-quiet m c u d w (DrawsIdentifier who) c_in is = refl
 basic-quiet m c u d w (DrawsOrdinal who) c_in is = refl
-basic-quiet m c u d w (Dies who status) c_in is = let off : is_seen (alone c) (thread_whose u who) ≡ false = c_seen m c (thread_whose u who) c_in (from_not (is_seen m (thread_whose u who)) (one_of _ _ is)) in rw off refl
+basic-quiet m c u d w (Dies who status) c_in is = let off : is_seen (alone c) (thread_whose u who) ≡ false = c_seen m c (thread_whose u who) c_in (not-true (is_seen m (thread_whose u who)) (first-true _ _ is)) in rw off refl
 basic-quiet m c u d w (Registers who b) c_in is = refl
 basic-quiet m c u d w (Unregisters who b) c_in is = refl
 basic-quiet m c u d w (AddsProcess p) c_in is = refl
@@ -175,8 +173,8 @@ pub run-quiet : (m : Group) (c : ℕ) (u : World) (d : Whose) (w : World) (bs : 
 run-quiet m c u d w [] c_in ok = refl
 run-quiet m c u d w (b ∷ bs) c_in ok =
     filter-append (is_heard (alone c) u d) (told b) (entries_of bs)
-    ∙ ap (λ es. es ++ heard (alone c) u d (entries_of bs)) (basic-quiet m c u d w b c_in (one_of _ _ (one_of _ _ ok)))
-    ∙ run-quiet m c u d (basic w b) bs c_in (other_of _ _ ok)
+    ∙ ap (λ es. es ++ heard (alone c) u d (entries_of bs)) (basic-quiet m c u d w b c_in (first-true _ _ (first-true _ _ ok)))
+    ∙ run-quiet m c u d (basic w b) bs c_in (second-true _ _ ok)
 
 -- Waits and the owners of their threads
 abbrev pub is_owned : World → WaitRow → Bool
@@ -205,10 +203,10 @@ wait-gone m u w x all owned out = at (owner u x.thread) refl
 
 -- on no queue, either; and on an outsider's queue there is no wait in the view
 pub unseen-at : (m : Group) (w : World) (tid : ℕ) (q : Birth) → sees_wait m w tid ≡ false → sees_at m w tid q ≡ false
-unseen-at m w tid q out = has_none-more (waits_as tid) (waits_at tid q) (λ x off. not_both (waits_as tid x) (same_birth x.queue q) off) (which (our_wait m) w.waits) out
+unseen-at m w tid q out = has_none-more (waits_as tid) (waits_at tid q) (λ x off. and_left (waits_as tid x) (same_birth x.queue q) off) (which (our_wait m) w.waits) out
 
 queue-off : (m : Group) (tid : ℕ) (q : Birth) (x : WaitRow) → m q.process ≡ false → waits_at tid q x ≡ true → our_wait m x ≡ false
-queue-off m tid q x out is = let x_out : m x.queue.process ≡ false = of_birth m x.queue q (other_of _ _ is) ∙ out in grind arith
+queue-off m tid q x out is = let x_out : m x.queue.process ≡ false = of_birth m x.queue q (second-true _ _ is) ∙ out in grind arith
 
 pub unseen-queue : (m : Group) (w : World) (tid : ℕ) (q : Birth) → m q.process ≡ false → sees_at m w tid q ≡ false
 unseen-queue m w tid q out = rw (first-outside (our_wait m) (waits_at tid q) (λ x is. queue-off m tid q x out is) w.waits) refl
@@ -233,8 +231,8 @@ received-owned : (u w : World) (who : ℕ) (q : Birth) → Owned u w → Owned u
 received-owned u w who q owned = every-change (is_owned u) (waits_at who q) received (λ x is. is) w.waits owned
 
 taken-apart : (m : Group) (c : ℕ) (u : World) (d : Whose) (w : World) (asked : Bool) (who : ℕ) (q : Birth) (y : WaitRow) (fields : List Field) → sees_at m w who q ≡ false → Owned u w → is_owned u y ≡ true → (y.process == c) ≡ false → are_apart m c u d w (when asked (Receives who q ∷ []) ++ woken SUCCESS fields y ∷ []) ≡ true
-taken-apart m c u d w true who q y fields out owned is other = rw out (both _ _ (both _ _ (end-apart m c u d (basic w (Receives who q)) y SUCCESS fields (received-owned u w who q owned) is other) refl) refl)
-taken-apart m c u d w false who q y fields out owned is other = both _ _ (both _ _ (end-apart m c u d w y SUCCESS fields owned is other) refl) refl
+taken-apart m c u d w true who q y fields out owned is other = rw out (and_from _ _ (and_from _ _ (end-apart m c u d (basic w (Receives who q)) y SUCCESS fields (received-owned u w who q owned) is other) refl) refl)
+taken-apart m c u d w false who q y fields out owned is other = and_from _ _ (and_from _ _ (end-apart m c u d w y SUCCESS fields owned is other) refl) refl
 
 given-apart : (m : Group) (c : ℕ) (u : World) (d : Whose) (w : World) (x : MessageRow) (y : WaitRow) (k : WaitKind) → y.kind ≡ k → our_message m x ≡ false → takes x y ≡ true → is_patient w y ≡ true
     → sees_at m w x.message.header.client.thread x.queue ≡ false → Owned u w → is_owned u y ≡ true → (y.process == c) ≡ false

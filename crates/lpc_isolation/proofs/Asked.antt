@@ -1,10 +1,11 @@
 -- A queued message that asks is its thread's own, which waits for it: so in each world of a run.
-use Rattle.std.proofs.Common.{◌≡◌, ◌≤◌, ◌+◌, ℕ, List, [], ◌∷◌, ◌++◌, Bool, true, false, cond, not, Option, Some, None, refl, ap, sym, subst, arith}
+use Rattle.std.proofs.Common.{◌≡◌, ◌≤◌, ◌+◌, ℕ, List, [], ◌∷◌, ◌++◌, Bool, true, false, cond, not, Option, Some, None, refl, sym, subst, arith, append-nil}
 use Rattle.std.specs.Prelude.{◌&&◌, ◌||◌, ◌==◌}
-use Rattle.std.proofs.lemmas.Bool.{eqb-true}
+use Rattle.std.proofs.lemmas.Bool.{and_from, eqb-true, not-true}
 use Rattle.lpc_base.specs.Rows.{change, count, every, first, given, has, when, without, without_first}
-use Rattle.lpc_base.proofs.RowWords.{count-none, count-push, every-push, every-without, first-passes, has-kept, has_none-more}
+use Rattle.lpc_base.proofs.RowWords.{count-fewer, count-none, count-push, every-push, every-without, first-passes, has-kept, has-off, has_none-more, has_none-without_first, none-counted}
 use Rattle.lpc_base.proofs.RowMaps.{every-first, every-without_first}
+use Rattle.lpc_base.proofs.Bools.{first-true, same-number, second-true}
 use Rattle.lpc_base.specs.declared.status.TheConstants.{SUCCESS}
 use Rattle.lpc_model.specs.declared.entry.CallName.{CallName}
 use Rattle.lpc_model.specs.declared.entry.Field.{Field}
@@ -16,7 +17,6 @@ use Rattle.lpc_model.specs.Found.{is_offered, is_own_of, is_queued, is_queued_co
 use Rattle.lpc_model.specs.Basics.{Accepts, AddsHandle, AddsProcess, AddsThread, Awaits, Basic, Binds, Completes, Cuts, DrawsIdentifier, DrawsOrdinal, DropsHandle, Empties, Enters, Frees, Joins, Makes, Receives, Takes, TakesConnect, Tells, Unbinds, Wakes, Withdraws, accepted, basic, received, world_after, Dies, Registers, Unregisters}
 use Rattle.lpc_model.specs.Entering.{enter, given_steps, shown, take_connect_steps, take_steps, takes, woken}
 use Rattle.lpc_model.proofs.Rows.{count-less}
-use Rattle.lpc_isolation.proofs.View.{both, one_of, other_of, same-number}
 use Rattle.lpc_isolation.proofs.Enter.{Patient, is_patient, listen-first, receive-first}
 
 abbrev pub sender_of : MessageRow → ℕ
@@ -62,10 +62,6 @@ are_asked w [] = true
 are_asked w (b ∷ bs) = keeps_asked w b && are_asked (basic w b) bs
 
 -- Lists
-has-off : {X : Type 0} (p s : X → Bool) → ((x : X) → p x ≡ true → s x ≡ false) → (xs : List X) → has p xs ≡ true → has p (without s xs) ≡ true
-has-off p s off [] is = is
-has-off p s off (x ∷ xs) is = grind (arith, off x, has-off p s off xs)
-
 has-changed : {X : Type 0} (p s : X → Bool) (f : X → X) → ((x : X) → p x ≡ true → s x ≡ false) → (xs : List X) → has p xs ≡ true → has p (change s f xs) ≡ true
 has-changed p s f off [] is = is
 has-changed p s f off (x ∷ xs) is = grind (arith, off x, has-changed p s f off xs)
@@ -74,20 +70,8 @@ every-quiet : (p q : MessageRow → Bool) (t : MessageRow → Bool) → ((y : Me
 every-quiet p q t f [] all none = refl
 every-quiet p q t f (y ∷ ys) all none = grind (arith, f y, every-quiet p q t f ys)
 
-less : {X : Type 0} (p t : X → Bool) (xs : List X) → count p (without_first t xs) ≤ count p xs
-less p t [] = grind arith
-less p t (x ∷ xs) = grind (arith, less p t xs)
-
 fewer : {X : Type 0} (p t : X → Bool) (xs : List X) (n : ℕ) → count p xs ≤ n → count p (without_first t xs) ≤ n
-fewer p t xs n few = let least = less p t xs in omega (arith, few, least)
-
-none-first : {X : Type 0} (p t : X → Bool) (xs : List X) → has p xs ≡ false → has p (without_first t xs) ≡ false
-none-first p t [] none = none
-none-first p t (x ∷ xs) none = grind (arith, none-first p t xs)
-
-no-count : {X : Type 0} (p : X → Bool) (xs : List X) → count p xs ≤ 0 → has p xs ≡ false
-no-count p [] few = refl
-no-count p (x ∷ xs) few = grind (arith, no-count p xs)
+fewer p t xs n few = let least = count-fewer p t xs in omega (arith, few, least)
 
 pub counted : {X : Type 0} (p t : X → Bool) (xs : List X) (y : X) → first t xs ≡ Some y → p y ≡ true → count p xs ≤ 0 → ⊥
 counted p t [] y at is few = cc
@@ -95,23 +79,20 @@ counted p t (x ∷ xs) y at is few = grind (arith, counted p t xs y)
 
 gone : {X : Type 0} (p t : X → Bool) (xs : List X) (y : X) → first t xs ≡ Some y → p y ≡ true → count p xs ≤ 1 → has p (without_first t xs) ≡ false
 gone p t [] y at is few = refl
-gone p t (x ∷ xs) y at is few = grind (arith, gone p t xs y, counted p t xs y, no-count p xs)
+gone p t (x ∷ xs) y at is few = grind (arith, gone p t xs y, counted p t xs y, none-counted p xs)
 
 twice : {X : Type 0} (p q r : X → Bool) (xs : List X) (a b : X) → first p xs ≡ Some a → first q xs ≡ Some b → r a ≡ true → r b ≡ true → count r xs ≤ 1 → a ≡ b
 twice p q r [] a b one two ra rb few = absurd (cc)
 twice p q r (x ∷ xs) a b one two ra rb few = grind (arith, twice p q r xs a b, counted r p xs a, counted r q xs b)
 
 -- Basic steps
-not_of : (b : Bool) → not b ≡ true → b ≡ false
-not_of b is = grind arith
-
 other-sender : (who : ℕ) (y : MessageRow) (x : WaitRow) → asks y.message ≡ true → asks_of who y ≡ false → is_own y x ≡ true → (x.thread == who) ≡ false
 other-sender who y x asked off own =
-    let same : x.thread ≡ sender_of y = eqb-true _ _ (one_of _ _ own) in
+    let same : x.thread ≡ sender_of y = eqb-true _ _ (first-true _ _ own) in
     let other : (sender_of y == who) ≡ false = grind arith in subst (λ t. (t == who) ≡ false) (sym same) other
 
 pub still-own : (who : ℕ) (ws vs : List WaitRow) → ((y : MessageRow) → ((x : WaitRow) → is_own y x ≡ true → (x.thread == who) ≡ false) → has (is_own y) ws ≡ true → has (is_own y) vs ≡ true) → (ys : List MessageRow) → every (has_own ws) ys ≡ true → is_quiet ys who ≡ true → every (has_own vs) ys ≡ true
-still-own who ws vs keeps ys all quiet = every-quiet (has_own ws) (has_own vs) (asks_of who) (λ y own off. at y (asks y.message) refl own off) ys all (not_of _ quiet)
+still-own who ws vs keeps ys all quiet = every-quiet (has_own ws) (has_own vs) (asks_of who) (λ y own off. at y (asks y.message) refl own off) ys all (not-true _ quiet)
   where
     at : (y : MessageRow) (b : Bool) → asks y.message ≡ b → has_own ws y ≡ true → asks_of who y ≡ false → has_own vs y ≡ true
     at y true asked own off = let there : has (is_own y) ws ≡ true = grind arith in rw (keeps y (λ x is. other-sender who y x asked off is) there) (grind arith)
@@ -126,9 +107,9 @@ entered-one who ys y ok few = rw (count-push (asks_of who) ys y) (at (asks_of wh
   where
     at : (b : Bool) → asks_of who y ≡ b → count (asks_of who) ys + cond b 1 0 ≤ 1
     at true is =
-        let same : sender_of y ≡ who = eqb-true _ _ (other_of _ _ is) in
+        let same : sender_of y ≡ who = eqb-true _ _ (second-true _ _ is) in
         let quiet : is_quiet ys (sender_of y) ≡ true = grind arith in
-        let none : has (asks_of who) ys ≡ false = subst (λ n. has (asks_of n) ys ≡ false) same (not_of _ quiet) in
+        let none : has (asks_of who) ys ≡ false = subst (λ n. has (asks_of n) ys ≡ false) same (not-true _ quiet) in
         rw (count-none (asks_of who) ys none) (omega arith)
     at false off = omega (arith, few)
 
@@ -137,7 +118,7 @@ basic-asked w (Wakes who call status fields) ok a = record { sorts = a.sorts; ow
 basic-asked w (Dies who status) ok a = record { sorts = a.sorts; own = still-own who w.waits (without (waits_as who) w.waits) (λ y other. has-off (is_own y) (waits_as who) other w.waits) w.messages a.own ok; one = a.one }
 basic-asked w (Receives who q) ok a = record { sorts = a.sorts; own = still-own who w.waits (change (waits_at who q) received w.waits) (λ y other. has-changed (is_own y) (waits_at who q) received (λ x is. let off = other x is in grind arith) w.waits) w.messages a.own ok; one = a.one }
 basic-asked w (Accepts who reply) ok a = record { sorts = a.sorts; own = still-own who w.waits (change (waits_as who) (accepted reply) w.waits) (λ y other. has-changed (is_own y) (waits_as who) (accepted reply) other w.waits) w.messages a.own ok; one = a.one }
-basic-asked w (Enters y) ok a = record { sorts = every-push is_sort w.messages y a.sorts (one_of (is_sort y) (not (asks y.message) || (is_quiet w.messages (sender_of y) && has (is_own y) w.waits)) ok); own = every-push (has_own w.waits) w.messages y a.own (let rest = other_of (is_sort y) (not (asks y.message) || (is_quiet w.messages (sender_of y) && has (is_own y) w.waits)) ok in grind arith); one = λ who. entered-one who w.messages y (let rest = other_of (is_sort y) (not (asks y.message) || (is_quiet w.messages (sender_of y) && has (is_own y) w.waits)) ok in grind arith) (a.one who) }
+basic-asked w (Enters y) ok a = record { sorts = every-push is_sort w.messages y a.sorts (first-true (is_sort y) (not (asks y.message) || (is_quiet w.messages (sender_of y) && has (is_own y) w.waits)) ok); own = every-push (has_own w.waits) w.messages y a.own (let rest = second-true (is_sort y) (not (asks y.message) || (is_quiet w.messages (sender_of y) && has (is_own y) w.waits)) ok in grind arith); one = λ who. entered-one who w.messages y (let rest = second-true (is_sort y) (not (asks y.message) || (is_quiet w.messages (sender_of y) && has (is_own y) w.waits)) ok in grind arith) (a.one who) }
 basic-asked w (Awaits x) ok a = record { sorts = a.sorts; own = every-more_own w.waits (w.waits ++ x ∷ []) (λ y is. has-kept (is_own y) w.waits x is) w.messages a.own; one = a.one }
 basic-asked w (Takes q) ok a = record { sorts = every-without_first is_sort (is_queued q) w.messages a.sorts; own = every-without_first (has_own w.waits) (is_queued q) w.messages a.own; one = λ who. fewer (asks_of who) (is_queued q) w.messages 1 (a.one who) }
 basic-asked w (TakesConnect q) ok a = record { sorts = every-without_first is_sort (is_queued_connect q) w.messages a.sorts; own = every-without_first (has_own w.waits) (is_queued_connect q) w.messages a.own; one = λ who. fewer (asks_of who) (is_queued_connect q) w.messages 1 (a.one who) }
@@ -162,11 +143,11 @@ basic-asked w (AddsThread t) ok a = record { sorts = a.sorts; own = a.own; one =
 
 pub run-asked : (w : World) (bs : List Basic) → are_asked w bs ≡ true → Asked w → Asked (world_after w bs)
 run-asked w [] ok a = a
-run-asked w (b ∷ bs) ok a = run-asked (basic w b) bs (other_of _ _ ok) (basic-asked w b (one_of _ _ ok) a)
+run-asked w (b ∷ bs) ok a = run-asked (basic w b) bs (second-true _ _ ok) (basic-asked w b (first-true _ _ ok) a)
 
 pub append-asked : (w : World) (bs cs : List Basic) → are_asked w bs ≡ true → are_asked (world_after w bs) cs ≡ true → are_asked w (bs ++ cs) ≡ true
 append-asked w [] cs one two = two
-append-asked w (b ∷ bs) cs one two = both _ _ (one_of _ _ one) (append-asked (basic w b) bs cs (other_of _ _ one) two)
+append-asked w (b ∷ bs) cs one two = and_from _ _ (first-true _ _ one) (append-asked (basic w b) bs cs (second-true _ _ one) two)
 
 -- who waits for nothing, or no longer for a message to be received, has no message that asks
 abbrev pub is_settled : WaitRow → Bool
@@ -183,7 +164,7 @@ own-wait w y a who at =
 
 pub idle-quiet : (w : World) (who : ℕ) → Asked w → wait_of w who ≡ None → is_quiet w.messages who ≡ true
 idle-quiet w who a idle = found-some (asks_of who) w.messages (first (asks_of who) w.messages) refl (λ y at.
-    let same : sender_of y ≡ who = eqb-true _ _ (other_of _ _ (first-passes (asks_of who) w.messages y at)) in
+    let same : sender_of y ≡ who = eqb-true _ _ (second-true _ _ (first-passes (asks_of who) w.messages y at)) in
     let none : has (waits_as (sender_of y)) w.waits ≡ false = subst (λ t. has (waits_as t) w.waits ≡ false) (sym same) (rw idle refl) in
     let off : has (is_own y) w.waits ≡ false = has_none-more (waits_as (sender_of y)) (is_own y) (λ x out. rw out refl) w.waits none in
     let on = own-wait w y a who at in cc)
@@ -195,22 +176,18 @@ settled-quiet w test x a once found settled = found-some (asks_of x.thread) w.me
     own y None none at = let on = own-wait w y a x.thread at in cc
     own y (Some z) some at =
         let passes = first-passes (is_own y) w.waits z some in
-        let sender : sender_of y ≡ x.thread = eqb-true _ _ (other_of _ _ (first-passes (asks_of x.thread) w.messages y at)) in
-        let zs : (z.thread == x.thread) ≡ true = subst (λ t. (z.thread == t) ≡ true) sender (one_of _ _ passes) in
+        let sender : sender_of y ≡ x.thread = eqb-true _ _ (second-true _ _ (first-passes (asks_of x.thread) w.messages y at)) in
+        let zs : (z.thread == x.thread) ≡ true = subst (λ t. (z.thread == t) ≡ true) sender (first-true _ _ passes) in
         let same : x ≡ z = twice test (is_own y) (waits_as x.thread) w.waits x z found some (same-number x.thread) zs once in
         let bad : is_own y x ≡ true = subst (λ z. is_own y z ≡ true) (sym same) passes in grind arith
 
 -- what is taken and what enters
 when-asked : (v : World) (y : MessageRow) (asked : Bool) (rest : List Basic) → asks y.message ≡ asked → (asks y.message ≡ true → is_quiet v.messages (sender_of y) ≡ true) → ((u : World) → u.messages ≡ v.messages → are_asked u rest ≡ true) → are_asked v (when asked (Receives (sender_of y) y.queue ∷ []) ++ rest) ≡ true
-when-asked v y true rest is quiet each = both _ _ (quiet is) (each (basic v (Receives (sender_of y) y.queue)) refl)
+when-asked v y true rest is quiet each = and_from _ _ (quiet is) (each (basic v (Receives (sender_of y) y.queue)) refl)
 when-asked v y false rest is quiet each = each v refl
 
 taken-quiet : (v : World) (test : MessageRow → Bool) (y : MessageRow) → ((who : ℕ) → count (asks_of who) v.messages ≤ 1) → first test v.messages ≡ Some y → asks y.message ≡ true → is_quiet (without_first test v.messages) (sender_of y) ≡ true
-taken-quiet v test y one at is = rw (gone (asks_of (sender_of y)) test v.messages y at (both _ _ is (same-number (sender_of y))) (one (sender_of y))) refl
-
-append-nil : (bs : List Basic) → bs ++ [] ≡ bs
-append-nil [] = refl
-append-nil (b ∷ bs) = ap (λ cs. b ∷ cs) (append-nil bs)
+taken-quiet v test y one at is = rw (gone (asks_of (sender_of y)) test v.messages y at (and_from _ _ is (same-number (sender_of y))) (one (sender_of y))) refl
 
 pub take-asked : (v : World) (y : MessageRow) → ((who : ℕ) → count (asks_of who) v.messages ≤ 1) → first (is_queued y.queue) v.messages ≡ Some y → are_asked v (take_steps y) ≡ true
 take-asked v y one at = subst (λ bs. are_asked (basic v (Takes y.queue)) bs ≡ true) (append-nil (when (asks y.message) (Receives (sender_of y) y.queue ∷ []))) (when-asked (basic v (Takes y.queue)) y (asks y.message) [] refl (λ is. taken-quiet v (is_queued y.queue) y one at is) (λ u same. refl))
@@ -237,12 +214,12 @@ given-asked v y z (Accepted b r) k is patient a quiet = absurd (off (rw k at is)
     off is = cc
 given-asked v y z Receive k is patient a quiet =
     let u : World = basic (basic v (Enters y)) (Takes y.queue) in
-    let still : is_quiet u.messages z.thread ≡ true = rw (none-first (asks_of z.thread) (is_queued y.queue) (v.messages ++ y ∷ []) (not_of _ quiet)) refl in
+    let still : is_quiet u.messages z.thread ≡ true = rw (has_none-without_first (asks_of z.thread) (is_queued y.queue) (v.messages ++ y ∷ []) (not-true _ quiet)) refl in
     rw k (when-asked u y (asks y.message) (Wakes z.thread z.call SUCCESS (receipt y) ∷ []) refl (λ on. taken-quiet (basic v (Enters y)) (is_queued y.queue) y a.one (receive-first v y z is (rw k refl) patient) on)
     (λ t same. waking-asked t u z z.call (receipt y) same still))
 given-asked v y z Listen k is patient a quiet =
     let u : World = basic (basic v (Enters y)) (TakesConnect y.queue) in
-    let still : is_quiet u.messages z.thread ≡ true = rw (none-first (asks_of z.thread) (is_queued_connect y.queue) (v.messages ++ y ∷ []) (not_of _ quiet)) refl in
+    let still : is_quiet u.messages z.thread ≡ true = rw (has_none-without_first (asks_of z.thread) (is_queued_connect y.queue) (v.messages ++ y ∷ []) (not-true _ quiet)) refl in
     rw k (when-asked u y (asks y.message) (Wakes z.thread z.call SUCCESS (msg y.message ∷ []) ∷ []) refl (λ on. taken-quiet (basic v (Enters y)) (is_queued_connect y.queue) y a.one (listen-first v y z is (rw k refl) (rw k refl) patient) on)
     (λ t same. waking-asked t u z z.call (msg y.message ∷ []) same still))
 
@@ -263,7 +240,7 @@ taker-settled y z Receive k is = rw k (grind arith)
 taker-settled y z Listen k is = rw k (grind arith)
 
 pub enter-asked : (v : World) (y : MessageRow) → Asked v → Patient v → ((tid : ℕ) → count (waits_as tid) v.waits ≤ 1) → keeps_asked v (Enters y) ≡ true → are_asked v (enter y v) ≡ true
-enter-asked v y a patient once ok = both _ _ ok (at (first (takes y) v.waits) refl)
+enter-asked v y a patient once ok = and_from _ _ ok (at (first (takes y) v.waits) refl)
   where
     after : Asked (basic v (Enters y))
     after = basic-asked v (Enters y) ok a

@@ -7,10 +7,8 @@ use Rattle.lpc_isolation.proofs.Connects.{on-connect, row, starting}
 use Rattle.lpc_isolation.proofs.Create.{made-holds}
 use Rattle.lpc_isolation.proofs.Requests.{sent-request}
 use Rattle.lpc_isolation.proofs.Sends.{Caller}
-use Rattle.lpc_isolation.proofs.View.{both, one_of}
 use Rattle.lpc_model.specs.Circle.{Group}
 use Rattle.lpc_message.specs.declared.kind.TheConstants.{DATAGRAM, REQUEST}
-use Rattle.lpc_model.proofs.Births.{birth-same, birth-self}
 use Rattle.lpc_model.proofs.Holding.{Holds, bind_holds}
 use Rattle.lpc_model.specs.Basics.{Awaits, Basic, world_after}
 use Rattle.lpc_model.specs.Connect.{nt_accept_connect_port, nt_complete_connect_port, listen_steps}
@@ -27,6 +25,7 @@ use Rattle.lpc_model.specs.Tests.{port_test}
 use Rattle.lpc_model.specs.World.{Accepted, Birth, Connect, Listen, MessageRow, PortRow, Receive, Request, ThreadRow, WaitKind, WaitRow, World}
 use Rattle.lpc_model.specs.declared.message.Message.{Message}
 use Rattle.std.proofs.Common.{◌≡◌, ◌≤◌, ℕ, List, [], ◌∷◌, ◌++◌, Bool, true, false, not, Option, Some, None, refl, sym, subst, arith}
+use Rattle.std.proofs.lemmas.Bool.{and_from}
 use Rattle.lpc_base.specs.declared.status.Status.{Status}
 use Rattle.std.specs.Prelude.{◌&&◌, ◌||◌, Result, Ok, Err}
 use Rattle.lpc_base.specs.Rows.{count}
@@ -36,8 +35,9 @@ use Rattle.lpc_model.specs.Connect.{is_accepted_on}
 use Rattle.lpc_model.specs.Found.{wait_of}
 use Rattle.lpc_isolation.proofs.Accepts.{IsAnswer}
 use Rattle.lpc_base.proofs.RowWords.{has-push}
+use Rattle.lpc_base.proofs.Bools.{first-true, same-number}
+use Rattle.lpc_base.proofs.Births.{birth-same, birth-self}
 use Rattle.lpc_model.specs.Connect.{ConnectAnswer, connect_wait, connection_request, listen_steps, names_connect}
-use Rattle.lpc_isolation.proofs.View.{same-number}
 use Rattle.lpc_model.proofs.SoundBasics.{once-awaits}
 use Rattle.lpc_isolation.proofs.Enter.{is_patient}
 use Rattle.lpc_isolation.proofs.Sends.{sent-datagram}
@@ -61,18 +61,18 @@ sends-asked m c w by start x y a k begins messages waits mine patient sender own
     (enter-asked v y (run-asked w start begins a)
     (subst (λ ms. every (λ z. not (is_receive z || is_listen z) || not (has (λ t. takes t z) ms)) v.waits ≡ true) (sym messages) (subst (λ ws. every (is_patient w) ws ≡ true) (sym waits) (every-push (is_patient w) w.waits x k.patient patient)))
     (λ tid. subst (λ ws. count (waits_as tid) ws ≤ 1) (sym waits) (once-awaits w x (subst (λ n. wait_of w n ≡ None) (sym mine) k.idle) k.once tid))
-    (both _ _ sort (rw (quiet, there) (grind arith))))
+    (and_from _ _ sort (rw (quiet, there) (grind arith))))
 
 connect-asked : (m : Group) (c : ℕ) (w : World) (by : ThreadRow) (name bytes : List ℕ) → Asked w → Caller m c w w by → Holds (AskedBy w) (nt_connect_port w by name bytes)
 connect-asked m c w by name bytes a k = on-connect (AskedBy w) w by name bytes (λ q at.
     sends-asked m c w by (starting by q bytes) (connect_wait by q (connection_request by bytes)) (row by q bytes) a k refl refl refl refl refl refl
-    (both _ _ (same-number by.number) (both _ _ (birth-self q) refl)) refl)
+    (and_from _ _ (same-number by.number) (and_from _ _ (birth-self q) refl)) refl)
 
 request-asked : (m : Group) (c : ℕ) (w : World) (by : ThreadRow) (handle : ℕ) (bytes : List ℕ) → Asked w → Caller m c w w by → Holds (AskedBy w) (nt_request_wait_reply_port w by handle bytes)
 request-asked m c w by handle bytes a k = sent-request (AskedBy w) m c w w by handle bytes k (λ s is.
     let b : Message = sent_by by REQUEST s.message in
     sends-asked m c w by (request_start by s.port.birth s.queue b) (request_wait by s.port.birth s.queue b) (row_of s.queue s.port b) a k refl refl refl refl refl refl
-    (both _ _ (same-number by.number) (both _ _ (birth-self s.queue) refl)) refl)
+    (and_from _ _ (same-number by.number) (and_from _ _ (birth-self s.queue) refl)) refl)
 
 datagram-asked : (m : Group) (c : ℕ) (w : World) (by : ThreadRow) (handle : ℕ) (bytes : List ℕ) → Asked w → Caller m c w w by → Holds (AskedBy w) (nt_request_port w by handle bytes)
 datagram-asked m c w by handle bytes a k = sent-datagram (AskedBy w) m c w w by handle bytes k (λ s is.
@@ -82,7 +82,7 @@ datagram-asked m c w by handle bytes a k = sent-datagram (AskedBy w) m c w w by 
 listened-asked : (w : World) (by : ThreadRow) (port : Birth) (o : Option MessageRow) → first (is_queued_connect port) w.messages ≡ o → Asked w → are_asked w (listen_steps by port o) ≡ true
 listened-asked w by port None at a = refl
 listened-asked w by port (Some y) at a =
-    let same : y.queue ≡ port = birth-same y.queue port (one_of _ _ (first-passes (is_queued_connect port) w.messages y at)) in
+    let same : y.queue ≡ port = birth-same y.queue port (first-true _ _ (first-passes (is_queued_connect port) w.messages y at)) in
     take_connect-asked w y a.one (subst (λ q. first (is_queued_connect q) w.messages ≡ Some y) (sym same) at)
 
 accept-asked : (m : Group) (c : ℕ) (w : World) (by : ThreadRow) (context : ℕ) (bytes : List ℕ) (accept : Bool) → Asked w → Caller m c w w by → Holds (AskedBy w) (nt_accept_connect_port w by context bytes accept)

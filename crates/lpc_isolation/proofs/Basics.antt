@@ -1,10 +1,11 @@
 -- What each basic step does to a view.
 use Rattle.std.proofs.Common.{◌≡◌, ℕ, List, [], ◌∷◌, ◌++◌, Bool, true, false, cond, not, map, Option, Some, None, refl, ap, ◌∙◌, arith}
 use Rattle.std.specs.Prelude.{◌&&◌, ◌||◌, is_none}
-use Rattle.std.proofs.lemmas.Bool.{eqb-true}
+use Rattle.std.proofs.lemmas.Bool.{and_from, eqb-true, or_parts}
 use Rattle.lpc_base.specs.Rows.{change, every, first, has, passes, which, without_first}
 use Rattle.lpc_base.proofs.RowMaps.{push-map}
-use Rattle.lpc_base.proofs.RowWords.{change-none, without-none}
+use Rattle.lpc_base.proofs.RowWords.{change-none, every-true, which-without, without-none, without_first-none}
+use Rattle.lpc_base.proofs.Bools.{first-true, second-true}
 use Rattle.lpc_names.specs.Binding.{is_name}
 use Rattle.lpc_names.specs.Walk.{LinkTo, Stands}
 use Rattle.lpc_names.specs.declared.names.Found.TheVariants.{Directory, Item}
@@ -12,8 +13,8 @@ use Rattle.lpc_model.specs.World.{Birth, HandleTable, MessageRow, Node, Path, Po
 use Rattle.lpc_model.specs.Found.{is_own_of, is_the, same_birth, is_port, is_queued, is_queued_connect, is_table, is_thread, waits_as, waits_at}
 use Rattle.lpc_model.specs.Basics.{Accepts, AddsHandle, AddsProcess, AddsThread, Awaits, Basic, Binds, Completes, Cuts, DrawsIdentifier, DrawsOrdinal, DropsHandle, Empties, Enters, Frees, Joins, Makes, Receives, Takes, TakesConnect, Tells, Unbinds, Wakes, Withdraws, accepted, basic, completed, cut, is_end_of, joined, no_handles, past_identifier, past_ordinal, received, used, with_handle, without_handle, world_after, Dies, Registers, Unregisters, ended, registering, unregistering}
 use Rattle.lpc_model.specs.Circle.{Group}
-use Rattle.lpc_isolation.proofs.Filters.{kept-change, kept-push, kept-push_out, kept-without, kept-without_out, kept-without_first, kept-without_first_out, shown, shown-change, shown-map, shown-push, shown-push_out, shown-change_out, shown-map_out, kept-change_out, every-any, without_first-none}
-use Rattle.lpc_isolation.proofs.View.{both, of_birth, one_of, other_of, our_binding, our_message, our_node, our_port, our_process, our_table, our_thread, our_used, our_wait, seen_port, view}
+use Rattle.lpc_isolation.proofs.Filters.{kept-change, kept-push, kept-push_out, kept-without_out, kept-without_first, kept-without_first_out, shown, shown-change, shown-map, shown-push, shown-push_out, shown-change_out, shown-map_out, kept-change_out}
+use Rattle.lpc_isolation.proofs.View.{of_birth, our_binding, our_message, our_node, our_port, our_process, our_table, our_thread, our_used, our_wait, seen_port, view}
 
 -- a thread's wait is in the view, and so is its row
 abbrev pub sees_wait : Group → World → ℕ → Bool
@@ -187,30 +188,30 @@ shown-cut m b is ps = shown-map (our_port m) (seen_port m) (cut_if b) (cut_if b)
 -- such a step does to the view what it does to the world
 pub basic-ours : (m : Group) (w : World) (b : Basic) → is_ours m w b ≡ true → is_regular m w b ≡ true → view m (basic w b) ≡ basic (view m w) b
 basic-ours m w (Tells e) is ok = refl
-basic-ours m w (Wakes who call status fields) is ok = rw (kept-without (our_wait m) (waits_as who) w.waits) refl
+basic-ours m w (Wakes who call status fields) is ok = rw (which-without (our_wait m) (waits_as who) w.waits) refl
 basic-ours m w (Awaits x) is ok = rw (kept-push (our_wait m) w.waits x is) refl
 basic-ours m w (Receives who q) is ok = rw (kept-change (our_wait m) (waits_at who q) received (λ x. refl) w.waits) refl
 basic-ours m w (Accepts who reply) is ok = rw (kept-change (our_wait m) (waits_as who) (accepted reply) (λ x. refl) w.waits) refl
 basic-ours m w (Enters x) is ok = rw (kept-push (our_message m) w.messages x is) refl
 basic-ours m w (Takes q) is ok = rw (take-seen m (is_queued q) w.messages (first (is_queued q) w.messages) refl is) refl
 basic-ours m w (TakesConnect q) is ok = rw (take-seen m (is_queued_connect q) w.messages (first (is_queued_connect q) w.messages) refl is) refl
-basic-ours m w (Withdraws who) is ok = rw (kept-without (our_message m) (is_own_of who) w.messages) refl
+basic-ours m w (Withdraws who) is ok = rw (which-without (our_message m) (is_own_of who) w.messages) refl
 basic-ours m w (DrawsIdentifier who) is ok = rw (kept-change (our_thread m) (is_thread who) past_identifier (λ t. refl) w.threads) refl
 basic-ours m w (DrawsOrdinal who) is ok = rw (kept-change (our_thread m) (is_thread who) past_ordinal (λ t. refl) w.threads) refl
-basic-ours m w (Dies who status) is ok = rw (kept-change (our_thread m) (is_thread who) ended (λ t. refl) w.threads, kept-without (our_wait m) (waits_as who) w.waits) refl
+basic-ours m w (Dies who status) is ok = rw (kept-change (our_thread m) (is_thread who) ended (λ t. refl) w.threads, which-without (our_wait m) (waits_as who) w.waits) refl
 basic-ours m w (Registers who b) is ok = rw (kept-change (our_thread m) (is_thread who) (registering b) (λ t. refl) w.threads) refl
 basic-ours m w (Unregisters who b) is ok = rw (kept-change (our_thread m) (is_thread who) (unregistering b) (λ t. refl) w.threads) refl
 basic-ours m w (AddsProcess p) is ok = rw (kept-push (our_process m) w.processes p is, kept-push m w.used_processes p.number is, kept-push (our_table m) w.handles (no_handles p.number) is) refl
 basic-ours m w (AddsThread t) is ok = rw (kept-push (our_thread m) w.threads t is, kept-push (our_used m) w.used_threads (used t) is) refl
 basic-ours m w (Makes p) is ok = rw (shown-push (our_port m) (seen_port m) w.ports p is, new-port m p ok) refl
-basic-ours m w (Joins client server context) is ok = rw (shown-map (our_port m) (seen_port m) (joined client server context) (joined client server context) (joined-birth m client server context) (λ p kept. joined-seen m client server context (one_of _ _ is) (other_of _ _ is) p) w.ports) refl
+basic-ours m w (Joins client server context) is ok = rw (shown-map (our_port m) (seen_port m) (joined client server context) (joined client server context) (joined-birth m client server context) (λ p kept. joined-seen m client server context (first-true _ _ is) (second-true _ _ is) p) w.ports) refl
 basic-ours m w (Completes b) is ok = rw (shown-change (our_port m) (is_port b) (seen_port m) completed (λ p. refl) (λ p. refl) (λ p. refl) w.ports) refl
 basic-ours m w (Frees o) is ok = absurd (cc)
 basic-ours m w (Binds path node) is ok = rw (kept-push (our_binding m) w.bindings (path, node) is) refl
 basic-ours m w (AddsHandle pid h) is ok = rw (kept-change (our_table m) (is_table pid) (with_handle h) (λ t. refl) w.handles) refl
-basic-ours m w (Empties q) is ok = rw (kept-without (our_message m) (is_queued q) w.messages) refl
+basic-ours m w (Empties q) is ok = rw (which-without (our_message m) (is_queued q) w.messages) refl
 basic-ours m w (Cuts b) is ok = rw (shown-cut m b is w.ports) refl
-basic-ours m w (Unbinds b) is ok = rw (kept-without (our_binding m) (is_name same_birth b) w.bindings) refl
+basic-ours m w (Unbinds b) is ok = rw (which-without (our_binding m) (is_name same_birth b) w.bindings) refl
 basic-ours m w (DropsHandle pid value) is ok = rw (kept-change (our_table m) (is_table pid) (without_handle value) (λ t. refl) w.handles) refl
 
 -- a step that is seen is one
@@ -259,7 +260,7 @@ joins-unseen m w client server context true true one two out ok = absurd (cc)
 joins-unseen m w client server context true false one two out ok = absurd (cc)
 joins-unseen m w client server context false true one two out ok = absurd (cc)
 joins-unseen m w client server context false false one two out ok =
-    shown-map_out (λ p. true) (our_port m) (seen_port m) (joined client server context) (joined-birth m client server context) (λ p any kept. joined-out m client server context one two p kept) w.ports (every-any w.ports)
+    shown-map_out (λ p. true) (our_port m) (seen_port m) (joined client server context) (joined-birth m client server context) (λ p any kept. joined-out m client server context one two p kept) w.ports (every-true w.ports)
 
 -- a new port of a member's that is joined to an outsider's: the view has what the server gave the connection alone
 fresh-same : (m : Group) (client server : Birth) (context : ℕ) → m client.process ≡ false → (p : PortRow) → not (is_port server p) ≡ true → our_port m p ≡ true → seen_port m (joined client server context p) ≡ seen_port m p
@@ -317,26 +318,22 @@ cut-out m b p out kept = at (is_port b p) refl
     at false its = cut-off m b p p.pair out its
 
 shown-cut_out : (m : Group) (b : Birth) → m b.process ≡ false → (ps : List PortRow) → shown (our_port m) (seen_port m) (change (is_end_of b) cut ps) ≡ shown (our_port m) (seen_port m) ps
-shown-cut_out m b out ps = shown-map_out (λ p. true) (our_port m) (seen_port m) (cut_if b) (cut-birth m b) (λ p any kept. cut-out m b p out kept) ps (every-any ps)
-
-either-off : (a b : Bool) → (a || b) ≡ false → (a ≡ false) × (b ≡ false)
-either-off true b off = absurd (cc)
-either-off false b off = (refl, off)
+shown-cut_out m b out ps = shown-map_out (λ p. true) (our_port m) (seen_port m) (cut_if b) (cut-birth m b) (λ p any kept. cut-out m b p out kept) ps (every-true ps)
 
 -- a step that isn't seen leaves the view
 pub basic-unseen : (m : Group) (w : World) (b : Basic) → sees m w b ≡ false → is_regular m w b ≡ true → view m (basic w b) ≡ view m w
 basic-unseen m w (Tells e) out ok = refl
-basic-unseen m w (Wakes who call status fields) out ok = rw (kept-without (our_wait m) (waits_as who) w.waits, without-none (waits_as who) (which (our_wait m) w.waits) out) refl
+basic-unseen m w (Wakes who call status fields) out ok = rw (which-without (our_wait m) (waits_as who) w.waits, without-none (waits_as who) (which (our_wait m) w.waits) out) refl
 basic-unseen m w (Awaits x) out ok = rw (kept-push_out (our_wait m) w.waits x out) refl
 basic-unseen m w (Receives who q) out ok = rw (kept-change (our_wait m) (waits_at who q) received (λ x. refl) w.waits, change-none (waits_at who q) received (which (our_wait m) w.waits) out) refl
 basic-unseen m w (Accepts who reply) out ok = rw (kept-change (our_wait m) (waits_as who) (accepted reply) (λ x. refl) w.waits, change-none (waits_as who) (accepted reply) (which (our_wait m) w.waits) out) refl
 basic-unseen m w (Enters x) out ok = rw (kept-push_out (our_message m) w.messages x out) refl
 basic-unseen m w (Takes q) out ok = rw (take-unseen m (is_queued q) w.messages (first (is_queued q) w.messages) refl out) refl
 basic-unseen m w (TakesConnect q) out ok = rw (take-unseen m (is_queued_connect q) w.messages (first (is_queued_connect q) w.messages) refl out) refl
-basic-unseen m w (Withdraws who) out ok = rw (kept-without (our_message m) (is_own_of who) w.messages, without-none (is_own_of who) (which (our_message m) w.messages) out) refl
+basic-unseen m w (Withdraws who) out ok = rw (which-without (our_message m) (is_own_of who) w.messages, without-none (is_own_of who) (which (our_message m) w.messages) out) refl
 basic-unseen m w (DrawsIdentifier who) out ok = rw (kept-change (our_thread m) (is_thread who) past_identifier (λ t. refl) w.threads, change-none (is_thread who) past_identifier (which (our_thread m) w.threads) out) refl
 basic-unseen m w (DrawsOrdinal who) out ok = rw (kept-change (our_thread m) (is_thread who) past_ordinal (λ t. refl) w.threads, change-none (is_thread who) past_ordinal (which (our_thread m) w.threads) out) refl
-basic-unseen m w (Dies who status) out ok = rw (kept-change (our_thread m) (is_thread who) ended (λ t. refl) w.threads, change-none (is_thread who) ended (which (our_thread m) w.threads) (either-off (sees_wait m w who) (sees_thread m w who) out).1, kept-without (our_wait m) (waits_as who) w.waits, without-none (waits_as who) (which (our_wait m) w.waits) (either-off (sees_wait m w who) (sees_thread m w who) out).0) refl
+basic-unseen m w (Dies who status) out ok = rw (kept-change (our_thread m) (is_thread who) ended (λ t. refl) w.threads, change-none (is_thread who) ended (which (our_thread m) w.threads) (or_parts (sees_wait m w who) (sees_thread m w who) out).1, which-without (our_wait m) (waits_as who) w.waits, without-none (waits_as who) (which (our_wait m) w.waits) (or_parts (sees_wait m w who) (sees_thread m w who) out).0) refl
 basic-unseen m w (Registers who b) out ok = rw (kept-change (our_thread m) (is_thread who) (registering b) (λ t. refl) w.threads, change-none (is_thread who) (registering b) (which (our_thread m) w.threads) out) refl
 basic-unseen m w (Unregisters who b) out ok = rw (kept-change (our_thread m) (is_thread who) (unregistering b) (λ t. refl) w.threads, change-none (is_thread who) (unregistering b) (which (our_thread m) w.threads) out) refl
 basic-unseen m w (AddsProcess p) out ok = rw (kept-push_out (our_process m) w.processes p out, kept-push_out m w.used_processes p.number out, kept-push_out (our_table m) w.handles (no_handles p.number) out) refl
@@ -370,7 +367,7 @@ run-one m w b bs false is ok rest = rest ∙ ap (λ v. world_after v (visible m 
 -- the view behind a list of steps is what the visible ones leave of the view before it
 pub run-view : (m : Group) (w : World) (bs : List Basic) → are_regular m w bs ≡ true → view m (world_after w bs) ≡ world_after (view m w) (visible m w bs)
 run-view m w [] ok = refl
-run-view m w (b ∷ bs) ok = run-one m w b bs (sees m w b) refl (one_of _ _ ok) (run-view m (basic w b) bs (other_of _ _ ok))
+run-view m w (b ∷ bs) ok = run-one m w b bs (sees m w b) refl (first-true _ _ ok) (run-view m (basic w b) bs (second-true _ _ ok))
 
 -- steps that are all members'
 abbrev pub are_ours : Group → World → List Basic → Bool
@@ -379,8 +376,8 @@ are_ours m w (b ∷ bs) = (is_ours m w b && is_regular m w b) && are_ours m (bas
 
 pub run-ours : (m : Group) (w : World) (bs : List Basic) → are_ours m w bs ≡ true → view m (world_after w bs) ≡ world_after (view m w) bs
 run-ours m w [] ok = refl
-run-ours m w (b ∷ bs) ok = run-ours m (basic w b) bs (other_of _ _ ok) ∙ ap (λ v. world_after v bs) (basic-ours m w b (one_of _ _ (one_of _ _ ok)) (other_of _ _ (one_of _ _ ok)))
+run-ours m w (b ∷ bs) ok = run-ours m (basic w b) bs (second-true _ _ ok) ∙ ap (λ v. world_after v bs) (basic-ours m w b (first-true _ _ (first-true _ _ ok)) (second-true _ _ (first-true _ _ ok)))
 
 pub ours-append : (m : Group) (w : World) (bs cs : List Basic) → are_ours m w bs ≡ true → are_ours m (world_after w bs) cs ≡ true → are_ours m w (bs ++ cs) ≡ true
 ours-append m w [] cs one two = two
-ours-append m w (b ∷ bs) cs one two = both _ _ (one_of _ _ one) (ours-append m (basic w b) bs cs (other_of _ _ one) two)
+ours-append m w (b ∷ bs) cs one two = and_from _ _ (first-true _ _ one) (ours-append m (basic w b) bs cs (second-true _ _ one) two)

@@ -1,11 +1,13 @@
 -- Births of processes and threads in the run whose rows never go: what is made next has a birth that no row has.
 use Rattle.std.proofs.Common.{◌≡◌, ℕ, ◌+◌, List, [], ◌∷◌, ◌++◌, Bool, true, false, not, Option, Some, None, refl, ap, sym, subst, arith}
 use Rattle.std.specs.Prelude.{◌&&◌, ◌||◌, ◌==◌, nat_lt, Result}
-use Rattle.std.proofs.lemmas.Bool.{eqb-true}
+use Rattle.std.proofs.lemmas.Bool.{and_from, eqb-true}
 use Rattle.std.proofs.lemmas.Bool.Decides.{nat_tests}
 use Rattle.lpc_base.specs.Rows.{change, every, has, when}
 use Rattle.lpc_base.proofs.RowWords.{every-change, every-more, every-push, every-without, has-kept, has-push}
 use Rattle.lpc_base.proofs.RowMaps.{every-both, every-change_to, every-first}
+use Rattle.lpc_base.proofs.Bools.{first-true, same-number, second-true}
+use Rattle.lpc_base.proofs.Births.{birth-same}
 use Rattle.lpc_model.proofs.Rows.{count-change, count-less, has-off, lone}
 use Rattle.lpc_model.proofs.ThreadsOnce.{new-once}
 use Rattle.lpc_model.specs.Lawful.{HasThreadsOnce}
@@ -27,7 +29,6 @@ use Rattle.lpc_model.specs.Lines.{ScriptCall, ScriptLine, boot, create_process, 
 use Rattle.lpc_model.specs.Machine.{bare_steps, boot_line, dir_line, directive_birth, link_line, name_of_call, new_process, new_thread, thread_line, thread_test, unused_test}
 use Rattle.lpc_model.specs.Creation.{nt_create_process, nt_create_thread, second_birth}
 use Rattle.lpc_model.specs.Tests.{next_birth, own_handle}
-use Rattle.lpc_model.proofs.Births.{birth-same}
 use Rattle.lpc_model.proofs.Creating.{process-made, tested-further, thread-made}
 use Rattle.lpc_model.proofs.Ending.{is_ending, process-ending, thread-ending}
 use Rattle.lpc_model.proofs.Holding.{Holds, bind_holds, directed_holds, holds_ok, not_refused, settled_holds}
@@ -35,7 +36,6 @@ use Rattle.lpc_model.proofs.Undying.{is_undying, register_holds, service-undying
 use Rattle.lpc_model.proofs.Usable.{live-number}
 use Rattle.lpc_isolation.proofs.Mine.{holds-more}
 use Rattle.lpc_isolation.proofs.Served.{served, served_ready, served_step, served_thread}
-use Rattle.lpc_isolation.proofs.View.{both, one_of, other_of, same-number}
 
 -- Of the births that a number may have: a directive gives maker 0 and the number itself, a call its thread as maker
 abbrev pub is_made : World → Birth → ℕ → Bool
@@ -73,11 +73,11 @@ changed-born u who f births numbers more b = record {
     v = record u { threads = change (is_thread who) f u.threads }
 
     kept : (t : ThreadRow) → is_after u t ≡ true → is_after v t ≡ true
-    kept t is = both _ _ (one_of _ _ is) (every-change (λ x. is_before x.birth t) (is_thread who) f (λ x is. rw (births x) is) u.threads (other_of (every (λ p. is_before p.birth t) u.processes) _ is))
+    kept t is = and_from _ _ (first-true _ _ is) (every-change (λ x. is_before x.birth t) (is_thread who) f (λ x is. rw (births x) is) u.threads (second-true (every (λ p. is_before p.birth t) u.processes) _ is))
 
     grows : (t : ThreadRow) → is_after v t ≡ true → is_after v (f t) ≡ true
-    grows t is = both _ _ (every-more (λ p. is_before p.birth t) (λ p. is_before p.birth (f t)) (λ p is. more p.birth t is) u.processes (one_of _ _ is))
-        (every-more (λ x. is_before x.birth t) (λ x. is_before x.birth (f t)) (λ x is. more x.birth t is) v.threads (other_of (every (λ p. is_before p.birth t) u.processes) _ is))
+    grows t is = and_from _ _ (every-more (λ p. is_before p.birth t) (λ p. is_before p.birth (f t)) (λ p is. more p.birth t is) u.processes (first-true _ _ is))
+        (every-more (λ x. is_before x.birth t) (λ x. is_before x.birth (f t)) (λ x is. more x.birth t is) v.threads (second-true (every (λ p. is_before p.birth t) u.processes) _ is))
 
 drawn-before : (b : Birth) (t : ThreadRow) → is_before b t ≡ true → is_before b (past_ordinal t) ≡ true
 drawn-before b t is = at (b.maker == t.number) is
@@ -93,7 +93,7 @@ freed-born u kind.Token b o = o
 freed-born u kind.Process b o = record {
   processes = every-without (λ p. is_made u p.birth p.number) (λ p. same_birth p.birth b) u.processes o.processes;
   threads = o.threads;
-  past = every-more (is_after u) (is_after (freed u kind.Process b)) (λ t is. both _ _ (every-without (λ p. is_before p.birth t) (λ p. same_birth p.birth b) u.processes (one_of _ _ is)) (other_of (every (λ p. is_before p.birth t) u.processes) _ is)) u.threads o.past;
+  past = every-more (is_after u) (is_after (freed u kind.Process b)) (λ t is. and_from _ _ (every-without (λ p. is_before p.birth t) (λ p. same_birth p.birth b) u.processes (first-true _ _ is)) (second-true (every (λ p. is_before p.birth t) u.processes) _ is)) u.threads o.past;
   numbers = every-without (λ p. was_process u p.number) (λ p. same_birth p.birth b) u.processes o.numbers;
   uses = o.uses;
   zero = o.zero;
@@ -103,7 +103,7 @@ freed-born u kind.Thread b o = record {
   processes = o.processes;
   threads = every-without (λ t. is_made u t.birth t.number) (λ t. same_birth t.birth b) u.threads o.threads;
   past = every-without (is_after (freed u kind.Thread b)) (λ t. same_birth t.birth b) u.threads
-      (every-more (is_after u) (is_after (freed u kind.Thread b)) (λ t is. both _ _ (one_of _ _ is) (every-without (λ x. is_before x.birth t) (λ x. same_birth x.birth b) u.threads (other_of (every (λ p. is_before p.birth t) u.processes) _ is))) u.threads o.past);
+      (every-more (is_after u) (is_after (freed u kind.Thread b)) (λ t is. and_from _ _ (first-true _ _ is) (every-without (λ x. is_before x.birth t) (λ x. same_birth x.birth b) u.threads (second-true (every (λ p. is_before p.birth t) u.processes) _ is))) u.threads o.past);
   numbers = o.numbers;
   uses = every-without (λ t. was_thread u t.number) (λ t. same_birth t.birth b) u.threads o.uses;
   zero = o.zero;
@@ -129,7 +129,7 @@ none-born u b none o = record { processes = o.processes; threads = o.threads; pa
 
 pub nones-born : (u : World) (bs : List Basic) → every makes_none bs ≡ true → Born u → Born (world_after u bs)
 nones-born u [] none o = o
-nones-born u (b ∷ bs) none o = nones-born (basic u b) bs (other_of _ _ none) (none-born u b (one_of _ _ none) o)
+nones-born u (b ∷ bs) none o = nones-born (basic u b) bs (second-true _ _ none) (none-born u b (first-true _ _ none) o)
 
 -- a process is made
 pub process-born : (u : World) (p : ProcessRow) → is_made u p.birth p.number ≡ true → every (is_before p.birth) u.threads ≡ true → Born u → Born (basic u (AddsProcess p))
@@ -146,8 +146,8 @@ process-born u p made before o = record {
     past : (ts : List ThreadRow) → every (is_after u) ts ≡ true → every (is_before p.birth) ts ≡ true → every (is_after (basic u (AddsProcess p))) ts ≡ true
     past [] all before = refl
     past (t ∷ ts) all before =
-        let here : is_after u t ≡ true = one_of _ _ all in
-        both _ _ (both _ _ (every-push (λ q. is_before q.birth t) u.processes p (one_of _ _ here) (one_of _ _ before)) (other_of (every (λ q. is_before q.birth t) u.processes) _ here)) (past ts (other_of _ _ all) (other_of _ _ before))
+        let here : is_after u t ≡ true = first-true _ _ all in
+        and_from _ _ (and_from _ _ (every-push (λ q. is_before q.birth t) u.processes p (first-true _ _ here) (first-true _ _ before)) (second-true (every (λ q. is_before q.birth t) u.processes) _ here)) (past ts (second-true _ _ all) (second-true _ _ before))
 
 -- a thread is made, with a number that is new
 not-maker : (u : World) (b : Birth) (n tid : ℕ) → is_made u b n ≡ true → was_thread u tid ≡ false → (tid == 0) ≡ false → (b.maker == tid) ≡ false
@@ -171,7 +171,7 @@ pub thread-born : (u : World) (t : ThreadRow) → is_made u t.birth t.number ≡
 thread-born u t made before unused id o = record {
   processes = every-more (λ p. is_made u p.birth p.number) (λ p. is_made v p.birth p.number) (λ p is. made-more u t p.birth p.number is) u.processes o.processes;
   threads = every-push (λ x. is_made v x.birth x.number) u.threads t (every-more (λ x. is_made u x.birth x.number) (λ x. is_made v x.birth x.number) (λ x is. made-more u t x.birth x.number is) u.threads o.threads) (made-more u t t.birth t.number made);
-  past = every-push (is_after v) u.threads t (past u.threads o.past before) (both _ _ (every-more (λ p. is_made u p.birth p.number) (λ p. is_before p.birth t) (λ p is. apart p.birth p.number is) u.processes o.processes)
+  past = every-push (is_after v) u.threads t (past u.threads o.past before) (and_from _ _ (every-more (λ p. is_made u p.birth p.number) (λ p. is_before p.birth t) (λ p is. apart p.birth p.number is) u.processes o.processes)
       (every-push (λ x. is_before x.birth t) u.threads t (every-more (λ x. is_made u x.birth x.number) (λ x. is_before x.birth t) (λ x is. apart x.birth x.number is) u.threads o.threads) (apart t.birth t.number made)));
   numbers = o.numbers;
   uses = every-push (λ x. was_thread v x.number) u.threads t (every-more (λ x. was_thread u x.number) (λ x. was_thread v x.number) (λ x is. has-kept (λ (y : UsedThread). y.number == x.number) u.used_threads (record { number = t.number; process = t.process }) is) u.threads o.uses) (has-push (λ (y : UsedThread). y.number == t.number) u.used_threads (record { number = t.number; process = t.process }) (same-number t.number));
@@ -192,8 +192,8 @@ thread-born u t made before unused id o = record {
     past : (ts : List ThreadRow) → every (is_after u) ts ≡ true → every (is_before t.birth) ts ≡ true → every (is_after v) ts ≡ true
     past [] all before = refl
     past (x ∷ xs) all before =
-        let here : is_after u x ≡ true = one_of _ _ all in
-        both _ _ (both _ _ (one_of _ _ here) (every-push (λ y. is_before y.birth x) u.threads t (other_of (every (λ q. is_before q.birth x) u.processes) _ here) (one_of _ _ before))) (past xs (other_of _ _ all) (other_of _ _ before))
+        let here : is_after u x ≡ true = first-true _ _ all in
+        and_from _ _ (and_from _ _ (first-true _ _ here) (every-push (λ y. is_before y.birth x) u.threads t (second-true (every (λ q. is_before q.birth x) u.processes) _ here) (first-true _ _ before))) (past xs (second-true _ _ all) (second-true _ _ before))
 
     none : (xs : List UsedThread) → has (λ y. y.number == 0) xs ≡ false → (t.number == 0) ≡ false → has (λ y. y.number == 0) (xs ++ record { number = t.number; process = t.process } ∷ []) ≡ false
     none [] off id = rw id refl
@@ -277,7 +277,7 @@ create-process-born u by pid tid live ids o =
     let first_past : every (is_before (next_birth by)) v.threads ≡ true = rw twice (drawn-past u by (λ t. past_ordinal (past_ordinal t)) (next_birth by) live refl (λ t. refl) (less-second by.next_ordinal) o) in
     let next_past : every (is_before (second_birth by)) v.threads ≡ true = rw twice (drawn-past u by (λ t. past_ordinal (past_ordinal t)) (second_birth by) live refl (λ t. refl) (less-next (by.next_ordinal + 1)) o) in
     let three = process-born v (new_process pid (Some by.process) (next_birth by)) (made-by v (next_birth by) pid used) first_past two in
-    let four = thread-born (basic v (AddsProcess (new_process pid (Some by.process) (next_birth by)))) (new_thread tid pid (second_birth by)) (made-by v (second_birth by) tid used) next_past unused (is-id tid (other_of _ _ ids)) three in
+    let four = thread-born (basic v (AddsProcess (new_process pid (Some by.process) (next_birth by)))) (new_thread tid pid (second_birth by)) (made-by v (second_birth by) tid used) next_past unused (is-id tid (second-true _ _ ids)) three in
     record { processes = four.processes; threads = four.threads; past = four.past; numbers = four.numbers; uses = four.uses; zero = four.zero; once = four.once })
 
 create-thread-born : (u : World) (by : ThreadRow) (target : ProcArg) (tid : ℕ) → live_thread u by.number ≡ Some by → is_id tid ≡ true → Born u → Holds (λ bs. Born (world_after u bs)) (nt_create_thread u by target tid)
@@ -311,7 +311,7 @@ boot-born u pid tid ids o =
     let neither = not_refused (was_process u pid || was_thread u tid) OBJECT_NAME_COLLISION v is in
     let unused : was_thread u tid ≡ false = second (was_process u pid) (was_thread u tid) neither in
     let one = process-born u (new_process pid None (directive_birth pid pid)) (rw (same-number pid) refl) (zero-before u (directive_birth pid pid) refl o) o in
-    thread-born (basic u (AddsProcess (new_process pid None (directive_birth pid pid)))) (new_thread tid pid (directive_birth tid pid)) (rw (same-number tid) refl) (zero-before u (directive_birth tid pid) refl o) unused (is-id tid (other_of _ _ ids)) one)
+    thread-born (basic u (AddsProcess (new_process pid None (directive_birth pid pid)))) (new_thread tid pid (directive_birth tid pid)) (rw (same-number tid) refl) (zero-before u (directive_birth tid pid) refl o) unused (is-id tid (second-true _ _ ids)) one)
   where
     second : (a b : Bool) → (a || b) ≡ false → b ≡ false
     second a b off = grind arith
@@ -346,10 +346,10 @@ thread-line-born u tid call (Some by) live ids o = ready-born u by call (wait_of
 pub line-born : (u : World) (line : ScriptLine) → has_ids line ≡ true → Born u → Born (served_step u line).world
 unfolding bare_steps
 line-born u (boot pid tid) ids o = directed_holds (λ bs. Born (world_after u bs)) word.Boot (boot_line u pid tid) (boot-born u pid tid ids o) (λ _. o)
-line-born u (thread tid pid) ids o = directed_holds (λ bs. Born (world_after u bs)) word.Thread (thread_line u tid pid) (further-born u tid pid (one_of _ _ ids) o) (λ _. o)
+line-born u (thread tid pid) ids o = directed_holds (λ bs. Born (world_after u bs)) word.Thread (thread_line u tid pid) (further-born u tid pid (first-true _ _ ids) o) (λ _. o)
 line-born u (dir path) ids o = directed_holds (λ bs. Born (world_after u bs)) word.Dir (dir_line u path) (dir-born u path o) (λ _. o)
 line-born u (link path target) ids o = directed_holds (λ bs. Born (world_after u bs)) word.Link (link_line u path target) (link-born u path target o) (λ _. o)
-line-born u (run tid call) ids o = thread-line-born u tid call (live_thread u tid) refl (other_of (is_id tid) _ ids) o
+line-born u (run tid call) ids o = thread-line-born u tid call (live_thread u tid) refl (second-true (is_id tid) _ ids) o
 
 pub born_none : Born no_rows
 born_none = record { processes = refl; threads = refl; past = refl; numbers = refl; uses = refl; zero = refl; once = λ n. omega arith }
@@ -372,12 +372,12 @@ not-less-next n = grind (arith, nat_tests)
 
 pub next-process : (u : World) (by : ThreadRow) → live_thread u by.number ≡ Some by → Born u → every (λ p. not (same_birth p.birth (next_birth by))) u.processes ≡ true
 next-process u by live o = every-more (λ p. is_before p.birth by) (λ p. not (same_birth p.birth (next_birth by))) (λ p is. before-new p.birth by (next_birth by) is refl (not-less by.next_ordinal)) u.processes
-    (one_of _ _ (every-first (is_after u) (is_live_thread by.number) u.threads by o.past live))
+    (first-true _ _ (every-first (is_after u) (is_live_thread by.number) u.threads by o.past live))
 
 pub next-threads : (u : World) (by : ThreadRow) → live_thread u by.number ≡ Some by → Born u → every (λ t. not (same_birth t.birth (next_birth by) || same_birth t.birth (second_birth by))) u.threads ≡ true
 next-threads u by live o = every-more (λ t. is_before t.birth by) (λ t. not (same_birth t.birth (next_birth by) || same_birth t.birth (second_birth by)))
     (λ t is. neither (same_birth t.birth (next_birth by)) (same_birth t.birth (second_birth by)) (before-new t.birth by (next_birth by) is refl (not-less by.next_ordinal)) (before-new t.birth by (second_birth by) is refl (not-less-next by.next_ordinal))) u.threads
-    (other_of (every (λ p. is_before p.birth by) u.processes) _ (every-first (is_after u) (is_live_thread by.number) u.threads by o.past live))
+    (second-true (every (λ p. is_before p.birth by) u.processes) _ (every-first (is_after u) (is_live_thread by.number) u.threads by o.past live))
   where
     neither : (a b : Bool) → not a ≡ true → not b ≡ true → not (a || b) ≡ true
     neither a b one two = grind arith
@@ -402,7 +402,7 @@ unlike was n number is off = at (n == number) refl
 
 pub directed-processes : (u : World) (pid : ℕ) → was_process u pid ≡ false → Born u → every (λ p. not (same_birth p.birth (directive_birth pid pid)) && not (p.number == pid)) u.processes ≡ true
 directed-processes u pid off o = every-both (λ p. is_made u p.birth p.number) (λ p. was_process u p.number) (λ p. not (same_birth p.birth (directive_birth pid pid)) && not (p.number == pid))
-    (λ p made used. let apart = unlike (was_process u) p.number pid used off in both _ _ (directed-new u p.birth p.number pid pid made o.zero apart) (rw apart refl)) u.processes o.processes o.numbers
+    (λ p made used. let apart = unlike (was_process u) p.number pid used off in and_from _ _ (directed-new u p.birth p.number pid pid made o.zero apart) (rw apart refl)) u.processes o.processes o.numbers
 
 pub directed-threads : (u : World) (tid pid : ℕ) → was_thread u tid ≡ false → Born u → every (λ t. not (same_birth t.birth (directive_birth tid pid))) u.threads ≡ true
 directed-threads u tid pid off o = every-both (λ t. is_made u t.birth t.number) (λ t. was_thread u t.number) (λ t. not (same_birth t.birth (directive_birth tid pid)))

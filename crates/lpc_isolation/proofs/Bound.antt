@@ -3,6 +3,7 @@ use Rattle.std.proofs.Common.{◌≡◌, ◌≤◌, ℕ, suc, List, [], ◌∷�
 use Rattle.std.specs.Cmp.Lexicographic.{pointwise}
 use Rattle.lpc_base.specs.Rows.{count, which, without}
 use Rattle.lpc_base.proofs.RowWords.{count-push}
+use Rattle.lpc_base.proofs.Bools.{first-true, second-true}
 use Rattle.lpc_names.specs.Binding.{is_name}
 use Rattle.lpc_names.specs.Path.{Path, same_path}
 use Rattle.lpc_names.specs.Walk.{Node, node_at}
@@ -10,7 +11,7 @@ use Rattle.lpc_model.specs.World.{Birth}
 use Rattle.lpc_model.specs.Found.{same_birth}
 use Rattle.lpc_model.proofs.Rows.{count-less}
 use Rattle.lpc_model.specs.Circle.{Group}
-use Rattle.lpc_isolation.proofs.View.{one_of, other_of, our_binding, our_node}
+use Rattle.lpc_isolation.proofs.View.{our_binding, our_node}
 use Rattle.lpc_isolation.proofs.Names.{Names, SeenNames, seen_node}
 
 -- a binding is of the path
@@ -27,13 +28,13 @@ name-equal : (a b : List ℕ) → pointwise nat_eq a b ≡ true → a ≡ b
 name-equal [] [] is = refl
 name-equal [] (y ∷ ys) is = absurd (cc)
 name-equal (x ∷ xs) [] is = absurd (cc)
-name-equal (x ∷ xs) (y ∷ ys) is = let one : x ≡ y = nat-equal x y (one_of _ _ is) in let more : xs ≡ ys = name-equal xs ys (other_of _ _ is) in rw (one, more) refl
+name-equal (x ∷ xs) (y ∷ ys) is = let one : x ≡ y = nat-equal x y (first-true _ _ is) in let more : xs ≡ ys = name-equal xs ys (second-true _ _ is) in rw (one, more) refl
 
 path-equal : (a b : Path) → same_path a b ≡ true → a ≡ b
 path-equal [] [] is = refl
 path-equal [] (y ∷ ys) is = absurd (cc)
 path-equal (x ∷ xs) [] is = absurd (cc)
-path-equal (x ∷ xs) (y ∷ ys) is = let one : x ≡ y = name-equal x y (one_of _ _ is) in let more : xs ≡ ys = path-equal xs ys (other_of _ _ is) in rw (one, more) refl
+path-equal (x ∷ xs) (y ∷ ys) is = let one : x ≡ y = name-equal x y (first-true _ _ is) in let more : xs ≡ ys = path-equal xs ys (second-true _ _ is) in rw (one, more) refl
 
 -- what the view has
 none-there : (m : Group) (path : Path) (bs : Names) → count (is_at path) bs ≤ 0 → node_at (which (our_binding m) bs) path ≡ None

@@ -4,6 +4,7 @@ use Rattle.std.specs.Prelude.{◌==◌, Result, Ok, Err}
 use Rattle.std.proofs.lemmas.Bool.{eqb-true}
 use Rattle.lpc_base.specs.Rows.{which}
 use Rattle.lpc_base.specs.declared.status.Status.{Status}
+use Rattle.lpc_base.proofs.Bools.{second-true}
 use Rattle.lpc_model.specs.declared.entry.CallName.{CallName}
 use Rattle.lpc_model.specs.declared.entry.Entry.TheVariants as entry
 use Rattle.lpc_model.specs.declared.entry.Field.{Field}
@@ -16,7 +17,7 @@ use Rattle.lpc_model.proofs.Holding.{Holds}
 use Rattle.lpc_model.specs.Circle.{Group, Whose, owner}
 use Rattle.lpc_isolation.proofs.Alone.{alone}
 use Rattle.lpc_isolation.proofs.Filters.{first-nowhere, which-where}
-use Rattle.lpc_isolation.proofs.View.{other_of, our_thread, our_wait, view}
+use Rattle.lpc_isolation.proofs.View.{our_thread, our_wait, view}
 use Rattle.lpc_isolation.proofs.Basics.{are_ours, run-ours, sees_thread}
 use Rattle.lpc_isolation.proofs.Fair.{Fair, is_fair_wait, is_homed}
 use Rattle.lpc_isolation.proofs.Seen.{handles-view, homed-number}
@@ -45,7 +46,7 @@ c-wait m c x c_in fair is = let mine : m x.process ≡ true = ap m (eqb-true _ _
 -- c's handles are counted alike
 load-view : (m : Group) (c : ℕ) (w : World) → m c ≡ true → Fair m c w → handle_load (view m w) c ≡ handle_load w c
 load-view m c w c_in f =
-    let waits : which (is_connect_of c) (view m w).waits ≡ which (is_connect_of c) w.waits = which-where (is_fair_wait m c) (our_wait m) (is_connect_of c) (λ x fair is. c-wait m c x c_in fair (other_of _ _ is)) w.waits f.waits in
+    let waits : which (is_connect_of c) (view m w).waits ≡ which (is_connect_of c) w.waits = which-where (is_fair_wait m c) (our_wait m) (is_connect_of c) (λ x fair is. c-wait m c x c_in fair (second-true _ _ is)) w.waits f.waits in
     rw (handles-view m w c c_in, waits) refl
 
 pub handles_test-view : (m : Group) (c : ℕ) (w : World) (more : ℕ) → m c ≡ true → Fair m c w → handles_test (view m w) c more ≡ handles_test w c more

@@ -1,12 +1,13 @@
 -- The line of a call owes what its service owes.
 use Rattle.std.proofs.Common.{◌≡◌, ℕ, List, [], ◌∷◌, ◌++◌, Bool, true, false, cond, not, Option, Some, None, refl, ap, sym, subst, ◌∙◌, arith}
 use Rattle.std.specs.Prelude.{◌&&◌, ◌==◌, Result, Ok, Err}
-use Rattle.std.proofs.lemmas.Bool.{eqb-true}
+use Rattle.std.proofs.lemmas.Bool.{and_from, eqb-true}
 use Rattle.std.proofs.lemmas.Bool.Decides.{nat_tests}
 use Rattle.lpc_base.specs.Rows.{every, passes}
 use Rattle.lpc_base.specs.declared.status.Status.{Status}
 use Rattle.lpc_base.specs.declared.status.TheConstants.{SUCCESS}
 use Rattle.lpc_base.proofs.RowMaps.{every-both}
+use Rattle.lpc_base.proofs.Bools.{first-true, second-true}
 use Rattle.lpc_model.specs.declared.entry.Entry.{Entry}
 use Rattle.lpc_model.specs.declared.entry.Entry.TheVariants as entry
 use Rattle.lpc_model.specs.World.{ThreadRow, WaitRow, World}
@@ -20,7 +21,7 @@ use Rattle.lpc_model.proofs.Usable.{live-number}
 use Rattle.lpc_model.specs.Circle.{Everyone, Group, Item, Nobody, Of, Told, Whose, entry_whose, is_seen, is_told_to, owned, owner, thread_whose}
 use Rattle.lpc_isolation.proofs.Alone.{HasFineRows, alone}
 use Rattle.lpc_isolation.proofs.Filters.{first-where}
-use Rattle.lpc_isolation.proofs.View.{both, one_of, other_of, our_wait, view}
+use Rattle.lpc_isolation.proofs.View.{our_wait, view}
 use Rattle.lpc_isolation.proofs.Fair.{Fair, is_fair_wait}
 use Rattle.lpc_isolation.proofs.Seen.{live-owner, live-view}
 use Rattle.lpc_isolation.proofs.Apart.{Owned, are_apart, is_heard, is_owned, owned-by}
@@ -92,9 +93,9 @@ owes-lone led m c w tid call e whose off done same = record {
 c-idle : (m : Group) (c : ℕ) (w : World) (tid : ℕ) → m c ≡ true → Fair m c w → Owned w w → owner w tid ≡ Some c → wait_of (view m w) tid ≡ wait_of w tid
 c-idle m c w tid c_in f owned own = first-where (λ x. is_fair_wait m c x && is_owned w x) (our_wait m) (waits_as tid) (λ x ok is.
     let here : owner w x.thread ≡ Some c = ap (owner w) (eqb-true _ _ is) ∙ own in
-    let process : c ≡ x.process = owned-by w x c here (other_of _ _ ok) in
+    let process : c ≡ x.process = owned-by w x c here (second-true _ _ ok) in
     let mine : (x.process == c) ≡ true = rw (sym process) (same c) in
-    c-wait m c x c_in (one_of _ _ ok) mine) w.waits (every-both (is_fair_wait m c) (is_owned w) _ (λ x a b. both _ _ a b) w.waits f.waits owned)
+    c-wait m c x c_in (first-true _ _ ok) mine) w.waits (every-both (is_fair_wait m c) (is_owned w) _ (λ x a b. and_from _ _ a b) w.waits f.waits owned)
   where
     same : (n : ℕ) → (n == n) ≡ true
     same n = grind (arith, nat_tests)
@@ -112,7 +113,7 @@ owner-in m w tid by own = ap (λ o. is_seen m (owned o)) own
 -- The call of a thread that waits for nothing
 -- its entry is its own
 own-whose : (u : World) (d : Whose) (tid : ℕ) (e : Entry) → tells_thread tid e ≡ true → entry_whose u d e ≡ thread_whose u tid
-own-whose u d tid (entry.Answer who call status fields) is = ap (thread_whose u) (eqb-true _ _ (one_of _ _ is))
+own-whose u d tid (entry.Answer who call status fields) is = ap (thread_whose u) (eqb-true _ _ (first-true _ _ is))
 own-whose u d tid (entry.Waits who call fields) is = ap (thread_whose u) (eqb-true _ _ is)
 own-whose u d tid (entry.Wakes who call status fields) is = absurd (cc)
 own-whose u d tid (entry.Busy who) is = absurd (cc)
@@ -121,7 +122,7 @@ own-whose u d tid (entry.Died who status) is = absurd (cc)
 own-whose u d tid (entry.Directive word status) is = absurd (cc)
 
 tells-accepts : (tid : ℕ) (e : Entry) → tells_thread tid e ≡ true → accepts e ≡ true
-tells-accepts tid (entry.Answer who call status fields) is = other_of _ _ is
+tells-accepts tid (entry.Answer who call status fields) is = second-true _ _ is
 tells-accepts tid (entry.Waits who call fields) is = refl
 tells-accepts tid (entry.Wakes who call status fields) is = absurd (cc)
 tells-accepts tid (entry.Busy who) is = absurd (cc)
@@ -171,9 +172,9 @@ headed w tid (Tells e ∷ bs) is = record {
   is = refl;
   told = refl;
   own = refl;
-  whose = λ u d used. own-whose u d tid e (one_of _ _ is);
-  accepted = tells-accepts tid e (one_of _ _ is);
-  orderly = tells-orderly tid e bs (one_of _ _ is) (other_of _ _ is);
+  whose = λ u d used. own-whose u d tid e (first-true _ _ is);
+  accepted = tells-accepts tid e (first-true _ _ is);
+  orderly = tells-orderly tid e bs (first-true _ _ is) (second-true _ _ is);
 }
 headed w tid (Dies who status ∷ bs) is = record {
   step = Dies who status;
@@ -182,9 +183,9 @@ headed w tid (Dies who status ∷ bs) is = record {
   is = refl;
   told = refl;
   own = refl;
-  whose = λ u d used. died-whose w tid who (one_of _ _ is) u used;
+  whose = λ u d used. died-whose w tid who (first-true _ _ is) u used;
   accepted = refl;
-  orderly = other_of (same_owner w tid who) _ is;
+  orderly = second-true (same_owner w tid who) _ is;
 }
 headed w tid (Wakes a b d f ∷ bs) is = absurd (cc)
 headed w tid (Awaits x ∷ bs) is = absurd (cc)

@@ -1,11 +1,12 @@
 -- NtClose in a view.
 use Rattle.std.proofs.Common.{◌≡◌, ℕ, List, [], ◌∷◌, ◌++◌, Bool, true, false, cond, Some, None, refl, ap, sym, subst, ◌∙◌, arith}
 use Rattle.std.specs.Prelude.{◌&&◌, ◌==◌, length, Ok}
-use Rattle.std.proofs.lemmas.Bool.{eqb-true}
+use Rattle.std.proofs.lemmas.Bool.{and_from, eqb-true}
 use Rattle.std.proofs.lemmas.List.Elements.{filter-append}
 use Rattle.lpc_base.specs.Rows.{each, every, first, when, which}
 use Rattle.lpc_base.proofs.RowWords.{every-append, every-more}
 use Rattle.lpc_base.proofs.RowMaps.{every-first}
+use Rattle.lpc_base.proofs.Bools.{first-true, same-number, second-true}
 use Rattle.lpc_base.specs.declared.status.TheConstants.{INVALID_HANDLE, SUCCESS}
 use Rattle.lpc_model.specs.declared.entry.CallName.TheVariants.{NtClose}
 use Rattle.lpc_model.specs.declared.entry.Entry.{Entry}
@@ -23,7 +24,7 @@ use Rattle.lpc_model.specs.Circle.{Group, Whose, is_fine_call}
 use Rattle.lpc_model.proofs.Holding.{Holds, bind_holds, found_ok}
 use Rattle.lpc_model.proofs.SoundQueues.{after-append}
 use Rattle.lpc_isolation.proofs.Alone.{HasFineRows, alone}
-use Rattle.lpc_isolation.proofs.View.{both, other_of, our_table, same-number, view, one_of}
+use Rattle.lpc_isolation.proofs.View.{our_table, view}
 use Rattle.lpc_isolation.proofs.Basics.{are_ours, ours-append}
 use Rattle.lpc_isolation.proofs.Fair.{are_fair, fair-append, is_fair_table, is_own}
 use Rattle.lpc_isolation.proofs.Seen.{bind-same, handle-own, handle-view}
@@ -55,7 +56,7 @@ use Rattle.lpc_isolation.proofs.Closings.{close-good}
 -- The handles to an object of a member's are in the view
 none-named : (o : ObjectName) (pid : ℕ) (rows : List HandleRow) → every (is_own pid) rows ≡ true → (o.birth.process == pid) ≡ false → which (λ h. same_object h.object o) rows ≡ []
 none-named o pid [] own other = refl
-none-named o pid (h ∷ rows) own other = at (same_object h.object o) refl (none-named o pid rows (other_of _ _ own) other)
+none-named o pid (h ∷ rows) own other = at (same_object h.object o) refl (none-named o pid rows (second-true _ _ own) other)
   where
     at : (e : Bool) → same_object h.object o ≡ e → which (λ h. same_object h.object o) rows ≡ [] → which (λ h. same_object h.object o) (h ∷ rows) ≡ []
     at true same rest = absurd (grind arith)
@@ -63,7 +64,7 @@ none-named o pid (h ∷ rows) own other = at (same_object h.object o) refl (none
 
 named-same : (m : Group) (o : ObjectName) (ts : List HandleTable) → m o.birth.process ≡ true → every is_fair_table ts ≡ true → which (λ h. same_object h.object o) (each (λ t. t.rows) (which (our_table m) ts)) ≡ which (λ h. same_object h.object o) (each (λ t. t.rows) ts)
 named-same m o [] inside fair = refl
-named-same m o (t ∷ ts) inside fair = at (m t.process) refl (named-same m o ts inside (other_of _ _ fair))
+named-same m o (t ∷ ts) inside fair = at (m t.process) refl (named-same m o ts inside (second-true _ _ fair))
   where
     test : HandleRow → Bool
     test = λ h. same_object h.object o
@@ -174,7 +175,7 @@ whose m c u w by value r k at = handle-own m c w by.process value r k.fair at
 
 pub orderly-close : (m : Group) (c : ℕ) (u w : World) (by : ThreadRow) (handle : ℕ) → Caller m c u w by → Holds (λ bs. is_call_of w by.number bs ≡ true) (served w by (close handle))
 orderly-close m c u w by handle k = on-close (λ bs. is_call_of w by.number bs ≡ true) w by handle (λ r at.
-    both _ _ (both _ _ (same-number by.number) refl) (mild-orderly (close_handle by.process r w) ((good m c u w by handle r k at).mild w)))
+    and_from _ _ (and_from _ _ (same-number by.number) refl) (mild-orderly (close_handle by.process r w) ((good m c u w by handle r k at).mild w)))
 
 pub refuses-close : (w : World) (by : ThreadRow) (handle : ℕ) → Refuses (served w by (close handle))
 unfolding nt_close
@@ -202,7 +203,7 @@ apart-close m c u d w by known handle a used out =
     let k = caller m c w by known u a used in
     on-close (λ bs. HasFineRows m c (world_after w bs) → are_apart m c u d w bs ≡ true) w by handle (λ r at fine.
     let b_out : m r.object.birth.process ≡ false = ap m (whose m c u w by handle r k at) ∙ out in
-    both _ _ (rw (k.here, out) refl) ((good m c u w by handle r k at).apart u d w (caller-sure m c u w by k) b_out))
+    and_from _ _ (rw (k.here, out) refl) ((good m c u w by handle r k at).apart u d w (caller-sure m c u w by k) b_out))
 
 pub same-close : (m : Group) (c : ℕ) (w : World) (by : ThreadRow) (known : List ℕ → Birth) (handle : ℕ) → At m c w by known → by.process ≡ c → is_fine_call m w (close handle) ≡ true → served (view m w) by (close handle) ≡ served w by (close handle)
 unfolding nt_close
@@ -261,7 +262,7 @@ pub handle-stands : (k : Alive) (u : World) (pid : ℕ) (r : HandleRow) → Clos
 handle-stands k u pid r c live = every-append _ (provided (is_last r) (close_port r.object.birth) u) (DropsHandle pid r.value ∷ []) (gone (is_last r u) refl) refl
   where
     gone : (e : Bool) → is_last r u ≡ e → AreClosed k (when e (close_port r.object.birth u))
-    gone true last = (close-good (λ p. true) 0 r.object.birth).stands k u c (port-live k r.object live (one_of _ _ last))
+    gone true last = (close-good (λ p. true) 0 r.object.birth).stands k u c (port-live k r.object live (first-true _ _ last))
     gone false off = refl
 
 pub stands-close : (k : Alive) (u : World) (by : ThreadRow) (handle : ℕ) → IsSoundWorld u → Closed k u → k.ports (next_birth by) ≡ true → Holds (AreClosed k) (served u by (close handle))

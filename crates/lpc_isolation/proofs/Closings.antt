@@ -1,10 +1,12 @@
 -- The stages of a port's closing: which waits end, and what goes.
 use Rattle.std.proofs.Common.{◌≡◌, ℕ, [], ◌∷◌, ◌++◌, Bool, true, false, not, Option, Some, None, refl, ap, sym, subst, ◌∙◌, arith}
 use Rattle.std.specs.Prelude.{◌&&◌, ◌||◌, ◌==◌, option_and_then, option_map}
-use Rattle.std.proofs.lemmas.Bool.{eqb-true}
+use Rattle.std.proofs.lemmas.Bool.{and_from, and_left, eqb-true}
 use Rattle.lpc_base.specs.Rows.{passes}
 use Rattle.lpc_base.proofs.RowWords.{first-passes}
 use Rattle.lpc_base.proofs.RowMaps.{every-first}
+use Rattle.lpc_base.proofs.Bools.{first-true, same-number, second-true}
+use Rattle.lpc_base.proofs.Births.{birth-same, birth-self}
 use Rattle.lpc_base.specs.declared.port_kind.PortKind.TheVariants.{Client, Connection, Server, Unnamed}
 use Rattle.lpc_base.specs.declared.status.TheConstants.{LPC_REPLY_LOST, PORT_CONNECTION_REFUSED, PORT_DISCONNECTED}
 use Rattle.lpc_model.specs.Fields.{info}
@@ -12,9 +14,8 @@ use Rattle.lpc_model.specs.World.{Accepted, Birth, Connect, Listen, PortKind, Po
 use Rattle.lpc_model.specs.Found.{is_accepted, is_client_port, is_listen, is_made_on, is_port, is_receive, is_request, is_server_port, is_the, pair_of, port_row, same_birth}
 use Rattle.lpc_model.specs.Basics.{Basic, Cuts, Empties, Unbinds, basic, doing, told}
 use Rattle.lpc_model.specs.Close.{close_port, cut_pair, drop_name, empty_queue, is_accepted_across, is_across, is_offered_to, is_queued_request, is_receive_across, is_receiver, is_request_across, is_request_on}
-use Rattle.lpc_model.proofs.Births.{birth-same, birth-self}
 use Rattle.lpc_model.specs.Circle.{Group, Whose}
-use Rattle.lpc_isolation.proofs.View.{both, of_birth, one_of, other_of, our_wait, same-number, seen_port, view}
+use Rattle.lpc_isolation.proofs.View.{of_birth, our_wait, seen_port, view}
 use Rattle.lpc_isolation.proofs.Basics.{is_regular}
 use Rattle.lpc_isolation.proofs.Fair.{is_fair_pair, is_fair_port, is_fair_wait, is_home}
 use Rattle.lpc_isolation.proofs.Seen.{port-view}
@@ -62,9 +63,6 @@ not-c m c x c_in fair out = at (x.process == c) refl
     at true is = let k : our_wait m x ≡ true = c-wait m c x c_in fair is in absurd (cc)
     at false is = refl
 
-and-off : (a b : Bool) → a ≡ false → (a && b) ≡ false
-and-off a b off = grind arith
-
 queue-off : (m : Group) (x : WaitRow) (b : Birth) → m b.process ≡ false → same_birth x.queue b ≡ true → our_wait m x ≡ false
 queue-off m x b out is = let q_out : m x.queue.process ≡ false = of_birth m x.queue b is ∙ out in grind arith
 
@@ -82,10 +80,10 @@ queue-seen m c x b c_in fair mine is =
     grind arith
 
 made-own : (m : Group) (c : ℕ) (x : WaitRow) (b : Birth) → is_fair_wait m c x ≡ true → is_made_on b x ≡ true → x.process ≡ b.process
-made-own m c x b fair is = sym (eqb-true _ _ (one_of _ _ fair)) ∙ ap (λ (b : Birth). b.process) (birth-same x.port b is)
+made-own m c x b fair is = sym (eqb-true _ _ (first-true _ _ fair)) ∙ ap (λ (b : Birth). b.process) (birth-same x.port b is)
 
 fair-of : (m : Group) (c : ℕ) (u w : World) (x : WaitRow) → is_known_wait m c u w x ≡ true → is_fair_wait m c x ≡ true
-fair-of m c u w x known = one_of _ _ known
+fair-of m c u w x known = first-true _ _ known
 
 -- Receives and listens on the port or its queue
 receiver-own : (m : Group) (c : ℕ) (x : WaitRow) (b : Birth) → is_fair_wait m c x ≡ true → is_receiver b x ≡ true → x.process ≡ b.process
@@ -100,11 +98,11 @@ receiver-own m c x b fair is = at (is_made_on b x) refl
 
 receivers-end : (m : Group) (c : ℕ) (b : Birth) → IsEnd m c b false (λ w. is_receiver b)
 receivers-end m c b = record {
-  settled = λ no_draw w x is. receiver-settled x x.kind refl (one_of _ _ is);
-  other = λ out u w x s known is. not-c m c x s.c_in (one_of _ _ known) (process-off m x (ap m (receiver-own m c x b (one_of _ _ known) is) ∙ out));
-  unseen = λ out u w x s known is. and-off (our_wait m x) _ (process-off m x (ap m (receiver-own m c x b (one_of _ _ known) is) ∙ out));
+  settled = λ no_draw w x is. receiver-settled x x.kind refl (first-true _ _ is);
+  other = λ out u w x s known is. not-c m c x s.c_in (first-true _ _ known) (process-off m x (ap m (receiver-own m c x b (first-true _ _ known) is) ∙ out));
+  unseen = λ out u w x s known is. and_left (our_wait m x) _ (process-off m x (ap m (receiver-own m c x b (first-true _ _ known) is) ∙ out));
   agree = λ inside u w x s known ours. refl;
-  inside = λ mine u w x s known is. mine-seen m c x s.c_in (one_of _ _ known) (receiver-own m c x b (one_of _ _ known) is ∙ mine);
+  inside = λ mine u w x s known is. mine-seen m c x s.c_in (first-true _ _ known) (receiver-own m c x b (first-true _ _ known) is ∙ mine);
   thinly = λ k u x closed live. refl;
 }
 
@@ -112,10 +110,10 @@ receivers-end m c b = record {
 requests-end : (m : Group) (c : ℕ) (b : Birth) → IsEnd m c b true (λ w. is_request_on b)
 requests-end m c b = record {
   settled = λ no_draw w x is. absurd (cc);
-  other = λ out u w x s known is. not-c m c x s.c_in (one_of _ _ known) (process-off m x (ap m (made-own m c x b (one_of _ _ known) (other_of _ _ is)) ∙ out));
-  unseen = λ out u w x s known is. and-off (our_wait m x) _ (process-off m x (ap m (made-own m c x b (one_of _ _ known) (other_of _ _ is)) ∙ out));
+  other = λ out u w x s known is. not-c m c x s.c_in (first-true _ _ known) (process-off m x (ap m (made-own m c x b (first-true _ _ known) (second-true _ _ is)) ∙ out));
+  unseen = λ out u w x s known is. and_left (our_wait m x) _ (process-off m x (ap m (made-own m c x b (first-true _ _ known) (second-true _ _ is)) ∙ out));
   agree = λ inside u w x s known ours. refl;
-  inside = λ mine u w x s known is. mine-seen m c x s.c_in (one_of _ _ known) (made-own m c x b (one_of _ _ known) (other_of _ _ is) ∙ mine);
+  inside = λ mine u w x s known is. mine-seen m c x s.c_in (first-true _ _ known) (made-own m c x b (first-true _ _ known) (second-true _ _ is) ∙ mine);
   thinly = λ k u x closed live. refl;
 }
 
@@ -123,20 +121,20 @@ requests-end m c b = record {
 queued-end : (m : Group) (c : ℕ) (b : Birth) → IsEnd m c b true (λ w. is_queued_request b)
 queued-end m c b = record {
   settled = λ no_draw w x is. absurd (cc);
-  other = λ out u w x s known is. not-c m c x s.c_in (one_of _ _ known) (queue-off m x b out (one_of _ _ (other_of _ _ is)));
-  unseen = λ out u w x s known is. and-off (our_wait m x) _ (queue-off m x b out (one_of _ _ (other_of _ _ is)));
+  other = λ out u w x s known is. not-c m c x s.c_in (first-true _ _ known) (queue-off m x b out (first-true _ _ (second-true _ _ is)));
+  unseen = λ out u w x s known is. and_left (our_wait m x) _ (queue-off m x b out (first-true _ _ (second-true _ _ is)));
   agree = λ inside u w x s known ours. refl;
-  inside = λ mine u w x s known is. queue-seen m c x b s.c_in (one_of _ _ known) mine (one_of _ _ (other_of _ _ is));
+  inside = λ mine u w x s known is. queue-seen m c x b s.c_in (first-true _ _ known) mine (first-true _ _ (second-true _ _ is));
   thinly = λ k u x closed live. refl;
 }
 
 offered-end : (m : Group) (c : ℕ) (b : Birth) → IsEnd m c b true (λ w. is_offered_to b)
 offered-end m c b = record {
   settled = λ no_draw w x is. absurd (cc);
-  other = λ out u w x s known is. not-c m c x s.c_in (one_of _ _ known) (queue-off m x b out (other_of _ _ is));
-  unseen = λ out u w x s known is. and-off (our_wait m x) _ (queue-off m x b out (other_of _ _ is));
+  other = λ out u w x s known is. not-c m c x s.c_in (first-true _ _ known) (queue-off m x b out (second-true _ _ is));
+  unseen = λ out u w x s known is. and_left (our_wait m x) _ (queue-off m x b out (second-true _ _ is));
   agree = λ inside u w x s known ours. refl;
-  inside = λ mine u w x s known is. queue-seen m c x b s.c_in (one_of _ _ known) mine (other_of _ _ is);
+  inside = λ mine u w x s known is. queue-seen m c x b s.c_in (first-true _ _ known) mine (second-true _ _ is);
   thinly = λ k u x closed live. refl;
 }
 
@@ -163,12 +161,12 @@ across m c u w b x s fair is = at (port_row w x.port) refl is
           port = p;
           row = row;
           pair = pair;
-          own = ap (λ (b : Birth). b.process) birth ∙ eqb-true x.port.process x.process (one_of _ _ fair);
+          own = ap (λ (b : Birth). b.process) birth ∙ eqb-true x.port.process x.process (first-true _ _ fair);
           fair = pair-fair p pair ports;
         }
       where
         pair-fair : (p : PortRow) → p.pair ≡ Some b → is_fair_port m c p ≡ true → is_fair_pair m c p b ≡ true
-        pair-fair p pair is = let it : (is_home p && is_fair_pair m c p b) ≡ true = rw pair at is in other_of (is_home p) (is_fair_pair m c p b) it
+        pair-fair p pair is = let it : (is_home p && is_fair_pair m c p b) ≡ true = rw pair at is in second-true (is_home p) (is_fair_pair m c p b) it
 
     at : (o : Option PortRow) → port_row w x.port ≡ o → is_the b (option_and_then (λ p. p.pair) o) ≡ true → Across m c w b x
     at None none is = absurd (cc)
@@ -199,13 +197,13 @@ member-in m c p b fair c_in mine = at (is_server_port p) refl
     b_c = ap (λ p. p == c) mine ∙ same-number c
 
     at : (e : Bool) → is_server_port p ≡ e → m p.birth.process ≡ true
-    at true kind = let it : ((not true || m p.birth.process) && (not (p.birth.process == c) || true)) ≡ true = rw (kind, b_in) at fair in one_of _ _ it
-    at false kind = let it : ((not (m p.birth.process) || true) && (not true || m p.birth.process)) ≡ true = rw (kind, b_in, b_c) at fair in other_of _ _ it
+    at true kind = let it : ((not true || m p.birth.process) && (not (p.birth.process == c) || true)) ≡ true = rw (kind, b_in) at fair in first-true _ _ it
+    at false kind = let it : ((not (m p.birth.process) || true) && (not true || m p.birth.process)) ≡ true = rw (kind, b_in, b_c) at fair in second-true _ _ it
 
 -- the pair in a view, and where rows have gone
 across-view : (m : Group) (c : ℕ) (w : World) (b : Birth) (x : WaitRow) → m b.process ≡ true → is_fair_wait m c x ≡ true → our_wait m x ≡ true → is_across (view m w) b x ≡ is_across w b x
 across-view m c w b x inside fair ours =
-    let own : m x.port.process ≡ true = ap m (eqb-true _ _ (one_of _ _ fair)) ∙ one_of _ _ ours in
+    let own : m x.port.process ≡ true = ap m (eqb-true _ _ (first-true _ _ fair)) ∙ first-true _ _ ours in
     ap (is_the b) (pair-view m w x.port own) ∙ the-seen m b (pair_of w x.port) inside
 
 across-thin : (k : Alive) (u : World) (b : Birth) (x : WaitRow) → wait_closed k x ≡ true → is_across (thin k u) b x ≡ is_across u b x
@@ -219,7 +217,7 @@ server-kind p Connection k is q b pair on = let off : false ≡ true = rw k at i
 server-kind p Unnamed k is q b pair on = let off : false ≡ true = rw k at is in absurd (cc)
 
 request-off : (m : Group) (c : ℕ) (u w : World) (b : Birth) (x : WaitRow) → m b.process ≡ false → Sure m c u w → is_known_wait m c u w x ≡ true → is_request_across b w x ≡ true → our_wait m x ≡ false
-request-off m c u w b x out s known is = at (across m c u w b x s (one_of _ _ known) (other_of _ _ is))
+request-off m c u w b x out s known is = at (across m c u w b x s (first-true _ _ known) (second-true _ _ is))
   where
     at : Across m c w b x → our_wait m x ≡ false
     at a = by-kind (is_server_port a.port) refl
@@ -227,24 +225,24 @@ request-off m c u w b x out s known is = at (across m c u w b x s (one_of _ _ kn
         by-kind : (e : Bool) → is_server_port a.port ≡ e → our_wait m x ≡ false
         by-kind false kind = process-off m x (sym (ap m a.own) ∙ client-out m c a.port b a.fair kind out)
         by-kind true kind =
-            let path : is_path w x ≡ true = one_of _ _ (other_of (is_fair_wait m c x) _ known) in
-            let request : is_request x ≡ true = one_of _ _ is in
+            let path : is_path w x ≡ true = first-true _ _ (second-true (is_fair_wait m c x) _ known) in
+            let request : is_request x ≡ true = first-true _ _ is in
             let on : (not true || leads x.queue a.port) ≡ true = rw (request, a.row) at path in
             queue-off m x b out (server-kind a.port a.port.kind refl kind x.queue b a.pair on)
 
 request-in : (m : Group) (c : ℕ) (u w : World) (b : Birth) (x : WaitRow) → b.process ≡ c → Sure m c u w → is_known_wait m c u w x ≡ true → is_request_across b w x ≡ true → is_way m w x ≡ true → our_wait m x ≡ true
-request-in m c u w b x mine s known is way = at (across m c u w b x s (one_of _ _ known) (other_of _ _ is))
+request-in m c u w b x mine s known is way = at (across m c u w b x s (first-true _ _ known) (second-true _ _ is))
   where
     at : Across m c w b x → our_wait m x ≡ true
     at a =
         let x_in : m x.process ≡ true = sym (ap m a.own) ∙ member-in m c a.port b a.fair s.c_in mine in
-        both _ _ x_in (queued (same_birth x.queue b) refl)
+        and_from _ _ x_in (queued (same_birth x.queue b) refl)
       where
         queued : (e : Bool) → same_birth x.queue b ≡ e → m x.queue.process ≡ true
         queued true it = of_birth m x.queue b it ∙ ap m mine ∙ s.c_in
         queued false off =
             let x_in : m x.process ≡ true = sym (ap m a.own) ∙ member-in m c a.port b a.fair s.c_in mine in
-            let request : is_request x ≡ true = one_of _ _ is in
+            let request : is_request x ≡ true = first-true _ _ is in
             let it : (not (true && true) || (m x.queue.process || (false || false))) ≡ true = rw (request, x_in, a.row, a.pair, off) at way in
             last (m x.queue.process) it
           where
@@ -254,16 +252,16 @@ request-in m c u w b x mine s known is way = at (across m c u w b x s (one_of _ 
 
 known-way : (m : Group) (c : ℕ) (u w : World) (x : WaitRow) → Sure m c u w → is_known_wait m c u w x ≡ true → is_way m w x ≡ true
 known-way m c u w x s known =
-    let fair : is_fair_wait m c x ≡ true = one_of _ _ known in
-    let path : is_path w x ≡ true = one_of (is_path w x) (is_owned u x) (other_of (is_fair_wait m c x) _ known) in
-    path-way m c w x s.fine (both _ _ fair path)
+    let fair : is_fair_wait m c x ≡ true = first-true _ _ known in
+    let path : is_path w x ≡ true = first-true (is_path w x) (is_owned u x) (second-true (is_fair_wait m c x) _ known) in
+    path-way m c w x s.fine (and_from _ _ fair path)
 
 requests-across : (m : Group) (c : ℕ) (b : Birth) → IsEnd m c b true (is_request_across b)
 requests-across m c b = record {
   settled = λ no_draw w x is. absurd (cc);
-  other = λ out u w x s known is. not-c m c x s.c_in (one_of _ _ known) (request-off m c u w b x out s known is);
-  unseen = λ out u w x s known is. and-off (our_wait m x) _ (request-off m c u w b x out s known is);
-  agree = λ inside u w x s known ours. ap (λ e. is_request x && e) (across-view m c w b x inside (one_of _ _ known) ours);
+  other = λ out u w x s known is. not-c m c x s.c_in (first-true _ _ known) (request-off m c u w b x out s known is);
+  unseen = λ out u w x s known is. and_left (our_wait m x) _ (request-off m c u w b x out s known is);
+  agree = λ inside u w x s known ours. ap (λ e. is_request x && e) (across-view m c w b x inside (first-true _ _ known) ours);
   inside = λ mine u w x s known is. request-in m c u w b x mine s known is (known-way m c u w x s known);
   thinly = λ k u x closed live. ap (λ e. is_request x && e) (across-thin k u b x live);
 }
@@ -283,34 +281,34 @@ client-kind p Connection k is = rw k refl
 client-kind p Unnamed k is = rw k refl
 
 receive-off : (m : Group) (c : ℕ) (u w : World) (b : Birth) (x : WaitRow) → m b.process ≡ false → Sure m c u w → is_known_wait m c u w x ≡ true → is_receive_across b w x ≡ true → our_wait m x ≡ false
-receive-off m c u w b x out s known is = at (across m c u w b x s (one_of _ _ known) (one_of _ _ (other_of _ _ is)))
+receive-off m c u w b x out s known is = at (across m c u w b x s (first-true _ _ known) (first-true _ _ (second-true _ _ is)))
   where
     at : Across m c w b x → our_wait m x ≡ false
     at a =
-        let there : passes (port_row w x.port) is_client_port ≡ true = other_of (is_across w b x) _ (other_of (is_receive x) _ is) in
+        let there : passes (port_row w x.port) is_client_port ≡ true = second-true (is_across w b x) _ (second-true (is_receive x) _ is) in
         let client : is_client_port a.port ≡ true = rw a.row at there in
         process-off m x (sym (ap m a.own) ∙ client-out m c a.port b a.fair (client-kind a.port a.port.kind refl client) out)
 
 receive-in : (m : Group) (c : ℕ) (u w : World) (b : Birth) (x : WaitRow) → b.process ≡ c → Sure m c u w → is_known_wait m c u w x ≡ true → is_receive_across b w x ≡ true → our_wait m x ≡ true
-receive-in m c u w b x mine s known is = at (across m c u w b x s (one_of _ _ known) (one_of _ _ (other_of _ _ is)))
+receive-in m c u w b x mine s known is = at (across m c u w b x s (first-true _ _ known) (first-true _ _ (second-true _ _ is)))
   where
     at : Across m c w b x → our_wait m x ≡ true
     at a =
         let x_in : m x.process ≡ true = sym (ap m a.own) ∙ member-in m c a.port b a.fair s.c_in mine in
-        let home : (x.queue.process == x.process) ≡ true = receives-home x (one_of _ _ known) (one_of _ _ is) in
-        both _ _ x_in (ap m (eqb-true _ _ home) ∙ x_in)
+        let home : (x.queue.process == x.process) ≡ true = receives-home x (first-true _ _ known) (first-true _ _ is) in
+        and_from _ _ x_in (ap m (eqb-true _ _ home) ∙ x_in)
       where
         receives-home : (x : WaitRow) → is_fair_wait m c x ≡ true → is_receive x ≡ true → (x.queue.process == x.process) ≡ true
         receives-home x fair is = grind arith
 
 receives-across : (m : Group) (c : ℕ) (b : Birth) → IsEnd m c b false (is_receive_across b)
 receives-across m c b = record {
-  settled = λ no_draw w x is. receiver-settled x x.kind refl (or-first (is_receive x) (is_listen x) (one_of _ _ is));
-  other = λ out u w x s known is. not-c m c x s.c_in (one_of _ _ known) (receive-off m c u w b x out s known is);
-  unseen = λ out u w x s known is. and-off (our_wait m x) _ (receive-off m c u w b x out s known is);
+  settled = λ no_draw w x is. receiver-settled x x.kind refl (or-first (is_receive x) (is_listen x) (first-true _ _ is));
+  other = λ out u w x s known is. not-c m c x s.c_in (first-true _ _ known) (receive-off m c u w b x out s known is);
+  unseen = λ out u w x s known is. and_left (our_wait m x) _ (receive-off m c u w b x out s known is);
   agree = λ inside u w x s known ours.
-      let own : m x.port.process ≡ true = ap m (eqb-true _ _ (one_of _ _ (one_of _ _ known))) ∙ one_of _ _ ours in
-      rw (row-client m w x.port own, across-view m c w b x inside (one_of _ _ known) ours) refl;
+      let own : m x.port.process ≡ true = ap m (eqb-true _ _ (first-true _ _ (first-true _ _ known))) ∙ first-true _ _ ours in
+      rw (row-client m w x.port own, across-view m c w b x inside (first-true _ _ known) ours) refl;
   inside = λ mine u w x s known is. receive-in m c u w b x mine s known is;
   thinly = λ k u x closed live. rw (row-thin k u x.port live) refl;
 }
@@ -326,12 +324,12 @@ accepted-other m c u w b x out s known is = at (is_made_on b x) refl
     over a = by-kind (is_server_port a.port) refl
       where
         by-kind : (e : Bool) → is_server_port a.port ≡ e → (x.process == c) ≡ false
-        by-kind false kind = not-c m c x s.c_in (one_of _ _ known) (process-off m x (sym (ap m a.own) ∙ client-out m c a.port b a.fair kind out))
+        by-kind false kind = not-c m c x s.c_in (first-true _ _ known) (process-off m x (sym (ap m a.own) ∙ client-out m c a.port b a.fair kind out))
         by-kind true kind = sym (ap (λ p. p == c) a.own) ∙ server-other m c a.port b a.fair kind out
 
     at : (e : Bool) → is_made_on b x ≡ e → (x.process == c) ≡ false
-    at true made = not-c m c x s.c_in (one_of _ _ known) (process-off m x (ap m (made-own m c x b (one_of _ _ known) made) ∙ out))
-    at false off = over (across m c u w b x s (one_of _ _ known) (or-second (is_made_on b x) (is_across w b x) off (other_of _ _ is)))
+    at true made = not-c m c x s.c_in (first-true _ _ known) (process-off m x (ap m (made-own m c x b (first-true _ _ known) made) ∙ out))
+    at false off = over (across m c u w b x s (first-true _ _ known) (or-second (is_made_on b x) (is_across w b x) off (second-true _ _ is)))
       where
         or-second : (a b : Bool) → a ≡ false → (a || b) ≡ true → b ≡ true
         or-second a b off is = grind arith
@@ -343,21 +341,21 @@ accepted-in m c u w b x mine s known is = at (is_made_on b x) refl
     connects x fair accepted inside = grind arith
 
     over : Across m c w b x → our_wait m x ≡ true
-    over a = connects x (one_of _ _ known) (one_of _ _ is) (sym (ap m a.own) ∙ member-in m c a.port b a.fair s.c_in mine)
+    over a = connects x (first-true _ _ known) (first-true _ _ is) (sym (ap m a.own) ∙ member-in m c a.port b a.fair s.c_in mine)
 
     at : (e : Bool) → is_made_on b x ≡ e → our_wait m x ≡ true
-    at true made = mine-seen m c x s.c_in (one_of _ _ known) (made-own m c x b (one_of _ _ known) made ∙ mine)
-    at false off = over (across m c u w b x s (one_of _ _ known) (or-second (is_made_on b x) (is_across w b x) off (other_of _ _ is)))
+    at true made = mine-seen m c x s.c_in (first-true _ _ known) (made-own m c x b (first-true _ _ known) made ∙ mine)
+    at false off = over (across m c u w b x s (first-true _ _ known) (or-second (is_made_on b x) (is_across w b x) off (second-true _ _ is)))
       where
         or-second : (a b : Bool) → a ≡ false → (a || b) ≡ true → b ≡ true
         or-second a b off is = grind arith
 
 accepted-across : (m : Group) (c : ℕ) (b : Birth) → IsEnd m c b false (is_accepted_across b)
 accepted-across m c b = record {
-  settled = λ no_draw w x is. accepted-settled x x.kind refl (one_of _ _ is);
+  settled = λ no_draw w x is. accepted-settled x x.kind refl (first-true _ _ is);
   other = λ out u w x s known is. accepted-other m c u w b x out s known is;
-  unseen = λ out u w x s known is. rw (accepted-takes x x.kind refl (one_of _ _ is)) (and-none (our_wait m x));
-  agree = λ inside u w x s known ours. ap (λ e. is_accepted x && (is_made_on b x || e)) (across-view m c w b x inside (one_of _ _ known) ours);
+  unseen = λ out u w x s known is. rw (accepted-takes x x.kind refl (first-true _ _ is)) (and-none (our_wait m x));
+  agree = λ inside u w x s known ours. ap (λ e. is_accepted x && (is_made_on b x || e)) (across-view m c w b x inside (first-true _ _ known) ours);
   inside = λ mine u w x s known is. accepted-in m c u w b x mine s known is;
   thinly = λ k u x closed live. ap (λ e. is_accepted x && (is_made_on b x || e)) (across-thin k u b x live);
 }
@@ -376,18 +374,18 @@ lone-stage m c b x loss silent asked apart closed = record {
     sent = λ w. losses-sent b w (x ∷ []) all;
     fair = λ u w s. losses-fair m c b w (x ∷ []) all;
     asked = λ u w s. asked w s.asked;
-    apart = λ u d w s out. both _ _ (apart u d w out) refl;
+    apart = λ u d w s out. and_from _ _ (apart u d w out) refl;
     mute = λ u d w memo s n out. subst (λ es. entries_memo m (view m w) memo (told_inputs m c u d (es ++ [])) ≡ memo) (sym silent) refl;
     ours = λ u w s inside. losses-ours m b w (x ∷ []) inside all;
     led = λ u d w s inside. led-same m c u d w (x ∷ []) (losses-ours m b w (x ∷ []) inside all);
     same = λ u w s mine. refl;
     alike = λ k u closed live. refl;
-    stands = λ k u _ live. both _ _ (closed k) refl;
+    stands = λ k u _ live. and_from _ _ (closed k) refl;
   };
 }
   where
     all : AreLosses b (x ∷ [])
-    all = both _ _ loss refl
+    all = and_from _ _ loss refl
 
 unbinds-stage : (m : Group) (c : ℕ) (b : Birth) → Stage m c b (drop_name b)
 unbinds-stage m c b = lone-stage m c b (Unbinds b) refl refl (λ w a. basic-asked w (Unbinds b) refl a) (λ u d w out. rw out refl) (λ k. refl)

@@ -1,10 +1,11 @@
 -- NtCompleteConnectPort in a view.
 use Rattle.std.proofs.Common.{◌≡◌, ℕ, List, [], ◌∷◌, Bool, true, false, cond, not, Option, Some, None, refl, ap, sym, subst, ◌∙◌, arith}
 use Rattle.std.specs.Prelude.{◌&&◌, ◌==◌, Ok}
-use Rattle.std.proofs.lemmas.Bool.{eqb-true}
+use Rattle.std.proofs.lemmas.Bool.{and_from, eqb-true}
 use Rattle.lpc_base.specs.Rows.{first, given, passes}
 use Rattle.lpc_base.proofs.RowWords.{first-passes}
 use Rattle.lpc_base.proofs.RowMaps.{every-first}
+use Rattle.lpc_base.proofs.Bools.{first-true, same-number, second-true}
 use Rattle.lpc_base.specs.declared.status.TheConstants.{INVALID_PARAMETER, INVALID_PORT_HANDLE, PORT_DISCONNECTED, SUCCESS}
 use Rattle.lpc_model.specs.declared.entry.CallName.TheVariants.{NtCompleteConnectPort}
 use Rattle.lpc_base.specs.declared.limits.TheConstants.{MESSAGE_LIMIT}
@@ -20,7 +21,7 @@ use Rattle.lpc_model.specs.Tests.{PORT_ACCESS, handle_row, port_test}
 use Rattle.lpc_model.proofs.Holding.{Holds, bind_holds, found_ok, holds_ok, not_refused}
 use Rattle.lpc_model.specs.Circle.{Group, Whose, owner}
 use Rattle.lpc_isolation.proofs.Filters.{first-kept, first-where}
-use Rattle.lpc_isolation.proofs.View.{both, of_birth, one_of, other_of, our_wait, same-number, view}
+use Rattle.lpc_isolation.proofs.View.{of_birth, our_wait, view}
 use Rattle.lpc_isolation.proofs.Basics.{are_ours, basic-ours, basic-unseen, sees_wait}
 use Rattle.lpc_isolation.proofs.Fair.{Fair, all_of, are_fair, implies, is_fair_pair, is_fair_wait, is_home}
 use Rattle.lpc_isolation.proofs.Seen.{bind-same, free-view, port_test-view}
@@ -68,9 +69,9 @@ completable m c u w by handle k = bind_holds (port_test w by handle) _ (IsComple
 wait-client : (m : Group) (c : ℕ) (w : World) (by : ThreadRow) (handle : ℕ) (r : Completable) → Fair m c w → IsCompletable m c w by handle r → r.wait.process ≡ r.client.process
 wait-client m c w by handle r f is =
     let fair : is_fair_wait m c r.wait ≡ true = every-first (is_fair_wait m c) (is_accepted_on r.client) w.waits r.wait f.waits is.found in
-    let here : same_birth r.wait.port r.client ≡ true = other_of _ _ (first-passes (is_accepted_on r.client) w.waits r.wait is.found) in
+    let here : same_birth r.wait.port r.client ≡ true = second-true _ _ (first-passes (is_accepted_on r.client) w.waits r.wait is.found) in
     let process : (r.wait.port.process == r.client.process) ≡ true = grind arith in
-    sym (eqb-true _ _ (one_of _ _ fair)) ∙ eqb-true _ _ process
+    sym (eqb-true _ _ (first-true _ _ fair)) ∙ eqb-true _ _ process
 
 -- a server port's pair
 server-pair : (m : Group) (c : ℕ) (p : PortRow) (o : Option Birth) (b : Birth) → o ≡ Some b → (is_home p && all_of o (is_fair_pair m c p)) ≡ true → is_server_port p ≡ true → (implies (m b.process) (m p.birth.process) && implies (p.birth.process == c) (m b.process)) ≡ true
@@ -112,7 +113,7 @@ complete-apart m c u d w by handle value r k is out =
     let x_out : m r.wait.process ≡ false = ap m (wait-client m c w by handle r k.fair is) ∙ c_out in
     let s_out : m r.server.process ≡ false = ap (λ (b : Birth). m b.process) is.birth ∙ ap m is.named.process ∙ out in
     let v : World = basic (basic (basic w (Completes r.server)) (Completes r.client)) (AddsHandle r.wait.process (handle_row value (port_name r.client) PORT_ACCESS)) in
-    rw (k.here, out, c_out, x_out, s_out) (both _ _ (both _ _ (end-apart m c u d v r.wait SUCCESS (h value ∷ max MESSAGE_LIMIT ∷ info (answer_of r.wait) ∷ []) k.owned (every-first (is_owned u) (is_accepted_on r.client) w.waits r.wait k.owned is.found) (out-other m c r.wait.process k.c_in x_out)) refl) refl)
+    rw (k.here, out, c_out, x_out, s_out) (and_from _ _ (and_from _ _ (end-apart m c u d v r.wait SUCCESS (h value ∷ max MESSAGE_LIMIT ∷ info (answer_of r.wait) ∷ []) k.owned (every-first (is_owned u) (is_accepted_on r.client) w.waits r.wait k.owned is.found) (out-other m c r.wait.process k.c_in x_out)) refl) refl)
 
 pub complete-call-apart : (m : Group) (c : ℕ) (u : World) (d : Whose) (w : World) (by : ThreadRow) (handle : ℕ) → Caller m c u w by → m by.process ≡ false → Holds (λ bs. are_apart m c u d w bs ≡ true) (nt_complete_connect_port w by handle)
 complete-call-apart m c u d w by handle k out = on-complete (λ bs. are_apart m c u d w bs ≡ true) m c u w by handle k (λ r is. complete-apart m c u d w by handle (free_handle w r.wait.process) r k is out)
@@ -123,8 +124,8 @@ accepted-connect x b is = grind arith
 
 accepted-ours : (m : Group) (c : ℕ) (client : Birth) (x : WaitRow) → m client.process ≡ true → is_fair_wait m c x ≡ true → is_accepted_on client x ≡ true → our_wait m x ≡ true
 accepted-ours m c client x c_in fair is =
-    let port : m x.port.process ≡ true = of_birth m x.port client (other_of _ _ is) ∙ c_in in
-    let process : m x.process ≡ true = sym (ap m (eqb-true _ _ (one_of _ _ fair))) ∙ port in
+    let port : m x.port.process ≡ true = of_birth m x.port client (second-true _ _ is) ∙ c_in in
+    let process : m x.process ≡ true = sym (ap m (eqb-true _ _ (first-true _ _ fair))) ∙ port in
     let connect : is_connect x ≡ true = accepted-connect x client is in
     grind arith
 
@@ -169,7 +170,7 @@ complete-led m c u d w by handle r k is by_in other =
     at true c_in =
         let fair : is_fair_wait m c r.wait ≡ true = every-first (is_fair_wait m c) (is_accepted_on r.client) w.waits r.wait k.fair.waits is.found in
         let ours : our_wait m r.wait ≡ true = accepted-ours m c r.client r.wait c_in fair (first-passes (is_accepted_on r.client) w.waits r.wait is.found) in
-        rw (first-kept (our_wait m) (is_accepted_on r.client) w.waits r.wait is.found ours, free-view m w r.wait.process (one_of _ _ ours))
+        rw (first-kept (our_wait m) (is_accepted_on r.client) w.waits r.wait is.found ours, free-view m w r.wait.process (first-true _ _ ours))
         (led-same m c u d w (complete_steps by (free_handle w r.wait.process) r) refl)
     at false out = complete-lost m c u d w by handle (free_handle w r.wait.process) r k is other out
 

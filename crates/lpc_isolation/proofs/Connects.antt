@@ -1,9 +1,10 @@
 -- NtConnectPort in a view.
 use Rattle.std.proofs.Common.{◌≡◌, ℕ, List, [], ◌∷◌, ◌++◌, Bool, true, false, Option, Some, None, refl, ap, sym, subst, ◌∙◌, arith}
 use Rattle.std.specs.Prelude.{◌==◌, Result, Ok, Err}
-use Rattle.std.proofs.lemmas.Bool.{eqb-true}
+use Rattle.std.proofs.lemmas.Bool.{and_from, eqb-true}
 use Rattle.lpc_base.specs.Rows.{every, first, given}
 use Rattle.lpc_base.proofs.RowWords.{every-push}
+use Rattle.lpc_base.proofs.Bools.{same-number}
 use Rattle.lpc_model.specs.Message.{asks}
 use Rattle.lpc_model.specs.Then.{◌>>=◌}
 use Rattle.lpc_model.specs.World.{Accepted, Birth, Connect, Listen, MessageRow, PortRow, Receive, Request, ThreadRow, WaitKind, WaitRow, World}
@@ -21,7 +22,7 @@ use Rattle.lpc_model.specs.Tests.{handles_test, next_birth}
 use Rattle.lpc_model.proofs.Holding.{Holds, bind_holds}
 use Rattle.lpc_model.specs.Circle.{Group, Whose, is_fine_client, leads_inside, is_fine_port, names_inside, owner}
 use Rattle.lpc_isolation.proofs.Alone.{HasFineRows}
-use Rattle.lpc_isolation.proofs.View.{both, same-number, view}
+use Rattle.lpc_isolation.proofs.View.{view}
 use Rattle.lpc_isolation.proofs.Basics.{are_ours, ours-append, run-ours}
 use Rattle.lpc_isolation.proofs.Fair.{Fair, are_fair, fair-append, is_fair_message, is_fair_wait, owner-sent, owner-used, run-fair}
 use Rattle.lpc_isolation.proofs.Seen.{bind-same}
@@ -83,7 +84,7 @@ row-fair m c by q bytes c_in fine =
 
 start-fair : (m : Group) (c : ℕ) (w : World) (by : ThreadRow) (q : Birth) (bytes : List ℕ) → m c ≡ true → owner w by.number ≡ Some by.process → is_fine_client m c (next_birth by) q ≡ true → are_fair m c w (starting by q bytes) ≡ true
 start-fair m c w by q bytes c_in own fine =
-    both _ _ (both _ _ (both _ _ (same-number by.process) (owner-used w by.number by.process own)) refl) (both _ _ (connect_wait-fair m c by q bytes c_in fine) refl)
+    and_from _ _ (and_from _ _ (and_from _ _ (same-number by.process) (owner-used w by.number by.process own)) refl) (and_from _ _ (connect_wait-fair m c by q bytes c_in fine) refl)
 
 pub record Begun (m : Group) (c : ℕ) (u w : World) : Type 0 where
   pub fair : Fair m c w
@@ -100,7 +101,7 @@ begun m c u w by q bytes k fine = record {
 connect-fair : (m : Group) (c : ℕ) (u w : World) (by : ThreadRow) (q : Birth) (bytes : List ℕ) → Caller m c u w by → is_fine_client m c (next_birth by) q ≡ true → are_fair m c w (steps_of w by q bytes) ≡ true
 connect-fair m c u w by q bytes k fine =
     fair-append m c w (starting by q bytes) (enter (row by q bytes) (world_after w (starting by q bytes))) (start-fair m c w by q bytes k.c_in k.own fine)
-    (enter-fair m c (world_after w (starting by q bytes)) (row by q bytes) (both _ _ (row-fair m c by q bytes k.c_in fine) (owner-sent w (row by q bytes) by.process k.own refl)))
+    (enter-fair m c (world_after w (starting by q bytes)) (row by q bytes) (and_from _ _ (row-fair m c by q bytes k.c_in fine) (owner-sent w (row by q bytes) by.process k.own refl)))
 
 -- apart
 pub fine-other : (m : Group) (c : ℕ) (by : ThreadRow) (q : Birth) → is_fine_client m c (next_birth by) q ≡ true → m by.process ≡ false → (q.process == c) ≡ false
@@ -125,7 +126,7 @@ start-ours m w by q bytes is q_in = rw (is, q_in) refl
 connect-ours : (m : Group) (c : ℕ) (u w : World) (by : ThreadRow) (q : Birth) (bytes : List ℕ) → Caller m c u w by → is_fine_client m c (next_birth by) q ≡ true → m by.process ≡ true → are_ours m w (steps_of w by q bytes) ≡ true
 connect-ours m c u w by q bytes k fine is =
     let q_in = fine-in m c by q fine is in
-    ours-append m w (starting by q bytes) (enter (row by q bytes) (world_after w (starting by q bytes))) (start-ours m w by q bytes is q_in) (enter-ours m (world_after w (starting by q bytes)) (row by q bytes) (both _ _ is q_in) (begun m c u w by q bytes k fine).patient)
+    ours-append m w (starting by q bytes) (enter (row by q bytes) (world_after w (starting by q bytes))) (start-ours m w by q bytes is q_in) (enter-ours m (world_after w (starting by q bytes)) (row by q bytes) (and_from _ _ is q_in) (begun m c u w by q bytes k fine).patient)
 
 connect-view : (m : Group) (c : ℕ) (u w : World) (by : ThreadRow) (q : Birth) (bytes : List ℕ) → Caller m c u w by → is_fine_client m c (next_birth by) q ≡ true → m by.process ≡ true → steps_of (view m w) by q bytes ≡ steps_of w by q bytes
 connect-view m c u w by q bytes k fine is =

@@ -2,6 +2,7 @@
 use Rattle.std.proofs.Common.{◌≡◌, ℕ, List, true, false, Option, Some, None, refl, ap, sym, subst, ◌∙◌}
 use Rattle.std.specs.Prelude.{Result, Ok, Err}
 use Rattle.lpc_base.specs.declared.status.Status.{Status}
+use Rattle.lpc_base.proofs.Bools.{same-number}
 use Rattle.lpc_model.specs.Then.{◌>>=◌}
 use Rattle.lpc_model.specs.World.{ThreadRow, World}
 use Rattle.lpc_model.specs.Found.{free_handle}
@@ -12,7 +13,7 @@ use Rattle.lpc_model.specs.Tests.{handles_test, next_birth}
 use Rattle.lpc_model.proofs.Holding.{Holds, bind_holds}
 use Rattle.lpc_names.specs.Walk.{Path}
 use Rattle.lpc_model.specs.Circle.{Group, Whose, owner}
-use Rattle.lpc_isolation.proofs.View.{same-number, view}
+use Rattle.lpc_isolation.proofs.View.{view}
 use Rattle.lpc_isolation.proofs.Basics.{are_ours}
 use Rattle.lpc_isolation.proofs.Fair.{Fair, are_fair}
 use Rattle.lpc_isolation.proofs.Seen.{free-view}

@@ -1,11 +1,12 @@
 -- NtCreateProcess and NtCreateThread in a view.
 use Rattle.std.proofs.Common.{◌≡◌, ℕ, List, [], ◌∷◌, ◌++◌, Bool, true, false, cond, not, Option, Some, None, refl, ap, sym, subst, ◌∙◌, arith}
 use Rattle.std.specs.Prelude.{◌&&◌, ◌||◌, ◌==◌, nat_le, option_map, if◌then◌else◌, is_none, is_some, Ok}
-use Rattle.std.proofs.lemmas.Bool.{eqb-true}
+use Rattle.std.proofs.lemmas.Bool.{and_from, eqb-true}
 use Rattle.lpc_base.specs.Rows.{count, every, first, has, passes, which}
-use Rattle.lpc_base.proofs.RowWords.{every-push, first-passes}
+use Rattle.lpc_base.proofs.RowWords.{every-push, every-true, first-passes}
 use Rattle.lpc_base.proofs.RowWords.{first-kept as pushed-kept}
 use Rattle.lpc_base.proofs.RowMaps.{every-first}
+use Rattle.lpc_base.proofs.Bools.{first-true, same-number, second-true}
 use Rattle.lpc_base.specs.declared.limits.TheConstants.{CHILD_LIMIT, THREAD_LIMIT}
 use Rattle.lpc_base.specs.declared.status.TheConstants.{INVALID_CID, OBJECT_NAME_COLLISION, QUOTA_EXCEEDED, SUCCESS}
 use Rattle.lpc_model.specs.declared.entry.CallName.TheVariants.{NtCreateProcess, NtCreateThread}
@@ -25,9 +26,9 @@ use Rattle.lpc_model.proofs.Creating.{process-made, tested-further}
 use Rattle.lpc_model.proofs.Holding.{Holds, bind_holds, holds_ok}
 use Rattle.lpc_isolation.proofs.Served.{served}
 use Rattle.lpc_isolation.proofs.Alone.{HasFineRows}
-use Rattle.lpc_isolation.proofs.View.{both, one_of, other_of, our_process, our_used, same-number, view}
+use Rattle.lpc_isolation.proofs.View.{our_process, our_used, view}
 use Rattle.lpc_isolation.proofs.Basics.{are_ours, run-ours}
-use Rattle.lpc_isolation.proofs.Filters.{first-kept, first-none_kept, has-inside, every-any}
+use Rattle.lpc_isolation.proofs.Filters.{first-kept, first-none_kept, has-inside}
 use Rattle.lpc_isolation.proofs.Fair.{Fair, are_fair, are_together, is_homed, keeps-fair, together-of}
 use Rattle.lpc_isolation.proofs.Seen.{bind-same, free-view}
 use Rattle.lpc_isolation.proofs.Apart.{are_apart}
@@ -115,7 +116,7 @@ thread-begins w by tid pid own = record {
 
 -- Numbers
 id-most : (n : ℕ) → is_id n ≡ true → nat_le n 2147483647 ≡ true
-id-most n is = other_of _ _ is
+id-most n is = second-true _ _ is
 
 -- a process that lives has a number that was used
 live-most : (m : Group) (c : ℕ) (w : World) (pid : ℕ) → Fair m c w → Numbered w → is_live w pid ≡ true → nat_le pid 2147483647 ≡ true
@@ -123,13 +124,13 @@ live-most m c w pid f n live = at (first (lives_in pid) w.threads) refl live
   where
     used_by : (t : ThreadRow) (o : Option UsedThread) → first (is_used_thread t.number) w.used_threads ≡ o → passes o (λ u. u.process == t.process) ≡ true → nat_le t.process 2147483647 ≡ true
     used_by t None none is = absurd (cc)
-    used_by t (Some u) some is = subst (λ i. nat_le i 2147483647 ≡ true) (eqb-true u.process t.process is) (one_of _ _ (every-first of_number (is_used_thread t.number) w.used_threads u n some))
+    used_by t (Some u) some is = subst (λ i. nat_le i 2147483647 ≡ true) (eqb-true u.process t.process is) (first-true _ _ (every-first of_number (is_used_thread t.number) w.used_threads u n some))
 
     at : (o : Option ThreadRow) → first (lives_in pid) w.threads ≡ o → is_some o ≡ true → nat_le pid 2147483647 ≡ true
     at None none is = absurd (cc)
     at (Some t) some is =
         let homed : is_homed w.used_threads t ≡ true = every-first (is_homed w.used_threads) (lives_in pid) w.threads t f.threads some in
-        subst (λ i. nat_le i 2147483647 ≡ true) (eqb-true t.process pid (one_of _ _ (first-passes (lives_in pid) w.threads t some))) (used_by t (first (is_used_thread t.number) w.used_threads) refl homed)
+        subst (λ i. nat_le i 2147483647 ≡ true) (eqb-true t.process pid (first-true _ _ (first-passes (lives_in pid) w.threads t some))) (used_by t (first (is_used_thread t.number) w.used_threads) refl homed)
 
 -- Rows that are fair
 fair-rows : (t u s : Bool) → t ≡ true → u ≡ false → s ≡ true → (t && ((not u && t) && (s && (s && true)))) ≡ true
@@ -183,7 +184,7 @@ number-view : (m : Group) (w : World) (pid : ℕ) → is_no_outsider m w pid ≡
 number-view m w pid fine = at (m pid) (was_process w pid) refl refl fine
   where
     at : (a b : Bool) → m pid ≡ a → was_process w pid ≡ b → (a || not b) ≡ true → was_process (view m w) pid ≡ was_process w pid
-    at true b inside was ok = has-inside (λ n. true) m (λ n. n == pid) (λ n any is. ap m (eqb-true n pid is) ∙ inside) w.used_processes (every-any w.used_processes)
+    at true b inside was ok = has-inside (λ n. true) m (λ n. n == pid) (λ n any is. ap m (eqb-true n pid is) ∙ inside) w.used_processes (every-true w.used_processes)
     at false false out none ok = none-inside m (λ n. n == pid) w.used_processes none ∙ sym none
     at false true out was ok = absurd (cc)
 
@@ -200,7 +201,7 @@ count-agree p k test other same inside [] all = refl
 count-agree p k test other same inside (x ∷ xs) all = grind (arith, same x, inside x, count-agree p k test other same inside xs)
 
 child-inside : (m : Group) (w : World) (c : ℕ) (p : ProcessRow) → m c ≡ true → is_fine_process m p ≡ true → is_live_child w c p ≡ true → m p.number ≡ true
-child-inside m w c p c_in fine is = at p.maker refl (one_of _ _ is)
+child-inside m w c p c_in fine is = at p.maker refl (first-true _ _ is)
   where
     group : (a b : Bool) → b ≡ true → (false || (if a then b else not b)) ≡ true → a ≡ true
     group true b is ok = refl
@@ -225,7 +226,7 @@ process-same m c w by known pid tid a mine fine =
     let inside : m by.process ≡ true = ap m mine ∙ a.c_in in
     let children : live_children (view m w) by.process ≡ live_children w by.process = subst (λ i. live_children (view m w) i ≡ live_children w i) (sym mine) (children-view m c w a.c_in a.fine) in
     let test : handles_test (view m w) by.process 2 ≡ handles_test w by.process 2 = subst (λ p. handles_test (view m w) p 2 ≡ handles_test w p 2) (sym mine) (handles_test-view m c w 2 a.c_in a.fair) in
-    rw (number-view m w pid (one_of _ _ fine), thread-number-view m w tid (other_of (is_no_outsider m w pid) _ fine), children, test)
+    rw (number-view m w pid (first-true _ _ fine), thread-number-view m w tid (second-true (is_no_outsider m w pid) _ fine), children, test)
     (bind-same (unused_test w pid tid) _ _ (λ _ _. bind-same (child_count_test w by.process) _ _ (λ _ _. bind-same (handles_test w by.process 2) _ _ (λ _ _. ap (λ bs. Ok bs) (steps-view m w by pid tid inside)))))
 
 thread-same : (m : Group) (c : ℕ) (w : World) (by : ThreadRow) (known : List ℕ → Birth) (target : ProcArg) (tid : ℕ) → At m c w by known → by.process ≡ c → is_fine_call m w (create_thread target tid) ≡ true → served (view m w) by (create_thread target tid) ≡ served w by (create_thread target tid)
@@ -242,7 +243,7 @@ children-thin : (k : Alive) (u : World) (pid : ℕ) → Closed k u → live_chil
 children-thin k u pid c =
     count-agree (process_closed k) (process_alive k) (is_live_child u pid) (is_live_child (thin k u) pid)
     (λ p closed alive. ap (λ e. passes p.maker (λ i. i == pid) && e) (is_live-thin k u p.number c))
-    (λ p closed is. stands (k.homes p.number) (k.processes p.birth) (home-live k u p.number c (other_of (passes p.maker (λ i. i == pid)) _ is)) closed) u.processes c.processes
+    (λ p closed is. stands (k.homes p.number) (k.processes p.birth) (home-live k u p.number c (second-true (passes p.maker (λ i. i == pid)) _ is)) closed) u.processes c.processes
   where
     stands : (h a : Bool) → h ≡ true → (not h || a) ≡ true → a ≡ true
     stands h a is closed = grind arith
@@ -268,7 +269,7 @@ process-fine m c after u by pid tid fine r =
     let home : k.homes pid ≡ true = last (k.threads t.birth) (k.homes pid) (every-last (thread_closed k) drawn.threads t closed.threads) in
     let stands : k.processes p.birth ≡ true = next (k.homes pid) (k.processes p.birth) home (every-last (process_closed k) u.processes p closed.processes) in
     let here : every (is_fine_process m) (which (process_alive k) (u.processes ++ p ∷ [])) ≡ true = subst (λ (w : World). every (is_fine_process m) w.processes ≡ true) r.same fine.0 in
-    both _ _ (kept-last (is_fine_process m) (process_alive k) u.processes p here stands) refl
+    and_from _ _ (kept-last (is_fine_process m) (process_alive k) u.processes p here stands) refl
   where
     last : (a h : Bool) → (not true || (a && h)) ≡ true → h ≡ true
     last a h is = grind arith
@@ -299,7 +300,7 @@ pub process-lawful : (pid tid : ℕ) → Lawful (create_process pid tid)
 process-lawful pid tid = record {
   begins = λ m c w by known a. on-process (Begins w by.number) w by pid tid (λ _ _. process-begins w by pid tid a.own);
   once = λ m c w by known a once. on-process (λ bs. OnceUsed (world_after w bs)) w by pid tid (λ _ unused t. at-most t w.used_threads (used (new_thread tid pid (second_birth by))) unused (once t));
-  numbered = λ m c w by known a ids n. on-process (λ bs. Numbered (world_after w bs)) w by pid tid (λ _ _. every-push of_number w.used_threads (used (new_thread tid pid (second_birth by))) n (both _ _ (id-most pid (one_of _ _ ids)) (id-most tid (other_of _ _ ids))));
+  numbered = λ m c w by known a ids n. on-process (λ bs. Numbered (world_after w bs)) w by pid tid (λ _ _. every-push of_number w.used_threads (used (new_thread tid pid (second_birth by))) n (and_from _ _ (id-most pid (first-true _ _ ids)) (id-most tid (second-true _ _ ids))));
   refuses = λ w by. process-refuses pid tid w by;
   fair = λ m c w by known a. on-process (λ bs. HasFineRows m c (world_after w bs) → are_fair m c w bs ≡ true) w by pid tid (λ _ unused fine. process-fair m c w by pid tid (made-group m c by pid w.processes fine.0) unused);
   names = λ m c w by known a. on-process (λ bs. OnceBound (world_after w bs).bindings) w by pid tid (λ _ _. a.bound);
@@ -338,7 +339,7 @@ pub thread-lawful : (target : ProcArg) (tid : ℕ) → Lawful (create_thread tar
 thread-lawful target tid = record {
   begins = λ m c w by known a. on-thread (Begins w by.number) w by target tid (λ pid _ _ _. thread-begins w by tid pid a.own);
   once = λ m c w by known a once. on-thread (λ bs. OnceUsed (world_after w bs)) w by target tid (λ pid _ _ unused t. at-most t w.used_threads (used (new_thread tid pid (next_birth by))) unused (once t));
-  numbered = λ m c w by known a ids n. on-thread (λ bs. Numbered (world_after w bs)) w by target tid (λ pid _ live _. every-push of_number w.used_threads (used (new_thread tid pid (next_birth by))) n (both _ _ (live-most m c w pid a.fair n live) (id-most tid ids)));
+  numbered = λ m c w by known a ids n. on-thread (λ bs. Numbered (world_after w bs)) w by target tid (λ pid _ live _. every-push of_number w.used_threads (used (new_thread tid pid (next_birth by))) n (and_from _ _ (live-most m c w pid a.fair n live) (id-most tid ids)));
   refuses = λ w by. thread-refuses target tid w by;
   fair = λ m c w by known a. on-thread (λ bs. HasFineRows m c (world_after w bs) → are_fair m c w bs ≡ true) w by target tid (λ pid at _ unused fine. thread-fair m c w by tid pid (target-group m c w by target pid a.fair at) unused);
   names = λ m c w by known a. on-thread (λ bs. OnceBound (world_after w bs).bindings) w by target tid (λ _ _ _ _. a.bound);

@@ -1,10 +1,12 @@
 -- A thread that ends in a view, and what is posted on the ports that it registered.
 use Rattle.std.proofs.Common.{◌≡◌, ℕ, List, [], ◌∷◌, ◌++◌, Bool, true, false, cond, not, Option, Some, None, refl, ap, sym, subst, ◌∙◌, arith}
 use Rattle.std.specs.Prelude.{◌&&◌, ◌||◌, ◌==◌, option_and_then, option_map, is_some}
-use Rattle.std.proofs.lemmas.Bool.{eqb-true}
+use Rattle.std.proofs.lemmas.Bool.{and_from, eqb-true}
 use Rattle.lpc_base.specs.Rows.{every, first, given, when}
 use Rattle.lpc_base.proofs.RowWords.{first-passes}
 use Rattle.lpc_base.proofs.RowMaps.{every-first}
+use Rattle.lpc_base.proofs.Bools.{first-true, same-number}
+use Rattle.lpc_base.proofs.Births.{birth-same}
 use Rattle.lpc_base.specs.declared.status.Status.{Status}
 use Rattle.lpc_base.specs.declared.status.TheConstants.{SUCCESS}
 use Rattle.lpc_model.specs.World.{Birth, MessageRow, PortRow, ThreadRow, WaitRow, World}
@@ -14,12 +16,11 @@ use Rattle.lpc_model.specs.Close.{cut_pair}
 use Rattle.lpc_model.specs.Death.{cut_accepted, die, died_message, post_death, death_post}
 use Rattle.lpc_model.specs.Entering.{enter, row_of, takes, given_steps, woken, shown}
 use Rattle.lpc_model.specs.Circle.{Group, Whose, owner}
-use Rattle.lpc_model.proofs.Births.{birth-same}
 use Rattle.lpc_model.proofs.SoundTerminate.{IsSafe, die-safe, enter-safe, unregister-safe}
 use Rattle.lpc_model.proofs.Closing.{takes_away}
 use Rattle.lpc_model.proofs.Ending.{die-pass}
 use Rattle.lpc_model.proofs.SoundQueues.{after-append}
-use Rattle.lpc_isolation.proofs.View.{both, one_of, our_wait, same-number, seen_pair, seen_port, view}
+use Rattle.lpc_isolation.proofs.View.{our_wait, seen_pair, seen_port, view}
 use Rattle.lpc_isolation.proofs.Basics.{sees_wait, sees_own}
 use Rattle.lpc_isolation.proofs.Fair.{are_fair, implies, is_fair_message, is_fair_wait, is_sent, owner-sent}
 use Rattle.lpc_isolation.proofs.Seen.{port-view}
@@ -135,7 +136,7 @@ module _ (m : Group) (c : ℕ) (u : World) (pid : ℕ) (c_in : m c ≡ true) (co
     where
       at : (o : Option WaitRow) → wait_of w n ≡ o → is_made_in pid o ≡ true
       at None none = refl
-      at (Some x) some = let k = found-known w x s some in subst (λ p. (x.port.process == p) ≡ true) k.1 (one_of (x.port.process == x.process) _ k.0)
+      at (Some x) some = let k = found-known w x s some in subst (λ p. (x.port.process == p) ≡ true) k.1 (first-true (x.port.process == x.process) _ k.0)
 
   -- what a member's wait leaves to cut is seen in the view
   cut-seen : (w : World) → Sure m c u w → m pid ≡ true → (v : World) → cut_accepted (wait_of (view m w) n) v ≡ cut_accepted (wait_of w n) v
@@ -226,7 +227,7 @@ tells-sent : (t : ThreadRow) (b : Birth) (w : World) → are_sent w (tells t b w
 tells-sent t b w = on-told (λ bs. are_sent w bs ≡ true) t b w refl (λ p q row to.
     let y : MessageRow = died_row t p q in
     let home : is_sent_home w y ≡ true = rw (row-own w b p row) (route-home w p q to) in
-    both _ _ home (none-sent (basic w (Enters y)) (given (first (takes y) w.waits) (λ z. given_steps z y ++ woken SUCCESS (shown z y) z ∷ [])) (entered-none y (first (takes y) w.waits) refl)))
+    and_from _ _ home (none-sent (basic w (Enters y)) (given (first (takes y) w.waits) (λ z. given_steps z y ++ woken SUCCESS (shown z y) z ∷ [])) (entered-none y (first (takes y) w.waits) refl)))
 
 pub post-mild : (t : ThreadRow) (b : Birth) (w : World) → AreMild (post_death t b w)
 post-mild t b w = tells-mild t b (basic w (Unregisters t.number b))
@@ -251,7 +252,7 @@ module _ (m : Group) (c : ℕ) (u : World) (pid : ℕ) (c_in : m c ≡ true) (t 
         process = born;
         right = right;
         to = to;
-        fair = both _ _ (rw (process, born) (same-number pid)) (both _ _ (at right (m p.birth.process) refl) (mine right (p.birth.process == c) refl));
+        fair = and_from _ _ (rw (process, born) (same-number pid)) (and_from _ _ (at right (m p.birth.process) refl) (mine right (p.birth.process == c) refl));
         sent = owner-sent w (died_row t p q) pid (rw (sym s.used) own) process;
       }
     where
@@ -297,7 +298,7 @@ module _ (m : Group) (c : ℕ) (u : World) (pid : ℕ) (c_in : m c ≡ true) (t 
   tells-led d w s inside = subst (Led m c u d w (tells t b w)) (sym (seen-told w s inside)) (at (port_row w b) refl)
     where
       entered : (p : PortRow) (q : Birth) → Told m c u w pid t p q → (e : Bool) → m q.process ≡ e → Led m c u d w (enter (died_row t p q) w) (in_view w p (cond e (Some q) None))
-      entered p q is true q_in = subst (Led m c u d w (enter (died_row t p q) w)) (sym (tells-view w p q s is inside q_in)) (led-same m c u d w (enter (died_row t p q) w) (enter-ours m w (died_row t p q) (both _ _ (ap m is.process ∙ inside) q_in) s.patient))
+      entered p q is true q_in = subst (Led m c u d w (enter (died_row t p q) w)) (sym (tells-view w p q s is inside q_in)) (led-same m c u d w (enter (died_row t p q) w) (enter-ours m w (died_row t p q) (and_from _ _ (ap m is.process ∙ inside) q_in) s.patient))
       entered p q is false out = let gone = enter-gone m c u d w (died_row t p q) c_in out s.owned s.fair s.patient in record { world = gone.0; told = gone.1 }
 
       routed : (p : PortRow) → port_row w b ≡ Some p → (o : Option Birth) → route w p ≡ o → Led m c u d w (given (option_map (λ q. died_row t p q) o) (λ y. enter y w)) (in_view w p (seen_pair m o))
@@ -312,7 +313,7 @@ module _ (m : Group) (c : ℕ) (u : World) (pid : ℕ) (c_in : m c ≡ true) (t 
   tells-part = record {
     mild = tells-mild t b;
     sent = tells-sent t b;
-    fair = λ w k. on-told (λ bs. are_fair m c w bs ≡ true) t b w refl (λ p q row to. let is = told-row w p q k.sure row to in enter-fair m c w (died_row t p q) (both _ _ is.fair is.sent));
+    fair = λ w k. on-told (λ bs. are_fair m c w bs ≡ true) t b w refl (λ p q row to. let is = told-row w p q k.sure row to in enter-fair m c w (died_row t p q) (and_from _ _ is.fair is.sent));
     asked = λ w k. let s = k.sure in on-told (λ bs. Asked (world_after w bs)) t b w s.asked (λ p q row to. run-asked w (enter (died_row t p q) w) (enter-asked w (died_row t p q) s.asked s.patient s.once refl) s.asked);
     apart = λ d w k out. on-told (λ bs. are_apart m c u d w bs ≡ true) t b w refl (λ p q row to. tells-apart d w p q k.sure (told-row w p q k.sure row to) out);
     mute = λ d w memo k n out. on-told (λ bs. entries_memo m (view m w) memo (told_inputs m c u d (entries_of bs)) ≡ memo) t b w refl (λ p q row to. tells-mute d w memo p q k.sure n (told-row w p q k.sure row to) out);

@@ -1,5 +1,6 @@
 -- A directive's line, in a play.
 use Rattle.std.proofs.Common.{◌≡◌, ℕ, List, [], ◌∷◌, ◌++◌, Bool, true, false, cond, not, map, None, refl, ap, sym, subst, ◌∙◌}
+use Rattle.std.proofs.Math.Bool.{and-false}
 use Rattle.std.specs.Prelude.{◌&&◌, ◌||◌, ◌==◌, nat_le, Result, Ok, Err}
 use Rattle.lpc_base.specs.declared.status.Status.{Status}
 use Rattle.lpc_base.specs.declared.status.TheConstants.{INVALID_CID, OBJECT_NAME_COLLISION, QUOTA_EXCEEDED, SUCCESS}
@@ -81,12 +82,8 @@ directed-entries : (name : Word) (r : Result (List Basic) Status) → Holds (λ 
 directed-entries name (Ok bs) none = ap (λ es. entry.Directive name SUCCESS ∷ es) none
 directed-entries name (Err s) none = refl
 
-off-and : (b : Bool) → (b && false) ≡ false
-off-and true = refl
-off-and false = refl
-
 told-directive : (m : Group) (c : ℕ) (u : World) (d : Whose) (name : Word) (status : Status) → told_inputs m c u d (entry.Directive name status ∷ []) ≡ cond (is_seen m d) (entry.Directive name status ∷ []) []
-told-directive m c u (Of pid) name status = rw (off-and (pid == c)) (at (m pid))
+told-directive m c u (Of pid) name status = rw (and-false (pid == c)) (at (m pid))
   where
     at : (b : Bool) → ◌≡◌ {A = List Entry} (cond (b && true) (entry.Directive name status ∷ []) []) (cond b (entry.Directive name status ∷ []) [])
     at true = refl

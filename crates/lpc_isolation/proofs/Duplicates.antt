@@ -3,6 +3,7 @@ use Rattle.std.proofs.Common.{◌≡◌, ℕ, List, Bool, true, false, cond, not
 use Rattle.std.specs.Prelude.{◌==◌}
 use Rattle.lpc_base.specs.Rows.{first}
 use Rattle.lpc_base.proofs.RowMaps.{every-first}
+use Rattle.lpc_base.proofs.Bools.{same-number}
 use Rattle.lpc_base.specs.declared.status.TheConstants.{ACCESS_DENIED, INVALID_HANDLE}
 use Rattle.lpc_model.specs.World.{Birth, HandleRow, ThreadRow, World}
 use Rattle.lpc_model.specs.Found.{free_handle, handle_at, handles_of, has_value, is_table, wait_of}
@@ -15,7 +16,7 @@ use Rattle.lpc_model.specs.SoundWaits.{IsSoundWorld}
 use Rattle.lpc_model.specs.Circle.{Group, Whose, is_fine_call}
 use Rattle.lpc_model.proofs.Holding.{Holds, bind_holds, found_ok}
 use Rattle.lpc_isolation.proofs.Alone.{HasFineRows}
-use Rattle.lpc_isolation.proofs.View.{same-number, view}
+use Rattle.lpc_isolation.proofs.View.{view}
 use Rattle.lpc_isolation.proofs.Basics.{are_ours}
 use Rattle.lpc_isolation.proofs.Fair.{are_fair}
 use Rattle.lpc_isolation.proofs.Seen.{free-view, handle-own, handle-view}

@@ -5,6 +5,7 @@ use Rattle.std.proofs.lemmas.Bool.{eqb-true}
 use Rattle.lpc_base.specs.Rows.{every, first, passes, when}
 use Rattle.lpc_base.proofs.RowWords.{every-append, first-passes}
 use Rattle.lpc_base.proofs.RowMaps.{every-first}
+use Rattle.lpc_base.proofs.Bools.{first-true, second-true}
 use Rattle.lpc_base.specs.declared.status.Status.{Status}
 use Rattle.lpc_model.specs.World.{Birth, HandleRow, ThreadRow, World, HandleTable}
 use Rattle.lpc_model.specs.Found.{handles_of, is_live, is_table, live_threads, lives_in, rows_in}
@@ -14,7 +15,7 @@ use Rattle.lpc_model.specs.Death.{die, end_process, end_threads, post_death, pos
 use Rattle.lpc_model.specs.Circle.{Group, owner}
 use Rattle.lpc_model.proofs.Ending.{first-at, rows-left, turn-pass}
 use Rattle.lpc_model.proofs.SoundTerminate.{handle-safe}
-use Rattle.lpc_isolation.proofs.View.{one_of, other_of, our_thread, view}
+use Rattle.lpc_isolation.proofs.View.{our_thread, view}
 use Rattle.lpc_isolation.proofs.Fair.{is_fair_table, is_fair_thread, is_own}
 use Rattle.lpc_isolation.proofs.Filters.{count-inside, first-inside}
 use Rattle.lpc_isolation.proofs.Seen.{handles-view}
@@ -36,17 +37,17 @@ abbrev is_of : ℕ → Birth → Bool
 is_of pid b = b.process == pid
 
 owner-of : (u : World) (pid : ℕ) (t : ThreadRow) → is_ending_of u pid t ≡ true → owner u t.number ≡ Some pid
-owner-of u pid t is = at (owner u t.number) (one_of _ _ is)
+owner-of u pid t is = at (owner u t.number) (first-true _ _ is)
   where
     at : (o : Option ℕ) → passes o (λ p. p == pid) ≡ true → o ≡ Some pid
     at None is = absurd (cc)
     at (Some p) is = ap (λ p. Some p) (eqb-true p pid is)
 
 process-of : (u : World) (pid : ℕ) (t : ThreadRow) → is_ending_of u pid t ≡ true → t.process ≡ pid
-process-of u pid t is = eqb-true t.process pid (one_of _ _ (other_of (passes (owner u t.number) (λ p. p == pid)) _ is))
+process-of u pid t is = eqb-true t.process pid (first-true _ _ (second-true (passes (owner u t.number) (λ p. p == pid)) _ is))
 
 ports-of : (u : World) (pid : ℕ) (t : ThreadRow) → is_ending_of u pid t ≡ true → every (is_of pid) t.registrations ≡ true
-ports-of u pid t is = subst (λ n. every (is_of n) t.registrations ≡ true) (process-of u pid t is) (other_of (t.process == pid) _ (other_of (passes (owner u t.number) (λ p. p == pid)) _ is))
+ports-of u pid t is = subst (λ n. every (is_of n) t.registrations ≡ true) (process-of u pid t is) (second-true (t.process == pid) _ (second-true (passes (owner u t.number) (λ p. p == pid)) _ is))
 
 -- what all of it is, whosever the threads are
 turn-sent : {A : Type 0} (f : A → Steps) → ((x : A) (w : World) → are_sent w (f x w) ≡ true) → (xs : List A) (w : World) → are_sent w (in_turn f xs w) ≡ true
@@ -85,10 +86,10 @@ ends-sent pid code ts w =
 
 -- a process lives in the view as in the world, by the same threads
 pub lives-view : (m : Group) (w : World) (pid : ℕ) → m pid ≡ true → is_live (view m w) pid ≡ is_live w pid
-lives-view m w pid inside = ap is_some (first-inside (our_thread m) (lives_in pid) (λ t is. ap m (eqb-true t.process pid (one_of _ _ is)) ∙ inside) w.threads)
+lives-view m w pid inside = ap is_some (first-inside (our_thread m) (lives_in pid) (λ t is. ap m (eqb-true t.process pid (first-true _ _ is)) ∙ inside) w.threads)
 
 pub threads-view : (m : Group) (w : World) (pid : ℕ) → m pid ≡ true → live_threads (view m w) pid ≡ live_threads w pid
-threads-view m w pid inside = count-inside (our_thread m) (lives_in pid) (λ t is. ap m (eqb-true t.process pid (one_of _ _ is)) ∙ inside) w.threads
+threads-view m w pid inside = count-inside (our_thread m) (lives_in pid) (λ t is. ap m (eqb-true t.process pid (first-true _ _ is)) ∙ inside) w.threads
 
 -- they end, and what they registered is told
 module _ (m : Group) (c : ℕ) (u : World) (pid : ℕ) (c_in : m c ≡ true) where
@@ -135,7 +136,7 @@ module _ (m : Group) (c : ℕ) (u : World) (pid : ℕ) (c_in : m c ≡ true) whe
 
   rows-part : (rows : List HandleRow) → every (is_own pid) rows ≡ true → Part m c u pid (has_rows rows) (in_turn (close_handle pid) rows)
   rows-part [] own = none-part m c u pid c_in (has_rows []) (rows-known [])
-  rows-part (r ∷ rows) own = then-part m c u pid c_in (has_rows (r ∷ rows)) (has_rows rows) (close_handle pid r) (in_turn (close_handle pid) rows) (row-part (r ∷ rows) r (one_of _ _ own)) (row-left r rows (one_of _ _ own)) (rows-part rows (other_of _ _ own))
+  rows-part (r ∷ rows) own = then-part m c u pid c_in (has_rows (r ∷ rows)) (has_rows rows) (close_handle pid r) (in_turn (close_handle pid) rows) (row-part (r ∷ rows) r (first-true _ _ own)) (row-left r rows (first-true _ _ own)) (rows-part rows (second-true _ _ own))
 
   rows-own : (w : World) → known w → every (is_own pid) (handles_of w pid) ≡ true
   rows-own w k = let s = k.sure in let f = s.fair in at (first (is_table pid) w.handles) refl f.tables

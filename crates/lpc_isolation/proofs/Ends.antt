@@ -1,10 +1,12 @@
 -- Waits that end one after the other, and what that owes as a stage of a closing.
 use Rattle.std.proofs.Common.{◌≡◌, ℕ, List, [], ◌∷◌, Bool, true, false, not, refl, ap, sym, subst, ◌∙◌, arith}
+use Rattle.std.proofs.lemmas.Bool.{and_from, not-true}
 use Rattle.std.specs.Prelude.{◌&&◌, ◌||◌, ◌==◌}
 use Rattle.lpc_base.specs.Rows.{each, every, has, which, without}
 use Rattle.lpc_base.specs.declared.status.Status.{Status}
-use Rattle.lpc_base.proofs.RowWords.{every-more, every-which, every-without, has_none-without, without-none}
+use Rattle.lpc_base.proofs.RowWords.{every-more, every-which, every-without, has_none-without, which-without, without-none}
 use Rattle.lpc_base.proofs.RowMaps.{every-both}
+use Rattle.lpc_base.proofs.Bools.{first-true, second-true}
 use Rattle.lpc_model.specs.declared.entry.Entry.TheVariants as entry
 use Rattle.lpc_model.specs.declared.entry.Field.{Field}
 use Rattle.lpc_model.specs.World.{Birth, MessageRow, WaitRow, World}
@@ -14,8 +16,7 @@ use Rattle.lpc_model.specs.Entering.{woken}
 use Rattle.lpc_model.proofs.Rows.{count-less}
 use Rattle.lpc_model.specs.Circle.{Group, Whose}
 use Rattle.lpc_isolation.proofs.Alone.{alone}
-use Rattle.lpc_isolation.proofs.Filters.{kept-without}
-use Rattle.lpc_isolation.proofs.View.{both, one_of, other_of, our_message, our_wait, view}
+use Rattle.lpc_isolation.proofs.View.{our_message, our_wait, view}
 use Rattle.lpc_isolation.proofs.Basics.{run-ours, sees_own}
 use Rattle.lpc_isolation.proofs.Fair.{is_fair_wait}
 use Rattle.lpc_isolation.proofs.Apart.{Owned, are_apart, end-apart, heard, is_heard, is_owned}
@@ -44,8 +45,8 @@ abbrev pub is_known_wait : Group → ℕ → World → World → WaitRow → Boo
 is_known_wait m c u w x = is_fair_wait m c x && (is_path w x && is_owned u x)
 
 known-waits : (m : Group) (c : ℕ) (u w : World) → Sure m c u w → every (is_known_wait m c u w) w.waits ≡ true
-known-waits m c u w s = every-both (is_fair_wait m c) (λ x. is_path w x && is_owned u x) (is_known_wait m c u w) (λ x a b. both _ _ a b) w.waits s.fair.waits
-    (every-both (is_path w) (is_owned u) _ (λ x a b. both _ _ a b) w.waits s.paths s.owned)
+known-waits m c u w s = every-both (is_fair_wait m c) (λ x. is_path w x && is_owned u x) (is_known_wait m c u w) (λ x a b. and_from _ _ a b) w.waits s.fair.waits
+    (every-both (is_path w) (is_owned u) _ (λ x a b. and_from _ _ a b) w.waits s.paths s.owned)
 
 -- what is asked of the test by which waits end that a port's closing concerns
 pub record IsEnd (m : Group) (c : ℕ) (b : Birth) (draws : Bool) (test : World → WaitRow → Bool) : Type 0 where
@@ -112,14 +113,14 @@ ended-asked true status fields (x ∷ xs) w quiet a = ended-asked true status fi
     any : (xs : List WaitRow) → every (λ x. true) xs ≡ true
     any [] = refl
     any (x ∷ xs) = any xs
-ended-asked false status fields (x ∷ xs) w quiet a = ended-asked false status fields xs (basic w (woken status fields x)) (other_of _ _ quiet) (basic-asked w (woken status fields x) (one_of _ _ quiet) a)
+ended-asked false status fields (x ∷ xs) w quiet a = ended-asked false status fields xs (basic w (woken status fields x)) (second-true _ _ quiet) (basic-asked w (woken status fields x) (first-true _ _ quiet) a)
 
 -- By an outsider
 abbrev is_free : Group → ℕ → World → Bool → World → WaitRow → Bool
 is_free m c u draws w x = is_owned u x && (not (x.process == c) && (not draws || not (sees_own m w x.thread)))
 
 own-less : (m : Group) (w : World) (test : MessageRow → Bool) (t : ℕ) → sees_own m w t ≡ false → sees_own m (record w { messages = without test w.messages }) t ≡ false
-own-less m w test t none = rw (kept-without (our_message m) test w.messages) (has_none-without (is_own_of t) test (which (our_message m) w.messages) none)
+own-less m w test t none = rw (which-without (our_message m) test w.messages) (has_none-without (is_own_of t) test (which (our_message m) w.messages) none)
 
 free-less : (m : Group) (c : ℕ) (u w : World) (x y : WaitRow) → is_free m c u true w y ≡ true → is_free m c u true (basic w (Withdraws x.thread)) y ≡ true
 free-less m c u w x y is = at (sees_own m w y.thread) refl
@@ -128,28 +129,25 @@ free-less m c u w x y is = at (sees_own m w y.thread) refl
     at true seen = absurd (grind arith)
     at false none = rw (own-less m w (is_own_of x.thread) y.thread none) (grind arith)
 
-not-of : (b : Bool) → not b ≡ true → b ≡ false
-not-of b is = grind arith
-
 ended-apart : (m : Group) (c : ℕ) (u : World) (d : Whose) (draws : Bool) (status : Status) (fields : List Field) (xs : List WaitRow) (w : World) → Owned u w → every (is_free m c u draws w) xs ≡ true → are_apart m c u d w (all_ended draws status fields xs) ≡ true
 ended-apart m c u d draws status fields [] w owned free = refl
 ended-apart m c u d false status fields (x ∷ xs) w owned free =
-    let here : is_free m c u false w x ≡ true = one_of _ _ free in
-    both _ _ (both _ _ (end-apart m c u d w x status fields owned (one_of _ _ here) (not-of _ (one_of _ _ (other_of (is_owned u x) _ here)))) refl)
-    (ended-apart m c u d false status fields xs (basic w (woken status fields x)) (every-without (is_owned u) (waits_as x.thread) w.waits owned) (other_of _ _ free))
+    let here : is_free m c u false w x ≡ true = first-true _ _ free in
+    and_from _ _ (and_from _ _ (end-apart m c u d w x status fields owned (first-true _ _ here) (not-true _ (first-true _ _ (second-true (is_owned u x) _ here)))) refl)
+    (ended-apart m c u d false status fields xs (basic w (woken status fields x)) (every-without (is_owned u) (waits_as x.thread) w.waits owned) (second-true _ _ free))
 ended-apart m c u d true status fields (x ∷ xs) w owned free =
-    let here : is_free m c u true w x ≡ true = one_of _ _ free in
+    let here : is_free m c u true w x ≡ true = first-true _ _ free in
     let v : World = basic w (woken status fields x) in
-    let none : sees_own m w x.thread ≡ false = not-of _ (other_of (not (x.process == c)) _ (other_of (is_owned u x) _ here)) in
-    both _ _ (both _ _ (end-apart m c u d w x status fields owned (one_of _ _ here) (not-of _ (one_of _ _ (other_of (is_owned u x) _ here)))) refl)
-    (both _ _ (both _ _ (rw none refl) refl)
+    let none : sees_own m w x.thread ≡ false = not-true _ (second-true (not (x.process == c)) _ (second-true (is_owned u x) _ here)) in
+    and_from _ _ (and_from _ _ (end-apart m c u d w x status fields owned (first-true _ _ here) (not-true _ (first-true _ _ (second-true (is_owned u x) _ here)))) refl)
+    (and_from _ _ (and_from _ _ (rw none refl) refl)
     (ended-apart m c u d true status fields xs (basic v (Withdraws x.thread)) (every-without (is_owned u) (waits_as x.thread) w.waits owned)
-    (every-more (is_free m c u true w) (is_free m c u true (basic v (Withdraws x.thread))) (λ y is. free-less m c u w x y is) xs (other_of _ _ free))))
+    (every-more (is_free m c u true w) (is_free m c u true (basic v (Withdraws x.thread))) (λ y is. free-less m c u w x y is) xs (second-true _ _ free))))
 
 ended-silent : (v : World) (draws : Bool) (status : Status) (fields : List Field) (xs : List WaitRow) → every (λ x. is_silent v (entry.Wakes x.thread x.call status fields)) xs ≡ true → every (is_silent v) (entries_of (all_ended draws status fields xs)) ≡ true
 ended-silent v draws status fields [] mute = refl
-ended-silent v true status fields (x ∷ xs) mute = both _ _ (one_of _ _ mute) (ended-silent v true status fields xs (other_of _ _ mute))
-ended-silent v false status fields (x ∷ xs) mute = both _ _ (one_of _ _ mute) (ended-silent v false status fields xs (other_of _ _ mute))
+ended-silent v true status fields (x ∷ xs) mute = and_from _ _ (first-true _ _ mute) (ended-silent v true status fields xs (second-true _ _ mute))
+ended-silent v false status fields (x ∷ xs) mute = and_from _ _ (first-true _ _ mute) (ended-silent v false status fields xs (second-true _ _ mute))
 
 -- By a member: what isn't in the view leaves it
 abbrev is_lost : Group → World → WaitRow → Bool
@@ -180,24 +178,24 @@ none-own m v x out is = grind arith
 
 ended-left : (m : Group) (draws : Bool) (status : Status) (fields : List Field) (xs : List WaitRow) (v : World) → every (is_lost m v) xs ≡ true → world_after v (all_ended draws status fields xs) ≡ world_after v (all_ended draws status fields (which (our_wait m) xs))
 ended-left m draws status fields [] v lost = refl
-ended-left m false status fields (x ∷ xs) v lost = at (our_wait m x) refl (ended-left m false status fields xs (basic v (woken status fields x)) (every-more (is_lost m v) (is_lost m (basic v (woken status fields x))) (lost-waits m v (waits_as x.thread)) xs (other_of _ _ lost)))
+ended-left m false status fields (x ∷ xs) v lost = at (our_wait m x) refl (ended-left m false status fields xs (basic v (woken status fields x)) (every-more (is_lost m v) (is_lost m (basic v (woken status fields x))) (lost-waits m v (waits_as x.thread)) xs (second-true _ _ lost)))
   where
     ws : List WaitRow
     ws = which (our_wait m) xs
 
     gone : our_wait m x ≡ false → basic v (woken status fields x) ≡ v
-    gone out = rw (without-none (waits_as x.thread) v.waits (none-waits m v x out (one_of _ _ lost))) refl
+    gone out = rw (without-none (waits_as x.thread) v.waits (none-waits m v x out (first-true _ _ lost))) refl
 
     at : (e : Bool) → our_wait m x ≡ e → world_after (basic v (woken status fields x)) (all_ended false status fields xs) ≡ world_after (basic v (woken status fields x)) (all_ended false status fields ws) → world_after v (all_ended false status fields (x ∷ xs)) ≡ world_after v (all_ended false status fields (which (our_wait m) (x ∷ xs)))
     at true ours rest = rw ours rest
     at false out rest = rw out (rest ∙ ap (λ v. world_after v (all_ended false status fields ws)) (gone out))
-ended-left m true status fields (x ∷ xs) v lost = at (our_wait m x) refl (ended-left m true status fields xs (world_after v (ended true status fields x)) (every-more (is_lost m v) (is_lost m (world_after v (ended true status fields x))) (lost-less m v (waits_as x.thread) (is_own_of x.thread)) xs (other_of _ _ lost)))
+ended-left m true status fields (x ∷ xs) v lost = at (our_wait m x) refl (ended-left m true status fields xs (world_after v (ended true status fields x)) (every-more (is_lost m v) (is_lost m (world_after v (ended true status fields x))) (lost-less m v (waits_as x.thread) (is_own_of x.thread)) xs (second-true _ _ lost)))
   where
     ws : List WaitRow
     ws = which (our_wait m) xs
 
     gone : our_wait m x ≡ false → world_after v (ended true status fields x) ≡ v
-    gone out = rw (without-none (waits_as x.thread) v.waits (none-waits m v x out (one_of _ _ lost)), without-none (is_own_of x.thread) v.messages (none-own m v x out (one_of _ _ lost))) refl
+    gone out = rw (without-none (waits_as x.thread) v.waits (none-waits m v x out (first-true _ _ lost)), without-none (is_own_of x.thread) v.messages (none-own m v x out (first-true _ _ lost))) refl
 
     at : (e : Bool) → our_wait m x ≡ e → world_after (world_after v (ended true status fields x)) (all_ended true status fields xs) ≡ world_after (world_after v (ended true status fields x)) (all_ended true status fields ws) → world_after v (all_ended true status fields (x ∷ xs)) ≡ world_after v (all_ended true status fields (which (our_wait m) (x ∷ xs)))
     at true ours rest = rw ours rest
@@ -210,7 +208,7 @@ is_unheard m c u d status fields x = our_wait m x || not (is_heard (alone c) u d
 ended-told : (m : Group) (c : ℕ) (u : World) (d : Whose) (draws : Bool) (status : Status) (fields : List Field) (xs : List WaitRow) → every (is_unheard m c u d status fields) xs ≡ true
     → heard (alone c) u d (entries_of (all_ended draws status fields xs)) ≡ heard (alone c) u d (entries_of (all_ended draws status fields (which (our_wait m) xs)))
 ended-told m c u d draws status fields [] unheard = refl
-ended-told m c u d false status fields (x ∷ xs) unheard = at (our_wait m x) (is_heard (alone c) u d (entry.Wakes x.thread x.call status fields)) refl refl (one_of _ _ unheard) (ended-told m c u d false status fields xs (other_of _ _ unheard))
+ended-told m c u d false status fields (x ∷ xs) unheard = at (our_wait m x) (is_heard (alone c) u d (entry.Wakes x.thread x.call status fields)) refl refl (first-true _ _ unheard) (ended-told m c u d false status fields xs (second-true _ _ unheard))
   where
     at : (a e : Bool) → our_wait m x ≡ a → is_heard (alone c) u d (entry.Wakes x.thread x.call status fields) ≡ e → is_unheard m c u d status fields x ≡ true → heard (alone c) u d (entries_of (all_ended false status fields xs)) ≡ heard (alone c) u d (entries_of (all_ended false status fields (which (our_wait m) xs)))
         → heard (alone c) u d (entries_of (all_ended false status fields (x ∷ xs))) ≡ heard (alone c) u d (entries_of (all_ended false status fields (which (our_wait m) (x ∷ xs))))
@@ -218,7 +216,7 @@ ended-told m c u d false status fields (x ∷ xs) unheard = at (our_wait m x) (i
     at true false ours told is rest = rw (ours, told) rest
     at false true out told is rest = absurd (grind arith)
     at false false out told is rest = rw (out, told) rest
-ended-told m c u d true status fields (x ∷ xs) unheard = at (our_wait m x) (is_heard (alone c) u d (entry.Wakes x.thread x.call status fields)) refl refl (one_of _ _ unheard) (ended-told m c u d true status fields xs (other_of _ _ unheard))
+ended-told m c u d true status fields (x ∷ xs) unheard = at (our_wait m x) (is_heard (alone c) u d (entry.Wakes x.thread x.call status fields)) refl refl (first-true _ _ unheard) (ended-told m c u d true status fields xs (second-true _ _ unheard))
   where
     at : (a e : Bool) → our_wait m x ≡ a → is_heard (alone c) u d (entry.Wakes x.thread x.call status fields) ≡ e → is_unheard m c u d status fields x ≡ true → heard (alone c) u d (entries_of (all_ended true status fields xs)) ≡ heard (alone c) u d (entries_of (all_ended true status fields (which (our_wait m) xs)))
         → heard (alone c) u d (entries_of (all_ended true status fields (x ∷ xs))) ≡ heard (alone c) u d (entries_of (all_ended true status fields (which (our_wait m) (x ∷ xs))))
@@ -243,15 +241,15 @@ module _ (m : Group) (c : ℕ) (b : Birth) (draws : Bool) (status : Status) (fie
       at x false off is passed = let settled : is_settled x ≡ true = e.settled off w x passed in grind arith
 
   free : (u w : World) → Sure m c u w → m b.process ≡ false → every (is_free m c u draws w) (ending w) ≡ true
-  free u w s out = every-passing (λ x. is_known_wait m c u w x && is_lone m w x) (test w) (is_free m c u draws w) (λ x is on. at x is on) w.waits (every-both (is_known_wait m c u w) (is_lone m w) _ (λ x a b. both _ _ a b) w.waits (known-waits m c u w s) (lone-all m c u w s))
+  free u w s out = every-passing (λ x. is_known_wait m c u w x && is_lone m w x) (test w) (is_free m c u draws w) (λ x is on. at x is on) w.waits (every-both (is_known_wait m c u w) (is_lone m w) _ (λ x a b. and_from _ _ a b) w.waits (known-waits m c u w s) (lone-all m c u w s))
     where
       at : (x : WaitRow) → (is_known_wait m c u w x && is_lone m w x) ≡ true → test w x ≡ true → is_free m c u draws w x ≡ true
       at x is on =
-          let known : is_known_wait m c u w x ≡ true = one_of _ _ is in
-          let owned : is_owned u x ≡ true = other_of (is_path w x) _ (other_of (is_fair_wait m c x) _ known) in
+          let known : is_known_wait m c u w x ≡ true = first-true _ _ is in
+          let owned : is_owned u x ≡ true = second-true (is_path w x) _ (second-true (is_fair_wait m c x) _ known) in
           let other : (x.process == c) ≡ false = e.other out u w x s known on in
           let unseen : (our_wait m x && (draws || takes_any x)) ≡ false = e.unseen out u w x s known on in
-          let lone : is_lone m w x ≡ true = other_of (is_known_wait m c u w x) _ is in
+          let lone : is_lone m w x ≡ true = second-true (is_known_wait m c u w x) _ is in
           rw (owned, other) (drawn draws refl (our_wait m x) refl unseen lone)
         where
           drawn : (a : Bool) → draws ≡ a → (o : Bool) → our_wait m x ≡ o → (our_wait m x && (draws || takes_any x)) ≡ false → is_lone m w x ≡ true → (not draws || not (sees_own m w x.thread)) ≡ true
@@ -266,8 +264,8 @@ module _ (m : Group) (c : ℕ) (b : Birth) (draws : Bool) (status : Status) (fie
     where
       at : (x : WaitRow) → (is_known_wait m c u w x && ((our_wait m x && takes_any x) || is_mute m w x)) ≡ true → test w x ≡ true → is_mute m w x ≡ true
       at x is on =
-          let unseen : (our_wait m x && (draws || takes_any x)) ≡ false = e.unseen out u w x s (one_of _ _ is) on in
-          let either : ((our_wait m x && takes_any x) || is_mute m w x) ≡ true = other_of (is_known_wait m c u w x) _ is in
+          let unseen : (our_wait m x && (draws || takes_any x)) ≡ false = e.unseen out u w x s (first-true _ _ is) on in
+          let either : ((our_wait m x && takes_any x) || is_mute m w x) ≡ true = second-true (is_known_wait m c u w x) _ is in
           pick (our_wait m x) draws (takes_any x) (is_mute m w x) unseen either
         where
           pick : (o a t n : Bool) → (o && (a || t)) ≡ false → ((o && t) || n) ≡ true → n ≡ true
@@ -275,7 +273,7 @@ module _ (m : Group) (c : ℕ) (b : Birth) (draws : Bool) (status : Status) (fie
 
       all : every (is_mute m w) (ending w) ≡ true
       all = every-passing (λ x. is_known_wait m c u w x && ((our_wait m x && takes_any x) || is_mute m w x)) (test w) (is_mute m w) (λ x is on. at x is on) w.waits
-          (every-both (is_known_wait m c u w) (λ x. (our_wait m x && takes_any x) || is_mute m w x) _ (λ x a b. both _ _ a b) w.waits (known-waits m c u w s) (mute-all m c u w s))
+          (every-both (is_known_wait m c u w) (λ x. (our_wait m x && takes_any x) || is_mute m w x) _ (λ x a b. and_from _ _ a b) w.waits (known-waits m c u w s) (mute-all m c u w s))
 
   seen : (u w : World) → Sure m c u w → m b.process ≡ true → ending (view m w) ≡ which (our_wait m) (ending w)
   seen u w s inside = which-seen (is_known_wait m c u w) (our_wait m) (test (view m w)) (test w) (λ x known ours. e.agree inside u w x s known ours) w.waits (known-waits m c u w s)
@@ -292,8 +290,8 @@ module _ (m : Group) (c : ℕ) (b : Birth) (draws : Bool) (status : Status) (fie
       at : (x : WaitRow) (o : Bool) → our_wait m x ≡ o → is_known_wait m c u w x ≡ true → is_unheard m c u d status fields x ≡ true
       at x true ours known = rw ours refl
       at x false off known =
-          let owned : is_owned u x ≡ true = other_of (is_path w x) _ (other_of (is_fair_wait m c x) _ known) in
-          rw (off, wake-not-c m c u d x x.call status fields owned (not-mine x off (one_of _ _ known))) refl
+          let owned : is_owned u x ≡ true = second-true (is_path w x) _ (second-true (is_fair_wait m c x) _ known) in
+          rw (off, wake-not-c m c u d x x.call status fields owned (not-mine x off (first-true _ _ known))) refl
         where
           not-mine : (x : WaitRow) → our_wait m x ≡ false → is_fair_wait m c x ≡ true → (x.process == c) ≡ false
           not-mine x off fair = on (x.process == c) refl

@@ -1,12 +1,13 @@
 -- A message that enters a queue, in a view.
 use Rattle.std.proofs.Common.{◌≡◌, ℕ, List, [], ◌∷◌, ◌++◌, Bool, true, false, not, Option, Some, None, refl, ap, sym, ◌∙◌, arith}
 use Rattle.std.specs.Prelude.{◌&&◌, ◌||◌, ◌==◌}
-use Rattle.std.proofs.lemmas.Bool.{eqb-true}
-use Rattle.std.proofs.lemmas.Bool.Decides.{nat_tests}
+use Rattle.std.proofs.lemmas.Bool.{and_from, eqb-true}
 use Rattle.lpc_base.specs.Rows.{every, first, given, has, when}
 use Rattle.lpc_base.specs.declared.status.TheConstants.{SUCCESS}
 use Rattle.lpc_base.proofs.RowWords.{every-more, first-passes, first-push, has_none-more}
 use Rattle.lpc_base.proofs.RowMaps.{every-first}
+use Rattle.lpc_base.proofs.Bools.{second-true}
+use Rattle.lpc_base.proofs.Births.{birth-same, birth-self, birth-turned}
 use Rattle.lpc_model.specs.declared.entry.CallName.{CallName}
 use Rattle.lpc_model.specs.declared.entry.Field.{Field}
 use Rattle.lpc_model.specs.Message.{asks, is_connection_request}
@@ -15,10 +16,9 @@ use Rattle.lpc_model.specs.Found.{is_listen, is_queued, is_queued_connect, is_re
 use Rattle.lpc_model.specs.Basics.{Enters, Receives, Wakes, basic}
 use Rattle.lpc_model.specs.Entering.{enter, given_steps, shown, takes, woken}
 use Rattle.lpc_model.specs.SoundWaits.{HasSoundWaits, has_come, is_sound_as, is_sound_wait}
-use Rattle.lpc_model.proofs.Births.{birth-same}
 use Rattle.lpc_model.specs.Circle.{Group}
 use Rattle.lpc_isolation.proofs.Filters.{first-where}
-use Rattle.lpc_isolation.proofs.View.{both, of_birth, other_of, our_message, our_wait, view}
+use Rattle.lpc_isolation.proofs.View.{of_birth, our_message, our_wait, view}
 use Rattle.lpc_isolation.proofs.Basics.{are_ours}
 use Rattle.lpc_isolation.proofs.Fair.{Fair, are_fair, implies, is_fair_message, is_fair_wait, is_sent}
 
@@ -37,15 +37,15 @@ patient-as w x (Connect a) k is = rw k refl
 patient-as w x (Accepted a b) k is = rw k refl
 
 pub sound-patient : (w : World) → HasSoundWaits w → Patient w
-sound-patient w s = every-more (is_sound_wait w) (is_patient w) (λ x is. patient-as w x x.kind refl (other_of _ _ is)) w.waits s
+sound-patient w s = every-more (is_sound_wait w) (is_patient w) (λ x is. patient-as w x x.kind refl (second-true _ _ is)) w.waits s
 
 -- who takes what enters a member's queue
 taker-ours : (m : Group) (c : ℕ) (x : MessageRow) (y : WaitRow) → m x.queue.process ≡ true → is_fair_wait m c y ≡ true → takes x y ≡ true → our_wait m y ≡ true
 taker-ours m c x y q_in fair is =
-    let here : same_birth y.queue x.queue ≡ true = other_of _ _ is in
+    let here : same_birth y.queue x.queue ≡ true = second-true _ _ is in
     let queue : m y.queue.process ≡ true = of_birth m y.queue x.queue here ∙ q_in in
     let process : (y.queue.process == y.process) ≡ true = grind arith in
-    both _ _ (sym (ap m (eqb-true _ _ process)) ∙ queue) queue
+    and_from _ _ (sym (ap m (eqb-true _ _ process)) ∙ queue) queue
 
 pub taker-process : (m : Group) (c : ℕ) (x : MessageRow) (y : WaitRow) → is_fair_wait m c y ≡ true → takes x y ≡ true → y.process ≡ x.queue.process
 taker-process m c x y fair is =
@@ -60,19 +60,13 @@ pub enter-view : (m : Group) (c : ℕ) (w : World) (x : MessageRow) → Fair m c
 enter-view m c w x f q_in = ap (λ o. Enters x ∷ given o (λ y. given_steps y x ++ woken SUCCESS (shown y x) y ∷ [])) (taker-view m c w x f q_in)
 
 -- what is taken is what entered
-pub birth-turned : (a b : Birth) → same_birth a b ≡ same_birth b a
-birth-turned a b = grind (arith, nat_tests)
-
-self : (b : Birth) → same_birth b b ≡ true
-self b = grind (arith, nat_tests)
-
 queued-off : (x z : MessageRow) (y : WaitRow) → same_birth y.queue x.queue ≡ true → is_receive y ≡ true → takes z y ≡ false → is_queued x.queue z ≡ false
 queued-off x z y here kind off = rw (birth-turned z.queue x.queue, sym (birth-same y.queue x.queue here)) (grind arith)
 
 pub receive-first : (w : World) (x : MessageRow) (y : WaitRow) → takes x y ≡ true → is_receive y ≡ true → is_patient w y ≡ true → first (is_queued x.queue) (w.messages ++ x ∷ []) ≡ Some x
 receive-first w x y is kind patient =
     let none : has (λ z. takes z y) w.messages ≡ false = grind arith in
-    first-push (is_queued x.queue) w.messages x (has_none-more (λ z. takes z y) (is_queued x.queue) (λ z off. queued-off x z y (other_of _ _ is) kind off) w.messages none) (self x.queue)
+    first-push (is_queued x.queue) w.messages x (has_none-more (λ z. takes z y) (is_queued x.queue) (λ z off. queued-off x z y (second-true _ _ is) kind off) w.messages none) (birth-self x.queue)
 
 connect-off : (x z : MessageRow) (y : WaitRow) → same_birth y.queue x.queue ≡ true → is_listen y ≡ true → takes z y ≡ false → is_queued_connect x.queue z ≡ false
 connect-off x z y here kind off =
@@ -83,7 +77,7 @@ pub listen-first : (w : World) (x : MessageRow) (y : WaitRow) → takes x y ≡ 
 listen-first w x y is not_receive kind patient =
     let none : has (λ z. takes z y) w.messages ≡ false = grind arith in
     let asked : is_connection_request x.message ≡ true = grind arith in
-    first-push (is_queued_connect x.queue) w.messages x (has_none-more (λ z. takes z y) (is_queued_connect x.queue) (λ z off. connect-off x z y (other_of _ _ is) kind off) w.messages none) (both _ _ (self x.queue) asked)
+    first-push (is_queued_connect x.queue) w.messages x (has_none-more (λ z. takes z y) (is_queued_connect x.queue) (λ z off. connect-off x z y (second-true _ _ is) kind off) w.messages none) (and_from _ _ (birth-self x.queue) asked)
 
 -- a member's message to a member
 when-ours : (m : Group) (w : World) (asked : Bool) (who : ℕ) (q : Birth) (who' : ℕ) (call : CallName) (fields : List Field) → are_ours m w (when asked (Receives who q ∷ []) ++ Wakes who' call SUCCESS fields ∷ []) ≡ true
@@ -128,8 +122,8 @@ given-fair m c w x y (Accepted a b) true k asked = rw (k, asked) refl
 given-fair m c w x y (Accepted a b) false k asked = rw (k, asked) refl
 
 entered-fair : (m : Group) (c : ℕ) (w : World) (x : MessageRow) (o : Option WaitRow) → (is_fair_message m c x && is_sent w.used_threads x) ≡ true → are_fair m c w (Enters x ∷ given o (λ y. given_steps y x ++ woken SUCCESS (shown y x) y ∷ [])) ≡ true
-entered-fair m c w x None fair = both _ _ fair refl
-entered-fair m c w x (Some y) fair = both _ _ fair (given-fair m c (basic w (Enters x)) x y y.kind (asks x.message) refl refl)
+entered-fair m c w x None fair = and_from _ _ fair refl
+entered-fair m c w x (Some y) fair = and_from _ _ fair (given-fair m c (basic w (Enters x)) x y y.kind (asks x.message) refl refl)
 
 pub enter-fair : (m : Group) (c : ℕ) (w : World) (x : MessageRow) → (is_fair_message m c x && is_sent w.used_threads x) ≡ true → are_fair m c w (enter x w) ≡ true
 enter-fair m c w x fair = entered-fair m c w x (first (takes x) w.waits) fair

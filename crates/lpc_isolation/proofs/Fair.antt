@@ -1,15 +1,16 @@
 -- What holds of the rows of each world of a run in which a group is a circle of c.
 use Rattle.std.proofs.Common.{◌≡◌, ℕ, List, [], ◌∷◌, ◌++◌, Bool, true, false, cond, not, Option, Some, None, refl, ap, sym, subst, ◌∙◌, arith}
 use Rattle.std.specs.Prelude.{◌&&◌, ◌||◌, ◌==◌, is_none, option_map, nat_lt}
-use Rattle.std.proofs.lemmas.Bool.{eqb-true}
+use Rattle.std.proofs.lemmas.Bool.{and_from, eqb-true}
 use Rattle.lpc_base.specs.Rows.{every, first, has, passes}
 use Rattle.lpc_base.proofs.RowWords.{every-append, every-change, every-more, every-push, every-which, every-without, first-kept, first-push}
 use Rattle.lpc_base.proofs.RowMaps.{every-both, every-change_to, every-map, every-without_first}
+use Rattle.lpc_base.proofs.Bools.{first-true, same-number, second-true}
 use Rattle.lpc_model.specs.World.{Accepted, Birth, Connect, Creator, HandleRow, HandleTable, Listen, MessageRow, PortRow, ProcessRow, Receive, Request, ThreadRow, UsedThread, WaitKind, WaitRow, World}
 use Rattle.lpc_model.specs.Found.{has_value, is_client_port, is_connect, is_listen, is_own_of, is_port, is_queued, is_receive, is_server_port, is_table, is_thread, is_used_thread, same_birth, waits_as, waits_at}
 use Rattle.lpc_model.specs.Basics.{Accepts, AddsHandle, AddsProcess, AddsThread, Awaits, Basic, Binds, Completes, Cuts, DrawsIdentifier, DrawsOrdinal, DropsHandle, Empties, Enters, Frees, Joins, Makes, Receives, Takes, TakesConnect, Tells, Unbinds, Wakes, Withdraws, accepted, accepted_as, basic, completed, cut, is_end_of, joined, no_handles, past_identifier, past_ordinal, received, used, with_handle, without_handle, world_after, Dies, Registers, Unregisters, ended, registering, unregistering}
 use Rattle.lpc_model.specs.Circle.{Group, owner}
-use Rattle.lpc_isolation.proofs.View.{both, of_birth, one_of, other_of, same-number}
+use Rattle.lpc_isolation.proofs.View.{of_birth}
 
 abbrev pub implies : Bool → Bool → Bool
 implies a b = not a || b
@@ -153,7 +154,7 @@ with-handle : (pid : ℕ) (h : HandleRow) → is_own pid h ≡ true → (t : Han
 with-handle pid h own t is its =
     let same : t.process ≡ pid = eqb-true _ _ its in
     every-append (is_own t.process) _ _ (every-which (is_own t.process) (λ r. nat_lt r.value h.value) t.rows is)
-    (both _ _ (rw same own) (every-which (is_own t.process) (λ r. nat_lt h.value r.value) t.rows is))
+    (and_from _ _ (rw same own) (every-which (is_own t.process) (λ r. nat_lt h.value r.value) t.rows is))
 
 joined-fair : (m : Group) (c : ℕ) (client server : Birth) (context : ℕ) → implies (m client.process) (m server.process) ≡ true → implies (server.process == c) (m client.process) ≡ true → (p : PortRow) → (is_no_server_at client p && is_server_at server p) ≡ true → is_fair_port m c p ≡ true → is_fair_port m c (joined client server context p) ≡ true
 joined-fair m c client server context one two p kinds is = at (is_port client p) (is_port server p) refl refl
@@ -189,7 +190,7 @@ added-created us u p is = at p.creator refl
   where
     at : (o : Option Creator) → p.creator ≡ o → is_created (us ++ u ∷ []) p ≡ true
     at None none = rw none refl
-    at (Some by) some = rw some (both _ _ (one_of _ _ own) (found (first (is_used_thread by.client.thread) us) refl (other_of (by.client.process == p.birth.process) _ own)))
+    at (Some by) some = rw some (and_from _ _ (first-true _ _ own) (found (first (is_used_thread by.client.thread) us) refl (second-true (by.client.process == p.birth.process) _ own)))
       where
         own : ((by.client.process == p.birth.process) && passes (first (is_used_thread by.client.thread) us) (λ u. u.process == by.client.process)) ≡ true
         own = rw some at is
@@ -207,7 +208,7 @@ joined-created us client server context p is = at (is_port client p) (is_port se
     at false false here it = rw (here, it) is
 
 cut-fair : (m : Group) (c : ℕ) (p : PortRow) → is_fair_port m c p ≡ true → is_fair_port m c (cut p) ≡ true
-cut-fair m c p is = both _ _ (one_of _ _ is) refl
+cut-fair m c p is = and_from _ _ (first-true _ _ is) refl
 
 -- the message of an owner
 pub owner-sent : (w : World) (x : MessageRow) (pid : ℕ) → owner w x.message.header.client.thread ≡ Some pid → x.message.header.client.process ≡ pid → is_sent w.used_threads x ≡ true
@@ -253,7 +254,7 @@ keeps-fair m c w (Wakes who call status fields) ok f = record { tables = f.table
 keeps-fair m c w (Awaits x) ok f = record { tables = f.tables; ports = f.ports; messages = f.messages; waits = every-push (is_fair_wait m c) w.waits x f.waits ok; threads = f.threads; senders = f.senders; creators = f.creators; registrations = f.registrations; processes = f.processes; lives = f.lives }
 keeps-fair m c w (Receives who q) ok f = record { tables = f.tables; ports = f.ports; messages = f.messages; waits = every-change (is_fair_wait m c) (waits_at who q) received (λ x is. is) w.waits f.waits; threads = f.threads; senders = f.senders; creators = f.creators; registrations = f.registrations; processes = f.processes; lives = f.lives }
 keeps-fair m c w (Accepts who reply) ok f = record { tables = f.tables; ports = f.ports; messages = f.messages; waits = every-change (is_fair_wait m c) (waits_as who) (accepted reply) (accepted-fair m c reply) w.waits f.waits; threads = f.threads; senders = f.senders; creators = f.creators; registrations = f.registrations; processes = f.processes; lives = f.lives }
-keeps-fair m c w (Enters x) ok f = record { tables = f.tables; ports = f.ports; messages = every-push (is_fair_message m c) w.messages x f.messages (one_of _ _ ok); waits = f.waits; threads = f.threads; senders = every-push (is_sent w.used_threads) w.messages x f.senders (other_of _ _ ok); creators = f.creators; registrations = f.registrations; processes = f.processes; lives = f.lives }
+keeps-fair m c w (Enters x) ok f = record { tables = f.tables; ports = f.ports; messages = every-push (is_fair_message m c) w.messages x f.messages (first-true _ _ ok); waits = f.waits; threads = f.threads; senders = every-push (is_sent w.used_threads) w.messages x f.senders (second-true _ _ ok); creators = f.creators; registrations = f.registrations; processes = f.processes; lives = f.lives }
 keeps-fair m c w (Takes q) ok f = record { tables = f.tables; ports = f.ports; messages = every-without_first (is_fair_message m c) _ w.messages f.messages; waits = f.waits; threads = f.threads; senders = every-without_first (is_sent w.used_threads) _ w.messages f.senders; creators = f.creators; registrations = f.registrations; processes = f.processes; lives = f.lives }
 keeps-fair m c w (TakesConnect q) ok f = record { tables = f.tables; ports = f.ports; messages = every-without_first (is_fair_message m c) _ w.messages f.messages; waits = f.waits; threads = f.threads; senders = every-without_first (is_sent w.used_threads) _ w.messages f.senders; creators = f.creators; registrations = f.registrations; processes = f.processes; lives = f.lives }
 keeps-fair m c w (DrawsIdentifier who) ok f = record { tables = f.tables; ports = f.ports; messages = f.messages; waits = f.waits; threads = every-change (is_homed w.used_threads) (is_thread who) past_identifier (λ t is. is) w.threads f.threads; senders = f.senders; creators = f.creators; registrations = every-change is_fair_thread (is_thread who) past_identifier (λ t is. is) w.threads f.registrations; processes = f.processes; lives = every-change (is_fair_life m) (is_thread who) past_identifier (λ t is. is) w.threads f.lives }
@@ -269,25 +270,25 @@ keeps-fair m c w (Registers who b) ok f = record {
   threads = every-change (is_homed w.used_threads) (is_thread who) (registering b) (λ t is. is) w.threads f.threads;
   senders = f.senders;
   creators = f.creators;
-  registrations = every-change_to (λ t. is_homed w.used_threads t && is_fair_thread t) is_fair_thread (is_thread who) (registering b) (λ t is its. registering-fair w.used_threads who b t ok (one_of _ _ is) (other_of (is_homed w.used_threads t) _ is) its) (λ t is off. other_of (is_homed w.used_threads t) _ is) w.threads
-      (every-both (is_homed w.used_threads) is_fair_thread _ (λ t one two. both _ _ one two) w.threads f.threads f.registrations);
+  registrations = every-change_to (λ t. is_homed w.used_threads t && is_fair_thread t) is_fair_thread (is_thread who) (registering b) (λ t is its. registering-fair w.used_threads who b t ok (first-true _ _ is) (second-true (is_homed w.used_threads t) _ is) its) (λ t is off. second-true (is_homed w.used_threads t) _ is) w.threads
+      (every-both (is_homed w.used_threads) is_fair_thread _ (λ t one two. and_from _ _ one two) w.threads f.threads f.registrations);
 }
 keeps-fair m c w (Unregisters who b) ok f = record { tables = f.tables; ports = f.ports; messages = f.messages; waits = f.waits; threads = every-change (is_homed w.used_threads) (is_thread who) (unregistering b) (λ t is. is) w.threads f.threads; senders = f.senders; creators = f.creators; registrations = every-change is_fair_thread (is_thread who) (unregistering b) (λ t is. every-without (λ c. c.process == t.process) (same_birth b) t.registrations is) w.threads f.registrations; processes = f.processes; lives = every-change (is_fair_life m) (is_thread who) (unregistering b) (λ t is. is) w.threads f.lives }
 keeps-fair m c w (AddsProcess p) ok f = record { tables = every-push is_fair_table w.handles (no_handles p.number) f.tables refl; ports = f.ports; messages = f.messages; waits = f.waits; threads = f.threads; senders = f.senders; creators = f.creators; registrations = f.registrations; processes = every-push (is_fair_process m) w.processes p f.processes ok; lives = f.lives }
 keeps-fair m c w (AddsThread t) ok f = record {
   processes = f.processes;
-  lives = every-push (is_fair_life m) w.threads t f.lives (other_of (is_fair_thread t) _ (other_of (not (has (is_used_thread t.number) w.used_threads)) _ ok));
+  lives = every-push (is_fair_life m) w.threads t f.lives (second-true (is_fair_thread t) _ (second-true (not (has (is_used_thread t.number) w.used_threads)) _ ok));
   tables = f.tables;
   ports = f.ports;
   messages = f.messages;
   waits = f.waits;
-  registrations = every-push is_fair_thread w.threads t f.registrations (one_of _ _ (other_of (not (has (is_used_thread t.number) w.used_threads)) _ ok));
+  registrations = every-push is_fair_thread w.threads t f.registrations (first-true _ _ (second-true (not (has (is_used_thread t.number) w.used_threads)) _ ok));
   senders = every-more (is_sent w.used_threads) _ (added-sent w.used_threads (used t)) w.messages f.senders;
   creators = every-more (is_created w.used_threads) _ (added-created w.used_threads (used t)) w.ports f.creators;
   threads = every-push (is_homed (w.used_threads ++ used t ∷ [])) w.threads t (every-more (is_homed w.used_threads) _ (added-home w.used_threads (used t)) w.threads f.threads)
       (rw (first-push (is_used_thread t.number) w.used_threads (used t) (grind arith) (same-number t.number)) (same-number t.process));
 }
-keeps-fair m c w (Makes p) ok f = record { tables = f.tables; ports = every-push (is_fair_port m c) w.ports p f.ports (other_of _ _ ok); messages = f.messages; waits = f.waits; threads = f.threads; senders = f.senders; creators = every-push (is_created w.used_threads) w.ports p f.creators (one_of _ _ ok); registrations = f.registrations; processes = f.processes; lives = f.lives }
+keeps-fair m c w (Makes p) ok f = record { tables = f.tables; ports = every-push (is_fair_port m c) w.ports p f.ports (second-true _ _ ok); messages = f.messages; waits = f.waits; threads = f.threads; senders = f.senders; creators = every-push (is_created w.used_threads) w.ports p f.creators (first-true _ _ ok); registrations = f.registrations; processes = f.processes; lives = f.lives }
 keeps-fair m c w (Joins client server context) ok f = record {
   processes = f.processes;
   lives = f.lives;
@@ -300,7 +301,7 @@ keeps-fair m c w (Joins client server context) ok f = record {
   creators = rw (every-map (is_created w.used_threads) (joined client server context) w.ports) (every-more (is_created w.used_threads) _ (joined-created w.used_threads client server context) w.ports f.creators);
   ports = rw (every-map (is_fair_port m c) (joined client server context) w.ports)
       (every-both (λ p. is_no_server_at client p && is_server_at server p) (is_fair_port m c) _ (joined-fair m c client server context (grind arith) (grind arith)) w.ports
-      (every-both (is_no_server_at client) (is_server_at server) _ (λ p a b. both _ _ a b) w.ports (grind arith) (grind arith)) f.ports);
+      (every-both (is_no_server_at client) (is_server_at server) _ (λ p a b. and_from _ _ a b) w.ports (grind arith) (grind arith)) f.ports);
 }
 keeps-fair m c w (Completes b) ok f = record { tables = f.tables; ports = every-change (is_fair_port m c) (is_port b) completed (λ p is. is) w.ports f.ports; messages = f.messages; waits = f.waits; threads = f.threads; senders = f.senders; creators = every-change (is_created w.used_threads) (is_port b) completed (λ p is. is) w.ports f.creators; registrations = f.registrations; processes = f.processes; lives = f.lives }
 keeps-fair m c w (Withdraws who) ok f = record { tables = f.tables; ports = f.ports; messages = every-without (is_fair_message m c) (is_own_of who) w.messages f.messages; waits = f.waits; threads = f.threads; senders = every-without (is_sent w.used_threads) (is_own_of who) w.messages f.senders; creators = f.creators; registrations = f.registrations; processes = f.processes; lives = f.lives }
@@ -318,8 +319,8 @@ are_fair m c w (b ∷ bs) = is_fair_step m c w b && are_fair m c (basic w b) bs
 
 pub run-fair : (m : Group) (c : ℕ) (w : World) (bs : List Basic) → are_fair m c w bs ≡ true → Fair m c w → Fair m c (world_after w bs)
 run-fair m c w [] ok f = f
-run-fair m c w (b ∷ bs) ok f = run-fair m c (basic w b) bs (other_of _ _ ok) (keeps-fair m c w b (one_of _ _ ok) f)
+run-fair m c w (b ∷ bs) ok f = run-fair m c (basic w b) bs (second-true _ _ ok) (keeps-fair m c w b (first-true _ _ ok) f)
 
 pub fair-append : (m : Group) (c : ℕ) (w : World) (bs cs : List Basic) → are_fair m c w bs ≡ true → are_fair m c (world_after w bs) cs ≡ true → are_fair m c w (bs ++ cs) ≡ true
 fair-append m c w [] cs one two = two
-fair-append m c w (b ∷ bs) cs one two = both _ _ (one_of _ _ one) (fair-append m c (basic w b) bs cs (other_of _ _ one) two)
+fair-append m c w (b ∷ bs) cs one two = and_from _ _ (first-true _ _ one) (fair-append m c (basic w b) bs cs (second-true _ _ one) two)

@@ -1,9 +1,11 @@
 -- The ports that go are as fine as those that stay.
 use Rattle.std.proofs.Common.{◌≡◌, ℕ, List, [], ◌∷◌, ◌++◌, Bool, true, false, not, map, Option, Some, None, refl, ap, sym, subst, ◌∙◌, arith}
 use Rattle.std.specs.Prelude.{◌&&◌, ◌==◌, Result, Ok, Err}
-use Rattle.std.proofs.lemmas.Bool.{eqb-true}
+use Rattle.std.proofs.lemmas.Bool.{and_from, eqb-true}
 use Rattle.lpc_base.specs.Rows.{change, every, first, given, has, which, without}
-use Rattle.lpc_base.proofs.RowWords.{every-append, every-change, every-push, has-change, has-push}
+use Rattle.lpc_base.proofs.RowWords.{every-append, every-change, every-push, has-change, has-off, has-push}
+use Rattle.lpc_base.proofs.Bools.{first-true, same-number, second-true}
+use Rattle.lpc_base.proofs.Births.{birth-same, birth-self}
 use Rattle.lpc_base.specs.declared.status.Status.{Status}
 use Rattle.lpc_base.specs.declared.status.TheConstants.{INVALID_PORT_HANDLE, SUCCESS}
 use Rattle.lpc_model.specs.Message.{asks, message_test}
@@ -21,8 +23,6 @@ use Rattle.lpc_model.specs.Lines.{accept_connect_port, complete_connect_port, co
 use Rattle.lpc_isolation.proofs.Served.{served}
 use Rattle.lpc_model.specs.Circle.{Group, is_fine_client, is_fine_port, is_fine_process}
 use Rattle.lpc_isolation.proofs.Alone.{HasFineRows}
-use Rattle.lpc_model.proofs.Births.{birth-same, birth-self}
-use Rattle.lpc_isolation.proofs.View.{both, one_of, other_of, same-number}
 use Rattle.lpc_model.proofs.Holding.{Holds, bind_holds, holds_ok}
 use Rattle.lpc_isolation.proofs.Filters.{first-push_off}
 use Rattle.lpc_isolation.proofs.Create.{made-holds}
@@ -78,18 +78,14 @@ basic-fine m c u (AddsThread t) ok f = f
 
 pub run-fine : (m : Group) (c : ℕ) (u : World) (bs : List Basic) → every (makes_fine m c) bs ≡ true → HasFineRows m c u → HasFineRows m c (world_after u bs)
 run-fine m c u [] ok f = f
-run-fine m c u (b ∷ bs) ok f = run-fine m c (basic u b) bs (other_of _ _ ok) (basic-fine m c u b (one_of _ _ ok) f)
+run-fine m c u (b ∷ bs) ok f = run-fine m c (basic u b) bs (second-true _ _ ok) (basic-fine m c u b (first-true _ _ ok) f)
 
 -- the client port of a connect is held by its wait when the line ends
 abbrev keeps_client : Birth → ℕ → WaitRow → Bool
 keeps_client n tid x = is_made_on n x && (x.thread == tid)
 
-has-off : {X : Type 0} (p s : X → Bool) → ((x : X) → p x ≡ true → s x ≡ false) → (xs : List X) → has p xs ≡ true → has p (without s xs) ≡ true
-has-off p s off [] is = is
-has-off p s off (x ∷ xs) is = grind (arith, off x, has-off p s off xs)
-
 ended-keeps : (n : Birth) (tid : ℕ) (z : WaitRow) → (tid == z.thread) ≡ false → (ws : List WaitRow) → has (keeps_client n tid) ws ≡ true → has (keeps_client n tid) (without (waits_as z.thread) ws) ≡ true
-ended-keeps n tid z other ws is = has-off (keeps_client n tid) (waits_as z.thread) (λ x kept. let same : x.thread ≡ tid = eqb-true _ _ (other_of (is_made_on n x) (x.thread == tid) kept) in subst (λ t. (t == z.thread) ≡ false) (sym same) other) ws is
+ended-keeps n tid z other ws is = has-off (keeps_client n tid) (waits_as z.thread) (λ x kept. let same : x.thread ≡ tid = eqb-true _ _ (second-true (is_made_on n x) (x.thread == tid) kept) in subst (λ t. (t == z.thread) ≡ false) (sym same) other) ws is
 
 taken-keeps : (n : Birth) (tid : ℕ) (z : WaitRow) (who : ℕ) (q : Birth) → (tid == z.thread) ≡ false → (ws : List WaitRow) → has (keeps_client n tid) ws ≡ true → has (keeps_client n tid) (without (waits_as z.thread) (change (waits_at who q) received ws)) ≡ true
 taken-keeps n tid z who q other ws is = ended-keeps n tid z other (change (waits_at who q) received ws) (has-change (keeps_client n tid) (waits_at who q) received (λ x. refl) ws ∙ is)
@@ -118,14 +114,14 @@ connect-keeps u by q bytes idle =
     let y : WaitRow = connect_wait by q (connection_request by bytes) in
     entered-keeps (next_birth by) by.number (world_after u (starting by q bytes)) x (first (takes x) (u.waits ++ y ∷ []))
     (λ z at. other-thread u by.number (takes x) z idle (sym (first-push_off (takes x) u.waits y refl) ∙ at))
-    (has-push (keeps_client (next_birth by) by.number) u.waits y (both _ _ (birth-self (next_birth by)) (same-number by.number)))
+    (has-push (keeps_client (next_birth by) by.number) u.waits y (and_from _ _ (birth-self (next_birth by)) (same-number by.number)))
 
 live-made : (k : Alive) (n : Birth) (tid : ℕ) (ws : List WaitRow) → every (wait_closed k) ws ≡ true → has (keeps_client n tid) ws ≡ true → k.ports n ≡ true
 live-made k n tid [] all is = absurd (cc)
-live-made k n tid (x ∷ xs) all is = at (keeps_client n tid x) refl is (live-made k n tid xs (other_of _ _ all))
+live-made k n tid (x ∷ xs) all is = at (keeps_client n tid x) refl is (live-made k n tid xs (second-true _ _ all))
   where
     at : (b : Bool) → keeps_client n tid x ≡ b → has (keeps_client n tid) (x ∷ xs) ≡ true → (has (keeps_client n tid) xs ≡ true → k.ports n ≡ true) → k.ports n ≡ true
-    at true here is rest = ap k.ports (sym (birth-same x.port n (one_of _ _ here))) ∙ one_of _ _ all
+    at true here is rest = ap k.ports (sym (birth-same x.port n (first-true _ _ here))) ∙ first-true _ _ all
     at false off is rest = rest (rw off at is)
 
 pub kept-last : {X : Type 0} (p k : X → Bool) (xs : List X) (y : X) → every p (which k (xs ++ y ∷ [])) ≡ true → k y ≡ true → p y ≡ true

@@ -4,11 +4,11 @@ use Rattle.std.specs.Prelude.{◌||◌, ◌==◌, nat_lt}
 use Rattle.std.proofs.lemmas.Bool.Decides.{nat_tests}
 use Rattle.lpc_base.specs.Rows.{every}
 use Rattle.lpc_base.proofs.RowWords.{every-more}
+use Rattle.lpc_base.proofs.Births.{birth-same}
 use Rattle.lpc_model.specs.World.{Birth, PortRow, ThreadRow, World}
 use Rattle.lpc_model.specs.Found.{is_port, live_thread}
 use Rattle.lpc_model.specs.Tests.{next_birth}
 use Rattle.lpc_model.specs.SoundWaits.{IsSoundWorld, is_past}
-use Rattle.lpc_model.proofs.Births.{birth-same}
 
 -- no port has the birth
 abbrev pub is_new : Birth → PortRow → Bool

@@ -1,10 +1,12 @@
 -- What a line may make is alive with what stands: it has births that no row has.
 use Rattle.std.proofs.Common.{◌≡◌, ℕ, List, [], ◌∷◌, Bool, true, false, not, Option, Some, None, refl, sym, subst, arith}
 use Rattle.std.specs.Prelude.{◌&&◌, ◌||◌, ◌==◌, Ok}
-use Rattle.std.proofs.lemmas.Bool.{eqb-true}
+use Rattle.std.proofs.lemmas.Bool.{and_from, eqb-true, or_left, or_right}
 use Rattle.lpc_base.specs.Rows.{every, which}
-use Rattle.lpc_base.proofs.RowWords.{every-more}
+use Rattle.lpc_base.proofs.RowWords.{every-more, every-true}
 use Rattle.lpc_base.proofs.RowMaps.{every-both}
+use Rattle.lpc_base.proofs.Bools.{first-true, same-number, second-true}
+use Rattle.lpc_base.proofs.Births.{birth-self}
 use Rattle.lpc_model.specs.declared.entry.ObjectKind.{ObjectKind}
 use Rattle.lpc_model.specs.declared.entry.ObjectKind.TheVariants as kind
 use Rattle.lpc_model.specs.declared.entry.Word.TheVariants as word
@@ -16,12 +18,9 @@ use Rattle.lpc_model.specs.Machine.{bare_steps, boot_line, directive_birth, thre
 use Rattle.lpc_model.specs.Creation.{second_birth}
 use Rattle.lpc_model.specs.Tests.{next_birth}
 use Rattle.lpc_model.specs.SoundWaits.{IsSoundWorld}
-use Rattle.lpc_model.proofs.Births.{birth-self}
 use Rattle.lpc_model.proofs.Creating.{tested-further}
 use Rattle.lpc_model.proofs.Holding.{bind_holds, directed_holds, holds_ok}
 use Rattle.lpc_isolation.proofs.Served.{served_steps}
-use Rattle.lpc_isolation.proofs.View.{both, one_of, other_of, same-number}
-use Rattle.lpc_isolation.proofs.Filters.{every-any}
 use Rattle.lpc_isolation.proofs.Fresh.{next-new}
 use Rattle.lpc_isolation.proofs.Thin.{Alive, Closed, alive_as, all_alive, handle_closed, message_closed, port_alive, port_closed, port_cut, process_alive, process_closed, table_closed, thin, thread_alive, thread_closed, wait_closed}
 use Rattle.lpc_isolation.proofs.ThinCalls.{AreClosed}
@@ -43,22 +42,16 @@ pub record IsNew (n : Alive) (u : World) : Type 0 where
   pub processes : every (λ p. not (n.processes p.birth) && not (n.homes p.number)) u.processes ≡ true
   pub threads : every (λ t. not (n.threads t.birth)) u.threads ≡ true
 
-or-first : (a b : Bool) → a ≡ true → (a || b) ≡ true
-or-first a b is = grind arith
-
-or-second : (a b : Bool) → b ≡ true → (a || b) ≡ true
-or-second a b is = grind arith
-
 as-more : (n k : Alive) (s : ObjectKind) (b : Birth) → alive_as k s b ≡ true → alive_as (either n k) s b ≡ true
-as-more n k kind.Port b is = or-first (k.ports b) (n.ports b) is
+as-more n k kind.Port b is = or_left (k.ports b) (n.ports b) is
 as-more n k kind.Section b is = is
 as-more n k kind.Token b is = is
-as-more n k kind.Process b is = or-first (k.processes b) (n.processes b) is
-as-more n k kind.Thread b is = or-first (k.threads b) (n.threads b) is
+as-more n k kind.Process b is = or_left (k.processes b) (n.processes b) is
+as-more n k kind.Thread b is = or_left (k.threads b) (n.threads b) is
 
 all-more : (n k : Alive) (o : Option Birth) → all_alive k.ports o ≡ true → all_alive (either n k).ports o ≡ true
 all-more n k None is = refl
-all-more n k (Some b) is = or-first (k.ports b) (n.ports b) is
+all-more n k (Some b) is = or_left (k.ports b) (n.ports b) is
 
 port-more : (n k : Alive) (p : PortRow) → port_closed k p ≡ true → not (n.ports p.birth) ≡ true → port_closed (either n k) p ≡ true
 port-more n k p is new = at (k.ports p.birth) (n.ports p.birth) refl refl
@@ -69,7 +62,7 @@ port-more n k p is new = at (k.ports p.birth) (n.ports p.birth) refl refl
     at : (e f : Bool) → k.ports p.birth ≡ e → n.ports p.birth ≡ f → port_closed (either n k) p ≡ true
     at true f live other =
         let named = pairs true live in
-        rw live (both _ _ (all-more n k p.pair (one_of _ _ named)) (all-more n k p.connection (other_of _ _ named)))
+        rw live (and_from _ _ (all-more n k p.pair (first-true _ _ named)) (all-more n k p.connection (second-true _ _ named)))
     at false true dead other = absurd (grind arith)
     at false false dead other = rw (dead, other) refl
 
@@ -89,9 +82,9 @@ pub either-closed : (n k : Alive) (u : World) → IsNew n u → Closed k u → C
 either-closed n k u new c = record {
   tables = every-more (table_closed k) (table_closed (either n k)) (λ t is. every-more (handle_closed k) (handle_closed (either n k)) (λ h live. as-more n k h.object.kind h.object.birth live) t.rows is) u.handles c.tables;
   ports = every-both (port_closed k) (λ p. not (n.ports p.birth)) (port_closed (either n k)) (port-more n k) u.ports c.ports new.ports;
-  messages = every-more (message_closed k) (message_closed (either n k)) (λ x is. or-first (k.ports x.sender) (n.ports x.sender) is) u.messages c.messages;
-  waits = every-more (wait_closed k) (wait_closed (either n k)) (λ x is. or-first (k.ports x.port) (n.ports x.port) is) u.waits c.waits;
-  registrations = every-more k.ports (either n k).ports (λ b is. or-first (k.ports b) (n.ports b) is) (all_registrations u) c.registrations;
+  messages = every-more (message_closed k) (message_closed (either n k)) (λ x is. or_left (k.ports x.sender) (n.ports x.sender) is) u.messages c.messages;
+  waits = every-more (wait_closed k) (wait_closed (either n k)) (λ x is. or_left (k.ports x.port) (n.ports x.port) is) u.waits c.waits;
+  registrations = every-more k.ports (either n k).ports (λ b is. or_left (k.ports b) (n.ports b) is) (all_registrations u) c.registrations;
   cuts = every-more (port_cut k) (port_cut (either n k)) (λ p is. grind arith) u.ports c.cuts;
   threads = every-more (thread_closed k) (thread_closed (either n k)) (thread-more n k) u.threads c.threads;
   processes = every-both (process_closed k) (λ p. not (n.processes p.birth) && not (n.homes p.number)) (process_closed (either n k)) (process-more n k) u.processes c.processes new.processes;
@@ -108,7 +101,7 @@ same-rows u ps qs ts ss os rs a b c = rw (a, b, c) refl
 pub either-thin : (n k : Alive) (u : World) → IsNew n u → thin (either n k) u ≡ thin k u
 either-thin n k u new =
     same-rows u (which (process_alive (either n k)) u.processes) (which (process_alive k) u.processes) (which (thread_alive (either n k)) u.threads) (which (thread_alive k) u.threads) (which (port_alive (either n k)) u.ports) (which (port_alive k) u.ports)
-    (which-either (process_alive k) (process_alive n) u.processes (every-more (λ p. not (n.processes p.birth) && not (n.homes p.number)) (λ p. not (n.processes p.birth)) (λ p is. one_of _ _ is) u.processes new.processes))
+    (which-either (process_alive k) (process_alive n) u.processes (every-more (λ p. not (n.processes p.birth) && not (n.homes p.number)) (λ p. not (n.processes p.birth)) (λ p is. first-true _ _ is) u.processes new.processes))
     (which-either (thread_alive k) (thread_alive n) u.threads new.threads)
     (which-either (port_alive k) (port_alive n) u.ports new.ports)
 
@@ -132,7 +125,7 @@ home-apart u call n was = refl
 pub next-births : (u : World) (by : ThreadRow) (call : ScriptCall) → live_thread u by.number ≡ Some by → IsSoundWorld u → Born u → IsNew (next_births u by call) u
 next-births u by call live s o = record {
   ports = next-new u by.number by s live;
-  processes = every-both (λ p. not (same_birth p.birth (next_birth by))) (λ p. was_process u p.number) (λ p. not (same_birth p.birth (next_birth by)) && not (is_home u call p.number)) (λ p new was. both _ _ new (home-apart u call p.number was)) u.processes (next-process u by live o) o.numbers;
+  processes = every-both (λ p. not (same_birth p.birth (next_birth by))) (λ p. was_process u p.number) (λ p. not (same_birth p.birth (next_birth by)) && not (is_home u call p.number)) (λ p new was. and_from _ _ new (home-apart u call p.number was)) u.processes (next-process u by live o) o.numbers;
   threads = next-threads u by live o;
 }
 
@@ -141,11 +134,11 @@ room-of k u by call =
     let n : Birth = next_birth by in
     let m : Birth = second_birth by in
     record {
-      port = or-second (k.ports n) (same_birth n n) (birth-self n);
-      process = or-second (k.processes n) (same_birth n n) (birth-self n);
-      thread = or-second (k.threads n) (same_birth n n || same_birth n m) (or-first (same_birth n n) (same_birth n m) (birth-self n));
-      second = or-second (k.threads m) (same_birth m n || same_birth m m) (or-second (same_birth m n) (same_birth m m) (birth-self m));
-      home = λ i is. or-second (k.homes i) (is_home u call i) is;
+      port = or_right (k.ports n) (same_birth n n) (birth-self n);
+      process = or_right (k.processes n) (same_birth n n) (birth-self n);
+      thread = or_right (k.threads n) (same_birth n n || same_birth n m) (or_left (same_birth n n) (same_birth n m) (birth-self n));
+      second = or_right (k.threads m) (same_birth m n || same_birth m m) (or_right (same_birth m n) (same_birth m m) (birth-self m));
+      home = λ i is. or_right (k.homes i) (is_home u call i) is;
     }
 
 -- What a directive makes
@@ -191,8 +184,8 @@ boot-grows k u pid tid o c = at (was_process u pid) (was_thread u tid) refl refl
     at false false was used =
         let p : Birth = directive_birth pid pid in
         let t : Birth = directive_birth tid pid in
-        grown (boot_births pid tid) k u _ (record { ports = every-any u.ports; processes = directed-processes u pid was o; threads = directed-threads u tid pid used o }) c
-        (rw (was, used) (boot-names (k.processes p || same_birth p p) (k.threads t || same_birth t t) (k.homes pid || (pid == pid)) (or-second (k.processes p) (same_birth p p) (birth-self p)) (or-second (k.threads t) (same_birth t t) (birth-self t)) (or-second (k.homes pid) (pid == pid) (same-number pid))))
+        grown (boot_births pid tid) k u _ (record { ports = every-true u.ports; processes = directed-processes u pid was o; threads = directed-threads u tid pid used o }) c
+        (rw (was, used) (boot-names (k.processes p || same_birth p p) (k.threads t || same_birth t t) (k.homes pid || (pid == pid)) (or_right (k.processes p) (same_birth p p) (birth-self p)) (or_right (k.threads t) (same_birth t t) (birth-self t)) (or_right (k.homes pid) (pid == pid) (same-number pid))))
 
 pub thread-grows : (k : Alive) (u : World) (tid pid : ℕ) → Born u → Closed k u → Grows k u (served_steps (thread tid pid) u)
 unfolding bare_steps thread_line
@@ -206,6 +199,6 @@ thread-grows k u tid pid o c = at (was_thread u tid) refl
     at false unused =
         let t : Birth = directive_birth tid pid in
         let k' : Alive = either (thread_births tid pid) k in
-        grown (thread_births tid pid) k u _ (record { ports = every-any u.ports; processes = every-any u.processes; threads = directed-threads u tid pid unused o }) c
+        grown (thread_births tid pid) k u _ (record { ports = every-true u.ports; processes = every-true u.processes; threads = directed-threads u tid pid unused o }) c
         (directed_holds (AreClosed k') word.Thread (thread_line u tid pid) (bind_holds (thread_test u tid pid) _ (AreClosed k') (λ v is.
-        thread-names (k.threads t || same_birth t t) (k.homes pid || false) (or-second (k.threads t) (same_birth t t) (birth-self t)) (or-first (k.homes pid) false (home-live k u pid c (facts v is).0)))) (λ _. refl))
+        thread-names (k.threads t || same_birth t t) (k.homes pid || false) (or_right (k.threads t) (same_birth t t) (birth-self t)) (or_left (k.homes pid) false (home-live k u pid c (facts v is).0)))) (λ _. refl))

@@ -5,6 +5,7 @@ use Rattle.std.proofs.lemmas.Bool.{eqb-true}
 use Rattle.std.proofs.lemmas.Bool.Decides.{nat_tests}
 use Rattle.lpc_base.specs.Rows.{every, first, has, passes, which, without}
 use Rattle.lpc_base.proofs.RowWords.{every-append, every-more}
+use Rattle.lpc_base.proofs.Bools.{first-true, second-true}
 use Rattle.lpc_base.specs.declared.status.Status.{Status}
 use Rattle.lpc_message.specs.Layout.{header_of}
 use Rattle.lpc_message.specs.declared.kind.TheConstants.{CLIENT_DIED, CONNECTION_REQUEST, DATAGRAM, PORT_CLOSED, REQUEST}
@@ -20,7 +21,7 @@ use Rattle.lpc_model.specs.Basics.{Basic, entries_of, told}
 use Rattle.lpc_model.specs.Tests.{port_test}
 use Rattle.lpc_model.specs.Lines.{ScriptCall, ScriptLine, boot, dir, link, listen_port, reply_wait_receive_port, run, thread}
 use Rattle.lpc_model.specs.Circle.{Group, Item}
-use Rattle.lpc_isolation.proofs.View.{one_of, other_of, our_wait, view}
+use Rattle.lpc_isolation.proofs.View.{our_wait, view}
 use Rattle.lpc_isolation.proofs.Fair.{is_sent}
 use Rattle.lpc_isolation.proofs.Apart.{absorb}
 use Rattle.lpc_isolation.proofs.Takes.{shown_bytes}
@@ -209,7 +210,7 @@ silent-kept v (entry.Directive word status) e is = is
 pub entries-silent : (m : Group) (v : World) (memo : List Heard) (es : List Entry) → every (is_silent v) es ≡ true → entries_memo m v memo es ≡ memo
 entries-silent m v memo [] is = refl
 entries-silent m v memo (e ∷ es) is =
-    entries-silent m (absorb v e) (entry_memo m v memo e) es (every-more (is_silent v) (is_silent (absorb v e)) (silent-kept v e) es (other_of _ _ is)) ∙ entry-silent m v memo e (one_of _ _ is)
+    entries-silent m (absorb v e) (entry_memo m v memo e) es (every-more (is_silent v) (is_silent (absorb v e)) (silent-kept v e) es (second-true _ _ is)) ∙ entry-silent m v memo e (first-true _ _ is)
 
 -- a list of steps that tells such entries alone
 abbrev pub is_silent_step : World → Basic → Bool
@@ -217,7 +218,7 @@ is_silent_step v b = every (is_silent v) (told b)
 
 pub steps-silent : (v : World) (bs : List Basic) → every (is_silent_step v) bs ≡ true → every (is_silent v) (entries_of bs) ≡ true
 steps-silent v [] is = refl
-steps-silent v (b ∷ bs) is = every-append (is_silent v) (told b) (entries_of bs) (one_of _ _ is) (steps-silent v bs (other_of _ _ is))
+steps-silent v (b ∷ bs) is = every-append (is_silent v) (told b) (entries_of bs) (first-true _ _ is) (steps-silent v bs (second-true _ _ is))
 
 -- whom a line woke waits no more at its end
 none-kept : (k q : WaitRow → Bool) (xs : List WaitRow) → has q xs ≡ false → first q (which k xs) ≡ None

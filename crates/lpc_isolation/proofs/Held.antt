@@ -1,9 +1,11 @@
 -- Behind the sweep what counts for a port is what the machine whose rows never go counts.
 use Rattle.std.proofs.Common.{◌≡◌, List, [], ◌∷◌, Bool, true, false, not, Option, Some, None, refl, ap, sym, subst, ◌∙◌, arith}
+use Rattle.std.proofs.lemmas.Bool.{and_from}
 use Rattle.std.specs.Prelude.{◌&&◌, ◌||◌, ◌==◌, ◌+◌, length}
 use Rattle.lpc_base.specs.Rows.{count, every, first, has, which}
 use Rattle.lpc_base.proofs.RowWords.{first-passes}
 use Rattle.lpc_base.proofs.RowMaps.{every-first}
+use Rattle.lpc_base.proofs.Births.{birth-same}
 use Rattle.lpc_model.specs.declared.entry.ObjectKind.{ObjectKind}
 use Rattle.lpc_model.specs.declared.entry.ObjectKind.TheVariants as kind
 use Rattle.lpc_model.specs.World.{Birth, MessageRow, ObjectName, PortRow, WaitRow, World}
@@ -11,11 +13,9 @@ use Rattle.lpc_model.specs.Found.{handle_count, is_client_port, is_connected_to,
 use Rattle.lpc_model.specs.Sweep.{is_unheld}
 use Rattle.lpc_model.specs.Linked.{HasHeldPorts, IsLinked, is_mutual, names_nothing}
 use Rattle.lpc_model.specs.Standing.{NamesWhatStands, has_near_queue, is_near}
-use Rattle.lpc_model.proofs.Births.{birth-same}
 use Rattle.lpc_model.proofs.Rows.{has-found}
 use Rattle.lpc_model.proofs.Swept.{connected-end, found-self, is_held_aside, is_held_by, unheld-parts}
 use Rattle.lpc_isolation.proofs.Served.{is_aside, is_made_to, is_sent_to, standing_count}
-use Rattle.lpc_isolation.proofs.View.{both}
 use Rattle.lpc_isolation.proofs.Sent.{Sent, is_sent_home, leads_home}
 
 -- what is known of each world between two lines
@@ -48,7 +48,7 @@ module _ (w : World) (h : Held w) (b : Birth) (p : PortRow) (here : port_row w p
           let row : port_row w y.sender ≡ Some p = ap (port_row w) (birth-same y.sender p.birth sender) ∙ here in
           let home : is_sent_home w y ≡ true = every-first (is_sent_home w) (is_sent_on p.birth) w.messages y h.sent some in
           let leads : leads_home y.queue p ≡ true = rw row at home in
-          has-found (is_sent_to b p) (is_sent_on p.birth) w.messages y some (both _ _ sender (queue y leads p.connection refl to))
+          has-found (is_sent_to b p) (is_sent_on p.birth) w.messages y some (and_from _ _ sender (queue y leads p.connection refl to))
 
   -- a wait that was made on it
   made-to : has (is_made_on p.birth) w.waits ≡ true → has (is_made_to p) w.waits ≡ true
@@ -61,7 +61,7 @@ module _ (w : World) (h : Held w) (b : Birth) (p : PortRow) (here : port_row w p
           let row : port_row w x.port ≡ Some p = ap (port_row w) (birth-same x.port p.birth made) ∙ here in
           let there : has_near_queue w x ≡ true = every-first (has_near_queue w) (is_made_on p.birth) w.waits x h.names.queues some in
           let near : is_near x p ≡ true = rw row at there in
-          has-found (is_made_to p) (is_made_on p.birth) w.waits x some (both _ _ made (or-true (is_near x p) (not (is_client_port p)) near))
+          has-found (is_made_to p) (is_made_on p.birth) w.waits x some (and_from _ _ made (or-true (is_near x p) (not (is_client_port p)) near))
         where
           or-true : (a d : Bool) → a ≡ true → (a || d) ≡ true
           or-true a d is = grind arith

@@ -1,11 +1,12 @@
 -- The numbers of processes are below 2^31, so a message's client reads back from its bytes.
 use Rattle.std.proofs.Common.{◌≡◌, ◌≤◌, ◌%◌, ◌/◌, ◌+◌, ◌*◌, ℕ, List, [], ◌∷◌, ◌++◌, Bool, true, false, not, Option, Some, None, refl, subst, arith}
 use Rattle.std.specs.Prelude.{◌&&◌, ◌==◌, codes, nat_le, nat_lt, length, Result, Ok, Err, if◌then◌else◌}
-use Rattle.std.proofs.lemmas.Bool.{eqb-true}
+use Rattle.std.proofs.lemmas.Bool.{and_from, eqb-true}
 use Rattle.std.proofs.lemmas.Bool.Decides.{nat_tests}
 use Rattle.lpc_base.specs.Rows.{every, first, passes}
 use Rattle.lpc_base.proofs.RowWords.{every-more, first-passes}
 use Rattle.lpc_base.proofs.RowMaps.{every-first}
+use Rattle.lpc_base.proofs.Bools.{first-true, same-number, second-true}
 use Rattle.lpc_base.specs.declared.limits.TheConstants.{LINES_LIMIT, LINE_LIMIT}
 use Rattle.lpc_message.specs.Layout.{header_bytes, header_of}
 use Rattle.lpc_message.specs.declared.message.Header.{Header}
@@ -29,7 +30,6 @@ use Rattle.lpc_model.specs.Script.{script_lines}
 use Rattle.std.specs.List.{list_all}
 use Rattle.lpc_model.specs.Found.{is_used_thread}
 use Rattle.lpc_model.proofs.GivenBytes.{Gives, gives_ok, then_gives}
-use Rattle.lpc_isolation.proofs.View.{both, one_of, other_of, same-number}
 use Rattle.lpc_isolation.proofs.Fair.{is_sent}
 use Rattle.lpc_isolation.proofs.Takes.{is_readable}
 use Rattle.lpc_isolation.proofs.Play.{are_ok}
@@ -56,7 +56,7 @@ reads-back us all x sent = at (first (is_used_thread x.message.header.client.thr
     at None none is = absurd (cc)
     at (Some u) some is =
         let same : u.process ≡ x.message.header.client.process = eqb-true _ _ is in
-        let few : nat_le x.message.header.client.process 2147483647 ≡ true = subst (λ n. nat_le n 2147483647 ≡ true) same (one_of _ _ (every-first of_number (is_used_thread x.message.header.client.thread) us u all some)) in
+        let few : nat_le x.message.header.client.process 2147483647 ≡ true = subst (λ n. nat_le n 2147483647 ≡ true) same (first-true _ _ (every-first of_number (is_used_thread x.message.header.client.thread) us u all some)) in
         rw (client-back x.message.header x.message.body few) (same-number x.message.header.client.process)
 
 -- and so does its thread
@@ -71,7 +71,7 @@ thread-reads us all x sent = at (first (is_used_thread x.message.header.client.t
     at None none is = absurd (cc)
     at (Some u) some is =
         let same : u.number ≡ x.message.header.client.thread = eqb-true _ _ (first-passes (is_used_thread x.message.header.client.thread) us u some) in
-        let few : nat_le x.message.header.client.thread 2147483647 ≡ true = subst (λ n. nat_le n 2147483647 ≡ true) same (other_of _ _ (every-first of_number (is_used_thread x.message.header.client.thread) us u all some)) in
+        let few : nat_le x.message.header.client.thread 2147483647 ≡ true = subst (λ n. nat_le n 2147483647 ≡ true) same (second-true _ _ (every-first of_number (is_used_thread x.message.header.client.thread) us u all some)) in
         thread-back x.message.header x.message.body few
 
 -- and its kind, where that is a number of two bytes
@@ -108,7 +108,7 @@ process-says : (others : List (List ℕ)) → Gives (λ (made : ℕ × ℕ). (is
 process-says others =
     let P : ℕ × ℕ → Type 0 = λ made. (is_id made.0 && is_id made.1) ≡ true in
     then_gives (two_words others) _ P (λ two _. then_gives (id_word two.0) _ P (λ pid one. then_gives (id_word two.1) _ P (λ tid other.
-    both _ _ (gives_ok IsId (id_word two.0) pid (id-says two.0) one) (gives_ok IsId (id_word two.1) tid (id-says two.1) other))))
+    and_from _ _ (gives_ok IsId (id_word two.0) pid (id-says two.0) one) (gives_ok IsId (id_word two.1) tid (id-says two.1) other))))
 
 target-says : (others : List (List ℕ)) → Gives (λ (made : ProcArg × ℕ). is_id made.1 ≡ true) (target_and_thread others)
 target-says others =
@@ -142,12 +142,12 @@ thread-says (word ∷ others) = then_gives (ok_or (call_named word) fault.Call) 
 
 call-says : (front : List ℕ) (others : List (List ℕ)) → Gives Ids (call_line front others)
 unfolding call_line
-call-says front others = then_gives (id_word front) _ Ids (λ tid is. then_gives (thread_call others) _ Ids (λ call made. both _ _ (gives_ok IsId (id_word front) tid (id-says front) is) (gives_ok HasCallIds (thread_call others) call (thread-says others) made)))
+call-says front others = then_gives (id_word front) _ Ids (λ tid is. then_gives (thread_call others) _ Ids (λ call made. and_from _ _ (gives_ok IsId (id_word front) tid (id-says front) is) (gives_ok HasCallIds (thread_call others) call (thread-says others) made)))
 
 directive-says : (word : Word) (others : List (List ℕ)) → Gives Ids (directive_words word others)
 unfolding directive_words
 directive-says Boot others = then_gives (process_and_thread others) _ Ids (λ made is. gives_ok (λ (made : ℕ × ℕ). (is_id made.0 && is_id made.1) ≡ true) (process_and_thread others) made (process-says others) is)
-directive-says Thread others = then_gives (two_words others) _ Ids (λ two _. then_gives (id_word two.0) _ Ids (λ tid one. then_gives (id_word two.1) _ Ids (λ pid other. both _ _ (gives_ok IsId (id_word two.0) tid (id-says two.0) one) (gives_ok IsId (id_word two.1) pid (id-says two.1) other))))
+directive-says Thread others = then_gives (two_words others) _ Ids (λ two _. then_gives (id_word two.0) _ Ids (λ tid one. then_gives (id_word two.1) _ Ids (λ pid other. and_from _ _ (gives_ok IsId (id_word two.0) tid (id-says two.0) one) (gives_ok IsId (id_word two.1) pid (id-says two.1) other))))
 directive-says Dir others = then_gives (one_word others) _ Ids (λ path _. refl)
 directive-says Link others = then_gives (two_words others) _ Ids (λ two _. refl)
 
@@ -187,7 +187,7 @@ numbered-says n line = at (nat_lt LINES_LIMIT n)
 said-says : (r : Result (Option ScriptLine) LineFault) (later : List (Option ScriptLine)) → Gives SomeIds r → are_ok has_ids later ≡ true → are_ok has_ids (unless_faulty r later) ≡ true
 said-says (Err e) later is rest = refl
 said-says (Ok None) later is rest = rest
-said-says (Ok (Some line)) later is rest = both _ _ is rest
+said-says (Ok (Some line)) later is rest = and_from _ _ is rest
 
 from-says : (n : ℕ) (lines : List (List ℕ)) → are_ok has_ids (said_from n lines) ≡ true
 unfolding said_from

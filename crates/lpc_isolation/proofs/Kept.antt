@@ -3,6 +3,7 @@ use Rattle.std.proofs.Common.{◌≡◌, ℕ, List, Bool, true, Option, Some, No
 use Rattle.std.specs.Prelude.{◌==◌}
 use Rattle.lpc_base.specs.Rows.{passes}
 use Rattle.lpc_base.proofs.RowWords.{every-more}
+use Rattle.lpc_base.proofs.Bools.{first-true}
 use Rattle.lpc_model.specs.World.{Birth, ThreadRow, WaitRow, World}
 use Rattle.lpc_model.specs.Found.{live_thread}
 use Rattle.lpc_model.specs.Basics.{world_after}
@@ -13,7 +14,6 @@ use Rattle.lpc_isolation.proofs.Served.{served}
 use Rattle.lpc_model.proofs.Holding.{Holds}
 use Rattle.lpc_model.specs.Circle.{Group}
 use Rattle.lpc_isolation.proofs.Alone.{HasFineRows}
-use Rattle.lpc_isolation.proofs.View.{one_of}
 use Rattle.lpc_isolation.proofs.Fair.{Fair, are_fair}
 use Rattle.lpc_isolation.proofs.Seen.{live-owner}
 use Rattle.lpc_isolation.proofs.Apart.{Owned, is_owned}
@@ -37,7 +37,7 @@ client-owner m c w x f is = at (live_thread w x.thread) refl is
     at (Some t) some is = rw (live-owner m c w x.thread t f some) is
 
 pub owned-sound : (m : Group) (c : ℕ) (w : World) → Fair m c w → HasSoundWaits w → Owned w w
-owned-sound m c w f s = every-more (is_sound_wait w) (is_owned w) (λ x is. client-owner m c w x f (one_of _ _ is)) w.waits s
+owned-sound m c w f s = every-more (is_sound_wait w) (is_owned w) (λ x is. client-owner m c w x f (first-true _ _ is)) w.waits s
 
 -- each call's steps are fair
 pub fair-create : (m : Group) (c : ℕ) (w : World) (by : ThreadRow) (known : List ℕ → Birth) (name : Option (List ℕ)) → At m c w by known → Holds (λ bs. HasFineRows m c (world_after w bs) → are_fair m c w bs ≡ true) (served w by (create_port name))

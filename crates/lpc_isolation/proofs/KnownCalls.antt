@@ -1,10 +1,12 @@
 -- Each call keeps it that what is remembered of outsiders' connects is right.
 use Rattle.std.proofs.Common.{◌≡◌, ◌≤◌, ℕ, List, [], ◌∷◌, ◌++◌, Bool, true, false, cond, not, Option, Some, None, refl, ap, sym, subst, ◌∙◌, arith}
 use Rattle.std.specs.Prelude.{◌&&◌, ◌||◌, ◌==◌, Result, Ok, Err}
-use Rattle.std.proofs.lemmas.Bool.{eqb-true}
+use Rattle.std.proofs.lemmas.Bool.{and_from, eqb-true}
 use Rattle.lpc_base.specs.Rows.{count, every, first, given, passes, which}
 use Rattle.lpc_base.proofs.RowWords.{every-append, every-more, every-push, every-which, every-without, first-passes}
 use Rattle.lpc_base.proofs.RowMaps.{every-first, every-none}
+use Rattle.lpc_base.proofs.Bools.{first-true, same-number, second-true}
+use Rattle.lpc_base.proofs.Births.{birth-same, birth-self}
 use Rattle.lpc_base.specs.declared.status.Status.{Status}
 use Rattle.lpc_base.specs.declared.status.TheConstants.{SUCCESS}
 use Rattle.lpc_message.specs.declared.kind.TheConstants.{DATAGRAM, REQUEST}
@@ -25,13 +27,12 @@ use Rattle.lpc_model.specs.Request.{reply_test, datagram_start, datagram_steps, 
 use Rattle.lpc_model.specs.Tests.{port_test}
 use Rattle.lpc_model.specs.Lines.{ScriptCall, accept_connect_port, complete_connect_port, connect_port, create_port, listen_port, reply_port, reply_wait_receive_port, request_port, request_wait_reply_port}
 use Rattle.lpc_isolation.proofs.Served.{served}
-use Rattle.lpc_model.proofs.Births.{birth-same, birth-self}
 use Rattle.lpc_model.proofs.Holding.{Holds, bind_holds}
 use Rattle.lpc_model.proofs.Rows.{lone}
 use Rattle.lpc_model.specs.Circle.{Group, Whose, owner}
 use Rattle.lpc_isolation.proofs.Alone.{HasFineRows}
 use Rattle.lpc_isolation.proofs.Filters.{first-kept, first-push_off}
-use Rattle.lpc_isolation.proofs.View.{both, one_of, other_of, our_wait, same-number, seen_port, view}
+use Rattle.lpc_isolation.proofs.View.{our_wait, seen_port, view}
 use Rattle.lpc_isolation.proofs.Fair.{is_fair_message, is_fair_wait, is_sent, owner-sent}
 use Rattle.lpc_isolation.proofs.Seen.{port_test-view, result_map}
 use Rattle.lpc_isolation.proofs.Enter.{taker-process}
@@ -81,7 +82,7 @@ accept-still m c u w by memo context bytes accept k = on-answer (Still m memo w)
 
 complete-still : (m : Group) (c : ℕ) (u w : World) (by : ThreadRow) (memo : List Heard) (handle : ℕ) → Caller m c u w by → Holds (Still m memo w) (nt_complete_connect_port w by handle)
 complete-still m c u w by memo handle k = on-complete (Still m memo w) m c u w by handle k (λ r is.
-    let on : (is_accepted r.wait || (is_offered r.wait || is_request r.wait)) ≡ true = rw (one_of (is_accepted r.wait) (same_birth r.wait.port r.client) (first-passes (is_accepted_on r.client) w.waits r.wait is.found)) refl in
+    let on : (is_accepted r.wait || (is_offered r.wait || is_request r.wait)) ≡ true = rw (first-true (is_accepted r.wait) (same_birth r.wait.port r.client) (first-passes (is_accepted_on r.client) w.waits r.wait is.found)) refl in
     (refl, rw (wake-silent m w (is_accepted_on r.client) r.wait k.once is.found on) refl))
 
 answer-silent : (m : Group) (c : ℕ) (u w : World) (by : ThreadRow) (p : PortRow) (b : Message) (x : WaitRow) → Caller m c u w by → reply_test w p b ≡ Ok x → not (passes (wait_of (view m w) x.thread) takes_any) ≡ true
@@ -222,8 +223,8 @@ module _ (m : Group) (c : ℕ) (u w : World) (by : ThreadRow) (d : Whose) (memo 
 
       inside : (b : Bool) → m y.queue.process ≡ b → Right (entries_memo m (view m w) memo (cond (b && true) (entry.Wakes z.thread z.call SUCCESS (shown z y) ∷ []) []))
       inside true q_in =
-          let queue : z.queue ≡ y.queue = birth-same z.queue y.queue (other_of _ _ is) in
-          let ours : our_wait m z ≡ true = both _ _ (ap m of_queue ∙ q_in) (ap (λ (b : Birth). m b.process) queue ∙ q_in) in
+          let queue : z.queue ≡ y.queue = birth-same z.queue y.queue (second-true _ _ is) in
+          let ours : our_wait m z ≡ true = and_from _ _ (ap m of_queue ∙ q_in) (ap (λ (b : Birth). m b.process) queue ∙ q_in) in
           let there : wait_of w z.thread ≡ Some z = own-first (takes y) (waits_as z.thread) w.waits z (k.once z.thread) at (same-number z.thread) in
           let seen : wait_of (view m w) z.thread ≡ Some z = first-kept (our_wait m) (waits_as z.thread) w.waits z there ours in
           subst Right (sym (ap (λ o. woken_memo m o (shown z y) memo) seen ∙ shown-heard m y z z.kind memo refl is r ∙ ap (λ q. noted_of m y q memo) queue)) (noted-right (asks y.message) refl)
@@ -259,7 +260,7 @@ fits-c m c u w by memo test y k owned at mine =
     let fair : is_fair_message m c y ≡ true = every-first (is_fair_message m c) test w.messages y k.fair.messages at in
     let q_c : (y.queue.process == c) ≡ true = ap (λ p. p == c) mine ∙ same-number c in
     let s_in : m y.sender.process ≡ true = grind arith in
-    let client : y.message.header.client.process ≡ y.sender.process = eqb-true _ _ (one_of _ _ fair) in
+    let client : y.message.header.client.process ≡ y.sender.process = eqb-true _ _ (first-true _ _ fair) in
     fits-inside m memo w y owned (every-first (is_sent w.used_threads) test w.messages y k.fair.senders at) (ap m client ∙ s_in)
 
 -- another member notes it
@@ -300,7 +301,7 @@ listened-silent v by port None = refl
 listened-silent v by port (Some y) = (take-silent_steps v y (asks y.message) refl).1
 
 listen-queue : (q : Birth) (w : World) (y : MessageRow) → first (is_queued_connect q) w.messages ≡ Some y → y.queue ≡ q
-listen-queue q w y at = birth-same y.queue q (one_of _ _ (first-passes (is_queued_connect q) w.messages y at))
+listen-queue q w y at = birth-same y.queue q (first-true _ _ (first-passes (is_queued_connect q) w.messages y at))
 
 -- NtReplyWaitReceivePort
 receive-queue : (q : Birth) (w : World) (y : MessageRow) → first (is_queued q) w.messages ≡ Some y → y.queue ≡ q

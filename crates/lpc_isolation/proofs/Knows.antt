@@ -2,9 +2,11 @@
 use Rattle.std.proofs.Common.{◌≡◌, ℕ, List, [], ◌∷◌, Bool, true, false, not, Option, Some, None, refl, ap, sym, subst, ◌∙◌, arith}
 use Rattle.std.specs.Prelude.{◌&&◌, ◌||◌, Result, Ok, Err}
 use Rattle.std.proofs.lemmas.Bool.{eqb-true}
-use Rattle.lpc_base.specs.Rows.{change, every, first}
-use Rattle.lpc_base.proofs.RowWords.{every-change, every-push, every-without, first-passes}
+use Rattle.lpc_base.specs.Rows.{every, first}
+use Rattle.lpc_base.proofs.RowWords.{every-change, every-changed, every-push, every-without, first-passes}
 use Rattle.lpc_base.proofs.RowMaps.{every-first}
+use Rattle.lpc_base.proofs.Bools.{first-true, second-true}
+use Rattle.lpc_base.proofs.Births.{birth-same}
 use Rattle.lpc_base.specs.declared.status.Status.{Status}
 use Rattle.lpc_base.specs.declared.status.TheConstants.{REPLY_MESSAGE_MISMATCH}
 use Rattle.lpc_model.specs.declared.message.Message.{Message}
@@ -15,10 +17,8 @@ use Rattle.lpc_model.specs.Found.{is_offered, is_the, no_birth, waits_as, waits_
 use Rattle.lpc_model.specs.Basics.{Accepts, AddsHandle, AddsProcess, AddsThread, Awaits, Basic, Binds, Completes, Cuts, DrawsIdentifier, DrawsOrdinal, DropsHandle, Empties, Enters, Frees, Joins, Makes, Receives, Takes, TakesConnect, Tells, Unbinds, Wakes, Withdraws, accepted, basic, received, world_after, Dies, Registers, Unregisters}
 use Rattle.lpc_model.specs.Tests.{client_test}
 use Rattle.lpc_model.specs.Connect.{ConnectAnswer, answer_test, names_connect}
-use Rattle.lpc_model.proofs.Births.{birth-same}
 use Rattle.lpc_model.proofs.Holding.{Holds, bind_holds, found_ok}
 use Rattle.lpc_model.specs.Circle.{Group}
-use Rattle.lpc_isolation.proofs.View.{one_of, other_of}
 use Rattle.lpc_isolation.proofs.Heard.{Heard, recall}
 
 -- an outsider's connect to a member that isn't accepted
@@ -45,10 +45,6 @@ abbrev pub are_known : Group → List Heard → World → List Basic → Bool
 are_known m memo w [] = true
 are_known m memo w (b ∷ bs) = keeps_known m memo w b && are_known m memo (basic w b) bs
 
-every-two : {X : Type 0} (p q s : X → Bool) (f : X → X) → ((x : X) → p x ≡ true → q x ≡ true → s x ≡ true → p (f x) ≡ true) → (xs : List X) → every p xs ≡ true → every q xs ≡ true → every p (change s f xs) ≡ true
-every-two p q s f keeps [] one two = refl
-every-two p q s f keeps (x ∷ xs) one two = grind (arith, keeps x, every-two p q s f keeps xs)
-
 accepted-known : (m : Group) (memo : List Heard) (reply : List ℕ) (x : WaitRow) (sort : WaitKind) → x.kind ≡ sort → is_known m memo x ≡ true → is_known m memo (accepted reply x) ≡ true
 accepted-known m memo reply x (Request a) is known = rw is refl
 accepted-known m memo reply x Receive is known = rw is refl
@@ -58,7 +54,7 @@ accepted-known m memo reply x (Accepted a r) is known = rw is refl
 
 basic-known : (m : Group) (memo : List Heard) (w : World) (b : Basic) → keeps_known m memo w b ≡ true → AllKnown m memo w → AllKnown m memo (basic w b)
 basic-known m memo w (Awaits x) ok all = every-push (is_known m memo) w.waits x all (grind arith)
-basic-known m memo w (Receives who q) ok all = every-two (is_known m memo) (is_told m memo who) (waits_at who q) received (λ x known told at. grind arith) w.waits all ok
+basic-known m memo w (Receives who q) ok all = every-changed (is_known m memo) (is_told m memo who) (waits_at who q) received (λ x known told at. grind arith) w.waits all ok
 basic-known m memo w (Wakes who call status fields) ok all = every-without (is_known m memo) (waits_as who) w.waits all
 basic-known m memo w (Accepts who reply) ok all = every-change (is_known m memo) (waits_as who) (accepted reply) (λ x is. accepted-known m memo reply x x.kind refl is) w.waits all
 basic-known m memo w (Makes p) ok all = all
@@ -86,7 +82,7 @@ basic-known m memo w (AddsThread t) ok all = all
 
 pub run-known : (m : Group) (memo : List Heard) (w : World) (bs : List Basic) → are_known m memo w bs ≡ true → AllKnown m memo w → AllKnown m memo (world_after w bs)
 run-known m memo w [] ok all = all
-run-known m memo w (b ∷ bs) ok all = run-known m memo (basic w b) bs (other_of _ _ ok) (basic-known m memo w b (one_of _ _ ok) all)
+run-known m memo w (b ∷ bs) ok all = run-known m memo (basic w b) bs (second-true _ _ ok) (basic-known m memo w b (first-true _ _ ok) all)
 
 -- the queue that an answer's bytes name
 abbrev queue_or : Option Birth → Birth
@@ -115,7 +111,7 @@ knows-queue m memo w by bytes all by_in reach =
     let named = first-passes (names_connect w by b) w.waits x at in
     let known : is_known m memo x ≡ true = every-first (is_known m memo) (names_connect w by b) w.waits x all at in
     let q_in : m x.queue.process ≡ true = ap m (reach b x named) ∙ by_in in
-    let thread : x.thread ≡ b.header.client.thread = eqb-true _ _ (one_of _ _ (one_of _ _ named)) in
+    let thread : x.thread ≡ b.header.client.thread = eqb-true _ _ (first-true _ _ (first-true _ _ named)) in
     let offered : is_offered x ≡ true = grind arith in
     let took : x.received ≡ true = grind arith in
     let there : is_the x.queue (recall memo x.thread) ≡ true = grind arith in

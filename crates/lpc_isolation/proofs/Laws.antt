@@ -5,6 +5,7 @@ use Rattle.std.proofs.lemmas.Bool.{eqb-true}
 use Rattle.lpc_base.specs.Rows.{count, first, has}
 use Rattle.lpc_base.proofs.RowWords.{count-none, count-push, first-passes}
 use Rattle.lpc_base.proofs.RowMaps.{every-first}
+use Rattle.lpc_base.proofs.Bools.{first-true, second-true}
 use Rattle.lpc_model.specs.World.{Birth, ThreadRow, UsedThread, World}
 use Rattle.lpc_model.specs.Found.{is_live, is_used_thread, live_thread, lives_in, wait_of, was_process}
 use Rattle.lpc_model.specs.Basics.{world_after}
@@ -17,7 +18,7 @@ use Rattle.lpc_model.specs.Circle.{Group, Whose, is_fine_call}
 use Rattle.lpc_model.proofs.Holding.{Holds}
 use Rattle.lpc_isolation.proofs.Served.{served}
 use Rattle.lpc_isolation.proofs.Alone.{HasFineRows}
-use Rattle.lpc_isolation.proofs.View.{one_of, other_of, view}
+use Rattle.lpc_isolation.proofs.View.{view}
 use Rattle.lpc_isolation.proofs.Fair.{are_fair}
 use Rattle.lpc_isolation.proofs.Apart.{Owned, are_apart}
 use Rattle.lpc_isolation.proofs.Callers.{Answered, Led}
@@ -62,8 +63,8 @@ home-live k u n c live = at (first (lives_in n) u.threads) refl live
     at None none is = absurd (cc)
     at (Some t) some is =
         let passed : lives_in n t ≡ true = first-passes (lives_in n) u.threads t some in
-        let home : k.homes t.process ≡ true = last t.live (k.threads t.birth) (k.homes t.process) (other_of (t.process == n) t.live passed) (every-first (thread_closed k) (lives_in n) u.threads t c.threads some) in
-        subst (λ i. k.homes i ≡ true) (eqb-true t.process n (one_of _ _ passed)) home
+        let home : k.homes t.process ≡ true = last t.live (k.threads t.birth) (k.homes t.process) (second-true (t.process == n) t.live passed) (every-first (thread_closed k) (lives_in n) u.threads t c.threads some) in
+        subst (λ i. k.homes i ≡ true) (eqb-true t.process n (first-true _ _ passed)) home
       where
         last : (l a h : Bool) → l ≡ true → (not l || (a && h)) ≡ true → h ≡ true
         last l a h is it = grind arith

@@ -4,6 +4,7 @@ use Rattle.std.specs.Prelude.{◌&&◌, ◌==◌, option_map}
 use Rattle.std.proofs.lemmas.Bool.{eqb-true}
 use Rattle.lpc_base.specs.Rows.{count, every, first, given, has, which}
 use Rattle.lpc_base.proofs.RowWords.{without-none}
+use Rattle.lpc_base.proofs.Bools.{first-true, second-true}
 use Rattle.lpc_base.specs.declared.status.TheConstants.{SUCCESS}
 use Rattle.lpc_model.specs.declared.entry.Entry.{Entry}
 use Rattle.lpc_model.specs.declared.entry.Entry.TheVariants as entry
@@ -16,7 +17,7 @@ use Rattle.lpc_model.specs.Circle.{Everyone, Event, Group, Item, Nobody, Of, Ran
 use Rattle.lpc_isolation.proofs.Alone.{alone}
 use Rattle.lpc_isolation.proofs.Bare.{bare_line_events}
 use Rattle.lpc_isolation.proofs.Filters.{first-kept, first-none_kept}
-use Rattle.lpc_isolation.proofs.View.{one_of, other_of, our_used, our_wait, view}
+use Rattle.lpc_isolation.proofs.View.{our_used, our_wait, view}
 use Rattle.lpc_isolation.proofs.Apart.{absorb, absorb_all, are_apart, c_seen, heard, is_heard, run-apart, run-quiet}
 use Rattle.lpc_isolation.proofs.Callers.{Led}
 use Rattle.lpc_isolation.proofs.Listens.{own_entry}
@@ -108,10 +109,10 @@ absorb-done m w (entry.Directive word status) is = refl
 
 pub absorbed-done : (m : Group) (w : World) (f : Entry → Bool) (es : List Entry) → every (is_done w) es ≡ true → absorb_all (view m w) (which f es) ≡ view m w
 absorbed-done m w f [] done = refl
-absorbed-done m w f (e ∷ es) done = at (f e) (absorbed-done m w f es (other_of _ _ done))
+absorbed-done m w f (e ∷ es) done = at (f e) (absorbed-done m w f es (second-true _ _ done))
   where
     at : (b : Bool) → absorb_all (view m w) (which f es) ≡ view m w → absorb_all (view m w) (cond b (e ∷ which f es) (which f es)) ≡ view m w
-    at true rest = ap (λ v. absorb_all v (which f es)) (absorb-done m w e (one_of _ _ done)) ∙ rest
+    at true rest = ap (λ v. absorb_all v (which f es)) (absorb-done m w e (first-true _ _ done)) ∙ rest
     at false rest = rest
 
 -- What c isn't told at a line that tells it nothing

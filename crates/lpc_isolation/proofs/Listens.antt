@@ -1,10 +1,12 @@
 -- NtListenPort in a view.
 use Rattle.std.proofs.Common.{◌≡◌, ℕ, List, [], ◌∷◌, Bool, true, false, cond, not, Option, Some, None, refl, ap, sym, subst, ◌∙◌, arith}
 use Rattle.std.specs.Prelude.{◌==◌, Ok}
-use Rattle.std.proofs.lemmas.Bool.{eqb-true}
+use Rattle.std.proofs.lemmas.Bool.{and_from, eqb-true}
 use Rattle.lpc_base.specs.Rows.{every, first, given}
 use Rattle.lpc_base.proofs.RowWords.{first-passes}
 use Rattle.lpc_base.proofs.RowMaps.{every-first}
+use Rattle.lpc_base.proofs.Bools.{first-true, same-number}
+use Rattle.lpc_base.proofs.Births.{birth-same}
 use Rattle.lpc_base.specs.declared.status.TheConstants.{INVALID_PORT_HANDLE, SUCCESS}
 use Rattle.lpc_model.specs.declared.entry.CallName.TheVariants.{NtListenPort}
 use Rattle.lpc_model.specs.declared.entry.Entry.{Entry}
@@ -17,11 +19,10 @@ use Rattle.lpc_model.specs.Basics.{Awaits, Basic, Tells, Dies}
 use Rattle.lpc_model.specs.Connect.{listen_steps, listen_wait, nt_listen_port}
 use Rattle.lpc_model.specs.Entering.{take_connect_steps}
 use Rattle.lpc_model.specs.Tests.{port_test}
-use Rattle.lpc_model.proofs.Births.{birth-same}
 use Rattle.lpc_model.proofs.Holding.{Holds, bind_holds, holds_ok}
 use Rattle.lpc_model.specs.Circle.{Group, Whose, owner}
 use Rattle.lpc_isolation.proofs.Filters.{first-kept}
-use Rattle.lpc_isolation.proofs.View.{both, one_of, our_message, same-number, seen_port, view}
+use Rattle.lpc_isolation.proofs.View.{our_message, seen_port, view}
 use Rattle.lpc_isolation.proofs.Basics.{are_ours, basic-ours, run-ours}
 use Rattle.lpc_isolation.proofs.Fair.{Fair, are_fair, is_fair_message, is_fair_wait, is_sent}
 use Rattle.lpc_isolation.proofs.Seen.{bind-same, port_test-view}
@@ -43,7 +44,7 @@ own-wait-fair m c x c_in port queue =
 
 -- what the queue has, in the words of its first message
 first-queue : (q : Birth) (w : World) (x : MessageRow) → first (is_queued_connect q) w.messages ≡ Some x → x.queue ≡ q
-first-queue q w x at = birth-same x.queue q (one_of _ _ (first-passes (is_queued_connect q) w.messages x at))
+first-queue q w x at = birth-same x.queue q (first-true _ _ (first-passes (is_queued_connect q) w.messages x at))
 
 first-own : (q : Birth) (w : World) (x : MessageRow) → first (is_queued_connect q) w.messages ≡ Some x → IsFirst w (is_queued_connect x.queue) x
 first-own q w x at = subst (λ b. first (is_queued_connect b) w.messages ≡ Some x) (sym (first-queue q w x at)) at
@@ -88,11 +89,11 @@ listened : (m : Group) (c : ℕ) (u : World) (d : Whose) (w : World) (by : Threa
     → Led m c u d w (listen_steps by p.birth o) (led_listened m (view m w) by (seen_port m p) (own_entry (listen_steps by p.birth o)))
 listened m c u d w by p None at k readable by_in other own =
     let p_in : m p.birth.process ≡ true = ap m own ∙ by_in in
-    record { world = basic-ours m w (Awaits (listen_wait by p.birth)) (both _ _ by_in p_in) refl; told = rw (k.here, other) refl }
+    record { world = basic-ours m w (Awaits (listen_wait by p.birth)) (and_from _ _ by_in p_in) refl; told = rw (k.here, other) refl }
 listened m c u d w by p (Some x) at k readable by_in other own =
     let fair : is_fair_message m c x ≡ true = every-first (is_fair_message m c) (is_queued_connect p.birth) w.messages x k.fair.messages at in
     let shows : shown_process (msg x.message ∷ []) ≡ x.message.header.client.process = shows-message x (every-first is_readable (is_queued_connect p.birth) w.messages x readable at) in
-    let sender : m (shown_process (msg x.message ∷ [])) ≡ m x.sender.process = ap m (shows ∙ eqb-true _ _ (one_of _ _ fair)) in
+    let sender : m (shown_process (msg x.message ∷ [])) ≡ m x.sender.process = ap m (shows ∙ eqb-true _ _ (first-true _ _ fair)) in
     rw sender (whose (m x.sender.process) refl fair)
   where
     q_in : m x.queue.process ≡ true
@@ -100,7 +101,7 @@ listened m c u d w by p (Some x) at k readable by_in other own =
 
     whose : (b : Bool) → m x.sender.process ≡ b → is_fair_message m c x ≡ true → Led m c u d w (Tells (entry.Answer by.number NtListenPort SUCCESS (msg x.message ∷ [])) ∷ take_connect_steps x) (cond b (given (first (is_queued_connect p.birth) (view m w).messages) take_connect_steps) [])
     whose true s_in fair =
-        let ours : our_message m x ≡ true = both _ _ s_in q_in in
+        let ours : our_message m x ≡ true = and_from _ _ s_in q_in in
         rw (first-kept (our_message m) (is_queued_connect p.birth) w.messages x at ours) (record {
           world = run-ours m w (take_connect_steps x) (take_connect-ours m w x (first-own p.birth w x at) ours);
           told = rw (k.here, other) refl;
@@ -124,7 +125,7 @@ unfolding nt_listen_port
 c-listen m c u w by handle k mine =
     rw (c-port_test m c w by handle k.c_in mine k.fair) (bind-same (port_test w by handle) _ _ (λ p at.
     let n : Named m c w by p = holds_ok (Named m c w by) (port_test w by handle) p (named-port m c u w by handle k) at in
-    rw (c-first m c w p.birth (is_queued_connect p.birth) k.c_in k.fair (ap (λ b. b == c) (n.process ∙ mine) ∙ same-number c) (λ x is. one_of _ _ is)) refl))
+    rw (c-first m c w p.birth (is_queued_connect p.birth) k.c_in k.fair (ap (λ b. b == c) (n.process ∙ mine) ∙ same-number c) (λ x is. first-true _ _ is)) refl))
 
 c-listened-ours : (m : Group) (c : ℕ) (w : World) (by : ThreadRow) (p : PortRow) (o : Option MessageRow) → first (is_queued_connect p.birth) w.messages ≡ o → m c ≡ true → Fair m c w → by.process ≡ c → p.birth.process ≡ by.process → are_ours m w (listen_steps by p.birth o) ≡ true
 c-listened-ours m c w by p None at c_in f mine own = rw (ap m mine ∙ c_in, ap m (own ∙ mine) ∙ c_in) refl
@@ -133,7 +134,7 @@ c-listened-ours m c w by p (Some x) at c_in f mine own =
     let fair : is_fair_message m c x ≡ true = every-first (is_fair_message m c) (is_queued_connect p.birth) w.messages x f.messages at in
     let q_c : (x.queue.process == c) ≡ true = ap (λ b. b == c) queue ∙ same-number c in
     let s_in : m x.sender.process ≡ true = grind arith in
-    take_connect-ours m w x (first-own p.birth w x at) (both _ _ s_in (ap m queue ∙ c_in))
+    take_connect-ours m w x (first-own p.birth w x at) (and_from _ _ s_in (ap m queue ∙ c_in))
 
 pub c-listen-ours : (m : Group) (c : ℕ) (u w : World) (by : ThreadRow) (handle : ℕ) → Caller m c u w by → by.process ≡ c → Holds (λ bs. are_ours m w bs ≡ true) (nt_listen_port w by handle)
 c-listen-ours m c u w by handle k mine = on-port (λ bs. are_ours m w bs ≡ true) m c u w by handle k (λ p at n. c-listened-ours m c w by p (first (is_queued_connect p.birth) w.messages) refl k.c_in k.fair mine n.process)

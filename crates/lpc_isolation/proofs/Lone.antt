@@ -1,17 +1,17 @@
 -- A thread waits once: so a wait that a group doesn't see leaves nothing of its thread's in the group's view.
 use Rattle.std.proofs.Common.{◌≡◌, ◌≤◌, ℕ, suc, List, [], ◌∷◌, Bool, true, false, not, Option, Some, None, refl, ap, sym, subst, ◌∙◌, arith}
 use Rattle.std.specs.Prelude.{◌&&◌, ◌||◌, ◌==◌}
-use Rattle.std.proofs.lemmas.Bool.{eqb-true}
-use Rattle.std.proofs.lemmas.Bool.Decides.{nat_tests}
+use Rattle.std.proofs.lemmas.Bool.{and_from, eqb-true}
 use Rattle.lpc_base.specs.Rows.{count, every, first, has, passes, which}
 use Rattle.lpc_base.proofs.RowWords.{every-more, every-which, first-passes}
 use Rattle.lpc_base.proofs.RowMaps.{every-both, every-first}
+use Rattle.lpc_base.proofs.Bools.{first-true, number-turned, same-number, second-true}
 use Rattle.lpc_model.specs.Message.{asks}
 use Rattle.lpc_model.specs.World.{MessageRow, WaitRow, World}
 use Rattle.lpc_model.specs.Found.{is_offered, is_own_of, is_request, wait_of, waits_as}
 use Rattle.lpc_model.specs.Circle.{Group, owner}
 use Rattle.lpc_model.proofs.Rows.{has-found}
-use Rattle.lpc_isolation.proofs.View.{both, of_birth, one_of, other_of, our_message, our_wait, same-number, view}
+use Rattle.lpc_isolation.proofs.View.{of_birth, our_message, our_wait, view}
 use Rattle.lpc_isolation.proofs.Filters.{first-kept}
 use Rattle.lpc_isolation.proofs.Basics.{sees_own, sees_wait}
 use Rattle.lpc_isolation.proofs.Fair.{is_fair_message, is_sent, sent-owner}
@@ -52,19 +52,16 @@ tail-few y ys few t = at (waits_as t y) refl (few t)
 abbrev pub passes_all : (WaitRow → Bool) → List WaitRow → WaitRow → Bool
 passes_all q ws x = not (q x) || every (λ y. not (waits_as x.thread y) || q y) ws
 
-turned : (a b : ℕ) → (a == b) ≡ (b == a)
-turned a b = grind (arith, nat_tests)
-
 pub each-lone : (q : WaitRow → Bool) (ws : List WaitRow) → ((t : ℕ) → count (waits_as t) ws ≤ 1) → every (passes_all q ws) ws ≡ true
 each-lone q [] few = refl
-each-lone q (y ∷ ys) few = both _ _ (head (q y) refl) (rest ys (none-other y.thread ys (tail-count y ys few)) (each-lone q ys (tail-few y ys few)))
+each-lone q (y ∷ ys) few = and_from _ _ (head (q y) refl) (rest ys (none-other y.thread ys (tail-count y ys few)) (each-lone q ys (tail-few y ys few)))
   where
     head : (b : Bool) → q y ≡ b → (not b || every (λ z. not (waits_as y.thread z) || q z) (y ∷ ys)) ≡ true
-    head true is = both _ _ (rw is (grind arith)) (others-pass q y.thread ys (tail-count y ys few))
+    head true is = and_from _ _ (rw is (grind arith)) (others-pass q y.thread ys (tail-count y ys few))
     head false off = refl
 
     one : (x : WaitRow) → not (waits_as y.thread x) ≡ true → passes_all q ys x ≡ true → passes_all q (y ∷ ys) x ≡ true
-    one x other is = let off : (y.thread == x.thread) ≡ false = turned y.thread x.thread ∙ not-true (x.thread == y.thread) other in rw off (grind arith)
+    one x other is = let off : (y.thread == x.thread) ≡ false = number-turned y.thread x.thread ∙ not-true (x.thread == y.thread) other in rw off (grind arith)
       where
         not-true : (b : Bool) → not b ≡ true → b ≡ false
         not-true b is = grind arith
@@ -89,29 +86,29 @@ own-seen m c u w t s unseen = at (first (is_own_of t) (which (our_message m) w.m
     ours k (y ∷ ys) = grind (arith, ours k ys)
 
     all : every fits (which (our_message m) w.messages) ≡ true
-    all = every-both (our_message m) (λ y. is_fair_message m c y && (is_sent w.used_threads y && has_own w.waits y)) fits (λ y a b. both _ _ a b) (which (our_message m) w.messages) (ours (our_message m) w.messages)
+    all = every-both (our_message m) (λ y. is_fair_message m c y && (is_sent w.used_threads y && has_own w.waits y)) fits (λ y a b. and_from _ _ a b) (which (our_message m) w.messages) (ours (our_message m) w.messages)
         (every-which (λ y. is_fair_message m c y && (is_sent w.used_threads y && has_own w.waits y)) (our_message m) w.messages
-        (every-both (is_fair_message m c) (λ y. is_sent w.used_threads y && has_own w.waits y) _ (λ y a b. both _ _ a b) w.messages s.fair.messages
-        (every-both (is_sent w.used_threads) (has_own w.waits) _ (λ y a b. both _ _ a b) w.messages s.fair.senders s.asked.own)))
+        (every-both (is_fair_message m c) (λ y. is_sent w.used_threads y && has_own w.waits y) _ (λ y a b. and_from _ _ a b) w.messages s.fair.messages
+        (every-both (is_sent w.used_threads) (has_own w.waits) _ (λ y a b. and_from _ _ a b) w.messages s.fair.senders s.asked.own)))
 
     wait : (y : MessageRow) → fits y ≡ true → is_own_of t y ≡ true → (o : Option WaitRow) → first (is_own y) w.waits ≡ o → ⊥
     wait y fit own None none =
-        let here : has_own w.waits y ≡ true = other_of (is_sent w.used_threads y) _ (other_of (is_fair_message m c y) _ (other_of (our_message m y) _ fit)) in
+        let here : has_own w.waits y ≡ true = second-true (is_sent w.used_threads y) _ (second-true (is_fair_message m c y) _ (second-true (our_message m y) _ fit)) in
         let off : (not (asks y.message) || false) ≡ true = rw none at here in
-        let on : asks y.message ≡ true = one_of _ _ own in
+        let on : asks y.message ≡ true = first-true _ _ own in
         let never : false ≡ true = rw on at off in cc
     wait y fit own (Some z) some =
         let passed = first-passes (is_own y) w.waits z some in
-        let its : z.thread ≡ sender_of y = eqb-true _ _ (one_of _ _ passed) in
-        let sent : is_sent w.used_threads y ≡ true = one_of _ _ (other_of (is_fair_message m c y) _ (other_of (our_message m y) _ fit)) in
+        let its : z.thread ≡ sender_of y = eqb-true _ _ (first-true _ _ passed) in
+        let sent : is_sent w.used_threads y ≡ true = first-true _ _ (second-true (is_fair_message m c y) _ (second-true (our_message m y) _ fit)) in
         let here : owner u z.thread ≡ Some y.message.header.client.process = ap (owner u) its ∙ rw s.used (sent-owner w y sent) in
         let process : y.message.header.client.process ≡ z.process = owned-by u z y.message.header.client.process here (every-first (is_owned u) (is_own y) w.waits z s.owned some) in
-        let fair : is_fair_message m c y ≡ true = one_of _ _ (other_of (our_message m y) _ fit) in
-        let sender : y.message.header.client.process ≡ y.sender.process = eqb-true _ _ (one_of _ _ fair) in
-        let z_in : m z.process ≡ true = ap m (sym process ∙ sender) ∙ one_of _ _ (one_of (our_message m y) _ fit) in
-        let q_in : m z.queue.process ≡ true = of_birth m z.queue y.queue (one_of _ _ (other_of _ _ passed)) ∙ other_of _ _ (one_of (our_message m y) _ fit) in
-        let seen : first (is_own y) (which (our_wait m) w.waits) ≡ Some z = first-kept (our_wait m) (is_own y) w.waits z some (both _ _ z_in q_in) in
-        let thread : waits_as t z ≡ true = rw its (other_of (asks y.message) _ own) in
+        let fair : is_fair_message m c y ≡ true = first-true _ _ (second-true (our_message m y) _ fit) in
+        let sender : y.message.header.client.process ≡ y.sender.process = eqb-true _ _ (first-true _ _ fair) in
+        let z_in : m z.process ≡ true = ap m (sym process ∙ sender) ∙ first-true _ _ (first-true (our_message m y) _ fit) in
+        let q_in : m z.queue.process ≡ true = of_birth m z.queue y.queue (first-true _ _ (second-true _ _ passed)) ∙ second-true _ _ (first-true (our_message m y) _ fit) in
+        let seen : first (is_own y) (which (our_wait m) w.waits) ≡ Some z = first-kept (our_wait m) (is_own y) w.waits z some (and_from _ _ z_in q_in) in
+        let thread : waits_as t z ≡ true = rw its (second-true (asks y.message) _ own) in
         let there : sees_wait m w t ≡ true = has-found (waits_as t) (is_own y) (which (our_wait m) w.waits) z seen thread in cc
 
     at : (o : Option MessageRow) → first (is_own_of t) (which (our_message m) w.messages) ≡ o → sees_own m w t ≡ false
@@ -161,15 +158,15 @@ quiet-all m c u w s = every-more (passes_all is_settled w.waits) (λ x. not (is_
     own x all y at None none =
         let here : has_own w.waits y ≡ true = every-first (has_own w.waits) (asks_of x.thread) w.messages y s.asked.own at in
         let off : (not (asks y.message) || false) ≡ true = rw none at here in
-        let on : asks y.message ≡ true = one_of _ _ (first-passes (asks_of x.thread) w.messages y at) in
+        let on : asks y.message ≡ true = first-true _ _ (first-passes (asks_of x.thread) w.messages y at) in
         let never : false ≡ true = rw on at off in cc
     own x all y at (Some z) some =
         let passed = first-passes (is_own y) w.waits z some in
-        let sender : sender_of y ≡ x.thread = eqb-true _ _ (other_of _ _ (first-passes (asks_of x.thread) w.messages y at)) in
-        let thread : waits_as x.thread z ≡ true = subst (λ t. (z.thread == t) ≡ true) sender (one_of _ _ passed) in
+        let sender : sender_of y ≡ x.thread = eqb-true _ _ (second-true _ _ (first-passes (asks_of x.thread) w.messages y at)) in
+        let thread : waits_as x.thread z ≡ true = subst (λ t. (z.thread == t) ≡ true) sender (first-true _ _ passed) in
         let rest : (not (waits_as x.thread z) || is_settled z) ≡ true = every-first (λ y. not (waits_as x.thread y) || is_settled y) (is_own y) w.waits z all some in
         let settled : is_settled z ≡ true = grind arith in
-        let open_ : (not z.received && (is_request z || is_offered z)) ≡ true = other_of _ _ (other_of _ _ passed) in
+        let open_ : (not z.received && (is_request z || is_offered z)) ≡ true = second-true _ _ (second-true _ _ passed) in
         unsettled z.received (is_request z || is_offered z) settled open_
       where
         unsettled : (a b : Bool) → (a || not b) ≡ true → (not a && b) ≡ true → ⊥

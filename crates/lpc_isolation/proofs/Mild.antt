@@ -1,7 +1,9 @@
 -- Steps by which rows go and messages enter queues: what they keep.
 use Rattle.std.proofs.Common.{◌≡◌, ◌≤◌, ℕ, List, [], ◌∷◌, Bool, true, false, refl, sym, ◌∙◌, arith}
+use Rattle.std.proofs.lemmas.Bool.{and_from}
 use Rattle.lpc_base.specs.Rows.{count, every, has, without}
 use Rattle.lpc_base.proofs.RowWords.{every-more, every-without, has_none-without}
+use Rattle.lpc_base.proofs.Bools.{first-true, second-true}
 use Rattle.lpc_model.specs.World.{Birth, MessageRow, WaitRow, World}
 use Rattle.lpc_model.specs.Found.{is_own_of, is_queued, same_birth, waits_as}
 use Rattle.lpc_model.specs.Basics.{Basic, Cuts, DropsHandle, Empties, Enters, Takes, TakesConnect, Unbinds, Wakes, Withdraws, basic, world_after, Dies, Unregisters}
@@ -9,7 +11,7 @@ use Rattle.lpc_model.specs.Entering.{takes}
 use Rattle.lpc_model.specs.Circle.{Group}
 use Rattle.lpc_model.proofs.Rows.{count-less}
 use Rattle.lpc_isolation.proofs.Alone.{HasFineRows}
-use Rattle.lpc_isolation.proofs.View.{both, of_birth, one_of, other_of}
+use Rattle.lpc_isolation.proofs.View.{of_birth}
 use Rattle.lpc_isolation.proofs.Basics.{are_ours}
 use Rattle.lpc_isolation.proofs.Fair.{Fair, are_fair, run-fair}
 use Rattle.lpc_isolation.proofs.Enter.{Patient, is_patient}
@@ -57,7 +59,7 @@ mild-calm who b is = absurd (cc)
 
 pub mild-orderly : (bs : List Basic) → AreMild bs → is_orderly bs ≡ true
 mild-orderly [] is = refl
-mild-orderly (Wakes who call status fields ∷ bs) is = both _ _ (every-more is_mild (is_calm who) (mild-calm who) bs is) (mild-orderly bs is)
+mild-orderly (Wakes who call status fields ∷ bs) is = and_from _ _ (every-more is_mild (is_calm who) (mild-calm who) bs is) (mild-orderly bs is)
 mild-orderly (Withdraws a ∷ bs) is = mild-orderly bs is
 mild-orderly (Empties q ∷ bs) is = mild-orderly bs is
 mild-orderly (Unbinds b ∷ bs) is = mild-orderly bs is
@@ -175,7 +177,7 @@ losses-fair m c b w (Wakes a call status fields ∷ bs) is = losses-fair m c b (
 losses-fair m c b w (Withdraws a ∷ bs) is = losses-fair m c b (basic w (Withdraws a)) bs is
 losses-fair m c b w (Empties q ∷ bs) is = losses-fair m c b (basic w (Empties q)) bs is
 losses-fair m c b w (Unbinds x ∷ bs) is = losses-fair m c b (basic w (Unbinds x)) bs is
-losses-fair m c b w (Cuts x ∷ bs) is = losses-fair m c b (basic w (Cuts x)) bs (other_of _ _ is)
+losses-fair m c b w (Cuts x ∷ bs) is = losses-fair m c b (basic w (Cuts x)) bs (second-true _ _ is)
 losses-fair m c b w (DropsHandle pid value ∷ bs) is = losses-fair m c b (basic w (DropsHandle pid value)) bs is
 losses-fair m c b w (Dies who status ∷ bs) is = losses-fair m c b (basic w (Dies who status)) bs is
 losses-fair m c b w (x ∷ bs) is = absurd (cc)
@@ -186,7 +188,7 @@ losses-ours m b w (Wakes a call status fields ∷ bs) inside is = losses-ours m 
 losses-ours m b w (Withdraws a ∷ bs) inside is = losses-ours m b (basic w (Withdraws a)) bs inside is
 losses-ours m b w (Empties q ∷ bs) inside is = losses-ours m b (basic w (Empties q)) bs inside is
 losses-ours m b w (Unbinds x ∷ bs) inside is = losses-ours m b (basic w (Unbinds x)) bs inside is
-losses-ours m b w (Cuts x ∷ bs) inside is = rw (of_birth m x b (one_of _ _ is), inside) (losses-ours m b (basic w (Cuts x)) bs inside (other_of _ _ is))
+losses-ours m b w (Cuts x ∷ bs) inside is = rw (of_birth m x b (first-true _ _ is), inside) (losses-ours m b (basic w (Cuts x)) bs inside (second-true _ _ is))
 losses-ours m b w (DropsHandle pid value ∷ bs) inside is = losses-ours m b (basic w (DropsHandle pid value)) bs inside is
 losses-ours m b w (Dies who status ∷ bs) inside is = losses-ours m b (basic w (Dies who status)) bs inside is
 losses-ours m b w (x ∷ bs) inside is = absurd (cc)
@@ -197,7 +199,7 @@ losses-owned u b w (Wakes who call status fields ∷ bs) is o = losses-owned u b
 losses-owned u b w (Withdraws a ∷ bs) is o = losses-owned u b (basic w (Withdraws a)) bs is o
 losses-owned u b w (Empties q ∷ bs) is o = losses-owned u b (basic w (Empties q)) bs is o
 losses-owned u b w (Unbinds x ∷ bs) is o = losses-owned u b (basic w (Unbinds x)) bs is o
-losses-owned u b w (Cuts x ∷ bs) is o = losses-owned u b (basic w (Cuts x)) bs (other_of _ _ is) o
+losses-owned u b w (Cuts x ∷ bs) is o = losses-owned u b (basic w (Cuts x)) bs (second-true _ _ is) o
 losses-owned u b w (DropsHandle pid value ∷ bs) is o = losses-owned u b (basic w (DropsHandle pid value)) bs is o
 losses-owned u b w (Dies who status ∷ bs) is o = losses-owned u b (basic w (Dies who status)) bs is (every-without (is_owned u) (waits_as who) w.waits o)
 losses-owned u b w (x ∷ bs) is o = absurd (cc)
@@ -215,7 +217,7 @@ losses-patient b w (Wakes who call status fields ∷ bs) is p = losses-patient b
 losses-patient b w (Withdraws a ∷ bs) is p = losses-patient b (basic w (Withdraws a)) bs is (less-patient w (is_own_of a) w.waits p)
 losses-patient b w (Empties q ∷ bs) is p = losses-patient b (basic w (Empties q)) bs is (less-patient w (is_queued q) w.waits p)
 losses-patient b w (Unbinds x ∷ bs) is p = losses-patient b (basic w (Unbinds x)) bs is p
-losses-patient b w (Cuts x ∷ bs) is p = losses-patient b (basic w (Cuts x)) bs (other_of _ _ is) p
+losses-patient b w (Cuts x ∷ bs) is p = losses-patient b (basic w (Cuts x)) bs (second-true _ _ is) p
 losses-patient b w (DropsHandle pid value ∷ bs) is p = losses-patient b (basic w (DropsHandle pid value)) bs is p
 losses-patient b w (Dies who status ∷ bs) is p = losses-patient b (basic w (Dies who status)) bs is (every-without (is_patient w) (waits_as who) w.waits p)
 losses-patient b w (x ∷ bs) is p = absurd (cc)
@@ -229,7 +231,7 @@ losses-once b w (Wakes who call status fields ∷ bs) is o = losses-once b (basi
 losses-once b w (Withdraws a ∷ bs) is o = losses-once b (basic w (Withdraws a)) bs is o
 losses-once b w (Empties q ∷ bs) is o = losses-once b (basic w (Empties q)) bs is o
 losses-once b w (Unbinds x ∷ bs) is o = losses-once b (basic w (Unbinds x)) bs is o
-losses-once b w (Cuts x ∷ bs) is o = losses-once b (basic w (Cuts x)) bs (other_of _ _ is) o
+losses-once b w (Cuts x ∷ bs) is o = losses-once b (basic w (Cuts x)) bs (second-true _ _ is) o
 losses-once b w (DropsHandle pid value ∷ bs) is o = losses-once b (basic w (DropsHandle pid value)) bs is o
 losses-once b w (Dies who status ∷ bs) is o = losses-once b (basic w (Dies who status)) bs is (λ tid. count-less (waits_as tid) (waits_as who) w.waits 1 (o tid))
 losses-once b w (x ∷ bs) is o = absurd (cc)
@@ -240,7 +242,7 @@ losses-used b w (Wakes who call status fields ∷ bs) is = losses-used b (basic 
 losses-used b w (Withdraws a ∷ bs) is = losses-used b (basic w (Withdraws a)) bs is
 losses-used b w (Empties q ∷ bs) is = losses-used b (basic w (Empties q)) bs is
 losses-used b w (Unbinds x ∷ bs) is = losses-used b (basic w (Unbinds x)) bs is
-losses-used b w (Cuts x ∷ bs) is = losses-used b (basic w (Cuts x)) bs (other_of _ _ is)
+losses-used b w (Cuts x ∷ bs) is = losses-used b (basic w (Cuts x)) bs (second-true _ _ is)
 losses-used b w (DropsHandle pid value ∷ bs) is = losses-used b (basic w (DropsHandle pid value)) bs is
 losses-used b w (Dies who status ∷ bs) is = losses-used b (basic w (Dies who status)) bs is
 losses-used b w (x ∷ bs) is = absurd (cc)

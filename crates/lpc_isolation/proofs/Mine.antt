@@ -1,9 +1,10 @@
 -- What the tests of c's own calls find: the same in the view as in the world.
 use Rattle.std.proofs.Common.{◌≡◌, ℕ, List, Bool, true, false, cond, not, length, Option, Some, None, refl, ap, sym, subst, ◌∙◌, arith}
 use Rattle.std.specs.Prelude.{◌&&◌, ◌||◌, ◌==◌, Result, Ok, Err, is_none, is_some, nat_lt, option_and_then, option_map}
-use Rattle.std.proofs.lemmas.Bool.{eqb-true}
+use Rattle.std.proofs.lemmas.Bool.{and_from, eqb-true}
 use Rattle.lpc_base.specs.Rows.{every, passes}
 use Rattle.lpc_base.proofs.RowMaps.{every-both, every-first}
+use Rattle.lpc_base.proofs.Bools.{first-true, second-true}
 use Rattle.lpc_base.specs.declared.status.Status.{Status}
 use Rattle.lpc_base.specs.declared.status.TheConstants.{INVALID_CID, INVALID_PARAMETER, PORT_MESSAGE_TOO_LONG, REPLY_MESSAGE_MISMATCH}
 use Rattle.lpc_base.specs.declared.limits.TheConstants.{HEADER_SIZE, MESSAGE_LIMIT}
@@ -23,7 +24,7 @@ use Rattle.lpc_model.proofs.Holding.{Holds, bind_holds, holds_ok, not_refused}
 use Rattle.lpc_model.specs.Circle.{Group, is_no_outsider, is_no_outsiders_thread, names_no_outsider, owner}
 use Rattle.lpc_isolation.proofs.Reply.{fit-parts}
 use Rattle.lpc_isolation.proofs.Filters.{first-agree, first-none_kept}
-use Rattle.lpc_isolation.proofs.View.{both, of_birth, one_of, other_of, our_thread, our_wait, seen_pair, seen_port, view}
+use Rattle.lpc_isolation.proofs.View.{of_birth, our_thread, our_wait, seen_pair, seen_port, view}
 use Rattle.lpc_isolation.proofs.Basics.{are_ours}
 use Rattle.lpc_isolation.proofs.Fair.{Fair, implies, is_fair_port, is_fair_wait}
 use Rattle.lpc_isolation.proofs.Seen.{bind-same, c-port, live-owner, live-view, port-own, port-view, port_test-view, result_map}
@@ -99,7 +100,7 @@ Ways m w = every (is_way m w) w.waits ≡ true
 -- through a member's port a member's message fits the same waits
 same-pairs : (m : Group) (c : ℕ) (w : World) (port : Birth) (a : Message) (x : WaitRow) → is_fair_wait m c x ≡ true → m port.process ≡ true → m x.process ≡ true → fits (view m w) port a x ≡ fits w port a x
 same-pairs m c w port a x fair port_in x_in =
-    let own : m x.port.process ≡ true = ap m (eqb-true _ _ (one_of _ _ fair)) ∙ x_in in
+    let own : m x.port.process ≡ true = ap m (eqb-true _ _ (first-true _ _ fair)) ∙ x_in in
     let same : is_the port (pair_of (view m w) x.port) ≡ is_the port (pair_of w x.port) = ap (is_the port) (pair-view m w x.port own) ∙ the-seen m port (pair_of w x.port) port_in in
     rw same refl
 
@@ -156,16 +157,16 @@ agree m c w port a port_in client_in x ok = at (fits w port a x) (m x.process) r
     at : (b p : Bool) → fits w port a x ≡ b → m x.process ≡ p → b ≡ ((p && m x.queue.process) && fits (view m w) port a x)
     at true p is x_is =
         let x_in : m x.process ≡ true = ap m (eqb-true _ _ (fit-process w port a x is)) ∙ client_in in
-        let q_in : m x.queue.process ≡ true = fit-queue m w port a x (other_of _ _ ok) port_in x_in is in
+        let q_in : m x.queue.process ≡ true = fit-queue m w port a x (second-true _ _ ok) port_in x_in is in
         let p_in : p ≡ true = sym x_is ∙ x_in in
-        rw (p_in, q_in, same-pairs m c w port a x (one_of _ _ ok) port_in x_in, is) refl
-    at false true off x_in = rw (same-pairs m c w port a x (one_of _ _ ok) port_in x_in, off) (off-and (m x.queue.process))
+        rw (p_in, q_in, same-pairs m c w port a x (first-true _ _ ok) port_in x_in, is) refl
+    at false true off x_in = rw (same-pairs m c w port a x (first-true _ _ ok) port_in x_in, off) (off-and (m x.queue.process))
     at false false off x_out = refl
 
 pub c-fitted : (m : Group) (c : ℕ) (w : World) (port : Birth) (a : Message) → Fair m c w → Ways m w → m port.process ≡ true → m a.header.client.process ≡ true → fitted (view m w) port a ≡ fitted w port a
 c-fitted m c w port a f ways port_in client_in =
     first-agree (λ x. is_fair_wait m c x && is_way m w x) (our_wait m) (fits w port a) (fits (view m w) port a) (agree m c w port a port_in client_in) w.waits
-    (every-both (is_fair_wait m c) (is_way m w) _ (λ x one two. both _ _ one two) w.waits f.waits ways)
+    (every-both (is_fair_wait m c) (is_way m w) _ (λ x one two. and_from _ _ one two) w.waits f.waits ways)
 
 -- the answer of a message of c's
 pub c-answered : (m : Group) (c : ℕ) (w : World) (port : PortRow) (a : Message) → Fair m c w → Ways m w → m port.birth.process ≡ true → is_no_outsiders_thread m w a.header.client.thread ≡ true → reply_test (view m w) port a ≡ reply_test w port a

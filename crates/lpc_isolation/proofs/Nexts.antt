@@ -1,7 +1,8 @@
 -- What each line keeps, in a run in which a group is a circle of c.
 use Rattle.lpc_isolation.proofs.Services.{lawful}
 use Rattle.lpc_isolation.proofs.Laws.{at-most}
-use Rattle.std.proofs.Common.{◌≡◌, ℕ, List, [], ◌∷◌, Bool, true, false, Option, Some, None, refl, sym, subst, arith}
+use Rattle.std.proofs.Common.{◌≡◌, ℕ, List, [], ◌∷◌, Bool, true, false, Option, Some, None, refl, sym, subst}
+use Rattle.std.proofs.lemmas.Bool.{and_from}
 use Rattle.std.specs.Prelude.{◌||◌, Result, Ok, Err}
 use Rattle.lpc_base.specs.Rows.{has}
 use Rattle.lpc_base.specs.declared.status.Status.{Status}
@@ -24,10 +25,10 @@ use Rattle.lpc_model.specs.Circle.{Group}
 use Rattle.lpc_isolation.proofs.Alone.{HasFineRows}
 use Rattle.lpc_isolation.proofs.Fair.{are_fair, run-fair, together-of}
 use Rattle.lpc_base.proofs.RowWords.{every-push}
+use Rattle.lpc_base.proofs.Bools.{first-true, second-off, second-true}
 use Rattle.std.specs.Prelude.{nat_le}
 use Rattle.lpc_model.specs.Words.{is_id}
 use Rattle.lpc_model.specs.Grammar.{has_call_ids, has_ids}
-use Rattle.lpc_isolation.proofs.View.{both, one_of, other_of}
 use Rattle.lpc_isolation.proofs.Asked.{Asked}
 use Rattle.lpc_isolation.proofs.Ids.{Numbered, of_number}
 use Rattle.lpc_isolation.proofs.Paths.{are_paths, run-paths}
@@ -41,12 +42,9 @@ use Rattle.lpc_isolation.proofs.Stands.{Kept, State, Stood, ready-at}
 use Rattle.lpc_isolation.proofs.Knows.{known_queue}
 
 id-most : (n : ℕ) → is_id n ≡ true → nat_le n 2147483647 ≡ true
-id-most n is = other_of _ _ is
+id-most n is = second-true _ _ is
 
 -- the two tests of a number
-not_either : (a b : Bool) → (a || b) ≡ false → b ≡ false
-not_either a b off = grind arith
-
 unused-number : (w : World) (tid pid : ℕ) → Holds (λ (u : Unit {0}). was_thread w tid ≡ false) (thread_test w tid pid)
 unused-number w tid pid = bind_holds (live_test w pid) _ (λ u. was_thread w tid ≡ false) (λ _ _.
     bind_holds (unused_thread_test w tid) _ (λ u. was_thread w tid ≡ false) (λ u is. holds_any (was_thread w tid ≡ false) (not_refused (was_thread w tid) OBJECT_NAME_COLLISION u is) (thread_count_test w pid)))
@@ -59,14 +57,14 @@ boot-next m c w pid tid ids n (Ok bs) is = at (was_process w pid || was_thread w
     at : (b : Bool) → (was_process w pid || was_thread w tid) ≡ b → (refuse_if b OBJECT_NAME_COLLISION >>= (λ (u : Unit {0}). Ok (AddsProcess (new_process pid None (directive_birth pid pid)) ∷ AddsThread (new_thread tid pid (directive_birth tid pid)) ∷ []))) ≡ Ok bs → Kept m c (world_after w bs)
     at true used is = absurd (cc)
     at false unused is =
-        let new : has (is_used_thread tid) w.used_threads ≡ false = not_either (was_process w pid) (was_thread w tid) unused in
+        let new : has (is_used_thread tid) w.used_threads ≡ false = second-off (was_process w pid) (was_thread w tid) unused in
         let same : (AddsProcess (new_process pid None (directive_birth pid pid)) ∷ AddsThread (new_thread tid pid (directive_birth tid pid)) ∷ []) ≡ bs = cc in
         subst (λ bs. Kept m c (world_after w bs)) same (record {
           fair = run-fair m c w (AddsProcess (new_process pid None (directive_birth pid pid)) ∷ AddsThread (new_thread tid pid (directive_birth tid pid)) ∷ []) (rw (new, together-of m pid pid refl) refl) n.fair;
           once = λ t. at-most t w.used_threads (used (new_thread tid pid (directive_birth tid pid))) new (n.once t);
           names = n.names;
           paths = n.paths;
-          numbered = every-push of_number w.used_threads (used (new_thread tid pid (directive_birth tid pid))) n.numbered (both _ _ (id-most pid (one_of _ _ ids)) (id-most tid (other_of _ _ ids)));
+          numbered = every-push of_number w.used_threads (used (new_thread tid pid (directive_birth tid pid))) n.numbered (and_from _ _ (id-most pid (first-true _ _ ids)) (id-most tid (second-true _ _ ids)));
           asked = record { sorts = n.asked.sorts; own = n.asked.own; one = n.asked.one };
         })
 
@@ -79,7 +77,7 @@ thread-holds m c w tid pid ids n = bind_holds (thread_test w tid pid) _ (λ bs. 
       once = λ t. at-most t w.used_threads (used (new_thread tid pid (directive_birth tid pid))) new (n.once t);
       names = n.names;
       paths = n.paths;
-      numbered = every-push of_number w.used_threads (used (new_thread tid pid (directive_birth tid pid))) n.numbered (both _ _ (id-most pid (other_of _ _ ids)) (id-most tid (one_of _ _ ids)));
+      numbered = every-push of_number w.used_threads (used (new_thread tid pid (directive_birth tid pid))) n.numbered (and_from _ _ (id-most pid (second-true _ _ ids)) (id-most tid (first-true _ _ ids)));
       asked = record { sorts = n.asked.sorts; own = n.asked.own; one = n.asked.one };
     })
 
@@ -125,7 +123,7 @@ run-next m c w s tid call ids c_in st fine next = at (live_thread w tid) refl
     at (Some by) live = ready by live (wait_of w tid) refl
 
 pub line-next : (m : Group) (c : ℕ) (w : World) (s : State) (line : ScriptLine) → has_ids line ≡ true → m c ≡ true → Stood m c w s → HasFineRows m c w → HasFineRows m c (served_step w line).world → Kept m c (served_step w line).world
-line-next m c w s (run tid call) ids c_in st fine next = run-next m c w s tid call (other_of (is_id tid) _ ids) c_in st fine next
+line-next m c w s (run tid call) ids c_in st fine next = run-next m c w s tid call (second-true (is_id tid) _ ids) c_in st fine next
 line-next m c w s (boot pid tid) ids c_in st fine next = subst (λ bs. Kept m c (world_after w bs)) (sym (boot-directs m w pid tid).is) (boot-next m c w pid tid ids st.kept (boot_line w pid tid) refl)
 line-next m c w s (thread tid pid) ids c_in st fine next = subst (λ bs. Kept m c (world_after w bs)) (sym (thread-directs m w tid pid).is) (thread-next m c w tid pid ids st.kept (thread_line w tid pid) refl)
 line-next m c w s (dir path) ids c_in st fine next = subst (λ bs. Kept m c (world_after w bs)) (sym (dir-directs m w path (seen-names m w.bindings st.kept.names)).is) (directed-next m c w Dir (dir_line w path) st.kept (dir-next m c w path st.kept))

@@ -2,13 +2,14 @@
 use Rattle.std.proofs.Common.{◌≡◌, ℕ, List, [], ◌∷◌, ◌++◌, Bool, true, false, refl, ap, sym, subst, ◌∙◌}
 use Rattle.lpc_base.specs.Rows.{every, when}
 use Rattle.lpc_base.proofs.RowWords.{every-append, every-more}
+use Rattle.lpc_base.proofs.Bools.{first-true, second-true}
 use Rattle.lpc_model.specs.World.{Birth, World}
 use Rattle.lpc_model.specs.Basics.{Steps, doing, entries_of, in_turn, provided, world_after, ◌▹◌, Basic}
 use Rattle.lpc_model.specs.Circle.{Group, Whose}
 use Rattle.lpc_model.proofs.Closing.{then-holds}
 use Rattle.lpc_model.proofs.SoundQueues.{after-append}
 use Rattle.lpc_model.proofs.SoundTerminate.{IsSafe}
-use Rattle.lpc_isolation.proofs.View.{one_of, other_of, view}
+use Rattle.lpc_isolation.proofs.View.{view}
 use Rattle.lpc_isolation.proofs.Fair.{are_fair, fair-append, run-fair, Fair}
 use Rattle.lpc_isolation.proofs.Apart.{apart-append, are_apart}
 use Rattle.lpc_isolation.proofs.Callers.{Led, led-same}
@@ -115,7 +116,7 @@ module _ (m : Group) (c : ℕ) (u : World) (pid : ℕ) (c_in : m c ≡ true) whe
   -- a part for each row, in turn
   pub turn-part : {A : Type 0} (K : World → Type 0) (p : A → Bool) (f : A → Steps) → ((w : World) → K w → Sure m c u w) → ((x : A) → p x ≡ true → Part m c u pid K (f x)) → ((x : A) → p x ≡ true → (w : World) → K w → K (world_after w (f x w))) → (xs : List A) → every p xs ≡ true → Part m c u pid K (in_turn f xs)
   turn-part K p f sure each keeps [] all = none-part K sure
-  turn-part K p f sure each keeps (x ∷ xs) all = then-part K K (f x) (in_turn f xs) (each x (one_of _ _ all)) (keeps x (one_of _ _ all)) (turn-part K p f sure each keeps xs (other_of _ _ all))
+  turn-part K p f sure each keeps (x ∷ xs) all = then-part K K (f x) (in_turn f xs) (each x (first-true _ _ all)) (keeps x (first-true _ _ all)) (turn-part K p f sure each keeps xs (second-true _ _ all))
 
 -- What is known of each world while threads end
 pub record Steady (m : Group) (c : ℕ) (u w : World) : Type 0 where
@@ -151,7 +152,7 @@ steady-after m c u pid K f p w k s safe = record {
 -- and behind parts in turn
 pub turn-steady : {A : Type 0} (K : World → Type 0) (p : A → Bool) (f : A → Steps) → ((x : A) → p x ≡ true → (w : World) → K w → K (world_after w (f x w))) → (xs : List A) → every p xs ≡ true → (w : World) → K w → K (world_after w (in_turn f xs w))
 turn-steady K p f keeps [] all w k = k
-turn-steady K p f keeps (x ∷ xs) all w k = then-holds K (f x) (in_turn f xs) w (turn-steady K p f keeps xs (other_of _ _ all) (world_after w (f x w)) (keeps x (one_of _ _ all) w k))
+turn-steady K p f keeps (x ∷ xs) all w k = then-holds K (f x) (in_turn f xs) w (turn-steady K p f keeps xs (second-true _ _ all) (world_after w (f x w)) (keeps x (first-true _ _ all) w k))
 
 -- Where rows that nothing names have gone
 pub record Remains (k : Alive) (f : Steps) : Type 0 where
@@ -176,7 +177,7 @@ then-remains k f g p q = record {
 
 pub turn-remains : {A : Type 0} (k : Alive) (p : A → Bool) (f : A → Steps) → ((x : A) → p x ≡ true → Remains k (f x)) → (xs : List A) → every p xs ≡ true → Remains k (in_turn f xs)
 turn-remains k p f each [] all = none-remains k
-turn-remains k p f each (x ∷ xs) all = then-remains k (f x) (in_turn f xs) (each x (one_of _ _ all)) (turn-remains k p f each xs (other_of _ _ all))
+turn-remains k p f each (x ∷ xs) all = then-remains k (f x) (in_turn f xs) (each x (first-true _ _ all)) (turn-remains k p f each xs (second-true _ _ all))
 
 pub provided-remains : (k : Alive) (test : World → Bool) (f : Steps) → ((u : World) → Closed k u → test (thin k u) ≡ test u) → Remains k f → Remains k (provided test f)
 provided-remains k test f seen p = record {

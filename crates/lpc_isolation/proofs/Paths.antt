@@ -1,19 +1,20 @@
 -- A request stands in the queue that messages from its port enter: so in each world of a run.
 use Rattle.std.proofs.Common.{◌≡◌, ℕ, List, [], ◌∷◌, ◌++◌, Bool, true, false, not, Option, Some, None, refl, ap, ◌∙◌, arith}
 use Rattle.std.specs.Prelude.{◌&&◌, ◌||◌, if◌then◌else◌}
-use Rattle.std.proofs.lemmas.Bool.{eqb-true}
+use Rattle.std.proofs.lemmas.Bool.{and_from, eqb-true}
 use Rattle.lpc_base.specs.Rows.{every, passes}
 use Rattle.lpc_base.proofs.RowWords.{every-change, every-more, every-push, every-without, first-kept, first-passes}
 use Rattle.lpc_base.proofs.RowMaps.{every-both, every-first}
+use Rattle.lpc_base.proofs.Bools.{first-true, second-true}
+use Rattle.lpc_base.proofs.Births.{birth-same}
 use Rattle.lpc_base.specs.declared.port_kind.PortKind.TheVariants.{Client, Connection, Server, Unnamed}
 use Rattle.lpc_model.specs.World.{Accepted, Birth, Connect, Listen, PortKind, PortRow, Receive, Request, WaitKind, WaitRow, World}
 use Rattle.lpc_model.specs.Found.{is_cut, is_port, is_request, is_server_port, is_the, port_row, same_birth, waits_as, waits_at}
 use Rattle.lpc_model.specs.Basics.{Accepts, AddsHandle, AddsProcess, AddsThread, Awaits, Basic, Binds, Completes, Cuts, DrawsIdentifier, DrawsOrdinal, DropsHandle, Empties, Enters, Frees, Joins, Makes, Receives, Takes, TakesConnect, Tells, Unbinds, Wakes, Withdraws, accepted, basic, completed, cut, is_end_of, joined, received, world_after, Dies, Registers, Unregisters}
 use Rattle.lpc_model.specs.Circle.{Group, is_fine_client, is_fine_port}
-use Rattle.lpc_model.proofs.Births.{birth-same}
 use Rattle.lpc_model.proofs.Rows.{first-map}
 use Rattle.lpc_isolation.proofs.Alone.{HasFineRows}
-use Rattle.lpc_isolation.proofs.View.{both, of_birth, one_of, other_of}
+use Rattle.lpc_isolation.proofs.View.{of_birth}
 use Rattle.lpc_isolation.proofs.Fair.{Fair, implies, is_fair_wait}
 use Rattle.lpc_isolation.proofs.Mine.{Ways, is_way}
 
@@ -35,7 +36,7 @@ Paths w = every (is_path w) w.waits ≡ true
 own-way : (m : Group) (c : ℕ) (w : World) (x : WaitRow) (p : PortRow) → port_row w x.port ≡ Some p → is_fair_wait m c x ≡ true → same_birth x.queue p.birth ≡ true → is_way m w x ≡ true
 own-way m c w x p row fair on =
     let port : p.birth ≡ x.port = birth-same p.birth x.port (first-passes (is_port x.port) w.ports p row) in
-    let queue : m x.queue.process ≡ m x.process = of_birth m x.queue p.birth on ∙ ap (λ (b : Birth). m b.process) port ∙ ap m (eqb-true _ _ (one_of _ _ fair)) in
+    let queue : m x.queue.process ≡ m x.process = of_birth m x.queue p.birth on ∙ ap (λ (b : Birth). m b.process) port ∙ ap m (eqb-true _ _ (first-true _ _ fair)) in
     at (m x.process) (m x.queue.process) refl refl queue
   where
     at : (a b : Bool) → m x.process ≡ a → m x.queue.process ≡ b → b ≡ a → is_way m w x ≡ true
@@ -47,13 +48,13 @@ lead-way : (m : Group) (c : ℕ) (w : World) (x : WaitRow) (p : PortRow) (k : Po
 lead-way m c w x p Client k row fair fine on = client p.connection refl (rw k at fine) (rw k at on)
   where
     own : m p.birth.process ≡ m x.process
-    own = ap (λ (b : Birth). m b.process) (birth-same p.birth x.port (first-passes (is_port x.port) w.ports p row)) ∙ ap m (eqb-true _ _ (one_of _ _ fair))
+    own = ap (λ (b : Birth). m b.process) (birth-same p.birth x.port (first-passes (is_port x.port) w.ports p row)) ∙ ap m (eqb-true _ _ (first-true _ _ fair))
 
     client : (o : Option Birth) → p.connection ≡ o → passes o (is_fine_client m c p.birth) ≡ true → is_the x.queue o ≡ true → is_way m w x ≡ true
     client None none fine on = absurd (cc)
     client (Some b) some fine on =
         let queue : m x.queue.process ≡ m b.process = of_birth m x.queue b on in
-        let inside : implies (m x.process) (m x.queue.process) ≡ true = fine-way (m p.birth.process) (m x.process) (m b.process) (m x.queue.process) own queue (one_of _ _ fine) in
+        let inside : implies (m x.process) (m x.queue.process) ≡ true = fine-way (m p.birth.process) (m x.process) (m b.process) (m x.queue.process) own queue (first-true _ _ fine) in
         grind arith
       where
         fine-way : (a b c d : Bool) → a ≡ b → d ≡ c → (not a || c) ≡ true → implies b d ≡ true
@@ -73,14 +74,14 @@ path-way m c w x fine is = at (is_request x) refl (port_row w x.port) refl
 
     at : (b : Bool) → is_request x ≡ b → (o : Option PortRow) → port_row w x.port ≡ o → is_way m w x ≡ true
     at false off o row = rw off refl
-    at true on None row = let off : (not (is_request x) || false) ≡ true = rw row at (other_of (is_fair_wait m c x) _ is) in absurd (grind arith)
+    at true on None row = let off : (not (is_request x) || false) ≡ true = rw row at (second-true (is_fair_wait m c x) _ is) in absurd (grind arith)
     at true on (Some p) row =
-        let to : (not (is_request x) || leads x.queue p) ≡ true = rw row at (other_of (is_fair_wait m c x) _ is) in
-        lead-way m c w x p p.kind refl row (one_of _ _ is) (every-first (is_fine_port m c) (is_port x.port) w.ports p fine.1 row) (or-other (is_request x) (leads x.queue p) on to)
+        let to : (not (is_request x) || leads x.queue p) ≡ true = rw row at (second-true (is_fair_wait m c x) _ is) in
+        lead-way m c w x p p.kind refl row (first-true _ _ is) (every-first (is_fine_port m c) (is_port x.port) w.ports p fine.1 row) (or-other (is_request x) (leads x.queue p) on to)
 
 pub paths-ways : (m : Group) (c : ℕ) (w : World) → Fair m c w → HasFineRows m c w → Paths w → Ways m w
 paths-ways m c w f fine all = every-more (λ x. is_fair_wait m c x && is_path w x) (is_way m w) (λ x is. path-way m c w x fine is) w.waits
-    (every-both (is_fair_wait m c) (is_path w) _ (λ x one two. both _ _ one two) w.waits f.waits all)
+    (every-both (is_fair_wait m c) (is_path w) _ (λ x one two. and_from _ _ one two) w.waits f.waits all)
 
 -- what a step must be, so that it stays so
 abbrev pub is_off_row : Birth → Birth → PortRow → Bool
@@ -202,17 +203,13 @@ cuts-path w b x is = kept-path w (basic w (Cuts b)) x (λ p row on.
 makes-path : (w : World) (p : PortRow) (x : WaitRow) → is_path w x ≡ true → is_path (basic w (Makes p)) x ≡ true
 makes-path w p x is = kept-path w (basic w (Makes p)) x (λ r row on. rw (first-kept (is_port x.port) w.ports p r row) on) is
 
-every-pair : {X : Type 0} (p q r : X → Bool) → ((x : X) → p x ≡ true → q x ≡ true → r x ≡ true) → (xs : List X) → every p xs ≡ true → every q xs ≡ true → every r xs ≡ true
-every-pair p q r f [] one two = refl
-every-pair p q r f (x ∷ xs) one two = both _ _ (f x (one_of _ _ one) (one_of _ _ two)) (every-pair p q r f xs (other_of _ _ one) (other_of _ _ two))
-
 basic-paths : (w : World) (b : Basic) → keeps_paths w b ≡ true → Paths w → Paths (basic w b)
 basic-paths w (Awaits x) ok all = every-push (is_path w) w.waits x all ok
 basic-paths w (Wakes who call status fields) ok all = every-without (is_path w) (waits_as who) w.waits all
 basic-paths w (Receives who q) ok all = every-change (is_path w) (waits_at who q) received (λ x is. is) w.waits all
 basic-paths w (Accepts who reply) ok all = every-change (is_path w) (waits_as who) (accepted reply) (λ x is. accepted-path w reply x x.kind refl is) w.waits all
 basic-paths w (Makes p) ok all = every-more (is_path w) (is_path (basic w (Makes p))) (makes-path w p) w.waits all
-basic-paths w (Joins client server context) ok all = every-pair (is_path w) (is_off w client server) (is_path (basic w (Joins client server context))) (joins-path w client server context) w.waits all ok
+basic-paths w (Joins client server context) ok all = every-both (is_path w) (is_off w client server) (is_path (basic w (Joins client server context))) (joins-path w client server context) w.waits all ok
 basic-paths w (Completes b) ok all = every-more (is_path w) (is_path (basic w (Completes b))) (completes-path w b) w.waits all
 basic-paths w (Withdraws who) ok all = all
 basic-paths w (Frees o) ok all = absurd (cc)
@@ -236,8 +233,8 @@ basic-paths w (AddsThread t) ok all = all
 
 pub run-paths : (w : World) (bs : List Basic) → are_paths w bs ≡ true → Paths w → Paths (world_after w bs)
 run-paths w [] ok all = all
-run-paths w (b ∷ bs) ok all = run-paths (basic w b) bs (other_of _ _ ok) (basic-paths w b (one_of _ _ ok) all)
+run-paths w (b ∷ bs) ok all = run-paths (basic w b) bs (second-true _ _ ok) (basic-paths w b (first-true _ _ ok) all)
 
 pub append-paths : (w : World) (bs cs : List Basic) → are_paths w bs ≡ true → are_paths (world_after w bs) cs ≡ true → are_paths w (bs ++ cs) ≡ true
 append-paths w [] cs one two = two
-append-paths w (b ∷ bs) cs one two = both _ _ (one_of _ _ one) (append-paths (basic w b) bs cs (other_of _ _ one) two)
+append-paths w (b ∷ bs) cs one two = and_from _ _ (first-true _ _ one) (append-paths (basic w b) bs cs (second-true _ _ one) two)

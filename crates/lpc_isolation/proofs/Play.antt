@@ -4,6 +4,7 @@ use Rattle.std.specs.Prelude.{◌&&◌}
 use Rattle.std.proofs.lemmas.List.Elements.{filter-append}
 use Rattle.std.proofs.lemmas.List.{map-append}
 use Rattle.lpc_base.specs.Rows.{which}
+use Rattle.lpc_base.proofs.Bools.{first-true, second-true}
 use Rattle.lpc_model.specs.declared.entry.Entry.{Entry}
 use Rattle.lpc_model.specs.World.{World, no_rows}
 use Rattle.lpc_model.specs.Lines.{ScriptLine}
@@ -12,7 +13,6 @@ use Rattle.lpc_model.specs.Run.{said_in}
 use Rattle.lpc_model.specs.Circle.{Event, Everyone, Group, Item, Nobody, Of, Ran, Told, Whose, entry_whose, inputs, is_fine_line, is_input, is_item, is_seen, is_told_to, item_of, items, line_whose, members, told_event}
 use Rattle.lpc_isolation.proofs.Alone.{HasFineRows, alone}
 use Rattle.lpc_isolation.proofs.Bare.{IsBareCircle, BareIsolation, bare_events, bare_line_events}
-use Rattle.lpc_isolation.proofs.View.{one_of, other_of}
 
 -- How a group's lines are played: a state, what an entry and a line do to it, and what c sees of a line
 pub record Player (S : Type 0) : Type 0 where
@@ -137,8 +137,8 @@ plays p Stands ok m c k w v (None ∷ later) is circle fit = plays p Stands ok m
 plays p Stands ok m c k w v (Some line ∷ later) is circle fit =
     let next : HasFineRows m c (served_step w line).world = head-fine m c (served_step w line).world later circle.2 in
     items-append (alone c) (bare_line_events w line) (bare_events (served_step w line).world later)
-    ∙ played-line p Stands m c w v line (items (alone c) (bare_events (served_step w line).world later)) (inputs m c (bare_events (served_step w line).world later)) (k w v line is circle.0 next circle.1 (one_of _ _ fit))
-    (λ v is. plays p Stands ok m c k (served_step w line).world v later is circle.2 (other_of _ _ fit))
+    ∙ played-line p Stands m c w v line (items (alone c) (bare_events (served_step w line).world later)) (inputs m c (bare_events (served_step w line).world later)) (k w v line is circle.0 next circle.1 (first-true _ _ fit))
+    (λ v is. plays p Stands ok m c k (served_step w line).world v later is circle.2 (second-true _ _ fit))
     ∙ ap (play p v) (sym (inputs-append m c (bare_line_events w line) (bare_events (served_step w line).world later)))
 
 -- the law on two scripts

@@ -1,10 +1,12 @@
 -- The message that tells of a closed client port, as the end of its closing.
 use Rattle.std.proofs.Common.{◌≡◌, ℕ, List, [], ◌∷◌, ◌++◌, Bool, true, false, cond, not, Option, Some, None, refl, ap, sym, subst, ◌∙◌, arith}
 use Rattle.std.specs.Prelude.{◌&&◌, ◌||◌, ◌==◌, option_and_then, option_map}
-use Rattle.std.proofs.lemmas.Bool.{eqb-true}
+use Rattle.std.proofs.lemmas.Bool.{and_from, eqb-true}
 use Rattle.lpc_base.specs.Rows.{every, first, given, passes}
 use Rattle.lpc_base.proofs.RowWords.{first-passes}
 use Rattle.lpc_base.proofs.RowMaps.{every-first}
+use Rattle.lpc_base.proofs.Bools.{first-true, same-number, second-true}
+use Rattle.lpc_base.proofs.Births.{birth-same, birth-self}
 use Rattle.lpc_base.specs.declared.port_kind.PortKind.TheVariants.{Client, Connection, Server, Unnamed}
 use Rattle.lpc_base.specs.declared.status.TheConstants.{SUCCESS}
 use Rattle.lpc_model.specs.declared.entry.Entry.TheVariants as entry
@@ -14,9 +16,8 @@ use Rattle.lpc_model.specs.Found.{if_open, is_client_port, is_open, is_port, is_
 use Rattle.lpc_model.specs.Basics.{Basic, Enters, basic, entries_of, world_after}
 use Rattle.lpc_model.specs.Entering.{enter, given_steps, shown, takes, woken}
 use Rattle.lpc_model.specs.Close.{closed_row, post_closed, server_of, closing_post}
-use Rattle.lpc_model.proofs.Births.{birth-same, birth-self}
 use Rattle.lpc_model.specs.Circle.{Group, Whose, is_fine_client, is_fine_port, owner}
-use Rattle.lpc_isolation.proofs.View.{both, one_of, other_of, our_wait, same-number, seen_port, view}
+use Rattle.lpc_isolation.proofs.View.{our_wait, seen_port, view}
 use Rattle.lpc_isolation.proofs.Filters.{first-kept}
 use Rattle.lpc_isolation.proofs.Basics.{are_ours}
 use Rattle.lpc_isolation.proofs.Fair.{are_fair, implies, is_created, is_fair_message, is_fair_wait, is_sent, sent-owner}
@@ -78,8 +79,8 @@ posted m c u w b p by q s row made server =
       birth = birth;
       server = server;
       fine = subst (λ b. is_fine_client m c b q ≡ true) birth fine;
-      fair = both _ _ (one_of _ _ created) (fair-sides p fine);
-      sent = other_of (by.client.process == p.birth.process) _ created;
+      fair = and_from _ _ (first-true _ _ created) (fair-sides p fine);
+      sent = second-true (by.client.process == p.birth.process) _ created;
     }
   where
     fair-sides : (p : PortRow) → is_fine_client m c p.birth q ≡ true → (implies (q.process == c) (m p.birth.process) && implies (p.birth.process == c) (m q.process)) ≡ true
@@ -133,8 +134,8 @@ mute-taken m c u d w memo y z s r asked other at = by_owner (owner u z.thread) r
 
     inside : (b : Bool) → m y.queue.process ≡ b → entries_memo m (view m w) memo (cond (b && true) (entry.Wakes z.thread z.call SUCCESS (shown z y) ∷ []) []) ≡ memo
     inside true q_in =
-        let queue : z.queue ≡ y.queue = birth-same z.queue y.queue (other_of _ _ is) in
-        let ours : our_wait m z ≡ true = both _ _ (ap m of_queue ∙ q_in) (ap (λ (b : Birth). m b.process) queue ∙ q_in) in
+        let queue : z.queue ≡ y.queue = birth-same z.queue y.queue (second-true _ _ is) in
+        let ours : our_wait m z ≡ true = and_from _ _ (ap m of_queue ∙ q_in) (ap (λ (b : Birth). m b.process) queue ∙ q_in) in
         let there : wait_of w z.thread ≡ Some z = own-first (takes y) (waits_as z.thread) w.waits z (s.once z.thread) at (same-number z.thread) in
         let seen : wait_of (view m w) z.thread ≡ Some z = first-kept (our_wait m) (waits_as z.thread) w.waits z there ours in
         ap (λ o. woken_memo m o (shown z y) memo) seen ∙ shown-heard m y z z.kind memo refl is r ∙ unnoted m y z.queue memo asked
@@ -160,7 +161,7 @@ post-apart m c u d w b p by q s is out =
     let y : MessageRow = closed_row p q by in
     let p_out : m p.birth.process ≡ false = ap (λ (b : Birth). m b.process) is.birth ∙ out in
     let own : owner u by.client.thread ≡ Some by.client.process = rw s.used (sent-owner w y is.sent) in
-    let by_out : m by.client.process ≡ false = ap m (eqb-true _ _ (one_of (by.client.process == p.birth.process) _ is.fair)) ∙ p_out in
+    let by_out : m by.client.process ≡ false = ap m (eqb-true _ _ (first-true (by.client.process == p.birth.process) _ is.fair)) ∙ p_out in
     enter-apart m c u d w y (rw p_out refl) (post-other m c b q is.fine out)
     (unseen-at m w by.client.thread q (unseen-wait m u w by.client.thread by.client.process s.owned own by_out)) s.owned s.fair s.patient
 
@@ -176,7 +177,7 @@ post-inside m c b q fine is = grind arith
 
 post-ours : (m : Group) (c : ℕ) (u w : World) (b : Birth) (p : PortRow) (by : Creator) (q : Birth) → Sure m c u w → Posted m c u w b p by q → m b.process ≡ true → are_ours m w (enter (closed_row p q by) w) ≡ true
 post-ours m c u w b p by q s is inside =
-    enter-ours m w (closed_row p q by) (both _ _ (ap (λ (b : Birth). m b.process) is.birth ∙ inside) (post-inside m c b q is.fine inside)) s.patient
+    enter-ours m w (closed_row p q by) (and_from _ _ (ap (λ (b : Birth). m b.process) is.birth ∙ inside) (post-inside m c b q is.fine inside)) s.patient
 
 -- and it is told alike in the view
 server-view : (m : Group) (c : ℕ) (u w : World) (b : Birth) (p : PortRow) → Sure m c u w → m b.process ≡ true → port_row w b ≡ Some p → server_of (view m w) (seen_port m p) ≡ server_of w p
@@ -233,7 +234,7 @@ post-sent w b p by q row server =
     let birth : p.birth ≡ b = birth-same p.birth b (first-passes (is_port b) w.ports p row) in
     let here : port_row w p.birth ≡ Some p = subst (λ b. port_row w b ≡ Some p) (sym birth) row in
     let home : is_sent_home w y ≡ true = rw (here, (client-of w p q server).1) (or-true (not (is_client_port p)) (birth-self q)) in
-    both _ _ home (none-sent (basic w (Enters y)) (given (first (takes y) w.waits) (λ z. given_steps z y ++ woken SUCCESS (shown z y) z ∷ [])) (entered-none y (first (takes y) w.waits) refl))
+    and_from _ _ home (none-sent (basic w (Enters y)) (given (first (takes y) w.waits) (λ z. given_steps z y ++ woken SUCCESS (shown z y) z ∷ [])) (entered-none y (first (takes y) w.waits) refl))
   where
     or-true : (a : Bool) {d : Bool} → d ≡ true → (a || d) ≡ true
     or-true a is = grind arith
@@ -243,7 +244,7 @@ pub post-good : (m : Group) (c : ℕ) (b : Birth) → Good m c b (post_closed b)
 post-good m c b = record {
   mild = λ w. on-post AreMild w b refl (λ p by q row made server. mild-entered (closed_row p q by) (first (takes (closed_row p q by)) w.waits) refl);
   sent = λ w. on-post (λ bs. are_sent w bs ≡ true) w b refl (λ p by q row made server. post-sent w b p by q row server);
-  fair = λ u w s. on-post (λ bs. are_fair m c w bs ≡ true) w b refl (λ p by q row made server. let is = posted m c u w b p by q s row made server in enter-fair m c w (closed_row p q by) (both _ _ is.fair is.sent));
+  fair = λ u w s. on-post (λ bs. are_fair m c w bs ≡ true) w b refl (λ p by q row made server. let is = posted m c u w b p by q s row made server in enter-fair m c w (closed_row p q by) (and_from _ _ is.fair is.sent));
   asked = λ u w s. on-post (λ bs. Asked (world_after w bs)) w b s.asked (λ p by q row made server. enters-asked w (closed_row p q by) s.asked (enter-asked w (closed_row p q by) s.asked s.patient s.once refl));
   apart = λ u d w s out. on-post (λ bs. are_apart m c u d w bs ≡ true) w b refl (λ p by q row made server. post-apart m c u d w b p by q s (posted m c u w b p by q s row made server) out);
   mute = λ u d w memo s n out. on-post (λ bs. entries_memo m (view m w) memo (told_inputs m c u d (entries_of bs)) ≡ memo) w b refl (λ p by q row made server. post-mute m c u d w memo b p by q s n (posted m c u w b p by q s row made server) out);

@@ -1,10 +1,12 @@
 -- NtReplyWaitReceivePort in a view.
 use Rattle.std.proofs.Common.{◌≡◌, ℕ, List, [], ◌∷◌, ◌++◌, Bool, true, false, cond, Option, Some, None, refl, ap, sym, subst, ◌∙◌, arith}
 use Rattle.std.specs.Prelude.{◌&&◌, ◌==◌, Result, Ok, Err}
-use Rattle.std.proofs.lemmas.Bool.{eqb-true}
+use Rattle.std.proofs.lemmas.Bool.{and_from, eqb-true}
 use Rattle.lpc_base.specs.Rows.{every, first, given}
 use Rattle.lpc_base.proofs.RowWords.{every-without, first-passes}
 use Rattle.lpc_base.proofs.RowMaps.{every-first}
+use Rattle.lpc_base.proofs.Bools.{first-true, same-number, second-true}
+use Rattle.lpc_base.proofs.Births.{birth-same}
 use Rattle.lpc_base.specs.declared.status.Status.{Status}
 use Rattle.lpc_base.specs.declared.status.TheConstants.{PORT_DISCONNECTED, SUCCESS}
 use Rattle.lpc_model.specs.declared.entry.CallName.TheVariants.{NtReplyPort, NtReplyWaitReceivePort}
@@ -22,12 +24,11 @@ use Rattle.lpc_model.specs.Basics.{Awaits, Basic, Tells, basic, entries_of, told
 use Rattle.lpc_model.specs.Request.{reply_test, given_reply, is_spent, nt_reply_wait_receive_port, optional_message, receive_steps, receive_test, receive_wait, reply}
 use Rattle.lpc_model.specs.Entering.{take_steps}
 use Rattle.lpc_model.specs.Tests.{port_test}
-use Rattle.lpc_model.proofs.Births.{birth-same}
 use Rattle.lpc_model.proofs.Holding.{Holds, bind_holds, found_ok, holds_ok}
 use Rattle.lpc_model.specs.Circle.{Group, Whose, names_no_outsider, owner}
 use Rattle.lpc_isolation.proofs.Alone.{alone}
 use Rattle.lpc_isolation.proofs.Filters.{first-kept}
-use Rattle.lpc_isolation.proofs.View.{both, one_of, other_of, our_message, same-number, seen_port, view}
+use Rattle.lpc_isolation.proofs.View.{our_message, seen_port, view}
 use Rattle.lpc_isolation.proofs.Basics.{are_ours, basic-ours, run-ours}
 use Rattle.lpc_isolation.proofs.Fair.{Fair, all_of, are_fair, implies, is_fair_message, is_home, is_sent}
 use Rattle.lpc_isolation.proofs.Seen.{bind-same, c-port, open-view, port_test-view}
@@ -60,7 +61,7 @@ queue-kind : (m : Group) (c : ℕ) (w : World) (p : PortRow) (q : Birth) (k : Po
 queue-kind m c w p q Unnamed k r at = open-at w (Some p.birth) q p.birth.process (same-number p.birth.process) (rw k at at)
 queue-kind m c w p q Connection k r at = open-at w (Some p.birth) q p.birth.process (same-number p.birth.process) (rw k at at)
 queue-kind m c w p q Client k r at = open-at w (Some p.birth) q p.birth.process (same-number p.birth.process) (rw k at at)
-queue-kind m c w p q Server k r at = open-at w p.connection q p.birth.process (home-queue p p.connection (one_of _ _ (one_of (is_home p) _ r.fair)) (rw k refl) refl) (rw k at at)
+queue-kind m c w p q Server k r at = open-at w p.connection q p.birth.process (home-queue p p.connection (first-true _ _ (first-true (is_home p) _ r.fair)) (rw k refl) refl) (rw k at at)
 
 pub queue-own : (m : Group) (c : ℕ) (w : World) (p : PortRow) (q : Birth) → Right m c w p → queue_of w p ≡ Some q → q.process ≡ p.birth.process
 queue-own m c w p q r at = queue-kind m c w p q p.kind refl r at
@@ -73,7 +74,7 @@ queue-view-kind : (m : Group) (c : ℕ) (w : World) (p : PortRow) (k : PortKind)
 queue-view-kind m c w p Unnamed k f r is = rw k (member-open m c w p.birth.process (Some p.birth) f is (same-number p.birth.process))
 queue-view-kind m c w p Connection k f r is = rw k (member-open m c w p.birth.process (Some p.birth) f is (same-number p.birth.process))
 queue-view-kind m c w p Client k f r is = rw k (member-open m c w p.birth.process (Some p.birth) f is (same-number p.birth.process))
-queue-view-kind m c w p Server k f r is = rw k (member-open m c w p.birth.process p.connection f is (home-queue p p.connection (one_of _ _ (one_of (is_home p) _ r.fair)) (rw k refl) refl))
+queue-view-kind m c w p Server k f r is = rw k (member-open m c w p.birth.process p.connection f is (home-queue p p.connection (first-true _ _ (first-true (is_home p) _ r.fair)) (rw k refl) refl))
 
 pub queue-view : (m : Group) (c : ℕ) (w : World) (p : PortRow) → Fair m c w → Right m c w p → m p.birth.process ≡ true → queue_of (view m w) (seen_port m p) ≡ queue_of w p
 queue-view m c w p f r is = queue-view-kind m c w p p.kind refl f r is
@@ -144,8 +145,8 @@ received-apart m c u d w by p q None at here q_out out = rw (here, out) refl
 received-apart m c u d w by p q (Some x) at here q_out out = rw (here, out) (take-apart m c u d w x (first-own q w x at) (ap (λ (b : Birth). m b.process) (first-queue q w x at) ∙ q_out))
 
 replied-apart : (m : Group) (c : ℕ) (u : World) (d : Whose) (w : World) (by : ThreadRow) (p : PortRow) (q : Birth) (y : WaitRow) (b : Message) (o : Option MessageRow) → first (is_queued q) w.messages ≡ o → owner u by.number ≡ Some by.process → m q.process ≡ false → m by.process ≡ false → are_apart m c u d w (reply y b ∷ []) ≡ true → are_apart m c u d w (receive_steps by p q (reply y b ∷ []) o) ≡ true
-replied-apart m c u d w by p q y b None at here q_out out woke = rw (here, out) (both _ _ (one_of _ _ woke) refl)
-replied-apart m c u d w by p q y b (Some x) at here q_out out woke = rw (here, out) (both _ _ (one_of _ _ woke) (take-apart m c u d (basic w (reply y b)) x (first-own q w x at) (ap (λ (b : Birth). m b.process) (first-queue q w x at) ∙ q_out)))
+replied-apart m c u d w by p q y b None at here q_out out woke = rw (here, out) (and_from _ _ (first-true _ _ woke) refl)
+replied-apart m c u d w by p q y b (Some x) at here q_out out woke = rw (here, out) (and_from _ _ (first-true _ _ woke) (take-apart m c u d (basic w (reply y b)) x (first-own q w x at) (ap (λ (b : Birth). m b.process) (first-queue q w x at) ∙ q_out)))
 
 pub receive-call-apart : (m : Group) (c : ℕ) (u : World) (d : Whose) (w : World) (by : ThreadRow) (handle : ℕ) (bytes : Option (List ℕ)) → Caller m c u w by → m by.process ≡ false → Holds (λ bs. are_apart m c u d w bs ≡ true) (nt_reply_wait_receive_port w by handle bytes)
 receive-call-apart m c u d w by handle bytes k out = on-receive (λ bs. are_apart m c u d w bs ≡ true) m c u w by handle bytes k (λ a p q replied is r.
@@ -201,12 +202,12 @@ own by (Some x) = entry.Answer by.number NtReplyWaitReceivePort SUCCESS (receipt
 
 rest-led : (m : Group) (c : ℕ) (u : World) (d : Whose) (w : World) (by : ThreadRow) (port q : Birth) (o : Option MessageRow) → first (is_queued q) w.messages ≡ o → m by.process ≡ true → q.process ≡ by.process → Owned u w → ((x : MessageRow) → o ≡ Some x → (is_fair_message m c x && (is_readable x && is_sent u.used_threads x)) ≡ true)
     → Led m c u d w (rest by port q o) (led_received m (view m w) by port q (own by o))
-rest-led m c u d w by port q None at by_in queue owned facts = record { world = basic-ours m w (Awaits (receive_wait by port q)) (both _ _ by_in (ap m queue ∙ by_in)) refl; told = refl }
+rest-led m c u d w by port q None at by_in queue owned facts = record { world = basic-ours m w (Awaits (receive_wait by port q)) (and_from _ _ by_in (ap m queue ∙ by_in)) refl; told = refl }
 rest-led m c u d w by port q (Some x) at by_in queue owned facts =
-    let fair : is_fair_message m c x ≡ true = one_of _ _ (facts x refl) in
-    let readable : is_readable x ≡ true = one_of _ _ (other_of (is_fair_message m c x) _ (facts x refl)) in
-    let sent : is_sent u.used_threads x ≡ true = other_of (is_readable x) _ (other_of (is_fair_message m c x) _ (facts x refl)) in
-    let sender : m (shown_process (receipt x)) ≡ m x.sender.process = ap m (shows-receipt x readable ∙ eqb-true _ _ (one_of _ _ fair)) in
+    let fair : is_fair_message m c x ≡ true = first-true _ _ (facts x refl) in
+    let readable : is_readable x ≡ true = first-true _ _ (second-true (is_fair_message m c x) _ (facts x refl)) in
+    let sent : is_sent u.used_threads x ≡ true = second-true (is_readable x) _ (second-true (is_fair_message m c x) _ (facts x refl)) in
+    let sender : m (shown_process (receipt x)) ≡ m x.sender.process = ap m (shows-receipt x readable ∙ eqb-true _ _ (first-true _ _ fair)) in
     rw sender (whose (m x.sender.process) refl fair sent)
   where
     q_in : m x.queue.process ≡ true
@@ -214,7 +215,7 @@ rest-led m c u d w by port q (Some x) at by_in queue owned facts =
 
     whose : (b : Bool) → m x.sender.process ≡ b → is_fair_message m c x ≡ true → is_sent u.used_threads x ≡ true → Led m c u d w (take_steps x) (cond b (given (first (is_queued q) (view m w).messages) take_steps) [])
     whose true s_in fair sent =
-        let ours : our_message m x ≡ true = both _ _ s_in q_in in
+        let ours : our_message m x ≡ true = and_from _ _ s_in q_in in
         rw (first-kept (our_message m) (is_queued q) w.messages x at ours) (record { world = run-ours m w (take_steps x) (take-ours m w x (first-own q w x at) ours); told = refl })
     whose false out fair sent = record { world = take-gone m c u w x owned sent fair (first-own q w x at) out; told = rw (take-silent x) refl }
 
@@ -227,7 +228,7 @@ received-led m c u d w by p q a replied led o at k readable by_in other queue l 
     (led-append m c u d w replied led (rest by p.birth q o) (led_received m (view m (world_after w replied)) by p.birth q (own by o)) l
     (rest-led m c u d (world_after w replied) by p.birth q o (ap (first (is_queued q)) same ∙ at) by_in queue owned (λ x is.
     let found : first (is_queued q) w.messages ≡ Some x = at ∙ is in
-    both _ _ (every-first (is_fair_message m c) (is_queued q) w.messages x k.fair.messages found) (both _ _ (every-first is_readable (is_queued q) w.messages x readable found) (rw k.used (every-first (is_sent w.used_threads) (is_queued q) w.messages x k.fair.senders found))))))
+    and_from _ _ (every-first (is_fair_message m c) (is_queued q) w.messages x k.fair.messages found) (and_from _ _ (every-first is_readable (is_queued q) w.messages x readable found) (rw k.used (every-first (is_sent w.used_threads) (is_queued q) w.messages x k.fair.senders found))))))
   where
     off : (o : Option MessageRow) → is_heard (alone c) u d (own by o) ≡ false
     off None = rw (k.here, other) refl
@@ -345,7 +346,7 @@ c-rest-ours m c w v by port q (Some x) same at c_in f mine queue =
     let fair : is_fair_message m c x ≡ true = every-first (is_fair_message m c) (is_queued q) w.messages x f.messages at in
     let q_c : (x.queue.process == c) ≡ true = ap (λ b. b == c) own_q ∙ same-number c in
     let s_in : m x.sender.process ≡ true = grind arith in
-    take-ours m v x (ap (first (is_queued x.queue)) same ∙ first-own q w x at) (both _ _ s_in (ap m own_q ∙ c_in))
+    take-ours m v x (ap (first (is_queued x.queue)) same ∙ first-own q w x at) (and_from _ _ s_in (ap m own_q ∙ c_in))
 
 pub c-receive-ours : (m : Group) (c : ℕ) (u w : World) (by : ThreadRow) (handle : ℕ) (bytes : Option (List ℕ)) → Caller m c u w by → by.process ≡ c → Holds (λ bs. are_ours m w bs ≡ true) (nt_reply_wait_receive_port w by handle bytes)
 c-receive-ours m c u w by handle bytes k mine = on-receive (λ bs. are_ours m w bs ≡ true) m c u w by handle bytes k (λ a p q replied is r.

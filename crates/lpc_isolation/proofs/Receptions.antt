@@ -1,11 +1,12 @@
 -- What is remembered fits each message that is taken.
 use Rattle.std.proofs.Common.{◌≡◌, ◌≤◌, ℕ, List, [], ◌∷◌, ◌++◌, Bool, true, false, not, Option, Some, None, refl, ap, sym, subst, ◌∙◌, arith}
 use Rattle.std.specs.Prelude.{◌||◌, ◌==◌}
-use Rattle.std.proofs.lemmas.Bool.{eqb-true}
+use Rattle.std.proofs.lemmas.Bool.{and_from, eqb-true}
 use Rattle.std.proofs.lemmas.Bool.Decides.{nat_tests}
 use Rattle.lpc_base.specs.Rows.{count, every, first, given, when}
 use Rattle.lpc_base.proofs.RowWords.{every-more, first-passes}
 use Rattle.lpc_base.proofs.RowMaps.{every-both, every-first}
+use Rattle.lpc_base.proofs.Bools.{first-true, number-turned, second-true}
 use Rattle.lpc_base.specs.declared.status.TheConstants.{SUCCESS}
 use Rattle.lpc_model.specs.Message.{asks}
 use Rattle.lpc_model.specs.World.{Accepted, Birth, Connect, Listen, MessageRow, Receive, Request, WaitKind, WaitRow, World}
@@ -14,7 +15,7 @@ use Rattle.lpc_model.specs.Basics.{Basic, Enters, Receives, Takes, TakesConnect,
 use Rattle.lpc_model.specs.Entering.{enter, given_steps, shown, take_connect_steps, take_steps, takes, woken}
 use Rattle.lpc_model.proofs.Rows.{lone}
 use Rattle.lpc_model.specs.Circle.{Group, owner}
-use Rattle.lpc_isolation.proofs.View.{both, of_birth, one_of, other_of}
+use Rattle.lpc_isolation.proofs.View.{of_birth}
 use Rattle.lpc_isolation.proofs.Fair.{is_sent, sent-owner}
 use Rattle.lpc_isolation.proofs.Apart.{Owned, is_owned, owned-by}
 use Rattle.lpc_isolation.proofs.Asked.{Asked, has_own, is_own, sender_of}
@@ -36,7 +37,7 @@ asker-on w test y a once at asked = own (first (is_own y) w.waits) refl (every-f
     own None none is = let off : (not (asks y.message) || false) ≡ true = rw none at is in absurd (grind arith)
     own (Some z) some is =
         let passed = first-passes (is_own y) w.waits z some in
-        lone (waits_as (sender_of y)) (λ x. same_birth x.queue y.queue) (is_own y) w.waits z (once (sender_of y)) some (one_of _ _ passed) (one_of _ _ (other_of _ _ passed))
+        lone (waits_as (sender_of y)) (λ x. same_birth x.queue y.queue) (is_own y) w.waits z (once (sender_of y)) some (first-true _ _ passed) (first-true _ _ (second-true _ _ passed))
 
 pub asker-by : (w : World) (y : MessageRow) → Owned w w → is_sent w.used_threads y ≡ true → every (is_by (sender_of y) y.message.header.client.process) w.waits ≡ true
 asker-by w y owned sent = every-more (is_owned w) (is_by (sender_of y) y.message.header.client.process) (λ x own. at x (waits_as (sender_of y) x) refl own) w.waits owned
@@ -67,9 +68,6 @@ told-inside m memo who pid xs inside all = every-more (is_by who pid) (is_told m
     at x true its own = let x_in : m x.process ≡ true = ap m (eqb-true x.process pid (grind arith)) ∙ inside in grind arith
     at x false off own = rw off refl
 
-turned : (a b : ℕ) → (a == b) ≡ (b == a)
-turned a b = grind (arith, nat_tests)
-
 recall-newest : (memo : List Heard) (who : ℕ) (q : Birth) → recall (record { thread = who; queue = q } ∷ memo) who ≡ Some q
 recall-newest memo who q = let self : (who == who) ≡ true = grind (arith, nat_tests) in rw self refl
 
@@ -88,7 +86,7 @@ note-known m memo who q w on all = every-both (is_known m memo) (is_on who q) (i
   where
     at : (x : WaitRow) (b : Bool) → (who == x.thread) ≡ b → is_known m memo x ≡ true → is_on who q x ≡ true → is_known m (record { thread = who; queue = q } ∷ memo) x ≡ true
     at x true its known here =
-        let back : waits_as who x ≡ true = sym (turned who x.thread) ∙ its in
+        let back : waits_as who x ≡ true = sym (number-turned who x.thread) ∙ its in
         let queue : same_birth x.queue q ≡ true = grind arith in
         rw (its, queue) (grind arith)
     at x false off known here = rw off known
@@ -96,18 +94,18 @@ note-known m memo who q w on all = every-both (is_known m memo) (is_on who q) (i
 -- Lists of steps
 pub known-append : (m : Group) (memo : List Heard) (w : World) (bs cs : List Basic) → are_known m memo w bs ≡ true → are_known m memo (world_after w bs) cs ≡ true → are_known m memo w (bs ++ cs) ≡ true
 known-append m memo w [] cs one two = two
-known-append m memo w (b ∷ bs) cs one two = both _ _ (one_of _ _ one) (known-append m memo (basic w b) bs cs (other_of _ _ one) two)
+known-append m memo w (b ∷ bs) cs one two = and_from _ _ (first-true _ _ one) (known-append m memo (basic w b) bs cs (second-true _ _ one) two)
 
 -- what is remembered is right for a message
 abbrev pub Fits : Group → List Heard → World → MessageRow → Type 0
 Fits m memo v y = asks y.message ≡ true → every (is_told m memo (sender_of y)) v.waits ≡ true
 
 when-known : (m : Group) (memo : List Heard) (v : World) (y : MessageRow) (asked : Bool) (rest : List Basic) → asks y.message ≡ asked → Fits m memo v y → ((u : World) → are_known m memo u rest ≡ true) → are_known m memo v (when asked (Receives (sender_of y) y.queue ∷ []) ++ rest) ≡ true
-when-known m memo v y true rest is fits later = both _ _ (fits is) (later (basic v (Receives (sender_of y) y.queue)))
+when-known m memo v y true rest is fits later = and_from _ _ (fits is) (later (basic v (Receives (sender_of y) y.queue)))
 when-known m memo v y false rest is fits later = later v
 
 when-alone : (m : Group) (memo : List Heard) (v : World) (y : MessageRow) (asked : Bool) → asks y.message ≡ asked → Fits m memo v y → are_known m memo v (when asked (Receives (sender_of y) y.queue ∷ [])) ≡ true
-when-alone m memo v y true is fits = both _ _ (fits is) refl
+when-alone m memo v y true is fits = and_from _ _ (fits is) refl
 when-alone m memo v y false is fits = refl
 
 pub take-known : (m : Group) (memo : List Heard) (v : World) (y : MessageRow) → Fits m memo v y → are_known m memo v (take_steps y) ≡ true

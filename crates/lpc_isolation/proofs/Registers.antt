@@ -1,5 +1,6 @@
 -- NtRegisterThreadTerminatePort in a view.
 use Rattle.std.proofs.Common.{◌≡◌, ℕ, List, [], ◌∷◌, Bool, true, false, cond, not, Some, None, refl, ap, sym, ◌∙◌}
+use Rattle.std.proofs.lemmas.Bool.{and_from}
 use Rattle.std.specs.Prelude.{◌&&◌, ◌==◌, nat_le, length, Ok}
 use Rattle.lpc_base.specs.Rows.{when, passes, first}
 use Rattle.lpc_base.specs.declared.status.TheConstants.{QUOTA_EXCEEDED, SUCCESS}
@@ -10,6 +11,7 @@ use Rattle.lpc_model.specs.World.{Birth, PortRow, ThreadRow, World}
 use Rattle.lpc_model.specs.Found.{is_used_thread, wait_of}
 use Rattle.lpc_model.specs.Basics.{Basic, Registers, Tells, world_after}
 use Rattle.lpc_base.specs.declared.limits.TheConstants.{REGISTRATION_LIMIT}
+use Rattle.lpc_base.proofs.Bools.{same-number}
 use Rattle.lpc_model.specs.Register.{is_registered, nt_register_thread_terminate_port, register_steps, registration_test}
 use Rattle.lpc_model.specs.Tests.{next_birth, port_test}
 use Rattle.lpc_model.specs.Lines.{register_thread_terminate_port}
@@ -18,7 +20,7 @@ use Rattle.lpc_model.specs.Circle.{Group, Whose, is_fine_call, owner}
 use Rattle.lpc_model.proofs.Holding.{Holds, bind_holds, holds_ok}
 use Rattle.lpc_isolation.proofs.Alone.{HasFineRows}
 use Rattle.lpc_isolation.proofs.Served.{served}
-use Rattle.lpc_isolation.proofs.View.{both, same-number, view}
+use Rattle.lpc_isolation.proofs.View.{view}
 use Rattle.lpc_isolation.proofs.Basics.{are_ours}
 use Rattle.lpc_isolation.proofs.Fair.{are_fair, owner-used}
 use Rattle.lpc_isolation.proofs.Seen.{port-own, port_test-view}
@@ -74,7 +76,7 @@ fair-register m c w by known handle a = on-register (λ bs. HasFineRows m c (wor
     own p at = a.own ∙ ap (λ n. Some n) (sym (port-process m c w w by handle p (caller m c w by known w a refl) at))
 
     is : (p : PortRow) → passes (first (is_used_thread by.number) w.used_threads) (λ u. u.process == p.birth.process) ≡ true → (new : Bool) → are_fair m c w (Tells (told_first by) ∷ when new (Registers by.number p.birth ∷ [])) ≡ true
-    is p owned true = both _ _ owned refl
+    is p owned true = and_from _ _ owned refl
     is p owned false = refl
 
 pub names-register : (m : Group) (c : ℕ) (u w : World) (by : ThreadRow) (handle : ℕ) → Caller m c u w by → Holds (λ bs. OnceBound (world_after w bs).bindings) (served w by (register_thread_terminate_port handle))

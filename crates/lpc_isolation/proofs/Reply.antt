@@ -1,10 +1,12 @@
 -- NtReplyPort in a view.
 use Rattle.std.proofs.Common.{◌≡◌, ℕ, ◌≤◌, List, [], ◌∷◌, Bool, true, false, Option, Some, None, refl, ap, sym, ◌∙◌, arith}
 use Rattle.std.specs.Prelude.{◌&&◌, ◌||◌, ◌==◌, Ok, option_and_then}
-use Rattle.std.proofs.lemmas.Bool.{eqb-true}
+use Rattle.std.proofs.lemmas.Bool.{and_from, eqb-true}
 use Rattle.lpc_base.specs.Rows.{count, first, given, passes, which}
 use Rattle.lpc_base.proofs.RowWords.{first-passes}
 use Rattle.lpc_base.proofs.RowMaps.{every-first}
+use Rattle.lpc_base.proofs.Bools.{first-true}
+use Rattle.lpc_base.proofs.Births.{birth-same}
 use Rattle.lpc_base.specs.declared.status.Status.{Status}
 use Rattle.lpc_base.specs.declared.status.TheConstants.{REPLY_MESSAGE_MISMATCH, SUCCESS}
 use Rattle.lpc_model.specs.Fields.{msg}
@@ -19,12 +21,11 @@ use Rattle.lpc_model.specs.Found.{fits, fitted, is_port, is_request, is_the, pai
 use Rattle.lpc_model.specs.Basics.{Basic}
 use Rattle.lpc_model.specs.Request.{reply_test, nt_reply_port, reply, reply_steps}
 use Rattle.lpc_model.specs.Tests.{client_test, port_test}
-use Rattle.lpc_model.proofs.Births.{birth-same}
 use Rattle.lpc_model.proofs.Holding.{Holds, bind_holds, found_holds, holds_ok}
 use Rattle.lpc_model.specs.Circle.{Group, Whose, owner}
 use Rattle.lpc_isolation.proofs.Alone.{alone}
 use Rattle.lpc_isolation.proofs.Filters.{first-kept}
-use Rattle.lpc_isolation.proofs.View.{both, of_birth, one_of, our_wait, view}
+use Rattle.lpc_isolation.proofs.View.{of_birth, our_wait, view}
 use Rattle.lpc_isolation.proofs.Basics.{basic-unseen, run-ours, sees_wait}
 use Rattle.lpc_isolation.proofs.Fair.{Fair, all_of, are_fair, is_fair_pair, is_fair_port, is_fair_wait, is_home}
 use Rattle.lpc_isolation.proofs.Seen.{port-own}
@@ -52,7 +53,7 @@ fit-member : (m : Group) (c : ℕ) (w : World) (port : Birth) (a : Message) (x :
 fit-member m c w port a x true t here there f c_in fair is mine =
     let queue : m x.queue.process ≡ true = grind arith in sym (of_birth m x.queue port here) ∙ queue
 fit-member m c w port a x false true here there f c_in fair is mine =
-    let process : x.port.process ≡ x.process = eqb-true _ _ (one_of _ _ fair) in
+    let process : x.port.process ≡ x.process = eqb-true _ _ (first-true _ _ fair) in
     c-pair m c w x.port port f c_in there (ap (λ p. p == c) process ∙ mine)
 fit-member m c w port a x false false here there f c_in fair is mine = absurd (cc)
 
@@ -85,7 +86,7 @@ answered-fit w port a x is = holds_ok (λ x. fitted w port.birth a ≡ Some x) (
 pub wakes-apart : (m : Group) (c : ℕ) (u : World) (d : Whose) (w : World) (port : PortRow) (a : Message) (x : WaitRow) → m c ≡ true → Fair m c w → Owned u w → m port.birth.process ≡ false → reply_test w port a ≡ Ok x → are_apart m c u d w (reply x a ∷ []) ≡ true
 wakes-apart m c u d w port a x c_in f owned out is =
     let at : fitted w port.birth a ≡ Some x = answered-fit w port a x is in
-    both _ _ (both _ _ (end-apart m c u d w x SUCCESS (msg (as_reply a) ∷ []) owned (every-first (is_owned u) (fits w port.birth a) w.waits x owned at) (fit-other m c w port.birth a x f c_in out at)) refl) refl
+    and_from _ _ (and_from _ _ (end-apart m c u d w x SUCCESS (msg (as_reply a) ∷ []) owned (every-first (is_owned u) (fits w port.birth a) w.waits x owned at) (fit-other m c w port.birth a x f c_in out at)) refl) refl
 
 pub reply-apart : (m : Group) (c : ℕ) (u : World) (d : Whose) (w : World) (by : ThreadRow) (handle : ℕ) (bytes : List ℕ) → m c ≡ true → Fair m c w → Owned u w → owner u by.number ≡ Some by.process → m by.process ≡ false → Holds (λ bs. are_apart m c u d w bs ≡ true) (nt_reply_port w by handle bytes)
 unfolding nt_reply_port
@@ -125,7 +126,7 @@ alone-out k q [] x once at out = refl
 alone-out k q (y ∷ ys) x once at out = grind (arith, none-left k q ys, alone-out k q ys x)
 
 fit-thread : (w : World) (port : Birth) (a : Message) (y : WaitRow) → fits w port a y ≡ true → waits_as a.header.client.thread y ≡ true
-fit-thread w port a y is = one_of _ _ is
+fit-thread w port a y is = first-true _ _ is
 
 -- c's own entries: another member's isn't one, nor is the wake of one who isn't c
 pub not-c : (c : ℕ) (u : World) (d : Whose) (tid pid : ℕ) (call : CallName) (status : Status) (fields : List Field) → owner u tid ≡ Some pid → (pid == c) ≡ false → is_heard (alone c) u d (Answer tid call status fields) ≡ false

@@ -1,7 +1,9 @@
 -- NtRequestWaitReplyPort in a view.
 use Rattle.std.proofs.Common.{◌≡◌, ℕ, List, [], ◌∷◌, ◌++◌, Bool, true, false, cond, Some, None, refl, ap, sym, subst, ◌∙◌, arith}
+use Rattle.std.proofs.lemmas.Bool.{and_from}
 use Rattle.std.specs.Prelude.{◌&&◌, ◌==◌, Ok}
 use Rattle.lpc_base.proofs.RowWords.{every-push}
+use Rattle.lpc_base.proofs.Bools.{same-number}
 use Rattle.lpc_message.specs.declared.kind.TheConstants.{REQUEST}
 use Rattle.lpc_model.specs.declared.message.Message.{Message}
 use Rattle.lpc_model.specs.Then.{◌>>=◌}
@@ -15,7 +17,7 @@ use Rattle.lpc_model.specs.declared.entry.Entry.TheVariants.{Waits}
 use Rattle.lpc_model.specs.Fields.{id}
 use Rattle.lpc_model.proofs.Holding.{Holds, bind_holds, holds_ok}
 use Rattle.lpc_model.specs.Circle.{Group, Whose}
-use Rattle.lpc_isolation.proofs.View.{both, our_wait, same-number, seen_port, view}
+use Rattle.lpc_isolation.proofs.View.{our_wait, seen_port, view}
 use Rattle.lpc_isolation.proofs.Basics.{are_ours, basic-unseen, ours-append, run-ours}
 use Rattle.lpc_isolation.proofs.Fair.{Fair, are_fair, implies, is_fair_wait, run-fair}
 use Rattle.lpc_isolation.proofs.Seen.{bind-same}
@@ -28,7 +30,7 @@ use Rattle.lpc_isolation.proofs.Routes.{context-view, routed-in, routed-out}
 -- the wait is fair
 wait-fair : (m : Group) (c : ℕ) (w : World) (by : ThreadRow) (p : PortRow) (q : Birth) (a : Message) → m c ≡ true → Named m c w by p → route w p ≡ Some q → is_fair_wait m c (request_wait by p.birth q a) ≡ true
 wait-fair m c w by p q a c_in n to =
-    both _ _ (rw n.process (same-number by.process)) (both _ _ refl (both _ _ (at (m p.birth.process) refl) (both _ _ (mine (p.birth.process == c) refl) refl)))
+    and_from _ _ (rw n.process (same-number by.process)) (and_from _ _ refl (and_from _ _ (at (m p.birth.process) refl) (and_from _ _ (mine (p.birth.process == c) refl) refl)))
   where
     at : (b : Bool) → m p.birth.process ≡ b → implies (q.process == c) (m by.process) ≡ true
     at true is = let by_in : m by.process ≡ true = ap m (sym n.process) ∙ is in grind arith
@@ -68,7 +70,7 @@ request-ours m c u w by p q a k n to is q_in =
     let p_in : m p.birth.process ≡ true = ap m n.process ∙ is in
     let bs : List Basic = request_start by p.birth q (sent_by by REQUEST a) in
     let x : MessageRow = row_of q p (sent_by by REQUEST a) in
-    ours-append m w bs (enter x (world_after w bs)) (rw (is, q_in) refl) (enter-ours m (world_after w bs) x (both _ _ p_in q_in) (started m c u w by p q (sent_by by REQUEST a) k n to).patient)
+    ours-append m w bs (enter x (world_after w bs)) (rw (is, q_in) refl) (enter-ours m (world_after w bs) x (and_from _ _ p_in q_in) (started m c u w by p q (sent_by by REQUEST a) k n to).patient)
 
 request-view : (m : Group) (c : ℕ) (u w : World) (by : ThreadRow) (p : PortRow) (q : Birth) (a : Message) → Caller m c u w by → Named m c w by p → route w p ≡ Some q → m by.process ≡ true → m q.process ≡ true → request_steps by (seen_port m p) q (sent_by by REQUEST a) (view m w) ≡ request_steps by p q (sent_by by REQUEST a) w
 request-view m c u w by p q a k n to is q_in =

@@ -5,6 +5,8 @@ use Rattle.std.proofs.lemmas.Bool.{eqb-true}
 use Rattle.lpc_base.specs.Rows.{every, first, has, passes}
 use Rattle.lpc_base.proofs.RowWords.{first-passes}
 use Rattle.lpc_base.proofs.RowMaps.{every-first}
+use Rattle.lpc_base.proofs.Bools.{first-true, same-number}
+use Rattle.lpc_base.proofs.Births.{birth-same}
 use Rattle.lpc_base.specs.declared.status.Status.{Status}
 use Rattle.lpc_model.specs.declared.entry.ObjectKind.{ObjectKind}
 use Rattle.lpc_model.specs.declared.entry.ObjectKind.TheVariants as kind
@@ -14,11 +16,10 @@ use Rattle.lpc_model.specs.World.{Birth, HandleRow, HandleTable, PortRow, Thread
 use Rattle.lpc_model.specs.Found.{free_handle, handle_at, handles_of, has_handle_to, has_value, is_live_thread, is_open, is_port, is_table, is_used_thread, live_thread, names_port, port_row, rows_in, same_kind}
 use Rattle.lpc_base.specs.declared.status.TheConstants.{ACCESS_DENIED, INVALID_HANDLE, OBJECT_TYPE_MISMATCH}
 use Rattle.lpc_model.specs.Tests.{PORT_RIGHT, includes, object_test, own_handle, port_test}
-use Rattle.lpc_model.proofs.Births.{birth-same}
 use Rattle.lpc_model.proofs.Holding.{Holds, bind_holds, found_holds, found_ok, holds_ok}
 use Rattle.lpc_model.specs.Circle.{Group, owner}
 use Rattle.lpc_isolation.proofs.Filters.{first-inside, first-nowhere, first-shown, first-where, has-inside}
-use Rattle.lpc_isolation.proofs.View.{of_birth, one_of, our_port, our_table, our_thread, same-number, seen_port, view}
+use Rattle.lpc_isolation.proofs.View.{of_birth, our_port, our_table, our_thread, seen_port, view}
 use Rattle.lpc_isolation.proofs.Fair.{Fair, is_fair_pair, is_fair_port, is_fair_table, is_home, is_homed, is_own}
 
 -- Handles
@@ -32,9 +33,6 @@ pub free-view : (m : Group) (w : World) (pid : ℕ) → m pid ≡ true → free_
 free-view m w pid is = rw (handles-view m w pid is) refl
 
 -- the handles to a port are those of its process
-pub equal : (a b : ℕ) → (a == b) ≡ true → a ≡ b
-equal a b is = eqb-true a b is
-
 named-one : (pid : ℕ) (b : Birth) (h : HandleRow) → is_own pid h ≡ true → names_port b h.object ≡ true → (pid == b.process) ≡ true
 named-one pid b h own named =
     let two : (h.object.birth.process == b.process) ≡ true = grind arith in
@@ -140,7 +138,7 @@ homed-number w tid t homed number = at (first (is_used_thread t.number) w.used_t
         rw here (ap (λ n. Some n) (eqb-true _ _ is))
 
 homed-owner : (m : Group) (c : ℕ) (w : World) (tid : ℕ) (t : ThreadRow) → is_homed w.used_threads t ≡ true → is_live_thread tid t ≡ true → owner w tid ≡ Some t.process
-homed-owner m c w tid t homed live = homed-number w tid t homed (eqb-true _ _ (one_of _ _ live))
+homed-owner m c w tid t homed live = homed-number w tid t homed (eqb-true _ _ (first-true _ _ live))
 
 -- a live thread is in the view where the owner of its number is a member
 pub live-view : (m : Group) (c : ℕ) (w : World) (tid pid : ℕ) → Fair m c w → owner w tid ≡ Some pid → m pid ≡ true → live_thread (view m w) tid ≡ live_thread w tid

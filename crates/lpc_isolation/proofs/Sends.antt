@@ -1,9 +1,11 @@
 -- NtRequestPort in a view, and what it shares with NtRequestWaitReplyPort.
 use Rattle.std.proofs.Common.{◌≡◌, ℕ, ◌≤◌, List, ◌++◌, Bool, true, false, cond, Option, Some, None, refl, ap, sym, subst, ◌∙◌, arith}
 use Rattle.std.specs.Prelude.{◌&&◌, ◌==◌, Ok}
-use Rattle.std.proofs.lemmas.Bool.{eqb-true}
+use Rattle.std.proofs.lemmas.Bool.{and_from, eqb-true}
 use Rattle.lpc_base.specs.Rows.{count, which}
 use Rattle.lpc_base.specs.declared.status.TheConstants.{PORT_DISCONNECTED}
+use Rattle.lpc_base.proofs.Bools.{first-true, same-number}
+use Rattle.lpc_base.proofs.Births.{birth-same}
 use Rattle.lpc_message.specs.declared.kind.TheConstants.{DATAGRAM}
 use Rattle.lpc_model.specs.declared.message.Message.{Message}
 use Rattle.lpc_model.specs.Message.{message_test}
@@ -16,12 +18,11 @@ use Rattle.lpc_model.specs.Entering.{enter, row_of}
 use Rattle.lpc_model.specs.Request.{Sendable, datagram_send_test, datagram_start, datagram_steps, datagram_test, nt_request_port, send_test, sent_by}
 use Rattle.lpc_model.specs.Tests.{port_test}
 use Rattle.lpc_model.specs.SoundWaits.{IsSoundWorld, HasShutConnects}
-use Rattle.lpc_model.proofs.Births.{birth-same}
 use Rattle.lpc_model.proofs.Holding.{Holds, bind_holds, found_ok, holds_ok}
 use Rattle.lpc_model.specs.Circle.{Group, Whose, owner}
 use Rattle.lpc_isolation.proofs.Alone.{HasFineRows}
 use Rattle.lpc_isolation.proofs.Filters.{first-none_kept, which-where}
-use Rattle.lpc_isolation.proofs.View.{both, one_of, our_message, our_wait, same-number, seen_pair, seen_port, view}
+use Rattle.lpc_isolation.proofs.View.{our_message, our_wait, seen_pair, seen_port, view}
 use Rattle.lpc_isolation.proofs.Basics.{are_ours, run-ours, sees_wait}
 use Rattle.lpc_isolation.proofs.Fair.{Fair, are_fair, implies, is_fair_message, is_sent, keeps-fair, owner-sent}
 use Rattle.lpc_isolation.proofs.Seen.{bind-same, c-port, port-own, port_test-view}
@@ -81,7 +82,7 @@ sendable m c u w by handle bytes k =
 -- the message's row is fair
 pub row-fair : (m : Group) (c : ℕ) (w : World) (by : ThreadRow) (p : PortRow) (q : Birth) (kind : ℕ) (a : Message) → m c ≡ true → owner w by.number ≡ Some by.process → Named m c w by p → route w p ≡ Some q → (is_fair_message m c (row_of q p (sent_by by kind a)) && is_sent w.used_threads (row_of q p (sent_by by kind a))) ≡ true
 row-fair m c w by p q kind a c_in own n to =
-    both _ _ (both _ _ (rw n.process (same-number by.process)) (both _ _ (at (m p.birth.process) refl) (mine (p.birth.process == c) refl))) (owner-sent w (row_of q p (sent_by by kind a)) by.process own refl)
+    and_from _ _ (and_from _ _ (rw n.process (same-number by.process)) (and_from _ _ (at (m p.birth.process) refl) (mine (p.birth.process == c) refl))) (owner-sent w (row_of q p (sent_by by kind a)) by.process own refl)
   where
     at : (b : Bool) → m p.birth.process ≡ b → implies (q.process == c) b ≡ true
     at true is = grind arith
@@ -109,7 +110,7 @@ datagram-apart m c u d w by p q a k n to out =
 datagram-ours : (m : Group) (c : ℕ) (u w : World) (by : ThreadRow) (p : PortRow) (q : Birth) (a : Message) → Caller m c u w by → Named m c w by p → m by.process ≡ true → m q.process ≡ true → are_ours m w (datagram_steps by p q (sent_by by DATAGRAM a) w) ≡ true
 datagram-ours m c u w by p q a k n is q_in =
     let p_in : m p.birth.process ≡ true = ap m n.process ∙ is in
-    enter-ours m (world_after w (datagram_start by)) (row_of q p (sent_by by DATAGRAM a)) (both _ _ p_in q_in) k.patient
+    enter-ours m (world_after w (datagram_start by)) (row_of q p (sent_by by DATAGRAM a)) (and_from _ _ p_in q_in) k.patient
 
 -- the same steps in the view
 datagram-view : (m : Group) (c : ℕ) (u w : World) (by : ThreadRow) (p : PortRow) (q : Birth) (a : Message) → Caller m c u w by → Named m c w by p → m by.process ≡ true → m q.process ≡ true → datagram_steps by (seen_port m p) q (sent_by by DATAGRAM a) (view m w) ≡ datagram_steps by p q (sent_by by DATAGRAM a) w
@@ -194,7 +195,7 @@ c-send_test m c u w by handle bytes k mine =
 
 c-datagrams : (m : Group) (c : ℕ) (w : World) (b : Birth) → m c ≡ true → Fair m c w → (b.process == c) ≡ true → which (is_datagram_of b) (view m w).messages ≡ which (is_datagram_of b) w.messages
 c-datagrams m c w b c_in f mine = which-where (is_fair_message m c) (our_message m) (is_datagram_of b) (λ x fair is.
-    let same : x.sender ≡ b = birth-same x.sender b (one_of _ _ is) in
+    let same : x.sender ≡ b = birth-same x.sender b (first-true _ _ is) in
     let own : (x.sender.process == c) ≡ true = ap (λ (b : Birth). b.process == c) same ∙ mine in
     let own_in : m x.sender.process ≡ true = ap m (eqb-true _ _ own) ∙ c_in in
     grind arith) w.messages f.messages

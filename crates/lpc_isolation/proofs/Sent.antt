@@ -1,14 +1,15 @@
 -- A message that was sent on a client port stands in the queue of its connection port: so in each world of a run.
 use Rattle.std.proofs.Common.{◌≡◌, ℕ, List, [], ◌∷◌, ◌++◌, Bool, true, false, not, map, Option, Some, None, refl, ◌∙◌}
+use Rattle.std.proofs.lemmas.Bool.{and_from}
 use Rattle.std.specs.Prelude.{◌&&◌, ◌||◌, if◌then◌else◌}
 use Rattle.lpc_base.specs.Rows.{every, passes}
 use Rattle.lpc_base.proofs.RowWords.{every-more, every-push, every-without, first-kept}
 use Rattle.lpc_base.proofs.RowMaps.{every-without_first}
+use Rattle.lpc_base.proofs.Bools.{first-true, second-true}
 use Rattle.lpc_model.specs.World.{Birth, MessageRow, PortRow, World}
 use Rattle.lpc_model.specs.Found.{is_client_port, is_own_of, is_port, is_queued, is_queued_connect, is_the, port_row}
 use Rattle.lpc_model.specs.Basics.{Accepts, AddsHandle, AddsProcess, AddsThread, Awaits, Basic, Binds, Completes, Cuts, DrawsIdentifier, DrawsOrdinal, DropsHandle, Empties, Enters, Frees, Joins, Makes, Receives, Takes, TakesConnect, Tells, Unbinds, Wakes, Withdraws, basic, completed, cut, is_end_of, joined, world_after, Dies, Registers, Unregisters}
 use Rattle.lpc_model.proofs.Rows.{first-map}
-use Rattle.lpc_isolation.proofs.View.{both, one_of, other_of}
 
 abbrev pub leads_home : Birth → PortRow → Bool
 leads_home q p = not (is_client_port p) || is_the q p.connection
@@ -104,11 +105,11 @@ basic-sent w (DropsHandle pid value) ok all = all
 
 pub run-sent : (w : World) (bs : List Basic) → are_sent w bs ≡ true → Sent w → Sent (world_after w bs)
 run-sent w [] ok all = all
-run-sent w (b ∷ bs) ok all = run-sent (basic w b) bs (other_of _ _ ok) (basic-sent w b (one_of _ _ ok) all)
+run-sent w (b ∷ bs) ok all = run-sent (basic w b) bs (second-true _ _ ok) (basic-sent w b (first-true _ _ ok) all)
 
 pub append-sent : (w : World) (bs cs : List Basic) → are_sent w bs ≡ true → are_sent (world_after w bs) cs ≡ true → are_sent w (bs ++ cs) ≡ true
 append-sent w [] cs one two = two
-append-sent w (b ∷ bs) cs one two = both _ _ (one_of _ _ one) (append-sent (basic w b) bs cs (other_of _ _ one) two)
+append-sent w (b ∷ bs) cs one two = and_from _ _ (first-true _ _ one) (append-sent (basic w b) bs cs (second-true _ _ one) two)
 
 -- steps that send nothing
 abbrev pub sends_none : Basic → Bool
@@ -123,4 +124,4 @@ none-step w b ok = refl
 
 pub none-sent : (w : World) (bs : List Basic) → every sends_none bs ≡ true → are_sent w bs ≡ true
 none-sent w [] ok = refl
-none-sent w (b ∷ bs) ok = both _ _ (none-step w b (one_of _ _ ok)) (none-sent (basic w b) bs (other_of _ _ ok))
+none-sent w (b ∷ bs) ok = and_from _ _ (none-step w b (first-true _ _ ok)) (none-sent (basic w b) bs (second-true _ _ ok))

@@ -1,5 +1,6 @@
 -- What a service owes, so that the line of each call of it can be played.
 use Rattle.std.proofs.Common.{◌≡◌, ℕ, List, [], ◌∷◌, ◌++◌, Bool, true, false, not, refl, arith}
+use Rattle.std.proofs.lemmas.Bool.{and_from}
 use Rattle.std.specs.Prelude.{◌&&◌, ◌==◌}
 use Rattle.lpc_base.specs.Rows.{every, has, without, passes}
 use Rattle.lpc_base.specs.declared.status.TheConstants.{SUCCESS}
@@ -8,9 +9,9 @@ use Rattle.lpc_model.specs.declared.entry.Entry.TheVariants as entry
 use Rattle.lpc_model.specs.World.{WaitRow, World}
 use Rattle.lpc_model.specs.Found.{waits_as, waits_at}
 use Rattle.lpc_base.proofs.RowWords.{has-change}
+use Rattle.lpc_base.proofs.Bools.{first-true, second-true}
 use Rattle.lpc_model.specs.Basics.{Accepts, AddsHandle, AddsProcess, AddsThread, Awaits, Basic, Binds, Completes, Cuts, DrawsIdentifier, DrawsOrdinal, DropsHandle, Empties, Enters, Frees, Joins, Makes, Receives, Takes, TakesConnect, Tells, Unbinds, Wakes, Withdraws, accepted, received, basic, entries_of, world_after, Dies, Registers, Unregisters}
 use Rattle.lpc_model.specs.Circle.{owner}
-use Rattle.lpc_isolation.proofs.View.{both, one_of, other_of}
 use Rattle.lpc_isolation.proofs.Lines.{is_done}
 
 -- The list of a call that is accepted: it tells its caller first, or of the end of a thread of its process, adds no thread, and begins no
@@ -93,14 +94,14 @@ basic-free w (DropsHandle pid value) who calm none = none
 
 run-free : (w : World) (bs : List Basic) (who : ℕ) → every (is_calm who) bs ≡ true → has (waits_as who) w.waits ≡ false → has (waits_as who) (world_after w bs).waits ≡ false
 run-free w [] who calm none = none
-run-free w (b ∷ bs) who calm none = run-free (basic w b) bs who (other_of _ _ calm) (basic-free w b who (one_of _ _ calm) none)
+run-free w (b ∷ bs) who calm none = run-free (basic w b) bs who (second-true _ _ calm) (basic-free w b who (first-true _ _ calm) none)
 
 -- one step of an orderly list
 pub orderly-done : (w : World) (bs : List Basic) → is_orderly bs ≡ true → every (is_done (world_after w bs)) (entries_of bs) ≡ true
 orderly-done w [] ok = refl
 orderly-done w (Wakes who call status fields ∷ bs) ok =
-    let ended : has (waits_as who) (world_after (basic w (Wakes who call status fields)) bs).waits ≡ false = run-free (basic w (Wakes who call status fields)) bs who (one_of _ _ ok) (free-ended who w.waits) in
-    both _ _ (rw ended refl) (orderly-done (basic w (Wakes who call status fields)) bs (other_of _ _ ok))
+    let ended : has (waits_as who) (world_after (basic w (Wakes who call status fields)) bs).waits ≡ false = run-free (basic w (Wakes who call status fields)) bs who (first-true _ _ ok) (free-ended who w.waits) in
+    and_from _ _ (rw ended refl) (orderly-done (basic w (Wakes who call status fields)) bs (second-true _ _ ok))
 orderly-done w (Tells (entry.Wakes who call status fields) ∷ bs) ok = absurd (cc)
 orderly-done w (Tells (entry.Answer who call status fields) ∷ bs) ok = orderly-done w bs ok
 orderly-done w (Tells (entry.Waits who call fields) ∷ bs) ok = orderly-done w bs ok
@@ -136,7 +137,7 @@ orderly-done w (DropsHandle pid value ∷ bs) ok = orderly-done (basic w (DropsH
 -- no number is used for a thread
 pub orderly-used : (w : World) (bs : List Basic) → is_orderly bs ≡ true → (world_after w bs).used_threads ≡ w.used_threads
 orderly-used w [] ok = refl
-orderly-used w (Wakes who call status fields ∷ bs) ok = orderly-used (basic w (Wakes who call status fields)) bs (other_of _ _ ok)
+orderly-used w (Wakes who call status fields ∷ bs) ok = orderly-used (basic w (Wakes who call status fields)) bs (second-true _ _ ok)
 orderly-used w (Tells (entry.Wakes who call status fields) ∷ bs) ok = absurd (cc)
 orderly-used w (Tells (entry.Answer who call status fields) ∷ bs) ok = orderly-used w bs ok
 orderly-used w (Tells (entry.Waits who call fields) ∷ bs) ok = orderly-used w bs ok

@@ -5,6 +5,7 @@ use Rattle.std.proofs.Common.{◌≡◌, ℕ, List, [], ◌∷◌, ◌++◌, Boo
 use Rattle.std.specs.Prelude.{◌||◌, ◌==◌}
 use Rattle.std.proofs.lemmas.Bool.Decides.{nat_tests}
 use Rattle.lpc_base.specs.Rows.{passes, which}
+use Rattle.lpc_base.proofs.Bools.{first-true, second-true}
 use Rattle.lpc_model.specs.declared.entry.Entry.{Entry}
 use Rattle.lpc_model.specs.declared.entry.Entry.TheVariants as entry
 use Rattle.lpc_model.specs.declared.entry.Word.TheVariants as word
@@ -16,7 +17,6 @@ use Rattle.lpc_model.specs.Grammar.{has_ids}
 use Rattle.lpc_isolation.proofs.Born.{born_none}
 use Rattle.lpc_isolation.proofs.Ids.{script-says}
 use Rattle.lpc_isolation.proofs.Play.{are_ok}
-use Rattle.lpc_isolation.proofs.View.{one_of, other_of}
 use Rattle.lpc_model.specs.Machine.{bare_steps, boot_line, dir_line, link_line, name_of_call, step, thread_line, thread_test, unused_test}
 use Rattle.lpc_isolation.proofs.Served.{served, served_ready, served_step, served_steps, served_thread}
 use Rattle.lpc_model.specs.Run.{Along, said_in, world_behind}
@@ -64,9 +64,9 @@ pub events-same : (w u : World) (lines : List (Option ScriptLine)) → are_ok ha
 events-same w u [] ids t = refl
 events-same w u (None ∷ later) ids t = events-same w u later ids t
 events-same w u (Some line ∷ later) ids t =
-    let a = line-behind w u line (one_of _ _ ids) t in
+    let a = line-behind w u line (first-true _ _ ids) t in
     ap (λ es. es ++ events (step w line).world later) (line-same w u line t.behind a)
-    ∙ ap (λ es. bare_line_events u line ++ es) (events-same (step w line).world (served_step u line).world later (other_of _ _ ids) a.sides)
+    ∙ ap (λ es. bare_line_events u line ++ es) (events-same (step w line).world (served_step u line).world later (second-true _ _ ids) a.sides)
 
 -- of each line
 ready-fine : (m : Group) (c : ℕ) (after u : World) (by : ThreadRow) (call : ScriptCall) (o : Option WaitRow) → wait_of u by.number ≡ o → HasFineRows m c after → FineAfter m c after u (served_ready by call o u)
@@ -119,12 +119,12 @@ circle-same m c w u [] ids t fine along last = fine
 circle-same m c w u (None ∷ later) ids t fine along last = circle-same m c w u later ids t fine along last
 circle-same m c w u (Some line ∷ later) ids t fine along last =
     let r = t.behind in
-    let a = line-behind w u line (one_of _ _ ids) t in
+    let a = line-behind w u line (first-true _ _ ids) t in
     let next : HasFineRows m c (step w line).world = first-fine m c (step w line).world later along.1 last in
     let after : HasFineRows m c (served_step u line).world = run-fine m c u (served_steps line u) (line-fine m c (step w line).world u line next a.sides.behind) fine in (
       fine,
       sym (line-inside m c r.alive u line) ∙ sym (ap (λ v. is_fine_line m c v line) r.same) ∙ along.0.1,
-      circle-same m c (step w line).world (served_step u line).world later (other_of _ _ ids) a.sides after along.1 last,
+      circle-same m c (step w line).world (served_step u line).world later (second-true _ _ ids) a.sides after along.1 last,
     )
 
 -- The law

@@ -3,6 +3,8 @@ use Rattle.std.proofs.Common.{◌≡◌, ℕ, List, [], ◌∷◌, Bool, true, f
 use Rattle.std.specs.Prelude.{◌&&◌, ◌==◌}
 use Rattle.std.proofs.lemmas.Bool.{eqb-true}
 use Rattle.lpc_base.specs.Rows.{first, when}
+use Rattle.lpc_base.proofs.Bools.{first-true}
+use Rattle.lpc_base.proofs.Births.{birth-same}
 use Rattle.lpc_message.specs.Layout.{header_of}
 use Rattle.lpc_model.specs.declared.entry.Field.{Field}
 use Rattle.lpc_model.specs.declared.entry.Value.{Value}
@@ -13,10 +15,9 @@ use Rattle.lpc_model.specs.World.{Birth, MessageRow, World}
 use Rattle.lpc_model.specs.Found.{is_queued, is_queued_connect}
 use Rattle.lpc_model.specs.Basics.{Receives, Takes, TakesConnect, basic, entries_of, world_after}
 use Rattle.lpc_model.specs.Entering.{take_connect_steps, take_steps}
-use Rattle.lpc_model.proofs.Births.{birth-same}
 use Rattle.lpc_model.specs.Circle.{Group, Whose}
 use Rattle.lpc_isolation.proofs.Filters.{first-where}
-use Rattle.lpc_isolation.proofs.View.{one_of, our_message, view}
+use Rattle.lpc_isolation.proofs.View.{our_message, view}
 use Rattle.lpc_isolation.proofs.Basics.{are_ours, basic-unseen, sees_at}
 use Rattle.lpc_isolation.proofs.Fair.{Fair, are_fair, is_fair_message, is_sent, sent-owner}
 use Rattle.lpc_isolation.proofs.Apart.{Owned, are_apart, unseen-at, unseen-queue, unseen-wait}
@@ -69,7 +70,7 @@ sender-out m x out = rw out refl
 
 unseen-sender : (m : Group) (c : ℕ) (u w : World) (x : MessageRow) → Owned u w → is_sent u.used_threads x ≡ true → is_fair_message m c x ≡ true → m x.sender.process ≡ false → sees_at m w x.message.header.client.thread x.queue ≡ false
 unseen-sender m c u w x owned sent fair out =
-    let process : x.message.header.client.process ≡ x.sender.process = eqb-true _ _ (one_of _ _ fair) in
+    let process : x.message.header.client.process ≡ x.sender.process = eqb-true _ _ (first-true _ _ fair) in
     unseen-at m w x.message.header.client.thread x.queue (unseen-wait m u w x.message.header.client.thread x.message.header.client.process owned (sent-owner u x sent) (ap m process ∙ out))
 
 when-gone : (m : Group) (w : World) (asked : Bool) (who : ℕ) (q : Birth) → sees_at m w who q ≡ false → view m (world_after w (when asked (Receives who q ∷ []))) ≡ view m w

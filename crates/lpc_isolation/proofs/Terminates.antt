@@ -1,10 +1,11 @@
 -- NtTerminateThread and NtTerminateProcess in a view.
 use Rattle.std.proofs.Common.{◌≡◌, ℕ, List, [], ◌∷◌, Bool, true, false, cond, not, Some, None, refl, ap, sym, subst, ◌∙◌, arith}
 use Rattle.std.specs.Prelude.{◌&&◌, ◌||◌, ◌==◌, Result, Ok, Err}
-use Rattle.std.proofs.lemmas.Bool.{eqb-true}
+use Rattle.std.proofs.lemmas.Bool.{and_from, eqb-true}
 use Rattle.lpc_base.specs.Rows.{every, first, passes, which}
 use Rattle.lpc_base.proofs.RowWords.{every-more, first-passes}
 use Rattle.lpc_base.proofs.RowMaps.{every-both}
+use Rattle.lpc_base.proofs.Bools.{first-true, or-last, same-number, second-true}
 use Rattle.lpc_base.specs.declared.status.Status.{Status}
 use Rattle.lpc_base.specs.declared.status.TheConstants.{INVALID_CID, SUCCESS}
 use Rattle.lpc_model.specs.declared.entry.CallName.{CallName}
@@ -28,7 +29,7 @@ use Rattle.lpc_model.proofs.Holding.{Holds, bind_holds, holds_ok, not_refused}
 use Rattle.lpc_model.proofs.Registrations.{every-each}
 use Rattle.lpc_isolation.proofs.Alone.{HasFineRows}
 use Rattle.lpc_isolation.proofs.Served.{served}
-use Rattle.lpc_isolation.proofs.View.{both, one_of, other_of, same-number, view}
+use Rattle.lpc_isolation.proofs.View.{view}
 use Rattle.lpc_isolation.proofs.Fair.{Fair, are_fair, is_fair_thread, is_homed}
 use Rattle.lpc_isolation.proofs.Seen.{bind-same, homed-number}
 use Rattle.lpc_isolation.proofs.Apart.{Owned, are_apart}
@@ -95,9 +96,6 @@ filled : (p q : ThreadRow → Bool) (ts : List ThreadRow) (t : ThreadRow) → fi
 filled p q [] t at is = absurd (cc)
 filled p q (x ∷ xs) t at is = grind (arith, filled p q xs t)
 
-or-last : (a b : Bool) → a ≡ true → (not a || b) ≡ true → b ≡ true
-or-last a b is it = grind arith
-
 -- whatever holds of each row that lives in the process
 ending-row : (u w : World) (pid : ℕ) (t : ThreadRow) → u.used_threads ≡ w.used_threads → is_homed w.used_threads t ≡ true → is_fair_thread t ≡ true → (not (lives_in pid t) || is_ending_of u pid t) ≡ true
 ending-row u w pid t used homed fair = at (lives_in pid t) refl
@@ -105,9 +103,9 @@ ending-row u w pid t used homed fair = at (lives_in pid t) refl
     at : (e : Bool) → lives_in pid t ≡ e → (not e || is_ending_of u pid t) ≡ true
     at false off = refl
     at true is =
-        let process : (t.process == pid) ≡ true = one_of _ _ is in
+        let process : (t.process == pid) ≡ true = first-true _ _ is in
         let own : owner u t.number ≡ Some pid = rw used (homed-number w t.number t homed refl) ∙ ap (λ p. Some p) (eqb-true t.process pid process) in
-        both _ _ (rw own (same-number pid)) (both _ _ process fair)
+        and_from _ _ (rw own (same-number pid)) (and_from _ _ process fair)
 
 ending-rows : (m : Group) (c : ℕ) (u w : World) (pid : ℕ) → Fair m c w → u.used_threads ≡ w.used_threads → every (λ t. not (lives_in pid t) || is_ending_of u pid t) w.threads ≡ true
 ending-rows m c u w pid f used = every-both (is_homed w.used_threads) is_fair_thread (λ t. not (lives_in pid t) || is_ending_of u pid t) (λ t homed fair. ending-row u w pid t used homed fair) w.threads f.threads f.registrations
@@ -134,7 +132,7 @@ starts w tid (b ∷ bs) = tells_own w tid b
 
 mild-call : (w : World) (tid : ℕ) (bs : List Basic) → AreMild bs → starts w tid bs ≡ true → is_call_of w tid bs ≡ true
 mild-call w tid [] mild is = absurd (cc)
-mild-call w tid (b ∷ bs) mild is = both _ _ is (mild-orderly bs (other_of _ _ mild))
+mild-call w tid (b ∷ bs) mild is = and_from _ _ is (mild-orderly bs (second-true _ _ mild))
 
 ends-orderly : (w : World) (pid tid : ℕ) (code : Status) (ts : List ThreadRow) → heads_own w tid ts ≡ true → is_call_of w tid (end_threads pid code ts w) ≡ true
 unfolding end_threads
@@ -182,7 +180,7 @@ module _ (call : ScriptCall) (code : Status) (e : EndsThreads call code) where
   orderly-ends m c u w by k = on-ends (λ bs. is_call_of w by.number bs ≡ true) w by (λ a at.
       by-answer (λ bs. is_call_of w by.number bs ≡ true) by a w
       (λ own. ends-orderly w a.pid by.number code a.threads (holds_ok (λ (a : Aim). a.own ≡ true → heads_own w by.number a.threads ≡ true) (e.aim w by) a (e.heads m c w by k.fair k.live k.own) at own))
-      (λ _. both _ _ (both _ _ (same-number by.number) refl) (mild-orderly (ends a w) (ends-mild a.pid code a.threads w))))
+      (λ _. and_from _ _ (and_from _ _ (same-number by.number) refl) (mild-orderly (ends a w) (ends-mild a.pid code a.threads w))))
 
   pub refuses-ends : (w : World) (by : ThreadRow) → Refuses (served w by call)
   refuses-ends w by = subst Refuses (sym (e.is w by)) (bind (e.aim w by) _ (e.refuses w by) (λ a. tt))
@@ -215,7 +213,7 @@ module _ (call : ScriptCall) (code : Status) (e : EndsThreads call code) where
       on-ends (λ bs. HasFineRows m c (world_after w bs) → are_apart m c u d w bs ≡ true) w by (λ a at fine.
       let p = part m c u w by a k at in
       let is = p.apart d w (steady m c u w by k) (group-of m c w by a a0.fair at ∙ out) in
-      by-answer (λ bs. are_apart m c u d w bs ≡ true) by a w (λ _. is) (λ _. both _ _ (rw (k.here, out) refl) is))
+      by-answer (λ bs. are_apart m c u d w bs ≡ true) by a w (λ _. is) (λ _. and_from _ _ (rw (k.here, out) refl) is))
 
   -- the view changes by the same steps in it
   led-ends : (m : Group) (c : ℕ) (u : World) (d : Whose) (w : World) (by : ThreadRow) (a : Aim) → Caller m c u w by → e.aim w by ≡ Ok a → m by.process ≡ true → Led m c u d w (ends_told by a w) (ends_told by a (view m w))
@@ -318,7 +316,7 @@ thread-ends-it target code = record {
   rows = λ p w by live all. bind_holds (thread_target w by target) _ (λ (a : Aim). every (λ t. p t a.pid) a.threads ≡ true) (λ t at. bind_holds (refuse_if (not t.live) INVALID_CID) _ (λ (a : Aim). every (λ t. p t a.pid) a.threads ≡ true) (λ v is.
       let lives : t.live ≡ true = live-of t v is in
       let row = holds_ok (λ (t : ThreadRow). t.live ≡ true → every (λ x. not (lives_in t.process x) || p x t.process) w.threads ≡ true → (not (lives_in t.process t) || p t t.process) ≡ true) (thread_target w by target) t (thread-row (λ t x. not (lives_in t.process x) || p x t.process) w by target live) at lives (all t.process) in
-      both _ _ (lives-row (λ x. p x t.process) t lives row) refl));
+      and_from _ _ (lives-row (λ x. p x t.process) t lives row) refl));
   heads = λ m c w by f live own. bind_holds (thread_target w by target) _ (λ (a : Aim). a.own ≡ true → heads_own w by.number a.threads ≡ true) (λ t at. bind_holds (refuse_if (not t.live) INVALID_CID) _ (λ (a : Aim). a.own ≡ true → heads_own w by.number a.threads ≡ true) (λ _ _ is. thread-heads m c w by t own is));
 }
   where
@@ -351,14 +349,14 @@ first-own m c w by f live own = at (live_threads w by.process) refl
     is = first-passes (is_live_thread by.number) w.threads by live
 
     there : is_filled (live_threads w by.process) ≡ true
-    there = filled (is_live_thread by.number) (lives_in by.process) w.threads by live (both (by.process == by.process) by.live (same-number by.process) (other_of (by.number == by.number) by.live is))
+    there = filled (is_live_thread by.number) (lives_in by.process) w.threads by live (and_from (by.process == by.process) by.live (same-number by.process) (second-true (by.number == by.number) by.live is))
 
     homed : every (λ t. passes (owner w t.number) (λ q. q == by.process)) (live_threads w by.process) ≡ true
-    homed = every-passing (λ t. not (lives_in by.process t) || is_ending_of w by.process t) (lives_in by.process) (λ t. passes (owner w t.number) (λ q. q == by.process)) (λ t either lives. one_of (passes (owner w t.number) (λ q. q == by.process)) ((t.process == by.process) && is_fair_thread t) (or-last (lives_in by.process t) (is_ending_of w by.process t) lives either)) w.threads (ending-rows m c w w by.process f refl)
+    homed = every-passing (λ t. not (lives_in by.process t) || is_ending_of w by.process t) (lives_in by.process) (λ t. passes (owner w t.number) (λ q. q == by.process)) (λ t either lives. first-true (passes (owner w t.number) (λ q. q == by.process)) ((t.process == by.process) && is_fair_thread t) (or-last (lives_in by.process t) (is_ending_of w by.process t) lives either)) w.threads (ending-rows m c w w by.process f refl)
 
     at : (ts : List ThreadRow) → live_threads w by.process ≡ ts → heads_own w by.number ts ≡ true
     at [] none = let never : is_filled [] ≡ true = rw none at there in absurd (cc)
-    at (t ∷ ts) some = let all : every (λ t. passes (owner w t.number) (λ q. q == by.process)) (t ∷ ts) ≡ true = rw some at homed in rw own (one_of _ _ all)
+    at (t ∷ ts) some = let all : every (λ t. passes (owner w t.number) (λ q. q == by.process)) (t ∷ ts) ≡ true = rw some at homed in rw own (first-true _ _ all)
 
 process-seen : (m : Group) (w : World) (by : ThreadRow) (pid : ℕ) → m pid ≡ true → process_aims (view m w) by pid ≡ process_aims w by pid
 process-seen m w by pid inside = rw (lives-view m w pid inside, threads-view m w pid inside) refl

@@ -1,17 +1,18 @@
 -- A world without some rows that no other row names: what each basic step and the sweep do to it.
 use Rattle.std.proofs.Common.{◌≡◌, ◌≤◌, ℕ, List, [], ◌∷◌, ◌++◌, Bool, true, false, not, map, Option, Some, None, refl, ap, sym, subst, ◌∙◌, arith}
 use Rattle.std.specs.Prelude.{◌&&◌, ◌||◌, ◌+◌, ◌==◌, nat_lt, is_some}
-use Rattle.std.proofs.lemmas.Bool.{eqb-true}
+use Rattle.std.proofs.lemmas.Bool.{and_from, eqb-true, or_left}
 use Rattle.lpc_base.specs.Rows.{count, each, every, has, which, without, first}
-use Rattle.lpc_base.proofs.RowWords.{every-change, every-more, every-off, every-push, every-without, first-passes}
-use Rattle.lpc_base.proofs.RowMaps.{every-both, every-first, every-without_first}
+use Rattle.lpc_base.proofs.RowWords.{every-back, every-change, every-front, every-more, every-push, every-which, every-without, first-passes}
+use Rattle.lpc_base.proofs.RowMaps.{every-both, every-first, every-mapped, every-without_first}
+use Rattle.lpc_base.proofs.Bools.{first-true, same-number, second-true}
+use Rattle.lpc_base.proofs.Births.{birth-same, births-apart}
 use Rattle.lpc_model.specs.declared.entry.ObjectKind.{ObjectKind}
 use Rattle.lpc_model.specs.declared.entry.ObjectKind.TheVariants as kind
 use Rattle.lpc_model.specs.World.{Birth, HandleRow, HandleTable, MessageRow, ObjectName, PortRow, ProcessRow, ThreadRow, WaitRow, World}
 use Rattle.lpc_model.specs.Found.{all_handles, handle_count, has_value, is_connected_to, is_cut, is_life, is_made_on, is_own_of, is_paired_to, is_port, is_queued, is_sent_on, is_table, is_the, is_thread, holders, lives_by, port_name, process_name, same_birth, same_kind, same_object, thread_name, waits_as, waits_at, all_registrations, registered_by, live_thread, live_threads, is_live, is_live_thread, lives_in}
 use Rattle.lpc_model.specs.Basics.{Accepts, AddsHandle, AddsProcess, AddsThread, Awaits, Basic, Binds, Completes, Cuts, DrawsIdentifier, DrawsOrdinal, DropsHandle, Empties, Enters, Frees, Joins, Makes, Receives, Takes, TakesConnect, Tells, Unbinds, Wakes, Withdraws, accepted, basic, completed, cut, freed, is_end_of, joined, no_handles, past_identifier, past_ordinal, received, with_handle, without_handle, world_after, Dies, Registers, Unregisters, ended, registering, unregistering}
 use Rattle.lpc_model.specs.Sweep.{free_unheld, is_unheld, sweep, unheld}
-use Rattle.lpc_model.proofs.Births.{birth-same}
 use Rattle.lpc_model.specs.SoundWaits.{IsSoundWorld}
 use Rattle.lpc_model.specs.Linked.{IsLinked}
 use Rattle.lpc_model.proofs.LinkedJoins.{gone-linked}
@@ -23,7 +24,6 @@ use Rattle.lpc_message.specs.declared.message.ClientId.{ClientId}
 use Rattle.lpc_model.specs.Tests.{client_test}
 use Rattle.lpc_model.proofs.Rows.{has-off}
 use Rattle.lpc_isolation.proofs.Filters.{first-where, has-inside, kept-change, kept-push, which-where}
-use Rattle.lpc_isolation.proofs.View.{both, one_of, other_of, same-number}
 
 -- the births of the ports, processes and threads that stand, and the numbers of processes that stand while they live
 pub record Alive : Type 0 where
@@ -142,32 +142,17 @@ which-map : {X : Type 0} (k : X → Bool) (f : X → X) → ((x : X) → k (f x)
 which-map k f same [] = refl
 which-map k f same (x ∷ xs) = grind (arith, same x, which-map k f same xs)
 
-which-without : {X : Type 0} (k t : X → Bool) (xs : List X) → which k (without t xs) ≡ without t (which k xs)
-which-without k t [] = refl
-which-without k t (x ∷ xs) = grind (arith, which-without k t xs)
-
 which-but : {X : Type 0} (k t : X → Bool) (xs : List X) → which (λ x. k x && not (t x)) xs ≡ without t (which k xs)
 which-but k t [] = refl
 which-but k t (x ∷ xs) = grind (arith, which-but k t xs)
 
-every-mapped : {X : Type 0} (p : X → Bool) (f : X → X) → ((x : X) → p x ≡ true → p (f x) ≡ true) → (xs : List X) → every p xs ≡ true → every p (map f xs) ≡ true
-every-mapped p f keeps [] all = refl
-every-mapped p f keeps (x ∷ xs) all = both _ _ (keeps x (one_of _ _ all)) (every-mapped p f keeps xs (other_of _ _ all))
-
-every-kept : {X : Type 0} (p k : X → Bool) (xs : List X) → every p xs ≡ true → every p (which k xs) ≡ true
-every-kept p k [] all = refl
-every-kept p k (x ∷ xs) all = grind (arith, every-kept p k xs)
-
 every-two : {X : Type 0} (p : X → Bool) (xs : List X) (y : X) (ys : List X) → every p xs ≡ true → p y ≡ true → every p ys ≡ true → every p (xs ++ y ∷ ys) ≡ true
-every-two p [] y ys one here two = both _ _ here two
-every-two p (x ∷ xs) y ys one here two = both _ _ (one_of _ _ one) (every-two p xs y ys (other_of _ _ one) here two)
+every-two p [] y ys one here two = and_from _ _ here two
+every-two p (x ∷ xs) y ys one here two = and_from _ _ (first-true _ _ one) (every-two p xs y ys (second-true _ _ one) here two)
 
 none-which : {X : Type 0} (k t : X → Bool) (xs : List X) → has t (which k xs) ≡ false → every (λ x. not (k x) || not (t x)) xs ≡ true
 none-which k t [] none = refl
 none-which k t (x ∷ xs) none = grind (arith, none-which k t xs)
-
-every-not : {X : Type 0} (t : X → Bool) (xs : List X) → has t xs ≡ false → every (λ x. not (t x)) xs ≡ true
-every-not t xs none = every-off t (λ x. not (t x)) (λ x off. rw off refl) xs none
 
 -- Basic steps
 joined-alive : (k : Alive) (client server : Birth) (context : ℕ) (p : PortRow) → port_alive k (joined client server context p) ≡ port_alive k p
@@ -179,7 +164,7 @@ joined-alive k client server context p = at (is_port client p) (is_port server p
     at false false is it = rw (is, it) refl
 
 pub thin-basic : (k : Alive) (u : World) (b : Basic) → is_closed k b ≡ true → thin k (basic u b) ≡ basic (thin k u) b
-thin-basic k u (Makes p) ok = rw (kept-push (port_alive k) u.ports p (one_of _ _ ok)) refl
+thin-basic k u (Makes p) ok = rw (kept-push (port_alive k) u.ports p (first-true _ _ ok)) refl
 thin-basic k u (Joins client server context) ok = rw (which-map (port_alive k) (joined client server context) (joined-alive k client server context) u.ports) refl
 thin-basic k u (Completes b) ok = rw (kept-change (port_alive k) (is_port b) completed (λ p. refl) u.ports) refl
 thin-basic k u (Frees o) ok = absurd (cc)
@@ -204,12 +189,12 @@ thin-basic k u (Dies who status) ok = rw (kept-change (thread_alive k) (is_threa
 thin-basic k u (Registers who b) ok = rw (kept-change (thread_alive k) (is_thread who) (registering b) (λ t. refl) u.threads) refl
 thin-basic k u (Unregisters who b) ok = rw (kept-change (thread_alive k) (is_thread who) (unregistering b) (λ t. refl) u.threads) refl
 thin-basic k u (AddsProcess p) ok = rw (kept-push (process_alive k) u.processes p ok) refl
-thin-basic k u (AddsThread t) ok = rw (kept-push (thread_alive k) u.threads t (one_of _ _ ok)) refl
+thin-basic k u (AddsThread t) ok = rw (kept-push (thread_alive k) u.threads t (first-true _ _ ok)) refl
 
 put-closed : (k : Alive) (h : HandleRow) (t : HandleTable) → handle_closed k h ≡ true → table_closed k t ≡ true → table_closed k (with_handle h t) ≡ true
 put-closed k h t ok all =
     every-two (handle_closed k) (which (λ r. nat_lt r.value h.value) t.rows) h (which (λ r. nat_lt h.value r.value) t.rows)
-    (every-kept (handle_closed k) (λ r. nat_lt r.value h.value) t.rows all) ok (every-kept (handle_closed k) (λ r. nat_lt h.value r.value) t.rows all)
+    (every-which (handle_closed k) (λ r. nat_lt r.value h.value) t.rows all) ok (every-which (handle_closed k) (λ r. nat_lt h.value r.value) t.rows all)
 
 joined-closed : (k : Alive) (client server : Birth) (context : ℕ) → k.ports client ≡ true → k.ports server ≡ true → (p : PortRow) → port_closed k p ≡ true → port_closed k (joined client server context p) ≡ true
 joined-closed k client server context one two p ok = at (is_port client p) (is_port server p) refl refl
@@ -218,9 +203,6 @@ joined-closed k client server context one two p ok = at (is_port client p) (is_p
     at true b is it = rw (is, two) (grind arith)
     at false true is it = rw (is, it, one) (grind arith)
     at false false is it = rw (is, it) ok
-
-or-first : (a b : Bool) → a ≡ true → (a || b) ≡ true
-or-first a b is = grind arith
 
 joined-cut : (k : Alive) (client server : Birth) (context : ℕ) → k.ports client ≡ true → k.ports server ≡ true → (p : PortRow) → port_cut k p ≡ true → port_cut k (joined client server context p) ≡ true
 joined-cut k client server context one two p ok = at (is_port client p) (is_port server p) refl refl
@@ -236,8 +218,8 @@ or-last a is = grind arith
 pub keeps-closed : (k : Alive) (u : World) (b : Basic) → is_closed k b ≡ true → Closed k u → Closed k (basic u b)
 keeps-closed k u (Awaits x) ok c = record { tables = c.tables; ports = c.ports; messages = c.messages; waits = every-push (wait_closed k) u.waits x c.waits ok; registrations = c.registrations; cuts = c.cuts; threads = c.threads; processes = c.processes }
 keeps-closed k u (Enters x) ok c = record { tables = c.tables; ports = c.ports; messages = every-push (message_closed k) u.messages x c.messages ok; waits = c.waits; registrations = c.registrations; cuts = c.cuts; threads = c.threads; processes = c.processes }
-keeps-closed k u (Makes p) ok c = record { tables = c.tables; ports = every-push (port_closed k) u.ports p c.ports (other_of _ _ ok); messages = c.messages; waits = c.waits; registrations = c.registrations; cuts = every-push (port_cut k) u.ports p c.cuts (or-first (k.ports p.birth) (is_cut p) (one_of _ _ ok)); threads = c.threads; processes = c.processes }
-keeps-closed k u (Joins client server context) ok c = record { tables = c.tables; ports = every-mapped (port_closed k) (joined client server context) (joined-closed k client server context (one_of _ _ ok) (other_of _ _ ok)) u.ports c.ports; messages = c.messages; waits = c.waits; registrations = c.registrations; cuts = every-mapped (port_cut k) (joined client server context) (joined-cut k client server context (one_of _ _ ok) (other_of _ _ ok)) u.ports c.cuts; threads = c.threads; processes = c.processes }
+keeps-closed k u (Makes p) ok c = record { tables = c.tables; ports = every-push (port_closed k) u.ports p c.ports (second-true _ _ ok); messages = c.messages; waits = c.waits; registrations = c.registrations; cuts = every-push (port_cut k) u.ports p c.cuts (or_left (k.ports p.birth) (is_cut p) (first-true _ _ ok)); threads = c.threads; processes = c.processes }
+keeps-closed k u (Joins client server context) ok c = record { tables = c.tables; ports = every-mapped (port_closed k) (joined client server context) (joined-closed k client server context (first-true _ _ ok) (second-true _ _ ok)) u.ports c.ports; messages = c.messages; waits = c.waits; registrations = c.registrations; cuts = every-mapped (port_cut k) (joined client server context) (joined-cut k client server context (first-true _ _ ok) (second-true _ _ ok)) u.ports c.cuts; threads = c.threads; processes = c.processes }
 keeps-closed k u (Binds path node) ok c = record { tables = c.tables; ports = c.ports; messages = c.messages; waits = c.waits; registrations = c.registrations; cuts = c.cuts; threads = c.threads; processes = c.processes }
 keeps-closed k u (AddsHandle pid h) ok c = record { tables = every-change (table_closed k) (is_table pid) (with_handle h) (λ t all. put-closed k h t ok all) u.handles c.tables; ports = c.ports; messages = c.messages; waits = c.waits; registrations = c.registrations; cuts = c.cuts; threads = c.threads; processes = c.processes }
 keeps-closed k u (Empties q) ok c = record { tables = c.tables; ports = c.ports; messages = every-without (message_closed k) (is_queued q) u.messages c.messages; waits = c.waits; registrations = c.registrations; cuts = c.cuts; threads = c.threads; processes = c.processes }
@@ -245,7 +227,7 @@ keeps-closed k u (Cuts b) ok c = record { tables = c.tables; ports = every-chang
 keeps-closed k u (Unbinds b) ok c = record { tables = c.tables; ports = c.ports; messages = c.messages; waits = c.waits; registrations = c.registrations; cuts = c.cuts; threads = c.threads; processes = c.processes }
 keeps-closed k u (DropsHandle pid value) ok c = record { tables = every-change (table_closed k) (is_table pid) (without_handle value) (λ t all. every-without_first (handle_closed k) (has_value value) t.rows all) u.handles c.tables; ports = c.ports; messages = c.messages; waits = c.waits; registrations = c.registrations; cuts = c.cuts; threads = c.threads; processes = c.processes }
 keeps-closed k u (AddsProcess p) ok c = record { tables = every-push (table_closed k) u.handles (no_handles p.number) c.tables refl; ports = c.ports; messages = c.messages; waits = c.waits; registrations = c.registrations; cuts = c.cuts; threads = c.threads; processes = every-push (process_closed k) u.processes p c.processes (or-last (not (k.homes p.number)) ok) }
-keeps-closed k u (AddsThread t) ok c = record { tables = c.tables; ports = c.ports; messages = c.messages; waits = c.waits; registrations = all-pushed k.ports u.threads t (other_of (thread_closed k t) _ (other_of (k.threads t.birth) _ ok)) c.registrations; cuts = c.cuts; threads = every-push (thread_closed k) u.threads t c.threads (one_of _ _ (other_of (k.threads t.birth) _ ok)); processes = c.processes }
+keeps-closed k u (AddsThread t) ok c = record { tables = c.tables; ports = c.ports; messages = c.messages; waits = c.waits; registrations = all-pushed k.ports u.threads t (second-true (thread_closed k t) _ (second-true (k.threads t.birth) _ ok)) c.registrations; cuts = c.cuts; threads = every-push (thread_closed k) u.threads t c.threads (first-true _ _ (second-true (k.threads t.birth) _ ok)); processes = c.processes }
 keeps-closed k u (Wakes who call status fields) ok c = record { tables = c.tables; ports = c.ports; messages = c.messages; waits = every-without (wait_closed k) (waits_as who) u.waits c.waits; registrations = c.registrations; cuts = c.cuts; threads = c.threads; processes = c.processes }
 keeps-closed k u (Receives who q) ok c = record { tables = c.tables; ports = c.ports; messages = c.messages; waits = every-change (wait_closed k) (waits_at who q) received (λ x is. is) u.waits c.waits; registrations = c.registrations; cuts = c.cuts; threads = c.threads; processes = c.processes }
 keeps-closed k u (Accepts who reply) ok c = record { tables = c.tables; ports = c.ports; messages = c.messages; waits = every-change (wait_closed k) (waits_as who) (accepted reply) (λ x is. is) u.waits c.waits; registrations = c.registrations; cuts = c.cuts; threads = c.threads; processes = c.processes }
@@ -266,24 +248,24 @@ pub lasts : (k : Alive) (t : ThreadRow) → thread_closed k t ≡ true → t.liv
 lasts k t closed live = grind arith
 
 pub live-thin : (k : Alive) (u : World) (tid : ℕ) → Closed k u → live_thread (thin k u) tid ≡ live_thread u tid
-live-thin k u tid c = first-where (thread_closed k) (thread_alive k) (is_live_thread tid) (λ t closed is. lasts k t closed (other_of _ _ is)) u.threads c.threads
+live-thin k u tid c = first-where (thread_closed k) (thread_alive k) (is_live_thread tid) (λ t closed is. lasts k t closed (second-true _ _ is)) u.threads c.threads
 
 pub threads-thin : (k : Alive) (u : World) (pid : ℕ) → Closed k u → live_threads (thin k u) pid ≡ live_threads u pid
-threads-thin k u pid c = which-where (thread_closed k) (thread_alive k) (lives_in pid) (λ t closed is. lasts k t closed (other_of _ _ is)) u.threads c.threads
+threads-thin k u pid c = which-where (thread_closed k) (thread_alive k) (lives_in pid) (λ t closed is. lasts k t closed (second-true _ _ is)) u.threads c.threads
 
 pub is_live-thin : (k : Alive) (u : World) (pid : ℕ) → Closed k u → is_live (thin k u) pid ≡ is_live u pid
-is_live-thin k u pid c = has-inside (thread_closed k) (thread_alive k) (lives_in pid) (λ t closed is. lasts k t closed (other_of _ _ is)) u.threads c.threads
+is_live-thin k u pid c = has-inside (thread_closed k) (thread_alive k) (lives_in pid) (λ t closed is. lasts k t closed (second-true _ _ is)) u.threads c.threads
 
 pub client-thin : (k : Alive) (u : World) (client : ClientId) → Closed k u → client_test (thin k u) client ≡ client_test u client
 client-thin k u client c = rw (live-thin k u client.thread c) refl
 
 registered-live : (k : Alive) (ts : List ThreadRow) → every (thread_closed k) ts ≡ true → each registered_by (which (thread_alive k) ts) ≡ each registered_by ts
 registered-live k [] all = refl
-registered-live k (t ∷ ts) all = at (thread_alive k t) t.live refl refl (registered-live k ts (other_of _ _ all))
+registered-live k (t ∷ ts) all = at (thread_alive k t) t.live refl refl (registered-live k ts (second-true _ _ all))
   where
     at : (a e : Bool) → thread_alive k t ≡ a → t.live ≡ e → each registered_by (which (thread_alive k) ts) ≡ each registered_by ts → each registered_by (which (thread_alive k) (t ∷ ts)) ≡ each registered_by (t ∷ ts)
     at true e alive is rest = rw alive (ap (λ bs. registered_by t ++ bs) rest)
-    at false true dead is rest = let never : thread_alive k t ≡ true = lasts k t (one_of _ _ all) is in absurd (cc)
+    at false true dead is rest = let never : thread_alive k t ≡ true = lasts k t (first-true _ _ all) is in absurd (cc)
     at false false dead is rest = rw (dead, is) rest
 
 pub registered-thin : (k : Alive) (u : World) → Closed k u → all_registrations (thin k u) ≡ all_registrations u
@@ -291,11 +273,11 @@ registered-thin k u c = registered-live k u.threads c.threads
 
 pub thin-run : (k : Alive) (u : World) (bs : List Basic) → every (is_closed k) bs ≡ true → thin k (world_after u bs) ≡ world_after (thin k u) bs
 thin-run k u [] ok = refl
-thin-run k u (b ∷ bs) ok = thin-run k (basic u b) bs (other_of _ _ ok) ∙ ap (λ v. world_after v bs) (thin-basic k u b (one_of _ _ ok))
+thin-run k u (b ∷ bs) ok = thin-run k (basic u b) bs (second-true _ _ ok) ∙ ap (λ v. world_after v bs) (thin-basic k u b (first-true _ _ ok))
 
 pub closed-run : (k : Alive) (u : World) (bs : List Basic) → every (is_closed k) bs ≡ true → Closed k u → Closed k (world_after u bs)
 closed-run k u [] ok c = c
-closed-run k u (b ∷ bs) ok c = closed-run k (basic u b) bs (other_of _ _ ok) (keeps-closed k u b (one_of _ _ ok) c)
+closed-run k u (b ∷ bs) ok c = closed-run k (basic u b) bs (second-true _ _ ok) (keeps-closed k u b (first-true _ _ ok) c)
 
 -- The sweep
 -- a world from which rows have gone is this one without them
@@ -317,25 +299,10 @@ but_process u b k = record k { processes = but_birth b k.processes; homes = λ n
 abbrev but_thread : Birth → Alive → Alive
 but_thread b k = record k { threads = but_birth b k.threads }
 
-swap : (a b : Birth) → same_birth a b ≡ false → same_birth b a ≡ false
-swap a b off = at (same_birth b a) refl
-  where
-    at : (e : Bool) → same_birth b a ≡ e → e ≡ false
-    at true is = let k : same_birth a b ≡ true = subst (λ x. same_birth x b ≡ true) (birth-same b a is) (subst (λ x. same_birth b x ≡ true) (sym (birth-same b a is)) is) in absurd (cc)
-    at false is = refl
-
 -- what no row counts for, isn't named
-every-front : {X : Type 0} (p : X → Bool) (xs ys : List X) → every p (xs ++ ys) ≡ true → every p xs ≡ true
-every-front p [] ys all = refl
-every-front p (x ∷ xs) ys all = both _ _ (one_of _ _ all) (every-front p xs ys (other_of _ _ all))
-
-every-back : {X : Type 0} (p : X → Bool) (xs ys : List X) → every p (xs ++ ys) ≡ true → every p ys ≡ true
-every-back p [] ys all = all
-every-back p (x ∷ xs) ys all = every-back p xs ys (other_of _ _ all)
-
 every-each : {X Y : Type 0} (p : Y → Bool) (f : X → List Y) (xs : List X) → every p (each f xs) ≡ true → every (λ x. every p (f x)) xs ≡ true
 every-each p f [] all = refl
-every-each p f (x ∷ xs) all = both _ _ (every-front p (f x) (each f xs) all) (every-each p f xs (every-back p (f x) (each f xs) all))
+every-each p f (x ∷ xs) all = and_from _ _ (every-front p (f x) (each f xs) all) (every-each p f xs (every-back p (f x) (each f xs) all))
 
 -- no row counts for the port
 record Unnamed (b : Birth) (w : World) : Type 0 where
@@ -370,7 +337,7 @@ unnamed-of w b none =
 
 -- a handle to another object
 port-apart : (k : Alive) (b : Birth) (s : ObjectKind) (x : Birth) → alive_as k s x ≡ true → not (same_kind s kind.Port && same_birth x b) ≡ true → alive_as (but b k) s x ≡ true
-port-apart k b kind.Port x live off = both _ _ live off
+port-apart k b kind.Port x live off = and_from _ _ live off
 port-apart k b kind.Section x live off = live
 port-apart k b kind.Token x live off = live
 port-apart k b kind.Process x live off = live
@@ -380,7 +347,7 @@ process-apart : (k : Alive) (u : World) (b : Birth) (s : ObjectKind) (x : Birth)
 process-apart k u b kind.Port x live off = live
 process-apart k u b kind.Section x live off = live
 process-apart k u b kind.Token x live off = live
-process-apart k u b kind.Process x live off = both _ _ live off
+process-apart k u b kind.Process x live off = and_from _ _ live off
 process-apart k u b kind.Thread x live off = live
 
 thread-apart : (k : Alive) (b : Birth) (s : ObjectKind) (x : Birth) → alive_as k s x ≡ true → not (same_kind s kind.Thread && same_birth x b) ≡ true → alive_as (but_thread b k) s x ≡ true
@@ -388,7 +355,7 @@ thread-apart k b kind.Port x live off = live
 thread-apart k b kind.Section x live off = live
 thread-apart k b kind.Token x live off = live
 thread-apart k b kind.Process x live off = live
-thread-apart k b kind.Thread x live off = both _ _ live off
+thread-apart k b kind.Thread x live off = and_from _ _ live off
 
 -- no handle names the object
 abbrev NoHandles : ObjectName → World → Type 0
@@ -406,7 +373,7 @@ none-handles w o none =
 
 named-off : (k : Alive) (b : Birth) (o : Option Birth) → all_alive k.ports o ≡ true → not (is_the b o) ≡ true → all_alive (but_birth b k.ports) o ≡ true
 named-off k b None ok off = refl
-named-off k b (Some x) ok off = rw (ok, swap b x (grind arith)) refl
+named-off k b (Some x) ok off = rw (ok, births-apart b x (grind arith)) refl
 
 port-off : (k : Alive) (b : Birth) (p : PortRow) → port_closed k p ≡ true → (not (k.ports p.birth) || (not (is_paired_to b p) && not (is_connected_to b p))) ≡ true → port_closed (but b k) p ≡ true
 port-off k b p ok off = at (k.ports p.birth) refl
@@ -438,7 +405,7 @@ frees-one k u b none lonely c =
       ports = every-both (port_closed k) (λ p. not (k.ports p.birth) || (not (is_paired_to b p) && not (is_connected_to b p))) (port_closed (but b k)) (port-off k b) u.ports c.ports (of-kept (port_alive k) (is_paired_to b) (is_connected_to b) u.ports n.pairs n.connections);
       messages = every-both (message_closed k) (λ x. not (is_sent_on b x)) (message_closed (but b k)) (λ x ok off. grind arith) u.messages c.messages n.messages;
       waits = every-both (wait_closed k) (λ x. not (is_made_on b x)) (wait_closed (but b k)) (λ x ok off. grind arith) u.waits c.waits n.waits;
-      registrations = every-both k.ports (λ c. not (same_birth b c)) (but_birth b k.ports) (λ d live off. both _ _ live (rw (swap b d (not-of (same_birth b d) off)) refl)) (all_registrations u) c.registrations (subst (λ bs. every (λ d. not (same_birth b d)) bs ≡ true) (registered-thin k u c) n.registrations);
+      registrations = every-both k.ports (λ c. not (same_birth b c)) (but_birth b k.ports) (λ d live off. and_from _ _ live (rw (births-apart b d (not-of (same_birth b d) off)) refl)) (all_registrations u) c.registrations (subst (λ bs. every (λ d. not (same_birth b d)) bs ≡ true) (registered-thin k u c) n.registrations);
       cuts = cut-but k b u.ports lonely c.cuts;
       threads = c.threads;
       processes = c.processes;
@@ -450,16 +417,16 @@ frees-one k u b none lonely c =
 -- what holds of each row by a number that lives, holds of each row by its own
 every-self : {X : Type 0} (f : X → ℕ) (live : ℕ → Bool) (r : ℕ → X → Bool) (xs : List X) → ((n : ℕ) → live n ≡ true → every (r n) xs ≡ true) → every (λ x. not (live (f x)) || r (f x) x) xs ≡ true
 every-self f live r [] all = refl
-every-self f live r (x ∷ xs) all = both _ _ (at (live (f x)) refl) (every-self f live r xs (λ n is. other_of (r n x) _ (all n is)))
+every-self f live r (x ∷ xs) all = and_from _ _ (at (live (f x)) refl) (every-self f live r xs (λ n is. second-true (r n x) _ (all n is)))
   where
     at : (e : Bool) → live (f x) ≡ e → (not e || r (f x) x) ≡ true
-    at true is = one_of _ _ (all (f x) is)
+    at true is = first-true _ _ (all (f x) is)
     at false off = refl
 
 -- a thread that lives is one of its process's
 living-in : (ts : List ThreadRow) → every (λ t. not t.live || has (lives_in t.process) ts) ts ≡ true
 living-in [] = refl
-living-in (t ∷ ts) = both _ _ (at t.live refl) (every-more (λ x. not x.live || has (lives_in x.process) ts) (λ x. not x.live || has (lives_in x.process) (t ∷ ts)) (λ x is. more x (lives_in x.process t) refl is) ts (living-in ts))
+living-in (t ∷ ts) = and_from _ _ (at t.live refl) (every-more (λ x. not x.live || has (lives_in x.process) ts) (λ x. not x.live || has (lives_in x.process) (t ∷ ts)) (λ x is. more x (lives_in x.process t) refl is) ts (living-in ts))
   where
     at : (e : Bool) → t.live ≡ e → (not e || has (lives_in t.process) (t ∷ ts)) ≡ true
     at true live = let here : lives_in t.process t ≡ true = rw (same-number t.process, live) refl in rw here refl
@@ -478,8 +445,8 @@ none-live k u b none c n live = at (first (lives_in n) (thin k u).threads) refl 
     at (Some t) here is =
         let passed : lives_in n t ≡ true = first-passes (lives_in n) (thin k u).threads t here in
         let apart : not (lives_by (thin k u) b t) ≡ true = every-first (λ t. not (lives_by (thin k u) b t)) (lives_in n) (thin k u).threads t (none-pass (lives_by (thin k u) b) (thin k u).threads none) here in
-        let off : has (λ p. same_birth p.birth b && (p.number == t.process)) (thin k u).processes ≡ false = off-of t.live _ (other_of _ _ passed) apart in
-        subst (λ n. every (λ p. not (process_alive k p) || not (same_birth p.birth b && (p.number == n))) u.processes ≡ true) (eqb-true t.process n (one_of _ _ passed))
+        let off : has (λ p. same_birth p.birth b && (p.number == t.process)) (thin k u).processes ≡ false = off-of t.live _ (second-true _ _ passed) apart in
+        subst (λ n. every (λ p. not (process_alive k p) || not (same_birth p.birth b && (p.number == n))) u.processes ≡ true) (eqb-true t.process n (first-true _ _ passed))
         (none-which (process_alive k) (λ p. same_birth p.birth b && (p.number == t.process)) u.processes off)
       where
         off-of : (a d : Bool) → a ≡ true → not (a && d) ≡ true → d ≡ false
@@ -556,15 +523,15 @@ behind-one w u o l none r = at o.kind o.birth (subst (λ v. IsLinked v) r.same l
 behind-all : (w u : World) (os : List ObjectName) → IsSoundWorld w → IsLinked w → every (is_unheld w) os ≡ true → Behind w u → Behind (world_after w (map Frees os)) u
 behind-all w u [] s l all r = r
 behind-all w u (o ∷ os) s l all r =
-    let none : is_unheld w o ≡ true = one_of _ _ all in
-    behind-all (basic w (Frees o)) u os (freed-sound w o none s) (gone-linked w o none s l) (every-more (is_unheld w) (is_unheld (basic w (Frees o))) (less-held w o) os (other_of _ _ all)) (behind-one w u o l none r)
+    let none : is_unheld w o ≡ true = first-true _ _ all in
+    behind-all (basic w (Frees o)) u os (freed-sound w o none s) (gone-linked w o none s l) (every-more (is_unheld w) (is_unheld (basic w (Frees o))) (less-held w o) os (second-true _ _ all)) (behind-one w u o l none r)
 
 -- a pass leaves a sound world whose ports are linked
 pass-kept : (w : World) (os : List ObjectName) → IsSoundWorld w → IsLinked w → every (is_unheld w) os ≡ true → IsSoundWorld (world_after w (map Frees os)) × IsLinked (world_after w (map Frees os))
 pass-kept w [] s l all = (s, l)
 pass-kept w (o ∷ os) s l all =
-    let none : is_unheld w o ≡ true = one_of _ _ all in
-    pass-kept (basic w (Frees o)) os (freed-sound w o none s) (gone-linked w o none s l) (every-more (is_unheld w) (is_unheld (basic w (Frees o))) (less-held w o) os (other_of _ _ all))
+    let none : is_unheld w o ≡ true = first-true _ _ all in
+    pass-kept (basic w (Frees o)) os (freed-sound w o none s) (gone-linked w o none s l) (every-more (is_unheld w) (is_unheld (basic w (Frees o))) (less-held w o) os (second-true _ _ all))
 
 behind-unheld : (w u : World) → IsSoundWorld w → IsLinked w → Behind w u → Behind (world_after w (free_unheld w)) u
 behind-unheld w u s l r = behind-all w u (unheld w) s l (which-all (is_unheld w) _) r

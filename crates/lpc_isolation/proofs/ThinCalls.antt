@@ -2,10 +2,13 @@
 use Rattle.lpc_model.specs.Lines.{accept_connect_port, complete_connect_port, connect_port, create_port, listen_port, reply_port, reply_wait_receive_port, request_port, request_wait_reply_port}
 use Rattle.lpc_isolation.proofs.Served.{served}
 use Rattle.std.proofs.Common.{◌≡◌, ℕ, List, [], ◌∷◌, ◌++◌, Bool, true, false, not, Option, Some, None, refl, ap, sym, subst, ◌∙◌, arith}
+use Rattle.std.proofs.lemmas.Bool.{and_from}
 use Rattle.std.specs.Prelude.{◌&&◌, Result, Ok, Err}
 use Rattle.lpc_base.specs.Rows.{every, first, given, has}
 use Rattle.lpc_base.proofs.RowWords.{every-append, first-passes}
 use Rattle.lpc_base.proofs.RowMaps.{every-first}
+use Rattle.lpc_base.proofs.Bools.{first-true, second-true}
+use Rattle.lpc_base.proofs.Births.{birth-same}
 use Rattle.lpc_base.specs.declared.status.TheConstants.{ACCESS_DENIED, INVALID_HANDLE, INVALID_PARAMETER, INVALID_PORT_HANDLE, OBJECT_TYPE_MISMATCH, PORT_DISCONNECTED, REPLY_MESSAGE_MISMATCH, SUCCESS}
 use Rattle.lpc_message.specs.declared.kind.TheConstants.{DATAGRAM, REQUEST}
 use Rattle.lpc_names.specs.Binding.{has_name}
@@ -27,12 +30,10 @@ use Rattle.lpc_model.specs.Tests.{client_test, is_client, handles_test, includes
 use Rattle.lpc_model.specs.Connect.{Completable, ConnectAnswer, accept_steps, answer_test, client_port, complete_test, completion_test, connect_start, connection_request, is_accepted_on, listen_steps, names_connect, nt_accept_connect_port, nt_complete_connect_port, nt_connect_port, nt_create_port, nt_listen_port}
 use Rattle.lpc_model.specs.Request.{Sendable, reply_test, datagram_send_test, datagram_start, datagram_test, given_reply, nt_reply_port, nt_reply_wait_receive_port, nt_request_port, nt_request_wait_reply_port, optional_message, receive_steps, receive_test, request_start, send_test, sent_by}
 use Rattle.lpc_model.specs.SoundWaits.{IsSoundWorld, is_sound_as, is_sound_wait, leads_open, waiter_of}
-use Rattle.lpc_model.proofs.Births.{birth-same}
 use Rattle.lpc_model.proofs.Holding.{Holds, bind_holds, found_holds, found_ok, holds_ok, not_refused}
 use Rattle.lpc_names.proofs.Bound.{nameless-is-not-found}
 use Rattle.lpc_isolation.proofs.Seen.{bind-same}
 use Rattle.lpc_isolation.proofs.Filters.{first-inside}
-use Rattle.lpc_isolation.proofs.View.{both, one_of, other_of}
 use Rattle.lpc_isolation.proofs.Create.{made-holds}
 use Rattle.lpc_isolation.proofs.Connects.{on-connect}
 use Rattle.lpc_isolation.proofs.Thin.{client-thin, Alive, Closed, all_alive, handle_closed, is_closed, message_closed, port_alive, port_closed, table_closed, thin, wait_closed, port-live}
@@ -87,18 +88,18 @@ fitted-thin k u port m c = first-same (wait_closed k) (fits (thin k u) port m) (
 -- a port that is open stands, and so does one that a name leads to
 open-live : (k : Alive) (b : Birth) (ts : List HandleTable) → every (table_closed k) ts ≡ true → has (has_handle_to b) ts ≡ true → k.ports b ≡ true
 open-live k b [] all opens = absurd (cc)
-open-live k b (t ∷ ts) all opens = at (has_handle_to b t) refl (open-live k b ts (other_of _ _ all))
+open-live k b (t ∷ ts) all opens = at (has_handle_to b t) refl (open-live k b ts (second-true _ _ all))
   where
     named : (hs : List HandleRow) → every (handle_closed k) hs ≡ true → has (λ h. names_port b h.object) hs ≡ true → k.ports b ≡ true
     named [] one is = absurd (cc)
-    named (h ∷ hs) one is = here (names_port b h.object) refl (named hs (other_of _ _ one))
+    named (h ∷ hs) one is = here (names_port b h.object) refl (named hs (second-true _ _ one))
       where
         here : (e : Bool) → names_port b h.object ≡ e → (has (λ h. names_port b h.object) hs ≡ true → k.ports b ≡ true) → k.ports b ≡ true
-        here true its rest = let live : k.ports h.object.birth ≡ true = port-live k h.object (one_of _ _ one) (one_of _ _ its) in ap k.ports (sym (birth-same h.object.birth b (grind arith))) ∙ live
+        here true its rest = let live : k.ports h.object.birth ≡ true = port-live k h.object (first-true _ _ one) (first-true _ _ its) in ap k.ports (sym (birth-same h.object.birth b (grind arith))) ∙ live
         here false off rest = rest (grind arith)
 
     at : (e : Bool) → has_handle_to b t ≡ e → (has (has_handle_to b) ts ≡ true → k.ports b ≡ true) → k.ports b ≡ true
-    at true its rest = named t.rows (one_of _ _ all) its
+    at true its rest = named t.rows (first-true _ _ all) its
     at false off rest = rest (grind arith)
 
 unnamed : (k : Alive) (u : World) → ((b : Birth) → is_open u b ≡ true → k.ports b ≡ true) → (bindings : Bindings Birth) → every (λ b. leads_open u b.1) bindings ≡ true → (port : Birth) → has_name (λ other _. not (k.ports other)) port bindings ≡ false
@@ -137,7 +138,7 @@ entered-closed k x None = refl
 entered-closed k x (Some y) = given-closed k x y y.kind (asks x.message) refl refl
 
 pub enter-closed : (k : Alive) (u : World) (x : MessageRow) → message_closed k x ≡ true → AreClosed k (enter x u)
-enter-closed k u x ok = both _ _ ok (entered-closed k x (first (takes x) u.waits))
+enter-closed k u x ok = and_from _ _ ok (entered-closed k x (first (takes x) u.waits))
 
 then-closed : (k : Alive) (u : World) (start : List Basic) (x : MessageRow) → AreClosed k start → message_closed k x ≡ true → AreClosed k (start ++ enter x (world_after u start))
 then-closed k u start x ok live = every-append (is_closed k) start (enter x (world_after u start)) ok (enter-closed k (world_after u start) x live)
@@ -183,7 +184,7 @@ abbrev answer_live : Alive → ConnectAnswer → Bool
 answer_live k a = k.ports a.wait.port && k.ports a.wait.queue
 
 offered-opens : (u : World) (x : WaitRow) (sort : WaitKind) → x.kind ≡ sort → is_offered x ≡ true → is_sound_wait u x ≡ true → is_open u x.queue ≡ true
-offered-opens u x (Connect b) is on sound = let own : is_sound_as u x (Connect b) ≡ true = rw is at (other_of (is_client u (waiter_of x)) (is_sound_as u x x.kind) sound) in grind arith
+offered-opens u x (Connect b) is on sound = let own : is_sound_as u x (Connect b) ≡ true = rw is at (second-true (is_client u (waiter_of x)) (is_sound_as u x x.kind) sound) in grind arith
 offered-opens u x (Request b) is on sound = let off : false ≡ true = rw is at on in absurd (cc)
 offered-opens u x Receive is on sound = let off : false ≡ true = rw is at on in absurd (cc)
 offered-opens u x Listen is on sound = let off : false ≡ true = rw is at on in absurd (cc)
@@ -198,7 +199,7 @@ answered-live k u by bytes s c =
     let found = found_ok (first (names_connect u by m) u.waits) REPLY_MESSAGE_MISMATCH x at in
     let named = first-passes (names_connect u by m) u.waits x found in
     let opens = offered-opens u x x.kind refl (grind arith) (every-first (is_sound_wait u) (names_connect u by m) u.waits x s.waits found) in
-    both _ _ (every-first (wait_closed k) (names_connect u by m) u.waits x c.waits found) (open-live k x.queue u.handles c.tables opens))))
+    and_from _ _ (every-first (wait_closed k) (names_connect u by m) u.waits x c.waits found) (open-live k x.queue u.handles c.tables opens))))
 
 answer-thin : (k : Alive) (u : World) (by : ThreadRow) (bytes : List ℕ) → Closed k u → answer_test (thin k u) by bytes ≡ answer_test u by bytes
 answer-thin k u by bytes c = bind-same (message_test bytes) _ _ (λ m _. rw (client-thin k u m.header.client c) refl)
@@ -216,7 +217,7 @@ unfolding nt_accept_connect_port
 accept-closed k u by context bytes true s c new =
     bind_holds (answer_test u by bytes) _ (AreClosed k) (λ a at. bind_holds (handles_test u by.process 1) _ (AreClosed k) (λ _ _.
     let live : answer_live k a ≡ true = holds_ok (λ (a : ConnectAnswer). answer_live k a ≡ true) (answer_test u by bytes) a (answered-live k u by bytes s c) at in
-    accepted-closed k by context (free_handle u by.process) a new (one_of _ _ live) (other_of _ _ live)))
+    accepted-closed k by context (free_handle u by.process) a new (first-true _ _ live) (second-true _ _ live)))
 accept-closed k u by context bytes false s c new = bind_holds (answer_test u by bytes) _ (AreClosed k) (λ a at. refl)
 
 -- a completion

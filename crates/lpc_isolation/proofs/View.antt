@@ -2,7 +2,6 @@
 use Rattle.std.proofs.Common.{◌≡◌, ℕ, Bool, true, false, cond, Option, Some, None, refl, ap, arith}
 use Rattle.std.specs.Prelude.{◌&&◌, ◌==◌}
 use Rattle.std.proofs.lemmas.Bool.{eqb-true}
-use Rattle.std.proofs.lemmas.Bool.Decides.{nat_tests}
 use Rattle.lpc_base.specs.Rows.{which}
 use Rattle.lpc_names.specs.Walk.{LinkTo, Stands}
 use Rattle.lpc_names.specs.declared.names.Found.TheVariants.{Directory, Item}
@@ -64,21 +63,6 @@ view m w = record {
 }
 
 -- small facts
-pub both : (a b : Bool) → a ≡ true → b ≡ true → (a && b) ≡ true
-both a b p q = grind arith
-
-pub one_of : (a b : Bool) → (a && b) ≡ true → a ≡ true
-one_of a b is = grind arith
-
-pub other_of : (a b : Bool) → (a && b) ≡ true → b ≡ true
-other_of a b is = grind arith
-
-pub not_both : (a b : Bool) → a ≡ false → (a && b) ≡ false
-not_both a b is = grind arith
-
-pub same-number : (n : ℕ) → (n == n) ≡ true
-same-number n = grind (arith, nat_tests)
-
 pub of_birth : (m : Group) (a b : Birth) → same_birth a b ≡ true → m a.process ≡ m b.process
 of_birth m a b is =
     let process : (a.process == b.process) ≡ true = grind arith in ap m (eqb-true _ _ process)

@@ -1,5 +1,6 @@
 -- A member's request goes to a member, or to the other end of the server port on which it was sent: so in each world of a run.
 use Rattle.std.proofs.Common.{◌≡◌, ℕ, List, [], ◌∷◌, ◌++◌, Bool, true, false, not, Option, Some, None, refl, sym, subst, arith}
+use Rattle.std.proofs.lemmas.Bool.{and_from}
 use Rattle.std.specs.Prelude.{◌&&◌, ◌||◌, Result, Ok, Err, if◌then◌else◌}
 use Rattle.lpc_base.specs.Rows.{change, every, first, given, has, passes}
 use Rattle.lpc_base.proofs.RowWords.{every-append, every-change}
@@ -23,8 +24,6 @@ use Rattle.lpc_model.specs.Lines.{accept_connect_port, complete_connect_port, co
 use Rattle.lpc_isolation.proofs.Served.{served}
 use Rattle.lpc_model.specs.SoundWaits.{IsSoundWorld}
 use Rattle.lpc_model.specs.Circle.{Group}
-use Rattle.lpc_model.proofs.Births.{birth-same, birth-self}
-use Rattle.lpc_isolation.proofs.View.{both, one_of, other_of}
 use Rattle.lpc_model.proofs.Holding.{Holds, bind_holds, found_holds, found_ok, holds_ok}
 use Rattle.lpc_model.proofs.Rows.{has-off}
 use Rattle.lpc_isolation.proofs.Sent.{append-sent, are_sent, is_sent_home, leads_home, none-sent, sends_none}
@@ -36,6 +35,8 @@ use Rattle.lpc_model.specs.Request.{request_wait}
 use Rattle.lpc_model.specs.Found.{if_open, is_cut, is_open, is_request, is_server_port, is_the, port_row, route, same_birth, way}
 use Rattle.lpc_model.specs.SoundWaits.{is_connect_on, lacks_connects}
 use Rattle.lpc_base.proofs.RowWords.{every-more, first-kept, first-passes, first-push}
+use Rattle.lpc_base.proofs.Bools.{first-true, second-true}
+use Rattle.lpc_base.proofs.Births.{birth-same, birth-self}
 use Rattle.lpc_isolation.proofs.Sends.{Caller}
 use Rattle.lpc_isolation.proofs.Requests.{sent-request}
 use Rattle.lpc_isolation.proofs.Accepts.{on-answer}
@@ -84,7 +85,7 @@ still-step w (AddsThread t) ok = refl
 
 still-paths : (w : World) (bs : List Basic) → AreStill bs → are_paths w bs ≡ true
 still-paths w [] ok = refl
-still-paths w (b ∷ bs) ok = both _ _ (still-step w b (one_of _ _ ok)) (still-paths (basic w b) bs (other_of _ _ ok))
+still-paths w (b ∷ bs) ok = and_from _ _ (still-step w b (first-true _ _ ok)) (still-paths (basic w b) bs (second-true _ _ ok))
 
 still-holds : (w : World) (r : Result (List Basic) Status) → Holds AreStill r → Holds (λ bs. are_paths w bs ≡ true) r
 still-holds w (Ok bs) ok = still-paths w bs ok
@@ -128,7 +129,7 @@ still-sends w (Err s) ok = tt
 then-sent : (u : World) (start : List Basic) (x : MessageRow) → are_sent u start ≡ true → is_sent_home (world_after u start) x ≡ true → are_sent u (start ++ enter x (world_after u start)) ≡ true
 then-sent u start x ok home =
     let v : World = world_after u start in
-    append-sent u start (enter x v) ok (both _ _ home (still-sent (basic v (Enters x)) (given (first (takes x) v.waits) (λ z. given_steps z x ++ woken SUCCESS (shown z x) z ∷ [])) (entered-still x (first (takes x) v.waits))))
+    append-sent u start (enter x v) ok (and_from _ _ home (still-sent (basic v (Enters x)) (given (first (takes x) v.waits) (λ z. given_steps z x ++ woken SUCCESS (shown z x) z ∷ [])) (entered-still x (first (takes x) v.waits))))
 
 taken-still : (x : MessageRow) (asked : Bool) → asks x.message ≡ asked → AreStill (take_steps x) × AreStill (take_connect_steps x)
 taken-still x true asked = (rw asked refl, rw asked refl)
@@ -208,7 +209,7 @@ request-paths m c w by handle bytes k = sent-request (λ bs. are_paths w bs ≡ 
     let a : Message = sent_by by REQUEST s.message in
     let own = holds_ok (λ (p : PortRow). (p.birth.process ≡ by.process) × (port_row w p.birth ≡ Some p)) (port_test w by handle) s.port (port-own m c w by handle k.fair) is.from in
     let path : is_path w (request_wait by s.port.birth s.queue a) ≡ true = rw own.1 (way-lead w s.port s.queue s.port.kind refl (route-way w s.port s.queue is.to)) in
-    append-paths w (request_start by s.port.birth s.queue a) (enter (row_of s.queue s.port a) (world_after w (request_start by s.port.birth s.queue a))) (both _ _ path refl)
+    append-paths w (request_start by s.port.birth s.queue a) (enter (row_of s.queue s.port a) (world_after w (request_start by s.port.birth s.queue a))) (and_from _ _ path refl)
     (enter-paths (world_after w (request_start by s.port.birth s.queue a)) (row_of s.queue s.port a)))
 
 -- an accept joins neither end of such a path
@@ -258,7 +259,7 @@ made-off w p client server x is = at (port_row w x.port) refl
 accept-paths : (m : Group) (c : ℕ) (w : World) (by : ThreadRow) (context : ℕ) (bytes : List ℕ) (accept : Bool) → Paths w → Caller m c w w by → Holds (λ bs. are_paths w bs ≡ true) (nt_accept_connect_port w by context bytes accept)
 accept-paths m c w by context bytes accept all k = on-answer (λ bs. are_paths w bs ≡ true) m c w w by context bytes accept k
     (λ a is.
-    let on : has (is_connect_on a.wait.port) w.waits ≡ true = found-on w.waits (names_connect w by a.message) a.wait is.found (both _ _ (rw is.offered refl) (birth-self a.wait.port)) in
+    let on : has (is_connect_on a.wait.port) w.waits ≡ true = found-on w.waits (names_connect w by a.message) a.wait is.found (and_from _ _ (rw is.offered refl) (birth-self a.wait.port)) in
     let new = next-new w by.number by k.sound k.live in
     let v : World = basic w (Makes (server_port (next_birth by) a.wait.queue)) in
     let off : every (is_off w a.wait.port (next_birth by)) w.waits ≡ true = every-more (is_path w) (is_off w a.wait.port (next_birth by)) (off-both w a.wait (next_birth by) k.sound on new) w.waits all in

@@ -2,7 +2,8 @@
 use Rattle.std.proofs.Common.{◌≡◌, ℕ, ◌+◌, List, [], ◌∷◌, Bool, true, false, not, Option, Some, None, refl, sym, subst, arith}
 use Rattle.std.specs.Prelude.{Result, Ok, Err}
 use Rattle.lpc_base.specs.Rows.{count, every, first, when, without_first}
-use Rattle.lpc_base.proofs.RowWords.{every-append, first-passes}
+use Rattle.lpc_base.proofs.RowWords.{count-append, every-append, first-passes}
+use Rattle.lpc_base.proofs.Births.{birth-same, birth-self}
 use Rattle.lpc_base.specs.declared.birth.Birth.{Birth}
 use Rattle.lpc_base.specs.declared.status.Status.{Status}
 use Rattle.lpc_base.specs.declared.status.TheConstants.{INVALID_PORT_HANDLE, PORT_DISCONNECTED, SUCCESS}
@@ -33,10 +34,9 @@ use Rattle.lpc_model.specs.Sweep.{sweep}
 use Rattle.lpc_model.specs.Lines.{ScriptCall, ScriptLine, accept_connect_port, boot, close, complete_connect_port, connect_port, create_port, create_process, create_thread, dir, duplicate_object, link, listen_port, query_object, register_thread_terminate_port, reply_port, reply_wait_receive_port, request_port, request_wait_reply_port, run, terminate_process, terminate_thread, thread}
 use Rattle.lpc_model.specs.Machine.{bare_steps, boot_line, dir_line, directed, link_line, name_of_call, ready_steps, service_of, steps, thread_line, thread_steps, thread_test, unused_test}
 use Rattle.lpc_model.specs.SoundWaits.{IsSoundWorld}
-use Rattle.lpc_model.proofs.Births.{birth-same, birth-self}
 use Rattle.lpc_model.proofs.Ending.{answered_end, process-ends, thread-ends}
 use Rattle.lpc_model.proofs.Holding.{Holds, bind_holds, found_ok, holds_ok, settled_holds}
-use Rattle.lpc_model.proofs.SoundDrops.{count-append, count-first, one_if}
+use Rattle.lpc_model.proofs.SoundDrops.{count-first, one_if}
 use Rattle.lpc_model.proofs.Undying.{register_holds}
 use Rattle.lpc_model.specs.Accounts.{Receipt, is_received, has_receipt, received_on, standing}
 use Rattle.lpc_model.proofs.Accounted.{end_balances, handle_balances, plain-level, sent_balances, sweep-plain}

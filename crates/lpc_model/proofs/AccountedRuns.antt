@@ -1,6 +1,7 @@
 -- Along each script the messages that ask for no answer are accounted for.
 use Rattle.std.proofs.Common.{◌≡◌, ℕ, ◌+◌, List, [], ◌∷◌, false, Option, Some, None, refl, arith}
 use Rattle.lpc_base.specs.Rows.{count}
+use Rattle.lpc_base.proofs.RowWords.{count-append}
 use Rattle.lpc_message.specs.Layout.{header_of}
 use Rattle.lpc_message.specs.declared.kind.TheConstants.{CLIENT_DIED, PORT_CLOSED}
 use Rattle.lpc_model.specs.World.{World}
@@ -13,7 +14,6 @@ use Rattle.lpc_model.specs.Lawful.{IsLawfulWorld}
 use Rattle.lpc_model.proofs.Runs.{lawful_none, lawful_step}
 use Rattle.lpc_model.specs.Accounts.{RunAccountsForDeaths, RunAccountsForMessages, Receipt, has_receipt, lost_in, received_in, standing}
 use Rattle.lpc_model.proofs.AccountedLines.{line-balanced}
-use Rattle.lpc_model.proofs.SoundDrops.{count-append}
 
 accounted-from : (s : Receipt) → asks (message_of s.bytes) ≡ false → (w : World) (lines : List (Option ScriptLine)) → IsLawfulWorld w
     → standing s w + count (has_receipt s) (all_posts (trace w lines)) ≡ standing s (world_behind w lines) + (received_in s w lines + lost_in s w lines)

@@ -7,6 +7,8 @@ use Rattle.std.proofs.lemmas.Slice.Eq.{bytes_eq-Decides}
 use Rattle.std.specs.Str.{bytes_eq}
 use Rattle.lpc_base.specs.Rows.{count, every, which, without, without_first}
 use Rattle.lpc_base.specs.declared.birth.Birth.{Birth}
+use Rattle.lpc_base.proofs.Bools.{first-true}
+use Rattle.lpc_base.proofs.RowWords.{count-append}
 use Rattle.lpc_message.specs.declared.kind.TheConstants.{CONNECTION_REQUEST, REQUEST}
 use Rattle.lpc_model.specs.declared.entry.Entry.{Entry}
 use Rattle.lpc_model.specs.declared.entry.Entry.TheVariants as entry
@@ -18,7 +20,6 @@ use Rattle.lpc_model.specs.Message.{asks, bytes_of, is_connection_request, messa
 use Rattle.lpc_model.specs.Found.{is_own_of, is_queued, is_queued_connect, same_birth}
 use Rattle.lpc_model.specs.Basics.{Basic, Empties, Enters, Frees, Takes, TakesConnect, Tells, Wakes, Withdraws, basic, entries_of, freed, posted, posts_of, told, world_after}
 use Rattle.lpc_model.specs.Lines.{ScriptLine}
-use Rattle.lpc_model.proofs.SoundDrops.{count-append}
 use Rattle.lpc_model.proofs.Told.{posts-append}
 use Rattle.lpc_model.proofs.SoundQueues.{after-append}
 use Rattle.lpc_model.specs.Accounts.{Receipt, shows_receipt, is_received, has_receipt, loses, lost, standing, shows_context}
@@ -118,9 +119,6 @@ freed-messages w kind.Section b = refl
 freed-messages w kind.Token b = refl
 freed-messages w kind.Process b = refl
 freed-messages w kind.Thread b = refl
-
-first-true : (a b : Bool) → (a && b) ≡ true → a ≡ true
-first-true a b is = grind arith
 
 asks-for : (q r c : Bool) → (q && c) ≡ true → (r || c) ≡ true
 asks-for q r c is = grind arith

@@ -1,14 +1,14 @@
 -- The steps of a closing: what they take away, what they post, and the worlds behind them.
 use Rattle.std.proofs.Common.{◌≡◌, ◌∙◌, ℕ, ◌≤◌, List, [], ◌∷◌, Bool, true, false, not, refl, sym, subst, arith}
 use Rattle.lpc_base.specs.Rows.{count, each, every, which}
-use Rattle.lpc_base.proofs.RowWords.{every-append, every-more, every-without}
+use Rattle.lpc_base.proofs.RowWords.{count-left, every-append, every-more, every-without}
 use Rattle.lpc_base.specs.declared.status.TheConstants.{LPC_REPLY_LOST, PORT_DISCONNECTED}
 use Rattle.lpc_names.specs.Binding.{is_name}
 use Rattle.lpc_model.specs.World.{Birth, MessageRow, Node, Path, WaitRow, World}
 use Rattle.lpc_model.specs.Found.{is_own_of, is_queued, same_birth, waits_as}
 use Rattle.lpc_model.specs.Basics.{Basic, Cuts, Empties, Steps, Unbinds, Wakes, Withdraws, basic, doing, end_each, world_after, ◌▹◌}
 use Rattle.lpc_model.specs.Close.{close_port, cut_pair, drop_name, empty_queue, end_accepted, end_offered, end_receives, end_request, end_requests, is_accepted_across, is_offered_to, is_queued_request, is_receive_across, is_receiver, is_request_across, is_request_on, post_closed, wake}
-use Rattle.lpc_model.proofs.Rows.{count-without, every-left}
+use Rattle.lpc_model.proofs.Rows.{every-left}
 use Rattle.lpc_model.proofs.SoundQueues.{after-append}
 
 -- Steps in turn
@@ -175,8 +175,8 @@ fewer-then w v u a b = record {
 
 fewer-step : (w : World) (x : Basic) → takes_away x ≡ true → IsFewer w (basic w x)
 fewer-step w (Wakes who call status fields) is = record { waits = λ f all. every-without f (waits_as who) w.waits all; messages = λ f all. all; counts = λ f. omega arith; bindings = λ f all. all; ports = refl; handles = refl; processes = refl; threads = refl }
-fewer-step w (Withdraws who) is = record { waits = λ f all. all; messages = λ f all. every-without f (is_own_of who) w.messages all; counts = λ f. count-without f (is_own_of who) w.messages; bindings = λ f all. all; ports = refl; handles = refl; processes = refl; threads = refl }
-fewer-step w (Empties q) is = record { waits = λ f all. all; messages = λ f all. every-without f (is_queued q) w.messages all; counts = λ f. count-without f (is_queued q) w.messages; bindings = λ f all. all; ports = refl; handles = refl; processes = refl; threads = refl }
+fewer-step w (Withdraws who) is = record { waits = λ f all. all; messages = λ f all. every-without f (is_own_of who) w.messages all; counts = λ f. count-left f (is_own_of who) w.messages; bindings = λ f all. all; ports = refl; handles = refl; processes = refl; threads = refl }
+fewer-step w (Empties q) is = record { waits = λ f all. all; messages = λ f all. every-without f (is_queued q) w.messages all; counts = λ f. count-left f (is_queued q) w.messages; bindings = λ f all. all; ports = refl; handles = refl; processes = refl; threads = refl }
 fewer-step w (Unbinds b) is = record { waits = λ f all. all; messages = λ f all. all; counts = λ f. omega arith; bindings = λ f all. every-without f (is_name same_birth b) w.bindings all; ports = refl; handles = refl; processes = refl; threads = refl }
 fewer-step w x is = absurd (cc)
 

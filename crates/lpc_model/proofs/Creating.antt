@@ -1,8 +1,10 @@
 -- The calls that make processes and threads: what their steps keep, the calls do.
-use Rattle.std.proofs.Common.{◌≡◌, ℕ, List, [], ◌∷◌, ◌++◌, Bool, true, false, not, Some, refl, subst, arith}
+use Rattle.std.proofs.Common.{◌≡◌, ℕ, List, [], ◌∷◌, ◌++◌, true, false, not, Some, refl, subst, arith}
 use Rattle.std.specs.Prelude.{◌||◌}
 use Rattle.lpc_base.specs.Rows.{change, first, has}
 use Rattle.lpc_base.specs.declared.status.TheConstants.{INVALID_CID, OBJECT_NAME_COLLISION}
+use Rattle.lpc_base.proofs.Bools.{first-off, second-off}
+use Rattle.lpc_base.proofs.RowWords.{first-behind}
 use Rattle.lpc_model.specs.World.{HandleRow, HandleTable, ObjectName, ThreadRow, World}
 use Rattle.lpc_model.specs.Found.{free_handle, is_live, is_table, process_name, rows_in, thread_name, was_process, was_thread}
 use Rattle.lpc_model.specs.Basics.{AddsProcess, AddsThread, Basic, DrawsOrdinal, basic, no_handles, with_handle, world_after}
@@ -13,13 +15,6 @@ use Rattle.lpc_model.specs.Creation.{child_count_test, create_process_steps, cre
 use Rattle.lpc_model.proofs.Holding.{Holds, bind_holds, holds_any, holds_ok, not_refused}
 use Rattle.lpc_model.proofs.Usable.{CanCall}
 use Rattle.lpc_model.proofs.Rows.{first-change}
-
--- The tests
-first-off : (a b : Bool) → (a || b) ≡ false → a ≡ false
-first-off a b off = grind arith
-
-second-off : (a b : Bool) → (a || b) ≡ false → b ≡ false
-second-off a b off = grind arith
 
 -- the tests of a further thread find its process live, and its number unused
 pub tested-further : (w : World) (tid pid : ℕ) → Holds (λ _. (is_live w pid ≡ true) × (was_thread w tid ≡ false)) (thread_test w tid pid)
@@ -62,10 +57,6 @@ abbrev pub threaded : World → ThreadRow → ℕ → ℕ → World
 threaded w by tid pid = basic w (AddsThread (new_thread tid pid (next_birth by)))
 
 -- a table of handles that is made behind others
-first-behind : {X : Type 0} (p : X → Bool) (xs ys : List X) → has p xs ≡ true → first p (xs ++ ys) ≡ first p xs
-first-behind p [] ys is = absurd (cc)
-first-behind p (x ∷ xs) ys is = grind (arith, first-behind p xs ys)
-
 rows-behind : (hs : List HandleTable) (pid n : ℕ) (h : HandleRow) → has (is_table pid) hs ≡ true
     → rows_in (first (is_table pid) (change (is_table pid) (with_handle h) (hs ++ no_handles n ∷ []))) ≡ rows_in (first (is_table pid) (change (is_table pid) (with_handle h) hs))
 rows-behind hs pid n h home =

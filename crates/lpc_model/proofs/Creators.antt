@@ -1,11 +1,11 @@
 -- Each line leaves client ports with a connection port, and with a connect of the thread that made them.
 use Rattle.std.proofs.Common.{◌≡◌, ℕ, List, [], ◌∷◌, Bool, true, false, cond, map, Option, Some, None, refl, arith}
-use Rattle.std.specs.Prelude.{◌==◌, Result, Ok, Err}
+use Rattle.std.specs.Prelude.{Result, Ok, Err}
 use Rattle.std.specs.List.{AllByRecursion}
-use Rattle.std.proofs.lemmas.Bool.Decides.{nat_tests}
 use Rattle.lpc_base.specs.Rows.{every}
 use Rattle.lpc_base.proofs.RowWords.{every-append, every-change, every-more, every-push, every-without}
 use Rattle.lpc_base.proofs.RowMaps.{every-map}
+use Rattle.lpc_base.proofs.Bools.{same-number}
 use Rattle.lpc_base.specs.declared.status.Status.{Status}
 use Rattle.lpc_model.specs.declared.entry.ObjectKind.TheVariants as kind
 use Rattle.lpc_model.specs.declared.entry.Word.TheVariants as word
@@ -107,9 +107,6 @@ create-keeps w by name =
     bind_holds (making w (next_birth by) name) _ AreKeeping (λ made at.
     bind_holds (handles_test w by.process 1) _ AreKeeping (λ _ _.
     holds_ok (λ made. AreKeeping (create_steps by made value)) (making w (next_birth by) name) made (making-keeps w by name value) at))
-
-same-number : (n : ℕ) → (n == n) ≡ true
-same-number n = grind (arith, nat_tests)
 
 connected-keeps : (w : World) (by : ThreadRow) (connection : Birth) (bytes : List ℕ) → AreKeeping (connect_steps by connection (connection_request by bytes) w)
 connected-keeps w by connection bytes =

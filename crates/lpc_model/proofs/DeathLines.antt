@@ -1,9 +1,10 @@
 -- Each line tells of the threads that end by it, once on each port that they registered, and of no other.
-use Rattle.std.proofs.Common.{◌≡◌, ◌∙◌, ℕ, ◌≤◌, List, [], ◌∷◌, ◌++◌, Bool, true, false, cond, map, not, Option, Some, None, refl, sym, ap, subst, arith}
+use Rattle.std.proofs.Common.{◌≡◌, ◌∙◌, ℕ, ◌≤◌, List, [], ◌∷◌, ◌++◌, Bool, true, false, cond, map, not, Option, Some, None, refl, sym, ap, subst, arith, append-nil, append_assoc}
 use Rattle.std.specs.Prelude.{◌&&◌, ◌==◌, Result, Ok, Err}
 use Rattle.std.proofs.lemmas.Bool.Decides.{nat_tests}
 use Rattle.lpc_base.specs.Rows.{change, count, each, every, first, given, when, which}
 use Rattle.lpc_base.proofs.RowWords.{every-append, every-more, every-which}
+use Rattle.lpc_base.proofs.Bools.{first-true, second-true}
 use Rattle.lpc_base.specs.declared.status.Status.{Status}
 use Rattle.lpc_model.specs.declared.entry.CallName.{CallName}
 use Rattle.lpc_model.specs.declared.entry.Entry.{Entry}
@@ -40,30 +41,22 @@ use Rattle.lpc_model.proofs.Usable.{CanCall, can-call}
 use Rattle.lpc_model.proofs.Creating.{process-made, thread-made}
 
 -- Lists of steps
-nil-right : {X : Type 0} (xs : List X) → xs ++ [] ≡ xs
-nil-right [] = refl
-nil-right (x ∷ xs) = grind (arith, nil-right xs)
-
-append-assoc : {X : Type 0} (xs ys zs : List X) → (xs ++ ys) ++ zs ≡ xs ++ (ys ++ zs)
-append-assoc [] ys zs = refl
-append-assoc (x ∷ xs) ys zs = grind (arith, append-assoc xs ys zs)
-
 posts-both : (xs ys : List Basic) → which is_died_post (posts_of (xs ++ ys)) ≡ which is_died_post (posts_of xs) ++ which is_died_post (posts_of ys)
 posts-both xs ys = ap (which is_died_post) (posts-append xs ys) ∙ which-append is_died_post (posts_of xs) (posts_of ys)
 
 told-both : (w : World) (xs ys : List Basic) → deaths_posted w (xs ++ ys) ≡ deaths_posted w xs ++ deaths_posted (world_after w xs) ys
 told-both w [] ys = refl
 told-both w (x ∷ xs) ys =
-    ap (λ ms. death_posts w x ++ ms) (told-both (basic w x) xs ys) ∙ sym (append-assoc (death_posts w x) (deaths_posted (basic w x) xs) (deaths_posted (world_after (basic w x) xs) ys))
+    ap (λ ms. death_posts w x ++ ms) (told-both (basic w x) xs ys) ∙ sym (append_assoc (death_posts w x) (deaths_posted (basic w x) xs) (deaths_posted (world_after (basic w x) xs) ys))
 
 leaves-both : (xs ys : List Basic) → each leaves (xs ++ ys) ≡ each leaves xs ++ each leaves ys
 leaves-both [] ys = refl
-leaves-both (x ∷ xs) ys = ap (λ rs. leaves x ++ rs) (leaves-both xs ys) ∙ sym (append-assoc (leaves x) (each leaves xs) (each leaves ys))
+leaves-both (x ∷ xs) ys = ap (λ rs. leaves x ++ rs) (leaves-both xs ys) ∙ sym (append_assoc (leaves x) (each leaves xs) (each leaves ys))
 
 registrations-both : (w : World) (xs ys : List Basic) → ending_registrations w (xs ++ ys) ≡ ending_registrations w xs ++ ending_registrations (world_after w xs) ys
 registrations-both w [] ys = refl
 registrations-both w (x ∷ xs) ys =
-    ap (λ rs. ended_registrations w x ++ rs) (registrations-both (basic w x) xs ys) ∙ sym (append-assoc (ended_registrations w x) (ending_registrations (basic w x) xs) (ending_registrations (world_after (basic w x) xs) ys))
+    ap (λ rs. ended_registrations w x ++ rs) (registrations-both (basic w x) xs ys) ∙ sym (append_assoc (ended_registrations w x) (ending_registrations (basic w x) xs) (ending_registrations (world_after (basic w x) xs) ys))
 
 -- steps that tell of no end, and by which no registration goes
 abbrev is_silent : Basic → Bool
@@ -91,12 +84,6 @@ silent-leave b is = refl
 undead-registration : (w : World) (b : Basic) → is_still b ≡ true → ended_registrations w b ≡ []
 undead-registration w (Dies who status) is = absurd (cc)
 undead-registration w b is = refl
-
-first-true : (x y : Bool) → (x && y) ≡ true → x ≡ true
-first-true x y is = grind arith
-
-second-true : (x y : Bool) → (x && y) ≡ true → y ≡ true
-second-true x y is = grind arith
 
 silent-posts : (bs : List Basic) → every is_silent bs ≡ true → which is_died_post (posts_of bs) ≡ []
 silent-posts [] all = refl
@@ -247,7 +234,7 @@ death-here t b w r =
     let v = basic w (Unregisters t.number b) in
     let o = death_post v t b in
     told-given v t b o (λ m some. let facts = told-facts t b m v some in facts.died)
-    ∙ (sym (nil-right (given o (λ m. m ∷ []))) ∙ (ap (λ ms. given o (λ m. m ∷ []) ++ ms) (sym (enter-told v o)) ∙ ap (λ ms. ms ++ deaths_posted v (given o (λ m. enter m v))) (sym tells)))
+    ∙ (sym (append-nil (given o (λ m. m ∷ []))) ∙ (ap (λ ms. given o (λ m. m ∷ []) ++ ms) (sym (enter-told v o)) ∙ ap (λ ms. ms ++ deaths_posted v (given o (λ m. enter m v))) (sym tells)))
   where
     tells : death_posts w (Unregisters t.number b) ≡ given (death_post (basic w (Unregisters t.number b)) t b) (λ m. m ∷ [])
     tells = rw r.at (ap (λ p. given p (λ m. m ∷ [])) (same-death w r.row t b r.number r.process r.birth))
@@ -369,7 +356,7 @@ module _ (code : Status) (t : ThreadRow) (w : World) where
 
   die-registrations : ending_registrations w (die code t w) ≡ ended_registrations w (Dies t.number code)
   unfolding rest-of
-  die-registrations = ap (λ rs. ended_registrations w (Dies t.number code) ++ rs) (undead-registrations withdrawn rest-of (accepted-pass is_still away-still (λ b. refl) (wait_of w t.number) withdrawn)) ∙ nil-right (ended_registrations w (Dies t.number code))
+  die-registrations = ap (λ rs. ended_registrations w (Dies t.number code) ++ rs) (undead-registrations withdrawn rest-of (accepted-pass is_still away-still (λ b. refl) (wait_of w t.number) withdrawn)) ∙ append-nil (ended_registrations w (Dies t.number code))
 
 all-end : (code : Status) (ts : List ThreadRow) (w : World) → AreFound w.threads ts → ending_registrations w (in_turn (die code) ts w) ≡ each registrations_of ts
 all-end code [] w found = refl
@@ -471,7 +458,7 @@ after-none [] ts t once = let self : is_thread t.number t ≡ true = grind (arit
 after-none (u ∷ us) ts t once = after-none us ts t (grind arith)
 
 one-more : (front ts : List ThreadRow) (t : ThreadRow) → front ++ t ∷ ts ≡ (front ++ t ∷ []) ++ ts
-one-more front ts t = sym (append-assoc front (t ∷ []) ts)
+one-more front ts t = sym (append_assoc front (t ∷ []) ts)
 
 pub live-found : (pid : ℕ) (front ts : List ThreadRow) → ((n : ℕ) → count (is_thread n) (front ++ ts) ≤ 1) → AreFound (front ++ ts) (which (lives_in pid) ts)
 live-found pid front [] once = tt

@@ -3,8 +3,9 @@ use Rattle.std.proofs.Common.{◌≡◌, ◌∙◌, ℕ, ◌+◌, ◌≤◌, app
 use Rattle.std.proofs.lemmas.Bool.{eq-eqb}
 use Rattle.std.specs.Prelude.{◌&&◌, ◌||◌, option_map}
 use Rattle.lpc_base.specs.Rows.{count, every, first, given, has, passes, when, without, without_first}
-use Rattle.lpc_base.proofs.RowWords.{every-append, every-change, every-more, every-push, every-without, first-passes, has_none-more, has_none-push, has_none-without}
+use Rattle.lpc_base.proofs.RowWords.{count-append, every-append, every-change, every-more, every-push, every-without, first-passes, has_none-more, has_none-push, has_none-without, has_none-without_first, none-counted}
 use Rattle.lpc_base.proofs.RowMaps.{every-both, every-first, every-none}
+use Rattle.lpc_base.proofs.Births.{birth-same, birth-self, births-apart}
 use Rattle.lpc_base.specs.declared.birth.Birth.{Birth}
 use Rattle.lpc_base.specs.declared.status.TheConstants.{SUCCESS}
 use Rattle.lpc_model.specs.declared.entry.Entry.TheVariants as entry
@@ -19,9 +20,8 @@ use Rattle.lpc_model.specs.Entering.{enter, given_steps, received_steps, shown, 
 use Rattle.lpc_model.specs.Tests.{is_client}
 use Rattle.lpc_model.specs.SoundWaits.{IsSoundWorld, has_come, is_joined, is_sound_wait, waiter_of}
 use Rattle.lpc_model.specs.Lines.{ScriptLine}
-use Rattle.lpc_model.proofs.Births.{birth-same, birth-self}
-use Rattle.lpc_model.proofs.Rows.{count_none, has_none-without_first, without_first-push}
-use Rattle.lpc_model.proofs.SoundDrops.{count-append, one_if}
+use Rattle.lpc_model.proofs.Rows.{without_first-push}
+use Rattle.lpc_model.proofs.SoundDrops.{one_if}
 use Rattle.lpc_model.proofs.SoundWorlds.{by_kind}
 use Rattle.lpc_model.specs.Accounts.{Receipt, shows_receipt, is_received, has_receipt, standing, waited_on}
 use Rattle.lpc_model.proofs.Balance.{AreBalanced, is_level, level-balanced}
@@ -100,13 +100,6 @@ level-receipt m = at (asks m.message)
     at true = refl
     at false = refl
 
-apart-births : (a b : Birth) → same_birth a b ≡ false → same_birth b a ≡ false
-apart-births a b off = at (same_birth b a) refl
-  where
-    at : (c : Bool) → same_birth b a ≡ c → same_birth b a ≡ false
-    at true is = let same : b ≡ a = birth-same b a is in let own : same_birth a b ≡ true = rw same (birth-self a) in absurd (cc)
-    at false is = is
-
 pushed-off : (q : Birth) (ms : List MessageRow) (m : MessageRow) → same_birth m.queue q ≡ false → has (is_queued q) ms ≡ false → has (is_queued q) (ms ++ m ∷ []) ≡ false
 pushed-off q ms m other off = has_none-push (is_queued q) ms m off other
 
@@ -149,7 +142,7 @@ module _ (s : Receipt) (quiet : asks (message_of s.bytes) ≡ false) (w : World)
       away r l c q is receives = grind arith
 
       one : (x : WaitRow) → is_dry w v x ≡ true → not (takes m x) ≡ true → is_dry w (basic v (Enters m)) x ≡ true
-      one x dry off = less-dry w v (basic v (Enters m)) x (λ receives none. pushed-off x.queue v.messages m (apart-births x.queue m.queue (away (is_receive x) (is_listen x) (is_connection_request m.message) (same_birth x.queue m.queue) off receives)) none) dry
+      one x dry off = less-dry w v (basic v (Enters m)) x (λ receives none. pushed-off x.queue v.messages m (births-apart x.queue m.queue (away (is_receive x) (is_listen x) (is_connection_request m.message) (same_birth x.queue m.queue) off receives)) none) dry
 
   enter-none : (v : World) (m : MessageRow) → first (takes m) v.waits ≡ None → HasDryQueues w v → IsEntered v (Enters m ∷ [])
   enter-none v m none dry = record { balanced = level-balanced s quiet w line v (Enters m ∷ []) refl; dry = kept-dry v m none dry }
@@ -234,7 +227,7 @@ own-wait all front (x ∷ xs) once same =
     let sum = count-append (waits_as n) front (x ∷ xs) in
     let most : count (waits_as n) (front ++ x ∷ xs) ≤ 1 = subst (λ ys. count (waits_as n) ys ≤ 1) same (once n) in
     let one : 1 ≤ count (waits_as n) (x ∷ xs) = counts-first (waits_as n) x xs own in
-    let none : has (waits_as n) front ≡ false = count_none (waits_as n) front (omega arith) in
+    let none : has (waits_as n) front ≡ false = none-counted (waits_as n) front (omega arith) in
     let found : first (waits_as n) all ≡ Some x = ap (first (waits_as n)) same ∙ first-behind (waits_as n) front x xs none own in
     both (is_the x.queue (option_map (λ (y : WaitRow). y.queue) (first (waits_as n) all))) _ (rw found (birth-self x.queue))
     (own-wait all (front ++ x ∷ []) xs once (same ∙ sym (append_assoc front (x ∷ []) xs)))
@@ -259,7 +252,7 @@ dry-sound w =
     both a b one two = grind arith
 
     receives : (x : WaitRow) → has_come w (record x { kind = Receive }) ≡ false → is_the x.queue (waited_on w x.thread) ≡ true → is_dry w w (record x { kind = Receive }) ≡ true
-    receives x none own = both (has (is_queued x.queue) w.messages) (is_the x.queue (waited_on w x.thread)) (has_none-more (λ m. same_birth x.queue m.queue) (is_queued x.queue) (λ m off. apart-births x.queue m.queue off) w.messages none) own
+    receives x none own = both (has (is_queued x.queue) w.messages) (is_the x.queue (waited_on w x.thread)) (has_none-more (λ m. same_birth x.queue m.queue) (is_queued x.queue) (λ m off. births-apart x.queue m.queue off) w.messages none) own
 
 pub dry-first : (w : World) → IsSoundWorld w → HasDryQueues w w
 dry-first w s = every-both (is_sound_wait w) (λ x. is_the x.queue (waited_on w x.thread)) (is_dry w w) (dry-sound w) w.waits s.waits (own-wait w.waits [] w.waits s.once refl)

@@ -4,6 +4,7 @@ use Rattle.std.specs.Prelude.{◌||◌}
 use Rattle.lpc_base.specs.Rows.{change, each, every, which, without}
 use Rattle.lpc_base.specs.declared.status.Status.{Status}
 use Rattle.lpc_base.specs.declared.status.TheConstants.{LPC_REPLY_LOST, PORT_DISCONNECTED}
+use Rattle.lpc_base.proofs.RowWords.{which-without}
 use Rattle.lpc_model.specs.World.{Birth, MessageRow, ThreadRow, WaitRow, World}
 use Rattle.lpc_model.specs.Found.{is_accepted, is_own_of, is_thread, waits_as}
 use Rattle.lpc_model.specs.Basics.{Cuts, Steps, basic, doing, end_each, ended, world_after, ◌▹◌}
@@ -20,10 +21,6 @@ without-swap p q (x ∷ xs) = grind (arith, without-swap p q xs)
 pub without-again : {X : Type 0} (p : X → Bool) (xs : List X) → without p (without p xs) ≡ without p xs
 without-again p [] = refl
 without-again p (x ∷ xs) = grind (arith, without-again p xs)
-
-which-without : {X : Type 0} (t p : X → Bool) (xs : List X) → which t (without p xs) ≡ without p (which t xs)
-which-without t p [] = refl
-which-without t p (x ∷ xs) = grind (arith, which-without t p xs)
 
 which-apart : {X : Type 0} (t p : X → Bool) (xs : List X) → every (λ x. not (p x) || not (t x)) xs ≡ true → which t (without p xs) ≡ which t xs
 which-apart t p [] apart = refl

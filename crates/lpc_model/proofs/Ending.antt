@@ -6,6 +6,7 @@ use Rattle.lpc_base.specs.Rows.{change, every, first, given, has, when, without_
 use Rattle.lpc_base.specs.declared.status.Status.{Status}
 use Rattle.lpc_base.specs.declared.status.TheConstants.{INVALID_CID, SUCCESS}
 use Rattle.lpc_base.proofs.RowWords.{every-append, every-more, first-passes}
+use Rattle.lpc_base.proofs.Births.{birth-same}
 use Rattle.lpc_model.specs.declared.entry.CallName.{CallName}
 use Rattle.lpc_model.specs.declared.entry.CallName.TheVariants.{NtTerminateProcess, NtTerminateThread}
 use Rattle.lpc_model.specs.World.{Birth, Creator, HandleRow, HandleTable, MessageRow, PortRow, ThreadRow, WaitRow, World}
@@ -26,7 +27,6 @@ use Rattle.lpc_model.proofs.SoundWorlds.{by_kind}
 use Rattle.lpc_model.proofs.SoundQueues.{after-append}
 use Rattle.lpc_model.proofs.SoundClosing.{close-shut}
 use Rattle.lpc_model.specs.Closings.{is_closed_post}
-use Rattle.lpc_model.proofs.Births.{birth-same}
 use Rattle.lpc_model.proofs.Usable.{way-open}
 use Rattle.lpc_model.specs.Deaths.{is_died_post}
 

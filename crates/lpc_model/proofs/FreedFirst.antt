@@ -2,11 +2,11 @@
 use Rattle.std.proofs.Common.{◌≡◌, ◌+◌, ◌∙◌, true, refl, sym, ap, subst}
 use Rattle.std.specs.Prelude.{◌==◌}
 use Rattle.lpc_base.specs.Rows.{count}
+use Rattle.lpc_base.proofs.Births.{birth-same}
 use Rattle.lpc_model.specs.World.{Birth, ObjectName, PortRow, ProcessRow, ThreadRow, World}
 use Rattle.lpc_model.specs.Found.{handle_count, is_connected_to, is_made_on, is_paired_to, is_sent_on, port_name, process_name, same_birth, thread_name}
 use Rattle.lpc_model.specs.Basics.{Frees, basic, world_after}
 use Rattle.lpc_model.specs.Sweep.{is_unheld, sweep}
-use Rattle.lpc_model.proofs.Births.{birth-same}
 use Rattle.lpc_model.proofs.SoundFrees.{freed-registrations}
 use Rattle.lpc_model.proofs.Swept.{without-same}
 use Rattle.lpc_model.proofs.SweptLives.{same-process, same-thread}

@@ -1,7 +1,8 @@
 -- NtConnectPort: the port that it makes is held by the wait of the connect.
 use Rattle.std.proofs.Common.{◌≡◌, ◌∙◌, ℕ, ◌+◌, ◌≤◌, List, refl, ap, arith}
 use Rattle.lpc_base.specs.Rows.{count}
-use Rattle.lpc_base.proofs.RowWords.{every-append, every-more, every-push, has-push}
+use Rattle.lpc_base.proofs.RowWords.{count-has, every-append, every-more, every-push, has-push}
+use Rattle.lpc_base.proofs.Births.{birth-self}
 use Rattle.lpc_model.specs.World.{Birth, Message, ThreadRow, World}
 use Rattle.lpc_model.specs.Found.{all_registrations, handle_count, is_connected_to, is_made_on, is_paired_to, is_sent_on, is_thread, port_name, registered_by, same_birth}
 use Rattle.lpc_model.specs.Basics.{DrawsIdentifier, DrawsOrdinal, basic, past_identifier, past_ordinal, world_after}
@@ -10,9 +11,7 @@ use Rattle.lpc_model.specs.Tests.{handles_test, next_birth}
 use Rattle.lpc_model.specs.Named.{named_port}
 use Rattle.lpc_model.specs.Connect.{client_port, connect_start, connect_steps, connect_wait, connection_request, info_test, nt_connect_port}
 use Rattle.lpc_model.specs.Linked.{AreLivesHeld, HasHeldPorts}
-use Rattle.lpc_model.proofs.Births.{birth-self}
 use Rattle.lpc_model.proofs.Holding.{Holds, bind_holds}
-use Rattle.lpc_model.proofs.Handles.{count-has}
 use Rattle.lpc_model.proofs.Registrations.{same-each}
 use Rattle.lpc_model.proofs.LinkedSteps.{is_steady}
 use Rattle.lpc_model.proofs.SteadySteps.{steady-enter}

@@ -4,8 +4,10 @@ use Rattle.std.specs.Prelude.{◌&&◌, ◌||◌, ◌==◌, nat_lt, Result, Ok, 
 use Rattle.lpc_base.specs.declared.status.Status.{Status}
 use Rattle.lpc_model.proofs.Holding.{Holds}
 use Rattle.std.proofs.lemmas.Bool.Decides.{nat_tests}
+use Rattle.std.proofs.Math.Bool.{or-true}
 use Rattle.lpc_base.specs.Rows.{change, count, each, every, has, which}
-use Rattle.lpc_base.proofs.RowWords.{count-push, every-change, every-more}
+use Rattle.lpc_base.proofs.RowWords.{count-append, count-push, every-change, every-more}
+use Rattle.lpc_base.proofs.Bools.{number-apart}
 use Rattle.lpc_model.specs.World.{Birth, HandleRow, HandleTable, ObjectName, PortRow, ProcessRow, ThreadRow, World}
 use Rattle.lpc_model.specs.Found.{all_registrations, free_handle, handle_count, has_value, is_connected_to, is_life, is_made_on, is_paired_to, is_port, is_sent_on, is_table, is_thread, lives_by, pointer_count, port_name, process_name, registered_by, same_birth, same_object, thread_name, waits_as, waits_at}
 use Rattle.lpc_model.specs.Basics.{Accepts, AddsHandle, AddsProcess, AddsThread, Awaits, Basic, Binds, Completes, Cuts, Dies, DrawsIdentifier, DrawsOrdinal, DropsHandle, Empties, Enters, Frees, Joins, Makes, Receives, Registers, Takes, TakesConnect, Tells, Unbinds, Unregisters, Wakes, Withdraws, accepted, basic, completed, past_identifier, past_ordinal, put_handle, received, registering, unregistering, with_handle, world_after}
@@ -31,25 +33,18 @@ push-more p xs y = at (p y) (count p xs) _ (count-push p xs y)
     at true n m is = omega (arith, is)
     at false n m is = omega (arith, is)
 
-count-appended : {X : Type 0} (p : X → Bool) (xs ys : List X) → count p (xs ++ ys) ≡ count p xs + count p ys
-count-appended p [] ys = omega arith
-count-appended p (x ∷ xs) ys = grind (arith, count-appended p xs ys)
-
 -- Handles
 -- a row that is above or below the new one stays
 parts-count : {X : Type 0} (p s low high : X → Bool) → ((x : X) → s x ≡ false → (low x || high x) ≡ true) → (xs : List X) → has s xs ≡ false → count p xs ≤ count p (which low xs) + count p (which high xs)
 parts-count p s low high parts [] none = omega arith
 parts-count p s low high parts (x ∷ xs) none = grind (arith, parts x, parts-count p s low high parts xs)
 
-apart : (a b : ℕ) → (a == b) ≡ false → (nat_lt a b || nat_lt b a) ≡ true
-apart a b off = grind (arith, nat_tests)
-
 put-count : (p : HandleRow → Bool) (h : HandleRow) (rows : List HandleRow) → has (has_value h.value) rows ≡ false → count p rows ≤ count p (put_handle h rows)
 put-count p h rows none =
     let low : HandleRow → Bool = λ r. nat_lt r.value h.value in
     let high : HandleRow → Bool = λ r. nat_lt h.value r.value in
-    let split = count-appended p (which low rows) (h ∷ which high rows) in
-    let parts = parts-count p (has_value h.value) low high (λ r off. apart r.value h.value off) rows none in
+    let split = count-append p (which low rows) (h ∷ which high rows) in
+    let parts = parts-count p (has_value h.value) low high (λ r off. number-apart r.value h.value off) rows none in
     let more = tail (p h) (count p (which high rows)) in
     omega (arith, split, parts, count-cons p h (which high rows), more)
   where
@@ -83,8 +78,8 @@ handles-count pid h p (t ∷ ts) lacks = at (is_table pid t) refl (handles-count
 
     at : (c : Bool) → is_table pid t ≡ c → count p (each (λ t. t.rows) ts) ≤ count p (each (λ t. t.rows) (change (is_table pid) (with_handle h) ts)) → not (c && has (has_value h.value) t.rows) ≡ true
         → count p (each (λ t. t.rows) (t ∷ ts)) ≤ count p (each (λ t. t.rows) (cond c (with_handle h t) t ∷ change (is_table pid) (with_handle h) ts))
-    at true is rest lack = sums _ _ _ _ _ _ (count-appended p t.rows (each (λ t. t.rows) ts)) (count-appended p (put_handle h t.rows) (each (λ t. t.rows) (change (is_table pid) (with_handle h) ts))) (put-count p h t.rows (none _ lack)) rest
-    at false off rest lack = sums _ _ _ _ _ _ (count-appended p t.rows (each (λ t. t.rows) ts)) (count-appended p t.rows (each (λ t. t.rows) (change (is_table pid) (with_handle h) ts))) (omega arith) rest
+    at true is rest lack = sums _ _ _ _ _ _ (count-append p t.rows (each (λ t. t.rows) ts)) (count-append p (put_handle h t.rows) (each (λ t. t.rows) (change (is_table pid) (with_handle h) ts))) (put-count p h t.rows (none _ lack)) rest
+    at false off rest lack = sums _ _ _ _ _ _ (count-append p t.rows (each (λ t. t.rows) ts)) (count-append p t.rows (each (λ t. t.rows) (change (is_table pid) (with_handle h) ts))) (omega arith) rest
 
 pub handle-count : (w : World) (pid : ℕ) (object : ObjectName) (access : ℕ) (o : ObjectName) → count (is_table pid) w.handles ≤ 1 → handle_count w o ≤ handle_count (basic w (AddsHandle pid (handle_row (free_handle w pid) object access))) o
 handle-count w pid object access o one = handles-count pid (handle_row (free_handle w pid) object access) (λ h. same_object h.object o) w.handles (alone pid (has_value (free_handle w pid)) w.handles one (value-free w pid))
@@ -92,7 +87,7 @@ handle-count w pid object access o one = handles-count pid (handle_row (free_han
 -- a further table of handles
 pub handles-push : (p : HandleRow → Bool) (ts : List HandleTable) (t : HandleTable) → count p (each (λ t. t.rows) ts) ≤ count p (each (λ t. t.rows) (ts ++ t ∷ []))
 handles-push p [] t = omega arith
-handles-push p (x ∷ xs) t = sums _ _ _ _ _ (count-appended p x.rows (each (λ t. t.rows) xs)) (count-appended p x.rows (each (λ t. t.rows) (xs ++ t ∷ []))) (handles-push p xs t)
+handles-push p (x ∷ xs) t = sums _ _ _ _ _ (count-append p x.rows (each (λ t. t.rows) xs)) (count-append p x.rows (each (λ t. t.rows) (xs ++ t ∷ []))) (handles-push p xs t)
   where
     sums : (a b c n m : ℕ) → n ≡ a + b → m ≡ a + c → b ≤ c → n ≤ m
     sums a b c n m one two more = omega (arith, one, two, more)
@@ -230,10 +225,6 @@ quiet-step w (Joins client server context) is quiet held = absurd (cc)
 quiet-step w (Frees o) is quiet held = absurd (cc)
 
 -- what is loosened stays so
-or-true : (a : Bool) → (a || true) ≡ true
-or-true true = refl
-or-true false = refl
-
 or-false : (a : Bool) → (a || false) ≡ a
 or-false true = refl
 or-false false = refl

@@ -1,11 +1,13 @@
 -- The step of each line leaves of two ports that are each other's other end one at least open.
 use Rattle.std.proofs.Common.{◌≡◌, ℕ, ◌≤◌, List, [], ◌∷◌, ◌++◌, Bool, true, false, cond, map, Option, Some, None, refl, sym, subst, arith}
+use Rattle.std.proofs.lemmas.Bool.{or_left}
 use Rattle.std.specs.Prelude.{◌||◌, Result, Ok, Err}
 use Rattle.lpc_base.specs.Rows.{count, every, passes, when}
 use Rattle.lpc_base.specs.declared.status.Status.{Status}
 use Rattle.lpc_base.specs.declared.status.TheConstants.{INVALID_HANDLE}
 use Rattle.lpc_base.proofs.RowWords.{every-append, every-change, every-more, every-push, every-without, has-kept}
 use Rattle.lpc_base.proofs.RowMaps.{every-change_to, every-map}
+use Rattle.lpc_base.proofs.Births.{birth-same, births-apart}
 use Rattle.lpc_model.specs.declared.entry.CallName.TheVariants.{NtTerminateProcess, NtTerminateThread}
 use Rattle.lpc_model.specs.declared.entry.ObjectKind.TheVariants as kind
 use Rattle.lpc_model.specs.declared.entry.Word.TheVariants as word
@@ -26,11 +28,9 @@ use Rattle.lpc_model.specs.SoundWaits.{IsSoundWorld}
 use Rattle.lpc_model.specs.Left.{HasKeptPairs, is_kept_pair}
 use Rattle.lpc_model.proofs.Holding.{Holds, bind_holds, directed_holds, found_ok, holds_ok, settled_holds}
 use Rattle.lpc_model.proofs.Usable.{CanCall, can-call}
-use Rattle.lpc_model.proofs.Births.{birth-same}
 use Rattle.lpc_model.proofs.Handles.{open-add, open-new}
 use Rattle.lpc_model.proofs.Closing.{behind, takes_away}
 use Rattle.lpc_model.proofs.SoundQueues.{after-append}
-use Rattle.lpc_model.proofs.SoundCuts.{flip}
 use Rattle.lpc_model.proofs.SoundClosing.{close-shut}
 use Rattle.lpc_model.proofs.SoundClose.{OpensBut, but-opens, found-value, shut-found, still-open}
 use Rattle.lpc_model.proofs.SoundTerminate.{IsSafe, die-safe, enter-safe, handle-safe, sound-of, unregister-safe}
@@ -72,9 +72,6 @@ kept-parts c a b x y one two is = grind (arith, one, two)
 kept-more : (w v : World) → ((b : Birth) → is_open w b ≡ true → is_open v b ≡ true) → (p : PortRow) → is_kept_pair w p ≡ true → is_kept_pair v p ≡ true
 kept-more w v opens p is = kept-parts (is_cut p) (is_open w p.birth) (is_open v p.birth) (passes p.pair (is_open w)) (passes p.pair (is_open v)) (opens p.birth) (option-open w v opens p.pair) is
 
-left : (a b : Bool) → a ≡ true → (a || b) ≡ true
-left a b is = grind arith
-
 freed-pairs : (w : World) (k : ObjectKind) (b : Birth) → HasKeptPairs w → HasKeptPairs (freed w k b)
 freed-pairs w kind.Port b k = every-without (is_kept_pair w) (is_port b) w.ports k
 freed-pairs w kind.Section b k = k
@@ -83,7 +80,7 @@ freed-pairs w kind.Process b k = k
 freed-pairs w kind.Thread b k = k
 
 pair-step : (w : World) (b : Basic) → is_pairing b ≡ true → HasKeptPairs w → HasKeptPairs (basic w b)
-pair-step w (Makes p) is k = every-push (is_kept_pair w) w.ports p k (left (is_cut p) _ is)
+pair-step w (Makes p) is k = every-push (is_kept_pair w) w.ports p k (or_left (is_cut p) _ is)
 pair-step w (AddsProcess p) is k = every-more (is_kept_pair w) (is_kept_pair (basic w (AddsProcess p))) (kept-more w (basic w (AddsProcess p)) (λ b one. has-kept (has_handle_to b) w.handles (no_handles p.number) one)) w.ports k
 pair-step w (Completes c) is k = every-change (is_kept_pair w) (is_port c) completed (λ p one. one) w.ports k
 pair-step w (Cuts c) is k = every-change_to (is_kept_pair w) (is_kept_pair w) (is_end_of c) cut (λ p was here. refl) (λ p was off. was) w.ports k
@@ -128,11 +125,11 @@ pair-closed : (w : World) (pid : ℕ) (r : HandleRow) → handle_at w pid r.valu
 pair-closed w pid r at s k = by_last (is_last r w) refl
   where
     apart : (b c : Birth) (o : Option Birth) → o ≡ Some c → is_the b o ≡ false → same_birth c b ≡ false
-    apart b c o some off = let other : same_birth b c ≡ false = rw some at off in flip b c other
+    apart b c o some off = let other : same_birth b c ≡ false = rw some at off in births-apart b c other
 
     other-end : (v u : World) (b : Birth) → OpensBut v u b → (o : Option Birth) → is_the b o ≡ false → passes o (is_open v) ≡ true → passes o (is_open u) ≡ true
     other-end v u b opens None off is = absurd (cc)
-    other-end v u b opens (Some c) off is = opens c (flip b c off) is
+    other-end v u b opens (Some c) off is = opens c (births-apart b c off) is
 
     first_off : (x y : Bool) → (x || y) ≡ false → x ≡ false
     first_off x y is = grind arith

@@ -5,6 +5,7 @@ use Rattle.std.proofs.lemmas.Bool.Decides.{nat_tests}
 use Rattle.lpc_base.specs.Rows.{first, has, passes}
 use Rattle.lpc_base.proofs.RowWords.{first-passes}
 use Rattle.lpc_base.proofs.RowMaps.{every-both, every-first, every-none}
+use Rattle.lpc_base.proofs.Births.{birth-same}
 use Rattle.lpc_model.specs.World.{Birth, Message, PortRow, ThreadRow, WaitRow, World}
 use Rattle.lpc_model.specs.Basics.{AddsHandle, basic}
 use Rattle.lpc_model.specs.Tests.{PORT_ACCESS, handle_row, handles_test, next_birth}
@@ -16,7 +17,6 @@ use Rattle.lpc_model.specs.Found.{free_handle, is_offered, is_port, port_name, p
 use Rattle.lpc_model.specs.Connect.{accept_steps, refuse_steps, names_connect, server_port}
 use Rattle.lpc_model.specs.Linked.{IsLinked, is_root_port, is_lone_offer, is_unjoined}
 use Rattle.lpc_model.specs.SoundWaits.{can_stay_sound}
-use Rattle.lpc_model.proofs.Births.{birth-same}
 use Rattle.lpc_model.proofs.Usable.{CanCall}
 use Rattle.lpc_model.proofs.SoundWorlds.{by_kind}
 use Rattle.lpc_model.proofs.SoundAccept.{named-wait, names-offered}

@@ -1,6 +1,7 @@
 -- NtConnectPort keeps ports linked.
-use Rattle.std.proofs.Common.{◌≡◌, ℕ, List, [], ◌∷◌, Bool, true, false, not, refl, arith}
-use Rattle.std.specs.Prelude.{◌&&◌, Result, Ok, Err}
+use Rattle.std.proofs.Common.{◌≡◌, ℕ, List, [], ◌∷◌, true, false, not, refl, arith}
+use Rattle.std.proofs.lemmas.Bool.{and_from}
+use Rattle.std.specs.Prelude.{Result, Ok, Err}
 use Rattle.lpc_model.specs.Then.{◌>>=◌}
 use Rattle.lpc_base.specs.Rows.{every, passes}
 use Rattle.lpc_base.proofs.RowWords.{every-push}
@@ -46,9 +47,6 @@ name-ends w text l = at (lookup w.bindings text) refl
     at (Ok (Item port)) is =
         let closed = nameless-is-not-found (λ other _. not (is_root_port w other)) port port w.bindings text (unnamed w w.bindings l.targets port) is in grind arith
 
-both-true : (a b : Bool) → a ≡ true → b ≡ true → (a && b) ≡ true
-both-true a b one two = grind arith
-
 offered-linked : (w : World) (x : WaitRow) → is_lone_offer w x ≡ true → IsLinked w → IsLinked (basic w (Awaits x))
 offered-linked w x is l = linked-same w (basic w (Awaits x)) refl (λ all. every-push (is_lone_offer w) w.waits x all is) (λ all. all) l
 
@@ -63,7 +61,7 @@ connected-linked w by connection bytes c ends s l =
     let t = made-linked drawn port new refl ends (plain-all w (DrawsIdentifier by.number ∷ DrawsOrdinal by.number ∷ []) refl l) in
     let found = made-found drawn port new in
     let lone : passes (port_row made (next_birth by)) is_unjoined ≡ true = rw found refl in
-    let offer : is_lone_offer made x ≡ true = both-true (is_root_port made connection) (passes (port_row made (next_birth by)) is_unjoined) (push-passes drawn port connection names_nothing ends) lone in
+    let offer : is_lone_offer made x ≡ true = and_from (is_root_port made connection) (passes (port_row made (next_birth by)) is_unjoined) (push-passes drawn port connection names_nothing ends) lone in
     steady-all (basic made (Awaits x)) (enter (row_of connection port m) (world_after w (connect_start by connection m))) (steady-enter (row_of connection port m) (world_after w (connect_start by connection m))) (offered-linked made x offer t)
 
 pub connect-linked : (w : World) (by : ThreadRow) (name bytes : List ℕ) → CanCall w by → IsSoundWorld w → IsLinked w → Holds (KeepLinked w) (nt_connect_port w by name bytes)

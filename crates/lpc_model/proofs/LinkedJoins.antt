@@ -5,6 +5,7 @@ use Rattle.std.proofs.lemmas.Bool.Decides.{nat_tests}
 use Rattle.lpc_base.specs.Rows.{count, every, first, passes, without}
 use Rattle.lpc_base.proofs.RowWords.{every-more, every-without, first-passes}
 use Rattle.lpc_base.proofs.RowMaps.{every-both, every-change_to, every-map}
+use Rattle.lpc_base.proofs.Births.{birth-same, births-apart}
 use Rattle.lpc_names.specs.Walk.{LinkTo, Stands}
 use Rattle.lpc_names.specs.declared.names.Found.TheVariants.{Directory, Item}
 use Rattle.lpc_model.specs.declared.entry.ObjectKind.TheVariants as kind
@@ -15,7 +16,6 @@ use Rattle.lpc_model.specs.Sweep.{free_unheld, is_unheld, sweep, unheld}
 use Rattle.lpc_model.specs.Linked.{IsLinked, is_root_port, is_lone_offer, is_mutual, is_rooted, is_unjoined, leads_to_root, names_nothing, passes_or_none}
 use Rattle.lpc_model.specs.SoundWaits.{IsSoundWorld, is_sound_wait, leads_open}
 use Rattle.lpc_model.proofs.Rows.{count-less, first-map}
-use Rattle.lpc_model.proofs.Births.{birth-same}
 use Rattle.lpc_model.proofs.SoundTies.{joined-birth, same-port}
 use Rattle.lpc_model.proofs.SoundWorlds.{by_kind}
 use Rattle.lpc_model.proofs.SoundQueues.{after-append}
@@ -189,12 +189,9 @@ first-apart p test apart (x ∷ xs) = grind (arith, apart x, first-apart p test 
 pub row-freed : (w : World) (b c : Birth) → same_birth c b ≡ false → port_row (basic w (Frees (port_name b))) c ≡ port_row w c
 row-freed w b c off = first-apart (is_port c) (is_port b) (λ p here. subst (λ d. same_birth d b ≡ false) (sym (birth-same p.birth c here)) off) w.ports
 
-flip : (a b : Birth) → same_birth a b ≡ false → same_birth b a ≡ false
-flip a b off = grind (arith, nat_tests)
-
 freed-option : (w : World) (b : Birth) (t : World → Birth → Bool) → ((c : Birth) → same_birth c b ≡ false → t w c ≡ true → t (basic w (Frees (port_name b))) c ≡ true) → (o : Option Birth) → is_the b o ≡ false → passes_or_none o (t w) ≡ true → passes_or_none o (t (basic w (Frees (port_name b)))) ≡ true
 freed-option w b t kept None off is = refl
-freed-option w b t kept (Some c) off is = kept c (flip b c off) is
+freed-option w b t kept (Some c) off is = kept c (births-apart b c off) is
 
 pub unopen : (w : World) (b : Birth) → pointer_count w (port_name b) ≤ 0 → is_open w b ≡ false
 unopen w b few = at (is_open w b) refl

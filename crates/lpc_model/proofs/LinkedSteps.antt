@@ -4,6 +4,7 @@ use Rattle.std.specs.Prelude.{◌&&◌, ◌||◌, is_none, is_some}
 use Rattle.lpc_base.specs.Rows.{count, every, first, has, passes}
 use Rattle.lpc_base.proofs.RowWords.{count-push, count-none, every-change, every-more, every-push, every-without, first-kept, first-push}
 use Rattle.lpc_base.proofs.RowMaps.{every-change_to, every-map}
+use Rattle.lpc_base.proofs.Births.{birth-same, birth-self}
 use Rattle.lpc_names.specs.Binding.{is_name}
 use Rattle.lpc_names.specs.Walk.{LinkTo, Stands}
 use Rattle.lpc_names.specs.declared.names.Found.TheVariants.{Directory, Item}
@@ -11,7 +12,6 @@ use Rattle.lpc_model.specs.World.{Birth, Node, PortRow, WaitRow, World}
 use Rattle.lpc_model.specs.Found.{is_offered, is_port, is_the, pair_of, port_row, same_birth, waits_as, waits_at}
 use Rattle.lpc_model.specs.Basics.{Accepts, AddsHandle, AddsProcess, AddsThread, Awaits, Basic, Binds, Completes, Cuts, Dies, DrawsIdentifier, DrawsOrdinal, DropsHandle, Empties, Enters, Frees, Joins, Makes, Receives, Registers, Takes, TakesConnect, Tells, Unbinds, Unregisters, Wakes, Withdraws, accepted, basic, completed, cut, is_end_of, received, world_after}
 use Rattle.lpc_model.specs.Linked.{IsLinked, is_root_port, is_lone_offer, is_mutual, is_rooted, is_unjoined, leads_to_root, names_nothing, passes_or_none}
-use Rattle.lpc_model.proofs.Births.{birth-same, birth-self}
 use Rattle.lpc_model.proofs.SoundPairs.{tied}
 use Rattle.lpc_model.proofs.SoundTies.{completed-birth}
 use Rattle.lpc_model.proofs.SoundCuts.{cut-birth, cut-row, other-end, same-row}

@@ -1,13 +1,14 @@
 -- Behind each line handles are of living processes alone.
 use Rattle.std.proofs.Common.{◌≡◌, ℕ, ◌≤◌, List, [], ◌∷◌, Bool, true, false, map, not, Option, Some, None, refl, sym, subst, arith}
 use Rattle.std.specs.Prelude.{◌&&◌, ◌||◌, ◌==◌, Result, Ok, Err}
-use Rattle.std.proofs.lemmas.Bool.{eqb-true}
+use Rattle.std.proofs.lemmas.Bool.{eqb-true, or_left, or_right}
 use Rattle.std.proofs.lemmas.Bool.Decides.{nat_tests}
 use Rattle.lpc_base.specs.Rows.{change, every, first, passes}
 use Rattle.lpc_base.specs.declared.status.Status.{Status}
 use Rattle.lpc_base.specs.declared.status.TheConstants.{INVALID_PARAMETER, INVALID_PORT_HANDLE, PORT_DISCONNECTED}
 use Rattle.lpc_base.proofs.RowWords.{every-append, every-change, every-more, every-push, first-passes, has-change, has-kept}
 use Rattle.lpc_base.proofs.RowMaps.{every-both, every-change_to, every-first}
+use Rattle.lpc_base.proofs.Bools.{second-more}
 use Rattle.lpc_model.specs.declared.entry.ObjectKind.TheVariants as kind
 use Rattle.lpc_model.specs.World.{Birth, HandleRow, HandleTable, Message, ObjectKind, ObjectName, ThreadRow, WaitRow, World}
 use Rattle.lpc_model.specs.Found.{is_life, is_live, is_live_thread, is_server_port, is_table, is_thread, live_thread, lives_in, pointer_count, same_birth}
@@ -46,9 +47,6 @@ AreHomely w bs = every (is_homely w) bs ≡ true
 abbrev StayLive : World → World → Type 0
 StayLive w v = (pid : ℕ) → is_live w pid ≡ true → is_live v pid ≡ true
 
-right : (a b : Bool) → b ≡ true → (a || b) ≡ true
-right a b is = grind arith
-
 either-more : (a b c : Bool) → (a ≡ true → b ≡ true) → (a || c) ≡ true → (b || c) ≡ true
 either-more a b c more is = grind (arith, more)
 
@@ -61,12 +59,6 @@ lacks-less value t = at t.rows
     at : (rs : List HandleRow) → let t : HandleTable = record { process = t.process; rows = rs } in lacks_handles t ≡ true → lacks_handles (without_handle value t) ≡ true
     at [] is = refl
     at (r ∷ rs) is = absurd (cc)
-
-second-more : (a b c : Bool) → (b ≡ true → c ≡ true) → (a || b) ≡ true → (a || c) ≡ true
-second-more a b c more is = grind (arith, more)
-
-left : (a b : Bool) → a ≡ true → (a || b) ≡ true
-left a b is = grind arith
 
 living-drawn : (w : World) (who : ℕ) (f : ThreadRow → ThreadRow) → ((pid : ℕ) (t : ThreadRow) → lives_in pid (f t) ≡ lives_in pid t) → HasLivingHandles w → HasLivingHandles (record w { threads = change (is_thread who) f w.threads })
 living-drawn w who f same l = tables-live w (record w { threads = change (is_thread who) f w.threads }) (λ pid is. rw (has-change (lives_in pid) (is_thread who) f (same pid) w.threads) is) w.handles l
@@ -85,13 +77,13 @@ stay-all w pid is = is
 home-step : (w v : World) (b : Basic) → StayLive w v → is_homely w b ≡ true → IsHome v (basic v b)
 home-step w v (AddsHandle pid h) stay is = record {
   live = λ n one. one;
-  handles = λ l. every-change_to (is_living_table v) (is_living_table v) (is_table pid) (with_handle h) (λ t was here. left (is_live v t.process) _ (subst (λ n. is_live v n ≡ true) (sym (eqb-true t.process pid here)) (stay pid is))) (λ t was off. was) v.handles l;
+  handles = λ l. every-change_to (is_living_table v) (is_living_table v) (is_table pid) (with_handle h) (λ t was here. or_left (is_live v t.process) _ (subst (λ n. is_live v n ≡ true) (sym (eqb-true t.process pid here)) (stay pid is))) (λ t was off. was) v.handles l;
 }
 home-step w v (DropsHandle pid value) stay is = record {
   live = λ n one. one;
   handles = λ l. every-change (is_living_table v) (is_table pid) (without_handle value) (λ t was. second-more (is_live v t.process) (lacks_handles t) (lacks_handles (without_handle value t)) (lacks-less value t) was) v.handles l;
 }
-home-step w v (AddsProcess p) stay is = record { live = λ n one. one; handles = λ l. every-push (is_living_table v) v.handles (no_handles p.number) l (right (is_live v p.number) true refl) }
+home-step w v (AddsProcess p) stay is = record { live = λ n one. one; handles = λ l. every-push (is_living_table v) v.handles (no_handles p.number) l (or_right (is_live v p.number) true refl) }
 home-step w v (AddsThread t) stay is = record {
   live = λ n one. has-kept (lives_in n) v.threads t one;
   handles = λ l. tables-live v (basic v (AddsThread t)) (λ n one. has-kept (lives_in n) v.threads t one) v.handles l;

@@ -5,8 +5,9 @@ use Rattle.std.proofs.lemmas.Bool.{eqb-true}
 use Rattle.std.proofs.lemmas.Bool.Decides.{nat_tests}
 use Rattle.lpc_base.specs.Rows.{change, count, every, first, has, when}
 use Rattle.lpc_base.specs.declared.status.Status.{Status}
-use Rattle.lpc_base.proofs.RowWords.{every-change, every-more, first-passes, has-change}
+use Rattle.lpc_base.proofs.RowWords.{every-change, every-more, first-passes, has-change, none-counted}
 use Rattle.lpc_base.proofs.RowMaps.{every-both}
+use Rattle.lpc_base.proofs.Bools.{same-number}
 use Rattle.lpc_model.specs.declared.entry.CallName.TheVariants.{NtTerminateProcess, NtTerminateThread}
 use Rattle.lpc_model.specs.declared.entry.Word.TheVariants as word
 use Rattle.lpc_model.specs.World.{HandleRow, HandleTable, ThreadRow, WaitRow, World}
@@ -21,7 +22,7 @@ use Rattle.lpc_model.specs.Machine.{bare_steps, boot_line, dir_line, link_line, 
 use Rattle.lpc_model.specs.SoundWaits.{IsSoundWorld}
 use Rattle.lpc_model.specs.Left.{HasLivingHandles, is_living_table, lacks_handles}
 use Rattle.lpc_model.proofs.Holding.{Holds, bind_holds, directed_holds, settled_holds}
-use Rattle.lpc_model.proofs.Rows.{count_none, has-change_to, lone}
+use Rattle.lpc_model.proofs.Rows.{has-change_to, lone}
 use Rattle.lpc_model.proofs.Usable.{CanCall, can-call}
 use Rattle.lpc_model.proofs.Closing.{behind, then-holds}
 use Rattle.lpc_model.proofs.SoundQueues.{after-append}
@@ -164,7 +165,7 @@ table-lacks pid (t ∷ ts) one none = at (is_table pid t) refl (table-lacks pid 
     at true is later =
         let row : t.rows ≡ [] = rw is at none in
         let own : lacks_handles t ≡ true = lacks t.rows row in
-        let rest = off ts (count_none (is_table pid) ts (grind arith)) in grind arith
+        let rest = off ts (none-counted (is_table pid) ts (grind arith)) in grind arith
     at false is later =
         let row : rows_in (first (is_table pid) ts) ≡ [] = rw is at none in
         let few : count (is_table pid) ts ≤ 1 = grind arith in
@@ -215,9 +216,6 @@ are-of pid all (t ∷ ts) once found of = (
 
     two : (a b : Bool) → (a && b) ≡ true → b ≡ true
     two a b is = grind arith
-
-same-number : (n : ℕ) → (n == n) ≡ true
-same-number n = grind (arith, nat_tests)
 
 abbrev KeepLiving : World → List Basic → Type 0
 KeepLiving w bs = HasLivingHandles (world_after w bs)

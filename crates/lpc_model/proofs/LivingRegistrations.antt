@@ -6,6 +6,8 @@ use Rattle.lpc_base.specs.Rows.{change, count, every, given, when, without}
 use Rattle.lpc_base.specs.declared.status.Status.{Status}
 use Rattle.lpc_base.proofs.RowWords.{every-append, every-change, every-more, every-push, every-without, first-passes}
 use Rattle.lpc_base.proofs.RowMaps.{every-both, every-change_to}
+use Rattle.lpc_base.proofs.Bools.{first-true, second-true}
+use Rattle.lpc_base.proofs.Births.{birth-self}
 use Rattle.lpc_model.specs.declared.entry.CallName.TheVariants.{NtTerminateProcess, NtTerminateThread}
 use Rattle.lpc_model.specs.declared.entry.ObjectKind.TheVariants as kind
 use Rattle.lpc_model.specs.declared.entry.Word.TheVariants as word
@@ -20,7 +22,6 @@ use Rattle.lpc_model.specs.Sweep.{free_unheld, sweep, unheld}
 use Rattle.lpc_model.specs.Lines.{ProcArg, ScriptCall, ScriptLine, boot, create_process, create_thread, dir, link, register_thread_terminate_port, run, terminate_process, terminate_thread, thread}
 use Rattle.lpc_model.specs.Machine.{bare_steps, boot_line, dir_line, link_line, name_of_call, ready_steps, service_of, step, thread_line, thread_steps, thread_test, unused_test}
 use Rattle.lpc_model.specs.SoundWaits.{IsSoundWorld}
-use Rattle.lpc_model.proofs.Births.{birth-self}
 use Rattle.lpc_model.proofs.Closing.{behind, then-holds}
 use Rattle.lpc_model.proofs.Holding.{Holds, bind_holds, directed_holds, settled_holds}
 use Rattle.lpc_model.proofs.Rows.{lone}
@@ -33,12 +34,6 @@ use Rattle.lpc_model.proofs.DeathLines.{AreFound, death-still, die-threads, is_s
 use Rattle.lpc_model.specs.Entering.{enter}
 use Rattle.lpc_model.proofs.Creating.{process-made, thread-made}
 use Rattle.lpc_model.specs.Creation.{nt_create_process, nt_create_thread}
-
-first-true : (x y : Bool) → (x && y) ≡ true → x ≡ true
-first-true x y is = grind arith
-
-second-true : (x y : Bool) → (x && y) ≡ true → y ≡ true
-second-true x y is = grind arith
 
 -- a list with a row that passes
 abbrev some : {X : Type 0} → (X → Bool) → List X → Bool

@@ -1,9 +1,11 @@
 -- What a closing leaves in queues: no message stands in the queue of the port that is closed.
 use Rattle.std.proofs.Common.{◌≡◌, List, [], ◌∷◌, ◌++◌, Bool, true, false, not, Option, Some, None, refl, sym, subst, arith}
+use Rattle.std.proofs.lemmas.Bool.{and_from}
 use Rattle.std.specs.Prelude.{◌&&◌, is_none, option_and_then, option_map, if◌then◌else◌}
 use Rattle.lpc_base.specs.Rows.{every, first, given, without_first}
 use Rattle.lpc_base.proofs.RowWords.{every-push}
 use Rattle.lpc_base.proofs.RowMaps.{every-both, every-first, every-without_first}
+use Rattle.lpc_base.proofs.Births.{birth-same}
 use Rattle.lpc_base.specs.declared.status.TheConstants.{SUCCESS}
 use Rattle.lpc_model.specs.World.{Birth, Creator, MessageRow, PortRow, WaitRow, World}
 use Rattle.lpc_model.specs.Found.{is_client_port, is_open, is_port, is_queued, is_queued_connect, is_the, port_row, same_birth}
@@ -12,7 +14,6 @@ use Rattle.lpc_model.specs.Entering.{enter, given_steps, shown, takes, woken}
 use Rattle.lpc_model.specs.Close.{close_port, closed_row, post_closed, server_of, closing_post}
 use Rattle.lpc_model.specs.Linked.{IsLinked, is_root_port, is_lone_offer, is_rooted, leads_to_root, names_nothing, passes_or_none}
 use Rattle.lpc_model.specs.SoundWaits.{IsSoundWorld}
-use Rattle.lpc_model.proofs.Births.{birth-same}
 use Rattle.lpc_model.proofs.Usable.{if-open, if-same}
 use Rattle.lpc_model.proofs.SoundWorlds.{by_kind}
 use Rattle.lpc_model.proofs.SoundClosing.{five-shut, posted-less}
@@ -97,9 +98,6 @@ pub posted-pass : (f : MessageRow → Bool) (b : Birth) (w : World) → every f 
 posted-pass f b w all new = posted-messages (λ ms. every f ms ≡ true) (every-without_first f) b w all (λ p q by row at. every-push f w.messages (closed_row p q by) all (new p q by row at))
 
 -- All steps
-both-parts : (a b : Bool) → a ≡ true → b ≡ true → (a && b) ≡ true
-both-parts a b one two = grind arith
-
 not-parts : (a b : Bool) → a ≡ true → b ≡ false → (a && not b) ≡ true
 not-parts a b one two = grind arith
 
@@ -112,7 +110,7 @@ closed-messages w b s l all =
     let five = stage_five w b in
     let shut = five-shut w b s in
     let less = fewer-uncut w b in
-    let before : every (is_elsewhere w b) (uncut w b).messages ≡ true = every-both (λ m. is_open w m.queue) (λ m. not (is_queued b m)) (is_elsewhere w b) (λ m one two. both-parts _ _ one two) (uncut w b).messages (less.messages (λ m. is_open w m.queue) all) (emptied-uncut w b) in
+    let before : every (is_elsewhere w b) (uncut w b).messages ≡ true = every-both (λ m. is_open w m.queue) (λ m. not (is_queued b m)) (is_elsewhere w b) (λ m one two. and_from _ _ one two) (uncut w b).messages (less.messages (λ m. is_open w m.queue) all) (emptied-uncut w b) in
     let cut : every (is_elsewhere w b) five.messages ≡ true = subst (λ (v : World). every (is_elsewhere w b) v.messages ≡ true) (sym (cut-is w b)) before in
     subst (λ (v : World). every (is_elsewhere w b) v.messages ≡ true) (sym (closed-is w b))
     (posted-pass (is_elsewhere w b) b five cut (λ p q by row at. not-parts (is_open w q) (same_birth q b) (subst (λ hs. is_open (record w { handles = hs }) q ≡ true) shut.handles (told-open five p q at)) (told-apart five b q p (five-linked w b l) row at)))

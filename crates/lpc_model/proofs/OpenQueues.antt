@@ -1,9 +1,11 @@
 -- Each line keeps messages in queues of open ports, and what waits to be received.
 use Rattle.std.proofs.Common.{◌≡◌, ℕ, ◌≤◌, List, [], ◌∷◌, ◌++◌, Bool, true, false, map, not, Option, Some, None, refl, sym, subst, arith}
+use Rattle.std.proofs.lemmas.Bool.{and_from, not-true, or_left, or_right}
 use Rattle.std.specs.Prelude.{◌&&◌, ◌||◌, Result, Ok, Err}
 use Rattle.lpc_base.specs.Rows.{count, every, first, given, when}
 use Rattle.lpc_base.proofs.RowWords.{every-append, every-change, every-more, every-push, every-without, first-passes, has-kept}
 use Rattle.lpc_base.proofs.RowMaps.{every-both, every-change_to, every-without_first}
+use Rattle.lpc_base.proofs.Bools.{second-more, first-true, second-true}
 use Rattle.lpc_base.specs.declared.limits.TheConstants.{MESSAGE_LIMIT}
 use Rattle.lpc_base.specs.declared.port_kind.PortKind.TheVariants.{Connection, Unnamed}
 use Rattle.lpc_base.specs.declared.status.Status.{Status}
@@ -74,16 +76,13 @@ record KeepsOpen (w v : World) : Type 0 where
   opens : StayOpen w v
   queues : HasOpenQueues w → HasOpenQueues v
 
-either-more : (r a b : Bool) → (a ≡ true → b ≡ true) → (r || a) ≡ true → (r || b) ≡ true
-either-more r a b more is = grind (arith, more)
-
 kept : (w v : World) → StayOpen w v → (every (enters_open w) w.messages ≡ true → every (enters_open w) v.messages ≡ true) → (every (waits_open w) w.waits ≡ true → every (waits_open w) v.waits ≡ true)
     → (every is_taken w.waits ≡ true → every is_taken v.waits ≡ true) → KeepsOpen w v
 kept w v opens messages waits accepts = record {
   opens = opens;
   queues = λ q. record {
     messages = every-more (enters_open w) (enters_open v) (λ m is. opens m.queue is) v.messages (messages q.messages);
-    waits = every-more (waits_open w) (waits_open v) (λ x is. either-more x.received (is_open w x.queue) (is_open v x.queue) (opens x.queue) is) v.waits (waits q.waits);
+    waits = every-more (waits_open w) (waits_open v) (λ x is. second-more x.received (is_open w x.queue) (is_open v x.queue) (opens x.queue) is) v.waits (waits q.waits);
     accepts = accepts q.accepts;
   };
 }
@@ -115,27 +114,12 @@ freed-kept w kind.Token b = kept w w (λ b is. is) (λ all. all) (λ all. all) (
 freed-kept w kind.Process b = kept w (freed w kind.Process b) (λ b is. is) (λ all. all) (λ all. all) (λ all. all)
 freed-kept w kind.Thread b = kept w (freed w kind.Thread b) (λ b is. is) (λ all. all) (λ all. all) (λ all. all)
 
-first-true : (a b : Bool) → (a && b) ≡ true → a ≡ true
-first-true a b is = grind arith
-
-second-true : (a b : Bool) → (a && b) ≡ true → b ≡ true
-second-true a b is = grind arith
-
-not-true : (a : Bool) → not a ≡ true → a ≡ false
-not-true a is = grind arith
-
-left : (a b : Bool) → a ≡ true → (a || b) ≡ true
-left a b is = grind arith
-
-right : (a b : Bool) → b ≡ true → (a || b) ≡ true
-right a b is = grind arith
-
 -- a step that passes in a world keeps queues open in each later one
 step-kept : (w v : World) (b : Basic) → StayOpen w v → is_open_step w b ≡ true → KeepsOpen v (basic v b)
 step-kept w v (Tells e) stay is = kept v v (λ b is. is) (λ all. all) (λ all. all) (λ all. all)
 step-kept w v (Wakes who call status fields) stay is = waits-kept v _ (every-without (waits_open v) (waits_as who) v.waits) (every-without is_taken (waits_as who) v.waits)
-step-kept w v (Awaits x) stay is = waits-kept v _ (λ all. every-push (waits_open v) v.waits x all (right x.received _ (stay x.queue (first-true (is_open w x.queue) _ is)))) (λ all. every-push is_taken v.waits x all (left _ x.received (second-true (is_open w x.queue) _ is)))
-step-kept w v (Receives who queue) stay is = waits-kept v _ (every-change (waits_open v) (waits_at who queue) received (λ x is. refl) v.waits) (every-change is_taken (waits_at who queue) received (λ x is. right (not (is_accepted x)) true refl) v.waits)
+step-kept w v (Awaits x) stay is = waits-kept v _ (λ all. every-push (waits_open v) v.waits x all (or_right x.received _ (stay x.queue (first-true (is_open w x.queue) _ is)))) (λ all. every-push is_taken v.waits x all (or_left _ x.received (second-true (is_open w x.queue) _ is)))
+step-kept w v (Receives who queue) stay is = waits-kept v _ (every-change (waits_open v) (waits_at who queue) received (λ x is. refl) v.waits) (every-change is_taken (waits_at who queue) received (λ x is. or_right (not (is_accepted x)) true refl) v.waits)
 step-kept w v (Accepts who reply) stay is = absurd (cc)
 step-kept w v (Enters m) stay is = messages-kept v _ (λ all. every-push (enters_open v) v.messages m all (stay m.queue is))
 step-kept w v (Takes q) stay is = messages-kept v _ (every-without_first (enters_open v) (is_queued q) v.messages)
@@ -179,9 +163,6 @@ handled w pid object access one q =
     k.queues q
 
 -- Messages that enter
-both-true : (a b : Bool) → a ≡ true → b ≡ true → (a && b) ≡ true
-both-true a b one two = grind arith
-
 open-receipt : (w : World) (m : MessageRow) → AreOpen w (received_steps m)
 open-receipt w m = at (asks m.message)
   where
@@ -200,7 +181,7 @@ open-given w m x =
 
 -- a message enters a queue that is open in one world, in a later one
 open-enter : (w : World) (m : MessageRow) (v : World) → is_open w m.queue ≡ true → AreOpen w (enter m v)
-open-enter w m v opens = both-true (is_open w m.queue) _ opens (at (first (takes m) v.waits))
+open-enter w m v opens = and_from (is_open w m.queue) _ opens (at (first (takes m) v.waits))
   where
     at : (o : Option WaitRow) → AreOpen w (given o (λ x. given_steps x m ++ woken SUCCESS (shown x m) x ∷ []))
     at None = refl
@@ -242,12 +223,12 @@ connect-open w by name bytes s =
     bind_holds (handles_test w by.process 1) _ (AreOpen w) (λ _ _.
     let m = connection_request by bytes in
     let opens = holds_ok (λ port. is_open w port ≡ true) (named_port w name) connection (name-open w name s) at in
-    both-true (is_open w connection && true) _ (both-true (is_open w connection) true opens refl) (open-enter w (row_of connection (client_port by connection) m) (world_after w (connect_start by connection m)) opens))))
+    and_from (is_open w connection && true) _ (and_from (is_open w connection) true opens refl) (open-enter w (row_of connection (client_port by connection) m) (world_after w (connect_start by connection m)) opens))))
 
 -- NtListenPort
 listened-open : (w : World) (by : ThreadRow) (port : Birth) (o : Option MessageRow) → is_open w port ≡ true → AreOpen w (listen_steps by port o)
 listened-open w by port (Some m) opens = open-receipt w m
-listened-open w by port None opens = both-true (is_open w port && true) true (both-true (is_open w port) true opens refl) refl
+listened-open w by port None opens = and_from (is_open w port && true) true (and_from (is_open w port) true opens refl) refl
 
 listen-open : (w : World) (by : ThreadRow) (handle : ℕ) → Holds (AreOpen w) (nt_listen_port w by handle)
 unfolding nt_listen_port
@@ -267,12 +248,12 @@ received-alone w by m x at s = named-alone w by m x (λ y. y.received) at (named
 
 accepted-alone : (w : World) (who : ℕ) (reply : List ℕ) → every (λ y. not (waits_as who y) || y.received) w.waits ≡ true → HasOpenQueues w → HasOpenQueues (basic w (Accepts who reply))
 accepted-alone w who reply alone q =
-    let both = every-both is_taken (λ y. not (waits_as who y) || y.received) (λ y. is_taken y && (not (waits_as who y) || y.received)) (λ y one two. both-true _ _ one two) w.waits q.accepts alone in
+    let both = every-both is_taken (λ y. not (waits_as who y) || y.received) (λ y. is_taken y && (not (waits_as who y) || y.received)) (λ y one two. and_from _ _ one two) w.waits q.accepts alone in
     record {
       messages = q.messages;
       waits = every-change (waits_open w) (waits_as who) (accepted reply) (λ x is. is) w.waits q.waits;
       accepts = every-change_to (λ y. is_taken y && (not (waits_as who y) || y.received)) is_taken (waits_as who) (accepted reply)
-          (λ y is own. right (not (is_accepted (accepted reply y))) y.received (its (waits_as who y) y.received own (second-true (is_taken y) _ is))) (λ y is off. first-true (is_taken y) _ is) w.waits both;
+          (λ y is own. or_right (not (is_accepted (accepted reply y))) y.received (its (waits_as who y) y.received own (second-true (is_taken y) _ is))) (λ y is off. first-true (is_taken y) _ is) w.waits both;
     }
   where
     its : (a r : Bool) → a ≡ true → (not a || r) ≡ true → r ≡ true
@@ -337,7 +318,7 @@ request-open w by handle bytes =
     bind_holds (send_test w by handle bytes) _ (AreOpen w) (λ s at.
     let m = sent_by by REQUEST s.message in
     let opens = sent-open w by handle bytes s at in
-    both-true (is_open w s.queue && true) _ (both-true (is_open w s.queue) true opens refl) (open-enter w (row_of s.queue s.port m) (world_after w (request_start by s.port.birth s.queue m)) opens))
+    and_from (is_open w s.queue && true) _ (and_from (is_open w s.queue) true opens refl) (open-enter w (row_of s.queue s.port m) (world_after w (request_start by s.port.birth s.queue m)) opens))
 
 -- NtReplyPort
 reply-open : (w : World) (by : ThreadRow) (handle : ℕ) (bytes : List ℕ) → Holds (AreOpen w) (nt_reply_port w by handle bytes)
@@ -361,7 +342,7 @@ receive-at w port =
 
 received-open : (w : World) (by : ThreadRow) (port : PortRow) (queue : Birth) (replied : List Basic) (o : Option MessageRow) → AreOpen w replied → is_open w queue ≡ true → AreOpen w (receive_steps by port queue replied o)
 received-open w by port queue replied (Some m) all opens = every-append (is_open_step w) replied _ all (open-receipt w m)
-received-open w by port queue replied None all opens = every-append (is_open_step w) replied _ all (both-true (is_open w queue && true) true (both-true (is_open w queue) true opens refl) refl)
+received-open w by port queue replied None all opens = every-append (is_open_step w) replied _ all (and_from (is_open w queue && true) true (and_from (is_open w queue) true opens refl) refl)
 
 receive-open : (w : World) (by : ThreadRow) (handle : ℕ) (bytes : Option (List ℕ)) → Holds (AreOpen w) (nt_reply_wait_receive_port w by handle bytes)
 unfolding nt_reply_wait_receive_port

@@ -3,7 +3,8 @@ use Rattle.std.proofs.Common.{◌≡◌, ℕ, ◌+◌, ◌≤◌, List, [], ◌�
 use Rattle.std.specs.Prelude.{Err, Ok, Result, ◌&&◌, ◌==◌, ◌||◌}
 use Rattle.std.proofs.lemmas.Bool.Decides.{nat_tests}
 use Rattle.lpc_base.specs.Rows.{count, has, which}
-use Rattle.lpc_base.proofs.RowWords.{every-push, has-kept, has-push}
+use Rattle.lpc_base.proofs.RowWords.{count-has, every-push, has-kept, has-push}
+use Rattle.lpc_base.proofs.Births.{birth-self}
 use Rattle.lpc_model.specs.declared.entry.Word.TheVariants as word
 use Rattle.lpc_model.specs.World.{Birth, Node, ObjectName, Path, ProcessRow, ThreadRow, WaitRow, World}
 use Rattle.lpc_model.specs.Found.{handle_count, is_connected_to, is_life, is_made_on, is_paired_to, is_sent_on, live_thread, live_threads, lives_by, lives_in, port_name, process_name, registered_by, same_birth, same_object, thread_name, wait_of, is_table, free_handle}
@@ -16,10 +17,8 @@ use Rattle.lpc_model.specs.Machine.{bare_steps, boot_line, dir_line, directive_b
 use Rattle.lpc_model.specs.Sweep.{loosened, loosens, unheld}
 use Rattle.lpc_model.specs.Linked.{AreLivesHeld, HasHeldPorts, HasHeldRows}
 use Rattle.lpc_model.specs.SoundWaits.{IsSoundWorld}
-use Rattle.lpc_model.proofs.Births.{birth-self}
 use Rattle.lpc_model.proofs.SoundFrees.{fewer-pass}
 use Rattle.lpc_model.proofs.Holding.{Holds, bind_holds, directed_holds, settled_holds}
-use Rattle.lpc_model.proofs.Handles.{count-has}
 use Rattle.lpc_model.proofs.Registrations.{push-each}
 use Rattle.lpc_model.proofs.Usable.{CanCall, can-call}
 use Rattle.lpc_model.proofs.SteadyListen.{listen-steady}

@@ -2,16 +2,12 @@
 use Rattle.std.proofs.Common.{Bool, List, [], ap, arith, cond, false, not, refl, sym, true, ℕ, ◌++◌, ◌+◌, ◌∙◌, ◌∷◌, ◌≡◌, ◌≤◌}
 use Rattle.std.specs.Prelude.{◌&&◌}
 use Rattle.lpc_base.specs.Rows.{change, count, each, every, without}
-use Rattle.lpc_base.proofs.RowWords.{every-change, every-push, every-without}
+use Rattle.lpc_base.proofs.RowWords.{count-append, every-change, every-push, every-without}
 use Rattle.lpc_model.specs.World.{Birth, ThreadRow}
 use Rattle.lpc_model.specs.Found.{is_life, registered_by, same_birth}
 use Rattle.lpc_model.specs.Basics.{registering, unregistering}
 
 -- Counts
-pub count-both : {X : Type 0} (p : X → Bool) (xs ys : List X) → count p (xs ++ ys) ≡ count p xs + count p ys
-count-both p [] ys = grind arith
-count-both p (x ∷ xs) ys = grind (arith, count-both p xs ys)
-
 back-more : (a b c : ℕ) → b ≤ c → a + b ≤ a + c
 back-more a b c is = omega (arith, is)
 
@@ -24,8 +20,8 @@ fewer-each p f gone [] = omega arith
 fewer-each p f gone (x ∷ xs) = at (gone x) refl (fewer-each p f gone xs)
   where
     at : (c : Bool) → gone x ≡ c → count p (each f (without gone xs)) ≤ count p (each f xs) → count p (each f (without gone (x ∷ xs))) ≤ count p (each f (x ∷ xs))
-    at true is later = rw (is, count-both p (f x) (each f xs)) (behind-more (count p (f x)) _ _ later)
-    at false is later = rw (is, count-both p (f x) (each f xs), count-both p (f x) (each f (without gone xs))) (back-more (count p (f x)) _ _ later)
+    at true is later = rw (is, count-append p (f x) (each f xs)) (behind-more (count p (f x)) _ _ later)
+    at false is later = rw (is, count-append p (f x) (each f xs), count-append p (f x) (each f (without gone xs))) (back-more (count p (f x)) _ _ later)
 
 -- rows that change, and give as much as before
 pub same-each : {X Y : Type 0} (f : X → List Y) (test : X → Bool) (g : X → X) → ((x : X) → f (g x) ≡ f x) → (xs : List X) → each f (change test g xs) ≡ each f xs
@@ -45,8 +41,8 @@ more-each p f test g more (x ∷ xs) = at (test x) refl (more-each p f test g mo
     both a b c d one two = omega (arith, one, two)
 
     at : (c : Bool) → test x ≡ c → count p (each f xs) ≤ count p (each f (change test g xs)) → count p (each f (x ∷ xs)) ≤ count p (each f (change test g (x ∷ xs)))
-    at true is later = rw (is, count-both p (f x) (each f xs), count-both p (f (g x)) (each f (change test g xs))) (both _ _ _ _ (more x) later)
-    at false is later = rw (is, count-both p (f x) (each f xs), count-both p (f x) (each f (change test g xs))) (back-more (count p (f x)) _ _ later)
+    at true is later = rw (is, count-append p (f x) (each f xs), count-append p (f (g x)) (each f (change test g xs))) (both _ _ _ _ (more x) later)
+    at false is later = rw (is, count-append p (f x) (each f xs), count-append p (f x) (each f (change test g xs))) (back-more (count p (f x)) _ _ later)
 
 -- Threads
 -- a further registration
@@ -57,7 +53,7 @@ registering-more b c t = at t.live
     more a b c is = omega (arith, is)
 
     at : (l : Bool) → count (same_birth b) (cond l t.registrations []) ≤ count (same_birth b) (cond l (t.registrations ++ c ∷ []) [])
-    at true = more _ _ _ (count-both (same_birth b) t.registrations (c ∷ []))
+    at true = more _ _ _ (count-append (same_birth b) t.registrations (c ∷ []))
     at false = omega arith
 
 -- a further thread

@@ -4,6 +4,7 @@ use Rattle.std.specs.Prelude.{◌&&◌, ◌||◌}
 use Rattle.std.specs.Option.{option_or}
 use Rattle.std.proofs.lemmas.List.Folds.{find-append}
 use Rattle.lpc_base.specs.Rows.{change, count, every, first, has, passes, without, without_first}
+use Rattle.lpc_base.proofs.RowWords.{count-left, every-unless, none-counted}
 
 -- first
 -- what is found with one row more was found before, or is that row
@@ -95,36 +96,20 @@ pub has-without_first : {X : Type 0} (p test : X → Bool) (xs : List X) (y : X)
 has-without_first p test [] y is off one = absurd (cc)
 has-without_first p test (x ∷ xs) y is off one = grind (arith, has-without_first p test xs y)
 
-pub has_none-without_first : {X : Type 0} (p test : X → Bool) (xs : List X) → has p xs ≡ false → has p (without_first test xs) ≡ false
-has_none-without_first p test [] none = refl
-has_none-without_first p test (x ∷ xs) none = grind (arith, has_none-without_first p test xs)
-
 pub without_first-push : {X : Type 0} (test : X → Bool) (xs : List X) (y : X) → has test xs ≡ false → test y ≡ true → without_first test (xs ++ y ∷ []) ≡ xs
 without_first-push test [] y none is = grind arith
 without_first-push test (x ∷ xs) y none is = grind (arith, without_first-push test xs y)
 
 -- counts
-pub count_none : {X : Type 0} (p : X → Bool) (xs : List X) → count p xs ≤ 0 → has p xs ≡ false
-count_none p [] few = refl
-count_none p (x ∷ xs) few = grind (arith, count_none p xs)
-
 pub count-change : {X : Type 0} (p s : X → Bool) (f : X → X) → ((x : X) → p (f x) ≡ p x) → (xs : List X) → count p (change s f xs) ≡ count p xs
 count-change p s f same [] = refl
 count-change p s f same (x ∷ xs) = grind (arith, same x, count-change p s f same xs)
 
 -- fewer rows, no more that pass
-pub count-without : {X : Type 0} (p test : X → Bool) (xs : List X) → count p (without test xs) ≤ count p xs
-count-without p test [] = omega arith
-count-without p test (x ∷ xs) = grind (arith, count-without p test xs)
-
 pub count-less : {X : Type 0} (p test : X → Bool) (xs : List X) (n : ℕ) → count p xs ≤ n → count p (without test xs) ≤ n
-count-less p test xs n few = omega (arith, count-without p test xs)
+count-less p test xs n few = omega (arith, count-left p test xs)
 
 -- where one row alone passes, each row that does is that one
-none-pass : {X : Type 0} (p f : X → Bool) (xs : List X) → has p xs ≡ false → every (λ y. not (p y) || f y) xs ≡ true
-none-pass p f [] none = refl
-none-pass p f (x ∷ xs) none = grind (arith, none-pass p f xs)
-
 pub has-found : {X : Type 0} (p test : X → Bool) (xs : List X) (x : X) → first test xs ≡ Some x → p x ≡ true → has p xs ≡ true
 has-found p test [] x at is = absurd (cc)
 has-found p test (y ∷ ys) x at is = grind (arith, has-found p test ys x)
@@ -132,10 +117,10 @@ has-found p test (y ∷ ys) x at is = grind (arith, has-found p test ys x)
 lone-push : {X : Type 0} (p f test : X → Bool) (y : X) (ys : List X) (x : X) (t b : Bool) → test y ≡ t → p y ≡ b → count p (y ∷ ys) ≤ 1 → first test (y ∷ ys) ≡ Some x → p x ≡ true → f x ≡ true
     → (count p ys ≤ 1 → first test ys ≡ Some x → every (λ y. not (p y) || f y) ys ≡ true) → every (λ y. not (p y) || f y) (y ∷ ys) ≡ true
 lone-push p f test y ys x true true here on one at is will more =
-    let rest = none-pass p f ys (count_none p ys (grind arith)) in grind arith
+    let rest = every-unless p f ys (none-counted p ys (grind arith)) in grind arith
 lone-push p f test y ys x true false here off one at is will more = absurd (cc)
 lone-push p f test y ys x false true here on one at is will more =
-    let none = count_none p ys (grind arith) in
+    let none = none-counted p ys (grind arith) in
     let found = has-found p test ys x (grind arith) is in absurd (cc)
 lone-push p f test y ys x false false here off one at is will more = grind (arith, more)
 

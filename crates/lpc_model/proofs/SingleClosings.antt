@@ -1,9 +1,11 @@
 -- Basic steps keep what stands in queues of closings.
 use Rattle.std.proofs.Common.{◌≡◌, ℕ, ◌+◌, ◌≤◌, List, [], ◌∷◌, ◌++◌, Bool, true, false, cond, map, not, Option, Some, None, refl, sym, subst, arith}
+use Rattle.std.proofs.lemmas.Bool.{or_left}
 use Rattle.std.specs.Prelude.{◌&&◌, ◌||◌, nat_lt}
 use Rattle.lpc_base.specs.Rows.{count, every, first, has, which, without_first}
-use Rattle.lpc_base.proofs.RowWords.{count-push, every-change, every-more, every-push, every-without, first-passes, has-change, has_none-change, has_none-push, has_none-without}
+use Rattle.lpc_base.proofs.RowWords.{count-fewer, count-push, every-change, every-more, every-not, every-push, every-without, first-passes, has-change, has_none-change, has_none-push, has_none-without, has_none-without_first}
 use Rattle.lpc_base.proofs.RowMaps.{every-both, every-first, every-without_first}
+use Rattle.lpc_base.proofs.Births.{birth-same, births-apart}
 use Rattle.lpc_model.specs.declared.entry.ObjectKind.TheVariants as kind
 use Rattle.lpc_model.specs.World.{Birth, HandleRow, HandleTable, MessageRow, ObjectKind, ObjectName, WaitRow, World}
 use Rattle.lpc_model.specs.Found.{has_handle_to, has_value, is_connect, is_open, is_own_of, is_port, is_queued, is_queued_connect, is_sent_on, is_table, names_port, port_name, same_birth, same_kind, waits_as, waits_at}
@@ -14,13 +16,10 @@ use Rattle.lpc_model.specs.Closings.{is_closed_post}
 use Rattle.lpc_model.specs.SoundWaits.{is_connect_on}
 use Rattle.lpc_model.specs.Standing.{NamesWhatStands, names_object, stands_as}
 use Rattle.lpc_model.specs.SingleClosings.{HasSingleClosings, is_closing_of, is_shut}
-use Rattle.lpc_model.proofs.Rows.{count-less, has-append, has-off, has_none-without_first}
-use Rattle.lpc_model.proofs.Births.{birth-same}
+use Rattle.lpc_model.proofs.Rows.{count-less, has-append, has-off}
 use Rattle.lpc_model.proofs.SoundWorlds.{by_kind}
 use Rattle.lpc_model.proofs.SoundQueues.{after-append}
-use Rattle.lpc_model.proofs.SoundCuts.{flip}
 use Rattle.lpc_model.proofs.Closing.{IsFewer}
-use Rattle.lpc_model.proofs.Standing.{off-each}
 use Rattle.lpc_model.proofs.Told.{AreHushed, is_hushed}
 
 -- What is kept
@@ -65,16 +64,12 @@ at-most k n one two = omega (arith, one, two)
 
 pub fewer-untold : (w v : World) → IsFewer w v → HasSingleClosings w → HasSingleClosings v
 fewer-untold w v l u =
-    untold-from w v (λ b off. subst (λ hs. is_open (record w { handles = hs }) b ≡ false) (sym l.handles) off) (λ b off. has-off (is_connect_on b) v.waits (l.waits (λ x. not (is_connect_on b x)) (off-each (is_connect_on b) w.waits off)))
+    untold-from w v (λ b off. subst (λ hs. is_open (record w { handles = hs }) b ≡ false) (sym l.handles) off) (λ b off. has-off (is_connect_on b) v.waits (l.waits (λ x. not (is_connect_on b x)) (every-not (is_connect_on b) w.waits off)))
     (l.messages (tells_shut w)) (λ b. at-most _ _ (l.counts (is_closing_of b)) (u.once b)) (l.waits (waits_shut w)) u
 
 -- Hushed steps
-first-fewer : {X : Type 0} (p test : X → Bool) (xs : List X) → count p (without_first test xs) ≤ count p xs
-first-fewer p test [] = omega arith
-first-fewer p test (x ∷ xs) = grind (arith, first-fewer p test xs)
-
 pub first-once : (p test : MessageRow → Bool) (ms : List MessageRow) → count p ms ≤ 1 → count p (without_first test ms) ≤ 1
-first-once p test ms few = at-most _ _ (first-fewer p test ms) few
+first-once p test ms few = at-most _ _ (count-fewer p test ms) few
 
 -- a message that tells of no closing counts for none
 mute-once : (b : Birth) (ms : List MessageRow) (m : MessageRow) → not (is_closed_post m) ≡ true → count (is_closing_of b) ms ≤ 1 → count (is_closing_of b) (ms ++ m ∷ []) ≤ 1
@@ -94,9 +89,6 @@ accepted-connect b reply = by_kind (λ x. is_connect_on b (accepted reply x) ≡
 accepted-shut : (w : World) (reply : List ℕ) (x : WaitRow) → waits_shut w x ≡ true → waits_shut w (accepted reply x) ≡ true
 accepted-shut w reply = by_kind (λ x. waits_shut w x ≡ true → waits_shut w (accepted reply x) ≡ true) (λ x m is. is) (λ x is. is) (λ x is. is) (λ x m is. is) (λ x m r is. is)
 
-either : (a b : Bool) → a ≡ true → (a || b) ≡ true
-either a b is = grind arith
-
 not-both : (a b : Bool) → not a ≡ true → not (a && b) ≡ true
 not-both a b is = grind arith
 
@@ -114,7 +106,7 @@ hushed-step w (Dies who status) is u = untold-from w (basic w (Dies who status))
 hushed-step w (Awaits x) is u = waits-untold w _ (λ b off. has_none-push (is_connect_on b) w.waits x off (other-connect b x is)) (λ all. every-push (waits_shut w) w.waits x all (not-both (is_connect x) (is_open w x.port) is)) u
 hushed-step w (Receives who queue) is u = waits-untold w _ (λ b off. rw (has-change (is_connect_on b) (waits_at who queue) received (λ x. refl) w.waits) off) (every-change (waits_shut w) (waits_at who queue) received (λ x is. is) w.waits) u
 hushed-step w (Accepts who reply) is u = waits-untold w _ (λ b off. rw (has-change (is_connect_on b) (waits_as who) (accepted reply) (accepted-connect b reply) w.waits) off) (every-change (waits_shut w) (waits_as who) (accepted reply) (accepted-shut w reply) w.waits) u
-hushed-step w (Enters m) is u = messages-untold w _ (λ all. every-push (tells_shut w) w.messages m all (either (not (is_closed_post m)) _ is)) (λ b. mute-once b w.messages m is (u.once b)) u
+hushed-step w (Enters m) is u = messages-untold w _ (λ all. every-push (tells_shut w) w.messages m all (or_left (not (is_closed_post m)) _ is)) (λ b. mute-once b w.messages m is (u.once b)) u
 hushed-step w (Takes q) is u = messages-untold w _ (every-without_first (tells_shut w) (is_queued q) w.messages) (λ b. first-once (is_closing_of b) (is_queued q) w.messages (u.once b)) u
 hushed-step w (TakesConnect q) is u = messages-untold w _ (every-without_first (tells_shut w) (is_queued_connect q) w.messages) (λ b. first-once (is_closing_of b) (is_queued_connect q) w.messages (u.once b)) u
 hushed-step w (Withdraws who) is u = messages-untold w _ (every-without (tells_shut w) (is_own_of who) w.messages) (λ b. count-less (is_closing_of b) (is_own_of who) w.messages 1 (u.once b)) u
@@ -230,7 +222,7 @@ added-untold w pid value access b untold alone u =
     telling m false mute is off = rw mute refl
     telling m true tells is off =
         let apart = apart-sender (same_birth m.sender b) (is_closed_post m) tells off in
-        tells-more w (basic w (AddsHandle pid (handle_row value (port_name b) access))) m (added-shut w pid (handle_row value (port_name b) access) m.sender (flip m.sender b apart)) (λ none. none) is
+        tells-more w (basic w (AddsHandle pid (handle_row value (port_name b) access))) m (added-shut w pid (handle_row value (port_name b) access) m.sender (births-apart m.sender b apart)) (λ none. none) is
 
     second-off : (c s : Bool) → c ≡ true → not (c && s) ≡ true → s ≡ false
     second-off c s one two = grind arith
@@ -239,7 +231,7 @@ added-untold w pid value access b untold alone u =
     waiting x false other is off = rw other refl
     waiting x true its is off =
         let apart = second-off (is_connect x) (same_birth x.port b) its off in
-        waits-more w (basic w (AddsHandle pid (handle_row value (port_name b) access))) x (added-shut w pid (handle_row value (port_name b) access) x.port (flip x.port b apart)) is
+        waits-more w (basic w (AddsHandle pid (handle_row value (port_name b) access))) x (added-shut w pid (handle_row value (port_name b) access) x.port (births-apart x.port b apart)) is
 
 -- a further handle to an open port
 pub further-untold : (w : World) (pid : ℕ) (h : HandleRow) → (same_kind h.object.kind kind.Port ≡ true → is_open w h.object.birth ≡ true) → HasSingleClosings w → HasSingleClosings (basic w (AddsHandle pid h))
@@ -273,4 +265,4 @@ offered-untold w x shut untold u =
     telling m false mute is off = rw mute refl
     telling m true tells is off =
         let apart = apart-sender (same_birth m.sender x.port) (is_closed_post m) tells off in
-        tells-more w (basic w (Awaits x)) m (λ off. off) (λ none. has_none-push (is_connect_on m.sender) w.waits x none (and-off (is_connect x) (same_birth x.port m.sender) (flip m.sender x.port apart))) is
+        tells-more w (basic w (Awaits x)) m (λ off. off) (λ none. has_none-push (is_connect_on m.sender) w.waits x none (and-off (is_connect x) (same_birth x.port m.sender) (births-apart m.sender x.port apart))) is

@@ -2,7 +2,8 @@
 use Rattle.std.proofs.Common.{◌≡◌, ◌∙◌, ℕ, ◌+◌, ◌≤◌, List, [], ◌∷◌, ◌++◌, Bool, true, false, cond, not, Some, refl, sym, subst, arith}
 use Rattle.std.specs.Prelude.{◌&&◌}
 use Rattle.lpc_base.specs.Rows.{count, has, when}
-use Rattle.lpc_base.proofs.RowWords.{count-none, count-push, every-more, first-passes}
+use Rattle.lpc_base.proofs.RowWords.{count-none, count-push, every-more, every-not, first-passes}
+use Rattle.lpc_base.proofs.Births.{birth-same}
 use Rattle.lpc_base.specs.declared.status.TheConstants.{INVALID_HANDLE}
 use Rattle.lpc_model.specs.World.{Birth, Creator, HandleRow, HandleTable, PortRow, ThreadRow, World}
 use Rattle.lpc_model.specs.Found.{handle_at, is_open, is_port, port_row, same_birth}
@@ -12,7 +13,6 @@ use Rattle.lpc_model.specs.Close.{close_handle, close_port, closed_row, is_last,
 use Rattle.lpc_model.specs.SoundWaits.{IsSoundWorld, is_connect_on}
 use Rattle.lpc_model.specs.SingleClosings.{HasSingleClosings, is_closing_of, is_shut}
 use Rattle.lpc_model.proofs.Rows.{has-off}
-use Rattle.lpc_model.proofs.Births.{birth-same}
 use Rattle.lpc_model.proofs.Holding.{Holds, bind_holds, found_ok}
 use Rattle.lpc_model.proofs.SoundQueues.{after-append}
 use Rattle.lpc_model.proofs.SoundLess.{IsLess}
@@ -20,7 +20,6 @@ use Rattle.lpc_model.proofs.SoundClosing.{five-shut, posted-less}
 use Rattle.lpc_model.proofs.SoundClose.{found-value, last-closes, shut-found}
 use Rattle.lpc_model.proofs.Closing.{behind, closed-is, cut-is, fewer-uncut, stage_five, uncut}
 use Rattle.lpc_model.proofs.OpenClose.{posted-messages, posted-pass}
-use Rattle.lpc_model.proofs.Standing.{off-each}
 use Rattle.lpc_model.proofs.SingleClosings.{dropped-shut, dropped-untold, fewer-untold, first-once, hushed-all, open-unconnected, open-untold, tells-more, tells_shut, waits-more, waits_shut}
 
 five-untold : (w : World) (b : Birth) → HasSingleClosings w → HasSingleClosings (stage_five w b)
@@ -60,7 +59,7 @@ module _ (w : World) (pid : ℕ) (r : HandleRow) (at : handle_at w pid r.value �
   stays_shut b off = dropped-shut closed pid r.value b (subst (λ (hs : List HandleTable). is_open (record w { handles = hs }) b ≡ false) (sym less.handles) off)
 
   no_connect : (b : Birth) → has (is_connect_on b) five.waits ≡ false → has (is_connect_on b) dropped.waits ≡ false
-  no_connect b none = has-off (is_connect_on b) closed.waits (less.waits (λ x. not (is_connect_on b x)) (off-each (is_connect_on b) five.waits none))
+  no_connect b none = has-off (is_connect_on b) closed.waits (less.waits (λ x. not (is_connect_on b x)) (every-not (is_connect_on b) five.waits none))
 
   -- so what is told names a port that is shut
   row_is : (p : PortRow) → port_row five closing ≡ Some p → p.birth ≡ closing

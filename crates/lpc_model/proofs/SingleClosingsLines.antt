@@ -3,8 +3,9 @@ use Rattle.std.proofs.Common.{◌≡◌, ℕ, List, [], ◌∷◌, Bool, true, f
 use Rattle.std.specs.Prelude.{◌&&◌, ◌||◌, ◌==◌, Result, Ok, Err}
 use Rattle.std.proofs.lemmas.Bool.{eqb-true}
 use Rattle.lpc_base.specs.Rows.{every, first, has, without}
-use Rattle.lpc_base.proofs.RowWords.{every-more, first-passes}
+use Rattle.lpc_base.proofs.RowWords.{every-more, every-not, first-passes}
 use Rattle.lpc_base.proofs.RowMaps.{every-first, every-kept}
+use Rattle.lpc_base.proofs.Births.{birth-same}
 use Rattle.lpc_base.specs.declared.limits.TheConstants.{MESSAGE_LIMIT}
 use Rattle.lpc_base.specs.declared.port_kind.PortKind.TheVariants.{Connection, Unnamed}
 use Rattle.lpc_base.specs.declared.status.Status.{Status}
@@ -30,14 +31,12 @@ use Rattle.lpc_model.specs.SoundWaits.{IsSoundWorld, can_stay_sound, is_connect_
 use Rattle.lpc_model.specs.Standing.{NamesWhatStands}
 use Rattle.lpc_model.specs.SingleClosings.{HasSingleClosings, StepsKeepSingleClosings, is_closing_of}
 use Rattle.lpc_model.proofs.Rows.{has-found}
-use Rattle.lpc_model.proofs.Births.{birth-same}
 use Rattle.lpc_model.proofs.Holding.{Holds, bind_holds, directed_holds, found_ok, holds_ok, settled_holds}
 use Rattle.lpc_model.proofs.Usable.{CanCall, can-call, handle-open}
 use Rattle.lpc_model.proofs.SoundWorlds.{by_kind}
 use Rattle.lpc_model.proofs.SoundQueues.{after-append}
 use Rattle.lpc_model.proofs.SoundAccept.{foreign-connect, unconnected}
 use Rattle.lpc_model.proofs.LinkedCalls.{unmade}
-use Rattle.lpc_model.proofs.Standing.{off-each}
 use Rattle.lpc_model.proofs.Told.{AreHushed, hushed-enter}
 use Rattle.lpc_model.proofs.ToldLines.{boot-hushed, datagram-hushed, die-hushed, dir-hushed, further-hushed, link-hushed, listen-hushed, query-hushed, receive-hushed, register-hushed, reply-hushed, request-hushed}
 use Rattle.lpc_model.proofs.SingleClosings.{added-untold, further-untold, hushed-all, offered-untold, open-stands, swept-untold, tells_shut}
@@ -81,7 +80,7 @@ next-shut w by c s n = at (is_open w (next_birth by)) refl
     at true is = let here = open-stands w (next_birth by) n is in let none = unmade w by c s in absurd (cc)
 
 next-alone : (w : World) (by : ThreadRow) → CanCall w by → IsSoundWorld w → every (λ x. not (is_connect_on (next_birth by) x)) w.waits ≡ true
-next-alone w by c s = off-each (is_connect_on (next_birth by)) w.waits (unconnected w by c s)
+next-alone w by c s = every-not (is_connect_on (next_birth by)) w.waits (unconnected w by c s)
 
 -- NtCreatePort
 making-untold : (w : World) (by : ThreadRow) (name : Option (List ℕ)) (value : ℕ) → CanCall w by → IsSoundWorld w → NamesWhatStands w → HasSingleClosings w → Holds (λ made. KeepUntold w (create_steps by made value)) (making w (next_birth by) name)

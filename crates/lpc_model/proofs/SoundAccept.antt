@@ -6,6 +6,7 @@ use Rattle.lpc_base.specs.Rows.{every, first, has}
 use Rattle.lpc_base.specs.declared.status.TheConstants.{PORT_CONNECTION_REFUSED, REPLY_MESSAGE_MISMATCH}
 use Rattle.lpc_base.proofs.RowWords.{first-passes, has-kept, has_none-more}
 use Rattle.lpc_base.proofs.RowMaps.{every-both, every-first, every-none}
+use Rattle.lpc_base.proofs.Births.{birth-self}
 use Rattle.lpc_model.specs.World.{Birth, Message, PortRow, ThreadRow, WaitRow, World}
 use Rattle.lpc_model.specs.Found.{free_handle, is_accepted, is_offered, is_server_port, is_port, port_name, same_birth, waits_as}
 use Rattle.lpc_model.specs.Basics.{AddsHandle, DrawsOrdinal, Makes, basic}
@@ -16,7 +17,6 @@ use Rattle.lpc_model.specs.Connect.{ConnectAnswer, answer_test, answered_steps, 
 use Rattle.lpc_model.specs.Refusal.{found_or}
 use Rattle.lpc_model.specs.SoundWaits.{IsSoundWorld, can_stay_sound, has_client_port, is_connect_on, lacks_connects}
 use Rattle.lpc_model.proofs.Rows.{has-found, has-off, lone}
-use Rattle.lpc_model.proofs.Births.{birth-self}
 use Rattle.lpc_model.proofs.Handles.{open-new}
 use Rattle.lpc_model.proofs.Holding.{Holds, bind_holds, found_ok, holds_ok}
 use Rattle.lpc_model.proofs.Usable.{CanCall}

@@ -4,8 +4,10 @@ use Rattle.std.specs.Prelude.{◌&&◌, ◌||◌, ◌==◌}
 use Rattle.lpc_base.specs.Rows.{count, every, first, has, passes, when}
 use Rattle.lpc_base.specs.declared.status.TheConstants.{INVALID_HANDLE}
 use Rattle.lpc_base.proofs.RowWords.{every-more, first-passes, has-change}
-use Rattle.std.proofs.lemmas.Bool.{eqb-true}
+use Rattle.std.proofs.lemmas.Bool.{and_from, eqb-true}
 use Rattle.lpc_base.proofs.RowMaps.{every-both}
+use Rattle.lpc_base.proofs.Bools.{first-true, second-true}
+use Rattle.lpc_base.proofs.Births.{birth-same, birth-self, births-apart}
 use Rattle.lpc_names.specs.Binding.{is_name}
 use Rattle.lpc_names.specs.Walk.{LinkTo, Stands}
 use Rattle.lpc_names.specs.declared.names.Found.TheVariants.{Directory, Item}
@@ -17,7 +19,6 @@ use Rattle.lpc_model.specs.Tests.{is_client, own_handle}
 use Rattle.lpc_model.specs.Close.{close_handle, close_port, is_last, nt_close}
 use Rattle.lpc_model.specs.SoundWaits.{IsSoundWorld, has_client_port, has_come, has_home, is_answerable, is_joined, is_message_of, leads_open, waiter_of}
 use Rattle.lpc_model.proofs.Rows.{count-change}
-use Rattle.lpc_model.proofs.Births.{birth-same, birth-self}
 use Rattle.lpc_model.proofs.Holding.{Holds, bind_holds, found_ok}
 use Rattle.lpc_model.proofs.SoundPairs.{tied-of}
 use Rattle.lpc_model.proofs.SoundWorlds.{InOrder, by_kind, is_sure, leads-kept, port-kept, sound-from, sound-kept, stands-same, sure-waits}
@@ -25,7 +26,6 @@ use Rattle.lpc_model.proofs.SoundQueues.{after-append}
 use Rattle.lpc_model.proofs.SoundCalls.{LeaveSound}
 use Rattle.lpc_model.proofs.SoundDrops.{count-open, drop-count, open-dropped, open-kept}
 use Rattle.lpc_model.proofs.Handles.{open-count}
-use Rattle.lpc_model.proofs.SoundCuts.{flip}
 use Rattle.lpc_model.proofs.SoundClosing.{IsShut, close-shut, is_apart_from}
 
 -- A handle that goes
@@ -94,7 +94,7 @@ accepted-parts c s t z one is = grind (arith, one)
 
 pair-open : (w v : World) (b : Birth) → ((c : Birth) → same_birth c b ≡ false → is_open w c ≡ true → is_open v c ≡ true) → (o : Option Birth) → is_the b o ≡ false → passes o (is_open w) ≡ true → passes o (is_open v) ≡ true
 pair-open w v b opens None off is = absurd (cc)
-pair-open w v b opens (Some c) off is = opens c (flip b c off) is
+pair-open w v b opens (Some c) off is = opens c (births-apart b c off) is
 
 abbrev pub OpensBut : World → World → Birth → Type 0
 OpensBut w v b = (c : Birth) → same_birth c b ≡ false → is_open w c ≡ true → is_open v c ≡ true
@@ -128,7 +128,7 @@ last-leads w v b opens (path, Stands (Item c)) is off = let apart : same_birth c
 
 -- behind the handle each other port is as open as before
 pub but-opens : (w : World) (pid : ℕ) (r : HandleRow) → count (is_table pid) w.handles ≤ 1 → handle_at w pid r.value ≡ Some r → OpensBut w (basic w (DropsHandle pid r.value)) r.object.birth
-but-opens w pid r one at c apart is = open-dropped w pid r.value r c one at (and-off (same_kind r.object.kind kind.Port) (same_birth r.object.birth c) (flip c r.object.birth apart)) is
+but-opens w pid r one at c apart is = open-dropped w pid r.value r c one at (and-off (same_kind r.object.kind kind.Port) (same_birth r.object.birth c) (births-apart c r.object.birth apart)) is
   where
     and-off : (k o : Bool) → o ≡ false → (k && o) ≡ false
     and-off k o off = grind arith
@@ -167,17 +167,8 @@ close-sound w by value s =
     close_handle-sound w by.process r (found-value w by.process value r (found_ok (handle_at w by.process value) INVALID_HANDLE r is)) s)
 
 -- A handle that goes as the last one closes its port.
-first-true : (a b : Bool) → (a && b) ≡ true → a ≡ true
-first-true a b is = grind arith
-
-second-true : (a b : Bool) → (a && b) ≡ true → b ≡ true
-second-true a b is = grind arith
-
-both-true : (a b : Bool) → a ≡ true → b ≡ true → (a && b) ≡ true
-both-true a b one two = grind arith
-
 last-own : (w : World) (r : HandleRow) → is_last r w ≡ true → names_port r.object.birth r.object ≡ true
-last-own w r is = both-true (same_kind r.object.kind kind.Port) (same_birth r.object.birth r.object.birth) (first-true (same_kind r.object.kind kind.Port) (handle_count w r.object == 1) is) (birth-self r.object.birth)
+last-own w r is = and_from (same_kind r.object.kind kind.Port) (same_birth r.object.birth r.object.birth) (first-true (same_kind r.object.kind kind.Port) (handle_count w r.object == 1) is) (birth-self r.object.birth)
 
 last-count : (w : World) (r : HandleRow) → is_last r w ≡ true → count (λ h. names_port r.object.birth h.object) (all_handles w) ≡ 1
 last-count w r is =

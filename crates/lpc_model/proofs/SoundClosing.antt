@@ -3,7 +3,7 @@ use Rattle.std.proofs.Common.{◌≡◌, ◌∙◌, List, [], ◌∷◌, ◌++�
 use Rattle.std.specs.Prelude.{◌&&◌, ◌||◌, option_and_then, option_map}
 use Rattle.lpc_base.specs.Rows.{change, each, every, first, given, which}
 use Rattle.lpc_base.specs.declared.status.TheConstants.{LPC_REPLY_LOST, PORT_CONNECTION_REFUSED, PORT_DISCONNECTED, SUCCESS}
-use Rattle.lpc_base.proofs.RowWords.{every-more, every-without}
+use Rattle.lpc_base.proofs.RowWords.{every-any, every-more, every-without}
 use Rattle.lpc_base.proofs.RowMaps.{every-both}
 use Rattle.lpc_names.specs.Binding.{is_name}
 use Rattle.lpc_model.specs.World.{Birth, Creator, PortRow, WaitRow, World}
@@ -14,7 +14,7 @@ use Rattle.lpc_model.specs.Entering.{enter, given_steps, shown, takes, woken}
 use Rattle.lpc_model.specs.Close.{close_port, closed_row, cut_pair, drop_name, empty_queue, end_accepted, end_offered, end_receives, end_request, end_requests, is_accepted_across, is_across, is_offered_to, is_queued_request, is_receive_across, is_receiver, is_request_across, is_request_on, post_closed, server_of, closing_post, wake}
 use Rattle.lpc_model.specs.SoundWaits.{IsSoundWorld}
 use Rattle.lpc_model.proofs.Rows.{every-left}
-use Rattle.lpc_model.proofs.SoundPairs.{every-any, tied}
+use Rattle.lpc_model.proofs.SoundPairs.{tied}
 use Rattle.lpc_model.proofs.SoundWorlds.{by_kind}
 use Rattle.lpc_model.proofs.SoundCalls.{entered-sound}
 use Rattle.lpc_model.proofs.Closing.{fewer-accepts, stage_five, stage_four, stage_one, stage_three, stage_two, then-holds, unasked, uncut, unreceived}

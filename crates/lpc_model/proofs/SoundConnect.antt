@@ -4,6 +4,7 @@ use Rattle.std.specs.Prelude.{◌&&◌, ◌==◌, Some, Result, Ok, Err}
 use Rattle.std.proofs.lemmas.Bool.Decides.{nat_tests}
 use Rattle.lpc_base.specs.Rows.{every, has}
 use Rattle.lpc_base.proofs.RowWords.{every-more, every-push, has-push}
+use Rattle.lpc_base.proofs.Births.{birth-self}
 use Rattle.lpc_names.specs.declared.fault.NameFault.{NameFault}
 use Rattle.lpc_names.specs.Binding.{has_name}
 use Rattle.lpc_names.specs.Walk.{LinkTo, Stands, lookup}
@@ -21,7 +22,6 @@ use Rattle.lpc_model.specs.Connect.{client_port, connect_steps, connect_wait, co
 use Rattle.lpc_model.specs.Then.{◌>>=◌}
 use Rattle.lpc_model.specs.SoundWaits.{IsSoundWorld, is_message_of, is_past, leads_open}
 use Rattle.lpc_model.proofs.Rows.{first-change, passes-change}
-use Rattle.lpc_model.proofs.Births.{birth-self}
 use Rattle.lpc_model.proofs.Holding.{Holds, bind_holds, holds_ok}
 use Rattle.lpc_model.proofs.Usable.{CanCall}
 use Rattle.lpc_model.proofs.SoundPairs.{is_apart, tied-awaits, tied-of}

@@ -1,10 +1,11 @@
 -- A connection that is cut, once what needs it has ended, keeps a world's waits sound.
 use Rattle.std.proofs.Common.{◌≡◌, List, [], ◌∷◌, ◌++◌, Bool, true, false, cond, not, Option, Some, None, refl, sym, subst, arith}
 use Rattle.std.specs.Prelude.{◌&&◌, ◌||◌, ◌==◌}
-use Rattle.std.proofs.lemmas.Bool.Decides.{nat_tests}
+use Rattle.std.proofs.lemmas.Bool.{and_from}
 use Rattle.lpc_base.specs.Rows.{change, each, every, has, passes, which, without}
 use Rattle.lpc_base.proofs.RowWords.{every-change, every-more, every-without, first-passes, has-change, has_none-without}
 use Rattle.lpc_base.proofs.RowMaps.{every-both, every-change_to}
+use Rattle.lpc_base.proofs.Births.{birth-same, birth-self, births-apart}
 use Rattle.lpc_model.specs.World.{Birth, PortRow, Receive, WaitRow, World}
 use Rattle.lpc_model.specs.Found.{is_accepted, is_client_port, is_open, is_port, is_server_port, is_the, pair_of, port_row, same_birth, waits_as}
 use Rattle.lpc_model.specs.Basics.{Cuts, basic, cut, is_end_of, world_after}
@@ -13,7 +14,6 @@ use Rattle.lpc_model.specs.Close.{end_accepted, is_accepted_across, is_receive_a
 use Rattle.lpc_model.specs.Connect.{is_accepted_on}
 use Rattle.lpc_model.specs.SoundWaits.{IsSoundWorld, has_come, is_sound_connect, waiter_of, is_awaited, is_connect_on, is_joined, lacks_connects}
 use Rattle.lpc_model.proofs.Rows.{count-less, every-left, first-change, first-map, has-without}
-use Rattle.lpc_model.proofs.Births.{birth-same, birth-self}
 use Rattle.lpc_model.proofs.Usable.{by_port_kind}
 use Rattle.lpc_model.proofs.SoundPairs.{IsTied, awaited-kept, cut-awaited, on-kept, tied, tied-of}
 use Rattle.lpc_model.proofs.SoundTies.{same-port}
@@ -150,9 +150,6 @@ the-same : (a b : Birth) (o : Option Birth) → is_the a o ≡ true → is_the b
 the-same a b None one two = absurd (cc)
 the-same a b (Some c) one two = let same : a ≡ c = birth-same a c one in let other : b ≡ c = birth-same b c two in rw (same, other) (birth-self c)
 
-pub flip : (a b : Birth) → same_birth a b ≡ false → same_birth b a ≡ false
-flip a b off = grind (arith, nat_tests)
-
 -- the other end of an awaited connection that isn't cut isn't cut either
 pub other-end : (w : World) (b : Birth) (p : PortRow) (c : Birth) → is_end_of b p ≡ false → p.pair ≡ Some c → is_the p.birth (pair_of w c) ≡ true → (same_birth c b ≡ false) × (is_the b (pair_of w c) ≡ false)
 other-end w b p c off some back = (apart, at (is_the b (pair_of w c)) refl)
@@ -167,7 +164,7 @@ other-end w b p c off some back = (apart, at (is_the b (pair_of w c)) refl)
     unpaired = second (is_port b p) (is_the b p.pair) off
 
     apart : same_birth c b ≡ false
-    apart = let one : same_birth b c ≡ false = rw some at unpaired in flip b c one
+    apart = let one : same_birth b c ≡ false = rw some at unpaired in births-apart b c one
 
     at : (x : Bool) → is_the b (pair_of w c) ≡ x → x ≡ false
     at true is =
@@ -233,15 +230,12 @@ none-accepted w b =
     parts : (t s : Bool) → (not t || s) ≡ true → not s ≡ true → not t ≡ true
     parts t s one two = grind arith
 
-both-parts : (a b : Bool) → a ≡ true → b ≡ true → (a && b) ≡ true
-both-parts a b one two = grind arith
-
 pub sound-parted : (w : World) (b : Birth) → every (is_free_of w b) w.waits ≡ true → IsSoundWorld w → IsSoundWorld (parted w b)
 sound-parted w b free s =
     let xs = which (is_accepted_across b w) w.waits in
     let v = parted w b in
-    sound-from v (every-both (λ y. is_sure w y && is_free_of w b y) (λ y. not (is_accepted_across b w y)) (is_sure (basic w (Cuts b))) (λ y one two. cut-sure w b y (first-true _ _ one) (both-parts _ _ (second-true _ _ one) two)) (rest xs w.waits)
-    (every-rest _ xs w.waits (every-both (is_sure w) (is_free_of w b) (λ y. is_sure w y && is_free_of w b y) (λ y one two. both-parts _ _ one two) w.waits (sure-waits w s) free)) (none-accepted w b))
+    sound-from v (every-both (λ y. is_sure w y && is_free_of w b y) (λ y. not (is_accepted_across b w y)) (is_sure (basic w (Cuts b))) (λ y one two. cut-sure w b y (first-true _ _ one) (and_from _ _ (second-true _ _ one) two)) (rest xs w.waits)
+    (every-rest _ xs w.waits (every-both (is_sure w) (is_free_of w b) (λ y. is_sure w y && is_free_of w b y) (λ y one two. and_from _ _ one two) w.waits (sure-waits w s) free)) (none-accepted w b))
     (once-rest xs w.waits s.once) (order-mapped w (λ p. cond (is_end_of b p) (cut p) p) (λ p. cut-birth (is_end_of b p) p) s) (tied-cut w b s.once (tied-of w s))
   where
     first-true : (x y : Bool) → (x && y) ≡ true → x ≡ true

@@ -7,6 +7,7 @@ use Rattle.lpc_base.specs.declared.status.Status.{Status}
 use Rattle.lpc_base.specs.declared.status.TheConstants.{LPC_REPLY_LOST, PORT_DISCONNECTED, SUCCESS}
 use Rattle.lpc_base.proofs.RowWords.{every-change, every-more, first-passes}
 use Rattle.lpc_base.proofs.RowMaps.{every-both, every-first, every-none}
+use Rattle.lpc_base.proofs.Births.{birth-same, birth-self}
 use Rattle.lpc_model.specs.declared.entry.CallName.TheVariants.{NtClose}
 use Rattle.lpc_model.specs.World.{Birth, Listen, Message, Receive, Request, ThreadRow, WaitRow, World}
 use Rattle.lpc_model.specs.Found.{is_accepted, is_connect, is_live_thread, is_made_on, is_open, is_receive, is_request, is_the, is_thread, live_thread, pair_of, same_birth, wait_of, waits_as, was_thread}
@@ -15,7 +16,6 @@ use Rattle.lpc_model.specs.Tests.{is_client}
 use Rattle.lpc_model.specs.Close.{cut_pair, end_accepted, end_request, is_accepted_across, is_receive_across, is_receiver, is_request_across, is_request_on, wake}
 use Rattle.lpc_model.specs.Death.{cut_accepted, die}
 use Rattle.lpc_model.specs.SoundWaits.{HasShutConnects, IsSoundWorld, has_home, is_past, is_sound_as, is_sound_wait, can_stay_sound, waiter_of}
-use Rattle.lpc_model.proofs.Births.{birth-same, birth-self}
 use Rattle.lpc_model.proofs.Rows.{every-left, lone}
 use Rattle.lpc_model.proofs.Closing.{behind, then-holds}
 use Rattle.lpc_model.proofs.SoundPairs.{is_quiet, tied, tied-of}

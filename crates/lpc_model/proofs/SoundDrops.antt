@@ -1,19 +1,13 @@
 -- A handle that goes leaves every other handle, and the ports open that it or another one keeps open.
-use Rattle.std.proofs.Common.{◌≡◌, ℕ, ◌+◌, ◌≤◌, List, [], ◌∷◌, ◌++◌, Bool, true, false, cond, Some, refl, arith}
+use Rattle.std.proofs.Common.{◌≡◌, ℕ, ◌+◌, ◌≤◌, List, [], ◌∷◌, Bool, true, false, cond, Some, refl, arith}
 use Rattle.std.specs.Prelude.{◌==◌}
 use Rattle.std.proofs.lemmas.Bool.Decides.{nat_tests}
 use Rattle.lpc_base.specs.Rows.{change, count, first, has, without_first}
-use Rattle.lpc_base.proofs.RowWords.{change-none}
+use Rattle.lpc_base.proofs.RowWords.{change-none, count-append, none-counted}
 use Rattle.lpc_model.specs.World.{Birth, HandleRow, HandleTable, World}
 use Rattle.lpc_model.specs.Found.{all_handles, handle_at, handles_in, has_value, is_open, is_table, names_port, rows_in}
 use Rattle.lpc_model.specs.Basics.{DropsHandle, basic, without_handle}
-use Rattle.lpc_model.proofs.Rows.{count_none}
 use Rattle.lpc_model.proofs.Handles.{has-each, open-count}
-
--- Counts of all handles
-pub count-append : {X : Type 0} (p : X → Bool) (xs ys : List X) → count p (xs ++ ys) ≡ count p xs + count p ys
-count-append p [] ys = grind arith
-count-append p (x ∷ xs) ys = grind (arith, count-append p xs ys)
 
 -- a row counts where it passes
 abbrev pub one_if : Bool → ℕ
@@ -38,7 +32,7 @@ drop-count p pid value (t ∷ ts) r one here = at (is_table pid t) refl (drop-co
     at : (b : Bool) → is_table pid t ≡ b → (count (is_table pid) ts ≤ 1 → first (has_value value) (rows_in (first (is_table pid) ts)) ≡ Some r → count p (handles_in (change (is_table pid) (without_handle value) ts)) + one_if (p r) ≡ count p (handles_in ts))
         → count p (handles_in (change (is_table pid) (without_handle value) (t ∷ ts))) + one_if (p r) ≡ count p (handles_in (t ∷ ts))
     at true is later =
-        let none : has (is_table pid) ts ≡ false = count_none (is_table pid) ts (grind arith) in
+        let none : has (is_table pid) ts ≡ false = none-counted (is_table pid) ts (grind arith) in
         let rest = change-none (is_table pid) (without_handle value) ts none in
         let row : first (has_value value) t.rows ≡ Some r = rw is at here in
         rw (is, rest, count-append p (without_first (has_value value) t.rows) (handles_in ts), count-append p t.rows (handles_in ts))

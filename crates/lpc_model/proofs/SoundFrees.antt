@@ -3,7 +3,7 @@ use Rattle.std.proofs.Common.{◌≡◌, ◌∙◌, ℕ, ◌+◌, ◌≤◌, Lis
 use Rattle.std.specs.Prelude.{◌&&◌, ◌==◌}
 use Rattle.std.proofs.lemmas.Bool.Decides.{nat_tests}
 use Rattle.lpc_base.specs.Rows.{count, every, first, has, which, without}
-use Rattle.lpc_base.proofs.RowWords.{every-more, every-without}
+use Rattle.lpc_base.proofs.RowWords.{count-left, every-more, every-without}
 use Rattle.lpc_base.proofs.RowMaps.{every-both}
 use Rattle.lpc_model.specs.declared.entry.ObjectKind.TheVariants as kind
 use Rattle.lpc_model.specs.World.{Birth, ObjectKind, ObjectName, PortRow, ThreadRow, World}
@@ -11,7 +11,7 @@ use Rattle.lpc_model.specs.Found.{all_registrations, handle_count, holders, is_c
 use Rattle.lpc_model.specs.Basics.{Frees, basic, freed, world_after}
 use Rattle.lpc_model.specs.Sweep.{free_unheld, is_unheld, sweep, unheld}
 use Rattle.lpc_model.specs.SoundWaits.{IsSoundWorld, has_home}
-use Rattle.lpc_model.proofs.Rows.{count-without, has-less}
+use Rattle.lpc_model.proofs.Rows.{has-less}
 use Rattle.lpc_model.proofs.Registrations.{dead-each, fewer-each}
 use Rattle.lpc_model.proofs.SoundPairs.{tied-of}
 use Rattle.lpc_model.proofs.SoundTies.{is_joined_to}
@@ -132,7 +132,7 @@ fewer-holders : (w : World) (g k : ObjectKind) (c b : Birth) → holders (freed 
 fewer-holders w kind.Port k c b = at k
   where
     at : (k : ObjectKind) → holders (freed w kind.Port c) k b ≤ holders w k b
-    at kind.Port = less _ _ _ _ _ _ (count-without (is_paired_to b) (is_port c) w.ports) (count-without (is_connected_to b) (is_port c) w.ports)
+    at kind.Port = less _ _ _ _ _ _ (count-left (is_paired_to b) (is_port c) w.ports) (count-left (is_connected_to b) (is_port c) w.ports)
     at kind.Section = omega arith
     at kind.Token = omega arith
     at kind.Process = omega arith
@@ -153,8 +153,8 @@ fewer-holders w kind.Thread k c b = at k
     at kind.Port = last-less _ _ _ _ _ _ (fewer-each (same_birth b) registered_by (λ t. same_birth t.birth c) w.threads)
     at kind.Section = omega arith
     at kind.Token = omega arith
-    at kind.Process = count-without (lives_by w b) (λ t. same_birth t.birth c) w.threads
-    at kind.Thread = count-without (is_life b) (λ t. same_birth t.birth c) w.threads
+    at kind.Process = count-left (lives_by w b) (λ t. same_birth t.birth c) w.threads
+    at kind.Thread = count-left (is_life b) (λ t. same_birth t.birth c) w.threads
 
 same-handles : (w : World) (g : ObjectKind) (c : Birth) (o : ObjectName) → handle_count (freed w g c) o ≡ handle_count w o
 same-handles w kind.Port c o = refl

@@ -4,7 +4,7 @@ use Rattle.std.specs.Prelude.{◌&&◌, ◌||◌}
 use Rattle.std.proofs.lemmas.Bool.Decides.{nat_tests}
 use Rattle.lpc_base.specs.Rows.{each, every, has, which, without}
 use Rattle.lpc_base.specs.declared.status.Status.{Status}
-use Rattle.lpc_base.proofs.RowWords.{every-more, every-without, has_none-without}
+use Rattle.lpc_base.proofs.RowWords.{every-any, every-more, every-without, has_none-without, none-counted}
 use Rattle.lpc_base.proofs.RowMaps.{every-both}
 use Rattle.lpc_names.specs.Binding.{is_name}
 use Rattle.lpc_model.specs.declared.entry.Field.{Field}
@@ -14,8 +14,8 @@ use Rattle.lpc_model.specs.Basics.{Basic, Empties, Unbinds, Withdraws, basic, wo
 use Rattle.lpc_model.specs.Entering.{woken}
 use Rattle.lpc_model.specs.Close.{is_offered_to, is_queued_request}
 use Rattle.lpc_model.specs.SoundWaits.{IsSoundWorld, is_message_of, leads_open}
-use Rattle.lpc_model.proofs.Rows.{count_none, every-left, has-without}
-use Rattle.lpc_model.proofs.SoundPairs.{every-any, is_quiet, tied-of}
+use Rattle.lpc_model.proofs.Rows.{every-left, has-without}
+use Rattle.lpc_model.proofs.SoundPairs.{is_quiet, tied-of}
 use Rattle.lpc_model.proofs.SoundWorlds.{WaitOnce, by_kind, is_sure, order-of, sound-from, sure-waits}
 use Rattle.lpc_model.proofs.SoundBasics.{sound-wakes-quiet}
 use Rattle.lpc_model.proofs.SoundQueues.{after-append, listen-sure, receive-sure, with_messages}
@@ -151,7 +151,7 @@ once-tail : (z : WaitRow) (zs : List WaitRow) → WaitOnce (z ∷ zs) → WaitOn
 once-tail z zs once tid = let few = once tid in grind arith
 
 once-head : (z : WaitRow) (zs : List WaitRow) → WaitOnce (z ∷ zs) → has (waits_as z.thread) zs ≡ false
-once-head z zs once = let few = once z.thread in let own = own-thread z in count_none (waits_as z.thread) zs (grind arith)
+once-head z zs once = let few = once z.thread in let own = own-thread z in none-counted (waits_as z.thread) zs (grind arith)
 
 unshared : (z : WaitRow) (zs : List WaitRow) (test : WaitRow → Bool) → every (λ y. not (waits_as z.thread y)) zs ≡ true → shares (which test zs) z ≡ false
 unshared z [] test off = refl

@@ -1,11 +1,12 @@
 -- The step of each line leaves sound waits behind, and so does each line of a script.
-use Rattle.std.proofs.Common.{◌≡◌, ℕ, List, [], ◌∷◌, ◌++◌, Bool, true, false, refl, subst, arith}
+use Rattle.std.proofs.Common.{◌≡◌, ℕ, List, [], ◌∷◌, ◌++◌, true, false, refl, subst, arith}
 use Rattle.std.specs.Prelude.{◌||◌, ◌==◌, Option, Some, None, is_some}
 use Rattle.std.proofs.lemmas.Bool.{eqb-true}
 use Rattle.std.proofs.lemmas.Bool.Decides.{nat_tests}
 use Rattle.lpc_base.specs.Rows.{first, has}
 use Rattle.lpc_base.proofs.RowWords.{first-passes, has-push}
 use Rattle.lpc_base.proofs.RowMaps.{every-first}
+use Rattle.lpc_base.proofs.Bools.{first-off, second-off}
 use Rattle.lpc_base.specs.declared.status.TheConstants.{OBJECT_NAME_COLLISION}
 use Rattle.lpc_model.specs.declared.entry.Word.TheVariants as word
 use Rattle.lpc_model.specs.World.{Birth, ProcessRow, ThreadRow, WaitRow, World, no_rows}
@@ -101,19 +102,13 @@ thread-sound w tid call None live s shut = s
 thread-sound w tid call (Some by) live s shut = ready-sound w by call (wait_of w tid) (λ idle. can-call w tid by live idle s) s shut
 
 -- Directives
-first-unused : (a b : Bool) → (a || b) ≡ false → a ≡ false
-first-unused a b off = grind arith
-
-second-unused : (a b : Bool) → (a || b) ≡ false → b ≡ false
-second-unused a b off = grind arith
-
 boot-sound : (w : World) (pid tid : ℕ) → IsSoundWorld w → Holds (LeaveSound w) (boot_line w pid tid)
 unfolding boot_line
 boot-sound w pid tid s =
     bind_holds (unused_test w pid tid) _ (LeaveSound w) (λ u is.
     let neither = not_refused (was_process w pid || was_thread w tid) OBJECT_NAME_COLLISION u is in
-    let new = first-unused (was_process w pid) (was_thread w tid) neither in
-    let unused = second-unused (was_process w pid) (was_thread w tid) neither in
+    let new = first-off (was_process w pid) (was_thread w tid) neither in
+    let unused = second-off (was_process w pid) (was_thread w tid) neither in
     booted-sound w (new_process pid None (directive_birth pid pid)) tid (directive_birth tid pid) new unused s)
 
 further-sound : (w : World) (tid pid : ℕ) → IsSoundWorld w → Holds (LeaveSound w) (thread_line w tid pid)

@@ -5,6 +5,7 @@ use Rattle.std.proofs.lemmas.Bool.Decides.{nat_tests}
 use Rattle.lpc_base.specs.Rows.{first, has}
 use Rattle.lpc_base.specs.declared.status.TheConstants.{INVALID_PORT_HANDLE}
 use Rattle.lpc_base.proofs.RowWords.{first-passes, has_none-more}
+use Rattle.lpc_base.proofs.Births.{birth-same}
 use Rattle.lpc_model.specs.World.{Birth, MessageRow, ThreadRow, World}
 use Rattle.lpc_model.specs.Found.{is_connection_port, is_open, is_queued_connect, same_birth}
 use Rattle.lpc_model.specs.Fields.{h}
@@ -14,7 +15,6 @@ use Rattle.lpc_model.specs.Connect.{listen_steps, listen_wait, nt_listen_port}
 use Rattle.lpc_model.specs.Refusal.{refuse_if}
 use Rattle.lpc_model.specs.SoundWaits.{IsSoundWorld}
 use Rattle.lpc_model.proofs.Rows.{has-none}
-use Rattle.lpc_model.proofs.Births.{birth-same}
 use Rattle.lpc_model.proofs.Holding.{Holds, bind_holds, holds_ok}
 use Rattle.lpc_model.proofs.Usable.{CanCall, IsUsable, port-usable}
 use Rattle.lpc_model.proofs.SoundWorlds.{is_sure}

@@ -5,13 +5,13 @@ use Rattle.std.proofs.lemmas.Bool.Decides.{nat_tests}
 use Rattle.lpc_base.specs.Rows.{every, has, passes}
 use Rattle.lpc_base.proofs.RowWords.{every-more, every-without, first-passes}
 use Rattle.lpc_base.proofs.RowMaps.{every-both, every-change_to, every-map}
+use Rattle.lpc_base.proofs.Births.{birth-same}
 use Rattle.lpc_model.specs.World.{Accepted, Birth, Listen, PortRow, Receive, Request, WaitRow, World}
 use Rattle.lpc_model.specs.Found.{is_made_on, is_open, is_port, port_name, pair_of, port_row, same_birth, waits_as, was_thread}
 use Rattle.lpc_model.specs.Basics.{Accepts, Completes, Frees, Joins, accepted, basic, completed, joined, paired}
 use Rattle.lpc_model.specs.Tests.{is_client}
 use Rattle.lpc_model.specs.SoundWaits.{IsSoundWorld, has_client_port, is_joined, is_past, waiter_of}
 use Rattle.lpc_model.proofs.Rows.{count-change, first-map, first-without}
-use Rattle.lpc_model.proofs.Births.{birth-same}
 use Rattle.lpc_model.proofs.Usable.{by_port_kind}
 use Rattle.lpc_model.proofs.SoundPairs.{tied-of}
 use Rattle.lpc_model.proofs.SoundTies.{IsFree, is_joined_to, completed-birth, completed-pair, joined-birth, other-port, same-port, tied-accepted, tied-completed, tied-freed}

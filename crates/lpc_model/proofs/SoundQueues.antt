@@ -4,8 +4,9 @@ use Rattle.std.specs.Prelude.{◌&&◌, ◌||◌}
 use Rattle.std.proofs.lemmas.Bool.Decides.{nat_tests}
 use Rattle.lpc_base.specs.Rows.{every, first, given, has, when, without_first}
 use Rattle.lpc_base.specs.declared.status.TheConstants.{SUCCESS}
-use Rattle.lpc_base.proofs.RowWords.{every-change, every-more, first-passes, has-kept, has_none-more, has_none-push}
+use Rattle.lpc_base.proofs.RowWords.{every-change, every-more, first-passes, has-kept, has_none-more, has_none-push, has_none-without_first}
 use Rattle.lpc_base.proofs.RowMaps.{every-both, every-first, every-map, every-none}
+use Rattle.lpc_base.proofs.Births.{birth-self, birth-turned}
 use Rattle.lpc_model.specs.World.{Accepted, Birth, Connect, Listen, MessageRow, Receive, Request, WaitKind, WaitRow, World}
 use Rattle.lpc_model.specs.Found.{is_accepted, is_queued, is_queued_connect, same_birth, waits_as, waits_at}
 use Rattle.lpc_model.specs.Message.{asks, is_connection_request}
@@ -13,8 +14,7 @@ use Rattle.lpc_model.specs.Basics.{Basic, Enters, Receives, basic, received, wor
 use Rattle.lpc_model.specs.Entering.{enter, given_steps, received_steps, shown, take_connect_steps, take_steps, takes, woken}
 use Rattle.lpc_model.specs.Tests.{is_client}
 use Rattle.lpc_model.specs.SoundWaits.{IsSoundWorld, can_stay_sound, has_client_port, is_answerable, is_message_of, is_sound_accepted, is_sound_connect, is_sound_listen, is_sound_receive, is_sound_request, waiter_of}
-use Rattle.lpc_model.proofs.Rows.{count-change, has-append, has-without_first, has_none-without_first, lone, without_first-push}
-use Rattle.lpc_model.proofs.Births.{birth-self}
+use Rattle.lpc_model.proofs.Rows.{count-change, has-append, has-without_first, lone, without_first-push}
 use Rattle.lpc_model.proofs.SoundPairs.{IsTied, is_quiet, tied-changed, tied-of}
 use Rattle.lpc_model.proofs.SoundWorlds.{InOrder, WaitOnce, by_kind, is_sure, order-of, sound-from, sure-waits}
 use Rattle.lpc_model.proofs.SoundBasics.{sound-wakes-quiet}
@@ -39,11 +39,8 @@ sound-marked w true who q all once t ties =
 sound-marked w false who q all once t ties = sound-from w all once t ties
 
 -- the message of a wait that isn't marked is another one
-turned : (a b : Birth) → same_birth a b ≡ same_birth b a
-turned a b = grind (arith, nat_tests)
-
 other-message : (x : WaitRow) (m : MessageRow) → (asks m.message && waits_at m.message.header.client.thread m.queue x) ≡ false → is_message_of x m ≡ false
-other-message x m off = let same : same_birth m.queue x.queue ≡ same_birth x.queue m.queue = turned m.queue x.queue in grind arith
+other-message x m off = let same : same_birth m.queue x.queue ≡ same_birth x.queue m.queue = birth-turned m.queue x.queue in grind arith
 
 -- the waits of each kind among sound ones
 abbrev pub is_sure_request : World → WaitRow → Bool

@@ -1,10 +1,10 @@
 -- NtReplyWaitReceivePort leaves sound waits behind.
 use Rattle.std.proofs.Common.{◌≡◌, ℕ, List, [], ◌∷◌, Bool, true, false, not, refl, sym, ap, subst, arith}
 use Rattle.std.specs.Prelude.{◌&&◌, Option, Some, None}
-use Rattle.std.proofs.lemmas.Bool.Decides.{nat_tests}
 use Rattle.lpc_base.specs.Rows.{first, has, passes, without}
 use Rattle.lpc_base.specs.declared.status.TheConstants.{PORT_DISCONNECTED}
 use Rattle.lpc_base.proofs.RowWords.{first-passes, has_none-more}
+use Rattle.lpc_base.proofs.Births.{birth-same, births-apart}
 use Rattle.lpc_model.specs.World.{Birth, Message, MessageRow, PortRow, ThreadRow, WaitRow, World}
 use Rattle.lpc_model.specs.Found.{is_open, port_row, is_queued, queue_of, same_birth, wait_of, waits_as}
 use Rattle.lpc_model.specs.Basics.{Awaits, Basic, world_after}
@@ -15,7 +15,6 @@ use Rattle.lpc_model.specs.Refusal.{found_or, refuse_if}
 use Rattle.lpc_model.specs.SoundWaits.{IsSoundWorld, is_joined}
 use Rattle.lpc_model.proofs.Rows.{first-less, has-none}
 use Rattle.lpc_model.proofs.Holding.{Holds, bind_holds, found_ok, holds_ok, not_refused}
-use Rattle.lpc_model.proofs.Births.{birth-same}
 use Rattle.lpc_model.proofs.Usable.{CanCall, IsUsable, port-usable, queue-open, unspent}
 use Rattle.lpc_model.proofs.SoundWorlds.{is_sure}
 use Rattle.lpc_model.proofs.SoundBasics.{sound-awaits}
@@ -55,9 +54,6 @@ can-wait w port u =
 receive-parts : (c o q h j : Bool) → c ≡ true → o ≡ true → q ≡ true → h ≡ false → j ≡ true → ((c && (o && (q && (not h && j)))) && true) ≡ true
 receive-parts c o q h j one two three four five = grind arith
 
-turned : (a b : Birth) → same_birth a b ≡ false → same_birth b a ≡ false
-turned a b off = grind (arith, nat_tests)
-
 -- it takes nothing of another queue
 not-taken : (by : ThreadRow) (port queue : Birth) (m : MessageRow) → same_birth queue m.queue ≡ false → takes m (receive_wait by port queue) ≡ false
 not-taken by port queue m off = grind arith
@@ -65,7 +61,7 @@ not-taken by port queue m off = grind arith
 receive-sure : (w : World) (by : ThreadRow) (port : PortRow) (queue : Birth) → is_client w (client_of by) ≡ true → CanWait w port queue → first (is_queued queue) w.messages ≡ None → is_sure w (receive_wait by port.birth queue) ≡ true
 receive-sure w by port queue client c none =
     let x = receive_wait by port.birth queue in
-    let nothing = has_none-more (is_queued queue) (λ m. takes m x) (λ m off. not-taken by port.birth queue m (turned m.queue queue off)) w.messages (has-none (is_queued queue) w.messages none) in
+    let nothing = has_none-more (is_queued queue) (λ m. takes m x) (λ m off. not-taken by port.birth queue m (births-apart m.queue queue off)) w.messages (has-none (is_queued queue) w.messages none) in
     let joined : passes (port_row w port.birth) is_joined ≡ true = rw c.usable.stands (c.unspent none) in
     receive-parts (is_client w (client_of by)) (is_open w port.birth) (is_open w queue) (has (λ m. takes m x) w.messages) (passes (port_row w port.birth) is_joined)
     client c.usable.opens c.opens nothing joined

@@ -4,6 +4,7 @@ use Rattle.std.specs.Prelude.{◌&&◌}
 use Rattle.std.proofs.lemmas.Bool.Decides.{nat_tests}
 use Rattle.lpc_base.specs.Rows.{has}
 use Rattle.lpc_base.proofs.RowWords.{every-more, every-push, has-push}
+use Rattle.lpc_base.proofs.Births.{birth-self}
 use Rattle.lpc_message.specs.declared.kind.TheConstants.{REQUEST}
 use Rattle.lpc_model.specs.World.{Birth, Message, PortRow, ThreadRow, World}
 use Rattle.lpc_model.specs.Found.{is_open}
@@ -13,7 +14,6 @@ use Rattle.lpc_model.specs.Tests.{client_of, is_client}
 use Rattle.lpc_model.specs.Request.{Sendable, nt_request_wait_reply_port, request_steps, request_wait, send_test, sent_by}
 use Rattle.lpc_model.specs.SoundWaits.{IsSoundWorld, is_answerable, is_message_of}
 use Rattle.lpc_model.proofs.Holding.{Holds, bind_holds, holds_ok}
-use Rattle.lpc_model.proofs.Births.{birth-self}
 use Rattle.lpc_model.proofs.Usable.{CanCall, HasRoute}
 use Rattle.lpc_model.proofs.SoundPairs.{apart-other, tied-awaits, tied-of}
 use Rattle.lpc_model.proofs.SoundWorlds.{is_sure, order-of, sure-waits}

@@ -2,9 +2,11 @@
 use Rattle.std.proofs.Common.{◌≡◌, ℕ, ◌+◌, ◌≤◌, List, [], ◌∷◌, Bool, true, false, cond, map, not, Option, Some, None, refl, sym, subst, ◌∙◌, arith}
 use Rattle.std.specs.Prelude.{◌&&◌, ◌||◌, nat_lt}
 use Rattle.std.proofs.lemmas.Bool.Decides.{nat_tests}
+use Rattle.std.proofs.lemmas.Bool.{not-true}
 use Rattle.lpc_base.specs.Rows.{count, every, has, passes, which, without}
-use Rattle.lpc_base.proofs.RowWords.{every-append, every-change, every-more, every-push, every-which, every-without, first-passes, has-change, has-kept}
+use Rattle.lpc_base.proofs.RowWords.{every-any, every-append, every-change, every-more, every-push, every-which, every-without, first-passes, has-change, has-kept}
 use Rattle.lpc_base.proofs.RowMaps.{every-both, every-first, every-without_first}
+use Rattle.lpc_base.proofs.Births.{birth-same, births-apart}
 use Rattle.lpc_model.specs.declared.entry.ObjectKind.TheVariants as kind
 use Rattle.lpc_model.specs.World.{Birth, HandleRow, HandleTable, MessageRow, ObjectKind, ObjectName, PortRow, ProcessRow, ThreadRow, WaitRow, World}
 use Rattle.lpc_model.specs.Found.{all_handles, all_registrations, handle_count, has_value, holders, is_born_process, is_born_thread, is_connected_to, is_made_on, is_own_of, is_paired_to, is_port, is_queued, is_queued_connect, is_request, is_sent_on, is_table, is_the, is_thread, pointer_count, port_name, port_row, process_name, registered_by, same_birth, same_kind, same_object, thread_name, waits_as, waits_at}
@@ -12,12 +14,10 @@ use Rattle.lpc_model.specs.Basics.{Accepts, AddsHandle, AddsProcess, AddsThread,
 use Rattle.lpc_model.specs.Sweep.{free_unheld, is_unheld, sweep, unheld}
 use Rattle.lpc_model.specs.Standing.{NamesWhatStands, has_near_queue, is_near, names_object, port_stands, stands_as}
 use Rattle.lpc_model.proofs.Rows.{has-without, passes-change}
-use Rattle.lpc_model.proofs.Births.{birth-same}
-use Rattle.lpc_model.proofs.SoundPairs.{every-any}
 use Rattle.lpc_model.proofs.SoundWorlds.{by_kind}
 use Rattle.lpc_model.proofs.SoundQueues.{after-append}
 use Rattle.lpc_model.proofs.SoundFrees.{is-zero, less-held, none-pass, sum-first, sum-second, which-all}
-use Rattle.lpc_model.proofs.SoundCuts.{cut-row, flip}
+use Rattle.lpc_model.proofs.SoundCuts.{cut-row}
 use Rattle.lpc_model.proofs.SoundClosing.{is_cut_request}
 use Rattle.lpc_model.proofs.LinkedSteps.{push-passes}
 use Rattle.lpc_model.proofs.LinkedJoins.{row-freed}
@@ -198,10 +198,6 @@ cut-names w b free n =
     }
 
 -- A row that goes
-pub off-each : {X : Type 0} (p : X → Bool) (xs : List X) → has p xs ≡ false → every (λ x. not (p x)) xs ≡ true
-off-each p [] none = refl
-off-each p (x ∷ xs) none = grind (arith, off-each p xs)
-
 -- a port that isn't the one that goes stands
 port-left : (w : World) (b c : Birth) → same_birth c b ≡ false → has (is_port c) w.ports ≡ true → has (is_port c) (without (is_port b) w.ports) ≡ true
 port-left w b c off is = has-without (is_port c) (is_port b) w.ports (every-any (λ p. not (is_port b p) || not (is_port c p)) (λ p. apart p.birth) w.ports) is
@@ -246,9 +242,6 @@ handles-left w o few n =
     (λ t is off. every-both (names_object w) (λ h. not (same_object h.object o)) (names_object (basic w (Frees o))) (handle-left w o) t.rows is off) w.handles n.handles
     (sym (every-each (λ (h : HandleRow). not (same_object h.object o)) (λ (t : HandleTable). t.rows) w.handles) ∙ unnamed)
 
-not-true : (x : Bool) → not x ≡ true → x ≡ false
-not-true x is = grind arith
-
 port-names : (w : World) (b : Birth) → pointer_count w (port_name b) ≤ 0 → NamesWhatStands w → NamesWhatStands (basic w (Frees (port_name b)))
 port-names w b few n =
     let v = basic w (Frees (port_name b)) in
@@ -260,7 +253,7 @@ port-names w b few n =
       handles = handles-left w (port_name b) few n;
       senders = every-both (sent_on_port w) (λ m. not (is_sent_on b m)) (sent_on_port v) (λ m is off. port-left w b m.sender (not-true (same_birth m.sender b) off) is) w.messages n.senders sent;
       queues = every-both (has_near_queue w) (λ x. not (is_made_on b x)) (has_near_queue v) (λ x is off. rw (row-freed w b x.port (not-true (same_birth x.port b) off)) is) w.waits n.queues made;
-      registrations = every-both (port_stands w) (λ c. not (same_birth b c)) (port_stands v) (λ c is off. port-left w b c (flip b c (not-true (same_birth b c) off)) is) (all_registrations w) n.registrations unregistered;
+      registrations = every-both (port_stands w) (λ c. not (same_birth b c)) (port_stands v) (λ c is off. port-left w b c (births-apart b c (not-true (same_birth b c) off)) is) (all_registrations w) n.registrations unregistered;
     }
 
 pub gone-names : (w : World) (o : ObjectName) → is_unheld w o ≡ true → NamesWhatStands w → NamesWhatStands (basic w (Frees o))

@@ -1,9 +1,11 @@
 -- Each line keeps what rows name.
 use Rattle.std.proofs.Common.{Bool, List, None, Option, Some, [], arith, cond, false, map, not, refl, subst, sym, true, ℕ, ◌++◌, ◌∙◌, ◌∷◌, ◌≡◌}
+use Rattle.std.proofs.lemmas.Bool.{and_from}
 use Rattle.std.specs.Prelude.{◌&&◌, ◌||◌, is_none, is_some, option_and_then, option_map, Result, Ok, Err, if◌then◌else◌}
 use Rattle.lpc_base.specs.Rows.{change, every, first, given, has, passes, when}
 use Rattle.lpc_base.proofs.RowWords.{every-append, every-more, first-passes, has-change, has-push}
 use Rattle.lpc_base.proofs.RowMaps.{every-both, every-first}
+use Rattle.lpc_base.proofs.Births.{birth-same, birth-self}
 use Rattle.lpc_base.specs.declared.limits.TheConstants.{MESSAGE_LIMIT}
 use Rattle.lpc_base.specs.declared.port_kind.PortKind.TheVariants.{Connection, Unnamed}
 use Rattle.lpc_base.specs.declared.status.Status.{Status}
@@ -31,7 +33,6 @@ use Rattle.lpc_model.specs.Machine.{bare_steps, boot_line, dir_line, link_line, 
 use Rattle.lpc_model.specs.SoundWaits.{HasShutConnects, IsSoundWorld}
 use Rattle.lpc_model.specs.Linked.{IsLinked, is_lone_offer, is_unjoined}
 use Rattle.lpc_model.specs.Standing.{NamesWhatStands, StepsNameWhatStands, has_near_queue, is_near, names_object}
-use Rattle.lpc_model.proofs.Births.{birth-same, birth-self}
 use Rattle.lpc_model.proofs.Holding.{Holds, bind_holds, directed_holds, found_ok, holds_ok, settled_holds}
 use Rattle.lpc_model.proofs.Usable.{CanCall, IsUsable, by_port_kind, can-call, if-same, port-usable}
 use Rattle.lpc_model.proofs.SoundWorlds.{by_kind}
@@ -66,9 +67,6 @@ naming_holds : (w : World) (r : Result (List Basic) Status) → NamesWhatStands 
 naming_holds w (Ok bs) n all = naming-all w bs all n
 naming_holds w (Err s) n all = tt
 
-both-true : (a b : Bool) → a ≡ true → b ≡ true → (a && b) ≡ true
-both-true a b one two = grind arith
-
 -- Messages that enter
 naming-receipt : (w : World) (m : MessageRow) → AreNaming w (received_steps m)
 naming-receipt w m = at (asks m.message)
@@ -88,7 +86,7 @@ naming-given w m x =
 
 -- a message enters that was sent on a port that stands in one world, in a later one
 naming-enter : (w : World) (m : MessageRow) (v : World) → has (is_port m.sender) w.ports ≡ true → AreNaming w (enter m v)
-naming-enter w m v stands = both-true (has (is_port m.sender) w.ports) _ stands (at (first (takes m) v.waits))
+naming-enter w m v stands = and_from (has (is_port m.sender) w.ports) _ stands (at (first (takes m) v.waits))
   where
     at : (o : Option WaitRow) → AreNaming w (given o (λ x. given_steps x m ++ woken SUCCESS (shown x m) x ∷ []))
     at None = refl
@@ -174,7 +172,7 @@ connected-names w by connection bytes c s n =
     let made = basic drawn (Makes port) in
     let new = unmade w by c s in
     let near : has_near_queue made x ≡ true = rw (made-found drawn port new) (second-of (same_birth (next_birth by) connection) (same_birth connection connection) false (birth-self connection)) in
-    naming-all made (Awaits x ∷ enter (row_of connection port m) (basic made (Awaits x))) (both-true (has_near_queue made x) _ near (naming-enter made (row_of connection port m) (basic made (Awaits x)) (made-stands drawn port new)))
+    naming-all made (Awaits x ∷ enter (row_of connection port m) (basic made (Awaits x))) (and_from (has_near_queue made x) _ near (naming-enter made (row_of connection port m) (basic made (Awaits x)) (made-stands drawn port new)))
     (naming-all w (DrawsIdentifier by.number ∷ DrawsOrdinal by.number ∷ Makes port ∷ []) refl n)
 
 connect-names : (w : World) (by : ThreadRow) (name bytes : List ℕ) → CanCall w by → IsSoundWorld w → NamesWhatStands w → Holds (KeepNames w) (nt_connect_port w by name bytes)
@@ -329,7 +327,7 @@ request-names w by handle bytes =
     let m = sent_by by REQUEST s.message in
     let sent = holds_ok (IsSent w) (send_test w by handle bytes) s (send-names w by handle bytes) at in
     let near : has_near_queue w (request_wait by s.port.birth s.queue m) ≡ true = rw sent.usable.stands (way-near w by s.port.birth s.queue m s.port sent.near) in
-    both-true (has_near_queue w (request_wait by s.port.birth s.queue m)) _ near (naming-enter w (row_of s.queue s.port m) (world_after w (request_start by s.port.birth s.queue m)) (usable-stands w s.port sent.usable)))
+    and_from (has_near_queue w (request_wait by s.port.birth s.queue m)) _ near (naming-enter w (row_of s.queue s.port m) (world_after w (request_start by s.port.birth s.queue m)) (usable-stands w s.port sent.usable)))
 
 -- NtReplyPort
 reply-names : (w : World) (by : ThreadRow) (handle : ℕ) (bytes : List ℕ) → Holds (AreNaming w) (nt_reply_port w by handle bytes)
@@ -355,7 +353,7 @@ received-names w by port queue replied (Some m) all u at = every-append (is_nami
 received-names w by port queue replied None all u at =
     let x = receive_wait by port.birth queue in
     let near : has_near_queue w x ≡ true = rw u.stands (queue-near w x port at) in
-    every-append (is_naming w) replied _ all (both-true (has_near_queue w x) true near refl)
+    every-append (is_naming w) replied _ all (and_from (has_near_queue w x) true near refl)
 
 receive-names : (w : World) (by : ThreadRow) (handle : ℕ) (bytes : Option (List ℕ)) → Holds (AreNaming w) (nt_reply_wait_receive_port w by handle bytes)
 unfolding nt_reply_wait_receive_port
@@ -429,7 +427,7 @@ duplicate-names w by handle access n =
     bind_holds (own_handle w by handle) _ (AreNaming w) (λ r at.
     bind_holds (rights_test r (asked r access)) _ (AreNaming w) (λ _ _.
     bind_holds (handles_test w by.process 1) _ (AreNaming w) (λ _ _.
-    both-true (names_object w r) true (found-object w by.process handle r n (found_ok (handle_at w by.process handle) INVALID_HANDLE r at)) refl)))
+    and_from (names_object w r) true (found-object w by.process handle r n (found_ok (handle_at w by.process handle) INVALID_HANDLE r at)) refl)))
 
 query-names : (w : World) (by : ThreadRow) (handle : ℕ) → Holds (AreNaming w) (nt_query_object w by handle)
 unfolding nt_query_object
@@ -518,7 +516,7 @@ create-process-names w by pid tid n =
     let drawn : World = basic (basic w (DrawsOrdinal by.number)) (DrawsOrdinal by.number) in
     let made : World = basic (basic drawn (AddsProcess p)) (AddsThread t) in
     let bs = gives_life by (free_handle w by.process) (process_name p.birth) ∷ gives_life by (second_handle w by) (thread_name t.birth) ∷ [] in
-    naming-all made bs (both-true _ _ (has-push (is_born_process p.birth) drawn.processes p (birth-self p.birth)) (both-true _ _ (has-push (is_born_thread t.birth) drawn.threads t (birth-self t.birth)) refl))
+    naming-all made bs (and_from _ _ (has-push (is_born_process p.birth) drawn.processes p (birth-self p.birth)) (and_from _ _ (has-push (is_born_thread t.birth) drawn.threads t (birth-self t.birth)) refl))
     (naming-all w (DrawsOrdinal by.number ∷ DrawsOrdinal by.number ∷ AddsProcess p ∷ AddsThread t ∷ []) refl n))
 
 create-thread-names : (w : World) (by : ThreadRow) (target : ProcArg) (tid : ℕ) → NamesWhatStands w → Holds (KeepNames w) (nt_create_thread w by target tid)
@@ -528,7 +526,7 @@ create-thread-names w by target tid n =
     let drawn : World = basic w (DrawsOrdinal by.number) in
     let made : World = basic drawn (AddsThread t) in
     let bs = gives_life by (free_handle w by.process) (thread_name t.birth) ∷ [] in
-    naming-all made bs (both-true _ _ (has-push (is_born_thread t.birth) drawn.threads t (birth-self t.birth)) refl)
+    naming-all made bs (and_from _ _ (has-push (is_born_thread t.birth) drawn.threads t (birth-self t.birth)) refl)
     (naming-all w (DrawsOrdinal by.number ∷ AddsThread t ∷ []) refl n))
 
 -- Calls

@@ -1,10 +1,11 @@
 -- A port that no row names may go ahead of the sweep: the sweep leaves the same world.
-use Rattle.std.proofs.Common.{◌≡◌, ◌∙◌, ℕ, List, [], ◌∷◌, ◌++◌, Bool, true, false, map, not, Option, Some, None, refl, sym, ap, subst, arith}
+use Rattle.std.proofs.Common.{◌≡◌, ◌∙◌, ℕ, List, [], ◌∷◌, ◌++◌, Bool, true, false, map, not, Option, Some, None, refl, sym, ap, subst, arith, append-nil}
 use Rattle.std.specs.Prelude.{◌&&◌, ◌||◌, ◌==◌, is_none, if◌then◌else◌}
 use Rattle.std.proofs.lemmas.Bool.{eqb-true}
 use Rattle.lpc_base.specs.Rows.{every, first, has, which, without}
 use Rattle.lpc_base.proofs.RowWords.{every-append, every-more}
 use Rattle.lpc_base.proofs.RowMaps.{every-map}
+use Rattle.lpc_base.proofs.Births.{birth-same, birth-self}
 use Rattle.lpc_model.specs.declared.entry.ObjectKind.TheVariants as kind
 use Rattle.lpc_model.specs.World.{Birth, MessageRow, ObjectKind, ObjectName, PortRow, ProcessRow, ThreadRow, World}
 use Rattle.lpc_model.specs.Found.{all_registrations, is_connected_to, is_paired_to, is_port, is_the, kind_rank, object_names, port_name, process_name, same_birth, same_kind, same_object, thread_name}
@@ -15,7 +16,6 @@ use Rattle.lpc_model.specs.Basics.{Basic, Frees, basic, entries_of, freed, poste
 use Rattle.lpc_model.specs.Sweep.{free_unheld, is_unheld, sweep, unheld}
 use Rattle.lpc_model.specs.Linked.{AreLivesHeld, HasHeldPorts, HasHeldRows, IsLinked, names_nothing}
 use Rattle.lpc_model.proofs.Rows.{has-append, has-less, has-without}
-use Rattle.lpc_model.proofs.Births.{birth-same, birth-self}
 use Rattle.lpc_model.proofs.SoundQueues.{after-append}
 use Rattle.lpc_model.proofs.SoundFrees.{frees-registrations, less-held, which-all}
 use Rattle.lpc_model.proofs.Swept.{connected-end, found-self, is_held_aside, lonely, unheld-parts, without-same, without-twice}
@@ -354,21 +354,17 @@ also-posting : (bs cs : List Basic) → posts_of cs ≡ [] → posts_of (bs ++ c
 also-posting [] cs none = none
 also-posting (b ∷ bs) cs none = ap (λ ms. posted b ++ ms) (also-posting bs cs none)
 
-no-more : (bs : List Basic) → bs ++ [] ≡ bs
-no-more [] = refl
-no-more (b ∷ bs) = ap (λ cs. b ∷ cs) (no-more bs)
-
 sweep-tells : (w : World) → entries_of (sweep w) ≡ []
 unfolding sweep
 sweep-tells w =
     let v = world_after w (free_unheld w) in
-    frees-tell (unheld w) (free_unheld v) ∙ (ap entries_of (sym (no-more (free_unheld v))) ∙ frees-tell (unheld v) [])
+    frees-tell (unheld w) (free_unheld v) ∙ (ap entries_of (sym (append-nil (free_unheld v))) ∙ frees-tell (unheld v) [])
 
 sweep-posts : (w : World) → posts_of (sweep w) ≡ []
 unfolding sweep
 sweep-posts w =
     let v = world_after w (free_unheld w) in
-    frees-post (unheld w) (free_unheld v) ∙ (ap posts_of (sym (no-more (free_unheld v))) ∙ frees-post (unheld v) [])
+    frees-post (unheld w) (free_unheld v) ∙ (ap posts_of (sym (append-nil (free_unheld v))) ∙ frees-post (unheld v) [])
 
 stepped-same : (v u : World) (es fs : List Entry) (ms ns : List MessageRow) → v ≡ u → es ≡ fs → ms ≡ ns → let s : Stepped = record { world = v; entries = es; posts = ms } in let t : Stepped = record { world = u; entries = fs; posts = ns } in s ≡ t
 stepped-same v u es fs ms ns one two three = rw (one, two, three) refl

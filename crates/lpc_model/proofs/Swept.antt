@@ -3,16 +3,16 @@ use Rattle.std.proofs.Common.{◌≡◌, ◌∙◌, ℕ, ◌+◌, ◌≤◌, Lis
 use Rattle.std.specs.Prelude.{◌&&◌, ◌||◌, ◌==◌, is_none, is_some}
 use Rattle.std.proofs.lemmas.Bool.Decides.{nat_tests}
 use Rattle.lpc_base.specs.Rows.{count, every, first, has, which, without}
-use Rattle.lpc_base.proofs.RowWords.{every-more, first-passes, count-none}
+use Rattle.lpc_base.proofs.RowWords.{every-more, first-passes, count-none, none-counted, has-behind}
 use Rattle.lpc_base.proofs.RowMaps.{every-both, every-first, every-kept}
+use Rattle.lpc_base.proofs.Births.{birth-same, birth-self, birth-turned}
 use Rattle.lpc_model.specs.declared.entry.ObjectKind.TheVariants as kind
 use Rattle.lpc_model.specs.World.{Birth, ObjectKind, ObjectName, PortRow, World}
 use Rattle.lpc_model.specs.Found.{all_registrations, handle_count, is_connected_to, is_made_on, is_paired_to, is_port, is_sent_on, is_the, pair_of, port_name, port_row, process_name, same_birth, same_kind, same_object, thread_name}
 use Rattle.lpc_model.specs.Basics.{Frees, basic, freed, world_after}
 use Rattle.lpc_model.specs.Sweep.{free_unheld, is_unheld, sweep, unheld}
 use Rattle.lpc_model.specs.Linked.{HasHeldPorts, IsLinked, is_root_port, is_mutual, is_rooted, names_nothing, passes_or_none}
-use Rattle.lpc_model.proofs.Rows.{count_none, has-found, has-without}
-use Rattle.lpc_model.proofs.Births.{birth-same, birth-self}
+use Rattle.lpc_model.proofs.Rows.{has-found, has-without}
 use Rattle.lpc_model.proofs.SoundQueues.{after-append}
 use Rattle.lpc_model.proofs.SoundFrees.{frees-registrations, none-pass, which-all}
 
@@ -38,9 +38,6 @@ pub record IsFreed (w v : World) (os : List ObjectName) : Type 0 where
 
 listed-parts : (o : ObjectName) (os : List ObjectName) (p : PortRow) → is_listed (o ∷ os) p ≡ (same_object (port_name p.birth) o || is_listed os p)
 listed-parts o os p = grind arith
-
-flipped : (a b : Birth) → same_birth a b ≡ same_birth b a
-flipped a b = grind (arith, nat_tests)
 
 unlisted : (xs : List PortRow) → without (is_listed []) xs ≡ xs
 unlisted [] = refl
@@ -117,10 +114,6 @@ members w (z ∷ zs) = at (members w zs) (is_unheld w (port_name z.birth)) refl
         let own = own-name z in
         let rest = every-more (λ p. not (is_unheld w (port_name p.birth)) || is_listed (which (is_unheld w) (port_names zs)) p) (λ p. not (is_unheld w (port_name p.birth)) || is_listed (port_name z.birth ∷ which (is_unheld w) (port_names zs)) p) (λ p one. grind arith) zs later in grind arith
     at later false is = grind (arith, later)
-
-has-behind : {X : Type 0} (p g : X → Bool) (xs ys : List X) → has p (which g ys) ≡ true → has p (which g (xs ++ ys)) ≡ true
-has-behind p g [] ys is = is
-has-behind p g (x ∷ xs) ys is = grind (arith, has-behind p g xs ys)
 
 listed-ports : (w : World) → every (λ p. not (is_unheld w (port_name p.birth)) || is_listed (unheld w) p) w.ports ≡ true
 listed-ports w =
@@ -201,10 +194,10 @@ found-self [] one P holds = refl
 found-self (z ∷ zs) one P holds =
     let own = birth-self z.birth in
     let few = one z.birth in
-    let none : has (is_port z.birth) zs ≡ false = count_none (is_port z.birth) zs (grind arith) in
+    let none : has (is_port z.birth) zs ≡ false = none-counted (is_port z.birth) zs (grind arith) in
     let head : P z ≡ true = holds z (head-found own) in
     let later = found-self zs (λ b. fewer b (one b)) (λ r. same_birth z.birth r.birth || P r) (λ r at. by_birth r at (same_birth z.birth r.birth) refl) in
-    both-true _ _ head (every-both (λ r. same_birth z.birth r.birth || P r) (λ r. not (is_port z.birth r)) P (λ r is off. parts _ _ _ (flipped r.birth z.birth) is off) zs later (none-pass (is_port z.birth) zs (none-count zs none)))
+    both-true _ _ head (every-both (λ r. same_birth z.birth r.birth || P r) (λ r. not (is_port z.birth r)) P (λ r is off. parts _ _ _ (birth-turned r.birth z.birth) is off) zs later (none-pass (is_port z.birth) zs (none-count zs none)))
   where
     fewer : (b : Birth) → count (is_port b) (z ∷ zs) ≤ 1 → count (is_port b) zs ≤ 1
     fewer b few = grind arith

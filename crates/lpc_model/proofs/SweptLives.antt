@@ -2,14 +2,14 @@
 use Rattle.std.proofs.Common.{◌≡◌, ◌∙◌, ℕ, ◌+◌, ◌≤◌, List, [], ◌∷◌, ◌++◌, Bool, true, false, map, not, refl, sym, subst, arith}
 use Rattle.std.specs.Prelude.{◌&&◌, ◌||◌, ◌==◌}
 use Rattle.lpc_base.specs.Rows.{count, every, has, which, without}
-use Rattle.lpc_base.proofs.RowWords.{every-more, every-without}
+use Rattle.lpc_base.proofs.RowWords.{every-any, every-more, every-without, has-behind}
 use Rattle.lpc_base.proofs.RowMaps.{every-both}
+use Rattle.lpc_base.proofs.Births.{birth-same, birth-self}
 use Rattle.lpc_model.specs.declared.entry.ObjectKind.TheVariants as kind
 use Rattle.lpc_model.specs.World.{Birth, ObjectKind, ObjectName, PortRow, ProcessRow, ThreadRow, World}
 use Rattle.lpc_model.specs.Found.{handle_count, is_life, lives_by, pointer_count, port_name, process_name, same_birth, same_object, thread_name}
 use Rattle.lpc_model.specs.Basics.{Frees, basic, freed, world_after}
 use Rattle.lpc_model.specs.Sweep.{free_unheld, is_unheld, unheld}
-use Rattle.lpc_model.proofs.Births.{birth-same, birth-self}
 use Rattle.lpc_model.proofs.Rows.{every-left}
 use Rattle.lpc_model.proofs.SoundFrees.{is-zero, less-held, none-pass, sum-second, which-all}
 use Rattle.lpc_model.proofs.Sweeping.{is_among}
@@ -134,10 +134,6 @@ thinned name o os xs ys zs keeps off later = record {
   gone = every-both (λ x. not (same_object (name x) o)) (λ x. not (is_among os (name x))) (λ x. not (is_among (o ∷ os) (name x))) (λ x one two. listed-parts (name x) o os one two) zs (later.keeps (λ x. not (same_object (name x) o)) off) later.gone;
 }
 
-every-any : {X : Type 0} (p : X → Bool) → ((x : X) → p x ≡ true) → (xs : List X) → every p xs ≡ true
-every-any p any [] = refl
-every-any p any (x ∷ xs) = grind (arith, any x, every-any p any xs)
-
 thread-of : ThreadRow → ObjectName
 thread-of t = thread_name t.birth
 
@@ -186,10 +182,6 @@ members {X = X} w name own (z ∷ zs) = at (members w name own zs) (is_unheld w 
 has-front : {X : Type 0} (p g : X → Bool) (xs ys : List X) → has p (which g xs) ≡ true → has p (which g (xs ++ ys)) ≡ true
 has-front p g [] ys is = absurd (cc)
 has-front p g (x ∷ xs) ys is = grind (arith, has-front p g xs ys)
-
-has-behind : {X : Type 0} (p g : X → Bool) (xs ys : List X) → has p (which g ys) ≡ true → has p (which g (xs ++ ys)) ≡ true
-has-behind p g [] ys is = is
-has-behind p g (x ∷ xs) ys is = grind (arith, has-behind p g xs ys)
 
 listed-more : (u a b : Bool) → (a ≡ true → b ≡ true) → (not u || a) ≡ true → (not u || b) ≡ true
 listed-more u a b more is = grind (arith, more)

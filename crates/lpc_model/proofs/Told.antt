@@ -1,8 +1,10 @@
 -- What steps tell of closings, and what they close.
-use Rattle.std.proofs.Common.{◌≡◌, ◌∙◌, ℕ, List, [], ◌∷◌, ◌++◌, Bool, true, false, cond, map, not, Option, Some, None, refl, sym, ap, arith}
+use Rattle.std.proofs.Common.{◌≡◌, ◌∙◌, ℕ, List, [], ◌∷◌, ◌++◌, Bool, true, false, cond, map, not, Option, Some, None, refl, sym, ap, arith, append-nil, append_assoc}
+use Rattle.std.proofs.lemmas.Bool.{and_from}
 use Rattle.std.specs.Prelude.{◌&&◌, option_and_then, option_map}
 use Rattle.lpc_base.specs.Rows.{change, each, every, first, given, when, which}
 use Rattle.lpc_base.proofs.RowWords.{every-append, every-more, first-passes}
+use Rattle.lpc_base.proofs.Bools.{first-true, second-true}
 use Rattle.lpc_base.specs.declared.status.TheConstants.{PORT_DISCONNECTED, SUCCESS}
 use Rattle.lpc_model.specs.Message.{asks}
 use Rattle.lpc_model.specs.World.{Birth, Creator, HandleRow, MessageRow, ObjectName, PortRow, WaitRow, World}
@@ -64,15 +66,6 @@ pub which-append : {X : Type 0} (p : X → Bool) (xs ys : List X) → which p (x
 which-append p [] ys = refl
 which-append p (x ∷ xs) ys = grind (arith, which-append p xs ys)
 
-first-true : (x y : Bool) → (x && y) ≡ true → x ≡ true
-first-true x y is = grind arith
-
-second-true : (x y : Bool) → (x && y) ≡ true → y ≡ true
-second-true x y is = grind arith
-
-both-true : (a b : Bool) → a ≡ true → b ≡ true → (a && b) ≡ true
-both-true a b one two = grind arith
-
 calm-posts : (bs : List Basic) → AreCalm bs → which is_closed_post (posts_of bs) ≡ []
 calm-posts [] all = refl
 calm-posts (b ∷ bs) all =
@@ -80,19 +73,11 @@ calm-posts (b ∷ bs) all =
     let later = second-true (is_calm b) (every is_calm bs) all in
     rw (which-append is_closed_post (posted b) (posts_of bs), mute-basic b (second-true (is_dropless b) (is_mute b) here)) (calm-posts bs later)
 
-nil-right : {X : Type 0} (xs : List X) → xs ++ [] ≡ xs
-nil-right [] = refl
-nil-right (x ∷ xs) = grind (arith, nil-right xs)
-
 -- what is told of closings behind steps
-append-assoc : {X : Type 0} (xs ys zs : List X) → (xs ++ ys) ++ zs ≡ xs ++ (ys ++ zs)
-append-assoc [] ys zs = refl
-append-assoc (x ∷ xs) ys zs = grind (arith, append-assoc xs ys zs)
-
 pub told-append : (w : World) (xs ys : List Basic) → closings_posted w (xs ++ ys) ≡ closings_posted w xs ++ closings_posted (world_after w xs) ys
 told-append w [] ys = refl
 told-append w (x ∷ xs) ys =
-    ap (λ ms. each (closing_posts w) (closes w x) ++ ms) (told-append (basic w x) xs ys) ∙ sym (append-assoc (each (closing_posts w) (closes w x)) (closings_posted (basic w x) xs) (closings_posted (world_after (basic w x) xs) ys))
+    ap (λ ms. each (closing_posts w) (closes w x) ++ ms) (told-append (basic w x) xs ys) ∙ sym (append_assoc (each (closing_posts w) (closes w x)) (closings_posted (basic w x) xs) (closings_posted (world_after (basic w x) xs) ys))
 
 pub told-none : (w : World) (bs : List Basic) → every is_dropless bs ≡ true → closings_posted w bs ≡ []
 told-none w [] all = refl
@@ -102,7 +87,7 @@ told-none w (b ∷ bs) all =
     rw (dropless-basic w b here) (told-none (basic w b) bs later)
 
 pub told-before : (w : World) (xs ys : List Basic) → every is_dropless ys ≡ true → closings_posted w (xs ++ ys) ≡ closings_posted w xs
-told-before w xs ys all = told-append w xs ys ∙ (ap (λ ms. closings_posted w xs ++ ms) (told-none (world_after w xs) ys all) ∙ nil-right (closings_posted w xs))
+told-before w xs ys all = told-append w xs ys ∙ (ap (λ ms. closings_posted w xs ++ ms) (told-none (world_after w xs) ys all) ∙ append-nil (closings_posted w xs))
 
 told-behind : (w : World) (xs ys : List Basic) → every is_dropless xs ≡ true → closings_posted w (xs ++ ys) ≡ closings_posted (world_after w xs) ys
 told-behind w xs ys all = told-append w xs ys ∙ ap (λ ms. ms ++ closings_posted (world_after w xs) ys) (told-none w xs all)
@@ -147,7 +132,7 @@ calm-taken : (m : MessageRow) (o : Option WaitRow) → AreCalm (taken_steps m o)
 calm-taken m o = calm-all (taken_steps m o) (hushed-taken m o)
 
 pub hushed-enter : (m : MessageRow) (w : World) → not (is_closed_post m) ≡ true → AreHushed (enter m w)
-hushed-enter m w off = both-true _ _ off (hushed-taken m (first (takes m) w.waits))
+hushed-enter m w off = and_from _ _ off (hushed-taken m (first (takes m) w.waits))
 
 -- A port that is closed
 -- behind calm steps
@@ -285,7 +270,7 @@ handle-tells w pid r at s = by_last (is_last r w) refl
     dropped v last same is =
         let test : is_last r v ≡ last = same-last w v r same ∙ is in
         let closed : closes v (DropsHandle pid r.value) ≡ when last (r.object.birth ∷ []) = rw (shut-found w v pid r same at, test) refl in
-        nil-right (each (closing_posts v) (closes v (DropsHandle pid r.value))) ∙ ap (each (closing_posts v)) closed
+        append-nil (each (closing_posts v) (closes v (DropsHandle pid r.value))) ∙ ap (each (closing_posts v)) closed
 
     by_last : (last : Bool) → is_last r w ≡ last → TellsClosings w (when last (close_port r.object.birth w) ++ DropsHandle pid r.value ∷ [])
     by_last true is =
@@ -293,8 +278,8 @@ handle-tells w pid r at s = by_last (is_last r w) refl
         let bs = close_port b w in
         let v = world_after w bs in
         let shut = close-shut w b s in
-        let posts : which is_closed_post (posts_of (bs ++ DropsHandle pid r.value ∷ [])) ≡ closing_posts w b = rw (posts-append bs (DropsHandle pid r.value ∷ []), nil-right (posts_of bs)) (close-told w b s) in
+        let posts : which is_closed_post (posts_of (bs ++ DropsHandle pid r.value ∷ [])) ≡ closing_posts w b = rw (posts-append bs (DropsHandle pid r.value ∷ []), append-nil (posts_of bs)) (close-told w b s) in
         let closed : closings_posted w (bs ++ DropsHandle pid r.value ∷ []) ≡ closing_posts w b =
-        told-behind w bs (DropsHandle pid r.value ∷ []) (close-dropless w b) ∙ (dropped v true shut.handles is ∙ (nil-right (closing_posts v b) ∙ told-shut w v b shut.handles shut.ports)) in
+        told-behind w bs (DropsHandle pid r.value ∷ []) (close-dropless w b) ∙ (dropped v true shut.handles is ∙ (append-nil (closing_posts v b) ∙ told-shut w v b shut.handles shut.ports)) in
         posts ∙ sym closed
     by_last false off = sym (dropped w false refl off)

@@ -7,6 +7,7 @@ use Rattle.std.proofs.lemmas.Bool.Decides.{nat_tests}
 use Rattle.lpc_base.specs.Rows.{change, every, given, has, passes, when, without}
 use Rattle.lpc_base.proofs.RowWords.{every-more, first-passes, has-change}
 use Rattle.lpc_base.proofs.RowMaps.{every-first}
+use Rattle.lpc_base.proofs.Births.{birth-same}
 use Rattle.lpc_base.specs.declared.birth.Birth.{Birth}
 use Rattle.lpc_base.specs.declared.status.Status.{Status}
 use Rattle.lpc_message.specs.declared.kind.TheConstants.{CLIENT_DIED}
@@ -21,7 +22,6 @@ use Rattle.lpc_model.specs.Message.{asks}
 use Rattle.lpc_model.specs.SoundWaits.{HasShutConnects, can_stay_sound, has_client_port, waiter_of}
 use Rattle.lpc_model.specs.Tests.{is_client}
 use Rattle.lpc_model.specs.World.{MessageRow, ThreadRow, WaitRow, World}
-use Rattle.lpc_model.proofs.Births.{birth-same}
 use Rattle.lpc_model.proofs.Closing.{behind}
 use Rattle.lpc_model.proofs.DeathLines.{death-still, die-threads, is_still}
 use Rattle.lpc_model.proofs.Ending.{behind_dead, behind_told, die-pass, told-facts, turn-pass}

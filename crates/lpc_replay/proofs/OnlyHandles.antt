@@ -4,14 +4,14 @@ use Rattle.std.specs.Prelude.{◌&&◌, ◌||◌}
 use Rattle.std.proofs.lemmas.Bool.{eqb-true}
 use Rattle.lpc_base.specs.Rows.{change, count, each, every, first, has}
 use Rattle.lpc_base.specs.declared.birth.Birth.{Birth}
+use Rattle.lpc_base.proofs.Births.{birth-self}
+use Rattle.lpc_base.proofs.RowWords.{none-counted}
 use Rattle.lpc_model.specs.declared.entry.ObjectKind.TheVariants as kind
 use Rattle.lpc_model.specs.declared.entry.ObjectKind.{ObjectKind}
 use Rattle.lpc_model.specs.Basics.{DropsHandle, basic, without_handle}
 use Rattle.lpc_model.specs.Close.{is_last}
 use Rattle.lpc_model.specs.Found.{all_handles, handle_count, handles_of, has_handle_to, is_open, is_table, names_port, rows_in, same_birth, same_kind}
 use Rattle.lpc_model.specs.World.{HandleRow, HandleTable, World}
-use Rattle.lpc_model.proofs.Births.{birth-self}
-use Rattle.lpc_model.proofs.Rows.{count_none}
 use Rattle.lpc_model.proofs.SingleClosings.{dropped-shut}
 use Rattle.lpc_replay.specs.Connects.{is_only_with}
 
@@ -41,7 +41,7 @@ module _ (pid : ℕ) (test : HandleRow → Bool) (r : HandleRow) (rows : List Ha
   none_free [] few = refl
   none_free (t ∷ ts) few =
       let sum = counted t.rows (all_rows ts) in
-      both_free t ts (free_of t (count_none test t.rows (omega arith))) (none_free ts (omega arith))
+      both_free t ts (free_of t (none-counted test t.rows (omega arith))) (none_free ts (omega arith))
 
   -- it counts in the rows that begin with it
   counts_it : (xs : List HandleRow) → xs ≡ r ∷ rows → 1 ≤ count test xs
@@ -77,7 +77,7 @@ module _ (pid : ℕ) (test : HandleRow → Bool) (r : HandleRow) (rows : List Ha
           let sum = counted t.rows (all_rows ts) in
           let rest = later_rows t ts other same in
           let there = one_has ts rest in
-          both_free t ts (free_of t (count_none test t.rows (omega arith))) (later rest (omega arith))
+          both_free t ts (free_of t (none-counted test t.rows (omega arith))) (later rest (omega arith))
 
   one_table : (ts : List HandleTable) → rows_in (first (is_table pid) ts) ≡ r ∷ rows → has has_it ts ≡ true
   one_table [] same = absurd (cc)

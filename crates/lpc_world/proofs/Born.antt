@@ -7,11 +7,11 @@ use Rattle.lpc_base.specs.Rows.{change, count, every, first, has, without}
 use Rattle.lpc_base.proofs.Differ.{differ-push, differ-without}
 use Rattle.lpc_base.proofs.RowMaps.{every-first}
 use Rattle.lpc_base.proofs.RowWords.{count-none, count-push, every-change, every-more, every-push, every-without, has-change, has-kept, has-push}
+use Rattle.lpc_base.proofs.Births.{birth-same}
 use Rattle.lpc_model.specs.Basics.{past_ordinal}
 use Rattle.lpc_model.specs.Found.{is_born_process, is_born_thread, is_thread, same_birth}
 use Rattle.lpc_model.specs.Tests.{next_birth}
 use Rattle.lpc_model.specs.World.{ProcessRow, ThreadRow, UsedThread, World}
-use Rattle.lpc_model.proofs.Births.{birth-same}
 use Rattle.lpc_model.proofs.Rows.{count-change, count-less}
 use Rattle.lpc_world.specs.Lawful.{AreBorn, AreBornIn, can_begin, drew, drew_own, is_birth_of, is_noted, is_noted_process, is_numbered, was_drawn}
 use Rattle.lpc_world.proofs.Drawn.{not-drawn, unnoted, was-drawn-by, was-drawn-less, was-drawn-push}

@@ -7,12 +7,12 @@ use Rattle.lpc_base.specs.declared.birth.Birth.{Birth}
 use Rattle.lpc_base.specs.Rows.{change, every, first, given, has}
 use Rattle.lpc_base.proofs.RowMaps.{change-map, push-map, without-map}
 use Rattle.lpc_base.proofs.RowWords.{every-change, every-push, every-without}
+use Rattle.lpc_base.proofs.Births.{birth-self}
 use Rattle.lpc_model.specs.Basics as basics
 use Rattle.lpc_model.specs.Basics.{Registers, Unregisters, basic}
 use Rattle.lpc_model.specs.Found.{is_live_thread, is_thread, same_birth, waits_as}
 use Rattle.lpc_model.specs.World as model
 use Rattle.lpc_model.specs.World.{World}
-use Rattle.lpc_model.proofs.Births.{birth-self}
 use Rattle.lpc_procs.specs.Procs as procs
 use Rattle.lpc_procs.specs.declared.rows.Registration.{Registration}
 use Rattle.lpc_procs.specs.declared.rows.ThreadRow.{ThreadRow}

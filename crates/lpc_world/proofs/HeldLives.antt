@@ -5,11 +5,11 @@ use Rattle.std.proofs.lemmas.Bool.Decides.{nat_tests}
 use Rattle.lpc_base.specs.declared.birth.Birth.{Birth}
 use Rattle.lpc_base.specs.Rows.{count, every, has}
 use Rattle.lpc_base.proofs.RowWords.{every-more}
+use Rattle.lpc_base.proofs.Births.{birth-self}
 use Rattle.lpc_model.specs.World.{ObjectName, ProcessRow, ThreadRow, World}
 use Rattle.lpc_model.specs.Basics.{Frees, basic, world_after}
 use Rattle.lpc_model.specs.Found.{handle_count, holders, is_life, lives_by, lives_in, process_name, same_birth, thread_name}
 use Rattle.lpc_model.specs.Sweep.{is_unheld, sweep}
-use Rattle.lpc_model.proofs.Births.{birth-self}
 use Rattle.lpc_model.proofs.FreedFirst.{process_first, thread_first}
 use Rattle.lpc_model.proofs.SweptLives.{same-thread}
 use Rattle.lpc_homes.specs.Parts.{has_name_of}

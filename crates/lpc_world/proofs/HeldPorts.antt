@@ -17,7 +17,7 @@ use Rattle.lpc_model.specs.declared.entry.ObjectKind.TheVariants as kind
 use Rattle.lpc_model.specs.Linked.{HasHeldPorts, is_mutual}
 use Rattle.lpc_base.proofs.RowMaps.{every-first}
 use Rattle.lpc_base.proofs.RowWords.{every-without}
-use Rattle.lpc_model.proofs.Births.{birth-same, birth-self}
+use Rattle.lpc_base.proofs.Births.{birth-same, birth-self}
 use Rattle.lpc_model.proofs.OpenQueues.{queues_freed}
 use Rattle.lpc_model.proofs.Rows.{has-append, has-found}
 use Rattle.lpc_model.proofs.Standing.{gone-names, unheld_no_queue}

@@ -6,8 +6,8 @@ use Rattle.lpc_slots.specs.declared.Key.{Key}
 use Rattle.lpc_base.specs.Rows.{every, without}
 use Rattle.lpc_base.proofs.RowMaps.{every-both}
 use Rattle.lpc_base.proofs.RowWords.{every-push, every-without}
+use Rattle.lpc_base.proofs.Births.{birth-same, birth-self}
 use Rattle.lpc_model.specs.Found.{same_birth}
-use Rattle.lpc_model.proofs.Births.{birth-same, birth-self}
 use Rattle.lpc_slots.proofs.Keys as keys
 use Rattle.lpc_slots.specs.Table.{at_key, is_key}
 use Rattle.lpc_world.specs.Names.{Names, name_of, stands, differs, are_apart}

@@ -5,12 +5,12 @@ use Rattle.lpc_base.specs.declared.birth.Birth.{Birth}
 use Rattle.lpc_base.specs.Rows.{first, has, passes}
 use Rattle.lpc_base.proofs.RowMaps.{every-first, first-map, mapped-twice}
 use Rattle.lpc_base.proofs.RowWords.{first-passes}
+use Rattle.lpc_base.proofs.Births.{birth-same}
 use Rattle.lpc_model.specs.Close.{is_accepted_across, is_across, is_offered_to, is_queued_request, is_receive_across, is_receiver, is_request_across, is_request_on}
 use Rattle.lpc_model.specs.Found.{is_accepted, is_client_port, is_connect, is_made_on, is_offered, is_port, is_receive, is_request, is_taken, is_the, pair_of, port_row, same_birth, waits_as}
 use Rattle.lpc_model.specs.Linked.{is_mutual}
 use Rattle.lpc_model.specs.World as model
 use Rattle.lpc_model.specs.World.{PortRow, WaitRow, World}
-use Rattle.lpc_model.proofs.Births.{birth-same}
 use Rattle.lpc_slots.specs.Table.{is_key}
 use Rattle.lpc_slots.specs.declared.Key.{Key}
 use Rattle.lpc_waits.specs.Table as waits

@@ -5,13 +5,13 @@ use Rattle.std.proofs.lemmas.Bool.Decides.{nat_tests}
 use Rattle.lpc_base.specs.declared.birth.Birth.{Birth}
 use Rattle.lpc_base.specs.Rows.{count, has, without, without_first}
 use Rattle.lpc_base.proofs.RowWords.{count-none, count-push, has_none-more}
+use Rattle.lpc_base.proofs.Births.{birth-same, birth-self}
 use Rattle.lpc_model.specs.World.{MessageRow, PortRow, World}
 use Rattle.lpc_model.specs.declared.message.Message.{Message}
 use Rattle.lpc_model.specs.Message.{asks, tells_closing}
 use Rattle.lpc_model.specs.Closings.{is_closed_post}
 use Rattle.lpc_model.specs.Found.{is_client_port, is_port, is_sent_on, same_birth}
 use Rattle.lpc_model.specs.SingleClosings.{is_closing_of}
-use Rattle.lpc_model.proofs.Births.{birth-same, birth-self}
 use Rattle.lpc_world.specs.OwedClosings.{TellsOnce, is_client_of, is_owed}
 use Rattle.lpc_world.proofs.OwnMessages.{count-fewer, count-left, count-less, count-one_less, count-some}
 

@@ -5,10 +5,10 @@ use Rattle.std.specs.Prelude.{◌==◌, ◌&&◌, ◌||◌}
 use Rattle.lpc_base.specs.declared.birth.Birth.{Birth}
 use Rattle.lpc_base.specs.Rows.{every, has, without}
 use Rattle.lpc_base.proofs.RowMaps.{every-both, without-map}
-use Rattle.lpc_base.proofs.RowWords.{count-bound, every-more, every-off, every-without}
+use Rattle.lpc_base.proofs.RowWords.{count-bound, count-left, every-more, every-off, every-without}
 use Rattle.lpc_model.specs.World.{ProcessRow, ThreadRow, World}
 use Rattle.lpc_model.specs.Found.{is_born_process, is_born_thread, is_life, is_live_thread, is_process, lives_by, process_name, same_birth, thread_name}
-use Rattle.lpc_model.proofs.Rows.{count-without, has-without}
+use Rattle.lpc_model.proofs.Rows.{has-without}
 use Rattle.lpc_procs.specs.Procs as procs
 use Rattle.lpc_world.specs.Held.{has_holders}
 use Rattle.lpc_world.specs.Kept.{HandleRoom, Roomy, is_alive, rows_by}
@@ -27,7 +27,7 @@ AreOver goes ts = every (λ t. not (goes t) || not t.live) ts ≡ true
 
 lawful-less : (w : World) (calls made a b : ℕ) (goes : ThreadRow → Bool) → AreOver goes w.threads → IsLawful w calls made a b → IsLawful (record w { threads = without goes w.threads }) calls made a b
 lawful-less w calls made a b goes over h =
-    let fewer = count-without is_alive goes w.threads in
+    let fewer = count-left is_alive goes w.threads in
     record {
       few = h.few;
       budget = let budget = h.budget in omega (arith, budget, registered-less_threads goes w.threads);
@@ -130,7 +130,7 @@ module _ (it : Tables) (calls made : ℕ) (is : AreLawful it calls made) where
 -- The room
 module _ (a b c d e g : ℕ) (w : World) (hs : List HandleRoom) where
   pub room-less : (more : ℕ) (goes : ThreadRow → Bool) → b ≤ more → Roomy (room a b c d e g w hs) (room a more c d e g (record w { threads = without goes w.threads }) hs)
-  room-less more goes le = let fewer = count-without is_alive goes w.threads in let owed = registered-less_threads goes w.threads in record {
+  room-less more goes le = let fewer = count-left is_alive goes w.threads in let owed = registered-less_threads goes w.threads in record {
     for_processes = omega arith;
     for_threads = le;
     for_waits = omega (arith, fewer);
