@@ -1,25 +1,26 @@
 -- The steps of each line are in balance.
-use Rattle.std.proofs.Common.{◌≡◌, ℕ, List, [], ◌∷◌, ◌++◌, Bool, true, false, map, not, Option, Some, None, refl, sym, subst, arith}
+use Rattle.std.proofs.Common.{◌≡◌, ℕ, List, [], ◌∷◌, ◌++◌, Bool, true, false, not, Option, Some, None, refl, sym, subst, arith}
 use Rattle.std.specs.Prelude.{◌&&◌, option_and_then, option_map}
 use Rattle.lpc_base.specs.Rows.{each, every, given, when, which}
 use Rattle.lpc_base.proofs.RowWords.{every-append, every-more}
 use Rattle.lpc_base.specs.declared.birth.Birth.{Birth}
 use Rattle.lpc_base.specs.declared.status.Status.{Status}
 use Rattle.lpc_base.specs.declared.status.TheConstants.{LPC_REPLY_LOST, PORT_DISCONNECTED}
-use Rattle.lpc_model.specs.World.{Creator, HandleRow, MessageRow, ObjectName, PortRow, ThreadRow, WaitRow, World}
+use Rattle.lpc_model.specs.World.{Creator, HandleRow, MessageRow, PortRow, ThreadRow, WaitRow, World}
 use Rattle.lpc_model.specs.Message.{asks, message_of}
 use Rattle.lpc_model.specs.Found.{handles_of, is_accepted, is_live, port_row, wait_of}
-use Rattle.lpc_model.specs.Basics.{Basic, Cuts, Dies, DropsHandle, Empties, Frees, Steps, Unregisters, Withdraws, doing, end_each, in_turn, provided, world_after, ◌▹◌}
+use Rattle.lpc_model.specs.Basics.{Basic, Cuts, Dies, DropsHandle, Empties, Steps, Unregisters, Withdraws, doing, end_each, in_turn, provided, world_after, ◌▹◌}
 use Rattle.lpc_model.specs.Entering.{enter}
 use Rattle.lpc_model.specs.Close.{close_handle, close_port, closed_row, cut_pair, drop_name, empty_queue, end_accepted, end_offered, end_receives, end_request, end_requests, is_accepted_across, is_last, is_offered_to, is_queued_request, is_receive_across, is_receiver, is_request_across, is_request_on, post_closed, server_of, closing_post, wake}
 use Rattle.lpc_model.specs.Death.{cut_accepted, die, end_process, end_threads, post_death, post_deaths, death_post}
 use Rattle.lpc_model.specs.Lines.{ScriptLine}
-use Rattle.lpc_model.specs.Sweep.{free_unheld, sweep, unheld}
+use Rattle.lpc_model.specs.Sweep.{sweep}
 use Rattle.lpc_model.proofs.Closing.{behind}
 use Rattle.lpc_model.proofs.SoundQueues.{after-append}
 use Rattle.lpc_model.specs.Accounts.{Receipt}
 use Rattle.lpc_model.proofs.Balance.{AreBalanced, both-balanced, is_level, level-balanced}
 use Rattle.lpc_model.proofs.DryQueues.{HasDryQueues, IsEntered, dry-all, entered, is_soft}
+use Rattle.lpc_model.proofs.EachLine.{sweep_every}
 
 -- Plain steps: they tell of no receipt, let no message in, and begin no receive
 abbrev pub is_plain : Basic → Bool
@@ -45,12 +46,7 @@ each-plain ending all [] = refl
 each-plain ending all (x ∷ xs) = every-append is_plain (ending x) (each ending xs) (all x) (each-plain ending all xs)
 
 pub sweep-plain : (w : World) → ArePlain (sweep w)
-unfolding sweep
-sweep-plain w = every-append is_plain (free_unheld w) (free_unheld (world_after w (free_unheld w))) (frees (unheld w)) (frees (unheld (world_after w (free_unheld w))))
-  where
-    frees : (os : List ObjectName) → ArePlain (map Frees os)
-    frees [] = refl
-    frees (o ∷ os) = frees os
+sweep-plain = sweep_every is_plain (λ _. refl)
 
 module _ (s : Receipt) (quiet : asks (message_of s.bytes) ≡ false) (w : World) (line : ScriptLine) where
   -- steps that are in balance, and leave dry queues behind, where they find them

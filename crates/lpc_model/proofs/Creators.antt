@@ -1,5 +1,5 @@
 -- Each line leaves client ports with a connection port, and with a connect of the thread that made them.
-use Rattle.std.proofs.Common.{◌≡◌, ℕ, List, [], ◌∷◌, Bool, true, false, cond, map, Option, Some, None, refl, arith}
+use Rattle.std.proofs.Common.{◌≡◌, ℕ, List, [], ◌∷◌, Bool, true, false, cond, Option, Some, None, refl, arith}
 use Rattle.std.specs.Prelude.{Result, Ok, Err}
 use Rattle.std.specs.List.{AllByRecursion}
 use Rattle.lpc_base.specs.Rows.{every}
@@ -9,20 +9,19 @@ use Rattle.lpc_base.proofs.Bools.{same-number}
 use Rattle.lpc_base.specs.declared.status.Status.{Status}
 use Rattle.lpc_model.specs.declared.entry.ObjectKind.TheVariants as kind
 use Rattle.lpc_model.specs.declared.entry.Word.TheVariants as word
-use Rattle.lpc_model.specs.World.{Birth, ObjectKind, ObjectName, PortRow, ThreadRow, WaitRow, World, no_rows}
-use Rattle.lpc_model.specs.Found.{free_handle, is_port, live_thread, wait_of}
+use Rattle.lpc_model.specs.World.{Birth, ObjectKind, PortRow, ThreadRow, World, no_rows}
+use Rattle.lpc_model.specs.Found.{free_handle, is_port}
 use Rattle.lpc_model.specs.Basics.{Basic, Completes, Cuts, Frees, Joins, Makes, basic, completed, cut, freed, is_end_of, joined, paired, world_after}
 use Rattle.lpc_model.specs.Entering.{enter, row_of}
 use Rattle.lpc_model.specs.Named.{free_name, named_port}
 use Rattle.lpc_model.specs.Tests.{handles_test, next_birth}
 use Rattle.lpc_model.specs.Connect.{ConnectAnswer, answer_test, answered_steps, client_port, connect_start, connect_steps, connection_request, create_steps, info_test, making, nt_accept_connect_port, nt_connect_port, nt_create_port}
 use Rattle.lpc_model.specs.Creators.{KeepsConnects, RunKeepsConnects, keeps_connect}
-use Rattle.lpc_model.specs.Lines.{ScriptCall, ScriptLine, accept_connect_port, boot, close, complete_connect_port, connect_port, create_port, create_process, create_thread, dir, duplicate_object, link, listen_port, query_object, register_thread_terminate_port, reply_port, reply_wait_receive_port, request_port, request_wait_reply_port, run, terminate_process, terminate_thread, thread}
-use Rattle.lpc_model.specs.Machine.{Stepped, bare_steps, boot_line, dir_line, link_line, name_of_call, ready_steps, service_of, step, thread_line, thread_steps}
+use Rattle.lpc_model.specs.Lines.{ScriptCall, ScriptLine, accept_connect_port, close, complete_connect_port, connect_port, create_port, create_process, create_thread, duplicate_object, listen_port, query_object, register_thread_terminate_port, reply_port, reply_wait_receive_port, request_port, request_wait_reply_port, terminate_process, terminate_thread}
+use Rattle.lpc_model.specs.Machine.{Stepped, bare_steps, service_of, step}
 use Rattle.lpc_model.specs.Run.{said_in, trace}
-use Rattle.lpc_model.specs.Sweep.{free_unheld, sweep, unheld}
-use Rattle.lpc_model.proofs.Holding.{Holds, bind_holds, directed_holds, holds_ok, settled_holds}
-use Rattle.lpc_model.proofs.SoundQueues.{after-append}
+use Rattle.lpc_model.specs.Sweep.{sweep}
+use Rattle.lpc_model.proofs.Holding.{Holds, bind_holds, holds_ok}
 use Rattle.lpc_model.proofs.SteadySteps.{AreSteady, steady-enter}
 use Rattle.lpc_model.proofs.SteadyListen.{listen-steady}
 use Rattle.lpc_model.proofs.SteadyDatagram.{datagram-steady}
@@ -35,8 +34,9 @@ use Rattle.lpc_model.proofs.LinkedCalls.{ArePlain}
 use Rattle.lpc_model.proofs.LinkedClose.{close-plain}
 use Rattle.lpc_model.proofs.LinkedComplete.{complete-plain}
 use Rattle.lpc_model.proofs.LinkedDuplicate.{duplicate-plain}
-use Rattle.lpc_model.proofs.LinkedLines.{boot-plain, create-process-plain, create-thread-plain, dir-plain, further-plain, link-plain, process-plain, thread-plain}
+use Rattle.lpc_model.proofs.LinkedLines.{create-process-plain, create-thread-plain, process-plain, thread-plain}
 use Rattle.lpc_model.proofs.SteadyRegister.{register-steady}
+use Rattle.lpc_model.proofs.EachLine.{line_holds, stepped, sweep_every}
 
 -- Basic steps
 -- a step makes no client port without them
@@ -152,38 +152,12 @@ service-keeps w by (create_thread target tid) = plain_keep _ (create-thread-plai
 service-keeps w by (terminate_thread target code) = plain_keep _ (thread-plain w by target code)
 service-keeps w by (terminate_process target code) = plain_keep _ (process-plain w by target code)
 
-ready-keeps : (w : World) (by : ThreadRow) (call : ScriptCall) (o : Option WaitRow) → AreKeeping (ready_steps by call o w)
-ready-keeps w by call (Some x) = refl
-ready-keeps w by call None = settled_holds AreKeeping by (name_of_call call) (service_of w by call) (service-keeps w by call) (λ _ _. refl)
-
-thread-keeps : (w : World) (tid : ℕ) (call : ScriptCall) (o : Option ThreadRow) → AreKeeping (thread_steps tid call o w)
-thread-keeps w tid call None = refl
-thread-keeps w tid call (Some by) = ready-keeps w by call (wait_of w tid)
-
 -- Lines
 line-keeps : (w : World) (line : ScriptLine) → AreKeeping (bare_steps line w)
-unfolding bare_steps
-line-keeps w (boot pid tid) = directed_holds AreKeeping word.Boot (boot_line w pid tid) (plain_keep _ (boot-plain w pid tid)) (λ _. refl)
-line-keeps w (thread tid pid) = directed_holds AreKeeping word.Thread (thread_line w tid pid) (plain_keep _ (further-plain w tid pid)) (λ _. refl)
-line-keeps w (dir path) = directed_holds AreKeeping word.Dir (dir_line w path) (plain_keep _ (dir-plain w path)) (λ _. refl)
-line-keeps w (link path target) = directed_holds AreKeeping word.Link (link_line w path target) (plain_keep _ (link-plain w path target)) (λ _. refl)
-line-keeps w (run tid call) = thread-keeps w tid call (live_thread w tid)
-
-frees-keep : (os : List ObjectName) → AreKeeping (map Frees os)
-frees-keep [] = refl
-frees-keep (o ∷ os) = frees-keep os
-
-swept-keeps : (w : World) → AreKeeping (sweep w)
-unfolding sweep
-swept-keeps w =
-    let v = world_after w (free_unheld w) in
-    every-append is_keeping (free_unheld w) (free_unheld v) (frees-keep (unheld w)) (frees-keep (unheld v))
+line-keeps w = line_holds w AreKeeping (λ _. refl) (record { boots = λ _ _ _ _. refl; threads = λ _ _ _ _. refl; dirs = λ _. refl; links = λ _ _. refl }) (λ _ by call _ _. service-keeps w by call)
 
 keeps_step : (w : World) (line : ScriptLine) → KeepsConnects w → KeepsConnects (step w line).world
-keeps_step w line k =
-    let bs = bare_steps line w in
-    let v = world_after w bs in
-    rw (after-append w bs (sweep v)) (keeping-all v (sweep v) (swept-keeps v) (keeping-all w bs (line-keeps w line) k))
+keeps_step w line k = stepped KeepsConnects w line (λ v. keeping-all v (sweep v) (sweep_every is_keeping (λ _. refl) v)) (keeping-all w (bare_steps line w) (line-keeps w line) k)
 
 -- Runs
 trace-keeps : (w : World) (lines : List (Option ScriptLine)) → KeepsConnects w → AllByRecursion (λ (s : Stepped). KeepsConnects s.world) (trace w lines)

@@ -7,13 +7,12 @@ use Rattle.lpc_base.proofs.RowWords.{every-append, every-more, every-which}
 use Rattle.lpc_base.proofs.Bools.{first-true, second-true}
 use Rattle.lpc_base.specs.declared.status.Status.{Status}
 use Rattle.lpc_model.specs.declared.entry.CallName.{CallName}
-use Rattle.lpc_model.specs.declared.entry.Entry.{Entry}
 use Rattle.lpc_model.specs.declared.entry.Entry.TheVariants as entry
 use Rattle.lpc_model.specs.declared.entry.Word.TheVariants as word
 use Rattle.lpc_model.specs.declared.entry.ObjectKind.TheVariants as kind
 use Rattle.lpc_model.specs.declared.line.ProcArg.TheVariants.{By, Current}
 use Rattle.lpc_model.specs.declared.entry.CallName.TheVariants.{NtRegisterThreadTerminatePort, NtTerminateProcess, NtTerminateThread}
-use Rattle.lpc_model.specs.World.{Birth, MessageRow, ObjectName, ThreadRow, WaitRow, World}
+use Rattle.lpc_model.specs.World.{Birth, MessageRow, ThreadRow, World}
 use Rattle.lpc_model.specs.Found.{handles_of, is_live, is_live_thread, is_thread, live_thread, live_threads, lives_in, same_birth, wait_of}
 use Rattle.lpc_model.specs.Basics.{AddsThread, Basic, Cuts, Dies, DrawsIdentifier, DrawsOrdinal, Empties, Enters, Frees, Registers, Tells, Unbinds, Unregisters, Wakes, Withdraws, basic, ended, in_turn, posted, posts_of, unregistering, world_after}
 use Rattle.lpc_model.specs.Entering.{enter, given_steps, shown, takes, woken}
@@ -31,14 +30,14 @@ use Rattle.lpc_model.proofs.Ending.{AreEnding, accepted-pass, answered_end, behi
 use Rattle.lpc_model.specs.Lawful.{HasThreadsOnce}
 use Rattle.lpc_base.specs.declared.status.TheConstants.{INVALID_HANDLE, SUCCESS}
 use Rattle.lpc_model.specs.Tests.{object_test}
-use Rattle.lpc_model.specs.Named.{free_name, spelled_name}
-use Rattle.lpc_model.specs.Sweep.{free_unheld, sweep, unheld}
+use Rattle.lpc_model.specs.Sweep.{sweep}
 use Rattle.lpc_model.specs.SoundWaits.{IsSoundWorld}
-use Rattle.lpc_model.specs.Lines.{ProcArg, ScriptCall, ScriptLine, boot, create_process, create_thread, dir, link, register_thread_terminate_port, run, terminate_process, terminate_thread, thread}
-use Rattle.lpc_model.specs.Machine.{bare_steps, boot_line, dir_line, link_line, name_of_call, ready_steps, service_of, thread_line, thread_steps, thread_test, unused_test}
-use Rattle.lpc_model.proofs.Holding.{Holds, bind_holds, directed_holds, found_holds, holds_ok, settled_holds}
-use Rattle.lpc_model.proofs.Usable.{CanCall, can-call}
+use Rattle.lpc_model.specs.Lines.{ProcArg, ScriptCall, ScriptLine, create_process, create_thread, register_thread_terminate_port, terminate_process, terminate_thread}
+use Rattle.lpc_model.specs.Machine.{bare_steps, service_of}
+use Rattle.lpc_model.proofs.Holding.{Holds, bind_holds, found_holds, holds_ok}
+use Rattle.lpc_model.proofs.Usable.{CanCall}
 use Rattle.lpc_model.proofs.Creating.{process-made, thread-made}
+use Rattle.lpc_model.proofs.EachLine.{sound_line_holds, sweep_every}
 
 -- Lists of steps
 posts-both : (xs ys : List Basic) → which is_died_post (posts_of (xs ++ ys)) ≡ which is_died_post (posts_of xs) ++ which is_died_post (posts_of ys)
@@ -517,54 +516,17 @@ service-deaths w by (register_thread_terminate_port handle) once c = register_ho
     at b false = record { told = refl; registrations = refl; order = refl }
 service-deaths w by call once c = undying_holds w _ (service-undying w by call refl)
 
-silent_tells : (w : World) (e : Entry) → TellsDeaths w (Tells e ∷ [])
-silent_tells w e = record { told = refl; registrations = refl; order = refl }
-
-ready-deaths : (w : World) (by : ThreadRow) (call : ScriptCall) (o : Option WaitRow) → (o ≡ None → CanCall w by) → HasThreadsOnce w → TellsDeaths w (ready_steps by call o w)
-ready-deaths w by call (Some x) c once = silent_tells w _
-ready-deaths w by call None c once = settled_holds (TellsDeaths w) by (name_of_call call) (service_of w by call) (service-deaths w by call once (c refl)) (λ _ _. silent_tells w _)
-
-thread-deaths-of : (w : World) (tid : ℕ) (call : ScriptCall) (o : Option ThreadRow) → live_thread w tid ≡ o → IsSoundWorld w → HasThreadsOnce w → TellsDeaths w (thread_steps tid call o w)
-thread-deaths-of w tid call None live s once = silent_tells w _
-thread-deaths-of w tid call (Some by) live s once = ready-deaths w by call (wait_of w tid) (λ idle. can-call w tid by live idle s) once
-
--- Directives
-boot-deaths : (w : World) (pid tid : ℕ) → Holds (λ bs. TellsDeaths w (Tells (entry.Directive word.Boot SUCCESS) ∷ bs)) (boot_line w pid tid)
-unfolding boot_line
-boot-deaths w pid tid = bind_holds (unused_test w pid tid) _ (λ bs. TellsDeaths w (Tells (entry.Directive word.Boot SUCCESS) ∷ bs)) (λ _ _. record { told = refl; registrations = refl; order = refl })
-
-further-deaths : (w : World) (tid pid : ℕ) → Holds (λ bs. TellsDeaths w (Tells (entry.Directive word.Thread SUCCESS) ∷ bs)) (thread_line w tid pid)
-unfolding thread_line
-further-deaths w tid pid = bind_holds (thread_test w tid pid) _ (λ bs. TellsDeaths w (Tells (entry.Directive word.Thread SUCCESS) ∷ bs)) (λ _ _. record { told = refl; registrations = refl; order = refl })
-
-dir-deaths : (w : World) (text : List ℕ) → Holds (λ bs. TellsDeaths w (Tells (entry.Directive word.Dir SUCCESS) ∷ bs)) (dir_line w text)
-unfolding dir_line
-dir-deaths w text = bind_holds (free_name w text) _ (λ bs. TellsDeaths w (Tells (entry.Directive word.Dir SUCCESS) ∷ bs)) (λ path _. record { told = refl; registrations = refl; order = refl })
-
-link-deaths : (w : World) (text target : List ℕ) → Holds (λ bs. TellsDeaths w (Tells (entry.Directive word.Link SUCCESS) ∷ bs)) (link_line w text target)
-unfolding link_line
-link-deaths w text target =
-    bind_holds (spelled_name target) _ (λ bs. TellsDeaths w (Tells (entry.Directive word.Link SUCCESS) ∷ bs)) (λ to _.
-    bind_holds (free_name w text) _ (λ bs. TellsDeaths w (Tells (entry.Directive word.Link SUCCESS) ∷ bs)) (λ path _. record { told = refl; registrations = refl; order = refl }))
-
 -- Lines
 line-deaths : (w : World) (line : ScriptLine) → IsSoundWorld w → HasThreadsOnce w → TellsDeaths w (bare_steps line w)
-unfolding bare_steps
-line-deaths w (boot pid tid) s once = directed_holds (TellsDeaths w) word.Boot (boot_line w pid tid) (boot-deaths w pid tid) (λ _. silent_tells w _)
-line-deaths w (thread tid pid) s once = directed_holds (TellsDeaths w) word.Thread (thread_line w tid pid) (further-deaths w tid pid) (λ _. silent_tells w _)
-line-deaths w (dir path) s once = directed_holds (TellsDeaths w) word.Dir (dir_line w path) (dir-deaths w path) (λ _. silent_tells w _)
-line-deaths w (link path target) s once = directed_holds (TellsDeaths w) word.Link (link_line w path target) (link-deaths w path target) (λ _. silent_tells w _)
-line-deaths w (run tid call) s once = thread-deaths-of w tid call (live_thread w tid) refl s once
-
-frees-undying : (os : List ObjectName) → AreUndying (map Frees os)
-frees-undying [] = refl
-frees-undying (o ∷ os) = frees-undying os
-
-sweep-undying : (w : World) → AreUndying (sweep w)
-unfolding sweep
-sweep-undying w =
-    let v = world_after w (free_unheld w) in
-    every-append is_undying (free_unheld w) (free_unheld v) (frees-undying (unheld w)) (frees-undying (unheld v))
+line-deaths w line s once =
+    sound_line_holds w (TellsDeaths w) (λ _. record { told = refl; registrations = refl; order = refl }) s
+    (record {
+      boots = λ _ _ _ _. record { told = refl; registrations = refl; order = refl };
+      threads = λ _ _ _ _. record { told = refl; registrations = refl; order = refl };
+      dirs = λ _. record { told = refl; registrations = refl; order = refl };
+      links = λ _ _. record { told = refl; registrations = refl; order = refl };
+    })
+    (λ by call c. service-deaths w by call once c) line
 
 -- the steps of a line tell of the threads that end by it
 pub deaths_told : (w : World) (line : ScriptLine) → IsSoundWorld w → HasThreadsOnce w → DeathsAreTold w line
@@ -572,4 +534,4 @@ deaths_told w line s once =
     let bs = bare_steps line w in
     let v = world_after w bs in
     let bare = line-deaths w line s once in
-    let swept = sweep-undying v in tells-both w bs (sweep v) (order-behind bs (sweep v) bare.order swept) bare (undying-tells v (sweep v) swept)
+    let swept = sweep_every is_undying (λ _. refl) v in tells-both w bs (sweep v) (order-behind bs (sweep v) bare.order swept) bare (undying-tells v (sweep v) swept)

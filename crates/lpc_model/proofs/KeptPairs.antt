@@ -1,5 +1,5 @@
 -- The step of each line leaves of two ports that are each other's other end one at least open.
-use Rattle.std.proofs.Common.{◌≡◌, ℕ, ◌≤◌, List, [], ◌∷◌, ◌++◌, Bool, true, false, cond, map, Option, Some, None, refl, sym, subst, arith}
+use Rattle.std.proofs.Common.{◌≡◌, ℕ, ◌≤◌, List, [], ◌∷◌, ◌++◌, Bool, true, false, cond, Option, Some, None, refl, sym, subst, arith}
 use Rattle.std.proofs.lemmas.Bool.{or_left}
 use Rattle.std.specs.Prelude.{◌||◌, Result, Ok, Err}
 use Rattle.lpc_base.specs.Rows.{count, every, passes, when}
@@ -11,23 +11,23 @@ use Rattle.lpc_base.proofs.Births.{birth-same, births-apart}
 use Rattle.lpc_model.specs.declared.entry.CallName.TheVariants.{NtTerminateProcess, NtTerminateThread}
 use Rattle.lpc_model.specs.declared.entry.ObjectKind.TheVariants as kind
 use Rattle.lpc_model.specs.declared.entry.Word.TheVariants as word
-use Rattle.lpc_model.specs.World.{Birth, HandleRow, ObjectKind, ObjectName, PortRow, ThreadRow, WaitRow, World}
-use Rattle.lpc_model.specs.Found.{free_handle, handle_at, has_handle_to, is_cut, is_open, is_port, is_paired_to, is_table, is_the, live_thread, live_threads, port_name, same_birth, wait_of}
+use Rattle.lpc_model.specs.World.{Birth, HandleRow, ObjectKind, ObjectName, PortRow, ThreadRow, World}
+use Rattle.lpc_model.specs.Found.{free_handle, handle_at, has_handle_to, is_cut, is_open, is_port, is_paired_to, is_table, is_the, live_threads, port_name, same_birth}
 use Rattle.lpc_model.specs.Basics.{Accepts, AddsHandle, AddsProcess, Basic, Completes, Cuts, DrawsOrdinal, DropsHandle, Empties, Frees, Joins, Makes, Unbinds, Unregisters, Wakes, Withdraws, basic, completed, cut, freed, is_end_of, joined, no_handles, paired, world_after, AddsThread, with_handle}
 use Rattle.lpc_model.specs.Entering.{enter, row_of}
-use Rattle.lpc_model.specs.Named.{free_name, named_port, spelled_name}
+use Rattle.lpc_model.specs.Named.{free_name, named_port}
 use Rattle.lpc_model.specs.Tests.{PORT_ACCESS, handle_row, handles_test, next_birth, own_handle}
 use Rattle.lpc_model.specs.Connect.{Completable, ConnectAnswer, accept_steps, answer_test, answered_steps, client_port, complete_steps, complete_test, connect_start, connect_steps, connection_request, create_steps, info_test, making, nt_accept_connect_port, nt_complete_connect_port, nt_connect_port, nt_create_port, server_port}
 use Rattle.lpc_model.specs.Close.{close_handle, close_port, is_last, nt_close}
 use Rattle.lpc_model.specs.Counts.{asked, nt_duplicate_object, rights_test}
 use Rattle.lpc_model.specs.Death.{code_status, die, end_threads, nt_terminate_process, nt_terminate_thread}
-use Rattle.lpc_model.specs.Sweep.{free_unheld, sweep, unheld}
-use Rattle.lpc_model.specs.Lines.{ProcArg, ScriptCall, ScriptLine, accept_connect_port, boot, close, complete_connect_port, connect_port, create_port, create_process, create_thread, dir, duplicate_object, link, listen_port, query_object, register_thread_terminate_port, reply_port, reply_wait_receive_port, request_port, request_wait_reply_port, run, terminate_process, terminate_thread, thread}
-use Rattle.lpc_model.specs.Machine.{bare_steps, boot_line, dir_line, link_line, name_of_call, ready_steps, service_of, step, thread_line, thread_steps, thread_test, unused_test}
+use Rattle.lpc_model.specs.Sweep.{sweep}
+use Rattle.lpc_model.specs.Lines.{ProcArg, ScriptCall, ScriptLine, accept_connect_port, close, complete_connect_port, connect_port, create_port, create_process, create_thread, duplicate_object, listen_port, query_object, register_thread_terminate_port, reply_port, reply_wait_receive_port, request_port, request_wait_reply_port, terminate_process, terminate_thread, thread}
+use Rattle.lpc_model.specs.Machine.{bare_steps, service_of, step}
 use Rattle.lpc_model.specs.SoundWaits.{IsSoundWorld}
 use Rattle.lpc_model.specs.Left.{HasKeptPairs, is_kept_pair}
-use Rattle.lpc_model.proofs.Holding.{Holds, bind_holds, directed_holds, found_ok, holds_ok, settled_holds}
-use Rattle.lpc_model.proofs.Usable.{CanCall, can-call}
+use Rattle.lpc_model.proofs.Holding.{Holds, bind_holds, found_ok, holds_ok}
+use Rattle.lpc_model.proofs.Usable.{CanCall}
 use Rattle.lpc_model.proofs.Handles.{open-add, open-new}
 use Rattle.lpc_model.proofs.Closing.{behind, takes_away}
 use Rattle.lpc_model.proofs.SoundQueues.{after-append}
@@ -49,6 +49,7 @@ use Rattle.lpc_model.specs.Creation.{gives_life, new_process, new_thread, nt_cre
 use Rattle.lpc_model.specs.Targets.{LIFE_ACCESS}
 use Rattle.lpc_model.proofs.SoundBasics.{sound-ordinal, sound-process}
 use Rattle.lpc_model.proofs.Rows.{count-change}
+use Rattle.lpc_model.proofs.EachLine.{passing_directives, sound_line_holds, stepped, sweep_every}
 
 -- Steps
 -- a step that keeps it whatever the world: it gives and takes no handle, joins nothing, and makes ports without other ends
@@ -318,59 +319,13 @@ service-pairs w by (create_thread target tid) c is k = create-thread-pairs w by 
 service-pairs w by (terminate_thread target code) c is k = terminate-thread-pairs w by target code is k
 service-pairs w by (terminate_process target code) c is k = terminate-process-pairs w by target code is k
 
-ready-pairs : (w : World) (by : ThreadRow) (call : ScriptCall) (o : Option WaitRow) → (o ≡ None → CanCall w by) → IsSafe w → HasKeptPairs w → KeepPairs w (ready_steps by call o w)
-ready-pairs w by call (Some x) c is k = k
-ready-pairs w by call None c is k = settled_holds (KeepPairs w) by (name_of_call call) (service_of w by call) (service-pairs w by call (c refl) is k) (λ _ _. k)
-
-thread-pairs : (w : World) (tid : ℕ) (call : ScriptCall) (o : Option ThreadRow) → live_thread w tid ≡ o → IsSafe w → HasKeptPairs w → KeepPairs w (thread_steps tid call o w)
-thread-pairs w tid call None live is k = k
-thread-pairs w tid call (Some by) live is k = ready-pairs w by call (wait_of w tid) (λ idle. can-call w tid by live idle (sound-of w is)) is k
-
--- Directives
-pairing_holds : (w : World) (r : Result (List Basic) Status) → HasKeptPairs w → Holds ArePairing r → Holds (KeepPairs w) r
-pairing_holds w (Ok bs) k all = pair-all w bs all k
-pairing_holds w (Err s) k all = tt
-
-boot-pairs : (w : World) (pid tid : ℕ) → Holds ArePairing (boot_line w pid tid)
-unfolding boot_line
-boot-pairs w pid tid = bind_holds (unused_test w pid tid) _ ArePairing (λ _ _. refl)
-
-further-pairs : (w : World) (tid pid : ℕ) → Holds ArePairing (thread_line w tid pid)
-unfolding thread_line
-further-pairs w tid pid = bind_holds (thread_test w tid pid) _ ArePairing (λ _ _. refl)
-
-dir-pairs : (w : World) (text : List ℕ) → Holds ArePairing (dir_line w text)
-unfolding dir_line
-dir-pairs w text = bind_holds (free_name w text) _ ArePairing (λ path _. refl)
-
-link-pairs : (w : World) (text target : List ℕ) → Holds ArePairing (link_line w text target)
-unfolding link_line
-link-pairs w text target =
-    bind_holds (spelled_name target) _ ArePairing (λ to _.
-    bind_holds (free_name w text) _ ArePairing (λ path _. refl))
-
 -- Lines
 line-pairs : (w : World) (line : ScriptLine) → IsSafe w → HasKeptPairs w → KeepPairs w (bare_steps line w)
-unfolding bare_steps
-line-pairs w (boot pid tid) is k = directed_holds (KeepPairs w) word.Boot (boot_line w pid tid) (pairing_holds w (boot_line w pid tid) k (boot-pairs w pid tid)) (λ _. k)
-line-pairs w (thread tid pid) is k = directed_holds (KeepPairs w) word.Thread (thread_line w tid pid) (pairing_holds w (thread_line w tid pid) k (further-pairs w tid pid)) (λ _. k)
-line-pairs w (dir path) is k = directed_holds (KeepPairs w) word.Dir (dir_line w path) (pairing_holds w (dir_line w path) k (dir-pairs w path)) (λ _. k)
-line-pairs w (link path target) is k = directed_holds (KeepPairs w) word.Link (link_line w path target) (pairing_holds w (link_line w path target) k (link-pairs w path target)) (λ _. k)
-line-pairs w (run tid call) is k = thread-pairs w tid call (live_thread w tid) refl is k
-
-frees-pairing : (os : List ObjectName) → ArePairing (map Frees os)
-frees-pairing [] = refl
-frees-pairing (o ∷ os) = frees-pairing os
-
-sweep-pairing : (w : World) → ArePairing (sweep w)
-unfolding sweep
-sweep-pairing w =
-    let v = world_after w (free_unheld w) in
-    every-append is_pairing (free_unheld w) (free_unheld v) (frees-pairing (unheld w)) (frees-pairing (unheld v))
+line-pairs w line is k =
+    sound_line_holds w (KeepPairs w) (λ _. k) (sound-of w is)
+    (passing_directives w is_pairing (KeepPairs w) (λ bs all. pair-all w bs all k) (record { boots = λ _ _ _ _. refl; threads = λ _ _ _ _. refl; dirs = λ _. refl; links = λ _ _. refl }))
+    (λ by call c. service-pairs w by call c is k) line
 
 -- the step of a line
 pub pairs_step : (w : World) (line : ScriptLine) → IsSafe w → HasKeptPairs w → HasKeptPairs (step w line).world
-pairs_step w line is k =
-    let bs = bare_steps line w in
-    let v = world_after w bs in
-    rw (after-append w bs (sweep v)) (pair-all v (sweep v) (sweep-pairing v) (line-pairs w line is k))
+pairs_step w line is k = stepped HasKeptPairs w line (λ v. pair-all v (sweep v) (sweep_every is_pairing (λ _. refl) v)) (line-pairs w line is k)

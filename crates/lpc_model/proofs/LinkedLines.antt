@@ -1,19 +1,17 @@
 -- Each line keeps ports linked, and leaves no port row that no row names.
-use Rattle.std.proofs.Common.{List, None, Option, Some, arith, refl, true, ℕ, ◌≡◌}
+use Rattle.std.proofs.Common.{arith, refl, true, ℕ, ◌≡◌}
 use Rattle.lpc_model.specs.declared.entry.Word.TheVariants as word
-use Rattle.lpc_model.specs.World.{ThreadRow, WaitRow, World}
-use Rattle.lpc_model.specs.Found.{live_thread, wait_of}
+use Rattle.lpc_model.specs.World.{ThreadRow, World}
 use Rattle.lpc_model.specs.Basics.{Awaits, Basic, Binds, Frees, Joins, Makes, world_after}
-use Rattle.lpc_model.specs.Named.{free_name, spelled_name}
-use Rattle.lpc_model.specs.Lines.{ProcArg, ScriptCall, ScriptLine, accept_connect_port, boot, close, complete_connect_port, connect_port, create_port, create_process, create_thread, dir, duplicate_object, link, listen_port, query_object, register_thread_terminate_port, reply_port, reply_wait_receive_port, request_port, request_wait_reply_port, run, terminate_process, terminate_thread, thread}
-use Rattle.lpc_model.specs.Machine.{boot_line, dir_line, link_line, name_of_call, ready_steps, service_of, bare_steps, thread_line, thread_steps, thread_test, unused_test}
+use Rattle.lpc_model.specs.Lines.{ProcArg, ScriptCall, ScriptLine, accept_connect_port, close, complete_connect_port, connect_port, create_port, create_process, create_thread, duplicate_object, listen_port, query_object, register_thread_terminate_port, reply_port, reply_wait_receive_port, request_port, request_wait_reply_port, terminate_process, terminate_thread}
+use Rattle.lpc_model.specs.Machine.{service_of, bare_steps}
 use Rattle.lpc_model.specs.SoundWaits.{HasShutConnects, IsSoundWorld}
-use Rattle.lpc_model.proofs.Holding.{Holds, bind_holds, directed_holds, settled_holds}
+use Rattle.lpc_model.proofs.Holding.{Holds}
 use Rattle.lpc_model.specs.World.{no_rows}
 use Rattle.lpc_model.specs.Sweep.{free_unheld, sweep}
 use Rattle.lpc_model.specs.Linked.{HasHeldRows, IsLinked}
 use Rattle.lpc_model.specs.Machine.{step}
-use Rattle.lpc_model.proofs.Usable.{CanCall, can-call}
+use Rattle.lpc_model.proofs.Usable.{CanCall}
 use Rattle.lpc_model.proofs.SoundQueues.{after-append}
 use Rattle.lpc_model.proofs.SoundLines.{line-sound}
 use Rattle.lpc_model.proofs.SteadyListen.{listen-steady}
@@ -34,29 +32,11 @@ use Rattle.lpc_model.proofs.LinkedClose.{close-linked}
 use Rattle.lpc_model.proofs.LinkedDuplicate.{duplicate-linked}
 use Rattle.lpc_model.specs.Death.{nt_terminate_process, nt_terminate_thread}
 use Rattle.lpc_model.proofs.SteadyRegister.{register-steady}
-use Rattle.lpc_model.proofs.LinkedSteps.{is_plain}
+use Rattle.lpc_model.proofs.LinkedSteps.{is_plain, plain-all}
 use Rattle.lpc_model.proofs.Ending.{ending-pass, is_ending, process-ending, thread-ending}
 use Rattle.lpc_model.proofs.Creating.{process-made, thread-made}
+use Rattle.lpc_model.proofs.EachLine.{passing_directives, sound_line_holds}
 use Rattle.lpc_model.specs.Creation.{nt_create_process, nt_create_thread}
-
--- Directives
-pub boot-plain : (w : World) (pid tid : ℕ) → Holds ArePlain (boot_line w pid tid)
-unfolding boot_line
-boot-plain w pid tid = bind_holds (unused_test w pid tid) _ ArePlain (λ _ _. refl)
-
-pub further-plain : (w : World) (tid pid : ℕ) → Holds ArePlain (thread_line w tid pid)
-unfolding thread_line
-further-plain w tid pid = bind_holds (thread_test w tid pid) _ ArePlain (λ _ _. refl)
-
-pub dir-plain : (w : World) (text : List ℕ) → Holds ArePlain (dir_line w text)
-unfolding dir_line
-dir-plain w text = bind_holds (free_name w text) _ ArePlain (λ path _. refl)
-
-pub link-plain : (w : World) (text target : List ℕ) → Holds ArePlain (link_line w text target)
-unfolding link_line
-link-plain w text target =
-    bind_holds (spelled_name target) _ ArePlain (λ to _.
-    bind_holds (free_name w text) _ ArePlain (λ path _. refl))
 
 -- what ends is plain
 pub ending-plain : (b : Basic) → is_ending b ≡ true → is_plain b ≡ true
@@ -99,23 +79,13 @@ service-linked w by (create_thread target tid) c s l = plain_holds w _ l (create
 service-linked w by (terminate_thread target code) c s l = plain_holds w _ l (thread-plain w by target code)
 service-linked w by (terminate_process target code) c s l = plain_holds w _ l (process-plain w by target code)
 
-ready-linked : (w : World) (by : ThreadRow) (call : ScriptCall) (o : Option WaitRow) → (o ≡ None → CanCall w by) → IsSoundWorld w → IsLinked w → KeepLinked w (ready_steps by call o w)
-ready-linked w by call (Some x) c s l = l
-ready-linked w by call None c s l = settled_holds (KeepLinked w) by (name_of_call call) (service_of w by call) (service-linked w by call (c refl) s l) (λ _ _. l)
-
-thread-linked : (w : World) (tid : ℕ) (call : ScriptCall) (o : Option ThreadRow) → live_thread w tid ≡ o → IsSoundWorld w → IsLinked w → KeepLinked w (thread_steps tid call o w)
-thread-linked w tid call None live s l = l
-thread-linked w tid call (Some by) live s l = ready-linked w by call (wait_of w tid) (λ idle. can-call w tid by live idle s) s l
-
 -- Lines
 -- before rows go
 pub line_linked : (w : World) (line : ScriptLine) → IsSoundWorld w → IsLinked w → KeepLinked w (bare_steps line w)
-unfolding bare_steps
-line_linked w (boot pid tid) s l = directed_holds (KeepLinked w) word.Boot (boot_line w pid tid) (plain_holds w (boot_line w pid tid) l (boot-plain w pid tid)) (λ _. l)
-line_linked w (thread tid pid) s l = directed_holds (KeepLinked w) word.Thread (thread_line w tid pid) (plain_holds w (thread_line w tid pid) l (further-plain w tid pid)) (λ _. l)
-line_linked w (dir path) s l = directed_holds (KeepLinked w) word.Dir (dir_line w path) (plain_holds w (dir_line w path) l (dir-plain w path)) (λ _. l)
-line_linked w (link path target) s l = directed_holds (KeepLinked w) word.Link (link_line w path target) (plain_holds w (link_line w path target) l (link-plain w path target)) (λ _. l)
-line_linked w (run tid call) s l = thread-linked w tid call (live_thread w tid) refl s l
+line_linked w line s l =
+    sound_line_holds w (KeepLinked w) (λ _. l) s
+    (passing_directives w is_plain (KeepLinked w) (λ bs all. plain-all w bs all l) (record { boots = λ _ _ _ _. refl; threads = λ _ _ _ _. refl; dirs = λ _. refl; links = λ _ _. refl }))
+    (λ by call c. service-linked w by call c s l) line
 
 -- the step of a line keeps ports linked, and leaves no port row that no row names
 pub linked_step : (w : World) (line : ScriptLine) → IsSoundWorld w → HasShutConnects w → IsLinked w → IsLinked (step w line).world

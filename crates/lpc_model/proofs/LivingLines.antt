@@ -1,5 +1,5 @@
 -- The step of each line leaves handles to living processes alone.
-use Rattle.std.proofs.Common.{◌≡◌, ℕ, ◌≤◌, List, [], ◌∷◌, Bool, true, false, not, Option, Some, None, refl, sym, subst, arith}
+use Rattle.std.proofs.Common.{◌≡◌, ℕ, ◌≤◌, List, [], ◌∷◌, Bool, true, false, not, refl, sym, subst, arith}
 use Rattle.std.specs.Prelude.{◌&&◌, ◌||◌, ◌==◌, Result, Ok, Err}
 use Rattle.std.proofs.lemmas.Bool.{eqb-true}
 use Rattle.std.proofs.lemmas.Bool.Decides.{nat_tests}
@@ -10,22 +10,19 @@ use Rattle.lpc_base.proofs.RowMaps.{every-both}
 use Rattle.lpc_base.proofs.Bools.{same-number}
 use Rattle.lpc_model.specs.declared.entry.CallName.TheVariants.{NtTerminateProcess, NtTerminateThread}
 use Rattle.lpc_model.specs.declared.entry.Word.TheVariants as word
-use Rattle.lpc_model.specs.World.{HandleRow, HandleTable, ThreadRow, WaitRow, World}
-use Rattle.lpc_model.specs.Found.{handles_of, is_live, is_table, is_thread, live_thread, live_threads, lives_in, rows_in, wait_of}
+use Rattle.lpc_model.specs.World.{HandleRow, HandleTable, ThreadRow, World}
+use Rattle.lpc_model.specs.Found.{handles_of, is_live, is_table, is_thread, live_threads, lives_in, rows_in, wait_of}
 use Rattle.lpc_model.specs.Basics.{Accepts, AddsHandle, AddsProcess, AddsThread, Awaits, Basic, Dies, DrawsIdentifier, DrawsOrdinal, DropsHandle, Frees, Registers, Unregisters, Withdraws, basic, ended, in_turn, provided, unregistering, without_handle, world_after, ◌▹◌}
-use Rattle.lpc_model.specs.Named.{free_name, spelled_name}
 use Rattle.lpc_model.specs.Close.{close_handle}
 use Rattle.lpc_model.specs.Death.{code_status, cut_accepted, die, end_process, end_threads, nt_terminate_process, nt_terminate_thread, post_death, post_deaths}
-use Rattle.lpc_model.specs.Sweep.{sweep}
-use Rattle.lpc_model.specs.Lines.{ProcArg, ScriptCall, ScriptLine, accept_connect_port, boot, close, complete_connect_port, connect_port, create_port, create_process, create_thread, dir, duplicate_object, link, listen_port, query_object, register_thread_terminate_port, reply_port, reply_wait_receive_port, request_port, request_wait_reply_port, run, terminate_process, terminate_thread, thread}
-use Rattle.lpc_model.specs.Machine.{bare_steps, boot_line, dir_line, link_line, name_of_call, ready_steps, service_of, step, thread_line, thread_steps, thread_test, unused_test}
+use Rattle.lpc_model.specs.Lines.{ProcArg, ScriptCall, ScriptLine, accept_connect_port, close, complete_connect_port, connect_port, create_port, create_process, create_thread, duplicate_object, listen_port, query_object, register_thread_terminate_port, reply_port, reply_wait_receive_port, request_port, request_wait_reply_port, terminate_process, terminate_thread}
+use Rattle.lpc_model.specs.Machine.{bare_steps, service_of, step}
 use Rattle.lpc_model.specs.SoundWaits.{IsSoundWorld}
 use Rattle.lpc_model.specs.Left.{HasLivingHandles, is_living_table, lacks_handles}
-use Rattle.lpc_model.proofs.Holding.{Holds, bind_holds, directed_holds, settled_holds}
+use Rattle.lpc_model.proofs.Holding.{Holds}
 use Rattle.lpc_model.proofs.Rows.{has-change_to, lone}
-use Rattle.lpc_model.proofs.Usable.{CanCall, can-call}
+use Rattle.lpc_model.proofs.Usable.{CanCall}
 use Rattle.lpc_model.proofs.Closing.{behind, then-holds}
-use Rattle.lpc_model.proofs.SoundQueues.{after-append}
 use Rattle.lpc_model.proofs.SoundFrees.{which-all}
 use Rattle.lpc_model.proofs.SoundClose.{close_handle-sound}
 use Rattle.lpc_model.proofs.SoundTerminate.{IsSafe, sound-of, told-safe}
@@ -39,9 +36,10 @@ use Rattle.lpc_model.proofs.SteadyRegister.{register-steady}
 use Rattle.lpc_model.proofs.Ending.{AreEnding, accepted-pass, behind_dead, behind_told, die-ending, ending-death, first-at, handle-ending, is_ending, process-ends, rows-left, thread-ends, turn-keeps, world-ends}
 use Rattle.lpc_model.specs.Lawful.{HasThreadsOnce}
 use Rattle.lpc_model.proofs.DeathLines.{AreFound, away-still, death-still, die-threads, is_still, live-found, target-found, undying-still}
-use Rattle.lpc_model.proofs.LivingHandles.{AreHomely, accept-homely, close-homely, complete-homely, connect-homely, create-homely, duplicate-homely, homely-all, lacks-less, living-swept, steady_homely, caller-lives}
+use Rattle.lpc_model.proofs.LivingHandles.{AreHomely, accept-homely, close-homely, complete-homely, connect-homely, create-homely, duplicate-homely, homely-all, lacks-less, living-swept, steady_homely, caller-lives, is_homely}
 use Rattle.lpc_model.proofs.Undying.{handle-undying, is_undying}
 use Rattle.lpc_model.proofs.Creating.{process-made, thread-made}
+use Rattle.lpc_model.proofs.EachLine.{passing_directives, sound_line_holds, stepped}
 
 -- a handle that goes ends no thread
 handle-still : (pid : ℕ) (r : HandleRow) (w : World) → every is_still (close_handle pid r w) ≡ true
@@ -256,45 +254,13 @@ service-living w by (create_thread target tid) c is once l = homely_holds w _ l 
 service-living w by (terminate_thread target code) c is once l = thread-living w by target code is once c l
 service-living w by (terminate_process target code) c is once l = process-living w by target code is once l
 
-ready-living : (w : World) (by : ThreadRow) (call : ScriptCall) (o : Option WaitRow) → (o ≡ None → CanCall w by) → IsSafe w → HasThreadsOnce w → HasLivingHandles w → KeepLiving w (ready_steps by call o w)
-ready-living w by call (Some x) c is once l = l
-ready-living w by call None c is once l = settled_holds (KeepLiving w) by (name_of_call call) (service_of w by call) (service-living w by call (c refl) is once l) (λ _ _. l)
-
-thread-lines : (w : World) (tid : ℕ) (call : ScriptCall) (o : Option ThreadRow) → live_thread w tid ≡ o → IsSafe w → HasThreadsOnce w → HasLivingHandles w → KeepLiving w (thread_steps tid call o w)
-thread-lines w tid call None live is once l = l
-thread-lines w tid call (Some by) live is once l = ready-living w by call (wait_of w tid) (λ idle. can-call w tid by live idle (sound-of w is)) is once l
-
--- Directives
-boot-living : (w : World) (pid tid : ℕ) → Holds (AreHomely w) (boot_line w pid tid)
-unfolding boot_line
-boot-living w pid tid = bind_holds (unused_test w pid tid) _ (AreHomely w) (λ _ _. refl)
-
-further-living : (w : World) (tid pid : ℕ) → Holds (AreHomely w) (thread_line w tid pid)
-unfolding thread_line
-further-living w tid pid = bind_holds (thread_test w tid pid) _ (AreHomely w) (λ _ _. refl)
-
-dir-living : (w : World) (text : List ℕ) → Holds (AreHomely w) (dir_line w text)
-unfolding dir_line
-dir-living w text = bind_holds (free_name w text) _ (AreHomely w) (λ path _. refl)
-
-link-living : (w : World) (text target : List ℕ) → Holds (AreHomely w) (link_line w text target)
-unfolding link_line
-link-living w text target =
-    bind_holds (spelled_name target) _ (AreHomely w) (λ to _.
-    bind_holds (free_name w text) _ (AreHomely w) (λ path _. refl))
-
 -- Lines
 line-living : (w : World) (line : ScriptLine) → IsSafe w → HasThreadsOnce w → HasLivingHandles w → KeepLiving w (bare_steps line w)
-unfolding bare_steps
-line-living w (boot pid tid) is once l = directed_holds (KeepLiving w) word.Boot (boot_line w pid tid) (homely_holds w (boot_line w pid tid) l (boot-living w pid tid)) (λ _. l)
-line-living w (thread tid pid) is once l = directed_holds (KeepLiving w) word.Thread (thread_line w tid pid) (homely_holds w (thread_line w tid pid) l (further-living w tid pid)) (λ _. l)
-line-living w (dir path) is once l = directed_holds (KeepLiving w) word.Dir (dir_line w path) (homely_holds w (dir_line w path) l (dir-living w path)) (λ _. l)
-line-living w (link path target) is once l = directed_holds (KeepLiving w) word.Link (link_line w path target) (homely_holds w (link_line w path target) l (link-living w path target)) (λ _. l)
-line-living w (run tid call) is once l = thread-lines w tid call (live_thread w tid) refl is once l
+line-living w line is once l =
+    sound_line_holds w (KeepLiving w) (λ _. l) (sound-of w is)
+    (passing_directives w (is_homely w) (KeepLiving w) (λ bs all. homely-all w bs all l) (record { boots = λ _ _ _ _. refl; threads = λ _ _ _ _. refl; dirs = λ _. refl; links = λ _ _. refl }))
+    (λ by call c. service-living w by call c is once l) line
 
 -- the step of a line leaves handles to living processes alone
 pub living_step : (w : World) (line : ScriptLine) → IsSafe w → HasThreadsOnce w → HasLivingHandles w → HasLivingHandles (step w line).world
-living_step w line is once l =
-    let bs = bare_steps line w in
-    let v = world_after w bs in
-    rw (after-append w bs (sweep v)) (living-swept v (line-living w line is once l))
+living_step w line is once l = stepped HasLivingHandles w line living-swept (line-living w line is once l)

@@ -1,38 +1,37 @@
 -- The step of each line leaves registrations to live threads alone.
-use Rattle.std.proofs.Common.{◌≡◌, ℕ, ◌≤◌, List, [], ◌∷◌, Bool, true, false, length, map, not, Option, Some, None, refl, sym, subst, arith}
+use Rattle.std.proofs.Common.{◌≡◌, ℕ, ◌≤◌, List, [], ◌∷◌, Bool, true, false, length, not, refl, sym, subst, arith}
 use Rattle.std.specs.Prelude.{◌&&◌, ◌||◌, ◌==◌, Result, Ok, Err}
 use Rattle.std.proofs.lemmas.Bool.Decides.{nat_tests}
 use Rattle.lpc_base.specs.Rows.{change, count, every, given, when, without}
 use Rattle.lpc_base.specs.declared.status.Status.{Status}
-use Rattle.lpc_base.proofs.RowWords.{every-append, every-change, every-more, every-push, every-without, first-passes}
+use Rattle.lpc_base.proofs.RowWords.{every-change, every-more, every-push, every-without, first-passes}
 use Rattle.lpc_base.proofs.RowMaps.{every-both, every-change_to}
 use Rattle.lpc_base.proofs.Bools.{first-true, second-true}
 use Rattle.lpc_base.proofs.Births.{birth-self}
 use Rattle.lpc_model.specs.declared.entry.CallName.TheVariants.{NtTerminateProcess, NtTerminateThread}
 use Rattle.lpc_model.specs.declared.entry.ObjectKind.TheVariants as kind
 use Rattle.lpc_model.specs.declared.entry.Word.TheVariants as word
-use Rattle.lpc_model.specs.World.{Birth, ObjectKind, ObjectName, ThreadRow, WaitRow, World}
-use Rattle.lpc_model.specs.Found.{handles_of, is_live, is_live_thread, is_thread, live_thread, live_threads, same_birth, wait_of}
+use Rattle.lpc_model.specs.World.{Birth, ObjectKind, ThreadRow, World}
+use Rattle.lpc_model.specs.Found.{handles_of, is_live, is_live_thread, is_thread, live_threads, same_birth}
 use Rattle.lpc_model.specs.Basics.{AddsThread, Basic, Dies, DrawsIdentifier, DrawsOrdinal, Frees, Registers, Unregisters, basic, ended, freed, in_turn, past_identifier, past_ordinal, provided, registering, unregistering, world_after, ◌▹◌}
 use Rattle.lpc_model.specs.Close.{close_handle}
 use Rattle.lpc_model.specs.Death.{code_status, die, end_process, end_threads, nt_terminate_process, nt_terminate_thread, post_death, post_deaths, death_post}
 use Rattle.lpc_model.specs.Deaths.{HasLivingRegistrations, has_living_registrations}
-use Rattle.lpc_model.specs.Named.{free_name, spelled_name}
-use Rattle.lpc_model.specs.Sweep.{free_unheld, sweep, unheld}
-use Rattle.lpc_model.specs.Lines.{ProcArg, ScriptCall, ScriptLine, boot, create_process, create_thread, dir, link, register_thread_terminate_port, run, terminate_process, terminate_thread, thread}
-use Rattle.lpc_model.specs.Machine.{bare_steps, boot_line, dir_line, link_line, name_of_call, ready_steps, service_of, step, thread_line, thread_steps, thread_test, unused_test}
+use Rattle.lpc_model.specs.Sweep.{sweep}
+use Rattle.lpc_model.specs.Lines.{ProcArg, ScriptCall, ScriptLine, create_process, create_thread, register_thread_terminate_port, terminate_process, terminate_thread}
+use Rattle.lpc_model.specs.Machine.{bare_steps, service_of, step}
 use Rattle.lpc_model.specs.SoundWaits.{IsSoundWorld}
 use Rattle.lpc_model.proofs.Closing.{behind, then-holds}
-use Rattle.lpc_model.proofs.Holding.{Holds, bind_holds, directed_holds, settled_holds}
+use Rattle.lpc_model.proofs.Holding.{Holds}
 use Rattle.lpc_model.proofs.Rows.{lone}
-use Rattle.lpc_model.proofs.SoundQueues.{after-append}
-use Rattle.lpc_model.proofs.Usable.{CanCall, can-call}
+use Rattle.lpc_model.proofs.Usable.{CanCall}
 use Rattle.lpc_model.proofs.Undying.{AreUndying, handle-undying, is_undying, register_holds, service-undying}
 use Rattle.lpc_model.proofs.Ending.{behind_dead, behind_told, ending-death, is_ending, process-ends, thread-ends, turn-keeps, world-ends}
 use Rattle.lpc_model.specs.Lawful.{HasThreadsOnce}
 use Rattle.lpc_model.proofs.DeathLines.{AreFound, death-still, die-threads, is_still, live-found, target-found}
 use Rattle.lpc_model.specs.Entering.{enter}
 use Rattle.lpc_model.proofs.Creating.{process-made, thread-made}
+use Rattle.lpc_model.proofs.EachLine.{passing_directives, sound_line_holds, stepped, sweep_every}
 use Rattle.lpc_model.specs.Creation.{nt_create_process, nt_create_thread}
 
 -- a list with a row that passes
@@ -351,55 +350,13 @@ service-living w by (register_thread_terminate_port handle) once c l = register_
     at b false = l
 service-living w by call once c l = undying_holds w _ l (service-undying w by call refl)
 
-ready-living : (w : World) (by : ThreadRow) (call : ScriptCall) (o : Option WaitRow) → (o ≡ None → CanCall w by) → HasThreadsOnce w → HasLivingRegistrations w → KeepRegistrationsLiving w (ready_steps by call o w)
-ready-living w by call (Some x) c once l = l
-ready-living w by call None c once l = settled_holds (KeepRegistrationsLiving w) by (name_of_call call) (service_of w by call) (service-living w by call once (c refl) l) (λ _ _. l)
-
-thread-lines : (w : World) (tid : ℕ) (call : ScriptCall) (o : Option ThreadRow) → live_thread w tid ≡ o → IsSoundWorld w → HasThreadsOnce w → HasLivingRegistrations w → KeepRegistrationsLiving w (thread_steps tid call o w)
-thread-lines w tid call None live s once l = l
-thread-lines w tid call (Some by) live s once l = ready-living w by call (wait_of w tid) (λ idle. can-call w tid by live idle s) once l
-
--- Directives
-boot-lasting : (w : World) (pid tid : ℕ) → Holds AreLasting (boot_line w pid tid)
-unfolding boot_line
-boot-lasting w pid tid = bind_holds (unused_test w pid tid) _ AreLasting (λ _ _. refl)
-
-further-lasting : (w : World) (tid pid : ℕ) → Holds AreLasting (thread_line w tid pid)
-unfolding thread_line
-further-lasting w tid pid = bind_holds (thread_test w tid pid) _ AreLasting (λ _ _. refl)
-
-dir-lasting : (w : World) (text : List ℕ) → Holds AreLasting (dir_line w text)
-unfolding dir_line
-dir-lasting w text = bind_holds (free_name w text) _ AreLasting (λ path _. refl)
-
-link-lasting : (w : World) (text target : List ℕ) → Holds AreLasting (link_line w text target)
-unfolding link_line
-link-lasting w text target =
-    bind_holds (spelled_name target) _ AreLasting (λ to _.
-    bind_holds (free_name w text) _ AreLasting (λ path _. refl))
-
 -- Lines
 pub line-living : (w : World) (line : ScriptLine) → IsSoundWorld w → HasThreadsOnce w → HasLivingRegistrations w → KeepRegistrationsLiving w (bare_steps line w)
-unfolding bare_steps
-line-living w (boot pid tid) s once l = directed_holds (KeepRegistrationsLiving w) word.Boot (boot_line w pid tid) (lasting_holds w (boot_line w pid tid) l (boot-lasting w pid tid)) (λ _. l)
-line-living w (thread tid pid) s once l = directed_holds (KeepRegistrationsLiving w) word.Thread (thread_line w tid pid) (lasting_holds w (thread_line w tid pid) l (further-lasting w tid pid)) (λ _. l)
-line-living w (dir path) s once l = directed_holds (KeepRegistrationsLiving w) word.Dir (dir_line w path) (lasting_holds w (dir_line w path) l (dir-lasting w path)) (λ _. l)
-line-living w (link path target) s once l = directed_holds (KeepRegistrationsLiving w) word.Link (link_line w path target) (lasting_holds w (link_line w path target) l (link-lasting w path target)) (λ _. l)
-line-living w (run tid call) s once l = thread-lines w tid call (live_thread w tid) refl s once l
-
-frees-lasting : (os : List ObjectName) → AreLasting (map Frees os)
-frees-lasting [] = refl
-frees-lasting (o ∷ os) = frees-lasting os
-
-sweep-lasting : (w : World) → AreLasting (sweep w)
-unfolding sweep
-sweep-lasting w =
-    let v = world_after w (free_unheld w) in
-    every-append is_lasting (free_unheld w) (free_unheld v) (frees-lasting (unheld w)) (frees-lasting (unheld v))
+line-living w line s once l =
+    sound_line_holds w (KeepRegistrationsLiving w) (λ _. l) s
+    (passing_directives w is_lasting (KeepRegistrationsLiving w) (λ bs all. living-all w bs all l) (record { boots = λ _ _ _ _. refl; threads = λ _ _ _ _. refl; dirs = λ _. refl; links = λ _ _. refl }))
+    (λ by call c. service-living w by call once c l) line
 
 -- the step of a line leaves registrations to live threads alone
 pub living_registrations_step : (w : World) (line : ScriptLine) → IsSoundWorld w → HasThreadsOnce w → HasLivingRegistrations w → HasLivingRegistrations (step w line).world
-living_registrations_step w line s once l =
-    let bs = bare_steps line w in
-    let v = world_after w bs in
-    rw (after-append w bs (sweep v)) (living-all v (sweep v) (sweep-lasting v) (line-living w line s once l))
+living_registrations_step w line s once l = stepped HasLivingRegistrations w line (λ v. living-all v (sweep v) (sweep_every is_lasting (λ _. refl) v)) (line-living w line s once l)

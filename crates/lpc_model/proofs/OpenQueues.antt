@@ -1,5 +1,5 @@
 -- Each line keeps messages in queues of open ports, and what waits to be received.
-use Rattle.std.proofs.Common.{◌≡◌, ℕ, ◌≤◌, List, [], ◌∷◌, ◌++◌, Bool, true, false, map, not, Option, Some, None, refl, sym, subst, arith}
+use Rattle.std.proofs.Common.{◌≡◌, ℕ, ◌≤◌, List, [], ◌∷◌, ◌++◌, Bool, true, false, not, Option, Some, None, refl, sym, subst, arith}
 use Rattle.std.proofs.lemmas.Bool.{and_from, not-true, or_left, or_right}
 use Rattle.std.specs.Prelude.{◌&&◌, ◌||◌, Result, Ok, Err}
 use Rattle.lpc_base.specs.Rows.{count, every, first, given, when}
@@ -16,27 +16,27 @@ use Rattle.lpc_names.specs.declared.names.Found.TheVariants.{Item}
 use Rattle.lpc_model.specs.declared.entry.ObjectKind.TheVariants as kind
 use Rattle.lpc_model.specs.declared.entry.Word.TheVariants as word
 use Rattle.lpc_model.specs.World.{Birth, HandleRow, Message, MessageRow, ObjectKind, ObjectName, PortRow, ThreadRow, WaitRow, World, no_rows}
-use Rattle.lpc_model.specs.Found.{free_handle, handle_at, has_handle_to, is_accepted, is_connection_port, is_open, is_own_of, is_queued, is_queued_connect, is_table, is_taken, live_thread, live_threads, port_name, queue_of, wait_of, waits_as, waits_at}
+use Rattle.lpc_model.specs.Found.{free_handle, handle_at, has_handle_to, is_accepted, is_connection_port, is_open, is_own_of, is_queued, is_queued_connect, is_table, is_taken, live_threads, port_name, queue_of, waits_as, waits_at}
 use Rattle.lpc_model.specs.Basics.{Accepts, AddsHandle, AddsProcess, AddsThread, Awaits, Basic, Binds, Completes, Cuts, Dies, DrawsIdentifier, DrawsOrdinal, DropsHandle, Empties, Enters, Frees, Joins, Makes, Receives, Registers, Takes, TakesConnect, Tells, Unbinds, Unregisters, Wakes, Withdraws, accepted, basic, freed, no_handles, received, world_after, with_handle}
-use Rattle.lpc_model.specs.Sweep.{free_unheld, sweep, unheld}
+use Rattle.lpc_model.specs.Sweep.{sweep}
 use Rattle.lpc_model.specs.Message.{asks, message_test}
 use Rattle.lpc_model.specs.Fields.{h, info, max}
 use Rattle.lpc_model.specs.Entering.{enter, given_steps, received_steps, row_of, shown, takes, woken}
-use Rattle.lpc_model.specs.Named.{free_name, named_port, spelled_name}
+use Rattle.lpc_model.specs.Named.{free_name, named_port}
 use Rattle.lpc_model.specs.Refusal.{found_or, refuse_if}
 use Rattle.lpc_model.specs.Tests.{PORT_ACCESS, handle_row, handles_test, next_birth, own_handle, port_test}
 use Rattle.lpc_model.specs.Connect.{Completable, ConnectAnswer, accept_steps, answer_of, answer_test, answered_steps, client_port, complete_steps, complete_test, connect_start, connection_request, create_steps, info_test, listen_steps, making, names_connect, new_port, nt_accept_connect_port, nt_complete_connect_port, nt_connect_port, nt_create_port, nt_listen_port, refuse_steps, server_port}
 use Rattle.lpc_model.specs.Request.{Sendable, reply_test, datagram_send_test, datagram_start, datagram_test, given_reply, is_spent, nt_reply_port, nt_reply_wait_receive_port, nt_request_port, nt_request_wait_reply_port, optional_message, receive_steps, receive_test, request_start, send_test, sent_by}
-use Rattle.lpc_model.specs.Lines.{ProcArg, ScriptCall, ScriptLine, accept_connect_port, boot, close, complete_connect_port, connect_port, create_port, create_process, create_thread, dir, duplicate_object, link, listen_port, query_object, register_thread_terminate_port, reply_port, reply_wait_receive_port, request_port, request_wait_reply_port, run, terminate_process, terminate_thread, thread}
-use Rattle.lpc_model.specs.Machine.{bare_steps, boot_line, dir_line, link_line, name_of_call, ready_steps, service_of, thread_line, thread_steps, thread_test, unused_test}
+use Rattle.lpc_model.specs.Lines.{ProcArg, ScriptCall, ScriptLine, accept_connect_port, close, complete_connect_port, connect_port, create_port, create_process, create_thread, duplicate_object, listen_port, query_object, register_thread_terminate_port, reply_port, reply_wait_receive_port, request_port, request_wait_reply_port, terminate_process, terminate_thread, thread}
+use Rattle.lpc_model.specs.Machine.{bare_steps, service_of}
 use Rattle.lpc_model.specs.Close.{close_handle, close_port, is_last, nt_close}
 use Rattle.lpc_model.specs.Counts.{asked, nt_duplicate_object, nt_query_object, rights_test}
 use Rattle.lpc_model.specs.Linked.{IsLinked}
 use Rattle.lpc_model.specs.SoundWaits.{HasShutConnects, IsSoundWorld, is_sound_wait}
 use Rattle.lpc_model.specs.OpenQueues.{HasOpenQueues, StepsKeepQueuesOpen}
-use Rattle.lpc_model.proofs.Holding.{Holds, bind_holds, directed_holds, found_ok, holds_ok, settled_holds}
+use Rattle.lpc_model.proofs.Holding.{Holds, bind_holds, found_ok, holds_ok}
 use Rattle.lpc_model.proofs.Handles.{open-add}
-use Rattle.lpc_model.proofs.Usable.{HasRoute, IsUsable, port-usable, queue-open, CanCall, can-call}
+use Rattle.lpc_model.proofs.Usable.{HasRoute, IsUsable, port-usable, queue-open, CanCall}
 use Rattle.lpc_model.proofs.SoundWorlds.{by_kind}
 use Rattle.lpc_model.proofs.SoundQueues.{after-append}
 use Rattle.lpc_model.proofs.SoundCalls.{send-routed}
@@ -59,6 +59,7 @@ use Rattle.lpc_model.specs.Creation.{gives_life, new_process, new_thread, nt_cre
 use Rattle.lpc_model.specs.Targets.{LIFE_ACCESS}
 use Rattle.lpc_model.proofs.SoundBasics.{sound-ordinal, sound-process}
 use Rattle.lpc_model.proofs.Rows.{count-change}
+use Rattle.lpc_model.proofs.EachLine.{passing_directives, sound_line_holds, stepped, sweep_every}
 
 -- What keeps queues open
 -- the ports that are open in one world are open in another
@@ -524,62 +525,24 @@ service-open w by (create_thread target tid) c s shut l q = create-thread-open w
 service-open w by (terminate_thread target code) c s shut l q = terminate-thread-open w by target code s shut l q
 service-open w by (terminate_process target code) c s shut l q = terminate-process-open w by target code s shut l q
 
-ready-open : (w : World) (by : ThreadRow) (call : ScriptCall) (o : Option WaitRow) → (o ≡ None → CanCall w by) → IsSoundWorld w → HasShutConnects w → IsLinked w → HasOpenQueues w → KeepOpen w (ready_steps by call o w)
-ready-open w by call (Some x) c s shut l q = q
-ready-open w by call None c s shut l q = settled_holds (KeepOpen w) by (name_of_call call) (service_of w by call) (service-open w by call (c refl) s shut l q) (λ _ _. q)
-
-thread-open : (w : World) (tid : ℕ) (call : ScriptCall) (o : Option ThreadRow) → live_thread w tid ≡ o → IsSoundWorld w → HasShutConnects w → IsLinked w → HasOpenQueues w → KeepOpen w (thread_steps tid call o w)
-thread-open w tid call None live s shut l q = q
-thread-open w tid call (Some by) live s shut l q = ready-open w by call (wait_of w tid) (λ idle. can-call w tid by live idle s) s shut l q
-
--- Directives
-boot-open : (w : World) (pid tid : ℕ) → Holds (AreOpen w) (boot_line w pid tid)
-unfolding boot_line
-boot-open w pid tid = bind_holds (unused_test w pid tid) _ (AreOpen w) (λ _ _. refl)
-
-further-open : (w : World) (tid pid : ℕ) → Holds (AreOpen w) (thread_line w tid pid)
-unfolding thread_line
-further-open w tid pid = bind_holds (thread_test w tid pid) _ (AreOpen w) (λ _ _. refl)
-
-dir-open : (w : World) (text : List ℕ) → Holds (AreOpen w) (dir_line w text)
-unfolding dir_line
-dir-open w text = bind_holds (free_name w text) _ (AreOpen w) (λ path _. refl)
-
-link-open : (w : World) (text target : List ℕ) → Holds (AreOpen w) (link_line w text target)
-unfolding link_line
-link-open w text target =
-    bind_holds (spelled_name target) _ (AreOpen w) (λ to _.
-    bind_holds (free_name w text) _ (AreOpen w) (λ path _. refl))
-
 -- Lines
 -- before rows go
 pub queues_line : (w : World) (line : ScriptLine) → IsSoundWorld w → HasShutConnects w → IsLinked w → HasOpenQueues w → HasOpenQueues (world_after w (bare_steps line w))
-unfolding bare_steps
-queues_line w (boot pid tid) s shut l q = directed_holds (KeepOpen w) word.Boot (boot_line w pid tid) (open_holds w (boot_line w pid tid) q (boot-open w pid tid)) (λ _. q)
-queues_line w (thread tid pid) s shut l q = directed_holds (KeepOpen w) word.Thread (thread_line w tid pid) (open_holds w (thread_line w tid pid) q (further-open w tid pid)) (λ _. q)
-queues_line w (dir path) s shut l q = directed_holds (KeepOpen w) word.Dir (dir_line w path) (open_holds w (dir_line w path) q (dir-open w path)) (λ _. q)
-queues_line w (link path target) s shut l q = directed_holds (KeepOpen w) word.Link (link_line w path target) (open_holds w (link_line w path target) q (link-open w path target)) (λ _. q)
-queues_line w (run tid call) s shut l q = thread-open w tid call (live_thread w tid) refl s shut l q
+queues_line w line s shut l q =
+    sound_line_holds w (KeepOpen w) (λ _. q) s
+    (passing_directives w (is_open_step w) (KeepOpen w) (λ bs all. open-all w bs all q) (record { boots = λ _ _ _ _. refl; threads = λ _ _ _ _. refl; dirs = λ _. refl; links = λ _ _. refl }))
+    (λ by call c. service-open w by call c s shut l q) line
 
 -- the row of an object that goes takes no handle, no message and no wait away
 pub queues_freed : (w : World) (o : ObjectName) → HasOpenQueues w → HasOpenQueues (basic w (Frees o))
 queues_freed w o q = open-all w (Frees o ∷ []) refl q
 
-freed-open : (w : World) (os : List ObjectName) → AreOpen w (map Frees os)
-freed-open w [] = refl
-freed-open w (o ∷ os) = freed-open w os
-
 pub queues_swept : (w : World) → HasOpenQueues w → HasOpenQueues (world_after w (sweep w))
-unfolding sweep
-queues_swept w q =
-    let v = world_after w (free_unheld w) in
-    open-all w (sweep w) (every-append (is_open_step w) (free_unheld w) (free_unheld v) (freed-open w (unheld w)) (freed-open w (unheld v))) q
+queues_swept w = open-all w (sweep w) (sweep_every (is_open_step w) (λ _. refl) w)
 
 -- the step of a line keeps queues open
 pub queues_step : StepsKeepQueuesOpen
-queues_step w line s shut l q =
-    let bs = bare_steps line w in
-    rw (after-append w bs (sweep (world_after w bs))) (queues_swept (world_after w bs) (queues_line w line s shut l q))
+queues_step w line s shut l q = stepped HasOpenQueues w line queues_swept (queues_line w line s shut l q)
 
 pub queues_none : HasOpenQueues no_rows
 queues_none = record { messages = refl; waits = refl; accepts = refl }

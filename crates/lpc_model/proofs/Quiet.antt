@@ -6,21 +6,20 @@ use Rattle.lpc_base.specs.Rows.{count, has, which}
 use Rattle.lpc_base.proofs.RowWords.{count-has, every-push, has-kept, has-push}
 use Rattle.lpc_base.proofs.Births.{birth-self}
 use Rattle.lpc_model.specs.declared.entry.Word.TheVariants as word
-use Rattle.lpc_model.specs.World.{Birth, Node, ObjectName, Path, ProcessRow, ThreadRow, WaitRow, World}
-use Rattle.lpc_model.specs.Found.{handle_count, is_connected_to, is_life, is_made_on, is_paired_to, is_sent_on, live_thread, live_threads, lives_by, lives_in, port_name, process_name, registered_by, same_birth, same_object, thread_name, wait_of, is_table, free_handle}
+use Rattle.lpc_model.specs.World.{Birth, Node, ObjectName, Path, ProcessRow, ThreadRow, World}
+use Rattle.lpc_model.specs.Found.{handle_count, is_connected_to, is_life, is_made_on, is_paired_to, is_sent_on, live_threads, lives_by, lives_in, port_name, process_name, registered_by, same_birth, same_object, thread_name, wait_of, is_table, free_handle}
 use Rattle.lpc_model.specs.Basics.{AddsProcess, AddsThread, Basic, Binds, Dies, Withdraws, basic, in_turn, no_handles, world_after, DrawsOrdinal, AddsHandle, with_handle}
-use Rattle.lpc_model.specs.Lines.{ProcArg, ScriptCall, ScriptLine, accept_connect_port, boot, close, complete_connect_port, connect_port, create_port, create_process, create_thread, dir, duplicate_object, link, listen_port, query_object, register_thread_terminate_port, reply_port, reply_wait_receive_port, request_port, request_wait_reply_port, run, terminate_process, terminate_thread, thread}
+use Rattle.lpc_model.specs.Lines.{ProcArg, ScriptCall, ScriptLine, accept_connect_port, close, complete_connect_port, connect_port, create_port, create_process, create_thread, duplicate_object, listen_port, query_object, register_thread_terminate_port, reply_port, reply_wait_receive_port, request_port, request_wait_reply_port, terminate_process, terminate_thread}
 use Rattle.lpc_names.specs.Walk.{LinkTo, Stands}
 use Rattle.lpc_names.specs.declared.names.Found.TheVariants.{Directory}
-use Rattle.lpc_model.specs.Named.{free_name, spelled_name}
-use Rattle.lpc_model.specs.Machine.{bare_steps, boot_line, dir_line, directive_birth, link_line, name_of_call, new_process, new_thread, ready_steps, service_of, thread_line, thread_steps, thread_test, unused_test}
+use Rattle.lpc_model.specs.Machine.{bare_steps, directive_birth, new_process, new_thread, service_of}
 use Rattle.lpc_model.specs.Sweep.{loosened, loosens, unheld}
 use Rattle.lpc_model.specs.Linked.{AreLivesHeld, HasHeldPorts, HasHeldRows}
 use Rattle.lpc_model.specs.SoundWaits.{IsSoundWorld}
 use Rattle.lpc_model.proofs.SoundFrees.{fewer-pass}
-use Rattle.lpc_model.proofs.Holding.{Holds, bind_holds, directed_holds, settled_holds}
+use Rattle.lpc_model.proofs.Holding.{Holds}
 use Rattle.lpc_model.proofs.Registrations.{push-each}
-use Rattle.lpc_model.proofs.Usable.{CanCall, can-call}
+use Rattle.lpc_model.proofs.Usable.{CanCall}
 use Rattle.lpc_model.proofs.SteadyListen.{listen-steady}
 use Rattle.lpc_model.proofs.SteadyDatagram.{datagram-steady}
 use Rattle.lpc_model.proofs.SteadyRequest.{request-steady}
@@ -48,6 +47,7 @@ use Rattle.lpc_model.specs.Tests.{handle_row, next_birth}
 use Rattle.lpc_model.specs.Targets.{LIFE_ACCESS}
 use Rattle.lpc_model.proofs.SoundBasics.{sound-ordinal, sound-process}
 use Rattle.lpc_model.proofs.Rows.{count-change}
+use Rattle.lpc_model.proofs.EachLine.{sound_line_holds}
 
 -- NtTerminateThread and NtTerminateProcess let a thread go
 loosened-front : (xs ys : List Basic) (before : Bool) → loosened before xs ≡ true → loosened before (xs ++ ys) ≡ true
@@ -258,81 +258,34 @@ service-quiet w by (create_thread target tid) c s held = create-thread-held HasH
 service-quiet w by (terminate_thread target code) c s held = loose-quiet w _ (thread-loosens w by target code)
 service-quiet w by (terminate_process target code) c s held = loose-quiet w _ (process-loosens w by target code)
 
-ready-lives : (w : World) (by : ThreadRow) (call : ScriptCall) (o : Option WaitRow) → (o ≡ None → CanCall w by) → IsSoundWorld w → AreLivesHeld w → KeepLivesQuiet w (ready_steps by call o w)
-ready-lives w by call (Some x) c s held = λ _. held
-ready-lives w by call None c s held = settled_holds (KeepLivesQuiet w) by (name_of_call call) (service_of w by call) (service-lives w by call (c refl) s held) (λ _ _. λ _. held)
-
-thread-lives : (w : World) (tid : ℕ) (call : ScriptCall) (o : Option ThreadRow) → live_thread w tid ≡ o → IsSoundWorld w → AreLivesHeld w → KeepLivesQuiet w (thread_steps tid call o w)
-thread-lives w tid call None live s held = λ _. held
-thread-lives w tid call (Some by) live s held = ready-lives w by call (wait_of w tid) (λ idle. can-call w tid by live idle s) s held
-
-ready-quiet : (w : World) (by : ThreadRow) (call : ScriptCall) (o : Option WaitRow) → (o ≡ None → CanCall w by) → IsSoundWorld w → HasHeldPorts w → KeepQuiet w (ready_steps by call o w)
-ready-quiet w by call (Some x) c s held = λ _. held
-ready-quiet w by call None c s held = settled_holds (KeepQuiet w) by (name_of_call call) (service_of w by call) (service-quiet w by call (c refl) s held) (λ _ _. λ _. held)
-
-thread-quiet : (w : World) (tid : ℕ) (call : ScriptCall) (o : Option ThreadRow) → live_thread w tid ≡ o → IsSoundWorld w → HasHeldPorts w → KeepQuiet w (thread_steps tid call o w)
-thread-quiet w tid call None live s held = λ _. held
-thread-quiet w tid call (Some by) live s held = ready-quiet w by call (wait_of w tid) (λ idle. can-call w tid by live idle s) s held
-
--- Directives
-boot-lives : (w : World) (pid tid : ℕ) → AreLivesHeld w → Holds (KeepLives w) (boot_line w pid tid)
-unfolding boot_line
-boot-lives w pid tid held = bind_holds (unused_test w pid tid) _ (KeepLives w) (λ _ _. boot-held w pid tid None (directive_birth pid pid) (directive_birth tid pid) held)
-
-boot-quiet : (w : World) (pid tid : ℕ) → HasHeldPorts w → Holds (KeepQuiet w) (boot_line w pid tid)
-unfolding boot_line
-boot-quiet w pid tid held = bind_holds (unused_test w pid tid) _ (KeepQuiet w) (λ _ _. λ _. boot-ports w pid tid None (directive_birth pid pid) (directive_birth tid pid) held)
-
-further-lives : (w : World) (tid pid : ℕ) → AreLivesHeld w → Holds (KeepLives w) (thread_line w tid pid)
-unfolding thread_line
-further-lives w tid pid held = bind_holds (thread_test w tid pid) _ (KeepLives w) (λ _ _. further-thread w tid pid (directive_birth tid pid) held)
-
-further-quiet : (w : World) (tid pid : ℕ) → HasHeldPorts w → Holds (KeepQuiet w) (thread_line w tid pid)
-unfolding thread_line
-further-quiet w tid pid held = bind_holds (thread_test w tid pid) _ (KeepQuiet w) (λ _ _. λ _. further-ports w tid pid (directive_birth tid pid) held)
-
 -- a name that is bound holds no row
 bound-lives : (w : World) (path : Path) (node : Node Birth) → AreLivesHeld w → AreLivesHeld (basic w (Binds path node))
 bound-lives w path node held = record { threads = held.threads; processes = held.processes }
 
-dir-lives : (w : World) (text : List ℕ) → AreLivesHeld w → Holds (KeepLives w) (dir_line w text)
-unfolding dir_line
-dir-lives w text held = bind_holds (free_name w text) _ (KeepLives w) (λ path _. bound-lives w path (Stands Directory) held)
-
-dir-quiet : (w : World) (text : List ℕ) → HasHeldPorts w → Holds (KeepQuiet w) (dir_line w text)
-unfolding dir_line
-dir-quiet w text held = bind_holds (free_name w text) _ (KeepQuiet w) (λ _ _. λ _. held)
-
-link-lives : (w : World) (text target : List ℕ) → AreLivesHeld w → Holds (KeepLives w) (link_line w text target)
-unfolding link_line
-link-lives w text target held =
-    bind_holds (spelled_name target) _ (KeepLives w) (λ to _.
-    bind_holds (free_name w text) _ (KeepLives w) (λ path _. bound-lives w path (LinkTo to) held))
-
-link-quiet : (w : World) (text target : List ℕ) → HasHeldPorts w → Holds (KeepQuiet w) (link_line w text target)
-unfolding link_line
-link-quiet w text target held =
-    bind_holds (spelled_name target) _ (KeepQuiet w) (λ to _.
-    bind_holds (free_name w text) _ (KeepQuiet w) (λ path _. λ _. held))
-
 -- Lines
 -- before rows go, each process and thread row is named by a row, where the line lets no name go
 pub lives_kept : (w : World) (line : ScriptLine) → IsSoundWorld w → AreLivesHeld w → loosened false (bare_steps line w) ≡ false → AreLivesHeld (world_after w (bare_steps line w))
-unfolding bare_steps
-lives_kept w (boot pid tid) s held = directed_holds (KeepLivesQuiet w) word.Boot (boot_line w pid tid) (lives-later w (boot_line w pid tid) (boot-lives w pid tid held)) (λ _. λ _. held)
-lives_kept w (thread tid pid) s held = directed_holds (KeepLivesQuiet w) word.Thread (thread_line w tid pid) (lives-later w (thread_line w tid pid) (further-lives w tid pid held)) (λ _. λ _. held)
-lives_kept w (dir path) s held = directed_holds (KeepLivesQuiet w) word.Dir (dir_line w path) (lives-later w (dir_line w path) (dir-lives w path held)) (λ _. λ _. held)
-lives_kept w (link path target) s held = directed_holds (KeepLivesQuiet w) word.Link (link_line w path target) (lives-later w (link_line w path target) (link-lives w path target held)) (λ _. λ _. held)
-lives_kept w (run tid call) s held = thread-lives w tid call (live_thread w tid) refl s held
+lives_kept w line s held =
+    sound_line_holds w (KeepLivesQuiet w) (λ _ _. held) s
+    (record {
+      boots = λ pid tid _ _ _. boot-held w pid tid None (directive_birth pid pid) (directive_birth tid pid) held;
+      threads = λ tid pid _ _ _. further-thread w tid pid (directive_birth tid pid) held;
+      dirs = λ path _. bound-lives w path (Stands Directory) held;
+      links = λ path to _. bound-lives w path (LinkTo to) held;
+    })
+    (λ by call c. service-lives w by call c s held) line
 
 -- and each port row, where the line lets no name go
 pub ports_kept : (w : World) (line : ScriptLine) → IsSoundWorld w → HasHeldPorts w → loosened false (bare_steps line w) ≡ false → HasHeldPorts (world_after w (bare_steps line w))
-unfolding bare_steps
-ports_kept w (boot pid tid) s held = directed_holds (KeepQuiet w) word.Boot (boot_line w pid tid) (boot-quiet w pid tid held) (λ _. λ _. held)
-ports_kept w (thread tid pid) s held = directed_holds (KeepQuiet w) word.Thread (thread_line w tid pid) (further-quiet w tid pid held) (λ _. λ _. held)
-ports_kept w (dir path) s held = directed_holds (KeepQuiet w) word.Dir (dir_line w path) (dir-quiet w path held) (λ _. λ _. held)
-ports_kept w (link path target) s held = directed_holds (KeepQuiet w) word.Link (link_line w path target) (link-quiet w path target held) (λ _. λ _. held)
-ports_kept w (run tid call) s held = thread-quiet w tid call (live_thread w tid) refl s held
+ports_kept w line s held =
+    sound_line_holds w (KeepQuiet w) (λ _ _. held) s
+    (record {
+      boots = λ pid tid _ _ _. boot-ports w pid tid None (directive_birth pid pid) (directive_birth tid pid) held;
+      threads = λ tid pid _ _ _. further-ports w tid pid (directive_birth tid pid) held;
+      dirs = λ _ _. held;
+      links = λ _ _ _. held;
+    })
+    (λ by call c. service-quiet w by call c s held) line
 
 -- so such a line leaves no row that no row names
 pub quiet_line : (w : World) (line : ScriptLine) → IsSoundWorld w → HasHeldRows w → loosened false (bare_steps line w) ≡ false → unheld (world_after w (bare_steps line w)) ≡ []

@@ -1,5 +1,5 @@
 -- Basic steps keep what stands in queues of closings.
-use Rattle.std.proofs.Common.{◌≡◌, ℕ, ◌+◌, ◌≤◌, List, [], ◌∷◌, ◌++◌, Bool, true, false, cond, map, not, Option, Some, None, refl, sym, subst, arith}
+use Rattle.std.proofs.Common.{◌≡◌, ℕ, ◌+◌, ◌≤◌, List, [], ◌∷◌, ◌++◌, Bool, true, false, cond, not, Option, Some, None, refl, sym, subst, arith}
 use Rattle.std.proofs.lemmas.Bool.{or_left}
 use Rattle.std.specs.Prelude.{◌&&◌, ◌||◌, nat_lt}
 use Rattle.lpc_base.specs.Rows.{count, every, first, has, which, without_first}
@@ -7,20 +7,20 @@ use Rattle.lpc_base.proofs.RowWords.{count-fewer, count-push, every-change, ever
 use Rattle.lpc_base.proofs.RowMaps.{every-both, every-first, every-without_first}
 use Rattle.lpc_base.proofs.Births.{birth-same, births-apart}
 use Rattle.lpc_model.specs.declared.entry.ObjectKind.TheVariants as kind
-use Rattle.lpc_model.specs.World.{Birth, HandleRow, HandleTable, MessageRow, ObjectKind, ObjectName, WaitRow, World}
+use Rattle.lpc_model.specs.World.{Birth, HandleRow, HandleTable, MessageRow, ObjectKind, WaitRow, World}
 use Rattle.lpc_model.specs.Found.{has_handle_to, has_value, is_connect, is_open, is_own_of, is_port, is_queued, is_queued_connect, is_sent_on, is_table, names_port, port_name, same_birth, same_kind, waits_as, waits_at}
 use Rattle.lpc_model.specs.Basics.{Accepts, AddsHandle, AddsProcess, Awaits, Basic, Dies, DropsHandle, Empties, Enters, Frees, Receives, Takes, TakesConnect, Tells, Wakes, Withdraws, accepted, basic, freed, no_handles, put_handle, received, with_handle, without_handle, world_after}
 use Rattle.lpc_model.specs.Tests.{handle_row}
-use Rattle.lpc_model.specs.Sweep.{free_unheld, sweep, unheld}
+use Rattle.lpc_model.specs.Sweep.{sweep}
 use Rattle.lpc_model.specs.Closings.{is_closed_post}
 use Rattle.lpc_model.specs.SoundWaits.{is_connect_on}
 use Rattle.lpc_model.specs.Standing.{NamesWhatStands, names_object, stands_as}
 use Rattle.lpc_model.specs.SingleClosings.{HasSingleClosings, is_closing_of, is_shut}
 use Rattle.lpc_model.proofs.Rows.{count-less, has-append, has-off}
 use Rattle.lpc_model.proofs.SoundWorlds.{by_kind}
-use Rattle.lpc_model.proofs.SoundQueues.{after-append}
 use Rattle.lpc_model.proofs.Closing.{IsFewer}
 use Rattle.lpc_model.proofs.Told.{AreHushed, is_hushed}
+use Rattle.lpc_model.proofs.EachLine.{sweep_every}
 
 -- What is kept
 -- a message tells of no port that isn't shut; a connect waits on a port that isn't open
@@ -130,15 +130,8 @@ hushed-all w (b ∷ bs) all u =
     second-true : (x y : Bool) → (x && y) ≡ true → y ≡ true
     second-true x y is = grind arith
 
-frees-hushed : (os : List ObjectName) → AreHushed (map Frees os)
-frees-hushed [] = refl
-frees-hushed (o ∷ os) = frees-hushed os
-
 pub swept-untold : (w : World) → HasSingleClosings w → HasSingleClosings (world_after w (sweep w))
-unfolding sweep
-swept-untold w u =
-    let v = world_after w (free_unheld w) in
-    rw (after-append w (free_unheld w) (free_unheld v)) (hushed-all v (free_unheld v) (frees-hushed (unheld v)) (hushed-all w (free_unheld w) (frees-hushed (unheld w)) u))
+swept-untold w = hushed-all w (sweep w) (sweep_every is_hushed (λ _. refl) w)
 
 -- Open ports
 -- of an open port no message tells that it is closed, and no connect waits on it

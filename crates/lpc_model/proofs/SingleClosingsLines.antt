@@ -14,9 +14,8 @@ use Rattle.lpc_names.specs.Walk.{Stands}
 use Rattle.lpc_names.specs.declared.names.Found.TheVariants.{Item}
 use Rattle.lpc_model.specs.declared.entry.Word.TheVariants as word
 use Rattle.lpc_model.specs.World.{Birth, MessageRow, ThreadRow, WaitRow, World, no_rows}
-use Rattle.lpc_model.specs.Found.{free_handle, handle_at, is_accepted, is_open, is_port, is_server_port, live_thread, live_threads, port_name, same_birth, wait_of, waits_as, process_name, thread_name}
+use Rattle.lpc_model.specs.Found.{free_handle, handle_at, is_accepted, is_open, is_port, is_server_port, live_threads, port_name, same_birth, waits_as, process_name, thread_name}
 use Rattle.lpc_model.specs.Basics.{Accepts, AddsHandle, Basic, Binds, Completes, DrawsIdentifier, DrawsOrdinal, Joins, Makes, Unregisters, basic, world_after, AddsProcess, AddsThread}
-use Rattle.lpc_model.specs.Sweep.{sweep}
 use Rattle.lpc_model.specs.Fields.{h, info, max}
 use Rattle.lpc_model.specs.Entering.{enter, row_of, woken}
 use Rattle.lpc_model.specs.Named.{free_name, named_port}
@@ -25,20 +24,19 @@ use Rattle.lpc_model.specs.Tests.{PORT_ACCESS, handle_row, handles_test, next_bi
 use Rattle.lpc_model.specs.Connect.{Completable, ConnectAnswer, accept_steps, answer_of, answer_test, answered_steps, client_port, complete_steps, complete_test, connect_start, connect_steps, connect_wait, connection_request, create_steps, info_test, is_accepted_on, making, new_port, nt_accept_connect_port, nt_complete_connect_port, nt_connect_port, nt_create_port, refuse_steps, server_port}
 use Rattle.lpc_model.specs.Counts.{asked, nt_duplicate_object, rights_test}
 use Rattle.lpc_model.specs.Closings.{is_closed_post}
-use Rattle.lpc_model.specs.Lines.{ProcArg, ScriptCall, ScriptLine, accept_connect_port, boot, close, complete_connect_port, connect_port, create_port, create_process, create_thread, dir, duplicate_object, link, listen_port, query_object, register_thread_terminate_port, reply_port, reply_wait_receive_port, request_port, request_wait_reply_port, run, terminate_process, terminate_thread, thread}
-use Rattle.lpc_model.specs.Machine.{bare_steps, boot_line, dir_line, link_line, name_of_call, ready_steps, service_of, thread_line, thread_steps}
+use Rattle.lpc_model.specs.Lines.{ProcArg, ScriptCall, ScriptLine, accept_connect_port, close, complete_connect_port, connect_port, create_port, create_process, create_thread, duplicate_object, listen_port, query_object, register_thread_terminate_port, reply_port, reply_wait_receive_port, request_port, request_wait_reply_port, terminate_process, terminate_thread, thread}
+use Rattle.lpc_model.specs.Machine.{bare_steps, service_of}
 use Rattle.lpc_model.specs.SoundWaits.{IsSoundWorld, can_stay_sound, is_connect_on}
 use Rattle.lpc_model.specs.Standing.{NamesWhatStands}
 use Rattle.lpc_model.specs.SingleClosings.{HasSingleClosings, StepsKeepSingleClosings, is_closing_of}
 use Rattle.lpc_model.proofs.Rows.{has-found}
-use Rattle.lpc_model.proofs.Holding.{Holds, bind_holds, directed_holds, found_ok, holds_ok, settled_holds}
-use Rattle.lpc_model.proofs.Usable.{CanCall, can-call, handle-open}
+use Rattle.lpc_model.proofs.Holding.{Holds, bind_holds, found_ok, holds_ok}
+use Rattle.lpc_model.proofs.Usable.{CanCall, handle-open}
 use Rattle.lpc_model.proofs.SoundWorlds.{by_kind}
-use Rattle.lpc_model.proofs.SoundQueues.{after-append}
 use Rattle.lpc_model.proofs.SoundAccept.{foreign-connect, unconnected}
 use Rattle.lpc_model.proofs.LinkedCalls.{unmade}
-use Rattle.lpc_model.proofs.Told.{AreHushed, hushed-enter}
-use Rattle.lpc_model.proofs.ToldLines.{boot-hushed, datagram-hushed, die-hushed, dir-hushed, further-hushed, link-hushed, listen-hushed, query-hushed, receive-hushed, register-hushed, reply-hushed, request-hushed}
+use Rattle.lpc_model.proofs.Told.{AreHushed, hushed-enter, is_hushed}
+use Rattle.lpc_model.proofs.ToldLines.{datagram-hushed, die-hushed, listen-hushed, query-hushed, receive-hushed, register-hushed, reply-hushed, request-hushed}
 use Rattle.lpc_model.proofs.SingleClosings.{added-untold, further-untold, hushed-all, offered-untold, open-stands, swept-untold, tells_shut}
 use Rattle.lpc_model.proofs.SingleClosingsClose.{close-untold, handle-untold}
 use Rattle.lpc_model.specs.Death.{code_status, die, end_threads, nt_terminate_process, nt_terminate_thread}
@@ -47,6 +45,7 @@ use Rattle.lpc_model.proofs.Ending.{end-keeps, process-ends, thread-ends, told-f
 use Rattle.lpc_model.proofs.SoundTerminate.{IsSafe, die-safe, enter-safe, handle-safe, sound-of, unregister-safe}
 use Rattle.lpc_model.proofs.Closing.{behind}
 use Rattle.lpc_model.proofs.Creating.{process-made, thread-made}
+use Rattle.lpc_model.proofs.EachLine.{passing_directives, sound_line_holds, stepped}
 use Rattle.lpc_model.specs.Creation.{new_process, new_thread, nt_create_process, nt_create_thread, second_birth, second_handle}
 use Rattle.lpc_model.specs.Targets.{LIFE_ACCESS}
 
@@ -262,29 +261,17 @@ service-untold w by (create_thread target tid) c s n u = create-thread-untold w 
 service-untold w by (terminate_thread target code) c s n u = terminate-thread-untold w by target code s u
 service-untold w by (terminate_process target code) c s n u = terminate-process-untold w by target code s u
 
-ready-untold : (w : World) (by : ThreadRow) (call : ScriptCall) (o : Option WaitRow) → (o ≡ None → CanCall w by) → IsSoundWorld w → NamesWhatStands w → HasSingleClosings w → KeepUntold w (ready_steps by call o w)
-ready-untold w by call (Some x) c s n u = u
-ready-untold w by call None c s n u = settled_holds (KeepUntold w) by (name_of_call call) (service_of w by call) (service-untold w by call (c refl) s n u) (λ _ _. u)
-
-thread-untold : (w : World) (tid : ℕ) (call : ScriptCall) (o : Option ThreadRow) → live_thread w tid ≡ o → IsSoundWorld w → NamesWhatStands w → HasSingleClosings w → KeepUntold w (thread_steps tid call o w)
-thread-untold w tid call None live s n u = u
-thread-untold w tid call (Some by) live s n u = ready-untold w by call (wait_of w tid) (λ idle. can-call w tid by live idle s) s n u
-
 -- Lines
 -- before rows go
 pub untold_line : (w : World) (line : ScriptLine) → IsSoundWorld w → NamesWhatStands w → HasSingleClosings w → HasSingleClosings (world_after w (bare_steps line w))
-unfolding bare_steps
-untold_line w (boot pid tid) s n u = directed_holds (KeepUntold w) word.Boot (boot_line w pid tid) (hushed_holds w (boot_line w pid tid) u (boot-hushed w pid tid)) (λ _. u)
-untold_line w (thread tid pid) s n u = directed_holds (KeepUntold w) word.Thread (thread_line w tid pid) (hushed_holds w (thread_line w tid pid) u (further-hushed w tid pid)) (λ _. u)
-untold_line w (dir path) s n u = directed_holds (KeepUntold w) word.Dir (dir_line w path) (hushed_holds w (dir_line w path) u (dir-hushed w path)) (λ _. u)
-untold_line w (link path target) s n u = directed_holds (KeepUntold w) word.Link (link_line w path target) (hushed_holds w (link_line w path target) u (link-hushed w path target)) (λ _. u)
-untold_line w (run tid call) s n u = thread-untold w tid call (live_thread w tid) refl s n u
+untold_line w line s n u =
+    sound_line_holds w (KeepUntold w) (λ _. u) s
+    (passing_directives w is_hushed (KeepUntold w) (λ bs all. hushed-all w bs all u) (record { boots = λ _ _ _ _. refl; threads = λ _ _ _ _. refl; dirs = λ _. refl; links = λ _ _. refl }))
+    (λ by call c. service-untold w by call c s n u) line
 
 -- the step of a line
 pub untold_step : StepsKeepSingleClosings
-untold_step w line s n u =
-    let bs = bare_steps line w in
-    rw (after-append w bs (sweep (world_after w bs))) (swept-untold (world_after w bs) (untold_line w line s n u))
+untold_step w line s n u = stepped HasSingleClosings w line swept-untold (untold_line w line s n u)
 
 pub untold_none : HasSingleClosings no_rows
 untold_none = record { closed = refl; once = λ b. grind arith; connects = refl }

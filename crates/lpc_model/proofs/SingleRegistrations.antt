@@ -1,31 +1,30 @@
 -- The step of each line leaves each port registered once with a thread.
-use Rattle.std.proofs.Common.{Bool, List, None, Option, Some, [], arith, false, map, not, refl, true, ℕ, ◌++◌, ◌∷◌, ◌≡◌}
+use Rattle.std.proofs.Common.{Bool, List, [], arith, false, not, refl, true, ℕ, ◌++◌, ◌∷◌, ◌≡◌}
 use Rattle.std.specs.Prelude.{◌&&◌, ◌||◌, Result, Ok, Err}
 use Rattle.lpc_base.specs.Rows.{every, has, when, without}
 use Rattle.lpc_base.specs.declared.status.Status.{Status}
-use Rattle.lpc_base.proofs.RowWords.{every-append, every-change, every-more, every-push, every-without, first-passes}
+use Rattle.lpc_base.proofs.RowWords.{every-change, every-more, every-push, every-without, first-passes}
 use Rattle.lpc_base.proofs.RowMaps.{every-both, every-change_to}
 use Rattle.lpc_base.proofs.Bools.{first-true, second-true}
 use Rattle.lpc_model.specs.declared.entry.ObjectKind.TheVariants as kind
 use Rattle.lpc_model.specs.declared.entry.Word.TheVariants as word
-use Rattle.lpc_model.specs.World.{Birth, ObjectKind, ObjectName, ThreadRow, WaitRow, World}
-use Rattle.lpc_model.specs.Found.{is_live_thread, is_thread, live_thread, same_birth, wait_of}
+use Rattle.lpc_model.specs.World.{Birth, ObjectKind, ThreadRow, World}
+use Rattle.lpc_model.specs.Found.{is_live_thread, is_thread, same_birth}
 use Rattle.lpc_model.specs.Basics.{AddsThread, Basic, Dies, DrawsIdentifier, DrawsOrdinal, Frees, Registers, Unregisters, basic, ended, freed, past_identifier, past_ordinal, registering, unregistering, world_after}
 use Rattle.lpc_model.specs.Deaths.{HasSingleRegistrations, are_different, registers_once}
-use Rattle.lpc_model.specs.Named.{free_name, spelled_name}
-use Rattle.lpc_model.specs.Sweep.{free_unheld, sweep, unheld}
-use Rattle.lpc_model.specs.Lines.{ScriptCall, ScriptLine, boot, create_process, create_thread, dir, link, register_thread_terminate_port, run, terminate_process, terminate_thread, thread, ProcArg}
-use Rattle.lpc_model.specs.Machine.{bare_steps, boot_line, dir_line, link_line, name_of_call, ready_steps, service_of, step, thread_line, thread_steps, thread_test, unused_test}
+use Rattle.lpc_model.specs.Sweep.{sweep}
+use Rattle.lpc_model.specs.Lines.{ScriptCall, ScriptLine, create_process, create_thread, register_thread_terminate_port, terminate_process, terminate_thread, ProcArg}
+use Rattle.lpc_model.specs.Machine.{bare_steps, service_of, step}
 use Rattle.lpc_model.specs.SoundWaits.{IsSoundWorld}
-use Rattle.lpc_model.proofs.Holding.{Holds, bind_holds, directed_holds, settled_holds}
+use Rattle.lpc_model.proofs.Holding.{Holds}
 use Rattle.lpc_model.proofs.Rows.{lone}
-use Rattle.lpc_model.proofs.SoundQueues.{after-append}
-use Rattle.lpc_model.proofs.Usable.{CanCall, can-call}
+use Rattle.lpc_model.proofs.Usable.{CanCall}
 use Rattle.lpc_model.proofs.Undying.{AreUndying, is_undying, register_holds, service-undying}
 use Rattle.lpc_model.proofs.Ending.{AreEnding, is_ending, process-ending, thread-ending}
 use Rattle.lpc_model.specs.Lawful.{HasThreadsOnce}
 use Rattle.lpc_model.specs.Register.{is_registered}
 use Rattle.lpc_model.proofs.Creating.{process-made, thread-made}
+use Rattle.lpc_model.proofs.EachLine.{passing_directives, sound_line_holds, stepped, sweep_every}
 use Rattle.lpc_model.specs.Creation.{nt_create_process, nt_create_thread}
 
 -- Ports that are different
@@ -137,55 +136,13 @@ service-single w by (register_thread_terminate_port handle) once c l = register_
     at b false same = l
 service-single w by call once c l = undying_holds w _ l (service-undying w by call refl)
 
-ready-single : (w : World) (by : ThreadRow) (call : ScriptCall) (o : Option WaitRow) → (o ≡ None → CanCall w by) → HasThreadsOnce w → HasSingleRegistrations w → KeepSingle w (ready_steps by call o w)
-ready-single w by call (Some x) c once l = l
-ready-single w by call None c once l = settled_holds (KeepSingle w) by (name_of_call call) (service_of w by call) (service-single w by call once (c refl) l) (λ _ _. l)
-
-thread-single : (w : World) (tid : ℕ) (call : ScriptCall) (o : Option ThreadRow) → live_thread w tid ≡ o → IsSoundWorld w → HasThreadsOnce w → HasSingleRegistrations w → KeepSingle w (thread_steps tid call o w)
-thread-single w tid call None live s once l = l
-thread-single w tid call (Some by) live s once l = ready-single w by call (wait_of w tid) (λ idle. can-call w tid by live idle s) once l
-
--- Directives
-boot-lasting : (w : World) (pid tid : ℕ) → Holds AreLasting (boot_line w pid tid)
-unfolding boot_line
-boot-lasting w pid tid = bind_holds (unused_test w pid tid) _ AreLasting (λ _ _. refl)
-
-further-lasting : (w : World) (tid pid : ℕ) → Holds AreLasting (thread_line w tid pid)
-unfolding thread_line
-further-lasting w tid pid = bind_holds (thread_test w tid pid) _ AreLasting (λ _ _. refl)
-
-dir-lasting : (w : World) (text : List ℕ) → Holds AreLasting (dir_line w text)
-unfolding dir_line
-dir-lasting w text = bind_holds (free_name w text) _ AreLasting (λ path _. refl)
-
-link-lasting : (w : World) (text target : List ℕ) → Holds AreLasting (link_line w text target)
-unfolding link_line
-link-lasting w text target =
-    bind_holds (spelled_name target) _ AreLasting (λ to _.
-    bind_holds (free_name w text) _ AreLasting (λ path _. refl))
-
 -- Lines
 line-single : (w : World) (line : ScriptLine) → IsSoundWorld w → HasThreadsOnce w → HasSingleRegistrations w → KeepSingle w (bare_steps line w)
-unfolding bare_steps
-line-single w (boot pid tid) s once l = directed_holds (KeepSingle w) word.Boot (boot_line w pid tid) (lasting_holds w (boot_line w pid tid) l (boot-lasting w pid tid)) (λ _. l)
-line-single w (thread tid pid) s once l = directed_holds (KeepSingle w) word.Thread (thread_line w tid pid) (lasting_holds w (thread_line w tid pid) l (further-lasting w tid pid)) (λ _. l)
-line-single w (dir path) s once l = directed_holds (KeepSingle w) word.Dir (dir_line w path) (lasting_holds w (dir_line w path) l (dir-lasting w path)) (λ _. l)
-line-single w (link path target) s once l = directed_holds (KeepSingle w) word.Link (link_line w path target) (lasting_holds w (link_line w path target) l (link-lasting w path target)) (λ _. l)
-line-single w (run tid call) s once l = thread-single w tid call (live_thread w tid) refl s once l
-
-frees-lasting : (os : List ObjectName) → AreLasting (map Frees os)
-frees-lasting [] = refl
-frees-lasting (o ∷ os) = frees-lasting os
-
-sweep-lasting : (w : World) → AreLasting (sweep w)
-unfolding sweep
-sweep-lasting w =
-    let v = world_after w (free_unheld w) in
-    every-append is_lasting (free_unheld w) (free_unheld v) (frees-lasting (unheld w)) (frees-lasting (unheld v))
+line-single w line s once l =
+    sound_line_holds w (KeepSingle w) (λ _. l) s
+    (passing_directives w is_lasting (KeepSingle w) (λ bs all. single-all w bs all l) (record { boots = λ _ _ _ _. refl; threads = λ _ _ _ _. refl; dirs = λ _. refl; links = λ _ _. refl }))
+    (λ by call c. service-single w by call once c l) line
 
 -- the step of a line leaves each port registered once with a thread
 pub single_step : (w : World) (line : ScriptLine) → IsSoundWorld w → HasThreadsOnce w → HasSingleRegistrations w → HasSingleRegistrations (step w line).world
-single_step w line s once l =
-    let bs = bare_steps line w in
-    let v = world_after w bs in
-    rw (after-append w bs (sweep v)) (single-all v (sweep v) (sweep-lasting v) (line-single w line s once l))
+single_step w line s once l = stepped HasSingleRegistrations w line (λ v. single-all v (sweep v) (sweep_every is_lasting (λ _. refl) v)) (line-single w line s once l)

@@ -1,29 +1,24 @@
 -- The step of each line leaves sound waits behind, and so does each line of a script.
-use Rattle.std.proofs.Common.{◌≡◌, ℕ, List, [], ◌∷◌, ◌++◌, true, false, refl, subst, arith}
-use Rattle.std.specs.Prelude.{◌||◌, ◌==◌, Option, Some, None, is_some}
+use Rattle.std.proofs.Common.{◌≡◌, ℕ, [], ◌∷◌, ◌++◌, true, false, refl, subst, arith}
+use Rattle.std.specs.Prelude.{◌==◌, Option, Some, None, is_some}
 use Rattle.std.proofs.lemmas.Bool.{eqb-true}
 use Rattle.std.proofs.lemmas.Bool.Decides.{nat_tests}
 use Rattle.lpc_base.specs.Rows.{first, has}
 use Rattle.lpc_base.proofs.RowWords.{first-passes, has-push}
 use Rattle.lpc_base.proofs.RowMaps.{every-first}
-use Rattle.lpc_base.proofs.Bools.{first-off, second-off}
-use Rattle.lpc_base.specs.declared.status.TheConstants.{OBJECT_NAME_COLLISION}
 use Rattle.lpc_model.specs.declared.entry.Word.TheVariants as word
-use Rattle.lpc_model.specs.World.{Birth, ProcessRow, ThreadRow, WaitRow, World, no_rows}
-use Rattle.lpc_model.specs.Found.{is_live, is_table, live_thread, lives_in, wait_of, was_process, was_thread}
-use Rattle.lpc_model.specs.Basics.{AddsProcess, AddsThread, DrawsOrdinal, basic, no_handles, world_after, Basic}
-use Rattle.lpc_model.specs.Sweep.{sweep}
+use Rattle.lpc_model.specs.World.{Birth, ProcessRow, ThreadRow, World, no_rows}
+use Rattle.lpc_model.specs.Found.{is_live, is_table, lives_in, was_process, was_thread}
+use Rattle.lpc_model.specs.Basics.{AddsProcess, AddsThread, DrawsOrdinal, basic, no_handles}
 use Rattle.lpc_model.proofs.SoundFrees.{swept-sound}
-use Rattle.lpc_model.proofs.SoundQueues.{after-append}
-use Rattle.lpc_model.specs.Lines.{ProcArg, ScriptCall, ScriptLine, accept_connect_port, boot, close, complete_connect_port, connect_port, create_port, create_process, create_thread, dir, duplicate_object, link, listen_port, query_object, register_thread_terminate_port, reply_port, reply_wait_receive_port, request_port, request_wait_reply_port, run, terminate_process, terminate_thread, thread}
-use Rattle.lpc_model.specs.Machine.{boot_line, dir_line, directive_birth, link_line, name_of_call, new_process, new_thread, ready_steps, service_of, bare_steps, thread_line, thread_steps, thread_test, unused_test}
+use Rattle.lpc_model.specs.Lines.{ProcArg, ScriptCall, ScriptLine, accept_connect_port, close, complete_connect_port, connect_port, create_port, create_process, create_thread, duplicate_object, listen_port, query_object, register_thread_terminate_port, reply_port, reply_wait_receive_port, request_port, request_wait_reply_port, terminate_process, terminate_thread}
+use Rattle.lpc_model.specs.Machine.{directive_birth, new_process, new_thread, service_of, bare_steps}
 use Rattle.lpc_model.specs.Tests.{next_birth}
-use Rattle.lpc_model.specs.Named.{free_name, spelled_name}
 use Rattle.lpc_names.specs.Walk.{LinkTo, Stands}
 use Rattle.lpc_names.specs.declared.names.Found.TheVariants.{Directory}
 use Rattle.lpc_model.specs.SoundWaits.{HasShutConnects, HasSoundWaits, IsSoundWorld, StepsStaySound, has_home}
-use Rattle.lpc_model.proofs.Holding.{Holds, bind_holds, directed_holds, holds_ok, not_refused, settled_holds}
-use Rattle.lpc_model.proofs.Usable.{CanCall, can-call}
+use Rattle.lpc_model.proofs.Holding.{Holds}
+use Rattle.lpc_model.proofs.Usable.{CanCall}
 use Rattle.lpc_model.proofs.SoundBasics.{sound-binds, sound-handle, sound-ordinal, sound-process, sound-thread}
 use Rattle.lpc_model.proofs.SoundCalls.{LeaveSound}
 use Rattle.lpc_model.proofs.SoundCreate.{create-sound}
@@ -41,8 +36,9 @@ use Rattle.lpc_model.proofs.SoundQuery.{query-sound}
 use Rattle.lpc_model.proofs.SoundRegister.{register-sound}
 use Rattle.lpc_model.specs.Creation.{nt_create_process, nt_create_thread, second_birth}
 use Rattle.lpc_model.specs.Targets.{LIFE_ACCESS}
-use Rattle.lpc_model.proofs.Creating.{process_holds, tested-further, thread_holds}
+use Rattle.lpc_model.proofs.Creating.{process_holds, thread_holds}
 use Rattle.lpc_model.proofs.SoundTerminate.{terminate-process-sound, terminate-thread-sound}
+use Rattle.lpc_model.proofs.EachLine.{sound_line_holds, stepped}
 
 -- Processes and threads that are made
 -- a process that lives has a table of handles
@@ -92,51 +88,18 @@ service-sound w by (create_thread target tid) c s shut = create-thread-sound w b
 service-sound w by (terminate_thread target code) c s shut = terminate-thread-sound w by target code s shut
 service-sound w by (terminate_process target code) c s shut = terminate-process-sound w by target code s shut
 
-ready-sound : (w : World) (by : ThreadRow) (call : ScriptCall) (o : Option WaitRow) → (o ≡ None → CanCall w by) → IsSoundWorld w → HasShutConnects w → LeaveSound w (ready_steps by call o w)
-ready-sound w by call (Some x) c s shut = s
-ready-sound w by call None c s shut =
-    settled_holds (LeaveSound w) by (name_of_call call) (service_of w by call) (service-sound w by call (c refl) s shut) (λ _ _. s)
-
-thread-sound : (w : World) (tid : ℕ) (call : ScriptCall) (o : Option ThreadRow) → live_thread w tid ≡ o → IsSoundWorld w → HasShutConnects w → LeaveSound w (thread_steps tid call o w)
-thread-sound w tid call None live s shut = s
-thread-sound w tid call (Some by) live s shut = ready-sound w by call (wait_of w tid) (λ idle. can-call w tid by live idle s) s shut
-
--- Directives
-boot-sound : (w : World) (pid tid : ℕ) → IsSoundWorld w → Holds (LeaveSound w) (boot_line w pid tid)
-unfolding boot_line
-boot-sound w pid tid s =
-    bind_holds (unused_test w pid tid) _ (LeaveSound w) (λ u is.
-    let neither = not_refused (was_process w pid || was_thread w tid) OBJECT_NAME_COLLISION u is in
-    let new = first-off (was_process w pid) (was_thread w tid) neither in
-    let unused = second-off (was_process w pid) (was_thread w tid) neither in
-    booted-sound w (new_process pid None (directive_birth pid pid)) tid (directive_birth tid pid) new unused s)
-
-further-sound : (w : World) (tid pid : ℕ) → IsSoundWorld w → Holds (LeaveSound w) (thread_line w tid pid)
-unfolding thread_line
-further-sound w tid pid s =
-    bind_holds (thread_test w tid pid) _ (LeaveSound w) (λ u is.
-    let found = holds_ok (λ _. (is_live w pid ≡ true) × (was_thread w tid ≡ false)) (thread_test w tid pid) u (tested-further w tid pid) is in
-    sound-thread w (new_thread tid pid (directive_birth tid pid)) (live-home w pid s found.0) found.1 s)
-
-dir-sound : (w : World) (text : List ℕ) → IsSoundWorld w → Holds (LeaveSound w) (dir_line w text)
-unfolding dir_line
-dir-sound w text s = bind_holds (free_name w text) _ (LeaveSound w) (λ path _. sound-binds w path (Stands Directory) refl s)
-
-link-sound : (w : World) (text target : List ℕ) → IsSoundWorld w → Holds (LeaveSound w) (link_line w text target)
-unfolding link_line
-link-sound w text target s =
-    bind_holds (spelled_name target) _ (LeaveSound w) (λ to _.
-    bind_holds (free_name w text) _ (LeaveSound w) (λ path _. sound-binds w path (LinkTo to) refl s))
-
 -- Lines
 -- before rows go
 pub line-sound : (w : World) (line : ScriptLine) → IsSoundWorld w → HasShutConnects w → LeaveSound w (bare_steps line w)
-unfolding bare_steps
-line-sound w (boot pid tid) s shut = directed_holds (LeaveSound w) word.Boot (boot_line w pid tid) (boot-sound w pid tid s) (λ _. s)
-line-sound w (thread tid pid) s shut = directed_holds (LeaveSound w) word.Thread (thread_line w tid pid) (further-sound w tid pid s) (λ _. s)
-line-sound w (dir path) s shut = directed_holds (LeaveSound w) word.Dir (dir_line w path) (dir-sound w path s) (λ _. s)
-line-sound w (link path target) s shut = directed_holds (LeaveSound w) word.Link (link_line w path target) (link-sound w path target s) (λ _. s)
-line-sound w (run tid call) s shut = thread-sound w tid call (live_thread w tid) refl s shut
+line-sound w line s shut =
+    sound_line_holds w (LeaveSound w) (λ _. s) s
+    (record {
+      boots = λ pid tid new unused. booted-sound w (new_process pid None (directive_birth pid pid)) tid (directive_birth tid pid) new unused s;
+      threads = λ tid pid lives unused. sound-thread w (new_thread tid pid (directive_birth tid pid)) (live-home w pid s lives) unused s;
+      dirs = λ path. sound-binds w path (Stands Directory) refl s;
+      links = λ path to. sound-binds w path (LinkTo to) refl s;
+    })
+    (λ by call c. service-sound w by call c s shut) line
 
 -- the world before the first line is sound
 pub sound_none : IsSoundWorld no_rows
@@ -157,10 +120,7 @@ sound_none = record {
 
 -- the step of a line keeps a world sound
 pub sound_step : StepsStaySound
-sound_step w line s shut = swept w (bare_steps line w) (line-sound w line s shut)
-  where
-    swept : (w : World) (bs : List Basic) → LeaveSound w bs → LeaveSound w (bs ++ sweep (world_after w bs))
-    swept w bs t = rw (after-append w bs (sweep (world_after w bs))) (swept-sound (world_after w bs) t)
+sound_step w line s shut = stepped IsSoundWorld w line swept-sound (line-sound w line s shut)
 
 -- a sound world has sound waits
 pub sound_waits : (w : World) → IsSoundWorld w → HasSoundWaits w

@@ -15,26 +15,25 @@ use Rattle.lpc_names.specs.Walk.{Stands}
 use Rattle.lpc_names.specs.declared.names.Found.TheVariants.{Item}
 use Rattle.lpc_model.specs.declared.entry.Word.TheVariants as word
 use Rattle.lpc_model.specs.World.{Birth, Creator, HandleRow, HandleTable, Message, MessageRow, PortRow, ThreadRow, WaitRow, World, no_rows}
-use Rattle.lpc_model.specs.Found.{free_handle, handle_at, has_value, is_born_process, is_born_thread, is_connected_to, is_connection_port, is_cut, is_made_on, is_paired_to, is_port, is_queued, is_queued_connect, is_request, is_table, is_the, live_thread, live_threads, pair_of, port_name, port_row, process_name, queue_of, route, rows_in, same_birth, thread_name, wait_of, way}
+use Rattle.lpc_model.specs.Found.{free_handle, handle_at, has_value, is_born_process, is_born_thread, is_connected_to, is_connection_port, is_cut, is_made_on, is_paired_to, is_port, is_queued, is_queued_connect, is_request, is_table, is_the, live_threads, pair_of, port_name, port_row, process_name, queue_of, route, rows_in, same_birth, thread_name, way}
 use Rattle.lpc_model.specs.Basics.{Accepts, AddsHandle, AddsProcess, AddsThread, Awaits, Basic, Binds, Completes, Dies, DrawsIdentifier, DrawsOrdinal, DropsHandle, Empties, Joins, Makes, Receives, Registers, Tells, Unbinds, Unregisters, Wakes, Withdraws, basic, completed, end_each, joined, paired, world_after}
-use Rattle.lpc_model.specs.Sweep.{sweep}
 use Rattle.lpc_model.specs.Message.{asks, message_test}
 use Rattle.lpc_model.specs.Fields.{h, info, max}
 use Rattle.lpc_model.specs.Entering.{enter, given_steps, received_steps, row_of, shown, takes, woken}
-use Rattle.lpc_model.specs.Named.{free_name, named_port, spelled_name}
+use Rattle.lpc_model.specs.Named.{free_name, named_port}
 use Rattle.lpc_model.specs.Refusal.{found_or, refuse_if}
 use Rattle.lpc_model.specs.Tests.{PORT_ACCESS, handle_row, handles_test, next_birth, own_handle, port_test}
 use Rattle.lpc_model.specs.Connect.{Completable, ConnectAnswer, accept_steps, answer_of, answer_test, answered_steps, client_port, complete_steps, complete_test, connect_steps, connect_wait, connection_request, create_steps, info_test, listen_steps, making, names_connect, new_port, nt_accept_connect_port, nt_complete_connect_port, nt_connect_port, nt_create_port, nt_listen_port, refuse_steps, server_port}
 use Rattle.lpc_model.specs.Request.{Sendable, reply_test, datagram_send_test, datagram_start, datagram_test, given_reply, is_spent, nt_reply_port, nt_reply_wait_receive_port, nt_request_port, nt_request_wait_reply_port, optional_message, receive_steps, receive_test, receive_wait, request_start, request_wait, send_test, sent_by}
 use Rattle.lpc_model.specs.Counts.{asked, nt_duplicate_object, nt_query_object, rights_test}
 use Rattle.lpc_model.specs.Close.{close_handle, close_port, closed_row, cut_pair, end_accepted, end_request, is_accepted_across, is_across, is_last, is_receive_across, is_receiver, is_request_across, nt_close, post_closed, server_of, closing_post, wake}
-use Rattle.lpc_model.specs.Lines.{ProcArg, ScriptCall, ScriptLine, accept_connect_port, boot, close, complete_connect_port, connect_port, create_port, create_process, create_thread, dir, duplicate_object, link, listen_port, query_object, register_thread_terminate_port, reply_port, reply_wait_receive_port, request_port, request_wait_reply_port, run, terminate_process, terminate_thread, thread}
-use Rattle.lpc_model.specs.Machine.{bare_steps, boot_line, dir_line, link_line, name_of_call, ready_steps, service_of, thread_line, thread_steps, thread_test, unused_test}
+use Rattle.lpc_model.specs.Lines.{ProcArg, ScriptCall, ScriptLine, accept_connect_port, close, complete_connect_port, connect_port, create_port, create_process, create_thread, duplicate_object, listen_port, query_object, register_thread_terminate_port, reply_port, reply_wait_receive_port, request_port, request_wait_reply_port, terminate_process, terminate_thread, thread}
+use Rattle.lpc_model.specs.Machine.{bare_steps, service_of}
 use Rattle.lpc_model.specs.SoundWaits.{HasShutConnects, IsSoundWorld}
 use Rattle.lpc_model.specs.Linked.{IsLinked, is_lone_offer, is_unjoined}
 use Rattle.lpc_model.specs.Standing.{NamesWhatStands, StepsNameWhatStands, has_near_queue, is_near, names_object}
-use Rattle.lpc_model.proofs.Holding.{Holds, bind_holds, directed_holds, found_ok, holds_ok, settled_holds}
-use Rattle.lpc_model.proofs.Usable.{CanCall, IsUsable, by_port_kind, can-call, if-same, port-usable}
+use Rattle.lpc_model.proofs.Holding.{Holds, bind_holds, found_ok, holds_ok}
+use Rattle.lpc_model.proofs.Usable.{CanCall, IsUsable, by_port_kind, if-same, port-usable}
 use Rattle.lpc_model.proofs.SoundWorlds.{by_kind}
 use Rattle.lpc_model.proofs.SoundQueues.{after-append}
 use Rattle.lpc_model.proofs.SoundComplete.{CanComplete, can-complete}
@@ -57,6 +56,7 @@ use Rattle.lpc_model.proofs.SoundTerminate.{IsSafe, die-safe, enter-safe, handle
 use Rattle.lpc_model.proofs.SoundDeath.{asked-less, asked-none, die-holds, heard-less, is_off, parting}
 use Rattle.lpc_model.proofs.Dying.{accepted_across, asked_across, cut-parts, gone, received_across}
 use Rattle.lpc_model.proofs.Creating.{process-made, thread-made}
+use Rattle.lpc_model.proofs.EachLine.{passing_directives, sound_line_holds, stepped}
 use Rattle.lpc_model.specs.Creation.{gives_life, new_process, new_thread, nt_create_process, nt_create_thread, second_birth, second_handle}
 
 -- the steps leave a world in which what rows name stands
@@ -549,48 +549,17 @@ service-names w by (create_thread target tid) c s shut l n = create-thread-names
 service-names w by (terminate_thread target code) c s shut l n = terminate-thread-names w by target code s shut n
 service-names w by (terminate_process target code) c s shut l n = terminate-process-names w by target code s shut n
 
-ready-names : (w : World) (by : ThreadRow) (call : ScriptCall) (o : Option WaitRow) → (o ≡ None → CanCall w by) → IsSoundWorld w → HasShutConnects w → IsLinked w → NamesWhatStands w → KeepNames w (ready_steps by call o w)
-ready-names w by call (Some x) c s shut l n = n
-ready-names w by call None c s shut l n = settled_holds (KeepNames w) by (name_of_call call) (service_of w by call) (service-names w by call (c refl) s shut l n) (λ _ _. n)
-
-thread-names : (w : World) (tid : ℕ) (call : ScriptCall) (o : Option ThreadRow) → live_thread w tid ≡ o → IsSoundWorld w → HasShutConnects w → IsLinked w → NamesWhatStands w → KeepNames w (thread_steps tid call o w)
-thread-names w tid call None live s shut l n = n
-thread-names w tid call (Some by) live s shut l n = ready-names w by call (wait_of w tid) (λ idle. can-call w tid by live idle s) s shut l n
-
--- Directives
-boot-names : (w : World) (pid tid : ℕ) → Holds (AreNaming w) (boot_line w pid tid)
-unfolding boot_line
-boot-names w pid tid = bind_holds (unused_test w pid tid) _ (AreNaming w) (λ _ _. refl)
-
-further-names : (w : World) (tid pid : ℕ) → Holds (AreNaming w) (thread_line w tid pid)
-unfolding thread_line
-further-names w tid pid = bind_holds (thread_test w tid pid) _ (AreNaming w) (λ _ _. refl)
-
-dir-names : (w : World) (text : List ℕ) → Holds (AreNaming w) (dir_line w text)
-unfolding dir_line
-dir-names w text = bind_holds (free_name w text) _ (AreNaming w) (λ path _. refl)
-
-link-names : (w : World) (text target : List ℕ) → Holds (AreNaming w) (link_line w text target)
-unfolding link_line
-link-names w text target =
-    bind_holds (spelled_name target) _ (AreNaming w) (λ to _.
-    bind_holds (free_name w text) _ (AreNaming w) (λ path _. refl))
-
 -- Lines
 -- before rows go
 pub names_line : (w : World) (line : ScriptLine) → IsSoundWorld w → HasShutConnects w → IsLinked w → NamesWhatStands w → NamesWhatStands (world_after w (bare_steps line w))
-unfolding bare_steps
-names_line w (boot pid tid) s shut l n = directed_holds (KeepNames w) word.Boot (boot_line w pid tid) (naming_holds w (boot_line w pid tid) n (boot-names w pid tid)) (λ _. n)
-names_line w (thread tid pid) s shut l n = directed_holds (KeepNames w) word.Thread (thread_line w tid pid) (naming_holds w (thread_line w tid pid) n (further-names w tid pid)) (λ _. n)
-names_line w (dir path) s shut l n = directed_holds (KeepNames w) word.Dir (dir_line w path) (naming_holds w (dir_line w path) n (dir-names w path)) (λ _. n)
-names_line w (link path target) s shut l n = directed_holds (KeepNames w) word.Link (link_line w path target) (naming_holds w (link_line w path target) n (link-names w path target)) (λ _. n)
-names_line w (run tid call) s shut l n = thread-names w tid call (live_thread w tid) refl s shut l n
+names_line w line s shut l n =
+    sound_line_holds w (KeepNames w) (λ _. n) s
+    (passing_directives w (is_naming w) (KeepNames w) (λ bs all. naming-all w bs all n) (record { boots = λ _ _ _ _. refl; threads = λ _ _ _ _. refl; dirs = λ _. refl; links = λ _ _. refl }))
+    (λ by call c. service-names w by call c s shut l n) line
 
 -- the step of a line
 pub names_step : StepsNameWhatStands
-names_step w line s shut l n =
-    let bs = bare_steps line w in
-    rw (after-append w bs (sweep (world_after w bs))) (swept-names (world_after w bs) (names_line w line s shut l n))
+names_step w line s shut l n = stepped NamesWhatStands w line swept-names (names_line w line s shut l n)
 
 pub names_none : NamesWhatStands no_rows
 names_none = record { handles = refl; senders = refl; queues = refl; registrations = refl }

@@ -1,32 +1,29 @@
 -- A thread number has one row at most, behind each line.
-use Rattle.std.proofs.Common.{◌≡◌, ℕ, ◌+◌, ◌≤◌, List, [], ◌∷◌, ◌++◌, Bool, true, false, cond, map, not, Option, Some, None, refl, subst, arith}
-use Rattle.std.specs.Prelude.{◌||◌, Result, Ok, Err}
+use Rattle.std.proofs.Common.{◌≡◌, ℕ, ◌+◌, ◌≤◌, List, [], ◌∷◌, ◌++◌, Bool, true, false, cond, not, refl, subst, arith}
+use Rattle.std.specs.Prelude.{Result, Ok, Err}
 use Rattle.std.proofs.lemmas.Bool.{eqb-true}
 use Rattle.lpc_base.specs.Rows.{change, count, every, has, when}
 use Rattle.lpc_base.specs.declared.status.Status.{Status}
-use Rattle.lpc_base.specs.declared.status.TheConstants.{OBJECT_NAME_COLLISION}
-use Rattle.lpc_base.proofs.RowWords.{count-none, count-push, every-append, every-more}
+use Rattle.lpc_base.proofs.RowWords.{count-none, count-push, every-more}
 use Rattle.lpc_model.specs.declared.entry.Word.TheVariants as word
-use Rattle.lpc_model.specs.World.{Birth, ObjectKind, ObjectName, ThreadRow, WaitRow, World}
+use Rattle.lpc_model.specs.World.{Birth, ObjectKind, ThreadRow, World}
 use Rattle.lpc_model.specs.declared.entry.ObjectKind.TheVariants as kind
-use Rattle.lpc_model.specs.Found.{is_live, is_thread, live_thread, same_birth, wait_of, was_process, was_thread}
+use Rattle.lpc_model.specs.Found.{is_thread, same_birth, was_thread}
 use Rattle.lpc_model.specs.Basics.{AddsThread, Basic, Dies, DrawsIdentifier, DrawsOrdinal, Frees, Registers, Unregisters, basic, ended, freed, past_identifier, past_ordinal, registering, unregistering, world_after}
-use Rattle.lpc_model.specs.Named.{free_name, spelled_name}
-use Rattle.lpc_model.specs.Sweep.{free_unheld, sweep, unheld}
-use Rattle.lpc_model.specs.Lines.{ScriptCall, ScriptLine, boot, create_process, create_thread, dir, link, register_thread_terminate_port, run, terminate_process, terminate_thread, thread, ProcArg}
-use Rattle.lpc_model.specs.Machine.{bare_steps, boot_line, dir_line, link_line, name_of_call, new_thread, directive_birth, ready_steps, service_of, step, thread_line, thread_steps, thread_test, unused_test}
+use Rattle.lpc_model.specs.Sweep.{sweep}
+use Rattle.lpc_model.specs.Lines.{ScriptCall, ScriptLine, create_process, create_thread, register_thread_terminate_port, terminate_process, terminate_thread, ProcArg}
+use Rattle.lpc_model.specs.Machine.{bare_steps, new_thread, directive_birth, service_of, step}
 use Rattle.lpc_model.specs.Lawful.{HasThreadsOnce}
 use Rattle.lpc_model.specs.SoundWaits.{IsSoundWorld}
-use Rattle.lpc_model.proofs.Holding.{Holds, bind_holds, directed_holds, holds_ok, not_refused, settled_holds}
+use Rattle.lpc_model.proofs.Holding.{Holds}
 use Rattle.lpc_model.proofs.Rows.{count-change, count-less, has-off}
-use Rattle.lpc_model.proofs.SoundQueues.{after-append}
-use Rattle.lpc_model.proofs.Creating.{tested-further}
 use Rattle.lpc_model.proofs.Undying.{AreUndying, is_undying, register_holds, service-undying}
 use Rattle.lpc_model.proofs.Ending.{AreEnding, is_ending, process-ending, thread-ending}
 use Rattle.lpc_model.proofs.Creating.{process-made, thread-made}
 use Rattle.lpc_model.specs.Creation.{nt_create_process, nt_create_thread, second_birth}
 use Rattle.lpc_model.specs.Tests.{next_birth}
 use Rattle.lpc_model.proofs.SoundBasics.{sound-ordinal}
+use Rattle.lpc_model.proofs.EachLine.{line_holds, stepped, sweep_every}
 
 -- Steps
 -- a step makes no thread
@@ -129,63 +126,17 @@ service-once w by (register_thread_terminate_port handle) s once = register_hold
     at b false = once
 service-once w by call s once = undying_holds w _ once (service-undying w by call refl)
 
-ready-once : (w : World) (by : ThreadRow) (call : ScriptCall) (o : Option WaitRow) → IsSoundWorld w → HasThreadsOnce w → KeepOnce w (ready_steps by call o w)
-ready-once w by call (Some x) s once = once
-ready-once w by call None s once = settled_holds (KeepOnce w) by (name_of_call call) (service_of w by call) (service-once w by call s once) (λ _ _. once)
-
-thread-once : (w : World) (tid : ℕ) (call : ScriptCall) (o : Option ThreadRow) → IsSoundWorld w → HasThreadsOnce w → KeepOnce w (thread_steps tid call o w)
-thread-once w tid call None s once = once
-thread-once w tid call (Some by) s once = ready-once w by call (wait_of w tid) s once
-
--- Directives
-boot-once : (w : World) (pid tid : ℕ) → IsSoundWorld w → HasThreadsOnce w → Holds (KeepOnce w) (boot_line w pid tid)
-unfolding boot_line
-boot-once w pid tid s once =
-    bind_holds (unused_test w pid tid) _ (KeepOnce w) (λ u is.
-    let neither = not_refused (was_process w pid || was_thread w tid) OBJECT_NAME_COLLISION u is in
-    new-once w.threads (new_thread tid pid (directive_birth tid pid)) once (unused-none w tid (second (was_process w pid) (was_thread w tid) neither) s))
-  where
-    second : (a b : Bool) → (a || b) ≡ false → b ≡ false
-    second a b off = grind arith
-
-further-once : (w : World) (tid pid : ℕ) → IsSoundWorld w → HasThreadsOnce w → Holds (KeepOnce w) (thread_line w tid pid)
-unfolding thread_line
-further-once w tid pid s once =
-    bind_holds (thread_test w tid pid) _ (KeepOnce w) (λ u is.
-    let found = holds_ok (λ _. (is_live w pid ≡ true) × (was_thread w tid ≡ false)) (thread_test w tid pid) u (tested-further w tid pid) is in
-    new-once w.threads (new_thread tid pid (directive_birth tid pid)) once (unused-none w tid found.1 s))
-
-dir-once : (w : World) (text : List ℕ) → HasThreadsOnce w → Holds (KeepOnce w) (dir_line w text)
-unfolding dir_line
-dir-once w text once = bind_holds (free_name w text) _ (KeepOnce w) (λ path _. once)
-
-link-once : (w : World) (text target : List ℕ) → HasThreadsOnce w → Holds (KeepOnce w) (link_line w text target)
-unfolding link_line
-link-once w text target once =
-    bind_holds (spelled_name target) _ (KeepOnce w) (λ to _.
-    bind_holds (free_name w text) _ (KeepOnce w) (λ path _. once))
-
 -- Lines
 line-once : (w : World) (line : ScriptLine) → IsSoundWorld w → HasThreadsOnce w → KeepOnce w (bare_steps line w)
-unfolding bare_steps
-line-once w (boot pid tid) s once = directed_holds (KeepOnce w) word.Boot (boot_line w pid tid) (boot-once w pid tid s once) (λ _. once)
-line-once w (thread tid pid) s once = directed_holds (KeepOnce w) word.Thread (thread_line w tid pid) (further-once w tid pid s once) (λ _. once)
-line-once w (dir path) s once = directed_holds (KeepOnce w) word.Dir (dir_line w path) (dir-once w path once) (λ _. once)
-line-once w (link path target) s once = directed_holds (KeepOnce w) word.Link (link_line w path target) (link-once w path target once) (λ _. once)
-line-once w (run tid call) s once = thread-once w tid call (live_thread w tid) s once
-
-frees-childless : (os : List ObjectName) → every is_childless (map Frees os) ≡ true
-frees-childless [] = refl
-frees-childless (o ∷ os) = frees-childless os
-
-sweep-childless : (w : World) → every is_childless (sweep w) ≡ true
-unfolding sweep
-sweep-childless w =
-    let v = world_after w (free_unheld w) in
-    every-append is_childless (free_unheld w) (free_unheld v) (frees-childless (unheld w)) (frees-childless (unheld v))
+line-once w line s once =
+    line_holds w (KeepOnce w) (λ _. once)
+    (record {
+      boots = λ pid tid _ unused. new-once w.threads (new_thread tid pid (directive_birth tid pid)) once (unused-none w tid unused s);
+      threads = λ tid pid _ unused. new-once w.threads (new_thread tid pid (directive_birth tid pid)) once (unused-none w tid unused s);
+      dirs = λ _. once;
+      links = λ _ _. once;
+    })
+    (λ _ by call _ _. service-once w by call s once) line
 
 pub once_step : (w : World) (line : ScriptLine) → IsSoundWorld w → HasThreadsOnce w → HasThreadsOnce (step w line).world
-once_step w line s once =
-    let bs = bare_steps line w in
-    let v = world_after w bs in
-    rw (after-append w bs (sweep v)) (once-all v (sweep v) (sweep-childless v) (line-once w line s once))
+once_step w line s once = stepped HasThreadsOnce w line (λ v. once-all v (sweep v) (sweep_every is_childless (λ _. refl) v)) (line-once w line s once)

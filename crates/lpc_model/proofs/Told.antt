@@ -1,5 +1,5 @@
 -- What steps tell of closings, and what they close.
-use Rattle.std.proofs.Common.{◌≡◌, ◌∙◌, ℕ, List, [], ◌∷◌, ◌++◌, Bool, true, false, cond, map, not, Option, Some, None, refl, sym, ap, arith, append-nil, append_assoc}
+use Rattle.std.proofs.Common.{◌≡◌, ◌∙◌, ℕ, List, [], ◌∷◌, ◌++◌, Bool, true, false, cond, not, Option, Some, None, refl, sym, ap, arith, append-nil, append_assoc}
 use Rattle.std.proofs.lemmas.Bool.{and_from}
 use Rattle.std.specs.Prelude.{◌&&◌, option_and_then, option_map}
 use Rattle.lpc_base.specs.Rows.{change, each, every, first, given, when, which}
@@ -7,11 +7,11 @@ use Rattle.lpc_base.proofs.RowWords.{every-append, every-more, first-passes}
 use Rattle.lpc_base.proofs.Bools.{first-true, second-true}
 use Rattle.lpc_base.specs.declared.status.TheConstants.{PORT_DISCONNECTED, SUCCESS}
 use Rattle.lpc_model.specs.Message.{asks}
-use Rattle.lpc_model.specs.World.{Birth, Creator, HandleRow, MessageRow, ObjectName, PortRow, WaitRow, World}
+use Rattle.lpc_model.specs.World.{Birth, Creator, HandleRow, MessageRow, PortRow, WaitRow, World}
 use Rattle.lpc_model.specs.Found.{handle_at, if_open, is_client_port, is_connect, is_port, port_row}
-use Rattle.lpc_model.specs.Basics.{AddsHandle, Awaits, Basic, Cuts, DropsHandle, Empties, Enters, Frees, Receives, Unbinds, Wakes, Withdraws, basic, cut, is_end_of, posted, posts_of, world_after}
+use Rattle.lpc_model.specs.Basics.{AddsHandle, Awaits, Basic, Cuts, DropsHandle, Empties, Enters, Receives, Unbinds, Wakes, Withdraws, basic, cut, is_end_of, posted, posts_of, world_after}
 use Rattle.lpc_model.specs.Entering.{enter, given_steps, received_steps, shown, takes, woken}
-use Rattle.lpc_model.specs.Sweep.{free_unheld, sweep, unheld}
+use Rattle.lpc_model.specs.Sweep.{sweep}
 use Rattle.lpc_model.specs.Closings.{closes, is_closed_post, closing_posts, closings_posted}
 use Rattle.lpc_model.specs.Close.{close_handle, close_port, closed_row, cut_pair, drop_name, empty_queue, end_receives, end_request, end_requests, is_last, is_receiver, is_request_on, post_closed, server_of, closing_post, wake}
 use Rattle.lpc_model.specs.SoundWaits.{IsSoundWorld}
@@ -20,6 +20,7 @@ use Rattle.lpc_model.proofs.SoundCuts.{cut-row, no-row}
 use Rattle.lpc_model.proofs.Closing.{close-pass, ends-pass, pair-pass, queue-pass, stage_five, stage_four, stage_one, stage_three, stage_two, takes_away}
 use Rattle.lpc_model.proofs.SoundClosing.{close-shut, five-shut}
 use Rattle.lpc_model.proofs.SoundClose.{shut-found}
+use Rattle.lpc_model.proofs.EachLine.{sweep_every}
 
 -- Calm steps
 -- no handle goes by a step; it tells of no closed port
@@ -96,13 +97,8 @@ calm-dropless : (bs : List Basic) → AreCalm bs → every is_dropless bs ≡ tr
 calm-dropless bs all = every-more is_calm is_dropless (λ b is. first-true (is_dropless b) (is_mute b) is) bs all
 
 -- rows that go close nothing
-frees-dropless : (os : List ObjectName) → every is_dropless (map Frees os) ≡ true
-frees-dropless [] = refl
-frees-dropless (o ∷ os) = frees-dropless os
-
 pub sweep-dropless : (w : World) → every is_dropless (sweep w) ≡ true
-unfolding sweep
-sweep-dropless w = every-append is_dropless (free_unheld w) (free_unheld (world_after w (free_unheld w))) (frees-dropless (unheld w)) (frees-dropless (unheld (world_after w (free_unheld w))))
+sweep-dropless = sweep_every is_dropless (λ _. refl)
 
 -- Messages that enter
 pub hushed-receipt : (m : MessageRow) → AreHushed (received_steps m)

@@ -7,12 +7,12 @@ use Rattle.lpc_base.specs.declared.status.Status.{Status}
 use Rattle.lpc_base.specs.declared.status.TheConstants.{INVALID_HANDLE, INVALID_PORT_HANDLE, SUCCESS}
 use Rattle.lpc_message.specs.declared.kind.TheConstants.{DATAGRAM, REQUEST}
 use Rattle.lpc_model.specs.declared.entry.Word.TheVariants as word
-use Rattle.lpc_model.specs.World.{Birth, HandleRow, Message, MessageRow, PortRow, ThreadRow, WaitRow, World}
-use Rattle.lpc_model.specs.Found.{handle_at, handles_of, is_connection_port, is_live, is_queued, is_queued_connect, live_thread, live_threads, wait_of}
+use Rattle.lpc_model.specs.World.{Birth, HandleRow, Message, MessageRow, PortRow, ThreadRow, World}
+use Rattle.lpc_model.specs.Found.{handle_at, handles_of, is_connection_port, is_live, is_queued, is_queued_connect, live_threads}
 use Rattle.lpc_model.specs.Basics.{AddsHandle, Basic, Empties, Registers, Tells, Unbinds, Unregisters, Wakes, Withdraws, basic, in_turn, world_after}
 use Rattle.lpc_model.specs.Message.{message_test}
 use Rattle.lpc_model.specs.Entering.{enter, row_of}
-use Rattle.lpc_model.specs.Named.{free_name, named_port, spelled_name}
+use Rattle.lpc_model.specs.Named.{free_name, named_port}
 use Rattle.lpc_model.specs.Refusal.{refuse_if}
 use Rattle.lpc_model.specs.Tests.{PORT_ACCESS, handle_row, handles_test, next_birth, own_handle, port_test}
 use Rattle.lpc_model.specs.Connect.{ConnectAnswer, answer_test, answered_steps, client_port, complete_test, connect_start, connection_request, info_test, listen_steps, making, nt_accept_connect_port, nt_complete_connect_port, nt_connect_port, nt_create_port, nt_listen_port}
@@ -21,10 +21,10 @@ use Rattle.lpc_model.specs.Close.{close_handle, nt_close}
 use Rattle.lpc_model.specs.Counts.{asked, nt_duplicate_object, nt_query_object, rights_test}
 use Rattle.lpc_model.specs.Sweep.{sweep}
 use Rattle.lpc_model.specs.Closings.{ClosingsAreTold, is_closed_post}
-use Rattle.lpc_model.specs.Lines.{ProcArg, ScriptCall, ScriptLine, accept_connect_port, boot, close, complete_connect_port, connect_port, create_port, create_process, create_thread, dir, duplicate_object, link, listen_port, query_object, register_thread_terminate_port, reply_port, reply_wait_receive_port, request_port, request_wait_reply_port, run, terminate_process, terminate_thread, thread}
-use Rattle.lpc_model.specs.Machine.{Stepped, bare_steps, boot_line, dir_line, link_line, name_of_call, ready_steps, service_of, thread_line, thread_steps, thread_test, unused_test}
+use Rattle.lpc_model.specs.Lines.{ProcArg, ScriptCall, ScriptLine, accept_connect_port, close, complete_connect_port, connect_port, create_port, create_process, create_thread, duplicate_object, listen_port, query_object, register_thread_terminate_port, reply_port, reply_wait_receive_port, request_port, request_wait_reply_port, terminate_process, terminate_thread}
+use Rattle.lpc_model.specs.Machine.{Stepped, bare_steps, service_of}
 use Rattle.lpc_model.specs.SoundWaits.{HasShutConnects, IsSoundWorld}
-use Rattle.lpc_model.proofs.Holding.{Holds, bind_holds, directed_holds, found_ok, holds_ok, settled_holds}
+use Rattle.lpc_model.proofs.Holding.{Holds, bind_holds, found_ok, holds_ok}
 use Rattle.lpc_model.proofs.Sweeping.{step_swept}
 use Rattle.lpc_model.proofs.SoundClose.{close_handle-sound, found-value}
 use Rattle.lpc_model.proofs.Told.{AreCalm, AreHushed, TellsClosings, calm-all, calm-tells, handle-tells, hushed-enter, hushed-receipt, is_calm, is_hushed, sweep-dropless, tells-append, told-before}
@@ -37,6 +37,7 @@ use Rattle.lpc_model.proofs.Ending.{answered_end, behind_dead, behind_told, die-
 use Rattle.lpc_model.proofs.SoundTerminate.{IsSafe, sound-of, told-safe}
 use Rattle.lpc_model.proofs.Closing.{behind, takes_away}
 use Rattle.lpc_model.proofs.Creating.{process-made, thread-made}
+use Rattle.lpc_model.proofs.EachLine.{line_holds, passing_directives}
 use Rattle.lpc_model.specs.Creation.{nt_create_process, nt_create_thread}
 
 -- Services
@@ -232,42 +233,13 @@ service-tells w by (create_thread target tid) s shut = calm_holds w _ (create-th
 service-tells w by (terminate_thread target code) s shut = thread-tells-end w by target code (safe w s shut)
 service-tells w by (terminate_process target code) s shut = process-tells-end w by target code (safe w s shut)
 
-ready-tells : (w : World) (by : ThreadRow) (call : ScriptCall) (o : Option WaitRow) → IsSoundWorld w → HasShutConnects w → TellsClosings w (ready_steps by call o w)
-ready-tells w by call (Some x) s shut = refl
-ready-tells w by call None s shut = settled_holds (TellsClosings w) by (name_of_call call) (service_of w by call) (service-tells w by call s shut) (λ _ _. refl)
-
-thread-tells : (w : World) (tid : ℕ) (call : ScriptCall) (o : Option ThreadRow) → IsSoundWorld w → HasShutConnects w → TellsClosings w (thread_steps tid call o w)
-thread-tells w tid call None s shut = refl
-thread-tells w tid call (Some by) s shut = ready-tells w by call (wait_of w tid) s shut
-
--- Directives
-pub boot-hushed : (w : World) (pid tid : ℕ) → Holds AreHushed (boot_line w pid tid)
-unfolding boot_line
-boot-hushed w pid tid = bind_holds (unused_test w pid tid) _ AreHushed (λ _ _. refl)
-
-pub further-hushed : (w : World) (tid pid : ℕ) → Holds AreHushed (thread_line w tid pid)
-unfolding thread_line
-further-hushed w tid pid = bind_holds (thread_test w tid pid) _ AreHushed (λ _ _. refl)
-
-pub dir-hushed : (w : World) (text : List ℕ) → Holds AreHushed (dir_line w text)
-unfolding dir_line
-dir-hushed w text = bind_holds (free_name w text) _ AreHushed (λ path _. refl)
-
-pub link-hushed : (w : World) (text target : List ℕ) → Holds AreHushed (link_line w text target)
-unfolding link_line
-link-hushed w text target =
-    bind_holds (spelled_name target) _ AreHushed (λ to _.
-    bind_holds (free_name w text) _ AreHushed (λ path _. refl))
-
 -- Lines
 -- before rows go
 line-told : (w : World) (line : ScriptLine) → IsSoundWorld w → HasShutConnects w → TellsClosings w (bare_steps line w)
-unfolding bare_steps
-line-told w (boot pid tid) s shut = directed_holds (TellsClosings w) word.Boot (boot_line w pid tid) (hushed_holds w (boot_line w pid tid) (boot-hushed w pid tid)) (λ _. refl)
-line-told w (thread tid pid) s shut = directed_holds (TellsClosings w) word.Thread (thread_line w tid pid) (hushed_holds w (thread_line w tid pid) (further-hushed w tid pid)) (λ _. refl)
-line-told w (dir path) s shut = directed_holds (TellsClosings w) word.Dir (dir_line w path) (hushed_holds w (dir_line w path) (dir-hushed w path)) (λ _. refl)
-line-told w (link path target) s shut = directed_holds (TellsClosings w) word.Link (link_line w path target) (hushed_holds w (link_line w path target) (link-hushed w path target)) (λ _. refl)
-line-told w (run tid call) s shut = thread-tells w tid call (live_thread w tid) s shut
+line-told w line s shut =
+    line_holds w (TellsClosings w) (λ _. refl)
+    (passing_directives w is_hushed (TellsClosings w) (λ bs all. calm-tells w bs (calm-all bs all)) (record { boots = λ _ _ _ _. refl; threads = λ _ _ _ _. refl; dirs = λ _. refl; links = λ _ _. refl }))
+    (λ _ by call _ _. service-tells w by call s shut) line
 
 -- rows that go tell of nothing
 pub closings_told : (w : World) (line : ScriptLine) → IsSoundWorld w → HasShutConnects w → ClosingsAreTold w line
