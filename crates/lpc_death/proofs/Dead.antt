@@ -1,8 +1,9 @@
 -- Threads that end: what each leaves, and what is left of the live ones.
 use Rattle.std.proofs.Common.{◌≡◌, ◌∙◌, ℕ, ◌+◌, ◌≤◌, List, [], ◌∷◌, ◌++◌, Bool, true, false, cond, drop, length, Option, Some, None, option_and_then, option_map, not, refl, ap, sym, arith}
-use Rattle.std.specs.Prelude.{◌&&◌, ◌==◌}
+use Rattle.std.specs.Prelude.{◌==◌}
 use Rattle.std.proofs.lemmas.Bool.Decides.{nat_tests}
 use Rattle.std.proofs.lemmas.List.{append-nil}
+use Rattle.std.proofs.Math.Bool.{and-false}
 use Rattle.lpc_base.specs.declared.status.Status.{Status}
 use Rattle.lpc_base.specs.Rows.{change, count, every, first, has, which, without}
 use Rattle.lpc_base.proofs.RowMaps.{every-change_to}
@@ -21,6 +22,7 @@ use Rattle.lpc_model.proofs.DeathLines.{die-threads}
 use Rattle.lpc_model.proofs.Ending.{die-pass}
 use Rattle.lpc_model.proofs.LinkedSteps.{cut-mutual}
 use Rattle.lpc_model.proofs.Rows.{count-change, every-left, has-found, has-off}
+use Rattle.lpc_model.proofs.StepsInTurn.{steps-keep}
 use Rattle.lpc_world.specs.Closing.{HasMutualPairs}
 use Rattle.lpc_world.specs.Does.{Left, Took, left_by}
 use Rattle.lpc_world.specs.Kept.{Kept, is_alive}
@@ -122,11 +124,7 @@ pairs-step w (Cuts b) is all = cut-pairs w b all
 pairs-step w x is all = absurd (cc)
 
 pairs-all : (w : World) (bs : List Basic) → every keeps_pairs bs ≡ true → HasMutualPairs w → HasMutualPairs (world_after w bs)
-pairs-all w [] all pairs = pairs
-pairs-all w (x ∷ bs) all pairs =
-    let here : keeps_pairs x ≡ true = grind arith in
-    let later : every keeps_pairs bs ≡ true = grind arith in
-    pairs-all (basic w x) bs later (pairs-step w x here pairs)
+pairs-all = steps-keep keeps_pairs HasMutualPairs pairs-step
 
 pub dead-pairs : (code : Status) (tid : ℕ) (w : World) → HasMutualPairs w → HasMutualPairs (behind (dying code tid) w)
 unfolding numbered
@@ -137,12 +135,8 @@ living-left : (pid : ℕ) (ts rest : List ThreadRow) (t : ThreadRow) → count (
 living-left pid [] rest t once same = absurd (cc)
 living-left pid (u ∷ us) rest t once same = at (lives_in pid u) refl (living-left pid us rest t)
   where
-    gone : (p : Bool) → (p && false) ≡ false
-    gone true = refl
-    gone false = refl
-
     still-off : (c : Bool) → lives_in pid u ≡ false → lives_in pid (cond c (ended u) u) ≡ false
-    still-off true off = gone (u.process == pid)
+    still-off true off = and-false (u.process == pid)
     still-off false off = off
 
     at : (c : Bool) → lives_in pid u ≡ c → (count (is_thread t.number) us ≤ 1 → which (lives_in pid) us ≡ t ∷ rest → which (lives_in pid) (change (is_thread t.number) ended us) ≡ rest)
@@ -154,7 +148,7 @@ living-left pid (u ∷ us) rest t once same = at (lives_in pid u) refl (living-l
         let number : u.number ≡ t.number = ap (λ (v : ThreadRow). v.number) one in
         let own : is_thread t.number u ≡ true = grind (arith, nat_tests) in
         let none : count (is_thread t.number) us ≤ 0 = grind (arith, own) in
-        rw (own, gone (u.process == pid), change-none (is_thread t.number) ended us (none-counted (is_thread t.number) us none)) tail
+        rw (own, and-false (u.process == pid), change-none (is_thread t.number) ended us (none-counted (is_thread t.number) us none)) tail
     at false off later =
         let rows : which (lives_in pid) us ≡ t ∷ rest = rw off at same in
         let few : count (is_thread t.number) us ≤ 1 = grind arith in

@@ -12,13 +12,14 @@ use Rattle.lpc_model.proofs.Ending.{AreEnding, ending-enter, handle-ending, is_e
 use Rattle.lpc_world.specs.Does.{Left, Took}
 use Rattle.lpc_world.specs.Kept.{Kept, is_alive}
 use Rattle.lpc_world.specs.Registered.{Death, untold_of}
-use Rattle.lpc_world.proofs.Dying.{fewer-alive, kept-alive}
+use Rattle.lpc_world.proofs.Dying.{fewer-alive}
+use Rattle.lpc_world.proofs.Lawful.{alive-change}
 use Rattle.lpc_death.specs.Dying.{telling_all, telling_one, told_row}
 
 -- A step by which something ends makes no thread live
 step-lives : (w : World) (b : Basic) → is_ending b ≡ true → count is_alive (basic w b).threads ≤ count is_alive w.threads
 step-lives w (Dies who status) is = fewer-alive who w.threads
-step-lives w (Unregisters who b) is = let same = kept-alive (unregistering b) (λ t. refl) who w.threads in omega (arith, same)
+step-lives w (Unregisters who b) is = let same = alive-change (unregistering b) (λ t. refl) who w.threads in omega (arith, same)
 step-lives w (Awaits x) is = absurd (cc)
 step-lives w (Accepts who reply) is = absurd (cc)
 step-lives w (DrawsIdentifier who) is = absurd (cc)

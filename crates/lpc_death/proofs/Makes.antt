@@ -3,7 +3,7 @@ use Rattle.std.proofs.Common.{◌≡◌, ◌∙◌, ℕ, ◌+◌, ◌≤◌, Lis
 use Rattle.std.specs.Prelude.{◌==◌, nat_lt, option_map}
 use Rattle.std.proofs.lemmas.Bool.Decides.{nat_tests}
 use Rattle.lpc_base.specs.Rows.{change, count, first, has, which}
-use Rattle.lpc_base.proofs.RowWords.{has-change}
+use Rattle.lpc_base.proofs.RowWords.{first-behind, has-change}
 use Rattle.lpc_model.specs.Basics.{AddsHandle, AddsProcess, AddsThread, DrawsOrdinal, basic, no_handles, past_ordinal, put_handle, with_handle}
 use Rattle.lpc_model.specs.Creation.{create_process_steps, gives_life, making_process, new_process, new_thread, second_birth, second_handle}
 use Rattle.lpc_model.specs.Found.{free_handle, handles_of, is_table, is_thread, process_name, rows_in, thread_name}
@@ -11,6 +11,7 @@ use Rattle.lpc_model.specs.Targets.{LIFE_ACCESS}
 use Rattle.lpc_model.specs.Tests.{handle_load, handle_row, is_connect_of, next_birth}
 use Rattle.lpc_model.specs.World.{Birth, HandleRow, HandleTable, ObjectName, ThreadRow, World}
 use Rattle.lpc_model.proofs.Rows.{first-change}
+use Rattle.lpc_model.proofs.Creating.{rows-behind}
 use Rattle.lpc_world.specs.Clauses.{birth_next, thread_row}
 use Rattle.lpc_world.specs.Lawful.{can_begin, drew}
 use Rattle.std.specs.Prelude.{Ok}
@@ -45,19 +46,9 @@ next-birth w tid by b row own is = first-birth (basic w (DrawsOrdinal tid)) tid 
 pub drawn-stands : (w : World) (tid : ℕ) → has (is_thread tid) w.threads ≡ true → has (is_thread tid) (basic w (DrawsOrdinal tid)).threads ≡ true
 drawn-stands w tid is = has-change (is_thread tid) (is_thread tid) past_ordinal (λ t. refl) w.threads ∙ is
 
--- Handles
-first-behind : {X : Type 0} (p : X → Bool) (xs ys : List X) → has p xs ≡ true → first p (xs ++ ys) ≡ first p xs
-first-behind p [] ys is = absurd (cc)
-first-behind p (x ∷ xs) ys is = grind (arith, first-behind p xs ys)
-
 -- the handles of a process that stands are the same behind those of a new one
 pub same-handles : (w : World) (pid n : ℕ) → has (is_table pid) w.handles ≡ true → handles_of (record w { handles = w.handles ++ no_handles n ∷ [] }) pid ≡ handles_of w pid
 same-handles w pid n home = ap rows_in (first-behind (is_table pid) w.handles (no_handles n ∷ []) home)
-
-pub rows-behind : (hs : List HandleTable) (pid n : ℕ) (h : HandleRow) → has (is_table pid) hs ≡ true
-    → rows_in (first (is_table pid) (change (is_table pid) (with_handle h) (hs ++ no_handles n ∷ []))) ≡ rows_in (first (is_table pid) (change (is_table pid) (with_handle h) hs))
-rows-behind hs pid n h home =
-    rw (first-change (is_table pid) (is_table pid) (with_handle h) (λ t. refl) (hs ++ no_handles n ∷ []), first-change (is_table pid) (is_table pid) (with_handle h) (λ t. refl) hs, first-behind (is_table pid) hs (no_handles n ∷ []) home) refl
 
 -- one handle more at most
 two-parts : (v : ℕ) (rows : List HandleRow) → length (which (λ (r : HandleRow). nat_lt r.value v) rows) + length (which (λ (r : HandleRow). nat_lt v r.value) rows) ≤ length rows
@@ -112,9 +103,6 @@ load-same w pid n home = ap (λ hs. length hs + count (is_connect_of pid) w.wait
 
 pub free-same : (w : World) (pid n : ℕ) → has (is_table pid) w.handles ≡ true → free_handle (record w { handles = w.handles ++ no_handles n ∷ [] }) pid ≡ free_handle w pid
 free-same w pid n home = rw (first-behind (is_table pid) w.handles (no_handles n ∷ []) home) refl
-
-pub self : (n : ℕ) → (n == n) ≡ true
-self n = grind (arith, nat_tests)
 
 -- the world in which the caller has what it made, and no handle to it yet
 abbrev pub booted_by : World → ThreadRow → ℕ → ℕ → World

@@ -1,10 +1,10 @@
 -- The steps by which threads end tell nothing of the caller's own: the call has no answer.
-use Rattle.std.proofs.Common.{◌≡◌, ℕ, List, [], ◌∷◌, ◌++◌, Bool, true, false, not, Option, Some, None, refl, sym, arith}
-use Rattle.std.specs.Prelude.{◌&&◌}
+use Rattle.std.proofs.Common.{◌≡◌, ℕ, List, [], ◌∷◌, ◌++◌, Bool, true, false, not, Option, Some, None, refl, sym}
 use Rattle.lpc_base.specs.Rows.{every, first, given, when}
 use Rattle.lpc_base.specs.declared.status.Status.{Status}
 use Rattle.lpc_base.specs.declared.status.TheConstants.{SUCCESS}
 use Rattle.lpc_base.proofs.RowWords.{every-append}
+use Rattle.lpc_base.proofs.Bools.{second-true}
 use Rattle.lpc_model.specs.declared.entry.Outcome.TheVariants as outcome
 use Rattle.lpc_model.specs.World.{Birth, HandleRow, MessageRow, PortRow, ThreadRow, WaitRow, World}
 use Rattle.lpc_model.specs.Basics.{Basic, DropsHandle, Empties, Receives, Tells, Unbinds, Unregisters, Wakes, Withdraws, basic, in_turn, outcome_of}
@@ -28,10 +28,7 @@ AreMute bs = every is_mute bs ≡ true
 mute-outcome : (bs : List Basic) → AreMute bs → outcome_of bs ≡ outcome.Gone
 mute-outcome [] all = refl
 mute-outcome (Tells e ∷ bs) all = absurd (cc)
-mute-outcome (b ∷ bs) all = mute-outcome bs (rest (is_mute b) (every is_mute bs) all)
-  where
-    rest : (x y : Bool) → (x && y) ≡ true → y ≡ true
-    rest x y is = grind arith
+mute-outcome (b ∷ bs) all = mute-outcome bs (second-true (is_mute b) (every is_mute bs) all)
 
 mute-away : (x : Basic) → takes_away x ≡ true → is_mute x ≡ true
 mute-away (Wakes who call status fields) is = refl

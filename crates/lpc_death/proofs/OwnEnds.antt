@@ -1,9 +1,10 @@
 -- What the calls do that end a thread or a process.
-use Rattle.std.proofs.Common.{◌≡◌, ◌∙◌, ℕ, ◌+◌, List, [], ◌∷◌, ◌++◌, Bool, true, false, not, Option, Some, None, refl, ap, subst, sym, arith}
-use Rattle.std.specs.Prelude.{Err, Ok, Result, ◌&&◌, ◌==◌}
+use Rattle.std.proofs.Common.{◌≡◌, ◌∙◌, ℕ, ◌+◌, List, [], ◌∷◌, ◌++◌, Bool, true, false, not, Option, Some, None, refl, ap, subst, sym}
+use Rattle.std.specs.Prelude.{Err, Ok, Result, ◌==◌}
 use Rattle.std.proofs.lemmas.Bool.{eqb-true}
 use Rattle.lpc_base.specs.declared.status.Status.{Status}
 use Rattle.lpc_base.proofs.RowWords.{first-passes}
+use Rattle.lpc_base.proofs.Bools.{first-true, second-true}
 use Rattle.lpc_model.specs.Basics.{Steps, Tells, doing, outcome_of, ◌▹◌}
 use Rattle.lpc_model.specs.declared.entry.Outcome.TheVariants as outcome
 use Rattle.lpc_model.specs.Death.{answer_unless, code_status, dying, end_threads, nt_terminate_process, nt_terminate_thread, terminate_process_steps, terminate_thread_steps}
@@ -25,6 +26,7 @@ use Rattle.lpc_model.specs.declared.entry.Outcome.{Outcome}
 use Rattle.lpc_model.specs.declared.line.ProcArg.TheVariants.{Current}
 use Rattle.lpc_model.proofs.Closing.{behind}
 use Rattle.lpc_model.proofs.Ending.{behind_dead}
+use Rattle.lpc_model.proofs.Usable.{live-number}
 use Rattle.lpc_world.specs.Called.{Served, called}
 use Rattle.lpc_world.specs.Does.{Took}
 use Rattle.lpc_world.specs.Kept.{Kept}
@@ -37,12 +39,6 @@ use Rattle.lpc_death.proofs.Mute.{ends-gone}
 use Rattle.lpc_death.proofs.Untelling.{one-ends}
 
 -- The caller
-first-true : (x y : Bool) → (x && y) ≡ true → x ≡ true
-first-true x y is = grind arith
-
-second-true : (x y : Bool) → (x && y) ≡ true → y ≡ true
-second-true x y is = grind arith
-
 pub caller-found : (w : World) (tid : ℕ) → is_ready w tid ≡ true → live_thread w tid ≡ Some (caller w tid)
 unfolding caller
 caller-found w tid ready = at (live_thread w tid) refl
@@ -69,20 +65,16 @@ own w tid ready =
       found = subst (λ n. live_thread w n ≡ Some t) (sym number) here;
     }
 
--- a live thread has the number by which it is found
-pub own-number : (w : World) (tid : ℕ) (t : ThreadRow) → live_thread w tid ≡ Some t → t.number ≡ tid
-own-number w tid t found = eqb-true t.number tid (first-true (t.number == tid) t.live (first-passes (is_live_thread tid) w.threads t found))
-
 -- one thread ends in the parts in which the service does it
 pub thread-ends-by : (w : World) (tid : ℕ) (code : Status) (t : ThreadRow) → CanEnd w → live_thread w tid ≡ Some t → (dying code tid ▹ telling_ends t.process) w ≡ end_threads t.process code (t ∷ []) w
 thread-ends-by w tid code t can found =
-    let number = own-number w tid t found in
+    let number = live-number w tid t found in
     subst (λ n. (dying code n ▹ telling_ends t.process) w ≡ end_threads t.process code (t ∷ []) w) number
     (one-ends code t w can.threads can.registrations (subst (λ n. live_thread w n ≡ Some t) (sym number) found))
 
 -- what holds behind its death
 pub thread-dead : (P : World → Type 0) (w : World) (tid : ℕ) (code : Status) (t : ThreadRow) → live_thread w tid ≡ Some t → P (behind_dead code (t ∷ []) w) → P (behind (dying code tid) w)
-thread-dead P w tid code t found is = subst (λ n. P (behind (dying code n) w)) (own-number w tid t found) (one-dead P code t w is)
+thread-dead P w tid code t found is = subst (λ n. P (behind (dying code n) w)) (live-number w tid t found) (one-dead P code t w is)
 
 -- Steps that are taken once the call is counted
 pub took-counted : (f : Steps) (old mid new : Kept) (before after : Listed) → mid.rows ≡ old.rows → mid.loose ≡ old.loose → Took (f mid.rows) mid new before after → Took (f old.rows) old new before after

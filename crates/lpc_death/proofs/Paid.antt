@@ -2,9 +2,10 @@
 -- handle.
 use Rattle.std.proofs.Common.{◌≡◌, ◌∙◌, ℕ, ◌+◌, ◌≤◌, List, [], ◌∷◌, Bool, true, false, cond, Some, refl, ap, sym, subst, arith}
 use Rattle.std.specs.Prelude.{◌==◌, ◌&&◌}
-use Rattle.std.proofs.lemmas.Bool.{eqb-true}
+use Rattle.std.proofs.lemmas.Bool.{eqb-true, and_parts}
 use Rattle.lpc_base.specs.Rows.{change, count, every, first, when, without_first}
 use Rattle.lpc_base.proofs.Births.{birth-same, birth-self}
+use Rattle.lpc_base.proofs.RowWords.{count-fewer, count-has}
 use Rattle.lpc_model.specs.declared.entry.ObjectKind.{ObjectKind}
 use Rattle.lpc_model.specs.declared.entry.ObjectKind.TheVariants as kind
 use Rattle.lpc_model.specs.World.{Birth, HandleRow, HandleTable, MessageRow, ObjectName, PortRow, World}
@@ -20,7 +21,7 @@ use Rattle.lpc_model.proofs.Rows.{count-change}
 use Rattle.lpc_model.proofs.SingleClosings.{dropped-shut}
 use Rattle.lpc_world.specs.Kept.{is_open_client, open_clients, owed_rows}
 use Rattle.lpc_world.specs.OwedClosings.{is_client_of}
-use Rattle.lpc_world.proofs.OwnMessages.{count-fewer, count-some, count-taken_by}
+use Rattle.lpc_world.proofs.OwnMessages.{count-taken_by}
 use Rattle.lpc_world.proofs.Owed.{owed-drop}
 use Rattle.lpc_death.specs.Closing.{closes_last, closing_rows, last_rows}
 use Rattle.lpc_death.proofs.HandlesKept.{handles-kept}
@@ -52,7 +53,7 @@ five-clients w b =
 
 -- and is a client port where its closing is told of
 pub told-rows : (w : World) (b : Birth) (p : PortRow) (m : MessageRow) → port_row w b ≡ Some p → closing_post w p ≡ Some m → 1 ≤ closing_rows w b
-told-rows w b p m row told = count-some (is_client_of b) w.ports (client-row b w.ports p row (told-client w p m told))
+told-rows w b p m row told = count-has (is_client_of b) w.ports (client-row b w.ports p row (told-client w p m told))
 
 -- Handles of an object: without the handle that goes there is one less
 less-named : (p : HandleRow → Bool) (pid value : ℕ) (ts : List HandleTable) → count p (handles_in (change (is_table pid) (without_handle value) ts)) ≤ count p (handles_in ts)
@@ -104,15 +105,11 @@ sums p q r off own (x ∷ xs) = grind (arith, off x, own x, sums p q r off own x
 drop-pays : (w : World) (pid value : ℕ) (b : Birth) → is_open w b ≡ true → is_open (basic w (DropsHandle pid value)) b ≡ false → owed_rows (basic w (DropsHandle pid value)) + closing_rows w b ≤ owed_rows w
 drop-pays w pid value b opens shut =
     let v = basic w (DropsHandle pid value) in
-    let clients : open_clients v + closing_rows w b ≤ open_clients w = sums (is_open_client v) (is_open_client w) (is_client_of b) (λ p off. still (is_client_port p) (is_open w p.birth) (is_open v p.birth) (dropped-shut w pid value p.birth) off) (λ p its. closed p (parts (same_birth p.birth b) (is_client_port p) its)) w.ports in
+    let clients : open_clients v + closing_rows w b ≤ open_clients w = sums (is_open_client v) (is_open_client w) (is_client_of b) (λ p off. still (is_client_port p) (is_open w p.birth) (is_open v p.birth) (dropped-shut w pid value p.birth) off) (λ p its. closed p (and_parts (same_birth p.birth b) (is_client_port p) its)) w.ports in
     omega (arith, clients)
   where
     still : (c o u : Bool) → (o ≡ false → u ≡ false) → (c && o) ≡ false → (c && u) ≡ false
     still c o u less off = grind (arith, less)
-
-    parts : (s c : Bool) → (s && c) ≡ true → (s ≡ true) × (c ≡ true)
-    parts true c is = (refl, is)
-    parts false c is = absurd (cc)
 
     closed : (p : PortRow) → (same_birth p.birth b ≡ true) × (is_client_port p ≡ true) → (is_open_client w p ≡ true) × (is_open_client (basic w (DropsHandle pid value)) p ≡ false)
     closed p its =

@@ -2,11 +2,11 @@
 use Rattle.std.proofs.Common.{◌≡◌, ◌∙◌, ℕ, List, [], ◌∷◌, ◌++◌, Bool, true, false, Option, Some, None, drop, map, refl, ap, sym, subst, arith}
 use Rattle.std.specs.Prelude.{◌==◌, not, option_map}
 use Rattle.std.proofs.lemmas.Bool.{eqb-true}
-use Rattle.std.proofs.lemmas.Bool.Decides.{nat_tests}
 use Rattle.std.proofs.lemmas.List.{append-nil}
 use Rattle.lpc_base.specs.Rows.{change, each, every, first, given, has, when, which, without}
-use Rattle.lpc_base.proofs.RowWords.{change-none, every-change, first-passes}
+use Rattle.lpc_base.proofs.RowWords.{change-none, every-change}
 use Rattle.lpc_base.proofs.Births.{birth-same, birth-self}
+use Rattle.lpc_base.proofs.Bools.{same-number}
 use Rattle.lpc_model.specs.declared.entry.Entry.{Entry}
 use Rattle.lpc_model.specs.Basics.{Enters, Receives, Takes, TakesConnect, Unregisters, basic, doing, in_turn, unregistering, world_after}
 use Rattle.lpc_model.specs.Deaths.{HasSingleRegistrations, are_different, registers_once}
@@ -19,6 +19,7 @@ use Rattle.lpc_slots.specs.declared.Key.{Key}
 use Rattle.lpc_model.specs.World.{Accepted, Birth, Connect, Listen, MessageRow, PortRow, Receive, Request, ThreadRow, WaitRow, World}
 use Rattle.lpc_model.proofs.SingleRegistrations.{different-less}
 use Rattle.lpc_model.proofs.SoundWorlds.{by_kind}
+use Rattle.lpc_model.proofs.Usable.{port-birth}
 use Rattle.lpc_world.specs.Clauses.{birth_at, port_at, row_at}
 use Rattle.lpc_steps.specs.Clauses.{route_at}
 use Rattle.lpc_world.specs.Does.{Left, Took, left_by}
@@ -34,10 +35,6 @@ use Rattle.lpc_death.specs.Dying.{told_row, telling_all, telling_one, untold_mes
 -- the port of a registration, with its route, says what is told
 pub told-is : (w : World) (u : Death) (p : PortRow) (q : Option Birth) → port_row w u.port ≡ Some p → route w p ≡ q → told_row w u ≡ option_map (λ queue. row_of queue p (untold_message u)) q
 told-is w u p q row way = rw (row, way) refl
-
--- a port that stands has its birth
-pub port-birth : (w : World) (b : Birth) (p : PortRow) → port_row w b ≡ Some p → p.birth ≡ b
-port-birth w b p row = birth-same p.birth b (first-passes (λ p. same_birth p.birth b) w.ports p row)
 
 -- its registration went, and then the message entered
 pub post-took : (w mid end : Kept) (out last : Listed) (u : Death) (queue port : Key) (context : ℕ) (m : Message) → mid.rows ≡ basic w.rows (Unregisters u.client.thread u.port) → mid.loose ≡ true → birth_at mid port ≡ u.port
@@ -112,15 +109,12 @@ pub record IsNext (ts : List ThreadRow) (u : Death) : Type 0 where
   pub there : has (is_thread u.client.thread) ts ≡ true
   pub registered : has (same_birth u.port) (given (first (is_thread u.client.thread) ts) (λ t. t.registrations)) ≡ true
 
-number-self : (n : ℕ) → (n == n) ≡ true
-number-self n = grind (arith, nat_tests)
-
 next-pair : (v u : Death) (vs us : List Death) → let x : List Death = v ∷ vs in let y : List Death = u ∷ us in x ≡ y → (v ≡ u) × (vs ≡ us)
 next-pair v u vs us same = (cc, cc)
 
 next-here : (t : ThreadRow) (ts : List ThreadRow) (b : Birth) (bs : List Birth) → t.registrations ≡ b ∷ bs → IsNext (t ∷ ts) (death_by t b)
 next-here t ts b bs is =
-    let own = number-self t.number in
+    let own = same-number t.number in
     record { there = rw own refl; registered = rw (own, is) (rw (birth-self b) refl) }
 
 next-later : (t : ThreadRow) (ts : List ThreadRow) (u : Death) → has (λ r. r.number == t.number) ts ≡ false → IsNext ts u → IsNext (t ∷ ts) u
@@ -154,7 +148,7 @@ next-found pid (t ∷ ts) u us one next = at (λ rest. next-found pid ts u us (a
 left-here : (pid : ℕ) (t : ThreadRow) (ts : List ThreadRow) (b : Birth) (bs : List Birth) → has (λ r. r.number == t.number) ts ≡ false → registers_once t ≡ true → has_ended_in pid t ≡ true → t.registrations ≡ b ∷ bs
     → deaths_in pid (told_in (death_by t b) (t ∷ ts)) ≡ map (death_by t) bs ++ deaths_in pid ts
 left-here pid t ts b bs apart single here is =
-    let own = number-self t.number in
+    let own = same-number t.number in
     let different : are_different (b ∷ bs) ≡ true = subst (λ rs. are_different rs ≡ true) is single in
     let others : every (λ c. not (same_birth c b)) bs ≡ true = grind arith in
     let left : without (same_birth b) t.registrations ≡ bs = ap (without (same_birth b)) is ∙ gone b bs others in

@@ -18,8 +18,8 @@ use Rattle.lpc_model.proofs.Ending.{rows-left}
 use Rattle.lpc_model.proofs.LinkedClose.{handle-plain}
 use Rattle.lpc_model.proofs.LinkedSteps.{plain-all}
 use Rattle.lpc_model.proofs.SoundClose.{close_handle-sound}
-use Rattle.lpc_model.proofs.SoundQueues.{after-append}
 use Rattle.lpc_model.proofs.SingleClosingsClose.{handle-untold}
+use Rattle.lpc_model.proofs.StepsInTurn.{after-append}
 use Rattle.lpc_world.specs.Does.{Left, left_by}
 use Rattle.lpc_world.specs.Shown.{shown_handle}
 use Rattle.lpc_steps.proofs.Composed.{left-then, left_further}

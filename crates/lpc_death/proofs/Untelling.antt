@@ -3,9 +3,11 @@ use Rattle.std.proofs.Common.{◌≡◌, ◌∙◌, ℕ, ◌≤◌, List, [], �
 use Rattle.std.specs.Prelude.{◌&&◌, ◌||◌, ◌==◌}
 use Rattle.std.proofs.lemmas.Bool.Decides.{nat_tests}
 use Rattle.std.proofs.lemmas.List.{append-nil}
+use Rattle.std.proofs.lemmas.Bool.{and_from}
 use Rattle.lpc_base.specs.Rows.{change, count, each, every, first, has, which}
 use Rattle.lpc_base.specs.declared.status.Status.{Status}
 use Rattle.lpc_base.proofs.RowWords.{every-more, first-passes}
+use Rattle.lpc_base.proofs.Bools.{first-true, second-true, unless-more}
 use Rattle.lpc_model.specs.Basics.{Steps, ended, in_turn, provided, world_after, ◌▹◌}
 use Rattle.lpc_model.specs.Death.{die, dying, end_process, end_threads, post_death, post_deaths}
 use Rattle.lpc_model.specs.Deaths.{HasLivingRegistrations, has_living_registrations}
@@ -14,9 +16,9 @@ use Rattle.lpc_model.specs.World.{Birth, ThreadRow, World}
 use Rattle.lpc_model.proofs.Closing.{behind}
 use Rattle.lpc_model.proofs.DeathLines.{die-threads}
 use Rattle.lpc_model.proofs.Ending.{behind_dead}
-use Rattle.lpc_model.proofs.SoundQueues.{after-append}
 use Rattle.lpc_world.specs.Registered.{death_by, deaths_of, has_ended_in}
 use Rattle.lpc_death.specs.Dying.{dying_all, telling_all, telling_one}
+use Rattle.lpc_model.proofs.StepsInTurn.{after-append}
 use Rattle.lpc_death.specs.Ends.{telling_ends}
 use Rattle.lpc_model.specs.Lawful.{HasThreadsOnce}
 
@@ -79,12 +81,6 @@ no-deaths r dead only = of r.registrations (grind (arith, dead, only))
     of [] none = refl
     of (b ∷ bs) none = absurd (grind (arith, nat_tests))
 
-first-true : (x y : Bool) → (x && y) ≡ true → x ≡ true
-first-true x y is = grind arith
-
-second-true : (x y : Bool) → (x && y) ≡ true → y ≡ true
-second-true x y is = grind arith
-
 untold-rows : (pid : ℕ) (ts rows : List ThreadRow) → every has_living_registrations rows ≡ true → each deaths_of (which (has_ended_in pid) (map (ending ts) rows)) ≡ each deaths_of (which (λ r. lives_in pid r && is_in ts r) rows)
 untold-rows pid ts [] l = refl
 untold-rows pid ts (r ∷ rows) l =
@@ -127,17 +123,11 @@ own-in p (r ∷ rows) = at (p r) refl (own-in p rows)
     head : (a b : Bool) → a ≡ true → (not b || a) ≡ true
     head a b is = grind arith
 
-    wider : (a b c : Bool) → (b ≡ true → c ≡ true) → (not a || b) ≡ true → (not a || c) ≡ true
-    wider a b c more is = grind (arith, more)
-
-    both : (a b : Bool) → a ≡ true → b ≡ true → (a && b) ≡ true
-    both a b one two = grind arith
-
     at : (own : Bool) → p r ≡ own → AllIn p (which p rows) rows → AllIn p (which p (r ∷ rows)) (r ∷ rows)
     at true is rest =
         let ts = which p rows in
         let same : which p (r ∷ rows) ≡ r ∷ ts = rw is refl in
-        subst (λ us. AllIn p us (r ∷ rows)) (sym same) (both _ _ (head (is_in (r ∷ ts) r) (p r) (self-in r ts)) (every-more (λ s. not (p s) || is_in ts s) (λ s. not (p s) || is_in (r ∷ ts) s) (λ s. wider (p s) (is_in ts s) (is_in (r ∷ ts) s) (more-in r ts s)) rows rest))
+        subst (λ us. AllIn p us (r ∷ rows)) (sym same) (and_from _ _ (head (is_in (r ∷ ts) r) (p r) (self-in r ts)) (every-more (λ s. not (p s) || is_in ts s) (λ s. not (p s) || is_in (r ∷ ts) s) (λ s. unless-more (p s) (is_in ts s) (is_in (r ∷ ts) s) (more-in r ts s)) rows rest))
     at false off rest =
         let same : which p (r ∷ rows) ≡ which p rows = rw off refl in
         subst (λ us. AllIn p us (r ∷ rows)) (sym same) (rw off rest)

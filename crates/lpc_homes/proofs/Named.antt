@@ -1,8 +1,9 @@
 -- The handles that name an object: what the tables tell of their own handles, and what a walk over the parts finds.
-use Rattle.std.proofs.Common.{rules, ◌≡◌, ◌+◌, ◌<◌, ℕ, get_or, drop, List, [], ◌∷◌, ◌++◌, Bool, true, cond, length, Some, refl, ap, sym, ◌∙◌, arith}
+use Rattle.std.proofs.Common.{rules, ◌≡◌, ◌+◌, ◌<◌, ℕ, get_or, drop, List, [], ◌∷◌, Bool, true, cond, length, Some, refl, ap, sym, ◌∙◌, arith}
 use Rattle.std.specs.Prelude.{is_some}
 use Rattle.std.proofs.lemmas.List.{at_drop_more}
 use Rattle.lpc_base.specs.Rows.{count, first, has}
+use Rattle.lpc_base.proofs.RowWords.{count-append}
 use Rattle.lpc_handles.specs.Handles as handles
 use Rattle.lpc_handles.specs.declared.table.Row.{Row}
 use Rattle.lpc_homes.specs.Parts.{all_rows, has_name_of, is_object, names_it}
@@ -40,13 +41,9 @@ named_at object parts i part lt is so_far passes =
     sym (sym so_far ∙ at_drop_more (λ (xs : List Part). has p xs) parts i part lt ∙ ap (λ q. has p (q ∷ drop (i + 1) parts)) (sym is) ∙ head)
 
 -- the handles of a part that were counted, and those of the parts behind it
-count_append : {X : Type 0} (p : X → Bool) (xs ys : List X) → count p (xs ++ ys) ≡ count p xs + count p ys
-count_append p [] ys = grind arith
-count_append p (x ∷ xs) ys = grind (arith, count_append p xs ys)
-
 pub counted_part : (p : ℕ × Row Object → Bool) (parts : List Part) (i so_far : ℕ) (part : Part) → i < length parts → part ≡ get_or parts i part
     → so_far + count p (all_rows (drop i parts)) ≡ count p (all_rows parts) → (so_far + count p part.handles.rows) + count p (all_rows (drop (i + 1) parts)) ≡ count p (all_rows parts)
 counted_part p parts i so_far part lt is sum =
     let here : count p (all_rows (drop i parts)) ≡ count p (all_rows (part ∷ drop (i + 1) parts)) =
     at_drop_more (λ (ps : List Part). count p (all_rows ps)) parts i part lt ∙ ap (λ q. count p (all_rows (q ∷ drop (i + 1) parts))) (sym is) in
-    omega (arith, sum, here, count_append p part.handles.rows (all_rows (drop (i + 1) parts)))
+    omega (arith, sum, here, count-append p part.handles.rows (all_rows (drop (i + 1) parts)))

@@ -1,11 +1,12 @@
 -- The part of a process: where it stands, and what a change of it leaves.
 use Rattle.std.proofs.Common.{◌≡◌, ◌+◌, ◌-◌, ℕ, true, false, cond, refl, ap, ◌∙◌, arith, List, [], ◌∷◌, get_or, set, Option, Some, None}
-use Rattle.std.specs.Prelude.{is_some, option_map, ◌==◌, Result, Ok, Err, IfNone, IfOk, OnOk, OnSome}
+use Rattle.std.specs.Prelude.{is_some, ◌==◌, Result, Ok, Err, IfNone, IfOk, OnOk, OnSome}
 use Rattle.std.specs.List.{position}
 use Rattle.std.proofs.lemmas.Bool.Decides.{nat_tests}
 use Rattle.lpc_base.specs.Rows.{change, first, has, without_first}
 use Rattle.lpc_base.proofs.Differ.{IsRowAt, row-at, set-change}
 use Rattle.lpc_base.proofs.Positions.{none_first}
+use Rattle.lpc_base.proofs.RowMaps.{some-map}
 use Rattle.lpc_handles.specs.Handles as handles
 use Rattle.lpc_handles.specs.Handles.{Handles, with_row}
 use Rattle.lpc_handles.specs.declared.table.Row.{Row}
@@ -59,15 +60,11 @@ handed_part parts pid index part row (Ok v) new one at rows spare =
     ∙ set-change process (handed v row) parts index pid part one at.here at.own
 
 -- A handle less in the part of a process, where it has one of the value
-mapped : {X Y : Type 0} (g : X → Y) (o : Option X) → is_some (option_map g o) ≡ is_some o
-mapped g None = refl
-mapped g (Some x) = refl
-
 closed_spare : (value spare : ℕ) (part : Part) (r : Option (Row Object)) → r ≡ handles.at part.handles.rows value → OnSome r (spare ≡ part.handles.spare + 1) → IfNone r (spare ≡ part.handles.spare)
     → spare ≡ cond (has (handles.has_value value) part.handles.rows) (part.handles.spare + 1) part.handles.spare
 closed_spare value spare part r at more same =
     by_result r more same
-    ∙ ap (λ b. cond b (part.handles.spare + 1) part.handles.spare) (ap is_some at ∙ mapped (λ (row : ℕ × Row Object). row.1) (first (handles.has_value value) part.handles.rows))
+    ∙ ap (λ b. cond b (part.handles.spare + 1) part.handles.spare) (ap is_some at ∙ some-map (λ (row : ℕ × Row Object). row.1) (first (handles.has_value value) part.handles.rows))
   where
     by_result : (o : Option (Row Object)) → OnSome o (spare ≡ part.handles.spare + 1) → IfNone o (spare ≡ part.handles.spare) → spare ≡ cond (is_some o) (part.handles.spare + 1) part.handles.spare
     by_result None a b = b

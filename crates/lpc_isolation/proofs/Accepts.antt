@@ -1,8 +1,9 @@
 -- NtAcceptConnectPort in a view.
 use Rattle.std.proofs.Common.{◌≡◌, ℕ, List, [], ◌∷◌, ◌++◌, Bool, true, false, cond, map, not, Option, Some, None, refl, ap, sym, subst, ◌∙◌, arith}
 use Rattle.std.specs.Prelude.{◌&&◌, ◌||◌, ◌==◌, Ok, nat_lt}
-use Rattle.std.proofs.lemmas.Bool.{and_from, eqb-true}
+use Rattle.std.proofs.lemmas.Bool.{and_from, eqb-true, or_left}
 use Rattle.std.proofs.lemmas.Bool.Decides.{nat_tests}
+use Rattle.std.proofs.Math.Bool.{or-true}
 use Rattle.lpc_base.specs.Rows.{every, first, given, has}
 use Rattle.lpc_base.proofs.RowWords.{every-more, every-push, first-passes}
 use Rattle.lpc_base.proofs.RowMaps.{every-first}
@@ -162,16 +163,9 @@ joinable m c u w by bytes a k is =
     let other : same_birth (next_birth by) x.port ≡ false = other-port w.ports (next_birth by) x.port new stands in
     record {
       clients = every-push (is_no_server_at x.port) w.ports (server_port (next_birth by) x.queue) (no-servers m c u w by x k is.offered here) (rw other refl);
-      servers = every-push (is_server_at (next_birth by)) w.ports (server_port (next_birth by) x.queue) (every-more (λ p. not (is_port (next_birth by) p)) (is_server_at (next_birth by)) (λ p off. or-left (not (is_port (next_birth by) p)) (is_server_port p) off) w.ports new) (or-right (not (is_port (next_birth by) (server_port (next_birth by) x.queue))));
+      servers = every-push (is_server_at (next_birth by)) w.ports (server_port (next_birth by) x.queue) (every-more (λ p. not (is_port (next_birth by) p)) (is_server_at (next_birth by)) (λ p off. or_left (not (is_port (next_birth by) p)) (is_server_port p) off) w.ports new) (or-true (not (is_port (next_birth by) (server_port (next_birth by) x.queue))));
     }
   where
-    or-left : (a b : Bool) → a ≡ true → (a || b) ≡ true
-    or-left a b is = grind arith
-
-    or-right : (a : Bool) → (a || true) ≡ true
-    or-right true = refl
-    or-right false = refl
-
     offered-connect : (x : WaitRow) → is_offered x ≡ true → is_connect x ≡ true
     offered-connect x is = grind arith
 

@@ -1,6 +1,6 @@
 -- What a call on a process or a thread is of, in a view, and where rows that nothing names have gone.
-use Rattle.std.proofs.Common.{◌≡◌, ℕ, Bool, true, false, not, Some, refl, ap, ◌∙◌, arith}
-use Rattle.std.proofs.lemmas.Bool.{and_from}
+use Rattle.std.proofs.Common.{◌≡◌, ℕ, Bool, true, not, Some, refl, ap, ◌∙◌}
+use Rattle.std.proofs.lemmas.Bool.{and_from, not-false}
 use Rattle.std.specs.Prelude.{◌||◌, Result, Ok}
 use Rattle.lpc_base.specs.Rows.{every, first}
 use Rattle.lpc_base.proofs.RowWords.{first-passes}
@@ -112,10 +112,7 @@ object-lives k u by s value f lives c =
     bind_holds (refuse_if (not (same_kind h.object.kind s)) OBJECT_TYPE_MISMATCH) _ P (λ v is.
     bind_holds (refuse_if (not (includes h.access LIFE_RIGHT)) ACCESS_DENIED) _ P (λ _ _.
     let closed : handle_closed k h ≡ true = every-first (handle_closed k) (has_value value) (handles_of u by.process) h (rows-closed k by.process u.handles (first (is_table by.process) u.handles) refl c.tables) (found_ok (handle_at u by.process value) INVALID_HANDLE h at) in
-    lives h.object.kind h.object.birth closed (of-not (same_kind h.object.kind s) (not_refused (not (same_kind h.object.kind s)) OBJECT_TYPE_MISMATCH v is)))))
-  where
-    of-not : (e : Bool) → not e ≡ false → e ≡ true
-    of-not e is = grind arith
+    lives h.object.kind h.object.birth closed (not-false (same_kind h.object.kind s) (not_refused (not (same_kind h.object.kind s)) OBJECT_TYPE_MISMATCH v is)))))
 
 pub thread-thin : (k : Alive) (u : World) (by : ThreadRow) (target : ProcArg) → Closed k u → thread_target (thin k u) by target ≡ thread_target u by target
 thread-thin k u by Current c = refl

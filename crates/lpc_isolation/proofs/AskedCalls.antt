@@ -9,7 +9,7 @@ use Rattle.lpc_isolation.proofs.Requests.{sent-request}
 use Rattle.lpc_isolation.proofs.Sends.{Caller}
 use Rattle.lpc_model.specs.Circle.{Group}
 use Rattle.lpc_message.specs.declared.kind.TheConstants.{DATAGRAM, REQUEST}
-use Rattle.lpc_model.proofs.Holding.{Holds, bind_holds}
+use Rattle.lpc_model.proofs.Holding.{Holds, bind_holds, holds-more}
 use Rattle.lpc_model.specs.Basics.{Awaits, Basic, world_after}
 use Rattle.lpc_model.specs.Connect.{nt_accept_connect_port, nt_complete_connect_port, listen_steps}
 use Rattle.lpc_model.specs.Connect.{names_connect, nt_connect_port}
@@ -27,7 +27,7 @@ use Rattle.lpc_model.specs.declared.message.Message.{Message}
 use Rattle.std.proofs.Common.{◌≡◌, ◌≤◌, ℕ, List, [], ◌∷◌, ◌++◌, Bool, true, false, not, Option, Some, None, refl, sym, subst, arith}
 use Rattle.std.proofs.lemmas.Bool.{and_from}
 use Rattle.lpc_base.specs.declared.status.Status.{Status}
-use Rattle.std.specs.Prelude.{◌&&◌, ◌||◌, Result, Ok, Err}
+use Rattle.std.specs.Prelude.{◌&&◌, ◌||◌, Result, Ok}
 use Rattle.lpc_base.specs.Rows.{count}
 use Rattle.lpc_model.specs.Request.{reply, request_start}
 use Rattle.lpc_model.specs.Found.{fits, is_listen, is_receive}
@@ -142,8 +142,7 @@ receive-asked m c w by handle bytes a k = on-receive (AskedBy w) m c w w by hand
 
 -- such steps leave it so
 pub asked-after : (w : World) → Asked w → (r : Result (List Basic) Status) → Holds (AskedBy w) r → Holds (λ bs. Asked (world_after w bs)) r
-asked-after w a (Ok bs) is = run-asked w bs is a
-asked-after w a (Err s) is = tt
+asked-after w a r is = holds-more (AskedBy w) (λ bs. Asked (world_after w bs)) r (λ bs is. run-asked w bs is a) is
 
 pub asked-create : (m : Group) (c : ℕ) (w : World) (by : ThreadRow) (name : Option (List ℕ)) → Asked w → Caller m c w w by → Holds (λ bs. Asked (world_after w bs)) (served w by (create_port name))
 asked-create m c w by name a k = asked-after w a _ (made-holds (AskedBy w) w by name (λ value. refl) (λ path value. refl))

@@ -1,9 +1,10 @@
 -- No call but a creation binds a name, and it binds at a free path.
-use Rattle.std.proofs.Common.{◌≡◌, ℕ, List, [], ◌∷◌, ◌++◌, Bool, true, false, Option, Some, None, refl, ap, sym, subst, ◌∙◌, arith}
-use Rattle.std.specs.Prelude.{◌&&◌, Result, Ok, Err}
+use Rattle.std.proofs.Common.{◌≡◌, ℕ, List, [], ◌∷◌, ◌++◌, Bool, true, false, Option, Some, None, refl, ap, sym, subst, ◌∙◌}
+use Rattle.std.specs.Prelude.{Result, Ok, Err}
 use Rattle.lpc_base.specs.Rows.{every, first, given}
 use Rattle.lpc_base.specs.declared.status.Status.{Status}
 use Rattle.lpc_base.specs.declared.status.TheConstants.{SUCCESS}
+use Rattle.lpc_base.proofs.Bools.{first-true, second-true}
 use Rattle.lpc_message.specs.declared.kind.TheConstants.{DATAGRAM, REQUEST}
 use Rattle.lpc_model.specs.declared.message.Message.{Message}
 use Rattle.lpc_model.specs.Message.{asks, message_test}
@@ -18,7 +19,7 @@ use Rattle.lpc_model.specs.Request.{reply_test, datagram_start, nt_reply_port, r
 use Rattle.lpc_model.specs.Tests.{handles_test, next_birth, port_test}
 use Rattle.lpc_model.specs.Lines.{accept_connect_port, complete_connect_port, connect_port, create_port, listen_port, reply_port, reply_wait_receive_port, request_port, request_wait_reply_port}
 use Rattle.lpc_isolation.proofs.Served.{served}
-use Rattle.lpc_model.proofs.Holding.{Holds, bind_holds}
+use Rattle.lpc_model.proofs.Holding.{Holds, bind_holds, holds-more}
 use Rattle.lpc_names.specs.Walk.{Place, free_at, free_path, node_at, unless_taken, walk}
 use Rattle.lpc_names.specs.declared.fault.NameFault.{NameFault}
 use Rattle.lpc_names.specs.declared.names.Found.{Found}
@@ -90,13 +91,7 @@ basic-bindings w (Unbinds b) ok = absurd (cc)
 
 pub run-bindings : (w : World) (bs : List Basic) → every binds_none bs ≡ true → (world_after w bs).bindings ≡ w.bindings
 run-bindings w [] ok = refl
-run-bindings w (b ∷ bs) ok = run-bindings (basic w b) bs (second (binds_none b) (every binds_none bs) ok) ∙ basic-bindings w b (front (binds_none b) (every binds_none bs) ok)
-  where
-    second : (a b : Bool) → (a && b) ≡ true → b ≡ true
-    second a b is = grind arith
-
-    front : (a b : Bool) → (a && b) ≡ true → a ≡ true
-    front a b is = grind arith
+run-bindings w (b ∷ bs) ok = run-bindings (basic w b) bs (second-true (binds_none b) (every binds_none bs) ok) ∙ basic-bindings w b (first-true (binds_none b) (every binds_none bs) ok)
 
 given-none : (x : MessageRow) (y : WaitRow) (k : WaitKind) (asked : Bool) → y.kind ≡ k → asks x.message ≡ asked → every binds_none (given_steps y x ++ woken SUCCESS (shown y x) y ∷ []) ≡ true
 given-none x y (Request a) true k asked = rw (k, asked) refl
@@ -141,8 +136,7 @@ abbrev Bound : World → List Basic → Type 0
 Bound w bs = OnceBound (world_after w bs).bindings
 
 bound-still : (w : World) → OnceBound w.bindings → (r : Result (List Basic) Status) → Holds (λ bs. every binds_none bs ≡ true) r → Holds (Bound w) r
-bound-still w s (Ok bs) none = subst OnceBound (sym (run-bindings w bs none)) s
-bound-still w s (Err e) none = tt
+bound-still w s r none = holds-more (λ bs. every binds_none bs ≡ true) (Bound w) r (λ bs none. subst OnceBound (sym (run-bindings w bs none)) s) none
 
 create-bound : (w : World) (by : ThreadRow) (name : Option (List ℕ)) → OnceBound w.bindings → Holds (Bound w) (nt_create_port w by name)
 unfolding nt_create_port

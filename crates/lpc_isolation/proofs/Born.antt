@@ -3,10 +3,11 @@ use Rattle.std.proofs.Common.{◌≡◌, ℕ, ◌+◌, List, [], ◌∷◌, ◌+
 use Rattle.std.specs.Prelude.{◌&&◌, ◌||◌, ◌==◌, nat_lt, Result}
 use Rattle.std.proofs.lemmas.Bool.{and_from, eqb-true}
 use Rattle.std.proofs.lemmas.Bool.Decides.{nat_tests}
+use Rattle.std.proofs.Math.Bool.{or-true}
 use Rattle.lpc_base.specs.Rows.{change, every, has, when}
 use Rattle.lpc_base.proofs.RowWords.{every-change, every-more, every-push, every-without, has-kept, has-push}
 use Rattle.lpc_base.proofs.RowMaps.{every-both, every-change_to, every-first}
-use Rattle.lpc_base.proofs.Bools.{first-true, same-number, second-true}
+use Rattle.lpc_base.proofs.Bools.{first-true, or-last, same-number, second-off, second-true}
 use Rattle.lpc_base.proofs.Births.{birth-same}
 use Rattle.lpc_model.proofs.Rows.{count-change, count-less, has-off, lone}
 use Rattle.lpc_model.proofs.ThreadsOnce.{new-once}
@@ -31,10 +32,9 @@ use Rattle.lpc_model.specs.Creation.{nt_create_process, nt_create_thread, second
 use Rattle.lpc_model.specs.Tests.{next_birth, own_handle}
 use Rattle.lpc_model.proofs.Creating.{process-made, tested-further, thread-made}
 use Rattle.lpc_model.proofs.Ending.{is_ending, process-ending, thread-ending}
-use Rattle.lpc_model.proofs.Holding.{Holds, bind_holds, directed_holds, holds_ok, not_refused, settled_holds}
+use Rattle.lpc_model.proofs.Holding.{Holds, bind_holds, directed_holds, holds-more, holds_ok, not_refused, settled_holds}
 use Rattle.lpc_model.proofs.Undying.{is_undying, register_holds, service-undying}
 use Rattle.lpc_model.proofs.Usable.{live-number}
-use Rattle.lpc_isolation.proofs.Mine.{holds-more}
 use Rattle.lpc_isolation.proofs.Served.{served, served_ready, served_step, served_thread}
 
 -- Of the births that a number may have: a directive gives maker 0 and the number itself, a call its thread as maker
@@ -218,13 +218,10 @@ used-live u by live o = every-first (λ t. was_thread u t.number) (is_live_threa
 drawn-past : (u : World) (by : ThreadRow) (f : ThreadRow → ThreadRow) (b : Birth) → live_thread u by.number ≡ Some by → b.maker ≡ by.number → ((t : ThreadRow) → (f t).number ≡ t.number) → nat_lt b.ordinal (f by).next_ordinal ≡ true → Born u → every (is_before b) (change (is_thread by.number) f u.threads) ≡ true
 drawn-past u by f b live maker numbers before o =
     every-change_to (λ t. not (is_thread by.number t) || is_before b (f t)) (is_before b) (is_thread by.number) f
-    (λ t either is. last (is_thread by.number t) (is_before b (f t)) is either)
+    (λ t either is. or-last (is_thread by.number t) (is_before b (f t)) is either)
     (λ t either off. rw (maker, other t off) refl) u.threads
     (lone (is_thread by.number) (λ t. is_before b (f t)) (is_live_thread by.number) u.threads by (o.once by.number) live (same-number by.number) (here (b.maker == (f by).number)))
   where
-    last : (a d : Bool) → a ≡ true → (not a || d) ≡ true → d ≡ true
-    last a d is it = grind arith
-
     here : (e : Bool) → (not e || nat_lt b.ordinal (f by).next_ordinal) ≡ true
     here true = before
     here false = refl
@@ -247,11 +244,7 @@ change-twice p f same [] = refl
 change-twice p f same (t ∷ ts) = grind (arith, same t, change-twice p f same ts)
 
 made-by : (u : World) (b : Birth) (n : ℕ) → was_thread u b.maker ≡ true → is_made u b n ≡ true
-made-by u b n used = rw used (at ((b.maker == 0) && (b.ordinal == n)))
-  where
-    at : (e : Bool) → (e || true) ≡ true
-    at true = refl
-    at false = refl
+made-by u b n used = rw used (or-true ((b.maker == 0) && (b.ordinal == n)))
 
 -- Calls
 none_holds : (u : World) (r : Result (List Basic) Status) → Born u → Holds (λ bs. every makes_none bs ≡ true) r → Holds (λ bs. Born (world_after u bs)) r
@@ -309,12 +302,9 @@ unfolding boot_line
 boot-born u pid tid ids o =
     bind_holds (unused_test u pid tid) _ (λ bs. Born (world_after u bs)) (λ v is.
     let neither = not_refused (was_process u pid || was_thread u tid) OBJECT_NAME_COLLISION v is in
-    let unused : was_thread u tid ≡ false = second (was_process u pid) (was_thread u tid) neither in
+    let unused : was_thread u tid ≡ false = second-off (was_process u pid) (was_thread u tid) neither in
     let one = process-born u (new_process pid None (directive_birth pid pid)) (rw (same-number pid) refl) (zero-before u (directive_birth pid pid) refl o) o in
     thread-born (basic u (AddsProcess (new_process pid None (directive_birth pid pid)))) (new_thread tid pid (directive_birth tid pid)) (rw (same-number tid) refl) (zero-before u (directive_birth tid pid) refl o) unused (is-id tid (second-true _ _ ids)) one)
-  where
-    second : (a b : Bool) → (a || b) ≡ false → b ≡ false
-    second a b off = grind arith
 
 further-born : (u : World) (tid pid : ℕ) → is_id tid ≡ true → Born u → Holds (λ bs. Born (world_after u bs)) (thread_line u tid pid)
 unfolding thread_line
@@ -323,16 +313,13 @@ further-born u tid pid id o =
     let found = holds_ok (λ _. (is_live u pid ≡ true) × (was_thread u tid ≡ false)) (thread_test u tid pid) v (tested-further u tid pid) is in
     thread-born u (new_thread tid pid (directive_birth tid pid)) (rw (same-number tid) refl) (zero-before u (directive_birth tid pid) refl o) found.1 (is-id tid id) o)
 
-bound-born : (u : World) (bs : List Basic) → every makes_none bs ≡ true → Born u → Born (world_after u bs)
-bound-born u bs none o = nones-born u bs none o
-
 dir-born : (u : World) (text : List ℕ) → Born u → Holds (λ bs. Born (world_after u bs)) (dir_line u text)
 unfolding dir_line
-dir-born u text o = bind_holds (free_name u text) _ (λ bs. Born (world_after u bs)) (λ path _. bound-born u (Binds path (Stands Directory) ∷ []) refl o)
+dir-born u text o = bind_holds (free_name u text) _ (λ bs. Born (world_after u bs)) (λ path _. nones-born u (Binds path (Stands Directory) ∷ []) refl o)
 
 link-born : (u : World) (text target : List ℕ) → Born u → Holds (λ bs. Born (world_after u bs)) (link_line u text target)
 unfolding link_line
-link-born u text target o = bind_holds (spelled_name target) _ (λ bs. Born (world_after u bs)) (λ to _. bind_holds (free_name u text) _ (λ bs. Born (world_after u bs)) (λ path _. bound-born u (Binds path (LinkTo to) ∷ []) refl o))
+link-born u text target o = bind_holds (spelled_name target) _ (λ bs. Born (world_after u bs)) (λ to _. bind_holds (free_name u text) _ (λ bs. Born (world_after u bs)) (λ path _. nones-born u (Binds path (LinkTo to) ∷ []) refl o))
 
 -- Lines
 ready-born : (u : World) (by : ThreadRow) (call : ScriptCall) (o : Option WaitRow) → live_thread u by.number ≡ Some by → has_call_ids call ≡ true → Born u → Born (world_after u (served_ready by call o u))

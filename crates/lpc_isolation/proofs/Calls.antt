@@ -2,12 +2,11 @@
 use Rattle.std.proofs.Common.{◌≡◌, ℕ, List, [], ◌∷◌, ◌++◌, Bool, true, false, cond, not, Option, Some, None, refl, ap, sym, subst, ◌∙◌, arith}
 use Rattle.std.specs.Prelude.{◌&&◌, ◌==◌, Result, Ok, Err}
 use Rattle.std.proofs.lemmas.Bool.{and_from, eqb-true}
-use Rattle.std.proofs.lemmas.Bool.Decides.{nat_tests}
 use Rattle.lpc_base.specs.Rows.{every, passes}
 use Rattle.lpc_base.specs.declared.status.Status.{Status}
 use Rattle.lpc_base.specs.declared.status.TheConstants.{SUCCESS}
 use Rattle.lpc_base.proofs.RowMaps.{every-both}
-use Rattle.lpc_base.proofs.Bools.{first-true, second-true}
+use Rattle.lpc_base.proofs.Bools.{first-true, same-number, second-true}
 use Rattle.lpc_model.specs.declared.entry.Entry.{Entry}
 use Rattle.lpc_model.specs.declared.entry.Entry.TheVariants as entry
 use Rattle.lpc_model.specs.World.{ThreadRow, WaitRow, World}
@@ -94,11 +93,8 @@ c-idle : (m : Group) (c : ℕ) (w : World) (tid : ℕ) → m c ≡ true → Fair
 c-idle m c w tid c_in f owned own = first-where (λ x. is_fair_wait m c x && is_owned w x) (our_wait m) (waits_as tid) (λ x ok is.
     let here : owner w x.thread ≡ Some c = ap (owner w) (eqb-true _ _ is) ∙ own in
     let process : c ≡ x.process = owned-by w x c here (second-true _ _ ok) in
-    let mine : (x.process == c) ≡ true = rw (sym process) (same c) in
+    let mine : (x.process == c) ≡ true = rw (sym process) (same-number c) in
     c-wait m c x c_in (first-true _ _ ok) mine) w.waits (every-both (is_fair_wait m c) (is_owned w) _ (λ x a b. and_from _ _ a b) w.waits f.waits owned)
-  where
-    same : (n : ℕ) → (n == n) ≡ true
-    same n = grind (arith, nat_tests)
 
 owner-c : (c : ℕ) (w : World) (tid : ℕ) → is_seen (alone c) (thread_whose w tid) ≡ true → owner w tid ≡ Some c
 owner-c c w tid is = at (owner w tid) is
@@ -107,7 +103,7 @@ owner-c c w tid is = at (owner w tid) is
     at None is = absurd (cc)
     at (Some p) is = ap (λ p. Some p) (eqb-true _ _ is)
 
-owner-in : (m : Group) (w : World) (tid : ℕ) (by : ThreadRow) → owner w tid ≡ Some by.process → is_seen m (thread_whose w tid) ≡ m by.process
+pub owner-in : (m : Group) (w : World) (tid : ℕ) (by : ThreadRow) → owner w tid ≡ Some by.process → is_seen m (thread_whose w tid) ≡ m by.process
 owner-in m w tid by own = ap (λ o. is_seen m (owned o)) own
 
 -- The call of a thread that waits for nothing

@@ -1,11 +1,12 @@
 -- The stages of a port's closing: which waits end, and what goes.
 use Rattle.std.proofs.Common.{◌≡◌, ℕ, [], ◌∷◌, ◌++◌, Bool, true, false, not, Option, Some, None, refl, ap, sym, subst, ◌∙◌, arith}
 use Rattle.std.specs.Prelude.{◌&&◌, ◌||◌, ◌==◌, option_and_then, option_map}
-use Rattle.std.proofs.lemmas.Bool.{and_from, and_left, eqb-true}
+use Rattle.std.proofs.lemmas.Bool.{and_from, and_left, eqb-true, or_left}
+use Rattle.std.proofs.Math.Bool.{and-false}
 use Rattle.lpc_base.specs.Rows.{passes}
 use Rattle.lpc_base.proofs.RowWords.{first-passes}
 use Rattle.lpc_base.proofs.RowMaps.{every-first}
-use Rattle.lpc_base.proofs.Bools.{first-true, same-number, second-true}
+use Rattle.lpc_base.proofs.Bools.{first-true, or-second, same-number, second-true}
 use Rattle.lpc_base.proofs.Births.{birth-same, birth-self}
 use Rattle.lpc_base.specs.declared.port_kind.PortKind.TheVariants.{Client, Connection, Server, Unnamed}
 use Rattle.lpc_base.specs.declared.status.TheConstants.{LPC_REPLY_LOST, PORT_CONNECTION_REFUSED, PORT_DISCONNECTED}
@@ -32,6 +33,7 @@ use Rattle.lpc_isolation.proofs.Mild.{AreLosses, Sure, is_loss, losses-fair, los
 use Rattle.lpc_isolation.proofs.Stages.{Good, Stage, then-good, then-stage}
 use Rattle.lpc_isolation.proofs.Posts.{post-good}
 use Rattle.lpc_isolation.proofs.Ends.{IsEnd, end-stage, is_known_wait}
+use Rattle.lpc_isolation.proofs.Reply.{wait-not-c}
 
 -- Sorts of waits
 receiver-settled : (x : WaitRow) (k : WaitKind) → x.kind ≡ k → (is_receive x || is_listen x) ≡ true → is_settled x ≡ true
@@ -56,13 +58,6 @@ accepted-takes x Receive k is = let off : false ≡ true = rw k at is in absurd 
 accepted-takes x Listen k is = let off : false ≡ true = rw k at is in absurd (cc)
 
 -- Whose a wait is
-not-c : (m : Group) (c : ℕ) (x : WaitRow) → m c ≡ true → is_fair_wait m c x ≡ true → our_wait m x ≡ false → (x.process == c) ≡ false
-not-c m c x c_in fair out = at (x.process == c) refl
-  where
-    at : (b : Bool) → (x.process == c) ≡ b → b ≡ false
-    at true is = let k : our_wait m x ≡ true = c-wait m c x c_in fair is in absurd (cc)
-    at false is = refl
-
 queue-off : (m : Group) (x : WaitRow) (b : Birth) → m b.process ≡ false → same_birth x.queue b ≡ true → our_wait m x ≡ false
 queue-off m x b out is = let q_out : m x.queue.process ≡ false = of_birth m x.queue b is ∙ out in grind arith
 
@@ -99,7 +94,7 @@ receiver-own m c x b fair is = at (is_made_on b x) refl
 receivers-end : (m : Group) (c : ℕ) (b : Birth) → IsEnd m c b false (λ w. is_receiver b)
 receivers-end m c b = record {
   settled = λ no_draw w x is. receiver-settled x x.kind refl (first-true _ _ is);
-  other = λ out u w x s known is. not-c m c x s.c_in (first-true _ _ known) (process-off m x (ap m (receiver-own m c x b (first-true _ _ known) is) ∙ out));
+  other = λ out u w x s known is. wait-not-c m c x s.c_in (first-true _ _ known) (process-off m x (ap m (receiver-own m c x b (first-true _ _ known) is) ∙ out));
   unseen = λ out u w x s known is. and_left (our_wait m x) _ (process-off m x (ap m (receiver-own m c x b (first-true _ _ known) is) ∙ out));
   agree = λ inside u w x s known ours. refl;
   inside = λ mine u w x s known is. mine-seen m c x s.c_in (first-true _ _ known) (receiver-own m c x b (first-true _ _ known) is ∙ mine);
@@ -110,7 +105,7 @@ receivers-end m c b = record {
 requests-end : (m : Group) (c : ℕ) (b : Birth) → IsEnd m c b true (λ w. is_request_on b)
 requests-end m c b = record {
   settled = λ no_draw w x is. absurd (cc);
-  other = λ out u w x s known is. not-c m c x s.c_in (first-true _ _ known) (process-off m x (ap m (made-own m c x b (first-true _ _ known) (second-true _ _ is)) ∙ out));
+  other = λ out u w x s known is. wait-not-c m c x s.c_in (first-true _ _ known) (process-off m x (ap m (made-own m c x b (first-true _ _ known) (second-true _ _ is)) ∙ out));
   unseen = λ out u w x s known is. and_left (our_wait m x) _ (process-off m x (ap m (made-own m c x b (first-true _ _ known) (second-true _ _ is)) ∙ out));
   agree = λ inside u w x s known ours. refl;
   inside = λ mine u w x s known is. mine-seen m c x s.c_in (first-true _ _ known) (made-own m c x b (first-true _ _ known) (second-true _ _ is) ∙ mine);
@@ -121,7 +116,7 @@ requests-end m c b = record {
 queued-end : (m : Group) (c : ℕ) (b : Birth) → IsEnd m c b true (λ w. is_queued_request b)
 queued-end m c b = record {
   settled = λ no_draw w x is. absurd (cc);
-  other = λ out u w x s known is. not-c m c x s.c_in (first-true _ _ known) (queue-off m x b out (first-true _ _ (second-true _ _ is)));
+  other = λ out u w x s known is. wait-not-c m c x s.c_in (first-true _ _ known) (queue-off m x b out (first-true _ _ (second-true _ _ is)));
   unseen = λ out u w x s known is. and_left (our_wait m x) _ (queue-off m x b out (first-true _ _ (second-true _ _ is)));
   agree = λ inside u w x s known ours. refl;
   inside = λ mine u w x s known is. queue-seen m c x b s.c_in (first-true _ _ known) mine (first-true _ _ (second-true _ _ is));
@@ -131,7 +126,7 @@ queued-end m c b = record {
 offered-end : (m : Group) (c : ℕ) (b : Birth) → IsEnd m c b true (λ w. is_offered_to b)
 offered-end m c b = record {
   settled = λ no_draw w x is. absurd (cc);
-  other = λ out u w x s known is. not-c m c x s.c_in (first-true _ _ known) (queue-off m x b out (second-true _ _ is));
+  other = λ out u w x s known is. wait-not-c m c x s.c_in (first-true _ _ known) (queue-off m x b out (second-true _ _ is));
   unseen = λ out u w x s known is. and_left (our_wait m x) _ (queue-off m x b out (second-true _ _ is));
   agree = λ inside u w x s known ours. refl;
   inside = λ mine u w x s known is. queue-seen m c x b s.c_in (first-true _ _ known) mine (second-true _ _ is);
@@ -259,7 +254,7 @@ known-way m c u w x s known =
 requests-across : (m : Group) (c : ℕ) (b : Birth) → IsEnd m c b true (is_request_across b)
 requests-across m c b = record {
   settled = λ no_draw w x is. absurd (cc);
-  other = λ out u w x s known is. not-c m c x s.c_in (first-true _ _ known) (request-off m c u w b x out s known is);
+  other = λ out u w x s known is. wait-not-c m c x s.c_in (first-true _ _ known) (request-off m c u w b x out s known is);
   unseen = λ out u w x s known is. and_left (our_wait m x) _ (request-off m c u w b x out s known is);
   agree = λ inside u w x s known ours. ap (λ e. is_request x && e) (across-view m c w b x inside (first-true _ _ known) ours);
   inside = λ mine u w x s known is. request-in m c u w b x mine s known is (known-way m c u w x s known);
@@ -303,8 +298,8 @@ receive-in m c u w b x mine s known is = at (across m c u w b x s (first-true _ 
 
 receives-across : (m : Group) (c : ℕ) (b : Birth) → IsEnd m c b false (is_receive_across b)
 receives-across m c b = record {
-  settled = λ no_draw w x is. receiver-settled x x.kind refl (or-first (is_receive x) (is_listen x) (first-true _ _ is));
-  other = λ out u w x s known is. not-c m c x s.c_in (first-true _ _ known) (receive-off m c u w b x out s known is);
+  settled = λ no_draw w x is. receiver-settled x x.kind refl (or_left (is_receive x) (is_listen x) (first-true _ _ is));
+  other = λ out u w x s known is. wait-not-c m c x s.c_in (first-true _ _ known) (receive-off m c u w b x out s known is);
   unseen = λ out u w x s known is. and_left (our_wait m x) _ (receive-off m c u w b x out s known is);
   agree = λ inside u w x s known ours.
       let own : m x.port.process ≡ true = ap m (eqb-true _ _ (first-true _ _ (first-true _ _ known))) ∙ first-true _ _ ours in
@@ -312,9 +307,6 @@ receives-across m c b = record {
   inside = λ mine u w x s known is. receive-in m c u w b x mine s known is;
   thinly = λ k u x closed live. rw (row-thin k u x.port live) refl;
 }
-  where
-    or-first : (a b : Bool) → a ≡ true → (a || b) ≡ true
-    or-first a b is = grind arith
 
 -- accepted connects, on either end
 accepted-other : (m : Group) (c : ℕ) (u w : World) (b : Birth) (x : WaitRow) → m b.process ≡ false → Sure m c u w → is_known_wait m c u w x ≡ true → is_accepted_across b w x ≡ true → (x.process == c) ≡ false
@@ -324,15 +316,12 @@ accepted-other m c u w b x out s known is = at (is_made_on b x) refl
     over a = by-kind (is_server_port a.port) refl
       where
         by-kind : (e : Bool) → is_server_port a.port ≡ e → (x.process == c) ≡ false
-        by-kind false kind = not-c m c x s.c_in (first-true _ _ known) (process-off m x (sym (ap m a.own) ∙ client-out m c a.port b a.fair kind out))
+        by-kind false kind = wait-not-c m c x s.c_in (first-true _ _ known) (process-off m x (sym (ap m a.own) ∙ client-out m c a.port b a.fair kind out))
         by-kind true kind = sym (ap (λ p. p == c) a.own) ∙ server-other m c a.port b a.fair kind out
 
     at : (e : Bool) → is_made_on b x ≡ e → (x.process == c) ≡ false
-    at true made = not-c m c x s.c_in (first-true _ _ known) (process-off m x (ap m (made-own m c x b (first-true _ _ known) made) ∙ out))
+    at true made = wait-not-c m c x s.c_in (first-true _ _ known) (process-off m x (ap m (made-own m c x b (first-true _ _ known) made) ∙ out))
     at false off = over (across m c u w b x s (first-true _ _ known) (or-second (is_made_on b x) (is_across w b x) off (second-true _ _ is)))
-      where
-        or-second : (a b : Bool) → a ≡ false → (a || b) ≡ true → b ≡ true
-        or-second a b off is = grind arith
 
 accepted-in : (m : Group) (c : ℕ) (u w : World) (b : Birth) (x : WaitRow) → b.process ≡ c → Sure m c u w → is_known_wait m c u w x ≡ true → is_accepted_across b w x ≡ true → our_wait m x ≡ true
 accepted-in m c u w b x mine s known is = at (is_made_on b x) refl
@@ -346,23 +335,16 @@ accepted-in m c u w b x mine s known is = at (is_made_on b x) refl
     at : (e : Bool) → is_made_on b x ≡ e → our_wait m x ≡ true
     at true made = mine-seen m c x s.c_in (first-true _ _ known) (made-own m c x b (first-true _ _ known) made ∙ mine)
     at false off = over (across m c u w b x s (first-true _ _ known) (or-second (is_made_on b x) (is_across w b x) off (second-true _ _ is)))
-      where
-        or-second : (a b : Bool) → a ≡ false → (a || b) ≡ true → b ≡ true
-        or-second a b off is = grind arith
 
 accepted-across : (m : Group) (c : ℕ) (b : Birth) → IsEnd m c b false (is_accepted_across b)
 accepted-across m c b = record {
   settled = λ no_draw w x is. accepted-settled x x.kind refl (first-true _ _ is);
   other = λ out u w x s known is. accepted-other m c u w b x out s known is;
-  unseen = λ out u w x s known is. rw (accepted-takes x x.kind refl (first-true _ _ is)) (and-none (our_wait m x));
+  unseen = λ out u w x s known is. rw (accepted-takes x x.kind refl (first-true _ _ is)) (and-false (our_wait m x));
   agree = λ inside u w x s known ours. ap (λ e. is_accepted x && (is_made_on b x || e)) (across-view m c w b x inside (first-true _ _ known) ours);
   inside = λ mine u w x s known is. accepted-in m c u w b x mine s known is;
   thinly = λ k u x closed live. ap (λ e. is_accepted x && (is_made_on b x || e)) (across-thin k u b x live);
 }
-  where
-    and-none : (a : Bool) → (a && false) ≡ false
-    and-none true = refl
-    and-none false = refl
 
 -- The stages
 -- one step by which rows go

@@ -1,7 +1,7 @@
 -- NtCompleteConnectPort in a view.
 use Rattle.std.proofs.Common.{◌≡◌, ℕ, List, [], ◌∷◌, Bool, true, false, cond, not, Option, Some, None, refl, ap, sym, subst, ◌∙◌, arith}
 use Rattle.std.specs.Prelude.{◌&&◌, ◌==◌, Ok}
-use Rattle.std.proofs.lemmas.Bool.{and_from, eqb-true}
+use Rattle.std.proofs.lemmas.Bool.{and_from, eqb-true, not-false}
 use Rattle.lpc_base.specs.Rows.{first, given, passes}
 use Rattle.lpc_base.proofs.RowWords.{first-passes}
 use Rattle.lpc_base.proofs.RowMaps.{every-first}
@@ -52,14 +52,11 @@ completion-found m c w by handle p at n =
       port = p;
       from = at;
       named = n;
-      server = from-not (is_server_port p) (not_refused (not (is_server_port p)) INVALID_PORT_HANDLE a server);
+      server = not-false (is_server_port p) (not_refused (not (is_server_port p)) INVALID_PORT_HANDLE a server);
       birth = refl;
       pair = found_ok p.pair PORT_DISCONNECTED client pair;
       found = found_ok (first (is_accepted_on client) w.waits) PORT_DISCONNECTED x found;
     }))))
-  where
-    from-not : (b : Bool) → not b ≡ false → b ≡ true
-    from-not b is = grind arith
 
 completable : (m : Group) (c : ℕ) (u w : World) (by : ThreadRow) (handle : ℕ) → Caller m c u w by → Holds (IsCompletable m c w by handle) (complete_test w by handle)
 completable m c u w by handle k = bind_holds (port_test w by handle) _ (IsCompletable m c w by handle) (λ p at.
@@ -187,13 +184,10 @@ c-completion m c w by p c_in mine f n =
     bind-same (refuse_if p.completed INVALID_PARAMETER) _ _ (λ _ _.
     bind-same (found_or p.pair PORT_DISCONNECTED) _ _ (λ client pair.
     let p_c : (p.birth.process == c) ≡ true = ap (λ b. b == c) (n.process ∙ mine) ∙ same-number c in
-    let kind : is_server_port p ≡ true = from-not (is_server_port p) (not_refused (not (is_server_port p)) INVALID_PORT_HANDLE a server) in
+    let kind : is_server_port p ≡ true = not-false (is_server_port p) (not_refused (not (is_server_port p)) INVALID_PORT_HANDLE a server) in
     let both_pairs = server-pair m c p p.pair client (found_ok p.pair PORT_DISCONNECTED client pair) n.right.fair kind in
     let c_in : m client.process ≡ true = grind arith in
     rw (c-accepted m c w client f c_in) refl)))
-  where
-    from-not : (b : Bool) → not b ≡ false → b ≡ true
-    from-not b is = grind arith
 
 pub c-complete : (m : Group) (c : ℕ) (u w : World) (by : ThreadRow) (handle : ℕ) → Caller m c u w by → by.process ≡ c → nt_complete_connect_port (view m w) by handle ≡ nt_complete_connect_port w by handle
 unfolding nt_complete_connect_port

@@ -3,10 +3,11 @@ use Rattle.std.proofs.Common.{◌≡◌, ℕ, List, [], ◌∷◌, ◌++◌, Boo
 use Rattle.std.specs.Prelude.{◌&&◌, ◌||◌, ◌==◌, ◌+◌, is_none, length, is_some}
 use Rattle.std.proofs.lemmas.Bool.{and_from, eqb-true}
 use Rattle.std.proofs.lemmas.List.Elements.{filter-append}
+use Rattle.std.proofs.Math.Bool.{or-true}
 use Rattle.lpc_base.specs.Rows.{count, each, every, has, which, first, when}
 use Rattle.lpc_base.proofs.RowMaps.{every-both, every-first}
 use Rattle.lpc_base.proofs.RowWords.{every-true, first-passes}
-use Rattle.lpc_base.proofs.Bools.{first-true, same-number, second-true}
+use Rattle.lpc_base.proofs.Bools.{first-true, or-last, or-second, same-number, second-true}
 use Rattle.lpc_base.proofs.Births.{birth-same}
 use Rattle.lpc_base.specs.declared.port_kind.PortKind.TheVariants.{Client, Connection, Server, Unnamed}
 use Rattle.lpc_model.specs.declared.entry.ObjectKind.{ObjectKind}
@@ -45,11 +46,8 @@ pair-seen m c p (Some q) fair inside own = rw (at (is_server_port p) refl) refl
   where
     at : (e : Bool) → is_server_port p ≡ e → m q.process ≡ true
     at true server =
-        let mine : (p.birth.process == c) ≡ true = last (is_server_port p) (p.birth.process == c) server own in
+        let mine : (p.birth.process == c) ≡ true = or-last (is_server_port p) (p.birth.process == c) server own in
         let it : ((not (m q.process) || m p.birth.process) && (not true || m q.process)) ≡ true = rw (server, mine) at fair in second-true (not (m q.process) || m p.birth.process) _ it
-      where
-        last : (a b : Bool) → a ≡ true → (not a || b) ≡ true → b ≡ true
-        last a b is it = grind arith
     at false off =
         let it : ((not true || m q.process) && (not (q.process == c) || true)) ≡ true = rw (off, inside) at fair in first-true (not true || m q.process) _ it
 
@@ -69,10 +67,6 @@ near-kind m c b p Server k c_in mine fair fine to =
     let p_c : (p.birth.process == c) ≡ true = ap (λ n. n == c) (sym same ∙ mine) ∙ same-number c in
     let inside : m p.birth.process ≡ true = ap m (sym same ∙ mine) ∙ c_in in
     record { inside = inside; pair = pair-seen m c p p.pair (second-true (is_home p) _ fair) inside (rw p_c (or-true (not (is_server_port p)))); own = rw p_c (or-true (is_client_port p)) }
-  where
-    or-true : (a : Bool) → (a || true) ≡ true
-    or-true true = refl
-    or-true false = refl
 near-kind m c b p Connection k c_in mine fair fine to = let home : is_home p ≡ true = first-true (is_home p) _ fair in let off : (true && (false || (false || false))) ≡ true = rw (k, to) at home in absurd (cc)
 near-kind m c b p Unnamed k c_in mine fair fine to = let home : is_home p ≡ true = first-true (is_home p) _ fair in let off : (true && (false || (false || false))) ≡ true = rw (k, to) at home in absurd (cc)
 
@@ -312,13 +306,10 @@ standing-live k u b p c cut is = at (k.ports p.birth) refl
         let sent : has (is_sent_to b p) u.messages ≡ false = none-of (message_closed k) (is_sent_to b p) (λ x closed. off-sent x dead closed) u.messages c.messages in
         let made : has (is_made_to p) u.waits ≡ false = none-of (wait_closed k) (is_made_to p) (λ x closed. off-made x dead closed) u.waits c.waits in
         let told : has (same_birth p.birth) (all_registrations u) ≡ false = none-of k.ports (same_birth p.birth) (λ d live. off-told d dead live) (all_registrations u) c.registrations in
-        let gone : is_cut p ≡ true = or-last (k.ports p.birth) (is_cut p) dead cut in
+        let gone : is_cut p ≡ true = or-second (k.ports p.birth) (is_cut p) dead cut in
         let never : (is_connected_to b p && (false || not true)) ≡ true = rw (handles, sent, made, told, gone) at is in
         absurd (never-is (is_connected_to b p) never)
       where
-        or-last : (a d : Bool) → a ≡ false → (a || d) ≡ true → d ≡ true
-        or-last a d off is = grind arith
-
         never-is : (a : Bool) → (a && false) ≡ true → ⊥
         never-is true is = cc
         never-is false is = cc

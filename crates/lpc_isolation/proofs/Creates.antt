@@ -6,7 +6,7 @@ use Rattle.lpc_base.specs.Rows.{count, every, first, has, passes, which}
 use Rattle.lpc_base.proofs.RowWords.{every-push, every-true, first-passes}
 use Rattle.lpc_base.proofs.RowWords.{first-kept as pushed-kept}
 use Rattle.lpc_base.proofs.RowMaps.{every-first}
-use Rattle.lpc_base.proofs.Bools.{first-true, same-number, second-true}
+use Rattle.lpc_base.proofs.Bools.{first-true, or-last, same-number, second-true}
 use Rattle.lpc_base.specs.declared.limits.TheConstants.{CHILD_LIMIT, THREAD_LIMIT}
 use Rattle.lpc_base.specs.declared.status.TheConstants.{INVALID_CID, OBJECT_NAME_COLLISION, QUOTA_EXCEEDED, SUCCESS}
 use Rattle.lpc_model.specs.declared.entry.CallName.TheVariants.{NtCreateProcess, NtCreateThread}
@@ -115,7 +115,7 @@ thread-begins w by tid pid own = record {
 }
 
 -- Numbers
-id-most : (n : ℕ) → is_id n ≡ true → nat_le n 2147483647 ≡ true
+pub id-most : (n : ℕ) → is_id n ≡ true → nat_le n 2147483647 ≡ true
 id-most n is = second-true _ _ is
 
 -- a process that lives has a number that was used
@@ -243,10 +243,7 @@ children-thin : (k : Alive) (u : World) (pid : ℕ) → Closed k u → live_chil
 children-thin k u pid c =
     count-agree (process_closed k) (process_alive k) (is_live_child u pid) (is_live_child (thin k u) pid)
     (λ p closed alive. ap (λ e. passes p.maker (λ i. i == pid) && e) (is_live-thin k u p.number c))
-    (λ p closed is. stands (k.homes p.number) (k.processes p.birth) (home-live k u p.number c (second-true (passes p.maker (λ i. i == pid)) _ is)) closed) u.processes c.processes
-  where
-    stands : (h a : Bool) → h ≡ true → (not h || a) ≡ true → a ≡ true
-    stands h a is closed = grind arith
+    (λ p closed is. or-last (k.homes p.number) (k.processes p.birth) (home-live k u p.number c (second-true (passes p.maker (λ i. i == pid)) _ is)) closed) u.processes c.processes
 
 process-alike : (k : Alive) (u : World) (by : ThreadRow) (pid tid : ℕ) → Closed k u → served (thin k u) by (create_process pid tid) ≡ served u by (create_process pid tid)
 unfolding nt_create_process
@@ -267,15 +264,12 @@ process-fine m c after u by pid tid fine r =
     let drawn : World = basic (basic u (DrawsOrdinal by.number)) (DrawsOrdinal by.number) in
     let closed : Closed k v = r.closed in
     let home : k.homes pid ≡ true = last (k.threads t.birth) (k.homes pid) (every-last (thread_closed k) drawn.threads t closed.threads) in
-    let stands : k.processes p.birth ≡ true = next (k.homes pid) (k.processes p.birth) home (every-last (process_closed k) u.processes p closed.processes) in
+    let stands : k.processes p.birth ≡ true = or-last (k.homes pid) (k.processes p.birth) home (every-last (process_closed k) u.processes p closed.processes) in
     let here : every (is_fine_process m) (which (process_alive k) (u.processes ++ p ∷ [])) ≡ true = subst (λ (w : World). every (is_fine_process m) w.processes ≡ true) r.same fine.0 in
     and_from _ _ (kept-last (is_fine_process m) (process_alive k) u.processes p here stands) refl
   where
     last : (a h : Bool) → (not true || (a && h)) ≡ true → h ≡ true
     last a h is = grind arith
-
-    next : (h a : Bool) → h ≡ true → (not h || a) ≡ true → a ≡ true
-    next h a is closed = grind arith
 
 -- what it names is alive
 names-process : (p t h : Bool) → p ≡ true → t ≡ true → h ≡ true → (p && ((t && ((t && h) && true)) && (p && (t && true)))) ≡ true

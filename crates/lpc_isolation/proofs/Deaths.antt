@@ -6,11 +6,10 @@ use Rattle.lpc_base.specs.Rows.{every, first, given, when}
 use Rattle.lpc_base.proofs.RowWords.{first-passes}
 use Rattle.lpc_base.proofs.RowMaps.{every-first}
 use Rattle.lpc_base.proofs.Bools.{first-true, same-number}
-use Rattle.lpc_base.proofs.Births.{birth-same}
 use Rattle.lpc_base.specs.declared.status.Status.{Status}
 use Rattle.lpc_base.specs.declared.status.TheConstants.{SUCCESS}
 use Rattle.lpc_model.specs.World.{Birth, MessageRow, PortRow, ThreadRow, WaitRow, World}
-use Rattle.lpc_model.specs.Found.{is_accepted, is_port, port_row, route, wait_of, waits_as}
+use Rattle.lpc_model.specs.Found.{is_accepted, port_row, route, wait_of, waits_as}
 use Rattle.lpc_model.specs.Basics.{Basic, Dies, Enters, Steps, Unregisters, Withdraws, basic, doing, entries_of, world_after, ◌▹◌, Wakes, Empties, Unbinds}
 use Rattle.lpc_model.specs.Close.{cut_pair}
 use Rattle.lpc_model.specs.Death.{cut_accepted, die, died_message, post_death, death_post}
@@ -19,7 +18,8 @@ use Rattle.lpc_model.specs.Circle.{Group, Whose, owner}
 use Rattle.lpc_model.proofs.SoundTerminate.{IsSafe, die-safe, enter-safe, unregister-safe}
 use Rattle.lpc_model.proofs.Closing.{takes_away}
 use Rattle.lpc_model.proofs.Ending.{die-pass}
-use Rattle.lpc_model.proofs.SoundQueues.{after-append}
+use Rattle.lpc_model.proofs.StepsInTurn.{after-append}
+use Rattle.lpc_model.proofs.Usable.{port-birth}
 use Rattle.lpc_isolation.proofs.View.{our_wait, seen_pair, seen_port, view}
 use Rattle.lpc_isolation.proofs.Basics.{sees_wait, sees_own}
 use Rattle.lpc_isolation.proofs.Fair.{are_fair, implies, is_fair_message, is_fair_wait, is_sent, owner-sent}
@@ -217,11 +217,8 @@ on-told P t b w none some = at (port_row w b) refl
 tells-mild : (t : ThreadRow) (b : Birth) (w : World) → AreMild (tells t b w)
 tells-mild t b w = on-told AreMild t b w refl (λ p q row to. mild-entered (died_row t p q) (first (takes (died_row t p q)) w.waits) refl)
 
-row-born : (w : World) (b : Birth) (p : PortRow) → port_row w b ≡ Some p → p.birth ≡ b
-row-born w b p row = birth-same p.birth b (first-passes (is_port b) w.ports p row)
-
 row-own : (w : World) (b : Birth) (p : PortRow) → port_row w b ≡ Some p → port_row w p.birth ≡ Some p
-row-own w b p row = subst (λ b. port_row w b ≡ Some p) (sym (row-born w b p row)) row
+row-own w b p row = subst (λ b. port_row w b ≡ Some p) (sym (port-birth w b p row)) row
 
 tells-sent : (t : ThreadRow) (b : Birth) (w : World) → are_sent w (tells t b w) ≡ true
 tells-sent t b w = on-told (λ bs. are_sent w bs ≡ true) t b w refl (λ p q row to.
@@ -246,7 +243,7 @@ record Told (m : Group) (c : ℕ) (u w : World) (pid : ℕ) (t : ThreadRow) (p :
 module _ (m : Group) (c : ℕ) (u : World) (pid : ℕ) (c_in : m c ≡ true) (t : ThreadRow) (own : owner u t.number ≡ Some pid) (process : t.process ≡ pid) (b : Birth) (home : b.process ≡ pid) where
   told-row : (w : World) (p : PortRow) (q : Birth) → Sure m c u w → port_row w b ≡ Some p → route w p ≡ Some q → Told m c u w pid t p q
   told-row w p q s row to =
-      let born : p.birth.process ≡ pid = ap (λ (b : Birth). b.process) (row-born w b p row) ∙ home in
+      let born : p.birth.process ≡ pid = ap (λ (b : Birth). b.process) (port-birth w b p row) ∙ home in
       let right : Right m c w p = right-row m c w p s.fair s.fine (row-own w b p row) in
       record {
         process = born;
@@ -292,7 +289,7 @@ module _ (m : Group) (c : ℕ) (u : World) (pid : ℕ) (c_in : m c ≡ true) (t 
       at None row = refl
       at (Some p) row =
           let right : Right m c w p = right-row m c w p s.fair s.fine (row-own w b p row) in
-          ap (in_view w p) (route-view m c w p s.fair right (ap m (ap (λ (b : Birth). b.process) (row-born w b p row) ∙ home) ∙ inside))
+          ap (in_view w p) (route-view m c w p s.fair right (ap m (ap (λ (b : Birth). b.process) (port-birth w b p row) ∙ home) ∙ inside))
 
   tells-led : (d : Whose) (w : World) → Sure m c u w → m pid ≡ true → Led m c u d w (tells t b w) (tells t b (view m w))
   tells-led d w s inside = subst (Led m c u d w (tells t b w)) (sym (seen-told w s inside)) (at (port_row w b) refl)
@@ -370,5 +367,5 @@ die-remains k code t = record {
 pub post-remains : (k : Alive) (t : ThreadRow) (b : Birth) → k.ports b ≡ true → Remains k (post_death t b)
 post-remains k t b live = then-remains k (leaves t.number b) (tells t b) (record { alike = λ u closed. refl; stands = λ u closed. refl }) (record {
   alike = λ u closed. rw (row-thin k u b live) refl;
-  stands = λ u closed. on-told (AreClosed k) t b u refl (λ p q row to. enter-closed k u (died_row t p q) (ap k.ports (row-born u b p row) ∙ live));
+  stands = λ u closed. on-told (AreClosed k) t b u refl (λ p q row to. enter-closed k u (died_row t p q) (ap k.ports (port-birth u b p row) ∙ live));
 })

@@ -1,6 +1,6 @@
 -- The ports that go are as fine as those that stay.
 use Rattle.std.proofs.Common.{◌≡◌, ℕ, List, [], ◌∷◌, ◌++◌, Bool, true, false, not, map, Option, Some, None, refl, ap, sym, subst, ◌∙◌, arith}
-use Rattle.std.specs.Prelude.{◌&&◌, ◌==◌, Result, Ok, Err}
+use Rattle.std.specs.Prelude.{◌&&◌, ◌==◌, Result, Ok}
 use Rattle.std.proofs.lemmas.Bool.{and_from, eqb-true}
 use Rattle.lpc_base.specs.Rows.{change, every, first, given, has, which, without}
 use Rattle.lpc_base.proofs.RowWords.{every-append, every-change, every-push, has-change, has-off, has-push}
@@ -23,7 +23,7 @@ use Rattle.lpc_model.specs.Lines.{accept_connect_port, complete_connect_port, co
 use Rattle.lpc_isolation.proofs.Served.{served}
 use Rattle.lpc_model.specs.Circle.{Group, is_fine_client, is_fine_port, is_fine_process}
 use Rattle.lpc_isolation.proofs.Alone.{HasFineRows}
-use Rattle.lpc_model.proofs.Holding.{Holds, bind_holds, holds_ok}
+use Rattle.lpc_model.proofs.Holding.{Holds, bind_holds, holds-more, holds_ok}
 use Rattle.lpc_isolation.proofs.Filters.{first-push_off}
 use Rattle.lpc_isolation.proofs.Create.{made-holds}
 use Rattle.lpc_isolation.proofs.Orderly.{other-thread}
@@ -214,8 +214,7 @@ abbrev pub FineAfter : Group → ℕ → World → World → List Basic → Type
 FineAfter m c after u bs = Behind after (world_after u bs) → AreFine m c bs
 
 anyway : (m : Group) (c : ℕ) (after u : World) (r : Result (List Basic) Status) → Holds (AreFine m c) r → Holds (FineAfter m c after u) r
-anyway m c after u (Ok bs) is = λ _. is
-anyway m c after u (Err s) is = tt
+anyway m c after u r is = holds-more (AreFine m c) (FineAfter m c after u) r (λ bs is. λ _. is) is
 
 pub fine-create : (m : Group) (c : ℕ) (after u : World) (by : ThreadRow) (name : Option (List ℕ)) → wait_of u by.number ≡ None → HasFineRows m c after → Holds (FineAfter m c after u) (served u by (create_port name))
 fine-create m c after u by name idle f = anyway m c after u (served u by (create_port name)) (made-holds (AreFine m c) u by name (λ value. refl) (λ path value. refl))

@@ -1,6 +1,6 @@
 -- Behind the sweep what counts for a port is what the machine whose rows never go counts.
 use Rattle.std.proofs.Common.{◌≡◌, List, [], ◌∷◌, Bool, true, false, not, Option, Some, None, refl, ap, sym, subst, ◌∙◌, arith}
-use Rattle.std.proofs.lemmas.Bool.{and_from}
+use Rattle.std.proofs.lemmas.Bool.{and_from, not-true, or_left}
 use Rattle.std.specs.Prelude.{◌&&◌, ◌||◌, ◌==◌, ◌+◌, length}
 use Rattle.lpc_base.specs.Rows.{count, every, first, has, which}
 use Rattle.lpc_base.proofs.RowWords.{first-passes}
@@ -61,10 +61,7 @@ module _ (w : World) (h : Held w) (b : Birth) (p : PortRow) (here : port_row w p
           let row : port_row w x.port ≡ Some p = ap (port_row w) (birth-same x.port p.birth made) ∙ here in
           let there : has_near_queue w x ≡ true = every-first (has_near_queue w) (is_made_on p.birth) w.waits x h.names.queues some in
           let near : is_near x p ≡ true = rw row at there in
-          has-found (is_made_to p) (is_made_on p.birth) w.waits x some (and_from _ _ made (or-true (is_near x p) (not (is_client_port p)) near))
-        where
-          or-true : (a d : Bool) → a ≡ true → (a || d) ≡ true
-          or-true a d is = grind arith
+          has-found (is_made_to p) (is_made_on p.birth) w.waits x some (and_from _ _ made (or_left (is_near x p) (not (is_client_port p)) near))
 
   -- its other end
   pairs-back : has (is_paired_to p.birth) w.ports ≡ true → is_cut p ≡ false
@@ -148,10 +145,7 @@ all-stand w b h = found-self w.ports h.linked.births (λ p. not (is_connected_to
     at p here false off = rw off refl
     at p here true to =
         let held : not (is_unheld w (port_name p.birth)) ≡ true = every-first (λ p. not (is_unheld w (port_name p.birth))) (is_port p.birth) w.ports p h.ports here in
-        rw to (stands w h b p here to (not-of (is_unheld w (port_name p.birth)) held))
-      where
-        not-of : (a : Bool) → not a ≡ true → a ≡ false
-        not-of a is = grind arith
+        rw to (stands w h b p here to (not-true (is_unheld w (port_name p.birth)) held))
 
 pub held-counts : (w : World) (o : ObjectName) → Held w → standing_count w o ≡ pointer_count w o
 held-counts w o h = at o.kind o.birth

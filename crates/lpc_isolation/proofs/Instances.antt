@@ -18,7 +18,7 @@ use Rattle.lpc_model.specs.Targets.{process_target, thread_target}
 use Rattle.lpc_model.specs.declared.line.ProcArg.{ProcArg}
 use Rattle.lpc_isolation.proofs.Served.{served}
 use Rattle.lpc_model.specs.SoundWaits.{IsSoundWorld, HasShutConnects}
-use Rattle.lpc_model.proofs.Holding.{Holds}
+use Rattle.lpc_model.proofs.Holding.{Holds, holds-more}
 use Rattle.lpc_model.specs.Circle.{Group, Whose, is_fine_call, owner}
 use Rattle.lpc_isolation.proofs.Alone.{HasFineRows}
 use Rattle.lpc_isolation.proofs.View.{view}
@@ -29,7 +29,7 @@ use Rattle.lpc_isolation.proofs.Callers.{Answered, Led, answered-same, led-same,
 use Rattle.lpc_isolation.proofs.Enter.{sound-patient}
 use Rattle.lpc_isolation.proofs.Create.{create-apart, create-c, create-led, create-ours, led_create}
 use Rattle.lpc_isolation.proofs.Reply.{led_reply_port, reply-apart, reply-call-led}
-use Rattle.lpc_isolation.proofs.Mine.{Ways, c-reply, c-reply-ours, holds-more}
+use Rattle.lpc_isolation.proofs.Mine.{Ways, c-reply, c-reply-ours}
 use Rattle.lpc_isolation.proofs.Names.{SeenNames}
 use Rattle.lpc_isolation.proofs.Bound.{OnceBound}
 use Rattle.lpc_isolation.proofs.Paths.{Paths}

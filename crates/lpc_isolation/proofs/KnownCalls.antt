@@ -43,8 +43,8 @@ use Rattle.lpc_isolation.proofs.Create.{made-holds}
 use Rattle.lpc_isolation.proofs.Reply.{answered-fit}
 use Rattle.lpc_isolation.proofs.Sends.{Caller, sent-datagram}
 use Rattle.lpc_isolation.proofs.Requests.{sent-request}
-use Rattle.lpc_isolation.proofs.Listens.{on-port, own_entry}
-use Rattle.lpc_isolation.proofs.Receive.{Receivable, on-receive, queue-own, queue-view, replied-as}
+use Rattle.lpc_isolation.proofs.Listens.{listen-queue, on-port, own_entry}
+use Rattle.lpc_isolation.proofs.Receive.{Receivable, on-receive, queue-own, queue-view, receive-queue, replied-as}
 use Rattle.lpc_isolation.proofs.Connects.{connect-fine, fine-other, on-connect, row, starting, steps_of}
 use Rattle.lpc_isolation.proofs.Completes.{on-complete}
 use Rattle.lpc_isolation.proofs.Accepts.{on-answer}
@@ -300,13 +300,7 @@ listened-silent : (v : World) (by : ThreadRow) (port : Birth) (o : Option Messag
 listened-silent v by port None = refl
 listened-silent v by port (Some y) = (take-silent_steps v y (asks y.message) refl).1
 
-listen-queue : (q : Birth) (w : World) (y : MessageRow) → first (is_queued_connect q) w.messages ≡ Some y → y.queue ≡ q
-listen-queue q w y at = birth-same y.queue q (first-true _ _ (first-passes (is_queued_connect q) w.messages y at))
-
 -- NtReplyWaitReceivePort
-receive-queue : (q : Birth) (w : World) (y : MessageRow) → first (is_queued q) w.messages ≡ Some y → y.queue ≡ q
-receive-queue q w y at = birth-same y.queue q (first-passes (is_queued q) w.messages y at)
-
 -- its reply ends a wait, and no more
 abbrev pub IsReply : List Basic → Type 0
 IsReply rs = (m : Group) (memo : List Heard) (w : World) → (are_known m memo w rs ≡ true) × ((y : MessageRow) → Fits m memo w y → Fits m memo (world_after w rs) y)

@@ -16,14 +16,14 @@ use Rattle.lpc_model.specs.Lines.{ScriptCall, ScriptLine, boot, dir, link, run, 
 use Rattle.lpc_model.specs.Machine.{bare_steps, boot_line, dir_line, link_line, name_of_call, settled, thread_line, thread_test, unused_test}
 use Rattle.lpc_isolation.proofs.Served.{served, served_step, served_steps}
 use Rattle.lpc_model.proofs.Holding.{bind_holds, directed_holds, holds_ok}
-use Rattle.lpc_model.specs.Circle.{Group, Item, Whose, is_fine_line, is_seen, line_whose, owned, owner, thread_whose}
+use Rattle.lpc_model.specs.Circle.{Group, Item, Whose, is_fine_line, is_seen, line_whose, owner, thread_whose}
 use Rattle.lpc_isolation.proofs.Alone.{HasFineRows, alone}
 use Rattle.lpc_isolation.proofs.View.{view}
 use Rattle.lpc_isolation.proofs.Seen.{live-owner, live-view}
 use Rattle.lpc_isolation.proofs.Apart.{Owned}
 use Rattle.lpc_isolation.proofs.Play.{absorbed, is_told_input, told_at, told_items}
 use Rattle.lpc_isolation.proofs.Lines.{OnceUsed, Owes, is_done, next_entry, turned}
-use Rattle.lpc_isolation.proofs.Calls.{busy, called, nobody}
+use Rattle.lpc_isolation.proofs.Calls.{busy, called, nobody, owner-in}
 use Rattle.lpc_isolation.proofs.Listens.{own_entry}
 use Rattle.lpc_isolation.proofs.Instances.{At, leads_by}
 use Rattle.lpc_isolation.proofs.Kept.{owned-sound}
@@ -41,9 +41,6 @@ pub record Known (m : Group) (c : ℕ) (w : World) (t : List Heard) (line : Scri
 -- an entry alone
 lone-still : (m : Group) (w : World) (t : List Heard) (e : Entry) → ((v : World) → is_silent v e ≡ true) → Still m t w (Tells e ∷ [])
 lone-still m w t e silent = (refl, rw (silent (view m w)) refl)
-
-owner-seen : (m : Group) (w : World) (tid : ℕ) (by : ThreadRow) → owner w tid ≡ Some by.process → is_seen m (thread_whose w tid) ≡ m by.process
-owner-seen m w tid by own = ap (λ o. is_seen m (owned o)) own
 
 module _ (m : Group) (c : ℕ) (w : World) (t : List Heard) (tid : ℕ) (call : ScriptCall) (c_in : m c ≡ true) (st : Stood m c w (record { seen = view m w; memo = t })) (fine : HasFineRows m c w) (next : HasFineRows m c (served_step w (run tid call)).world) where
   abbrev s : State
@@ -66,7 +63,7 @@ module _ (m : Group) (c : ℕ) (w : World) (t : List Heard) (tid : ℕ) (call : 
       ready by live (Some x) waits = subst (λ bs. Hears m c (world_after w bs) (thread_whose w tid) w t bs) (sym (busy w tid call by x live waits)) (still-hears m c w (thread_whose w tid) w t (Tells (entry.Busy by.number) ∷ []) st.known (refl, refl))
       ready by live None idle =
           let is = called w tid call by live idle in
-          let by_out : m by.process ≡ false = sym (owner-seen m w tid by (live-owner m c w tid by st.kept.fair live)) ∙ out in
+          let by_out : m by.process ≡ false = sym (owner-in m w tid by (live-owner m c w tid by st.kept.fair live)) ∙ out in
           subst (λ bs. Hears m c (world_after w bs) (thread_whose w tid) w t bs) (sym is)
           (hears-settled by (thread_whose w tid) (served w by call) (ready-at m c w s tid by c_in st fine live idle) by_out refl (subst (λ bs. HasFineRows m c (world_after w bs)) is next))
 
@@ -98,7 +95,7 @@ module _ (m : Group) (c : ℕ) (w : World) (t : List Heard) (tid : ℕ) (call : 
       ready : (by : ThreadRow) → live_thread w tid ≡ Some by → (o : Option WaitRow) → wait_of w tid ≡ o → Notes (Some by) (served_steps (run tid call) w)
       ready by live (Some x) waits = subst (λ bs. Notes (Some by) bs) (sym (busy w tid call by x live waits)) (notes-lone by (entry.Busy by.number) (silent-memo m (view m w) by call (entry.Busy by.number) t (λ q. refl)))
       ready by live None idle =
-          let by_in : m by.process ≡ true = sym (owner-seen m w tid by (live-owner m c w tid by st.kept.fair live)) ∙ seen in
+          let by_in : m by.process ≡ true = sym (owner-in m w tid by (live-owner m c w tid by st.kept.fair live)) ∙ seen in
           subst (λ bs. Notes (Some by) bs) (sym (called w tid call by live idle)) (notes-settled by (served w by call) (ready-at m c w s tid by c_in st fine live idle) by_in refl)
 
       at : (o : Option ThreadRow) → live_thread w tid ≡ o → Notes o (served_steps (run tid call) w)
@@ -119,7 +116,7 @@ module _ (m : Group) (c : ℕ) (w : World) (t : List Heard) (tid : ℕ) (call : 
         where
           mine : (b : Bool) → (by.process == c) ≡ b → cond b t (call_memo m (view m w) by call (next_entry items) t) ≡ cond b t (call_memo m (view m w) by call (own_entry (served_steps (run tid call) w)) t)
           mine true is_c = refl
-          mine false other = ap (λ e. call_memo m (view m w) by call e t) (o.first seen (owner-seen (alone c) w tid by (live-owner m c w tid by st.kept.fair live) ∙ other) is)
+          mine false other = ap (λ e. call_memo m (view m w) by call e t) (o.first seen (owner-in (alone c) w tid by (live-owner m c w tid by st.kept.fair live) ∙ other) is)
 
       by_owner : (p : Option ℕ) → owner w tid ≡ p → caller_memo m c (view m w) call (next_entry items) t (live_thread (view m w) tid) ≡ caller_memo m c (view m w) call (own_entry (served_steps (run tid call) w)) t (live_thread w tid)
       by_owner None none = let off : false ≡ true = rw none at seen in absurd (cc)

@@ -1,7 +1,8 @@
 -- A line that is a call, in a play: what each call owes is enough.
 use Rattle.std.proofs.Common.{◌≡◌, ℕ, ◌≤◌, List, [], ◌∷◌, ◌++◌, Bool, true, false, cond, not, map, Option, Some, None, refl, ap, sym, subst, ◌∙◌, arith}
 use Rattle.std.specs.Prelude.{◌&&◌, ◌==◌, option_map}
-use Rattle.std.proofs.lemmas.Bool.{eqb-true}
+use Rattle.std.proofs.lemmas.Bool.{eqb-true, not-true}
+use Rattle.std.proofs.Math.Bool.{and-true}
 use Rattle.lpc_base.specs.Rows.{count, every, first, given, has, which}
 use Rattle.lpc_base.proofs.RowWords.{without-none}
 use Rattle.lpc_base.proofs.Bools.{first-true, second-true}
@@ -95,11 +96,8 @@ has-none_kept k q (x ∷ xs) none = grind (arith, has-none_kept k q xs)
 
 absorb-done : (m : Group) (w : World) (e : Entry) → is_done w e ≡ true → absorb (view m w) e ≡ view m w
 absorb-done m w (entry.Wakes who call status fields) is =
-    let none : has (waits_as who) w.waits ≡ false = from-not (has (waits_as who) w.waits) is in
+    let none : has (waits_as who) w.waits ≡ false = not-true (has (waits_as who) w.waits) is in
     rw (without-none (waits_as who) (which (our_wait m) w.waits) (has-none_kept (our_wait m) (waits_as who) w.waits none)) refl
-  where
-    from-not : (b : Bool) → not b ≡ true → b ≡ false
-    from-not b is = grind arith
 absorb-done m w (entry.Answer who call status fields) is = refl
 absorb-done m w (entry.Waits who call fields) is = refl
 absorb-done m w (entry.Busy who) is = refl
@@ -120,11 +118,7 @@ same-input : (m : Group) (c : ℕ) (u : World) (d : Whose) (e : Entry) → is_he
 same-input m c u d e off = at (entry_whose u d e) off
   where
     at : (w : Whose) → is_seen (alone c) w ≡ false → (is_seen m w && not (is_told_to c w (Told e))) ≡ is_seen m w
-    at (Of pid) off = rw off (keep (m pid))
-      where
-        keep : (b : Bool) → (b && true) ≡ b
-        keep true = refl
-        keep false = refl
+    at (Of pid) off = rw off (and-true (m pid))
     at Everyone off = refl
     at Nobody off = refl
 

@@ -43,11 +43,11 @@ own-wait-fair m c x c_in port queue =
     grind arith
 
 -- what the queue has, in the words of its first message
-first-queue : (q : Birth) (w : World) (x : MessageRow) → first (is_queued_connect q) w.messages ≡ Some x → x.queue ≡ q
-first-queue q w x at = birth-same x.queue q (first-true _ _ (first-passes (is_queued_connect q) w.messages x at))
+pub listen-queue : (q : Birth) (w : World) (x : MessageRow) → first (is_queued_connect q) w.messages ≡ Some x → x.queue ≡ q
+listen-queue q w x at = birth-same x.queue q (first-true _ _ (first-passes (is_queued_connect q) w.messages x at))
 
 first-own : (q : Birth) (w : World) (x : MessageRow) → first (is_queued_connect q) w.messages ≡ Some x → IsFirst w (is_queued_connect x.queue) x
-first-own q w x at = subst (λ b. first (is_queued_connect b) w.messages ≡ Some x) (sym (first-queue q w x at)) at
+first-own q w x at = subst (λ b. first (is_queued_connect b) w.messages ≡ Some x) (sym (listen-queue q w x at)) at
 
 -- fair and apart
 listen-fair : (m : Group) (c : ℕ) (w : World) (by : ThreadRow) (p : PortRow) (o : Option MessageRow) → m c ≡ true → p.birth.process ≡ by.process → are_fair m c w (listen_steps by p.birth o) ≡ true
@@ -55,7 +55,7 @@ listen-fair m c w by p (Some x) c_in own = take_connect-fair m c w x
 listen-fair m c w by p None c_in own = rw (own-wait-fair m c (listen_wait by p.birth) c_in own own) refl
 
 listen-apart : (m : Group) (c : ℕ) (u : World) (d : Whose) (w : World) (by : ThreadRow) (p : PortRow) (o : Option MessageRow) → first (is_queued_connect p.birth) w.messages ≡ o → owner u by.number ≡ Some by.process → m by.process ≡ false → p.birth.process ≡ by.process → are_apart m c u d w (listen_steps by p.birth o) ≡ true
-listen-apart m c u d w by p (Some x) at here out own = rw (here, out) (take_connect-apart m c u d w x (first-own p.birth w x at) (ap (λ (b : Birth). m b.process) (first-queue p.birth w x at) ∙ ap m own ∙ out))
+listen-apart m c u d w by p (Some x) at here out own = rw (here, out) (take_connect-apart m c u d w x (first-own p.birth w x at) (ap (λ (b : Birth). m b.process) (listen-queue p.birth w x at) ∙ ap m own ∙ out))
 listen-apart m c u d w by p None at here out own = rw (here, out) refl
 
 pub on-port : (P : List Basic → Type 0) (m : Group) (c : ℕ) (u w : World) (by : ThreadRow) (handle : ℕ) → Caller m c u w by → ((p : PortRow) → port_test w by handle ≡ Ok p → Named m c w by p → P (listen_steps by p.birth (first (is_queued_connect p.birth) w.messages))) → Holds P (nt_listen_port w by handle)
@@ -97,7 +97,7 @@ listened m c u d w by p (Some x) at k readable by_in other own =
     rw sender (whose (m x.sender.process) refl fair)
   where
     q_in : m x.queue.process ≡ true
-    q_in = ap (λ (b : Birth). m b.process) (first-queue p.birth w x at) ∙ ap m own ∙ by_in
+    q_in = ap (λ (b : Birth). m b.process) (listen-queue p.birth w x at) ∙ ap m own ∙ by_in
 
     whose : (b : Bool) → m x.sender.process ≡ b → is_fair_message m c x ≡ true → Led m c u d w (Tells (entry.Answer by.number NtListenPort SUCCESS (msg x.message ∷ [])) ∷ take_connect_steps x) (cond b (given (first (is_queued_connect p.birth) (view m w).messages) take_connect_steps) [])
     whose true s_in fair =
@@ -130,7 +130,7 @@ c-listen m c u w by handle k mine =
 c-listened-ours : (m : Group) (c : ℕ) (w : World) (by : ThreadRow) (p : PortRow) (o : Option MessageRow) → first (is_queued_connect p.birth) w.messages ≡ o → m c ≡ true → Fair m c w → by.process ≡ c → p.birth.process ≡ by.process → are_ours m w (listen_steps by p.birth o) ≡ true
 c-listened-ours m c w by p None at c_in f mine own = rw (ap m mine ∙ c_in, ap m (own ∙ mine) ∙ c_in) refl
 c-listened-ours m c w by p (Some x) at c_in f mine own =
-    let queue : x.queue.process ≡ c = ap (λ (b : Birth). b.process) (first-queue p.birth w x at) ∙ own ∙ mine in
+    let queue : x.queue.process ≡ c = ap (λ (b : Birth). b.process) (listen-queue p.birth w x at) ∙ own ∙ mine in
     let fair : is_fair_message m c x ≡ true = every-first (is_fair_message m c) (is_queued_connect p.birth) w.messages x f.messages at in
     let q_c : (x.queue.process == c) ≡ true = ap (λ b. b == c) queue ∙ same-number c in
     let s_in : m x.sender.process ≡ true = grind arith in

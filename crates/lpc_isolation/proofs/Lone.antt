@@ -1,7 +1,7 @@
 -- A thread waits once: so a wait that a group doesn't see leaves nothing of its thread's in the group's view.
 use Rattle.std.proofs.Common.{◌≡◌, ◌≤◌, ℕ, suc, List, [], ◌∷◌, Bool, true, false, not, Option, Some, None, refl, ap, sym, subst, ◌∙◌, arith}
 use Rattle.std.specs.Prelude.{◌&&◌, ◌||◌, ◌==◌}
-use Rattle.std.proofs.lemmas.Bool.{and_from, eqb-true}
+use Rattle.std.proofs.lemmas.Bool.{and_from, eqb-true, not-true}
 use Rattle.lpc_base.specs.Rows.{count, every, first, has, passes, which}
 use Rattle.lpc_base.proofs.RowWords.{every-more, every-which, first-passes}
 use Rattle.lpc_base.proofs.RowMaps.{every-both, every-first}
@@ -61,10 +61,7 @@ each-lone q (y ∷ ys) few = and_from _ _ (head (q y) refl) (rest ys (none-other
     head false off = refl
 
     one : (x : WaitRow) → not (waits_as y.thread x) ≡ true → passes_all q ys x ≡ true → passes_all q (y ∷ ys) x ≡ true
-    one x other is = let off : (y.thread == x.thread) ≡ false = number-turned y.thread x.thread ∙ not-true (x.thread == y.thread) other in rw off (grind arith)
-      where
-        not-true : (b : Bool) → not b ≡ true → b ≡ false
-        not-true b is = grind arith
+    one x other is = let off : (y.thread == x.thread) ≡ false = number-turned y.thread x.thread ∙ not-true (x.thread == y.thread) other in rw off is
 
     rest : (xs : List WaitRow) → every (λ x. not (waits_as y.thread x)) xs ≡ true → every (passes_all q ys) xs ≡ true → every (passes_all q (y ∷ ys)) xs ≡ true
     rest xs others all = every-both (λ x. not (waits_as y.thread x)) (passes_all q ys) (passes_all q (y ∷ ys)) one xs others all

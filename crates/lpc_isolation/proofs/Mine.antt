@@ -1,10 +1,10 @@
 -- What the tests of c's own calls find: the same in the view as in the world.
 use Rattle.std.proofs.Common.{◌≡◌, ℕ, List, Bool, true, false, cond, not, length, Option, Some, None, refl, ap, sym, subst, ◌∙◌, arith}
 use Rattle.std.specs.Prelude.{◌&&◌, ◌||◌, ◌==◌, Result, Ok, Err, is_none, is_some, nat_lt, option_and_then, option_map}
-use Rattle.std.proofs.lemmas.Bool.{and_from, eqb-true}
+use Rattle.std.proofs.lemmas.Bool.{and_from, eqb-true, not-false}
 use Rattle.lpc_base.specs.Rows.{every, passes}
 use Rattle.lpc_base.proofs.RowMaps.{every-both, every-first}
-use Rattle.lpc_base.proofs.Bools.{first-true, second-true}
+use Rattle.lpc_base.proofs.Bools.{first-true, or-second, second-true}
 use Rattle.lpc_base.specs.declared.status.Status.{Status}
 use Rattle.lpc_base.specs.declared.status.TheConstants.{INVALID_CID, INVALID_PARAMETER, PORT_MESSAGE_TOO_LONG, REPLY_MESSAGE_MISMATCH}
 use Rattle.lpc_base.specs.declared.limits.TheConstants.{HEADER_SIZE, MESSAGE_LIMIT}
@@ -20,7 +20,8 @@ use Rattle.lpc_model.specs.World.{Birth, PortRow, ThreadRow, WaitRow, World}
 use Rattle.lpc_model.specs.Found.{fits, fitted, is_live_thread, is_port, is_request, is_the, live_thread, pair_of, port_row, same_birth}
 use Rattle.lpc_model.specs.Request.{reply_test, nt_reply_port}
 use Rattle.lpc_model.specs.Tests.{client_test, fit_test, is_client, port_test}
-use Rattle.lpc_model.proofs.Holding.{Holds, bind_holds, holds_ok, not_refused}
+use Rattle.lpc_model.proofs.Holding.{Holds, bind_holds, holds-more, holds_ok, not_refused}
+use Rattle.lpc_model.proofs.SoundReply.{fits-request}
 use Rattle.lpc_model.specs.Circle.{Group, is_no_outsider, is_no_outsiders_thread, names_no_outsider, owner}
 use Rattle.lpc_isolation.proofs.Reply.{fit-parts}
 use Rattle.lpc_isolation.proofs.Filters.{first-agree, first-none_kept}
@@ -32,10 +33,6 @@ use Rattle.lpc_isolation.proofs.Seen.{bind-same, c-port, live-owner, live-view, 
 map-same : {A : Type 0} (f : A → A) (r : Result A Status) → Holds (λ x. f x ≡ x) r → result_map f r ≡ r
 map-same f (Ok x) same = rw same refl
 map-same f (Err s) same = refl
-
-pub holds-more : {A : Type 0} (P Q : A → Type 0) (r : Result A Status) → ((x : A) → P x → Q x) → Holds P r → Holds Q r
-holds-more P Q (Ok x) more h = more x h
-holds-more P Q (Err s) more h = tt
 
 -- a port that a handle of c's names
 pub c-port_test : (m : Group) (c : ℕ) (w : World) (by : ThreadRow) (value : ℕ) → m c ≡ true → by.process ≡ c → Fair m c w → port_test (view m w) by value ≡ port_test w by value
@@ -113,9 +110,6 @@ fourth-of a b c d e f is = grind arith
 fit-process : (w : World) (port : Birth) (a : Message) (x : WaitRow) → fits w port a x ≡ true → (x.process == a.header.client.process) ≡ true
 fit-process w port a x is = second-of (x.thread == a.header.client.thread) (x.process == a.header.client.process) (x.identifier == a.header.message_id) (is_request x) x.received (same_birth x.queue port || is_the port (pair_of w x.port)) is
 
-fit-request : (w : World) (port : Birth) (a : Message) (x : WaitRow) → fits w port a x ≡ true → is_request x ≡ true
-fit-request w port a x is = fourth-of (x.thread == a.header.client.thread) (x.process == a.header.client.process) (x.identifier == a.header.message_id) (is_request x) x.received (same_birth x.queue port || is_the port (pair_of w x.port)) is
-
 two-the : (m : Group) (a b : Birth) (o : Option Birth) → is_the a o ≡ true → is_the b o ≡ true → m a.process ≡ m b.process
 two-the m a b None one two = absurd (cc)
 two-the m a b (Some q) one two = of_birth m a q one ∙ sym (of_birth m b q two)
@@ -124,7 +118,7 @@ fit-queue : (m : Group) (w : World) (port : Birth) (a : Message) (x : WaitRow) �
 fit-queue m w port a x way port_in x_in is = at (same_birth x.queue port) (m x.queue.process) refl refl
   where
     request : is_request x ≡ true
-    request = fit-request w port a x is
+    request = fits-request w port a x is
 
     last : (same_birth x.queue port || is_the port (pair_of w x.port)) ≡ true
     last = fit-parts w port a x is
@@ -133,13 +127,10 @@ fit-queue m w port a x way port_in x_in is = at (same_birth x.queue port) (m x.q
     at true q here is = sym is ∙ of_birth m x.queue port here ∙ port_in
     at false true here is = refl
     at false false here is =
-        let there : is_the port (pair_of w x.port) ≡ true = other-way (same_birth x.queue port) (is_the port (pair_of w x.port)) here last in
+        let there : is_the port (pair_of w x.port) ≡ true = or-second (same_birth x.queue port) (is_the port (pair_of w x.port)) here last in
         let to : is_the x.queue (pair_of w x.port) ≡ true = way-to (is_request x) (m x.process) (m x.queue.process) (is_none (pair_of w x.port)) (is_the x.queue (pair_of w x.port)) request x_in is (the-some port (pair_of w x.port) there) way in
         sym is ∙ two-the m x.queue port (pair_of w x.port) to there ∙ port_in
       where
-        other-way : (a b : Bool) → a ≡ false → (a || b) ≡ true → b ≡ true
-        other-way a b off either = grind arith
-
         way-to : (a b c n d : Bool) → a ≡ true → b ≡ true → c ≡ false → n ≡ false → implies (a && b) (c || (n || d)) ≡ true → d ≡ true
         way-to a b c n d one two off some is = grind arith
 
@@ -173,11 +164,8 @@ pub c-answered : (m : Group) (c : ℕ) (w : World) (port : PortRow) (a : Message
 c-answered m c w port a f ways port_in inside =
     ap (λ b. refuse_if (not b) INVALID_CID >>= (λ u. fit_test (view m w) port.birth a)) (c-client m c w a.header.client f inside)
     ∙ bind-same (client_test w a.header.client) (λ u. fit_test (view m w) port.birth a) (λ u. fit_test w port.birth a) (λ u is.
-    let client : is_client w a.header.client ≡ true = from-not (is_client w a.header.client) (not_refused (not (is_client w a.header.client)) INVALID_CID u is) in
+    let client : is_client w a.header.client ≡ true = not-false (is_client w a.header.client) (not_refused (not (is_client w a.header.client)) INVALID_CID u is) in
     ap (λ o. found_or o REPLY_MESSAGE_MISMATCH) (c-fitted m c w port.birth a f ways port_in (client-member m c w a.header.client f inside client)))
-  where
-    from-not : (b : Bool) → not b ≡ false → b ≡ true
-    from-not b is = grind arith
 
 -- the client that a message of c's names is no outsider
 long-enough : (bytes : List ℕ) → is_some (fault_of bytes) ≡ false → nat_lt (length bytes) HEADER_SIZE ≡ false

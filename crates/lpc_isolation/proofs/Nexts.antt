@@ -26,7 +26,6 @@ use Rattle.lpc_isolation.proofs.Alone.{HasFineRows}
 use Rattle.lpc_isolation.proofs.Fair.{are_fair, run-fair, together-of}
 use Rattle.lpc_base.proofs.RowWords.{every-push}
 use Rattle.lpc_base.proofs.Bools.{first-true, second-off, second-true}
-use Rattle.std.specs.Prelude.{nat_le}
 use Rattle.lpc_model.specs.Words.{is_id}
 use Rattle.lpc_model.specs.Grammar.{has_call_ids, has_ids}
 use Rattle.lpc_isolation.proofs.Asked.{Asked}
@@ -40,9 +39,7 @@ use Rattle.lpc_isolation.proofs.Bindings.{free-unbound}
 use Rattle.lpc_isolation.proofs.Directives.{boot-directs, dir-directs, link-directs, thread-directs}
 use Rattle.lpc_isolation.proofs.Stands.{Kept, State, Stood, ready-at}
 use Rattle.lpc_isolation.proofs.Knows.{known_queue}
-
-id-most : (n : ℕ) → is_id n ≡ true → nat_le n 2147483647 ≡ true
-id-most n is = second-true _ _ is
+use Rattle.lpc_isolation.proofs.Creates.{id-most}
 
 -- the two tests of a number
 unused-number : (w : World) (tid pid : ℕ) → Holds (λ (u : Unit {0}). was_thread w tid ≡ false) (thread_test w tid pid)

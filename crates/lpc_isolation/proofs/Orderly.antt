@@ -1,10 +1,9 @@
 -- Each accepted call tells its caller first, adds no thread, and begins no wait of a thread that it woke.
 use Rattle.std.proofs.Common.{◌≡◌, ℕ, List, [], ◌∷◌, ◌++◌, Bool, true, false, Option, Some, None, refl, arith}
 use Rattle.std.specs.Prelude.{◌==◌}
-use Rattle.std.proofs.lemmas.Bool.Decides.{nat_tests}
 use Rattle.lpc_base.specs.Rows.{first, given}
 use Rattle.lpc_base.specs.declared.status.TheConstants.{SUCCESS}
-use Rattle.lpc_base.proofs.Bools.{same-number}
+use Rattle.lpc_base.proofs.Bools.{number-turned, same-number}
 use Rattle.lpc_message.specs.declared.kind.TheConstants.{DATAGRAM, REQUEST}
 use Rattle.lpc_model.specs.declared.message.Message.{Message}
 use Rattle.lpc_model.specs.Message.{asks}
@@ -64,10 +63,7 @@ other-thread w tid p y idle at = by-rows w.waits idle at
   where
     by-rows : (xs : List WaitRow) → first (waits_as tid) xs ≡ None → first p xs ≡ Some y → (tid == y.thread) ≡ false
     by-rows [] none at = absurd (cc)
-    by-rows (x ∷ xs) none at = grind (arith, by-rows xs, turn x.thread tid)
-      where
-        turn : (a b : ℕ) → (a == b) ≡ (b == a)
-        turn a b = grind (arith, nat_tests)
+    by-rows (x ∷ xs) none at = grind (arith, by-rows xs, number-turned x.thread tid)
 
 received-orderly : (w : World) (by : ThreadRow) (p : PortRow) (q : Birth) (o : Option MessageRow) → is_call_of w by.number (receive_steps by p q [] o) ≡ true
 received-orderly w by p q None = rw (same-number by.number) refl

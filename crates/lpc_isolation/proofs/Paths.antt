@@ -5,7 +5,7 @@ use Rattle.std.proofs.lemmas.Bool.{and_from, eqb-true}
 use Rattle.lpc_base.specs.Rows.{every, passes}
 use Rattle.lpc_base.proofs.RowWords.{every-change, every-more, every-push, every-without, first-kept, first-passes}
 use Rattle.lpc_base.proofs.RowMaps.{every-both, every-first}
-use Rattle.lpc_base.proofs.Bools.{first-true, second-true}
+use Rattle.lpc_base.proofs.Bools.{first-true, or-last, second-true}
 use Rattle.lpc_base.proofs.Births.{birth-same}
 use Rattle.lpc_base.specs.declared.port_kind.PortKind.TheVariants.{Client, Connection, Server, Unnamed}
 use Rattle.lpc_model.specs.World.{Accepted, Birth, Connect, Listen, PortKind, PortRow, Receive, Request, WaitKind, WaitRow, World}
@@ -69,15 +69,12 @@ lead-way m c w x p Unnamed k row fair fine on = own-way m c w x p row fair (rw k
 pub path-way : (m : Group) (c : ℕ) (w : World) (x : WaitRow) → HasFineRows m c w → (is_fair_wait m c x && is_path w x) ≡ true → is_way m w x ≡ true
 path-way m c w x fine is = at (is_request x) refl (port_row w x.port) refl
   where
-    or-other : (a b : Bool) → a ≡ true → (not a || b) ≡ true → b ≡ true
-    or-other a b one is = grind arith
-
     at : (b : Bool) → is_request x ≡ b → (o : Option PortRow) → port_row w x.port ≡ o → is_way m w x ≡ true
     at false off o row = rw off refl
     at true on None row = let off : (not (is_request x) || false) ≡ true = rw row at (second-true (is_fair_wait m c x) _ is) in absurd (grind arith)
     at true on (Some p) row =
         let to : (not (is_request x) || leads x.queue p) ≡ true = rw row at (second-true (is_fair_wait m c x) _ is) in
-        lead-way m c w x p p.kind refl row (first-true _ _ is) (every-first (is_fine_port m c) (is_port x.port) w.ports p fine.1 row) (or-other (is_request x) (leads x.queue p) on to)
+        lead-way m c w x p p.kind refl row (first-true _ _ is) (every-first (is_fine_port m c) (is_port x.port) w.ports p fine.1 row) (or-last (is_request x) (leads x.queue p) on to)
 
 pub paths-ways : (m : Group) (c : ℕ) (w : World) → Fair m c w → HasFineRows m c w → Paths w → Ways m w
 paths-ways m c w f fine all = every-more (λ x. is_fair_wait m c x && is_path w x) (is_way m w) (λ x is. path-way m c w x fine is) w.waits
@@ -133,7 +130,7 @@ joined-lead client server context q p k kind off on = at (is_port client p) (is_
     at false true is it Connection kind = rw (is, it, kind) (rw kind at on)
     at false true is it Unnamed kind = rw (is, it, kind) (rw kind at on)
 
-joined-same : (client server : Birth) (context : ℕ) (b : Birth) (p : PortRow) → is_port b (joined client server context p) ≡ is_port b p
+pub joined-same : (client server : Birth) (context : ℕ) (b : Birth) (p : PortRow) → is_port b (joined client server context p) ≡ is_port b p
 joined-same client server context b p = at (is_port client p) (is_port server p) refl refl
   where
     at : (x y : Bool) → is_port client p ≡ x → is_port server p ≡ y → is_port b (joined client server context p) ≡ is_port b p

@@ -3,6 +3,7 @@ use Rattle.std.proofs.Common.{◌≡◌, ℕ, List, [], ◌∷◌, ◌++◌, Boo
 use Rattle.std.specs.Prelude.{◌&&◌}
 use Rattle.std.proofs.lemmas.List.Elements.{filter-append}
 use Rattle.std.proofs.lemmas.List.{map-append}
+use Rattle.std.proofs.Math.Bool.{and-true}
 use Rattle.lpc_base.specs.Rows.{which}
 use Rattle.lpc_base.proofs.Bools.{first-true, second-true}
 use Rattle.lpc_model.specs.declared.entry.Entry.{Entry}
@@ -79,11 +80,7 @@ told-inputs m c u d (e ∷ es) = at (is_told_input m c u d e) (told-inputs m c u
     at false rest = rest
 
 ran-input : (m : Group) (c : ℕ) (whose : Whose) (line : ScriptLine) → is_input m c (record { whose = whose; item = Ran line }) ≡ is_seen m whose
-ran-input m c (Of pid) line = at (m pid)
-  where
-    at : (b : Bool) → (b && true) ≡ b
-    at true = refl
-    at false = refl
+ran-input m c (Of pid) line = and-true (m pid)
 ran-input m c Everyone line = refl
 ran-input m c Nobody line = refl
 

@@ -16,7 +16,7 @@ use Rattle.lpc_base.specs.declared.port_kind.PortKind.TheVariants.{Client, Conne
 use Rattle.lpc_model.specs.declared.message.Message.{Message}
 use Rattle.lpc_model.specs.Message.{message_test}
 use Rattle.lpc_model.specs.Fields.{receipt}
-use Rattle.lpc_model.specs.Refusal.{found_or, refuse_if}
+use Rattle.lpc_model.specs.Refusal.{found_or}
 use Rattle.lpc_model.specs.Then.{◌>>=◌}
 use Rattle.lpc_model.specs.World.{Birth, MessageRow, PortKind, PortRow, ThreadRow, WaitRow, World}
 use Rattle.lpc_model.specs.Found.{if_open, is_open, is_queued, is_server_port, queue_of, waits_as}
@@ -33,9 +33,9 @@ use Rattle.lpc_isolation.proofs.Basics.{are_ours, basic-ours, run-ours}
 use Rattle.lpc_isolation.proofs.Fair.{Fair, all_of, are_fair, implies, is_fair_message, is_home, is_sent}
 use Rattle.lpc_isolation.proofs.Seen.{bind-same, c-port, open-view, port_test-view}
 use Rattle.lpc_isolation.proofs.Apart.{Owned, are_apart, heard, is_heard, is_owned}
-use Rattle.std.proofs.lemmas.List.{append_assoc}
 use Rattle.std.proofs.lemmas.List.Elements.{filter-append}
-use Rattle.lpc_model.proofs.SoundQueues.{after-append}
+use Rattle.lpc_model.proofs.StandingCalls.{tested-queue}
+use Rattle.lpc_model.proofs.StepsInTurn.{after-append, entries-append}
 use Rattle.lpc_isolation.proofs.Callers.{Led, on_ok}
 use Rattle.lpc_isolation.proofs.Reply.{answered-fit, led_reply, led-wakes, not-c, wakes-apart}
 use Rattle.lpc_isolation.proofs.Mine.{Ways, c-answered, c-port_test, message-names}
@@ -80,11 +80,11 @@ pub queue-view : (m : Group) (c : ℕ) (w : World) (p : PortRow) → Fair m c w 
 queue-view m c w p f r is = queue-view-kind m c w p p.kind refl f r is
 
 -- what the queue has, in the words of its first message
-first-queue : (q : Birth) (w : World) (x : MessageRow) → first (is_queued q) w.messages ≡ Some x → x.queue ≡ q
-first-queue q w x at = birth-same x.queue q (first-passes (is_queued q) w.messages x at)
+pub receive-queue : (q : Birth) (w : World) (x : MessageRow) → first (is_queued q) w.messages ≡ Some x → x.queue ≡ q
+receive-queue q w x at = birth-same x.queue q (first-passes (is_queued q) w.messages x at)
 
 first-own : (q : Birth) (w : World) (x : MessageRow) → first (is_queued q) w.messages ≡ Some x → IsFirst w (is_queued x.queue) x
-first-own q w x at = subst (λ b. first (is_queued b) w.messages ≡ Some x) (sym (first-queue q w x at)) at
+first-own q w x at = subst (λ b. first (is_queued b) w.messages ≡ Some x) (sym (receive-queue q w x at)) at
 
 -- what a receive found: its port, the reply that it makes, its queue
 pub record Receivable (m : Group) (c : ℕ) (w : World) (by : ThreadRow) (handle : ℕ) (a : Option Message) (p : PortRow) (q : Birth) (replied : List Basic) : Type 0 where
@@ -92,12 +92,6 @@ pub record Receivable (m : Group) (c : ℕ) (w : World) (by : ThreadRow) (handle
   pub named : Named m c w by p
   pub queue : queue_of w p ≡ Some q
   pub replies : given_reply w p a ≡ Ok replied
-
-tested-queue : (w : World) (p : PortRow) → Holds (λ q. queue_of w p ≡ Some q) (receive_test w p)
-tested-queue w p =
-    let Q : Birth → Type 0 = λ q. queue_of w p ≡ Some q in
-    bind_holds (found_or (queue_of w p) PORT_DISCONNECTED) _ Q (λ q at.
-    bind_holds (refuse_if (is_spent w p q) PORT_DISCONNECTED) _ Q (λ _ _. found_ok (queue_of w p) PORT_DISCONNECTED q at))
 
 pub on-receive : (P : List Basic → Type 0) (m : Group) (c : ℕ) (u w : World) (by : ThreadRow) (handle : ℕ) (bytes : Option (List ℕ)) → Caller m c u w by
     → ((a : Option Message) (p : PortRow) (q : Birth) (replied : List Basic) → optional_message bytes ≡ Ok a → Receivable m c w by handle a p q replied → P (receive_steps by p q replied (first (is_queued q) w.messages))) → Holds P (nt_reply_wait_receive_port w by handle bytes)
@@ -142,11 +136,11 @@ receive-call-fair m c u w by handle bytes k = on-receive (λ bs. are_fair m c w 
 -- apart
 received-apart : (m : Group) (c : ℕ) (u : World) (d : Whose) (w : World) (by : ThreadRow) (p : PortRow) (q : Birth) (o : Option MessageRow) → first (is_queued q) w.messages ≡ o → owner u by.number ≡ Some by.process → m q.process ≡ false → m by.process ≡ false → are_apart m c u d w (receive_steps by p q [] o) ≡ true
 received-apart m c u d w by p q None at here q_out out = rw (here, out) refl
-received-apart m c u d w by p q (Some x) at here q_out out = rw (here, out) (take-apart m c u d w x (first-own q w x at) (ap (λ (b : Birth). m b.process) (first-queue q w x at) ∙ q_out))
+received-apart m c u d w by p q (Some x) at here q_out out = rw (here, out) (take-apart m c u d w x (first-own q w x at) (ap (λ (b : Birth). m b.process) (receive-queue q w x at) ∙ q_out))
 
 replied-apart : (m : Group) (c : ℕ) (u : World) (d : Whose) (w : World) (by : ThreadRow) (p : PortRow) (q : Birth) (y : WaitRow) (b : Message) (o : Option MessageRow) → first (is_queued q) w.messages ≡ o → owner u by.number ≡ Some by.process → m q.process ≡ false → m by.process ≡ false → are_apart m c u d w (reply y b ∷ []) ≡ true → are_apart m c u d w (receive_steps by p q (reply y b ∷ []) o) ≡ true
 replied-apart m c u d w by p q y b None at here q_out out woke = rw (here, out) (and_from _ _ (first-true _ _ woke) refl)
-replied-apart m c u d w by p q y b (Some x) at here q_out out woke = rw (here, out) (and_from _ _ (first-true _ _ woke) (take-apart m c u d (basic w (reply y b)) x (first-own q w x at) (ap (λ (b : Birth). m b.process) (first-queue q w x at) ∙ q_out)))
+replied-apart m c u d w by p q y b (Some x) at here q_out out woke = rw (here, out) (and_from _ _ (first-true _ _ woke) (take-apart m c u d (basic w (reply y b)) x (first-own q w x at) (ap (λ (b : Birth). m b.process) (receive-queue q w x at) ∙ q_out)))
 
 pub receive-call-apart : (m : Group) (c : ℕ) (u : World) (d : Whose) (w : World) (by : ThreadRow) (handle : ℕ) (bytes : Option (List ℕ)) → Caller m c u w by → m by.process ≡ false → Holds (λ bs. are_apart m c u d w bs ≡ true) (nt_reply_wait_receive_port w by handle bytes)
 receive-call-apart m c u d w by handle bytes k out = on-receive (λ bs. are_apart m c u d w bs ≡ true) m c u w by handle bytes k (λ a p q replied is r.
@@ -170,10 +164,6 @@ abbrev pub led_receive : Group → World → ThreadRow → ℕ → Option (List 
 led_receive m v by handle bytes e = on_ok (port_test v by handle) (λ p. given (queue_of v p) (λ q. led_replied v bytes ++ led_received m v by p.birth q e))
 
 -- steps in turn
-pub entries-append : (bs cs : List Basic) → entries_of (bs ++ cs) ≡ entries_of bs ++ entries_of cs
-entries-append [] cs = refl
-entries-append (b ∷ bs) cs = ap (λ es. told b ++ es) (entries-append bs cs) ∙ sym (append_assoc (told b) (entries_of bs) (entries_of cs))
-
 pub led-append : (m : Group) (c : ℕ) (u : World) (d : Whose) (w : World) (bs led cs led' : List Basic) → Led m c u d w bs led → Led m c u d (world_after w bs) cs led' → Led m c u d w (bs ++ cs) (led ++ led')
 led-append m c u d w bs led cs led' one two = record {
   world = ap (view m) (after-append w bs cs) ∙ two.world ∙ ap (λ v. world_after v led') one.world ∙ sym (after-append (view m w) led led');
@@ -211,7 +201,7 @@ rest-led m c u d w by port q (Some x) at by_in queue owned facts =
     rw sender (whose (m x.sender.process) refl fair sent)
   where
     q_in : m x.queue.process ≡ true
-    q_in = ap (λ (b : Birth). m b.process) (first-queue q w x at) ∙ ap m queue ∙ by_in
+    q_in = ap (λ (b : Birth). m b.process) (receive-queue q w x at) ∙ ap m queue ∙ by_in
 
     whose : (b : Bool) → m x.sender.process ≡ b → is_fair_message m c x ≡ true → is_sent u.used_threads x ≡ true → Led m c u d w (take_steps x) (cond b (given (first (is_queued q) (view m w).messages) take_steps) [])
     whose true s_in fair sent =
@@ -342,7 +332,7 @@ c-receive m c u w by handle bytes k mine ways inside =
 c-rest-ours : (m : Group) (c : ℕ) (w v : World) (by : ThreadRow) (port q : Birth) (o : Option MessageRow) → v.messages ≡ w.messages → first (is_queued q) w.messages ≡ o → m c ≡ true → Fair m c w → by.process ≡ c → q.process ≡ by.process → are_ours m v (rest by port q o) ≡ true
 c-rest-ours m c w v by port q None same at c_in f mine queue = rw (ap m mine ∙ c_in, ap m (queue ∙ mine) ∙ c_in) refl
 c-rest-ours m c w v by port q (Some x) same at c_in f mine queue =
-    let own_q : x.queue.process ≡ c = ap (λ (b : Birth). b.process) (first-queue q w x at) ∙ queue ∙ mine in
+    let own_q : x.queue.process ≡ c = ap (λ (b : Birth). b.process) (receive-queue q w x at) ∙ queue ∙ mine in
     let fair : is_fair_message m c x ≡ true = every-first (is_fair_message m c) (is_queued q) w.messages x f.messages at in
     let q_c : (x.queue.process == c) ≡ true = ap (λ b. b == c) own_q ∙ same-number c in
     let s_in : m x.sender.process ≡ true = grind arith in

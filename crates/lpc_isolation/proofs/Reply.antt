@@ -139,7 +139,7 @@ wake-not-c m c u d x call status fields is other = at (owner u x.thread) refl
     at None none = let k : passes None (λ p. p == x.process) ≡ true = rw none at is in absurd (cc)
     at (Some pid) own = rw (own, owned-by u x pid own is) other
 
-wait-not-c : (m : Group) (c : ℕ) (x : WaitRow) → m c ≡ true → is_fair_wait m c x ≡ true → our_wait m x ≡ false → (x.process == c) ≡ false
+pub wait-not-c : (m : Group) (c : ℕ) (x : WaitRow) → m c ≡ true → is_fair_wait m c x ≡ true → our_wait m x ≡ false → (x.process == c) ≡ false
 wait-not-c m c x c_in fair out = at (x.process == c) refl
   where
     at : (b : Bool) → (x.process == c) ≡ b → b ≡ false

@@ -18,7 +18,7 @@ use Rattle.lpc_model.specs.Entering.{enter, row_of}
 use Rattle.lpc_model.specs.Request.{Sendable, datagram_send_test, datagram_start, datagram_steps, datagram_test, nt_request_port, send_test, sent_by}
 use Rattle.lpc_model.specs.Tests.{port_test}
 use Rattle.lpc_model.specs.SoundWaits.{IsSoundWorld, HasShutConnects}
-use Rattle.lpc_model.proofs.Holding.{Holds, bind_holds, found_ok, holds_ok}
+use Rattle.lpc_model.proofs.Holding.{Holds, bind_holds, found_ok, holds-more, holds_ok}
 use Rattle.lpc_model.specs.Circle.{Group, Whose, owner}
 use Rattle.lpc_isolation.proofs.Alone.{HasFineRows}
 use Rattle.lpc_isolation.proofs.Filters.{first-none_kept, which-where}
@@ -29,7 +29,7 @@ use Rattle.lpc_isolation.proofs.Seen.{bind-same, c-port, port-own, port_test-vie
 use Rattle.lpc_isolation.proofs.Enter.{Patient, enter-fair, enter-ours, enter-view}
 use Rattle.lpc_isolation.proofs.Apart.{Owned, are_apart, enter-apart, enter-gone, unseen-at, unseen-wait}
 use Rattle.lpc_isolation.proofs.Callers.{Led, led-same, on_ok, unseen-thread}
-use Rattle.lpc_isolation.proofs.Mine.{c-port_test, holds-more}
+use Rattle.lpc_isolation.proofs.Mine.{c-port_test}
 use Rattle.lpc_isolation.proofs.Names.{SeenNames}
 use Rattle.lpc_isolation.proofs.Bound.{OnceBound}
 use Rattle.lpc_isolation.proofs.Paths.{Paths}

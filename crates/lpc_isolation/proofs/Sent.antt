@@ -6,6 +6,7 @@ use Rattle.lpc_base.specs.Rows.{every, passes}
 use Rattle.lpc_base.proofs.RowWords.{every-more, every-push, every-without, first-kept}
 use Rattle.lpc_base.proofs.RowMaps.{every-without_first}
 use Rattle.lpc_base.proofs.Bools.{first-true, second-true}
+use Rattle.lpc_isolation.proofs.Paths.{joined-same}
 use Rattle.lpc_model.specs.World.{Birth, MessageRow, PortRow, World}
 use Rattle.lpc_model.specs.Found.{is_client_port, is_own_of, is_port, is_queued, is_queued_connect, is_the, port_row}
 use Rattle.lpc_model.specs.Basics.{Accepts, AddsHandle, AddsProcess, AddsThread, Awaits, Basic, Binds, Completes, Cuts, DrawsIdentifier, DrawsOrdinal, DropsHandle, Empties, Enters, Frees, Joins, Makes, Receives, Takes, TakesConnect, Tells, Unbinds, Wakes, Withdraws, basic, completed, cut, is_end_of, joined, world_after, Dies, Registers, Unregisters}
@@ -45,14 +46,6 @@ made-home w p x is = at (port_row w x.sender) refl
     at None none = let never : false ≡ true = rw none at is in absurd (cc)
     at (Some r) some = let home : leads_home x.queue r ≡ true = rw some at is in rw (first-kept (is_port x.sender) w.ports p r some) home
 
-joined-port : (client server : Birth) (context : ℕ) (b : Birth) (p : PortRow) → is_port b (joined client server context p) ≡ is_port b p
-joined-port client server context b p = at (is_port client p) (is_port server p) refl refl
-  where
-    at : (x y : Bool) → is_port client p ≡ x → is_port server p ≡ y → is_port b (joined client server context p) ≡ is_port b p
-    at true y is it = rw is refl
-    at false true is it = rw (is, it) refl
-    at false false is it = rw (is, it) refl
-
 joined-home : (client server : Birth) (context : ℕ) (q : Birth) (p : PortRow) → leads_home q (joined client server context p) ≡ leads_home q p
 joined-home client server context q p = at (is_port client p) (is_port server p) refl refl
   where
@@ -78,7 +71,7 @@ changed-home s f same q p = at (s p)
 pub basic-sent : (w : World) (b : Basic) → keeps_sent w b ≡ true → Sent w → Sent (basic w b)
 basic-sent w (Enters x) ok all = every-push (is_sent_home w) w.messages x all ok
 basic-sent w (Makes p) ok all = every-more (is_sent_home w) (is_sent_home (basic w (Makes p))) (made-home w p) w.messages all
-basic-sent w (Joins client server context) ok all = every-more (is_sent_home w) (is_sent_home (basic w (Joins client server context))) (mapped-home w (joined client server context) (joined-port client server context) (joined-home client server context)) w.messages all
+basic-sent w (Joins client server context) ok all = every-more (is_sent_home w) (is_sent_home (basic w (Joins client server context))) (mapped-home w (joined client server context) (joined-same client server context) (joined-home client server context)) w.messages all
 basic-sent w (Completes b) ok all = every-more (is_sent_home w) (is_sent_home (basic w (Completes b))) (mapped-home w (λ p. if is_port b p then completed p else p) (changed-port (is_port b) completed (λ d p. refl)) (changed-home (is_port b) completed (λ q p. refl))) w.messages all
 basic-sent w (Cuts b) ok all = every-more (is_sent_home w) (is_sent_home (basic w (Cuts b))) (mapped-home w (λ p. if is_end_of b p then cut p else p) (changed-port (is_end_of b) cut (λ d p. refl)) (changed-home (is_end_of b) cut (λ q p. refl))) w.messages all
 basic-sent w (Takes q) ok all = every-without_first (is_sent_home w) (is_queued q) w.messages all

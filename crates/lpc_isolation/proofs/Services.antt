@@ -12,7 +12,7 @@ use Rattle.lpc_model.specs.Death.{code_status}
 use Rattle.lpc_isolation.proofs.Served.{served}
 use Rattle.lpc_model.specs.SoundWaits.{IsSoundWorld}
 use Rattle.lpc_model.specs.Circle.{Group, Whose, is_fine_call}
-use Rattle.lpc_model.proofs.Holding.{Holds, holds_any}
+use Rattle.lpc_model.proofs.Holding.{Holds, holds-more, holds_any}
 use Rattle.lpc_base.specs.Rows.{every}
 use Rattle.lpc_isolation.proofs.Alone.{HasFineRows}
 use Rattle.lpc_isolation.proofs.View.{view}
@@ -26,7 +26,6 @@ use Rattle.lpc_isolation.proofs.Laws.{Lawful, same-used}
 use Rattle.lpc_isolation.proofs.Creates.{process-lawful, thread-lawful}
 use Rattle.lpc_isolation.proofs.Callers.{Answered, Led}
 use Rattle.lpc_isolation.proofs.Lines.{OnceUsed}
-use Rattle.lpc_isolation.proofs.Mine.{holds-more}
 use Rattle.lpc_isolation.proofs.Listens.{own_entry}
 use Rattle.lpc_isolation.proofs.Ids.{Numbered, of_number}
 use Rattle.lpc_isolation.proofs.Asked.{Asked}

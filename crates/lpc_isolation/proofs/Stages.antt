@@ -5,14 +5,14 @@ use Rattle.lpc_base.proofs.RowWords.{every-append}
 use Rattle.lpc_model.specs.declared.entry.Entry.{Entry}
 use Rattle.lpc_model.specs.World.{Birth, World}
 use Rattle.lpc_model.specs.Basics.{Basic, Steps, entries_of, world_after, ◌▹◌}
-use Rattle.lpc_model.proofs.SoundQueues.{after-append}
 use Rattle.lpc_model.specs.Circle.{Group, Whose}
+use Rattle.lpc_model.proofs.StepsInTurn.{after-append, entries-append}
 use Rattle.lpc_isolation.proofs.View.{view}
 use Rattle.lpc_isolation.proofs.Basics.{are_ours, ours-append, run-ours}
 use Rattle.lpc_isolation.proofs.Fair.{are_fair, fair-append}
 use Rattle.lpc_isolation.proofs.Apart.{absorb, absorb_all, apart-append, are_apart, run-apart, run-quiet}
 use Rattle.lpc_isolation.proofs.Callers.{Led}
-use Rattle.lpc_isolation.proofs.Receive.{entries-append, led-append}
+use Rattle.lpc_isolation.proofs.Receive.{led-append}
 use Rattle.lpc_isolation.proofs.Lines.{quiet-inputs}
 use Rattle.lpc_isolation.proofs.Play.{is_told_input, told_inputs}
 use Rattle.lpc_isolation.proofs.Sent.{append-sent, are_sent}

@@ -2,8 +2,8 @@
 use Rattle.lpc_isolation.proofs.Services.{serves}
 use Rattle.std.proofs.Common.{◌≡◌, ℕ, List, [], ◌∷◌, ◌++◌, true, false, Option, Some, None, refl, sym, subst, arith}
 use Rattle.std.specs.Prelude.{◌==◌, Ok}
-use Rattle.std.proofs.lemmas.Bool.Decides.{nat_tests}
 use Rattle.lpc_base.specs.Rows.{passes}
+use Rattle.lpc_base.proofs.Bools.{same-number}
 use Rattle.lpc_model.specs.declared.entry.Entry.{Entry}
 use Rattle.lpc_model.specs.World.{ThreadRow, WaitRow, World}
 use Rattle.lpc_model.specs.Found.{live_thread, wait_of}
@@ -119,10 +119,7 @@ ready-at m c w s tid by c_in st fine live idle =
 -- The lines of calls
 line-call : (m : Group) (c : ℕ) (w : World) (tid : ℕ) (call : ScriptCall) → is_fine_line m c w (run tid call) ≡ true → (by : ThreadRow) → owner w tid ≡ Some by.process → by.process ≡ c → is_fine_call m w call ≡ true
 line-call m c w tid call fine by own mine =
-    let it : passes (owner w tid) (λ p. p == c) ≡ true = rw own (rw mine (same c)) in grind arith
-  where
-    same : (n : ℕ) → (n == n) ≡ true
-    same n = grind (arith, nat_tests)
+    let it : passes (owner w tid) (λ p. p == c) ≡ true = rw own (rw mine (same-number c)) in grind arith
 
 pub owes-line : (m : Group) (c : ℕ) (w : World) (s : State) (tid : ℕ) (call : ScriptCall) → m c ≡ true → Stood m c w s → HasFineRows m c w → HasFineRows m c (served_step w (run tid call)).world → is_fine_line m c w (run tid call) ≡ true → Owes (leads_by m (known_queue s.memo)) m c w tid call
 owes-line m c w s tid call c_in st fine next line = at (live_thread w tid) refl

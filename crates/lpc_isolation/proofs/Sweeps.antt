@@ -5,20 +5,19 @@ use Rattle.lpc_isolation.proofs.Laws.{Room}
 use Rattle.lpc_model.specs.Grammar.{has_ids}
 use Rattle.lpc_isolation.proofs.Services.{lawful}
 use Rattle.std.proofs.Common.{◌≡◌, ℕ, List, [], ◌∷◌, ◌++◌, true, map, Option, Some, None, refl, ap, sym, subst, ◌∙◌}
-use Rattle.std.proofs.lemmas.List.{append_assoc}
 use Rattle.std.specs.Prelude.{Result, Ok, Err}
 use Rattle.lpc_base.proofs.RowMaps.{every-both}
 use Rattle.lpc_model.specs.declared.entry.Entry.{Entry}
 use Rattle.lpc_model.specs.declared.entry.Word.TheVariants as word
 use Rattle.lpc_model.specs.World.{HandleRow, ObjectName, ThreadRow, WaitRow, World}
 use Rattle.lpc_model.specs.Found.{handle_count, live_thread, wait_of}
-use Rattle.lpc_model.specs.Basics.{Basic, Frees, Tells, entries_of, told, world_after}
+use Rattle.lpc_model.specs.Basics.{Basic, Frees, Tells, entries_of, world_after}
 use Rattle.lpc_model.specs.Tests.{own_handle}
 use Rattle.lpc_model.specs.Named.{free_name, spelled_name}
 use Rattle.lpc_model.specs.Lines.{ScriptCall, ScriptLine, boot, dir, link, query_object, run, thread}
 use Rattle.lpc_model.specs.Machine.{bare_step, bare_steps, boot_line, dir_line, link_line, name_of_call, ready_steps, service_of, settled, step, thread_line, thread_steps, thread_test, unused_test}
 use Rattle.lpc_isolation.proofs.Served.{query_steps, served, served_ready, served_step, served_steps, served_thread}
-use Rattle.lpc_model.specs.Sweep.{free_unheld, sweep, unheld}
+use Rattle.lpc_model.specs.Sweep.{sweep}
 use Rattle.lpc_model.specs.SoundWaits.{IsSoundWorld}
 use Rattle.lpc_model.specs.Linked.{HasHeldPorts}
 use Rattle.lpc_model.specs.Counts.{counts_of, nt_query_object}
@@ -34,7 +33,8 @@ use Rattle.lpc_isolation.proofs.Seen.{bind-same}
 use Rattle.lpc_isolation.proofs.Sent.{Sent, are_sent, is_sent_home, run-sent}
 use Rattle.lpc_isolation.proofs.Held.{Held, held-counts}
 use Rattle.lpc_model.proofs.Holding.{bind_holds, directed_holds, settled_holds}
-use Rattle.lpc_model.proofs.SoundQueues.{after-append}
+use Rattle.lpc_model.proofs.Sweeping.{sweep-tells}
+use Rattle.lpc_model.proofs.StepsInTurn.{after-append, entries-append}
 use Rattle.lpc_isolation.proofs.Thin.{is_live-thin, live-thin, threads-thin, Alive, Behind, Closed, behind-sweep, closed-run, message_closed, thin, thin-run}
 use Rattle.lpc_isolation.proofs.ThinCalls.{AreClosed, row-thin}
 use Rattle.lpc_isolation.proofs.Firm.{Firm, firm-line, firm-step}
@@ -220,19 +220,9 @@ line-behind w u line ids t = record {
         (let f = firm-line w line t.firm in behind-sweep (world_after w (bare_steps line w)) (served_step u line).world f.sound f.linked bare)
 
 -- the sweep tells nothing
-entries-append : (bs cs : List Basic) → entries_of (bs ++ cs) ≡ entries_of bs ++ entries_of cs
-entries-append [] cs = refl
-entries-append (b ∷ bs) cs = ap (λ es. told b ++ es) (entries-append bs cs) ∙ sym (append_assoc (told b) (entries_of bs) (entries_of cs))
-
 freed-silent : (os : List ObjectName) → entries_of (map Frees os) ≡ []
 freed-silent [] = refl
 freed-silent (o ∷ os) = freed-silent os
-
-sweep-silent : (w : World) → entries_of (sweep w) ≡ []
-unfolding sweep
-sweep-silent w =
-    let v : World = world_after w (free_unheld w) in
-    entries-append (free_unheld w) (free_unheld v) ∙ ap (λ es. es ++ entries_of (free_unheld v)) (freed-silent (unheld w)) ∙ freed-silent (unheld v)
 
 append-none : (es : List Entry) → es ++ [] ≡ es
 append-none [] = refl
@@ -241,5 +231,5 @@ append-none (e ∷ es) = ap (λ es. e ∷ es) (append-none es)
 pub entries-same : (w u : World) (line : ScriptLine) → InStep w u line → (step w line).entries ≡ (served_step u line).entries
 entries-same w u line a =
     entries-append (bare_steps line w) (sweep (world_after w (bare_steps line w)))
-    ∙ ap (λ es. entries_of (bare_steps line w) ++ es) (sweep-silent (world_after w (bare_steps line w)))
+    ∙ ap (λ es. entries_of (bare_steps line w) ++ es) (sweep-tells (world_after w (bare_steps line w)))
     ∙ append-none (entries_of (bare_steps line w)) ∙ ap entries_of a.same

@@ -1,7 +1,8 @@
 -- NtTerminateThread and NtTerminateProcess in a view.
 use Rattle.std.proofs.Common.{◌≡◌, ℕ, List, [], ◌∷◌, Bool, true, false, cond, not, Some, None, refl, ap, sym, subst, ◌∙◌, arith}
 use Rattle.std.specs.Prelude.{◌&&◌, ◌||◌, ◌==◌, Result, Ok, Err}
-use Rattle.std.proofs.lemmas.Bool.{and_from, eqb-true}
+use Rattle.std.proofs.lemmas.Bool.{and_from, eqb-true, not-false}
+use Rattle.std.proofs.Math.Bool.{or-true}
 use Rattle.lpc_base.specs.Rows.{every, first, passes, which}
 use Rattle.lpc_base.proofs.RowWords.{every-more, first-passes}
 use Rattle.lpc_base.proofs.RowMaps.{every-both}
@@ -116,10 +117,6 @@ standing-rows k u pid c = every-more (λ t. every k.ports (registered_by t)) (λ
   where
     at : (t : ThreadRow) (e : Bool) → t.live ≡ e → every k.ports (registered_by t) ≡ true → (not (lives_in pid t) || are_standing k t) ≡ true
     at t true live is = let all : every k.ports t.registrations ≡ true = rw live at is in rw all (or-true (not (lives_in pid t)))
-      where
-        or-true : (a : Bool) → (a || true) ≡ true
-        or-true true = refl
-        or-true false = refl
     at t false dead is = rw dead (grind arith)
 
 steady : (m : Group) (c : ℕ) (u w : World) (by : ThreadRow) → Caller m c u w by → Steady m c u w
@@ -293,10 +290,7 @@ unfolding nt_terminate_thread
 thread-is w by target code = sym (bind-again (thread_target w by target) _ _ ∙ bind-same (thread_target w by target) _ _ (λ t at. bind-again (refuse_if (not t.live) INVALID_CID) _ _))
 
 live-of : (t : ThreadRow) (u : Unit {0}) → refuse_if (not t.live) INVALID_CID ≡ Ok u → t.live ≡ true
-live-of t u is = of-not t.live (not_refused (not t.live) INVALID_CID u is)
-  where
-    of-not : (e : Bool) → not e ≡ false → e ≡ true
-    of-not e is = grind arith
+live-of t u is = not-false t.live (not_refused (not t.live) INVALID_CID u is)
 
 thread-heads : (m : Group) (c : ℕ) (w : World) (by : ThreadRow) (t : ThreadRow) → owner w by.number ≡ Some by.process → (t.number == by.number) ≡ true → heads_own w by.number (t ∷ []) ≡ true
 thread-heads m c w by t own is = rw (eqb-true t.number by.number is, own) (same-number by.process)

@@ -1,11 +1,11 @@
 -- A world without some rows that no other row names: what each basic step and the sweep do to it.
 use Rattle.std.proofs.Common.{◌≡◌, ◌≤◌, ℕ, List, [], ◌∷◌, ◌++◌, Bool, true, false, not, map, Option, Some, None, refl, ap, sym, subst, ◌∙◌, arith}
 use Rattle.std.specs.Prelude.{◌&&◌, ◌||◌, ◌+◌, ◌==◌, nat_lt, is_some}
-use Rattle.std.proofs.lemmas.Bool.{and_from, eqb-true, or_left}
+use Rattle.std.proofs.lemmas.Bool.{and_from, eqb-true, not-true, or_left}
 use Rattle.lpc_base.specs.Rows.{count, each, every, has, which, without, first}
 use Rattle.lpc_base.proofs.RowWords.{every-back, every-change, every-front, every-more, every-push, every-which, every-without, first-passes}
 use Rattle.lpc_base.proofs.RowMaps.{every-both, every-first, every-mapped, every-without_first}
-use Rattle.lpc_base.proofs.Bools.{first-true, same-number, second-true}
+use Rattle.lpc_base.proofs.Bools.{apart-second, first-true, same-number, second-true}
 use Rattle.lpc_base.proofs.Births.{birth-same, births-apart}
 use Rattle.lpc_model.specs.declared.entry.ObjectKind.{ObjectKind}
 use Rattle.lpc_model.specs.declared.entry.ObjectKind.TheVariants as kind
@@ -18,11 +18,11 @@ use Rattle.lpc_model.specs.Linked.{IsLinked}
 use Rattle.lpc_model.proofs.LinkedJoins.{gone-linked}
 use Rattle.lpc_model.proofs.Swept.{lonely}
 use Rattle.lpc_model.proofs.SoundFrees.{freed-sound, is-zero, less-held, none-pass, sum-first, sum-second, which-all}
-use Rattle.lpc_model.proofs.SoundQueues.{after-append}
 use Rattle.lpc_model.proofs.Registrations.{all-pushed, all-changed, registering-all, unregistering-all}
 use Rattle.lpc_message.specs.declared.message.ClientId.{ClientId}
 use Rattle.lpc_model.specs.Tests.{client_test}
 use Rattle.lpc_model.proofs.Rows.{has-off}
+use Rattle.lpc_model.proofs.StepsInTurn.{after-append}
 use Rattle.lpc_isolation.proofs.Filters.{first-where, has-inside, kept-change, kept-push, which-where}
 
 -- the births of the ports, processes and threads that stand, and the numbers of processes that stand while they live
@@ -405,14 +405,11 @@ frees-one k u b none lonely c =
       ports = every-both (port_closed k) (λ p. not (k.ports p.birth) || (not (is_paired_to b p) && not (is_connected_to b p))) (port_closed (but b k)) (port-off k b) u.ports c.ports (of-kept (port_alive k) (is_paired_to b) (is_connected_to b) u.ports n.pairs n.connections);
       messages = every-both (message_closed k) (λ x. not (is_sent_on b x)) (message_closed (but b k)) (λ x ok off. grind arith) u.messages c.messages n.messages;
       waits = every-both (wait_closed k) (λ x. not (is_made_on b x)) (wait_closed (but b k)) (λ x ok off. grind arith) u.waits c.waits n.waits;
-      registrations = every-both k.ports (λ c. not (same_birth b c)) (but_birth b k.ports) (λ d live off. and_from _ _ live (rw (births-apart b d (not-of (same_birth b d) off)) refl)) (all_registrations u) c.registrations (subst (λ bs. every (λ d. not (same_birth b d)) bs ≡ true) (registered-thin k u c) n.registrations);
+      registrations = every-both k.ports (λ c. not (same_birth b c)) (but_birth b k.ports) (λ d live off. and_from _ _ live (rw (births-apart b d (not-true (same_birth b d) off)) refl)) (all_registrations u) c.registrations (subst (λ bs. every (λ d. not (same_birth b d)) bs ≡ true) (registered-thin k u c) n.registrations);
       cuts = cut-but k b u.ports lonely c.cuts;
       threads = c.threads;
       processes = c.processes;
     }
-  where
-    not-of : (e : Bool) → not e ≡ true → e ≡ false
-    not-of e is = grind arith
 
 -- what holds of each row by a number that lives, holds of each row by its own
 every-self : {X : Type 0} (f : X → ℕ) (live : ℕ → Bool) (r : ℕ → X → Bool) (xs : List X) → ((n : ℕ) → live n ≡ true → every (r n) xs ≡ true) → every (λ x. not (live (f x)) || r (f x) x) xs ≡ true
@@ -445,12 +442,9 @@ none-live k u b none c n live = at (first (lives_in n) (thin k u).threads) refl 
     at (Some t) here is =
         let passed : lives_in n t ≡ true = first-passes (lives_in n) (thin k u).threads t here in
         let apart : not (lives_by (thin k u) b t) ≡ true = every-first (λ t. not (lives_by (thin k u) b t)) (lives_in n) (thin k u).threads t (none-pass (lives_by (thin k u) b) (thin k u).threads none) here in
-        let off : has (λ p. same_birth p.birth b && (p.number == t.process)) (thin k u).processes ≡ false = off-of t.live _ (second-true _ _ passed) apart in
+        let off : has (λ p. same_birth p.birth b && (p.number == t.process)) (thin k u).processes ≡ false = apart-second t.live _ (second-true _ _ passed) apart in
         subst (λ n. every (λ p. not (process_alive k p) || not (same_birth p.birth b && (p.number == n))) u.processes ≡ true) (eqb-true t.process n (first-true _ _ passed))
         (none-which (process_alive k) (λ p. same_birth p.birth b && (p.number == t.process)) u.processes off)
-      where
-        off-of : (a d : Bool) → a ≡ true → not (a && d) ≡ true → d ≡ false
-        off-of a d is apart = grind arith
 
 frees-process : (k : Alive) (u : World) (b : Birth) → is_unheld (thin k u) (process_name b) ≡ true → Closed k u → Closed (but_process u b k) u
 frees-process k u b none c =

@@ -1,7 +1,7 @@
 -- A member's request goes to a member, or to the other end of the server port on which it was sent: so in each world of a run.
 use Rattle.std.proofs.Common.{◌≡◌, ℕ, List, [], ◌∷◌, ◌++◌, Bool, true, false, not, Option, Some, None, refl, sym, subst, arith}
 use Rattle.std.proofs.lemmas.Bool.{and_from}
-use Rattle.std.specs.Prelude.{◌&&◌, ◌||◌, Result, Ok, Err, if◌then◌else◌}
+use Rattle.std.specs.Prelude.{◌&&◌, ◌||◌, Result, Ok, if◌then◌else◌}
 use Rattle.lpc_base.specs.Rows.{change, every, first, given, has, passes}
 use Rattle.lpc_base.proofs.RowWords.{every-append, every-change}
 use Rattle.lpc_base.specs.declared.port_kind.PortKind.TheVariants.{Client, Connection, Server, Unnamed}
@@ -24,8 +24,9 @@ use Rattle.lpc_model.specs.Lines.{accept_connect_port, complete_connect_port, co
 use Rattle.lpc_isolation.proofs.Served.{served}
 use Rattle.lpc_model.specs.SoundWaits.{IsSoundWorld}
 use Rattle.lpc_model.specs.Circle.{Group}
-use Rattle.lpc_model.proofs.Holding.{Holds, bind_holds, found_holds, found_ok, holds_ok}
+use Rattle.lpc_model.proofs.Holding.{Holds, bind_holds, found_holds, found_ok, holds-more, holds_ok}
 use Rattle.lpc_model.proofs.Rows.{has-off}
+use Rattle.lpc_model.proofs.Usable.{if-same}
 use Rattle.lpc_isolation.proofs.Sent.{append-sent, are_sent, is_sent_home, leads_home, none-sent, sends_none}
 use Rattle.lpc_isolation.proofs.Create.{made-holds}
 use Rattle.lpc_isolation.proofs.Connects.{on-connect, row, starting}
@@ -88,8 +89,7 @@ still-paths w [] ok = refl
 still-paths w (b ∷ bs) ok = and_from _ _ (still-step w b (first-true _ _ ok)) (still-paths (basic w b) bs (second-true _ _ ok))
 
 still-holds : (w : World) (r : Result (List Basic) Status) → Holds AreStill r → Holds (λ bs. are_paths w bs ≡ true) r
-still-holds w (Ok bs) ok = still-paths w bs ok
-still-holds w (Err s) ok = tt
+still-holds w r ok = holds-more AreStill (λ bs. are_paths w bs ≡ true) r (still-paths w) ok
 
 given-still : (x : MessageRow) (z : WaitRow) (sort : WaitKind) (asked : Bool) → z.kind ≡ sort → asks x.message ≡ asked → AreStill (given_steps z x ++ woken SUCCESS (shown z x) z ∷ [])
 given-still x z (Request a) true is asked = rw (is, asked) refl
@@ -123,8 +123,7 @@ still-sent : (w : World) (bs : List Basic) → AreStill bs → are_sent w bs ≡
 still-sent w bs ok = none-sent w bs (every-more stays sends_none still-none bs ok)
 
 still-sends : (w : World) (r : Result (List Basic) Status) → Holds AreStill r → Holds (λ bs. are_sent w bs ≡ true) r
-still-sends w (Ok bs) ok = still-sent w bs ok
-still-sends w (Err s) ok = tt
+still-sends w r ok = holds-more AreStill (λ bs. are_sent w bs ≡ true) r (still-sent w) ok
 
 then-sent : (u : World) (start : List Basic) (x : MessageRow) → are_sent u start ≡ true → is_sent_home (world_after u start) x ≡ true → are_sent u (start ++ enter x (world_after u start)) ≡ true
 then-sent u start x ok home =
@@ -175,14 +174,6 @@ receive-still u by handle bytes =
 connect-paths : (w : World) (by : ThreadRow) (name bytes : List ℕ) → Holds (λ bs. are_paths w bs ≡ true) (nt_connect_port w by name bytes)
 connect-paths w by name bytes = on-connect (λ bs. are_paths w bs ≡ true) w by name bytes (λ q at. then-paths w (starting by q bytes) (row by q bytes) refl)
 
-opened : (w : World) (o : Option Birth) (q : Birth) → if_open w o ≡ Some q → is_the q o ≡ true
-opened w None q is = absurd (cc)
-opened w (Some b) q is = at (is_open w b) is
-  where
-    at : (e : Bool) → (if e then Some b else None) ≡ Some q → same_birth q b ≡ true
-    at true is = let same : b ≡ q = cc in subst (λ b. same_birth q b ≡ true) (sym same) (birth-self q)
-    at false is = absurd (cc)
-
 itself : (p : PortRow) (q : Birth) → Some p.birth ≡ Some q → same_birth q p.birth ≡ true
 itself p q to = let same : p.birth ≡ q = cc in subst (λ b. same_birth q b ≡ true) (sym same) (birth-self q)
 
@@ -192,8 +183,8 @@ way-lead w p q Client is to = rw is (client (is_cut p) (rw is at to))
   where
     client : (e : Bool) → if_open w (if e then None else p.connection) ≡ Some q → is_the q p.connection ≡ true
     client true to = absurd (cc)
-    client false to = opened w p.connection q to
-way-lead w p q Server is to = let on : is_the q p.pair ≡ true = opened w p.pair q (rw is at to) in rw (is, on) (grind arith)
+    client false to = if-same w p.connection q to
+way-lead w p q Server is to = let on : is_the q p.pair ≡ true = if-same w p.pair q (rw is at to) in rw (is, on) (grind arith)
 way-lead w p q Connection is to = rw is (itself p q (rw is at to))
 way-lead w p q Unnamed is to = rw is (itself p q (rw is at to))
 

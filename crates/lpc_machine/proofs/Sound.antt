@@ -16,9 +16,9 @@ use Rattle.lpc_model.proofs.OpenQueues.{queues_line}
 use Rattle.lpc_model.proofs.Quiet.{quiet_line}
 use Rattle.lpc_model.proofs.Runs.{lawful_none, lawful_step}
 use Rattle.lpc_model.proofs.SoundLines.{line-sound}
-use Rattle.lpc_model.proofs.SoundQueues.{after-append}
 use Rattle.lpc_model.proofs.Sweeping.{step_swept}
 use Rattle.lpc_model.proofs.StandingCalls.{names_line}
+use Rattle.lpc_model.proofs.StepsInTurn.{after-append}
 use Rattle.lpc_world.specs.Does.{Left, left_by}
 use Rattle.lpc_world.specs.Held.{CanSweep}
 use Rattle.lpc_world.specs.Kept.{Kept, Same}

@@ -1,8 +1,9 @@
 -- The steps of each line are in balance.
-use Rattle.std.proofs.Common.{◌≡◌, ℕ, List, [], ◌∷◌, ◌++◌, Bool, true, false, not, Option, Some, None, refl, sym, subst, arith}
+use Rattle.std.proofs.Common.{◌≡◌, ℕ, List, [], ◌∷◌, ◌++◌, Bool, true, false, not, Option, Some, None, refl, sym, subst}
 use Rattle.std.specs.Prelude.{◌&&◌, option_and_then, option_map}
 use Rattle.lpc_base.specs.Rows.{each, every, given, when, which}
 use Rattle.lpc_base.proofs.RowWords.{every-append, every-more}
+use Rattle.lpc_base.proofs.Bools.{first-true, second-true}
 use Rattle.lpc_base.specs.declared.birth.Birth.{Birth}
 use Rattle.lpc_base.specs.declared.status.Status.{Status}
 use Rattle.lpc_base.specs.declared.status.TheConstants.{LPC_REPLY_LOST, PORT_DISCONNECTED}
@@ -16,11 +17,11 @@ use Rattle.lpc_model.specs.Death.{cut_accepted, die, end_process, end_threads, p
 use Rattle.lpc_model.specs.Lines.{ScriptLine}
 use Rattle.lpc_model.specs.Sweep.{sweep}
 use Rattle.lpc_model.proofs.Closing.{behind}
-use Rattle.lpc_model.proofs.SoundQueues.{after-append}
 use Rattle.lpc_model.specs.Accounts.{Receipt}
 use Rattle.lpc_model.proofs.Balance.{AreBalanced, both-balanced, is_level, level-balanced}
 use Rattle.lpc_model.proofs.DryQueues.{HasDryQueues, IsEntered, dry-all, entered, is_soft}
 use Rattle.lpc_model.proofs.EachLine.{sweep_every}
+use Rattle.lpc_model.proofs.StepsInTurn.{after-append}
 
 -- Plain steps: they tell of no receipt, let no message in, and begin no receive
 abbrev pub is_plain : Basic → Bool
@@ -31,15 +32,9 @@ ArePlain bs = every is_plain bs ≡ true
 
 pub plain-level : (bs : List Basic) → ArePlain bs → every is_level bs ≡ true
 plain-level bs all = every-more is_plain is_level (λ b is. first-true (is_level b) (is_soft b) is) bs all
-  where
-    first-true : (a b : Bool) → (a && b) ≡ true → a ≡ true
-    first-true a b is = grind arith
 
 pub plain-soft : (bs : List Basic) → ArePlain bs → every is_soft bs ≡ true
 plain-soft bs all = every-more is_plain is_soft (λ b is. second-true (is_level b) (is_soft b) is) bs all
-  where
-    second-true : (a b : Bool) → (a && b) ≡ true → b ≡ true
-    second-true a b is = grind arith
 
 each-plain : (ending : WaitRow → List Basic) → ((x : WaitRow) → ArePlain (ending x)) → (xs : List WaitRow) → ArePlain (each ending xs)
 each-plain ending all [] = refl

@@ -2,7 +2,7 @@
 -- received, or is lost.
 use Rattle.std.proofs.Common.{◌≡◌, ◌∙◌, ℕ, ◌+◌, List, [], ◌∷◌, ◌++◌, Bool, true, false, not, ap, refl, sym, subst, arith}
 use Rattle.std.specs.Prelude.{◌&&◌, ◌||◌, ◌==◌}
-use Rattle.std.proofs.lemmas.Bool.{eqb-true}
+use Rattle.std.proofs.lemmas.Bool.{and_right, eqb-true}
 use Rattle.std.proofs.lemmas.Slice.Eq.{bytes_eq-Decides}
 use Rattle.std.specs.Str.{bytes_eq}
 use Rattle.lpc_base.specs.Rows.{count, every, which, without, without_first}
@@ -21,7 +21,7 @@ use Rattle.lpc_model.specs.Found.{is_own_of, is_queued, is_queued_connect, same_
 use Rattle.lpc_model.specs.Basics.{Basic, Empties, Enters, Frees, Takes, TakesConnect, Tells, Wakes, Withdraws, basic, entries_of, freed, posted, posts_of, told, world_after}
 use Rattle.lpc_model.specs.Lines.{ScriptLine}
 use Rattle.lpc_model.proofs.Told.{posts-append}
-use Rattle.lpc_model.proofs.SoundQueues.{after-append}
+use Rattle.lpc_model.proofs.StepsInTurn.{after-append}
 use Rattle.lpc_model.specs.Accounts.{Receipt, shows_receipt, is_received, has_receipt, loses, lost, standing, shows_context}
 use Rattle.lpc_model.specs.declared.entry.Value.{Value}
 use Rattle.lpc_model.specs.declared.entry.Value.TheVariants.{Bytes, Hex, Kind, Number, Read}
@@ -135,14 +135,8 @@ module _ (s : Receipt) (quiet : asks (message_of s.bytes) ≡ false) (w : World)
   AreBalanced v bs = standing s v + posted_by bs ≡ standing s (world_after v bs) + (received (entries_of bs) + lost s v bs)
 
   unread : (e : Entry) → not (tells_two e) ≡ true → is_received s w line e ≡ false
-  unread (entry.Answer who call status fields) is = off _ _ (unshown s fields is)
-    where
-      off : (a b : Bool) → b ≡ false → (a && b) ≡ false
-      off a b is = grind (arith, is)
-  unread (entry.Wakes who call status fields) is = off _ _ (unshown s fields is)
-    where
-      off : (a b : Bool) → b ≡ false → (a && b) ≡ false
-      off a b is = grind (arith, is)
+  unread (entry.Answer who call status fields) is = and_right _ _ (unshown s fields is)
+  unread (entry.Wakes who call status fields) is = and_right _ _ (unshown s fields is)
   unread e is = refl
 
   pub none-read : (e : Entry) → not (tells_two e) ≡ true → received (e ∷ []) ≡ 0

@@ -5,6 +5,7 @@ use Rattle.std.proofs.lemmas.Bool.Decides.{nat_tests}
 use Rattle.lpc_base.specs.Rows.{count, each, every, first, has, passes}
 use Rattle.lpc_base.proofs.RowWords.{every-more, first-passes}
 use Rattle.lpc_base.proofs.RowMaps.{every-both}
+use Rattle.lpc_base.proofs.Bools.{first-true, or-second, second-true}
 use Rattle.lpc_model.specs.World.{Birth, HandleRow, HandleTable, PortRow, ThreadRow, WaitRow, World}
 use Rattle.lpc_model.specs.Found.{all_handles, is_connected_to, is_life, is_live, is_live_thread, is_open, is_paired_to, is_port, is_the, lives_by, lives_in, live_thread, names_port, port_name, process_name, registered_by, thread_name}
 use Rattle.lpc_model.specs.Sweep.{is_unheld}
@@ -53,25 +54,16 @@ none-count p off (t ∷ ts) dead = grind (arith, off t, none-count p off ts)
 
 none-registered : (ts : List ThreadRow) → every (λ t. not t.live) ts ≡ true → each registered_by ts ≡ []
 none-registered [] dead = refl
-none-registered (t ∷ ts) dead = at t.live refl (none-registered ts (second _ _ dead)) (first_of _ _ dead)
+none-registered (t ∷ ts) dead = at t.live refl (none-registered ts (second-true _ _ dead)) (first-true _ _ dead)
   where
-    first_of : (a b : Bool) → (a && b) ≡ true → a ≡ true
-    first_of a b is = grind arith
-
-    second : (a b : Bool) → (a && b) ≡ true → b ≡ true
-    second a b is = grind arith
-
     at : (l : Bool) → t.live ≡ l → each registered_by ts ≡ [] → not t.live ≡ true → registered_by t ++ each registered_by ts ≡ []
     at true is later off = absurd (cc)
     at false is later off = rw (is, later) refl
 
 -- No handle is left
 none-handles : (w : World) → ((pid : ℕ) → is_live w pid ≡ false) → HasLivingHandles w → all_handles w ≡ []
-none-handles w dead living = of w.handles (every-more (is_living_table w) lacks_handles (λ t is. lacks (is_live w t.process) _ (dead t.process) is) w.handles living)
+none-handles w dead living = of w.handles (every-more (is_living_table w) lacks_handles (λ t is. or-second (is_live w t.process) _ (dead t.process) is) w.handles living)
   where
-    lacks : (a b : Bool) → a ≡ false → (a || b) ≡ true → b ≡ true
-    lacks a b off is = grind arith
-
     empty : (t : HandleTable) → lacks_handles t ≡ true → t.rows ≡ []
     empty t is = at t.rows is
       where
@@ -81,13 +73,7 @@ none-handles w dead living = of w.handles (every-more (is_living_table w) lacks_
 
     of : (ts : List HandleTable) → every lacks_handles ts ≡ true → each (λ (t : HandleTable). t.rows) ts ≡ []
     of [] all = refl
-    of (t ∷ ts) all = rw (empty t (one (lacks_handles t) (every lacks_handles ts) all), of ts (two (lacks_handles t) (every lacks_handles ts) all)) refl
-      where
-        one : (a b : Bool) → (a && b) ≡ true → a ≡ true
-        one a b is = grind arith
-
-        two : (a b : Bool) → (a && b) ≡ true → b ≡ true
-        two a b is = grind arith
+    of (t ∷ ts) all = rw (empty t (first-true (lacks_handles t) (every lacks_handles ts) all), of ts (second-true (lacks_handles t) (every lacks_handles ts) all)) refl
 
 module _ (w : World) (s : IsSoundWorld w) (l : IsLinked w) (held : HasHeldRows w) (queues : HasOpenQueues w) (living : HasLivingHandles w) (pairs : HasKeptPairs w) (dead : (pid : ℕ) → is_live w pid ≡ false) where
   none : all_handles w ≡ []

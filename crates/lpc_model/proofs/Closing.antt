@@ -9,7 +9,7 @@ use Rattle.lpc_model.specs.Found.{is_own_of, is_queued, same_birth, waits_as}
 use Rattle.lpc_model.specs.Basics.{Basic, Cuts, Empties, Steps, Unbinds, Wakes, Withdraws, basic, doing, end_each, world_after, ◌▹◌}
 use Rattle.lpc_model.specs.Close.{close_port, cut_pair, drop_name, empty_queue, end_accepted, end_offered, end_receives, end_request, end_requests, is_accepted_across, is_offered_to, is_queued_request, is_receive_across, is_receiver, is_request_across, is_request_on, post_closed, wake}
 use Rattle.lpc_model.proofs.Rows.{every-left}
-use Rattle.lpc_model.proofs.SoundQueues.{after-append}
+use Rattle.lpc_model.proofs.StepsInTurn.{after-append}
 
 -- Steps in turn
 -- what the world behind both steps is

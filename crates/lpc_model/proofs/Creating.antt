@@ -57,7 +57,7 @@ abbrev pub threaded : World → ThreadRow → ℕ → ℕ → World
 threaded w by tid pid = basic w (AddsThread (new_thread tid pid (next_birth by)))
 
 -- a table of handles that is made behind others
-rows-behind : (hs : List HandleTable) (pid n : ℕ) (h : HandleRow) → has (is_table pid) hs ≡ true
+pub rows-behind : (hs : List HandleTable) (pid n : ℕ) (h : HandleRow) → has (is_table pid) hs ≡ true
     → rows_in (first (is_table pid) (change (is_table pid) (with_handle h) (hs ++ no_handles n ∷ []))) ≡ rows_in (first (is_table pid) (change (is_table pid) (with_handle h) hs))
 rows-behind hs pid n h home =
     rw (first-change (is_table pid) (is_table pid) (with_handle h) (λ t. refl) (hs ++ no_handles n ∷ []), first-change (is_table pid) (is_table pid) (with_handle h) (λ t. refl) hs, first-behind (is_table pid) hs (no_handles n ∷ []) home) refl

@@ -1,6 +1,6 @@
 -- Each line leaves client ports with a connection port, and with a connect of the thread that made them.
-use Rattle.std.proofs.Common.{◌≡◌, ℕ, List, [], ◌∷◌, Bool, true, false, cond, Option, Some, None, refl, arith}
-use Rattle.std.specs.Prelude.{Result, Ok, Err}
+use Rattle.std.proofs.Common.{◌≡◌, ℕ, List, [], ◌∷◌, Bool, true, false, cond, Option, Some, None, refl}
+use Rattle.std.specs.Prelude.{Result}
 use Rattle.std.specs.List.{AllByRecursion}
 use Rattle.lpc_base.specs.Rows.{every}
 use Rattle.lpc_base.proofs.RowWords.{every-append, every-change, every-more, every-push, every-without}
@@ -21,7 +21,7 @@ use Rattle.lpc_model.specs.Lines.{ScriptCall, ScriptLine, accept_connect_port, c
 use Rattle.lpc_model.specs.Machine.{Stepped, bare_steps, service_of, step}
 use Rattle.lpc_model.specs.Run.{said_in, trace}
 use Rattle.lpc_model.specs.Sweep.{sweep}
-use Rattle.lpc_model.proofs.Holding.{Holds, bind_holds, holds_ok}
+use Rattle.lpc_model.proofs.Holding.{Holds, bind_holds, holds-more, holds_ok}
 use Rattle.lpc_model.proofs.SteadySteps.{AreSteady, steady-enter}
 use Rattle.lpc_model.proofs.SteadyListen.{listen-steady}
 use Rattle.lpc_model.proofs.SteadyDatagram.{datagram-steady}
@@ -37,6 +37,7 @@ use Rattle.lpc_model.proofs.LinkedDuplicate.{duplicate-plain}
 use Rattle.lpc_model.proofs.LinkedLines.{create-process-plain, create-thread-plain, process-plain, thread-plain}
 use Rattle.lpc_model.proofs.SteadyRegister.{register-steady}
 use Rattle.lpc_model.proofs.EachLine.{line_holds, stepped, sweep_every}
+use Rattle.lpc_model.proofs.StepsInTurn.{steps-keep}
 
 -- Basic steps
 -- a step makes no client port without them
@@ -73,11 +74,7 @@ keeping-step w (Frees o) is k = freed-keeps w o.kind o.birth k
 keeping-step w b is k = k
 
 keeping-all : (w : World) (bs : List Basic) → AreKeeping bs → KeepsConnects w → KeepsConnects (world_after w bs)
-keeping-all w [] all k = k
-keeping-all w (b ∷ bs) all k =
-    let here : is_keeping b ≡ true = grind arith in
-    let later : every is_keeping bs ≡ true = grind arith in
-    keeping-all (basic w b) bs later (keeping-step w b here k)
+keeping-all = steps-keep is_keeping KeepsConnects keeping-step
 
 -- Steps that make no port
 plain-keeps : (b : Basic) → is_plain b ≡ true → is_keeping b ≡ true
@@ -88,12 +85,10 @@ steady-keeps : (b : Basic) → is_steady b ≡ true → is_keeping b ≡ true
 steady-keeps b is = plain-keeps b (steady-plain b is)
 
 plain_keep : (r : Result (List Basic) Status) → Holds ArePlain r → Holds AreKeeping r
-plain_keep (Ok bs) plain = every-more is_plain is_keeping plain-keeps bs plain
-plain_keep (Err s) plain = tt
+plain_keep r plain = holds-more ArePlain AreKeeping r (every-more is_plain is_keeping plain-keeps) plain
 
 steady_keep : (r : Result (List Basic) Status) → Holds AreSteady r → Holds AreKeeping r
-steady_keep (Ok bs) steady = every-more is_steady is_keeping steady-keeps bs steady
-steady_keep (Err s) steady = tt
+steady_keep r steady = holds-more AreSteady AreKeeping r (every-more is_steady is_keeping steady-keeps) steady
 
 -- Calls that make ports
 making-keeps : (w : World) (by : ThreadRow) (name : Option (List ℕ)) (value : ℕ) → Holds (λ made. AreKeeping (create_steps by made value)) (making w (next_birth by) name)

@@ -1,6 +1,6 @@
 -- Each line tells of the threads that end by it, once on each port that they registered, and of no other.
 use Rattle.std.proofs.Common.{◌≡◌, ◌∙◌, ℕ, ◌≤◌, List, [], ◌∷◌, ◌++◌, Bool, true, false, cond, map, not, Option, Some, None, refl, sym, ap, subst, arith, append-nil, append_assoc}
-use Rattle.std.specs.Prelude.{◌&&◌, ◌==◌, Result, Ok, Err}
+use Rattle.std.specs.Prelude.{◌&&◌, ◌==◌, Result, Ok}
 use Rattle.std.proofs.lemmas.Bool.Decides.{nat_tests}
 use Rattle.lpc_base.specs.Rows.{change, count, each, every, first, given, when, which}
 use Rattle.lpc_base.proofs.RowWords.{every-append, every-more, every-which}
@@ -34,7 +34,7 @@ use Rattle.lpc_model.specs.Sweep.{sweep}
 use Rattle.lpc_model.specs.SoundWaits.{IsSoundWorld}
 use Rattle.lpc_model.specs.Lines.{ProcArg, ScriptCall, ScriptLine, create_process, create_thread, register_thread_terminate_port, terminate_process, terminate_thread}
 use Rattle.lpc_model.specs.Machine.{bare_steps, service_of}
-use Rattle.lpc_model.proofs.Holding.{Holds, bind_holds, found_holds, holds_ok}
+use Rattle.lpc_model.proofs.Holding.{Holds, bind_holds, found_holds, holds-more, holds_ok}
 use Rattle.lpc_model.proofs.Usable.{CanCall}
 use Rattle.lpc_model.proofs.Creating.{process-made, thread-made}
 use Rattle.lpc_model.proofs.EachLine.{sound_line_holds, sweep_every}
@@ -463,9 +463,6 @@ pub live-found : (pid : ℕ) (front ts : List ThreadRow) → ((n : ℕ) → coun
 live-found pid front [] once = tt
 live-found pid front (t ∷ ts) once = at (lives_in pid t) refl (live-found pid (front ++ t ∷ []) ts)
   where
-    lives : (a b : Bool) → (a && b) ≡ true → b ≡ true
-    lives a b is = grind arith
-
     later : ((n : ℕ) → count (is_thread n) ((front ++ t ∷ []) ++ ts) ≤ 1)
     later n = subst (λ all. count (is_thread n) all ≤ 1) (one-more front ts t) (once n)
 
@@ -474,7 +471,7 @@ live-found pid front (t ∷ ts) once = at (lives_in pid t) refl (live-found pid 
 
     at : (c : Bool) → lives_in pid t ≡ c → (((n : ℕ) → count (is_thread n) ((front ++ t ∷ []) ++ ts) ≤ 1) → AreFound ((front ++ t ∷ []) ++ ts) (which (lives_in pid) ts)) → AreFound (front ++ t ∷ ts) (which (lives_in pid) (t ∷ ts))
     at true is rest =
-        rw is (middle-first front ts t (once t.number), lives (t.process == pid) t.live is, every-which (λ u. not (is_thread t.number u)) (lives_in pid) ts (none-pass (is_thread t.number) ts (after-none front ts t (once t.number))), back (rest later))
+        rw is (middle-first front ts t (once t.number), second-true (t.process == pid) t.live is, every-which (λ u. not (is_thread t.number u)) (lives_in pid) ts (none-pass (is_thread t.number) ts (after-none front ts t (once t.number))), back (rest later))
     at false is rest = rw is (back (rest later))
 
 -- a thread that a call is to end is the one of its number
@@ -501,8 +498,7 @@ process-deaths w by target code once =
     process-ends (TellsDeaths w) w by target code (λ pid own _. answered-deaths w by NtTerminateProcess own pid (code_status code) (live_threads w pid) (live-found pid [] w.threads once))
 
 undying_holds : (w : World) (r : Result (List Basic) Status) → Holds AreUndying r → Holds (TellsDeaths w) r
-undying_holds w (Ok bs) all = undying-tells w bs all
-undying_holds w (Err s) all = tt
+undying_holds w r all = holds-more AreUndying (TellsDeaths w) r (undying-tells w) all
 
 service-deaths : (w : World) (by : ThreadRow) (call : ScriptCall) → HasThreadsOnce w → CanCall w by → Holds (TellsDeaths w) (service_of w by call)
 service-deaths w by (create_process pid tid) once c = process-made (TellsDeaths w) w by pid tid (λ _ _. record { told = refl; registrations = refl; order = refl })

@@ -1,7 +1,8 @@
 -- The order of a line in which threads end: they end, then their registrations go and are told of, and then handles go.
 use Rattle.std.proofs.Common.{Bool, List, None, Option, Some, [], ap, arith, false, not, refl, subst, sym, true, ℕ, ◌++◌, ◌∙◌, ◌∷◌, ◌≡◌}
-use Rattle.std.specs.Prelude.{nat_le, ◌&&◌, ◌==◌}
+use Rattle.std.specs.Prelude.{nat_le, ◌==◌}
 use Rattle.std.proofs.lemmas.Bool.Decides.{nat_tests}
+use Rattle.std.proofs.lemmas.Bool.{and_from}
 use Rattle.lpc_base.specs.Rows.{each, every, first, given, when, which}
 use Rattle.lpc_base.specs.declared.status.Status.{Status}
 use Rattle.lpc_base.specs.declared.status.TheConstants.{LPC_REPLY_LOST, PORT_DISCONNECTED, SUCCESS}
@@ -29,7 +30,7 @@ alike-rise k (n ∷ ns) all = grind (arith, nat_tests, alike-rise k ns, least k 
 
 both-rise : (k : ℕ) (ns ms : List ℕ) → every (λ n. nat_le n k) ns ≡ true → every (nat_le k) ms ≡ true → rises ns ≡ true → rises ms ≡ true → rises (ns ++ ms) ≡ true
 both-rise k [] ms low high one two = two
-both-rise k (n ∷ ns) ms low high one two = both _ _ (every-append (nat_le n) ns ms here above) (both-rise k ns ms later high rest two)
+both-rise k (n ∷ ns) ms low high one two = and_from _ _ (every-append (nat_le n) ns ms here above) (both-rise k ns ms later high rest two)
   where
     here : every (nat_le n) ns ≡ true
     here = grind arith
@@ -45,9 +46,6 @@ both-rise k (n ∷ ns) ms low high one two = both _ _ (every-append (nat_le n) n
 
     above : every (nat_le n) ms ≡ true
     above = every-more (nat_le k) (nat_le n) (λ m more. grind (arith, nat_tests, least)) ms high
-
-    both : (a b : Bool) → a ≡ true → b ≡ true → (a && b) ≡ true
-    both a b one two = grind arith
 
 -- Ranks of steps
 ranks-both : (xs ys : List Basic) → each rank_of (xs ++ ys) ≡ each rank_of xs ++ each rank_of ys
@@ -152,11 +150,8 @@ given-rank m x =
     (λ x r reply. every-append (has_rank 1) (received_steps m) _ (receipt-rank m) refl) x
 
 enter-rank : (m : MessageRow) (w : World) → every (has_rank 1) (enter m w) ≡ true
-enter-rank m w = both _ _ (posts (is_died_post m)) (at (first (takes m) w.waits))
+enter-rank m w = and_from _ _ (posts (is_died_post m)) (at (first (takes m) w.waits))
   where
-    both : (a b : Bool) → a ≡ true → b ≡ true → (a && b) ≡ true
-    both a b one two = grind arith
-
     posts : (died : Bool) → every (λ n. n == 1) (when died (1 ∷ [])) ≡ true
     posts true = refl
     posts false = refl

@@ -1,11 +1,12 @@
 -- Where a receive waits no message stands, and what enters there it takes: a message that enters a queue is in balance.
 use Rattle.std.proofs.Common.{◌≡◌, ◌∙◌, ℕ, ◌+◌, ◌≤◌, append_assoc, List, [], ◌∷◌, ◌++◌, Bool, true, false, not, Option, Some, None, ap, refl, sym, subst, arith}
-use Rattle.std.proofs.lemmas.Bool.{eq-eqb}
+use Rattle.std.proofs.lemmas.Bool.{and_from, eq-eqb, or_left}
 use Rattle.std.specs.Prelude.{◌&&◌, ◌||◌, option_map}
 use Rattle.lpc_base.specs.Rows.{count, every, first, given, has, passes, when, without, without_first}
 use Rattle.lpc_base.proofs.RowWords.{count-append, every-append, every-change, every-more, every-push, every-without, first-passes, has_none-more, has_none-push, has_none-without, has_none-without_first, none-counted}
 use Rattle.lpc_base.proofs.RowMaps.{every-both, every-first, every-none}
 use Rattle.lpc_base.proofs.Births.{birth-same, birth-self, births-apart}
+use Rattle.lpc_base.proofs.Bools.{first-true}
 use Rattle.lpc_base.specs.declared.birth.Birth.{Birth}
 use Rattle.lpc_base.specs.declared.status.TheConstants.{SUCCESS}
 use Rattle.lpc_model.specs.declared.entry.Entry.TheVariants as entry
@@ -64,10 +65,7 @@ freed-dry w v kind.Thread b dry = dry
 dry-step : (w v : World) (b : Basic) → is_soft b ≡ true → HasDryQueues w v → HasDryQueues w (basic v b)
 dry-step w v (Wakes who call status fields) is dry = every-without (is_dry w v) (waits_as who) v.waits dry
 dry-step w v (Dies who status) is dry = every-without (is_dry w v) (waits_as who) v.waits dry
-dry-step w v (Awaits x) is dry = every-push (is_dry w v) v.waits x dry (either (not (is_receive x)) _ is)
-  where
-    either : (a b : Bool) → a ≡ true → (a || b) ≡ true
-    either a b is = grind arith
+dry-step w v (Awaits x) is dry = every-push (is_dry w v) v.waits x dry (or_left (not (is_receive x)) _ is)
 dry-step w v (Receives who queue) is dry = every-change (is_dry w v) (waits_at who queue) received (λ x one. one) v.waits dry
 dry-step w v (Accepts who reply) is dry = every-change (is_dry w v) (waits_as who) (accepted reply) (accepted-dry w v reply) v.waits dry
 dry-step w v (Takes queue) is dry = fewer-dry w v (without_first (is_queued queue) v.messages) (λ q off. has_none-without_first (is_queued q) (is_queued queue) v.messages off) dry
@@ -107,15 +105,12 @@ pushed-off q ms m other off = has_none-push (is_queued q) ms m off other
 connect-off : (q : Birth) (ms : List MessageRow) (m : MessageRow) → is_connection_request m.message ≡ true → has (is_queued q) ms ≡ false → has (is_queued q) (without_first (is_queued_connect m.queue) (ms ++ m ∷ [])) ≡ false
 connect-off q ms m connects off = at (same_birth m.queue q) refl
   where
-    both : (a b : Bool) → a ≡ true → b ≡ true → (a && b) ≡ true
-    both a b one two = grind arith
-
     at : (c : Bool) → same_birth m.queue q ≡ c → has (is_queued q) (without_first (is_queued_connect m.queue) (ms ++ m ∷ [])) ≡ false
     at false other = has_none-without_first (is_queued q) (is_queued_connect m.queue) (ms ++ m ∷ []) (pushed-off q ms m other off)
     at true is =
         let same : m.queue ≡ q = birth-same m.queue q is in
         let none : has (is_queued_connect m.queue) ms ≡ false = rw same (has_none-more (is_queued q) (is_queued_connect q) (λ x off. grind (arith, off)) ms off) in
-        let all : without_first (is_queued_connect m.queue) (ms ++ m ∷ []) ≡ ms = without_first-push (is_queued_connect m.queue) ms m none (both (same_birth m.queue m.queue) (is_connection_request m.message) (birth-self m.queue) connects) in
+        let all : without_first (is_queued_connect m.queue) (ms ++ m ∷ []) ≡ ms = without_first-push (is_queued_connect m.queue) ms m none (and_from (same_birth m.queue m.queue) (is_connection_request m.message) (birth-self m.queue) connects) in
         rw all off
 
 pub count-one : {X : Type 0} (p : X → Bool) (x : X) → count p (x ∷ []) ≡ one_if (p x)
@@ -190,7 +185,7 @@ module _ (s : Receipt) (quiet : asks (message_of s.bytes) ≡ false) (w : World)
       enter-receive v m (record x { kind = Receive })
       (subst (λ q. has (is_queued q) v.messages ≡ false) same (off-part (has (is_queued x.queue) v.messages) (is_the x.queue (waited_on w x.thread)) one))
       (subst (λ q. is_the q (waited_on w x.thread) ≡ true) same (second-part (has (is_queued x.queue) v.messages) (is_the x.queue (waited_on w x.thread)) one)) dry)
-      (λ x is one dry. enter-listen v m (record x { kind = Listen }) (first-part (is_connection_request m.message) (same_birth x.queue m.queue) is) dry)
+      (λ x is one dry. enter-listen v m (record x { kind = Listen }) (first-true (is_connection_request m.message) (same_birth x.queue m.queue) is) dry)
       (λ x r is one dry. absurd (cc))
       (λ x r reply is one dry. absurd (cc))
     where
@@ -199,9 +194,6 @@ module _ (s : Receipt) (quiet : asks (message_of s.bytes) ≡ false) (w : World)
 
       second-part : (a b : Bool) → (not a && b) ≡ true → b ≡ true
       second-part a b is = grind arith
-
-      first-part : (a b : Bool) → (a && b) ≡ true → a ≡ true
-      first-part a b is = grind arith
 
   pub entered : (v : World) (m : MessageRow) → HasDryQueues w v → IsEntered v (enter m v)
   entered v m dry = at (first (takes m) v.waits) refl
@@ -229,12 +221,9 @@ own-wait all front (x ∷ xs) once same =
     let one : 1 ≤ count (waits_as n) (x ∷ xs) = counts-first (waits_as n) x xs own in
     let none : has (waits_as n) front ≡ false = none-counted (waits_as n) front (omega arith) in
     let found : first (waits_as n) all ≡ Some x = ap (first (waits_as n)) same ∙ first-behind (waits_as n) front x xs none own in
-    both (is_the x.queue (option_map (λ (y : WaitRow). y.queue) (first (waits_as n) all))) _ (rw found (birth-self x.queue))
+    and_from (is_the x.queue (option_map (λ (y : WaitRow). y.queue) (first (waits_as n) all))) _ (rw found (birth-self x.queue))
     (own-wait all (front ++ x ∷ []) xs once (same ∙ sym (append_assoc front (x ∷ []) xs)))
   where
-    both : (a b : Bool) → a ≡ true → b ≡ true → (a && b) ≡ true
-    both a b one two = grind arith
-
     counts-first : (p : WaitRow → Bool) (x : WaitRow) (xs : List WaitRow) → p x ≡ true → 1 ≤ count p (x ∷ xs)
     counts-first p x xs is = grind (arith, is)
 

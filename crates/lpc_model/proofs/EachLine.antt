@@ -21,8 +21,8 @@ use Rattle.lpc_model.specs.SoundWaits.{IsSoundWorld}
 use Rattle.lpc_model.specs.Sweep.{free_unheld, sweep, unheld}
 use Rattle.lpc_model.proofs.Creating.{tested-further}
 use Rattle.lpc_model.proofs.Holding.{Holds, bind_holds, directed_holds, holds_ok, not_refused, settled_holds}
-use Rattle.lpc_model.proofs.SoundQueues.{after-append}
 use Rattle.lpc_model.proofs.Usable.{CanCall, can-call}
+use Rattle.lpc_model.proofs.StepsInTurn.{after-append}
 
 -- what holds of each directive that isn't refused
 pub record EachDirective (w : World) (P : List Basic → Type 0) : Type 0 where

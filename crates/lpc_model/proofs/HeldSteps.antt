@@ -1,13 +1,13 @@
 -- What steps do to the counts of rows that name an object: where none of them falls, what was named is named.
 use Rattle.std.proofs.Common.{Bool, List, [], ap, arith, cond, false, not, refl, true, ℕ, ◌++◌, ◌+◌, ◌∷◌, ◌≡◌, ◌≤◌}
-use Rattle.std.specs.Prelude.{◌&&◌, ◌||◌, ◌==◌, nat_lt, Result, Ok, Err}
+use Rattle.std.specs.Prelude.{◌&&◌, ◌||◌, ◌==◌, nat_lt, Result}
 use Rattle.lpc_base.specs.declared.status.Status.{Status}
-use Rattle.lpc_model.proofs.Holding.{Holds}
+use Rattle.lpc_model.proofs.Holding.{Holds, holds-more}
 use Rattle.std.proofs.lemmas.Bool.Decides.{nat_tests}
 use Rattle.std.proofs.Math.Bool.{or-true}
 use Rattle.lpc_base.specs.Rows.{change, count, each, every, has, which}
 use Rattle.lpc_base.proofs.RowWords.{count-append, count-push, every-change, every-more}
-use Rattle.lpc_base.proofs.Bools.{number-apart}
+use Rattle.lpc_base.proofs.Bools.{first-true, number-apart, second-true}
 use Rattle.lpc_model.specs.World.{Birth, HandleRow, HandleTable, ObjectName, PortRow, ProcessRow, ThreadRow, World}
 use Rattle.lpc_model.specs.Found.{all_registrations, free_handle, handle_count, has_value, is_connected_to, is_life, is_made_on, is_paired_to, is_port, is_sent_on, is_table, is_thread, lives_by, pointer_count, port_name, process_name, registered_by, same_birth, same_object, thread_name, waits_as, waits_at}
 use Rattle.lpc_model.specs.Basics.{Accepts, AddsHandle, AddsProcess, AddsThread, Awaits, Basic, Binds, Completes, Cuts, Dies, DrawsIdentifier, DrawsOrdinal, DropsHandle, Empties, Enters, Frees, Joins, Makes, Receives, Registers, Takes, TakesConnect, Tells, Unbinds, Unregisters, Wakes, Withdraws, accepted, basic, completed, past_identifier, past_ordinal, put_handle, received, registering, unregistering, with_handle, world_after}
@@ -18,6 +18,7 @@ use Rattle.lpc_model.proofs.Rows.{count-change}
 use Rattle.lpc_model.proofs.Handles.{alone, value-free}
 use Rattle.lpc_model.proofs.Registrations.{more-each, registering-more, same-each}
 use Rattle.lpc_model.proofs.LinkedSteps.{is_steady}
+use Rattle.lpc_model.proofs.StepsInTurn.{steps-keep}
 
 -- Counts
 pub held-more : (a b : ℕ) → a ≤ b → not (a == 0) ≡ true → not (b == 0) ≡ true
@@ -59,14 +60,8 @@ put-count p h rows none =
 handles-count : (pid : ℕ) (h : HandleRow) (p : HandleRow → Bool) (ts : List HandleTable) → every (λ t. not (is_table pid t && has (has_value h.value) t.rows)) ts ≡ true
     → count p (each (λ t. t.rows) ts) ≤ count p (each (λ t. t.rows) (change (is_table pid) (with_handle h) ts))
 handles-count pid h p [] lacks = omega arith
-handles-count pid h p (t ∷ ts) lacks = at (is_table pid t) refl (handles-count pid h p ts (second _ _ lacks)) (first _ _ lacks)
+handles-count pid h p (t ∷ ts) lacks = at (is_table pid t) refl (handles-count pid h p ts (second-true _ _ lacks)) (first-true _ _ lacks)
   where
-    first : (a b : Bool) → (a && b) ≡ true → a ≡ true
-    first a b is = grind arith
-
-    second : (a b : Bool) → (a && b) ≡ true → b ≡ true
-    second a b is = grind arith
-
     sums : (a b c d n m : ℕ) → n ≡ a + b → m ≡ c + d → a ≤ c → b ≤ d → n ≤ m
     sums a b c d n m one two front back = omega (arith, one, two, front, back)
 
@@ -152,11 +147,7 @@ lives-step w (Frees o) is held = absurd (cc)
 lives-step w b is held = record { threads = held.threads; processes = held.processes }
 
 pub lives-all : (w : World) (bs : List Basic) → every keeps_lives bs ≡ true → AreLivesHeld w → AreLivesHeld (world_after w bs)
-lives-all w [] all held = held
-lives-all w (b ∷ bs) all held =
-    let here : keeps_lives b ≡ true = grind arith in
-    let later : every keeps_lives bs ≡ true = grind arith in
-    lives-all (basic w b) bs later (lives-step w b here held)
+lives-all = steps-keep keeps_lives AreLivesHeld lives-step
 
 -- a process gets a handle of a value that is free in it
 pub lives-handle : (w : World) (pid : ℕ) (object : ObjectName) (access : ℕ) → count (is_table pid) w.handles ≤ 1 → AreLivesHeld w → AreLivesHeld (basic w (AddsHandle pid (handle_row (free_handle w pid) object access)))
@@ -253,9 +244,7 @@ abbrev pub KeepQuiet : World → List Basic → Type 0
 KeepQuiet w bs = loosened false bs ≡ false → HasHeldPorts (world_after w bs)
 
 pub steady_lives : (w : World) (r : Result (List Basic) Status) → AreLivesHeld w → Holds (λ bs. every is_steady bs ≡ true) r → Holds (KeepLives w) r
-steady_lives w (Ok bs) held steady = lives-all w bs (every-more is_steady keeps_lives steady-keeps bs steady) held
-steady_lives w (Err s) held steady = tt
+steady_lives w r held steady = holds-more (λ bs. every is_steady bs ≡ true) (KeepLives w) r (λ bs steady. lives-all w bs (every-more is_steady keeps_lives steady-keeps bs steady) held) steady
 
 pub steady_quiet : (w : World) (r : Result (List Basic) Status) → HasHeldPorts w → Holds (λ bs. every is_steady bs ≡ true) r → Holds (KeepQuiet w) r
-steady_quiet w (Ok bs) held steady = λ quiet. quiet-all w bs steady quiet held
-steady_quiet w (Err s) held steady = tt
+steady_quiet w r held steady = holds-more (λ bs. every is_steady bs ≡ true) (KeepQuiet w) r (λ bs steady. λ quiet. quiet-all w bs steady quiet held) steady

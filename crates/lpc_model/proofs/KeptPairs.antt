@@ -8,6 +8,7 @@ use Rattle.lpc_base.specs.declared.status.TheConstants.{INVALID_HANDLE}
 use Rattle.lpc_base.proofs.RowWords.{every-append, every-change, every-more, every-push, every-without, has-kept}
 use Rattle.lpc_base.proofs.RowMaps.{every-change_to, every-map}
 use Rattle.lpc_base.proofs.Births.{birth-same, births-apart}
+use Rattle.lpc_base.proofs.Bools.{first-off, second-off}
 use Rattle.lpc_model.specs.declared.entry.CallName.TheVariants.{NtTerminateProcess, NtTerminateThread}
 use Rattle.lpc_model.specs.declared.entry.ObjectKind.TheVariants as kind
 use Rattle.lpc_model.specs.declared.entry.Word.TheVariants as word
@@ -26,11 +27,10 @@ use Rattle.lpc_model.specs.Lines.{ProcArg, ScriptCall, ScriptLine, accept_connec
 use Rattle.lpc_model.specs.Machine.{bare_steps, service_of, step}
 use Rattle.lpc_model.specs.SoundWaits.{IsSoundWorld}
 use Rattle.lpc_model.specs.Left.{HasKeptPairs, is_kept_pair}
-use Rattle.lpc_model.proofs.Holding.{Holds, bind_holds, found_ok, holds_ok}
+use Rattle.lpc_model.proofs.Holding.{Holds, bind_holds, found_ok, holds-more, holds_ok}
 use Rattle.lpc_model.proofs.Usable.{CanCall}
 use Rattle.lpc_model.proofs.Handles.{open-add, open-new}
 use Rattle.lpc_model.proofs.Closing.{behind, takes_away}
-use Rattle.lpc_model.proofs.SoundQueues.{after-append}
 use Rattle.lpc_model.proofs.SoundClosing.{close-shut}
 use Rattle.lpc_model.proofs.SoundClose.{OpensBut, but-opens, found-value, shut-found, still-open}
 use Rattle.lpc_model.proofs.SoundTerminate.{IsSafe, die-safe, enter-safe, handle-safe, sound-of, unregister-safe}
@@ -50,6 +50,8 @@ use Rattle.lpc_model.specs.Targets.{LIFE_ACCESS}
 use Rattle.lpc_model.proofs.SoundBasics.{sound-ordinal, sound-process}
 use Rattle.lpc_model.proofs.Rows.{count-change}
 use Rattle.lpc_model.proofs.EachLine.{passing_directives, sound_line_holds, stepped, sweep_every}
+use Rattle.lpc_model.proofs.SoundWorlds.{kept-pair-open}
+use Rattle.lpc_model.proofs.StepsInTurn.{after-append, steps-keep}
 
 -- Steps
 -- a step that keeps it whatever the world: it gives and takes no handle, joins nothing, and makes ports without other ends
@@ -63,15 +65,11 @@ is_pairing b = true
 abbrev ArePairing : List Basic → Type 0
 ArePairing bs = every is_pairing bs ≡ true
 
-option-open : (w v : World) → ((b : Birth) → is_open w b ≡ true → is_open v b ≡ true) → (o : Option Birth) → passes o (is_open w) ≡ true → passes o (is_open v) ≡ true
-option-open w v opens None is = absurd (cc)
-option-open w v opens (Some b) is = opens b is
-
 kept-parts : (c a b x y : Bool) → (a ≡ true → b ≡ true) → (x ≡ true → y ≡ true) → (c || (a || x)) ≡ true → (c || (b || y)) ≡ true
 kept-parts c a b x y one two is = grind (arith, one, two)
 
 kept-more : (w v : World) → ((b : Birth) → is_open w b ≡ true → is_open v b ≡ true) → (p : PortRow) → is_kept_pair w p ≡ true → is_kept_pair v p ≡ true
-kept-more w v opens p is = kept-parts (is_cut p) (is_open w p.birth) (is_open v p.birth) (passes p.pair (is_open w)) (passes p.pair (is_open v)) (opens p.birth) (option-open w v opens p.pair) is
+kept-more w v opens p is = kept-parts (is_cut p) (is_open w p.birth) (is_open v p.birth) (passes p.pair (is_open w)) (passes p.pair (is_open v)) (opens p.birth) (kept-pair-open w v opens p.pair) is
 
 freed-pairs : (w : World) (k : ObjectKind) (b : Birth) → HasKeptPairs w → HasKeptPairs (freed w k b)
 freed-pairs w kind.Port b k = every-without (is_kept_pair w) (is_port b) w.ports k
@@ -92,11 +90,7 @@ pair-step w (DropsHandle pid value) is k = absurd (cc)
 pair-step w b is k = k
 
 pair-all : (w : World) (bs : List Basic) → ArePairing bs → HasKeptPairs w → HasKeptPairs (world_after w bs)
-pair-all w [] all k = k
-pair-all w (b ∷ bs) all k =
-    let here : is_pairing b ≡ true = grind arith in
-    let later : every is_pairing bs ≡ true = grind arith in
-    pair-all (basic w b) bs later (pair-step w b here k)
+pair-all = steps-keep is_pairing HasKeptPairs pair-step
 
 pair-handle : (w : World) (pid : ℕ) (object : ObjectName) (access : ℕ) → count (is_table pid) w.handles ≤ 1 → HasKeptPairs w → HasKeptPairs (basic w (AddsHandle pid (handle_row (free_handle w pid) object access)))
 pair-handle w pid object access one k =
@@ -132,15 +126,9 @@ pair-closed w pid r at s k = by_last (is_last r w) refl
     other-end v u b opens None off is = absurd (cc)
     other-end v u b opens (Some c) off is = opens c (births-apart b c off) is
 
-    first_off : (x y : Bool) → (x || y) ≡ false → x ≡ false
-    first_off x y is = grind arith
-
-    second_off : (x y : Bool) → (x || y) ≡ false → y ≡ false
-    second_off x y is = grind arith
-
     elsewhere : (v u : World) (b : Birth) → OpensBut v u b → (p : PortRow) → is_kept_pair v p ≡ true → is_end_of b p ≡ false → is_kept_pair u p ≡ true
     elsewhere v u b opens p was off =
-        kept-parts (is_cut p) (is_open v p.birth) (is_open u p.birth) (passes p.pair (is_open v)) (passes p.pair (is_open u)) (opens p.birth (first_off (is_port b p) (is_paired_to b p) off)) (other-end v u b opens p.pair (second_off (is_port b p) (is_paired_to b p) off)) was
+        kept-parts (is_cut p) (is_open v p.birth) (is_open u p.birth) (passes p.pair (is_open v)) (passes p.pair (is_open u)) (opens p.birth (first-off (is_port b p) (is_paired_to b p) off)) (other-end v u b opens p.pair (second-off (is_port b p) (is_paired_to b p) off)) was
 
     by_last : (last : Bool) → is_last r w ≡ last → HasKeptPairs (world_after w (when last (close_port r.object.birth w) ++ DropsHandle pid r.value ∷ []))
     by_last true is =
@@ -167,8 +155,7 @@ steady-pairing (DropsHandle pid value) is = absurd (cc)
 steady-pairing b is = refl
 
 steady_pairs : (w : World) (r : Result (List Basic) Status) → HasKeptPairs w → Holds AreSteady r → Holds (KeepPairs w) r
-steady_pairs w (Ok bs) k all = pair-all w bs (every-more is_steady is_pairing steady-pairing bs all) k
-steady_pairs w (Err s) k all = tt
+steady_pairs w r k all = holds-more AreSteady (KeepPairs w) r (λ bs all. pair-all w bs (every-more is_steady is_pairing steady-pairing bs all) k) all
 
 making-pairs : (w : World) (by : ThreadRow) (name : Option (List ℕ)) → IsSoundWorld w → HasKeptPairs w → Holds (λ made. KeepPairs w (create_steps by made (free_handle w by.process))) (making w (next_birth by) name)
 making-pairs w by None s k = pair-handle (basic (basic w (DrawsOrdinal by.number)) (Makes _)) by.process (port_name (next_birth by)) PORT_ACCESS (s.tables by.process) (every-push (is_kept_pair w) w.ports _ k refl)

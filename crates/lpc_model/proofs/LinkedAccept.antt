@@ -2,6 +2,7 @@
 use Rattle.std.proofs.Common.{◌≡◌, ℕ, List, [], ◌∷◌, Bool, true, false, not, Option, Some, None, refl, subst, arith}
 use Rattle.std.specs.Prelude.{◌&&◌, ◌||◌, ◌==◌, is_some}
 use Rattle.std.proofs.lemmas.Bool.Decides.{nat_tests}
+use Rattle.std.proofs.Math.Bool.{or-true}
 use Rattle.lpc_base.specs.Rows.{first, has, passes}
 use Rattle.lpc_base.proofs.RowWords.{first-passes}
 use Rattle.lpc_base.proofs.RowMaps.{every-both, every-first, every-none}
@@ -27,10 +28,7 @@ use Rattle.lpc_model.proofs.LinkedCalls.{KeepLinked, unmade}
 -- other connects wait elsewhere
 elsewhere : (w : World) (by : ThreadRow) (x y : WaitRow) → (x.port.maker == x.thread) ≡ true → can_stay_sound w y ≡ true → not (waits_as by.number y) ≡ true → (waits_as x.thread y || (not (is_offered y) || (not (same_birth y.port x.port) && not (same_birth y.port (next_birth by))))) ≡ true
 elsewhere w by x y own = by_kind (λ y. can_stay_sound w y ≡ true → not (waits_as by.number y) ≡ true → (waits_as x.thread y || (not (is_offered y) || (not (same_birth y.port x.port) && not (same_birth y.port (next_birth by))))) ≡ true)
-    (λ y m is off. right _) (λ y is off. right _) (λ y is off. right _) (λ y m is off. grind (arith, nat_tests)) (λ y m r is off. right _) y
-  where
-    right : (a : Bool) → (a || true) ≡ true
-    right a = grind arith
+    (λ y m is off. or-true _) (λ y is off. or-true _) (λ y is off. or-true _) (λ y m is off. grind (arith, nat_tests)) (λ y m r is off. or-true _) y
 
 pub lone-parts : (w : World) (x : WaitRow) → is_offered x ≡ true → is_lone_offer w x ≡ true → (is_root_port w x.queue ≡ true) × (passes (port_row w x.port) is_unjoined ≡ true)
 lone-parts w x of lone = (one _ _ _ of lone, two _ _ _ of lone)

@@ -1,6 +1,6 @@
 -- What the calls share: the steps of a call keep ports linked, and a port that a call makes is new.
 use Rattle.std.proofs.Common.{◌≡◌, List, true, false, not, arith}
-use Rattle.std.specs.Prelude.{Result, Ok, Err}
+use Rattle.std.specs.Prelude.{Result}
 use Rattle.std.proofs.lemmas.Bool.Decides.{nat_tests}
 use Rattle.lpc_base.specs.Rows.{every, has}
 use Rattle.lpc_base.proofs.RowWords.{every-more}
@@ -9,7 +9,7 @@ use Rattle.lpc_model.specs.World.{PortRow, ThreadRow, World}
 use Rattle.lpc_model.specs.Basics.{Basic, world_after}
 use Rattle.lpc_model.specs.Tests.{next_birth}
 use Rattle.lpc_model.specs.SoundWaits.{IsSoundWorld}
-use Rattle.lpc_model.proofs.Holding.{Holds}
+use Rattle.lpc_model.proofs.Holding.{Holds, holds-more}
 use Rattle.lpc_model.specs.Found.{is_port}
 use Rattle.lpc_model.specs.Linked.{IsLinked}
 use Rattle.lpc_model.specs.SoundWaits.{is_past}
@@ -28,15 +28,13 @@ KeepLinked w bs = IsLinked (world_after w bs)
 
 -- a call whose steps are plain, or steady
 pub plain_holds : (w : World) (r : Result (List Basic) Status) → IsLinked w → Holds ArePlain r → Holds (KeepLinked w) r
-plain_holds w (Ok bs) l plain = plain-all w bs plain l
-plain_holds w (Err s) l plain = tt
+plain_holds w r l plain = holds-more ArePlain (KeepLinked w) r (λ bs plain. plain-all w bs plain l) plain
 
 pub steady-all : (w : World) (bs : List Basic) → AreSteady bs → IsLinked w → IsLinked (world_after w bs)
 steady-all w bs steady l = plain-all w bs (every-more is_steady is_plain steady-plain bs steady) l
 
 pub steady_holds : (w : World) (r : Result (List Basic) Status) → IsLinked w → Holds AreSteady r → Holds (KeepLinked w) r
-steady_holds w (Ok bs) l steady = steady-all w bs steady l
-steady_holds w (Err s) l steady = tt
+steady_holds w r l steady = holds-more AreSteady (KeepLinked w) r (λ bs steady. steady-all w bs steady l) steady
 
 -- Ports that are made
 -- no port has the birth of what a thread makes next

@@ -2,10 +2,12 @@
 use Rattle.std.proofs.Common.{◌≡◌, ◌∙◌, ℕ, ◌+◌, ◌≤◌, List, [], ◌∷◌, Bool, true, false, cond, map, not, Option, Some, None, refl, sym, subst, arith}
 use Rattle.std.specs.Prelude.{◌&&◌, ◌||◌, is_none, is_some}
 use Rattle.std.proofs.lemmas.Bool.Decides.{nat_tests}
+use Rattle.std.proofs.lemmas.Bool.{and_from, not-true}
 use Rattle.lpc_base.specs.Rows.{count, every, first, passes, without}
 use Rattle.lpc_base.proofs.RowWords.{every-more, every-without, first-passes}
 use Rattle.lpc_base.proofs.RowMaps.{every-both, every-change_to, every-map}
 use Rattle.lpc_base.proofs.Births.{birth-same, births-apart}
+use Rattle.lpc_base.proofs.Bools.{first-true, second-true}
 use Rattle.lpc_names.specs.Walk.{LinkTo, Stands}
 use Rattle.lpc_names.specs.declared.names.Found.TheVariants.{Directory, Item}
 use Rattle.lpc_model.specs.declared.entry.ObjectKind.TheVariants as kind
@@ -15,13 +17,14 @@ use Rattle.lpc_model.specs.Basics.{Accepts, Frees, Joins, accepted, basic, freed
 use Rattle.lpc_model.specs.Sweep.{free_unheld, is_unheld, sweep, unheld}
 use Rattle.lpc_model.specs.Linked.{IsLinked, is_root_port, is_lone_offer, is_mutual, is_rooted, is_unjoined, leads_to_root, names_nothing, passes_or_none}
 use Rattle.lpc_model.specs.SoundWaits.{IsSoundWorld, is_sound_wait, leads_open}
-use Rattle.lpc_model.proofs.Rows.{count-less, first-map}
-use Rattle.lpc_model.proofs.SoundTies.{joined-birth, same-port}
+use Rattle.lpc_model.proofs.Rows.{count-less}
+use Rattle.lpc_model.proofs.SoundTies.{joined-birth}
 use Rattle.lpc_model.proofs.SoundWorlds.{by_kind}
-use Rattle.lpc_model.proofs.SoundQueues.{after-append}
 use Rattle.lpc_model.proofs.Handles.{open-count}
 use Rattle.lpc_model.proofs.SoundFrees.{freed-sound, is-zero, less-held, none-pass, sum-first, sum-second, which-all}
 use Rattle.lpc_model.proofs.LinkedSteps.{count-mapped, leads-kept, linked-same, offer-kept, option-kept}
+use Rattle.lpc_model.proofs.SoundPorts.{joined-row}
+use Rattle.lpc_model.proofs.StepsInTurn.{after-append}
 
 -- A connection that is accepted
 joined-connection : (client server : Birth) (context : ℕ) (p : PortRow) → (joined client server context p).connection ≡ p.connection
@@ -50,13 +53,9 @@ unjoined-other w d c r is here off = at (is_port d r) refl
         let was : is_unjoined r ≡ true = rw row at is in absurd (cc)
     at false same = refl
 
-pub row-joined : (w : World) (client server : Birth) (context : ℕ) (c : Birth) (p : PortRow) → port_row w c ≡ Some p → port_row (basic w (Joins client server context)) c ≡ Some (joined client server context p)
-row-joined w client server context c p here =
-    first-map (is_port c) (joined client server context) (λ p. same-port c p (joined client server context p) (joined-birth client server context p)) w.ports p here
-
 -- a port that isn't one of the two stands as it was
 other-row : (w : World) (client server : Birth) (context : ℕ) (c : Birth) (r : PortRow) → port_row w c ≡ Some r → is_port client r ≡ false → is_port server r ≡ false → port_row (basic w (Joins client server context)) c ≡ Some r
-other-row w client server context c r here one two = rw (one, two) at (row-joined w client server context c r here)
+other-row w client server context c r here one two = rw (one, two) at (joined-row w client server context c r here)
 
 module _ (w : World) (client server : Birth) (context who : ℕ) (reply : List ℕ) (can : CanJoin w client server who) (l : IsLinked w) where
   abbrev joined_world : World
@@ -106,7 +105,7 @@ module _ (w : World) (client server : Birth) (context who : ℕ) (reply : List �
       at None none stands = absurd (cc)
       at (Some r) here stands =
           let own = first-passes (is_port client) w.ports r here in
-          let row : port_row joined_world client ≡ Some (paired server context r) = rw own at (row-joined w client server context client r here) in
+          let row : port_row joined_world client ≡ Some (paired server context r) = rw own at (joined-row w client server context client r here) in
           rw row is
 
   server-pair : (b : Birth) → same_birth b client ≡ true → is_the b (pair_of joined_world server) ≡ true
@@ -117,7 +116,7 @@ module _ (w : World) (client server : Birth) (context who : ℕ) (reply : List �
       at (Some r) here stands =
           let own = first-passes (is_port server) w.ports r here in
           let other : is_port client r ≡ false = subst (λ d. same_birth d client ≡ false) (sym (birth-same r.birth server own)) (turned client server can.apart) in
-          let row : port_row joined_world server ≡ Some (paired client context r) = rw (other, own) at (row-joined w client server context server r here) in
+          let row : port_row joined_world server ≡ Some (paired client context r) = rw (other, own) at (joined-row w client server context server r here) in
           rw row is
         where
           turned : (a b : Birth) → same_birth a b ≡ false → same_birth b a ≡ false
@@ -168,18 +167,9 @@ module _ (w : World) (client server : Birth) (context who : ℕ) (reply : List �
     pairs = rw (every-map (is_mutual joined_world) (joined client server context) w.ports) (every-more (is_mutual w) (λ p. is_mutual joined_world (joined client server context p)) mutual-joined w.ports l.pairs);
     rooted = rw (every-map (is_rooted joined_world) (joined client server context) w.ports) (every-more (is_rooted w) (λ p. is_rooted joined_world (joined client server context p)) (λ p is. rw (joined-connection client server context p) (option-kept p.connection _ _ ends-joined is)) w.ports l.rooted);
     offers = every-change_to (λ x. is_lone_offer w x && is_other x) (is_lone_offer joined_world) (waits_as who) (accepted reply) (λ x _ _. accepted-lone x) (λ x both off. offer-joined x (first-true _ _ both) (second-true _ _ both) off) w.waits
-        (every-both (is_lone_offer w) is_other (λ x. is_lone_offer w x && is_other x) (λ x one two. both-true _ _ one two) w.waits l.offers can.others);
+        (every-both (is_lone_offer w) is_other (λ x. is_lone_offer w x && is_other x) (λ x one two. and_from _ _ one two) w.waits l.offers can.others);
     targets = every-more (λ b. leads_to_root w b.1) (λ b. leads_to_root joined_world b.1) (λ x. leads-kept w joined_world ends-joined x.1) w.bindings l.targets;
   }
-    where
-      first-true : (x y : Bool) → (x && y) ≡ true → x ≡ true
-      first-true x y is = grind arith
-
-      second-true : (x y : Bool) → (x && y) ≡ true → y ≡ true
-      second-true x y is = grind arith
-
-      both-true : (x y : Bool) → x ≡ true → y ≡ true → (x && y) ≡ true
-      both-true x y one two = grind arith
 
 -- A row that goes
 first-apart : {X : Type 0} (p test : X → Bool) → ((x : X) → p x ≡ true → test x ≡ false) → (xs : List X) → first p (without test xs) ≡ first p xs
@@ -220,16 +210,10 @@ port-gone w b few s l =
       births = λ c. count-less (is_port c) (is_port b) w.ports 1 (l.births c);
       pairs = every-without (is_mutual v) (is_port b) w.ports (every-both (is_mutual w) (λ p. not (is_paired_to b p)) (is_mutual v) (λ p is off. freed-option w b (λ u c. is_the p.birth (pair_of u c)) (λ c apart one. same-pair w b c p.birth apart one) p.pair (not-true _ off) is) w.ports l.pairs unpaired);
       rooted = every-without (is_rooted v) (is_port b) w.ports (every-both (is_rooted w) (λ p. not (is_connected_to b p)) (is_rooted v) (λ p is off. freed-option w b is_root_port ends p.connection (not-true _ off) is) w.ports l.rooted unconnected);
-      offers = every-both (λ x. is_lone_offer w x && not (is_made_on b x)) (is_sound_wait w) (is_lone_offer v) (λ x both sound. gone-offer w b closed x both sound) w.waits (every-both (is_lone_offer w) (λ x. not (is_made_on b x)) (λ x. is_lone_offer w x && not (is_made_on b x)) (λ x one two. both-true _ _ one two) w.waits l.offers made) s.waits;
+      offers = every-both (λ x. is_lone_offer w x && not (is_made_on b x)) (is_sound_wait w) (is_lone_offer v) (λ x both sound. gone-offer w b closed x both sound) w.waits (every-both (is_lone_offer w) (λ x. not (is_made_on b x)) (λ x. is_lone_offer w x && not (is_made_on b x)) (λ x one two. and_from _ _ one two) w.waits l.offers made) s.waits;
       targets = every-both (λ x. leads_to_root w x.1) (λ x. leads_open w x.1) (λ x. leads_to_root v x.1) (λ x one two. gone-leads w b closed x.1 one two) w.bindings l.targets s.names;
     }
   where
-    not-true : (x : Bool) → not x ≡ true → x ≡ false
-    not-true x is = grind arith
-
-    both-true : (x y : Bool) → x ≡ true → y ≡ true → (x && y) ≡ true
-    both-true x y one two = grind arith
-
     same-pair : (w : World) (b c d : Birth) → same_birth c b ≡ false → is_the d (pair_of w c) ≡ true → is_the d (pair_of (basic w (Frees (port_name b))) c) ≡ true
     same-pair w b c d off is = let same : pair_of (basic w (Frees (port_name b))) c ≡ pair_of w c = rw (row-freed w b c off) refl in rw same is
 
@@ -244,7 +228,7 @@ port-gone w b few s l =
         let two : passes (port_row w x.port) is_unjoined ≡ true = grind arith in
         let queue : is_root_port (basic w (Frees (port_name b))) x.queue ≡ true = rw (row-freed w b x.queue (other-open w b x.queue closed opens)) one in
         let port : passes (port_row (basic w (Frees (port_name b))) x.port) is_unjoined ≡ true = rw (row-freed w b x.port made) two in
-        both-true _ _ queue port)
+        and_from _ _ queue port)
         (λ x m r both sound. refl)
 
     gone-leads : (w : World) (b : Birth) → is_open w b ≡ false → (node : Node Birth) → leads_to_root w node ≡ true → leads_open w node ≡ true → leads_to_root (basic w (Frees (port_name b))) node ≡ true

@@ -12,7 +12,6 @@ use Rattle.lpc_model.specs.Sweep.{free_unheld, sweep}
 use Rattle.lpc_model.specs.Linked.{HasHeldRows, IsLinked}
 use Rattle.lpc_model.specs.Machine.{step}
 use Rattle.lpc_model.proofs.Usable.{CanCall}
-use Rattle.lpc_model.proofs.SoundQueues.{after-append}
 use Rattle.lpc_model.proofs.SoundLines.{line-sound}
 use Rattle.lpc_model.proofs.SteadyListen.{listen-steady}
 use Rattle.lpc_model.proofs.SteadyDatagram.{datagram-steady}
@@ -36,6 +35,7 @@ use Rattle.lpc_model.proofs.LinkedSteps.{is_plain, plain-all}
 use Rattle.lpc_model.proofs.Ending.{ending-pass, is_ending, process-ending, thread-ending}
 use Rattle.lpc_model.proofs.Creating.{process-made, thread-made}
 use Rattle.lpc_model.proofs.EachLine.{passing_directives, sound_line_holds}
+use Rattle.lpc_model.proofs.StepsInTurn.{after-append}
 use Rattle.lpc_model.specs.Creation.{nt_create_process, nt_create_thread}
 
 -- what ends is plain

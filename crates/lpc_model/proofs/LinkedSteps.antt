@@ -1,10 +1,12 @@
 -- Basic steps keep ports linked.
 use Rattle.std.proofs.Common.{◌≡◌, ℕ, ◌+◌, ◌≤◌, List, [], ◌∷◌, ◌++◌, Bool, true, false, cond, map, not, Option, Some, None, option_map, option_and_then, refl, sym, subst, arith}
+use Rattle.std.proofs.lemmas.Bool.{or_left}
 use Rattle.std.specs.Prelude.{◌&&◌, ◌||◌, is_none, is_some}
 use Rattle.lpc_base.specs.Rows.{count, every, first, has, passes}
 use Rattle.lpc_base.proofs.RowWords.{count-push, count-none, every-change, every-more, every-push, every-without, first-kept, first-push}
 use Rattle.lpc_base.proofs.RowMaps.{every-change_to, every-map}
 use Rattle.lpc_base.proofs.Births.{birth-same, birth-self}
+use Rattle.lpc_base.proofs.Bools.{second-true}
 use Rattle.lpc_names.specs.Binding.{is_name}
 use Rattle.lpc_names.specs.Walk.{LinkTo, Stands}
 use Rattle.lpc_names.specs.declared.names.Found.TheVariants.{Directory, Item}
@@ -16,6 +18,7 @@ use Rattle.lpc_model.proofs.SoundPairs.{tied}
 use Rattle.lpc_model.proofs.SoundTies.{completed-birth}
 use Rattle.lpc_model.proofs.SoundCuts.{cut-birth, cut-row, other-end, same-row}
 use Rattle.lpc_model.proofs.SoundWorlds.{by_kind}
+use Rattle.lpc_model.proofs.StepsInTurn.{steps-keep}
 
 -- A world whose ports stand alike
 -- what is linked by one world is by another, where what ports stand for stays
@@ -163,17 +166,11 @@ completed-alike c = record {
 
 -- a connection that is cut
 cut-end : (c : Bool) (p : PortRow) → names_nothing p ≡ true → names_nothing (cond c (cut p) p) ≡ true
-cut-end true p is = second (is_none p.pair) (is_none p.connection) is
-  where
-    second : (a b : Bool) → (a && b) ≡ true → b ≡ true
-    second a b is = grind arith
+cut-end true p is = second-true (is_none p.pair) (is_none p.connection) is
 cut-end false p is = is
 
 cut-unjoined : (c : Bool) (p : PortRow) → is_unjoined p ≡ true → is_unjoined (cond c (cut p) p) ≡ true
-cut-unjoined true p is = second (is_none p.pair) (is_some p.connection) is
-  where
-    second : (a b : Bool) → (a && b) ≡ true → b ≡ true
-    second a b is = grind arith
+cut-unjoined true p is = second-true (is_none p.pair) (is_some p.connection) is
 cut-unjoined false p is = is
 
 cut-connection : (c : Bool) (p : PortRow) → let q : PortRow = cond c (cut p) p in q.connection ≡ p.connection
@@ -226,10 +223,7 @@ same-all p xs all = all
 plain-linked : (w : World) (b : Basic) → is_plain b ≡ true → IsLinked w → IsLinked (basic w b)
 plain-linked w (Tells e) is l = l
 plain-linked w (Wakes who call status fields) is l = linked-same w (basic w (Wakes who call status fields)) refl (every-without (is_lone_offer w) (waits_as who) w.waits) (λ all. all) l
-plain-linked w (Awaits x) is l = linked-same w (basic w (Awaits x)) refl (λ all. every-push (is_lone_offer w) w.waits x all (either (not (is_offered x)) _ is)) (λ all. all) l
-  where
-    either : (a b : Bool) → a ≡ true → (a || b) ≡ true
-    either a b is = grind arith
+plain-linked w (Awaits x) is l = linked-same w (basic w (Awaits x)) refl (λ all. every-push (is_lone_offer w) w.waits x all (or_left (not (is_offered x)) _ is)) (λ all. all) l
 plain-linked w (Receives who queue) is l = linked-same w (basic w (Receives who queue)) refl (every-change (is_lone_offer w) (waits_at who queue) received (λ x is. is) w.waits) (λ all. all) l
 plain-linked w (Accepts who reply) is l = linked-same w (basic w (Accepts who reply)) refl (every-change (is_lone_offer w) (waits_as who) (accepted reply) (accepted-offer w reply) w.waits) (λ all. all) l
 plain-linked w (Dies who status) is l = linked-same w (basic w (Dies who status)) refl (every-without (is_lone_offer w) (waits_as who) w.waits) (λ all. all) l
@@ -255,11 +249,7 @@ plain-linked w (Unbinds b) is l = linked-same w (basic w (Unbinds b)) refl (λ a
 plain-linked w (DropsHandle pid value) is l = linked-same w (basic w (DropsHandle pid value)) refl (λ all. all) (λ all. all) l
 
 pub plain-all : (w : World) (bs : List Basic) → every is_plain bs ≡ true → IsLinked w → IsLinked (world_after w bs)
-plain-all w [] all l = l
-plain-all w (b ∷ bs) all l =
-    let here : is_plain b ≡ true = grind arith in
-    let later : every is_plain bs ≡ true = grind arith in
-    plain-all (basic w b) bs later (plain-linked w b here l)
+plain-all = steps-keep is_plain IsLinked plain-linked
 
 -- A port that is made
 pub push-passes : (w : World) (p : PortRow) (c : Birth) (t : PortRow → Bool) → passes (port_row w c) t ≡ true → passes (port_row (basic w (Makes p)) c) t ≡ true

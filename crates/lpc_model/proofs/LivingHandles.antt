@@ -1,6 +1,6 @@
 -- Behind each line handles are of living processes alone.
 use Rattle.std.proofs.Common.{◌≡◌, ℕ, ◌≤◌, List, [], ◌∷◌, Bool, true, false, map, not, Option, Some, None, refl, sym, subst, arith}
-use Rattle.std.specs.Prelude.{◌&&◌, ◌||◌, ◌==◌, Result, Ok, Err}
+use Rattle.std.specs.Prelude.{◌&&◌, ◌||◌, ◌==◌, Result}
 use Rattle.std.proofs.lemmas.Bool.{eqb-true, or_left, or_right}
 use Rattle.std.proofs.lemmas.Bool.Decides.{nat_tests}
 use Rattle.lpc_base.specs.Rows.{change, every, first, passes}
@@ -8,7 +8,7 @@ use Rattle.lpc_base.specs.declared.status.Status.{Status}
 use Rattle.lpc_base.specs.declared.status.TheConstants.{INVALID_PARAMETER, INVALID_PORT_HANDLE, PORT_DISCONNECTED}
 use Rattle.lpc_base.proofs.RowWords.{every-append, every-change, every-more, every-push, first-passes, has-change, has-kept}
 use Rattle.lpc_base.proofs.RowMaps.{every-both, every-change_to, every-first}
-use Rattle.lpc_base.proofs.Bools.{second-more}
+use Rattle.lpc_base.proofs.Bools.{first-true, second-more}
 use Rattle.lpc_model.specs.declared.entry.ObjectKind.TheVariants as kind
 use Rattle.lpc_model.specs.World.{Birth, HandleRow, HandleTable, Message, ObjectKind, ObjectName, ThreadRow, WaitRow, World}
 use Rattle.lpc_model.specs.Found.{is_life, is_live, is_live_thread, is_server_port, is_table, is_thread, live_thread, lives_in, pointer_count, same_birth}
@@ -23,15 +23,15 @@ use Rattle.lpc_model.specs.Counts.{asked, nt_duplicate_object, rights_test}
 use Rattle.lpc_model.specs.Sweep.{free_unheld, is_unheld, sweep, unheld}
 use Rattle.lpc_model.specs.SoundWaits.{IsSoundWorld, is_sound_as, is_sound_wait}
 use Rattle.lpc_model.specs.Left.{HasLivingHandles, is_living_table, lacks_handles}
-use Rattle.lpc_model.proofs.Holding.{Holds, bind_holds, found_ok, holds_ok}
+use Rattle.lpc_model.proofs.Holding.{Holds, bind_holds, found_ok, holds-more, holds_ok}
 use Rattle.lpc_model.proofs.Rows.{has-found, has-without}
 use Rattle.lpc_model.proofs.Usable.{CanCall}
-use Rattle.lpc_model.proofs.SoundQueues.{after-append}
 use Rattle.lpc_model.proofs.SoundFrees.{is-zero, less-held, none-pass, sum-second, which-all}
 use Rattle.lpc_model.proofs.SteadySteps.{AreSteady, steady-enter}
 use Rattle.lpc_model.proofs.LinkedSteps.{is_steady}
 use Rattle.lpc_model.proofs.Undying.{is_undying, handle-undying}
 use Rattle.lpc_model.proofs.Ending.{is_ending, handle-ending}
+use Rattle.lpc_model.proofs.StepsInTurn.{after-append}
 
 -- Steps
 -- a step gives handles to processes that live in a world alone, and ends no thread
@@ -115,8 +115,7 @@ steady-homely w (Frees o) is = absurd (cc)
 steady-homely w b is = refl
 
 pub steady_homely : (w : World) (r : Result (List Basic) Status) → Holds AreSteady r → Holds (AreHomely w) r
-steady_homely w (Ok bs) all = every-more is_steady (is_homely w) (steady-homely w) bs all
-steady_homely w (Err s) all = tt
+steady_homely w r all = holds-more AreSteady (AreHomely w) r (λ bs all. every-more is_steady (is_homely w) (steady-homely w) bs all) all
 
 -- the process of a caller lives, and that of a wait
 pub caller-lives : (w : World) (by : ThreadRow) → CanCall w by → is_live w by.process ≡ true
@@ -126,11 +125,8 @@ caller-lives w by c = has-found (lives_in by.process) (is_live_thread by.number)
     own l is = grind (arith, nat_tests)
 
 waiter-lives : (w : World) (x : WaitRow) → is_sound_wait w x ≡ true → is_live w x.process ≡ true
-waiter-lives w x is = at (live_thread w x.thread) refl (client _ (is_sound_as w x x.kind) is)
+waiter-lives w x is = at (live_thread w x.thread) refl (first-true _ (is_sound_as w x x.kind) is)
   where
-    client : (a b : Bool) → (a && b) ≡ true → a ≡ true
-    client a b is = grind arith
-
     lives : (t : ThreadRow) → is_live_thread x.thread t ≡ true → (t.process == x.process) ≡ true → lives_in x.process t ≡ true
     lives t one two = grind arith
 

@@ -1,13 +1,13 @@
 -- The step of each line leaves handles to living processes alone.
 use Rattle.std.proofs.Common.{◌≡◌, ℕ, ◌≤◌, List, [], ◌∷◌, Bool, true, false, not, refl, sym, subst, arith}
-use Rattle.std.specs.Prelude.{◌&&◌, ◌||◌, ◌==◌, Result, Ok, Err}
-use Rattle.std.proofs.lemmas.Bool.{eqb-true}
+use Rattle.std.specs.Prelude.{◌&&◌, ◌||◌, ◌==◌, Result}
+use Rattle.std.proofs.lemmas.Bool.{eqb-true, or_left, or_right}
 use Rattle.std.proofs.lemmas.Bool.Decides.{nat_tests}
 use Rattle.lpc_base.specs.Rows.{change, count, every, first, has, when}
 use Rattle.lpc_base.specs.declared.status.Status.{Status}
 use Rattle.lpc_base.proofs.RowWords.{every-change, every-more, first-passes, has-change, none-counted}
 use Rattle.lpc_base.proofs.RowMaps.{every-both}
-use Rattle.lpc_base.proofs.Bools.{same-number}
+use Rattle.lpc_base.proofs.Bools.{first-true, same-number, second-true}
 use Rattle.lpc_model.specs.declared.entry.CallName.TheVariants.{NtTerminateProcess, NtTerminateThread}
 use Rattle.lpc_model.specs.declared.entry.Word.TheVariants as word
 use Rattle.lpc_model.specs.World.{HandleRow, HandleTable, ThreadRow, World}
@@ -19,7 +19,7 @@ use Rattle.lpc_model.specs.Lines.{ProcArg, ScriptCall, ScriptLine, accept_connec
 use Rattle.lpc_model.specs.Machine.{bare_steps, service_of, step}
 use Rattle.lpc_model.specs.SoundWaits.{IsSoundWorld}
 use Rattle.lpc_model.specs.Left.{HasLivingHandles, is_living_table, lacks_handles}
-use Rattle.lpc_model.proofs.Holding.{Holds}
+use Rattle.lpc_model.proofs.Holding.{Holds, holds-more}
 use Rattle.lpc_model.proofs.Rows.{has-change_to, lone}
 use Rattle.lpc_model.proofs.Usable.{CanCall}
 use Rattle.lpc_model.proofs.Closing.{behind, then-holds}
@@ -53,10 +53,7 @@ abbrev HasLivingBut : ℕ → World → Type 0
 HasLivingBut pid w = every (is_almost pid w) w.handles ≡ true
 
 but-all : (pid : ℕ) (w : World) → HasLivingHandles w → HasLivingBut pid w
-but-all pid w l = every-more (is_living_table w) (is_almost pid w) (λ t is. right (t.process == pid) _ is) w.handles l
-  where
-    right : (a b : Bool) → b ≡ true → (a || b) ≡ true
-    right a b is = grind arith
+but-all pid w l = every-more (is_living_table w) (is_almost pid w) (λ t is. or_right (t.process == pid) _ is) w.handles l
 
 almost-more : (e a b c : Bool) → (e ≡ false → a ≡ true → b ≡ true) → (e || (a || c)) ≡ true → (e || (b || c)) ≡ true
 almost-more true a b c more is = refl
@@ -102,13 +99,7 @@ still-step pid w b is still l = l
 still-all : (pid : ℕ) (w : World) (bs : List Basic) → AreEnding bs → every is_still bs ≡ true → HasLivingBut pid w → HasLivingBut pid (world_after w bs)
 still-all pid w [] all still l = l
 still-all pid w (b ∷ bs) all still l =
-    still-all pid (basic w b) bs (second_of (is_ending b) _ all) (second_of (is_still b) _ still) (still-step pid w b (first_of (is_ending b) _ all) (first_of (is_still b) _ still) l)
-  where
-    first_of : (x y : Bool) → (x && y) ≡ true → x ≡ true
-    first_of x y is = grind arith
-
-    second_of : (x y : Bool) → (x && y) ≡ true → y ≡ true
-    second_of x y is = grind arith
+    still-all pid (basic w b) bs (second-true (is_ending b) _ all) (second-true (is_still b) _ still) (still-step pid w b (first-true (is_ending b) _ all) (first-true (is_still b) _ still) l)
 
 -- The threads of the process end
 abbrev AreOf : ℕ → List ThreadRow → List ThreadRow → Type 0
@@ -180,10 +171,7 @@ living-live : (pid : ℕ) (w : World) → HasLivingBut pid w → is_live w pid �
 living-live pid w l live = every-more (is_almost pid w) (is_living_table w) (λ t is. at t (t.process == pid) refl is) w.handles l
   where
     at : (t : HandleTable) (e : Bool) → (t.process == pid) ≡ e → (e || is_living_table w t) ≡ true → is_living_table w t ≡ true
-    at t true same is = let own = subst (λ n. is_live w n ≡ true) (sym (eqb-true t.process pid same)) live in left (is_live w t.process) (lacks_handles t) own
-      where
-        left : (a b : Bool) → a ≡ true → (a || b) ≡ true
-        left a b one = grind arith
+    at t true same is = let own = subst (λ n. is_live w n ≡ true) (sym (eqb-true t.process pid same)) live in or_left (is_live w t.process) (lacks_handles t) own
     at t false off is = is
 
 end-living : (pid : ℕ) (code : Status) (ts : List ThreadRow) (w : World) → IsSafe w → AreOf pid w.threads ts → HasLivingHandles w → HasLivingHandles (behind (end_threads pid code ts) w)
@@ -205,15 +193,9 @@ end-living pid code ts w is of l =
 are-of : (pid : ℕ) (all ts : List ThreadRow) → ((n : ℕ) → count (is_thread n) all ≤ 1) → AreFound all ts → every (λ t. t.process == pid) ts ≡ true → AreOf pid all ts
 are-of pid all [] once found of = tt
 are-of pid all (t ∷ ts) once found of = (
-  lone (is_thread t.number) (λ u. u.process == pid) (is_thread t.number) all t (once t.number) found.0 (first-passes (is_thread t.number) all t found.0) (one _ _ of),
-  are-of pid all ts once found.3 (two _ _ of),
+  lone (is_thread t.number) (λ u. u.process == pid) (is_thread t.number) all t (once t.number) found.0 (first-passes (is_thread t.number) all t found.0) (first-true _ _ of),
+  are-of pid all ts once found.3 (second-true _ _ of),
 )
-  where
-    one : (a b : Bool) → (a && b) ≡ true → a ≡ true
-    one a b is = grind arith
-
-    two : (a b : Bool) → (a && b) ≡ true → b ≡ true
-    two a b is = grind arith
 
 abbrev KeepLiving : World → List Basic → Type 0
 KeepLiving w bs = HasLivingHandles (world_after w bs)
@@ -226,14 +208,10 @@ thread-living w by target code is once c l =
 process-living : (w : World) (by : ThreadRow) (target : ProcArg) (code : ℕ) → IsSafe w → HasThreadsOnce w → HasLivingHandles w → Holds (KeepLiving w) (nt_terminate_process w by target code)
 process-living w by target code is once l =
     process-ends (KeepLiving w) w by target code (λ pid own _. world-ends HasLivingHandles w by NtTerminateProcess own pid (code_status code) (live_threads w pid)
-    (end-living pid (code_status code) (live_threads w pid) w is (are-of pid w.threads (live_threads w pid) once (live-found pid [] w.threads once) (every-more (lives_in pid) (λ t. t.process == pid) (λ t one. first_of _ _ one) (live_threads w pid) (which-all (lives_in pid) w.threads))) l))
-  where
-    first_of : (a b : Bool) → (a && b) ≡ true → a ≡ true
-    first_of a b is = grind arith
+    (end-living pid (code_status code) (live_threads w pid) w is (are-of pid w.threads (live_threads w pid) once (live-found pid [] w.threads once) (every-more (lives_in pid) (λ t. t.process == pid) (λ t one. first-true _ _ one) (live_threads w pid) (which-all (lives_in pid) w.threads))) l))
 
 homely_holds : (w : World) (r : Result (List Basic) Status) → HasLivingHandles w → Holds (AreHomely w) r → Holds (KeepLiving w) r
-homely_holds w (Ok bs) l all = homely-all w bs all l
-homely_holds w (Err s) l all = tt
+homely_holds w r l all = holds-more (AreHomely w) (KeepLiving w) r (λ bs all. homely-all w bs all l) all
 
 service-living : (w : World) (by : ThreadRow) (call : ScriptCall) → CanCall w by → IsSafe w → HasThreadsOnce w → HasLivingHandles w → Holds (KeepLiving w) (service_of w by call)
 service-living w by (create_port name) c is once l = homely_holds w _ l (create-homely w by name c)

@@ -1,12 +1,13 @@
 -- The step of each line leaves registrations to live threads alone.
 use Rattle.std.proofs.Common.{◌≡◌, ℕ, ◌≤◌, List, [], ◌∷◌, Bool, true, false, length, not, refl, sym, subst, arith}
-use Rattle.std.specs.Prelude.{◌&&◌, ◌||◌, ◌==◌, Result, Ok, Err}
+use Rattle.std.specs.Prelude.{◌&&◌, ◌||◌, ◌==◌, Result}
 use Rattle.std.proofs.lemmas.Bool.Decides.{nat_tests}
+use Rattle.std.proofs.lemmas.Bool.{and_from, or_left, or_right}
 use Rattle.lpc_base.specs.Rows.{change, count, every, given, when, without}
 use Rattle.lpc_base.specs.declared.status.Status.{Status}
 use Rattle.lpc_base.proofs.RowWords.{every-change, every-more, every-push, every-without, first-passes}
 use Rattle.lpc_base.proofs.RowMaps.{every-both, every-change_to}
-use Rattle.lpc_base.proofs.Bools.{first-true, second-true}
+use Rattle.lpc_base.proofs.Bools.{first-true, same-number, second-true}
 use Rattle.lpc_base.proofs.Births.{birth-self}
 use Rattle.lpc_model.specs.declared.entry.CallName.TheVariants.{NtTerminateProcess, NtTerminateThread}
 use Rattle.lpc_model.specs.declared.entry.ObjectKind.TheVariants as kind
@@ -22,7 +23,7 @@ use Rattle.lpc_model.specs.Lines.{ProcArg, ScriptCall, ScriptLine, create_proces
 use Rattle.lpc_model.specs.Machine.{bare_steps, service_of, step}
 use Rattle.lpc_model.specs.SoundWaits.{IsSoundWorld}
 use Rattle.lpc_model.proofs.Closing.{behind, then-holds}
-use Rattle.lpc_model.proofs.Holding.{Holds}
+use Rattle.lpc_model.proofs.Holding.{Holds, holds-more}
 use Rattle.lpc_model.proofs.Rows.{lone}
 use Rattle.lpc_model.proofs.Usable.{CanCall}
 use Rattle.lpc_model.proofs.Undying.{AreUndying, handle-undying, is_undying, register_holds, service-undying}
@@ -32,6 +33,7 @@ use Rattle.lpc_model.proofs.DeathLines.{AreFound, death-still, die-threads, is_s
 use Rattle.lpc_model.specs.Entering.{enter}
 use Rattle.lpc_model.proofs.Creating.{process-made, thread-made}
 use Rattle.lpc_model.proofs.EachLine.{passing_directives, sound_line_holds, stepped, sweep_every}
+use Rattle.lpc_model.proofs.StepsInTurn.{steps-keep}
 use Rattle.lpc_model.specs.Creation.{nt_create_process, nt_create_thread}
 
 -- a list with a row that passes
@@ -44,10 +46,7 @@ abbrev among : List Birth → List Birth → Bool
 among rs bs = every (λ c. some (λ r. same_birth r c) rs) bs
 
 among-more : (b : Birth) (rs bs : List Birth) → among rs bs ≡ true → among (b ∷ rs) bs ≡ true
-among-more b rs bs all = every-more (λ c. some (λ r. same_birth r c) rs) (λ c. same_birth b c || some (λ r. same_birth r c) rs) (λ c is. right (same_birth b c) _ is) bs all
-  where
-    right : (x y : Bool) → y ≡ true → (x || y) ≡ true
-    right x y is = grind arith
+among-more b rs bs all = every-more (λ c. some (λ r. same_birth r c) rs) (λ c. same_birth b c || some (λ r. same_birth r c) rs) (λ c is. or_right (same_birth b c) _ is) bs all
 
 among-self : (bs : List Birth) → among bs bs ≡ true
 among-self [] = refl
@@ -81,13 +80,10 @@ living-less b r = at r.registrations
   where
     at : (bs : List Birth) → (r.live || (length bs == 0)) ≡ true → (r.live || (length (without (same_birth b) bs) == 0)) ≡ true
     at [] is = is
-    at (c ∷ bs) is = left r.live _ (only r.live (length (c ∷ bs) == 0) (grind (arith, nat_tests)) is)
+    at (c ∷ bs) is = or_left r.live _ (only r.live (length (c ∷ bs) == 0) (grind (arith, nat_tests)) is)
       where
         only : (l z : Bool) → z ≡ false → (l || z) ≡ true → l ≡ true
         only l z off is = grind arith
-
-        left : (l x : Bool) → l ≡ true → (l || x) ≡ true
-        left l x is = grind arith
 
 owed-less : (b : Birth) (r : ThreadRow) (ts : List ThreadRow) → owed ts r ≡ true → owed ts (unregistering b r) ≡ true
 owed-less b r [] is = is
@@ -200,18 +196,12 @@ dead-kept code all (t ∷ ts) w of kept =
     (subst (λ rows. every (is_kept all) rows ≡ true) (sym (die-threads code t w)) (ended-kept all t w.threads (first-true (is_one_of all t) (every (is_one_of all) ts) of) kept)))
 
 one-more : (t : ThreadRow) (ts xs : List ThreadRow) → every (is_one_of ts) xs ≡ true → every (is_one_of (t ∷ ts)) xs ≡ true
-one-more t ts xs all = every-more (is_one_of ts) (is_one_of (t ∷ ts)) (λ x is. right (t.number == x.number) _ is) xs all
-  where
-    right : (x y : Bool) → y ≡ true → (x || y) ≡ true
-    right x y is = grind arith
+one-more t ts xs all = every-more (is_one_of ts) (is_one_of (t ∷ ts)) (λ x is. or_right (t.number == x.number) _ is) xs all
 
 one-self : (ts : List ThreadRow) → every (is_one_of ts) ts ≡ true
 one-self [] = refl
-one-self (t ∷ ts) = both (t.number == t.number) (some (λ s. s.number == t.number) ts) _ (own t.number) (one-more t ts ts (one-self ts))
+one-self (t ∷ ts) = both (t.number == t.number) (some (λ s. s.number == t.number) ts) _ (same-number t.number) (one-more t ts ts (one-self ts))
   where
-    own : (n : ℕ) → (n == n) ≡ true
-    own n = grind (arith, nat_tests)
-
     both : (x y z : Bool) → x ≡ true → z ≡ true → ((x || y) && z) ≡ true
     both x y z one two = grind arith
 
@@ -223,12 +213,9 @@ found-agree rows [] once found = all rows
     all [] = refl
     all (r ∷ rows) = all rows
 found-agree rows (t ∷ ts) once found =
-    every-both (agrees t) (agree ts) (agree (t ∷ ts)) (λ r one two. both (agrees t r) (agree ts r) one two) rows
+    every-both (agrees t) (agree ts) (agree (t ∷ ts)) (λ r one two. and_from (agrees t r) (agree ts r) one two) rows
     (lone (is_thread t.number) (λ r. among t.registrations r.registrations) (is_thread t.number) rows t (once t.number) found.0 (first-passes (is_thread t.number) rows t found.0) (among-self t.registrations))
     (found-agree rows ts once found.3)
-  where
-    both : (x y : Bool) → x ≡ true → y ≡ true → (x && y) ≡ true
-    both x y one two = grind arith
 
 kept-first : (ts : List ThreadRow) (w : World) → HasThreadsOnce w → AreFound w.threads ts → HasLivingRegistrations w → AreKept ts w
 kept-first ts w once found l =
@@ -272,9 +259,7 @@ living-step w (Frees o) is l = freed-living w o.kind o.birth l
 living-step w b is l = l
 
 living-all : (w : World) (bs : List Basic) → every is_lasting bs ≡ true → HasLivingRegistrations w → HasLivingRegistrations (world_after w bs)
-living-all w [] all l = l
-living-all w (b ∷ bs) all l =
-    living-all (basic w b) bs (second-true (is_lasting b) (every is_lasting bs) all) (living-step w b (first-true (is_lasting b) (every is_lasting bs) all) l)
+living-all = steps-keep is_lasting HasLivingRegistrations living-step
 
 undying-lasting : (b : Basic) → is_undying b ≡ true → is_lasting b ≡ true
 undying-lasting (Dies who status) is = absurd (cc)
@@ -311,26 +296,21 @@ process-living w by target code once l =
 registered-living : (w : World) (by : ThreadRow) (b : Birth) → HasThreadsOnce w → CanCall w by → HasLivingRegistrations w → HasLivingRegistrations (basic w (Registers by.number b))
 registered-living w by b once c l =
     every-change_to (λ r. has_living_registrations r && (not (is_thread by.number r) || r.live)) has_living_registrations (is_thread by.number) (registering b) (λ r was same. lives (has_living_registrations r) (is_thread by.number r) r.live _ same was) (λ r was other. first-true (has_living_registrations r) _ was) w.threads
-    (every-both has_living_registrations (λ r. not (is_thread by.number r) || r.live) (λ r. has_living_registrations r && (not (is_thread by.number r) || r.live)) (λ r one two. both (has_living_registrations r) _ one two) w.threads l
+    (every-both has_living_registrations (λ r. not (is_thread by.number r) || r.live) (λ r. has_living_registrations r && (not (is_thread by.number r) || r.live)) (λ r one two. and_from (has_living_registrations r) _ one two) w.threads l
     (lone (is_thread by.number) (λ r. r.live) (is_live_thread by.number) w.threads by (once by.number) c.lives (first-true (is_thread by.number by) by.live (first-passes (is_live_thread by.number) w.threads by c.lives)) (second-true (is_thread by.number by) by.live (first-passes (is_live_thread by.number) w.threads by c.lives))))
   where
-    both : (x y : Bool) → x ≡ true → y ≡ true → (x && y) ≡ true
-    both x y one two = grind arith
-
     lives : (l n live z : Bool) → n ≡ true → (l && (not n || live)) ≡ true → (live || z) ≡ true
     lives l n live z same is = grind arith
 
 undying_holds : (w : World) (r : Result (List Basic) Status) → HasLivingRegistrations w → Holds AreUndying r → Holds (KeepRegistrationsLiving w) r
-undying_holds w (Ok bs) l all = living-all w bs (every-more is_undying is_lasting undying-lasting bs all) l
-undying_holds w (Err s) l all = tt
+undying_holds w r l all = holds-more AreUndying (KeepRegistrationsLiving w) r (λ bs all. living-all w bs (every-more is_undying is_lasting undying-lasting bs all) l) all
 
 -- Processes and threads that are made
 abbrev AreLasting : List Basic → Type 0
 AreLasting bs = every is_lasting bs ≡ true
 
 lasting_holds : (w : World) (r : Result (List Basic) Status) → HasLivingRegistrations w → Holds AreLasting r → Holds (KeepRegistrationsLiving w) r
-lasting_holds w (Ok bs) l all = living-all w bs all l
-lasting_holds w (Err s) l all = tt
+lasting_holds w r l all = holds-more AreLasting (KeepRegistrationsLiving w) r (λ bs all. living-all w bs all l) all
 
 create-process-lasting : (w : World) (by : ThreadRow) (pid tid : ℕ) → Holds AreLasting (nt_create_process w by pid tid)
 create-process-lasting w by pid tid = process-made AreLasting w by pid tid (λ _ _. refl)

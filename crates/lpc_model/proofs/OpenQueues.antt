@@ -5,7 +5,7 @@ use Rattle.std.specs.Prelude.{◌&&◌, ◌||◌, Result, Ok, Err}
 use Rattle.lpc_base.specs.Rows.{count, every, first, given, when}
 use Rattle.lpc_base.proofs.RowWords.{every-append, every-change, every-more, every-push, every-without, first-passes, has-kept}
 use Rattle.lpc_base.proofs.RowMaps.{every-both, every-change_to, every-without_first}
-use Rattle.lpc_base.proofs.Bools.{second-more, first-true, second-true}
+use Rattle.lpc_base.proofs.Bools.{second-more, first-true, second-true, or-last}
 use Rattle.lpc_base.specs.declared.limits.TheConstants.{MESSAGE_LIMIT}
 use Rattle.lpc_base.specs.declared.port_kind.PortKind.TheVariants.{Connection, Unnamed}
 use Rattle.lpc_base.specs.declared.status.Status.{Status}
@@ -34,11 +34,10 @@ use Rattle.lpc_model.specs.Counts.{asked, nt_duplicate_object, nt_query_object, 
 use Rattle.lpc_model.specs.Linked.{IsLinked}
 use Rattle.lpc_model.specs.SoundWaits.{HasShutConnects, IsSoundWorld, is_sound_wait}
 use Rattle.lpc_model.specs.OpenQueues.{HasOpenQueues, StepsKeepQueuesOpen}
-use Rattle.lpc_model.proofs.Holding.{Holds, bind_holds, found_ok, holds_ok}
+use Rattle.lpc_model.proofs.Holding.{Holds, bind_holds, found_ok, holds-more, holds_ok}
 use Rattle.lpc_model.proofs.Handles.{open-add}
 use Rattle.lpc_model.proofs.Usable.{HasRoute, IsUsable, port-usable, queue-open, CanCall}
 use Rattle.lpc_model.proofs.SoundWorlds.{by_kind}
-use Rattle.lpc_model.proofs.SoundQueues.{after-append}
 use Rattle.lpc_model.proofs.SoundCalls.{send-routed}
 use Rattle.lpc_model.proofs.SoundConnect.{name-open}
 use Rattle.lpc_model.proofs.SoundAccept.{named-alone, named-wait}
@@ -60,6 +59,7 @@ use Rattle.lpc_model.specs.Targets.{LIFE_ACCESS}
 use Rattle.lpc_model.proofs.SoundBasics.{sound-ordinal, sound-process}
 use Rattle.lpc_model.proofs.Rows.{count-change}
 use Rattle.lpc_model.proofs.EachLine.{passing_directives, sound_line_holds, stepped, sweep_every}
+use Rattle.lpc_model.proofs.StepsInTurn.{after-append}
 
 -- What keeps queues open
 -- the ports that are open in one world are open in another
@@ -193,8 +193,7 @@ abbrev KeepOpen : World → List Basic → Type 0
 KeepOpen w bs = HasOpenQueues (world_after w bs)
 
 open_holds : (w : World) (r : Result (List Basic) Status) → HasOpenQueues w → Holds (AreOpen w) r → Holds (KeepOpen w) r
-open_holds w (Ok bs) q all = open-all w bs all q
-open_holds w (Err s) q all = tt
+open_holds w r q all = holds-more (AreOpen w) (KeepOpen w) r (λ bs all. open-all w bs all q) all
 
 -- NtCreatePort
 making-open : (w : World) (by : ThreadRow) (name : Option (List ℕ)) → IsSoundWorld w → HasOpenQueues w → Holds (λ made. KeepOpen w (create_steps by made (free_handle w by.process))) (making w (next_birth by) name)
@@ -254,11 +253,8 @@ accepted-alone w who reply alone q =
       messages = q.messages;
       waits = every-change (waits_open w) (waits_as who) (accepted reply) (λ x is. is) w.waits q.waits;
       accepts = every-change_to (λ y. is_taken y && (not (waits_as who y) || y.received)) is_taken (waits_as who) (accepted reply)
-          (λ y is own. or_right (not (is_accepted (accepted reply y))) y.received (its (waits_as who y) y.received own (second-true (is_taken y) _ is))) (λ y is off. first-true (is_taken y) _ is) w.waits both;
+          (λ y is own. or_right (not (is_accepted (accepted reply y))) y.received (or-last (waits_as who y) y.received own (second-true (is_taken y) _ is))) (λ y is off. first-true (is_taken y) _ is) w.waits both;
     }
-  where
-    its : (a r : Bool) → a ≡ true → (not a || r) ≡ true → r ≡ true
-    its a r own is = grind arith
 
 accepted-open : (w : World) (by : ThreadRow) (context : ℕ) (m : Message) (x : WaitRow) → first (names_connect w by m) w.waits ≡ Some x → IsSoundWorld w → HasOpenQueues w → KeepOpen w (accept_steps by context (free_handle w by.process) (record { message = m; wait = x }))
 accepted-open w by context m x at s q =

@@ -1,6 +1,6 @@
 -- A line that lets no name go leaves no row of an object that no row names.
 use Rattle.std.proofs.Common.{◌≡◌, ℕ, ◌+◌, ◌≤◌, List, [], ◌∷◌, ◌++◌, Bool, true, false, Option, Some, None, refl, ap, arith}
-use Rattle.std.specs.Prelude.{Err, Ok, Result, ◌&&◌, ◌==◌, ◌||◌}
+use Rattle.std.specs.Prelude.{Result, ◌&&◌, ◌==◌, ◌||◌}
 use Rattle.std.proofs.lemmas.Bool.Decides.{nat_tests}
 use Rattle.lpc_base.specs.Rows.{count, has, which}
 use Rattle.lpc_base.proofs.RowWords.{count-has, every-push, has-kept, has-push}
@@ -17,8 +17,8 @@ use Rattle.lpc_model.specs.Sweep.{loosened, loosens, unheld}
 use Rattle.lpc_model.specs.Linked.{AreLivesHeld, HasHeldPorts, HasHeldRows}
 use Rattle.lpc_model.specs.SoundWaits.{IsSoundWorld}
 use Rattle.lpc_model.proofs.SoundFrees.{fewer-pass}
-use Rattle.lpc_model.proofs.Holding.{Holds}
-use Rattle.lpc_model.proofs.Registrations.{push-each}
+use Rattle.lpc_model.proofs.Holding.{Holds, holds-more}
+use Rattle.lpc_model.proofs.Registrations.{back-more, push-each}
 use Rattle.lpc_model.proofs.Usable.{CanCall}
 use Rattle.lpc_model.proofs.SteadyListen.{listen-steady}
 use Rattle.lpc_model.proofs.SteadyDatagram.{datagram-steady}
@@ -93,15 +93,12 @@ process-loosens w by target code = process-ends AreLoose w by target code (λ pi
 back-some : (a b : ℕ) → 1 ≤ b → 1 ≤ a + b
 back-some a b some = omega (arith, some)
 
-sum-more : (a b c : ℕ) → b ≤ c → a + b ≤ a + c
-sum-more a b c is = omega (arith, is)
-
 -- a thread that is made holds itself
 further-thread : (w : World) (tid pid : ℕ) (birth : Birth) → AreLivesHeld w → AreLivesHeld (basic w (AddsThread (new_thread tid pid birth)))
 further-thread w tid pid birth held =
     let t = new_thread tid pid birth in
     let v = basic w (AddsThread t) in
-    let more = lives-more w v (λ b. sum-more (handle_count w (thread_name b)) _ _ (push-more (is_life b) w.threads t)) (λ b. sum-more (handle_count w (process_name b)) _ _ (push-more (lives_by w b) w.threads t)) held in
+    let more = lives-more w v (λ b. back-more (handle_count w (thread_name b)) _ _ (push-more (is_life b) w.threads t)) (λ b. back-more (handle_count w (process_name b)) _ _ (push-more (lives_by w b) w.threads t)) held in
     let some = count-has (is_life t.birth) v.threads (has-push (is_life t.birth) w.threads t (birth-self t.birth)) in
     record {
       threads = every-push _ w.threads t more.0 (held-some _ (back-some (handle_count v (thread_name t.birth)) _ some));
@@ -174,8 +171,7 @@ given-held P gives by w o is = record {
 }
 
 held_of : (P : World → Type 0) (w : World) (by : ThreadRow) (r : Result (List Basic) Status) → Holds (λ bs. IsTabledWorld P by (world_after w bs)) r → Holds (λ bs. loosened false bs ≡ false → P (world_after w bs)) r
-held_of P w by (Ok bs) is = λ _. is.held
-held_of P w by (Err s) is = tt
+held_of P w by r is = holds-more (λ bs. IsTabledWorld P by (world_after w bs)) (λ bs. loosened false bs ≡ false → P (world_after w bs)) r (λ bs is. λ _. is.held) is
 
 -- what is kept by each of their steps
 module _ (P : World → Type 0) (draws : (w : World) (n : ℕ) → P w → P (basic w (DrawsOrdinal n)))
@@ -209,16 +205,13 @@ abbrev KeepLivesQuiet : World → List Basic → Type 0
 KeepLivesQuiet w bs = loosened false bs ≡ false → AreLivesHeld (world_after w bs)
 
 lives-later : (w : World) (r : Result (List Basic) Status) → Holds (KeepLives w) r → Holds (KeepLivesQuiet w) r
-lives-later w (Ok bs) held = λ _. held
-lives-later w (Err s) held = tt
+lives-later w r held = holds-more (KeepLives w) (KeepLivesQuiet w) r (λ bs held. λ _. held) held
 
 loose-lives : (w : World) (r : Result (List Basic) Status) → Holds AreLoose r → Holds (KeepLivesQuiet w) r
-loose-lives w (Ok bs) loose = λ quiet. absurd (cc)
-loose-lives w (Err s) loose = tt
+loose-lives w r loose = holds-more AreLoose (KeepLivesQuiet w) r (λ bs loose. λ quiet. absurd (cc)) loose
 
 loose-quiet : (w : World) (r : Result (List Basic) Status) → Holds AreLoose r → Holds (KeepQuiet w) r
-loose-quiet w (Ok bs) loose = λ quiet. absurd (cc)
-loose-quiet w (Err s) loose = tt
+loose-quiet w r loose = holds-more AreLoose (KeepQuiet w) r (λ bs loose. λ quiet. absurd (cc)) loose
 
 service-lives : (w : World) (by : ThreadRow) (call : ScriptCall) → CanCall w by → IsSoundWorld w → AreLivesHeld w → Holds (KeepLivesQuiet w) (service_of w by call)
 service-lives w by (create_port name) c s held = lives-later w _ (create-lives w by name s held)

@@ -3,12 +3,13 @@ use Rattle.std.proofs.Common.{Bool, List, [], ap, arith, cond, false, not, refl,
 use Rattle.std.specs.Prelude.{◌&&◌}
 use Rattle.lpc_base.specs.Rows.{change, count, each, every, without}
 use Rattle.lpc_base.proofs.RowWords.{count-append, every-change, every-push, every-without}
+use Rattle.lpc_base.proofs.Bools.{first-true, second-true}
 use Rattle.lpc_model.specs.World.{Birth, ThreadRow}
 use Rattle.lpc_model.specs.Found.{is_life, registered_by, same_birth}
 use Rattle.lpc_model.specs.Basics.{registering, unregistering}
 
 -- Counts
-back-more : (a b c : ℕ) → b ≤ c → a + b ≤ a + c
+pub back-more : (a b c : ℕ) → b ≤ c → a + b ≤ a + c
 back-more a b c is = omega (arith, is)
 
 behind-more : (a b c : ℕ) → b ≤ c → b ≤ a + c
@@ -72,16 +73,10 @@ dead-none b t off same = at t.live (same_birth t.birth b) off same
 
 pub dead-each : (b : Birth) (ts : List ThreadRow) → every (λ t. not (is_life b t)) ts ≡ true → each registered_by (without (λ t. same_birth t.birth b) ts) ≡ each registered_by ts
 dead-each b [] off = refl
-dead-each b (t ∷ ts) off = at (same_birth t.birth b) refl (dead-each b ts (second _ _ off))
+dead-each b (t ∷ ts) off = at (same_birth t.birth b) refl (dead-each b ts (second-true _ _ off))
   where
-    first : (x y : Bool) → (x && y) ≡ true → x ≡ true
-    first x y is = grind arith
-
-    second : (x y : Bool) → (x && y) ≡ true → y ≡ true
-    second x y is = grind arith
-
     at : (c : Bool) → same_birth t.birth b ≡ c → each registered_by (without (λ t. same_birth t.birth b) ts) ≡ each registered_by ts → each registered_by (without (λ t. same_birth t.birth b) (t ∷ ts)) ≡ each registered_by (t ∷ ts)
-    at true is later = rw (is, dead-none b t (first _ _ off) is) later
+    at true is later = rw (is, dead-none b t (first-true _ _ off) is) later
     at false is later = rw (is, later) refl
 
 -- What holds of each registration

@@ -1,6 +1,5 @@
 -- Where something ends, no connect comes to wait on an open port.
-use Rattle.std.proofs.Common.{◌≡◌, List, [], ◌∷◌, true, arith}
-use Rattle.lpc_base.specs.Rows.{every}
+use Rattle.std.proofs.Common.{◌≡◌, List, true}
 use Rattle.lpc_base.proofs.RowWords.{every-change, every-more, every-without}
 use Rattle.lpc_model.specs.World.{World}
 use Rattle.lpc_model.specs.Found.{waits_as, waits_at}
@@ -8,6 +7,7 @@ use Rattle.lpc_model.specs.Basics.{Accepts, AddsHandle, AddsProcess, Awaits, Bas
 use Rattle.lpc_model.specs.SoundWaits.{HasShutConnects}
 use Rattle.lpc_model.proofs.SingleClosings.{dropped-shut, waits-more, waits_shut}
 use Rattle.lpc_model.proofs.Ending.{AreEnding, is_ending}
+use Rattle.lpc_model.proofs.StepsInTurn.{steps-keep}
 
 shut-step : (w : World) (b : Basic) → is_ending b ≡ true → HasShutConnects w → HasShutConnects (basic w b)
 shut-step w (Wakes who call status fields) is shut = every-without (waits_shut w) (waits_as who) w.waits shut
@@ -22,8 +22,4 @@ shut-step w (Frees o) is shut = absurd (cc)
 shut-step w b is shut = shut
 
 pub shut-all : (w : World) (bs : List Basic) → AreEnding bs → HasShutConnects w → HasShutConnects (world_after w bs)
-shut-all w [] all shut = shut
-shut-all w (b ∷ bs) all shut =
-    let here : is_ending b ≡ true = grind arith in
-    let later : every is_ending bs ≡ true = grind arith in
-    shut-all (basic w b) bs later (shut-step w b here shut)
+shut-all = steps-keep is_ending HasShutConnects shut-step

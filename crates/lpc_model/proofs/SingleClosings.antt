@@ -1,11 +1,12 @@
 -- Basic steps keep what stands in queues of closings.
 use Rattle.std.proofs.Common.{◌≡◌, ℕ, ◌+◌, ◌≤◌, List, [], ◌∷◌, ◌++◌, Bool, true, false, cond, not, Option, Some, None, refl, sym, subst, arith}
-use Rattle.std.proofs.lemmas.Bool.{or_left}
+use Rattle.std.proofs.lemmas.Bool.{and_right, or_left}
 use Rattle.std.specs.Prelude.{◌&&◌, ◌||◌, nat_lt}
 use Rattle.lpc_base.specs.Rows.{count, every, first, has, which, without_first}
 use Rattle.lpc_base.proofs.RowWords.{count-fewer, count-push, every-change, every-more, every-not, every-push, every-without, first-passes, has-change, has_none-change, has_none-push, has_none-without, has_none-without_first}
 use Rattle.lpc_base.proofs.RowMaps.{every-both, every-first, every-without_first}
 use Rattle.lpc_base.proofs.Births.{birth-same, births-apart}
+use Rattle.lpc_base.proofs.Bools.{apart-second}
 use Rattle.lpc_model.specs.declared.entry.ObjectKind.TheVariants as kind
 use Rattle.lpc_model.specs.World.{Birth, HandleRow, HandleTable, MessageRow, ObjectKind, WaitRow, World}
 use Rattle.lpc_model.specs.Found.{has_handle_to, has_value, is_connect, is_open, is_own_of, is_port, is_queued, is_queued_connect, is_sent_on, is_table, names_port, port_name, same_birth, same_kind, waits_as, waits_at}
@@ -21,6 +22,8 @@ use Rattle.lpc_model.proofs.SoundWorlds.{by_kind}
 use Rattle.lpc_model.proofs.Closing.{IsFewer}
 use Rattle.lpc_model.proofs.Told.{AreHushed, is_hushed}
 use Rattle.lpc_model.proofs.EachLine.{sweep_every}
+use Rattle.lpc_model.proofs.SoundPairs.{lacks-parts}
+use Rattle.lpc_model.proofs.StepsInTurn.{steps-keep}
 
 -- What is kept
 -- a message tells of no port that isn't shut; a connect waits on a port that isn't open
@@ -36,11 +39,8 @@ tells-parts c o u h g one two is = grind (arith, one, two)
 pub tells-more : (w v : World) (m : MessageRow) → (is_open w m.sender ≡ false → is_open v m.sender ≡ false) → (has (is_connect_on m.sender) w.waits ≡ false → has (is_connect_on m.sender) v.waits ≡ false) → tells_shut w m ≡ true → tells_shut v m ≡ true
 tells-more w v m one two is = tells-parts (is_closed_post m) (is_open w m.sender) (is_open v m.sender) (has (is_connect_on m.sender) w.waits) (has (is_connect_on m.sender) v.waits) one two is
 
-waits-parts : (c o u : Bool) → (o ≡ false → u ≡ false) → not (c && o) ≡ true → not (c && u) ≡ true
-waits-parts c o u one is = grind (arith, one)
-
 pub waits-more : (w v : World) (x : WaitRow) → (is_open w x.port ≡ false → is_open v x.port ≡ false) → waits_shut w x ≡ true → waits_shut v x ≡ true
-waits-more w v x one is = waits-parts (is_connect x) (is_open w x.port) (is_open v x.port) one is
+waits-more w v x one is = lacks-parts (is_connect x) (is_open w x.port) (is_open v x.port) one is
 
 -- a world in which no further port is open, on no further port a connect waits, and no message more tells of a closing
 untold-from : (w v : World) → ((b : Birth) → is_open w b ≡ false → is_open v b ≡ false) → ((b : Birth) → has (is_connect_on b) w.waits ≡ false → has (is_connect_on b) v.waits ≡ false)
@@ -118,17 +118,7 @@ hushed-step w (Frees o) is u = freed-untold w o.kind o.birth u
 hushed-step w b is u = record { closed = u.closed; once = u.once; connects = u.connects }
 
 pub hushed-all : (w : World) (bs : List Basic) → AreHushed bs → HasSingleClosings w → HasSingleClosings (world_after w bs)
-hushed-all w [] all u = u
-hushed-all w (b ∷ bs) all u =
-    let here = first-true (is_hushed b) (every is_hushed bs) all in
-    let later = second-true (is_hushed b) (every is_hushed bs) all in
-    hushed-all (basic w b) bs later (hushed-step w b here u)
-  where
-    first-true : (x y : Bool) → (x && y) ≡ true → x ≡ true
-    first-true x y is = grind arith
-
-    second-true : (x y : Bool) → (x && y) ≡ true → y ≡ true
-    second-true x y is = grind arith
+hushed-all = steps-keep is_hushed HasSingleClosings hushed-step
 
 pub swept-untold : (w : World) → HasSingleClosings w → HasSingleClosings (world_after w (sweep w))
 swept-untold w = hushed-all w (sweep w) (sweep_every is_hushed (λ _. refl) w)
@@ -217,13 +207,10 @@ added-untold w pid value access b untold alone u =
         let apart = apart-sender (same_birth m.sender b) (is_closed_post m) tells off in
         tells-more w (basic w (AddsHandle pid (handle_row value (port_name b) access))) m (added-shut w pid (handle_row value (port_name b) access) m.sender (births-apart m.sender b apart)) (λ none. none) is
 
-    second-off : (c s : Bool) → c ≡ true → not (c && s) ≡ true → s ≡ false
-    second-off c s one two = grind arith
-
     waiting : (x : WaitRow) (c : Bool) → is_connect x ≡ c → waits_shut w x ≡ true → not (is_connect_on b x) ≡ true → waits_shut (basic w (AddsHandle pid (handle_row value (port_name b) access))) x ≡ true
     waiting x false other is off = rw other refl
     waiting x true its is off =
-        let apart = second-off (is_connect x) (same_birth x.port b) its off in
+        let apart = apart-second (is_connect x) (same_birth x.port b) its off in
         waits-more w (basic w (AddsHandle pid (handle_row value (port_name b) access))) x (added-shut w pid (handle_row value (port_name b) access) x.port (births-apart x.port b apart)) is
 
 -- a further handle to an open port
@@ -251,11 +238,8 @@ offered-untold w x shut untold u =
     off-second : (a b : Bool) → b ≡ false → not (a && b) ≡ true
     off-second a b off = grind arith
 
-    and-off : (a b : Bool) → b ≡ false → (a && b) ≡ false
-    and-off a b off = grind arith
-
     telling : (m : MessageRow) (c : Bool) → is_closed_post m ≡ c → tells_shut w m ≡ true → not (is_closing_of x.port m) ≡ true → tells_shut (basic w (Awaits x)) m ≡ true
     telling m false mute is off = rw mute refl
     telling m true tells is off =
         let apart = apart-sender (same_birth m.sender x.port) (is_closed_post m) tells off in
-        tells-more w (basic w (Awaits x)) m (λ off. off) (λ none. has_none-push (is_connect_on m.sender) w.waits x none (and-off (is_connect x) (same_birth x.port m.sender) (births-apart m.sender x.port apart))) is
+        tells-more w (basic w (Awaits x)) m (λ off. off) (λ none. has_none-push (is_connect_on m.sender) w.waits x none (and_right (is_connect x) (same_birth x.port m.sender) (births-apart m.sender x.port apart))) is

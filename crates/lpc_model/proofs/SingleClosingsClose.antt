@@ -4,6 +4,7 @@ use Rattle.std.specs.Prelude.{◌&&◌}
 use Rattle.lpc_base.specs.Rows.{count, has, when}
 use Rattle.lpc_base.proofs.RowWords.{count-none, count-push, every-more, every-not, first-passes}
 use Rattle.lpc_base.proofs.Births.{birth-same}
+use Rattle.lpc_base.proofs.Bools.{first-true}
 use Rattle.lpc_base.specs.declared.status.TheConstants.{INVALID_HANDLE}
 use Rattle.lpc_model.specs.World.{Birth, Creator, HandleRow, HandleTable, PortRow, ThreadRow, World}
 use Rattle.lpc_model.specs.Found.{handle_at, is_open, is_port, port_row, same_birth}
@@ -14,13 +15,13 @@ use Rattle.lpc_model.specs.SoundWaits.{IsSoundWorld, is_connect_on}
 use Rattle.lpc_model.specs.SingleClosings.{HasSingleClosings, is_closing_of, is_shut}
 use Rattle.lpc_model.proofs.Rows.{has-off}
 use Rattle.lpc_model.proofs.Holding.{Holds, bind_holds, found_ok}
-use Rattle.lpc_model.proofs.SoundQueues.{after-append}
 use Rattle.lpc_model.proofs.SoundLess.{IsLess}
 use Rattle.lpc_model.proofs.SoundClosing.{five-shut, posted-less}
 use Rattle.lpc_model.proofs.SoundClose.{found-value, last-closes, shut-found}
 use Rattle.lpc_model.proofs.Closing.{behind, closed-is, cut-is, fewer-uncut, stage_five, uncut}
 use Rattle.lpc_model.proofs.OpenClose.{posted-messages, posted-pass}
 use Rattle.lpc_model.proofs.SingleClosings.{dropped-shut, dropped-untold, fewer-untold, first-once, hushed-all, open-unconnected, open-untold, tells-more, tells_shut, waits-more, waits_shut}
+use Rattle.lpc_model.proofs.StepsInTurn.{after-append}
 
 five-untold : (w : World) (b : Birth) → HasSingleClosings w → HasSingleClosings (stage_five w b)
 five-untold w b u = subst HasSingleClosings (sym (cut-is w b)) (hushed-all (uncut w b) (Cuts b ∷ []) refl (fewer-untold w (uncut w b) (fewer-uncut w b) u))
@@ -86,9 +87,6 @@ module _ (w : World) (pid : ℕ) (r : HandleRow) (at : handle_at w pid r.value �
       none is =
           let same : closing ≡ b = sym (row_is p row) ∙ birth-same p.birth b (first-true (same_birth p.birth b) _ is) in
           subst (λ c. count (is_closing_of c) five.messages ≡ 0) same (count-none (is_closing_of closing) five.messages (has-off (is_closing_of closing) five.messages (open-untold five closing told opens_five)))
-        where
-          first-true : (x y : Bool) → (x && y) ≡ true → x ≡ true
-          first-true x y is = grind arith
 
       of : (k : Bool) → same_birth p.birth b ≡ k → count (is_closing_of b) (five.messages ++ closed_row p q by ∷ []) ≤ 1
       of k is = sum (count (is_closing_of b) five.messages) _ (is_closing_of b (closed_row p q by)) (count-push (is_closing_of b) five.messages (closed_row p q by)) none (told.once b)

@@ -1,11 +1,12 @@
 -- Each line keeps what stands in queues of closings.
 use Rattle.std.proofs.Common.{◌≡◌, ℕ, List, [], ◌∷◌, Bool, true, false, not, Option, Some, None, refl, sym, subst, arith}
-use Rattle.std.specs.Prelude.{◌&&◌, ◌||◌, ◌==◌, Result, Ok, Err}
+use Rattle.std.specs.Prelude.{◌&&◌, ◌||◌, ◌==◌, Result}
 use Rattle.std.proofs.lemmas.Bool.{eqb-true}
 use Rattle.lpc_base.specs.Rows.{every, first, has, without}
 use Rattle.lpc_base.proofs.RowWords.{every-more, every-not, first-passes}
 use Rattle.lpc_base.proofs.RowMaps.{every-first, every-kept}
 use Rattle.lpc_base.proofs.Births.{birth-same}
+use Rattle.lpc_base.proofs.Bools.{first-true, second-true}
 use Rattle.lpc_base.specs.declared.limits.TheConstants.{MESSAGE_LIMIT}
 use Rattle.lpc_base.specs.declared.port_kind.PortKind.TheVariants.{Connection, Unnamed}
 use Rattle.lpc_base.specs.declared.status.Status.{Status}
@@ -30,7 +31,7 @@ use Rattle.lpc_model.specs.SoundWaits.{IsSoundWorld, can_stay_sound, is_connect_
 use Rattle.lpc_model.specs.Standing.{NamesWhatStands}
 use Rattle.lpc_model.specs.SingleClosings.{HasSingleClosings, StepsKeepSingleClosings, is_closing_of}
 use Rattle.lpc_model.proofs.Rows.{has-found}
-use Rattle.lpc_model.proofs.Holding.{Holds, bind_holds, found_ok, holds_ok}
+use Rattle.lpc_model.proofs.Holding.{Holds, bind_holds, found_ok, holds-more, holds_ok}
 use Rattle.lpc_model.proofs.Usable.{CanCall, handle-open}
 use Rattle.lpc_model.proofs.SoundWorlds.{by_kind}
 use Rattle.lpc_model.proofs.SoundAccept.{foreign-connect, unconnected}
@@ -54,8 +55,7 @@ abbrev pub KeepUntold : World → List Basic → Type 0
 KeepUntold w bs = HasSingleClosings (world_after w bs)
 
 hushed_holds : (w : World) (r : Result (List Basic) Status) → HasSingleClosings w → Holds AreHushed r → Holds (KeepUntold w) r
-hushed_holds w (Ok bs) u all = hushed-all w bs all u
-hushed_holds w (Err s) u all = tt
+hushed_holds w r u all = holds-more AreHushed (KeepUntold w) r (λ bs all. hushed-all w bs all u) all
 
 -- Ports that are made
 -- of the port that a thread makes next no message tells, and it isn't open
@@ -156,7 +156,7 @@ waited-untold w b u waited = every-more (tells_shut w) (λ m. not (is_closing_of
     at m is = parts (same_birth m.sender b) (is_closed_post m) (is_open w m.sender) (has (is_connect_on m.sender) w.waits) (λ same. subst (λ c. has (is_connect_on c) w.waits ≡ true) (sym (birth-same m.sender b same)) waited) is
 
 -- and no other connect waits there: each is of the thread that made the port
-its-maker : (w : World) (x : WaitRow) → is_accepted x ≡ true → can_stay_sound w x ≡ true → (x.port.maker == x.thread) ≡ true
+pub its-maker : (w : World) (x : WaitRow) → is_accepted x ≡ true → can_stay_sound w x ≡ true → (x.port.maker == x.thread) ≡ true
 its-maker w = by_kind (λ x. is_accepted x ≡ true → can_stay_sound w x ≡ true → (x.port.maker == x.thread) ≡ true) (λ x m of is. absurd (cc)) (λ x of is. absurd (cc)) (λ x of is. absurd (cc)) (λ x m of is. absurd (cc)) (λ x m r of is. grind arith)
 
 completed-untold : (w : World) (by : ThreadRow) (c : Completable) → first (is_accepted_on c.client) w.waits ≡ Some c.wait → IsSoundWorld w → HasSingleClosings w → KeepUntold w (complete_steps by (free_handle w c.wait.process) c)
@@ -173,12 +173,6 @@ completed-untold w by c found s u =
     let ended = world_after w (Completes c.server ∷ Completes c.client ∷ waking ∷ []) in
     added-untold ended pid (free_handle w pid) PORT_ACCESS c.client (waited-untold w c.client u waited) alone (hushed-all w (Completes c.server ∷ Completes c.client ∷ waking ∷ []) refl u)
   where
-    first-true : (x y : Bool) → (x && y) ≡ true → x ≡ true
-    first-true x y is = grind arith
-
-    second-true : (x y : Bool) → (x && y) ≡ true → y ≡ true
-    second-true x y is = grind arith
-
     not-off : (a : Bool) → a ≡ false → not a ≡ true
     not-off a is = grind arith
 

@@ -1,11 +1,12 @@
 -- The step of each line leaves each port registered once with a thread.
 use Rattle.std.proofs.Common.{Bool, List, [], arith, false, not, refl, true, ℕ, ◌++◌, ◌∷◌, ◌≡◌}
-use Rattle.std.specs.Prelude.{◌&&◌, ◌||◌, Result, Ok, Err}
+use Rattle.std.proofs.lemmas.Bool.{and_from}
+use Rattle.std.specs.Prelude.{◌&&◌, ◌||◌, Result}
 use Rattle.lpc_base.specs.Rows.{every, has, when, without}
 use Rattle.lpc_base.specs.declared.status.Status.{Status}
 use Rattle.lpc_base.proofs.RowWords.{every-change, every-more, every-push, every-without, first-passes}
 use Rattle.lpc_base.proofs.RowMaps.{every-both, every-change_to}
-use Rattle.lpc_base.proofs.Bools.{first-true, second-true}
+use Rattle.lpc_base.proofs.Bools.{first-true}
 use Rattle.lpc_model.specs.declared.entry.ObjectKind.TheVariants as kind
 use Rattle.lpc_model.specs.declared.entry.Word.TheVariants as word
 use Rattle.lpc_model.specs.World.{Birth, ObjectKind, ThreadRow, World}
@@ -16,7 +17,7 @@ use Rattle.lpc_model.specs.Sweep.{sweep}
 use Rattle.lpc_model.specs.Lines.{ScriptCall, ScriptLine, create_process, create_thread, register_thread_terminate_port, terminate_process, terminate_thread, ProcArg}
 use Rattle.lpc_model.specs.Machine.{bare_steps, service_of, step}
 use Rattle.lpc_model.specs.SoundWaits.{IsSoundWorld}
-use Rattle.lpc_model.proofs.Holding.{Holds}
+use Rattle.lpc_model.proofs.Holding.{Holds, holds-more}
 use Rattle.lpc_model.proofs.Rows.{lone}
 use Rattle.lpc_model.proofs.Usable.{CanCall}
 use Rattle.lpc_model.proofs.Undying.{AreUndying, is_undying, register_holds, service-undying}
@@ -25,6 +26,7 @@ use Rattle.lpc_model.specs.Lawful.{HasThreadsOnce}
 use Rattle.lpc_model.specs.Register.{is_registered}
 use Rattle.lpc_model.proofs.Creating.{process-made, thread-made}
 use Rattle.lpc_model.proofs.EachLine.{passing_directives, sound_line_holds, stepped, sweep_every}
+use Rattle.lpc_model.proofs.StepsInTurn.{steps-keep}
 use Rattle.lpc_model.specs.Creation.{nt_create_process, nt_create_thread}
 
 -- Ports that are different
@@ -65,9 +67,7 @@ single-step w (Frees o) is l = freed-single w o.kind o.birth l
 single-step w b is l = l
 
 single-all : (w : World) (bs : List Basic) → every is_lasting bs ≡ true → HasSingleRegistrations w → HasSingleRegistrations (world_after w bs)
-single-all w [] all l = l
-single-all w (b ∷ bs) all l =
-    single-all (basic w b) bs (second-true (is_lasting b) (every is_lasting bs) all) (single-step w b (first-true (is_lasting b) (every is_lasting bs) all) l)
+single-all = steps-keep is_lasting HasSingleRegistrations single-step
 
 undying-lasting : (b : Basic) → is_undying b ≡ true → is_lasting b ≡ true
 undying-lasting (Registers who b) is = absurd (cc)
@@ -84,25 +84,20 @@ abbrev KeepSingle : World → List Basic → Type 0
 KeepSingle w bs = HasSingleRegistrations (world_after w bs)
 
 undying_holds : (w : World) (r : Result (List Basic) Status) → HasSingleRegistrations w → Holds AreUndying r → Holds (KeepSingle w) r
-undying_holds w (Ok bs) l all = single-all w bs (every-more is_undying is_lasting undying-lasting bs all) l
-undying_holds w (Err s) l all = tt
+undying_holds w r l all = holds-more AreUndying (KeepSingle w) r (λ bs all. single-all w bs (every-more is_undying is_lasting undying-lasting bs all) l) all
 
 ending_holds : (w : World) (r : Result (List Basic) Status) → HasSingleRegistrations w → Holds AreEnding r → Holds (KeepSingle w) r
-ending_holds w (Ok bs) l all = single-all w bs (every-more is_ending is_lasting ending-lasting bs all) l
-ending_holds w (Err s) l all = tt
+ending_holds w r l all = holds-more AreEnding (KeepSingle w) r (λ bs all. single-all w bs (every-more is_ending is_lasting ending-lasting bs all) l) all
 
 -- a port that the caller hasn't registered
 registered-single : (w : World) (by : ThreadRow) (b : Birth) → is_registered b by ≡ false → HasThreadsOnce w → CanCall w by → HasSingleRegistrations w → HasSingleRegistrations (basic w (Registers by.number b))
 registered-single w by b off once c l =
     every-change_to (λ r. registers_once r && (not (is_thread by.number r) || is_new r)) registers_once (is_thread by.number) (registering b) (λ r was same. different-push b r.registrations (new (registers_once r) (is_thread by.number r) (is_new r) same was) (first-true (registers_once r) _ was)) (λ r was other. first-true (registers_once r) _ was) w.threads
-    (every-both registers_once (λ r. not (is_thread by.number r) || is_new r) (λ r. registers_once r && (not (is_thread by.number r) || is_new r)) (λ r one two. both (registers_once r) _ one two) w.threads l
+    (every-both registers_once (λ r. not (is_thread by.number r) || is_new r) (λ r. registers_once r && (not (is_thread by.number r) || is_new r)) (λ r one two. and_from (registers_once r) _ one two) w.threads l
     (lone (is_thread by.number) is_new (is_live_thread by.number) w.threads by (once by.number) c.lives (first-true (is_thread by.number by) by.live (first-passes (is_live_thread by.number) w.threads by c.lives)) (none-same b by.registrations off)))
   where
     is_new : ThreadRow → Bool
     is_new r = every (λ c. not (same_birth b c)) r.registrations
-
-    both : (x y : Bool) → x ≡ true → y ≡ true → (x && y) ≡ true
-    both x y one two = grind arith
 
     new : (l n f : Bool) → n ≡ true → (l && (not n || f)) ≡ true → f ≡ true
     new l n f same is = grind arith
@@ -112,8 +107,7 @@ abbrev AreLasting : List Basic → Type 0
 AreLasting bs = every is_lasting bs ≡ true
 
 lasting_holds : (w : World) (r : Result (List Basic) Status) → HasSingleRegistrations w → Holds AreLasting r → Holds (KeepSingle w) r
-lasting_holds w (Ok bs) l all = single-all w bs all l
-lasting_holds w (Err s) l all = tt
+lasting_holds w r l all = holds-more AreLasting (KeepSingle w) r (λ bs all. single-all w bs all l) all
 
 create-process-lasting : (w : World) (by : ThreadRow) (pid tid : ℕ) → Holds AreLasting (nt_create_process w by pid tid)
 create-process-lasting w by pid tid = process-made AreLasting w by pid tid (λ _ _. refl)

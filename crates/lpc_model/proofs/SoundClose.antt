@@ -4,7 +4,7 @@ use Rattle.std.specs.Prelude.{◌&&◌, ◌||◌, ◌==◌}
 use Rattle.lpc_base.specs.Rows.{count, every, first, has, passes, when}
 use Rattle.lpc_base.specs.declared.status.TheConstants.{INVALID_HANDLE}
 use Rattle.lpc_base.proofs.RowWords.{every-more, first-passes, has-change}
-use Rattle.std.proofs.lemmas.Bool.{and_from, eqb-true}
+use Rattle.std.proofs.lemmas.Bool.{and_from, and_right, eqb-true}
 use Rattle.lpc_base.proofs.RowMaps.{every-both}
 use Rattle.lpc_base.proofs.Bools.{first-true, second-true}
 use Rattle.lpc_base.proofs.Births.{birth-same, birth-self, births-apart}
@@ -22,11 +22,11 @@ use Rattle.lpc_model.proofs.Rows.{count-change}
 use Rattle.lpc_model.proofs.Holding.{Holds, bind_holds, found_ok}
 use Rattle.lpc_model.proofs.SoundPairs.{tied-of}
 use Rattle.lpc_model.proofs.SoundWorlds.{InOrder, by_kind, is_sure, leads-kept, port-kept, sound-from, sound-kept, stands-same, sure-waits}
-use Rattle.lpc_model.proofs.SoundQueues.{after-append}
 use Rattle.lpc_model.proofs.SoundCalls.{LeaveSound}
 use Rattle.lpc_model.proofs.SoundDrops.{count-open, drop-count, open-dropped, open-kept}
 use Rattle.lpc_model.proofs.Handles.{open-count}
 use Rattle.lpc_model.proofs.SoundClosing.{IsShut, close-shut, is_apart_from}
+use Rattle.lpc_model.proofs.StepsInTurn.{after-append}
 
 -- A handle that goes
 order-dropped : (w : World) (pid value : ℕ) → every (λ x. leads_open (basic w (DropsHandle pid value)) x.1) w.bindings ≡ true → IsSoundWorld w → InOrder (basic w (DropsHandle pid value))
@@ -128,10 +128,7 @@ last-leads w v b opens (path, Stands (Item c)) is off = let apart : same_birth c
 
 -- behind the handle each other port is as open as before
 pub but-opens : (w : World) (pid : ℕ) (r : HandleRow) → count (is_table pid) w.handles ≤ 1 → handle_at w pid r.value ≡ Some r → OpensBut w (basic w (DropsHandle pid r.value)) r.object.birth
-but-opens w pid r one at c apart is = open-dropped w pid r.value r c one at (and-off (same_kind r.object.kind kind.Port) (same_birth r.object.birth c) (births-apart c r.object.birth apart)) is
-  where
-    and-off : (k o : Bool) → o ≡ false → (k && o) ≡ false
-    and-off k o off = grind arith
+but-opens w pid r one at c apart is = open-dropped w pid r.value r c one at (and_right (same_kind r.object.kind kind.Port) (same_birth r.object.birth c) (births-apart c r.object.birth apart)) is
 
 -- the handle is found behind the six steps
 pub shut-found : (w v : World) (pid : ℕ) (r : HandleRow) → v.handles ≡ w.handles → handle_at w pid r.value ≡ Some r → handle_at v pid r.value ≡ Some r

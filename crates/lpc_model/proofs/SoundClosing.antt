@@ -60,10 +60,10 @@ stage-each w v b known test ending off turns t =
 receiver-quiet : (b : Birth) (x : WaitRow) → is_receiver b x ≡ true → is_accepted x ≡ false
 receiver-quiet b = by_kind (λ x. is_receiver b x ≡ true → is_accepted x ≡ false) (λ x m is. refl) (λ x is. refl) (λ x is. refl) (λ x m is. refl) (λ x m r is. absurd (cc))
 
-request-quiet : (x : WaitRow) (c : Bool) → (is_request x && c) ≡ true → is_accepted x ≡ false
+pub request-quiet : (x : WaitRow) (c : Bool) → (is_request x && c) ≡ true → is_accepted x ≡ false
 request-quiet x c = by_kind (λ x. (is_request x && c) ≡ true → is_accepted x ≡ false) (λ x m is. refl) (λ x is. refl) (λ x is. refl) (λ x m is. refl) (λ x m r is. absurd (cc)) x
 
-receive-quiet : (x : WaitRow) (c : Bool) → (is_receive x && c) ≡ true → is_accepted x ≡ false
+pub receive-quiet : (x : WaitRow) (c : Bool) → (is_receive x && c) ≡ true → is_accepted x ≡ false
 receive-quiet x c = by_kind (λ x. (is_receive x && c) ≡ true → is_accepted x ≡ false) (λ x m is. refl) (λ x is. refl) (λ x is. refl) (λ x m is. refl) (λ x m r is. absurd (cc)) x
 
 offered-quiet : (x : WaitRow) (c : Bool) → (is_offered x && c) ≡ true → is_accepted x ≡ false

@@ -5,6 +5,7 @@ use Rattle.std.proofs.lemmas.Bool.Decides.{nat_tests}
 use Rattle.lpc_base.specs.Rows.{every, has}
 use Rattle.lpc_base.proofs.RowWords.{every-more, every-push, has-push}
 use Rattle.lpc_base.proofs.Births.{birth-self}
+use Rattle.lpc_base.proofs.Bools.{same-number}
 use Rattle.lpc_names.specs.declared.fault.NameFault.{NameFault}
 use Rattle.lpc_names.specs.Binding.{has_name}
 use Rattle.lpc_names.specs.Walk.{LinkTo, Stands, lookup}
@@ -55,16 +56,13 @@ own-request by connection bytes = let self = birth-self connection in grind (ari
 connect-parts : (c q h p o : Bool) → c ≡ true → q ≡ true → h ≡ true → p ≡ true → o ≡ true → ((c && (q && h)) && (p && o)) ≡ true
 connect-parts c q h p o one two three four five = grind arith
 
-own-maker : (by : ThreadRow) → (by.number == by.number) ≡ true
-own-maker by = grind (arith, nat_tests)
-
 drawn-ordinal : (w : World) (by : ThreadRow) → is_client w (client_of by) ≡ true → is_client (basic w (DrawsOrdinal by.number)) (client_of by) ≡ true
 drawn-ordinal w by is = rw (passes-change (is_live_thread by.number) (λ t. t.process == by.process) (is_thread by.number) past_ordinal (λ t. refl) (λ t. refl) w.threads) is
 
 -- the caller can call once it has drawn an identifier
 drawn-caller : (w : World) (by : ThreadRow) → CanCall w by → CanCall (basic w (DrawsIdentifier by.number)) (past_identifier by)
 drawn-caller w by c = record {
-  lives = rw (first-change (is_live_thread by.number) (is_thread by.number) past_identifier (λ t. refl) w.threads, c.lives) (own (is_thread by.number by) (own-maker by));
+  lives = rw (first-change (is_live_thread by.number) (is_thread by.number) past_identifier (λ t. refl) w.threads, c.lives) (own (is_thread by.number by) (same-number by.number));
   client = drawn-client w by c.client;
   idle = c.idle;
   home = c.home;
@@ -97,7 +95,7 @@ connected-sound w by connection bytes c opens s =
     let request = has-push (is_message_of x) w.messages row (own-request by connection bytes) in
     let stands = has-push (is_port port.birth) w.ports port (birth-self port.birth) in
     let lives = drawn-ordinal drawn by (drawn-client w by c.client) in
-    let own : is_ready made row x ≡ true = connect-parts (is_client made (client_of by)) (is_open w connection) (has (is_message_of x) (w.messages ++ row ∷ [])) (has (is_port port.birth) (w.ports ++ port ∷ [])) (by.number == by.number) lives opens request stands (own-maker by) in
+    let own : is_ready made row x ≡ true = connect-parts (is_client made (client_of by)) (is_open w connection) (has (is_message_of x) (w.messages ++ row ∷ [])) (has (is_port port.birth) (w.ports ++ port ∷ [])) (by.number == by.number) lives opens request stands (same-number by.number) in
     let apart = every-push (is_apart x) w.ports port (every-more (λ p. is_past p by) (is_apart x) (new-apart by x refl) w.ports (s.ordinals by.number by c.lives)) refl in
     sound-enter (basic made (Awaits x)) row (every-push (is_ready made row) w.waits x others own) (once-awaits w x c.idle s.once) (order-of made t) (tied-awaits made.ports w.waits x apart (tied-of made t))
 

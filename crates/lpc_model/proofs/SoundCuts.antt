@@ -6,6 +6,7 @@ use Rattle.lpc_base.specs.Rows.{change, each, every, has, passes, which, without
 use Rattle.lpc_base.proofs.RowWords.{every-change, every-more, every-without, first-passes, has-change, has_none-without}
 use Rattle.lpc_base.proofs.RowMaps.{every-both, every-change_to}
 use Rattle.lpc_base.proofs.Births.{birth-same, birth-self, births-apart}
+use Rattle.lpc_base.proofs.Bools.{first-off, first-true, second-off, second-true}
 use Rattle.lpc_model.specs.World.{Birth, PortRow, Receive, WaitRow, World}
 use Rattle.lpc_model.specs.Found.{is_accepted, is_client_port, is_open, is_port, is_server_port, is_the, pair_of, port_row, same_birth, waits_as}
 use Rattle.lpc_model.specs.Basics.{Cuts, basic, cut, is_end_of, world_after}
@@ -15,12 +16,12 @@ use Rattle.lpc_model.specs.Connect.{is_accepted_on}
 use Rattle.lpc_model.specs.SoundWaits.{IsSoundWorld, has_come, is_sound_connect, waiter_of, is_awaited, is_connect_on, is_joined, lacks_connects}
 use Rattle.lpc_model.proofs.Rows.{count-less, every-left, first-change, first-map, has-without}
 use Rattle.lpc_model.proofs.Usable.{by_port_kind}
-use Rattle.lpc_model.proofs.SoundPairs.{IsTied, awaited-kept, cut-awaited, on-kept, tied, tied-of}
+use Rattle.lpc_model.proofs.SoundPairs.{IsTied, awaited-kept, cut-awaited, lacks-parts, on-kept, tied, tied-of}
 use Rattle.lpc_model.proofs.SoundTies.{same-port}
 use Rattle.lpc_model.proofs.SoundWorlds.{WaitOnce, by_kind, is_sure, sound-from, sure-waits}
 use Rattle.lpc_model.proofs.SoundPorts.{order-mapped}
 use Rattle.lpc_model.proofs.SoundLess.{failing-apart, passing-shares, shares}
-use Rattle.lpc_model.proofs.SoundQueues.{after-append}
+use Rattle.lpc_model.proofs.StepsInTurn.{after-append}
 
 -- Waits without those of some rows
 abbrev pub rest : List WaitRow → List WaitRow → List WaitRow
@@ -154,14 +155,8 @@ the-same a b (Some c) one two = let same : a ≡ c = birth-same a c one in let o
 pub other-end : (w : World) (b : Birth) (p : PortRow) (c : Birth) → is_end_of b p ≡ false → p.pair ≡ Some c → is_the p.birth (pair_of w c) ≡ true → (same_birth c b ≡ false) × (is_the b (pair_of w c) ≡ false)
 other-end w b p c off some back = (apart, at (is_the b (pair_of w c)) refl)
   where
-    second : (x y : Bool) → (x || y) ≡ false → y ≡ false
-    second x y is = grind arith
-
-    first-off : (x y : Bool) → (x || y) ≡ false → x ≡ false
-    first-off x y is = grind arith
-
     unpaired : is_the b p.pair ≡ false
-    unpaired = second (is_port b p) (is_the b p.pair) off
+    unpaired = second-off (is_port b p) (is_the b p.pair) off
 
     apart : same_birth c b ≡ false
     apart = let one : same_birth b c ≡ false = rw some at unpaired in births-apart b c one
@@ -181,19 +176,13 @@ still-waits w b c apart off once is =
     parts : (a m n s : Bool) → m ≡ false → n ≡ false → ((a && (m || n)) || not s) ≡ true → not s ≡ true
     parts a m n s one two is = grind arith
 
-    second : (x y : Bool) → (x && y) ≡ true → y ≡ true
-    second x y is = grind arith
-
     at : (y : WaitRow) (o : Bool) → is_accepted_on c y ≡ o → (is_accepted_across b w y || not (shares (which (is_accepted_across b w) w.waits) y)) ≡ true → (not o || not (shares (which (is_accepted_across b w) w.waits) y)) ≡ true
     at y false on one = refl
     at y true on one =
-        let same = birth-same y.port c (second (is_accepted y) (same_birth y.port c) on) in
+        let same = birth-same y.port c (second-true (is_accepted y) (same_birth y.port c) on) in
         let made : same_birth y.port b ≡ false = subst (λ d. same_birth d b ≡ false) (sym same) apart in
         let across : is_the b (pair_of w y.port) ≡ false = subst (λ d. is_the b (pair_of w d) ≡ false) (sym same) off in
         parts (is_accepted y) (same_birth y.port b) (is_the b (pair_of w y.port)) (shares (which (is_accepted_across b w) w.waits) y) made across one
-
-lacks-parts : (s h i : Bool) → (h ≡ false → i ≡ false) → not (s && h) ≡ true → not (s && i) ≡ true
-lacks-parts s h i off is = grind (arith, off)
 
 tied-cut : (w : World) (b : Birth) → WaitOnce w.waits → IsTied w.ports w.waits → IsTied (change (is_end_of b) cut w.ports) (rest (which (is_accepted_across b w) w.waits) w.waits)
 tied-cut w b once t =
@@ -203,13 +192,10 @@ tied-cut w b once t =
     record {
       pairs = every-change_to (is_awaited before) (is_awaited after) (is_end_of b) cut (λ p was is. cut-awaited after (cut p) refl)
           (λ p was off. awaited-kept before after p (λ c some _ on.
-          let ends = other-end w b p c off some (second (has (is_accepted_on c) w.waits) _ on) in
+          let ends = other-end w b p c off some (second-true (has (is_accepted_on c) w.waits) _ on) in
           on-kept before after p.birth c (still-waits w b c ends.0 ends.1 once) (λ is. rw (same-row w b c ends.0 ends.1) is) on) was) w.ports t.pairs;
       servers = every-change (lacks_connects after) (is_end_of b) cut (λ p is. is) w.ports (every-more (lacks_connects before) (lacks_connects after) (λ p. lacks-parts (is_server_port p) (has (is_connect_on p.birth) w.waits) (has (is_connect_on p.birth) (rest xs w.waits)) (none-rest (is_connect_on p.birth) xs w.waits)) w.ports t.servers);
     }
-  where
-    second : (x y : Bool) → (x && y) ≡ true → y ≡ true
-    second x y is = grind arith
 
 -- The cut
 -- accepted connects end, and the port and its other end are parted
@@ -237,9 +223,3 @@ sound-parted w b free s =
     sound-from v (every-both (λ y. is_sure w y && is_free_of w b y) (λ y. not (is_accepted_across b w y)) (is_sure (basic w (Cuts b))) (λ y one two. cut-sure w b y (first-true _ _ one) (and_from _ _ (second-true _ _ one) two)) (rest xs w.waits)
     (every-rest _ xs w.waits (every-both (is_sure w) (is_free_of w b) (λ y. is_sure w y && is_free_of w b y) (λ y one two. and_from _ _ one two) w.waits (sure-waits w s) free)) (none-accepted w b))
     (once-rest xs w.waits s.once) (order-mapped w (λ p. cond (is_end_of b p) (cut p) p) (λ p. cut-birth (is_end_of b p) p) s) (tied-cut w b s.once (tied-of w s))
-  where
-    first-true : (x y : Bool) → (x && y) ≡ true → x ≡ true
-    first-true x y is = grind arith
-
-    second-true : (x y : Bool) → (x && y) ≡ true → y ≡ true
-    second-true x y is = grind arith

@@ -8,9 +8,10 @@ use Rattle.lpc_base.specs.declared.status.TheConstants.{LPC_REPLY_LOST, PORT_DIS
 use Rattle.lpc_base.proofs.RowWords.{every-change, every-more, first-passes}
 use Rattle.lpc_base.proofs.RowMaps.{every-both, every-first, every-none}
 use Rattle.lpc_base.proofs.Births.{birth-same, birth-self}
+use Rattle.lpc_base.proofs.Bools.{apart-second}
 use Rattle.lpc_model.specs.declared.entry.CallName.TheVariants.{NtClose}
 use Rattle.lpc_model.specs.World.{Birth, Listen, Message, Receive, Request, ThreadRow, WaitRow, World}
-use Rattle.lpc_model.specs.Found.{is_accepted, is_connect, is_live_thread, is_made_on, is_open, is_receive, is_request, is_the, is_thread, live_thread, pair_of, same_birth, wait_of, waits_as, was_thread}
+use Rattle.lpc_model.specs.Found.{is_accepted, is_connect, is_live_thread, is_made_on, is_open, is_the, is_thread, live_thread, pair_of, same_birth, wait_of, waits_as, was_thread}
 use Rattle.lpc_model.specs.Basics.{Cuts, Dies, Withdraws, doing, ended, world_after}
 use Rattle.lpc_model.specs.Tests.{is_client}
 use Rattle.lpc_model.specs.Close.{cut_pair, end_accepted, end_request, is_accepted_across, is_receive_across, is_receiver, is_request_across, is_request_on, wake}
@@ -21,11 +22,12 @@ use Rattle.lpc_model.proofs.Closing.{behind, then-holds}
 use Rattle.lpc_model.proofs.SoundPairs.{is_quiet, tied, tied-of}
 use Rattle.lpc_model.proofs.SoundWorlds.{WaitOnce, by_kind, is_sure, sound-from, sure-waits}
 use Rattle.lpc_model.proofs.SoundBasics.{sound-wakes-quiet}
-use Rattle.lpc_model.proofs.SoundQueues.{after-append}
 use Rattle.lpc_model.proofs.SoundLess.{IsLess, ended-each, less-withdrawn, turns-told, turns-withdrawn}
 use Rattle.lpc_model.proofs.SoundCuts.{every-rest, is_free_of, none-accepted, parted, parted-world, sound-parted}
 use Rattle.lpc_model.proofs.Dying.{asked_across, cut-parts, gone, gone-cut, received_across}
-use Rattle.std.proofs.lemmas.Bool.{eqb-true}
+use Rattle.lpc_model.proofs.SoundClosing.{receive-quiet, request-quiet}
+use Rattle.lpc_model.proofs.StepsInTurn.{after-append}
+use Rattle.std.proofs.lemmas.Bool.{and_from, eqb-true, not-true}
 
 -- A thread that doesn't wait ends
 -- the other live threads are found as before
@@ -45,10 +47,7 @@ sure-parts a b s k more is = grind (arith, more)
 
 lifeless-sure : (n : ℕ) (w : World) (x : WaitRow) → is_sure w x ≡ true → not (waits_as n x) ≡ true → is_sure (lifeless n w) x ≡ true
 lifeless-sure n w x is off =
-    sure-parts (is_client w (waiter_of x)) (is_client (lifeless n w) (waiter_of x)) (is_sound_as w x x.kind) (can_stay_sound w x) (λ one. rw (other-found x.thread n w.threads (apart (x.thread == n) off)) one) is
-  where
-    apart : (a : Bool) → not a ≡ true → a ≡ false
-    apart a is = grind arith
+    sure-parts (is_client w (waiter_of x)) (is_client (lifeless n w) (waiter_of x)) (is_sound_as w x x.kind) (can_stay_sound w x) (λ one. rw (other-found x.thread n w.threads (not-true (x.thread == n) off)) one) is
 
 lifeless-sound : (n : ℕ) (w : World) → every (λ x. not (waits_as n x)) w.waits ≡ true → IsSoundWorld w → IsSoundWorld (lifeless n w)
 lifeless-sound n w off s =
@@ -114,12 +113,6 @@ shut-off w b shut =
         at true same = let one = subst (λ d. is_open w d ≡ true) (birth-same c b same) opens in absurd (cc)
         at false same = refl
 
-request-quiet : (z : WaitRow) (c : Bool) → (is_request z && c) ≡ true → is_accepted z ≡ false
-request-quiet z c = by_kind (λ z. (is_request z && c) ≡ true → is_accepted z ≡ false) (λ z m is. refl) (λ z is. refl) (λ z is. refl) (λ z m is. refl) (λ z m r is. absurd (cc)) z
-
-receive-quiet : (z : WaitRow) (c : Bool) → (is_receive z && c) ≡ true → is_accepted z ≡ false
-receive-quiet z c = by_kind (λ z. (is_receive z && c) ≡ true → is_accepted z ≡ false) (λ z m is. refl) (λ z is. refl) (λ z is. refl) (λ z m is. refl) (λ z m r is. absurd (cc)) z
-
 -- what the cut leaves: a sound world, and no accepted connect on the port
 pub record IsCutOff (w v : World) (b : Birth) : Type 0 where
   pub sound : IsSoundWorld v
@@ -154,11 +147,8 @@ module _ (w : World) (b : Birth) (off : every (is_off b) w.waits ≡ true) (s : 
       let two = subst (λ ps. every (λ z. not (is_request_across b (tied ps []) z)) heard.waits ≡ true) (sym (heard-less.ports ∙ asked-less.ports)) (heard-less.waits (λ z. not (is_request_across b w z)) asked-none) in
       let three = subst (λ ps. every (λ z. not (is_receive_across b (tied ps []) z)) heard.waits ≡ true) (sym heard-less.ports) heard-none in
       every-both (λ z. is_off b z && not (is_request_across b heard z)) (λ z. not (is_receive_across b heard z)) (is_free_of heard b) (λ z here last. together _ _ _ _ here last) heard.waits
-      (every-both (is_off b) (λ z. not (is_request_across b heard z)) (λ z. is_off b z && not (is_request_across b heard z)) (λ z x y. both _ _ x y) heard.waits one two) three
+      (every-both (is_off b) (λ z. not (is_request_across b heard z)) (λ z. is_off b z && not (is_request_across b heard z)) (λ z x y. and_from _ _ x y) heard.waits one two) three
     where
-      both : (x y : Bool) → x ≡ true → y ≡ true → (x && y) ≡ true
-      both x y one two = grind arith
-
       together : (r q a c : Bool) → ((not r && not q) && not a) ≡ true → not c ≡ true → (not r && (not q && (not a && not c))) ≡ true
       together r q a c one two = grind arith
 
@@ -196,7 +186,7 @@ pub record IsParting (w : World) (n : ℕ) (b : Birth) : Type 0 where
 pub parting : (w : World) (n : ℕ) (x : WaitRow) → wait_of w n ≡ Some x → is_accepted x ≡ true → HasShutConnects w → IsSoundWorld w → IsParting w n x.port
 parting w n x found is shut s =
     let b = x.port in
-    let closed = apart (is_connect x) (is_open w b) (connects x is) (every-first (λ x. not (is_connect x && is_open w x.port)) (waits_as n) w.waits x shut found) in
+    let closed = apart-second (is_connect x) (is_open w b) (connects x is) (every-first (λ x. not (is_connect x && is_open w x.port)) (waits_as n) w.waits x shut found) in
     let off = every-more (is_sound_wait w) (is_off b) (shut-off w b closed) w.waits s.waits in
     let less = asked-less w b off s in
     let its = its-waits w n x is_accepted s.once found is in
@@ -205,9 +195,6 @@ parting w n x found is shut s =
       same = gone-cut n b w (every-more _ _ (λ z one. no-request w b n z one) w.waits its) (every-more _ _ (λ z one. no-receive (asked_across b w) b n z one) (asked_across b w).waits (less.waits (λ z. not (waits_as n z) || is_accepted z) its));
     }
   where
-    apart : (a o : Bool) → a ≡ true → not (a && o) ≡ true → o ≡ false
-    apart a o one two = grind arith
-
     connects : (x : WaitRow) → is_accepted x ≡ true → is_connect x ≡ true
     connects x is = grind arith
 

@@ -5,6 +5,7 @@ use Rattle.std.proofs.lemmas.Bool.Decides.{nat_tests}
 use Rattle.lpc_base.specs.Rows.{count, every, first, has, which, without}
 use Rattle.lpc_base.proofs.RowWords.{count-left, every-more, every-without}
 use Rattle.lpc_base.proofs.RowMaps.{every-both}
+use Rattle.lpc_base.proofs.Bools.{apart-second}
 use Rattle.lpc_model.specs.declared.entry.ObjectKind.TheVariants as kind
 use Rattle.lpc_model.specs.World.{Birth, ObjectKind, ObjectName, PortRow, ThreadRow, World}
 use Rattle.lpc_model.specs.Found.{all_registrations, handle_count, holders, is_connected_to, is_port, lives_by, is_life, is_live_thread, is_made_on, is_paired_to, live_thread, pointer_count, registered_by, same_birth, was_thread}
@@ -17,7 +18,7 @@ use Rattle.lpc_model.proofs.SoundPairs.{tied-of}
 use Rattle.lpc_model.proofs.SoundTies.{is_joined_to}
 use Rattle.lpc_model.proofs.SoundWorlds.{port-kept, sound-kept, stands-same}
 use Rattle.lpc_model.proofs.SoundPorts.{sound-frees}
-use Rattle.lpc_model.proofs.SoundQueues.{after-append}
+use Rattle.lpc_model.proofs.StepsInTurn.{after-append}
 
 -- What no row names
 pub none-pass : {X : Type 0} (p : X → Bool) (xs : List X) → count p xs ≤ 0 → every (λ x. not (p x)) xs ≡ true
@@ -58,10 +59,7 @@ process-freed w b s = record {
 
 -- a live thread isn't the one that goes
 live-apart : (tid : ℕ) (b : Birth) (t : ThreadRow) → is_live_thread tid t ≡ true → not (is_life b t) ≡ true → same_birth t.birth b ≡ false
-live-apart tid b t lives off = at t.live (same_birth t.birth b) (grind arith) off
-  where
-    at : (l h : Bool) → l ≡ true → not (l && h) ≡ true → h ≡ false
-    at l h one two = grind arith
+live-apart tid b t lives off = apart-second t.live (same_birth t.birth b) (grind arith) off
 
 first-apart : (tid : ℕ) (b : Birth) (ts : List ThreadRow) → every (λ t. not (is_life b t)) ts ≡ true → first (is_live_thread tid) (without (λ t. same_birth t.birth b) ts) ≡ first (is_live_thread tid) ts
 first-apart tid b [] off = refl

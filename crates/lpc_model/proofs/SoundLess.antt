@@ -6,6 +6,7 @@ use Rattle.lpc_base.specs.Rows.{each, every, has, which, without}
 use Rattle.lpc_base.specs.declared.status.Status.{Status}
 use Rattle.lpc_base.proofs.RowWords.{every-any, every-more, every-without, has_none-without, none-counted}
 use Rattle.lpc_base.proofs.RowMaps.{every-both}
+use Rattle.lpc_base.proofs.Bools.{first-true}
 use Rattle.lpc_names.specs.Binding.{is_name}
 use Rattle.lpc_model.specs.declared.entry.Field.{Field}
 use Rattle.lpc_model.specs.World.{Birth, Listen, MessageRow, Receive, WaitRow, World}
@@ -18,7 +19,8 @@ use Rattle.lpc_model.proofs.Rows.{every-left, has-without}
 use Rattle.lpc_model.proofs.SoundPairs.{is_quiet, tied-of}
 use Rattle.lpc_model.proofs.SoundWorlds.{WaitOnce, by_kind, is_sure, order-of, sound-from, sure-waits}
 use Rattle.lpc_model.proofs.SoundBasics.{sound-wakes-quiet}
-use Rattle.lpc_model.proofs.SoundQueues.{after-append, listen-sure, receive-sure, with_messages}
+use Rattle.lpc_model.proofs.SoundQueues.{listen-sure, receive-sure, with_messages}
+use Rattle.lpc_model.proofs.StepsInTurn.{after-append}
 
 -- A world with less
 -- a sound world with fewer waits and messages, and with the same ports, handles and names
@@ -119,9 +121,6 @@ is_unqueued b x = not (is_queued_request b x) && not (is_offered_to b x)
 pub less-emptied : (w : World) (b : Birth) → every (is_unqueued b) w.waits ≡ true → IsSoundWorld w → IsLess w (basic w (Empties b))
 less-emptied w b off s =
     sound-fewer w (is_queued b) (is_unqueued b) (λ x one is rec m own. queue-apart b x m (unqueued (is_request x) (same_birth x.queue b) (is_offered x) x.received one is rec) (first-true (is_queued x.queue m) _ own)) off s
-  where
-    first-true : (a c : Bool) → (a && c) ≡ true → a ≡ true
-    first-true a c is = grind arith
 
 -- Waits that share a thread
 -- no wait passes the test but for one that shares its thread with a row of the list
@@ -246,7 +245,7 @@ which-quiet : (test f : WaitRow → Bool) (ws : List WaitRow) → ((x : WaitRow)
 which-quiet test f [] off all = refl
 which-quiet test f (x ∷ xs) off all = grind (arith, off x, which-quiet test f xs off)
 
-not-passing : (t s : Bool) → (not t || s) ≡ true → not s ≡ true → not t ≡ true
+pub not-passing : (t s : Bool) → (not t || s) ≡ true → not s ≡ true → not t ≡ true
 not-passing t s one two = grind arith
 
 pub ended-each : (w : World) (test : WaitRow → Bool) (ending : WaitRow → List Basic) → ((x : WaitRow) → test x ≡ true → is_accepted x ≡ false) → Turns ending → IsSoundWorld w → IsEnded w (world_after w (each ending (which test w.waits))) test

@@ -50,7 +50,7 @@ sound-completes w c s =
     })) refl (order-mapped w (λ p. cond (is_port c p) (completed p) p) (λ p. completed-birth (is_port c p) p) s) (tied-completed w.ports w.waits c (tied-of w s)) s
 
 -- A connection that is joined
-joined-row : (w : World) (client server : Birth) (context : ℕ) (b : Birth) (p : PortRow) → port_row w b ≡ Some p → port_row (basic w (Joins client server context)) b ≡ Some (joined client server context p)
+pub joined-row : (w : World) (client server : Birth) (context : ℕ) (b : Birth) (p : PortRow) → port_row w b ≡ Some p → port_row (basic w (Joins client server context)) b ≡ Some (joined client server context p)
 joined-row w client server context b p at =
     first-map (is_port b) (joined client server context) (λ p. same-port b p (joined client server context p) (joined-birth client server context p)) w.ports p at
 

@@ -18,10 +18,7 @@ use Rattle.lpc_model.proofs.Rows.{count-change, has-append, has-without_first, l
 use Rattle.lpc_model.proofs.SoundPairs.{IsTied, is_quiet, tied-changed, tied-of}
 use Rattle.lpc_model.proofs.SoundWorlds.{InOrder, WaitOnce, by_kind, is_sure, order-of, sound-from, sure-waits}
 use Rattle.lpc_model.proofs.SoundBasics.{sound-wakes-quiet}
-
-pub after-append : (w : World) (bs cs : List Basic) → world_after w (bs ++ cs) ≡ world_after (world_after w bs) cs
-after-append w [] cs = refl
-after-append w (b ∷ bs) cs = after-append (basic w b) bs cs
+use Rattle.lpc_model.proofs.StepsInTurn.{after-append}
 
 -- What is received
 -- the wait behind the taking of a message, if that asks: received where it is of the message's thread

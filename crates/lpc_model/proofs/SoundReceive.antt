@@ -18,9 +18,10 @@ use Rattle.lpc_model.proofs.Holding.{Holds, bind_holds, found_ok, holds_ok, not_
 use Rattle.lpc_model.proofs.Usable.{CanCall, IsUsable, port-usable, queue-open, unspent}
 use Rattle.lpc_model.proofs.SoundWorlds.{is_sure}
 use Rattle.lpc_model.proofs.SoundBasics.{sound-awaits}
-use Rattle.lpc_model.proofs.SoundQueues.{after-append, sound-take}
+use Rattle.lpc_model.proofs.SoundQueues.{sound-take}
 use Rattle.lpc_model.proofs.SoundCalls.{LeaveSound}
 use Rattle.lpc_model.proofs.SoundReply.{replied-sound}
+use Rattle.lpc_model.proofs.StepsInTurn.{after-append}
 
 -- what a reply that is made first leaves: some waits, and all else as it was
 record IsReplied (w : World) (bs : List Basic) : Type 0 where

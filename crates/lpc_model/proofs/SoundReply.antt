@@ -23,7 +23,7 @@ use Rattle.lpc_model.proofs.SoundCalls.{LeaveSound}
 request-quiet : (x : WaitRow) → is_request x ≡ true → not (is_accepted x) ≡ true
 request-quiet = by_kind (λ x. is_request x ≡ true → not (is_accepted x) ≡ true) (λ x m is. refl) (λ x is. refl) (λ x is. refl) (λ x m is. refl) (λ x m reply is. absurd (cc))
 
-fits-request : (w : World) (port : Birth) (m : Message) (x : WaitRow) → fits w port m x ≡ true → is_request x ≡ true
+pub fits-request : (w : World) (port : Birth) (m : Message) (x : WaitRow) → fits w port m x ≡ true → is_request x ≡ true
 fits-request w port m x is = grind arith
 
 answered-quiet : (w : World) (port : PortRow) (m : Message) → IsSoundWorld w → Holds (λ (x : WaitRow). every (is_quiet x.thread) w.waits ≡ true) (reply_test w port m)

@@ -2,7 +2,7 @@
 use Rattle.std.proofs.Common.{◌≡◌, ℕ, ◌+◌, ◌≤◌, List, [], ◌∷◌, Bool, true, false, cond, map, not, Option, Some, None, refl, sym, subst, ◌∙◌, arith}
 use Rattle.std.specs.Prelude.{◌&&◌, ◌||◌, nat_lt}
 use Rattle.std.proofs.lemmas.Bool.Decides.{nat_tests}
-use Rattle.std.proofs.lemmas.Bool.{not-true}
+use Rattle.std.proofs.lemmas.Bool.{and_from, not-true}
 use Rattle.lpc_base.specs.Rows.{count, every, has, passes, which, without}
 use Rattle.lpc_base.proofs.RowWords.{every-any, every-append, every-change, every-more, every-push, every-which, every-without, first-passes, has-change, has-kept}
 use Rattle.lpc_base.proofs.RowMaps.{every-both, every-first, every-without_first}
@@ -15,13 +15,13 @@ use Rattle.lpc_model.specs.Sweep.{free_unheld, is_unheld, sweep, unheld}
 use Rattle.lpc_model.specs.Standing.{NamesWhatStands, has_near_queue, is_near, names_object, port_stands, stands_as}
 use Rattle.lpc_model.proofs.Rows.{has-without, passes-change}
 use Rattle.lpc_model.proofs.SoundWorlds.{by_kind}
-use Rattle.lpc_model.proofs.SoundQueues.{after-append}
 use Rattle.lpc_model.proofs.SoundFrees.{is-zero, less-held, none-pass, sum-first, sum-second, which-all}
 use Rattle.lpc_model.proofs.SoundCuts.{cut-row}
 use Rattle.lpc_model.proofs.SoundClosing.{is_cut_request}
 use Rattle.lpc_model.proofs.LinkedSteps.{push-passes}
 use Rattle.lpc_model.proofs.LinkedJoins.{row-freed}
 use Rattle.lpc_model.proofs.Registrations.{All, all-changed, all-left, all-pushed, every-each, registering-all, unregistering-all}
+use Rattle.lpc_model.proofs.StepsInTurn.{after-append}
 
 -- What keeps it
 -- the objects that stand in one world do in another, and what is near a port there is here
@@ -88,10 +88,7 @@ accepted-near w reply = by_kind (λ x. has_near_queue w x ≡ true → has_near_
 put-all : (p : HandleRow → Bool) (h : HandleRow) (rows : List HandleRow) → p h ≡ true → every p rows ≡ true → every p (put_handle h rows) ≡ true
 put-all p h rows own all =
     every-append p (which (λ r. nat_lt r.value h.value) rows) (h ∷ which (λ r. nat_lt h.value r.value) rows) (every-which p (λ r. nat_lt r.value h.value) rows all)
-    (both (p h) _ own (every-which p (λ r. nat_lt h.value r.value) rows all))
-  where
-    both : (a b : Bool) → a ≡ true → b ≡ true → (a && b) ≡ true
-    both a b one two = grind arith
+    (and_from (p h) _ own (every-which p (λ r. nat_lt h.value r.value) rows all))
 
 -- Steps
 -- a basic step that keeps it whatever stands behind it: what enters, waits, is given or registered names what stands, and no

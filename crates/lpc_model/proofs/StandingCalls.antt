@@ -1,7 +1,7 @@
 -- Each line keeps what rows name.
 use Rattle.std.proofs.Common.{Bool, List, None, Option, Some, [], arith, cond, false, map, not, refl, subst, sym, true, ℕ, ◌++◌, ◌∙◌, ◌∷◌, ◌≡◌}
 use Rattle.std.proofs.lemmas.Bool.{and_from}
-use Rattle.std.specs.Prelude.{◌&&◌, ◌||◌, is_none, is_some, option_and_then, option_map, Result, Ok, Err, if◌then◌else◌}
+use Rattle.std.specs.Prelude.{◌&&◌, ◌||◌, is_none, is_some, option_and_then, option_map, Result, if◌then◌else◌}
 use Rattle.lpc_base.specs.Rows.{change, every, first, given, has, passes, when}
 use Rattle.lpc_base.proofs.RowWords.{every-append, every-more, first-passes, has-change, has-push}
 use Rattle.lpc_base.proofs.RowMaps.{every-both, every-first}
@@ -32,10 +32,9 @@ use Rattle.lpc_model.specs.Machine.{bare_steps, service_of}
 use Rattle.lpc_model.specs.SoundWaits.{HasShutConnects, IsSoundWorld}
 use Rattle.lpc_model.specs.Linked.{IsLinked, is_lone_offer, is_unjoined}
 use Rattle.lpc_model.specs.Standing.{NamesWhatStands, StepsNameWhatStands, has_near_queue, is_near, names_object}
-use Rattle.lpc_model.proofs.Holding.{Holds, bind_holds, found_ok, holds_ok}
+use Rattle.lpc_model.proofs.Holding.{Holds, bind_holds, found_ok, holds-more, holds_ok}
 use Rattle.lpc_model.proofs.Usable.{CanCall, IsUsable, by_port_kind, if-same, port-usable}
 use Rattle.lpc_model.proofs.SoundWorlds.{by_kind}
-use Rattle.lpc_model.proofs.SoundQueues.{after-append}
 use Rattle.lpc_model.proofs.SoundComplete.{CanComplete, can-complete}
 use Rattle.lpc_model.proofs.SoundAccept.{named-wait, names-offered}
 use Rattle.lpc_model.proofs.SoundClosing.{is_cut_request, uncut-free}
@@ -43,7 +42,6 @@ use Rattle.lpc_model.proofs.Closing.{IsFewer, behind, closed-is, cut-is, ends-pa
 use Rattle.lpc_model.proofs.SoundPairs.{tied}
 use Rattle.lpc_model.proofs.SoundTies.{joined-birth}
 use Rattle.lpc_model.proofs.LinkedAccept.{lone-parts}
-use Rattle.lpc_model.proofs.LinkedJoins.{row-joined}
 use Rattle.lpc_model.proofs.LinkedSteps.{made-found, push-passes}
 use Rattle.lpc_model.proofs.LinkedCalls.{unmade}
 use Rattle.lpc_model.proofs.Standing.{AreNaming, cut-names, is_naming, kept, naming-all, object-kept, swept-names}
@@ -57,6 +55,8 @@ use Rattle.lpc_model.proofs.SoundDeath.{asked-less, asked-none, die-holds, heard
 use Rattle.lpc_model.proofs.Dying.{accepted_across, asked_across, cut-parts, gone, received_across}
 use Rattle.lpc_model.proofs.Creating.{process-made, thread-made}
 use Rattle.lpc_model.proofs.EachLine.{passing_directives, sound_line_holds, stepped}
+use Rattle.lpc_model.proofs.SoundPorts.{joined-row}
+use Rattle.lpc_model.proofs.StepsInTurn.{after-append}
 use Rattle.lpc_model.specs.Creation.{gives_life, new_process, new_thread, nt_create_process, nt_create_thread, second_birth, second_handle}
 
 -- the steps leave a world in which what rows name stands
@@ -64,8 +64,7 @@ abbrev pub KeepNames : World → List Basic → Type 0
 KeepNames w bs = NamesWhatStands (world_after w bs)
 
 naming_holds : (w : World) (r : Result (List Basic) Status) → NamesWhatStands w → Holds (AreNaming w) r → Holds (KeepNames w) r
-naming_holds w (Ok bs) n all = naming-all w bs all n
-naming_holds w (Err s) n all = tt
+naming_holds w r n all = holds-more (AreNaming w) (KeepNames w) r (λ bs all. naming-all w bs all n) all
 
 -- Messages that enter
 naming-receipt : (w : World) (m : MessageRow) → AreNaming w (received_steps m)
@@ -241,7 +240,7 @@ joined-near w client server context one two n =
 
         at : (o : Option PortRow) → port_row w x.port ≡ o → has_near_queue (basic w (Joins client server context)) x ≡ true
         at None none = let never : false ≡ true = rw none at is in absurd (cc)
-        at (Some p) row = let was : is_near x p ≡ true = rw row at is in rw (row-joined w client server context x.port p row) (here p (is_port client p) (is_port server p) refl refl row was)
+        at (Some p) row = let was : is_near x p ≡ true = rw row at is in rw (joined-row w client server context x.port p row) (here p (is_port client p) (is_port server p) refl refl row was)
 
 accepted-names : (w : World) (by : ThreadRow) (context value : ℕ) (m : Message) (x : WaitRow) → first (names_connect w by m) w.waits ≡ Some x → CanCall w by → IsSoundWorld w → IsLinked w → NamesWhatStands w → KeepNames w (accept_steps by context value (record { message = m; wait = x }))
 accepted-names w by context value m x at c s l n =
@@ -342,8 +341,8 @@ given-names : (w : World) (port : PortRow) (m : Option Message) → Holds (AreNa
 given-names w port None = refl
 given-names w port (Some m) = bind_holds (reply_test w port m) _ (AreNaming w) (λ x _. refl)
 
-receive-at : (w : World) (port : PortRow) → Holds (λ queue. queue_of w port ≡ Some queue) (receive_test w port)
-receive-at w port =
+pub tested-queue : (w : World) (port : PortRow) → Holds (λ queue. queue_of w port ≡ Some queue) (receive_test w port)
+tested-queue w port =
     let P : Birth → Type 0 = λ queue. queue_of w port ≡ Some queue in
     bind_holds (found_or (queue_of w port) PORT_DISCONNECTED) _ P (λ queue at.
     bind_holds (refuse_if (is_spent w port queue) PORT_DISCONNECTED) _ P (λ _ _. found_ok (queue_of w port) PORT_DISCONNECTED queue at))
@@ -365,7 +364,7 @@ receive-names w by handle bytes =
     received-names w by port queue replied (first (is_queued queue) w.messages)
     (holds_ok (AreNaming w) (given_reply w port m) replied (given-names w port m) at)
     (holds_ok (IsUsable w) (port_test w by handle) port (port-usable w by handle) usable)
-    (holds_ok (λ queue. queue_of w port ≡ Some queue) (receive_test w port) queue (receive-at w port) found)))))
+    (holds_ok (λ queue. queue_of w port ≡ Some queue) (receive_test w port) queue (tested-queue w port) found)))))
 
 -- NtClose
 -- fewer rows name what stands

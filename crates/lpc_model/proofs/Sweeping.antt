@@ -1,11 +1,12 @@
 -- A port that no row names may go ahead of the sweep: the sweep leaves the same world.
 use Rattle.std.proofs.Common.{◌≡◌, ◌∙◌, ℕ, List, [], ◌∷◌, ◌++◌, Bool, true, false, map, not, Option, Some, None, refl, sym, ap, subst, arith, append-nil}
 use Rattle.std.specs.Prelude.{◌&&◌, ◌||◌, ◌==◌, is_none, if◌then◌else◌}
-use Rattle.std.proofs.lemmas.Bool.{eqb-true}
+use Rattle.std.proofs.lemmas.Bool.{and_from, eqb-true, or_left, or_right}
 use Rattle.lpc_base.specs.Rows.{every, first, has, which, without}
 use Rattle.lpc_base.proofs.RowWords.{every-append, every-more}
 use Rattle.lpc_base.proofs.RowMaps.{every-map}
 use Rattle.lpc_base.proofs.Births.{birth-same, birth-self}
+use Rattle.lpc_base.proofs.Bools.{or-last}
 use Rattle.lpc_model.specs.declared.entry.ObjectKind.TheVariants as kind
 use Rattle.lpc_model.specs.World.{Birth, MessageRow, ObjectKind, ObjectName, PortRow, ProcessRow, ThreadRow, World}
 use Rattle.lpc_model.specs.Found.{all_registrations, is_connected_to, is_paired_to, is_port, is_the, kind_rank, object_names, port_name, process_name, same_birth, same_kind, same_object, thread_name}
@@ -16,9 +17,9 @@ use Rattle.lpc_model.specs.Basics.{Basic, Frees, basic, entries_of, freed, poste
 use Rattle.lpc_model.specs.Sweep.{free_unheld, is_unheld, sweep, unheld}
 use Rattle.lpc_model.specs.Linked.{AreLivesHeld, HasHeldPorts, HasHeldRows, IsLinked, names_nothing}
 use Rattle.lpc_model.proofs.Rows.{has-append, has-less, has-without}
-use Rattle.lpc_model.proofs.SoundQueues.{after-append}
 use Rattle.lpc_model.proofs.SoundFrees.{frees-registrations, less-held, which-all}
 use Rattle.lpc_model.proofs.Swept.{connected-end, found-self, is_held_aside, lonely, unheld-parts, without-same, without-twice}
+use Rattle.lpc_model.proofs.StepsInTurn.{after-append}
 
 -- Names of objects
 kind_of : ℕ → ObjectKind
@@ -121,7 +122,7 @@ self-among : {X : Type 0} (name : X → ObjectName) → ((x : X) → same_object
 self-among name own [] = refl
 self-among {X = X} name own (x ∷ xs) =
     let later = every-more (λ y. is_among (map name xs) (name y)) (λ y. is_among (name x ∷ map name xs) (name y)) (λ y is. more (name y) (name x) (map name xs) is) xs (self-among name own xs) in
-    both (is_among (name x ∷ map name xs) (name x)) _ (here (name x) (map name xs) (own x)) later
+    and_from (is_among (name x ∷ map name xs) (name x)) _ (here (name x) (map name xs) (own x)) later
   where
     more : (n o : ObjectName) (os : List ObjectName) → is_among os n ≡ true → is_among (o ∷ os) n ≡ true
     more n o os is = grind arith
@@ -129,20 +130,11 @@ self-among {X = X} name own (x ∷ xs) =
     here : (n : ObjectName) (os : List ObjectName) → same_object n n ≡ true → is_among (n ∷ os) n ≡ true
     here n os is = rw is refl
 
-    both : (a b : Bool) → a ≡ true → b ≡ true → (a && b) ≡ true
-    both a b one two = grind arith
-
 among-front : (n : ObjectName) (os ps : List ObjectName) → is_among os n ≡ true → is_among (os ++ ps) n ≡ true
-among-front n os ps is = has-append (λ o. same_object n o) os ps ∙ left _ _ is
-  where
-    left : (a b : Bool) → a ≡ true → (a || b) ≡ true
-    left a b is = grind arith
+among-front n os ps is = has-append (λ o. same_object n o) os ps ∙ or_left _ _ is
 
 among-back : (n : ObjectName) (os ps : List ObjectName) → is_among ps n ≡ true → is_among (os ++ ps) n ≡ true
-among-back n os ps is = has-append (λ o. same_object n o) os ps ∙ right _ _ is
-  where
-    right : (a b : Bool) → b ≡ true → (a || b) ≡ true
-    right a b is = grind arith
+among-back n os ps is = has-append (λ o. same_object n o) os ps ∙ or_right _ _ is
 
 -- the world without the rows that no row names
 abbrev pub passed : World → World
@@ -231,11 +223,8 @@ module _ (w : World) (b : Birth) (l : IsLinked w) (none : is_unheld w (port_name
       off None is = refl
       off (Some d) is = absurd (cc)
 
-      second : (g n : Bool) → g ≡ true → (not g || n) ≡ true → n ≡ true
-      second g n one two = grind arith
-
       at : (p : PortRow) (k : Bool) → is_port b p ≡ k → (not (goes p) || is_none p.pair) ≡ true → (not k || not (is_paired_to c p)) ≡ true
-      at p true is alone = off p.pair (second _ _ (its-own p is) alone)
+      at p true is alone = off p.pair (or-last _ _ (its-own p is) alone)
       at p false is alone = refl
 
   -- what goes only once the port has gone is a connection port, which names nothing
@@ -354,7 +343,7 @@ also-posting : (bs cs : List Basic) → posts_of cs ≡ [] → posts_of (bs ++ c
 also-posting [] cs none = none
 also-posting (b ∷ bs) cs none = ap (λ ms. posted b ++ ms) (also-posting bs cs none)
 
-sweep-tells : (w : World) → entries_of (sweep w) ≡ []
+pub sweep-tells : (w : World) → entries_of (sweep w) ≡ []
 unfolding sweep
 sweep-tells w =
     let v = world_after w (free_unheld w) in

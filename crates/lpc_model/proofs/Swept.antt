@@ -2,10 +2,12 @@
 use Rattle.std.proofs.Common.{◌≡◌, ◌∙◌, ℕ, ◌+◌, ◌≤◌, List, [], ◌∷◌, ◌++◌, Bool, true, false, map, not, Option, Some, None, refl, sym, ap, subst, arith}
 use Rattle.std.specs.Prelude.{◌&&◌, ◌||◌, ◌==◌, is_none, is_some}
 use Rattle.std.proofs.lemmas.Bool.Decides.{nat_tests}
+use Rattle.std.proofs.lemmas.Bool.{and_from}
 use Rattle.lpc_base.specs.Rows.{count, every, first, has, which, without}
 use Rattle.lpc_base.proofs.RowWords.{every-more, first-passes, count-none, none-counted, has-behind}
 use Rattle.lpc_base.proofs.RowMaps.{every-both, every-first, every-kept}
 use Rattle.lpc_base.proofs.Births.{birth-same, birth-self, birth-turned}
+use Rattle.lpc_base.proofs.Bools.{or-last, unless-more}
 use Rattle.lpc_model.specs.declared.entry.ObjectKind.TheVariants as kind
 use Rattle.lpc_model.specs.World.{Birth, ObjectKind, ObjectName, PortRow, World}
 use Rattle.lpc_model.specs.Found.{all_registrations, handle_count, is_connected_to, is_made_on, is_paired_to, is_port, is_sent_on, is_the, pair_of, port_name, port_row, process_name, same_birth, same_kind, same_object, thread_name}
@@ -13,8 +15,8 @@ use Rattle.lpc_model.specs.Basics.{Frees, basic, freed, world_after}
 use Rattle.lpc_model.specs.Sweep.{free_unheld, is_unheld, sweep, unheld}
 use Rattle.lpc_model.specs.Linked.{HasHeldPorts, IsLinked, is_root_port, is_mutual, is_rooted, names_nothing, passes_or_none}
 use Rattle.lpc_model.proofs.Rows.{has-found, has-without}
-use Rattle.lpc_model.proofs.SoundQueues.{after-append}
 use Rattle.lpc_model.proofs.SoundFrees.{frees-registrations, none-pass, which-all}
+use Rattle.lpc_model.proofs.StepsInTurn.{after-append}
 
 -- What a pass leaves
 -- a port whose name stands in a list
@@ -118,11 +120,8 @@ members w (z ∷ zs) = at (members w zs) (is_unheld w (port_name z.birth)) refl
 listed-ports : (w : World) → every (λ p. not (is_unheld w (port_name p.birth)) || is_listed (unheld w) p) w.ports ≡ true
 listed-ports w =
     every-more (λ p. not (is_unheld w (port_name p.birth)) || is_listed (which (is_unheld w) (port_names w.ports)) p) (λ p. not (is_unheld w (port_name p.birth)) || is_listed (unheld w) p)
-    (λ p is. parts (is_unheld w (port_name p.birth)) _ _ (λ one. has-behind (λ o. same_object (port_name p.birth) o) (is_unheld w) (map (λ q. process_name q.birth) w.processes) (map (λ t. thread_name t.birth) w.threads ++ port_names w.ports)
+    (λ p is. unless-more (is_unheld w (port_name p.birth)) _ _ (λ one. has-behind (λ o. same_object (port_name p.birth) o) (is_unheld w) (map (λ q. process_name q.birth) w.processes) (map (λ t. thread_name t.birth) w.threads ++ port_names w.ports)
     (has-behind (λ o. same_object (port_name p.birth) o) (is_unheld w) (map (λ t. thread_name t.birth) w.threads) (port_names w.ports) one)) is) w.ports (members w w.ports)
-  where
-    parts : (u a b : Bool) → (a ≡ true → b ≡ true) → (not u || a) ≡ true → (not u || b) ≡ true
-    parts u a b more is = grind (arith, more)
 
 -- Who holds a port
 -- a row that isn't a port holds it; a port does
@@ -197,7 +196,7 @@ found-self (z ∷ zs) one P holds =
     let none : has (is_port z.birth) zs ≡ false = none-counted (is_port z.birth) zs (grind arith) in
     let head : P z ≡ true = holds z (head-found own) in
     let later = found-self zs (λ b. fewer b (one b)) (λ r. same_birth z.birth r.birth || P r) (λ r at. by_birth r at (same_birth z.birth r.birth) refl) in
-    both-true _ _ head (every-both (λ r. same_birth z.birth r.birth || P r) (λ r. not (is_port z.birth r)) P (λ r is off. parts _ _ _ (birth-turned r.birth z.birth) is off) zs later (none-pass (is_port z.birth) zs (none-count zs none)))
+    and_from _ _ head (every-both (λ r. same_birth z.birth r.birth || P r) (λ r. not (is_port z.birth r)) P (λ r is off. parts _ _ _ (birth-turned r.birth z.birth) is off) zs later (none-pass (is_port z.birth) zs (none-count zs none)))
   where
     fewer : (b : Birth) → count (is_port b) (z ∷ zs) ≤ 1 → count (is_port b) zs ≤ 1
     fewer b few = grind arith
@@ -207,9 +206,6 @@ found-self (z ∷ zs) one P holds =
 
     none-count : (xs : List PortRow) → has (is_port z.birth) xs ≡ false → count (is_port z.birth) xs ≤ 0
     none-count xs none = let zero = count-none (is_port z.birth) xs none in omega (arith, zero)
-
-    both-true : (a b : Bool) → a ≡ true → b ≡ true → (a && b) ≡ true
-    both-true a b one two = grind arith
 
     parts : (a b p : Bool) → b ≡ a → (a || p) ≡ true → not b ≡ true → p ≡ true
     parts a b p same is off = grind arith
@@ -263,11 +259,8 @@ module _ (w : World) (l : IsLinked w) where
       unpaired None is = refl
       unpaired (Some b) is = absurd (cc)
 
-      second : (u n : Bool) → u ≡ true → (not u || n) ≡ true → n ≡ true
-      second u n one two = grind arith
-
       parts : (q : PortRow) (g : Bool) → goes q ≡ g → (not (is_unheld w (port_name q.birth)) || is_none q.pair) ≡ true → (not g || not (is_paired_to c q)) ≡ true
-      parts q true is alone = unpaired q.pair (second _ _ (listed-unheld w q (unheld w) (which-all (is_unheld w) _) is) alone)
+      parts q true is alone = unpaired q.pair (or-last _ _ (listed-unheld w q (unheld w) (which-all (is_unheld w) _) is) alone)
       parts q false off alone = refl
 
   -- what goes next names nothing
@@ -293,12 +286,9 @@ module _ (w : World) (l : IsLinked w) where
       all = every-both (λ p. not (is_unheld w (port_name p.birth)) || goes p) (λ r. not (has (is_connected_to r.birth) w.ports) || names_nothing r) (λ r. goes r || (not (goes-later r) || names_nothing r))
           (λ r listed root. weaker (goes r) (is_unheld once_swept (port_name r.birth)) (goes-later r) (names_nothing r) (λ is. listed-unheld once_swept r (unheld once_swept) (which-all (is_unheld once_swept) _) is)
           (parts (is_unheld w (port_name r.birth)) (goes r) (is_unheld once_swept (port_name r.birth)) (is_held_aside w r.birth) (has (is_paired_to r.birth) w.ports) (has (is_connected_to r.birth) w.ports) (has (is_paired_to r.birth) once_swept.ports) (has (is_connected_to r.birth) once_swept.ports) (names_nothing r)
-          listed (unheld-parts w r.birth) (subst (λ a. is_unheld once_swept (port_name r.birth) ≡ not (a || is_held_by once_swept.ports r.birth)) (aside-one r.birth) (unheld-parts once_swept r.birth)) (stays r.birth) (λ is. second _ _ is root))) w.ports (listed-ports w)
+          listed (unheld-parts w r.birth) (subst (λ a. is_unheld once_swept (port_name r.birth) ≡ not (a || is_held_by once_swept.ports r.birth)) (aside-one r.birth) (unheld-parts once_swept r.birth)) (stays r.birth) (λ is. or-last _ _ is root))) w.ports (listed-ports w)
           (found-self w.ports l.births (λ r. not (has (is_connected_to r.birth) w.ports) || names_nothing r) (λ r here. by_test (has (is_connected_to r.birth) w.ports) (names_nothing r) (ended r here)))
         where
-          second : (h n : Bool) → h ≡ true → (not h || n) ≡ true → n ≡ true
-          second h n is root = grind arith
-
           by_test : (h n : Bool) → (h ≡ true → n ≡ true) → (not h || n) ≡ true
           by_test h n more = grind (arith, more)
 

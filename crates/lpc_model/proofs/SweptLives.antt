@@ -5,6 +5,7 @@ use Rattle.lpc_base.specs.Rows.{count, every, has, which, without}
 use Rattle.lpc_base.proofs.RowWords.{every-any, every-more, every-without, has-behind}
 use Rattle.lpc_base.proofs.RowMaps.{every-both}
 use Rattle.lpc_base.proofs.Births.{birth-same, birth-self}
+use Rattle.lpc_base.proofs.Bools.{first-true, unless-more}
 use Rattle.lpc_model.specs.declared.entry.ObjectKind.TheVariants as kind
 use Rattle.lpc_model.specs.World.{Birth, ObjectKind, ObjectName, PortRow, ProcessRow, ThreadRow, World}
 use Rattle.lpc_model.specs.Found.{handle_count, is_life, lives_by, pointer_count, port_name, process_name, same_birth, same_object, thread_name}
@@ -13,6 +14,7 @@ use Rattle.lpc_model.specs.Sweep.{free_unheld, is_unheld, unheld}
 use Rattle.lpc_model.proofs.Rows.{every-left}
 use Rattle.lpc_model.proofs.SoundFrees.{is-zero, less-held, none-pass, sum-second, which-all}
 use Rattle.lpc_model.proofs.Sweeping.{is_among}
+use Rattle.lpc_model.proofs.SoundLess.{not-passing}
 
 -- Counts of live threads
 -- rows that go count for nothing where they don't pass
@@ -41,9 +43,6 @@ count-same p q same (x ∷ xs) = grind (arith, same x, count-same p q same xs)
 
 other-process : (b c : Birth) (n : ℕ) (p : ProcessRow) → same_birth b c ≡ false → (same_birth p.birth b && (p.number == n)) ≡ true → same_birth p.birth c ≡ false
 other-process b c n p off is = subst (λ d. same_birth d c ≡ false) (sym (birth-same p.birth b (first-true _ _ is))) off
-  where
-    first-true : (x y : Bool) → (x && y) ≡ true → x ≡ true
-    first-true x y is = grind arith
 
 process-lives : (w : World) (b c : Birth) → count (lives_by w c) w.threads ≤ 0 → count (lives_by (freed w kind.Process c) b) w.threads ≡ count (lives_by w b) w.threads
 process-lives w b c few = at (same_birth b c) refl
@@ -183,12 +182,6 @@ has-front : {X : Type 0} (p g : X → Bool) (xs ys : List X) → has p (which g 
 has-front p g [] ys is = absurd (cc)
 has-front p g (x ∷ xs) ys is = grind (arith, has-front p g xs ys)
 
-listed-more : (u a b : Bool) → (a ≡ true → b ≡ true) → (not u || a) ≡ true → (not u || b) ≡ true
-listed-more u a b more is = grind (arith, more)
-
-held-left : (u a : Bool) → (not u || a) ≡ true → not a ≡ true → not u ≡ true
-held-left u a one two = grind arith
-
 swept-same : (u v : ℕ) → u ≡ v → not (v == 0) ≡ true → not (u == 0) ≡ true
 swept-same u v is held = rw is held
 
@@ -205,8 +198,8 @@ module _ (w : World) where
       let two = threads-freed (unheld once_swept) once_swept in
       let rest = map (λ (p : PortRow). port_name p.birth) w.ports in
       let listed = every-more (λ (t : ThreadRow). not (is_unheld w (thread_name t.birth)) || is_among (which (is_unheld w) (map (λ t. thread_name t.birth) w.threads)) (thread_name t.birth)) (λ (t : ThreadRow). not (is_unheld w (thread_name t.birth)) || is_among (unheld w) (thread_name t.birth))
-      (λ t is. listed-more (is_unheld w (thread_name t.birth)) _ _ (λ here. has-behind (λ o. same_object (thread_name t.birth) o) (is_unheld w) (map (λ p. process_name p.birth) w.processes) (map (λ t. thread_name t.birth) w.threads ++ rest) (has-front (λ o. same_object (thread_name t.birth) o) (is_unheld w) (map (λ t. thread_name t.birth) w.threads) rest here)) is) w.threads (members w (λ t. thread_name t.birth) (λ t. birth-self t.birth) w.threads) in
-      let held = every-both (λ (t : ThreadRow). not (is_unheld w (thread_name t.birth)) || is_among (unheld w) (thread_name t.birth)) (λ t. not (is_among (unheld w) (thread_name t.birth))) (λ t. not (is_unheld w (thread_name t.birth))) (λ t one two. held-left _ _ one two) once_swept.threads (one.keeps _ listed) one.gone in
+      (λ t is. unless-more (is_unheld w (thread_name t.birth)) _ _ (λ here. has-behind (λ o. same_object (thread_name t.birth) o) (is_unheld w) (map (λ p. process_name p.birth) w.processes) (map (λ t. thread_name t.birth) w.threads ++ rest) (has-front (λ o. same_object (thread_name t.birth) o) (is_unheld w) (map (λ t. thread_name t.birth) w.threads) rest here)) is) w.threads (members w (λ t. thread_name t.birth) (λ t. birth-self t.birth) w.threads) in
+      let held = every-both (λ (t : ThreadRow). not (is_unheld w (thread_name t.birth)) || is_among (unheld w) (thread_name t.birth)) (λ t. not (is_among (unheld w) (thread_name t.birth))) (λ t. not (is_unheld w (thread_name t.birth))) (λ t one two. not-passing _ _ one two) once_swept.threads (one.keeps _ listed) one.gone in
       every-more (λ t. not (is_unheld w (thread_name t.birth))) (λ t. not (is_unheld twice_swept (thread_name t.birth))) (λ t is. swept-same _ _ (list-thread (unheld once_swept) once_swept t.birth (which-all (is_unheld once_swept) _) ∙ list-thread (unheld w) w t.birth (which-all (is_unheld w) _)) is) twice_swept.threads (two.keeps _ held)
 
   pub processes-held : every (λ p. not (is_unheld twice_swept (process_name p.birth))) twice_swept.processes ≡ true
@@ -215,6 +208,6 @@ module _ (w : World) where
       let two = processes-freed (unheld once_swept) once_swept in
       let rest = map (λ (t : ThreadRow). thread_name t.birth) w.threads ++ map (λ (p : PortRow). port_name p.birth) w.ports in
       let listed = every-more (λ (p : ProcessRow). not (is_unheld w (process_name p.birth)) || is_among (which (is_unheld w) (map (λ p. process_name p.birth) w.processes)) (process_name p.birth)) (λ (p : ProcessRow). not (is_unheld w (process_name p.birth)) || is_among (unheld w) (process_name p.birth))
-      (λ p is. listed-more (is_unheld w (process_name p.birth)) _ _ (λ here. has-front (λ o. same_object (process_name p.birth) o) (is_unheld w) (map (λ p. process_name p.birth) w.processes) rest here) is) w.processes (members w (λ p. process_name p.birth) (λ p. birth-self p.birth) w.processes) in
-      let held = every-both (λ (p : ProcessRow). not (is_unheld w (process_name p.birth)) || is_among (unheld w) (process_name p.birth)) (λ p. not (is_among (unheld w) (process_name p.birth))) (λ p. not (is_unheld w (process_name p.birth))) (λ p one two. held-left _ _ one two) once_swept.processes (one.keeps _ listed) one.gone in
+      (λ p is. unless-more (is_unheld w (process_name p.birth)) _ _ (λ here. has-front (λ o. same_object (process_name p.birth) o) (is_unheld w) (map (λ p. process_name p.birth) w.processes) rest here) is) w.processes (members w (λ p. process_name p.birth) (λ p. birth-self p.birth) w.processes) in
+      let held = every-both (λ (p : ProcessRow). not (is_unheld w (process_name p.birth)) || is_among (unheld w) (process_name p.birth)) (λ p. not (is_among (unheld w) (process_name p.birth))) (λ p. not (is_unheld w (process_name p.birth))) (λ p one two. not-passing _ _ one two) once_swept.processes (one.keeps _ listed) one.gone in
       every-more (λ p. not (is_unheld w (process_name p.birth))) (λ p. not (is_unheld twice_swept (process_name p.birth))) (λ p is. swept-same _ _ (list-process (unheld once_swept) once_swept p.birth (which-all (is_unheld once_swept) _) ∙ list-process (unheld w) w p.birth (which-all (is_unheld w) _)) is) twice_swept.processes (two.keeps _ held)

@@ -1,6 +1,6 @@
 -- A thread number has one row at most, behind each line.
 use Rattle.std.proofs.Common.{◌≡◌, ℕ, ◌+◌, ◌≤◌, List, [], ◌∷◌, ◌++◌, Bool, true, false, cond, not, refl, subst, arith}
-use Rattle.std.specs.Prelude.{Result, Ok, Err}
+use Rattle.std.specs.Prelude.{Result}
 use Rattle.std.proofs.lemmas.Bool.{eqb-true}
 use Rattle.lpc_base.specs.Rows.{change, count, every, has, when}
 use Rattle.lpc_base.specs.declared.status.Status.{Status}
@@ -15,7 +15,7 @@ use Rattle.lpc_model.specs.Lines.{ScriptCall, ScriptLine, create_process, create
 use Rattle.lpc_model.specs.Machine.{bare_steps, new_thread, directive_birth, service_of, step}
 use Rattle.lpc_model.specs.Lawful.{HasThreadsOnce}
 use Rattle.lpc_model.specs.SoundWaits.{IsSoundWorld}
-use Rattle.lpc_model.proofs.Holding.{Holds}
+use Rattle.lpc_model.proofs.Holding.{Holds, holds-more}
 use Rattle.lpc_model.proofs.Rows.{count-change, count-less, has-off}
 use Rattle.lpc_model.proofs.Undying.{AreUndying, is_undying, register_holds, service-undying}
 use Rattle.lpc_model.proofs.Ending.{AreEnding, is_ending, process-ending, thread-ending}
@@ -24,6 +24,7 @@ use Rattle.lpc_model.specs.Creation.{nt_create_process, nt_create_thread, second
 use Rattle.lpc_model.specs.Tests.{next_birth}
 use Rattle.lpc_model.proofs.SoundBasics.{sound-ordinal}
 use Rattle.lpc_model.proofs.EachLine.{line_holds, stepped, sweep_every}
+use Rattle.lpc_model.proofs.StepsInTurn.{steps-keep}
 
 -- Steps
 -- a step makes no thread
@@ -52,11 +53,7 @@ once-step w (Frees o) is once = freed-once w o.kind o.birth once
 once-step w b is once = once
 
 once-all : (w : World) (bs : List Basic) → every is_childless bs ≡ true → HasThreadsOnce w → HasThreadsOnce (world_after w bs)
-once-all w [] all once = once
-once-all w (b ∷ bs) all once =
-    let here : is_childless b ≡ true = grind arith in
-    let later : every is_childless bs ≡ true = grind arith in
-    once-all (basic w b) bs later (once-step w b here once)
+once-all = steps-keep is_childless HasThreadsOnce once-step
 
 undying-childless : (b : Basic) → is_undying b ≡ true → is_childless b ≡ true
 undying-childless (AddsThread t) is = absurd (cc)
@@ -71,12 +68,10 @@ abbrev KeepOnce : World → List Basic → Type 0
 KeepOnce w bs = HasThreadsOnce (world_after w bs)
 
 undying_holds : (w : World) (r : Result (List Basic) Status) → HasThreadsOnce w → Holds AreUndying r → Holds (KeepOnce w) r
-undying_holds w (Ok bs) once all = once-all w bs (every-more is_undying is_childless undying-childless bs all) once
-undying_holds w (Err s) once all = tt
+undying_holds w r once all = holds-more AreUndying (KeepOnce w) r (λ bs all. once-all w bs (every-more is_undying is_childless undying-childless bs all) once) all
 
 ending_holds : (w : World) (r : Result (List Basic) Status) → HasThreadsOnce w → Holds AreEnding r → Holds (KeepOnce w) r
-ending_holds w (Ok bs) once all = once-all w bs (every-more is_ending is_childless ending-childless bs all) once
-ending_holds w (Err s) once all = tt
+ending_holds w r once all = holds-more AreEnding (KeepOnce w) r (λ bs all. once-all w bs (every-more is_ending is_childless ending-childless bs all) once) all
 
 -- a thread of a number that was never used
 pub new-once : (ts : List ThreadRow) (t : ThreadRow) → ((n : ℕ) → count (is_thread n) ts ≤ 1) → has (is_thread t.number) ts ≡ false → (n : ℕ) → count (is_thread n) (ts ++ t ∷ []) ≤ 1

@@ -1,6 +1,6 @@
 -- Each line tells of the closings that it brings, and of no other.
 use Rattle.std.proofs.Common.{Bool, List, None, Option, Some, [], ap, false, not, refl, sym, true, ℕ, ◌∙◌, ◌∷◌, ◌≡◌}
-use Rattle.std.specs.Prelude.{Result, Ok, Err}
+use Rattle.std.specs.Prelude.{Result}
 use Rattle.lpc_base.specs.Rows.{first, given, when, which}
 use Rattle.lpc_base.proofs.RowWords.{every-append}
 use Rattle.lpc_base.specs.declared.status.Status.{Status}
@@ -24,7 +24,7 @@ use Rattle.lpc_model.specs.Closings.{ClosingsAreTold, is_closed_post}
 use Rattle.lpc_model.specs.Lines.{ProcArg, ScriptCall, ScriptLine, accept_connect_port, close, complete_connect_port, connect_port, create_port, create_process, create_thread, duplicate_object, listen_port, query_object, register_thread_terminate_port, reply_port, reply_wait_receive_port, request_port, request_wait_reply_port, terminate_process, terminate_thread}
 use Rattle.lpc_model.specs.Machine.{Stepped, bare_steps, service_of}
 use Rattle.lpc_model.specs.SoundWaits.{HasShutConnects, IsSoundWorld}
-use Rattle.lpc_model.proofs.Holding.{Holds, bind_holds, found_ok, holds_ok}
+use Rattle.lpc_model.proofs.Holding.{Holds, bind_holds, found_ok, holds-more, holds_ok}
 use Rattle.lpc_model.proofs.Sweeping.{step_swept}
 use Rattle.lpc_model.proofs.SoundClose.{close_handle-sound, found-value}
 use Rattle.lpc_model.proofs.Told.{AreCalm, AreHushed, TellsClosings, calm-all, calm-tells, handle-tells, hushed-enter, hushed-receipt, is_calm, is_hushed, sweep-dropless, tells-append, told-before}
@@ -130,12 +130,10 @@ query-hushed w by value = bind_holds (own_handle w by value) _ AreHushed (λ r _
 -- Calls
 -- what holds of calm steps
 calm_holds : (w : World) (r : Result (List Basic) Status) → Holds AreCalm r → Holds (TellsClosings w) r
-calm_holds w (Ok bs) calm = calm-tells w bs calm
-calm_holds w (Err s) calm = tt
+calm_holds w r calm = holds-more AreCalm (TellsClosings w) r (calm-tells w) calm
 
 hushed_holds : (w : World) (r : Result (List Basic) Status) → Holds AreHushed r → Holds (TellsClosings w) r
-hushed_holds w (Ok bs) hushed = calm-tells w bs (calm-all bs hushed)
-hushed_holds w (Err s) hushed = tt
+hushed_holds w r hushed = holds-more AreHushed (TellsClosings w) r (λ bs hushed. calm-tells w bs (calm-all bs hushed)) hushed
 
 close-tells : (w : World) (by : ThreadRow) (value : ℕ) → IsSoundWorld w → Holds (TellsClosings w) (nt_close w by value)
 unfolding nt_close

@@ -1,6 +1,7 @@
 -- The calls by which no thread is made or ends: none of their steps tells of an end.
-use Rattle.std.proofs.Common.{Bool, List, None, Option, Some, [], arith, false, not, refl, true, ℕ, ◌++◌, ◌∷◌, ◌≡◌}
-use Rattle.std.specs.Prelude.{option_and_then, option_map, ◌&&◌}
+use Rattle.std.proofs.Common.{Bool, List, None, Option, Some, [], false, not, refl, true, ℕ, ◌++◌, ◌∷◌, ◌≡◌}
+use Rattle.std.proofs.lemmas.Bool.{and_from}
+use Rattle.std.specs.Prelude.{option_and_then, option_map}
 use Rattle.lpc_base.specs.Rows.{every, first, given, when}
 use Rattle.lpc_base.proofs.RowWords.{every-append}
 use Rattle.lpc_base.specs.declared.status.TheConstants.{INVALID_PORT_HANDLE, SUCCESS}
@@ -63,10 +64,7 @@ undying-taken m None = refl
 undying-taken m (Some x) = undying-given m x
 
 undying-enter : (m : MessageRow) (w : World) → not (is_died_post m) ≡ true → AreUndying (enter m w)
-undying-enter m w off = both _ _ off (undying-taken m (first (takes m) w.waits))
-  where
-    both : (a b : Bool) → a ≡ true → b ≡ true → (a && b) ≡ true
-    both a b one two = grind arith
+undying-enter m w off = and_from _ _ off (undying-taken m (first (takes m) w.waits))
 
 -- a port that is closed
 away-undying : (x : Basic) → takes_away x ≡ true → is_undying x ≡ true

@@ -3,6 +3,7 @@ use Rattle.std.proofs.Common.{Result, Ok, Err, if◌then◌else◌, ◌≡◌, �
 use Rattle.std.proofs.lemmas.List.{take-append-drop}
 use Rattle.std.proofs.Math.Seq.{take-append-add}
 use Rattle.std.proofs.lemmas.Bool.Decides.{nat_tests}
+use Rattle.std.proofs.lemmas.Bool.{or_right}
 use Rattle.std.specs.List.{list_any}
 use Rattle.std.specs.Cmp.Lexicographic.{pointwise}
 use Rattle.lpc_names.specs.Path.{Path, parts_of, onto_first, size_of, is_empty, is_too_long, same_path, spelled, sound}
@@ -215,10 +216,6 @@ pub record Steps (text : List ℕ) (walked : ℕ) (front : Path) (rest name more
   pub path : path_of (take walked text) ≡ front ++ name ∷ []
   pub parts : path_of rest ≡ name ∷ path_of more
 
-or-right : (a b : Bool) → b ≡ true → (a || b) ≡ true
-or-right true b h = refl
-or-right false b h = h
-
 taken : (text : List ℕ) (walked n : ℕ) (b : ℕ) (names : List ℕ) → take walked text ++ b ∷ names ≡ text → walked + suc (length names) ≡ length text → take (walked + (1 + n)) text ≡ take walked text ++ b ∷ take n names
 taken text walked n b names whole within =
     let long : length (take walked text) ≡ walked = length-taken walked text (omega arith) in
@@ -246,7 +243,7 @@ steps text walked n (b ∷ bs) names name more whole within either some tail is 
           whole = w;
           within = omega arith;
           begins = begun;
-          either = or-right _ _ begun;
+          either = or_right _ _ begun;
           path = ap path_of (e ∙ ap (λ k. take walked text ++ b ∷ k) front) ∙ front-more (take walked text) bs b either ∙ ap (λ k. path_of (take walked text) ++ k ∷ []) (sym front);
           parts = first-part bs ∙ (λ i. sym front i ∷ path_of (sym back i));
         }
@@ -280,7 +277,7 @@ fits-parts : (text names : List ℕ) → text ≡ 92 ∷ names → length text �
 fits-parts text names is h = rw (size-text text names is) (is-within _ h)
 
 pub read-long : (text names : List ℕ) → text ≡ 92 ∷ names → 0 < length names → 256 < length text → ◌≡◌ {A = Result Path NameFault} (Err NameInvalid) (spelled text)
-read-long text names is some h = sym (spelled-some text names is some ∙ sound-not names (or-right _ _ (over-parts text names is h)))
+read-long text names is some h = sym (spelled-some text names is some ∙ sound-not names (or_right _ _ (over-parts text names is h)))
 
 pub read-fits : (text names : List ℕ) → text ≡ 92 ∷ names → 0 < length names → list_any is_empty (parts_of names) ≡ false → length text ≤ 256 → ◌≡◌ {A = Result Path NameFault} (Ok (path_of text)) (spelled text)
 read-fits text names is some h fits = sym (spelled-some text names is some ∙ sound-is names (rw h (fits-parts text names is fits)) ∙ ap (λ t. Ok (path_of t)) (sym is))

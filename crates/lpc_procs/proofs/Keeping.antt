@@ -3,6 +3,7 @@ use Rattle.std.proofs.Common.{◌≡◌, ℕ, List, [], ◌∷◌, ◌++◌, Boo
 use Rattle.std.specs.List.{position}
 use Rattle.std.specs.Prelude.{Option, Some, None, is_some, IfSome, option_map, nat_lt, ◌==◌}
 use Rattle.std.proofs.lemmas.Bool.Decides.{nat_tests}
+use Rattle.std.proofs.lemmas.Bool.{eqb-true, lt-ltb}
 use Rattle.lpc_base.specs.Rows.{change, every, first, has, without}
 use Rattle.lpc_base.proofs.Differ.{IsRowAt, differ-change, differ-push, differ-without, row-at, set-change}
 use Rattle.lpc_base.proofs.RowWords.{every-change, every-more, every-push, every-without, first-kept, first-push}
@@ -12,12 +13,6 @@ use Rattle.lpc_procs.specs.declared.rows.ThreadRow.{ThreadRow}
 use Rattle.lpc_procs.specs.declared.rows.UsedThread.{UsedThread}
 use Rattle.lpc_procs.specs.Kept.{are_single, is_below, is_noted, is_of, IsKept}
 use Rattle.lpc_procs.specs.Procs.{is_thread, is_used_thread}
-
-same-number : (a b : ℕ) → (a == b) ≡ true → a ≡ b
-same-number a b is = grind (arith, nat_tests)
-
-below-limit : (n limit : ℕ) → n < limit → nat_lt n limit ≡ true
-below-limit n limit within = grind (arith, nat_tests)
 
 noted-push : (used : List UsedThread) (u : UsedThread) (t : ThreadRow) (o : Option UsedThread) → first (is_used_thread t.number) used ≡ o → is_of t.process o ≡ true → is_noted (used ++ u ∷ []) t ≡ true
 noted-push used u t None is of = cc
@@ -30,7 +25,7 @@ unused-absent tid used (t ∷ ts) new noted = step (t.number == tid) t refl (gri
     step : (b : Bool) (t : ThreadRow) → (t.number == tid) ≡ b → is_noted used t ≡ true → has (is_thread tid) ts ≡ false → has (is_thread tid) (t ∷ ts) ≡ false
     step false t off noted rest = rw off rest
     step true t is noted rest =
-        let e : t.number ≡ tid = same-number t.number tid is in
+        let e : t.number ≡ tid = eqb-true t.number tid is in
         let noted' : is_of t.process (first (is_used_thread tid) used) ≡ true = rw (← e) noted in
         absurd (absent (first (is_used_thread tid) used) noted' new)
       where
@@ -48,7 +43,7 @@ kept-push ts used t kept within new =
     record {
       noted = every-push (is_noted (used ++ u ∷ [])) ts t (every-more (is_noted used) (is_noted (used ++ u ∷ [])) (λ x h. noted-push used u x (first (is_used_thread x.number) used) refl h) ts kept.noted) here;
       single = differ-push (λ (x : ThreadRow). x.number) ts t kept.single (unused-absent t.number used ts new kept.noted);
-      low = every-push (is_below 2147483648) ts t kept.low (below-limit t.number 2147483648 within);
+      low = every-push (is_below 2147483648) ts t kept.low (lt-ltb t.number 2147483648 within);
     }
 
 pub kept-without : (test : ThreadRow → Bool) (ts : List ThreadRow) (used : List UsedThread) → IsKept ts used → IsKept (without test ts) used
@@ -104,4 +99,4 @@ process-noted tid used ts (Some t) noted is = one (first (is_used_thread tid) us
 
     one : (o : Option UsedThread) → is_of t.process o ≡ true → option_map (λ u. u.process) o ≡ Some t.process
     one None of = cc
-    one (Some u) of = ap Some (same-number u.process t.process of)
+    one (Some u) of = ap Some (eqb-true u.process t.process of)

@@ -4,6 +4,7 @@ use Rattle.std.specs.Prelude.{Option, Some, None, Result, Ok, Err, is_none, is_s
 use Rattle.std.specs.List.{list_any, onto_first}
 use Rattle.std.proofs.lemmas.Bool.Decides.{nat_tests}
 use Rattle.std.proofs.lemmas.List.{append-nil, take_more}
+use Rattle.std.proofs.lemmas.Bool.{or_right}
 use Rattle.lpc_base.specs.Streams.{Told}
 use Rattle.lpc_model.specs.declared.fault.LineFault.{LineFault}
 use Rattle.lpc_model.specs.Lines.{ScriptLine}
@@ -19,17 +20,13 @@ use Rattle.lpc_replay.proofs.Turns.{body_front, transcript_is}
 abbrev pub has_end : List ℕ → Bool
 has_end bytes = list_any (λ c. c == 10) bytes
 
-or_true : (a b : Bool) → b ≡ true → (a || b) ≡ true
-or_true true b h = refl
-or_true false b h = h
-
 same_ends : (bytes : List ℕ) (b : ℕ) → (b == 10) ≡ false → has_end (bytes ++ b ∷ []) ≡ has_end bytes
 same_ends [] b h = rw h refl
 same_ends (x ∷ xs) b h = ap (λ later. (x == 10) || later) (same_ends xs b h)
 
 ends : (bytes : List ℕ) → has_end (bytes ++ 10 ∷ []) ≡ true
 ends [] = refl
-ends (x ∷ xs) = or_true (x == 10) (has_end (xs ++ 10 ∷ [])) (ends xs)
+ends (x ∷ xs) = or_right (x == 10) (has_end (xs ++ 10 ∷ [])) (ends xs)
 
 -- the ended part of a script without its last byte
 pub ended_less : (bytes : List ℕ) (b : ℕ) → (b == 10) ≡ false → ended_part (bytes ++ b ∷ []) ≡ ended_part bytes
@@ -80,7 +77,7 @@ onto_line : (b : ℕ) (lines : List (List ℕ)) → (line : List ℕ) × (more :
 onto_line b [] = (b ∷ [], [], refl)
 onto_line b (l ∷ ls) = (b ∷ l, ls, refl)
 
-line_case : (b : ℕ) (end : Bool) (lines : List (List ℕ)) → (line : List ℕ) × (more : List (List ℕ)) × (cond end ([] ∷ lines) (onto_first b lines) ≡ line ∷ more)
+pub line_case : (b : ℕ) (end : Bool) (lines : List (List ℕ)) → (line : List ℕ) × (more : List (List ℕ)) × (cond end ([] ∷ lines) (onto_first b lines) ≡ line ∷ more)
 line_case b true lines = ([], lines, refl)
 line_case b false lines = onto_line b lines
 

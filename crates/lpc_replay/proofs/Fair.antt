@@ -3,6 +3,7 @@ use Rattle.std.proofs.Common.{Bool, List, [], cond, false, map, refl, true, ℕ,
 use Rattle.std.specs.List.{AllByRecursion}
 use Rattle.std.specs.Prelude.{None, Option, Some, ◌&&◌, ◌==◌, ◌||◌}
 use Rattle.lpc_base.proofs.RowWords.{first-passes}
+use Rattle.lpc_base.proofs.Bools.{first-true}
 use Rattle.lpc_base.specs.Rows.{first, given, when}
 use Rattle.lpc_base.specs.declared.birth.Birth.{Birth}
 use Rattle.lpc_base.specs.declared.status.Status.{Status}
@@ -24,7 +25,7 @@ use Rattle.lpc_model.specs.declared.entry.Field.{Field}
 use Rattle.lpc_model.specs.declared.entry.ObjectKind.TheVariants as kind
 use Rattle.lpc_model.specs.declared.entry.ObjectKind.{ObjectKind}
 use Rattle.lpc_replay.specs.Connects.{HasAnswer, IsAnsweredBy}
-use Rattle.lpc_replay.proofs.Holding.{all_append, all_filter, all_map, and_first, find_all}
+use Rattle.lpc_replay.proofs.Holding.{all_append, all_filter, all_map, find_all}
 
 -- the call in which a wait of a kind is
 abbrev pub call_of_kind : WaitKind → CallName
@@ -179,7 +180,7 @@ given_fair : (w : World) (line : ScriptLine) (m : MessageRow) (o : Option WaitRo
 given_fair w line m None h = tt
 given_fair w line m (Some x) h =
     let known = h x refl in
-    let waits = either (is_receive x) (is_listen x) (is_connection_request m.message) (and_first (is_receive x || (is_listen x && is_connection_request m.message)) (same_birth x.queue m.queue) known.0) in
+    let waits = either (is_receive x) (is_listen x) (is_connection_request m.message) (first-true (is_receive x || (is_listen x && is_connection_request m.message)) (same_birth x.queue m.queue) known.0) in
     all_append (IsFair w line) (given_steps x m) (woken SUCCESS (shown x m) x ∷ []) (waiter_takes_fair w line m x.kind)
     (waiter_wakes w line x SUCCESS (shown x m) waits known.1, tt)
 

@@ -5,6 +5,7 @@ use Rattle.std.specs.List.{AllByRecursion}
 use Rattle.std.specs.Prelude.{None, Option, Some, option_and_then, option_map, ◌&&◌, ◌==◌, ◌||◌, if◌then◌else◌}
 use Rattle.lpc_base.specs.Rows.{each, every, first, given, which}
 use Rattle.lpc_base.proofs.RowWords.{every-append}
+use Rattle.lpc_base.proofs.Bools.{first-true}
 use Rattle.lpc_base.specs.declared.birth.Birth.{Birth}
 use Rattle.lpc_base.specs.declared.status.Status.{Status}
 use Rattle.lpc_base.specs.declared.status.TheConstants.{LPC_REPLY_LOST, PORT_CONNECTION_REFUSED, PORT_DISCONNECTED, SUCCESS}
@@ -21,7 +22,7 @@ use Rattle.lpc_model.proofs.Closing.{behind, close-pass, pair-pass, queue-pass, 
 use Rattle.lpc_model.proofs.Rows.{first-change}
 use Rattle.lpc_model.proofs.SoundWorlds.{by_kind}
 use Rattle.lpc_replay.proofs.Fair.{AreFair, HasItsCall, HaveTheirCalls, IsFair, IsRight, enter_fair, failure_wakes, request_wakes, waiter_wakes}
-use Rattle.lpc_replay.proofs.Holding.{all_append, all_filter, all_more, and_first}
+use Rattle.lpc_replay.proofs.Holding.{all_append, all_filter, all_more}
 
 -- Lists of waits
 -- what holds of each row holds of each that passes, which passes
@@ -219,11 +220,11 @@ module _ (w : World) (line : ScriptLine) (o : World) (P : WaitRow → Type 0) (c
     accepted_on = ends_on (is_accepted_across b) end_accepted (λ v x k q is. (accepted x q (across_as v x k is), tt))
 
     across_on : AreFairOn (end_each (is_request_across b) (end_request LPC_REPLY_LOST))
-    across_on = ends_on (is_request_across b) (end_request LPC_REPLY_LOST) (λ v x k q is. request_right LPC_REPLY_LOST x refl q (and_first _ _ is))
+    across_on = ends_on (is_request_across b) (end_request LPC_REPLY_LOST) (λ v x k q is. request_right LPC_REPLY_LOST x refl q (first-true _ _ is))
 
     received_on : AreFairOn (end_each (is_receive_across b) (wake PORT_DISCONNECTED))
     received_on = ends_on (is_receive_across b) (wake PORT_DISCONNECTED) (λ v x k q is.
-        let receives : is_receive x ≡ true = and_first _ _ is in
+        let receives : is_receive x ≡ true = first-true _ _ is in
         receive_right PORT_DISCONNECTED x q (grind (arith, receives)))
 
     pub pair_on : AreFairOn (cut_pair b)
@@ -233,13 +234,13 @@ module _ (w : World) (line : ScriptLine) (o : World) (P : WaitRow → Type 0) (c
 
     module _ (offered : (x : WaitRow) → P x → is_offered_to b x ≡ true → HasRefusal w line x) where
       receives_on : AreFairOn (end_receives b)
-      receives_on = ends_on (λ w. is_receiver b) (wake PORT_DISCONNECTED) (λ v x k q is. receive_right PORT_DISCONNECTED x q (and_first _ _ is))
+      receives_on = ends_on (λ w. is_receiver b) (wake PORT_DISCONNECTED) (λ v x k q is. receive_right PORT_DISCONNECTED x q (first-true _ _ is))
 
       requests_on : AreFairOn (end_requests b)
-      requests_on = ends_on (λ w. is_request_on b) (end_request PORT_DISCONNECTED) (λ v x k q is. request_right PORT_DISCONNECTED x refl q (and_first _ _ is))
+      requests_on = ends_on (λ w. is_request_on b) (end_request PORT_DISCONNECTED) (λ v x k q is. request_right PORT_DISCONNECTED x refl q (first-true _ _ is))
 
       queued_on : AreFairOn (end_each (λ w. is_queued_request b) (end_request LPC_REPLY_LOST))
-      queued_on = ends_on (λ w. is_queued_request b) (end_request LPC_REPLY_LOST) (λ v x k q is. request_right LPC_REPLY_LOST x refl q (and_first _ _ is))
+      queued_on = ends_on (λ w. is_queued_request b) (end_request LPC_REPLY_LOST) (λ v x k q is. request_right LPC_REPLY_LOST x refl q (first-true _ _ is))
 
       offers_on : AreFairOn (end_each (λ w. is_offered_to b) end_offered)
       offers_on = ends_on (λ w. is_offered_to b) end_offered (λ v x k q is. (offered x q is, (tt, tt)))

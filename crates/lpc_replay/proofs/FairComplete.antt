@@ -2,6 +2,7 @@
 use Rattle.std.proofs.Common.{[], refl, true, ℕ, ◌∷◌, ◌≡◌}
 use Rattle.std.specs.Prelude.{Some, not}
 use Rattle.lpc_base.proofs.RowWords.{first-passes}
+use Rattle.lpc_base.proofs.Bools.{first-true}
 use Rattle.lpc_base.specs.Rows.{first}
 use Rattle.lpc_base.specs.declared.limits.TheConstants.{MESSAGE_LIMIT}
 use Rattle.lpc_base.specs.declared.status.TheConstants.{INVALID_PARAMETER, INVALID_PORT_HANDLE, PORT_DISCONNECTED, SUCCESS}
@@ -16,7 +17,7 @@ use Rattle.lpc_model.specs.declared.entry.Entry.TheVariants as entry
 use Rattle.lpc_model.proofs.Holding.{Holds, bind_holds, found_ok, holds_ok}
 use Rattle.lpc_replay.specs.Connects.{IsCompletedBy}
 use Rattle.lpc_replay.proofs.Fair.{AreFair, HasItsCall, HaveTheirCalls, IsRight, accepted_wakes, answer_wakes}
-use Rattle.lpc_replay.proofs.Holding.{and_first, find_all}
+use Rattle.lpc_replay.proofs.Holding.{find_all}
 
 -- a completion wakes an accepted connect alone
 completable_holds : (w : World) (by : ThreadRow) (handle : ℕ) → HaveTheirCalls w → Holds (λ c. (is_accepted c.wait ≡ true) × HasItsCall c.wait) (complete_test w by handle)
@@ -28,7 +29,7 @@ completable_holds w by handle h =
     bind_holds (found_or port.pair PORT_DISCONNECTED) _ P (λ client _.
     bind_holds (found_or (first (is_accepted_on client) w.waits) PORT_DISCONNECTED) _ P (λ x at.
     let found = found_ok (first (is_accepted_on client) w.waits) PORT_DISCONNECTED x at in
-    (and_first _ _ (first-passes (is_accepted_on client) w.waits x found), find_all HasItsCall (is_accepted_on client) w.waits x h found))))))
+    (first-true _ _ (first-passes (is_accepted_on client) w.waits x found), find_all HasItsCall (is_accepted_on client) w.waits x h found))))))
 
 pub complete_fair : (w : World) (tid : ℕ) (by : ThreadRow) (handle : ℕ) → live_thread w tid ≡ Some by → HaveTheirCalls w → Holds (AreFair w (run tid (complete_connect_port handle))) (nt_complete_connect_port w by handle)
 unfolding nt_complete_connect_port

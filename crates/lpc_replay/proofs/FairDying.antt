@@ -2,12 +2,13 @@
 use Rattle.std.proofs.Common.{Bool, List, [], ap, arith, false, not, refl, subst, sym, true, ℕ, ◌∙◌, ◌∷◌, ◌≡◌}
 use Rattle.std.specs.List.{AllByRecursion}
 use Rattle.std.specs.Prelude.{None, Option, Some, ◌&&◌, ◌==◌, ◌||◌, if◌then◌else◌}
-use Rattle.std.proofs.lemmas.Bool.{eqb-true}
+use Rattle.std.proofs.lemmas.Bool.{eqb-true, not-true, or_right}
 use Rattle.std.proofs.lemmas.Bool.Decides.{nat_tests}
 use Rattle.lpc_base.specs.Rows.{change, every, given, has, passes, when, without}
 use Rattle.lpc_base.proofs.RowWords.{every-more, first-passes, has-change}
 use Rattle.lpc_base.proofs.RowMaps.{every-first}
 use Rattle.lpc_base.proofs.Births.{birth-same}
+use Rattle.lpc_base.proofs.Bools.{apart-second}
 use Rattle.lpc_base.specs.declared.birth.Birth.{Birth}
 use Rattle.lpc_base.specs.declared.status.Status.{Status}
 use Rattle.lpc_message.specs.declared.kind.TheConstants.{CLIENT_DIED}
@@ -25,9 +26,10 @@ use Rattle.lpc_model.specs.World.{MessageRow, ThreadRow, WaitRow, World}
 use Rattle.lpc_model.proofs.Closing.{behind}
 use Rattle.lpc_model.proofs.DeathLines.{death-still, die-threads, is_still}
 use Rattle.lpc_model.proofs.Ending.{behind_dead, behind_told, die-pass, told-facts, turn-pass}
-use Rattle.lpc_model.proofs.SoundQueues.{after-append}
 use Rattle.lpc_model.proofs.SoundTerminate.{IsSafe, die-safe}
 use Rattle.lpc_model.proofs.SoundWorlds.{by_kind, is_sure, sure-waits}
+use Rattle.lpc_model.proofs.SingleClosingsLines.{its-maker}
+use Rattle.lpc_model.proofs.StepsInTurn.{after-append}
 use Rattle.lpc_replay.specs.Connects.{lives_beside}
 use Rattle.lpc_replay.proofs.Fair.{AreFair, HasItsCall, IsFair}
 use Rattle.lpc_replay.proofs.FairClosing.{AreFairOn, KeepKnown, Knows, keeps_known, away-keeps, enter-keeps, enter_on, knows-all, pair_on, then_fair}
@@ -42,12 +44,9 @@ is_elsewhere w n b z = waits_as n z || not (is_accepted_across b w z)
 elsewhere : (w : World) (n : ℕ) (b : Birth) → is_open w b ≡ false → (b.maker == n) ≡ true → (z : WaitRow) → is_sure w z ≡ true → is_elsewhere w n b z ≡ true
 elsewhere w n b shut made =
     by_kind (λ z. is_sure w z ≡ true → is_elsewhere w n b z ≡ true)
-    (λ z m is. right (waits_as n z) true refl) (λ z is. right (waits_as n z) true refl) (λ z is. right (waits_as n z) true refl) (λ z m is. right (waits_as n z) true refl)
+    (λ z m is. or_right (waits_as n z) true refl) (λ z is. or_right (waits_as n z) true refl) (λ z is. or_right (waits_as n z) true refl) (λ z m is. or_right (waits_as n z) true refl)
     (λ z m reply is. none (waits_as n z) (same_birth z.port b) (is_the b (pair_of w z.port)) (own z (maker-part z is)) (unpaired (pair_of w z.port) (opens-part z is)))
   where
-    right : (a c : Bool) → c ≡ true → (a || c) ≡ true
-    right a c is = grind arith
-
     two-true : (a o s m : Bool) → ((a && o) && (s && m)) ≡ true → o ≡ true
     two-true a o s m is = grind arith
 
@@ -107,27 +106,15 @@ abbrev dead : ℕ → Status → List Basic
 dead n code = Dies n code ∷ Withdraws n ∷ []
 
 shut-connect : (w : World) (n : ℕ) (x : WaitRow) → HasShutConnects w → wait_of w n ≡ Some x → is_accepted x ≡ true → is_open w x.port ≡ false
-shut-connect w n x shut found is = apart (is_connect x) (is_open w x.port) (connects x is) (every-first (λ x. not (is_connect x && is_open w x.port)) (waits_as n) w.waits x shut found)
+shut-connect w n x shut found is = apart-second (is_connect x) (is_open w x.port) (connects x is) (every-first (λ x. not (is_connect x && is_open w x.port)) (waits_as n) w.waits x shut found)
   where
-    apart : (a o : Bool) → a ≡ true → not (a && o) ≡ true → o ≡ false
-    apart a o one two = grind arith
-
     connects : (x : WaitRow) → is_accepted x ≡ true → is_connect x ≡ true
     connects x is = grind arith
-
-accepted-maker : (w : World) (x : WaitRow) → is_accepted x ≡ true → can_stay_sound w x ≡ true → (x.port.maker == x.thread) ≡ true
-accepted-maker w =
-    by_kind (λ x. is_accepted x ≡ true → can_stay_sound w x ≡ true → (x.port.maker == x.thread) ≡ true)
-    (λ x m is. absurd (cc)) (λ x is. absurd (cc)) (λ x is. absurd (cc)) (λ x m is. absurd (cc))
-    (λ x m reply is. second (has (is_port x.port) w.ports) (x.port.maker == x.thread))
-  where
-    second : (a b : Bool) → (a && b) ≡ true → b ≡ true
-    second a b is = grind arith
 
 own-maker : (w : World) (n : ℕ) (x : WaitRow) → IsSafe w → wait_of w n ≡ Some x → is_accepted x ≡ true → (x.port.maker == n) ≡ true
 own-maker w n x safe found is =
     let s = safe.sound in
-    let made : x.port.maker ≡ x.thread = eqb-true _ _ (accepted-maker w x is (every-first (can_stay_sound w) (waits_as n) w.waits x s.stay found)) in
+    let made : x.port.maker ≡ x.thread = eqb-true _ _ (its-maker w x is (every-first (can_stay_sound w) (waits_as n) w.waits x s.stay found)) in
     let its : x.thread ≡ n = eqb-true _ _ (first-passes (waits_as n) w.waits x found) in
     let both : x.port.maker ≡ n = made ∙ its in
     rw both (grind (arith, nat_tests))
@@ -144,12 +131,9 @@ module _ (w : World) (line : ScriptLine) (P : WaitRow → Type 0) (calls : (x : 
       let later : every (is_elsewhere v n b) xs ≡ true = grind arith in
       at (waits_as n x) here (others_left v n b xs all.1 later)
     where
-      off-part : (c : Bool) → not c ≡ true → c ≡ false
-      off-part c is = grind arith
-
       at : (own : Bool) → (own || not (is_accepted_across b v x)) ≡ true → AllByRecursion (IsOther v b) (without (waits_as n) xs) → AllByRecursion (IsOther v b) (if not own then x ∷ without (waits_as n) xs else without (waits_as n) xs)
       at true is rest = rest
-      at false is rest = ((all.0, off-part (is_accepted_across b v x) is), rest)
+      at false is rest = ((all.0, not-true (is_accepted_across b v x) is), rest)
 
   die_fair : (code : Status) (t : ThreadRow) (v : World) → IsSafe v → Knows P w v → AreFair w line (die code t v)
   die_fair code t v safe k = all_append (IsFair w line) (dead t.number code) (cut_accepted (wait_of v t.number) (left t.number code v)) (tt, (tt, tt)) (at (wait_of v t.number) refl)

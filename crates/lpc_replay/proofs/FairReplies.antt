@@ -1,6 +1,6 @@
 -- A reply that isn't refused is that of its reply call, and returns its bytes.
 use Rattle.std.proofs.Common.{Bool, List, [], ap, false, refl, subst, true, ℕ, ◌∙◌, ◌∷◌, ◌≡◌}
-use Rattle.std.specs.Prelude.{None, Ok, Option, Some, is_some, nat_lt, not, option_and_then, ◌&&◌, ◌==◌, ◌||◌}
+use Rattle.std.specs.Prelude.{None, Ok, Option, Some, is_some, nat_lt, not, option_and_then, ◌&&◌}
 use Rattle.lpc_base.proofs.RowWords.{first-passes}
 use Rattle.lpc_base.proofs.Births.{birth-same}
 use Rattle.lpc_base.specs.declared.birth.Birth.{Birth}
@@ -8,7 +8,7 @@ use Rattle.lpc_base.specs.declared.limits.TheConstants.{MESSAGE_LIMIT}
 use Rattle.lpc_base.specs.declared.status.TheConstants.{ACCESS_DENIED, INVALID_HANDLE, INVALID_PARAMETER, OBJECT_TYPE_MISMATCH, PORT_MESSAGE_TOO_LONG, REPLY_MESSAGE_MISMATCH, SUCCESS}
 use Rattle.lpc_message.specs.Layout.{fault_of, header_of}
 use Rattle.lpc_model.specs.Fields.{msg}
-use Rattle.lpc_model.specs.Found.{fits, fitted, handle_at, is_port, is_request, is_the, live_thread, pair_of, port_row, same_birth, same_kind}
+use Rattle.lpc_model.specs.Found.{fits, fitted, handle_at, is_port, live_thread, port_row, same_kind}
 use Rattle.lpc_model.specs.Lines.{ScriptLine}
 use Rattle.lpc_model.specs.Message.{as_reply, bytes_of, message_of, message_test}
 use Rattle.lpc_model.specs.Refusal.{refuse_if}
@@ -22,6 +22,7 @@ use Rattle.lpc_model.specs.declared.entry.Value.TheVariants.{Bytes}
 use Rattle.lpc_model.specs.declared.message.Message.{Message}
 use Rattle.lpc_model.proofs.GivenBytes.{AreBytes, written_back}
 use Rattle.lpc_model.proofs.Holding.{Holds, bind_holds, found_holds, found_ok, holds_ok, not_refused}
+use Rattle.lpc_model.proofs.SoundReply.{fits-request}
 use Rattle.lpc_replay.proofs.Fair.{HasItsCall, HaveTheirCalls, IsFair, reply_wakes, request_wakes}
 use Rattle.lpc_replay.proofs.Holding.{find_all, not_false}
 
@@ -57,11 +58,6 @@ pub optional_holds : (bytes : List ℕ) → Holds (λ o. (m : Message) × (o ≡
 optional_holds bytes = bind_holds (message_test bytes) _ (λ o. (m : Message) × (o ≡ Some m) × (message_test bytes ≡ Ok m)) (λ m is. (m, refl, is))
 
 -- a reply that isn't refused fits a wait
-pub answered_holds : (w : World) (port : PortRow) (m : Message) → Holds (λ x. fitted w port.birth m ≡ Some x) (reply_test w port m)
-answered_holds w port m =
-    let P : WaitRow → Type 0 = λ x. fitted w port.birth m ≡ Some x in
-    bind_holds (client_test w m.header.client) _ P (λ _ _. found_holds P (fitted w port.birth m) REPLY_MESSAGE_MISMATCH (λ x fit. fit))
-
 none_is : {A : Type 0} (o : Option A) → is_some o ≡ false → o ≡ None
 none_is None h = refl
 none_is (Some x) h = absurd (cc)
@@ -94,11 +90,6 @@ fit_request true true false d e is = absurd (cc)
 fit_request true false c d e is = absurd (cc)
 fit_request false b c d e is = absurd (cc)
 
-fits_request : (w : World) (port : Birth) (m : Message) (x : WaitRow) → fits w port m x ≡ true → is_request x ≡ true
-fits_request w port m x is =
-    fit_request (x.thread == m.header.client.thread) (x.process == m.header.client.process) (x.identifier == m.header.message_id) (is_request x)
-    (x.received && (same_birth x.queue port || is_the port (pair_of w x.port))) is
-
 pub returned_fair : (w : World) (line : ScriptLine) (r : Reply) (by : ThreadRow) (port : PortRow) (m : Message) → HaveTheirCalls w → reply_of line ≡ Some r → AreBytes r.bytes → live_thread w r.by ≡ Some by → port_test w by r.handle ≡ Ok port → message_test r.bytes ≡ Ok m → Holds (λ x. IsFair w line (reply x m)) (reply_test w port m)
 returned_fair w line r by port m h is_reply are live at is =
     let P : WaitRow → Type 0 = λ x. IsFair w line (reply x m) in
@@ -116,5 +107,5 @@ returned_fair w line r by port m h is_reply are live at is =
         its_wait = refl;
         shows = shows_own r.bytes m (bytes_again r.bytes m are is);
       }),
-      request_wakes w line x SUCCESS (msg (as_reply m) ∷ []) (fits_request w port.birth m x (first-passes (fits w port.birth m) w.waits x fit)) (find_all HasItsCall (fits w port.birth m) w.waits x h fit),
+      request_wakes w line x SUCCESS (msg (as_reply m) ∷ []) (fits-request w port.birth m x (first-passes (fits w port.birth m) w.waits x fit)) (find_all HasItsCall (fits w port.birth m) w.waits x h fit),
     )))

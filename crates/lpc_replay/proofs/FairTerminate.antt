@@ -2,11 +2,12 @@
 -- the process alone has handles, where it ends with its last thread.
 use Rattle.std.proofs.Common.{Bool, List, [], arith, false, not, refl, subst, sym, true, ℕ, ◌∙◌, ◌∷◌, ◌≡◌}
 use Rattle.std.specs.List.{AllByRecursion}
-use Rattle.std.specs.Prelude.{None, Option, Some, ◌&&◌, ◌==◌, ◌||◌}
-use Rattle.std.proofs.lemmas.Bool.{eqb-true}
+use Rattle.std.specs.Prelude.{None, Option, Some, ◌==◌, ◌||◌}
+use Rattle.std.proofs.lemmas.Bool.{and_from, eqb-true}
 use Rattle.std.proofs.lemmas.Bool.Decides.{nat_tests}
 use Rattle.lpc_base.specs.Rows.{every, has, passes, when}
 use Rattle.lpc_base.proofs.RowWords.{every-more, first-passes, has_none-more}
+use Rattle.lpc_base.proofs.Bools.{first-true, second-true}
 use Rattle.lpc_base.specs.declared.birth.Birth.{Birth}
 use Rattle.lpc_base.specs.declared.status.Status.{Status}
 use Rattle.lpc_base.specs.declared.status.TheConstants.{PORT_CONNECTION_REFUSED}
@@ -27,8 +28,8 @@ use Rattle.lpc_model.proofs.Closing.{behind}
 use Rattle.lpc_model.proofs.Ending.{answered_end, behind_dead, behind_told, first-at, rows-left, thread-ends, turn-pass}
 use Rattle.lpc_model.proofs.Holding.{Holds, bind_holds}
 use Rattle.lpc_model.proofs.Rows.{has-found}
-use Rattle.lpc_model.proofs.SoundQueues.{after-append}
 use Rattle.lpc_model.proofs.SoundTerminate.{IsSafe, handle-safe, told-safe}
+use Rattle.lpc_model.proofs.StepsInTurn.{after-append}
 use Rattle.lpc_replay.specs.Connects.{IsEndedBy, lives_beside}
 use Rattle.lpc_replay.proofs.Fair.{AreFair, HasItsCall, HaveTheirCalls, IsFair}
 use Rattle.lpc_replay.proofs.FairClose.{IsKnown, known_call, knows_first, refusal_right}
@@ -46,12 +47,6 @@ IsOfOthers w pid x = IsKnown w x × ((x.process == pid) ≡ false)
 lives_on : (v : World) (pid : ℕ) → is_live v pid ≡ false → (x : WaitRow) → is_sound_wait v x ≡ true → not (x.process == pid) ≡ true
 lives_on v pid gone x is = at (x.process == pid) refl
   where
-    first-true : (a b : Bool) → (a && b) ≡ true → a ≡ true
-    first-true a b is = grind arith
-
-    both : (a b : Bool) → a ≡ true → b ≡ true → (a && b) ≡ true
-    both a b one two = grind arith
-
     of : (o : Option ThreadRow) → live_thread v x.thread ≡ o → passes o (λ t. t.process == x.process) ≡ true → (x.process == pid) ≡ true → is_live v pid ≡ true
     of None none is own = absurd (cc)
     of (Some t) found is own =
@@ -60,10 +55,7 @@ lives_on v pid gone x is = at (x.process == pid) refl
         let three : t.process ≡ pid = one ∙ two in
         let its : (t.process == pid) ≡ true = rw three (grind (arith, nat_tests)) in
         let lives : t.live ≡ true = second-true (t.number == x.thread) t.live (first-passes (is_live_thread x.thread) v.threads t found) in
-        has-found (lives_in pid) (is_live_thread x.thread) v.threads t found (both (t.process == pid) t.live its lives)
-      where
-        second-true : (a b : Bool) → (a && b) ≡ true → b ≡ true
-        second-true a b is = grind arith
+        has-found (lives_in pid) (is_live_thread x.thread) v.threads t found (and_from (t.process == pid) t.live its lives)
 
     at : (own : Bool) → (x.process == pid) ≡ own → not own ≡ true
     at false other = refl

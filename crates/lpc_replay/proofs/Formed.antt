@@ -1,7 +1,8 @@
 -- A script that is read whole, or to a limit, is formed as what is read of it.
 use Rattle.std.proofs.Common.{◌≡◌, ℕ, Bool, true, false, List, [], ◌++◌, refl, sym, subst, ◌∙◌}
-use Rattle.std.specs.Prelude.{◌||◌, IfSome, None, Option, Some}
+use Rattle.std.specs.Prelude.{IfSome, None, Option, Some}
 use Rattle.std.proofs.lemmas.List.{append-nil, append_cancel_right}
+use Rattle.std.proofs.Math.Bool.{or-true}
 use Rattle.lpc_base.specs.Streams.{Told}
 use Rattle.lpc_model.specs.Script.{script_lines}
 use Rattle.lpc_model.specs.Run.{is_well_formed}
@@ -48,12 +49,8 @@ unfailed (Some old) (Some new) script before now told still = λ read parts soun
     let same : read ≡ script = append_cancel_right read script new (sym parts ∙ told) in
     still (rw same at sound)
 
-or_true : (a : Bool) → (a || true) ≡ true
-or_true true = refl
-or_true false = refl
-
 pub has_ended_fault : (script : List ℕ) → is_well_formed (ended_lines script) ≡ false → has_fault script ≡ true
-has_ended_fault script faulty = rw faulty (or_true (passes_limit script))
+has_ended_fault script faulty = rw faulty (or-true (passes_limit script))
 
 -- and where one is
 pub stops_ended : (left left' sent sent' : Option (List ℕ)) (script : List ℕ) → Told left left' (λ old new. old ≡ script ++ new) → is_well_formed (ended_lines script) ≡ false → Told sent sent' (λ before now. now ≡ before ++ transcript script) → Stops left left' sent sent'

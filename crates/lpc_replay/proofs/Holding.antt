@@ -1,6 +1,6 @@
 -- What holds of each row of a list, and of tests.
 use Rattle.std.proofs.Common.{◌≡◌, refl, subst, Bool, true, false, cond, List, [], ◌∷◌, ◌++◌}
-use Rattle.std.specs.Prelude.{Option, Some, find, filter, map, ◌&&◌, not}
+use Rattle.std.specs.Prelude.{Option, Some, find, filter, map, not}
 use Rattle.std.specs.List.{AllByRecursion}
 
 -- what holds of each holds of what is found
@@ -31,10 +31,6 @@ all_more P Q more (x ∷ xs) h = (more x h.0, all_more P Q more xs h.1)
 pub all_map : {A : Type 0} (P : A → Type 0) (f : A → A) (xs : List A) → ((x : A) → P x → P (f x)) → AllByRecursion P xs → AllByRecursion P (map f xs)
 all_map P f [] k h = tt
 all_map P f (x ∷ xs) k h = (k x h.0, all_map P f xs k h.1)
-
-pub and_first : (a b : Bool) → (a && b) ≡ true → a ≡ true
-and_first true b h = refl
-and_first false b h = cc
 
 pub not_false : (b : Bool) → not b ≡ false → b ≡ true
 not_false true h = refl

@@ -14,6 +14,7 @@ use Rattle.lpc_model.specs.Grammar.{read_line}
 use Rattle.lpc_model.specs.Run.{FaultyLine, faulty_or, first_fault, is_well_formed, numbered_line}
 use Rattle.lpc_replay.specs.declared.reading.Place.{Place}
 use Rattle.lpc_replay.specs.Reading.{IsRead, behind, behind_byte, passes_limit, start}
+use Rattle.lpc_replay.proofs.Ended.{line_case}
 
 -- the place behind two parts
 behind_more : (o : Option Place) (xs ys : List ℕ) → ((p : Place) → behind p (xs ++ ys) ≡ option_and_then (λ q. behind q ys) (behind p xs)) → option_and_then (λ q. behind q (xs ++ ys)) o ≡ option_and_then (λ q. behind q ys) (option_and_then (λ q. behind q xs) o)
@@ -145,15 +146,10 @@ unfolding script_lines
 ended_line [] bytes all = refl
 ended_line (b ∷ front) bytes all = rw (all.0, ended_line front bytes all.1) refl
 
-some_case : (b : ℕ) (end : Bool) (rest : List (List ℕ)) → (line : List ℕ) × (lines : List (List ℕ)) × (cond end ([] ∷ rest) (onto_first b rest) ≡ line ∷ lines)
-some_case b true rest = ([], rest, refl)
-some_case b false [] = (b ∷ [], [], refl)
-some_case b false (l ∷ ls) = (b ∷ l, ls, refl)
-
 some_line : (front : List ℕ) (b : ℕ) (bytes : List ℕ) → (line : List ℕ) × (lines : List (List ℕ)) × (script_lines (front ++ b ∷ bytes) ≡ line ∷ lines)
 unfolding script_lines
-some_line [] b bytes = some_case b (b == 10) (script_lines bytes)
-some_line (c ∷ front) b bytes = some_case c (c == 10) (script_lines (front ++ b ∷ bytes))
+some_line [] b bytes = line_case b (b == 10) (script_lines bytes)
+some_line (c ∷ front) b bytes = line_case c (c == 10) (script_lines (front ++ b ∷ bytes))
 
 pub no_error : {A E : Type 0} (r : Result A E) → is_err r ≡ false → is_ok r ≡ true
 no_error (Ok x) h = refl

@@ -1,11 +1,12 @@
 -- A port's last handle is that of the only process that has one.
 use Rattle.std.proofs.Common.{Bool, List, [], arith, false, not, refl, subst, sym, true, ℕ, ◌+◌, ◌++◌, ◌∙◌, ◌∷◌, ◌≡◌, ◌≤◌}
 use Rattle.std.specs.Prelude.{◌&&◌, ◌||◌}
-use Rattle.std.proofs.lemmas.Bool.{eqb-true}
+use Rattle.std.proofs.lemmas.Bool.{and_from, eqb-true}
 use Rattle.lpc_base.specs.Rows.{change, count, each, every, first, has}
 use Rattle.lpc_base.specs.declared.birth.Birth.{Birth}
 use Rattle.lpc_base.proofs.Births.{birth-self}
 use Rattle.lpc_base.proofs.RowWords.{none-counted}
+use Rattle.lpc_base.proofs.Bools.{first-true, second-true}
 use Rattle.lpc_model.specs.declared.entry.ObjectKind.TheVariants as kind
 use Rattle.lpc_model.specs.declared.entry.ObjectKind.{ObjectKind}
 use Rattle.lpc_model.specs.Basics.{DropsHandle, basic, without_handle}
@@ -108,19 +109,10 @@ lone w pid r rows same last =
     let is_port : same_kind r.object.kind kind.Port ≡ true = first-true _ _ last in
     let one : handle_count w r.object ≡ 1 = eqb-true (handle_count w r.object) 1 (second-true _ _ last) in
     let test : HandleRow → Bool = λ h. names_port b h.object in
-    let is : test r ≡ true = both (same_kind r.object.kind kind.Port) _ is_port (birth-self b) in
+    let is : test r ≡ true = and_from (same_kind r.object.kind kind.Port) _ is_port (birth-self b) in
     let few : count test (all_handles w) ≡ 1 = subst (λ k. count (λ (h : HandleRow). same_kind h.object.kind k && same_birth h.object.birth b) (all_handles w) ≡ 1) (port_kind r.object.kind is_port) one in
     record { opens = one_table pid test r rows is w.handles same; alone = others_free pid test r rows is w.handles same (at_most (count test (all_handles w)) few) }
   where
-    first-true : (a c : Bool) → (a && c) ≡ true → a ≡ true
-    first-true a c is = grind arith
-
-    second-true : (a c : Bool) → (a && c) ≡ true → c ≡ true
-    second-true a c is = grind arith
-
-    both : (a c : Bool) → a ≡ true → c ≡ true → (a && c) ≡ true
-    both a c one two = grind arith
-
     at_most : (n : ℕ) → n ≡ 1 → n ≤ 1
     at_most n is = omega arith
 

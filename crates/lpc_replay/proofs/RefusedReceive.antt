@@ -4,6 +4,7 @@ use Rattle.std.specs.Prelude.{None, Ok, Option, Some, ◌==◌}
 use Rattle.lpc_base.specs.Rows.{first}
 use Rattle.lpc_base.specs.declared.birth.Birth.{Birth}
 use Rattle.lpc_base.specs.declared.status.TheConstants.{PORT_DISCONNECTED, SUCCESS}
+use Rattle.lpc_isolation.proofs.Reply.{answered-fits}
 use Rattle.lpc_model.specs.Basics.{Basic}
 use Rattle.lpc_model.specs.Fields.{receipt}
 use Rattle.lpc_model.specs.Found.{fitted, is_queued, live_thread, queue_of}
@@ -18,7 +19,7 @@ use Rattle.lpc_model.specs.declared.entry.Entry.TheVariants.{Answer, Waits}
 use Rattle.lpc_model.specs.declared.message.Message.{Message}
 use Rattle.lpc_model.proofs.Holding.{Holds, bind_holds, holds_ok}
 use Rattle.lpc_replay.proofs.Failing.{Ends, Fails, bind_ends, found_fails, message_fails, port_fails, refuse_fails}
-use Rattle.lpc_replay.proofs.FairReplies.{answered_holds, message_holds, optional_holds, port_holds}
+use Rattle.lpc_replay.proofs.FairReplies.{message_holds, optional_holds, port_holds}
 use Rattle.lpc_replay.proofs.Misfits.{OneRefusal, StaysWhereRefused, answered_fails, no_fit, no_success}
 
 optional_fails : (bytes : List ℕ) → Fails (optional_message (Some bytes))
@@ -38,7 +39,7 @@ given_fails w port (Some m) = bind_ends (reply_test w port m) _ (λ (bs : List B
 made_fits : (w : World) (port : PortRow) (m : Message) → Holds (λ (bs : List Basic). (x : WaitRow) × (fitted w port.birth m ≡ Some x)) (given_reply w port (Some m))
 made_fits w port m =
     bind_holds (reply_test w port m) _ (λ (bs : List Basic). (x : WaitRow) × (fitted w port.birth m ≡ Some x)) (λ x fit.
-    (x, holds_ok _ (reply_test w port m) x (answered_holds w port m) fit))
+    (x, holds_ok _ (reply_test w port m) x (answered-fits w port m) fit))
 
 no_made : (w : World) (r : Reply) (by : ThreadRow) (port : PortRow) (o : Option Message) (bs : List Basic) → live_thread w r.by ≡ Some by → port_test w by r.handle ≡ Ok port → optional_message (Some r.bytes) ≡ Ok o → fitted_wait w r ≡ None → given_reply w port o ≡ Ok bs → ⊥
 no_made w r by port o bs live at is misfit made =

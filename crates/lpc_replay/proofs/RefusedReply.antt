@@ -2,6 +2,7 @@
 use Rattle.std.proofs.Common.{List, [], ℕ, ◌≡◌}
 use Rattle.std.specs.Prelude.{None, Some, ◌==◌}
 use Rattle.lpc_base.specs.declared.status.TheConstants.{SUCCESS}
+use Rattle.lpc_isolation.proofs.Reply.{answered-fits}
 use Rattle.lpc_model.specs.Found.{live_thread}
 use Rattle.lpc_model.specs.Message.{message_test}
 use Rattle.lpc_model.specs.Replies.{Reply, fitted_wait}
@@ -13,7 +14,7 @@ use Rattle.lpc_model.specs.declared.entry.Entry.TheVariants.{Answer}
 use Rattle.lpc_model.specs.declared.message.Message.{Message}
 use Rattle.lpc_model.proofs.Holding.{Holds, bind_holds, holds_ok}
 use Rattle.lpc_replay.proofs.Failing.{Ends, bind_ends, message_fails, port_fails}
-use Rattle.lpc_replay.proofs.FairReplies.{answered_holds, message_holds, port_holds}
+use Rattle.lpc_replay.proofs.FairReplies.{message_holds, port_holds}
 use Rattle.lpc_replay.proofs.Misfits.{OneRefusal, StaysWhereRefused, answered_fails, no_fit, no_success}
 
 pub reply_misfits : (w : World) (r : Reply) (by : ThreadRow) → live_thread w r.by ≡ Some by → fitted_wait w r ≡ None → Ends (OneRefusal r.by) (nt_reply_port w by r.handle r.bytes)
@@ -23,7 +24,7 @@ reply_misfits w r by live misfit =
     bind_ends (port_test w by r.handle) _ P (port_fails w by r.handle) (λ port at.
     bind_ends (message_test r.bytes) _ P (message_fails r.bytes) (λ m is.
     bind_ends (reply_test w port m) _ P (answered_fails w port m) (λ x fit.
-    absurd (no_fit w r by port.birth m x live (holds_ok _ _ port (port_holds w by r.handle) at) (holds_ok _ _ m (message_holds r.by r.handle r.bytes) is) misfit (holds_ok _ _ x (answered_holds w port m) fit)))))
+    absurd (no_fit w r by port.birth m x live (holds_ok _ _ port (port_holds w by r.handle) at) (holds_ok _ _ m (message_holds r.by r.handle r.bytes) is) misfit (holds_ok _ _ x (answered-fits w port m) fit)))))
 
 made_reply : (tid : ℕ) (by : ThreadRow) (x : WaitRow) (m : Message) → StaysWhereRefused tid (reply_steps by x m)
 made_reply tid by x m r =

@@ -1,8 +1,8 @@
 -- Each reply that fits no wait is refused, and a refused reply changes nothing.
 use Rattle.std.proofs.Common.{Bool, List, [], ap, false, length, refl, subst, true, ℕ, ◌∙◌, ◌∷◌, ◌≡◌}
-use Rattle.std.proofs.lemmas.Bool.{eq-eqb}
 use Rattle.std.specs.Prelude.{Err, None, Ok, Option, Result, Some, ◌==◌}
 use Rattle.lpc_base.proofs.RowWords.{first-passes}
+use Rattle.lpc_base.proofs.Bools.{first-true, same-number}
 use Rattle.lpc_base.specs.declared.status.Status.{Status}
 use Rattle.lpc_model.specs.Basics.{Basic, Tells, entries_of, going_on, posts_of, world_after}
 use Rattle.lpc_model.specs.Fields.{info}
@@ -19,17 +19,13 @@ use Rattle.lpc_model.specs.declared.entry.Entry.{Entry}
 use Rattle.lpc_model.proofs.Holding.{Holds, settled_holds}
 use Rattle.lpc_replay.proofs.Failing.{Ends}
 use Rattle.lpc_replay.proofs.HeldWorlds.{held_sweep, step_tells}
-use Rattle.lpc_replay.proofs.Holding.{and_first}
 use Rattle.lpc_replay.proofs.Misfits.{OneRefusal, StaysWhereRefused}
 use Rattle.lpc_replay.proofs.RefusedReceive.{receive_misfits, receive_stays}
 use Rattle.lpc_replay.proofs.RefusedReply.{reply_misfits, reply_stays}
 
 -- the thread that is found has the number
 live_number : (w : World) (tid : ℕ) (by : ThreadRow) → live_thread w tid ≡ Some by → (by.number == tid) ≡ true
-live_number w tid by live = and_first _ _ (first-passes (is_live_thread tid) w.threads by live)
-
-own_number : (tid : ℕ) → (tid == tid) ≡ true
-own_number tid = eq-eqb tid tid refl
+live_number w tid by live = first-true _ _ (first-passes (is_live_thread tid) w.threads by live)
 
 -- the two calls that are a reply call: one that receives then, and one that doesn't
 abbrev pub replying : Bool → Reply → ScriptCall
@@ -51,7 +47,7 @@ misfit_ready w r receives by None live misfit =
     settled_refusal r.by by (name_of_call c) (service_of w by c) (live_number w r.by by live) (misfit_ends w r receives by live misfit)
 
 misfit_thread : (w : World) (r : Reply) (receives : Bool) (o : Option ThreadRow) → live_thread w r.by ≡ o → fitted_wait w r ≡ None → OneRefusal r.by (thread_steps r.by (replying receives r) o w)
-misfit_thread w r receives None live misfit = (NoThread r.by, own_number r.by, refl)
+misfit_thread w r receives None live misfit = (NoThread r.by, same-number r.by, refl)
 misfit_thread w r receives (Some by) live misfit = misfit_ready w r receives by (wait_of w r.by) live misfit
 
 misfit_steps : (w : World) (r : Reply) (receives : Bool) → fitted_wait w r ≡ None → OneRefusal r.by (bare_steps (run r.by (replying receives r)) w)

@@ -2,6 +2,7 @@
 use Rattle.std.proofs.Common.{Bool, List, [], arith, false, refl, true, ℕ, ◌∙◌, ◌∷◌, ◌≡◌}
 use Rattle.std.specs.Prelude.{◌==◌, ◌||◌}
 use Rattle.std.proofs.lemmas.Bool.Decides.{nat_tests}
+use Rattle.std.proofs.lemmas.Bool.{or_left, or_right}
 use Rattle.lpc_base.specs.Rows.{has, without}
 use Rattle.lpc_base.proofs.RowWords.{has-change, has-kept}
 use Rattle.lpc_model.specs.Basics.{Accepts, Awaits, Basic, Dies, Frees, Receives, Wakes, accepted, basic, entries_of, received, told, world_after}
@@ -39,15 +40,9 @@ all_told : (tid : ℕ) (v : World) (bs : List Basic) → has (waits_as tid) v.wa
 all_told tid v [] waits gone = absurd (cc)
 all_told tid v (b ∷ bs) waits gone = has-append (tells_end tid) (told b) (entries_of bs) ∙ at (has (waits_as tid) (basic v b).waits) refl (λ on. all_told tid (basic v b) bs on gone)
   where
-    first-told : (a c : Bool) → a ≡ true → (a || c) ≡ true
-    first-told a c is = grind arith
-
-    later-told : (a c : Bool) → c ≡ true → (a || c) ≡ true
-    later-told a c is = grind arith
-
     at : (on : Bool) → has (waits_as tid) (basic v b).waits ≡ on → (has (waits_as tid) (basic v b).waits ≡ true → has (tells_end tid) (entries_of bs) ≡ true) → (has (tells_end tid) (told b) || has (tells_end tid) (entries_of bs)) ≡ true
-    at true on later = later-told (has (tells_end tid) (told b)) (has (tells_end tid) (entries_of bs)) (later on)
-    at false off later = first-told (has (tells_end tid) (told b)) (has (tells_end tid) (entries_of bs)) (ends_told tid v b waits off)
+    at true on later = or_right (has (tells_end tid) (told b)) (has (tells_end tid) (entries_of bs)) (later on)
+    at false off later = or_left (has (tells_end tid) (told b)) (has (tells_end tid) (entries_of bs)) (ends_told tid v b waits off)
 
 pub waits_told : (w : World) (line : ScriptLine) → WaitsEndAsTold w line
 waits_told w line tid waits gone = all_told tid w (steps line w) waits gone

@@ -1,6 +1,6 @@
 -- Digits that are read one after the other.
-use Rattle.std.proofs.Common.{◌≡◌, ℕ, ◌+◌, ◌*◌, ◌<◌, ◌≤◌, Bool, true, false, List, length, take, get_or, refl, arith}
-use Rattle.std.specs.Prelude.{◌&&◌, nat_le, nat_lt, Some, Err}
+use Rattle.std.proofs.Common.{◌≡◌, ℕ, ◌+◌, ◌*◌, ◌<◌, ◌≤◌, true, false, List, length, take, get_or, refl, arith}
+use Rattle.std.specs.Prelude.{nat_le, nat_lt, Some, Err}
 use Rattle.std.specs.Option.{SomeIff}
 use Rattle.std.specs.Char.{is_digit, digit_value}
 use Rattle.std.specs.List.{list_all}
@@ -9,6 +9,7 @@ use Rattle.std.proofs.lemmas.Bool.Decides.{nat_tests}
 use Rattle.std.proofs.lemmas.Int.Digits.{digits_value_more}
 use Rattle.std.proofs.lemmas.List.Folds.{list_all_more}
 use Rattle.std.proofs.lemmas.Str.Parse.{digits_value-take-le}
+use Rattle.std.proofs.Math.Bool.{and-false}
 use Rattle.lpc_model.specs.Words.{digits_word}
 use Rattle.lpc_model.specs.declared.fault.LineFault.TheVariants as fault
 
@@ -17,10 +18,6 @@ le_false {m} {n} h = grind (arith, nat_tests)
 
 le_true : {m n : ℕ} → m < n → nat_lt m n ≡ true
 le_true {m} {n} h = grind (arith, nat_tests)
-
-and_false : (b : Bool) → (b && false) ≡ false
-and_false true = refl
-and_false false = refl
 
 -- the next digit of a text, as it is read
 pub record NextDigit (base : ℕ) (text : List ℕ) (i digit : ℕ) : Type 0 where
@@ -51,4 +48,4 @@ unfolding digits_word
 digits_over base text i value b is over =
     let whole = digits_value-take-le base text i (omega arith) in
     let great : nat_le (digits_value base text) 4294967295 ≡ false = le_false (omega arith) in
-    rw (great, and_false) refl
+    rw (great, and-false) refl

@@ -1,5 +1,5 @@
 -- Steps one behind the other: what the second leave of what the first left is what both leave.
-use Rattle.std.proofs.Common.{◌≡◌, ◌∙◌, List, [], ◌∷◌, ◌++◌, Bool, append_assoc, refl, ap, sym}
+use Rattle.std.proofs.Common.{◌≡◌, ◌∙◌, List, [], ◌∷◌, ◌++◌, Bool, append_assoc, refl, ap}
 use Rattle.std.proofs.lemmas.List.{append-nil}
 use Rattle.std.specs.Prelude.{◌||◌}
 use Rattle.lpc_model.specs.declared.entry.Entry.{Entry}
@@ -7,13 +7,9 @@ use Rattle.lpc_model.specs.Basics.{Basic, Steps, basic, entries_of, told, world_
 use Rattle.lpc_model.specs.Listed.{Listed}
 use Rattle.lpc_model.specs.Sweep.{loosened, loosens}
 use Rattle.lpc_model.specs.World.{World}
-use Rattle.lpc_model.proofs.SoundQueues.{after-append}
+use Rattle.lpc_model.proofs.StepsInTurn.{after-append, entries-append}
 use Rattle.lpc_world.specs.Does.{Left, Took, left_by}
 use Rattle.lpc_world.specs.Kept.{Kept}
-
-pub entries-append : (bs cs : List Basic) → entries_of (bs ++ cs) ≡ entries_of bs ++ entries_of cs
-entries-append [] cs = refl
-entries-append (b ∷ bs) cs = ap (λ es. told b ++ es) (entries-append bs cs) ∙ sym (append_assoc (told b) (entries_of bs) (entries_of cs))
 
 pub loosened-append : (loose : Bool) (bs cs : List Basic) → loosened loose (bs ++ cs) ≡ loosened (loosened loose bs) cs
 loosened-append loose [] cs = refl

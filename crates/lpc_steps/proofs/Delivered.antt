@@ -2,11 +2,13 @@
 use Rattle.std.proofs.Common.{◌≡◌, ℕ, ◌+◌, List, [], ◌∷◌, ◌++◌, Bool, true, false, length, Option, Some, refl, ap, sym, subst, ◌∙◌, arith}
 use Rattle.std.specs.Prelude.{not, ◌==◌, ◌&&◌, ◌||◌}
 use Rattle.std.proofs.lemmas.Bool.Decides.{nat_tests}
+use Rattle.std.proofs.lemmas.Bool.{and_parts}
 use Rattle.lpc_base.specs.declared.birth.Birth.{Birth}
 use Rattle.lpc_base.specs.declared.status.TheConstants.{SUCCESS}
 use Rattle.lpc_base.specs.Rows.{change, first, given, has, when, without, without_first}
 use Rattle.lpc_base.proofs.Differ.{differ-change}
 use Rattle.lpc_base.proofs.RowWords.{has-change, has-push, length-change}
+use Rattle.lpc_base.proofs.Births.{birth-same, birth-self}
 use Rattle.lpc_model.specs.declared.entry.CallName.{CallName}
 use Rattle.lpc_model.specs.declared.entry.Entry.{Entry}
 use Rattle.lpc_model.specs.declared.entry.Field.{Field}
@@ -17,18 +19,14 @@ use Rattle.lpc_model.specs.Found.{is_listen, is_queued, is_queued_connect, is_re
 use Rattle.lpc_model.specs.Basics.{Basic, Enters, Receives, Wakes, basic, entries_of, received, told, world_after}
 use Rattle.lpc_model.specs.Fields.{msg, receipt}
 use Rattle.lpc_model.specs.Entering.{enter, given_steps, received_steps, shown, take_connect_steps, take_steps, takes, woken}
-use Rattle.lpc_model.proofs.SoundQueues.{after-append}
 use Rattle.lpc_model.specs.Sweep.{loosened, loosens}
+use Rattle.lpc_model.proofs.StepsInTurn.{after-append}
 use Rattle.lpc_world.specs.Does.{Left, left_by}
 use Rattle.lpc_world.specs.Kept.{has_queued, is_unsent, pends_as}
 use Rattle.lpc_world.specs.Lawful.{are_single, is_quiet}
 use Rattle.lpc_world.specs.Shown.{with_message}
 use Rattle.lpc_steps.proofs.Endings.{length-rest}
 use Rattle.lpc_world.proofs.Changes.{pending_kept}
-use Rattle.lpc_world.proofs.Naming.{name_is}
-
-same-birth : (b : Birth) → same_birth b b ≡ true
-same-birth b = grind (arith, nat_tests)
 
 -- a message that enters a queue where none like it stands is the one that is taken
 taken-at-once : (p : MessageRow → Bool) (m : MessageRow) (ms : List MessageRow) → p m ≡ true → has p ms ≡ false → without_first p (ms ++ m ∷ []) ≡ ms
@@ -39,12 +37,8 @@ taken-by : (w : World) (m : MessageRow) (p : MessageRow → Bool) → p m ≡ tr
 taken-by w m p own none = ap (λ (ms : List MessageRow). record w { messages = ms }) (taken-at-once p m w.messages own none)
 
 -- the queue of a waiter that takes the message is the message's
-both : (a b : Bool) → a && b ≡ true → (a ≡ true) × (b ≡ true)
-both true b h = (refl, h)
-both false b h = absurd (cc)
-
 pub taker-queue : (m : MessageRow) (x : WaitRow) → takes m x ≡ true → x.queue ≡ m.queue
-taker-queue m x h = name_is x.queue m.queue (both (is_receive x || (is_listen x && is_connection_request m.message)) (same_birth x.queue m.queue) h).1
+taker-queue m x h = birth-same x.queue m.queue (and_parts (is_receive x || (is_listen x && is_connection_request m.message)) (same_birth x.queue m.queue) h).1
 
 -- what the waiter takes, the message has entered for
 passed-as : (w : World) (m : MessageRow) (k : WaitKind) (q : Birth) → q ≡ m.queue
@@ -54,15 +48,15 @@ passed-as : (w : World) (m : MessageRow) (k : WaitKind) (q : Birth) → q ≡ m.
 passed-as w m (Request n) q own takes quiet = absurd (cc)
 passed-as w m Receive q own takes quiet =
     let none : has (is_queued m.queue) w.messages ≡ false = subst (λ (b : Birth). has (is_queued b) w.messages ≡ false) own (off (has (is_queued q) w.messages) quiet) in
-    ap (λ (v : World). world_after v (received_steps m)) (taken-by w m (is_queued m.queue) (same-birth m.queue) none)
+    ap (λ (v : World). world_after v (received_steps m)) (taken-by w m (is_queued m.queue) (birth-self m.queue) none)
   where
     off : (b : Bool) → not b && true ≡ true → b ≡ false
     off true h = absurd (cc)
     off false h = refl
 passed-as w m Listen q own takes quiet =
     let none : has (is_queued_connect m.queue) w.messages ≡ false = subst (λ (b : Birth). has (is_queued_connect b) w.messages ≡ false) own (off (has (is_queued_connect q) w.messages) quiet) in
-    let asks : is_connection_request m.message ≡ true = (both (is_connection_request m.message) (same_birth q m.queue) takes).0 in
-    ap (λ (v : World). world_after v (received_steps m)) (taken-by w m (is_queued_connect m.queue) (rw (same-birth m.queue, asks) refl) none)
+    let asks : is_connection_request m.message ≡ true = (and_parts (is_connection_request m.message) (same_birth q m.queue) takes).0 in
+    ap (λ (v : World). world_after v (received_steps m)) (taken-by w m (is_queued_connect m.queue) (rw (birth-self m.queue, asks) refl) none)
   where
     off : (b : Bool) → not b ≡ true → b ≡ false
     off true h = absurd (cc)

@@ -1,7 +1,7 @@
 -- The wait of a thread that a message fits, and the one that passes a test which no other thread's waits pass.
 use Rattle.std.proofs.Common.{◌≡◌, ℕ, List, [], ◌∷◌, Bool, true, false, cond, not, ◌&&◌, ◌||◌, ◌==◌, Option, Some, None, option_map, refl, ap, sym, subst, ◌∙◌, arith}
 use Rattle.std.specs.Prelude.{is_some}
-use Rattle.std.proofs.lemmas.Bool.{eqb-true}
+use Rattle.std.proofs.lemmas.Bool.{and_left, eqb-true}
 use Rattle.lpc_base.specs.declared.birth.Birth.{Birth}
 use Rattle.lpc_base.specs.Rows.{first, has}
 use Rattle.lpc_base.proofs.RowWords.{first-passes}
@@ -35,11 +35,7 @@ fit_off w port client identifier x h = fit_idle x.kind (x.thread == client.threa
 
 -- What fits is a wait of the thread
 fit_thread : (w : World) (port : Birth) (client : ClientId) (identifier : ℕ) (x : WaitRow) → waits_as client.thread x ≡ false → fits_as w port client identifier x ≡ false
-fit_thread w port client identifier x off = short _ _ off
-  where
-    short : (a b : Bool) → a ≡ false → a && b ≡ false
-    short true b e = absurd (cc)
-    short false b e = refl
+fit_thread w port client identifier x off = and_left _ _ off
 
 pub none_fits : (p : WaitRow → Bool) (tid : ℕ) → ((x : WaitRow) → waits_as tid x ≡ false → p x ≡ false) → (xs : List WaitRow) → has (waits_as tid) xs ≡ false → first p xs ≡ None
 none_fits p tid off [] none = refl

@@ -1,6 +1,6 @@
 -- Each process and each thread has a number and a birth of its own.
 use Rattle.std.proofs.Common.{◌≡◌, ℕ, ◌+◌, ◌≤◌, List, [], ◌∷◌, ◌++◌, Bool, true, false, not, cond, Some, refl, subst, ◌∙◌, arith}
-use Rattle.std.specs.Prelude.{◌==◌, ◌&&◌}
+use Rattle.std.specs.Prelude.{◌==◌}
 use Rattle.std.proofs.lemmas.Bool.Decides.{nat_tests}
 use Rattle.lpc_base.specs.declared.birth.Birth.{Birth}
 use Rattle.lpc_base.specs.Rows.{change, count, every, first, has, without}
@@ -8,6 +8,7 @@ use Rattle.lpc_base.proofs.Differ.{differ-push, differ-without}
 use Rattle.lpc_base.proofs.RowMaps.{every-first}
 use Rattle.lpc_base.proofs.RowWords.{count-none, count-push, every-change, every-more, every-push, every-without, has-change, has-kept, has-push}
 use Rattle.lpc_base.proofs.Births.{birth-same}
+use Rattle.lpc_base.proofs.Bools.{first-true, second-true}
 use Rattle.lpc_model.specs.Basics.{past_ordinal}
 use Rattle.lpc_model.specs.Found.{is_born_process, is_born_thread, is_thread, same_birth}
 use Rattle.lpc_model.specs.Tests.{next_birth}
@@ -65,21 +66,15 @@ module _ {X : Type 0} (number : X → ℕ) (birth : X → Birth) (used : List Us
   none-own (x ∷ xs) zero own all none =
       elim (same_birth (birth x) b) as (λ c. same_birth (birth x) b ≡ c → has (λ y. same_birth (birth y) b) (x ∷ xs) ≡ false) [
         | true ↦ λ same.
-            let was : is_birth_of used ts (number x) (birth x) ≡ true = front-of _ _ all in
+            let was : is_birth_of used ts (number x) (birth x) ≡ true = first-true _ _ all in
             let here = own-number x zero own was same in
             let off : (number x == n) ≡ false = grind arith in
             absurd (cc)
         | false ↦ λ off.
             let later : has (λ y. number y == n) xs ≡ false = grind arith in
-            let rest = none-own xs zero own (back-of _ _ all) later in
+            let rest = none-own xs zero own (second-true _ _ all) later in
             rw (off, rest) refl
       ] refl
-    where
-      front-of : (p q : Bool) → (p && q) ≡ true → p ≡ true
-      front-of p q h = grind arith
-
-      back-of : (p q : Bool) → (p && q) ≡ true → q ≡ true
-      back-of p q h = grind arith
 
   fresh : (xs : List X) → every (λ x. is_birth_of used ts (number x) (birth x)) xs ≡ true → has (λ x. number x == n) xs ≡ false → can_begin ts n b ≡ true → ((b.maker == 0) ≡ false → has (λ x. same_birth (birth x) b) xs ≡ false) → has (λ x. same_birth (birth x) b) xs ≡ false
   fresh xs all none begins other =
@@ -179,16 +174,13 @@ module _ (used : List UsedThread) (ts : List ThreadRow) (tid : ℕ) (t : ThreadR
       drawn-as true x y off h = absurd (cc)
       drawn-as false x y off h = h
 
-      all-drew : (x y : Bool) → (x && y) ≡ true → y ≡ true
-      all-drew x y is = grind arith
-
       by_same : (c : Bool) → same_birth b (next_birth t) ≡ c → c ≡ false
       by_same false is = refl
       by_same true is =
           let own = zero-off t.number (every-first is_numbered (is_thread tid) ts t numbered at) in
           let here : is_birth_of used ts n (next_birth t) ≡ true = subst (λ c. is_birth_of used ts n c ≡ true) (birth-same b (next_birth t) is) was in
           let was_drawn_by : was_drawn used ts (next_birth t) ≡ true = drawn-as (t.number == 0) _ _ own here in
-          let drew_it : drew_own (next_birth t) t ≡ true = every-first (drew_own (next_birth t)) (is_thread tid) ts t (all-drew _ _ was_drawn_by) at in
+          let drew_it : drew_own (next_birth t) t ≡ true = every-first (drew_own (next_birth t)) (is_thread tid) ts t (second-true _ _ was_drawn_by) at in
           let no = not-drawn t in
           absurd (cc)
 

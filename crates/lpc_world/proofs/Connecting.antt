@@ -1,10 +1,12 @@
 -- What the services of connections look up is what is found in the rows.
 use Rattle.std.proofs.Common.{◌≡◌, ℕ, List, [], Bool, true, false, not, ◌&&◌, ◌||◌, map, Option, Some, None, MatchOption, IfSome, option_map, Result, Ok, refl, ap, sym, subst, ◌∙◌, arith}
+use Rattle.std.proofs.lemmas.Bool.{and_left}
 use Rattle.std.specs.Prelude.{is_none, is_some}
 use Rattle.lpc_base.specs.declared.birth.Birth.{Birth}
 use Rattle.lpc_base.specs.Rows.{every, first, has}
 use Rattle.lpc_base.proofs.RowMaps.{first-map, has-map, mapped-twice, same-map}
 use Rattle.lpc_base.proofs.RowWords.{first-passes}
+use Rattle.lpc_base.proofs.Bools.{first-true}
 use Rattle.lpc_handles.specs.declared.table.Row.{Row}
 use Rattle.lpc_model.specs.declared.entry.CallName.{CallName}
 use Rattle.lpc_model.specs.declared.entry.CallName.TheVariants.{NtConnectPort}
@@ -113,11 +115,7 @@ met w p r one is = subst (λ (o : Option ℕ). IsMet w p o) (sym is) (met_row w 
 
 pub met_accepted : (w : World) (client : Birth) (r : Option ℕ) → IsMet w (is_accepted_on client) r → IfSome r (λ tid. is_accepted (waiter w tid) ≡ true)
 met_accepted w client None is = tt
-met_accepted w client (Some tid) is = left (is_accepted (waiter w tid)) _ is.passes
-  where
-    left : (a b : Bool) → a && b ≡ true → a ≡ true
-    left true b e = refl
-    left false b e = e
+met_accepted w client (Some tid) is = first-true (is_accepted (waiter w tid)) _ is.passes
 
 -- Kinds of waits
 pub accepted_kind : (kind : WaitKind) (bytes : List ℕ) (accepted : Option Accepted) → (elim (shown_kind kind bytes accepted) [ model.Accepted m reply ↦ true | _ ↦ false ]) ≡ waits.is_connect kind && is_some accepted
@@ -209,13 +207,9 @@ module _ (it : Tables) (is : AreNamed (births_of it.ports) it) where
   pub offered_never : (tid : ℕ) (kind : WaitKind) → has (waits_as tid) rows.waits ≡ true → (waiter rows tid).call ≡ call_of_wait kind → (kind ≡ wait.Connect → ⊥) → false ≡ is_offered (waiter rows tid)
   offered_never tid kind there call off = by (row_of it.waits tid) refl (has_its_row tid there)
     where
-      short : (a b : Bool) → a ≡ false → a && b ≡ false
-      short true b e = absurd (cc)
-      short false b e = refl
-
       by : (o : Option table.WaitRow) → row_of it.waits tid ≡ o → is_some o ≡ true → false ≡ is_offered (waiter rows tid)
       by None at some = absurd (cc)
-      by (Some row) at some = sym (offered_row tid row.accepted (ap (option_map (λ (r : table.WaitRow). r.accepted)) at) ∙ short _ _ (ap is_connect_call call ∙ not_connect kind off))
+      by (Some row) at some = sym (offered_row tid row.accepted (ap (option_map (λ (r : table.WaitRow). r.accepted)) at) ∙ and_left _ _ (ap is_connect_call call ∙ not_connect kind off))
 
   -- the data of the answer that accepted a connect
   pub reply_is : (tid : ℕ) (a : Accepted) → option_map (λ (r : table.WaitRow). r.accepted) (row_of it.waits tid) ≡ Some (Some a) → is_accepted (waiter rows tid) ≡ true → a.reply.items ≡ answer_of (waiter rows tid)

@@ -6,7 +6,8 @@ use Rattle.std.specs.Option.{option_map_or}
 use Rattle.lpc_base.specs.declared.birth.Birth.{Birth}
 use Rattle.lpc_base.specs.Rows.{every, first, passes}
 use Rattle.lpc_base.proofs.RowMaps.{every-both, every-first, every-map}
-use Rattle.lpc_base.proofs.RowWords.{every-back, every-front}
+use Rattle.lpc_base.proofs.RowWords.{every-back, every-front, every-true}
+use Rattle.lpc_base.proofs.Bools.{first-true, second-true}
 use Rattle.lpc_model.specs.Basics as basics
 use Rattle.lpc_model.specs.Basics.{Cuts, basic, is_end_of}
 use Rattle.lpc_model.specs.Found as found
@@ -19,6 +20,7 @@ use Rattle.lpc_ports.specs.Table.{PortTable}
 use Rattle.lpc_ports.specs.declared.Port.{Port}
 use Rattle.lpc_slots.specs.Table.{at_key, is_key}
 use Rattle.lpc_slots.specs.declared.Key.{Key}
+use Rattle.lpc_slots.proofs.Keys.{key_is, key_turned}
 use Rattle.lpc_world.specs.Kept.{Roomy, owed_rows, room_by, rows_by}
 use Rattle.lpc_world.specs.Lawful.{AreLawful}
 use Rattle.lpc_world.specs.Names.{are_apart, differs, name_of, names_of, some_stands, stands}
@@ -27,7 +29,6 @@ use Rattle.lpc_homes.specs.declared.object.Object.{Object}
 use Rattle.lpc_world.proofs.Follows as follows
 use Rattle.lpc_world.proofs.Joins as joins
 use Rattle.lpc_world.proofs.Joins.{at_row, key_at, map-twice, own_at}
-use Rattle.lpc_world.proofs.Naming.{key_is, key_turned}
 use Rattle.lpc_world.proofs.Readings as readings
 use Rattle.lpc_world.proofs.Unheld.{the_same}
 
@@ -39,18 +40,10 @@ module _ {R : Type 0} (birth : R → Birth) (key : Key) where
       let same : row.0 ≡ key = key_is row.0 key here in
       let n : Key × Birth = (row.0, birth row.1) in
       let m : Key × Birth = (other.0, birth other.1) in
-      let off : is_key row.0 other.0 ≡ false = differ (is_key n.0 m.0) (same_birth n.1 m.1) (front (differs n m) (every (differs n) (names_of birth rows)) apart) in
+      let off : is_key row.0 other.0 ≡ false = differ (is_key n.0 m.0) (same_birth n.1 m.1) (first-true (differs n m) (every (differs n) (names_of birth rows)) apart) in
       let other_off : is_key other.0 key ≡ false = key_turned other.0 key ∙ subst (λ k. is_key k other.0 ≡ false) same off in
-      grind (arith, other_off, others_off row rows here (back (differs n m) (every (differs n) (names_of birth rows)) apart))
+      grind (arith, other_off, others_off row rows here (second-true (differs n m) (every (differs n) (names_of birth rows)) apart))
     where
-      front : (a c : Bool) → (a && c) ≡ true → a ≡ true
-      front true c h = refl
-      front false c h = absurd (cc)
-
-      back : (a c : Bool) → (a && c) ≡ true → c ≡ true
-      back true c h = h
-      back false c h = absurd (cc)
-
       differ : (a c : Bool) → (not a && not c) ≡ true → a ≡ false
       differ true c h = absurd (cc)
       differ false c h = refl
@@ -66,10 +59,6 @@ module _ {R : Type 0} (birth : R → Birth) (key : Key) where
     | true ↦ λ here. grind (arith, here, either_off test rows, others_off row rows here)
     | false ↦ λ off. grind (arith, off, keyed test rows)
   ] refl
-
-every_all : {X : Type 0} (xs : List X) → every (λ _. true) xs ≡ true
-every_all [] = refl
-every_all (x ∷ xs) = every_all xs
 
 module _ (it : Tables) (is : AreNamed (births_of it.ports) it) where
   abbrev n : Births
@@ -147,7 +136,7 @@ module _ (it : Tables) (is : AreNamed (births_of it.ports) it) where
     is_back o row = option_map_or (λ k. not (at_key k row) || ports.is_the key row.1.pair) o true
 
     ends_back : (o : Option Key) → other ≡ o → every (is_back o) it.ports.ports ≡ true
-    ends_back None at = every_all it.ports.ports
+    ends_back None at = every-true it.ports.ports
     ends_back (Some k) at = keyed (λ (r : Port). r.birth) k (λ row. ports.is_the key row.1.pair) it.ports.ports is.ports_apart (end_back k at)
 
     pub record IsFit (row : Key × Port) : Type 0 where
@@ -169,15 +158,7 @@ module _ (it : Tables) (is : AreNamed (births_of it.ports) it) where
         (and (λ row. is_mutual w (shown_port f row)) (is_back other) (sym (every-map (is_mutual w) (shown_port f) it.ports.ports) ∙ pairs) (ends_back other refl))
 
     fit_is : (row : Key × Port) → fit row ≡ true → IsFit row
-    fit_is row h = record { own = first-of _ _ (first-of _ _ h); refs = second-of _ _ (first-of _ _ h); both = first-of _ _ (second-of _ _ h); back = second-of _ _ (second-of _ _ h) }
-      where
-        first-of : (a c : Bool) → (a && c) ≡ true → a ≡ true
-        first-of true c h = refl
-        first-of false c h = absurd (cc)
-
-        second-of : (a c : Bool) → (a && c) ≡ true → c ≡ true
-        second-of true c h = h
-        second-of false c h = absurd (cc)
+    fit_is row h = record { own = first-true _ _ (first-true _ _ h); refs = second-true _ _ (first-true _ _ h); both = first-true _ _ (second-true _ _ h); back = second-true _ _ (second-true _ _ h) }
 
     -- a row has the port as its other end exactly where it is the other end's
     end_same : (row : Key × Port) → IsFit row → ports.is_the key row.1.pair ≡ is_end other row

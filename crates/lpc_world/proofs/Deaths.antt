@@ -10,6 +10,7 @@ use Rattle.lpc_base.specs.declared.status.TheConstants.{QUOTA_EXCEEDED}
 use Rattle.lpc_base.specs.Rows.{differ_by, each, every, first, given, has, which}
 use Rattle.lpc_base.proofs.RowMaps.{every-first}
 use Rattle.lpc_base.proofs.RowWords.{first-passes}
+use Rattle.lpc_base.proofs.Births.{birth-same}
 use Rattle.lpc_model.specs.Found as found
 use Rattle.lpc_model.specs.Found.{is_thread, live_thread, waits_as}
 use Rattle.lpc_model.specs.Register.{is_registered, registration_test}
@@ -29,7 +30,6 @@ use Rattle.lpc_world.specs.Registered as registered
 use Rattle.lpc_world.specs.Registered.{Death, HasFewRegistrations, accepted_port_in, death_by, deaths_of, has_ended_in, registrations_of, untold_of}
 use Rattle.lpc_world.specs.Shown.{Births, Tables, all_pass, birth_of, births_of, object_stands, shown_thread, shown_wait, wait_refs}
 use Rattle.lpc_world.proofs.Connecting.{accepted_kind}
-use Rattle.lpc_world.proofs.Naming.{name_is}
 use Rattle.lpc_world.proofs.Readings as readings
 use Rattle.lpc_world.proofs.Registered.{births-registered}
 
@@ -129,7 +129,7 @@ module _ (it : Tables) (calls made : ℕ) (is : AreLawful it calls made) where
   untold_port r named = grind arith
 
   pub untold_name : (r : Registration) → is_under_name n r ≡ true → name_of n.ports r.port ≡ r.birth
-  untold_name r named = name_is (name_of n.ports r.port) r.birth (grind arith)
+  untold_name r named = birth-same (name_of n.ports r.port) r.birth (grind arith)
 
   some_birth : (a b : Birth) → let x : Option Birth = Some a in let y : Option Birth = Some b in x ≡ y → a ≡ b
   some_birth a b e = cc

@@ -8,12 +8,12 @@ use Rattle.lpc_base.specs.Rows.{change, every, first, has, without}
 use Rattle.lpc_base.proofs.Differ.{differ-change, differ-push, differ-without, rest-none}
 use Rattle.lpc_base.proofs.RowMaps.{every-first}
 use Rattle.lpc_base.proofs.RowWords.{every-change, every-more, every-push, every-unless, every-without, first-passes, has-kept, has-push, has_none-more}
+use Rattle.lpc_base.proofs.Births.{birth-same}
 use Rattle.lpc_model.specs.Basics.{past_identifier, past_ordinal}
 use Rattle.lpc_model.specs.Found.{is_live_thread, is_port, is_thread}
 use Rattle.lpc_model.specs.Tests.{next_birth}
 use Rattle.lpc_model.specs.World.{World, PortRow, ThreadRow, UsedThread}
 use Rattle.lpc_world.specs.Lawful.{AreDrawn, are_single_threads, drew, drew_own, is_noted, was_drawn}
-use Rattle.lpc_world.proofs.Naming.{name_is}
 
 pub same-drawn : (w v : World) → v.threads ≡ w.threads → v.used_threads ≡ w.used_threads → v.ports ≡ w.ports → AreDrawn w → AreDrawn v
 same-drawn w v ts us ps h = record { threads_single = rw ts h.threads_single; threads_noted = rw (ts, us) h.threads_noted; ports_drawn = rw (ts, us, ps) h.ports_drawn }
@@ -156,7 +156,7 @@ fresh-birth w tid t h is own = by_port (first (is_port (next_birth t)) w.ports) 
     by_port : (o : Option PortRow) → first (is_port (next_birth t)) w.ports ≡ o → o ≡ None
     by_port None at = refl
     by_port (Some p) at =
-        let same : p.birth ≡ next_birth t = name_is p.birth (next_birth t) (first-passes (is_port (next_birth t)) w.ports p at) in
+        let same : p.birth ≡ next_birth t = birth-same p.birth (next_birth t) (first-passes (is_port (next_birth t)) w.ports p at) in
         let was : was_drawn w.used_threads w.threads p.birth ≡ true = every-first (λ q. was_drawn w.used_threads w.threads q.birth) (is_port (next_birth t)) w.ports p h.ports_drawn at in
         let all : every (drew_own (next_birth t)) w.threads ≡ true = subst (λ b. every (drew_own b) w.threads ≡ true) same (drawn-all w.used_threads w.threads p.birth was) in
         let yes : drew_own (next_birth t) t ≡ true = every-first (drew_own (next_birth t)) (is_thread tid) w.threads t all is in

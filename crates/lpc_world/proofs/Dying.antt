@@ -1,12 +1,12 @@
 -- A thread registers a port, a registration goes, and a thread ends: what each leaves of a lawful world.
-use Rattle.std.proofs.Common.{◌≡◌, ◌+◌, ◌*◌, ◌<◌, ◌≤◌, ◌∙◌, ℕ, List, [], ◌∷◌, ◌++◌, Bool, true, false, length, refl, arith}
+use Rattle.std.proofs.Common.{◌≡◌, ◌+◌, ◌*◌, ◌<◌, ◌≤◌, ℕ, List, [], ◌∷◌, ◌++◌, Bool, true, false, length, refl, arith}
 use Rattle.std.specs.Prelude.{not, ◌&&◌, ◌||◌, ◌==◌}
 use Rattle.std.proofs.lemmas.Bool.{eqb-true}
 use Rattle.std.proofs.lemmas.Bool.Decides.{nat_tests}
 use Rattle.std.proofs.lemmas.List.{length-append}
 use Rattle.lpc_base.specs.Rows.{change, count, each, every, has, without}
 use Rattle.lpc_base.proofs.Differ.{rest-none}
-use Rattle.lpc_base.proofs.RowWords.{change-none, every-change, every-more, has-change, length-change}
+use Rattle.lpc_base.proofs.RowWords.{change-none, every-change, every-more, length-change}
 use Rattle.lpc_model.specs.Basics.{ended, registering, unregistering}
 use Rattle.lpc_model.specs.Found.{is_live_thread, is_thread, same_birth, waits_as}
 use Rattle.lpc_model.specs.World.{Birth, ThreadRow, WaitRow, World}
@@ -14,6 +14,7 @@ use Rattle.lpc_world.specs.Kept.{is_alive, owed_messages, owed_rows}
 use Rattle.lpc_world.specs.Lawful.{IsLawful, are_single_threads, draws_at_most, is_housed, is_of}
 use Rattle.lpc_world.specs.Registered.{registrations_of}
 use Rattle.lpc_world.proofs.Registered.{registrations}
+use Rattle.lpc_world.proofs.Lawful.{alive-change, of-change}
 
 -- What a change of one thread leaves
 module _ (f : ThreadRow → ThreadRow) (same : (t : ThreadRow) → (f t).number ≡ t.number) (home : (t : ThreadRow) → (f t).process ≡ t.process)
@@ -96,18 +97,11 @@ fewer-registered who b w there = at w.threads there
     ] refl
 
 -- a thread that keeps its life and its number keeps what waits and what lives
-kept-waiters : (f : ThreadRow → ThreadRow) → ((t : ThreadRow) → (f t).number ≡ t.number) → ((t : ThreadRow) → (f t).live ≡ t.live) → (who : ℕ) (ts : List ThreadRow) (xs : List WaitRow) → every (is_of ts) xs ≡ true → every (is_of (change (is_thread who) f ts)) xs ≡ true
-kept-waiters f same lives who ts xs all = every-more (is_of ts) (is_of (change (is_thread who) f ts)) (λ x h. has-change (is_live_thread x.thread) (is_thread who) f (λ t. rw (same t, lives t) refl) ts ∙ h) xs all
-
-pub kept-alive : (f : ThreadRow → ThreadRow) → ((t : ThreadRow) → (f t).live ≡ t.live) → (who : ℕ) (ts : List ThreadRow) → count is_alive (change (is_thread who) f ts) ≡ count is_alive ts
-kept-alive f lives who [] = refl
-kept-alive f lives who (t ∷ ts) = grind (arith, lives t, kept-alive f lives who ts)
-
 pub lawful-register : (w : World) (calls made a b who : ℕ) (c : Birth) → IsLawful w calls made a b → made + owed_rows w < 16 * calls → owed_messages w < b → are_single_threads w.threads ≡ true → has (is_thread who) w.threads ≡ true
     → IsLawful (record w { threads = change (is_thread who) (registering c) w.threads }) calls made a b
 lawful-register w calls made a b who c h lt place one there =
     let more = longer-registered who c w.threads one there in
-    let alive = kept-alive (registering c) (λ t. refl) who w.threads in
+    let alive = alive-change (registering c) (λ t. refl) who w.threads in
     record {
       few = h.few;
       budget = omega (arith, lt, more);
@@ -118,7 +112,7 @@ lawful-register w calls made a b who c h lt place one there =
       tables_single = h.tables_single;
       tables_few = h.tables_few;
       single = h.single;
-      threads = kept-waiters (registering c) (λ t. refl) (λ t. refl) who w.threads w.waits h.threads;
+      threads = of-change (registering c) (λ t. refl) (λ t. refl) who w.threads w.waits h.threads;
       quiet = h.quiet;
       own = h.own;
       told = h.told;
@@ -130,7 +124,7 @@ pub lawful-unregister : (w : World) (calls made a b who : ℕ) (c : Birth) → I
     → IsLawful (record w { threads = change (is_thread who) (unregistering c) w.threads }) calls made a b
 lawful-unregister w calls made a b who c h =
     let less = shorter-registered who c w.threads in
-    let alive = kept-alive (unregistering c) (λ t. refl) who w.threads in
+    let alive = alive-change (unregistering c) (λ t. refl) who w.threads in
     let fit = h.messages_fit in
     let budget = h.budget in
     record {
@@ -143,7 +137,7 @@ lawful-unregister w calls made a b who c h =
       tables_single = h.tables_single;
       tables_few = h.tables_few;
       single = h.single;
-      threads = kept-waiters (unregistering c) (λ t. refl) (λ t. refl) who w.threads w.waits h.threads;
+      threads = of-change (unregistering c) (λ t. refl) (λ t. refl) who w.threads w.waits h.threads;
       quiet = h.quiet;
       own = h.own;
       told = h.told;

@@ -4,9 +4,9 @@ use Rattle.std.proofs.Common.{◌≡◌, ◌+◌, ◌*◌, ◌<◌, ◌∙◌, �
 use Rattle.std.specs.Prelude.{IsSomeAnd, is_some}
 use Rattle.std.proofs.lemmas.List.{length-map}
 use Rattle.lpc_base.specs.declared.birth.Birth.{Birth}
-use Rattle.lpc_base.specs.Rows.{change, every, first, given, has}
+use Rattle.lpc_base.specs.Rows.{change, first, given, has}
 use Rattle.lpc_base.proofs.RowMaps.{change-map, push-map, without-map}
-use Rattle.lpc_base.proofs.RowWords.{every-change, every-push, every-without}
+use Rattle.lpc_base.proofs.RowWords.{every-change, every-push, every-true, every-without}
 use Rattle.lpc_base.proofs.Births.{birth-self}
 use Rattle.lpc_model.specs.Basics as basics
 use Rattle.lpc_model.specs.Basics.{Registers, Unregisters, basic}
@@ -28,17 +28,14 @@ use Rattle.lpc_world.proofs.Dying as dying
 use Rattle.lpc_world.proofs.Registered.{registered-change}
 use Rattle.lpc_world.proofs.Rooms.{room}
 use Rattle.lpc_world.proofs.Steps.{first_thread, has_thread}
+use Rattle.lpc_world.proofs.Lawful.{alive-change}
 
 -- A row that registers a port, and one without the registrations of a port
 shown-registering : (r : Registration) (row : ThreadRow) → shown_thread (procs.registering r row) ≡ basics.registering r.birth (shown_thread row)
 shown-registering r row = ap (λ bs. record (shown_thread row) { registrations = bs }) (push-map (λ (x : Registration). x.birth) row.registered.items r)
 
-all-true : {X : Type 0} (xs : List X) → every (λ _. true) xs ≡ true
-all-true [] = refl
-all-true (x ∷ xs) = grind (arith, all-true xs)
-
 shown-unregistering : (b : Birth) (row : ThreadRow) → shown_thread (procs.unregistering b row) ≡ basics.unregistering b (shown_thread row)
-shown-unregistering b row = ap (λ bs. record (shown_thread row) { registrations = bs }) (without-map (λ (x : Registration). x.birth) (λ _. true) (procs.is_of_birth b) (same_birth b) (λ x _. refl) row.registered.items (all-true row.registered.items))
+shown-unregistering b row = ap (λ bs. record (shown_thread row) { registrations = bs }) (without-map (λ (x : Registration). x.birth) (λ _. true) (procs.is_of_birth b) (same_birth b) (λ x _. refl) row.registered.items (every-true row.registered.items))
 
 module _ (it : Tables) (calls made : ℕ) (is : AreLawful it calls made) where
   abbrev n : Births
@@ -58,13 +55,13 @@ module _ (it : Tables) (calls made : ℕ) (is : AreLawful it calls made) where
 
   -- what they stand for
   pub registers : (who : ℕ) (r : Registration) → shown_by n (registering who r) ≡ basic rows (Registers who r.birth)
-  registers who r = rw (change-map shown_thread (λ _. true) (procs.is_thread who) (is_thread who) (λ row _. refl) (procs.registering r) (basics.registering r.birth) (λ row _. shown-registering r row) it.procs.threads (all-true it.procs.threads)) refl
+  registers who r = rw (change-map shown_thread (λ _. true) (procs.is_thread who) (is_thread who) (λ row _. refl) (procs.registering r) (basics.registering r.birth) (λ row _. shown-registering r row) it.procs.threads (every-true it.procs.threads)) refl
 
   pub unregisters : (who : ℕ) (b : Birth) → shown_by n (unregistering who b) ≡ basic rows (Unregisters who b)
-  unregisters who b = rw (change-map shown_thread (λ _. true) (procs.is_thread who) (is_thread who) (λ row _. refl) (procs.unregistering b) (basics.unregistering b) (λ row _. shown-unregistering b row) it.procs.threads (all-true it.procs.threads)) refl
+  unregisters who b = rw (change-map shown_thread (λ _. true) (procs.is_thread who) (is_thread who) (λ row _. refl) (procs.unregistering b) (basics.unregistering b) (λ row _. shown-unregistering b row) it.procs.threads (every-true it.procs.threads)) refl
 
   pub ends : (who : ℕ) → shown_by n (ending who) ≡ with_ended rows who
-  ends who = rw (change-map shown_thread (λ _. true) (procs.is_thread who) (is_thread who) (λ row _. refl) procs.ended basics.ended (λ row _. refl) it.procs.threads (all-true it.procs.threads)) refl
+  ends who = rw (change-map shown_thread (λ _. true) (procs.is_thread who) (is_thread who) (λ row _. refl) procs.ended basics.ended (λ row _. refl) it.procs.threads (every-true it.procs.threads)) refl
 
   -- the tables
   under-name : (r : Registration) → stands n.ports r.port ≡ true → name_of n.ports r.port ≡ r.birth → is_under_name n r ≡ true
@@ -151,7 +148,7 @@ module _ (a b c d e g : ℕ) (w : World) (hs : List HandleRoom) where
       → let after = room a b c d e g (record w { threads = change (is_thread who) (basics.registering birth) w.threads }) hs in Roomy (room a b c d e g w hs) (record after { messages = after.messages + 1 })
   room_registered who birth one there =
       let more = dying.longer-registered who birth w.threads one there in
-      let alive = dying.kept-alive (basics.registering birth) (λ t. refl) who w.threads in
+      let alive = alive-change (basics.registering birth) (λ t. refl) who w.threads in
       record {
         for_processes = omega arith;
         for_threads = omega arith;
@@ -165,7 +162,7 @@ module _ (a b c d e g : ℕ) (w : World) (hs : List HandleRoom) where
   pub room_unregistered : (who : ℕ) (birth : Birth) → Roomy (room a b c d e g w hs) (room a b c d e g (record w { threads = change (is_thread who) (basics.unregistering birth) w.threads }) hs)
   room_unregistered who birth =
       let less = dying.shorter-registered who birth w.threads in
-      let alive = dying.kept-alive (basics.unregistering birth) (λ t. refl) who w.threads in
+      let alive = alive-change (basics.unregistering birth) (λ t. refl) who w.threads in
       record {
         for_processes = omega arith;
         for_threads = omega arith;

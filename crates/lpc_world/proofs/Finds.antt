@@ -1,12 +1,13 @@
 -- What is found in the rows: a caller and its process, and the wait of a thread.
 use Rattle.std.proofs.Common.{◌≡◌, ℕ, List, [], ◌∷◌, Bool, true, false, not, ◌&&◌, ◌||◌, ◌==◌, Option, Some, None, MatchOption, IfSome, option_map, refl, ap, sym, subst, ◌∙◌, arith}
 use Rattle.std.specs.Prelude.{◌<◌, is_none, is_some, length}
-use Rattle.std.proofs.lemmas.Bool.{eqb-true}
+use Rattle.std.proofs.lemmas.Bool.{and_parts, eqb-true}
 use Rattle.std.proofs.lemmas.Bool.Decides.{nat_tests}
 use Rattle.lpc_base.specs.declared.birth.Birth.{Birth}
 use Rattle.lpc_base.specs.Rows.{count, every, first, has}
 use Rattle.lpc_base.proofs.RowMaps.{every-first}
 use Rattle.lpc_base.proofs.RowWords.{first-passes, has-first, has_none-more}
+use Rattle.lpc_base.proofs.Bools.{number-turned}
 use Rattle.lpc_model.specs.World.{Accepted, Connect, Listen, Receive, Request, ThreadRow, WaitKind, WaitRow, World}
 use Rattle.lpc_model.specs.Found.{is_live_thread, is_process, is_table, is_thread, lives_in, live_thread, same_birth, wait_of, waits_as}
 use Rattle.lpc_model.specs.Entering.{takes_from}
@@ -34,33 +35,29 @@ pub record IsCaller (w : World) (tid : ℕ) (t : ThreadRow) : Type 0 where
   pub there : has (is_thread tid) w.threads ≡ true
   pub table : has (is_table t.process) w.handles ≡ true
 
-lives : (a b : Bool) → a && b ≡ true → (a ≡ true) × (b ≡ true)
-lives true b e = (refl, e)
-lives false b e = absurd (cc)
-
 pub is_caller : (w : World) (tid : ℕ) (t : ThreadRow) → every (is_housed w) w.threads ≡ true → live_thread w tid ≡ Some t → IsCaller w tid t
 unfolding caller
 is_caller w tid t all found = record {
   caller_is = sym (ap thread_in found);
-  number = eqb-true t.number tid (lives (t.number == tid) t.live (first-passes (is_live_thread tid) w.threads t found)).0;
-  there = has-first (is_live_thread tid) (is_thread tid) (λ x h. (lives (x.number == tid) x.live h).0) w.threads t found;
-  table = (housed_first w (is_live_thread tid) t (lives (t.number == tid) t.live (first-passes (is_live_thread tid) w.threads t found)).1 all found).1;
+  number = eqb-true t.number tid (and_parts (t.number == tid) t.live (first-passes (is_live_thread tid) w.threads t found)).0;
+  there = has-first (is_live_thread tid) (is_thread tid) (λ x h. (and_parts (x.number == tid) x.live h).0) w.threads t found;
+  table = (housed_first w (is_live_thread tid) t (and_parts (t.number == tid) t.live (first-passes (is_live_thread tid) w.threads t found)).1 all found).1;
 }
 
 -- a thread that can make a call is found
 pub not_ready : (w : World) (tid : ℕ) → is_ready w tid ≡ true → live_thread w tid ≡ None → ⊥
 not_ready w tid ready none =
-    let some : is_some (live_thread w tid) ≡ true = (lives _ _ ready).0 in
+    let some : is_some (live_thread w tid) ≡ true = (and_parts _ _ ready).0 in
     absurd (cc)
 
 -- and lives
 pub lives_ready : (w : World) (tid : ℕ) → is_ready w tid ≡ true → has (is_live_thread tid) w.threads ≡ true
-lives_ready w tid ready = (lives _ _ ready).0
+lives_ready w tid ready = (and_parts _ _ ready).0
 
 -- and more threads live than wait
 pub few_wait : (w : World) (tid : ℕ) → are_single w.waits ≡ true → every (is_of w.threads) w.waits ≡ true → is_ready w tid ≡ true → length w.waits < count is_alive w.threads
 few_wait w tid single all ready =
-    let idle : is_none (wait_of w tid) ≡ true = (lives (is_some (live_thread w tid)) (is_none (wait_of w tid)) ready).1 in
+    let idle : is_none (wait_of w tid) ≡ true = (and_parts (is_some (live_thread w tid)) (is_none (wait_of w tid)) ready).1 in
     place-left w.threads w.waits tid single all (lives_ready w tid ready) (grind (arith, idle))
 
 -- the process of a live thread stands, and has a table of handles
@@ -70,17 +67,14 @@ live_process w pid all live = of_first (first (lives_in pid) w.threads) refl liv
     of_first : (o : Option ThreadRow) → first (lives_in pid) w.threads ≡ o → is_some o ≡ true → (has (is_process pid) w.processes ≡ true) × (has (is_table pid) w.handles ≡ true)
     of_first None found there = absurd (cc)
     of_first (Some t) found there =
-        let is = lives (t.process == pid) t.live (first-passes (lives_in pid) w.threads t found) in
+        let is = and_parts (t.process == pid) t.live (first-passes (lives_in pid) w.threads t found) in
         let own : t.process ≡ pid = eqb-true t.process pid is.0 in
         subst (λ q. (has (is_process q) w.processes ≡ true) × (has (is_table q) w.handles ≡ true)) own (housed_first w (lives_in pid) t is.1 all found)
 
 -- Waits
-turned : (a b : ℕ) → (a == b) ≡ (b == a)
-turned a b = grind (arith, nat_tests)
-
 elsewhere : (p : WaitRow → Bool) (x : WaitRow) (xs : List WaitRow) (y : WaitRow) → has (waits_as x.thread) xs ≡ false → first p xs ≡ Some y → (x.thread == y.thread) ≡ false
 elsewhere p x [] y none is = absurd (cc)
-elsewhere p x (z ∷ zs) y none is = grind (arith, elsewhere p x zs y, turned z.thread x.thread, turned y.thread x.thread)
+elsewhere p x (z ∷ zs) y none is = grind (arith, elsewhere p x zs y, number-turned z.thread x.thread, number-turned y.thread x.thread)
 
 -- the first that passes is its thread's wait
 pub own_wait : (p : WaitRow → Bool) (xs : List WaitRow) (x : WaitRow) → are_single xs ≡ true → first p xs ≡ Some x → first (waits_as x.thread) xs ≡ Some x

@@ -3,25 +3,24 @@ use Rattle.std.proofs.Common.{◌≡◌, ℕ, List, [], ◌∷◌, Bool, true, f
 use Rattle.lpc_base.specs.declared.birth.Birth.{Birth}
 use Rattle.lpc_base.specs.Rows.{every, first}
 use Rattle.lpc_base.proofs.RowMaps.{every-both, every-map, first-map}
+use Rattle.lpc_base.proofs.Births.{birth-same}
 use Rattle.lpc_model.specs.World as model
 use Rattle.lpc_model.specs.Found.{is_port, is_queued, same_birth}
 use Rattle.lpc_model.specs.Entering.{takes_from}
 use Rattle.lpc_waits.specs.declared.Accepted.{Accepted}
 use Rattle.lpc_ports.specs.Table as ports
-use Rattle.lpc_ports.specs.Table.{PortTable}
 use Rattle.lpc_ports.specs.declared.Port.{Port}
 use Rattle.lpc_ports.specs.declared.messages.QueuedMessage.{QueuedMessage}
 use Rattle.lpc_slots.specs.Table.{at_key, is_key}
 use Rattle.lpc_slots.specs.declared.Key.{Key}
 use Rattle.lpc_waits.specs.Table as waits
-use Rattle.lpc_waits.specs.Table.{WaitTable}
 use Rattle.lpc_waits.specs.declared.WaitKind.{WaitKind}
 use Rattle.lpc_waits.specs.declared.WaitKind.TheVariants as wait
 use Rattle.lpc_waits.specs.declared.WaitRow.{WaitRow}
 use Rattle.lpc_world.specs.Names.{Names, are_apart, name_of, names_of, stands}
 use Rattle.lpc_world.specs.Shown.{Tables, AreNamed, Births, all_pass, birth_of, births_of, message_refs, object_stands, shown_kind, shown_message, shown_port, shown_wait, wait_refs}
 use Rattle.lpc_homes.specs.declared.object.Object.{Object}
-use Rattle.lpc_world.proofs.Naming.{agrees, key_itself, name_is, own}
+use Rattle.lpc_world.proofs.Naming.{agrees, key_itself, own}
 
 -- A row's own key stands, and its birth is its own name
 still_stands : (n m : Key × Birth) (names : Names) → stands names m.0 ≡ true → stands (n ∷ names) m.0 ≡ true
@@ -49,7 +48,7 @@ module _ {R : Type 0} (birth : R → Birth) (rows : List (Key × R)) where
       every-both (λ row. stands names row.0) (λ row. same_birth (name_of names row.0) (birth row.1)) is_own (λ row a b. grind arith) rows here named
 
   pub own_birth : (row : Key × R) → is_own row ≡ true → name_of (names_of birth rows) row.0 ≡ birth row.1
-  own_birth row ok = name_is _ _ (grind arith)
+  own_birth row ok = birth-same _ _ (grind arith)
 
 module _ (it : Tables) (is : AreNamed (births_of it.ports) it) where
   abbrev n : Births

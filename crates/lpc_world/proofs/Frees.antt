@@ -5,7 +5,7 @@ use Rattle.std.specs.Prelude.{◌&&◌}
 use Rattle.lpc_base.specs.declared.birth.Birth.{Birth}
 use Rattle.lpc_base.specs.Rows.{every, has, without}
 use Rattle.lpc_base.proofs.RowMaps.{every-both, without-map}
-use Rattle.lpc_base.proofs.RowWords.{count-bound, every-without, has_none-more}
+use Rattle.lpc_base.proofs.RowWords.{count-bound, count-left, every-without, has_none-more}
 use Rattle.lpc_model.specs.Basics.{Frees, basic}
 use Rattle.lpc_model.specs.Found.{is_client_port, is_port, is_sent_on, port_name}
 use Rattle.lpc_model.specs.World as model
@@ -27,7 +27,6 @@ use Rattle.lpc_world.proofs.Follows.{is_own}
 use Rattle.lpc_world.proofs.Makes.{bindings_shape, messages_shape, parts_shape, ports_shape, rows_more, shown_same, waits_shape}
 use Rattle.lpc_world.proofs.Naming.{apart-without, name-without, stands-without}
 use Rattle.lpc_world.proofs.Owed.{owed-free}
-use Rattle.lpc_world.proofs.OwnMessages.{count-left}
 use Rattle.lpc_world.proofs.Registered.{registered-less}
 use Rattle.lpc_world.proofs.Rooms.{room}
 use Rattle.lpc_world.proofs.OwedClosings.{told-free}

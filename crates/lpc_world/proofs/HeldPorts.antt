@@ -1,8 +1,9 @@
 -- A port that no row counts for is named by no row at all, in a world that can be swept.
 use Rattle.std.proofs.Common.{◌≡◌, ◌+◌, ◌≤◌, ℕ, zero, suc, List, [], ◌∷◌, Bool, true, false, drop, length, map, not, slice_get, Option, Some, None, option_map, refl, ap, sym, subst, ◌∙◌, arith}
+use Rattle.std.proofs.lemmas.Bool.{not-true}
 use Rattle.std.specs.Prelude.{◌||◌, ◌&&◌, ◌==◌, option_and_then}
 use Rattle.lpc_base.specs.declared.birth.Birth.{Birth}
-use Rattle.lpc_base.specs.Rows.{count, each, every, has, without}
+use Rattle.lpc_base.specs.Rows.{count, every, has, without}
 use Rattle.lpc_names.specs.Binding.{has_name}
 use Rattle.lpc_names.specs.Walk.{Bindings, LinkTo, Stands}
 use Rattle.lpc_names.specs.declared.names.Found.TheVariants.{Directory, Item}
@@ -19,11 +20,12 @@ use Rattle.lpc_base.proofs.RowMaps.{every-first}
 use Rattle.lpc_base.proofs.RowWords.{every-without}
 use Rattle.lpc_base.proofs.Births.{birth-same, birth-self}
 use Rattle.lpc_model.proofs.OpenQueues.{queues_freed}
-use Rattle.lpc_model.proofs.Rows.{has-append, has-found}
+use Rattle.lpc_model.proofs.Rows.{has-found}
 use Rattle.lpc_model.proofs.Standing.{gone-names, unheld_no_queue}
 use Rattle.lpc_model.proofs.LinkedJoins.{gone-linked}
 use Rattle.lpc_model.proofs.SoundFrees.{freed-sound}
 use Rattle.lpc_model.proofs.Swept.{unheld-parts}
+use Rattle.lpc_model.proofs.Handles.{has-each}
 use Rattle.lpc_ports.specs.declared.Port.{Port}
 use Rattle.lpc_slots.proofs.Walk.{drop_row}
 use Rattle.lpc_slots.specs.declared.Key.{Key}
@@ -39,10 +41,6 @@ has_or p q [] = refl
 has_or p q (x ∷ xs) = grind (arith, has_or p q xs)
 
 -- Handles
-pub has_in : {X Y : Type 0} (p : Y → Bool) (f : X → List Y) (xs : List X) → has p (each f xs) ≡ has (λ x. has p (f x)) xs
-has_in p f [] = refl
-has_in p f (x ∷ xs) = grind (arith, has-append p (f x) (each f xs), has_in p f xs)
-
 pub zero_has : {X : Type 0} (p : X → Bool) (xs : List X) → not (count p xs == 0) ≡ has p xs
 zero_has p [] = refl
 zero_has p (x ∷ xs) = at (p x) refl (zero_has p xs)
@@ -53,7 +51,7 @@ zero_has p (x ∷ xs) = at (p x) refl (zero_has p xs)
 
 -- an object has a handle where one of a process's names it
 pub named-counted : (w : World) (o : ObjectName) → not (handle_count w o == 0) ≡ has (λ t. has (λ h. same_object h.object o) t.rows) w.handles
-named-counted w o = zero_has (λ (h : HandleRow). same_object h.object o) (all_handles w) ∙ has_in (λ (h : HandleRow). same_object h.object o) (λ t. t.rows) w.handles
+named-counted w o = zero_has (λ (h : HandleRow). same_object h.object o) (all_handles w) ∙ has-each (λ (h : HandleRow). same_object h.object o) (λ t. t.rows) w.handles
 
 counted : (w : World) (b : Birth) → not (handle_count w (port_name b) == 0) ≡ is_open w b
 counted w b = named-counted w (port_name b)
@@ -120,11 +118,7 @@ paired_held w b q p can found own pair =
     let paired : has (is_paired_to b) w.ports ≡ true = paired_as w b (port_row w q) q refl back in
     let joined : has (is_joined_to b) w.ports ≡ true = rw (has_or (is_paired_to b) (is_connected_to b) w.ports, paired) refl in
     let named : is_named w b ≡ true = grind (arith, joined) in
-    not_true (is_unheld w (port_name b)) (sym (held_as w b can) ∙ named)
-  where
-    not_true : (u : Bool) → not u ≡ true → u ≡ false
-    not_true true h = absurd (cc)
-    not_true false h = refl
+    not-true (is_unheld w (port_name b)) (sym (held_as w b can) ∙ named)
 
 -- so the port that no row counts for can go
 pub free_port : (w : World) (b : Birth) → CanSweep w → is_unheld w (port_name b) ≡ true → is_named w b ≡ false

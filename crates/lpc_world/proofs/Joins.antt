@@ -3,6 +3,7 @@
 use Rattle.std.proofs.Common.{◌≡◌, ℕ, List, [], ◌∷◌, ◌++◌, Bool, true, false, cond, map, Option, Some, None, refl, ap, sym, ◌∙◌, arith, subst}
 use Rattle.std.proofs.lemmas.List.{length-map}
 use Rattle.lpc_base.specs.Rows.{change, count, every}
+use Rattle.lpc_base.proofs.RowMaps.{every-mapped}
 use Rattle.lpc_model.specs.Basics as basics
 use Rattle.lpc_model.specs.Basics.{Joins, basic}
 use Rattle.lpc_model.specs.Found.{is_client_port, is_port}
@@ -13,6 +14,7 @@ use Rattle.lpc_ports.specs.Table.{PortTable}
 use Rattle.lpc_ports.specs.declared.Port.{Port}
 use Rattle.lpc_slots.specs.Table.{at_key}
 use Rattle.lpc_slots.specs.declared.Key.{Key}
+use Rattle.lpc_slots.proofs.Keys.{key_is}
 use Rattle.lpc_world.specs.Joined.{with_completed}
 use Rattle.lpc_world.specs.Kept.{HandleRoom, Roomy, owed_rows, room_by, rows_by}
 use Rattle.lpc_world.specs.Lawful.{AreDrawn, AreLawful, IsLawful, was_drawn, IsPromised}
@@ -22,7 +24,6 @@ use Rattle.lpc_homes.specs.declared.object.Object.{Object}
 use Rattle.lpc_homes.specs.declared.object.Object.TheVariants as object
 use Rattle.lpc_world.proofs.Owed.{owed-map}
 use Rattle.lpc_world.proofs.Follows as follows
-use Rattle.lpc_world.proofs.Naming.{key_is}
 use Rattle.lpc_world.proofs.Rooms.{room}
 use Rattle.lpc_world.proofs.OwedClosings.{told-map}
 
@@ -30,10 +31,6 @@ use Rattle.lpc_world.proofs.OwedClosings.{told-map}
 pub map-follows : {X Y : Type 0} (g : X → Y) (ok : X → Bool) (h : X → X) (k : Y → Y) → ((x : X) → ok x ≡ true → g (h x) ≡ k (g x)) → (xs : List X) → every ok xs ≡ true → map g (map h xs) ≡ map k (map g xs)
 map-follows g ok h k same [] all = refl
 map-follows g ok h k same (x ∷ xs) all = grind (arith, same x, map-follows g ok h k same xs)
-
-pub every-mapped : {X : Type 0} (p : X → Bool) (h : X → X) → ((x : X) → p x ≡ true → p (h x) ≡ true) → (xs : List X) → every p xs ≡ true → every p (map h xs) ≡ true
-every-mapped p h same [] all = refl
-every-mapped p h same (x ∷ xs) all = grind (arith, same x, every-mapped p h same xs)
 
 -- the room is of the threads, messages and waits alone, where ports keep their kinds
 pub clients_same : (k : model.PortRow → model.PortRow) → ((p : model.PortRow) → (k p).kind ≡ p.kind) → (ps : List model.PortRow) → count is_client_port (map k ps) ≡ count is_client_port ps

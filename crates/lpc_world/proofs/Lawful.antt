@@ -1,5 +1,5 @@
 -- What each basic step leaves of a lawful world.
-use Rattle.std.proofs.Common.{◌≡◌, ℕ, ◌+◌, ◌*◌, ◌<◌, ◌≤◌, List, [], ◌∷◌, ◌++◌, Bool, true, false, cond, length, map, Some, None, refl, ap, sym, subst, ◌∙◌, arith, eqb}
+use Rattle.std.proofs.Common.{◌≡◌, ℕ, ◌+◌, ◌*◌, ◌<◌, ◌≤◌, List, [], ◌∷◌, ◌++◌, Bool, true, false, cond, length, map, Some, refl, ap, sym, subst, ◌∙◌, arith, eqb}
 use Rattle.std.specs.Prelude.{◌==◌, ◌-◌}
 use Rattle.std.specs.List.{AllByRecursion, IsDistinct}
 use Rattle.std.specs.Cmp.{nat_eq_equiv}
@@ -9,29 +9,27 @@ use Rattle.std.proofs.lemmas.Bool.{eqb-true}
 use Rattle.std.proofs.lemmas.List.{length-map, length_push}
 use Rattle.std.proofs.lemmas.Map.Keys.{IsDistinct-cons}
 use Rattle.std.proofs.lemmas.Map.Made.{length-le_from_is_member}
-use Rattle.lpc_base.specs.declared.birth.Birth.{Birth}
 use Rattle.lpc_base.specs.declared.port_kind.PortKind.TheVariants.{Client, Connection, Server, Unnamed}
 use Rattle.lpc_base.specs.declared.limits.TheConstants.{LINES_LIMIT}
 use Rattle.lpc_base.specs.Rows.{change, count, every, first, has, which, without, without_first}
-use Rattle.lpc_base.proofs.RowWords.{count-bound, count-push, every-change, every-more, every-push, every-without, has-change, has-kept, has-push, has_none-push, has_none-without, length-change}
+use Rattle.lpc_base.proofs.RowWords.{count-bound, count-left, count-push, every-change, every-more, every-push, every-without, has-change, has-kept, has-push, has_none-push, has_none-without, length-change}
 use Rattle.lpc_base.proofs.Differ.{differ-change, differ-push, differ-without, length-ended}
 use Rattle.lpc_base.proofs.RowMaps.{every-first}
+use Rattle.lpc_base.proofs.Bools.{at-most-one, number-turned}
+use Rattle.lpc_base.proofs.Births.{birth-self, birth-turned}
 use Rattle.lpc_model.specs.World.{World, HandleRow, HandleTable, MessageRow, PortRow, ProcessRow, ThreadRow, UsedThread, WaitRow}
 use Rattle.lpc_model.specs.Closings.{is_closed_post}
 use Rattle.lpc_model.specs.Message.{asks}
-use Rattle.lpc_model.specs.Found.{is_client_port, is_live_thread, is_open, is_own_of, is_port, is_process, is_queued, is_queued_connect, is_table, is_thread, same_birth, waits_as}
+use Rattle.lpc_model.specs.Found.{is_client_port, is_live_thread, is_open, is_own_of, is_port, is_process, is_queued, is_queued_connect, is_table, is_thread, waits_as}
 use Rattle.lpc_model.specs.Entering.{takes}
 use Rattle.lpc_model.specs.Basics.{no_handles, past_identifier, past_ordinal, received, with_handle, without_handle}
 use Rattle.lpc_world.specs.Kept.{is_alive, is_asking, is_pending, is_unsent, owed_messages, owed_rows, owed_waits}
 use Rattle.lpc_world.proofs.Owed.{none-taken, owed-drop, owed-handle, owed-process, owed-shut}
 use Rattle.lpc_world.proofs.Registered.{registered-change, registered-push}
-use Rattle.lpc_world.proofs.OwnMessages.{asking-pending, count-left, count-taken_by, own-change, own-end, own-enter, own-keep, own-take, own-wait, own-withdraw}
+use Rattle.lpc_world.proofs.OwnMessages.{asking-pending, count-taken_by, own-change, own-end, own-enter, own-keep, own-take, own-wait, own-withdraw}
 use Rattle.lpc_world.proofs.OwedClosings.{asks_no_closing, closings-fit, one-place, told-enter, told-make, told-take, told-withdraw}
 use Rattle.lpc_world.specs.OwedClosings.{TellsOnce, closing_places, is_owed}
 use Rattle.lpc_world.specs.Lawful.{IsLawful, are_single, draws_at_most, is_housed, is_of, is_quiet, is_used}
-
-turned : (a b : ℕ) → (a == b) ≡ (b == a)
-turned a b = grind (arith, nat_tests)
 
 abbrev thread : WaitRow → ℕ
 thread x = x.thread
@@ -40,17 +38,17 @@ thread x = x.thread
 member-number : (q : ℕ) (ts : List ThreadRow) → is_member eqb (map (λ t. t.number) (which is_alive ts)) q ≡ has (is_live_thread q) ts
 member-number q [] = refl
 member-number q (t ∷ ts) = elim (is_alive t) as (λ b. is_alive t ≡ b → is_member eqb (map (λ t. t.number) (which is_alive (t ∷ ts))) q ≡ has (is_live_thread q) (t ∷ ts)) [
-  | true ↦ λ live. grind (arith, live, member-number q ts, turned q t.number)
+  | true ↦ λ live. grind (arith, live, member-number q ts, number-turned q t.number)
   | false ↦ λ dead. grind (arith, dead, member-number q ts)
 ] refl
 
 member-waiter : (q : ℕ) (xs : List WaitRow) → is_member eqb (map (λ x. x.thread) xs) q ≡ has (waits_as q) xs
 member-waiter q [] = refl
-member-waiter q (x ∷ xs) = grind (arith, member-waiter q xs, turned q x.thread)
+member-waiter q (x ∷ xs) = grind (arith, member-waiter q xs, number-turned q x.thread)
 
 apart : (q : ℕ) (xs : List WaitRow) → has (waits_as q) xs ≡ false → AllByRecursion (λ y. eqb q y ≡ false) (map (λ x. x.thread) xs)
 apart q [] none = tt
-apart q (x ∷ xs) none = (grind (arith, turned q x.thread), apart q xs (grind arith))
+apart q (x ∷ xs) none = (grind (arith, number-turned q x.thread), apart q xs (grind arith))
 
 distinct : (xs : List WaitRow) → are_single xs ≡ true → IsDistinct eqb (map (λ x. x.thread) xs)
 unfolding IsDistinct
@@ -94,7 +92,7 @@ draws-ordinals : (n who : ℕ) (ts : List ThreadRow) → every (draws_at_most n)
 draws-ordinals n who [] all = refl
 draws-ordinals n who (t ∷ ts) all = grind (arith, draws-past_ordinal n who t, draws-ordinals n who ts)
 
-of-change : (f : ThreadRow → ThreadRow) → ((t : ThreadRow) → (f t).number ≡ t.number) → ((t : ThreadRow) → (f t).live ≡ t.live) → (who : ℕ) (ts : List ThreadRow) (xs : List WaitRow) → every (is_of ts) xs ≡ true → every (is_of (change (is_thread who) f ts)) xs ≡ true
+pub of-change : (f : ThreadRow → ThreadRow) → ((t : ThreadRow) → (f t).number ≡ t.number) → ((t : ThreadRow) → (f t).live ≡ t.live) → (who : ℕ) (ts : List ThreadRow) (xs : List WaitRow) → every (is_of ts) xs ≡ true → every (is_of (change (is_thread who) f ts)) xs ≡ true
 of-change f same lives who ts xs all = every-more (is_of ts) (is_of (change (is_thread who) f ts)) (λ x h. has-change (is_live_thread x.thread) (is_thread who) f (λ t. rw (same t, lives t) refl) ts ∙ h) xs all
 
 -- and so many threads live as before
@@ -213,10 +211,6 @@ lawful-process w calls made a b p h lt new = record {
   waits_fit = h.waits_fit;
   messages_fit = h.messages_fit;
 }
-
-at-most-one : (b : Bool) → cond b 1 0 ≤ 1
-at-most-one true = omega arith
-at-most-one false = omega arith
 
 pub lawful-thread : (w : World) (calls made a b : ℕ) (t : ThreadRow) (used : List UsedThread) → IsLawful w calls made a b → made + owed_rows w < 16 * calls
     → draws_at_most 1 t ≡ true → t.registrations ≡ [] → is_housed w t ≡ true → owed_waits w < a → owed_messages w < b
@@ -379,14 +373,11 @@ lawful-keep w calls made a b tid g same pends stills h = record {
   messages_fit = h.messages_fit;
 }
 
-births-turned : (a b : Birth) → same_birth a b ≡ same_birth b a
-births-turned a b = grind (arith, nat_tests)
-
 -- a message enters a queue on which no thread waits that takes it
 quiet-enter : (m : MessageRow) (ms : List MessageRow) (xs : List WaitRow) → every (is_quiet ms) xs ≡ true → has (takes m) xs ≡ false → every (is_quiet (ms ++ m ∷ [])) xs ≡ true
 quiet-enter m ms [] all none = refl
 quiet-enter m ms (x ∷ xs) all none =
-    grind (arith, has_none-push (is_queued x.queue) ms m, has_none-push (is_queued_connect x.queue) ms m, births-turned m.queue x.queue, quiet-enter m ms xs)
+    grind (arith, has_none-push (is_queued x.queue) ms m, has_none-push (is_queued_connect x.queue) ms m, birth-turned m.queue x.queue, quiet-enter m ms xs)
 
 -- waiting threads are no more than live threads
 pub waits-fit : (ts : List ThreadRow) (xs : List WaitRow) → are_single xs ≡ true → every (is_of ts) xs ≡ true → length xs ≤ count is_alive ts
@@ -530,13 +521,5 @@ drawn-numbers n who ts t all is =
     (grind (arith, nat_tests), grind (arith, nat_tests))
 
 -- what entered a queue stands there
-same-birth : (b : Birth) → same_birth b b ≡ true
-same-birth b = grind (arith, nat_tests)
-
 pub queued-push : (m : MessageRow) (ms : List MessageRow) → has (is_queued m.queue) (ms ++ m ∷ []) ≡ true
-queued-push m ms = has-push (is_queued m.queue) ms m (same-birth m.queue)
-
--- nothing is taken where none passes
-pub without_first-none : {X : Type 0} (test : X → Bool) (xs : List X) → first test xs ≡ None → without_first test xs ≡ xs
-without_first-none test [] none = refl
-without_first-none test (x ∷ xs) none = grind (arith, without_first-none test xs)
+queued-push m ms = has-push (is_queued m.queue) ms m (birth-self m.queue)

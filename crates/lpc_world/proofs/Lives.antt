@@ -6,6 +6,7 @@ use Rattle.lpc_base.specs.declared.birth.Birth.{Birth}
 use Rattle.lpc_base.specs.Rows.{count, first}
 use Rattle.lpc_base.proofs.Differ.{rest-none}
 use Rattle.lpc_base.proofs.RowMaps.{mapped-twice}
+use Rattle.lpc_base.proofs.Bools.{same-number}
 use Rattle.lpc_model.specs.Creation as creation
 use Rattle.lpc_model.specs.Found.{is_born_process, is_born_thread, is_thread, lives_in}
 use Rattle.lpc_model.specs.World.{ProcessRow, ThreadRow, World}
@@ -42,9 +43,6 @@ found-own : (p : ThreadRow → Bool) (ts : List ThreadRow) (t : ThreadRow) → a
 found-own p [] t single at = absurd (cc)
 found-own p (x ∷ xs) t single at = by_head (p x) refl (λ later. found-own p xs t (grind arith) later)
   where
-    own : (n : ℕ) → (n == n) ≡ true
-    own n = grind (arith, nat_tests)
-
     turned : (n m : ℕ) → (n == m) ≡ true → (m == n) ≡ true
     turned n m is = grind (arith, nat_tests)
 
@@ -58,7 +56,7 @@ found-own p (x ∷ xs) t single at = by_head (p x) refl (λ later. found-own p x
     by_head : (c : Bool) → p x ≡ c → (first p xs ≡ Some t → first (is_thread t.number) xs ≡ Some t) → first (is_thread t.number) (x ∷ xs) ≡ Some t
     by_head true is later =
         let same : x ≡ t = grind (arith, is, at) in
-        let here : is_thread t.number x ≡ true = ap (λ (y : ThreadRow). y.number == t.number) same ∙ own t.number in
+        let here : is_thread t.number x ≡ true = ap (λ (y : ThreadRow). y.number == t.number) same ∙ same-number t.number in
         rw here (ap Some same)
     by_head false off later =
         let at_rest : first p xs ≡ Some t = grind (arith, off, at) in

@@ -1,38 +1,23 @@
 -- Keys and their births.
 use Rattle.std.proofs.Common.{◌≡◌, [], ◌∷◌, ◌++◌, Bool, true, false, cond, not, refl, ap, sym, ◌∙◌, arith}
-use Rattle.std.proofs.lemmas.Bool.Decides.{nat_tests}
 use Rattle.lpc_base.specs.declared.birth.Birth.{Birth}
 use Rattle.lpc_slots.specs.declared.Key.{Key}
 use Rattle.lpc_base.specs.Rows.{every, without}
 use Rattle.lpc_base.proofs.RowMaps.{every-both}
 use Rattle.lpc_base.proofs.RowWords.{every-push, every-without}
-use Rattle.lpc_base.proofs.Births.{birth-same, birth-self}
+use Rattle.lpc_base.proofs.Births.{birth-self, birth-turned}
 use Rattle.lpc_model.specs.Found.{same_birth}
 use Rattle.lpc_slots.proofs.Keys as keys
+use Rattle.lpc_slots.proofs.Keys.{key_is, key_turned}
 use Rattle.lpc_slots.specs.Table.{at_key, is_key}
 use Rattle.lpc_world.specs.Names.{Names, name_of, stands, differs, are_apart}
 
 -- tests of keys and of names
-pub key_is : (a b : Key) → is_key a b ≡ true → a ≡ b
-key_is = keys.key_is
-
 pub key_itself : (a : Key) → is_key a a ≡ true
 key_itself a = keys.key_itself a a refl
 
-pub name_itself : (a : Birth) → same_birth a a ≡ true
-name_itself = birth-self
-
-pub name_is : (a b : Birth) → same_birth a b ≡ true → a ≡ b
-name_is = birth-same
-
-pub name_turned : (a b : Birth) → same_birth a b ≡ same_birth b a
-name_turned a b = grind (arith, nat_tests)
-
-pub key_turned : (a b : Key) → is_key a b ≡ is_key b a
-key_turned = keys.key_turned
-
 pub differs_turned : (n m : Key × Birth) → differs n m ≡ differs m n
-differs_turned n m = grind (arith, key_turned n.0 m.0, name_turned n.1 m.1)
+differs_turned n m = grind (arith, key_turned n.0 m.0, birth-turned n.1 m.1)
 
 -- an entry that differs from each of these names no object of theirs
 pub away : (n : Key × Birth) (names : Names) (key : Key) → every (differs n) names ≡ true → stands names key ≡ true → (is_key n.0 key ≡ false) × (same_birth n.1 (name_of names key) ≡ false)
@@ -54,7 +39,7 @@ agrees (n ∷ names) a b apart one two =
     elim (is_key n.0 a) as (λ x. is_key n.0 a ≡ x → same_birth (cond x n.1 (name_of names a)) (cond (is_key n.0 b) n.1 (name_of names b)) ≡ is_key a b) [
       | true ↦ λ here.
           elim (is_key n.0 b) as (λ y. is_key n.0 b ≡ y → same_birth n.1 (cond y n.1 (name_of names b)) ≡ is_key a b) [
-            | true ↦ λ there. name_itself n.1 ∙ sym (ap (λ k. is_key k b) (sym (key_is n.0 a here)) ∙ there)
+            | true ↦ λ there. birth-self n.1 ∙ sym (ap (λ k. is_key k b) (sym (key_is n.0 a here)) ∙ there)
             | false ↦ λ there.
                 let other = away n names b off (grind arith) in
                 other.1 ∙ sym (ap (λ k. is_key k b) (sym (key_is n.0 a here)) ∙ there)
@@ -63,7 +48,7 @@ agrees (n ∷ names) a b apart one two =
           elim (is_key n.0 b) as (λ y. is_key n.0 b ≡ y → same_birth (name_of names a) (cond y n.1 (name_of names b)) ≡ is_key a b) [
             | true ↦ λ there.
                 let other = away n names a off (grind arith) in
-                name_turned (name_of names a) n.1 ∙ other.1 ∙ sym (key_turned a b ∙ ap (λ k. is_key k a) (sym (key_is n.0 b there)) ∙ here)
+                birth-turned (name_of names a) n.1 ∙ other.1 ∙ sym (key_turned a b ∙ ap (λ k. is_key k a) (sym (key_is n.0 b there)) ∙ here)
             | false ↦ λ there. IH (grind arith) (grind arith)
           ] refl
     ] refl
@@ -115,7 +100,7 @@ unfolding are_apart name_of
 own [] apart = refl
 own (n ∷ names) apart =
     let rest = every-both (differs n) (λ m. same_birth (name_of names m.0) m.1) (λ m. same_birth (name_of (n ∷ names) m.0) m.1) (own_more n names) names (grind arith) (own names (grind arith)) in
-    grind (arith, key_itself n.0, name_itself n.1, rest)
+    grind (arith, key_itself n.0, birth-self n.1, rest)
 
 -- no entry has the birth
 abbrev pub is_other : Birth → Key × Birth → Bool

@@ -4,7 +4,8 @@ use Rattle.std.proofs.Common.{◌≡◌, ◌+◌, ◌≤◌, ℕ, List, [], ◌�
 use Rattle.std.specs.Prelude.{◌&&◌}
 use Rattle.lpc_base.specs.declared.birth.Birth.{Birth}
 use Rattle.lpc_base.specs.Rows.{change, count, every, first, has, without, without_first}
-use Rattle.lpc_base.proofs.RowWords.{count-push, has_none-change}
+use Rattle.lpc_base.proofs.RowWords.{count-left, count-push, has_none-change}
+use Rattle.lpc_base.proofs.Births.{birth-same, birth-turned}
 use Rattle.lpc_handles.specs.declared.table.Row.{Row}
 use Rattle.lpc_model.specs.World.{HandleRow, PortRow, World}
 use Rattle.lpc_model.specs.Basics.{no_handles, with_handle, without_handle}
@@ -18,8 +19,6 @@ use Rattle.lpc_world.specs.Shown.{AreNamed, Tables, all_pass, birth_of, births_o
 use Rattle.lpc_homes.specs.declared.object.Object.{Object}
 use Rattle.lpc_homes.specs.declared.object.Object.TheVariants as object
 use Rattle.lpc_homes.specs.declared.parts.Part.{Part}
-use Rattle.lpc_world.proofs.Naming.{name_is, name_turned}
-use Rattle.lpc_world.proofs.OwnMessages.{count-left}
 
 -- counts of rows that pass one test or another
 count-sum : {X : Type 0} (p q r : X → Bool) → ((x : X) → q x ≡ false → r x ≡ false → p x ≡ false) → (xs : List X) → count p xs ≤ count q xs + count r xs
@@ -67,7 +66,7 @@ pub owed-handle : (w : World) (pid : ℕ) (h : HandleRow) → count (is_port h.o
 owed-handle w pid h single =
     let v : World = record w { handles = change (is_table pid) (with_handle h) w.handles } in
     let sum = count-sum (is_open_client v) (is_open_client w) (is_port h.object.birth) (λ p off other. shut-client w v p (λ shut. has_none-change (has_handle_to p.birth) (is_table pid) (with_handle h)
-    (λ t none. put-none (λ r. names_port p.birth r.object) h t.rows (grind (arith, name_turned p.birth h.object.birth, other)) none) w.handles shut) off) w.ports in
+    (λ t none. put-none (λ r. names_port p.birth r.object) h t.rows (grind (arith, birth-turned p.birth h.object.birth, other)) none) w.handles shut) off) w.ports in
     omega (arith, sum, single)
 
 -- a port comes that isn't open
@@ -92,13 +91,13 @@ owed-map w k same kinds = ap (λ n. n + owed_deaths w) (mapped w.ports)
 module _ (f : Object → Birth) where
   none-other : (n : Key × Birth) (rows : List (Key × Port)) → every (differs n) (names_of (λ (p : Port). p.birth) rows) ≡ true → count (is_port n.1) (map (shown_port f) rows) ≡ 0
   none-other n [] apart = refl
-  none-other n (row ∷ rows) apart = grind (arith, name_turned n.1 row.1.birth, none-other n rows)
+  none-other n (row ∷ rows) apart = grind (arith, birth-turned n.1 row.1.birth, none-other n rows)
 
   pub single-port : (rows : List (Key × Port)) (b : Birth) → are_apart (names_of (λ (p : Port). p.birth) rows) ≡ true → count (is_port b) (map (shown_port f) rows) ≤ 1
   unfolding are_apart
   single-port [] b apart = omega arith
   single-port (row ∷ rows) b apart = elim (same_birth row.1.birth b) as (λ s. same_birth row.1.birth b ≡ s → count (is_port b) (map (shown_port f) (row ∷ rows)) ≤ 1) [
-    | true ↦ λ here. subst (λ c. count (is_port c) (map (shown_port f) (row ∷ rows)) ≤ 1) (name_is row.1.birth b here) (grind (arith, none-other (row.0, row.1.birth) rows))
+    | true ↦ λ here. subst (λ c. count (is_port c) (map (shown_port f) (row ∷ rows)) ≤ 1) (birth-same row.1.birth b here) (grind (arith, none-other (row.0, row.1.birth) rows))
     | false ↦ λ off. grind (arith, off, single-port rows b)
   ] refl
 

@@ -2,9 +2,10 @@
 use Rattle.std.proofs.Common.{◌≡◌, ◌+◌, ◌≤◌, List, [], ◌∷◌, ◌++◌, Bool, true, false, map, cond, refl, subst, arith}
 use Rattle.std.specs.Prelude.{◌&&◌, ◌||◌, not}
 use Rattle.std.proofs.lemmas.Bool.Decides.{nat_tests}
+use Rattle.std.proofs.lemmas.Bool.{and_parts}
 use Rattle.lpc_base.specs.declared.birth.Birth.{Birth}
 use Rattle.lpc_base.specs.Rows.{count, has, without, without_first}
-use Rattle.lpc_base.proofs.RowWords.{count-none, count-push, has_none-more}
+use Rattle.lpc_base.proofs.RowWords.{count-fewer, count-has, count-left, count-none, count-push, has_none-more}
 use Rattle.lpc_base.proofs.Births.{birth-same, birth-self}
 use Rattle.lpc_model.specs.World.{MessageRow, PortRow, World}
 use Rattle.lpc_model.specs.declared.message.Message.{Message}
@@ -13,16 +14,12 @@ use Rattle.lpc_model.specs.Closings.{is_closed_post}
 use Rattle.lpc_model.specs.Found.{is_client_port, is_port, is_sent_on, same_birth}
 use Rattle.lpc_model.specs.SingleClosings.{is_closing_of}
 use Rattle.lpc_world.specs.OwedClosings.{TellsOnce, is_client_of, is_owed}
-use Rattle.lpc_world.proofs.OwnMessages.{count-fewer, count-left, count-less, count-one_less, count-some}
+use Rattle.lpc_world.proofs.OwnMessages.{count-less, count-one_less}
 
 -- What each change of the messages and ports leaves: of each birth, the messages that tell of its closing are no more
 -- than its client ports
 abbrev pub AreTold : List MessageRow → List PortRow → Type 0
 AreTold ms ps = (b : Birth) → count (is_closing_of b) ms ≤ count (is_client_of b) ps
-
-both : (a b : Bool) → a && b ≡ true → (a ≡ true) × (b ≡ true)
-both true b h = (refl, h)
-both false b h = absurd (cc)
 
 -- A message that asks tells of no closing
 pub asks_no_closing : (m : Message) → asks m ≡ true → tells_closing m ≡ false
@@ -69,7 +66,7 @@ told-free c ms ps none told = λ b. elim (same_birth c b) as (λ s. same_birth c
     apart b other p is = elim (is_port c p) as (λ s. is_port c p ≡ s → s ≡ false) [
       | true ↦ λ here.
           let to_c : p.birth ≡ c = birth-same p.birth c here in
-          let to_b : same_birth p.birth b ≡ true = (both (is_port b p) (is_client_port p) is).0 in
+          let to_b : same_birth p.birth b ≡ true = (and_parts (is_port b p) (is_client_port p) is).0 in
           let yes : same_birth c b ≡ true = subst (λ d. same_birth d b ≡ true) to_c to_b in
           absurd (cc)
       | false ↦ λ off. refl
@@ -87,10 +84,10 @@ pub told-enter : (m : MessageRow) (ms : List MessageRow) (ps : List PortRow) →
     → AreTold ms ps → AreTold (ms ++ m ∷ []) ps
 told-enter m ms ps once told = λ b. elim (is_closing_of b m) as (λ c. is_closing_of b m ≡ c → count (is_closing_of b) (ms ++ m ∷ []) ≤ count (is_client_of b) ps) [
   | true ↦ λ here.
-      let of_b = both (is_sent_on b m) (is_closed_post m) here in
+      let of_b = and_parts (is_sent_on b m) (is_closed_post m) here in
       let untold : (has (is_client_of b) ps && not (has (is_closing_of b) ms)) ≡ true =
       subst (λ c. (has (is_client_of c) ps && not (has (is_closing_of c) ms)) ≡ true) (birth-same m.sender b of_b.0) (once of_b.1) in
-      grind (arith, here, both (has (is_client_of b) ps) (not (has (is_closing_of b) ms)) untold, count-some (is_client_of b) ps, count-none (is_closing_of b) ms, count-push (is_closing_of b) ms m)
+      grind (arith, here, and_parts (has (is_client_of b) ps) (not (has (is_closing_of b) ms)) untold, count-has (is_client_of b) ps, count-none (is_closing_of b) ms, count-push (is_closing_of b) ms m)
   | false ↦ λ off. grind (arith, off, told b, count-push (is_closing_of b) ms m)
 ] refl
 

@@ -1,25 +1,16 @@
 -- A thread's own messages in queues, which are no more than its pending waits.
 use Rattle.std.proofs.Common.{◌≡◌, ℕ, ◌+◌, ◌≤◌, List, [], ◌∷◌, ◌++◌, Bool, true, false, cond, None, Option, Some, IfSome, refl, subst, sym, arith}
 use Rattle.std.specs.Prelude.{◌==◌, ◌&&◌, not}
-use Rattle.std.proofs.lemmas.Bool.{eqb-true}
+use Rattle.std.proofs.lemmas.Bool.{and_parts, eqb-true}
 use Rattle.std.proofs.lemmas.Bool.Decides.{nat_tests}
 use Rattle.lpc_base.specs.Rows.{change, count, first, has, without, without_first}
 use Rattle.lpc_base.proofs.Differ.{one-row}
-use Rattle.lpc_base.proofs.RowWords.{count-none, count-push, has-push, has_none-more}
+use Rattle.lpc_base.proofs.RowWords.{count-fewer, count-has, count-left, count-none, count-push, has-push, has_none-more, none-counted}
 use Rattle.lpc_model.specs.World.{MessageRow, WaitRow, World}
 use Rattle.lpc_model.specs.Found.{is_own_of, waits_as}
 use Rattle.lpc_world.specs.Clauses.{HasLeft}
 use Rattle.lpc_world.specs.Kept.{StaysUnqueued, has_queued, is_asking, is_pending, is_pending_in, is_unsent, pends_as}
 use Rattle.lpc_world.specs.Lawful.{are_single}
-
--- Counts of rows
-pub count-fewer : {X : Type 0} (p q : X → Bool) (xs : List X) → count p (without_first q xs) ≤ count p xs
-count-fewer p q [] = grind arith
-count-fewer p q (x ∷ xs) = grind (arith, count-fewer p q xs)
-
-pub count-left : {X : Type 0} (p q : X → Bool) (xs : List X) → count p (without q xs) ≤ count p xs
-count-left p q [] = grind arith
-count-left p q (x ∷ xs) = grind (arith, count-left p q xs)
 
 -- the first that passes is one less
 pub count-less : {X : Type 0} (p : X → Bool) (n : ℕ) (xs : List X) → count p xs ≤ n + 1 → count p (without_first p xs) ≤ n
@@ -32,14 +23,6 @@ count-less p n (x ∷ xs) few = elim (p x) as (λ b. p x ≡ b → count p (with
 pub count-one_less : {X : Type 0} (p q : X → Bool) (xs : List X) → count p xs ≤ count p (without_first q xs) + 1
 count-one_less p q [] = grind arith
 count-one_less p q (x ∷ xs) = grind (arith, count-one_less p q xs)
-
-pub count-some : {X : Type 0} (p : X → Bool) (xs : List X) → has p xs ≡ true → 1 ≤ count p xs
-count-some p [] there = grind arith
-count-some p (x ∷ xs) there = grind (arith, count-some p xs)
-
-count-zero : {X : Type 0} (p : X → Bool) (xs : List X) → count p xs ≤ 0 → has p xs ≡ false
-count-zero p [] few = refl
-count-zero p (x ∷ xs) few = grind (arith, count-zero p xs)
 
 -- and one less where the one that is taken passes
 pub count-taken_by : {X : Type 0} (p q : X → Bool) (xs : List X) (x : X) → first q xs ≡ Some x → count p (without_first q xs) + cond (p x) 1 0 ≡ count p xs
@@ -109,26 +92,22 @@ pub own-enter : (m : MessageRow) (ms : List MessageRow) (xs : List WaitRow)
     → AreOwn ms xs → AreOwn (ms ++ m ∷ []) xs
 own-enter m ms xs asks own = λ tid. elim (is_own_of tid m) as (λ b. is_own_of tid m ≡ b → count (is_own_of tid) (ms ++ m ∷ []) ≤ count (pends_as tid) xs) [
   | true ↦ λ here.
-      let e : m.message.header.client.thread ≡ tid = eqb-true m.message.header.client.thread tid (both (is_asking m) (m.message.header.client.thread == tid) here).1 in
+      let e : m.message.header.client.thread ≡ tid = eqb-true m.message.header.client.thread tid (and_parts (is_asking m) (m.message.header.client.thread == tid) here).1 in
       let unsent : (has (pends_as tid) xs && not (has (is_own_of tid) ms)) ≡ true =
-      subst (λ n. (has (pends_as n) xs && not (has (is_own_of n) ms)) ≡ true) e (asks (both (is_asking m) (m.message.header.client.thread == tid) here).0) in
-      grind (arith, here, both (has (pends_as tid) xs) (not (has (is_own_of tid) ms)) unsent, count-some (pends_as tid) xs, count-none (is_own_of tid) ms, count-push (is_own_of tid) ms m)
+      subst (λ n. (has (pends_as n) xs && not (has (is_own_of n) ms)) ≡ true) e (asks (and_parts (is_asking m) (m.message.header.client.thread == tid) here).0) in
+      grind (arith, here, and_parts (has (pends_as tid) xs) (not (has (is_own_of tid) ms)) unsent, count-has (pends_as tid) xs, count-none (is_own_of tid) ms, count-push (is_own_of tid) ms m)
   | false ↦ λ off. grind (arith, off, own tid, count-push (is_own_of tid) ms m)
 ] refl
-  where
-    both : (a b : Bool) → a && b ≡ true → (a ≡ true) × (b ≡ true)
-    both true b h = (refl, h)
-    both false b h = absurd (cc)
 
 -- What follows
 -- a thread that doesn't pend has no message of its own in a queue
 pub none-queued : (w : World) (tid : ℕ) → AreOwn w.messages w.waits → is_pending_in w tid ≡ false → has_queued w tid ≡ false
-none-queued w tid own idle = grind (arith, own tid, count-none (pends_as tid) w.waits, count-zero (is_own_of tid) w.messages)
+none-queued w tid own idle = grind (arith, own tid, count-none (pends_as tid) w.waits, none-counted (is_own_of tid) w.messages)
 
 -- of a message that is taken, no other of its thread stands
 pub own-left : (q : MessageRow → Bool) (tid : ℕ) (m : MessageRow) (ms : List MessageRow) → first q ms ≡ Some m → is_own_of tid m ≡ true → count (is_own_of tid) ms ≤ 1
     → has (is_own_of tid) (without_first q ms) ≡ false
-own-left q tid m ms at own few = count-zero (is_own_of tid) (without_first q ms)
+own-left q tid m ms at own few = none-counted (is_own_of tid) (without_first q ms)
     (let less : count (is_own_of tid) (without_first q ms) + 1 ≡ count (is_own_of tid) ms = rw (← count-taken_by (is_own_of tid) q ms m at, own) refl in
     omega (arith, less, few))
 

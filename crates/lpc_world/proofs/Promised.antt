@@ -2,11 +2,12 @@
 use Rattle.std.proofs.Common.{◌≡◌, ℕ, ◌+◌, ◌<◌, ◌≤◌, List, [], ◌∷◌, ◌++◌, Bool, true, false, not, ◌||◌, ◌&&◌, ◌==◌, length, Option, Some, None, refl, ap, ◌∙◌, arith, length-append, subst}
 use Rattle.std.specs.Prelude.{is_some, nat_le, nat_lt}
 use Rattle.std.proofs.lemmas.Bool.Decides.{nat_tests}
-use Rattle.std.proofs.lemmas.Bool.{eqb-true}
+use Rattle.std.proofs.lemmas.Bool.{and_parts, and_right, eqb-true, le-leb, leb-true, lt-ltb, ltb-true}
 use Rattle.lpc_base.specs.Rows.{change, count, every, first, has, which, without}
 use Rattle.lpc_base.proofs.Differ.{own-rows}
 use Rattle.lpc_base.proofs.RowMaps.{every-both, every-change_to, every-first}
-use Rattle.lpc_base.proofs.RowWords.{first-passes, count-push, every-change, every-more, every-push, every-unless, every-without, has-change, has-kept, without-none}
+use Rattle.lpc_base.proofs.RowWords.{first-passes, count-push, every-change, every-more, every-push, every-unless, every-without, has-change, has-kept, without-none, every-changed}
+use Rattle.lpc_base.proofs.Bools.{number-turned}
 use Rattle.lpc_handles.specs.declared.table.Row.{Row}
 use Rattle.lpc_model.specs.World.{HandleRow, HandleTable, WaitRow}
 use Rattle.lpc_model.specs.Basics.{no_handles, put_handle, received, with_handle}
@@ -16,13 +17,6 @@ use Rattle.lpc_homes.specs.Parts.{are_single_parts, handed, is_part, roomed, spa
 use Rattle.lpc_world.specs.Lawful.{IsPromised, are_single, are_single_tables, has_places, is_at_home, is_within}
 use Rattle.lpc_homes.specs.declared.object.Object.{Object}
 use Rattle.lpc_homes.specs.declared.parts.Part.{Part}
-
-every-changed : {X : Type 0} (p q test : X → Bool) (f : X → X) → ((x : X) → p x ≡ true → q x ≡ true → test x ≡ true → p (f x) ≡ true) → (xs : List X) → every p xs ≡ true → every q xs ≡ true → every p (change test f xs) ≡ true
-every-changed p q test f more [] one two = refl
-every-changed p q test f more (x ∷ xs) one two = grind (arith, more x, every-changed p q test f more xs)
-
-turned : (a b : ℕ) → (a == b) ≡ (b == a)
-turned a b = grind (arith, nat_tests)
 
 count-same : (pid : ℕ) (p q : ℕ) (xs : List WaitRow) → p ≡ q → count (is_connect_of p) xs ≡ count (is_connect_of q) xs
 count-same pid p q xs same = ap (λ n. count (is_connect_of n) xs) same
@@ -47,23 +41,7 @@ not-connect : (pid : ℕ) (x : WaitRow) → is_connect x ≡ false → is_connec
 not-connect pid x off = ap (λ b. b && (x.process == pid)) off
 
 not-own : (pid : ℕ) (x : WaitRow) → (pid == x.process) ≡ false → is_connect_of pid x ≡ false
-not-own pid x off = last (is_connect x) (x.process == pid) (turned x.process pid ∙ off)
-  where
-    last : (a b : Bool) → b ≡ false → a && b ≡ false
-    last true b h = h
-    last false b h = refl
-
-le-of : (a b : ℕ) → nat_le a b ≡ true → a ≤ b
-le-of a b h = grind (arith, nat_tests)
-
-of-le : (a b : ℕ) → a ≤ b → nat_le a b ≡ true
-of-le a b h = grind (arith, nat_tests)
-
-lt-of : (a b : ℕ) → nat_lt a b ≡ true → a < b
-lt-of a b h = grind (arith, nat_tests)
-
-of-lt : (a b : ℕ) → a < b → nat_lt a b ≡ true
-of-lt a b h = grind (arith, nat_tests)
+not-own pid x off = and_right (is_connect x) (x.process == pid) (number-turned x.process pid ∙ off)
 
 second : (a b : Bool) → not a || b ≡ true → a ≡ true → b ≡ true
 second true b h e = h
@@ -119,14 +97,14 @@ module _ (waits : List WaitRow) (handles : List HandleTable) (parts : List Part)
     where
       by_first : (o : Option Part) → first (is_part pid) parts ≡ o → every (λ p. not (is_part pid p) || has-spare pid p) parts ≡ true
       by_first None at = let no : spare_at parts pid ≡ 0 = ap spare_in at in absurd (omega (arith, no, place))
-      by_first (Some part) at = let some : spare_at parts pid ≡ part.handles.spare = ap spare_in at in own-rows (λ (p : Part). p.process) (has-spare pid) pid parts part one at (of-lt _ _ (omega (arith, some, place)))
+      by_first (Some part) at = let some : spare_at parts pid ≡ part.handles.spare = ap spare_in at in own-rows (λ (p : Part). p.process) (has-spare pid) pid parts part one at (lt-ltb _ _ (omega (arith, some, place)))
 
   load-all : (pid : ℕ) → are_single_tables handles ≡ true → length (rows_in (first (is_table pid) handles)) + count (is_connect_of pid) waits < 256 → has (is_table pid) handles ≡ true → every (λ t. not (is_table pid t) || has-load pid t) handles ≡ true
   load-all pid one load there = by_first (first (is_table pid) handles) refl
     where
       by_first : (o : Option HandleTable) → first (is_table pid) handles ≡ o → every (λ t. not (is_table pid t) || has-load pid t) handles ≡ true
       by_first None at = let no : has (is_table pid) handles ≡ false = ap is_some at in absurd (cc)
-      by_first (Some t) at = own-rows (λ (t : HandleTable). t.process) (has-load pid) pid handles t one at (of-lt _ _ (let some : length (rows_in (first (is_table pid) handles)) ≡ length t.rows = ap (λ o. length (rows_in o)) at in omega (arith, some, load)))
+      by_first (Some t) at = own-rows (λ (t : HandleTable). t.process) (has-load pid) pid handles t one at (lt-ltb _ _ (let some : length (rows_in (first (is_table pid) handles)) ≡ length t.rows = ap (λ o. length (rows_in o)) at in omega (arith, some, load)))
 
   pub connect-begins : (x : WaitRow) → are_single_parts parts ≡ true → are_single_tables handles ≡ true → is_taken x ≡ true → IsWelcome waits handles parts x.process → IsPromised (waits ++ x ∷ []) handles parts
   connect-begins x one single fresh h = record {
@@ -144,9 +122,9 @@ module _ (waits : List WaitRow) (handles : List HandleTable) (parts : List Part)
       placed part there more = elim (is_part x.process part) as (λ b. is_part x.process part ≡ b → has_places (waits ++ x ∷ []) part ≡ true) [
         | true ↦ λ own.
             let same : part.process ≡ x.process = eqb-true part.process x.process own in
-            let lt : count (is_connect_of part.process) waits < part.handles.spare = rw same (lt-of _ _ (second (is_part x.process part) (has-spare x.process part) more own)) in
+            let lt : count (is_connect_of part.process) waits < part.handles.spare = rw same (ltb-true _ _ (second (is_part x.process part) (has-spare x.process part) more own)) in
             let le = one-more part.process waits x in
-            of-le _ _ (omega (arith, lt, le))
+            le-leb _ _ (omega (arith, lt, le))
         | false ↦ λ off. ap (λ n. nat_le n part.handles.spare) (other-wait part.process waits x (not-own part.process x off)) ∙ there
       ] refl
 
@@ -154,9 +132,9 @@ module _ (waits : List WaitRow) (handles : List HandleTable) (parts : List Part)
       loaded t there more = elim (is_table x.process t) as (λ b. is_table x.process t ≡ b → is_within (waits ++ x ∷ []) t ≡ true) [
         | true ↦ λ own.
             let same : t.process ≡ x.process = eqb-true t.process x.process own in
-            let lt : length t.rows + count (is_connect_of t.process) waits < 256 = rw same (lt-of _ _ (second (is_table x.process t) (has-load x.process t) more own)) in
+            let lt : length t.rows + count (is_connect_of t.process) waits < 256 = rw same (ltb-true _ _ (second (is_table x.process t) (has-load x.process t) more own)) in
             let le = one-more t.process waits x in
-            of-le _ _ (omega (arith, lt, le))
+            le-leb _ _ (omega (arith, lt, le))
         | false ↦ λ off. ap (λ n. nat_le (length t.rows + n) 256) (other-wait t.process waits x (not-own t.process x off)) ∙ there
       ] refl
 
@@ -174,8 +152,8 @@ module _ (waits : List WaitRow) (handles : List HandleTable) (parts : List Part)
 
   pub wait-ends : (test : WaitRow → Bool) → IsPromised (without test waits) handles parts
   wait-ends test = record {
-    places = every-more (has_places waits) (has_places (without test waits)) (λ part there. of-le _ _ (let le = le-of _ _ there in let less = fewer part.process test waits in omega (arith, le, less))) parts is.places;
-    loads = every-more (is_within waits) (is_within (without test waits)) (λ t there. of-le _ _ (let le = le-of _ _ there in let less = fewer t.process test waits in omega (arith, le, less))) handles is.loads;
+    places = every-more (has_places waits) (has_places (without test waits)) (λ part there. le-leb _ _ (let le = leb-true _ _ there in let less = fewer part.process test waits in omega (arith, le, less))) parts is.places;
+    loads = every-more (is_within waits) (is_within (without test waits)) (λ t there. le-leb _ _ (let le = leb-true _ _ there in let less = fewer t.process test waits in omega (arith, le, less))) handles is.loads;
     homes = every-without (is_at_home handles) test waits is.homes;
     taken = every-without is_taken test waits is.taken;
   }
@@ -198,23 +176,19 @@ module _ (waits : List WaitRow) (handles : List HandleTable) (parts : List Part)
   no-connect pid [] all none = refl
   no-connect pid (x ∷ xs) all none = elim (is_connect_of pid x) as (λ b. is_connect_of pid x ≡ b → count (is_connect_of pid) (x ∷ xs) ≡ 0) [
     | true ↦ λ own.
-        let both-own = pair (is_connect x) (x.process == pid) own in
+        let both-own = and_parts (is_connect x) (x.process == pid) own in
         let same : x.process ≡ pid = eqb-true x.process pid both-own.1 in
         let yes : has (is_table x.process) handles ≡ true = second (is_connect x) (has (is_table x.process) handles) (grind arith) both-own.0 in
         absurd (grind (arith, ap (λ n. has (is_table n) handles) same))
     | false ↦ λ off. grind (arith, no-connect pid xs)
   ] refl
-    where
-      pair : (a b : Bool) → a && b ≡ true → (a ≡ true) × (b ≡ true)
-      pair true b h = (refl, h)
-      pair false b h = absurd (cc)
 
   pub process-comes : (pid : ℕ) (part : Part) → part.process ≡ pid → has (is_table pid) handles ≡ false → IsPromised waits (handles ++ no_handles pid ∷ []) (parts ++ part ∷ [])
   process-comes pid part own new =
       let none = no-connect pid waits is.homes new in
       record {
-        places = every-push (has_places waits) parts part is.places (of-le _ _ (let zero : count (is_connect_of part.process) waits ≡ 0 = rw own none in omega (arith, zero)));
-        loads = every-push (is_within waits) handles (no_handles pid) is.loads (of-le _ _ (omega (arith, none)));
+        places = every-push (has_places waits) parts part is.places (le-leb _ _ (let zero : count (is_connect_of part.process) waits ≡ 0 = rw own none in omega (arith, zero)));
+        loads = every-push (is_within waits) handles (no_handles pid) is.loads (le-leb _ _ (omega (arith, none)));
         homes = every-more (is_at_home handles) (is_at_home (handles ++ no_handles pid ∷ [])) (λ x there. home x there) waits is.homes;
         taken = is.taken;
       }
@@ -233,7 +207,7 @@ module _ (waits : List WaitRow) (handles : List HandleTable) (parts : List Part)
   -- more room for handles
   pub room-grows : (pid spare : ℕ) → spare_at parts pid ≤ spare → are_single_parts parts ≡ true → IsPromised waits handles (change (is_part pid) (roomed spare) parts)
   room-grows pid spare more one = record {
-    places = every-changed (has_places waits) (λ p. not (is_part pid p) || nat_le p.handles.spare spare) (is_part pid) (roomed spare) (λ part there le own. of-le _ _ (let a = le-of _ _ there in let b = le-of _ _ (second (is_part pid part) (nat_le part.handles.spare spare) le own) in omega (arith, a, b))) parts is.places (by_first (first (is_part pid) parts) refl);
+    places = every-changed (has_places waits) (λ p. not (is_part pid p) || nat_le p.handles.spare spare) (is_part pid) (roomed spare) (λ part there le own. le-leb _ _ (let a = leb-true _ _ there in let b = leb-true _ _ (second (is_part pid part) (nat_le part.handles.spare spare) le own) in omega (arith, a, b))) parts is.places (by_first (first (is_part pid) parts) refl);
     loads = is.loads;
     homes = is.homes;
     taken = is.taken;
@@ -241,7 +215,7 @@ module _ (waits : List WaitRow) (handles : List HandleTable) (parts : List Part)
     where
       by_first : (o : Option Part) → first (is_part pid) parts ≡ o → every (λ p. not (is_part pid p) || nat_le p.handles.spare spare) parts ≡ true
       by_first None at = every-unless (is_part pid) (λ p. nat_le p.handles.spare spare) parts (ap is_some at)
-      by_first (Some part) at = own-rows (λ (p : Part). p.process) (λ p. nat_le p.handles.spare spare) pid parts part one at (of-le _ _ (let some : spare_at parts pid ≡ part.handles.spare = ap spare_in at in omega (arith, some, more)))
+      by_first (Some part) at = own-rows (λ (p : Part). p.process) (λ p. nat_le p.handles.spare spare) pid parts part one at (le-leb _ _ (let some : spare_at parts pid ≡ part.handles.spare = ap spare_in at in omega (arith, some, more)))
 
   -- a handle comes, beside those that are promised
   pub put-long : (h : HandleRow) (rows : List HandleRow) → length (put_handle h rows) ≤ length rows + 1
@@ -267,15 +241,15 @@ module _ (waits : List WaitRow) (handles : List HandleTable) (parts : List Part)
       placed : (part : Part) → has_places waits part ≡ true → not (is_part pid part) || has-spare pid part ≡ true → is_part pid part ≡ true → has_places waits (handed value row part) ≡ true
       placed part there more own =
           let same : part.process ≡ pid = eqb-true part.process pid own in
-          let lt : count (is_connect_of part.process) waits < part.handles.spare = rw same (lt-of _ _ (second (is_part pid part) (has-spare pid part) more own)) in
-          of-le _ _ (omega (arith, lt))
+          let lt : count (is_connect_of part.process) waits < part.handles.spare = rw same (ltb-true _ _ (second (is_part pid part) (has-spare pid part) more own)) in
+          le-leb _ _ (omega (arith, lt))
 
       loaded : (t : HandleTable) → is_within waits t ≡ true → not (is_table pid t) || has-load pid t ≡ true → is_table pid t ≡ true → is_within waits (with_handle shown t) ≡ true
       loaded t there more own =
           let same : t.process ≡ pid = eqb-true t.process pid own in
-          let lt : length t.rows + count (is_connect_of t.process) waits < 256 = rw same (lt-of _ _ (second (is_table pid t) (has-load pid t) more own)) in
+          let lt : length t.rows + count (is_connect_of t.process) waits < 256 = rw same (ltb-true _ _ (second (is_table pid t) (has-load pid t) more own)) in
           let le = put-long shown t.rows in
-          of-le _ _ (omega (arith, lt, le))
+          le-leb _ _ (omega (arith, lt, le))
 
 -- A connect gets the handle that it was promised, and ends
 pub count-ended : (tid pid : ℕ) (xs : List WaitRow) (x : WaitRow) → are_single xs ≡ true → first (waits_as tid) xs ≡ Some x → is_connect_of pid x ≡ true → count (is_connect_of pid) (without (waits_as tid) xs) + 1 ≡ count (is_connect_of pid) xs
@@ -292,8 +266,8 @@ count-ended tid pid (x ∷ xs) y one at own = elim (x.thread == tid) as (λ b. (
 pub connect-finishes : (waits : List WaitRow) (handles : List HandleTable) (parts : List Part) (tid pid value : ℕ) (shown : HandleRow) (row : Row Object) (x : WaitRow) → IsPromised waits handles parts → are_single waits ≡ true → first (waits_as tid) waits ≡ Some x → is_connect_of pid x ≡ true
     → IsPromised (without (waits_as tid) waits) (change (is_table pid) (with_handle shown) handles) (change (is_part pid) (handed value row) parts)
 connect-finishes waits handles parts tid pid value shown row x is one at own = record {
-  places = every-change_to (has_places waits) (has_places (without (waits_as tid) waits)) (is_part pid) (handed value row) placed (λ part there off. of-le _ _ (let le = le-of _ _ there in let less = fewer waits handles parts is part.process (waits_as tid) waits in omega (arith, le, less))) parts is.places;
-  loads = every-change_to (is_within waits) (is_within (without (waits_as tid) waits)) (is_table pid) (with_handle shown) loaded (λ t there off. of-le _ _ (let le = le-of _ _ there in let less = fewer waits handles parts is t.process (waits_as tid) waits in omega (arith, le, less))) handles is.loads;
+  places = every-change_to (has_places waits) (has_places (without (waits_as tid) waits)) (is_part pid) (handed value row) placed (λ part there off. le-leb _ _ (let le = leb-true _ _ there in let less = fewer waits handles parts is part.process (waits_as tid) waits in omega (arith, le, less))) parts is.places;
+  loads = every-change_to (is_within waits) (is_within (without (waits_as tid) waits)) (is_table pid) (with_handle shown) loaded (λ t there off. le-leb _ _ (let le = leb-true _ _ there in let less = fewer waits handles parts is t.process (waits_as tid) waits in omega (arith, le, less))) handles is.loads;
   homes = every-without (is_at_home (change (is_table pid) (with_handle shown) handles)) (waits_as tid) waits (every-more (is_at_home handles) (is_at_home (change (is_table pid) (with_handle shown) handles)) (λ y there. ap (λ b. not (is_connect y) || b) (has-table waits handles parts is pid shown y.process) ∙ there) waits is.homes);
   taken = every-without is_taken (waits_as tid) waits is.taken;
 }
@@ -302,16 +276,16 @@ connect-finishes waits handles parts tid pid value shown row x is one at own = r
     placed part there mine =
         let same : part.process ≡ pid = eqb-true part.process pid mine in
         let less : count (is_connect_of part.process) (without (waits_as tid) waits) + 1 ≡ count (is_connect_of part.process) waits = rw same (count-ended tid pid waits x one at own) in
-        let le = le-of _ _ there in
-        of-le _ _ (omega (arith, less, le))
+        let le = leb-true _ _ there in
+        le-leb _ _ (omega (arith, less, le))
 
     loaded : (t : HandleTable) → is_within waits t ≡ true → is_table pid t ≡ true → is_within (without (waits_as tid) waits) (with_handle shown t) ≡ true
     loaded t there mine =
         let same : t.process ≡ pid = eqb-true t.process pid mine in
         let less : count (is_connect_of t.process) (without (waits_as tid) waits) + 1 ≡ count (is_connect_of t.process) waits = rw same (count-ended tid pid waits x one at own) in
-        let le = le-of _ _ there in
+        let le = leb-true _ _ there in
         let long = put-long waits handles parts is shown t.rows in
-        of-le _ _ (omega (arith, less, le, long))
+        le-leb _ _ (omega (arith, less, le, long))
 
 -- what was promised is there
 pub record IsKept (handles : List HandleTable) (parts : List Part) (pid : ℕ) : Type 0 where
@@ -322,27 +296,23 @@ pub record IsKept (handles : List HandleTable) (parts : List Part) (pid : ℕ) :
 pub promise-kept : (waits : List WaitRow) (handles : List HandleTable) (parts : List Part) (tid pid : ℕ) (x : WaitRow) → IsPromised waits handles parts → are_single waits ≡ true → first (waits_as tid) waits ≡ Some x → is_connect_of pid x ≡ true → IsKept handles parts pid
 promise-kept waits handles parts tid pid x is one at own =
     let some = count-ended tid pid waits x one at own in
-    let mine = pair (is_connect x) (x.process == pid) own in
+    let mine = and_parts (is_connect x) (x.process == pid) own in
     let same : x.process ≡ pid = eqb-true x.process pid mine.1 in
     let there : has (is_table pid) handles ≡ true = subst (λ n. has (is_table n) handles ≡ true) same (second (is_connect x) (has (is_table x.process) handles) (every-first (is_at_home handles) (waits_as tid) waits x is.homes at) mine.0) in
     record { table = there; few = few_by some (first (is_table pid) handles) refl; place = λ here. place_by some here (first (is_part pid) parts) refl }
   where
-    pair : (a b : Bool) → a && b ≡ true → (a ≡ true) × (b ≡ true)
-    pair true b h = (refl, h)
-    pair false b h = absurd (cc)
-
     few_by : count (is_connect_of pid) (without (waits_as tid) waits) + 1 ≡ count (is_connect_of pid) waits → (o : Option HandleTable) → first (is_table pid) handles ≡ o → length (rows_in o) < 256
     few_by some None is' = omega arith
     few_by some (Some t) is' =
         let same : t.process ≡ pid = eqb-true t.process pid (first-passes (is_table pid) handles t is') in
-        let le : length t.rows + count (is_connect_of pid) waits ≤ 256 = subst (λ n. length t.rows + count (is_connect_of n) waits ≤ 256) same (le-of _ _ (every-first (is_within waits) (is_table pid) handles t is.loads is')) in
+        let le : length t.rows + count (is_connect_of pid) waits ≤ 256 = subst (λ n. length t.rows + count (is_connect_of n) waits ≤ 256) same (leb-true _ _ (every-first (is_within waits) (is_table pid) handles t is.loads is')) in
         omega (arith, some, le)
 
     place_by : count (is_connect_of pid) (without (waits_as tid) waits) + 1 ≡ count (is_connect_of pid) waits → has (is_part pid) parts ≡ true → (o : Option Part) → first (is_part pid) parts ≡ o → 0 < spare_in o
     place_by some here None is' = let no : has (is_part pid) parts ≡ false = ap is_some is' in absurd (cc)
     place_by some here (Some part) is' =
         let same : part.process ≡ pid = eqb-true part.process pid (first-passes (is_part pid) parts part is') in
-        let le : count (is_connect_of pid) waits ≤ part.handles.spare = subst (λ n. count (is_connect_of n) waits ≤ part.handles.spare) same (le-of _ _ (every-first (has_places waits) (is_part pid) parts part is.places is')) in
+        let le : count (is_connect_of pid) waits ≤ part.handles.spare = subst (λ n. count (is_connect_of n) waits ≤ part.handles.spare) same (leb-true _ _ (every-first (has_places waits) (is_part pid) parts part is.places is')) in
         omega (arith, some, le)
 
 pub none-promised : IsPromised [] [] []

@@ -6,7 +6,8 @@ use Rattle.std.proofs.lemmas.Bool.Decides.{nat_tests}
 use Rattle.lpc_base.specs.declared.birth.Birth.{Birth}
 use Rattle.lpc_base.specs.Rows.{first, without, without_first}
 use Rattle.lpc_base.proofs.RowMaps.{every-first, every-without_first, first-map, without_first-map}
-use Rattle.lpc_base.proofs.RowWords.{first-passes}
+use Rattle.lpc_base.proofs.RowWords.{first-passes, without_first-none}
+use Rattle.lpc_base.proofs.Bools.{first-true}
 use Rattle.lpc_message.specs.Layout.{half_at}
 use Rattle.lpc_message.specs.declared.kind.TheConstants.{CONNECTION_REQUEST}
 use Rattle.lpc_model.specs.Basics.{TakesConnect, basic}
@@ -20,6 +21,7 @@ use Rattle.lpc_ports.specs.declared.messages.Message.{Message}
 use Rattle.lpc_ports.specs.declared.messages.QueuedMessage.{QueuedMessage}
 use Rattle.lpc_slots.specs.Table.{at_key, is_key}
 use Rattle.lpc_slots.specs.declared.Key.{Key}
+use Rattle.lpc_slots.proofs.Keys.{key_is}
 use Rattle.lpc_world.specs.Clauses.{HasLeft}
 use Rattle.lpc_world.specs.Kept.{Roomy, StaysUnqueued, room_by, rows_by}
 use Rattle.lpc_world.specs.Lawful.{AreLawful, has_header}
@@ -29,7 +31,7 @@ use Rattle.lpc_homes.specs.declared.object.Object.{Object}
 use Rattle.lpc_world.proofs.Drawn as drawn
 use Rattle.lpc_world.proofs.Follows as follows
 use Rattle.lpc_world.proofs.Lawful as lawful
-use Rattle.lpc_world.proofs.Naming.{key_is, key_itself}
+use Rattle.lpc_world.proofs.Naming.{key_itself}
 use Rattle.lpc_world.proofs.OwnMessages.{left-pulled, unqueued-pulled}
 use Rattle.lpc_world.proofs.Rooms.{room}
 use Rattle.lpc_world.specs.Kept.{HandleRoom}
@@ -86,7 +88,7 @@ module _ (it : Tables) (calls made : ℕ) (is : AreLawful it calls made) (queue 
   no_connect none = first_connect ∙ ap (option_map (shown_message f)) (no_row (first in_table it.ports.messages) none)
 
   pub takes_none : ports.first_connect_in it.ports.messages queue ≡ None → rows ≡ basic rows (TakesConnect (name_of n.ports queue))
-  takes_none none = ap (λ ms. record rows { messages = ms }) (sym (lawful.without_first-none in_rows rows.messages (no_connect none)))
+  takes_none none = ap (λ ms. record rows { messages = ms }) (sym (without_first-none in_rows rows.messages (no_connect none)))
 
   -- the key that is found has a row
   key_found : (key : Key) (ms : List (Key × QueuedMessage)) → option_map (λ (row : Key × QueuedMessage). row.0) (first in_table ms) ≡ Some key → is_some (first (at_key key) ms) ≡ true
@@ -119,12 +121,8 @@ module _ (it : Tables) (calls made : ℕ) (is : AreLawful it calls made) (queue 
     shown_found (Some row) is' h =
         let same : row.1.message ≡ m = same_message row.1.message m h in
         let passes : in_table row ≡ true = first-passes in_table it.ports.messages row is' in
-        let own : row.1.queue ≡ queue = key_is row.1.queue queue (first_of (is_key row.1.queue queue) (half_at row.1.message.bytes.items 4 == CONNECTION_REQUEST) passes) in
+        let own : row.1.queue ≡ queue = key_is row.1.queue queue (first-true (is_key row.1.queue queue) (half_at row.1.message.bytes.items 4 == CONNECTION_REQUEST) passes) in
         λ i. Some (record { queue = name_of n.ports (own i); sender = name_of n.ports (same i).sender; context = (same i).context; message = message_of (same i).bytes.items })
-      where
-        first_of : (a b : Bool) → a && b ≡ true → a ≡ true
-        first_of true b h = refl
-        first_of false b h = absurd (cc)
 
     pub found : first in_rows rows.messages ≡ Some (pulled_row n queue m)
     found = first_connect ∙ shown_found (first in_table it.ports.messages) refl at

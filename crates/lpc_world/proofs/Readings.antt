@@ -5,7 +5,8 @@ use Rattle.std.proofs.lemmas.Bool.{eqb-true}
 use Rattle.lpc_base.specs.declared.birth.Birth.{Birth}
 use Rattle.lpc_base.specs.Rows.{count, every, first, has}
 use Rattle.lpc_base.proofs.RowMaps.{count-map, every-first, every-map, first-map, has-map}
-use Rattle.lpc_base.proofs.RowWords.{first-passes}
+use Rattle.lpc_base.proofs.RowWords.{every-true, first-passes}
+use Rattle.lpc_base.proofs.Births.{birth-same}
 use Rattle.lpc_handles.specs.Handles as handles
 use Rattle.lpc_handles.specs.declared.table.Row.{Row}
 use Rattle.lpc_message.specs.Layout.{half_at}
@@ -13,16 +14,16 @@ use Rattle.lpc_message.specs.declared.kind.TheConstants.{DATAGRAM}
 use Rattle.lpc_model.specs.World as model
 use Rattle.lpc_model.specs.Closings.{is_closed_post}
 use Rattle.lpc_model.specs.Found as found
-use Rattle.lpc_model.specs.Found.{is_port, is_table, port_row, same_object, wait_of, waits_as}
+use Rattle.lpc_model.specs.Found.{is_port, is_table, port_row, same_object, waits_as}
 use Rattle.lpc_model.specs.Tests.{handle_row}
 use Rattle.lpc_ports.specs.Table as ports
-use Rattle.lpc_ports.specs.Table.{PortTable, row_at}
+use Rattle.lpc_ports.specs.Table.{row_at}
 use Rattle.lpc_ports.specs.declared.Port.{Port}
 use Rattle.lpc_ports.specs.declared.messages.QueuedMessage.{QueuedMessage}
 use Rattle.lpc_slots.specs.Table.{at_key}
 use Rattle.lpc_slots.specs.declared.Key.{Key}
 use Rattle.lpc_waits.specs.Table as waits
-use Rattle.lpc_waits.specs.Table.{WaitTable, row_of}
+use Rattle.lpc_waits.specs.Table.{row_of}
 use Rattle.lpc_waits.specs.declared.Accepted.{Accepted}
 use Rattle.lpc_waits.specs.declared.Wait.{Wait}
 use Rattle.lpc_waits.specs.declared.WaitKind.{WaitKind}
@@ -37,28 +38,19 @@ use Rattle.lpc_homes.specs.declared.object.Object.{Object}
 use Rattle.lpc_homes.specs.declared.object.Object.TheVariants as object
 use Rattle.lpc_homes.specs.declared.parts.Part.{Part}
 use Rattle.lpc_world.proofs.Follows as follows
-use Rattle.lpc_world.proofs.Naming.{name_is}
 
 -- rows that are shown, whatever they are
-every_all : {X : Type 0} (xs : List X) → every (λ _. true) xs ≡ true
-every_all [] = refl
-every_all (x ∷ xs) = every_all xs
-
 module _ {X Y : Type 0} (g : X → Y) (s : X → Bool) (t : Y → Bool) (same : (x : X) → t (g x) ≡ s x) (xs : List X) where
   pub first-shown : first t (map g xs) ≡ option_map g (first s xs)
-  first-shown = first-map g (λ _. true) s t (λ x _. same x) xs (every_all xs)
+  first-shown = first-map g (λ _. true) s t (λ x _. same x) xs (every-true xs)
 
   pub has-shown : has t (map g xs) ≡ has s xs
-  has-shown = has-map g (λ _. true) s t (λ x _. same x) xs (every_all xs)
+  has-shown = has-map g (λ _. true) s t (λ x _. same x) xs (every-true xs)
 
   pub count-shown : count t (map g xs) ≡ count s xs
-  count-shown = count-map g (λ _. true) s t (λ x _. same x) xs (every_all xs)
+  count-shown = count-map g (λ _. true) s t (λ x _. same x) xs (every-true xs)
 
 -- an optional value, and what a field of it is
-pub some_of : {X Y : Type 0} (g : X → Y) (o : Option X) → is_some (option_map g o) ≡ is_some o
-some_of g None = refl
-some_of g (Some x) = refl
-
 pub record Holds {X Y : Type 0} (g : X → Y) (o : Option X) (y : Y) : Type 0 where
   pub row : X
   pub found : o ≡ Some row
@@ -138,7 +130,7 @@ module _ (it : Tables) (is : AreNamed (births_of it.ports) it) where
       record {
         found = found ∙ ap Some (sym (ap port_in found));
         port_is = ap port_in found;
-        own = name_is row.birth (name_of n.ports key) (first-passes (is_port (name_of n.ports key)) rows.ports (shown_port f (key, row)) found);
+        own = birth-same row.birth (name_of n.ports key) (first-passes (is_port (name_of n.ports key)) rows.ports (shown_port f (key, row)) found);
         pair = both.0;
         connection = both.1;
       }

@@ -4,7 +4,7 @@ use Rattle.std.specs.Prelude.{◌||◌, ◌==◌}
 use Rattle.std.proofs.lemmas.Bool.{eqb-true}
 use Rattle.std.proofs.lemmas.List.{length-append, length-map, map-append}
 use Rattle.lpc_base.specs.Rows.{change, count, each, every, has, when, without}
-use Rattle.lpc_base.proofs.RowWords.{count-bound, every-more}
+use Rattle.lpc_base.proofs.RowWords.{count-append, count-bound, every-more}
 use Rattle.lpc_model.specs.Deaths.{has_living_registrations}
 use Rattle.lpc_model.specs.World.{Birth, ThreadRow}
 use Rattle.lpc_model.specs.Found.{is_thread, registered_by, same_birth}
@@ -14,10 +14,10 @@ use Rattle.lpc_procs.specs.declared.rows.ThreadRow as procs
 use Rattle.lpc_procs.specs.declared.rows.Registration.{Registration}
 use Rattle.lpc_slots.specs.Table.{is_key}
 use Rattle.lpc_slots.specs.declared.Key.{Key}
+use Rattle.lpc_slots.proofs.Keys.{key_is}
 use Rattle.lpc_world.specs.Lawful.{has_named_ports, is_under_name}
 use Rattle.lpc_world.specs.Names.{KeepsNames, KeepsOthers, name_of}
 use Rattle.lpc_world.specs.Shown.{Births, shown_thread}
-use Rattle.lpc_world.proofs.Naming.{key_is}
 
 abbrev pub registrations : ThreadRow → List Birth
 registrations t = t.registrations
@@ -93,10 +93,6 @@ registered-live (t ∷ ts) all =
     at true bs living = refl
     at false bs living = none-registered bs living
 
-count-parts : {X : Type 0} (p : X → Bool) (xs ys : List X) → count p (xs ++ ys) ≡ count p xs + count p ys
-count-parts p [] ys = omega arith
-count-parts p (x ∷ xs) ys = grind (arith, count-parts p xs ys)
-
 -- the registrations of live threads are no more than all
 pub live-few : (p : Birth → Bool) (ts : List ThreadRow) → count p (each registered_by ts) ≤ length (each registrations ts)
 live-few p [] = omega arith
@@ -107,7 +103,7 @@ live-few p (t ∷ ts) =
   where
     at : (live : Bool) → t.live ≡ live → count p (each registered_by ts) ≤ length (each registrations ts) → length (t.registrations ++ each registrations ts) ≡ length t.registrations + length (each registrations ts)
         → count p (each registered_by (t ∷ ts)) ≤ length (each registrations (t ∷ ts))
-    at true is rest long = rw is (omega (arith, rest, long, count-parts p t.registrations (each registered_by ts), count-bound p t.registrations))
+    at true is rest long = rw is (omega (arith, rest, long, count-append p t.registrations (each registered_by ts), count-bound p t.registrations))
     at false is rest long = rw is (omega (arith, rest, long))
 
 -- The table's registrations are those of the definitions
@@ -130,8 +126,8 @@ registered-names b (t ∷ ts) = has-append (same_birth b) (shown_thread t).regis
 pub live-counted : (b : Birth) (ts : List procs.ThreadRow) → count (same_birth b) (each registered_by (map shown_thread ts)) ≡ count (is_of_birth b) (live_registrations ts)
 live-counted b [] = refl
 live-counted b (t ∷ ts) =
-    count-parts (same_birth b) (registered_by (shown_thread t)) (each registered_by (map shown_thread ts))
-    ∙ grind (arith, one t.live t.registered.items, live-counted b ts, count-parts (is_of_birth b) (registered_live t) (live_registrations ts))
+    count-append (same_birth b) (registered_by (shown_thread t)) (each registered_by (map shown_thread ts))
+    ∙ grind (arith, one t.live t.registered.items, live-counted b ts, count-append (is_of_birth b) (registered_live t) (live_registrations ts))
   where
     many : (rs : List Registration) → count (same_birth b) (map (λ (r : Registration). r.birth) rs) ≡ count (is_of_birth b) rs
     many [] = refl

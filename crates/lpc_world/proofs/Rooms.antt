@@ -5,6 +5,7 @@ use Rattle.lpc_base.specs.declared.birth.Birth.{Birth}
 use Rattle.lpc_base.specs.Rows.{count, each, first, has, without, without_first}
 use Rattle.lpc_base.proofs.Differ.{length-ended}
 use Rattle.lpc_base.proofs.RowWords.{count-push}
+use Rattle.lpc_base.proofs.Bools.{at-most-one}
 use Rattle.lpc_model.specs.World.{World, MessageRow, PortRow, ThreadRow, WaitRow}
 use Rattle.lpc_model.specs.Closings.{is_closed_post}
 use Rattle.lpc_model.specs.Found.{is_queued, waits_as}
@@ -25,10 +26,6 @@ room processes threads waits messages ports names w handles = record {
   names = names;
   handles = handles;
 }
-
-at_most_one : (q : Bool) → cond q 1 0 ≤ 1
-at_most_one true = omega arith
-at_most_one false = omega arith
 
 -- a room for handles more, behind the others
 pub handles_more : (rooms : List HandleRoom) (r : HandleRoom) (pid : ℕ) → room_in (first (is_room pid) rooms) ≤ room_in (first (is_room pid) (rooms ++ r ∷ []))
@@ -61,7 +58,7 @@ module _ (a b c d e g : ℕ) (w : World) (hs : List HandleRoom) where
 
   pub room_thread : (v : World) (t : ThreadRow) → t.registrations ≡ [] → v.threads ≡ w.threads ++ t ∷ [] → v.waits ≡ w.waits → v.messages ≡ w.messages → v.ports ≡ w.ports
       → let after = room a (b - 1) c d e g v hs in Roomy (room a b c d e g w hs) (record after { threads = after.threads + 1; waits = after.waits + 1; messages = after.messages + 1 })
-  room_thread v t none ts ws ms ps = rw (ts, ws, ms, ps) (let more = count-push is_alive w.threads t in let one = at_most_one (is_alive t) in let owed = ap length (registered-push w.threads t none) in record {
+  room_thread v t none ts ws ms ps = rw (ts, ws, ms, ps) (let more = count-push is_alive w.threads t in let one = at-most-one (is_alive t) in let owed = ap length (registered-push w.threads t none) in record {
     for_processes = omega arith;
     for_threads = omega arith;
     for_waits = omega (arith, more, one);

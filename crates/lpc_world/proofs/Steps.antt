@@ -26,6 +26,7 @@ use Rattle.lpc_procs.specs.declared.rows.ProcessRow.{ProcessRow}
 use Rattle.lpc_procs.specs.declared.rows.ThreadRow.{ThreadRow}
 use Rattle.lpc_slots.specs.Table.{at_key}
 use Rattle.lpc_slots.specs.declared.Key.{Key}
+use Rattle.lpc_slots.proofs.Keys.{key_is}
 use Rattle.lpc_waits.specs.Table as waits
 use Rattle.lpc_waits.specs.Table.{WaitTable}
 use Rattle.lpc_waits.specs.declared.Wait.{Wait}
@@ -45,7 +46,7 @@ use Rattle.lpc_world.proofs.Drawn as drawn
 use Rattle.lpc_world.proofs.Follows.{first_queued}
 use Rattle.lpc_world.proofs.Lawful as lawful
 use Rattle.lpc_world.proofs.Makes as makes
-use Rattle.lpc_world.proofs.Naming.{key_is, key_itself}
+use Rattle.lpc_world.proofs.Naming.{key_itself}
 use Rattle.lpc_world.proofs.Owed as owed
 use Rattle.lpc_world.proofs.Promised as promised
 use Rattle.lpc_world.proofs.Promised.{IsWelcome}

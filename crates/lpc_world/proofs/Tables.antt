@@ -4,10 +4,10 @@ use Rattle.std.specs.Prelude.{Result, Ok, Err, IfOk, OnErr, OnOk, is_some, nat_l
 use Rattle.std.proofs.lemmas.Bool.{eqb-true}
 use Rattle.std.proofs.lemmas.List.{length-map}
 use Rattle.lpc_base.specs.Places.{least_handle}
-use Rattle.lpc_base.specs.Rows.{change, count, every, first, has}
+use Rattle.lpc_base.specs.Rows.{change, count, first, has}
 use Rattle.std.proofs.lemmas.Bool.Decides.{nat_tests}
 use Rattle.lpc_base.proofs.RowMaps.{count-map, every-first, first-map, has-map}
-use Rattle.lpc_base.proofs.RowWords.{first-passes}
+use Rattle.lpc_base.proofs.RowWords.{every-true, first-passes}
 use Rattle.lpc_handles.specs.Handles.{values}
 use Rattle.lpc_handles.specs.declared.table.Row.{Row}
 use Rattle.lpc_handles.specs.declared.table.TableFault.{TableFault}
@@ -36,13 +36,9 @@ use Rattle.lpc_world.proofs.Owed as owed
 use Rattle.lpc_world.proofs.Promised.{IsWelcome}
 use Rattle.lpc_world.proofs.Steps as steps
 
-all_true : {X : Type 0} (xs : List X) → every (λ _. true) xs ≡ true
-all_true [] = refl
-all_true (x ∷ xs) = grind (arith, all_true xs)
-
 -- the room for handles of a process
 pub room_at : (parts : List Part) (pid : ℕ) → kept.room_in (first (is_room pid) (map room_of_part parts)) ≡ spare_at parts pid
-room_at parts pid = ap kept.room_in (first-map room_of_part (λ _. true) (is_part pid) (is_room pid) (λ part _. refl) parts (all_true parts)) ∙ spared (first (is_part pid) parts)
+room_at parts pid = ap kept.room_in (first-map room_of_part (λ _. true) (is_part pid) (is_room pid) (λ part _. refl) parts (every-true parts)) ∙ spared (first (is_part pid) parts)
   where
     spared : (o : Option Part) → kept.room_in (option_map room_of_part o) ≡ spare_in o
     spared None = refl
@@ -53,10 +49,10 @@ module _ (it : Tables) (calls made : ℕ) (is : AreLawful it calls made) where
   rows = rows_by it
 
   pub has_table : (pid : ℕ) → has (is_table pid) rows.handles ≡ has (is_part pid) it.parts
-  has_table pid = has-map (shown_part (birth_of (births_of it.ports))) (λ _. true) (is_part pid) (is_table pid) (λ part _. refl) it.parts (all_true it.parts)
+  has_table pid = has-map (shown_part (birth_of (births_of it.ports))) (λ _. true) (is_part pid) (is_table pid) (λ part _. refl) it.parts (every-true it.parts)
 
   first_table : (pid : ℕ) → first (is_table pid) rows.handles ≡ option_map (shown_part (birth_of (births_of it.ports))) (first (is_part pid) it.parts)
-  first_table pid = first-map (shown_part (birth_of (births_of it.ports))) (λ _. true) (is_part pid) (is_table pid) (λ part _. refl) it.parts (all_true it.parts)
+  first_table pid = first-map (shown_part (birth_of (births_of it.ports))) (λ _. true) (is_part pid) (is_table pid) (λ part _. refl) it.parts (every-true it.parts)
 
   pub handles_shown : (pid : ℕ) → handles_of rows pid ≡ map (shown_handle (birth_of (births_of it.ports))) (rows_at it.parts pid)
   handles_shown pid = ap found.rows_in (first_table pid) ∙ shown (first (is_part pid) it.parts)
@@ -79,7 +75,7 @@ module _ (it : Tables) (calls made : ℕ) (is : AreLawful it calls made) where
   single_by : (ps : List Part) → are_single_tables (map (shown_part (birth_of (births_of it.ports))) ps) ≡ true → are_single_parts ps ≡ true
   single_by [] one = refl
   single_by (part ∷ ps) one =
-      let same : has (is_table part.process) (map (shown_part (birth_of (births_of it.ports))) ps) ≡ has (is_part part.process) ps = has-map (shown_part (birth_of (births_of it.ports))) (λ _. true) (is_part part.process) (is_table part.process) (λ q _. refl) ps (all_true ps) in
+      let same : has (is_table part.process) (map (shown_part (birth_of (births_of it.ports))) ps) ≡ has (is_part part.process) ps = has-map (shown_part (birth_of (births_of it.ports))) (λ _. true) (is_part part.process) (is_table part.process) (λ q _. refl) ps (every-true ps) in
       grind (arith, same, single_by ps)
 
   pub single : are_single_parts it.parts ≡ true
@@ -160,7 +156,7 @@ module _ (it : Tables) (calls made : ℕ) (is : AreLawful it calls made) where
   connect_same row = connect_is row.wait.kind row.message.items row.accepted
 
   pub promised_are : (pid : ℕ) → kept.owed_handles rows pid ≡ count (waits.is_connect_of pid) it.waits.rows
-  promised_are pid = count-map (shown_wait (birth_of (births_of it.ports))) (λ _. true) (waits.is_connect_of pid) (is_connect_of pid) (λ row _. ap (λ b. b && (row.wait.process == pid)) (connect_same row)) it.waits.rows (all_true it.waits.rows)
+  promised_are pid = count-map (shown_wait (birth_of (births_of it.ports))) (λ _. true) (waits.is_connect_of pid) (is_connect_of pid) (λ row _. ap (λ b. b && (row.wait.process == pid)) (connect_same row)) it.waits.rows (every-true it.waits.rows)
 
   pub load_bound : (pid : ℕ) → has (is_table pid) rows.handles ≡ true → handle_load rows pid ≤ 256
   load_bound pid there = by_first (first (is_table pid) rows.handles) refl

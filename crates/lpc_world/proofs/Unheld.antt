@@ -17,6 +17,7 @@ use Rattle.lpc_ports.specs.declared.Port.{Port}
 use Rattle.lpc_ports.specs.declared.messages.QueuedMessage.{QueuedMessage}
 use Rattle.lpc_slots.specs.Table.{is_key}
 use Rattle.lpc_slots.specs.declared.Key.{Key}
+use Rattle.lpc_slots.proofs.Keys.{key_turned}
 use Rattle.lpc_waits.specs.Table as waits
 use Rattle.lpc_waits.specs.declared.WaitRow.{WaitRow}
 use Rattle.lpc_world.specs.Names.{name_of, stands}
@@ -25,7 +26,6 @@ use Rattle.lpc_world.specs.Shown.{Tables, AllPass, AreNamed, Births, all_pass, b
 use Rattle.lpc_homes.specs.declared.object.Object.{Object}
 use Rattle.lpc_homes.specs.declared.object.Object.TheVariants as object
 use Rattle.lpc_world.proofs.Follows as follows
-use Rattle.lpc_world.proofs.Naming.{key_turned}
 use Rattle.lpc_world.proofs.Readings as readings
 
 -- a row of the tables names the port
@@ -91,10 +91,6 @@ module _ (it : Tables) (is : AreNamed (births_of it.ports) it) (key : Key) (ther
 
   pub has_row : IsSome (ports.row_at it.ports.ports key)
   has_row = some (ports.row_at it.ports.ports key) (readings.there it is key there)
-
-pub both_off : (a r : Bool) → (a || r) ≡ false → (a ≡ false) × (r ≡ false)
-both_off true r off = absurd (cc)
-both_off false r off = (refl, off)
 
 -- Where no row names the port, each object that a row names is another
 abbrev pub is_other : Key → Object → Bool

@@ -4,10 +4,9 @@ use Rattle.lpc_model.specs.World.{World}
 use Rattle.lpc_world.specs.Clauses.{name_at}
 use Rattle.lpc_world.specs.Does.{Left}
 use Rattle.lpc_world.specs.Kept.{owed_rows}
-use Rattle.lpc_steps.proofs.Composed.{took-then}
+use Rattle.lpc_steps.proofs.Composed.{took-one, took-then}
 use Rattle.lpc_death.specs.Closing.{closes_last}
 use Rattle.lpc_death.proofs.Paid.{close-pays}
-use Rattle.lpc_death.proofs.Steps.{took-one}
 use Rattle.lpc_death.proofs.close.close_handle.Goals as goal
 
 pub returns-clause-takes : goal.returns-clause-takes

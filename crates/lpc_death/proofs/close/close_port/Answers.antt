@@ -6,11 +6,10 @@ use Rattle.lpc_steps.specs.Closing.{end_all}
 use Rattle.lpc_world.specs.Does.{Left}
 use Rattle.lpc_world.specs.Names.{name_of}
 use Rattle.lpc_world.specs.declared.ending.Ending.TheVariants.{Receives, Requests}
-use Rattle.lpc_steps.proofs.Composed.{took-then}
+use Rattle.lpc_steps.proofs.Composed.{took-one, took-then}
 use Rattle.lpc_death.proofs.Five.{five-is}
 use Rattle.lpc_death.proofs.HandlesKept.{handles-kept}
 use Rattle.lpc_death.proofs.Paid.{five-clients}
-use Rattle.lpc_death.proofs.Steps.{took-one}
 use Rattle.lpc_death.proofs.FreshClosings.{five-untold}
 use Rattle.lpc_death.proofs.close.close_port.Goals as goal
 

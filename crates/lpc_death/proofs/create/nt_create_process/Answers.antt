@@ -2,6 +2,7 @@ use Rattle.std.proofs.Common.{◌≡◌, ◌∙◌, ◌+◌, ◌≤◌, [], ◌�
 use Rattle.std.proofs.lemmas.Bool.Decides.{nat_tests}
 use Rattle.lpc_base.specs.Rows.{has}
 use Rattle.lpc_base.proofs.RowWords.{has-change, has-kept, has-push}
+use Rattle.lpc_base.proofs.Bools.{same-number}
 use Rattle.lpc_model.specs.Basics.{AddsProcess, AddsThread, DrawsOrdinal, basic, no_handles}
 use Rattle.lpc_model.specs.Creation.{new_process, new_thread, second_birth}
 use Rattle.lpc_model.specs.Found.{free_handle, is_process, is_table, is_thread, process_name, thread_name}
@@ -14,7 +15,7 @@ use Rattle.lpc_model.specs.declared.entry.CallName.TheVariants.{NtCreateProcess}
 use Rattle.lpc_model.specs.declared.entry.Entry.TheVariants.{Answer}
 use Rattle.lpc_model.specs.Fields.{first_thread, h}
 use Rattle.lpc_model.specs.Creation.{gives_life}
-use Rattle.lpc_death.proofs.Makes.{begins, drawn-later, drawn-stands, load-same, first-birth, load-more, next-birth, self, two-handles, booted_by, alike, given-alike, served-made}
+use Rattle.lpc_death.proofs.Makes.{begins, drawn-later, drawn-stands, load-same, first-birth, load-more, next-birth, two-handles, booted_by, alike, given-alike, served-made}
 use Rattle.lpc_death.proofs.create.nt_create_process.Goals as goal
 
 pub procs_draw_birth-thread-requires-clause-stands : goal.procs_draw_birth-thread-requires-clause-stands
@@ -99,7 +100,7 @@ returns-clause-serves c =
     let process : pid ≡ by.process = ap (λ (t : ThreadRow). t.process) is in
     let row : thread_row w tid ≡ Some by = subst (λ n. thread_row w n ≡ Some by) number (c.caller-caller.ensures.found ∙ ap (λ t. Some t) is) in
     let one = first-birth w tid by c.procs_draw_birth-process.result row (rw rows at c.procs_draw_birth-process.ensures.birth) in
-    let two = next-birth w tid by c.procs_draw_birth-thread.result row (rw own (self tid)) (subst (λ v. birth_next v tid ≡ Some c.procs_draw_birth-thread.result) (c.procs_draw_birth-process.ensures.step.rows ∙ ap (λ v. basic v (DrawsOrdinal tid)) rows) c.procs_draw_birth-thread.ensures.birth) in
+    let two = next-birth w tid by c.procs_draw_birth-thread.result row (rw own (same-number tid)) (subst (λ v. birth_next v tid ≡ Some c.procs_draw_birth-thread.result) (c.procs_draw_birth-process.ensures.step.rows ∙ ap (λ v. basic v (DrawsOrdinal tid)) rows) c.procs_draw_birth-thread.ensures.birth) in
     let u1 = c.procs_draw_birth-process.ensures.step.rows ∙ ap (λ v. basic v (DrawsOrdinal tid)) rows in
     let u2 = c.procs_draw_birth-thread.ensures.step.rows ∙ ap (λ v. basic v (DrawsOrdinal tid)) u1 in
     let u3 = c.procs_add_process.ensures.rows ∙ ap (λ v. basic v (AddsProcess (new_process c.args.pid (Some pid) c.procs_draw_birth-process.result))) u2 in

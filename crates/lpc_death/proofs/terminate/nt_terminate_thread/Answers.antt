@@ -2,10 +2,11 @@ use Rattle.std.proofs.Common.{◌≡◌, ◌∙◌, [], ◌∷◌, ap, subst, sy
 use Rattle.std.specs.Prelude.{◌==◌, Ok, Err}
 use Rattle.lpc_model.specs.Death.{code_status, end_threads}
 use Rattle.lpc_model.specs.World.{ThreadRow, World}
+use Rattle.lpc_model.proofs.Usable.{live-number}
 use Rattle.lpc_world.specs.Does.{Took}
 use Rattle.lpc_world.specs.Ready.{caller}
 use Rattle.lpc_death.specs.Ends.{living_thread}
-use Rattle.lpc_death.proofs.OwnEnds.{own-number, served-thread, served-thread-refused}
+use Rattle.lpc_death.proofs.OwnEnds.{served-thread, served-thread-refused}
 use Rattle.lpc_death.proofs.terminate.nt_terminate_thread.Goals as goal
 
 pub returns-in-Ok-clause-served : goal.returns-in-Ok-clause-served
@@ -22,7 +23,7 @@ returns-in-Ok-clause-served c =
     let number = ap (λ (x : ThreadRow). x.number) c.caller-caller.ensures.row in
     let found = subst (λ (w : World). living_thread w (caller w c.args.by) c.args.target ≡ Ok t) rows c.in-Ok.ensures.thread in
     let by = caller old.rows c.args.by in
-    let own_is = ap (λ m. m == by.number) (sym (own-number mid.rows n t c.in-Ok.ensures.live)) in
+    let own_is = ap (λ m. m == by.number) (sym (live-number mid.rows n t c.in-Ok.ensures.live)) in
     let ends = rw number at c.answer_unless-outcome.ensures.outcome in
     let took = subst (λ p. Took (end_threads p (code_status c.args.code) (t ∷ []) mid.rows) mid new between after) (sym c.in-Ok.ensures.shown) c.end_thread.ensures.took in
     let list = rw number at c.answer_unless-outcome.ensures.list in

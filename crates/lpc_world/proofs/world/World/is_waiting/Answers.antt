@@ -1,5 +1,6 @@
 use Rattle.std.proofs.Common.{ap, sym, ◌∙◌}
 use Rattle.std.specs.Prelude.{is_some, option_copied}
+use Rattle.lpc_base.proofs.RowMaps.{some-map}
 use Rattle.lpc_waits.specs.Table.{row_of}
 use Rattle.lpc_waits.specs.declared.WaitRow.{WaitRow}
 use Rattle.lpc_world.specs.Kept.{rows_by}
@@ -10,7 +11,7 @@ use Rattle.lpc_world.proofs.world.World.is_waiting.Goals as goal
 
 pub returns-in-Some-clause-waits : goal.returns-in-Some-clause-waits
 returns-in-Some-clause-waits c =
-    rw (← c.self.view_is) (sym (readings.waits_are (tables_of c.self.inside.procs c.self.inside.parts.items c.self.inside.ports c.self.inside.waits c.self.inside.names) c.self.invariant.named c.args.tid ∙ sym (readings.some_of (λ (r : WaitRow). r.wait) (row_of c.self.inside.waits c.args.tid)) ∙ sym (ap is_some c.of.ensures.value) ∙ ap (λ o. is_some (option_copied o)) c.in-Some.is))
+    rw (← c.self.view_is) (sym (readings.waits_are (tables_of c.self.inside.procs c.self.inside.parts.items c.self.inside.ports c.self.inside.waits c.self.inside.names) c.self.invariant.named c.args.tid ∙ sym (some-map (λ (r : WaitRow). r.wait) (row_of c.self.inside.waits c.args.tid)) ∙ sym (ap is_some c.of.ensures.value) ∙ ap (λ o. is_some (option_copied o)) c.in-Some.is))
 
 pub returns-in-Some-clause-single : goal.returns-in-Some-clause-single
 returns-in-Some-clause-single c =
@@ -18,7 +19,7 @@ returns-in-Some-clause-single c =
 
 pub returns-in-None-clause-waits : goal.returns-in-None-clause-waits
 returns-in-None-clause-waits c =
-    rw (← c.self.view_is) (sym (readings.waits_are (tables_of c.self.inside.procs c.self.inside.parts.items c.self.inside.ports c.self.inside.waits c.self.inside.names) c.self.invariant.named c.args.tid ∙ sym (readings.some_of (λ (r : WaitRow). r.wait) (row_of c.self.inside.waits c.args.tid)) ∙ sym (ap is_some c.of.ensures.value) ∙ ap (λ o. is_some (option_copied o)) c.in-None.is))
+    rw (← c.self.view_is) (sym (readings.waits_are (tables_of c.self.inside.procs c.self.inside.parts.items c.self.inside.ports c.self.inside.waits c.self.inside.names) c.self.invariant.named c.args.tid ∙ sym (some-map (λ (r : WaitRow). r.wait) (row_of c.self.inside.waits c.args.tid)) ∙ sym (ap is_some c.of.ensures.value) ∙ ap (λ o. is_some (option_copied o)) c.in-None.is))
 
 pub returns-in-None-clause-single : goal.returns-in-None-clause-single
 returns-in-None-clause-single c =

@@ -1,5 +1,6 @@
 use Rattle.std.proofs.Common.{arith}
 use Rattle.std.proofs.Common.{◌+◌, sym, ap, ◌∙◌}
+use Rattle.std.proofs.lemmas.Bool.{or_parts}
 use Rattle.lpc_model.specs.Found.{is_port}
 use Rattle.lpc_model.specs.World.{World}
 use Rattle.lpc_world.specs.Kept.{rows_by}
@@ -12,21 +13,21 @@ use Rattle.lpc_world.proofs.world.World.ports_free.Goals as goal
 pub free-requires : goal.free-requires
 free-requires c =
     let h = rw (← c.self.view_is) at c.requires in
-    let off = unheld.both_off _ _ h.free in
+    let off = or_parts _ _ h.free in
     let none = sym (unheld.held_is (tables_of c.self.inside.procs c.self.inside.parts.items c.self.inside.ports c.self.inside.waits c.self.inside.names) c.self.invariant.named c.args.port h.stands) ∙ off.0 in
     record { «open» = unheld.has_row (tables_of c.self.inside.procs c.self.inside.parts.items c.self.inside.ports c.self.inside.waits c.self.inside.names) c.self.invariant.named c.args.port h.stands; empty = unheld.empty_queue c.args.port (tables_of c.self.inside.procs c.self.inside.parts.items c.self.inside.ports c.self.inside.waits c.self.inside.names) none }
 
 pub invariant_of-self : goal.invariant_of-self
 invariant_of-self c =
     let h = rw (← c.self.view_is) at c.requires in
-    let off = unheld.both_off _ _ h.free in
+    let off = or_parts _ _ h.free in
     let none = sym (unheld.held_is (tables_of c.self.inside.procs c.self.inside.parts.items c.self.inside.ports c.self.inside.waits c.self.inside.names) c.self.invariant.named c.args.port h.stands) ∙ off.0 in
     rw c.free.ensures.table (frees.freed_lawful (tables_of c.self.inside.procs c.self.inside.parts.items c.self.inside.ports c.self.inside.waits c.self.inside.names) c.self.inside.calls c.self.inside.made c.args.port (c.self.inside.ports.port_room + 1) c.self.invariant h.stands none (frees.none_sent (rows_by (tables_of c.self.inside.procs c.self.inside.parts.items c.self.inside.ports c.self.inside.waits c.self.inside.names)) (name_of (births_of c.self.inside.ports).ports c.args.port) h.free) off.1)
 
 pub returns-clause-rows : goal.returns-clause-rows
 returns-clause-rows c =
     let h = rw (← c.self.view_is) at c.requires in
-    let off = unheld.both_off _ _ h.free in
+    let off = or_parts _ _ h.free in
     let none = sym (unheld.held_is (tables_of c.self.inside.procs c.self.inside.parts.items c.self.inside.ports c.self.inside.waits c.self.inside.names) c.self.invariant.named c.args.port h.stands) ∙ off.0 in
     rw (← c.self.view_is, c.free.ensures.table) (frees.frees (tables_of c.self.inside.procs c.self.inside.parts.items c.self.inside.ports c.self.inside.waits c.self.inside.names) c.self.invariant.named c.args.port (c.self.inside.ports.port_room + 1) none h.stands)
 
@@ -36,7 +37,7 @@ returns-clause-others c = rw (← c.self.view_is, c.free.ensures.table) (frees.k
 pub returns-clause-room : goal.returns-clause-room
 returns-clause-room c =
     let h = rw (← c.self.view_is) at c.requires in
-    let off = unheld.both_off _ _ h.free in
+    let off = or_parts _ _ h.free in
     let none = sym (unheld.held_is (tables_of c.self.inside.procs c.self.inside.parts.items c.self.inside.ports c.self.inside.waits c.self.inside.names) c.self.invariant.named c.args.port h.stands) ∙ off.0 in
     let freed = frees.frees (tables_of c.self.inside.procs c.self.inside.parts.items c.self.inside.ports c.self.inside.waits c.self.inside.names) c.self.invariant.named c.args.port (c.self.inside.ports.port_room + 1) none h.stands in
     rw (← c.self.view_is, c.free.ensures.table, ap (λ (v : World). v.waits) freed, ap (λ (v : World). v.messages) freed, ap (λ (v : World). v.ports) freed) (frees.room_freed _ _ _ _ _ _ (rows_by (tables_of c.self.inside.procs c.self.inside.parts.items c.self.inside.ports c.self.inside.waits c.self.inside.names)) _ (is_port (name_of (births_of c.self.inside.ports).ports c.args.port)))
@@ -44,7 +45,7 @@ returns-clause-room c =
 pub returns-clause-made : goal.returns-clause-made
 returns-clause-made c =
     let h = rw (← c.self.view_is) at c.requires in
-    let off = unheld.both_off _ _ h.free in
+    let off = or_parts _ _ h.free in
     let none = sym (unheld.held_is (tables_of c.self.inside.procs c.self.inside.parts.items c.self.inside.ports c.self.inside.waits c.self.inside.names) c.self.invariant.named c.args.port h.stands) ∙ off.0 in
     let owed = frees.freed_owed (tables_of c.self.inside.procs c.self.inside.parts.items c.self.inside.ports c.self.inside.waits c.self.inside.names) c.self.invariant.named c.args.port (c.self.inside.ports.port_room + 1) none h.stands in
     rw (← c.self.view_is, c.free.ensures.table) (omega (arith, owed))

@@ -1,11 +1,11 @@
 use Rattle.std.proofs.Common.{rules, refl, ◌+◌, sym, ap}
+use Rattle.lpc_base.proofs.RowWords.{without_first-none}
 use Rattle.lpc_model.specs.Found.{is_queued}
 use Rattle.lpc_model.specs.World.{World}
 use Rattle.lpc_world.specs.Kept.{rows_by}
 use Rattle.lpc_world.specs.Names.{name_of}
 use Rattle.lpc_world.specs.Shown.{births_of, pulled_row, tables_of}
 use Rattle.lpc_world.proofs.Changes as changes
-use Rattle.lpc_world.proofs.Lawful as lawful
 use Rattle.lpc_world.proofs.OwnMessages.{left-pulled, unqueued-pulled}
 use Rattle.lpc_world.proofs.Rooms as rooms
 use Rattle.lpc_world.proofs.Steps as steps
@@ -54,7 +54,7 @@ pub returns-in_err-message-clause-step : goal.returns-in_err-message-clause-step
 returns-in_err-message-clause-step c = record {
   rows = let there = rw (← c.self.view_is) at c.requires in
       let none = steps.none_queued (tables_of c.self.inside.procs c.self.inside.parts.items c.self.inside.ports c.self.inside.waits c.self.inside.names) c.self.inside.calls c.self.inside.made c.self.invariant c.args.queue there (sym c.in_err-message.ensures) in
-      rw (← c.self.view_is) (ap (λ ms. record (rows_by (tables_of c.self.inside.procs c.self.inside.parts.items c.self.inside.ports c.self.inside.waits c.self.inside.names)) { messages = ms }) (sym (lawful.without_first-none _ _ none)));
+      rw (← c.self.view_is) (ap (λ ms. record (rows_by (tables_of c.self.inside.procs c.self.inside.parts.items c.self.inside.ports c.self.inside.waits c.self.inside.names)) { messages = ms }) (sym (without_first-none _ _ none)));
   births = rw (← c.self.view_is) refl;
   calls = rw (← c.self.view_is) refl;
   made = rw (← c.self.view_is) refl;

@@ -2,10 +2,11 @@ use Rattle.std.proofs.Common.{ap, refl, length, arith}
 use Rattle.lpc_model.specs.World.{World}
 use Rattle.lpc_world.specs.Kept.{registered_ports, rows_by}
 use Rattle.lpc_world.specs.Shown.{tables_of}
-use Rattle.lpc_world.proofs.Dying.{fewer-registered, kept-alive}
+use Rattle.lpc_world.proofs.Dying.{fewer-registered}
 use Rattle.lpc_world.proofs.Enrolling as enrolling
 use Rattle.lpc_model.specs.Basics.{unregistering}
 use Rattle.lpc_world.proofs.world.World.procs_unregister.Goals as goal
+use Rattle.lpc_world.proofs.Lawful.{alive-change}
 
 pub unregister-requires : goal.unregister-requires
 unregister-requires c =
@@ -41,6 +42,6 @@ pub returns-clause-place : goal.returns-clause-place
 returns-clause-place c =
     let there = rw (← c.self.view_is) at c.requires.registered in
     let less = fewer-registered c.args.tid c.args.birth (rows_by (tables_of c.self.inside.procs c.self.inside.parts.items c.self.inside.ports c.self.inside.waits c.self.inside.names)) there in
-    let alive = kept-alive (unregistering c.args.birth) (λ t. refl) c.args.tid (rows_by (tables_of c.self.inside.procs c.self.inside.parts.items c.self.inside.ports c.self.inside.waits c.self.inside.names)).threads in
+    let alive = alive-change (unregistering c.args.birth) (λ t. refl) c.args.tid (rows_by (tables_of c.self.inside.procs c.self.inside.parts.items c.self.inside.ports c.self.inside.waits c.self.inside.names)).threads in
     let fit = c.self.invariant.lawful.messages_fit in
     rw (c.unregister.ensures.table, ap (λ (v : World). v.threads) (enrolling.unregisters (tables_of c.self.inside.procs c.self.inside.parts.items c.self.inside.ports c.self.inside.waits c.self.inside.names) c.self.inside.calls c.self.inside.made c.self.invariant c.args.tid c.args.birth)) (omega (arith, less, alive, fit))

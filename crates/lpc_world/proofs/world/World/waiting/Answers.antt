@@ -1,5 +1,6 @@
 use Rattle.std.proofs.Common.{◌≡◌, ◌-◌, true, false, ap, sym, ◌∙◌, vec_len, vec_capacity}
 use Rattle.std.specs.Prelude.{is_some, option_copied}
+use Rattle.lpc_base.proofs.RowMaps.{some-map}
 use Rattle.lpc_waits.specs.Table.{row_of}
 use Rattle.lpc_waits.specs.declared.WaitRow.{WaitRow}
 use Rattle.lpc_world.specs.Shown.{tables_of}
@@ -9,7 +10,7 @@ use Rattle.lpc_world.proofs.world.World.waiting.Goals as goal
 pub unreachable-requires : goal.unreachable-requires
 unreachable-requires c =
     let there = rw (← c.self.view_is) at c.requires in
-    let none : is_some (row_of c.self.inside.waits c.args.tid) ≡ false = sym (readings.some_of (λ (r : WaitRow). r.wait) (row_of c.self.inside.waits c.args.tid)) ∙ sym (ap is_some c.of.ensures.value) ∙ ap (λ o. is_some (option_copied o)) c.in-None.is in
+    let none : is_some (row_of c.self.inside.waits c.args.tid) ≡ false = sym (some-map (λ (r : WaitRow). r.wait) (row_of c.self.inside.waits c.args.tid)) ∙ sym (ap is_some c.of.ensures.value) ∙ ap (λ o. is_some (option_copied o)) c.in-None.is in
     let some : is_some (row_of c.self.inside.waits c.args.tid) ≡ true = sym (readings.waits_are (tables_of c.self.inside.procs c.self.inside.parts.items c.self.inside.ports c.self.inside.waits c.self.inside.names) c.self.invariant.named c.args.tid) ∙ there in
     absurd (cc)
 

@@ -14,6 +14,7 @@ use Rattle.lpc_world.proofs.Readings as readings
 use Rattle.lpc_world.proofs.Rooms as rooms
 use Rattle.lpc_world.proofs.Steps as steps
 use Rattle.lpc_base.proofs.RowWords.{has_none-without}
+use Rattle.lpc_base.proofs.RowMaps.{some-map}
 use Rattle.lpc_world.proofs.world.World.waits_end.Goals as goal
 
 pub invariant_of-self : goal.invariant_of-self
@@ -27,7 +28,7 @@ returns-clause-still c =
 
 pub returns-clause-some : goal.returns-clause-some
 returns-clause-some c =
-    rw (← c.self.view_is) (ap is_some c.end.ensures.value ∙ readings.some_of (λ (r : WaitRow). r.wait) (row_of c.self.inside.waits c.args.tid) ∙ sym (readings.waits_are (tables_of c.self.inside.procs c.self.inside.parts.items c.self.inside.ports c.self.inside.waits c.self.inside.names) c.self.invariant.named c.args.tid))
+    rw (← c.self.view_is) (ap is_some c.end.ensures.value ∙ some-map (λ (r : WaitRow). r.wait) (row_of c.self.inside.waits c.args.tid) ∙ sym (readings.waits_are (tables_of c.self.inside.procs c.self.inside.parts.items c.self.inside.ports c.self.inside.waits c.self.inside.names) c.self.invariant.named c.args.tid))
 
 pub returns-clause-wait : goal.returns-clause-wait
 returns-clause-wait c =
