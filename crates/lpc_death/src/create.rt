@@ -126,7 +126,7 @@ fn member_test(world: &World, by: u32, target: ProcArg, tid: u32) -> Result<u32,
 pub fn nt_create_thread(
     world: &mut World,
     by: u32,
-    target: ProcArg,
+    process: ProcArg,
     tid: u32,
     out: &mut Entries,
 ) -> Result<Outcome, OutOfMemory>
@@ -134,14 +134,14 @@ pub fn nt_create_thread(
     requires room { HasRoom world.old out.old }
     requires calls { world.old.calls < LINES_LIMIT }
     requires thread { IsNumber tid }
-    ensures serves { let call = create_thread target tid in
+    ensures serves { let call = create_thread process tid in
         MayServe by call result world.old world.new out.old out.new }
     ensures spare { OnOk result (out.new.spare + 1 ≡ out.old.spare) }
     ensures wanting { let by = caller world.old.rows by in
         OnErr result (lacks_member_room world.old by ≡ true) }
 {
     let caller = world.caller(by);
-    let pid = match member_test(world, by, target, tid) {
+    let pid = match member_test(world, by, process, tid) {
         Ok(pid) => pid,
         Err(status) => {
             world.begin_call();

@@ -112,7 +112,7 @@ fn answer_unless(own: bool, tid: u32, call: CallName, out: &mut Entries) -> Outc
 pub fn nt_terminate_thread(
     world: &mut World,
     by: u32,
-    target: ProcArg,
+    thread: ProcArg,
     code: u32,
     out: &mut Entries,
 ) -> Outcome
@@ -120,14 +120,14 @@ pub fn nt_terminate_thread(
     requires room { HasRoom world.old out.old }
     requires calls { world.old.calls < LINES_LIMIT }
     requires can { CanEnd world.old.rows }
-    ensures served { let call = terminate_thread target code in
+    ensures served { let call = terminate_thread thread code in
         Served by call result world.old world.new out.old out.new }
     ensures spare { out.old.spare + ending_entries world.new.rows
         ≤ out.new.spare + ending_entries world.old.rows + 1 }
 {
     let caller = world.caller(by);
     world.begin_call();
-    match living_thread(world, by, target) {
+    match living_thread(world, by, thread) {
         Ok(thread) => {
             let own = thread.number == caller.number;
             let outcome = answer_unless(own, caller.number, CallName::NtTerminateThread, out);
@@ -148,7 +148,7 @@ pub fn nt_terminate_thread(
 pub fn nt_terminate_process(
     world: &mut World,
     by: u32,
-    target: ProcArg,
+    process: ProcArg,
     code: u32,
     out: &mut Entries,
 ) -> Outcome
@@ -156,14 +156,14 @@ pub fn nt_terminate_process(
     requires room { HasRoom world.old out.old }
     requires calls { world.old.calls < LINES_LIMIT }
     requires can { CanEnd world.old.rows }
-    ensures served { let call = terminate_process target code in
+    ensures served { let call = terminate_process process code in
         Served by call result world.old world.new out.old out.new }
     ensures spare { out.old.spare + ending_entries world.new.rows
         ≤ out.new.spare + ending_entries world.old.rows + 1 }
 {
     let caller = world.caller(by);
     world.begin_call();
-    match living_process(world, by, target) {
+    match living_process(world, by, process) {
         Ok(pid) => {
             let own = pid == caller.process;
             let outcome = answer_unless(own, caller.number, CallName::NtTerminateProcess, out);

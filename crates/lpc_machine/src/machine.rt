@@ -120,11 +120,11 @@ fn serve(
         Call::QueryObject { handle } => Ok(nt_query_object(world, by, *handle, out)),
         Call::CreateProcess { pid, tid } => nt_create_process(world, by, *pid, *tid, out),
         Call::CreateThread { process, tid } => nt_create_thread(world, by, *process, *tid, out),
-        Call::TerminateThread { target, code } => {
-            Ok(nt_terminate_thread(world, by, *target, *code, out))
+        Call::TerminateThread { thread, code } => {
+            Ok(nt_terminate_thread(world, by, *thread, *code, out))
         }
-        Call::TerminateProcess { target, code } => {
-            Ok(nt_terminate_process(world, by, *target, *code, out))
+        Call::TerminateProcess { process, code } => {
+            Ok(nt_terminate_process(world, by, *process, *code, out))
         }
     }
 }

@@ -90,12 +90,12 @@ pub enum Call<'a> {
     },
     /// `NtTerminateThread H|self CODE`: ends a thread.
     TerminateThread {
-        target: ProcArg,
+        thread: ProcArg,
         code: u32,
     },
     /// `NtTerminateProcess H|self CODE`: ends the live threads of a process.
     TerminateProcess {
-        target: ProcArg,
+        process: ProcArg,
         code: u32,
     },
 }

@@ -221,8 +221,8 @@ fn terminate_thread<'a>(text: &[u8]) -> Result<Call<'a>, LineFault>
     ensures value { Gives call_of result (call_words NtTerminateThread (words text.now)) }
     ensures ids { IfOk result (λ call. IsTrue (has_call_ids (call_of call))) }
 {
-    let (target, code) = target_and_code(text)?;
-    Ok(Call::TerminateThread { target, code })
+    let (thread, code) = target_and_code(text)?;
+    Ok(Call::TerminateThread { thread, code })
 }
 
 #[tactic(auto, unfolding(lpc_model::specs::Grammar::call_words))]
@@ -230,8 +230,8 @@ fn terminate_process<'a>(text: &[u8]) -> Result<Call<'a>, LineFault>
     ensures value { Gives call_of result (call_words NtTerminateProcess (words text.now)) }
     ensures ids { IfOk result (λ call. IsTrue (has_call_ids (call_of call))) }
 {
-    let (target, code) = target_and_code(text)?;
-    Ok(Call::TerminateProcess { target, code })
+    let (process, code) = target_and_code(text)?;
+    Ok(Call::TerminateProcess { process, code })
 }
 
 /// A call by the words behind its name.

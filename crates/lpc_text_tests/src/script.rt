@@ -497,19 +497,19 @@ fn is_target(rt: &impl Abort, target: ProcArg, given: Option<u32>) {
 
 // It ends a thread with this status.
 fn ends_thread(rt: &impl Abort, run: (u32, Call<'_>), given: Option<u32>, status: u32) {
-    let Call::TerminateThread { target, code } = run.1 else {
+    let Call::TerminateThread { thread, code } = run.1 else {
         return assert!(rt; false, "no end of a thread");
     };
-    is_target(rt, target, given);
+    is_target(rt, thread, given);
     assert!(rt; code == status);
 }
 
 // It ends a process with this status.
 fn ends_process(rt: &impl Abort, run: (u32, Call<'_>), given: Option<u32>, status: u32) {
-    let Call::TerminateProcess { target, code } = run.1 else {
+    let Call::TerminateProcess { process, code } = run.1 else {
         return assert!(rt; false, "no end of a process");
     };
-    is_target(rt, target, given);
+    is_target(rt, process, given);
     assert!(rt; code == status);
 }
 

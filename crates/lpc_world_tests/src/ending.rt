@@ -94,7 +94,7 @@ pub fn ends_a_thread(
     let end = Line::Run {
         tid,
         call: Call::TerminateThread {
-            target: ProcArg::Current,
+            thread: ProcArg::Current,
             code: 7,
         },
     };
@@ -113,7 +113,7 @@ fn ends_the_process(rt: &impl Abort, machine: &mut Machine, out: &mut Entries) -
     let end = Line::Run {
         tid: 24,
         call: Call::TerminateProcess {
-            target: ProcArg::Current,
+            process: ProcArg::Current,
             code: 1,
         },
     };

@@ -13,8 +13,8 @@ returns-in-Ok-clause-served c =
     let rows = c.begin_call.ensures.rows in
     let number = ap (λ (x : ThreadRow). x.number) c.caller-caller.ensures.row in
     let process = ap (λ (x : ThreadRow). x.process) c.caller-caller.ensures.row in
-    let found = subst (λ (w : World). living_process w (caller w c.args.by) c.args.target ≡ Ok c.in-Ok.pid) rows (sym c.living_process.ensures.process ∙ c.in-Ok.is) in
-    served-process c.args.by c.args.code c.args.target c.in-Ok.pid _ c.answer_unless-outcome.result old mid c.end_threads.new.world c.args.out.now c.answer_unless-outcome.new.out c.end_threads.new.out found
+    let found = subst (λ (w : World). living_process w (caller w c.args.by) c.args.process ≡ Ok c.in-Ok.pid) rows (sym c.living_process.ensures.process ∙ c.in-Ok.is) in
+    served-process c.args.by c.args.code c.args.process c.in-Ok.pid _ c.answer_unless-outcome.result old mid c.end_threads.new.world c.args.out.now c.answer_unless-outcome.new.out c.end_threads.new.out found
     (ap (λ m. c.in-Ok.pid == m) process) rows c.begin_call.ensures.loose (rw number at c.answer_unless-outcome.ensures.list) c.end_threads.ensures.took c.answer_unless-outcome.ensures.outcome (c.end_threads.ensures.calls ∙ c.begin_call.ensures.calls)
 
 pub returns-in-Err-clause-served : goal.returns-in-Err-clause-served
@@ -23,5 +23,5 @@ returns-in-Err-clause-served c =
     let mid = c.begin_call.new.self in
     let rows = c.begin_call.ensures.rows in
     let number = ap (λ (x : ThreadRow). x.number) c.caller-caller.ensures.row in
-    let found = subst (λ (w : World). living_process w (caller w c.args.by) c.args.target ≡ Err c.in-Err.status) rows (sym c.living_process.ensures.process ∙ c.in-Err.is) in
-    served-process-refused c.args.by c.args.code c.args.target c.in-Err.status c.refuse.result old mid c.args.out.now c.refuse.new.out found rows c.begin_call.ensures.loose c.begin_call.ensures.calls (rw number at c.refuse.ensures.list) c.refuse.ensures.outcome
+    let found = subst (λ (w : World). living_process w (caller w c.args.by) c.args.process ≡ Err c.in-Err.status) rows (sym c.living_process.ensures.process ∙ c.in-Err.is) in
+    served-process-refused c.args.by c.args.code c.args.process c.in-Err.status c.refuse.result old mid c.args.out.now c.refuse.new.out found rows c.begin_call.ensures.loose c.begin_call.ensures.calls (rw number at c.refuse.ensures.list) c.refuse.ensures.outcome

@@ -21,13 +21,13 @@ returns-in-Ok-clause-served c =
     let t = caller mid.rows n in
     let rows = c.begin_call.ensures.rows in
     let number = ap (λ (x : ThreadRow). x.number) c.caller-caller.ensures.row in
-    let found = subst (λ (w : World). living_thread w (caller w c.args.by) c.args.target ≡ Ok t) rows c.in-Ok.ensures.thread in
+    let found = subst (λ (w : World). living_thread w (caller w c.args.by) c.args.thread ≡ Ok t) rows c.in-Ok.ensures.thread in
     let by = caller old.rows c.args.by in
     let own_is = ap (λ m. m == by.number) (sym (live-number mid.rows n t c.in-Ok.ensures.live)) in
     let ends = rw number at c.answer_unless-outcome.ensures.outcome in
     let took = subst (λ p. Took (end_threads p (code_status c.args.code) (t ∷ []) mid.rows) mid new between after) (sym c.in-Ok.ensures.shown) c.end_thread.ensures.took in
     let list = rw number at c.answer_unless-outcome.ensures.list in
-    served-thread c.args.by c.args.code c.args.target t (n == by.number) c.answer_unless-outcome.result old mid new before between after found own_is rows c.begin_call.ensures.loose list took ends (c.end_thread.ensures.calls ∙ c.begin_call.ensures.calls)
+    served-thread c.args.by c.args.code c.args.thread t (n == by.number) c.answer_unless-outcome.result old mid new before between after found own_is rows c.begin_call.ensures.loose list took ends (c.end_thread.ensures.calls ∙ c.begin_call.ensures.calls)
 
 pub returns-in-Err-clause-served : goal.returns-in-Err-clause-served
 returns-in-Err-clause-served c =
@@ -35,5 +35,5 @@ returns-in-Err-clause-served c =
     let mid = c.begin_call.new.self in
     let rows = c.begin_call.ensures.rows in
     let number = ap (λ (x : ThreadRow). x.number) c.caller-caller.ensures.row in
-    let found = subst (λ (w : World). living_thread w (caller w c.args.by) c.args.target ≡ Err c.in-Err.status) rows c.in-Err.ensures.thread in
-    served-thread-refused c.args.by c.args.code c.args.target c.in-Err.status c.refuse.result old mid c.args.out.now c.refuse.new.out found rows c.begin_call.ensures.loose c.begin_call.ensures.calls (rw number at c.refuse.ensures.list) c.refuse.ensures.outcome
+    let found = subst (λ (w : World). living_thread w (caller w c.args.by) c.args.thread ≡ Err c.in-Err.status) rows c.in-Err.ensures.thread in
+    served-thread-refused c.args.by c.args.code c.args.thread c.in-Err.status c.refuse.result old mid c.args.out.now c.refuse.new.out found rows c.begin_call.ensures.loose c.begin_call.ensures.calls (rw number at c.refuse.ensures.list) c.refuse.ensures.outcome
