@@ -34,8 +34,8 @@ is_near x p = is_port x.queue p || (is_connected_to x.queue p || (is_request x &
 abbrev pub has_near_queue : World → WaitRow → Bool
 has_near_queue w x = passes (port_row w x.port) (is_near x)
 
--- each handle names an object that stands, each queued message was sent on one, each wait was made on one, near its
--- queue, and live threads registered ports that stand
+-- each handle names an object that stands; each queued message was sent on a port that stands, each wait was made on
+-- one, near its queue, and live threads registered such ports
 pub record NamesWhatStands (w : World) : Type 0 where
   pub handles : every (λ t. every (names_object w) t.rows) w.handles ≡ true
   pub senders : every (λ m. has (is_port m.sender) w.ports) w.messages ≡ true
