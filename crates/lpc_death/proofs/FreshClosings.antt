@@ -1,5 +1,6 @@
 -- Of a port that is closed no message tells that yet, when it is posted.
 use Rattle.std.proofs.Common.{◌≡◌, ◌∙◌, ◌+◌, List, [], ◌∷◌, ◌++◌, ◌&&◌, Bool, true, false, not, Some, refl, ap, sym, subst, arith}
+use Rattle.std.proofs.lemmas.Bool.{true_from_ne_false}
 use Rattle.lpc_base.specs.Rows.{count, each, every, first, has}
 use Rattle.lpc_base.proofs.RowWords.{count-none}
 use Rattle.lpc_model.specs.Close.{closing_post}
@@ -28,11 +29,7 @@ unnamed b (t ∷ ts) shut =
     grind (arith, none, rest, count-both (names_it b) t.rows (each (λ t. t.rows) ts))
 
 pub counted-open : (w : World) (b : Birth) → handle_count w (port_name b) ≡ 1 → is_open w b ≡ true
-counted-open w b one = at (is_open w b) refl
-  where
-    at : (open_is : Bool) → is_open w b ≡ open_is → is_open w b ≡ true
-    at true is = is
-    at false is = let none = unnamed b w.handles is in absurd (grind (arith, none, one))
+counted-open w b one = true_from_ne_false (is_open w b) (λ is. let none = unnamed b w.handles is in grind (arith, none, one))
 
 -- The messages that tell that a port is closed
 silent : (p : MessageRow → Bool) (ms : List MessageRow) → every (λ m. not (p m)) ms ≡ true → has p ms ≡ false
@@ -56,11 +53,7 @@ five-untold w b none =
 
 -- What is told of is a client port
 pub told-client : (w : World) (p : PortRow) (m : MessageRow) → closing_post w p ≡ Some m → is_client_port p ≡ true
-told-client w p m told = at (is_client_port p) refl
-  where
-    at : (client : Bool) → is_client_port p ≡ client → is_client_port p ≡ true
-    at true is = is
-    at false is = absurd (grind (arith, is, told))
+told-client w p m told = true_from_ne_false (is_client_port p) (λ is. grind (arith, is, told))
 
 pub client-row : (b : Birth) (ps : List PortRow) (p : PortRow) → first (is_port b) ps ≡ Some p → is_client_port p ≡ true → has (λ p. is_port b p && is_client_port p) ps ≡ true
 client-row b [] p row client = absurd (cc)

@@ -1,7 +1,7 @@
 -- What is told of threads that have ended, registration by registration: behind the first of them the others are left.
 use Rattle.std.proofs.Common.{◌≡◌, ◌∙◌, ℕ, List, [], ◌∷◌, ◌++◌, Bool, true, false, Option, Some, None, drop, map, refl, ap, sym, subst, arith}
 use Rattle.std.specs.Prelude.{◌==◌, not, option_map}
-use Rattle.std.proofs.lemmas.Bool.{eqb-true}
+use Rattle.std.proofs.lemmas.Bool.{eqb-true, false_from_ne_true}
 use Rattle.std.proofs.lemmas.List.{append-nil}
 use Rattle.lpc_base.specs.Rows.{change, each, every, first, given, has, when, which, without}
 use Rattle.lpc_base.proofs.RowWords.{change-none, every-change}
@@ -92,11 +92,7 @@ others-left b [] all = refl
 others-left b (c ∷ bs) all = grind (arith, turned b c, others-left b bs)
   where
     turned : (b c : Birth) → same_birth c b ≡ false → same_birth b c ≡ false
-    turned b c off = at (same_birth b c) refl
-      where
-        at : (s : Bool) → same_birth b c ≡ s → s ≡ false
-        at true is = let same = birth-same b c is in absurd (cc (off, subst (λ (d : Birth). same_birth c d ≡ true) (sym same) (birth-self c)))
-        at false is = refl
+    turned b c off = false_from_ne_true (same_birth b c) (λ is. let same = birth-same b c is in cc (off, subst (λ (d : Birth). same_birth c d ≡ true) (sym same) (birth-self c)))
 
 abbrev deaths_in : ℕ → List ThreadRow → List Death
 deaths_in pid ts = each (λ t. map (death_by t) t.registrations) (which (has_ended_in pid) ts)

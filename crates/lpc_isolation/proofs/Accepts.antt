@@ -14,7 +14,7 @@ use Rattle.lpc_model.specs.declared.message.Message.{Message}
 use Rattle.lpc_model.specs.Message.{message_test}
 use Rattle.lpc_model.specs.Fields.{info}
 use Rattle.lpc_model.specs.Refusal.{found_or}
-use Rattle.lpc_model.specs.World.{Birth, HandleTable, PortRow, ThreadRow, WaitKind, WaitRow, World, Accepted, Connect, Listen, Receive, Request}
+use Rattle.lpc_model.specs.World.{Birth, HandleTable, PortRow, ThreadRow, WaitKind, WaitRow, World, Connect}
 use Rattle.lpc_model.specs.Found.{free_handle, wait_of, is_connect, is_offered, is_port, is_server_port, is_table, names_port, names_wait, port_name, rows_in, same_birth, waits_as}
 use Rattle.lpc_model.specs.Basics.{Accepts, AddsHandle, Basic, DrawsOrdinal, Makes, joined, world_after}
 use Rattle.lpc_model.specs.Connect.{ConnectAnswer, accept_steps, answer_test, names_connect, nt_accept_connect_port, reaches, refuse_steps, server_port}
@@ -129,11 +129,8 @@ no-servers m c u w by x k offered waits = every-more (lacks_connects w) (is_no_s
 
 -- and it stands
 client-stands : (w : World) (x : WaitRow) (k : WaitKind) → x.kind ≡ k → is_offered x ≡ true → can_stay_as w x k ≡ true → has (is_port x.port) w.ports ≡ true
-client-stands w x (Request a) k offered stays = let none : false ≡ true = rw k at offered in absurd (cc)
-client-stands w x Receive k offered stays = let none : false ≡ true = rw k at offered in absurd (cc)
-client-stands w x Listen k offered stays = let none : false ≡ true = rw k at offered in absurd (cc)
 client-stands w x (Connect a) k offered stays = first-true _ _ stays
-client-stands w x (Accepted a b) k offered stays = let none : false ≡ true = rw k at offered in absurd (cc)
+client-stands w x b k offered stays = let none : false ≡ true = rw k at offered in absurd (cc)
 
 -- so the new port is another one
 other-port : (ports : List PortRow) (b client : Birth) → every (λ p. not (is_port b p)) ports ≡ true → has (is_port client) ports ≡ true → same_birth b client ≡ false

@@ -92,18 +92,12 @@ process-view m c w by (By handle) inside f =
 
 -- Where rows have gone
 kind-process : (k : Alive) (s : ObjectKind) (b : Birth) → alive_as k s b ≡ true → same_kind s kind.Process ≡ true → k.processes b ≡ true
-kind-process k kind.Port b live is = absurd (cc)
-kind-process k kind.Section b live is = absurd (cc)
-kind-process k kind.Token b live is = absurd (cc)
 kind-process k kind.Process b live is = live
-kind-process k kind.Thread b live is = absurd (cc)
+kind-process k e b live is = absurd (cc)
 
 kind-thread : (k : Alive) (s : ObjectKind) (b : Birth) → alive_as k s b ≡ true → same_kind s kind.Thread ≡ true → k.threads b ≡ true
-kind-thread k kind.Port b live is = absurd (cc)
-kind-thread k kind.Section b live is = absurd (cc)
-kind-thread k kind.Token b live is = absurd (cc)
-kind-thread k kind.Process b live is = absurd (cc)
 kind-thread k kind.Thread b live is = live
+kind-thread k e b live is = absurd (cc)
 
 object-lives : (k : Alive) (u : World) (by : ThreadRow) (s : ObjectKind) (value : ℕ) (f : Birth → Bool) → ((t : ObjectKind) (b : Birth) → alive_as k t b ≡ true → same_kind t s ≡ true → f b ≡ true) → Closed k u → Holds (λ b. f b ≡ true) (object_test u by s LIFE_RIGHT value)
 object-lives k u by s value f lives c =

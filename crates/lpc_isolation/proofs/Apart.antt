@@ -1,7 +1,7 @@
 -- An outsider's line: the view loses the waits whose ends are told to members, and c is told nothing.
 use Rattle.std.proofs.Common.{◌≡◌, ℕ, List, [], ◌∷◌, ◌++◌, Bool, true, false, cond, not, Option, Some, None, refl, ap, sym, ◌∙◌, arith}
 use Rattle.std.specs.Prelude.{◌&&◌, ◌||◌, ◌==◌}
-use Rattle.std.proofs.lemmas.Bool.{and_from, and_left, eqb-true, not-true}
+use Rattle.std.proofs.lemmas.Bool.{and_from, and_left, eqb-true, false_from_ne_true, not-true}
 use Rattle.std.proofs.lemmas.List.Elements.{filter-append}
 use Rattle.lpc_base.specs.Rows.{every, first, given, passes, when, which}
 use Rattle.lpc_base.specs.declared.status.Status.{Status}
@@ -89,30 +89,8 @@ wakes-apart m u w who call status fields false is ok = basic-unseen m w (Wakes w
 basic-apart : (m : Group) (c : ℕ) (u : World) (d : Whose) (w : World) (b : Basic) → is_apart m c u d w b ≡ true → is_regular m w b ≡ true → view m (basic w b) ≡ absorb_all (view m w) (heard m u d (told b))
 basic-apart m c u d w (Tells e) is ok = rw (not-true _ is) refl
 basic-apart m c u d w (Wakes who call status fields) is ok = wakes-apart m u w who call status fields (is_seen m (thread_whose u who)) refl (first-true _ _ is)
-basic-apart m c u d w (Awaits x) is ok = basic-unseen m w (Awaits x) (not-true _ is) ok
-basic-apart m c u d w (Receives who q) is ok = basic-unseen m w (Receives who q) (not-true _ is) ok
-basic-apart m c u d w (Accepts who reply) is ok = basic-unseen m w (Accepts who reply) (not-true _ is) ok
-basic-apart m c u d w (Enters x) is ok = basic-unseen m w (Enters x) (not-true _ is) ok
-basic-apart m c u d w (Takes q) is ok = basic-unseen m w (Takes q) (not-true _ is) ok
-basic-apart m c u d w (TakesConnect q) is ok = basic-unseen m w (TakesConnect q) (not-true _ is) ok
-basic-apart m c u d w (Withdraws who) is ok = basic-unseen m w (Withdraws who) (not-true _ is) ok
-basic-apart m c u d w (DrawsIdentifier who) is ok = basic-unseen m w (DrawsIdentifier who) (not-true _ is) ok
-basic-apart m c u d w (DrawsOrdinal who) is ok = basic-unseen m w (DrawsOrdinal who) (not-true _ is) ok
 basic-apart m c u d w (Dies who status) is ok = rw (not-true (is_seen m (thread_whose u who)) (first-true _ _ is)) (basic-unseen m w (Dies who status) (not-true _ (second-true (not (is_seen m (thread_whose u who))) _ is)) ok)
-basic-apart m c u d w (Registers who b) is ok = basic-unseen m w (Registers who b) (not-true _ is) ok
-basic-apart m c u d w (Unregisters who b) is ok = basic-unseen m w (Unregisters who b) (not-true _ is) ok
-basic-apart m c u d w (AddsProcess p) is ok = basic-unseen m w (AddsProcess p) (not-true _ is) ok
-basic-apart m c u d w (AddsThread t) is ok = basic-unseen m w (AddsThread t) (not-true _ is) ok
-basic-apart m c u d w (Makes p) is ok = basic-unseen m w (Makes p) (not-true _ is) ok
-basic-apart m c u d w (Joins client server context) is ok = basic-unseen m w (Joins client server context) (not-true _ is) ok
-basic-apart m c u d w (Completes b) is ok = basic-unseen m w (Completes b) (not-true _ is) ok
-basic-apart m c u d w (Frees b) is ok = basic-unseen m w (Frees b) (not-true _ is) ok
-basic-apart m c u d w (Binds path node) is ok = basic-unseen m w (Binds path node) (not-true _ is) ok
-basic-apart m c u d w (AddsHandle pid h) is ok = basic-unseen m w (AddsHandle pid h) (not-true _ is) ok
-basic-apart m c u d w (Empties q) is ok = basic-unseen m w (Empties q) (not-true _ is) ok
-basic-apart m c u d w (Cuts b) is ok = basic-unseen m w (Cuts b) (not-true _ is) ok
-basic-apart m c u d w (Unbinds b) is ok = basic-unseen m w (Unbinds b) (not-true _ is) ok
-basic-apart m c u d w (DropsHandle pid value) is ok = basic-unseen m w (DropsHandle pid value) (not-true _ is) ok
+basic-apart m c u d w b is ok = basic-unseen m w b (not-true _ is) ok
 
 -- a list of such steps
 abbrev pub are_apart : Group → ℕ → World → Whose → World → List Basic → Bool
@@ -133,41 +111,15 @@ apart-append m c u d w (b ∷ bs) cs one two = and_from _ _ (first-true _ _ one)
 
 -- c is told nothing
 pub c_seen : (m : Group) (c : ℕ) (whose : Whose) → m c ≡ true → is_seen m whose ≡ false → is_seen (alone c) whose ≡ false
-c_seen m c (Of pid) c_in out = at (pid == c) refl
-  where
-    at : (b : Bool) → (pid == c) ≡ b → b ≡ false
-    at true same = let k : m pid ≡ m c = ap m (eqb-true _ _ same) in absurd (cc)
-    at false other = refl
+c_seen m c (Of pid) c_in out = false_from_ne_true (pid == c) (λ same. let k : m pid ≡ m c = ap m (eqb-true _ _ same) in cc)
 c_seen m c Everyone c_in out = absurd (cc)
 c_seen m c Nobody c_in out = refl
 
 basic-quiet : (m : Group) (c : ℕ) (u : World) (d : Whose) (w : World) (b : Basic) → m c ≡ true → is_apart m c u d w b ≡ true → heard (alone c) u d (told b) ≡ []
 basic-quiet m c u d w (Tells e) c_in is = let off : is_seen (alone c) (entry_whose u d e) ≡ false = c_seen m c (entry_whose u d e) c_in (not-true (is_heard m u d e) is) in rw off refl
 basic-quiet m c u d w (Wakes who call status fields) c_in is = let off : is_seen (alone c) (thread_whose u who) ≡ false = not-true (is_seen (alone c) (thread_whose u who)) (second-true _ _ is) in rw off refl
-basic-quiet m c u d w (Awaits x) c_in is = refl
-basic-quiet m c u d w (Receives who q) c_in is = refl
-basic-quiet m c u d w (Accepts who reply) c_in is = refl
-basic-quiet m c u d w (Enters x) c_in is = refl
-basic-quiet m c u d w (Takes q) c_in is = refl
-basic-quiet m c u d w (TakesConnect q) c_in is = refl
-basic-quiet m c u d w (Withdraws who) c_in is = refl
-basic-quiet m c u d w (DrawsIdentifier who) c_in is = refl
-basic-quiet m c u d w (DrawsOrdinal who) c_in is = refl
 basic-quiet m c u d w (Dies who status) c_in is = let off : is_seen (alone c) (thread_whose u who) ≡ false = c_seen m c (thread_whose u who) c_in (not-true (is_seen m (thread_whose u who)) (first-true _ _ is)) in rw off refl
-basic-quiet m c u d w (Registers who b) c_in is = refl
-basic-quiet m c u d w (Unregisters who b) c_in is = refl
-basic-quiet m c u d w (AddsProcess p) c_in is = refl
-basic-quiet m c u d w (AddsThread t) c_in is = refl
-basic-quiet m c u d w (Makes p) c_in is = refl
-basic-quiet m c u d w (Joins client server context) c_in is = refl
-basic-quiet m c u d w (Completes b) c_in is = refl
-basic-quiet m c u d w (Frees b) c_in is = refl
-basic-quiet m c u d w (Binds path node) c_in is = refl
-basic-quiet m c u d w (AddsHandle pid h) c_in is = refl
-basic-quiet m c u d w (Empties q) c_in is = refl
-basic-quiet m c u d w (Cuts b) c_in is = refl
-basic-quiet m c u d w (Unbinds b) c_in is = refl
-basic-quiet m c u d w (DropsHandle pid value) c_in is = refl
+basic-quiet m c u d w b c_in is = refl
 
 pub run-quiet : (m : Group) (c : ℕ) (u : World) (d : Whose) (w : World) (bs : List Basic) → m c ≡ true → are_apart m c u d w bs ≡ true → heard (alone c) u d (entries_of bs) ≡ []
 run-quiet m c u d w [] c_in ok = refl
@@ -298,17 +250,13 @@ pub enter-gone : (m : Group) (c : ℕ) (u : World) (d : Whose) (w : World) (x : 
     → (view m (world_after w (enter x w)) ≡ view m w) × (heard (alone c) u d (entries_of (enter x w)) ≡ [])
 enter-gone m c u d w x c_in out owned f patient =
     let unseen : sees_at m w x.message.header.client.thread x.queue ≡ false = unseen-queue m w x.message.header.client.thread x.queue out in
-    let other : (x.queue.process == c) ≡ false = c-differs (x.queue.process == c) refl in
     let gone : our_message m x ≡ false = off (m x.sender.process) in
+    let other : (x.queue.process == c) ≡ false = false_from_ne_true (x.queue.process == c) (λ is. let k : m x.queue.process ≡ m c = ap m (eqb-true _ _ is) in cc) in
     let apart : are_apart m c u d w (enter x w) ≡ true = enter-apart m c u d w x gone other unseen owned f patient in (
       run-apart m c u d w (enter x w) apart ∙ ap (absorb_all (view m w)) (entered-silent m c u d w x (first (takes x) w.waits) refl out owned f),
       run-quiet m c u d w (enter x w) c_in apart,
     )
   where
-    c-differs : (b : Bool) → (x.queue.process == c) ≡ b → b ≡ false
-    c-differs true is = let k : m x.queue.process ≡ m c = ap m (eqb-true _ _ is) in absurd (cc)
-    c-differs false is = refl
-
     off : (b : Bool) → (b && m x.queue.process) ≡ false
     off true = out
     off false = refl

@@ -14,7 +14,7 @@ use Rattle.lpc_message.specs.declared.kind.TheConstants.{CLIENT_DIED, DATAGRAM, 
 use Rattle.lpc_model.specs.Message.{asks}
 use Rattle.lpc_model.specs.World.{Accepted, Connect, Listen, MessageRow, Receive, Request, WaitKind, WaitRow, World}
 use Rattle.lpc_model.specs.Found.{is_offered, is_own_of, is_queued, is_queued_connect, is_request, same_birth, wait_of, waits_as, waits_at}
-use Rattle.lpc_model.specs.Basics.{Accepts, AddsHandle, AddsProcess, AddsThread, Awaits, Basic, Binds, Completes, Cuts, DrawsIdentifier, DrawsOrdinal, DropsHandle, Empties, Enters, Frees, Joins, Makes, Receives, Takes, TakesConnect, Tells, Unbinds, Wakes, Withdraws, accepted, basic, received, world_after, Dies, Registers, Unregisters}
+use Rattle.lpc_model.specs.Basics.{Accepts, Awaits, Basic, Empties, Enters, Frees, Receives, Takes, TakesConnect, Tells, Wakes, Withdraws, accepted, basic, received, world_after, Dies}
 use Rattle.lpc_model.specs.Entering.{enter, given_steps, shown, take_connect_steps, take_steps, takes, woken}
 use Rattle.lpc_model.proofs.Rows.{count-less}
 use Rattle.lpc_isolation.proofs.Enter.{Patient, is_patient, listen-first, receive-first}
@@ -122,24 +122,11 @@ basic-asked w (Enters y) ok a = record { sorts = every-push is_sort w.messages y
 basic-asked w (Awaits x) ok a = record { sorts = a.sorts; own = every-more_own w.waits (w.waits ++ x ∷ []) (λ y is. has-kept (is_own y) w.waits x is) w.messages a.own; one = a.one }
 basic-asked w (Takes q) ok a = record { sorts = every-without_first is_sort (is_queued q) w.messages a.sorts; own = every-without_first (has_own w.waits) (is_queued q) w.messages a.own; one = λ who. fewer (asks_of who) (is_queued q) w.messages 1 (a.one who) }
 basic-asked w (TakesConnect q) ok a = record { sorts = every-without_first is_sort (is_queued_connect q) w.messages a.sorts; own = every-without_first (has_own w.waits) (is_queued_connect q) w.messages a.own; one = λ who. fewer (asks_of who) (is_queued_connect q) w.messages 1 (a.one who) }
-basic-asked w (Makes p) ok a = record { sorts = a.sorts; own = a.own; one = a.one }
-basic-asked w (Joins client server context) ok a = record { sorts = a.sorts; own = a.own; one = a.one }
-basic-asked w (Completes b) ok a = record { sorts = a.sorts; own = a.own; one = a.one }
 basic-asked w (Frees o) ok a = absurd (cc)
 basic-asked w (Withdraws who) ok a = record { sorts = every-without is_sort (is_own_of who) w.messages a.sorts; own = every-without (has_own w.waits) (is_own_of who) w.messages a.own; one = λ tid. count-less (asks_of tid) (is_own_of who) w.messages 1 (a.one tid) }
-basic-asked w (Binds path node) ok a = record { sorts = a.sorts; own = a.own; one = a.one }
-basic-asked w (AddsHandle pid h) ok a = record { sorts = a.sorts; own = a.own; one = a.one }
 basic-asked w (Empties q) ok a = record { sorts = every-without is_sort (is_queued q) w.messages a.sorts; own = every-without (has_own w.waits) (is_queued q) w.messages a.own; one = λ tid. count-less (asks_of tid) (is_queued q) w.messages 1 (a.one tid) }
-basic-asked w (Cuts b) ok a = record { sorts = a.sorts; own = a.own; one = a.one }
-basic-asked w (Unbinds b) ok a = record { sorts = a.sorts; own = a.own; one = a.one }
-basic-asked w (DropsHandle pid value) ok a = record { sorts = a.sorts; own = a.own; one = a.one }
 basic-asked w (Tells e) ok a = a
-basic-asked w (DrawsIdentifier who) ok a = record { sorts = a.sorts; own = a.own; one = a.one }
-basic-asked w (DrawsOrdinal who) ok a = record { sorts = a.sorts; own = a.own; one = a.one }
-basic-asked w (Registers who b) ok a = record { sorts = a.sorts; own = a.own; one = a.one }
-basic-asked w (Unregisters who b) ok a = record { sorts = a.sorts; own = a.own; one = a.one }
-basic-asked w (AddsProcess p) ok a = record { sorts = a.sorts; own = a.own; one = a.one }
-basic-asked w (AddsThread t) ok a = record { sorts = a.sorts; own = a.own; one = a.one }
+basic-asked w b ok a = record { sorts = a.sorts; own = a.own; one = a.one }
 
 pub run-asked : (w : World) (bs : List Basic) → are_asked w bs ≡ true → Asked w → Asked (world_after w bs)
 run-asked w [] ok a = a

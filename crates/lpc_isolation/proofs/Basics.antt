@@ -225,23 +225,8 @@ seen-ours m w (AddsThread t) is = is
 seen-ours m w (Makes p) is = is
 seen-ours m w (Joins client server context) is = is
 seen-ours m w (Binds path node) is = is
-seen-ours m w (Tells e) is = refl
-seen-ours m w (Wakes who call status fields) is = refl
-seen-ours m w (Receives who q) is = refl
-seen-ours m w (Accepts who reply) is = refl
-seen-ours m w (Withdraws who) is = refl
-seen-ours m w (DrawsIdentifier who) is = refl
-seen-ours m w (DrawsOrdinal who) is = refl
-seen-ours m w (Dies who status) is = refl
-seen-ours m w (Registers who b) is = refl
-seen-ours m w (Unregisters who b) is = refl
-seen-ours m w (Completes b) is = refl
-seen-ours m w (Frees o) is = refl
-seen-ours m w (AddsHandle pid h) is = refl
-seen-ours m w (Empties q) is = refl
 seen-ours m w (Cuts b) is = is
-seen-ours m w (Unbinds b) is = refl
-seen-ours m w (DropsHandle pid value) is = refl
+seen-ours m w b is = refl
 
 pub basic-seen : (m : Group) (w : World) (b : Basic) → sees m w b ≡ true → is_regular m w b ≡ true → view m (basic w b) ≡ basic (view m w) b
 basic-seen m w b is ok = basic-ours m w b (seen-ours m w b is) ok

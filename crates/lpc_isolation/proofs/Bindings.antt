@@ -12,7 +12,7 @@ use Rattle.lpc_model.specs.Named.{as_status, free_name}
 use Rattle.lpc_model.specs.Then.{◌>>=◌}
 use Rattle.lpc_model.specs.World.{Accepted, Birth, Connect, Listen, MessageRow, Path, PortRow, Receive, Request, ThreadRow, WaitKind, WaitRow, World}
 use Rattle.lpc_model.specs.Found.{free_handle, is_queued, is_queued_connect}
-use Rattle.lpc_model.specs.Basics.{Accepts, AddsHandle, AddsProcess, AddsThread, Awaits, Basic, Binds, Completes, Cuts, DrawsIdentifier, DrawsOrdinal, DropsHandle, Empties, Enters, Frees, Joins, Makes, Receives, Takes, TakesConnect, Tells, Unbinds, Wakes, Withdraws, basic, world_after, Dies, Registers, Unregisters}
+use Rattle.lpc_model.specs.Basics.{Basic, Binds, Frees, Unbinds, basic, world_after}
 use Rattle.lpc_model.specs.Entering.{given_steps, row_of, shown, take_connect_steps, take_steps, takes, woken}
 use Rattle.lpc_model.specs.Connect.{client_port, connect_start, connection_request, create_steps, listen_steps, making, named_steps, nt_create_port}
 use Rattle.lpc_model.specs.Request.{reply_test, datagram_start, nt_reply_port, receive_steps, reply, request_start, sent_by}
@@ -63,31 +63,9 @@ binds_none b = true
 
 basic-bindings : (w : World) (b : Basic) → binds_none b ≡ true → (basic w b).bindings ≡ w.bindings
 basic-bindings w (Binds path node) ok = absurd (cc)
-basic-bindings w (Tells e) ok = refl
-basic-bindings w (Wakes who call status fields) ok = refl
-basic-bindings w (Awaits x) ok = refl
-basic-bindings w (Receives who q) ok = refl
-basic-bindings w (Accepts who reply) ok = refl
-basic-bindings w (Enters x) ok = refl
-basic-bindings w (Takes q) ok = refl
-basic-bindings w (TakesConnect q) ok = refl
-basic-bindings w (DrawsIdentifier who) ok = refl
-basic-bindings w (DrawsOrdinal who) ok = refl
-basic-bindings w (Dies who status) ok = refl
-basic-bindings w (Registers who b) ok = refl
-basic-bindings w (Unregisters who b) ok = refl
-basic-bindings w (AddsProcess p) ok = refl
-basic-bindings w (AddsThread t) ok = refl
-basic-bindings w (Makes p) ok = refl
-basic-bindings w (Joins client server context) ok = refl
-basic-bindings w (Completes b) ok = refl
-basic-bindings w (Withdraws who) ok = refl
 basic-bindings w (Frees o) ok = absurd (cc)
-basic-bindings w (AddsHandle pid h) ok = refl
-basic-bindings w (Empties q) ok = refl
-basic-bindings w (Cuts b) ok = refl
-basic-bindings w (DropsHandle pid value) ok = refl
 basic-bindings w (Unbinds b) ok = absurd (cc)
+basic-bindings w b ok = refl
 
 pub run-bindings : (w : World) (bs : List Basic) → every binds_none bs ≡ true → (world_after w bs).bindings ≡ w.bindings
 run-bindings w [] ok = refl

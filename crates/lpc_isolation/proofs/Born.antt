@@ -1,7 +1,7 @@
 -- Births of processes and threads in the run whose rows never go: what is made next has a birth that no row has.
 use Rattle.std.proofs.Common.{◌≡◌, ℕ, ◌+◌, List, [], ◌∷◌, ◌++◌, Bool, true, false, not, Option, Some, None, refl, ap, sym, subst, arith}
 use Rattle.std.specs.Prelude.{◌&&◌, ◌||◌, ◌==◌, nat_lt, Result}
-use Rattle.std.proofs.lemmas.Bool.{and_from, eqb-true}
+use Rattle.std.proofs.lemmas.Bool.{and_from, eqb-true, false_from_ne_true}
 use Rattle.std.proofs.lemmas.Bool.Decides.{nat_tests}
 use Rattle.std.proofs.Math.Bool.{or-true}
 use Rattle.lpc_base.specs.Rows.{change, every, has, when}
@@ -227,11 +227,7 @@ drawn-past u by f b live maker numbers before o =
     here false = refl
 
     other : (t : ThreadRow) → is_thread by.number t ≡ false → (by.number == t.number) ≡ false
-    other t off = at (by.number == t.number) refl
-      where
-        at : (e : Bool) → (by.number == t.number) ≡ e → e ≡ false
-        at false apart = refl
-        at true is = let same : is_thread by.number t ≡ true = subst (λ n. (n == by.number) ≡ true) (eqb-true by.number t.number is) (same-number by.number) in absurd (cc)
+    other t off = false_from_ne_true (by.number == t.number) (λ is. let same : is_thread by.number t ≡ true = subst (λ n. (n == by.number) ≡ true) (eqb-true by.number t.number is) (same-number by.number) in cc)
 
 less-next : (n : ℕ) → nat_lt n (n + 1) ≡ true
 less-next n = grind (arith, nat_tests)
@@ -381,11 +377,7 @@ directed-new u b n number pid made zero off = at (same_birth b (directive_birth 
         let back : (n == number) ≡ true = subst (λ i. (i == number) ≡ true) (eqb-true number n same) (same-number number) in absurd (cc)
 
 unlike : (was : ℕ → Bool) (n number : ℕ) → was n ≡ true → was number ≡ false → (n == number) ≡ false
-unlike was n number is off = at (n == number) refl
-  where
-    at : (e : Bool) → (n == number) ≡ e → e ≡ false
-    at false apart = refl
-    at true same = let k : was n ≡ was number = ap was (eqb-true n number same) in absurd (cc)
+unlike was n number is off = false_from_ne_true (n == number) (λ same. let k : was n ≡ was number = ap was (eqb-true n number same) in cc)
 
 pub directed-processes : (u : World) (pid : ℕ) → was_process u pid ≡ false → Born u → every (λ p. not (same_birth p.birth (directive_birth pid pid)) && not (p.number == pid)) u.processes ≡ true
 directed-processes u pid off o = every-both (λ p. is_made u p.birth p.number) (λ p. was_process u p.number) (λ p. not (same_birth p.birth (directive_birth pid pid)) && not (p.number == pid))

@@ -111,20 +111,12 @@ owner-in m w tid by own = ap (λ o. is_seen m (owned o)) own
 own-whose : (u : World) (d : Whose) (tid : ℕ) (e : Entry) → tells_thread tid e ≡ true → entry_whose u d e ≡ thread_whose u tid
 own-whose u d tid (entry.Answer who call status fields) is = ap (thread_whose u) (eqb-true _ _ (first-true _ _ is))
 own-whose u d tid (entry.Waits who call fields) is = ap (thread_whose u) (eqb-true _ _ is)
-own-whose u d tid (entry.Wakes who call status fields) is = absurd (cc)
-own-whose u d tid (entry.Busy who) is = absurd (cc)
-own-whose u d tid (entry.NoThread who) is = absurd (cc)
-own-whose u d tid (entry.Died who status) is = absurd (cc)
-own-whose u d tid (entry.Directive word status) is = absurd (cc)
+own-whose u d tid b is = absurd (cc)
 
 tells-accepts : (tid : ℕ) (e : Entry) → tells_thread tid e ≡ true → accepts e ≡ true
 tells-accepts tid (entry.Answer who call status fields) is = second-true _ _ is
 tells-accepts tid (entry.Waits who call fields) is = refl
-tells-accepts tid (entry.Wakes who call status fields) is = absurd (cc)
-tells-accepts tid (entry.Busy who) is = absurd (cc)
-tells-accepts tid (entry.NoThread who) is = absurd (cc)
-tells-accepts tid (entry.Died who status) is = absurd (cc)
-tells-accepts tid (entry.Directive word status) is = absurd (cc)
+tells-accepts tid b is = absurd (cc)
 
 -- the first of its list
 pub record Headed (w : World) (tid : ℕ) (bs : List Basic) : Type 0 where
@@ -141,11 +133,7 @@ pub record Headed (w : World) (tid : ℕ) (bs : List Basic) : Type 0 where
 tells-orderly : (tid : ℕ) (e : Entry) (bs : List Basic) → tells_thread tid e ≡ true → is_orderly bs ≡ true → is_orderly (Tells e ∷ bs) ≡ true
 tells-orderly tid (entry.Answer who call status fields) bs is ok = ok
 tells-orderly tid (entry.Waits who call fields) bs is ok = ok
-tells-orderly tid (entry.Wakes who call status fields) bs is ok = absurd (cc)
-tells-orderly tid (entry.Busy who) bs is ok = absurd (cc)
-tells-orderly tid (entry.NoThread who) bs is ok = absurd (cc)
-tells-orderly tid (entry.Died who status) bs is ok = absurd (cc)
-tells-orderly tid (entry.Directive word status) bs is ok = absurd (cc)
+tells-orderly tid b bs is ok = absurd (cc)
 
 owner-same : (w : World) (tid who : ℕ) → same_owner w tid who ≡ true → owner w who ≡ owner w tid
 owner-same w tid who is = at (owner w tid) (owner w who) is

@@ -1,7 +1,7 @@
 -- NtClose in a view.
 use Rattle.std.proofs.Common.{◌≡◌, ℕ, List, [], ◌∷◌, ◌++◌, Bool, true, false, cond, Some, None, refl, ap, sym, subst, ◌∙◌, arith}
 use Rattle.std.specs.Prelude.{◌&&◌, ◌==◌, length, Ok}
-use Rattle.std.proofs.lemmas.Bool.{and_from, eqb-true}
+use Rattle.std.proofs.lemmas.Bool.{and_from, eqb-true, false_from_ne_true}
 use Rattle.std.proofs.lemmas.List.Elements.{filter-append}
 use Rattle.lpc_base.specs.Rows.{each, every, first, when, which}
 use Rattle.lpc_base.proofs.RowWords.{every-append, every-more}
@@ -70,11 +70,7 @@ named-same m o (t ∷ ts) inside fair = at (m t.process) refl (named-same m o ts
     test = λ h. same_object h.object o
 
     off : m t.process ≡ false → (o.birth.process == t.process) ≡ false
-    off out = by (o.birth.process == t.process) refl
-      where
-        by : (e : Bool) → (o.birth.process == t.process) ≡ e → e ≡ false
-        by true same = let k : m o.birth.process ≡ m t.process = ap m (eqb-true _ _ same) in absurd (cc)
-        by false other = refl
+    off out = false_from_ne_true (o.birth.process == t.process) (λ same. let k : m o.birth.process ≡ m t.process = ap m (eqb-true _ _ same) in cc)
 
     at : (e : Bool) → m t.process ≡ e → which test (each (λ t. t.rows) (which (our_table m) ts)) ≡ which test (each (λ t. t.rows) ts) → which test (each (λ t. t.rows) (which (our_table m) (t ∷ ts))) ≡ which test (each (λ t. t.rows) (t ∷ ts))
     at true is rest = rw is (filter-append test t.rows (each (λ t. t.rows) (which (our_table m) ts)) ∙ ap (λ hs. which test t.rows ++ hs) rest ∙ sym (filter-append test t.rows (each (λ t. t.rows) ts)))

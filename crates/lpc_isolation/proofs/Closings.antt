@@ -1,17 +1,17 @@
 -- The stages of a port's closing: which waits end, and what goes.
 use Rattle.std.proofs.Common.{◌≡◌, ℕ, [], ◌∷◌, ◌++◌, Bool, true, false, not, Option, Some, None, refl, ap, sym, subst, ◌∙◌, arith}
 use Rattle.std.specs.Prelude.{◌&&◌, ◌||◌, ◌==◌, option_and_then, option_map}
-use Rattle.std.proofs.lemmas.Bool.{and_from, and_left, eqb-true, or_left}
+use Rattle.std.proofs.lemmas.Bool.{and_from, and_left, eqb-true, false_from_ne_true, or_left}
 use Rattle.std.proofs.Math.Bool.{and-false}
 use Rattle.lpc_base.specs.Rows.{passes}
 use Rattle.lpc_base.proofs.RowWords.{first-passes}
 use Rattle.lpc_base.proofs.RowMaps.{every-first}
 use Rattle.lpc_base.proofs.Bools.{first-true, or-second, same-number, second-true}
 use Rattle.lpc_base.proofs.Births.{birth-same, birth-self}
-use Rattle.lpc_base.specs.declared.port_kind.PortKind.TheVariants.{Client, Connection, Server, Unnamed}
+use Rattle.lpc_base.specs.declared.port_kind.PortKind.TheVariants.{Server}
 use Rattle.lpc_base.specs.declared.status.TheConstants.{LPC_REPLY_LOST, PORT_CONNECTION_REFUSED, PORT_DISCONNECTED}
 use Rattle.lpc_model.specs.Fields.{info}
-use Rattle.lpc_model.specs.World.{Accepted, Birth, Connect, Listen, PortKind, PortRow, Receive, Request, WaitKind, WaitRow, World}
+use Rattle.lpc_model.specs.World.{Accepted, Birth, Listen, PortKind, PortRow, Receive, WaitKind, WaitRow, World}
 use Rattle.lpc_model.specs.Found.{is_accepted, is_client_port, is_listen, is_made_on, is_port, is_receive, is_request, is_server_port, is_the, pair_of, port_row, same_birth}
 use Rattle.lpc_model.specs.Basics.{Basic, Cuts, Empties, Unbinds, basic, doing, told}
 use Rattle.lpc_model.specs.Close.{close_port, cut_pair, drop_name, empty_queue, is_accepted_across, is_across, is_offered_to, is_queued_request, is_receive_across, is_receiver, is_request_across, is_request_on}
@@ -37,25 +37,18 @@ use Rattle.lpc_isolation.proofs.Reply.{wait-not-c}
 
 -- Sorts of waits
 receiver-settled : (x : WaitRow) (k : WaitKind) → x.kind ≡ k → (is_receive x || is_listen x) ≡ true → is_settled x ≡ true
-receiver-settled x (Request a) k is = let off : (false || false) ≡ true = rw k at is in absurd (cc)
-receiver-settled x (Connect a) k is = let off : (false || false) ≡ true = rw k at is in absurd (cc)
-receiver-settled x (Accepted a r) k is = let off : (false || false) ≡ true = rw k at is in absurd (cc)
 receiver-settled x Receive k is = rw k (grind arith)
 receiver-settled x Listen k is = rw k (grind arith)
+receiver-settled x b k is = let off : (false || false) ≡ true = rw k at is in absurd (cc)
 
 accepted-settled : (x : WaitRow) (k : WaitKind) → x.kind ≡ k → is_accepted x ≡ true → is_settled x ≡ true
 accepted-settled x (Accepted a r) k is = rw k (grind arith)
-accepted-settled x (Request a) k is = let off : false ≡ true = rw k at is in absurd (cc)
-accepted-settled x (Connect a) k is = let off : false ≡ true = rw k at is in absurd (cc)
-accepted-settled x Receive k is = let off : false ≡ true = rw k at is in absurd (cc)
-accepted-settled x Listen k is = let off : false ≡ true = rw k at is in absurd (cc)
+accepted-settled x b k is = let off : false ≡ true = rw k at is in absurd (cc)
 
 accepted-takes : (x : WaitRow) (k : WaitKind) → x.kind ≡ k → is_accepted x ≡ true → takes_any x ≡ false
-accepted-takes x (Accepted a r) k is = rw k refl
-accepted-takes x (Request a) k is = rw k refl
-accepted-takes x (Connect a) k is = rw k refl
 accepted-takes x Receive k is = let off : false ≡ true = rw k at is in absurd (cc)
 accepted-takes x Listen k is = let off : false ≡ true = rw k at is in absurd (cc)
+accepted-takes x b k is = rw k refl
 
 -- Whose a wait is
 queue-off : (m : Group) (x : WaitRow) (b : Birth) → m b.process ≡ false → same_birth x.queue b ≡ true → our_wait m x ≡ false
@@ -169,18 +162,10 @@ across m c u w b x s fair is = at (port_row w x.port) refl is
 
 -- of a client port, or any but a server port, the other end is a member's where it is, and it is where the other end is c's
 client-out : (m : Group) (c : ℕ) (p : PortRow) (b : Birth) → is_fair_pair m c p b ≡ true → is_server_port p ≡ false → m b.process ≡ false → m p.birth.process ≡ false
-client-out m c p b fair kind out = at (m p.birth.process) refl
-  where
-    at : (e : Bool) → m p.birth.process ≡ e → e ≡ false
-    at true inside = let never : ((not true || false) && (not (b.process == c) || true)) ≡ true = rw (kind, inside, out) at fair in absurd (cc)
-    at false off = refl
+client-out m c p b fair kind out = false_from_ne_true (m p.birth.process) (λ inside. let never : ((not true || false) && (not (b.process == c) || true)) ≡ true = rw (kind, inside, out) at fair in cc)
 
 server-other : (m : Group) (c : ℕ) (p : PortRow) (b : Birth) → is_fair_pair m c p b ≡ true → is_server_port p ≡ true → m b.process ≡ false → (p.birth.process == c) ≡ false
-server-other m c p b fair kind out = at (p.birth.process == c) refl
-  where
-    at : (e : Bool) → (p.birth.process == c) ≡ e → e ≡ false
-    at true mine = let never : ((not (m b.process) || m p.birth.process) && (not true || m b.process)) ≡ true = rw (kind, mine) at fair in absurd (grind arith)
-    at false off = refl
+server-other m c p b fair kind out = false_from_ne_true (p.birth.process == c) (λ mine. let never : ((not (m b.process) || m p.birth.process) && (not true || m b.process)) ≡ true = rw (kind, mine) at fair in grind arith)
 
 pub member-in : (m : Group) (c : ℕ) (p : PortRow) (b : Birth) → is_fair_pair m c p b ≡ true → m c ≡ true → b.process ≡ c → m p.birth.process ≡ true
 member-in m c p b fair c_in mine = at (is_server_port p) refl
@@ -207,9 +192,7 @@ across-thin k u b x live = rw (row-thin k u x.port live) refl
 -- a request across: on a server port its queue is the other end
 server-kind : (p : PortRow) (k : PortKind) → p.kind ≡ k → is_server_port p ≡ true → (q b : Birth) → p.pair ≡ Some b → leads q p ≡ true → same_birth q b ≡ true
 server-kind p Server k is q b pair on = rw (k, pair) at on
-server-kind p Client k is q b pair on = let off : false ≡ true = rw k at is in absurd (cc)
-server-kind p Connection k is q b pair on = let off : false ≡ true = rw k at is in absurd (cc)
-server-kind p Unnamed k is q b pair on = let off : false ≡ true = rw k at is in absurd (cc)
+server-kind p e k is q b pair on = let off : false ≡ true = rw k at is in absurd (cc)
 
 request-off : (m : Group) (c : ℕ) (u w : World) (b : Birth) (x : WaitRow) → m b.process ≡ false → Sure m c u w → is_known_wait m c u w x ≡ true → is_request_across b w x ≡ true → our_wait m x ≡ false
 request-off m c u w b x out s known is = at (across m c u w b x s (first-true _ _ known) (second-true _ _ is))
@@ -270,10 +253,8 @@ row-client m w b is = ap (λ o. passes o is_client_port) (port-view m w b is) �
     at (Some p) = refl
 
 client-kind : (p : PortRow) (k : PortKind) → p.kind ≡ k → is_client_port p ≡ true → is_server_port p ≡ false
-client-kind p Client k is = rw k refl
 client-kind p Server k is = let off : false ≡ true = rw k at is in absurd (cc)
-client-kind p Connection k is = rw k refl
-client-kind p Unnamed k is = rw k refl
+client-kind p b k is = rw k refl
 
 receive-off : (m : Group) (c : ℕ) (u w : World) (b : Birth) (x : WaitRow) → m b.process ≡ false → Sure m c u w → is_known_wait m c u w x ≡ true → is_receive_across b w x ≡ true → our_wait m x ≡ false
 receive-off m c u w b x out s known is = at (across m c u w b x s (first-true _ _ known) (first-true _ _ (second-true _ _ is)))

@@ -1,7 +1,7 @@
 -- NtCompleteConnectPort in a view.
 use Rattle.std.proofs.Common.{◌≡◌, ℕ, List, [], ◌∷◌, Bool, true, false, cond, not, Option, Some, None, refl, ap, sym, subst, ◌∙◌, arith}
 use Rattle.std.specs.Prelude.{◌&&◌, ◌==◌, Ok}
-use Rattle.std.proofs.lemmas.Bool.{and_from, eqb-true, not-false}
+use Rattle.std.proofs.lemmas.Bool.{and_from, eqb-true, false_from_ne_true, not-false}
 use Rattle.lpc_base.specs.Rows.{first, given, passes}
 use Rattle.lpc_base.proofs.RowWords.{first-passes}
 use Rattle.lpc_base.proofs.RowMaps.{every-first}
@@ -98,11 +98,7 @@ complete-call-fair m c u w by handle k = on-complete (λ bs. are_fair m c w bs �
 
 -- apart
 pub out-other : (m : Group) (c p : ℕ) → m c ≡ true → m p ≡ false → (p == c) ≡ false
-out-other m c p c_in out = at (p == c) refl
-  where
-    at : (b : Bool) → (p == c) ≡ b → b ≡ false
-    at true is = let k : m p ≡ m c = ap m (eqb-true _ _ is) in absurd (cc)
-    at false is = refl
+out-other m c p c_in out = false_from_ne_true (p == c) (λ is. let k : m p ≡ m c = ap m (eqb-true _ _ is) in cc)
 
 complete-apart : (m : Group) (c : ℕ) (u : World) (d : Whose) (w : World) (by : ThreadRow) (handle value : ℕ) (r : Completable) → Caller m c u w by → IsCompletable m c w by handle r → m by.process ≡ false → are_apart m c u d w (complete_steps by value r) ≡ true
 complete-apart m c u d w by handle value r k is out =

@@ -1,7 +1,7 @@
 -- What counts for an object: for c's own ports in a view as in the world, and where rows that nothing names have gone.
 use Rattle.std.proofs.Common.{◌≡◌, ℕ, List, [], ◌∷◌, ◌++◌, Bool, true, false, cond, not, map, Option, Some, None, refl, ap, sym, subst, ◌∙◌, arith}
 use Rattle.std.specs.Prelude.{◌&&◌, ◌||◌, ◌==◌, ◌+◌, is_none, length, is_some}
-use Rattle.std.proofs.lemmas.Bool.{and_from, eqb-true}
+use Rattle.std.proofs.lemmas.Bool.{and_from, eqb-true, false_from_ne_true}
 use Rattle.std.proofs.lemmas.List.Elements.{filter-append}
 use Rattle.std.proofs.Math.Bool.{or-true}
 use Rattle.lpc_base.specs.Rows.{count, each, every, has, which, first, when}
@@ -279,25 +279,13 @@ standing-live : (k : Alive) (u : World) (b : Birth) (p : PortRow) → Closed k u
 standing-live k u b p c cut is = at (k.ports p.birth) refl
   where
     off-sent : (x : MessageRow) → k.ports p.birth ≡ false → message_closed k x ≡ true → is_sent_to b p x ≡ false
-    off-sent x dead closed = by (is_sent_to b p x) refl
-      where
-        by : (e : Bool) → is_sent_to b p x ≡ e → e ≡ false
-        by true here = let same : k.ports x.sender ≡ k.ports p.birth = ap k.ports (birth-same x.sender p.birth (first-true _ _ here)) in absurd (cc)
-        by false off = refl
+    off-sent x dead closed = false_from_ne_true (is_sent_to b p x) (λ here. let same : k.ports x.sender ≡ k.ports p.birth = ap k.ports (birth-same x.sender p.birth (first-true _ _ here)) in cc)
 
     off-made : (x : WaitRow) → k.ports p.birth ≡ false → wait_closed k x ≡ true → is_made_to p x ≡ false
-    off-made x dead closed = by (is_made_to p x) refl
-      where
-        by : (e : Bool) → is_made_to p x ≡ e → e ≡ false
-        by true here = let same : k.ports x.port ≡ k.ports p.birth = ap k.ports (birth-same x.port p.birth (first-true _ _ here)) in absurd (cc)
-        by false off = refl
+    off-made x dead closed = false_from_ne_true (is_made_to p x) (λ here. let same : k.ports x.port ≡ k.ports p.birth = ap k.ports (birth-same x.port p.birth (first-true _ _ here)) in cc)
 
     off-told : (d : Birth) → k.ports p.birth ≡ false → k.ports d ≡ true → same_birth p.birth d ≡ false
-    off-told d dead live = by (same_birth p.birth d) refl
-      where
-        by : (e : Bool) → same_birth p.birth d ≡ e → e ≡ false
-        by true here = let same : k.ports p.birth ≡ k.ports d = ap k.ports (birth-same p.birth d here) in absurd (cc)
-        by false off = refl
+    off-told d dead live = false_from_ne_true (same_birth p.birth d) (λ here. let same : k.ports p.birth ≡ k.ports d = ap k.ports (birth-same p.birth d here) in cc)
 
     at : (e : Bool) → k.ports p.birth ≡ e → e ≡ true
     at true live = refl

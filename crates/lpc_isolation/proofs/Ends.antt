@@ -1,6 +1,6 @@
 -- Waits that end one after the other, and what that owes as a stage of a closing.
 use Rattle.std.proofs.Common.{◌≡◌, ℕ, List, [], ◌∷◌, Bool, true, false, not, refl, ap, sym, subst, ◌∙◌, arith}
-use Rattle.std.proofs.lemmas.Bool.{and_from, not-true}
+use Rattle.std.proofs.lemmas.Bool.{and_from, false_from_ne_true, not-true}
 use Rattle.std.specs.Prelude.{◌&&◌, ◌||◌, ◌==◌}
 use Rattle.lpc_base.specs.Rows.{each, every, has, which, without}
 use Rattle.lpc_base.specs.declared.status.Status.{Status}
@@ -294,11 +294,7 @@ module _ (m : Group) (c : ℕ) (b : Birth) (draws : Bool) (status : Status) (fie
           rw (off, wake-not-c m c u d x x.call status fields owned (not-mine x off (first-true _ _ known))) refl
         where
           not-mine : (x : WaitRow) → our_wait m x ≡ false → is_fair_wait m c x ≡ true → (x.process == c) ≡ false
-          not-mine x off fair = on (x.process == c) refl
-            where
-              on : (b : Bool) → (x.process == c) ≡ b → b ≡ false
-              on true is = let k : our_wait m x ≡ true = c-wait m c x s.c_in fair is in absurd (cc)
-              on false is = refl
+          not-mine x off fair = false_from_ne_true (x.process == c) (λ is. let k : our_wait m x ≡ true = c-wait m c x s.c_in fair is in cc)
 
       unheard : every (is_unheard m c u d status fields) (ending w) ≡ true
       unheard = every-which (is_unheard m c u d status fields) (test w) w.waits (every-more (is_known_wait m c u w) (is_unheard m c u d status fields) (λ x known. at x (our_wait m x) refl known) w.waits (known-waits m c u w s))

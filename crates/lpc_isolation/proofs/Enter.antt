@@ -30,11 +30,9 @@ abbrev pub Patient : World → Type 0
 Patient w = every (is_patient w) w.waits ≡ true
 
 patient-as : (w : World) (x : WaitRow) (k : WaitKind) → x.kind ≡ k → is_sound_as w x k ≡ true → is_patient w x ≡ true
-patient-as w x (Request a) k is = rw k refl
 patient-as w x Receive k is = rw k (grind arith)
 patient-as w x Listen k is = rw k (grind arith)
-patient-as w x (Connect a) k is = rw k refl
-patient-as w x (Accepted a b) k is = rw k refl
+patient-as w x b k is = rw k refl
 
 pub sound-patient : (w : World) → HasSoundWaits w → Patient w
 sound-patient w s = every-more (is_sound_wait w) (is_patient w) (λ x is. patient-as w x x.kind refl (second-true _ _ is)) w.waits s

@@ -11,7 +11,7 @@ use Rattle.lpc_base.specs.declared.status.TheConstants.{INVALID_PORT_HANDLE, SUC
 use Rattle.lpc_model.specs.Message.{asks, message_test}
 use Rattle.lpc_model.specs.World.{Accepted, Birth, Connect, Listen, MessageRow, PortRow, Receive, Request, ThreadRow, WaitKind, WaitRow, World}
 use Rattle.lpc_model.specs.Found.{is_connection_port, is_made_on, is_port, is_queued, is_queued_connect, wait_of, waits_as, waits_at}
-use Rattle.lpc_model.specs.Basics.{Accepts, AddsHandle, AddsProcess, AddsThread, Awaits, Basic, Binds, Completes, Cuts, DrawsIdentifier, DrawsOrdinal, DropsHandle, Empties, Enters, Frees, Joins, Makes, Receives, Takes, TakesConnect, Tells, Unbinds, Wakes, Withdraws, basic, completed, cut, is_end_of, joined, received, world_after, Dies, Registers, Unregisters}
+use Rattle.lpc_model.specs.Basics.{AddsProcess, Awaits, Basic, Completes, Cuts, Enters, Frees, Joins, Makes, basic, completed, cut, is_end_of, joined, received, world_after}
 use Rattle.lpc_model.specs.Entering.{enter, given_steps, row_of, shown, take_connect_steps, take_steps, takes, woken}
 use Rattle.lpc_model.specs.Refusal.{refuse_if}
 use Rattle.lpc_model.specs.declared.message.Message.{Message}
@@ -52,29 +52,10 @@ basic-fine : (m : Group) (c : ℕ) (u : World) (b : Basic) → makes_fine m c b 
 basic-fine m c u (Makes p) ok f = (f.0, every-push (is_fine_port m c) u.ports p f.1 ok)
 basic-fine m c u (Joins client server context) ok f = (f.0, every-same (is_fine_port m c) (joined client server context) (joined-fine m c client server context) u.ports ∙ f.1)
 basic-fine m c u (Completes b) ok f = (f.0, every-change (is_fine_port m c) (is_port b) completed (λ p is. is) u.ports f.1)
-basic-fine m c u (Withdraws who) ok f = f
 basic-fine m c u (Frees o) ok f = absurd (cc)
-basic-fine m c u (Awaits x) ok f = f
-basic-fine m c u (Enters x) ok f = f
-basic-fine m c u (Binds path node) ok f = f
-basic-fine m c u (AddsHandle pid h) ok f = f
 basic-fine m c u (Cuts b) ok f = (f.0, every-change (is_fine_port m c) (is_end_of b) cut (λ p is. is) u.ports f.1)
-basic-fine m c u (Empties q) ok f = f
-basic-fine m c u (Unbinds b) ok f = f
-basic-fine m c u (DropsHandle pid value) ok f = f
-basic-fine m c u (Tells e) ok f = f
-basic-fine m c u (Wakes who call status fields) ok f = f
-basic-fine m c u (Receives who q) ok f = f
-basic-fine m c u (Accepts who reply) ok f = f
-basic-fine m c u (Takes q) ok f = f
-basic-fine m c u (TakesConnect q) ok f = f
-basic-fine m c u (DrawsIdentifier who) ok f = f
-basic-fine m c u (DrawsOrdinal who) ok f = f
-basic-fine m c u (Dies who status) ok f = f
-basic-fine m c u (Registers who b) ok f = f
-basic-fine m c u (Unregisters who b) ok f = f
 basic-fine m c u (AddsProcess p) ok f = (every-push (is_fine_process m) u.processes p f.0 ok, f.1)
-basic-fine m c u (AddsThread t) ok f = f
+basic-fine m c u b ok f = f
 
 pub run-fine : (m : Group) (c : ℕ) (u : World) (bs : List Basic) → every (makes_fine m c) bs ≡ true → HasFineRows m c u → HasFineRows m c (world_after u bs)
 run-fine m c u [] ok f = f

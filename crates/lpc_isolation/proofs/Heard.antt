@@ -168,12 +168,7 @@ woken-silent m (Some x) fields memo is = let off : takes_any x ≡ false = grind
 
 entry-silent : (m : Group) (v : World) (memo : List Heard) (e : Entry) → is_silent v e ≡ true → entry_memo m v memo e ≡ memo
 entry-silent m v memo (entry.Wakes who call status fields) is = woken-silent m (wait_of v who) fields memo is
-entry-silent m v memo (entry.Answer who call status fields) is = refl
-entry-silent m v memo (entry.Waits who call fields) is = refl
-entry-silent m v memo (entry.Busy who) is = refl
-entry-silent m v memo (entry.NoThread who) is = refl
-entry-silent m v memo (entry.Died who status) is = refl
-entry-silent m v memo (entry.Directive word status) is = refl
+entry-silent m v memo b is = refl
 
 -- a wait that ended leaves the others
 wait-left : (who other : ℕ) (xs : List WaitRow) → not (passes (first (waits_as who) xs) takes_any) ≡ true → not (passes (first (waits_as who) (without (waits_as other) xs)) takes_any) ≡ true
@@ -200,12 +195,7 @@ silent-kept v (entry.Wakes other call status fields) (entry.Busy who) is = refl
 silent-kept v (entry.Wakes other call status fields) (entry.NoThread who) is = refl
 silent-kept v (entry.Wakes other call status fields) (entry.Died who status') is = refl
 silent-kept v (entry.Wakes other call status fields) (entry.Directive word status') is = refl
-silent-kept v (entry.Answer who call status fields) e is = is
-silent-kept v (entry.Waits who call fields) e is = is
-silent-kept v (entry.Busy who) e is = is
-silent-kept v (entry.NoThread who) e is = is
-silent-kept v (entry.Died who status) e is = is
-silent-kept v (entry.Directive word status) e is = is
+silent-kept v b e is = is
 
 pub entries-silent : (m : Group) (v : World) (memo : List Heard) (es : List Entry) → every (is_silent v) es ≡ true → entries_memo m v memo es ≡ memo
 entries-silent m v memo [] is = refl
@@ -227,9 +217,4 @@ none-kept k q (x ∷ xs) none = grind (arith, none-kept k q xs)
 
 pub done-silent : (m : Group) (w : World) (e : Entry) → is_done w e ≡ true → is_silent (view m w) e ≡ true
 done-silent m w (entry.Wakes who call status fields) is = let none : has (waits_as who) w.waits ≡ false = grind arith in rw (none-kept (our_wait m) (waits_as who) w.waits none) refl
-done-silent m w (entry.Answer who call status fields) is = refl
-done-silent m w (entry.Waits who call fields) is = refl
-done-silent m w (entry.Busy who) is = refl
-done-silent m w (entry.NoThread who) is = refl
-done-silent m w (entry.Died who status) is = refl
-done-silent m w (entry.Directive word status) is = refl
+done-silent m w b is = refl

@@ -152,7 +152,4 @@ held-counts w o h = at o.kind o.birth
   where
     at : (k : ObjectKind) (b : Birth) → standing_count w (record { kind = k; birth = b }) ≡ pointer_count w (record { kind = k; birth = b })
     at kind.Port b = ap (λ n. handle_count w (port_name b) + (count (is_paired_to b) w.ports + (n + (count (is_sent_on b) w.messages + (count (is_made_on b) w.waits + count (same_birth b) (all_registrations w)))))) (ap length (which-same (is_connected_to b) (λ p. is_aside w b p || not (is_cut p)) w.ports (all-stand w b h)))
-    at kind.Section b = refl
-    at kind.Token b = refl
-    at kind.Process b = refl
-    at kind.Thread b = refl
+    at e b = refl

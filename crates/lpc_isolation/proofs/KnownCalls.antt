@@ -18,7 +18,7 @@ use Rattle.lpc_model.specs.declared.message.Message.{Message}
 use Rattle.lpc_model.specs.declared.entry.Field.{Field}
 use Rattle.lpc_model.specs.Fields.{id, msg, receipt}
 use Rattle.lpc_model.specs.Message.{asks, message_test}
-use Rattle.lpc_model.specs.World.{Accepted, Birth, Connect, Listen, MessageRow, PortRow, Receive, Request, ThreadRow, WaitKind, WaitRow, World}
+use Rattle.lpc_model.specs.World.{Birth, Listen, MessageRow, PortRow, Receive, ThreadRow, WaitKind, WaitRow, World}
 use Rattle.lpc_model.specs.Found.{fits, is_accepted, is_offered, is_queued, is_queued_connect, is_request, queue_of, same_birth, wait_of, waits_as}
 use Rattle.lpc_model.specs.Basics.{Awaits, Basic, entries_of, world_after}
 use Rattle.lpc_model.specs.Entering.{enter, given_steps, row_of, shown, take_connect_steps, take_steps, takes, woken}
@@ -56,11 +56,9 @@ use Rattle.lpc_isolation.proofs.Receptions.{Fits, asker-by, asker-on, enter-know
 
 -- A wait that isn't for messages
 not-taker : (x : WaitRow) (sort : WaitKind) → x.kind ≡ sort → (is_accepted x || (is_offered x || is_request x)) ≡ true → takes_any x ≡ false
-not-taker x (Request a) is on = rw is refl
-not-taker x (Connect a) is on = rw is refl
-not-taker x (Accepted a r) is on = rw is refl
 not-taker x Receive is on = let off : false ≡ true = rw is at on in absurd (cc)
 not-taker x Listen is on = let off : false ≡ true = rw is at on in absurd (cc)
+not-taker x b is on = rw is refl
 
 pub none-takes : (k t f : WaitRow → Bool) (xs : List WaitRow) → every (λ y. not (t y) || not (f y)) xs ≡ true → not (passes (first t (which k xs)) f) ≡ true
 none-takes k t f [] all = refl
@@ -159,9 +157,7 @@ still-hears m c u d w memo bs all still =
 pub shown-heard : (m : Group) (y : MessageRow) (z : WaitRow) (sort : WaitKind) (memo : List Heard) → z.kind ≡ sort → takes y z ≡ true → Reads y → woken_memo m (Some z) (shown z y) memo ≡ noted_of m y z.queue memo
 shown-heard m y z Receive memo is takes r = rw is (heard-receipt m y z.queue memo r)
 shown-heard m y z Listen memo is takes r = rw is (heard-message m y z.queue memo r)
-shown-heard m y z (Request a) memo is takes r = let off : (false && same_birth z.queue y.queue) ≡ true = rw is at takes in absurd (cc)
-shown-heard m y z (Connect a) memo is takes r = let off : (false && same_birth z.queue y.queue) ≡ true = rw is at takes in absurd (cc)
-shown-heard m y z (Accepted a b) memo is takes r = let off : (false && same_birth z.queue y.queue) ≡ true = rw is at takes in absurd (cc)
+shown-heard m y z b memo is takes r = let off : (false && same_birth z.queue y.queue) ≡ true = rw is at takes in absurd (cc)
 
 -- of the one wait of a thread
 pub own-first : (p q : WaitRow → Bool) (xs : List WaitRow) (x : WaitRow) → count q xs ≤ 1 → first p xs ≡ Some x → q x ≡ true → first q xs ≡ Some x

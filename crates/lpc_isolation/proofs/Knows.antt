@@ -14,7 +14,7 @@ use Rattle.lpc_model.specs.Message.{message_test}
 use Rattle.lpc_model.specs.Refusal.{found_or}
 use Rattle.lpc_model.specs.World.{Accepted, Birth, Connect, Listen, Receive, Request, ThreadRow, WaitKind, WaitRow, World}
 use Rattle.lpc_model.specs.Found.{is_offered, is_the, no_birth, waits_as, waits_at}
-use Rattle.lpc_model.specs.Basics.{Accepts, AddsHandle, AddsProcess, AddsThread, Awaits, Basic, Binds, Completes, Cuts, DrawsIdentifier, DrawsOrdinal, DropsHandle, Empties, Enters, Frees, Joins, Makes, Receives, Takes, TakesConnect, Tells, Unbinds, Wakes, Withdraws, accepted, basic, received, world_after, Dies, Registers, Unregisters}
+use Rattle.lpc_model.specs.Basics.{Accepts, Awaits, Basic, Frees, Receives, Wakes, accepted, basic, received, world_after, Dies}
 use Rattle.lpc_model.specs.Tests.{client_test}
 use Rattle.lpc_model.specs.Connect.{ConnectAnswer, answer_test, names_connect}
 use Rattle.lpc_model.proofs.Holding.{Holds, bind_holds, found_ok}
@@ -57,28 +57,9 @@ basic-known m memo w (Awaits x) ok all = every-push (is_known m memo) w.waits x 
 basic-known m memo w (Receives who q) ok all = every-changed (is_known m memo) (is_told m memo who) (waits_at who q) received (λ x known told at. grind arith) w.waits all ok
 basic-known m memo w (Wakes who call status fields) ok all = every-without (is_known m memo) (waits_as who) w.waits all
 basic-known m memo w (Accepts who reply) ok all = every-change (is_known m memo) (waits_as who) (accepted reply) (λ x is. accepted-known m memo reply x x.kind refl is) w.waits all
-basic-known m memo w (Makes p) ok all = all
-basic-known m memo w (Joins client server context) ok all = all
-basic-known m memo w (Completes b) ok all = all
-basic-known m memo w (Withdraws who) ok all = all
 basic-known m memo w (Frees o) ok all = absurd (cc)
-basic-known m memo w (Enters x) ok all = all
-basic-known m memo w (Binds path node) ok all = all
-basic-known m memo w (AddsHandle pid h) ok all = all
-basic-known m memo w (Empties q) ok all = all
-basic-known m memo w (Cuts b) ok all = all
-basic-known m memo w (Unbinds b) ok all = all
-basic-known m memo w (DropsHandle pid value) ok all = all
-basic-known m memo w (Tells e) ok all = all
-basic-known m memo w (Takes q) ok all = all
-basic-known m memo w (TakesConnect q) ok all = all
-basic-known m memo w (DrawsIdentifier who) ok all = all
-basic-known m memo w (DrawsOrdinal who) ok all = all
 basic-known m memo w (Dies who status) ok all = every-without (is_known m memo) (waits_as who) w.waits all
-basic-known m memo w (Registers who b) ok all = all
-basic-known m memo w (Unregisters who b) ok all = all
-basic-known m memo w (AddsProcess p) ok all = all
-basic-known m memo w (AddsThread t) ok all = all
+basic-known m memo w b ok all = all
 
 pub run-known : (m : Group) (memo : List Heard) (w : World) (bs : List Basic) → are_known m memo w bs ≡ true → AllKnown m memo w → AllKnown m memo (world_after w bs)
 run-known m memo w [] ok all = all

@@ -1,7 +1,7 @@
 -- A line that is a call, in a play: what each call owes is enough.
 use Rattle.std.proofs.Common.{◌≡◌, ℕ, ◌≤◌, List, [], ◌∷◌, ◌++◌, Bool, true, false, cond, not, map, Option, Some, None, refl, ap, sym, subst, ◌∙◌, arith}
 use Rattle.std.specs.Prelude.{◌&&◌, ◌==◌, option_map}
-use Rattle.std.proofs.lemmas.Bool.{eqb-true, not-true}
+use Rattle.std.proofs.lemmas.Bool.{eqb-true, false_from_ne_true, not-true}
 use Rattle.std.proofs.Math.Bool.{and-true}
 use Rattle.lpc_base.specs.Rows.{count, every, first, given, has, which}
 use Rattle.lpc_base.proofs.RowWords.{without-none}
@@ -58,11 +58,7 @@ whose-view m c (Some p) c_in = at (m p) refl
   where
     at : (b : Bool) → m p ≡ b → is_seen (alone c) (owned (cond b (Some p) None)) ≡ (p == c)
     at true is = refl
-    at false out = sym (off (p == c) refl)
-      where
-        off : (e : Bool) → (p == c) ≡ e → e ≡ false
-        off true same = let k : m p ≡ m c = ap m (eqb-true _ _ same) in absurd (cc)
-        off false other = refl
+    at false out = sym (false_from_ne_true (p == c) (λ same. let k : m p ≡ m c = ap m (eqb-true _ _ same) in cc))
 
 thread-view : (m : Group) (c : ℕ) (w : World) (tid : ℕ) → m c ≡ true → OnceUsed w → is_seen (alone c) (thread_whose (view m w) tid) ≡ is_seen (alone c) (thread_whose w tid)
 thread-view m c w tid c_in once = ap (λ o. is_seen (alone c) (owned o)) (owner-view m w tid once) ∙ whose-view m c (owner w tid) c_in

@@ -8,9 +8,9 @@ use Rattle.lpc_base.proofs.RowMaps.{every-both, every-first}
 use Rattle.lpc_base.proofs.Bools.{first-true, or-last, second-true}
 use Rattle.lpc_base.proofs.Births.{birth-same}
 use Rattle.lpc_base.specs.declared.port_kind.PortKind.TheVariants.{Client, Connection, Server, Unnamed}
-use Rattle.lpc_model.specs.World.{Accepted, Birth, Connect, Listen, PortKind, PortRow, Receive, Request, WaitKind, WaitRow, World}
+use Rattle.lpc_model.specs.World.{Birth, PortKind, PortRow, Request, WaitKind, WaitRow, World}
 use Rattle.lpc_model.specs.Found.{is_cut, is_port, is_request, is_server_port, is_the, port_row, same_birth, waits_as, waits_at}
-use Rattle.lpc_model.specs.Basics.{Accepts, AddsHandle, AddsProcess, AddsThread, Awaits, Basic, Binds, Completes, Cuts, DrawsIdentifier, DrawsOrdinal, DropsHandle, Empties, Enters, Frees, Joins, Makes, Receives, Takes, TakesConnect, Tells, Unbinds, Wakes, Withdraws, accepted, basic, completed, cut, is_end_of, joined, received, world_after, Dies, Registers, Unregisters}
+use Rattle.lpc_model.specs.Basics.{Accepts, Awaits, Basic, Completes, Cuts, Frees, Joins, Makes, Receives, Wakes, accepted, basic, completed, cut, is_end_of, joined, received, world_after, Dies}
 use Rattle.lpc_model.specs.Circle.{Group, is_fine_client, is_fine_port}
 use Rattle.lpc_model.proofs.Rows.{first-map}
 use Rattle.lpc_isolation.proofs.Alone.{HasFineRows}
@@ -99,10 +99,7 @@ are_paths w (b ∷ bs) = keeps_paths w b && are_paths (basic w b) bs
 
 accepted-path : (w : World) (reply : List ℕ) (x : WaitRow) (sort : WaitKind) → x.kind ≡ sort → is_path w x ≡ true → is_path w (accepted reply x) ≡ true
 accepted-path w reply x (Request a) is path = rw is (rw is at path)
-accepted-path w reply x Receive is path = rw is refl
-accepted-path w reply x Listen is path = rw is refl
-accepted-path w reply x (Connect a) is path = rw is refl
-accepted-path w reply x (Accepted a r) is path = rw is refl
+accepted-path w reply x b is path = rw is refl
 
 -- the row of a path stands
 kept-path : (w v : World) (x : WaitRow) → ((p : PortRow) → port_row w x.port ≡ Some p → leads x.queue p ≡ true → passes (port_row v x.port) (leads x.queue) ≡ true) → is_path w x ≡ true → is_path v x ≡ true
@@ -208,25 +205,10 @@ basic-paths w (Accepts who reply) ok all = every-change (is_path w) (waits_as wh
 basic-paths w (Makes p) ok all = every-more (is_path w) (is_path (basic w (Makes p))) (makes-path w p) w.waits all
 basic-paths w (Joins client server context) ok all = every-both (is_path w) (is_off w client server) (is_path (basic w (Joins client server context))) (joins-path w client server context) w.waits all ok
 basic-paths w (Completes b) ok all = every-more (is_path w) (is_path (basic w (Completes b))) (completes-path w b) w.waits all
-basic-paths w (Withdraws who) ok all = all
 basic-paths w (Frees o) ok all = absurd (cc)
-basic-paths w (Enters x) ok all = all
-basic-paths w (Binds path node) ok all = all
-basic-paths w (AddsHandle pid h) ok all = all
 basic-paths w (Cuts b) ok all = every-more (is_path w) (is_path (basic w (Cuts b))) (cuts-path w b) w.waits all
-basic-paths w (Empties q) ok all = all
-basic-paths w (Unbinds b) ok all = all
-basic-paths w (DropsHandle pid value) ok all = all
-basic-paths w (Tells e) ok all = all
-basic-paths w (Takes q) ok all = all
-basic-paths w (TakesConnect q) ok all = all
-basic-paths w (DrawsIdentifier who) ok all = all
-basic-paths w (DrawsOrdinal who) ok all = all
 basic-paths w (Dies who status) ok all = every-without (is_path w) (waits_as who) w.waits all
-basic-paths w (Registers who b) ok all = all
-basic-paths w (Unregisters who b) ok all = all
-basic-paths w (AddsProcess p) ok all = all
-basic-paths w (AddsThread t) ok all = all
+basic-paths w b ok all = all
 
 pub run-paths : (w : World) (bs : List Basic) → are_paths w bs ≡ true → Paths w → Paths (world_after w bs)
 run-paths w [] ok all = all

@@ -7,7 +7,7 @@ use Rattle.lpc_base.proofs.RowWords.{first-passes}
 use Rattle.lpc_base.proofs.RowMaps.{every-first}
 use Rattle.lpc_base.proofs.Bools.{first-true, same-number, second-true}
 use Rattle.lpc_base.proofs.Births.{birth-same, birth-self}
-use Rattle.lpc_base.specs.declared.port_kind.PortKind.TheVariants.{Client, Connection, Server, Unnamed}
+use Rattle.lpc_base.specs.declared.port_kind.PortKind.TheVariants.{Client}
 use Rattle.lpc_base.specs.declared.status.TheConstants.{SUCCESS}
 use Rattle.lpc_model.specs.declared.entry.Entry.TheVariants as entry
 use Rattle.lpc_model.specs.World.{Accepted, Birth, Connect, Creator, Listen, MessageRow, PortKind, PortRow, Receive, Request, WaitKind, WaitRow, World}
@@ -63,9 +63,7 @@ client-of w p q is = at (is_client_port p) p.completed refl is
 
 fine-kind : (m : Group) (c : ℕ) (p : PortRow) (q : Birth) (k : PortKind) → p.kind ≡ k → is_client_port p ≡ true → p.connection ≡ Some q → is_fine_port m c p ≡ true → is_fine_client m c p.birth q ≡ true
 fine-kind m c p q Client k is to fine = rw (k, to) at fine
-fine-kind m c p q Server k is to fine = let off : false ≡ true = rw k at is in absurd (cc)
-fine-kind m c p q Connection k is to fine = let off : false ≡ true = rw k at is in absurd (cc)
-fine-kind m c p q Unnamed k is to fine = let off : false ≡ true = rw k at is in absurd (cc)
+fine-kind m c p q b k is to fine = let off : false ≡ true = rw k at is in absurd (cc)
 
 posted : (m : Group) (c : ℕ) (u w : World) (b : Birth) (p : PortRow) (by : Creator) (q : Birth) → Sure m c u w → port_row w b ≡ Some p → p.creator ≡ Some by → server_of w p ≡ Some q → Posted m c u w b p by q
 posted m c u w b p by q s row made server =

@@ -12,7 +12,7 @@ use Rattle.lpc_base.specs.declared.status.TheConstants.{PORT_DISCONNECTED, SUCCE
 use Rattle.lpc_model.specs.declared.entry.CallName.TheVariants.{NtReplyPort, NtReplyWaitReceivePort}
 use Rattle.lpc_model.specs.declared.entry.Entry.{Entry}
 use Rattle.lpc_model.specs.declared.entry.Entry.TheVariants as entry
-use Rattle.lpc_base.specs.declared.port_kind.PortKind.TheVariants.{Client, Connection, Server, Unnamed}
+use Rattle.lpc_base.specs.declared.port_kind.PortKind.TheVariants.{Client, Server}
 use Rattle.lpc_model.specs.declared.message.Message.{Message}
 use Rattle.lpc_model.specs.Message.{message_test}
 use Rattle.lpc_model.specs.Fields.{receipt}
@@ -58,10 +58,8 @@ open-at w (Some b) q pid is at = opened (is_open w b) at
     opened false at = absurd (cc)
 
 queue-kind : (m : Group) (c : ℕ) (w : World) (p : PortRow) (q : Birth) (k : PortKind) → p.kind ≡ k → Right m c w p → queue_of w p ≡ Some q → q.process ≡ p.birth.process
-queue-kind m c w p q Unnamed k r at = open-at w (Some p.birth) q p.birth.process (same-number p.birth.process) (rw k at at)
-queue-kind m c w p q Connection k r at = open-at w (Some p.birth) q p.birth.process (same-number p.birth.process) (rw k at at)
-queue-kind m c w p q Client k r at = open-at w (Some p.birth) q p.birth.process (same-number p.birth.process) (rw k at at)
 queue-kind m c w p q Server k r at = open-at w p.connection q p.birth.process (home-queue p p.connection (first-true _ _ (first-true (is_home p) _ r.fair)) (rw k refl) refl) (rw k at at)
+queue-kind m c w p q b k r at = open-at w (Some p.birth) q p.birth.process (same-number p.birth.process) (rw k at at)
 
 pub queue-own : (m : Group) (c : ℕ) (w : World) (p : PortRow) (q : Birth) → Right m c w p → queue_of w p ≡ Some q → q.process ≡ p.birth.process
 queue-own m c w p q r at = queue-kind m c w p q p.kind refl r at
@@ -71,10 +69,8 @@ member-open m c w pid None f is own = refl
 member-open m c w pid (Some b) f is own = rw (open-view m c w b f (ap m (eqb-true _ _ own) ∙ is)) refl
 
 queue-view-kind : (m : Group) (c : ℕ) (w : World) (p : PortRow) (k : PortKind) → p.kind ≡ k → Fair m c w → Right m c w p → m p.birth.process ≡ true → queue_of (view m w) (seen_port m p) ≡ queue_of w p
-queue-view-kind m c w p Unnamed k f r is = rw k (member-open m c w p.birth.process (Some p.birth) f is (same-number p.birth.process))
-queue-view-kind m c w p Connection k f r is = rw k (member-open m c w p.birth.process (Some p.birth) f is (same-number p.birth.process))
-queue-view-kind m c w p Client k f r is = rw k (member-open m c w p.birth.process (Some p.birth) f is (same-number p.birth.process))
 queue-view-kind m c w p Server k f r is = rw k (member-open m c w p.birth.process p.connection f is (home-queue p p.connection (first-true _ _ (first-true (is_home p) _ r.fair)) (rw k refl) refl))
+queue-view-kind m c w p b k f r is = rw k (member-open m c w p.birth.process (Some p.birth) f is (same-number p.birth.process))
 
 pub queue-view : (m : Group) (c : ℕ) (w : World) (p : PortRow) → Fair m c w → Right m c w p → m p.birth.process ≡ true → queue_of (view m w) (seen_port m p) ≡ queue_of w p
 queue-view m c w p f r is = queue-view-kind m c w p p.kind refl f r is
@@ -238,12 +234,7 @@ woken-owned u w y b owned = every-without (is_owned u) (waits_as y.thread) w.wai
 -- the messages stand while the reply is made
 received-as : (m : Group) (v v' : World) (by : ThreadRow) (port q : Birth) (e : Entry) → v'.messages ≡ v.messages → led_received m v' by port q e ≡ led_received m v by port q e
 received-as m v v' by port q (entry.Answer who call status fields) same = rw same refl
-received-as m v v' by port q (entry.Waits who call fields) same = refl
-received-as m v v' by port q (entry.Wakes who call status fields) same = refl
-received-as m v v' by port q (entry.Busy who) same = refl
-received-as m v v' by port q (entry.NoThread who) same = refl
-received-as m v v' by port q (entry.Died who status) same = refl
-received-as m v v' by port q (entry.Directive word status) same = refl
+received-as m v v' by port q b same = refl
 
 receive-led : (m : Group) (c : ℕ) (u : World) (d : Whose) (w : World) (by : ThreadRow) (handle : ℕ) (bytes : Option (List ℕ)) (a : Option Message) (p : PortRow) (q : Birth) (replied : List Basic) → Caller m c u w by → every is_readable w.messages ≡ true → m by.process ≡ true → (by.process == c) ≡ false
     → optional_message bytes ≡ Ok a → Receivable m c w by handle a p q replied → (o : Option MessageRow) → first (is_queued q) w.messages ≡ o
@@ -285,10 +276,8 @@ receive-call-led m c u d w by handle bytes k readable by_in other =
 
 -- of c
 c-spent : (m : Group) (c : ℕ) (w : World) (p : PortRow) (q : Birth) (k : PortKind) → p.kind ≡ k → first (is_queued q) (view m w).messages ≡ first (is_queued q) w.messages → is_spent (view m w) p q ≡ is_spent w p q
-c-spent m c w p q Unnamed k same = rw k refl
-c-spent m c w p q Connection k same = rw k refl
 c-spent m c w p q Client k same = rw (k, same) refl
-c-spent m c w p q Server k same = rw k refl
+c-spent m c w p q b k same = rw k refl
 
 c-messages : (m : Group) (c : ℕ) (w : World) (by : ThreadRow) (p : PortRow) (q : Birth) → m c ≡ true → by.process ≡ c → Fair m c w → Named m c w by p → queue_of w p ≡ Some q → first (is_queued q) (view m w).messages ≡ first (is_queued q) w.messages
 c-messages m c w by p q c_in mine f n at =

@@ -9,7 +9,7 @@ use Rattle.lpc_base.proofs.RowMaps.{every-both, every-first}
 use Rattle.lpc_base.proofs.Bools.{first-true, number-turned, second-true}
 use Rattle.lpc_base.specs.declared.status.TheConstants.{SUCCESS}
 use Rattle.lpc_model.specs.Message.{asks}
-use Rattle.lpc_model.specs.World.{Accepted, Birth, Connect, Listen, MessageRow, Receive, Request, WaitKind, WaitRow, World}
+use Rattle.lpc_model.specs.World.{Birth, Listen, MessageRow, WaitKind, WaitRow, World}
 use Rattle.lpc_model.specs.Found.{same_birth, waits_as}
 use Rattle.lpc_model.specs.Basics.{Basic, Enters, Receives, Takes, TakesConnect, basic, world_after}
 use Rattle.lpc_model.specs.Entering.{enter, given_steps, shown, take_connect_steps, take_steps, takes, woken}
@@ -115,11 +115,8 @@ pub take_connect-known : (m : Group) (memo : List Heard) (v : World) (y : Messag
 take_connect-known m memo v y fits = when-alone m memo (basic v (TakesConnect y.queue)) y (asks y.message) refl fits
 
 given-known : (m : Group) (memo : List Heard) (v : World) (y : MessageRow) (z : WaitRow) (b : Basic) (sort : WaitKind) → z.kind ≡ sort → Fits m memo v y → ((u : World) → are_known m memo u (b ∷ []) ≡ true) → are_known m memo v (given_steps z y ++ b ∷ []) ≡ true
-given-known m memo v y z b (Request a) is fits later = rw is (when-known m memo (basic v (Takes y.queue)) y (asks y.message) (b ∷ []) refl fits later)
-given-known m memo v y z b Receive is fits later = rw is (when-known m memo (basic v (Takes y.queue)) y (asks y.message) (b ∷ []) refl fits later)
 given-known m memo v y z b Listen is fits later = rw is (when-known m memo (basic v (TakesConnect y.queue)) y (asks y.message) (b ∷ []) refl fits later)
-given-known m memo v y z b (Connect a) is fits later = rw is (when-known m memo (basic v (Takes y.queue)) y (asks y.message) (b ∷ []) refl fits later)
-given-known m memo v y z b (Accepted a r) is fits later = rw is (when-known m memo (basic v (Takes y.queue)) y (asks y.message) (b ∷ []) refl fits later)
+given-known m memo v y z b e is fits later = rw is (when-known m memo (basic v (Takes y.queue)) y (asks y.message) (b ∷ []) refl fits later)
 
 entered-known : (m : Group) (memo : List Heard) (v : World) (y : MessageRow) (o : Option WaitRow) → ((z : WaitRow) → o ≡ Some z → Fits m memo v y) → are_known m memo v (Enters y ∷ given o (λ z. given_steps z y ++ woken SUCCESS (shown z y) z ∷ [])) ≡ true
 entered-known m memo v y None fits = refl

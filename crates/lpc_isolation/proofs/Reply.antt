@@ -1,7 +1,7 @@
 -- NtReplyPort in a view.
 use Rattle.std.proofs.Common.{◌≡◌, ℕ, ◌≤◌, List, [], ◌∷◌, Bool, true, false, Option, Some, None, refl, ap, sym, ◌∙◌, arith}
 use Rattle.std.specs.Prelude.{◌&&◌, ◌||◌, ◌==◌, Ok, option_and_then}
-use Rattle.std.proofs.lemmas.Bool.{and_from, eqb-true}
+use Rattle.std.proofs.lemmas.Bool.{and_from, eqb-true, false_from_ne_true}
 use Rattle.lpc_base.specs.Rows.{count, first, given, passes, which}
 use Rattle.lpc_base.proofs.RowWords.{first-passes}
 use Rattle.lpc_base.proofs.RowMaps.{every-first}
@@ -140,11 +140,7 @@ wake-not-c m c u d x call status fields is other = at (owner u x.thread) refl
     at (Some pid) own = rw (own, owned-by u x pid own is) other
 
 pub wait-not-c : (m : Group) (c : ℕ) (x : WaitRow) → m c ≡ true → is_fair_wait m c x ≡ true → our_wait m x ≡ false → (x.process == c) ≡ false
-wait-not-c m c x c_in fair out = at (x.process == c) refl
-  where
-    at : (b : Bool) → (x.process == c) ≡ b → b ≡ false
-    at true is = let k : our_wait m x ≡ true = c-wait m c x c_in fair is in absurd (cc)
-    at false is = refl
+wait-not-c m c x c_in fair out = false_from_ne_true (x.process == c) (λ is. let k : our_wait m x ≡ true = c-wait m c x c_in fair is in cc)
 
 -- the reply of a member other than c
 pub led-wakes : (m : Group) (c : ℕ) (u : World) (d : Whose) (w : World) (by : ThreadRow) (port : Birth) (a : Message) (x : WaitRow) → m c ≡ true → Fair m c w → Owned u w → ((tid : ℕ) → count (waits_as tid) w.waits ≤ 1) → owner u by.number ≡ Some by.process → (by.process == c) ≡ false → fitted w port a ≡ Some x

@@ -149,10 +149,8 @@ context-at m p None is = refl
 context-at m p (Some b) is = rw is refl
 
 context-kind : (m : Group) (c : ℕ) (w : World) (p : PortRow) (k : PortKind) → p.kind ≡ k → Right m c w p → m p.birth.process ≡ true → context_of (seen_port m p) ≡ context_of p
-context-kind m c w p Unnamed k r own = rw k refl
-context-kind m c w p Connection k r own = rw k refl
 context-kind m c w p Client k r own = rw k (context-at m p p.pair (client-pair m c p p.pair r.fair (rw k refl) own))
-context-kind m c w p Server k r own = rw k refl
+context-kind m c w p b k r own = rw k refl
 
 pub context-view : (m : Group) (c : ℕ) (w : World) (p : PortRow) → Right m c w p → m p.birth.process ≡ true → context_of (seen_port m p) ≡ context_of p
 context-view m c w p r own = context-kind m c w p p.kind refl r own

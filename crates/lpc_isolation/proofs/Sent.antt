@@ -9,7 +9,7 @@ use Rattle.lpc_base.proofs.Bools.{first-true, second-true}
 use Rattle.lpc_isolation.proofs.Paths.{joined-same}
 use Rattle.lpc_model.specs.World.{Birth, MessageRow, PortRow, World}
 use Rattle.lpc_model.specs.Found.{is_client_port, is_own_of, is_port, is_queued, is_queued_connect, is_the, port_row}
-use Rattle.lpc_model.specs.Basics.{Accepts, AddsHandle, AddsProcess, AddsThread, Awaits, Basic, Binds, Completes, Cuts, DrawsIdentifier, DrawsOrdinal, DropsHandle, Empties, Enters, Frees, Joins, Makes, Receives, Takes, TakesConnect, Tells, Unbinds, Wakes, Withdraws, basic, completed, cut, is_end_of, joined, world_after, Dies, Registers, Unregisters}
+use Rattle.lpc_model.specs.Basics.{Basic, Completes, Cuts, Empties, Enters, Frees, Joins, Makes, Takes, TakesConnect, Withdraws, basic, completed, cut, is_end_of, joined, world_after}
 use Rattle.lpc_model.proofs.Rows.{first-map}
 
 abbrev pub leads_home : Birth → PortRow → Bool
@@ -79,22 +79,7 @@ basic-sent w (TakesConnect q) ok all = every-without_first (is_sent_home w) (is_
 basic-sent w (Withdraws who) ok all = every-without (is_sent_home w) (is_own_of who) w.messages all
 basic-sent w (Empties q) ok all = every-without (is_sent_home w) (is_queued q) w.messages all
 basic-sent w (Frees o) ok all = absurd (cc)
-basic-sent w (Tells e) ok all = all
-basic-sent w (Wakes who call status fields) ok all = all
-basic-sent w (Awaits x) ok all = all
-basic-sent w (Receives who q) ok all = all
-basic-sent w (Accepts who reply) ok all = all
-basic-sent w (DrawsIdentifier who) ok all = all
-basic-sent w (DrawsOrdinal who) ok all = all
-basic-sent w (Dies who status) ok all = all
-basic-sent w (Registers who b) ok all = all
-basic-sent w (Unregisters who b) ok all = all
-basic-sent w (AddsProcess p) ok all = all
-basic-sent w (AddsThread t) ok all = all
-basic-sent w (Binds path node) ok all = all
-basic-sent w (Unbinds b) ok all = all
-basic-sent w (AddsHandle pid h) ok all = all
-basic-sent w (DropsHandle pid value) ok all = all
+basic-sent w b ok all = all
 
 pub run-sent : (w : World) (bs : List Basic) → are_sent w bs ≡ true → Sent w → Sent (world_after w bs)
 run-sent w [] ok all = all

@@ -10,7 +10,7 @@ use Rattle.lpc_model.specs.World.{WaitRow, World}
 use Rattle.lpc_model.specs.Found.{waits_as, waits_at}
 use Rattle.lpc_base.proofs.RowWords.{has-change}
 use Rattle.lpc_base.proofs.Bools.{first-true, second-true}
-use Rattle.lpc_model.specs.Basics.{Accepts, AddsHandle, AddsProcess, AddsThread, Awaits, Basic, Binds, Completes, Cuts, DrawsIdentifier, DrawsOrdinal, DropsHandle, Empties, Enters, Frees, Joins, Makes, Receives, Takes, TakesConnect, Tells, Unbinds, Wakes, Withdraws, accepted, received, basic, entries_of, world_after, Dies, Registers, Unregisters}
+use Rattle.lpc_model.specs.Basics.{Accepts, AddsThread, Awaits, Basic, Frees, Receives, Tells, Wakes, accepted, received, basic, entries_of, world_after, Dies}
 use Rattle.lpc_model.specs.Circle.{owner}
 use Rattle.lpc_isolation.proofs.Lines.{is_done}
 
@@ -69,28 +69,9 @@ basic-free w (Awaits x) who calm none = free-push who w.waits x calm none
 basic-free w (Wakes other call status fields) who calm none = free-without who other w.waits none
 basic-free w (Receives other q) who calm none = rw (has-change (waits_as who) (waits_at other q) received (λ x. refl) w.waits) none
 basic-free w (Accepts other reply) who calm none = rw (has-change (waits_as who) (waits_as other) (accepted reply) (λ x. refl) w.waits) none
-basic-free w (Tells e) who calm none = none
-basic-free w (Enters x) who calm none = none
-basic-free w (Takes q) who calm none = none
-basic-free w (TakesConnect q) who calm none = none
-basic-free w (DrawsIdentifier other) who calm none = none
-basic-free w (DrawsOrdinal other) who calm none = none
 basic-free w (Dies other status) who calm none = free-without who other w.waits none
-basic-free w (Registers other b) who calm none = none
-basic-free w (Unregisters other b) who calm none = none
-basic-free w (AddsProcess p) who calm none = none
-basic-free w (AddsThread t) who calm none = none
-basic-free w (Makes p) who calm none = none
-basic-free w (Joins client server context) who calm none = none
-basic-free w (Completes b) who calm none = none
-basic-free w (Withdraws other) who calm none = none
 basic-free w (Frees o) who calm none = absurd (cc)
-basic-free w (Binds path node) who calm none = none
-basic-free w (AddsHandle pid h) who calm none = none
-basic-free w (Empties q) who calm none = none
-basic-free w (Cuts b) who calm none = none
-basic-free w (Unbinds b) who calm none = none
-basic-free w (DropsHandle pid value) who calm none = none
+basic-free w b who calm none = none
 
 run-free : (w : World) (bs : List Basic) (who : ℕ) → every (is_calm who) bs ≡ true → has (waits_as who) w.waits ≡ false → has (waits_as who) (world_after w bs).waits ≡ false
 run-free w [] who calm none = none
@@ -110,29 +91,8 @@ orderly-done w (Tells (entry.NoThread who) ∷ bs) ok = orderly-done w bs ok
 orderly-done w (Tells (entry.Died who status) ∷ bs) ok = orderly-done w bs ok
 orderly-done w (Tells (entry.Directive word status) ∷ bs) ok = orderly-done w bs ok
 orderly-done w (AddsThread t ∷ bs) ok = absurd (cc)
-orderly-done w (Awaits x ∷ bs) ok = orderly-done (basic w (Awaits x)) bs ok
-orderly-done w (Receives who q ∷ bs) ok = orderly-done (basic w (Receives who q)) bs ok
-orderly-done w (Accepts who reply ∷ bs) ok = orderly-done (basic w (Accepts who reply)) bs ok
-orderly-done w (Enters x ∷ bs) ok = orderly-done (basic w (Enters x)) bs ok
-orderly-done w (Takes q ∷ bs) ok = orderly-done (basic w (Takes q)) bs ok
-orderly-done w (TakesConnect q ∷ bs) ok = orderly-done (basic w (TakesConnect q)) bs ok
-orderly-done w (DrawsIdentifier who ∷ bs) ok = orderly-done (basic w (DrawsIdentifier who)) bs ok
-orderly-done w (DrawsOrdinal who ∷ bs) ok = orderly-done (basic w (DrawsOrdinal who)) bs ok
-orderly-done w (Dies who status ∷ bs) ok = orderly-done (basic w (Dies who status)) bs ok
-orderly-done w (Registers who b ∷ bs) ok = orderly-done (basic w (Registers who b)) bs ok
-orderly-done w (Unregisters who b ∷ bs) ok = orderly-done (basic w (Unregisters who b)) bs ok
-orderly-done w (AddsProcess p ∷ bs) ok = orderly-done (basic w (AddsProcess p)) bs ok
-orderly-done w (Makes p ∷ bs) ok = orderly-done (basic w (Makes p)) bs ok
-orderly-done w (Joins client server context ∷ bs) ok = orderly-done (basic w (Joins client server context)) bs ok
-orderly-done w (Completes b ∷ bs) ok = orderly-done (basic w (Completes b)) bs ok
-orderly-done w (Withdraws who ∷ bs) ok = orderly-done (basic w (Withdraws who)) bs ok
 orderly-done w (Frees o ∷ bs) ok = absurd (cc)
-orderly-done w (Binds path node ∷ bs) ok = orderly-done (basic w (Binds path node)) bs ok
-orderly-done w (AddsHandle pid h ∷ bs) ok = orderly-done (basic w (AddsHandle pid h)) bs ok
-orderly-done w (Empties q ∷ bs) ok = orderly-done (basic w (Empties q)) bs ok
-orderly-done w (Cuts b ∷ bs) ok = orderly-done (basic w (Cuts b)) bs ok
-orderly-done w (Unbinds b ∷ bs) ok = orderly-done (basic w (Unbinds b)) bs ok
-orderly-done w (DropsHandle pid value ∷ bs) ok = orderly-done (basic w (DropsHandle pid value)) bs ok
+orderly-done w (b ∷ bs) ok = orderly-done (basic w b) bs ok
 
 -- no number is used for a thread
 pub orderly-used : (w : World) (bs : List Basic) → is_orderly bs ≡ true → (world_after w bs).used_threads ≡ w.used_threads
@@ -146,26 +106,5 @@ orderly-used w (Tells (entry.NoThread who) ∷ bs) ok = orderly-used w bs ok
 orderly-used w (Tells (entry.Died who status) ∷ bs) ok = orderly-used w bs ok
 orderly-used w (Tells (entry.Directive word status) ∷ bs) ok = orderly-used w bs ok
 orderly-used w (AddsThread t ∷ bs) ok = absurd (cc)
-orderly-used w (Awaits x ∷ bs) ok = orderly-used (basic w (Awaits x)) bs ok
-orderly-used w (Receives who q ∷ bs) ok = orderly-used (basic w (Receives who q)) bs ok
-orderly-used w (Accepts who reply ∷ bs) ok = orderly-used (basic w (Accepts who reply)) bs ok
-orderly-used w (Enters x ∷ bs) ok = orderly-used (basic w (Enters x)) bs ok
-orderly-used w (Takes q ∷ bs) ok = orderly-used (basic w (Takes q)) bs ok
-orderly-used w (TakesConnect q ∷ bs) ok = orderly-used (basic w (TakesConnect q)) bs ok
-orderly-used w (DrawsIdentifier who ∷ bs) ok = orderly-used (basic w (DrawsIdentifier who)) bs ok
-orderly-used w (DrawsOrdinal who ∷ bs) ok = orderly-used (basic w (DrawsOrdinal who)) bs ok
-orderly-used w (Dies who status ∷ bs) ok = orderly-used (basic w (Dies who status)) bs ok
-orderly-used w (Registers who b ∷ bs) ok = orderly-used (basic w (Registers who b)) bs ok
-orderly-used w (Unregisters who b ∷ bs) ok = orderly-used (basic w (Unregisters who b)) bs ok
-orderly-used w (AddsProcess p ∷ bs) ok = orderly-used (basic w (AddsProcess p)) bs ok
-orderly-used w (Makes p ∷ bs) ok = orderly-used (basic w (Makes p)) bs ok
-orderly-used w (Joins client server context ∷ bs) ok = orderly-used (basic w (Joins client server context)) bs ok
-orderly-used w (Completes b ∷ bs) ok = orderly-used (basic w (Completes b)) bs ok
-orderly-used w (Withdraws who ∷ bs) ok = orderly-used (basic w (Withdraws who)) bs ok
 orderly-used w (Frees o ∷ bs) ok = absurd (cc)
-orderly-used w (Binds path node ∷ bs) ok = orderly-used (basic w (Binds path node)) bs ok
-orderly-used w (AddsHandle pid h ∷ bs) ok = orderly-used (basic w (AddsHandle pid h)) bs ok
-orderly-used w (Empties q ∷ bs) ok = orderly-used (basic w (Empties q)) bs ok
-orderly-used w (Cuts b ∷ bs) ok = orderly-used (basic w (Cuts b)) bs ok
-orderly-used w (Unbinds b ∷ bs) ok = orderly-used (basic w (Unbinds b)) bs ok
-orderly-used w (DropsHandle pid value ∷ bs) ok = orderly-used (basic w (DropsHandle pid value)) bs ok
+orderly-used w (b ∷ bs) ok = orderly-used (basic w b) bs ok

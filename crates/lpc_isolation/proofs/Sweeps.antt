@@ -54,11 +54,9 @@ thread-thin k u tid call (Some by) live c = ready-thin k u by call (wait_of u ti
 
 pub line-thin : (k : Alive) (u : World) (line : ScriptLine) → Closed k u → served_steps line (thin k u) ≡ served_steps line u
 unfolding bare_steps boot_line thread_line dir_line link_line
-line-thin k u (boot pid tid) c = refl
 line-thin k u (thread tid pid) c = rw (is_live-thin k u pid c, threads-thin k u pid c) refl
-line-thin k u (dir path) c = refl
-line-thin k u (link path target) c = refl
 line-thin k u (run tid call) c = ap (λ o. served_thread tid call o (thin k u)) (live-thin k u tid c) ∙ thread-thin k u tid call (live_thread u tid) refl c
+line-thin k u b c = refl
 
 ready-closed : (k : Alive) (u : World) (by : ThreadRow) (call : ScriptCall) (o : Option WaitRow) → live_thread u by.number ≡ Some by → IsSoundWorld u → Closed k u → Room k u by call → AreClosed k (served_ready by call o u)
 ready-closed k u by call (Some x) live s c new = refl
@@ -104,11 +102,8 @@ thread-held w tid call (Some by) h = at (wait_of w tid)
 
 line-held : (w : World) (line : ScriptLine) → Held w → bare_steps line w ≡ served_steps line w
 unfolding bare_steps
-line-held w (boot pid tid) h = refl
-line-held w (thread tid pid) h = refl
-line-held w (dir path) h = refl
-line-held w (link path target) h = refl
 line-held w (run tid call) h = thread-held w tid call (live_thread w tid) h
+line-held w b h = refl
 
 -- The two machines leave a world alike
 query-world : (u : World) (by : ThreadRow) (handle : ℕ) → world_after u (settled by NtQueryObject (served u by (query_object handle))) ≡ world_after u (settled by NtQueryObject (service_of u by (query_object handle)))
@@ -133,11 +128,8 @@ thread-world u tid call (Some by) = at (wait_of u tid)
 
 served-world : (u : World) (line : ScriptLine) → (served_step u line).world ≡ (bare_step u line).world
 unfolding bare_steps
-served-world u (boot pid tid) = refl
-served-world u (thread tid pid) = refl
-served-world u (dir path) = refl
-served-world u (link path target) = refl
 served-world u (run tid call) = thread-world u tid call (live_thread u tid)
+served-world u b = refl
 
 pub served-firm : (u : World) (line : ScriptLine) → Firm u → Firm (served_step u line).world
 served-firm u line f = subst Firm (sym (served-world u line)) (firm-line u line f)

@@ -101,11 +101,8 @@ call-inside m k u (reply_wait_receive_port handle (Some message)) = refl
 call-inside m k u call = refl
 
 line-inside : (m : Group) (c : ℕ) (k : Alive) (u : World) (line : ScriptLine) → is_fine_line m c (thin k u) line ≡ is_fine_line m c u line
-line-inside m c k u (boot pid tid) = refl
-line-inside m c k u (thread tid pid) = refl
-line-inside m c k u (dir path) = refl
-line-inside m c k u (link path target) = refl
 line-inside m c k u (run tid call) = ap (λ b. not (passes (owner u tid) (λ p. p == c)) || b) (call-inside m k u call)
+line-inside m c k u b = refl
 
 first-fine : (m : Group) (c : ℕ) (w : World) (lines : List (Option ScriptLine)) → Along (IsFineAt m c) w lines → IsFineWorld m c (world_behind w lines) → HasFineRows m c w
 unfolding world_behind

@@ -78,10 +78,7 @@ wait_closed k x = k.ports x.port
 -- a port that a handle names is alive
 kind-live : (k : Alive) (s : ObjectKind) (b : Birth) → alive_as k s b ≡ true → same_kind s kind.Port ≡ true → k.ports b ≡ true
 kind-live k kind.Port b live port = live
-kind-live k kind.Section b live port = absurd (cc)
-kind-live k kind.Token b live port = absurd (cc)
-kind-live k kind.Process b live port = absurd (cc)
-kind-live k kind.Thread b live port = absurd (cc)
+kind-live k e b live port = absurd (cc)
 
 pub port-live : (k : Alive) (o : ObjectName) → object_alive k o ≡ true → same_kind o.kind kind.Port ≡ true → k.ports o.birth ≡ true
 port-live k o live port = kind-live k o.kind o.birth live port
@@ -168,21 +165,7 @@ thin-basic k u (Makes p) ok = rw (kept-push (port_alive k) u.ports p (first-true
 thin-basic k u (Joins client server context) ok = rw (which-map (port_alive k) (joined client server context) (joined-alive k client server context) u.ports) refl
 thin-basic k u (Completes b) ok = rw (kept-change (port_alive k) (is_port b) completed (λ p. refl) u.ports) refl
 thin-basic k u (Frees o) ok = absurd (cc)
-thin-basic k u (Awaits x) ok = refl
-thin-basic k u (Enters x) ok = refl
-thin-basic k u (Binds path node) ok = refl
-thin-basic k u (AddsHandle pid h) ok = refl
 thin-basic k u (Cuts b) ok = rw (kept-change (port_alive k) (is_end_of b) cut (λ p. refl) u.ports) refl
-thin-basic k u (Empties q) ok = refl
-thin-basic k u (Unbinds b) ok = refl
-thin-basic k u (DropsHandle pid value) ok = refl
-thin-basic k u (Tells e) ok = refl
-thin-basic k u (Wakes who call status fields) ok = refl
-thin-basic k u (Receives who q) ok = refl
-thin-basic k u (Accepts who reply) ok = refl
-thin-basic k u (Takes q) ok = refl
-thin-basic k u (TakesConnect q) ok = refl
-thin-basic k u (Withdraws who) ok = refl
 thin-basic k u (DrawsIdentifier who) ok = rw (kept-change (thread_alive k) (is_thread who) past_identifier (λ t. refl) u.threads) refl
 thin-basic k u (DrawsOrdinal who) ok = rw (kept-change (thread_alive k) (is_thread who) past_ordinal (λ t. refl) u.threads) refl
 thin-basic k u (Dies who status) ok = rw (kept-change (thread_alive k) (is_thread who) ended (λ t. refl) u.threads) refl
@@ -190,6 +173,7 @@ thin-basic k u (Registers who b) ok = rw (kept-change (thread_alive k) (is_threa
 thin-basic k u (Unregisters who b) ok = rw (kept-change (thread_alive k) (is_thread who) (unregistering b) (λ t. refl) u.threads) refl
 thin-basic k u (AddsProcess p) ok = rw (kept-push (process_alive k) u.processes p ok) refl
 thin-basic k u (AddsThread t) ok = rw (kept-push (thread_alive k) u.threads t (first-true _ _ ok)) refl
+thin-basic k u b ok = refl
 
 put-closed : (k : Alive) (h : HandleRow) (t : HandleTable) → handle_closed k h ≡ true → table_closed k t ≡ true → table_closed k (with_handle h t) ≡ true
 put-closed k h t ok all =
@@ -338,24 +322,15 @@ unnamed-of w b none =
 -- a handle to another object
 port-apart : (k : Alive) (b : Birth) (s : ObjectKind) (x : Birth) → alive_as k s x ≡ true → not (same_kind s kind.Port && same_birth x b) ≡ true → alive_as (but b k) s x ≡ true
 port-apart k b kind.Port x live off = and_from _ _ live off
-port-apart k b kind.Section x live off = live
-port-apart k b kind.Token x live off = live
-port-apart k b kind.Process x live off = live
-port-apart k b kind.Thread x live off = live
+port-apart k b e x live off = live
 
 process-apart : (k : Alive) (u : World) (b : Birth) (s : ObjectKind) (x : Birth) → alive_as k s x ≡ true → not (same_kind s kind.Process && same_birth x b) ≡ true → alive_as (but_process u b k) s x ≡ true
-process-apart k u b kind.Port x live off = live
-process-apart k u b kind.Section x live off = live
-process-apart k u b kind.Token x live off = live
 process-apart k u b kind.Process x live off = and_from _ _ live off
-process-apart k u b kind.Thread x live off = live
+process-apart k u b e x live off = live
 
 thread-apart : (k : Alive) (b : Birth) (s : ObjectKind) (x : Birth) → alive_as k s x ≡ true → not (same_kind s kind.Thread && same_birth x b) ≡ true → alive_as (but_thread b k) s x ≡ true
-thread-apart k b kind.Port x live off = live
-thread-apart k b kind.Section x live off = live
-thread-apart k b kind.Token x live off = live
-thread-apart k b kind.Process x live off = live
 thread-apart k b kind.Thread x live off = and_from _ _ live off
+thread-apart k b e x live off = live
 
 -- no handle names the object
 abbrev NoHandles : ObjectName → World → Type 0

@@ -185,10 +185,7 @@ answer_live k a = k.ports a.wait.port && k.ports a.wait.queue
 
 offered-opens : (u : World) (x : WaitRow) (sort : WaitKind) → x.kind ≡ sort → is_offered x ≡ true → is_sound_wait u x ≡ true → is_open u x.queue ≡ true
 offered-opens u x (Connect b) is on sound = let own : is_sound_as u x (Connect b) ≡ true = rw is at (second-true (is_client u (waiter_of x)) (is_sound_as u x x.kind) sound) in grind arith
-offered-opens u x (Request b) is on sound = let off : false ≡ true = rw is at on in absurd (cc)
-offered-opens u x Receive is on sound = let off : false ≡ true = rw is at on in absurd (cc)
-offered-opens u x Listen is on sound = let off : false ≡ true = rw is at on in absurd (cc)
-offered-opens u x (Accepted b r) is on sound = let off : false ≡ true = rw is at on in absurd (cc)
+offered-opens u x b is on sound = let off : false ≡ true = rw is at on in absurd (cc)
 
 answered-live : (k : Alive) (u : World) (by : ThreadRow) (bytes : List ℕ) → IsSoundWorld u → Closed k u → Holds (λ (a : ConnectAnswer). answer_live k a ≡ true) (answer_test u by bytes)
 answered-live k u by bytes s c =

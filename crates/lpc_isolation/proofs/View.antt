@@ -1,7 +1,7 @@
 -- What a group sees of a world.
-use Rattle.std.proofs.Common.{◌≡◌, ℕ, Bool, true, false, cond, Option, Some, None, refl, ap, arith}
+use Rattle.std.proofs.Common.{◌≡◌, ℕ, Bool, true, false, cond, Option, Some, None, ap, arith}
 use Rattle.std.specs.Prelude.{◌&&◌, ◌==◌}
-use Rattle.std.proofs.lemmas.Bool.{eqb-true}
+use Rattle.std.proofs.lemmas.Bool.{eqb-true, false_from_ne_true}
 use Rattle.lpc_base.specs.Rows.{which}
 use Rattle.lpc_names.specs.Walk.{LinkTo, Stands}
 use Rattle.lpc_names.specs.declared.names.Found.TheVariants.{Directory, Item}
@@ -68,8 +68,4 @@ of_birth m a b is =
     let process : (a.process == b.process) ≡ true = grind arith in ap m (eqb-true _ _ process)
 
 pub differ : (m : Group) (a b : ℕ) → m a ≡ false → m b ≡ true → (a == b) ≡ false
-differ m a b out is = at (a == b) refl
-  where
-    at : (e : Bool) → (a == b) ≡ e → e ≡ false
-    at true same = let k : m a ≡ m b = ap m (eqb-true a b same) in absurd (cc)
-    at false same = refl
+differ m a b out is = false_from_ne_true (a == b) (λ same. let k : m a ≡ m b = ap m (eqb-true a b same) in cc)

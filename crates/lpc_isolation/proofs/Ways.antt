@@ -10,7 +10,7 @@ use Rattle.lpc_base.specs.declared.status.TheConstants.{INVALID_HANDLE, INVALID_
 use Rattle.lpc_model.specs.Message.{asks, message_test}
 use Rattle.lpc_model.specs.World.{Accepted, Birth, Connect, Listen, MessageRow, PortRow, Receive, Request, ThreadRow, WaitKind, WaitRow, World}
 use Rattle.lpc_model.specs.Found.{live_thread, is_connection_port, is_port, is_queued, is_queued_connect, waits_as}
-use Rattle.lpc_model.specs.Basics.{Accepts, AddsHandle, AddsProcess, AddsThread, Awaits, Basic, Binds, Completes, Cuts, DrawsIdentifier, DrawsOrdinal, DropsHandle, Empties, Enters, Frees, Joins, Makes, Receives, Takes, TakesConnect, Tells, Unbinds, Wakes, Withdraws, accepted, basic, world_after, Dies, Registers, Unregisters}
+use Rattle.lpc_model.specs.Basics.{Awaits, Basic, Enters, Frees, Joins, Makes, accepted, basic, world_after}
 use Rattle.lpc_model.specs.Entering.{enter, given_steps, row_of, shown, take_connect_steps, take_steps, takes, woken}
 use Rattle.lpc_model.specs.declared.entry.ObjectKind.TheVariants as kind
 use Rattle.lpc_model.specs.Refusal.{found_or, refuse_if}
@@ -59,30 +59,9 @@ AreStill bs = every stays bs ≡ true
 still-step : (w : World) (b : Basic) → stays b ≡ true → keeps_paths w b ≡ true
 still-step w (Awaits x) ok = grind arith
 still-step w (Joins client server context) ok = absurd (cc)
-still-step w (Withdraws who) ok = refl
 still-step w (Frees o) ok = absurd (cc)
-still-step w (Wakes who call status fields) ok = refl
-still-step w (Receives who q) ok = refl
-still-step w (Accepts who reply) ok = refl
-still-step w (Makes p) ok = refl
-still-step w (Completes b) ok = refl
 still-step w (Enters x) ok = absurd (cc)
-still-step w (Binds path node) ok = refl
-still-step w (AddsHandle pid h) ok = refl
-still-step w (Empties q) ok = refl
-still-step w (Cuts b) ok = refl
-still-step w (Unbinds b) ok = refl
-still-step w (DropsHandle pid value) ok = refl
-still-step w (Tells e) ok = refl
-still-step w (Takes q) ok = refl
-still-step w (TakesConnect q) ok = refl
-still-step w (DrawsIdentifier who) ok = refl
-still-step w (DrawsOrdinal who) ok = refl
-still-step w (Dies who status) ok = refl
-still-step w (Registers who b) ok = refl
-still-step w (Unregisters who b) ok = refl
-still-step w (AddsProcess p) ok = refl
-still-step w (AddsThread t) ok = refl
+still-step w b ok = refl
 
 still-paths : (w : World) (bs : List Basic) → AreStill bs → are_paths w bs ≡ true
 still-paths w [] ok = refl
@@ -234,11 +213,8 @@ off-both w y n s there new x is = at (is_request x) refl (port_row w x.port) ref
     at true go (Some p) row = let off = off-row w y n s there new p x.port row in rw (row, off) (grind arith)
 
 accepted-off : (w : World) (client server : Birth) (reply : List ℕ) (x : WaitRow) (sort : WaitKind) → x.kind ≡ sort → is_off w client server x ≡ true → is_off w client server (accepted reply x) ≡ true
-accepted-off w client server reply x (Request a) is off = rw is (rw is at off)
-accepted-off w client server reply x Receive is off = rw is (rw is at off)
-accepted-off w client server reply x Listen is off = rw is (rw is at off)
 accepted-off w client server reply x (Connect a) is off = rw is refl
-accepted-off w client server reply x (Accepted a r) is off = rw is (rw is at off)
+accepted-off w client server reply x b is off = rw is (rw is at off)
 
 made-off : (w : World) (p : PortRow) (client server : Birth) (x : WaitRow) → is_off w client server x ≡ true → is_off (basic w (Makes p)) client server x ≡ true
 made-off w p client server x is = at (port_row w x.port) refl
@@ -302,9 +278,7 @@ port-row w by value =
 -- and the queue that messages from it enter
 client-lead : (q : Birth) (p : PortRow) (sort : PortKind) → p.kind ≡ sort → leads q p ≡ true → leads_home q p ≡ true
 client-lead q p Client is on = rw is (rw is at on)
-client-lead q p Server is on = rw is refl
-client-lead q p Connection is on = rw is refl
-client-lead q p Unnamed is on = rw is refl
+client-lead q p b is on = rw is refl
 
 pub route-home : (w : World) (p : PortRow) (q : Birth) → route w p ≡ Some q → leads_home q p ≡ true
 route-home w p q to = client-lead q p p.kind refl (way-lead w p q p.kind refl (route-way w p q to))

@@ -24,7 +24,7 @@ use Rattle.lpc_model.proofs.Told.{posts-append}
 use Rattle.lpc_model.proofs.StepsInTurn.{after-append}
 use Rattle.lpc_model.specs.Accounts.{Receipt, shows_receipt, is_received, has_receipt, loses, lost, standing, shows_context}
 use Rattle.lpc_model.specs.declared.entry.Value.{Value}
-use Rattle.lpc_model.specs.declared.entry.Value.TheVariants.{Bytes, Hex, Kind, Number, Read}
+use Rattle.lpc_model.specs.declared.entry.Value.TheVariants.{Bytes}
 
 -- Messages that ask
 -- a message that asks shows that it does
@@ -106,11 +106,8 @@ unshown s (a ∷ []) is = refl
 unshown s (a ∷ b ∷ []) is = of (shows_context s.context a) b.value is
   where
     of : (c : Bool) (v : Value) → not (elim v [ Bytes b ↦ true | _ ↦ false ]) ≡ true → (c && elim v [ Bytes b ↦ bytes_eq b.items s.bytes | _ ↦ false ]) ≡ false
-    of c (Number n) is = grind arith
-    of c (Hex n) is = grind arith
-    of c (Kind k) is = grind arith
     of c (Bytes b) is = absurd (cc)
-    of c Read is = grind arith
+    of c b is = grind arith
 unshown s (a ∷ b ∷ c ∷ fields) is = refl
 
 freed-messages : (w : World) (k : ObjectKind) (b : Birth) → (freed w k b).messages ≡ w.messages

@@ -2,6 +2,7 @@
 use Rattle.std.proofs.Common.{◌≡◌, ℕ, List, [], ◌∷◌, ◌++◌, Bool, true, false, not, Option, Some, None, refl, arith}
 use Rattle.std.specs.Prelude.{◌&&◌, ◌||◌, is_none, is_some}
 use Rattle.std.proofs.lemmas.Bool.Decides.{nat_tests}
+use Rattle.std.proofs.lemmas.Bool.{false_from_ne_true}
 use Rattle.lpc_base.specs.Rows.{count, each, every, first, has, passes}
 use Rattle.lpc_base.proofs.RowWords.{every-more, first-passes}
 use Rattle.lpc_base.proofs.RowMaps.{every-both}
@@ -83,14 +84,10 @@ module _ (w : World) (s : IsSoundWorld w) (l : IsLinked w) (held : HasHeldRows w
   lifeless = dead-all w dead
 
   shut : (b : Birth) → is_open w b ≡ false
-  shut b = at (is_open w b) refl
+  shut b = false_from_ne_true (is_open w b) (λ is. let some = open-count w b is in omega (arith, some, counted))
     where
       counted : count (λ h. names_port b h.object) (all_handles w) ≡ 0
       counted = rw none refl
-
-      at : (o : Bool) → is_open w b ≡ o → o ≡ false
-      at true is = let some = open-count w b is in absurd (omega (arith, some, counted))
-      at false is = refl
 
   no-messages : w.messages ≡ []
   no-messages = none-left (λ m. is_open w m.queue) w.messages queues.messages (λ m. shut m.queue)

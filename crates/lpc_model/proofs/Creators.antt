@@ -58,10 +58,7 @@ joined-keeps client server context p = at (is_port client p) (is_port server p)
 
 freed-keeps : (w : World) (k : ObjectKind) (b : Birth) → KeepsConnects w → KeepsConnects (freed w k b)
 freed-keeps w kind.Port b k = every-without keeps_connect (is_port b) w.ports k
-freed-keeps w kind.Section b k = k
-freed-keeps w kind.Token b k = k
-freed-keeps w kind.Process b k = k
-freed-keeps w kind.Thread b k = k
+freed-keeps w e b k = k
 
 keeping-step : (w : World) (b : Basic) → is_keeping b ≡ true → KeepsConnects w → KeepsConnects (basic w b)
 keeping-step w (Makes p) is k = every-push keeps_connect w.ports p k is

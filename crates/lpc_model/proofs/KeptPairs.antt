@@ -73,10 +73,7 @@ kept-more w v opens p is = kept-parts (is_cut p) (is_open w p.birth) (is_open v 
 
 freed-pairs : (w : World) (k : ObjectKind) (b : Birth) → HasKeptPairs w → HasKeptPairs (freed w k b)
 freed-pairs w kind.Port b k = every-without (is_kept_pair w) (is_port b) w.ports k
-freed-pairs w kind.Section b k = k
-freed-pairs w kind.Token b k = k
-freed-pairs w kind.Process b k = k
-freed-pairs w kind.Thread b k = k
+freed-pairs w e b k = k
 
 pair-step : (w : World) (b : Basic) → is_pairing b ≡ true → HasKeptPairs w → HasKeptPairs (basic w b)
 pair-step w (Makes p) is k = every-push (is_kept_pair w) w.ports p k (or_left (is_cut p) _ is)

@@ -2,6 +2,7 @@
 use Rattle.std.proofs.Common.{◌≡◌, ℕ, List, [], ◌∷◌, Bool, true, false, not, Option, Some, None, refl, subst, arith}
 use Rattle.std.specs.Prelude.{◌&&◌, ◌||◌, ◌==◌, is_some}
 use Rattle.std.proofs.lemmas.Bool.Decides.{nat_tests}
+use Rattle.std.proofs.lemmas.Bool.{false_from_ne_true}
 use Rattle.std.proofs.Math.Bool.{or-true}
 use Rattle.lpc_base.specs.Rows.{first, has, passes}
 use Rattle.lpc_base.proofs.RowWords.{first-passes}
@@ -43,15 +44,11 @@ offered-own : (w : World) (x : WaitRow) → is_offered x ≡ true → can_stay_s
 offered-own w = by_kind (λ x. is_offered x ≡ true → can_stay_sound w x ≡ true → (x.port.maker == x.thread) ≡ true) (λ x m of is. absurd (cc)) (λ x of is. absurd (cc)) (λ x of is. absurd (cc)) (λ x m of is. grind arith) (λ x m r of is. absurd (cc))
 
 standing-apart : (w : World) (c b : Birth) → passes (port_row w c) is_unjoined ≡ true → has (is_port b) w.ports ≡ false → same_birth c b ≡ false
-standing-apart w c b is none = at (same_birth c b) refl
+standing-apart w c b is none = false_from_ne_true (same_birth c b) (λ same. let here = subst (λ d. has (is_port d) w.ports ≡ true) (birth-same c b same) (stands (port_row w c) is) in cc)
   where
     stands : (o : Option PortRow) → passes o is_unjoined ≡ true → is_some o ≡ true
     stands None is = absurd (cc)
     stands (Some p) is = refl
-
-    at : (k : Bool) → same_birth c b ≡ k → k ≡ false
-    at true same = let here = subst (λ d. has (is_port d) w.ports ≡ true) (birth-same c b same) (stands (port_row w c) is) in absurd (cc)
-    at false same = refl
 
 accepted-linked : (w : World) (by : ThreadRow) (context value : ℕ) (m : Message) (x : WaitRow) → first (names_connect w by m) w.waits ≡ Some x → CanCall w by → IsSoundWorld w → IsLinked w → KeepLinked w (accept_steps by context value (record { message = m; wait = x }))
 accepted-linked w by context value m x at c s l =

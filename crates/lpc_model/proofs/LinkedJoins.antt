@@ -2,7 +2,7 @@
 use Rattle.std.proofs.Common.{◌≡◌, ◌∙◌, ℕ, ◌+◌, ◌≤◌, List, [], ◌∷◌, Bool, true, false, cond, map, not, Option, Some, None, refl, sym, subst, arith}
 use Rattle.std.specs.Prelude.{◌&&◌, ◌||◌, is_none, is_some}
 use Rattle.std.proofs.lemmas.Bool.Decides.{nat_tests}
-use Rattle.std.proofs.lemmas.Bool.{and_from, not-true}
+use Rattle.std.proofs.lemmas.Bool.{and_from, false_from_ne_true, not-true}
 use Rattle.lpc_base.specs.Rows.{count, every, first, passes, without}
 use Rattle.lpc_base.proofs.RowWords.{every-more, every-without, first-passes}
 use Rattle.lpc_base.proofs.RowMaps.{every-both, every-change_to, every-map}
@@ -184,18 +184,10 @@ freed-option w b t kept None off is = refl
 freed-option w b t kept (Some c) off is = kept c (births-apart b c off) is
 
 pub unopen : (w : World) (b : Birth) → pointer_count w (port_name b) ≤ 0 → is_open w b ≡ false
-unopen w b few = at (is_open w b) refl
-  where
-    at : (o : Bool) → is_open w b ≡ o → o ≡ false
-    at true is = let some = open-count w b is in absurd (omega (arith, some, sum-first _ _ few))
-    at false is = refl
+unopen w b few = false_from_ne_true (is_open w b) (λ is. let some = open-count w b is in omega (arith, some, sum-first _ _ few))
 
 other-open : (w : World) (b c : Birth) → is_open w b ≡ false → is_open w c ≡ true → same_birth c b ≡ false
-other-open w b c off is = at (same_birth c b) refl
-  where
-    at : (k : Bool) → same_birth c b ≡ k → k ≡ false
-    at true same = let opens = subst (λ d. is_open w d ≡ true) (birth-same c b same) is in absurd (cc)
-    at false same = refl
+other-open w b c off is = false_from_ne_true (same_birth c b) (λ same. let opens = subst (λ d. is_open w d ≡ true) (birth-same c b same) is in cc)
 
 port-gone : (w : World) (b : Birth) → pointer_count w (port_name b) ≤ 0 → IsSoundWorld w → IsLinked w → IsLinked (basic w (Frees (port_name b)))
 port-gone w b few s l =

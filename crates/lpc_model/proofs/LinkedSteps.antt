@@ -12,7 +12,7 @@ use Rattle.lpc_names.specs.Walk.{LinkTo, Stands}
 use Rattle.lpc_names.specs.declared.names.Found.TheVariants.{Directory, Item}
 use Rattle.lpc_model.specs.World.{Birth, Node, PortRow, WaitRow, World}
 use Rattle.lpc_model.specs.Found.{is_offered, is_port, is_the, pair_of, port_row, same_birth, waits_as, waits_at}
-use Rattle.lpc_model.specs.Basics.{Accepts, AddsHandle, AddsProcess, AddsThread, Awaits, Basic, Binds, Completes, Cuts, Dies, DrawsIdentifier, DrawsOrdinal, DropsHandle, Empties, Enters, Frees, Joins, Makes, Receives, Registers, Takes, TakesConnect, Tells, Unbinds, Unregisters, Wakes, Withdraws, accepted, basic, completed, cut, is_end_of, received, world_after}
+use Rattle.lpc_model.specs.Basics.{Accepts, AddsHandle, AddsProcess, AddsThread, Awaits, Basic, Binds, Completes, Cuts, Dies, DropsHandle, Frees, Joins, Makes, Receives, Tells, Unbinds, Wakes, accepted, basic, completed, cut, is_end_of, received, world_after}
 use Rattle.lpc_model.specs.Linked.{IsLinked, is_root_port, is_lone_offer, is_mutual, is_rooted, is_unjoined, leads_to_root, names_nothing, passes_or_none}
 use Rattle.lpc_model.proofs.SoundPairs.{tied}
 use Rattle.lpc_model.proofs.SoundTies.{completed-birth}
@@ -227,26 +227,14 @@ plain-linked w (Awaits x) is l = linked-same w (basic w (Awaits x)) refl (λ all
 plain-linked w (Receives who queue) is l = linked-same w (basic w (Receives who queue)) refl (every-change (is_lone_offer w) (waits_at who queue) received (λ x is. is) w.waits) (λ all. all) l
 plain-linked w (Accepts who reply) is l = linked-same w (basic w (Accepts who reply)) refl (every-change (is_lone_offer w) (waits_as who) (accepted reply) (accepted-offer w reply) w.waits) (λ all. all) l
 plain-linked w (Dies who status) is l = linked-same w (basic w (Dies who status)) refl (every-without (is_lone_offer w) (waits_as who) w.waits) (λ all. all) l
-plain-linked w (Registers who b) is l = linked-same w (basic w (Registers who b)) refl (λ all. all) (λ all. all) l
-plain-linked w (Unregisters who b) is l = linked-same w (basic w (Unregisters who b)) refl (λ all. all) (λ all. all) l
-plain-linked w (Enters m) is l = linked-same w (basic w (Enters m)) refl (λ all. all) (λ all. all) l
-plain-linked w (Takes q) is l = linked-same w (basic w (Takes q)) refl (λ all. all) (λ all. all) l
-plain-linked w (TakesConnect q) is l = linked-same w (basic w (TakesConnect q)) refl (λ all. all) (λ all. all) l
-plain-linked w (DrawsIdentifier who) is l = linked-same w (basic w (DrawsIdentifier who)) refl (λ all. all) (λ all. all) l
-plain-linked w (DrawsOrdinal who) is l = linked-same w (basic w (DrawsOrdinal who)) refl (λ all. all) (λ all. all) l
-plain-linked w (AddsProcess p) is l = linked-same w (basic w (AddsProcess p)) refl (λ all. all) (λ all. all) l
-plain-linked w (AddsThread t) is l = linked-same w (basic w (AddsThread t)) refl (λ all. all) (λ all. all) l
 plain-linked w (Makes p) is l = absurd (cc)
 plain-linked w (Joins client server context) is l = absurd (cc)
 plain-linked w (Completes b) is l = alike-linked w (basic w (Completes b)) (λ p. cond (is_port b p) (completed p) p) (completed-alike b) refl refl refl l
 plain-linked w (Frees o) is l = absurd (cc)
 plain-linked w (Binds path node) is l = linked-same w (basic w (Binds path node)) refl (λ all. all) (λ all. every-push (λ b. leads_to_root w b.1) w.bindings (path, node) all (portless-leads w node is)) l
-plain-linked w (AddsHandle pid h) is l = linked-same w (basic w (AddsHandle pid h)) refl (λ all. all) (λ all. all) l
-plain-linked w (Withdraws who) is l = linked-same w (basic w (Withdraws who)) refl (λ all. all) (λ all. all) l
-plain-linked w (Empties q) is l = linked-same w (basic w (Empties q)) refl (λ all. all) (λ all. all) l
 plain-linked w (Cuts b) is l = cut-linked w b l
 plain-linked w (Unbinds b) is l = linked-same w (basic w (Unbinds b)) refl (λ all. all) (every-without (λ b. leads_to_root w b.1) (is_name same_birth b) w.bindings) l
-plain-linked w (DropsHandle pid value) is l = linked-same w (basic w (DropsHandle pid value)) refl (λ all. all) (λ all. all) l
+plain-linked w b is l = linked-same w (basic w b) refl (λ all. all) (λ all. all) l
 
 pub plain-all : (w : World) (bs : List Basic) → every is_plain bs ≡ true → IsLinked w → IsLinked (world_after w bs)
 plain-all = steps-keep is_plain IsLinked plain-linked

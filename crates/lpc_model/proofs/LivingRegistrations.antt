@@ -242,11 +242,8 @@ is_lasting (AddsThread t) = has_living_registrations t
 is_lasting b = true
 
 freed-living : (w : World) (k : ObjectKind) (b : Birth) → HasLivingRegistrations w → HasLivingRegistrations (freed w k b)
-freed-living w kind.Port b l = l
-freed-living w kind.Section b l = l
-freed-living w kind.Token b l = l
-freed-living w kind.Process b l = l
 freed-living w kind.Thread b l = every-without has_living_registrations (λ t. same_birth t.birth b) w.threads l
+freed-living w e b l = l
 
 living-step : (w : World) (b : Basic) → is_lasting b ≡ true → HasLivingRegistrations w → HasLivingRegistrations (basic w b)
 living-step w (Dies who status) is l = absurd (cc)

@@ -17,7 +17,7 @@ use Rattle.lpc_model.specs.declared.entry.ObjectKind.TheVariants as kind
 use Rattle.lpc_model.specs.declared.entry.Word.TheVariants as word
 use Rattle.lpc_model.specs.World.{Birth, HandleRow, Message, MessageRow, ObjectKind, ObjectName, PortRow, ThreadRow, WaitRow, World, no_rows}
 use Rattle.lpc_model.specs.Found.{free_handle, handle_at, has_handle_to, is_accepted, is_connection_port, is_open, is_own_of, is_queued, is_queued_connect, is_table, is_taken, live_threads, port_name, queue_of, waits_as, waits_at}
-use Rattle.lpc_model.specs.Basics.{Accepts, AddsHandle, AddsProcess, AddsThread, Awaits, Basic, Binds, Completes, Cuts, Dies, DrawsIdentifier, DrawsOrdinal, DropsHandle, Empties, Enters, Frees, Joins, Makes, Receives, Registers, Takes, TakesConnect, Tells, Unbinds, Unregisters, Wakes, Withdraws, accepted, basic, freed, no_handles, received, world_after, with_handle}
+use Rattle.lpc_model.specs.Basics.{Accepts, AddsHandle, AddsProcess, AddsThread, Awaits, Basic, Binds, Completes, Cuts, Dies, DrawsOrdinal, DropsHandle, Empties, Enters, Frees, Joins, Makes, Receives, Registers, Takes, TakesConnect, Tells, Unbinds, Unregisters, Wakes, Withdraws, accepted, basic, freed, no_handles, received, world_after, with_handle}
 use Rattle.lpc_model.specs.Sweep.{sweep}
 use Rattle.lpc_model.specs.Message.{asks, message_test}
 use Rattle.lpc_model.specs.Fields.{h, info, max}
@@ -109,11 +109,9 @@ abbrev AreOpen : World → List Basic → Type 0
 AreOpen w bs = every (is_open_step w) bs ≡ true
 
 freed-kept : (w : World) (k : ObjectKind) (b : Birth) → KeepsOpen w (freed w k b)
-freed-kept w kind.Port b = kept w (freed w kind.Port b) (λ b is. is) (λ all. all) (λ all. all) (λ all. all)
 freed-kept w kind.Section b = kept w w (λ b is. is) (λ all. all) (λ all. all) (λ all. all)
 freed-kept w kind.Token b = kept w w (λ b is. is) (λ all. all) (λ all. all) (λ all. all)
-freed-kept w kind.Process b = kept w (freed w kind.Process b) (λ b is. is) (λ all. all) (λ all. all) (λ all. all)
-freed-kept w kind.Thread b = kept w (freed w kind.Thread b) (λ b is. is) (λ all. all) (λ all. all) (λ all. all)
+freed-kept w e b = kept w (freed w e b) (λ b is. is) (λ all. all) (λ all. all) (λ all. all)
 
 -- a step that passes in a world keeps queues open in each later one
 step-kept : (w v : World) (b : Basic) → StayOpen w v → is_open_step w b ≡ true → KeepsOpen v (basic v b)
@@ -126,23 +124,18 @@ step-kept w v (Enters m) stay is = messages-kept v _ (λ all. every-push (enters
 step-kept w v (Takes q) stay is = messages-kept v _ (every-without_first (enters_open v) (is_queued q) v.messages)
 step-kept w v (TakesConnect q) stay is = messages-kept v _ (every-without_first (enters_open v) (is_queued_connect q) v.messages)
 step-kept w v (Withdraws who) stay is = messages-kept v _ (every-without (enters_open v) (is_own_of who) v.messages)
-step-kept w v (DrawsIdentifier who) stay is = kept v (basic v (DrawsIdentifier who)) (λ b is. is) (λ all. all) (λ all. all) (λ all. all)
-step-kept w v (DrawsOrdinal who) stay is = kept v (basic v (DrawsOrdinal who)) (λ b is. is) (λ all. all) (λ all. all) (λ all. all)
 step-kept w v (Dies who status) stay is = kept v (basic v (Dies who status)) (λ b is. is) (λ all. all) (every-without (waits_open v) (waits_as who) v.waits) (every-without is_taken (waits_as who) v.waits)
 step-kept w v (Registers who b) stay is = kept v (basic v (Registers who b)) (λ b is. is) (λ all. all) (λ all. all) (λ all. all)
 step-kept w v (Unregisters who b) stay is = kept v (basic v (Unregisters who b)) (λ b is. is) (λ all. all) (λ all. all) (λ all. all)
 step-kept w v (AddsProcess p) stay is = kept v (basic v (AddsProcess p)) (λ b is. has-kept (has_handle_to b) v.handles (no_handles p.number) is) (λ all. all) (λ all. all) (λ all. all)
-step-kept w v (AddsThread t) stay is = kept v (basic v (AddsThread t)) (λ b is. is) (λ all. all) (λ all. all) (λ all. all)
-step-kept w v (Makes p) stay is = kept v (basic v (Makes p)) (λ b is. is) (λ all. all) (λ all. all) (λ all. all)
-step-kept w v (Joins client server context) stay is = kept v (basic v (Joins client server context)) (λ b is. is) (λ all. all) (λ all. all) (λ all. all)
 step-kept w v (Completes b) stay is = kept v (basic v (Completes b)) (λ b is. is) (λ all. all) (λ all. all) (λ all. all)
 step-kept w v (Frees o) stay is = freed-kept v o.kind o.birth
-step-kept w v (Binds path node) stay is = kept v (basic v (Binds path node)) (λ b is. is) (λ all. all) (λ all. all) (λ all. all)
 step-kept w v (AddsHandle pid row) stay is = absurd (cc)
 step-kept w v (DropsHandle pid value) stay is = absurd (cc)
 step-kept w v (Empties q) stay is = messages-kept v _ (every-without (enters_open v) (is_queued q) v.messages)
 step-kept w v (Cuts b) stay is = kept v (basic v (Cuts b)) (λ b is. is) (λ all. all) (λ all. all) (λ all. all)
 step-kept w v (Unbinds b) stay is = kept v (basic v (Unbinds b)) (λ b is. is) (λ all. all) (λ all. all) (λ all. all)
+step-kept w v e stay is = kept v (basic v e) (λ b is. is) (λ all. all) (λ all. all) (λ all. all)
 
 steps-kept : (w v : World) (bs : List Basic) → StayOpen w v → AreOpen w bs → HasOpenQueues v → HasOpenQueues (world_after v bs)
 steps-kept w v [] stay all q = q

@@ -93,11 +93,9 @@ not-both : (a b : Bool) → not a ≡ true → not (a && b) ≡ true
 not-both a b is = grind arith
 
 freed-untold : (w : World) (k : ObjectKind) (b : Birth) → HasSingleClosings w → HasSingleClosings (freed w k b)
-freed-untold w kind.Port b u = record { closed = u.closed; once = u.once; connects = u.connects }
 freed-untold w kind.Section b u = u
 freed-untold w kind.Token b u = u
-freed-untold w kind.Process b u = record { closed = u.closed; once = u.once; connects = u.connects }
-freed-untold w kind.Thread b u = record { closed = u.closed; once = u.once; connects = u.connects }
+freed-untold w e b u = record { closed = u.closed; once = u.once; connects = u.connects }
 
 hushed-step : (w : World) (b : Basic) → is_hushed b ≡ true → HasSingleClosings w → HasSingleClosings (basic w b)
 hushed-step w (Tells e) is u = u
@@ -146,10 +144,7 @@ open-unconnected w b u opens = every-more (waits_shut w) (λ x. not (is_connect_
 -- an open port stands
 port-of : (w : World) (b : Birth) (k : ObjectKind) (c : Birth) → stands_as w k c ≡ true → (same_kind k kind.Port && same_birth c b) ≡ true → has (is_port b) w.ports ≡ true
 port-of w b kind.Port c stands is = subst (λ d. has (is_port d) w.ports ≡ true) (birth-same c b is) stands
-port-of w b kind.Section c stands is = absurd (cc)
-port-of w b kind.Token c stands is = absurd (cc)
-port-of w b kind.Process c stands is = absurd (cc)
-port-of w b kind.Thread c stands is = absurd (cc)
+port-of w b e c stands is = absurd (cc)
 
 pub open-stands : (w : World) (b : Birth) → NamesWhatStands w → is_open w b ≡ true → has (is_port b) w.ports ≡ true
 open-stands w b n is = at (first (has_handle_to b) w.handles) refl

@@ -1,7 +1,7 @@
 -- Each line keeps what stands in queues of closings.
 use Rattle.std.proofs.Common.{◌≡◌, ℕ, List, [], ◌∷◌, Bool, true, false, not, Option, Some, None, refl, sym, subst, arith}
 use Rattle.std.specs.Prelude.{◌&&◌, ◌||◌, ◌==◌, Result}
-use Rattle.std.proofs.lemmas.Bool.{eqb-true}
+use Rattle.std.proofs.lemmas.Bool.{eqb-true, false_from_ne_true}
 use Rattle.lpc_base.specs.Rows.{every, first, has, without}
 use Rattle.lpc_base.proofs.RowWords.{every-more, every-not, first-passes}
 use Rattle.lpc_base.proofs.RowMaps.{every-first, every-kept}
@@ -72,11 +72,7 @@ next-untold w by c s n = every-more (λ m. has (is_port m.sender) w.ports) (λ m
         let none = unmade w by c s in absurd (cc)
 
 next-shut : (w : World) (by : ThreadRow) → CanCall w by → IsSoundWorld w → NamesWhatStands w → is_open w (next_birth by) ≡ false
-next-shut w by c s n = at (is_open w (next_birth by)) refl
-  where
-    at : (k : Bool) → is_open w (next_birth by) ≡ k → k ≡ false
-    at false is = refl
-    at true is = let here = open-stands w (next_birth by) n is in let none = unmade w by c s in absurd (cc)
+next-shut w by c s n = false_from_ne_true (is_open w (next_birth by)) (λ is. let here = open-stands w (next_birth by) n is in let none = unmade w by c s in cc)
 
 next-alone : (w : World) (by : ThreadRow) → CanCall w by → IsSoundWorld w → every (λ x. not (is_connect_on (next_birth by) x)) w.waits ≡ true
 next-alone w by c s = every-not (is_connect_on (next_birth by)) w.waits (unconnected w by c s)

@@ -50,11 +50,8 @@ is_lasting (AddsThread t) = registers_once t
 is_lasting b = true
 
 freed-single : (w : World) (k : ObjectKind) (b : Birth) → HasSingleRegistrations w → HasSingleRegistrations (freed w k b)
-freed-single w kind.Port b l = l
-freed-single w kind.Section b l = l
-freed-single w kind.Token b l = l
-freed-single w kind.Process b l = l
 freed-single w kind.Thread b l = every-without registers_once (λ t. same_birth t.birth b) w.threads l
+freed-single w e b l = l
 
 single-step : (w : World) (b : Basic) → is_lasting b ≡ true → HasSingleRegistrations w → HasSingleRegistrations (basic w b)
 single-step w (Dies who status) is l = every-change registers_once (is_thread who) ended (λ r was. was) w.threads l

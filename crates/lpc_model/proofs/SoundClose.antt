@@ -4,7 +4,7 @@ use Rattle.std.specs.Prelude.{◌&&◌, ◌||◌, ◌==◌}
 use Rattle.lpc_base.specs.Rows.{count, every, first, has, passes, when}
 use Rattle.lpc_base.specs.declared.status.TheConstants.{INVALID_HANDLE}
 use Rattle.lpc_base.proofs.RowWords.{every-more, first-passes, has-change}
-use Rattle.std.proofs.lemmas.Bool.{and_from, and_right, eqb-true}
+use Rattle.std.proofs.lemmas.Bool.{and_from, and_right, eqb-true, false_from_ne_true}
 use Rattle.lpc_base.proofs.RowMaps.{every-both}
 use Rattle.lpc_base.proofs.Bools.{first-true, second-true}
 use Rattle.lpc_base.proofs.Births.{birth-same, birth-self, births-apart}
@@ -173,11 +173,7 @@ last-count w r is =
     eqb-true (count (λ h. names_port r.object.birth h.object) (all_handles w)) 1 (subst (λ (o : ObjectName). (count (λ h. same_object h.object o) (all_handles w) == 1) ≡ true) own (second-true (same_kind r.object.kind kind.Port) (handle_count w r.object == 1) is))
 
 none-open : (v : World) (b : Birth) → count (λ h. names_port b h.object) (all_handles v) ≤ 0 → is_open v b ≡ false
-none-open v b few = here (is_open v b) refl
-  where
-    here : (o : Bool) → is_open v b ≡ o → o ≡ false
-    here true is = let more = open-count v b is in absurd (omega (arith, more, few))
-    here false is = refl
+none-open v b few = false_from_ne_true (is_open v b) (λ is. let more = open-count v b is in omega (arith, more, few))
 
 pub last-closes : (w : World) (pid : ℕ) (r : HandleRow) → count (is_table pid) w.handles ≤ 1 → handle_at w pid r.value ≡ Some r → is_last r w ≡ true → (is_open w r.object.birth ≡ true) × (is_open (basic w (DropsHandle pid r.value)) r.object.birth ≡ false)
 last-closes w pid r one at is =

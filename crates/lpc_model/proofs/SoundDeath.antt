@@ -27,7 +27,7 @@ use Rattle.lpc_model.proofs.SoundCuts.{every-rest, is_free_of, none-accepted, pa
 use Rattle.lpc_model.proofs.Dying.{asked_across, cut-parts, gone, gone-cut, received_across}
 use Rattle.lpc_model.proofs.SoundClosing.{receive-quiet, request-quiet}
 use Rattle.lpc_model.proofs.StepsInTurn.{after-append}
-use Rattle.std.proofs.lemmas.Bool.{and_from, eqb-true, not-true}
+use Rattle.std.proofs.lemmas.Bool.{and_from, eqb-true, false_from_ne_true, not-true}
 
 -- A thread that doesn't wait ends
 -- the other live threads are found as before
@@ -107,11 +107,7 @@ shut-off w b shut =
     listening z other apart = grind arith
 
     apart : (c : Birth) → is_open w c ≡ true → same_birth c b ≡ false
-    apart c opens = at (same_birth c b) refl
-      where
-        at : (k : Bool) → same_birth c b ≡ k → k ≡ false
-        at true same = let one = subst (λ d. is_open w d ≡ true) (birth-same c b same) opens in absurd (cc)
-        at false same = refl
+    apart c opens = false_from_ne_true (same_birth c b) (λ same. let one = subst (λ d. is_open w d ≡ true) (birth-same c b same) opens in cc)
 
 -- what the cut leaves: a sound world, and no accepted connect on the port
 pub record IsCutOff (w v : World) (b : Birth) : Type 0 where

@@ -131,20 +131,14 @@ fewer-holders w kind.Port k c b = at k
   where
     at : (k : ObjectKind) → holders (freed w kind.Port c) k b ≤ holders w k b
     at kind.Port = less _ _ _ _ _ _ (count-left (is_paired_to b) (is_port c) w.ports) (count-left (is_connected_to b) (is_port c) w.ports)
-    at kind.Section = omega arith
-    at kind.Token = omega arith
-    at kind.Process = omega arith
-    at kind.Thread = omega arith
+    at b = omega arith
 fewer-holders w kind.Section k c b = omega arith
 fewer-holders w kind.Token k c b = omega arith
 fewer-holders w kind.Process k c b = at k
   where
     at : (k : ObjectKind) → holders (freed w kind.Process c) k b ≤ holders w k b
-    at kind.Port = omega arith
-    at kind.Section = omega arith
-    at kind.Token = omega arith
     at kind.Process = fewer-pass (lives_by (freed w kind.Process c) b) (lives_by w b) (still-lives w b c) w.threads
-    at kind.Thread = omega arith
+    at b = omega arith
 fewer-holders w kind.Thread k c b = at k
   where
     at : (k : ObjectKind) → holders (freed w kind.Thread c) k b ≤ holders w k b
@@ -173,11 +167,8 @@ pub freed-registrations : (w : World) (o : ObjectName) → is_unheld w o ≡ tru
 freed-registrations w o none = at o.kind o.birth (is-zero (pointer_count w o) none)
   where
     at : (k : ObjectKind) (b : Birth) → pointer_count w (record { kind = k; birth = b }) ≤ 0 → all_registrations (freed w k b) ≡ all_registrations w
-    at kind.Port b few = refl
-    at kind.Section b few = refl
-    at kind.Token b few = refl
-    at kind.Process b few = refl
     at kind.Thread b few = dead-each b w.threads (none-pass (is_life b) w.threads (sum-second _ _ few))
+    at e b few = refl
 
 pub frees-registrations : (w : World) (os : List ObjectName) → every (is_unheld w) os ≡ true → all_registrations (world_after w (map Frees os)) ≡ all_registrations w
 frees-registrations w [] all = refl

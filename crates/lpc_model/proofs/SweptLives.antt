@@ -79,13 +79,11 @@ pub same-process : (w : World) (o : ObjectName) (b : Birth) → is_unheld w o �
 same-process w o b none = at o.kind o.birth (is-zero (pointer_count w o) none)
   where
     at : (k : ObjectKind) (c : Birth) → pointer_count w (record { kind = k; birth = c }) ≤ 0 → pointer_count (freed w k c) (process_name b) ≡ pointer_count w (process_name b)
-    at kind.Port c few = refl
-    at kind.Section c few = refl
-    at kind.Token c few = refl
     at kind.Process c few = sum-same (handle_count w (process_name b)) (count (lives_by (freed w kind.Process c) b) w.threads) (count (lives_by w b) w.threads) (process-lives w b c (sum-second (handle_count w (process_name c)) (count (lives_by w c) w.threads) few))
     at kind.Thread c few =
         let dead = none-pass (is_life c) w.threads (sum-second (handle_count w (thread_name c)) (count (is_life c) w.threads) few) in
         sum-same (handle_count w (process_name b)) (count (lives_by w b) (without (λ t. same_birth t.birth c) w.threads)) (count (lives_by w b) w.threads) (count-apart (lives_by w b) (λ t. same_birth t.birth c) w.threads (every-more (λ t. not (is_life c t)) (λ t. not (same_birth t.birth c && lives_by w b t)) (dead-lives w b c) w.threads dead))
+    at b c few = refl
 
 pub same-thread : (w : World) (o : ObjectName) (b : Birth) → is_unheld w o ≡ true → pointer_count (basic w (Frees o)) (thread_name b) ≡ pointer_count w (thread_name b)
 same-thread w o b none = at o.kind o.birth (is-zero (pointer_count w o) none)

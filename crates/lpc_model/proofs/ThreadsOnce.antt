@@ -33,11 +33,8 @@ is_childless (AddsThread t) = false
 is_childless b = true
 
 freed-once : (w : World) (k : ObjectKind) (b : Birth) → HasThreadsOnce w → HasThreadsOnce (freed w k b)
-freed-once w kind.Port b once n = once n
-freed-once w kind.Section b once n = once n
-freed-once w kind.Token b once n = once n
-freed-once w kind.Process b once n = once n
 freed-once w kind.Thread b once n = count-less (is_thread n) (λ t. same_birth t.birth b) w.threads 1 (once n)
+freed-once w e b once n = once n
 
 changed-once : (w : World) (who : ℕ) (f : ThreadRow → ThreadRow) → ((n : ℕ) (t : ThreadRow) → is_thread n (f t) ≡ is_thread n t) → HasThreadsOnce w → HasThreadsOnce (record w { threads = change (is_thread who) f w.threads })
 changed-once w who f same once n = rw (count-change (is_thread n) (is_thread who) f (same n) w.threads) (once n)

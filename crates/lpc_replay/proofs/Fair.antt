@@ -103,11 +103,9 @@ steps_keep w line v (b ∷ bs) f h = steps_keep w line (basic v b) bs f.1 (basic
 
 -- a receive or a listen ends by any line
 waiter_call : (w : World) (line : ScriptLine) (tid : ℕ) (kind : WaitKind) (status : Status) (fields : List Field) → (elim kind [ Receive ↦ true | _ ↦ false ] || elim kind [ Listen ↦ true | _ ↦ false ]) ≡ true → IsRight w line (entry.Wakes tid (call_of_kind kind) status fields)
-waiter_call w line tid (Request m) status fields is = absurd (cc)
 waiter_call w line tid Receive status fields is = (tt, tt)
 waiter_call w line tid Listen status fields is = (tt, tt)
-waiter_call w line tid (Connect m) status fields is = absurd (cc)
-waiter_call w line tid (Accepted m answer) status fields is = absurd (cc)
+waiter_call w line tid b status fields is = absurd (cc)
 
 pub waiter_wakes : (w : World) (line : ScriptLine) (x : WaitRow) (status : Status) (fields : List Field) → (is_receive x || is_listen x) ≡ true → HasItsCall x → IsRight w line (entry.Wakes x.thread x.call status fields)
 waiter_wakes w line x status fields is h = rw h (waiter_call w line x.thread x.kind status fields is)
@@ -115,20 +113,15 @@ waiter_wakes w line x status fields is h = rw h (waiter_call w line x.thread x.k
 -- an accepted connect is no request, and a request no connect
 accepted_call_right : (w : World) (line : ScriptLine) (tid : ℕ) (kind : WaitKind) (status : Status) (fields : List Field) → elim kind [ Accepted m answer ↦ true | _ ↦ false ] ≡ true → HasReply w line (entry.Wakes tid (call_of_kind kind) status fields)
 accepted_call_right w line tid (Request m) status fields is = absurd (cc)
-accepted_call_right w line tid Receive status fields is = tt
-accepted_call_right w line tid Listen status fields is = tt
-accepted_call_right w line tid (Connect m) status fields is = tt
-accepted_call_right w line tid (Accepted m answer) status fields is = tt
+accepted_call_right w line tid b status fields is = tt
 
 pub accepted_wakes : (w : World) (line : ScriptLine) (x : WaitRow) (status : Status) (fields : List Field) → is_accepted x ≡ true → HasItsCall x → HasReply w line (entry.Wakes x.thread x.call status fields)
 accepted_wakes w line x status fields is h = rw h (accepted_call_right w line x.thread x.kind status fields is)
 
 request_call_right : (w : World) (line : ScriptLine) (tid : ℕ) (kind : WaitKind) (status : Status) (fields : List Field) → elim kind [ Request m ↦ true | _ ↦ false ] ≡ true → HasAnswer w line (entry.Wakes tid (call_of_kind kind) status fields)
-request_call_right w line tid (Request m) status fields is = tt
-request_call_right w line tid Receive status fields is = tt
-request_call_right w line tid Listen status fields is = tt
 request_call_right w line tid (Connect m) status fields is = absurd (cc)
 request_call_right w line tid (Accepted m answer) status fields is = absurd (cc)
+request_call_right w line tid b status fields is = tt
 
 pub request_wakes : (w : World) (line : ScriptLine) (x : WaitRow) (status : Status) (fields : List Field) → is_request x ≡ true → HasItsCall x → HasAnswer w line (entry.Wakes x.thread x.call status fields)
 request_wakes w line x status fields is h = rw h (request_call_right w line x.thread x.kind status fields is)
@@ -164,11 +157,8 @@ take_connect_fair w line m = (tt, receipt_fair w line m)
 
 -- a waiter takes it as its kind does
 waiter_takes_fair : (w : World) (line : ScriptLine) (m : MessageRow) (kind : WaitKind) → AreFair w line (elim kind [ Listen ↦ take_connect_steps m | _ ↦ take_steps m ])
-waiter_takes_fair w line m (Request n) = take_fair w line m
-waiter_takes_fair w line m Receive = take_fair w line m
 waiter_takes_fair w line m Listen = take_connect_fair w line m
-waiter_takes_fair w line m (Connect n) = take_fair w line m
-waiter_takes_fair w line m (Accepted n answer) = take_fair w line m
+waiter_takes_fair w line m b = take_fair w line m
 
 either : (a b c : Bool) → (a || (b && c)) ≡ true → (a || b) ≡ true
 either true b c h = refl

@@ -2,7 +2,7 @@
 use Rattle.std.proofs.Common.{Bool, List, [], ap, arith, false, not, refl, subst, sym, true, ℕ, ◌∙◌, ◌∷◌, ◌≡◌}
 use Rattle.std.specs.List.{AllByRecursion}
 use Rattle.std.specs.Prelude.{None, Option, Some, ◌&&◌, ◌==◌, ◌||◌, if◌then◌else◌}
-use Rattle.std.proofs.lemmas.Bool.{eqb-true, not-true, or_right}
+use Rattle.std.proofs.lemmas.Bool.{eqb-true, false_from_ne_true, not-true, or_right}
 use Rattle.std.proofs.lemmas.Bool.Decides.{nat_tests}
 use Rattle.lpc_base.specs.Rows.{change, every, given, has, passes, when, without}
 use Rattle.lpc_base.proofs.RowWords.{every-more, first-passes, has-change}
@@ -69,11 +69,7 @@ elsewhere w n b shut made =
 
     unpaired : (o : Option Birth) → passes o (is_open w) ≡ true → is_the b o ≡ false
     unpaired None is = refl
-    unpaired (Some c) is = at (same_birth b c) refl
-      where
-        at : (d : Bool) → same_birth b c ≡ d → same_birth b c ≡ false
-        at true same = let one : c ≡ b = sym (birth-same b c same) in let two : is_open w b ≡ true = subst (λ e. is_open w e ≡ true) one is in absurd (cc)
-        at false other = other
+    unpaired (Some c) is = false_from_ne_true (same_birth b c) (λ same. let one : c ≡ b = sym (birth-same b c same) in let two : is_open w b ≡ true = subst (λ e. is_open w e ≡ true) one is in cc)
 
     none : (a m d : Bool) → (m ≡ true → a ≡ true) → d ≡ false → (a || not (m || d)) ≡ true
     none true m d more is = refl

@@ -1,7 +1,7 @@
 -- A port's last handle is that of the only process that has one.
 use Rattle.std.proofs.Common.{Bool, List, [], arith, false, not, refl, subst, sym, true, ℕ, ◌+◌, ◌++◌, ◌∙◌, ◌∷◌, ◌≡◌, ◌≤◌}
 use Rattle.std.specs.Prelude.{◌&&◌, ◌||◌}
-use Rattle.std.proofs.lemmas.Bool.{and_from, eqb-true}
+use Rattle.std.proofs.lemmas.Bool.{and_from, eqb-true, true_from_ne_false}
 use Rattle.lpc_base.specs.Rows.{change, count, each, every, first, has}
 use Rattle.lpc_base.specs.declared.birth.Birth.{Birth}
 use Rattle.lpc_base.proofs.Births.{birth-self}
@@ -98,10 +98,7 @@ pub record IsLone (w : World) (pid : ℕ) (b : Birth) : Type 0 where
 
 port_kind : (k : ObjectKind) → same_kind k kind.Port ≡ true → k ≡ kind.Port
 port_kind kind.Port is = refl
-port_kind kind.Section is = absurd (cc)
-port_kind kind.Token is = absurd (cc)
-port_kind kind.Process is = absurd (cc)
-port_kind kind.Thread is = absurd (cc)
+port_kind b is = absurd (cc)
 
 pub lone : (w : World) (pid : ℕ) (r : HandleRow) (rows : List HandleRow) → handles_of w pid ≡ r ∷ rows → is_last r w ≡ true → IsLone w pid r.object.birth
 lone w pid r rows same last =
@@ -145,8 +142,4 @@ fewer_dropped w v pid value f = record {
 
 -- what is so behind them was so before
 pub lone_before : (w v : World) (pid : ℕ) (b : Birth) → HasFewer w v pid → IsLone v pid b → IsLone w pid b
-lone_before w v pid b f l = record { opens = at (is_open w b) refl; alone = sym (f.alone b) ∙ l.alone }
-  where
-    at : (c : Bool) → is_open w b ≡ c → is_open w b ≡ true
-    at true is = is
-    at false off = let none = f.opens b off in let some = l.opens in absurd (cc)
+lone_before w v pid b f l = record { opens = true_from_ne_false (is_open w b) (λ off. let none = f.opens b off in let some = l.opens in cc); alone = sym (f.alone b) ∙ l.alone }

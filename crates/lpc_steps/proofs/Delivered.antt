@@ -131,21 +131,15 @@ pub shown-listen : (x : WaitRow) (m : MessageRow) → is_listen x ≡ true → s
 shown-listen x m is = by_kind x.kind is
   where
     by_kind : (k : WaitKind) → (elim k [ Listen ↦ true | _ ↦ false ]) ≡ true → (elim k [ Listen ↦ msg m.message ∷ [] | _ ↦ receipt m ]) ≡ msg m.message ∷ []
-    by_kind (Request n) h = absurd (cc)
-    by_kind Receive h = absurd (cc)
     by_kind Listen h = refl
-    by_kind (Connect n) h = absurd (cc)
-    by_kind (Accepted n reply) h = absurd (cc)
+    by_kind b h = absurd (cc)
 
 pub shown-other : (x : WaitRow) (m : MessageRow) → is_listen x ≡ false → shown x m ≡ receipt m
 shown-other x m is = by_kind x.kind is
   where
     by_kind : (k : WaitKind) → (elim k [ Listen ↦ true | _ ↦ false ]) ≡ false → (elim k [ Listen ↦ msg m.message ∷ [] | _ ↦ receipt m ]) ≡ receipt m
-    by_kind (Request n) h = refl
-    by_kind Receive h = refl
     by_kind Listen h = absurd (cc)
-    by_kind (Connect n) h = refl
-    by_kind (Accepted n reply) h = refl
+    by_kind b h = refl
 
 -- a wait that begins, and is changed at once
 pub begun-waits : (x : WaitRow) (xs : List WaitRow) → has (waits_as x.thread) (xs ++ x ∷ []) ≡ true

@@ -151,11 +151,9 @@ told_kind_of (Answer tid call status fields) h =
     (figures_begin (eight_digits status.0) 119 (word_figures status.0) refl (λ e. omega arith))
 told_kind_of (Waits tid call fields) h =
     told_waits (first (decimal tid)) (first (call_text call)) (numbered tid (and_parts (is_word tid) (every is_sorted_field fields) h).0) (call_begins call)
-told_kind_of (Wakes tid call status fields) h = refl
 told_kind_of (Busy tid) h = told_busy (first (decimal tid)) (numbered tid h)
 told_kind_of (NoThread tid) h = told_no_thread (first (decimal tid)) (numbered tid h)
-told_kind_of (Died tid status) h = refl
-told_kind_of (Directive word status) h = refl
+told_kind_of b h = refl
 
 -- ---- the words tell the entry
 

@@ -119,11 +119,9 @@ met_accepted w client (Some tid) is = first-true (is_accepted (waiter w tid)) _ 
 
 -- Kinds of waits
 pub accepted_kind : (kind : WaitKind) (bytes : List ℕ) (accepted : Option Accepted) → (elim (shown_kind kind bytes accepted) [ model.Accepted m reply ↦ true | _ ↦ false ]) ≡ waits.is_connect kind && is_some accepted
-accepted_kind wait.Request bytes accepted = refl
-accepted_kind wait.Receive bytes accepted = refl
-accepted_kind wait.Listen bytes accepted = refl
 accepted_kind wait.Connect bytes None = refl
 accepted_kind wait.Connect bytes (Some accepted) = refl
+accepted_kind b bytes accepted = refl
 
 -- a connect's call
 abbrev is_connect_call : CallName → Bool
@@ -133,24 +131,18 @@ is_connect_call call = elim call [
 ]
 
 not_connect : (kind : WaitKind) → (kind ≡ wait.Connect → ⊥) → is_connect_call (call_of_wait kind) ≡ false
-not_connect wait.Request off = refl
-not_connect wait.Receive off = refl
-not_connect wait.Listen off = refl
 not_connect wait.Connect off = absurd (off refl)
+not_connect b off = refl
 
 offered_kind : (kind : WaitKind) (bytes : List ℕ) (accepted : Option Accepted) → (elim (shown_kind kind bytes accepted) [ model.Connect m ↦ true | _ ↦ false ]) ≡ is_connect_call (call_of_wait kind) && is_none accepted
-offered_kind wait.Request bytes accepted = refl
-offered_kind wait.Receive bytes accepted = refl
-offered_kind wait.Listen bytes accepted = refl
 offered_kind wait.Connect bytes None = refl
 offered_kind wait.Connect bytes (Some accepted) = refl
+offered_kind b bytes accepted = refl
 
 reply_of : (kind : WaitKind) (bytes : List ℕ) (a : Accepted) → (elim (shown_kind kind bytes (Some a)) [ model.Accepted m reply ↦ true | _ ↦ false ]) ≡ true
     → a.reply.items ≡ (elim (shown_kind kind bytes (Some a)) [ model.Accepted m reply ↦ reply | _ ↦ [] ])
-reply_of wait.Request bytes a h = absurd (cc)
-reply_of wait.Receive bytes a h = absurd (cc)
-reply_of wait.Listen bytes a h = absurd (cc)
 reply_of wait.Connect bytes a h = refl
+reply_of b bytes a h = absurd (cc)
 
 -- two tests of which one holds where the other doesn't
 pub turned : (a b : Bool) → a ≡ not b → b ≡ not a

@@ -133,11 +133,9 @@ still_found w p r one quiet is = subst (λ (o : Option ℕ). IfSome o (λ tid. i
 -- a receive or listen isn't pending
 taker_idle : (k : WaitKind) (b c d : Bool) → ((elim k [ Receive ↦ true | _ ↦ false ]) || ((elim k [ Listen ↦ true | _ ↦ false ]) && c)) && d ≡ true
     → ((elim k [ Request m ↦ true | _ ↦ false ]) || ((elim k [ Connect m ↦ true | _ ↦ false ]) || (elim k [ Accepted m reply ↦ true | _ ↦ false ]))) && not b ≡ false
-taker_idle (Request m) b c d h = absurd (cc)
 taker_idle Receive b c d h = refl
 taker_idle Listen b c d h = refl
-taker_idle (Connect m) b c d h = absurd (cc)
-taker_idle (Accepted m reply) b c d h = absurd (cc)
+taker_idle e b c d h = absurd (cc)
 
 pub taker_off : (q : Birth) (connects : Bool) (x : WaitRow) → takes_from q connects x ≡ true → is_pending x ≡ false
 taker_off q connects x h = taker_idle x.kind x.received connects (same_birth x.queue q) h

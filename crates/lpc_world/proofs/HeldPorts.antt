@@ -1,6 +1,6 @@
 -- A port that no row counts for is named by no row at all, in a world that can be swept.
 use Rattle.std.proofs.Common.{◌≡◌, ◌+◌, ◌≤◌, ℕ, zero, suc, List, [], ◌∷◌, Bool, true, false, drop, length, map, not, slice_get, Option, Some, None, option_map, refl, ap, sym, subst, ◌∙◌, arith}
-use Rattle.std.proofs.lemmas.Bool.{not-true}
+use Rattle.std.proofs.lemmas.Bool.{false_from_ne_true, not-true}
 use Rattle.std.specs.Prelude.{◌||◌, ◌&&◌, ◌==◌, option_and_then}
 use Rattle.lpc_base.specs.declared.birth.Birth.{Birth}
 use Rattle.lpc_base.specs.Rows.{count, every, has, without}
@@ -59,11 +59,7 @@ counted w b = named-counted w (port_name b)
 -- What is open is what names, and the queues of messages, are of
 module _ (w : World) (b : Birth) (off : is_open w b ≡ false) where
   apart : (c : Birth) → is_open w c ≡ true → same_birth c b ≡ false
-  apart c there = at (same_birth c b) refl
-    where
-      at : (k : Bool) → same_birth c b ≡ k → k ≡ false
-      at false is = refl
-      at true is = let here : is_open w b ≡ true = subst (λ d. is_open w d ≡ true) (birth-same c b is) there in absurd (cc)
+  apart c there = false_from_ne_true (same_birth c b) (λ is. let here : is_open w b ≡ true = subst (λ d. is_open w d ≡ true) (birth-same c b is) there in cc)
 
   no_queued : (ms : List MessageRow) → every (λ m. is_open w m.queue) ms ≡ true → has (is_queued b) ms ≡ false
   no_queued [] all = refl
@@ -129,11 +125,8 @@ living-freed : (w : World) (o : ObjectName) → HasLivingRegistrations w → Has
 living-freed w o living = at o.kind o.birth
   where
     at : (k : ObjectKind) (b : Birth) → HasLivingRegistrations (freed w k b)
-    at kind.Port b = living
-    at kind.Section b = living
-    at kind.Token b = living
-    at kind.Process b = living
     at kind.Thread b = every-without has_living_registrations (λ t. same_birth t.birth b) w.threads living
+    at e b = living
 
 -- what no row counts for leaves a world that can be swept, where it goes
 pub can_freed : (w : World) (o : ObjectName) → CanSweep w → is_unheld w o ≡ true → CanSweep (basic w (Frees o))

@@ -90,19 +90,14 @@ module _ (w : World) (pairs : HasMutualPairs w) where
 -- What is known of a wait that ends
 idle_taker : (k : model.WaitKind) (z received : Bool) → ((elim k [ model.Receive ↦ true | _ ↦ false ]) || (elim k [ model.Listen ↦ true | _ ↦ false ])) && z ≡ true
     → ((elim k [ model.Request m ↦ true | _ ↦ false ]) || ((elim k [ model.Connect m ↦ true | _ ↦ false ]) || (elim k [ model.Accepted m reply ↦ true | _ ↦ false ]))) && not received ≡ false
-idle_taker (model.Request m) z received is = absurd (cc)
 idle_taker model.Receive z received is = refl
 idle_taker model.Listen z received is = refl
-idle_taker (model.Connect m) z received is = absurd (cc)
-idle_taker (model.Accepted m reply) z received is = absurd (cc)
+idle_taker b z received is = absurd (cc)
 
 idle_receive : (k : model.WaitKind) (z received : Bool) → (elim k [ model.Receive ↦ true | _ ↦ false ]) && z ≡ true
     → ((elim k [ model.Request m ↦ true | _ ↦ false ]) || ((elim k [ model.Connect m ↦ true | _ ↦ false ]) || (elim k [ model.Accepted m reply ↦ true | _ ↦ false ]))) && not received ≡ false
-idle_receive (model.Request m) z received is = absurd (cc)
 idle_receive model.Receive z received is = refl
-idle_receive model.Listen z received is = absurd (cc)
-idle_receive (model.Connect m) z received is = absurd (cc)
-idle_receive (model.Accepted m reply) z received is = absurd (cc)
+idle_receive b z received is = absurd (cc)
 
 left_of : (a b : Bool) → a && b ≡ true → a ≡ true
 left_of true b is = refl
@@ -115,12 +110,9 @@ taken_by false b is accepted = absurd (cc)
 -- where its message stays, it doesn't pend
 idle-by : (e : Ending) (b : Birth) (w : World) (x : WaitRow) → withdraws e ≡ false → is_taken x ≡ true → ends e b w x ≡ true → is_pending x ≡ false
 idle-by Receives b w x stays taken is = idle_taker x.kind _ x.received is
-idle-by Requests b w x stays taken is = absurd (cc)
-idle-by QueuedRequests b w x stays taken is = absurd (cc)
-idle-by Offers b w x stays taken is = absurd (cc)
-idle-by RequestsAcross b w x stays taken is = absurd (cc)
 idle-by ReceivesAcross b w x stays taken is = idle_receive x.kind _ x.received is
 idle-by AcceptedAcross b w x stays taken is = received_off x (taken_by (is_accepted x) x.received taken (left_of (is_accepted x) _ is))
+idle-by e b w x stays taken is = absurd (cc)
 
 connect_left : (a b : Bool) → a ≡ true → a || b ≡ true
 connect_left true b is = refl
@@ -131,13 +123,9 @@ connect_right true b is = refl
 connect_right false b is = is
 
 connect-by : (e : Ending) (b : Birth) (w : World) (x : WaitRow) → is_of_connects e ≡ true → ends e b w x ≡ true → is_connect x ≡ true
-connect-by Receives b w x of is = absurd (cc)
-connect-by Requests b w x of is = absurd (cc)
-connect-by QueuedRequests b w x of is = absurd (cc)
 connect-by Offers b w x of is = connect_left (is_offered x) (is_accepted x) (left_of (is_offered x) _ is)
-connect-by RequestsAcross b w x of is = absurd (cc)
-connect-by ReceivesAcross b w x of is = absurd (cc)
 connect-by AcceptedAcross b w x of is = connect_right (is_offered x) (is_accepted x) (left_of (is_accepted x) _ is)
+connect-by e b w x of is = absurd (cc)
 
 -- The kinds of waits, as the table's rows have them
 record IsSeenAs (k : model.WaitKind) (kind : WaitKind) (answer : Option Accepted) : Type 0 where
@@ -148,11 +136,9 @@ record IsSeenAs (k : model.WaitKind) (kind : WaitKind) (answer : Option Accepted
   accepted : (elim k [ model.Accepted m reply ↦ true | _ ↦ false ]) ≡ waits.is_connect kind && is_some answer
 
 seen : (kind : WaitKind) (bytes : List ℕ) (accepted : Option Accepted) → IsSeenAs (shown_kind kind bytes accepted) kind accepted
-seen wait.Request bytes accepted = record { request = refl; receive = refl; listen = refl; offered = refl; accepted = refl }
-seen wait.Receive bytes accepted = record { request = refl; receive = refl; listen = refl; offered = refl; accepted = refl }
-seen wait.Listen bytes accepted = record { request = refl; receive = refl; listen = refl; offered = refl; accepted = refl }
 seen wait.Connect bytes None = record { request = refl; receive = refl; listen = refl; offered = refl; accepted = refl }
 seen wait.Connect bytes (Some a) = record { request = refl; receive = refl; listen = refl; offered = refl; accepted = refl }
+seen b bytes accepted = record { request = refl; receive = refl; listen = refl; offered = refl; accepted = refl }
 
 -- the wait that is found
 pub record IsNext (w : World) (e : Ending) (b : Birth) (r : Option ℕ) : Type 0 where

@@ -82,18 +82,14 @@ pair_stands n (Some a) None all = (grind arith, refl)
 pair_stands n (Some a) (Some b) all = (grind arith, grind arith)
 
 request_is : (kind : WaitKind) (bytes : List ℕ) (accepted : Option Accepted) → (elim (shown_kind kind bytes accepted) [ model.Request m ↦ true | _ ↦ false ]) ≡ waits.is_request kind
-request_is wait.Request bytes accepted = refl
-request_is wait.Receive bytes accepted = refl
-request_is wait.Listen bytes accepted = refl
 request_is wait.Connect bytes None = refl
 request_is wait.Connect bytes (Some accepted) = refl
+request_is b bytes accepted = refl
 
 listen_is : (kind : WaitKind) (bytes : List ℕ) (accepted : Option Accepted) → (elim (shown_kind kind bytes accepted) [ model.Listen ↦ true | _ ↦ false ]) ≡ waits.is_listen kind
-listen_is wait.Request bytes accepted = refl
-listen_is wait.Receive bytes accepted = refl
-listen_is wait.Listen bytes accepted = refl
 listen_is wait.Connect bytes None = refl
 listen_is wait.Connect bytes (Some accepted) = refl
+listen_is b bytes accepted = refl
 
 module _ (it : Tables) (is : AreNamed (births_of it.ports) it) where
   abbrev n : Births

@@ -146,11 +146,9 @@ module _ (it : Tables) (calls made : ℕ) (is : AreLawful it calls made) where
   -- how many of a process's threads wait in a connect
   connect_is : (kind : WaitKind) (bytes : List ℕ) (accepted : Option Accepted)
       → ((elim (shown_kind kind bytes accepted) [ model.Connect m ↦ true | _ ↦ false ]) || (elim (shown_kind kind bytes accepted) [ model.Accepted m reply ↦ true | _ ↦ false ])) ≡ waits.is_connect kind
-  connect_is wait.Request bytes accepted = refl
-  connect_is wait.Receive bytes accepted = refl
-  connect_is wait.Listen bytes accepted = refl
   connect_is wait.Connect bytes None = refl
   connect_is wait.Connect bytes (Some accepted) = refl
+  connect_is b bytes accepted = refl
 
   pub connect_same : (row : WaitRow) → found.is_connect (shown_wait (birth_of (births_of it.ports)) row) ≡ waits.is_connect row.wait.kind
   connect_same row = connect_is row.wait.kind row.message.items row.accepted
