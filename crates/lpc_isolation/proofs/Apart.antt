@@ -189,22 +189,13 @@ taken-apart m c u d w false who q y fields out owned is other = and_from _ _ (an
 given-apart : (m : Group) (c : ℕ) (u : World) (d : Whose) (w : World) (x : MessageRow) (y : WaitRow) (k : WaitKind) → y.kind ≡ k → our_message m x ≡ false → takes x y ≡ true → is_patient w y ≡ true
     → sees_at m w x.message.header.client.thread x.queue ≡ false → Owned u w → is_owned u y ≡ true → (y.process == c) ≡ false
     → are_apart m c u d (basic w (Enters x)) (given_steps y x ++ woken SUCCESS (shown y x) y ∷ []) ≡ true
-given-apart m c u d w x y (Request a) k out is patient unseen owned own other = absurd (off (rw k at is))
-  where
-    off : (false && same_birth y.queue x.queue) ≡ true → ⊥
-    off is = cc
+given-apart m c u d w x y (Request a) k out is patient unseen owned own other = let off : (false && same_birth y.queue x.queue) ≡ true = rw k at is in absurd (cc)
 given-apart m c u d w x y Receive k out is patient unseen owned own other =
     rw (k, receive-first w x y is (rw k refl) patient, out) (taken-apart m c u d (basic (basic w (Enters x)) (Takes x.queue)) (asks x.message) x.message.header.client.thread x.queue y _ unseen owned own other)
 given-apart m c u d w x y Listen k out is patient unseen owned own other =
     rw (k, listen-first w x y is (rw k refl) (rw k refl) patient, out) (taken-apart m c u d (basic (basic w (Enters x)) (TakesConnect x.queue)) (asks x.message) x.message.header.client.thread x.queue y _ unseen owned own other)
-given-apart m c u d w x y (Connect a) k out is patient unseen owned own other = absurd (off (rw k at is))
-  where
-    off : (false && same_birth y.queue x.queue) ≡ true → ⊥
-    off is = cc
-given-apart m c u d w x y (Accepted a b) k out is patient unseen owned own other = absurd (off (rw k at is))
-  where
-    off : (false && same_birth y.queue x.queue) ≡ true → ⊥
-    off is = cc
+given-apart m c u d w x y (Connect a) k out is patient unseen owned own other = let off : (false && same_birth y.queue x.queue) ≡ true = rw k at is in absurd (cc)
+given-apart m c u d w x y (Accepted a b) k out is patient unseen owned own other = let off : (false && same_birth y.queue x.queue) ≡ true = rw k at is in absurd (cc)
 
 entered-apart : (m : Group) (c : ℕ) (u : World) (d : Whose) (w : World) (x : MessageRow) (o : Option WaitRow) → first (takes x) w.waits ≡ o → our_message m x ≡ false → (x.queue.process == c) ≡ false
     → sees_at m w x.message.header.client.thread x.queue ≡ false → Owned u w → Fair m c w → Patient w

@@ -187,18 +187,9 @@ waking-asked : (u v : World) (z : WaitRow) (call : CallName) (fields : List Fiel
 waking-asked u v z call fields same quiet = rw (same, quiet) refl
 
 given-asked : (v : World) (y : MessageRow) (z : WaitRow) (sort : WaitKind) → z.kind ≡ sort → takes y z ≡ true → is_patient v z ≡ true → Asked (basic v (Enters y)) → is_quiet (v.messages ++ y ∷ []) z.thread ≡ true → are_asked (basic v (Enters y)) (given_steps z y ++ woken SUCCESS (shown z y) z ∷ []) ≡ true
-given-asked v y z (Request b) k is patient a quiet = absurd (off (rw k at is))
-  where
-    off : (false && same_birth z.queue y.queue) ≡ true → ⊥
-    off is = cc
-given-asked v y z (Connect b) k is patient a quiet = absurd (off (rw k at is))
-  where
-    off : (false && same_birth z.queue y.queue) ≡ true → ⊥
-    off is = cc
-given-asked v y z (Accepted b r) k is patient a quiet = absurd (off (rw k at is))
-  where
-    off : (false && same_birth z.queue y.queue) ≡ true → ⊥
-    off is = cc
+given-asked v y z (Request b) k is patient a quiet = let off : (false && same_birth z.queue y.queue) ≡ true = rw k at is in absurd (cc)
+given-asked v y z (Connect b) k is patient a quiet = let off : (false && same_birth z.queue y.queue) ≡ true = rw k at is in absurd (cc)
+given-asked v y z (Accepted b r) k is patient a quiet = let off : (false && same_birth z.queue y.queue) ≡ true = rw k at is in absurd (cc)
 given-asked v y z Receive k is patient a quiet =
     let u : World = basic (basic v (Enters y)) (Takes y.queue) in
     let still : is_quiet u.messages z.thread ≡ true = rw (has_none-without_first (asks_of z.thread) (is_queued y.queue) (v.messages ++ y ∷ []) (not-true _ quiet)) refl in
@@ -211,18 +202,9 @@ given-asked v y z Listen k is patient a quiet =
     (λ t same. waking-asked t u z z.call (msg y.message ∷ []) same still))
 
 taker-settled : (y : MessageRow) (z : WaitRow) (sort : WaitKind) → z.kind ≡ sort → takes y z ≡ true → is_settled z ≡ true
-taker-settled y z (Request b) k is = absurd (off (rw k at is))
-  where
-    off : (false && same_birth z.queue y.queue) ≡ true → ⊥
-    off is = cc
-taker-settled y z (Connect b) k is = absurd (off (rw k at is))
-  where
-    off : (false && same_birth z.queue y.queue) ≡ true → ⊥
-    off is = cc
-taker-settled y z (Accepted b r) k is = absurd (off (rw k at is))
-  where
-    off : (false && same_birth z.queue y.queue) ≡ true → ⊥
-    off is = cc
+taker-settled y z (Request b) k is = let off : (false && same_birth z.queue y.queue) ≡ true = rw k at is in absurd (cc)
+taker-settled y z (Connect b) k is = let off : (false && same_birth z.queue y.queue) ≡ true = rw k at is in absurd (cc)
+taker-settled y z (Accepted b r) k is = let off : (false && same_birth z.queue y.queue) ≡ true = rw k at is in absurd (cc)
 taker-settled y z Receive k is = rw k (grind arith)
 taker-settled y z Listen k is = rw k (grind arith)
 

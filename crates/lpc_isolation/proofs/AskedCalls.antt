@@ -93,14 +93,8 @@ accept-asked m c w by context bytes accept a k = on-answer (AskedBy w) m c w w b
         settled-quiet w (names_connect w by r.message) r.wait a (k.once r.wait.thread) is.found (grind arith)
 
 accepted-settled : (client : Birth) (x : WaitRow) (sort : WaitKind) → x.kind ≡ sort → is_accepted_on client x ≡ true → is_settled x ≡ true
-accepted-settled client x (Request b) k is = absurd (off (rw k at is))
-  where
-    off : (false && same_birth x.port client) ≡ true → ⊥
-    off is = cc
-accepted-settled client x (Connect b) k is = absurd (off (rw k at is))
-  where
-    off : (false && same_birth x.port client) ≡ true → ⊥
-    off is = cc
+accepted-settled client x (Request b) k is = let off : (false && same_birth x.port client) ≡ true = rw k at is in absurd (cc)
+accepted-settled client x (Connect b) k is = let off : (false && same_birth x.port client) ≡ true = rw k at is in absurd (cc)
 accepted-settled client x (Accepted b r) k is = rw k (grind arith)
 accepted-settled client x Receive k is = rw k (grind arith)
 accepted-settled client x Listen k is = rw k (grind arith)

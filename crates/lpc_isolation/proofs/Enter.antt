@@ -83,20 +83,11 @@ when-ours m w true who q who' call fields = refl
 when-ours m w false who q who' call fields = refl
 
 given-ours : (m : Group) (w : World) (x : MessageRow) (y : WaitRow) (k : WaitKind) → y.kind ≡ k → our_message m x ≡ true → takes x y ≡ true → is_patient w y ≡ true → are_ours m (basic w (Enters x)) (given_steps y x ++ woken SUCCESS (shown y x) y ∷ []) ≡ true
-given-ours m w x y (Request a) k ours is patient = absurd (off (rw k at is))
-  where
-    off : (false && same_birth y.queue x.queue) ≡ true → ⊥
-    off is = cc
+given-ours m w x y (Request a) k ours is patient = let off : (false && same_birth y.queue x.queue) ≡ true = rw k at is in absurd (cc)
 given-ours m w x y Receive k ours is patient = rw (k, receive-first w x y is (rw k refl) patient, ours) (when-ours m _ (asks x.message) _ _ _ _ _)
 given-ours m w x y Listen k ours is patient = rw (k, listen-first w x y is (rw k refl) (rw k refl) patient, ours) (when-ours m _ (asks x.message) _ _ _ _ _)
-given-ours m w x y (Connect a) k ours is patient = absurd (off (rw k at is))
-  where
-    off : (false && same_birth y.queue x.queue) ≡ true → ⊥
-    off is = cc
-given-ours m w x y (Accepted a b) k ours is patient = absurd (off (rw k at is))
-  where
-    off : (false && same_birth y.queue x.queue) ≡ true → ⊥
-    off is = cc
+given-ours m w x y (Connect a) k ours is patient = let off : (false && same_birth y.queue x.queue) ≡ true = rw k at is in absurd (cc)
+given-ours m w x y (Accepted a b) k ours is patient = let off : (false && same_birth y.queue x.queue) ≡ true = rw k at is in absurd (cc)
 
 entered-ours : (m : Group) (w : World) (x : MessageRow) (o : Option WaitRow) → first (takes x) w.waits ≡ o → our_message m x ≡ true → Patient w → are_ours m w (Enters x ∷ given o (λ y. given_steps y x ++ woken SUCCESS (shown y x) y ∷ [])) ≡ true
 entered-ours m w x None at ours patient = rw ours refl

@@ -1,7 +1,7 @@
 -- The step of each line leaves of two ports that are each other's other end one at least open.
 use Rattle.std.proofs.Common.{◌≡◌, ℕ, ◌≤◌, List, [], ◌∷◌, ◌++◌, Bool, true, false, cond, Option, Some, None, refl, sym, subst, arith}
 use Rattle.std.proofs.lemmas.Bool.{or_left}
-use Rattle.std.specs.Prelude.{◌||◌, Result, Ok, Err}
+use Rattle.std.specs.Prelude.{◌||◌, Result}
 use Rattle.lpc_base.specs.Rows.{count, every, passes, when}
 use Rattle.lpc_base.specs.declared.status.Status.{Status}
 use Rattle.lpc_base.specs.declared.status.TheConstants.{INVALID_HANDLE}
@@ -262,26 +262,18 @@ drawn-pairs by w is = record { tables = is.tables; pairs = pair-all w (DrawsOrdi
 
 create-process-pairs : (w : World) (by : ThreadRow) (pid tid : ℕ) → CanCall w by → IsSoundWorld w → HasKeptPairs w → Holds (KeepPairs w) (nt_create_process w by pid tid)
 create-process-pairs w by pid tid c s k =
-    made_holds (nt_create_process w by pid tid) (process_holds (IsTabledWorld by) w by c (drawn-pairs by) (given-pairs by) pid tid
+    holds-more (λ bs. IsTabledWorld by (world_after w bs)) (KeepPairs w) (nt_create_process w by pid tid) (λ bs is. is.pairs) (process_holds (IsTabledWorld by) w by c (drawn-pairs by) (given-pairs by) pid tid
     (λ new unused is.
     let v : World = basic (basic w (DrawsOrdinal by.number)) (DrawsOrdinal by.number) in
     let t = sound-process v (new_process pid (Some by.process) (next_birth by)) new (sound-ordinal (basic w (DrawsOrdinal by.number)) by.number (sound-ordinal w by.number s)) in
     record { tables = t.tables by.process; pairs = pair-all v (AddsProcess (new_process pid (Some by.process) (next_birth by)) ∷ AddsThread (new_thread tid pid (second_birth by)) ∷ []) refl is.pairs })
     (record { tables = s.tables by.process; pairs = k }))
-  where
-    made_holds : (r : Result (List Basic) Status) → Holds (λ bs. IsTabledWorld by (world_after w bs)) r → Holds (KeepPairs w) r
-    made_holds (Ok bs) is = is.pairs
-    made_holds (Err s) is = tt
 
 create-thread-pairs : (w : World) (by : ThreadRow) (target : ProcArg) (tid : ℕ) → CanCall w by → IsSoundWorld w → HasKeptPairs w → Holds (KeepPairs w) (nt_create_thread w by target tid)
 create-thread-pairs w by target tid c s k =
-    made_holds (nt_create_thread w by target tid) (thread_holds (IsTabledWorld by) w by c (drawn-pairs by) (given-pairs by) target tid
+    holds-more (λ bs. IsTabledWorld by (world_after w bs)) (KeepPairs w) (nt_create_thread w by target tid) (λ bs is. is.pairs) (thread_holds (IsTabledWorld by) w by c (drawn-pairs by) (given-pairs by) target tid
     (λ pid live unused is. record { tables = is.tables; pairs = pair-all (basic w (DrawsOrdinal by.number)) (AddsThread (new_thread tid pid (next_birth by)) ∷ []) refl is.pairs })
     (record { tables = s.tables by.process; pairs = k }))
-  where
-    made_holds : (r : Result (List Basic) Status) → Holds (λ bs. IsTabledWorld by (world_after w bs)) r → Holds (KeepPairs w) r
-    made_holds (Ok bs) is = is.pairs
-    made_holds (Err s) is = tt
 
 -- Calls
 service-pairs : (w : World) (by : ThreadRow) (call : ScriptCall) → CanCall w by → IsSafe w → HasKeptPairs w → Holds (KeepPairs w) (service_of w by call)

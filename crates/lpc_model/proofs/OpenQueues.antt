@@ -1,7 +1,7 @@
 -- Each line keeps messages in queues of open ports, and what waits to be received.
 use Rattle.std.proofs.Common.{◌≡◌, ℕ, ◌≤◌, List, [], ◌∷◌, ◌++◌, Bool, true, false, not, Option, Some, None, refl, sym, subst, arith}
 use Rattle.std.proofs.lemmas.Bool.{and_from, not-true, or_left, or_right}
-use Rattle.std.specs.Prelude.{◌&&◌, ◌||◌, Result, Ok, Err}
+use Rattle.std.specs.Prelude.{◌&&◌, ◌||◌, Result, Ok}
 use Rattle.lpc_base.specs.Rows.{count, every, first, given, when}
 use Rattle.lpc_base.proofs.RowWords.{every-append, every-change, every-more, every-push, every-without, first-passes, has-kept}
 use Rattle.lpc_base.proofs.RowMaps.{every-both, every-change_to, every-without_first}
@@ -473,26 +473,18 @@ drawn-open by w is = record { tables = is.tables; queues = open-all w (DrawsOrdi
 
 create-process-open : (w : World) (by : ThreadRow) (pid tid : ℕ) → CanCall w by → IsSoundWorld w → HasOpenQueues w → Holds (KeepOpen w) (nt_create_process w by pid tid)
 create-process-open w by pid tid c s q =
-    made_holds (nt_create_process w by pid tid) (process_holds (IsTabledWorld by) w by c (drawn-open by) (given-open by) pid tid
+    holds-more (λ bs. IsTabledWorld by (world_after w bs)) (KeepOpen w) (nt_create_process w by pid tid) (λ bs is. is.queues) (process_holds (IsTabledWorld by) w by c (drawn-open by) (given-open by) pid tid
     (λ new unused is.
     let v : World = basic (basic w (DrawsOrdinal by.number)) (DrawsOrdinal by.number) in
     let t = sound-process v (new_process pid (Some by.process) (next_birth by)) new (sound-ordinal (basic w (DrawsOrdinal by.number)) by.number (sound-ordinal w by.number s)) in
     record { tables = t.tables by.process; queues = open-all v (AddsProcess (new_process pid (Some by.process) (next_birth by)) ∷ AddsThread (new_thread tid pid (second_birth by)) ∷ []) refl is.queues })
     (record { tables = s.tables by.process; queues = q }))
-  where
-    made_holds : (r : Result (List Basic) Status) → Holds (λ bs. IsTabledWorld by (world_after w bs)) r → Holds (KeepOpen w) r
-    made_holds (Ok bs) is = is.queues
-    made_holds (Err s) is = tt
 
 create-thread-open : (w : World) (by : ThreadRow) (target : ProcArg) (tid : ℕ) → CanCall w by → IsSoundWorld w → HasOpenQueues w → Holds (KeepOpen w) (nt_create_thread w by target tid)
 create-thread-open w by target tid c s q =
-    made_holds (nt_create_thread w by target tid) (thread_holds (IsTabledWorld by) w by c (drawn-open by) (given-open by) target tid
+    holds-more (λ bs. IsTabledWorld by (world_after w bs)) (KeepOpen w) (nt_create_thread w by target tid) (λ bs is. is.queues) (thread_holds (IsTabledWorld by) w by c (drawn-open by) (given-open by) target tid
     (λ pid live unused is. record { tables = is.tables; queues = open-all (basic w (DrawsOrdinal by.number)) (AddsThread (new_thread tid pid (next_birth by)) ∷ []) refl is.queues })
     (record { tables = s.tables by.process; queues = q }))
-  where
-    made_holds : (r : Result (List Basic) Status) → Holds (λ bs. IsTabledWorld by (world_after w bs)) r → Holds (KeepOpen w) r
-    made_holds (Ok bs) is = is.queues
-    made_holds (Err s) is = tt
 
 -- Calls
 service-open : (w : World) (by : ThreadRow) (call : ScriptCall) → CanCall w by → IsSoundWorld w → HasShutConnects w → IsLinked w → HasOpenQueues w → Holds (KeepOpen w) (service_of w by call)

@@ -5,6 +5,7 @@ use Rattle.std.specs.Prelude.{◌==◌, Err, MatchOption, Ok, nat_le, is_some, o
 use Rattle.std.proofs.lemmas.Bool.{eqb-true}
 use Rattle.std.proofs.lemmas.Bool.Decides.{nat_tests}
 use Rattle.std.proofs.lemmas.List.{length-map}
+use Rattle.std.proofs.lemmas.Option.{same_Some}
 use Rattle.lpc_base.specs.declared.birth.Birth.{Birth}
 use Rattle.lpc_base.specs.declared.status.TheConstants.{QUOTA_EXCEEDED}
 use Rattle.lpc_base.specs.Rows.{differ_by, each, every, first, given, has, which}
@@ -131,13 +132,10 @@ module _ (it : Tables) (calls made : ℕ) (is : AreLawful it calls made) where
   pub untold_name : (r : Registration) → is_under_name n r ≡ true → name_of n.ports r.port ≡ r.birth
   untold_name r named = birth-same (name_of n.ports r.port) r.birth (grind arith)
 
-  some_birth : (a b : Birth) → let x : Option Birth = Some a in let y : Option Birth = Some b in x ≡ y → a ≡ b
-  some_birth a b e = cc
-
   pub untold_is : (pid tid : ℕ) (r : Registration) (b : Birth) → HasSingleClosings pid tid r → option_map (λ (t : ThreadRow). t.birth) (first (procs.is_thread tid) it.procs.threads) ≡ Some b
       → first (λ _. true) (untold_of rows pid) ≡ Some (record { client = record { process = pid; thread = tid }; birth = b; port = r.birth })
   untold_is pid tid r b u at =
-      let own : u.thread.birth ≡ b = some_birth u.thread.birth b (sym (ap (option_map (λ (t : ThreadRow). t.birth)) u.row) ∙ at) in
+      let own : u.thread.birth ≡ b = same_Some u.thread.birth b (sym (ap (option_map (λ (t : ThreadRow). t.birth)) u.row) ∙ at) in
       u.death ∙ (λ i. Some (record { client = record { process = u.process i; thread = u.number i }; birth = own i; port = r.birth }))
 
   pub untold_none : (pid : ℕ) → procs.first_untold it.procs.threads pid ≡ None → first (λ _. true) (untold_of rows pid) ≡ None

@@ -1,6 +1,7 @@
 -- A port that no row counts for is named by no row at all, in a world that can be swept.
 use Rattle.std.proofs.Common.{◌≡◌, ◌+◌, ◌≤◌, ℕ, zero, suc, List, [], ◌∷◌, Bool, true, false, drop, length, map, not, slice_get, Option, Some, None, option_map, refl, ap, sym, subst, ◌∙◌, arith}
 use Rattle.std.proofs.lemmas.Bool.{false_from_ne_true, not-true}
+use Rattle.std.proofs.lemmas.Option.{same_Some}
 use Rattle.std.specs.Prelude.{◌||◌, ◌&&◌, ◌==◌, option_and_then}
 use Rattle.lpc_base.specs.declared.birth.Birth.{Birth}
 use Rattle.lpc_base.specs.Rows.{count, every, has, without}
@@ -160,14 +161,11 @@ module _ (it : Tables) (is : AreNamed (births_of it.ports) it) where
   pub at_place : (place : ℕ) (key : Key) → option_map (λ (row : Key × Port). row.0) (slice_get it.ports.ports place) ≡ Some key → IsAt place key
   at_place place key at = by_row (slice_get it.ports.ports place) refl at
     where
-      same : (a b : Key) → let x : Option Key = Some a in let y : Option Key = Some b in x ≡ y → a ≡ b
-      same a b e = cc
-
       by_row : (o : Option (Key × Port)) → slice_get it.ports.ports place ≡ o → option_map (λ (row : Key × Port). row.0) o ≡ Some key → IsAt place key
       by_row None here at = absurd (cc)
       by_row (Some row) here at =
           let ok = every_at (is_own (λ (r : Port). r.birth) it.ports.ports) it.ports.ports place row (own_ports it is) here in
-          let key_is : row.0 ≡ key = same row.0 key at in
+          let key_is : row.0 ≡ key = same_Some row.0 key at in
           record {
             there = subst (λ k. stands n.ports k ≡ true) key_is (grind arith);
             birth = rw (mapped_at (shown_port (birth_of n)) it.ports.ports place, here) (ap Some (sym (own_birth (λ (r : Port). r.birth) it.ports.ports row ok) ∙ ap (name_of n.ports) key_is));
@@ -178,13 +176,10 @@ module _ {X : Type 0} (birth : X → Birth) (held : Birth → Bool) where
   pub held_on : (xs : List X) (place : ℕ) (b : Birth) → option_map birth (slice_get xs place) ≡ Some b → held b ≡ true → every (λ x. held (birth x)) (drop place xs) ≡ every (λ x. held (birth x)) (drop (place + 1) xs)
   held_on xs place b at is = by_row (slice_get xs place) refl at
     where
-      same : (a c : Birth) → let x : Option Birth = Some a in let y : Option Birth = Some c in x ≡ y → a ≡ c
-      same a c e = cc
-
       by_row : (o : Option X) → slice_get xs place ≡ o → option_map birth o ≡ Some b → every (λ x. held (birth x)) (drop place xs) ≡ every (λ x. held (birth x)) (drop (place + 1) xs)
       by_row None here at = absurd (cc)
       by_row (Some x) here at =
-          let one : held (birth x) ≡ true = ap held (same (birth x) b at) ∙ is in
+          let one : held (birth x) ≡ true = ap held (same_Some (birth x) b at) ∙ is in
           ap (every (λ y. held (birth y))) (drop_row xs place x here) ∙ ap (λ c. c && every (λ y. held (birth y)) (drop (place + 1) xs)) one
 
 -- a row at a place is among the rows

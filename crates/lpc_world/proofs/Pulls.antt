@@ -3,6 +3,7 @@
 use Rattle.std.proofs.Common.{◌≡◌, ℕ, ◌+◌, ◌≤◌, ◌&&◌, ◌==◌, List, [], ◌∷◌, Bool, true, false, cond, length, Option, Some, None, option_map, refl, ap, sym, subst, ◌∙◌, arith}
 use Rattle.std.specs.Prelude.{IsSome, is_some}
 use Rattle.std.proofs.lemmas.Bool.Decides.{nat_tests}
+use Rattle.std.proofs.lemmas.Option.{same_Some}
 use Rattle.lpc_base.specs.declared.birth.Birth.{Birth}
 use Rattle.lpc_base.specs.Rows.{first, without, without_first}
 use Rattle.lpc_base.proofs.RowMaps.{every-first, every-without_first, first-map, without_first-map}
@@ -96,13 +97,10 @@ module _ (it : Tables) (calls made : ℕ) (is : AreLawful it calls made) (queue 
   key_found key (m ∷ ms) at =
       elim (in_table m) as (λ b. in_table m ≡ b → is_some (first (at_key key) (m ∷ ms)) ≡ true) [
         | true ↦ λ here.
-            let same : m.0 ≡ key = some_same m.0 key (sym (ap (option_map (λ (row : Key × QueuedMessage). row.0)) (ap (λ b. cond b (Some m) (first in_table ms)) here)) ∙ at) in
+            let same : m.0 ≡ key = same_Some m.0 key (sym (ap (option_map (λ (row : Key × QueuedMessage). row.0)) (ap (λ b. cond b (Some m) (first in_table ms)) here)) ∙ at) in
             rw same (grind (arith, key_itself key))
         | false ↦ λ off. grind (arith, key_found key ms)
       ] refl
-    where
-      some_same : (a b : Key) → let x : Option Key = Some a in let y : Option Key = Some b in x ≡ y → a ≡ b
-      some_same a b e = cc
 
   pub connect_there : (key : Key) → ports.first_connect_in it.ports.messages queue ≡ Some key → IsSome (ports.row_at it.ports.messages key)
   connect_there key at = mapped (first (at_key key) it.ports.messages) (key_found key it.ports.messages at)
@@ -113,13 +111,10 @@ module _ (it : Tables) (calls made : ℕ) (is : AreLawful it calls made) (queue 
 
   -- the message that is found
   module _ (m : Message) (at : option_map (λ (row : Key × QueuedMessage). row.1.message) (first in_table it.ports.messages) ≡ Some m) where
-    same_message : (a b : Message) → let x : Option Message = Some a in let y : Option Message = Some b in x ≡ y → a ≡ b
-    same_message a b e = cc
-
     shown_found : (o : Option (Key × QueuedMessage)) → first in_table it.ports.messages ≡ o → option_map (λ (row : Key × QueuedMessage). row.1.message) o ≡ Some m → option_map (shown_message f) o ≡ Some (pulled_row n queue m)
     shown_found None is' h = absurd (cc)
     shown_found (Some row) is' h =
-        let same : row.1.message ≡ m = same_message row.1.message m h in
+        let same : row.1.message ≡ m = same_Some row.1.message m h in
         let passes : in_table row ≡ true = first-passes in_table it.ports.messages row is' in
         let own : row.1.queue ≡ queue = key_is row.1.queue queue (first-true (is_key row.1.queue queue) (half_at row.1.message.bytes.items 4 == CONNECTION_REQUEST) passes) in
         λ i. Some (record { queue = name_of n.ports (own i); sender = name_of n.ports (same i).sender; context = (same i).context; message = message_of (same i).bytes.items })
@@ -132,7 +127,7 @@ module _ (it : Tables) (calls made : ℕ) (is : AreLawful it calls made) (queue 
     long_found (Some row) is' h =
         let long : has_header row ≡ true = every-first has_header in_table it.ports.messages row is.headed is' in
         let P : Message → Type 0 = λ x. 24 ≤ length x.bytes.items in
-        subst P (same_message row.1.message m h) (grind (arith, nat_tests))
+        subst P (same_Some row.1.message m h) (grind (arith, nat_tests))
 
     pub long_connect : 24 ≤ length m.bytes.items
     long_connect = long_found (first in_table it.ports.messages) refl at

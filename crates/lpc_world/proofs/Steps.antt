@@ -3,6 +3,7 @@ use Rattle.std.proofs.Common.{◌≡◌, ℕ, ◌+◌, ◌*◌, ◌-◌, ◌<◌
 use Rattle.std.specs.Prelude.{IsSome, IsSomeAnd, is_some, nat_le, not, option_map, ◌==◌}
 use Rattle.std.proofs.lemmas.Bool.{eqb-true}
 use Rattle.std.proofs.lemmas.Bool.Decides.{nat_tests}
+use Rattle.std.proofs.lemmas.Option.{same_Some}
 use Rattle.lpc_base.specs.declared.birth.Birth.{Birth}
 use Rattle.lpc_base.specs.Rows.{change, count, every, first, has, without, without_first}
 use Rattle.lpc_base.proofs.RowMaps.{every-first, every-without_first, first-map, has-map, mapped-twice}
@@ -395,13 +396,10 @@ module _ (it : Tables) (calls made : ℕ) (is : AreLawful it calls made) where
   oldest_row queue key (m ∷ ms) at =
       elim (ports.is_in queue m) as (λ b. ports.is_in queue m ≡ b → is_some (first (at_key key) (m ∷ ms)) ≡ true) [
         | true ↦ λ here.
-            let same : m.0 ≡ key = some_same m.0 key (sym (ap (option_map (λ (row : Key × QueuedMessage). row.0)) (ap (λ b. cond b (Some m) (first (ports.is_in queue) ms)) here)) ∙ at) in
+            let same : m.0 ≡ key = same_Some m.0 key (sym (ap (option_map (λ (row : Key × QueuedMessage). row.0)) (ap (λ b. cond b (Some m) (first (ports.is_in queue) ms)) here)) ∙ at) in
             rw same (grind (arith, key_itself key))
         | false ↦ λ off. grind (arith, oldest_row queue key ms)
       ] refl
-    where
-      some_same : (a b : Key) → let x : Option Key = Some a in let y : Option Key = Some b in x ≡ y → a ≡ b
-      some_same a b e = cc
 
   pub some_message : (queue key : Key) → ports.first_in it.ports.messages queue ≡ Some key → IsSome (ports.row_at it.ports.messages key)
   some_message queue key at = mapped (first (at_key key) it.ports.messages) (oldest_row queue key it.ports.messages at)
@@ -413,13 +411,10 @@ module _ (it : Tables) (calls made : ℕ) (is : AreLawful it calls made) where
   pub first_message : (queue : Key) (m : Message) → stands (births_of it.ports).ports queue ≡ true → option_map (λ (row : Key × QueuedMessage). row.1.message) (first (ports.is_in queue) it.ports.messages) ≡ Some m → first (is_queued (name_of (births_of it.ports).ports queue)) all.messages ≡ Some (pulled_row (births_of it.ports) queue m)
   first_message queue m there at = queued_first queue there ∙ found (first (ports.is_in queue) it.ports.messages) refl at
     where
-      same_message : (a b : Message) → let x : Option Message = Some a in let y : Option Message = Some b in x ≡ y → a ≡ b
-      same_message a b e = cc
-
       found : (o : Option (Key × QueuedMessage)) → first (ports.is_in queue) it.ports.messages ≡ o → option_map (λ (row : Key × QueuedMessage). row.1.message) o ≡ Some m → option_map (shown_message (birth_of (births_of it.ports))) o ≡ Some (pulled_row (births_of it.ports) queue m)
       found None is' h = absurd (cc)
       found (Some row) is' h =
-          let same : row.1.message ≡ m = same_message row.1.message m h in
+          let same : row.1.message ≡ m = same_Some row.1.message m h in
           let own : row.1.queue ≡ queue = key_is row.1.queue queue (first-passes (ports.is_in queue) it.ports.messages row is') in
           λ i. Some (record { queue = name_of (births_of it.ports).ports (own i); sender = name_of (births_of it.ports).ports (same i).sender; context = (same i).context; message = message_of (same i).bytes.items })
 
@@ -467,41 +462,32 @@ module _ (it : Tables) (calls made : ℕ) (is : AreLawful it calls made) where
   pub long_message : (queue : Key) (m : Message) → option_map (λ (row : Key × QueuedMessage). row.1.message) (first (ports.is_in queue) it.ports.messages) ≡ Some m → 24 ≤ length m.bytes.items
   long_message queue m at = found (first (ports.is_in queue) it.ports.messages) refl at
     where
-      same : (a b : Message) → let x : Option Message = Some a in let y : Option Message = Some b in x ≡ y → a ≡ b
-      same a b e = cc
-
       found : (o : Option (Key × QueuedMessage)) → first (ports.is_in queue) it.ports.messages ≡ o → option_map (λ (row : Key × QueuedMessage). row.1.message) o ≡ Some m → 24 ≤ length m.bytes.items
       found None is' h = absurd (cc)
       found (Some row) is' h =
           let long : has_header row ≡ true = every-first has_header (ports.is_in queue) it.ports.messages row is.headed is' in
           let P : Message → Type 0 = λ x. 24 ≤ length x.bytes.items in
-          subst P (same row.1.message m h) (grind (arith, nat_tests))
+          subst P (same_Some row.1.message m h) (grind (arith, nat_tests))
 
   -- what is drawn is no port's, and is drawn
   pub fresh_birth : (who : ℕ) (b : Birth) → option_map next_birth (first (is_thread who) all.threads) ≡ Some b → first (is_port b) all.ports ≡ None
   fresh_birth who b at = by_thread (first (is_thread who) all.threads) refl at
     where
-      same : (a b : Birth) → let x : Option Birth = Some a in let y : Option Birth = Some b in x ≡ y → a ≡ b
-      same a b e = cc
-
       by_thread : (o : Option model.ThreadRow) → first (is_thread who) all.threads ≡ o → option_map next_birth o ≡ Some b → first (is_port b) all.ports ≡ None
       by_thread None is' h = absurd (cc)
       by_thread (Some r) is' h =
           let own : r.number ≡ who = eqb-true r.number who (first-passes (is_thread who) all.threads r is') in
           let P : Birth → Type 0 = λ x. first (is_port x) all.ports ≡ None in
-          subst P (same (next_birth r) b h) (drawn.fresh-birth all who r is.drawn is' own)
+          subst P (same_Some (next_birth r) b h) (drawn.fresh-birth all who r is.drawn is' own)
 
   -- nor the birth of a process or a thread
   pub next_born : (who : ℕ) (b : Birth) → option_map next_birth (first (is_thread who) all.threads) ≡ Some b → (has (is_born_process b) all.processes ≡ false) × (has (is_born_thread b) (change (is_thread who) basics.past_ordinal all.threads) ≡ false)
   next_born who b at = by_thread (first (is_thread who) all.threads) refl at
     where
-      same : (a b : Birth) → let x : Option Birth = Some a in let y : Option Birth = Some b in x ≡ y → a ≡ b
-      same a b e = cc
-
       by_thread : (o : Option model.ThreadRow) → first (is_thread who) all.threads ≡ o → option_map next_birth o ≡ Some b → (has (is_born_process b) all.processes ≡ false) × (has (is_born_thread b) (change (is_thread who) basics.past_ordinal all.threads) ≡ false)
       by_thread None is' h = absurd (cc)
       by_thread (Some r) is' h =
-          subst (λ x. (has (is_born_process x) all.processes ≡ false) × (has (is_born_thread x) (change (is_thread who) basics.past_ordinal all.threads) ≡ false)) (same (next_birth r) b h)
+          subst (λ x. (has (is_born_process x) all.processes ≡ false) × (has (is_born_thread x) (change (is_thread who) basics.past_ordinal all.threads) ≡ false)) (same_Some (next_birth r) b h)
           (born.next-process all who r is.born is', born.next-thread all who r is.born is')
 
   pub next_made : (who : ℕ) (b : Birth) → option_map next_birth (first (is_thread who) all.threads) ≡ Some b → (b.maker == 0) ≡ false
@@ -516,11 +502,8 @@ module _ (it : Tables) (calls made : ℕ) (is : AreLawful it calls made) where
   pub now_drawn : (who : ℕ) (b : Birth) → option_map next_birth (first (is_thread who) all.threads) ≡ Some b → has (drew b) (change (is_thread who) basics.past_ordinal all.threads) ≡ true
   now_drawn who b at = by_thread (first (is_thread who) all.threads) refl at
     where
-      same : (a b : Birth) → let x : Option Birth = Some a in let y : Option Birth = Some b in x ≡ y → a ≡ b
-      same a b e = cc
-
       by_thread : (o : Option model.ThreadRow) → first (is_thread who) all.threads ≡ o → option_map next_birth o ≡ Some b → has (drew b) (change (is_thread who) basics.past_ordinal all.threads) ≡ true
       by_thread None is' h = absurd (cc)
       by_thread (Some r) is' h =
           let P : Birth → Type 0 = λ x. has (drew x) (change (is_thread who) basics.past_ordinal all.threads) ≡ true in
-          subst P (same (next_birth r) b h) (drawn.now-drawn who all.threads r is')
+          subst P (same_Some (next_birth r) b h) (drawn.now-drawn who all.threads r is')
