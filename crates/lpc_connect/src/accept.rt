@@ -1,5 +1,5 @@
 // The call that answers a connect: it accepts it, or refuses it.
-ghost use Rattle.std.specs.Prelude.{◌≡◌, ◌≤◌, ◌<◌, Ok, Err, true, false, IfErr, IfOk, IsOk, OnOk, OnErr, MatchResult, ◌+◌};
+ghost use Rattle.std.specs.Prelude.{◌≡◌, ◌≤◌, ◌<◌, Ok, Err, true, false, IfErr, IfOk, IsOk, OnOk, OnErr, MatchResult, ◌+◌, IsErr};
 ghost use Rattle.lpc_base.specs.Rows.{has};
 ghost use Rattle.lpc_base.specs.declared.limits.TheConstants.{HANDLE_LIMIT, LINES_LIMIT};
 ghost use Rattle.lpc_world.specs.Clauses.{HasHandleRoom, IsOwnWait};
@@ -9,7 +9,7 @@ ghost use Rattle.lpc_model.specs.Connect as connect;
 ghost use Rattle.lpc_model.specs.Found.{is_offered, is_table, waits_as};
 ghost use Rattle.lpc_model.specs.Lines.{accept_connect_port};
 ghost use Rattle.lpc_model.specs.Tests as tests;
-ghost use Rattle.lpc_world.specs.Called.{MayServe};
+ghost use Rattle.lpc_world.specs.Called.{MayServe, service};
 ghost use Rattle.lpc_world.specs.Does.{Took};
 ghost use Rattle.lpc_world.specs.Kept.{HasWholeBudget, has_queued, is_pending_in};
 ghost use Rattle.lpc_world.specs.Ready.{HasRoom, caller, is_ready, waiter};
@@ -185,6 +185,8 @@ pub fn nt_accept_connect_port(
     requires calls { world.old.calls < LINES_LIMIT }
     ensures serves { let call = accept_connect_port context message.now accept in
         MayServe by call result world.old world.new out.old out.new }
+    ensures room_stays { let call = accept_connect_port context message.now accept in
+        IsErr (service world.old.rows by call) → world.new.room ≡ world.old.room }
     ensures spare { OnOk result (out.old.spare ≤ out.new.spare + 2) }
     ensures answered { accept ≡ false → IsOk result }
     ensures wanting { OnErr result (lacks_port_room world.old (caller world.old.rows by) ≡ true) }

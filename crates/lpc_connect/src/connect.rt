@@ -1,5 +1,5 @@
 // The call that asks for a connection.
-ghost use Rattle.std.specs.Prelude.{◌≡◌, ◌≤◌, ◌<◌, ◌+◌, Ok, Err, None, Some, IfErr, IfOk, OnOk, OnErr, false, length, true};
+ghost use Rattle.std.specs.Prelude.{◌≡◌, ◌≤◌, ◌<◌, ◌+◌, Ok, Err, None, Some, IfErr, IfOk, OnOk, OnErr, false, length, true, IsErr};
 ghost use Rattle.lpc_base.specs.Rows.{has};
 ghost use Rattle.lpc_base.specs.declared.limits.TheConstants.{HANDLE_LIMIT, HEADER_SIZE, LINES_LIMIT, MESSAGE_LIMIT};
 ghost use Rattle.lpc_world.specs.Clauses.{HasHandleRoom, birth_at};
@@ -13,7 +13,7 @@ ghost use Rattle.lpc_model.specs.Machine.{service_of};
 ghost use Rattle.lpc_model.specs.Message.{asks};
 ghost use Rattle.lpc_model.specs.Tests as tests;
 ghost use Rattle.lpc_model.specs.Tests.{next_birth};
-ghost use Rattle.lpc_world.specs.Called.{MayServe};
+ghost use Rattle.lpc_world.specs.Called.{MayServe, service};
 ghost use Rattle.lpc_world.specs.Does.{Took};
 ghost use Rattle.lpc_world.specs.Kept.{CanMake, HasWholeBudget};
 ghost use Rattle.lpc_world.specs.Lawful.{drew};
@@ -211,6 +211,8 @@ pub fn nt_connect_port(
     requires calls { world.old.calls < LINES_LIMIT }
     ensures serves { let call = connect_port name.now info.now in
         MayServe by call result world.old world.new out.old out.new }
+    ensures room_stays { let call = connect_port name.now info.now in
+        IsErr (service world.old.rows by call) → world.new.room ≡ world.old.room }
     ensures spare { OnOk result (out.old.spare ≤ out.new.spare + 2) }
     ensures wanting { let row = caller world.old.rows by in
         OnErr result (lacks_connect_room world.old row ≡ true) }

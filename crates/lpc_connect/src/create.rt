@@ -1,5 +1,5 @@
 // The call that makes a port.
-ghost use Rattle.std.specs.Prelude.{◌≡◌, ◌≤◌, ◌<◌, ◌+◌, Ok, Err, None, Some, IfErr, IfOk, IsOk, OnOk, OnErr, is_some, option_copied, true};
+ghost use Rattle.std.specs.Prelude.{◌≡◌, ◌≤◌, ◌<◌, ◌+◌, Ok, Err, None, Some, IfErr, IfOk, IsOk, OnOk, OnErr, is_some, option_copied, true, IsErr};
 ghost use Rattle.lpc_base.specs.Rows.{has};
 ghost use Rattle.lpc_base.specs.declared.limits.TheConstants.{HANDLE_LIMIT, LINES_LIMIT};
 ghost use Rattle.lpc_connect.specs.Calls.{HasThread, creating};
@@ -13,7 +13,7 @@ ghost use Rattle.lpc_model.specs.Machine.{service_of};
 ghost use Rattle.lpc_model.specs.Named.{free_name};
 ghost use Rattle.lpc_model.specs.Tests as tests;
 ghost use Rattle.lpc_model.specs.Tests.{next_birth};
-ghost use Rattle.lpc_world.specs.Called.{MayServe};
+ghost use Rattle.lpc_world.specs.Called.{MayServe, service};
 ghost use Rattle.lpc_world.specs.Does.{Took};
 ghost use Rattle.lpc_world.specs.Kept.{CanMake, HasWholeBudget};
 ghost use Rattle.lpc_world.specs.Lawful.{drew};
@@ -145,6 +145,8 @@ pub fn nt_create_port(
     requires calls { world.old.calls < LINES_LIMIT }
     ensures serves { let call = create_port (option_copied name.entry) in
         MayServe by call result world.old world.new out.old out.new }
+    ensures room_stays { let call = create_port (option_copied name.entry) in
+        IsErr (service world.old.rows by call) → world.new.room ≡ world.old.room }
     ensures spare { OnOk result (out.old.spare ≤ out.new.spare + 2) }
     ensures wanting { let named = option_copied name.entry in
         OnErr result (lacks_room_for world.old (caller world.old.rows by) named ≡ true) }

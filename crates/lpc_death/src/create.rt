@@ -1,5 +1,5 @@
 // The calls that make processes and threads.
-ghost use Rattle.std.specs.Prelude.{◌≡◌, ◌+◌, ◌<◌, ◌≤◌, false, true, Err, IfOk, MatchResult, Ok, OnErr, OnOk};
+ghost use Rattle.std.specs.Prelude.{◌≡◌, ◌+◌, ◌<◌, ◌≤◌, false, true, Err, IfOk, IsErr, MatchResult, Ok, OnErr, OnOk};
 ghost use Rattle.lpc_base.specs.Rows.{has};
 ghost use Rattle.lpc_base.specs.declared.limits.TheConstants.{HANDLE_LIMIT};
 ghost use Rattle.lpc_base.specs.declared.limits.TheConstants.{LINES_LIMIT};
@@ -70,6 +70,8 @@ pub fn nt_create_process(
     ensures spare { OnOk result (out.new.spare + 1 ≡ out.old.spare) }
     ensures wanting { let by = caller world.old.rows by in
         OnErr result (lacks_child_room world.old by ≡ true) }
+    ensures room_stays { let call = create_process pid tid in
+        IsErr (service world.old.rows by call) → world.new.room ≡ world.old.room }
 {
     let caller = world.caller(by);
     if let Err(status) = process_test(world, by, pid, tid) {
@@ -139,6 +141,8 @@ pub fn nt_create_thread(
     ensures spare { OnOk result (out.new.spare + 1 ≡ out.old.spare) }
     ensures wanting { let by = caller world.old.rows by in
         OnErr result (lacks_member_room world.old by ≡ true) }
+    ensures room_stays { let call = create_thread process tid in
+        IsErr (service world.old.rows by call) → world.new.room ≡ world.old.room }
 {
     let caller = world.caller(by);
     let pid = match member_test(world, by, process, tid) {

@@ -1,5 +1,5 @@
 // The call that makes a further handle.
-ghost use Rattle.std.specs.Prelude.{◌≡◌, ◌<◌, Ok, Err, true, IfOk, OnOk, OnErr, MatchResult, ◌+◌};
+ghost use Rattle.std.specs.Prelude.{◌≡◌, ◌<◌, Ok, Err, IsErr, true, IfOk, OnOk, OnErr, MatchResult, ◌+◌};
 ghost use Rattle.lpc_base.specs.declared.limits.TheConstants.{LINES_LIMIT};
 ghost use Rattle.lpc_death.specs.Calls.{granting, lacks_handle_room};
 ghost use Rattle.lpc_model.specs.Lines.{duplicate_object};
@@ -68,6 +68,8 @@ pub fn nt_duplicate_object(
     ensures spare { OnOk result (out.new.spare + 1 ≡ out.old.spare) }
     ensures wanting { let by = caller world.old.rows by in
         OnErr result (lacks_handle_room world.old by ≡ true) }
+    ensures room_stays { let call = duplicate_object handle access in
+        IsErr (service world.old.rows by call) → world.new.room ≡ world.old.room }
 {
     let caller = world.caller(by);
     let granted = match duplicate_test(world, by, handle, access) {

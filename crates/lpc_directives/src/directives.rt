@@ -1,5 +1,5 @@
 // The directives that make processes, threads, directories and links: refusals in their order, else the steps.
-ghost use Rattle.std.specs.Prelude.{◌≡◌, ◌<◌, OnErr, true};
+ghost use Rattle.std.specs.Prelude.{◌≡◌, ◌<◌, OnErr, true, IsErr};
 ghost use Rattle.lpc_model.specs.Machine as model;
 ghost use Rattle.lpc_model.specs.Machine.{boot_line, dir_line, link_line, thread_line};
 ghost use Rattle.lpc_world.specs.Bound.{status_of_binding};
@@ -46,6 +46,7 @@ pub fn boot(world: &mut World, pid: u32, tid: u32) -> Result<Status, OutOfMemory
     requires process { IsNumber pid }
     requires thread { IsNumber tid }
     ensures directs { Directs result (boot_line world.old.rows pid tid) world.old world.new }
+    ensures room_stays { IsErr (boot_line world.old.rows pid tid) → world.new.room ≡ world.old.room }
     ensures wanting { OnErr result (lacks_process_room world.old ≡ true) }
 {
     if world.was_process(pid) || world.was_thread(tid) {
@@ -70,6 +71,7 @@ pub fn thread(world: &mut World, tid: u32, pid: u32) -> Result<Status, OutOfMemo
     requires calls { world.old.calls < LINES_LIMIT }
     requires thread { IsNumber tid }
     ensures directs { Directs result (thread_line world.old.rows tid pid) world.old world.new }
+    ensures room_stays { IsErr (thread_line world.old.rows tid pid) → world.new.room ≡ world.old.room }
     ensures wanting { OnErr result (lacks_thread_room world.old ≡ true) }
 {
     if let Err(status) = thread_test(world, tid, pid) {

@@ -1,5 +1,5 @@
 // The call that registers a port with a thread.
-ghost use Rattle.std.specs.Prelude.{◌≡◌, ◌<◌, ◌+◌, Ok, Err, true, false, IfOk, MatchResult, OnErr, OnOk};
+ghost use Rattle.std.specs.Prelude.{◌≡◌, ◌<◌, ◌+◌, Ok, Err, true, false, IfOk, MatchResult, OnErr, OnOk, IsErr};
 ghost use Rattle.lpc_base.specs.declared.limits.TheConstants.{LINES_LIMIT};
 ghost use Rattle.lpc_model.specs.Lines.{register_thread_terminate_port};
 ghost use Rattle.lpc_model.specs.Register.{is_registered, register_steps};
@@ -56,6 +56,8 @@ pub fn nt_register_thread_terminate_port(
     requires calls { world.old.calls < LINES_LIMIT }
     ensures serves { let call = register_thread_terminate_port handle in
         MayServe by call result world.old world.new out.old out.new }
+    ensures room_stays { let call = register_thread_terminate_port handle in
+        IsErr (service world.old.rows by call) → world.new.room ≡ world.old.room }
     ensures spare { OnOk result (out.new.spare + 1 ≡ out.old.spare) }
     ensures wanting { OnErr result (world.old.room.messages < 1) }
 {

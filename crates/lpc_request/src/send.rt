@@ -1,5 +1,5 @@
 // The calls that send.
-ghost use Rattle.std.specs.Prelude.{◌≡◌, ◌≤◌, ◌<◌, true, false, IfOk, OnErr, ◌+◌, OnOk};
+ghost use Rattle.std.specs.Prelude.{◌≡◌, ◌≤◌, ◌<◌, true, false, IfOk, OnErr, ◌+◌, OnOk, IsErr};
 ghost use Rattle.lpc_base.specs.Rows.{has};
 ghost use Rattle.lpc_base.specs.declared.limits.TheConstants.{LINES_LIMIT};
 ghost use Rattle.lpc_model.specs.Found.{is_live_thread, is_thread, waits_as};
@@ -9,7 +9,7 @@ ghost use Rattle.lpc_steps.specs.Clauses.{IsUnderName};
 ghost use Rattle.lpc_request.specs.Called.{Asked};
 ghost use Rattle.lpc_world.specs.Clauses.{Answers};
 ghost use Rattle.lpc_request.specs.Sent.{Requests, Sends, may_post, may_send, shown};
-ghost use Rattle.lpc_world.specs.Called.{MayServe, Served};
+ghost use Rattle.lpc_world.specs.Called.{MayServe, Served, service};
 ghost use Rattle.lpc_world.specs.Kept.{HasWholeBudget};
 ghost use Rattle.lpc_world.specs.Names.{stands};
 ghost use Rattle.lpc_world.specs.Ready.{HasRoom, is_ready};
@@ -141,6 +141,8 @@ pub fn nt_request_port(
     requires calls { world.old.calls < LINES_LIMIT }
     ensures serves { let call = request_port handle message.now in
         MayServe by call result world.old world.new out.old out.new }
+    ensures room_stays { let call = request_port handle message.now in
+        IsErr (service world.old.rows by call) → world.new.room ≡ world.old.room }
     ensures spare { OnOk result (out.old.spare ≤ out.new.spare + 2) }
     ensures wanting { OnErr result (world.old.room.messages < 1) }
 {

@@ -1,5 +1,6 @@
 // Threads that are made: the test of a further one, and the room that one asks for.
-ghost use Rattle.std.specs.Prelude.{◌≡◌, ◌≤◌, OnErr, OnOk, true, false};
+ghost use Rattle.std.specs.Prelude.{◌≡◌, ◌≤◌, OnErr, OnOk, length, true, false};
+ghost use Rattle.lpc_base.specs.Room.{grown_room};
 ghost use Rattle.lpc_base.specs.Rows.{has};
 ghost use Rattle.lpc_model.specs.Creation as model;
 ghost use Rattle.lpc_model.specs.Found.{is_process, is_table, was_thread};
@@ -39,6 +40,14 @@ pub fn thread_reserve(world: &mut World) -> Result<(), OutOfMemory>
     ensures messages { OnOk result (1 ≤ world.new.room.messages) }
     ensures room { Roomy world.old.room world.new.room }
     ensures wanting { OnErr result (lacks_thread_parts world.old ≡ true) }
+    ensures most_waits { let rows = length world.old.rows.waits in
+        world.new.room.waits ≤ grown_room world.old.room.waits 1 rows }
+    ensures most_messages { let rows = length world.old.rows.messages in
+        world.new.room.messages ≤ grown_room world.old.room.messages 1 rows }
+    ensures most_ports { let rows = length world.old.rows.ports in
+        world.new.room.ports ≤ grown_room world.old.room.ports 0 rows }
+    ensures others { let new = world.new.room in
+        new ≡ record world.old.room { waits = new.waits; messages = new.messages; ports = new.ports } }
 {
     world.waits_reserve(1)?;
     world.messages_reserve(1)

@@ -130,12 +130,15 @@ module _ (it : Tables) (calls made : ℕ) (is : AreLawful it calls made) where
   pub roomed_rows : (pid : ℕ) (new : List Part) → new ≡ change (is_part pid) (roomed (spare_at new pid)) it.parts → rows_by (record it { parts = new }) ≡ rows
   roomed_rows pid new at = ap (λ (ps : List Part). rows_by (record it { parts = ps })) at ∙ changes.rooms it is.named pid (spare_at new pid)
 
+  pub roomed_others : (pid : ℕ) (new : List Part) → new ≡ change (is_part pid) (roomed (spare_at new pid)) it.parts → (other : ℕ) → (other == pid) ≡ false → spare_at new other ≡ spare_at it.parts other
+  roomed_others pid new at other off = ap (λ (ps : List Part). spare_at ps other) at ∙ ap spare_in (first_other (roomed (spare_at new pid)) (λ part. refl) it.parts pid other off)
+
   pub roomed_spare : (pid : ℕ) (new : List Part) → new ≡ change (is_part pid) (roomed (spare_at new pid)) it.parts → spare_at it.parts pid ≤ spare_at new pid → (other : ℕ) → spare_at it.parts other ≤ spare_at new other
   roomed_spare pid new at more other =
       elim (other == pid) as (λ b. (other == pid) ≡ b → spare_at it.parts other ≤ spare_at new other) [
         | true ↦ λ here. let P : ℕ → Type 0 = λ n. spare_at it.parts n ≤ spare_at new n in subst P (sym (eqb-true other pid here)) more
         | false ↦ λ off.
-            let same : spare_at new other ≡ spare_at it.parts other = ap (λ (ps : List Part). spare_at ps other) at ∙ ap spare_in (first_other (roomed (spare_at new pid)) (λ part. refl) it.parts pid other off) in
+            let same = roomed_others pid new at other off in
             omega (arith, same)
       ] refl
 

@@ -149,6 +149,10 @@ pub record Roomy (old new : Room) : Type 0 where
   pub for_names : old.names ≤ new.names
   pub for_handles : (pid : ℕ) → handle_room old pid ≤ handle_room new pid
 
+-- the tables of handles of other processes have the room that they had
+pub record KeepsOtherRoom (pid : ℕ) (old new : Room) : Type 0 where
+  pub for_handles : (other : ℕ) → (other == pid) ≡ false → handle_room new other ≡ handle_room old other
+
 -- a step was taken that leaves these rows; it made no row or number, no key came or went, and no room was lost
 pub record IsStep (left : World) (old new : Kept) : Type 0 where
   pub rows : new.rows ≡ left

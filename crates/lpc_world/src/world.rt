@@ -17,7 +17,7 @@ ghost use Rattle.lpc_procs.specs.Procs.{IsNumber, most_rows};
 ghost use Rattle.lpc_world.specs.Names.{KeepsNames, name_of, some_stands, stands};
 ghost use Rattle.lpc_world.specs.Shown.{object_stands};
 ghost use Rattle.lpc_world.specs.Lawful.{can_begin, drew, is_quiet};
-ghost use Rattle.lpc_world.specs.Kept.{CanMake, HasWholeBudget, IsMakingStep, IsStep, Roomy, Same, StaysReady, StaysUnqueued, handle_room, has_queued, is_unsent, owed_handles, owed_messages, owed_waits, process_rows};
+ghost use Rattle.lpc_world.specs.Kept.{CanMake, HasWholeBudget, IsMakingStep, IsStep, KeepsOtherRoom, Roomy, Same, StaysReady, StaysUnqueued, handle_room, has_queued, is_unsent, owed_handles, owed_messages, owed_waits, process_rows};
 ghost use Rattle.lpc_world.specs.Ready.{IsWait};
 ghost use Rattle.lpc_world.specs.OwedClosings.{closing_places, is_owed};
 ghost use Rattle.lpc_base.specs.declared.limits.TheConstants.{HANDLE_LIMIT, HEADER_SIZE, LINES_LIMIT, MESSAGE_LIMIT};
@@ -392,6 +392,8 @@ impl World {
         ensures most_threads { let old = self.old.rows in
             let rows = most_rows old.threads old.used_threads in
             self.new.room.threads ≤ grown_room self.old.room.threads threads rows }
+        ensures others { let new = self.new.room in
+            new ≡ record self.old.room { processes = new.processes; threads = new.threads } }
     {
         self.procs.reserve(processes, threads)?;
         reserve_rows(&mut self.parts, processes)
@@ -407,6 +409,10 @@ impl World {
         ensures wanting { OnErr result (self.old.room.ports < more) }
         ensures most { let rows = length self.old.rows.ports in
             self.new.room.ports ≤ grown_room self.old.room.ports more rows }
+        ensures most_messages { let rows = length self.old.rows.messages in
+            self.new.room.messages ≤ grown_room self.old.room.messages 0 rows }
+        ensures others { let new = self.new.room in
+            new ≡ record self.old.room { ports = new.ports; messages = new.messages } }
     {
         self.ports.reserve(more, 0)
     }
@@ -439,6 +445,10 @@ impl World {
         ensures wanting { OnErr result (self.old.room.messages < more) }
         ensures most { let rows = length self.old.rows.messages in
             self.new.room.messages ≤ grown_room self.old.room.messages more rows }
+        ensures most_ports { let rows = length self.old.rows.ports in
+            self.new.room.ports ≤ grown_room self.old.room.ports 0 rows }
+        ensures others { let new = self.new.room in
+            new ≡ record self.old.room { ports = new.ports; messages = new.messages } }
     {
         let wanted = self.owed_messages() + more as usize;
         self.ports.reserve(0, wanted)
@@ -454,6 +464,8 @@ impl World {
         ensures wanting { OnErr result (self.old.room.waits < more) }
         ensures most { let rows = length self.old.rows.waits in
             self.new.room.waits ≤ grown_room self.old.room.waits more rows }
+        ensures others { let new = self.new.room in
+            new ≡ record self.old.room { waits = new.waits } }
     {
         let wanted = self.owed_waits() + more as usize;
         self.waits.reserve(wanted)
@@ -472,6 +484,9 @@ impl World {
         ensures most { let places = owed_handles self.old.rows pid + more in
             let rows = length (handles_of self.old.rows pid) in
             handle_room self.new.room pid ≤ grown_room (handle_room self.old.room pid) places rows }
+        ensures others { let new = self.new.room in
+            new ≡ record self.old.room { handles = new.handles } }
+        ensures other_handles { KeepsOtherRoom pid self.old.room self.new.room }
     {
         let places = self.waits.connects_of(pid) + more as usize;
         parts::reserve_handles(&mut self.parts, pid, places)

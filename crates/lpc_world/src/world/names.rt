@@ -82,6 +82,8 @@ impl World {
         ensures room { Roomy self.old.room self.new.room }
         ensures names { OnOk result (more ≤ self.new.room.names) }
         ensures wanting { OnErr result (self.old.room.names < more) }
+        ensures others { let new = self.new.room in
+            new ≡ record self.old.room { names = new.names } }
     {
         self.names.reserve(more)
     }

@@ -52,3 +52,9 @@ returns-clause-most c =
     let own = tables.promised_are (tables_of c.self.inside.procs c.self.inside.parts.items c.self.inside.ports c.self.inside.waits c.self.inside.names) c.self.inside.calls c.self.inside.made c.self.invariant c.args.pid in
     let rows = tables.handle_number (tables_of c.self.inside.procs c.self.inside.parts.items c.self.inside.ports c.self.inside.waits c.self.inside.names) c.self.inside.calls c.self.inside.made c.self.invariant c.args.pid in
     rw (← c.self.view_is, tables.room_at c.reserve_handles.new.parts.items c.args.pid, tables.room_at c.self.inside.parts.items c.args.pid, own, rows, ← c.connects_of.ensures) c.reserve_handles.ensures.most
+
+pub returns-clause-others : goal.returns-clause-others
+returns-clause-others c = rw (← c.self.view_is, c.reserve_handles.ensures.len, c.reserve_handles.ensures.capacity) refl
+
+pub returns-clause-other_handles : goal.returns-clause-other_handles
+returns-clause-other_handles c = rw (← c.self.view_is) (record { for_handles = λ other off. rw (tables.room_at c.self.inside.parts.items other, tables.room_at c.reserve_handles.new.parts.items other) (tables.roomed_others (tables_of c.self.inside.procs c.self.inside.parts.items c.self.inside.ports c.self.inside.waits c.self.inside.names) c.self.inside.calls c.self.inside.made c.self.invariant c.args.pid c.reserve_handles.new.parts.items c.reserve_handles.ensures.parts other off) })
