@@ -1,4 +1,5 @@
 // The call that answers a connect: it accepts it, or refuses it.
+ghost use Rattle.lpc_world.specs.Capacity.{KeepsOtherPlaces, handle_places};
 ghost use Rattle.std.specs.Prelude.{◌≡◌, ◌≤◌, ◌<◌, Ok, Err, true, false, IfErr, IfOk, IsOk, OnOk, OnErr, MatchResult, ◌+◌, IsErr};
 ghost use Rattle.lpc_base.specs.Rows.{has};
 ghost use Rattle.lpc_base.specs.declared.limits.TheConstants.{HANDLE_LIMIT, LINES_LIMIT};
@@ -11,7 +12,7 @@ ghost use Rattle.lpc_model.specs.Lines.{accept_connect_port};
 ghost use Rattle.lpc_model.specs.Tests as tests;
 ghost use Rattle.lpc_world.specs.Called.{MayServe, service};
 ghost use Rattle.lpc_world.specs.Does.{Took};
-ghost use Rattle.lpc_world.specs.Kept.{HasWholeBudget, has_queued, is_pending_in};
+ghost use Rattle.lpc_world.specs.Kept.{HasWholeBudget, grown_handles, grown_ports, has_queued, is_pending_in};
 ghost use Rattle.lpc_world.specs.Ready.{HasRoom, caller, is_ready, waiter};
 ghost use Rattle.lpc_world.specs.Shown.{shown_thread};
 
@@ -109,6 +110,7 @@ fn refuse_connect(
         let steps = connect.refuse_steps (shown_thread by.now) a in
         Took steps world.old world.new out.old out.new }
     ensures calls { world.new.calls ≡ world.old.calls }
+    ensures capacity { world.new.capacity ≡ world.old.capacity }
     ensures spare { out.old.spare ≤ out.new.spare + 2 }
 {
     out.push(Entry::Answer {
@@ -145,6 +147,7 @@ fn accept_connect(
         let steps = accepting world.old.rows (shown_thread by.now) a context in
         Took steps world.old world.new out.old out.new }
     ensures calls { world.new.calls ≡ world.old.calls }
+    ensures capacity { world.new.capacity ≡ world.old.capacity }
     ensures spare { out.old.spare ≤ out.new.spare + 2 }
 {
     let wait = world.waiting(thread);
@@ -189,7 +192,16 @@ pub fn nt_accept_connect_port(
         IsErr (service world.old.rows by call) → world.new.room ≡ world.old.room }
     ensures spare { OnOk result (out.old.spare ≤ out.new.spare + 2) }
     ensures answered { accept ≡ false → IsOk result }
+    ensures capacity_stays { accept ≡ false → world.new.capacity ≡ world.old.capacity }
     ensures wanting { OnErr result (lacks_port_room world.old (caller world.old.rows by) ≡ true) }
+    ensures capacity { let new = world.new.capacity in
+        let old = world.old.capacity in
+        new ≡ record old { ports = new.ports; handles = new.handles } }
+    ensures asked_ports { let new = world.new.capacity in new.ports ≤ grown_ports world.old 1 }
+    ensures asked_handles { let by = caller world.old.rows by in
+        handle_places world.new.capacity by.process ≤ grown_handles world.old by.process 1 }
+    ensures other_places { let by = caller world.old.rows by in
+        KeepsOtherPlaces by.process world.old.capacity world.new.capacity }
 {
     let caller = world.caller(by);
     let answer = match accept_test(world, &caller, message, accept) {

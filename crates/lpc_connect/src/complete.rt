@@ -68,6 +68,7 @@ fn complete(world: &mut World, by: &ThreadRow, connection: Connection, out: &mut
         let steps = completing world.old.rows (shown_thread by.now) c in
         Took steps world.old world.new out.old out.new }
     ensures calls { world.new.calls ≡ world.old.calls }
+    ensures capacity { world.new.capacity ≡ world.old.capacity }
     ensures spare { out.old.spare ≤ out.new.spare + 2 }
 {
     let call = waiting_call(world, connection.thread);
@@ -113,6 +114,7 @@ pub fn nt_complete_connect_port(
     ensures served { let call = complete_connect_port handle in
         Served by call result world.old world.new out.old out.new }
     ensures spare { out.old.spare ≤ out.new.spare + 2 }
+    ensures capacity { world.new.capacity ≡ world.old.capacity }
 {
     let caller = world.caller(by);
     world.begin_call();

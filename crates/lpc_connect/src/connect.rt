@@ -1,4 +1,5 @@
 // The call that asks for a connection.
+ghost use Rattle.lpc_world.specs.Capacity.{KeepsOtherPlaces, handle_places};
 ghost use Rattle.std.specs.Prelude.{◌≡◌, ◌≤◌, ◌<◌, ◌+◌, Ok, Err, None, Some, IfErr, IfOk, OnOk, OnErr, false, length, true, IsErr};
 ghost use Rattle.lpc_base.specs.Rows.{has};
 ghost use Rattle.lpc_base.specs.declared.limits.TheConstants.{HANDLE_LIMIT, HEADER_SIZE, LINES_LIMIT, MESSAGE_LIMIT};
@@ -15,7 +16,7 @@ ghost use Rattle.lpc_model.specs.Tests as tests;
 ghost use Rattle.lpc_model.specs.Tests.{next_birth};
 ghost use Rattle.lpc_world.specs.Called.{MayServe, service};
 ghost use Rattle.lpc_world.specs.Does.{Took};
-ghost use Rattle.lpc_world.specs.Kept.{CanMake, HasWholeBudget};
+ghost use Rattle.lpc_world.specs.Kept.{CanMake, HasWholeBudget, grown_handles, grown_messages, grown_ports};
 ghost use Rattle.lpc_world.specs.Lawful.{drew};
 ghost use Rattle.lpc_world.specs.Names.{name_of, stands};
 ghost use Rattle.lpc_world.specs.Ready.{HasRoom, caller, is_ready};
@@ -106,6 +107,7 @@ fn draw(world: &mut World, by: &ThreadRow) -> Birth
     ensures live { has (is_live_thread by.now.number) world.new.rows.threads ≡ true }
     ensures births { world.new.births ≡ world.old.births }
     ensures calls { world.new.calls ≡ world.old.calls }
+    ensures capacity { world.new.capacity ≡ world.old.capacity }
     ensures loose { world.new.loose ≡ world.old.loose }
     ensures made { world.new.made ≡ world.old.made + 2 }
     ensures ports { world.old.room.ports ≤ world.new.room.ports }
@@ -134,6 +136,7 @@ fn make_client(world: &mut World, by: &ThreadRow, birth: Birth, connection: Key)
     ensures connection { birth_at world.new connection ≡ birth_at world.old connection }
     ensures connection_stands { stands world.new.births.ports connection ≡ true }
     ensures calls { world.new.calls ≡ world.old.calls }
+    ensures capacity { world.new.capacity ≡ world.old.capacity }
     ensures loose { world.new.loose ≡ world.old.loose }
     ensures made { world.new.made ≡ world.old.made + 1 }
     ensures handles { KeepsHandleRoom world.old world.new }
@@ -165,6 +168,7 @@ fn start(world: &mut World, by: &ThreadRow, connection: Key, message: &Message, 
         let steps = connect.connect_steps (shown_thread by.now) queue message.now world.old.rows in
         Took steps world.old world.new out.old out.new }
     ensures calls { world.new.calls ≡ world.old.calls }
+    ensures capacity { world.new.capacity ≡ world.old.capacity }
     ensures spare { out.old.spare ≤ out.new.spare + 2 }
 {
     out.push(Entry::Waits {
@@ -216,6 +220,16 @@ pub fn nt_connect_port(
     ensures spare { OnOk result (out.old.spare ≤ out.new.spare + 2) }
     ensures wanting { let row = caller world.old.rows by in
         OnErr result (lacks_connect_room world.old row ≡ true) }
+    ensures capacity { let new = world.new.capacity in
+        let old = world.old.capacity in
+        new ≡ record old { ports = new.ports; messages = new.messages; handles = new.handles } }
+    ensures asked_ports { let new = world.new.capacity in new.ports ≤ grown_ports world.old 1 }
+    ensures asked_messages { let new = world.new.capacity in
+        new.messages ≤ grown_messages world.old 1 }
+    ensures asked_handles { let by = caller world.old.rows by in
+        handle_places world.new.capacity by.process ≤ grown_handles world.old by.process 1 }
+    ensures other_places { let by = caller world.old.rows by in
+        KeepsOtherPlaces by.process world.old.capacity world.new.capacity }
 {
     let caller = world.caller(by);
     let connection = match connect_test(world, &caller, name, info) {

@@ -15,7 +15,8 @@ ghost use Rattle.lpc_model.specs.Tests as tests;
 ghost use Rattle.lpc_model.specs.Tests.{next_birth};
 ghost use Rattle.lpc_world.specs.Called.{MayServe, service};
 ghost use Rattle.lpc_world.specs.Does.{Took};
-ghost use Rattle.lpc_world.specs.Kept.{CanMake, HasWholeBudget};
+ghost use Rattle.lpc_world.specs.Capacity.{KeepsOtherPlaces, but_names, handle_places};
+ghost use Rattle.lpc_world.specs.Kept.{CanMake, HasWholeBudget, grown_handles, grown_ports};
 ghost use Rattle.lpc_world.specs.Lawful.{drew};
 ghost use Rattle.lpc_world.specs.Names.{name_of, stands};
 ghost use Rattle.lpc_world.specs.Ready.{HasRoom, caller, is_ready};
@@ -62,6 +63,7 @@ fn make_named(world: &mut World, path: &[u8], birth: Birth) -> Key
     ensures name { name_of world.new.births.ports result ≡ birth }
     ensures stands { stands world.new.births.ports result ≡ true }
     ensures calls { world.new.calls ≡ world.old.calls }
+    ensures capacity { but_names world.new.capacity ≡ but_names world.old.capacity }
     ensures loose { world.new.loose ≡ world.old.loose }
     ensures made { world.new.made ≡ world.old.made + 1 }
     ensures handles { KeepsHandleRoom world.old world.new }
@@ -86,6 +88,7 @@ fn make(world: &mut World, name: Option<&[u8]>, birth: Birth) -> Key
     ensures name { name_of world.new.births.ports result ≡ birth }
     ensures stands { stands world.new.births.ports result ≡ true }
     ensures calls { world.new.calls ≡ world.old.calls }
+    ensures capacity { but_names world.new.capacity ≡ but_names world.old.capacity }
     ensures loose { world.new.loose ≡ world.old.loose }
     ensures made { world.new.made ≡ world.old.made + 1 }
     ensures handles { KeepsHandleRoom world.old world.new }
@@ -113,6 +116,7 @@ fn create(world: &mut World, by: &ThreadRow, name: Option<&[u8]>, out: &mut Entr
         let steps = creating world.old.rows (shown_thread by.now) made in
         Took steps world.old world.new out.old out.new) }
     ensures calls { world.new.calls ≡ world.old.calls }
+    ensures capacity { but_names world.new.capacity ≡ but_names world.old.capacity }
     ensures spare { out.new.spare + 1 ≡ out.old.spare }
 {
     let birth = world.procs_draw_birth(by.number);
@@ -150,6 +154,14 @@ pub fn nt_create_port(
     ensures spare { OnOk result (out.old.spare ≤ out.new.spare + 2) }
     ensures wanting { let named = option_copied name.entry in
         OnErr result (lacks_room_for world.old (caller world.old.rows by) named ≡ true) }
+    ensures capacity { let new = world.new.capacity in
+        let old = world.old.capacity in
+        new ≡ record old { ports = new.ports; names = new.names; handles = new.handles } }
+    ensures asked_ports { let new = world.new.capacity in new.ports ≤ grown_ports world.old 1 }
+    ensures asked_handles { let by = caller world.old.rows by in
+        handle_places world.new.capacity by.process ≤ grown_handles world.old by.process 1 }
+    ensures other_places { let by = caller world.old.rows by in
+        KeepsOtherPlaces by.process world.old.capacity world.new.capacity }
 {
     let caller = world.caller(by);
     if let Err(status) = create_test(world, &caller, name) {

@@ -55,6 +55,7 @@ fn take_or_wait(world: &mut World, by: &ThreadRow, port: Key, out: &mut Entries)
     ensures outcome { let port = birth_at world.old port in
         result ≡ outcome_of (listening world.old.rows (shown_thread by.now) port) }
     ensures calls { world.new.calls ≡ world.old.calls }
+    ensures capacity { world.new.capacity ≡ world.old.capacity }
     ensures spare { out.old.spare ≤ out.new.spare + 2 }
 {
     match world.ports_pull_connect(port) {
@@ -100,6 +101,7 @@ fn listen(world: &mut World, tid: u32, handle: u32, out: &mut Entries) -> Result
     ensures does { let does = service world.old.rows tid (listen_port handle) in
         Does result does world.old world.new out.old out.new }
     ensures calls { world.new.calls ≡ world.old.calls }
+    ensures capacity { world.new.capacity ≡ world.old.capacity }
     ensures spare { out.old.spare ≤ out.new.spare + 2 }
 {
     let port = listen_test(world, tid, handle)?;
@@ -119,6 +121,7 @@ pub fn nt_listen_port(world: &mut World, by: u32, handle: u32, out: &mut Entries
     ensures served { let call = listen_port handle in
         Served by call result world.old world.new out.old out.new }
     ensures spare { out.old.spare ≤ out.new.spare + 2 }
+    ensures capacity { world.new.capacity ≡ world.old.capacity }
 {
     let caller = world.caller(by);
     world.begin_call();

@@ -11,6 +11,7 @@ ghost use Rattle.lpc_world.specs.Called.{Served};
 ghost use Rattle.lpc_world.specs.Clauses.{birth_at, name_at, row_shown};
 ghost use Rattle.lpc_world.specs.Closing.{HasMutualPairs};
 ghost use Rattle.lpc_world.specs.Does.{Took};
+ghost use Rattle.lpc_world.specs.Capacity.{but_names};
 ghost use Rattle.lpc_world.specs.Kept.{CanMake};
 ghost use Rattle.lpc_world.specs.Names.{stands};
 ghost use Rattle.lpc_world.specs.Ready.{HasRoom, is_ready};
@@ -47,6 +48,7 @@ fn post_closed(world: &mut World, port: Key, out: &mut Entries)
         Took steps world.old world.new out.old out.new }
     ensures births { world.new.births ≡ world.old.births }
     ensures calls { world.new.calls ≡ world.old.calls }
+    ensures capacity { world.new.capacity ≡ world.old.capacity }
     ensures made { let rows = closing_rows world.old.rows (birth_at world.old port) in
         world.new.made ≤ world.old.made + rows }
     ensures spare { out.new.spare + length world.old.rows.waits
@@ -69,6 +71,7 @@ fn empty_queue(world: &mut World, port: Key, out: &mut Entries)
     ensures ports { world.new.rows.ports ≡ world.old.rows.ports }
     ensures births { world.new.births ≡ world.old.births }
     ensures calls { world.new.calls ≡ world.old.calls }
+    ensures capacity { world.new.capacity ≡ world.old.capacity }
     ensures made { world.new.made ≡ world.old.made }
     ensures spare { out.new.spare + length world.old.rows.waits
         ≡ out.old.spare + length world.new.rows.waits }
@@ -88,6 +91,7 @@ pub(crate) fn cut_pair(world: &mut World, port: Key, out: &mut Entries)
         Took steps world.old world.new out.old out.new }
     ensures births { world.new.births ≡ world.old.births }
     ensures calls { world.new.calls ≡ world.old.calls }
+    ensures capacity { world.new.capacity ≡ world.old.capacity }
     ensures made { world.new.made ≡ world.old.made }
     ensures spare { out.new.spare + length world.old.rows.waits
         ≡ out.old.spare + length world.new.rows.waits }
@@ -110,6 +114,7 @@ fn close_port(world: &mut World, port: Key, out: &mut Entries)
         Took steps world.old world.new out.old out.new }
     ensures handles { world.new.rows.handles ≡ world.old.rows.handles }
     ensures calls { world.new.calls ≡ world.old.calls }
+    ensures capacity { but_names world.new.capacity ≡ but_names world.old.capacity }
     ensures made { let rows = closing_rows world.old.rows (birth_at world.old port) in
         world.new.made ≤ world.old.made + rows }
     ensures spare { out.new.spare + length world.old.rows.waits
@@ -141,6 +146,7 @@ fn close_last(world: &mut World, object: Object, out: &mut Entries)
         Took steps world.old world.new out.old out.new }
     ensures handles { world.new.rows.handles ≡ world.old.rows.handles }
     ensures calls { world.new.calls ≡ world.old.calls }
+    ensures capacity { but_names world.new.capacity ≡ but_names world.old.capacity }
     ensures made { let rows = last_rows world.old.rows (name_at world.old object) in
         world.new.made ≤ world.old.made + rows }
     ensures spare { out.new.spare + length world.old.rows.waits
@@ -174,6 +180,7 @@ pub(crate) fn close_handle(
         let steps = model.close_handle pid handle world.old.rows in
         Took steps world.old world.new out.old out.new }
     ensures calls { world.new.calls ≡ world.old.calls }
+    ensures capacity { but_names world.new.capacity ≡ but_names world.old.capacity }
     ensures made { world.new.made ≤ world.old.made }
     ensures spare { out.new.spare + length world.old.rows.waits
         ≡ out.old.spare + length world.new.rows.waits }
@@ -197,6 +204,7 @@ pub fn nt_close(world: &mut World, by: u32, handle: u32, out: &mut Entries) -> O
     ensures served { let call = close handle in
         Served by call result world.old world.new out.old out.new }
     ensures spare { out.old.spare ≤ out.new.spare + length world.old.rows.waits + 2 }
+    ensures capacity { but_names world.new.capacity ≡ but_names world.old.capacity }
 {
     let caller = world.caller(by);
     world.begin_call();

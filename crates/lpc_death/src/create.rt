@@ -1,4 +1,6 @@
 // The calls that make processes and threads.
+ghost use Rattle.lpc_world.specs.Capacity.{KeepsOtherPlaces, handle_places};
+ghost use Rattle.lpc_world.specs.Kept.{grown_handles, grown_messages, grown_processes, grown_threads, grown_waits};
 ghost use Rattle.std.specs.Prelude.{◌≡◌, ◌+◌, ◌<◌, ◌≤◌, false, true, Err, IfOk, IsErr, MatchResult, Ok, OnErr, OnOk};
 ghost use Rattle.lpc_base.specs.Rows.{has};
 ghost use Rattle.lpc_base.specs.declared.limits.TheConstants.{HANDLE_LIMIT};
@@ -72,6 +74,21 @@ pub fn nt_create_process(
         OnErr result (lacks_child_room world.old by ≡ true) }
     ensures room_stays { let call = create_process pid tid in
         IsErr (service world.old.rows by call) → world.new.room ≡ world.old.room }
+    ensures ports { let new = world.new.capacity in
+        let old = world.old.capacity in new.ports ≡ old.ports }
+    ensures names { let new = world.new.capacity in
+        let old = world.old.capacity in new.names ≡ old.names }
+    ensures asked_processes { let new = world.new.capacity in
+        new.processes ≤ grown_processes world.old 1 }
+    ensures asked_threads { let new = world.new.capacity in
+        new.threads ≤ grown_threads world.old 1 }
+    ensures asked_waits { let new = world.new.capacity in new.waits ≤ grown_waits world.old 1 }
+    ensures asked_messages { let new = world.new.capacity in
+        new.messages ≤ grown_messages world.old 1 }
+    ensures asked_handles { let by = caller world.old.rows by in
+        handle_places world.new.capacity by.process ≤ grown_handles world.old by.process 2 }
+    ensures other_places { let by = caller world.old.rows by in
+        KeepsOtherPlaces by.process world.old.capacity world.new.capacity }
 {
     let caller = world.caller(by);
     if let Err(status) = process_test(world, by, pid, tid) {
@@ -143,6 +160,18 @@ pub fn nt_create_thread(
         OnErr result (lacks_member_room world.old by ≡ true) }
     ensures room_stays { let call = create_thread process tid in
         IsErr (service world.old.rows by call) → world.new.room ≡ world.old.room }
+    ensures capacity { let new = world.new.capacity in
+        let old = world.old.capacity in
+        new ≡ record old { threads = new.threads; waits = new.waits; messages = new.messages; handles = new.handles } }
+    ensures asked_threads { let new = world.new.capacity in
+        new.threads ≤ grown_threads world.old 1 }
+    ensures asked_waits { let new = world.new.capacity in new.waits ≤ grown_waits world.old 1 }
+    ensures asked_messages { let new = world.new.capacity in
+        new.messages ≤ grown_messages world.old 1 }
+    ensures asked_handles { let by = caller world.old.rows by in
+        handle_places world.new.capacity by.process ≤ grown_handles world.old by.process 1 }
+    ensures other_places { let by = caller world.old.rows by in
+        KeepsOtherPlaces by.process world.old.capacity world.new.capacity }
 {
     let caller = world.caller(by);
     let pid = match member_test(world, by, process, tid) {

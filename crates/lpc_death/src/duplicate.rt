@@ -1,5 +1,7 @@
 // The call that makes a further handle.
-ghost use Rattle.std.specs.Prelude.{◌≡◌, ◌<◌, Ok, Err, IsErr, true, IfOk, OnOk, OnErr, MatchResult, ◌+◌};
+ghost use Rattle.lpc_world.specs.Capacity.{KeepsOtherPlaces, handle_places};
+ghost use Rattle.lpc_world.specs.Kept.{grown_handles};
+ghost use Rattle.std.specs.Prelude.{◌≡◌, ◌<◌, Ok, Err, IsErr, true, IfOk, OnOk, OnErr, MatchResult, ◌+◌, ◌≤◌};
 ghost use Rattle.lpc_base.specs.declared.limits.TheConstants.{LINES_LIMIT};
 ghost use Rattle.lpc_death.specs.Calls.{granting, lacks_handle_room};
 ghost use Rattle.lpc_model.specs.Lines.{duplicate_object};
@@ -70,6 +72,13 @@ pub fn nt_duplicate_object(
         OnErr result (lacks_handle_room world.old by ≡ true) }
     ensures room_stays { let call = duplicate_object handle access in
         IsErr (service world.old.rows by call) → world.new.room ≡ world.old.room }
+    ensures capacity { let new = world.new.capacity in
+        let old = world.old.capacity in
+        new ≡ record old { handles = new.handles } }
+    ensures asked_handles { let by = caller world.old.rows by in
+        handle_places world.new.capacity by.process ≤ grown_handles world.old by.process 1 }
+    ensures other_places { let by = caller world.old.rows by in
+        KeepsOtherPlaces by.process world.old.capacity world.new.capacity }
 {
     let caller = world.caller(by);
     let granted = match duplicate_test(world, by, handle, access) {

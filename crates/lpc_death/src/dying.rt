@@ -22,6 +22,7 @@ fn end_thread(world: &mut World, tid: u32, code: Status, out: &mut Entries)
         Took steps world.old world.new out.old out.new }
     ensures births { world.new.births ≡ world.old.births }
     ensures calls { world.new.calls ≡ world.old.calls }
+    ensures capacity { world.new.capacity ≡ world.old.capacity }
     ensures made { world.new.made ≡ world.old.made }
     ensures spare { out.new.spare + 1 ≡ out.old.spare }
 {
@@ -40,6 +41,7 @@ pub(crate) fn die(world: &mut World, tid: u32, code: Status, out: &mut Entries)
     ensures took { Took (dying code tid world.old.rows) world.old world.new out.old out.new }
     ensures births { world.new.births ≡ world.old.births }
     ensures calls { world.new.calls ≡ world.old.calls }
+    ensures capacity { world.new.capacity ≡ world.old.capacity }
     ensures made { world.new.made ≡ world.old.made }
     ensures spare { out.old.spare + ending_entries world.new.rows
         ≤ out.new.spare + ending_entries world.old.rows }
@@ -59,6 +61,7 @@ pub(crate) fn die_all(world: &mut World, pid: u32, code: Status, out: &mut Entri
     ensures took { Took (dying_all code pid world.old.rows) world.old world.new out.old out.new }
     ensures births { world.new.births ≡ world.old.births }
     ensures calls { world.new.calls ≡ world.old.calls }
+    ensures capacity { world.new.capacity ≡ world.old.capacity }
     ensures made { world.new.made ≡ world.old.made }
     ensures spare { out.old.spare + ending_entries world.new.rows
         ≤ out.new.spare + ending_entries world.old.rows }

@@ -7,6 +7,7 @@ ghost use Rattle.lpc_model.specs.Death.{end_process};
 ghost use Rattle.lpc_model.specs.Found.{handles_of, is_table};
 ghost use Rattle.lpc_world.specs.Clauses.{Finds};
 ghost use Rattle.lpc_world.specs.Does.{Took};
+ghost use Rattle.lpc_world.specs.Capacity.{but_names};
 ghost use Rattle.lpc_world.specs.Kept.{CanMake};
 ghost use Rattle.lpc_world.specs.Shown.{object_stands};
 
@@ -39,6 +40,7 @@ pub fn end_process(world: &mut World, pid: u32, out: &mut Entries)
     ensures takes { let steps = end_process pid world.old.rows in
         Took steps world.old world.new out.old out.new }
     ensures calls { world.new.calls ≡ world.old.calls }
+    ensures capacity { but_names world.new.capacity ≡ but_names world.old.capacity }
     ensures made { world.new.made ≤ world.old.made }
     ensures spare { out.new.spare + length world.old.rows.waits
         ≡ out.old.spare + length world.new.rows.waits }

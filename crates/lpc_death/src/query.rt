@@ -43,6 +43,7 @@ pub fn nt_query_object(world: &mut World, by: u32, handle: u32, out: &mut Entrie
     ensures served { let call = query_object handle in
         Served by call result world.old world.new out.old out.new }
     ensures spare { out.new.spare + 1 ≡ out.old.spare }
+    ensures capacity { world.new.capacity ≡ world.old.capacity }
 {
     let caller = world.caller(by);
     world.begin_call();

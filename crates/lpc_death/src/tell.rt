@@ -32,6 +32,7 @@ fn post_death(world: &mut World, death: &Death, out: &mut Entries)
         Took steps world.old world.new out.old out.new }
     ensures births { world.new.births ≡ world.old.births }
     ensures calls { world.new.calls ≡ world.old.calls }
+    ensures capacity { world.new.capacity ≡ world.old.capacity }
     ensures made { world.new.made ≤ world.old.made }
     ensures spare { out.new.spare + length world.old.rows.waits
         ≡ out.old.spare + length world.new.rows.waits }
@@ -54,6 +55,7 @@ pub(crate) fn tell_all(world: &mut World, pid: u32, out: &mut Entries)
         Took steps world.old world.new out.old out.new }
     ensures births { world.new.births ≡ world.old.births }
     ensures calls { world.new.calls ≡ world.old.calls }
+    ensures capacity { world.new.capacity ≡ world.old.capacity }
     ensures made { world.new.made ≤ world.old.made }
     ensures spare { out.new.spare + length world.old.rows.waits
         ≡ out.old.spare + length world.new.rows.waits }

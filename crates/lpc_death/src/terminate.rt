@@ -11,6 +11,7 @@ ghost use Rattle.lpc_model.specs.Found.{is_table, live_thread, live_threads};
 ghost use Rattle.lpc_model.specs.Lines.{terminate_process, terminate_thread};
 ghost use Rattle.lpc_world.specs.Called.{Served};
 ghost use Rattle.lpc_world.specs.Does.{Took};
+ghost use Rattle.lpc_world.specs.Capacity.{but_names};
 ghost use Rattle.lpc_world.specs.Kept.{CanMake, is_alive};
 ghost use Rattle.lpc_world.specs.Ready.{HasRoom, caller, is_ready};
 
@@ -33,6 +34,7 @@ fn end_told(world: &mut World, pid: u32, out: &mut Entries)
     requires budget { CanMake world.old }
     ensures took { Took (telling_ends pid world.old.rows) world.old world.new out.old out.new }
     ensures calls { world.new.calls ≡ world.old.calls }
+    ensures capacity { but_names world.new.capacity ≡ but_names world.old.capacity }
     ensures made { world.new.made ≤ world.old.made }
     ensures lives { count is_alive world.new.rows.threads
         ≤ count is_alive world.old.rows.threads }
@@ -59,6 +61,7 @@ fn end_thread(world: &mut World, tid: u32, pid: u32, code: Status, out: &mut Ent
         let steps = model.end_threads pid code (t ∷ []) world.old.rows in
         Took steps world.old world.new out.old out.new }
     ensures calls { world.new.calls ≡ world.old.calls }
+    ensures capacity { but_names world.new.capacity ≡ but_names world.old.capacity }
     ensures spare { out.old.spare + ending_entries world.new.rows
         ≤ out.new.spare + ending_entries world.old.rows }
 {
@@ -76,6 +79,7 @@ fn end_threads(world: &mut World, pid: u32, code: Status, out: &mut Entries)
         let steps = model.end_threads pid code threads world.old.rows in
         Took steps world.old world.new out.old out.new }
     ensures calls { world.new.calls ≡ world.old.calls }
+    ensures capacity { but_names world.new.capacity ≡ but_names world.old.capacity }
     ensures spare { out.old.spare + ending_entries world.new.rows
         ≤ out.new.spare + ending_entries world.old.rows }
 {
@@ -124,6 +128,7 @@ pub fn nt_terminate_thread(
         Served by call result world.old world.new out.old out.new }
     ensures spare { out.old.spare + ending_entries world.new.rows
         ≤ out.new.spare + ending_entries world.old.rows + 1 }
+    ensures capacity { but_names world.new.capacity ≡ but_names world.old.capacity }
 {
     let caller = world.caller(by);
     world.begin_call();
@@ -160,6 +165,7 @@ pub fn nt_terminate_process(
         Served by call result world.old world.new out.old out.new }
     ensures spare { out.old.spare + ending_entries world.new.rows
         ≤ out.new.spare + ending_entries world.old.rows + 1 }
+    ensures capacity { but_names world.new.capacity ≡ but_names world.old.capacity }
 {
     let caller = world.caller(by);
     world.begin_call();

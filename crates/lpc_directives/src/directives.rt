@@ -1,11 +1,12 @@
 // The directives that make processes, threads, directories and links: refusals in their order, else the steps.
-ghost use Rattle.std.specs.Prelude.{◌≡◌, ◌<◌, OnErr, true, IsErr};
+ghost use Rattle.std.specs.Prelude.{◌≡◌, ◌<◌, ◌≤◌, OnErr, true, IsErr};
 ghost use Rattle.lpc_model.specs.Machine as model;
 ghost use Rattle.lpc_model.specs.Machine.{boot_line, dir_line, link_line, thread_line};
 ghost use Rattle.lpc_world.specs.Bound.{status_of_binding};
 ghost use Rattle.lpc_procs.specs.Procs.{IsNumber};
 ghost use Rattle.lpc_world.specs.Does.{Directs};
-ghost use Rattle.lpc_world.specs.Kept.{lacks_name_room, lacks_process_room, lacks_thread_room};
+ghost use Rattle.lpc_world.specs.Capacity.{KeepsPlaces, but_names};
+ghost use Rattle.lpc_world.specs.Kept.{grown_messages, grown_processes, grown_threads, grown_waits, lacks_name_room, lacks_process_room, lacks_thread_room};
 ghost use Rattle.lpc_base.specs.declared.limits.TheConstants.{LINES_LIMIT};
 
 use lpc_base::status::{OBJECT_NAME_COLLISION, SUCCESS};
@@ -48,6 +49,18 @@ pub fn boot(world: &mut World, pid: u32, tid: u32) -> Result<Status, OutOfMemory
     ensures directs { Directs result (boot_line world.old.rows pid tid) world.old world.new }
     ensures room_stays { IsErr (boot_line world.old.rows pid tid) → world.new.room ≡ world.old.room }
     ensures wanting { OnErr result (lacks_process_room world.old ≡ true) }
+    ensures ports { let new = world.new.capacity in
+        let old = world.old.capacity in new.ports ≡ old.ports }
+    ensures names { let new = world.new.capacity in
+        let old = world.old.capacity in new.names ≡ old.names }
+    ensures places { KeepsPlaces world.old.capacity world.new.capacity }
+    ensures asked_processes { let new = world.new.capacity in
+        new.processes ≤ grown_processes world.old 1 }
+    ensures asked_threads { let new = world.new.capacity in
+        new.threads ≤ grown_threads world.old 1 }
+    ensures asked_waits { let new = world.new.capacity in new.waits ≤ grown_waits world.old 1 }
+    ensures asked_messages { let new = world.new.capacity in
+        new.messages ≤ grown_messages world.old 1 }
 {
     if world.was_process(pid) || world.was_thread(tid) {
         world.begin_call();
@@ -73,6 +86,14 @@ pub fn thread(world: &mut World, tid: u32, pid: u32) -> Result<Status, OutOfMemo
     ensures directs { Directs result (thread_line world.old.rows tid pid) world.old world.new }
     ensures room_stays { IsErr (thread_line world.old.rows tid pid) → world.new.room ≡ world.old.room }
     ensures wanting { OnErr result (lacks_thread_room world.old ≡ true) }
+    ensures capacity { let new = world.new.capacity in
+        let old = world.old.capacity in
+        new ≡ record old { threads = new.threads; waits = new.waits; messages = new.messages } }
+    ensures asked_threads { let new = world.new.capacity in
+        new.threads ≤ grown_threads world.old 1 }
+    ensures asked_waits { let new = world.new.capacity in new.waits ≤ grown_waits world.old 1 }
+    ensures asked_messages { let new = world.new.capacity in
+        new.messages ≤ grown_messages world.old 1 }
 {
     if let Err(status) = thread_test(world, tid, pid) {
         world.begin_call();
@@ -95,6 +116,7 @@ pub fn directory(world: &mut World, path: &[u8]) -> Result<Status, OutOfMemory>
     ensures directs { Directs result (dir_line world.old.rows path.now) world.old world.new }
     ensures wanting { OnErr result (lacks_name_room world.old ≡ true) }
     ensures births { world.new.births ≡ world.old.births }
+    ensures capacity { but_names world.new.capacity ≡ but_names world.old.capacity }
 {
     let status = bound_status(world.names_add_directory(path))?;
     world.begin_call();
@@ -113,6 +135,7 @@ pub fn link(world: &mut World, path: &[u8], target: &[u8]) -> Result<Status, Out
         (link_line world.old.rows path.now target.now) world.old world.new }
     ensures wanting { OnErr result (lacks_name_room world.old ≡ true) }
     ensures births { world.new.births ≡ world.old.births }
+    ensures capacity { but_names world.new.capacity ≡ but_names world.old.capacity }
 {
     let status = bound_status(world.names_add_link(path, target))?;
     world.begin_call();

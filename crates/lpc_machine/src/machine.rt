@@ -22,6 +22,7 @@ ghost use Rattle.lpc_machine.specs.Settled.{IsSettled};
 ghost use Rattle.lpc_machine.specs.Memory.{GoesOn, call_takes_memory, lacks_call_room, lacks_room, makes_call, takes_memory};
 ghost use Rattle.lpc_world.specs.Called.{MayServe};
 ghost use Rattle.lpc_world.specs.Does.{Took};
+ghost use Rattle.lpc_world.specs.Capacity.{but_names};
 ghost use Rattle.lpc_world.specs.Kept.{Same};
 ghost use Rattle.lpc_world.specs.Ready.{HasRoom, is_ready, room_needed};
 
@@ -89,6 +90,8 @@ fn serve(
     ensures serves { MayServe by (call_of call.now) result world.old world.new out.old out.new }
     ensures wanting { OnErr result (lacks_call_room world.old by (call_of call.now) ≡ true) }
     ensures free { call_takes_memory (call_of call.now) ≡ false → IsOk result }
+    ensures capacity { call_takes_memory (call_of call.now) ≡ false →
+        but_names world.new.capacity ≡ but_names world.old.capacity }
 {
     match call {
         Call::CreatePort { name } => nt_create_port(world, by, *name, out),
@@ -147,6 +150,8 @@ fn run(world: &mut World, tid: u32, call: &Call<'_>, out: &mut Entries) -> Resul
     ensures late { OnErr result (GoesOn world.old.rows (script.run tid (call_of call.now))) }
     ensures wanting { OnErr result (lacks_call_room world.old tid (call_of call.now) ≡ true) }
     ensures free { call_takes_memory (call_of call.now) ≡ false → IsOk result }
+    ensures capacity { call_takes_memory (call_of call.now) ≡ false →
+        but_names world.new.capacity ≡ but_names world.old.capacity }
 {
     match world.condition(tid) {
         Condition::Absent => out.push(Entry::NoThread { tid }),
@@ -177,6 +182,8 @@ fn take(world: &mut World, line: &Line<'_>, out: &mut Entries) -> Result<(), Out
     ensures late { OnErr result (GoesOn world.old.rows (line_of line.now)) }
     ensures wanting { OnErr result (lacks_room world.old (line_of line.now) ≡ true) }
     ensures free { takes_memory (line_of line.now) ≡ false → IsOk result }
+    ensures capacity { takes_memory (line_of line.now) ≡ false →
+        but_names world.new.capacity ≡ but_names world.old.capacity }
 {
     match line {
         Line::Boot { pid, tid } => {

@@ -127,6 +127,10 @@ impl Ports {
             self.new.port_room ≤ grown_room self.old.port_room ports rows }
         ensures most_messages { let rows = length self.old.messages in
             self.new.message_room ≤ grown_room self.old.message_room blocks rows }
+        ensures enough_ports { ports ≤ self.old.port_room →
+            self.new.port_room ≡ self.old.port_room }
+        ensures enough_messages { blocks ≤ self.old.message_room →
+            self.new.message_room ≡ self.old.message_room }
     {
         self.ports.reserve(ports)?;
         self.messages.reserve(blocks)

@@ -80,6 +80,10 @@ impl Procs {
             self.new.process_room ≤ grown_room self.old.process_room processes rows }
         ensures most_threads { let rows = most_rows self.old.threads self.old.used_threads in
             self.new.thread_room ≤ grown_room self.old.thread_room threads rows }
+        ensures enough_processes { processes ≤ self.old.process_room →
+            self.new.process_room ≡ self.old.process_room }
+        ensures enough_threads { threads ≤ self.old.thread_room →
+            self.new.thread_room ≡ self.old.thread_room }
     {
         reserve_rows(&mut self.processes, processes)?;
         reserve_rows(&mut self.used_processes, processes)?;

@@ -43,6 +43,7 @@ fn make_reply(world: &mut World, replied: &Option<Replied>, out: &mut Entries)
     ensures spare { out.old.spare ≤ out.new.spare + 1 }
     ensures births { world.new.births ≡ world.old.births }
     ensures calls { world.new.calls ≡ world.old.calls }
+    ensures capacity { world.new.capacity ≡ world.old.capacity }
     ensures made { world.new.made ≡ world.old.made }
     ensures room { Roomy world.old.room world.new.room }
     ensures still { StaysReady world.old.rows world.new.rows }
@@ -79,6 +80,7 @@ fn wait_for_message(
     requires told { may_be_told world.old.rows replied.now }
     ensures takes { TakesOrWaits by.now port queue replied.now world.old world.new out.old out.new }
     ensures calls { world.new.calls ≡ world.old.calls }
+    ensures capacity { world.new.capacity ≡ world.old.capacity }
     ensures spare { out.old.spare ≤ out.new.spare + 2 }
 {
     out.push(Entry::Waits {
@@ -121,6 +123,7 @@ fn take_or_wait(
     ensures outcome { let steps = receive_by by.now port queue replied.now world.old in
         result ≡ outcome_of steps }
     ensures calls { world.new.calls ≡ world.old.calls }
+    ensures capacity { world.new.capacity ≡ world.old.capacity }
     ensures spare { out.old.spare ≤ out.new.spare + 2 }
 {
     match world.ports_pull(queue) {
@@ -153,6 +156,7 @@ fn receive(world: &mut World, tid: u32, handle: u32, out: &mut Entries) -> Resul
     requires budget { HasWholeBudget world.old }
     ensures does { Received result tid handle None world.old world.new out.old out.new }
     ensures calls { world.new.calls ≡ world.old.calls }
+    ensures capacity { world.new.capacity ≡ world.old.capacity }
     ensures spare { out.old.spare ≤ out.new.spare + 2 }
 {
     let port = port_at(world, tid, handle)?;
@@ -175,6 +179,7 @@ fn reply_and_receive(
     requires budget { HasWholeBudget world.old }
     ensures does { Received result tid handle (Some reply.now) world.old world.new out.old out.new }
     ensures calls { world.new.calls ≡ world.old.calls }
+    ensures capacity { world.new.capacity ≡ world.old.capacity }
     ensures spare { out.old.spare ≤ out.new.spare + 2 }
 {
     let port = port_at(world, tid, handle)?;
@@ -208,6 +213,7 @@ pub fn nt_reply_wait_receive_port(
     ensures served { let call = reply_wait_receive_port handle (option_copied reply.entry) in
         Served by call result world.old world.new out.old out.new }
     ensures spare { out.old.spare ≤ out.new.spare + 2 }
+    ensures capacity { world.new.capacity ≡ world.old.capacity }
 {
     let caller = world.caller(by);
     world.begin_call();

@@ -1,5 +1,6 @@
 // The call that registers a port with a thread.
-ghost use Rattle.std.specs.Prelude.{◌≡◌, ◌<◌, ◌+◌, Ok, Err, true, false, IfOk, MatchResult, OnErr, OnOk, IsErr};
+ghost use Rattle.lpc_world.specs.Kept.{grown_messages};
+ghost use Rattle.std.specs.Prelude.{◌≡◌, ◌<◌, ◌+◌, ◌≤◌, Ok, Err, true, false, IfOk, MatchResult, OnErr, OnOk, IsErr};
 ghost use Rattle.lpc_base.specs.declared.limits.TheConstants.{LINES_LIMIT};
 ghost use Rattle.lpc_model.specs.Lines.{register_thread_terminate_port};
 ghost use Rattle.lpc_model.specs.Register.{is_registered, register_steps};
@@ -60,6 +61,11 @@ pub fn nt_register_thread_terminate_port(
         IsErr (service world.old.rows by call) → world.new.room ≡ world.old.room }
     ensures spare { OnOk result (out.new.spare + 1 ≡ out.old.spare) }
     ensures wanting { OnErr result (world.old.room.messages < 1) }
+    ensures capacity { let new = world.new.capacity in
+        let old = world.old.capacity in
+        new ≡ record old { messages = new.messages } }
+    ensures asked_messages { let new = world.new.capacity in
+        new.messages ≤ grown_messages world.old 1 }
 {
     let caller = world.caller(by);
     let port = match register_test(world, by, handle) {

@@ -66,6 +66,7 @@ fn reply(
     requires spare { 2 ≤ out.old.spare }
     ensures does { Answered result tid handle message.now world.old world.new out.old out.new }
     ensures calls { world.new.calls ≡ world.old.calls }
+    ensures capacity { world.new.capacity ≡ world.old.capacity }
     ensures spare { out.old.spare ≤ out.new.spare + 2 }
 {
     let port = port_at(world, tid, handle)?;
@@ -83,6 +84,7 @@ fn send_reply(world: &mut World, tid: u32, answered: u32, message: &Message, out
     requires left { has_queued world.old.rows answered ≡ false }
     ensures takes { Returns tid answered message.now world.old world.new out.old out.new }
     ensures calls { world.new.calls ≡ world.old.calls }
+    ensures capacity { world.new.capacity ≡ world.old.capacity }
     ensures spare { out.old.spare ≤ out.new.spare + 2 }
 {
     let by = world.caller(tid);
@@ -120,6 +122,7 @@ pub fn nt_reply_port(
     ensures served { let call = reply_port handle message.now in
         Served by call result world.old world.new out.old out.new }
     ensures spare { out.old.spare ≤ out.new.spare + 2 }
+    ensures capacity { world.new.capacity ≡ world.old.capacity }
 {
     let caller = world.caller(by);
     world.begin_call();

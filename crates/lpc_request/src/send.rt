@@ -10,7 +10,7 @@ ghost use Rattle.lpc_request.specs.Called.{Asked};
 ghost use Rattle.lpc_world.specs.Clauses.{Answers};
 ghost use Rattle.lpc_request.specs.Sent.{Requests, Sends, may_post, may_send, shown};
 ghost use Rattle.lpc_world.specs.Called.{MayServe, Served, service};
-ghost use Rattle.lpc_world.specs.Kept.{HasWholeBudget};
+ghost use Rattle.lpc_world.specs.Kept.{HasWholeBudget, grown_messages};
 ghost use Rattle.lpc_world.specs.Names.{stands};
 ghost use Rattle.lpc_world.specs.Ready.{HasRoom, is_ready};
 ghost use Rattle.lpc_world.specs.Shown.{shown_thread};
@@ -93,6 +93,7 @@ fn send_datagram(
     requires room { 0 < world.old.room.messages }
     ensures takes { Sends by.now port queue message.now world.old world.new out.old out.new }
     ensures calls { world.new.calls ≡ world.old.calls }
+    ensures capacity { world.new.capacity ≡ world.old.capacity }
     ensures spare { out.old.spare ≤ out.new.spare + 2 }
 {
     let context = context(world, port);
@@ -145,6 +146,11 @@ pub fn nt_request_port(
         IsErr (service world.old.rows by call) → world.new.room ≡ world.old.room }
     ensures spare { OnOk result (out.old.spare ≤ out.new.spare + 2) }
     ensures wanting { OnErr result (world.old.room.messages < 1) }
+    ensures capacity { let new = world.new.capacity in
+        let old = world.old.capacity in
+        new ≡ record old { messages = new.messages } }
+    ensures asked_messages { let new = world.new.capacity in
+        new.messages ≤ grown_messages world.old 1 }
 {
     let caller = world.caller(by);
     let sent = match datagram_test(world, by, handle, message) {
@@ -181,6 +187,7 @@ fn send_request(
     requires name { IsUnderName world.old port }
     ensures takes { Requests by.now port queue message.now world.old world.new out.old out.new }
     ensures calls { world.new.calls ≡ world.old.calls }
+    ensures capacity { world.new.capacity ≡ world.old.capacity }
     ensures spare { out.old.spare ≤ out.new.spare + 2 }
 {
     let context = context(world, port);
@@ -220,6 +227,7 @@ fn request(
     requires budget { HasWholeBudget world.old }
     ensures does { Asked result tid handle message.now world.old world.new out.old out.new }
     ensures calls { world.new.calls ≡ world.old.calls }
+    ensures capacity { world.new.capacity ≡ world.old.capacity }
     ensures spare { out.old.spare ≤ out.new.spare + 2 }
 {
     let sent = send_test(world, tid, handle, message)?;
@@ -247,6 +255,7 @@ pub fn nt_request_wait_reply_port(
     ensures served { let call = request_wait_reply_port handle message.now in
         Served by call result world.old world.new out.old out.new }
     ensures spare { out.old.spare ≤ out.new.spare + 2 }
+    ensures capacity { world.new.capacity ≡ world.old.capacity }
 {
     let caller = world.caller(by);
     world.begin_call();

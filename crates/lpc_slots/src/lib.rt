@@ -79,6 +79,7 @@ impl<T> Slots<T> {
         ensures spare { self.old.spare ≤ self.new.spare }
         ensures most { let rows = length (listed self.old) in
             self.new.spare ≤ grown_room self.old.spare more rows }
+        ensures enough { more ≤ self.old.spare → self.new.spare ≡ self.old.spare }
     {
         reserve_rows(&mut self.rows, more)
     }

@@ -27,6 +27,7 @@ fn end_wait(world: &mut World, tid: u32, ending: Ending, out: &mut Entries)
         Took (ending_of ending x) world.old world.new out.old out.new }
     ensures births { world.new.births ≡ world.old.births }
     ensures calls { world.new.calls ≡ world.old.calls }
+    ensures capacity { world.new.capacity ≡ world.old.capacity }
     ensures made { world.new.made ≡ world.old.made }
     ensures spare { out.new.spare + 1 ≡ out.old.spare }
 {
@@ -51,6 +52,7 @@ fn end_request(world: &mut World, tid: u32, status: Status, out: &mut Entries)
         Took (close.end_request status x) world.old world.new out.old out.new }
     ensures births { world.new.births ≡ world.old.births }
     ensures calls { world.new.calls ≡ world.old.calls }
+    ensures capacity { world.new.capacity ≡ world.old.capacity }
     ensures made { world.new.made ≡ world.old.made }
     ensures spare { out.new.spare + 1 ≡ out.old.spare }
 {
@@ -68,6 +70,7 @@ fn end_offered(world: &mut World, tid: u32, out: &mut Entries)
         Took (close.end_offered x) world.old world.new out.old out.new }
     ensures births { world.new.births ≡ world.old.births }
     ensures calls { world.new.calls ≡ world.old.calls }
+    ensures capacity { world.new.capacity ≡ world.old.capacity }
     ensures made { world.new.made ≡ world.old.made }
     ensures spare { out.new.spare + 1 ≡ out.old.spare }
 {
@@ -86,6 +89,7 @@ pub fn end_all(world: &mut World, port: Key, ending: Ending, out: &mut Entries)
     ensures handles { world.new.rows.handles ≡ world.old.rows.handles }
     ensures births { world.new.births ≡ world.old.births }
     ensures calls { world.new.calls ≡ world.old.calls }
+    ensures capacity { world.new.capacity ≡ world.old.capacity }
     ensures made { world.new.made ≡ world.old.made }
     ensures spare { out.new.spare + length world.old.rows.waits
         ≡ out.old.spare + length world.new.rows.waits }

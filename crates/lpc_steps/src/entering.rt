@@ -45,6 +45,7 @@ pub fn deliver(
         ≡ out.old.spare + length world.new.rows.waits }
     ensures births { world.new.births ≡ world.old.births }
     ensures calls { world.new.calls ≡ world.old.calls }
+    ensures capacity { world.new.capacity ≡ world.old.capacity }
     ensures made { world.new.made ≤ world.old.made + 1 }
 {
     match world.receiver(queue, asks_to_connect(message)) {
@@ -71,6 +72,7 @@ fn enter(world: &mut World, queue: Key, sender: Key, context: u32, message: &Mes
     ensures births { world.new.births ≡ world.old.births }
     ensures queued { has_message world.new.rows (birth_at world.old queue) ≡ true }
     ensures calls { world.new.calls ≡ world.old.calls }
+    ensures capacity { world.new.capacity ≡ world.old.capacity }
     ensures loose { world.new.loose ≡ world.old.loose }
     ensures made { world.new.made ≡ world.old.made + 1 }
     ensures room { Roomy world.old.room (and_message world.new.room) }
@@ -91,6 +93,7 @@ fn pass(world: &mut World, tid: u32, queue: Key, sender: Key, context: u32, mess
     ensures births { world.new.births ≡ world.old.births }
     ensures unqueued { StaysUnqueued world.old.rows world.new.rows }
     ensures calls { world.new.calls ≡ world.old.calls }
+    ensures capacity { world.new.capacity ≡ world.old.capacity }
     ensures made { world.new.made ≡ world.old.made }
     ensures loose { world.new.loose ≡ world.old.loose }
 {

@@ -125,6 +125,7 @@ pub fn give_handle(world: &mut World, pid: u32, object: Object, access: u32) -> 
     ensures rows { world.new.rows ≡ with_handle world.old pid result object access }
     ensures births { world.new.births ≡ world.old.births }
     ensures calls { world.new.calls ≡ world.old.calls }
+    ensures capacity { world.new.capacity ≡ world.old.capacity }
     ensures loose { world.new.loose ≡ world.old.loose }
     ensures made { world.new.made ≤ world.old.made + 1 }
     ensures places { handle_room world.old.room pid ≤ handle_room world.new.room pid + 1 }

@@ -4,7 +4,7 @@ ghost use Rattle.lpc_base.specs.Room.{grown_room};
 ghost use Rattle.lpc_base.specs.Rows.{has};
 ghost use Rattle.lpc_model.specs.Creation as model;
 ghost use Rattle.lpc_model.specs.Found.{is_process, is_table, was_thread};
-ghost use Rattle.lpc_world.specs.Kept.{Roomy, Same, lacks_thread_parts};
+ghost use Rattle.lpc_world.specs.Kept.{Roomy, Same, grown_messages, grown_waits, lacks_thread_parts};
 
 use lpc_base::limits::THREAD_LIMIT;
 use lpc_base::status::{INVALID_CID, OBJECT_NAME_COLLISION, QUOTA_EXCEEDED};
@@ -44,10 +44,15 @@ pub fn thread_reserve(world: &mut World) -> Result<(), OutOfMemory>
         world.new.room.waits ≤ grown_room world.old.room.waits 1 rows }
     ensures most_messages { let rows = length world.old.rows.messages in
         world.new.room.messages ≤ grown_room world.old.room.messages 1 rows }
-    ensures most_ports { let rows = length world.old.rows.ports in
-        world.new.room.ports ≤ grown_room world.old.room.ports 0 rows }
     ensures others { let new = world.new.room in
-        new ≡ record world.old.room { waits = new.waits; messages = new.messages; ports = new.ports } }
+        let old = world.old.room in
+        new ≡ record old { waits = new.waits; messages = new.messages } }
+    ensures capacity { let new = world.new.capacity in
+        let old = world.old.capacity in
+        new ≡ record old { waits = new.waits; messages = new.messages } }
+    ensures asked_waits { let new = world.new.capacity in new.waits ≤ grown_waits world.old 1 }
+    ensures asked_messages { let new = world.new.capacity in
+        new.messages ≤ grown_messages world.old 1 }
 {
     world.waits_reserve(1)?;
     world.messages_reserve(1)

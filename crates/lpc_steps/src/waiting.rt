@@ -70,6 +70,7 @@ pub fn wait_with(world: &mut World, tid: u32, wait: Wait, message: &Message)
         IsMakingStep (after world.old (Awaits row)) world.old world.new }
     ensures loose { world.new.loose ≡ world.old.loose }
     ensures unsent { pends world.old tid wait ≡ true → is_unsent world.new.rows tid ≡ true }
+    ensures capacity { world.new.capacity ≡ world.old.capacity }
 {
     world.waits_add(tid, wait);
     world.waits_set_message(tid, message.bytes().as_slice());
@@ -88,6 +89,7 @@ pub fn wake(world: &mut World, tid: u32, status: Status, fields: Fields, out: &m
     ensures spare { out.new.spare + 1 ≡ out.old.spare }
     ensures still { StaysReady world.old.rows world.new.rows }
     ensures unqueued { StaysUnqueued world.old.rows world.new.rows }
+    ensures capacity { world.new.capacity ≡ world.old.capacity }
 {
     let call = waiting_call(world, tid);
     tell_wake(world, tid, call, status, fields, out);
@@ -111,6 +113,7 @@ pub(crate) fn tell_wake(
     ensures spare { out.new.spare + 1 ≡ out.old.spare }
     ensures still { StaysReady world.old.rows world.new.rows }
     ensures unqueued { StaysUnqueued world.old.rows world.new.rows }
+    ensures capacity { world.new.capacity ≡ world.old.capacity }
 {
     world.waits_end(tid);
     out.push(Entry::Wakes {
@@ -133,6 +136,7 @@ pub fn end_connect(world: &mut World, tid: u32, info: &[u8], out: &mut Entries)
         (waiter world.old.rows tid) ∷ []) world.old world.new out.old out.new }
     ensures births { world.new.births ≡ world.old.births }
     ensures calls { world.new.calls ≡ world.old.calls }
+    ensures capacity { world.new.capacity ≡ world.old.capacity }
     ensures made { world.new.made ≡ world.old.made }
     ensures spare { out.new.spare + 1 ≡ out.old.spare }
 {

@@ -8,6 +8,7 @@ pub mod Follows
 pub mod Lawful
 pub mod Makes
 pub mod Bound
+pub mod Capacities
 pub mod Promised
 pub mod Finished
 pub mod Naming

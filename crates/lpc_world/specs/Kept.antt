@@ -5,9 +5,10 @@ use Rattle.lpc_base.specs.Rows.{count, each, first, has}
 use Rattle.lpc_procs.specs.Procs.{most_rows}
 use Rattle.lpc_model.specs.World.{World, MessageRow, PortRow, WaitRow, ThreadRow}
 use Rattle.lpc_model.specs.Closings.{is_closed_post}
-use Rattle.lpc_model.specs.Found.{is_client_port, is_connect, is_open, is_own_of, is_request, waits_as}
+use Rattle.lpc_model.specs.Found.{handles_of, is_client_port, is_connect, is_open, is_own_of, is_request, waits_as}
 use Rattle.lpc_model.specs.Message.{asks}
 use Rattle.lpc_model.specs.Tests.{is_connect_of}
+use Rattle.lpc_world.specs.Capacity.{Capacity, capacity_by, grown_capacity, handle_places}
 use Rattle.lpc_world.specs.Shown.{Births, Tables, births_of, shown_by}
 use Rattle.lpc_homes.specs.declared.parts.Part.{Part}
 
@@ -79,7 +80,7 @@ pub record Room : Type 0 where
   pub handles : List HandleRoom
 
 -- the rows; the births of keys; how many directive and service calls were made; how many rows and numbers were made, with
--- the rows that are owed; whether a row went since the last sweep that may have named an object; the room
+-- the rows that are owed; whether a row went since the last sweep that may have named an object; the room; the memory
 pub record Kept : Type 0 where
   pub rows : World
   pub births : Births
@@ -87,6 +88,7 @@ pub record Kept : Type 0 where
   pub made : ℕ
   pub loose : Bool
   pub room : Room
+  pub capacity : Capacity
 
 abbrev pub room_of_part : Part → HandleRoom
 room_of_part part = record { process = part.process; spare = part.handles.spare }
@@ -114,11 +116,31 @@ kept_by it places calls made loose = record {
   made = made + owed_rows (rows_by it);
   loose = loose;
   room = room_by (rows_by it) it places;
+  capacity = capacity_by it places;
 }
 
 -- how many places a world's tables of processes have taken: of the processes, of their numbers, and of their handles
 abbrev pub process_rows : World → ℕ
 process_rows w = max (length w.handles) (most_rows w.processes w.used_processes)
+
+-- The most memory that each table has once it was asked for so many rows more, and for those that are owed
+abbrev pub grown_processes : Kept → ℕ → ℕ
+grown_processes w more = grown_capacity w.capacity.processes more (process_rows w.rows)
+
+abbrev pub grown_threads : Kept → ℕ → ℕ
+grown_threads w more = grown_capacity w.capacity.threads more (most_rows w.rows.threads w.rows.used_threads)
+
+abbrev pub grown_waits : Kept → ℕ → ℕ
+grown_waits w more = grown_capacity w.capacity.waits (owed_waits w.rows + more) (length w.rows.waits)
+
+abbrev pub grown_messages : Kept → ℕ → ℕ
+grown_messages w more = grown_capacity w.capacity.messages (owed_messages w.rows + more) (length w.rows.messages)
+
+abbrev pub grown_ports : Kept → ℕ → ℕ
+grown_ports w more = grown_capacity w.capacity.ports more (length w.rows.ports)
+
+abbrev pub grown_handles : Kept → ℕ → ℕ → ℕ
+grown_handles w pid more = grown_capacity (handle_places w.capacity pid) (owed_handles w.rows pid + more) (length (handles_of w.rows pid))
 
 -- nothing changed but the room
 pub record Same (old new : Kept) : Type 0 where

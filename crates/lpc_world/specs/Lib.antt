@@ -1,6 +1,7 @@
 pub mod Names
 pub mod Shown
 pub mod OwedClosings
+pub mod Capacity
 pub mod Kept
 pub mod Lawful
 pub mod Ready

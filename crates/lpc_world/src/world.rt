@@ -5,7 +5,7 @@
 // Each call that adds a row or draws a number asks for the spare room, and that fewer than 16 rows and numbers were
 // made for each call so far, with those that are owed: each open client port owes the message that tells that it is
 // closed, and each registration the one that tells of its thread's end.
-ghost use Rattle.std.specs.Prelude.{◌≡◌, ◌+◌, ◌<◌, ◌≤◌, ◌==◌, ◌↔◌, ◌||◌, [], None, Some, true, false, IfSome, IfNone, IfOk, IsErr, OnOk, OnErr, is_some, length};
+ghost use Rattle.std.specs.Prelude.{◌≡◌, ◌∷◌, ◌++◌, ◌+◌, ◌<◌, ◌≤◌, ◌==◌, ◌↔◌, ◌||◌, [], None, Some, true, false, IfSome, IfNone, IfOk, IsErr, OnOk, OnErr, is_some, length};
 ghost use Rattle.lpc_base.specs.Room.{grown_room};
 ghost use Rattle.lpc_base.specs.Rows.{has};
 ghost use Rattle.lpc_model.specs.World.{no_rows};
@@ -17,7 +17,8 @@ ghost use Rattle.lpc_procs.specs.Procs.{IsNumber, most_rows};
 ghost use Rattle.lpc_world.specs.Names.{KeepsNames, name_of, some_stands, stands};
 ghost use Rattle.lpc_world.specs.Shown.{object_stands};
 ghost use Rattle.lpc_world.specs.Lawful.{can_begin, drew, is_quiet};
-ghost use Rattle.lpc_world.specs.Kept.{CanMake, HasWholeBudget, IsMakingStep, IsStep, KeepsOtherRoom, Roomy, Same, StaysReady, StaysUnqueued, handle_room, has_queued, is_unsent, owed_handles, owed_messages, owed_waits, process_rows};
+ghost use Rattle.lpc_world.specs.Capacity.{KeepsOtherPlaces, handle_places, no_places};
+ghost use Rattle.lpc_world.specs.Kept.{CanMake, HasWholeBudget, IsMakingStep, IsStep, KeepsOtherRoom, Roomy, Same, StaysReady, StaysUnqueued, grown_handles, grown_messages, grown_ports, grown_processes, grown_threads, grown_waits, handle_room, has_queued, is_unsent, owed_handles, owed_messages, owed_waits, process_rows};
 ghost use Rattle.lpc_world.specs.Ready.{IsWait};
 ghost use Rattle.lpc_world.specs.OwedClosings.{closing_places, is_owed};
 ghost use Rattle.lpc_base.specs.declared.limits.TheConstants.{HANDLE_LIMIT, HEADER_SIZE, LINES_LIMIT, MESSAGE_LIMIT};
@@ -116,6 +117,7 @@ impl World {
         ensures loose { self.new.loose ≡ self.old.loose }
         ensures room { self.new.room ≡ self.old.room }
         ensures budget { HasWholeBudget self.new }
+        ensures capacity { self.new.capacity ≡ self.old.capacity }
     {
         self.calls += 1;
     }
@@ -129,6 +131,7 @@ impl World {
         ensures number { identifier_next self.old.rows tid ≡ Some result }
         ensures step { IsMakingStep (after self.old (DrawsIdentifier tid)) self.old self.new }
         ensures loose { self.new.loose ≡ self.old.loose }
+        ensures capacity { self.new.capacity ≡ self.old.capacity }
     {
         self.made += 1;
         self.procs.draw_identifier(tid)
@@ -146,6 +149,7 @@ impl World {
         ensures drawn { has (drew result) self.new.rows.threads ≡ true }
         ensures step { IsMakingStep (after self.old (DrawsOrdinal tid)) self.old self.new }
         ensures loose { self.new.loose ≡ self.old.loose }
+        ensures capacity { self.new.capacity ≡ self.old.capacity }
     {
         self.made += 1;
         self.procs.draw_birth(tid)
@@ -168,6 +172,8 @@ impl World {
         ensures loose { self.new.loose ≡ self.old.loose }
         ensures made { self.new.made ≡ self.old.made + 1 }
         ensures room { Roomy self.old.room (and_process self.new.room) }
+        ensures capacity { let old = self.old.capacity in
+            self.new.capacity ≡ record old { handles = old.handles ++ no_places pid ∷ [] } }
     {
         self.made += 1;
         self.procs.add_process(pid, maker, birth);
@@ -198,6 +204,7 @@ impl World {
         ensures loose { self.new.loose ≡ self.old.loose }
         ensures made { self.new.made ≡ self.old.made + 1 }
         ensures room { Roomy self.old.room (and_thread self.new.room) }
+        ensures capacity { self.new.capacity ≡ self.old.capacity }
     {
         self.made += 1;
         self.procs.add_thread(tid, pid, birth);
@@ -227,6 +234,7 @@ impl World {
         ensures loose { self.new.loose ≡ self.old.loose }
         ensures made { self.new.made ≡ self.old.made + 1 }
         ensures room { Roomy self.old.room (and_port kind self.new.room) }
+        ensures capacity { self.new.capacity ≡ self.old.capacity }
     {
         self.made += 1;
         let port = self.ports.add(kind, birth, connection);
@@ -255,6 +263,7 @@ impl World {
         ensures loose { self.new.loose ≡ self.old.loose }
         ensures made { self.new.made ≡ self.old.made + 1 }
         ensures room { Roomy self.old.room (and_message self.new.room) }
+        ensures capacity { self.new.capacity ≡ self.old.capacity }
     {
         self.made += 1;
         self.ports.send(queue, sender, context, bytes);
@@ -271,6 +280,7 @@ impl World {
         ensures loose { self.new.loose ≡ (is_some result || self.old.loose) }
         ensures left { IfSome result (λ m. HasLeft self.new.rows (message_of m.bytes.items)) }
         ensures unqueued { StaysUnqueued self.old.rows self.new.rows }
+        ensures capacity { self.new.capacity ≡ self.old.capacity }
     {
         let message = self.ports.first(queue, false)?;
         self.loose = true;
@@ -284,6 +294,7 @@ impl World {
         ensures loose { self.new.loose ≡ (has_queued self.old.rows tid || self.old.loose) }
         ensures left { has_queued self.new.rows tid ≡ false }
         ensures unqueued { StaysUnqueued self.old.rows self.new.rows }
+        ensures capacity { self.new.capacity ≡ self.old.capacity }
     {
         self.loose |= self.ports.withdraw(tid);
     }
@@ -305,6 +316,7 @@ impl World {
             IsMakingStep left self.old self.new }
         ensures loose { self.new.loose ≡ self.old.loose }
         ensures unsent { pends self.old tid wait ≡ true → is_unsent self.new.rows tid ≡ true }
+        ensures capacity { self.new.capacity ≡ self.old.capacity }
     {
         self.made += 1;
         self.waits.add(tid, wait);
@@ -317,6 +329,7 @@ impl World {
         ensures step { let left = waiting_with self.old.rows tid (message_of bytes.now) in
             IsStep left self.old self.new }
         ensures loose { self.new.loose ≡ self.old.loose }
+        ensures capacity { self.new.capacity ≡ self.old.capacity }
     {
         self.waits.set_message(tid, bytes);
     }
@@ -331,6 +344,7 @@ impl World {
         ensures loose { self.new.loose ≡ true }
         ensures still { StaysReady self.old.rows self.new.rows }
         ensures unqueued { StaysUnqueued self.old.rows self.new.rows }
+        ensures capacity { self.new.capacity ≡ self.old.capacity }
     {
         self.loose = true;
         self.waits.end(tid)
@@ -345,6 +359,7 @@ impl World {
             IsStep left self.old self.new }
         ensures loose { self.new.loose ≡ self.old.loose }
         ensures unqueued { StaysUnqueued self.old.rows self.new.rows }
+        ensures capacity { self.new.capacity ≡ self.old.capacity }
     {
         if self.waits_on(tid, queue) {
             self.waits.receive(tid);
@@ -371,6 +386,7 @@ impl World {
         ensures made { self.new.made ≤ self.old.made + 1 }
         ensures same { OnErr result (self.new ≡ self.old) }
         ensures places { handle_room self.old.room pid ≤ handle_room self.new.room pid + 1 }
+        ensures capacity { self.new.capacity ≡ self.old.capacity }
     {
         parts::add_handle(&mut self.parts, pid, object, access)
     }
@@ -394,6 +410,14 @@ impl World {
             self.new.room.threads ≤ grown_room self.old.room.threads threads rows }
         ensures others { let new = self.new.room in
             new ≡ record self.old.room { processes = new.processes; threads = new.threads } }
+        ensures capacity { let new = self.new.capacity in
+            new ≡ record self.old.capacity { processes = new.processes; threads = new.threads } }
+        ensures enough { let new = self.new.capacity in let old = self.old.capacity in
+            processes ≤ self.old.room.processes → new.processes ≡ old.processes }
+        ensures asked_processes { let new = self.new.capacity in
+            new.processes ≤ grown_processes self.old processes }
+        ensures asked_threads { let new = self.new.capacity in
+            new.threads ≤ grown_threads self.old threads }
     {
         self.procs.reserve(processes, threads)?;
         reserve_rows(&mut self.parts, processes)
@@ -409,10 +433,11 @@ impl World {
         ensures wanting { OnErr result (self.old.room.ports < more) }
         ensures most { let rows = length self.old.rows.ports in
             self.new.room.ports ≤ grown_room self.old.room.ports more rows }
-        ensures most_messages { let rows = length self.old.rows.messages in
-            self.new.room.messages ≤ grown_room self.old.room.messages 0 rows }
         ensures others { let new = self.new.room in
-            new ≡ record self.old.room { ports = new.ports; messages = new.messages } }
+            new ≡ record self.old.room { ports = new.ports } }
+        ensures capacity { let new = self.new.capacity in
+            new ≡ record self.old.capacity { ports = new.ports } }
+        ensures asked { let new = self.new.capacity in new.ports ≤ grown_ports self.old more }
     {
         self.ports.reserve(more, 0)
     }
@@ -445,10 +470,11 @@ impl World {
         ensures wanting { OnErr result (self.old.room.messages < more) }
         ensures most { let rows = length self.old.rows.messages in
             self.new.room.messages ≤ grown_room self.old.room.messages more rows }
-        ensures most_ports { let rows = length self.old.rows.ports in
-            self.new.room.ports ≤ grown_room self.old.room.ports 0 rows }
         ensures others { let new = self.new.room in
-            new ≡ record self.old.room { ports = new.ports; messages = new.messages } }
+            new ≡ record self.old.room { messages = new.messages } }
+        ensures capacity { let new = self.new.capacity in
+            new ≡ record self.old.capacity { messages = new.messages } }
+        ensures asked { let new = self.new.capacity in new.messages ≤ grown_messages self.old more }
     {
         let wanted = self.owed_messages() + more as usize;
         self.ports.reserve(0, wanted)
@@ -466,6 +492,9 @@ impl World {
             self.new.room.waits ≤ grown_room self.old.room.waits more rows }
         ensures others { let new = self.new.room in
             new ≡ record self.old.room { waits = new.waits } }
+        ensures capacity { let new = self.new.capacity in
+            new ≡ record self.old.capacity { waits = new.waits } }
+        ensures asked { let new = self.new.capacity in new.waits ≤ grown_waits self.old more }
     {
         let wanted = self.owed_waits() + more as usize;
         self.waits.reserve(wanted)
@@ -487,6 +516,10 @@ impl World {
         ensures others { let new = self.new.room in
             new ≡ record self.old.room { handles = new.handles } }
         ensures other_handles { KeepsOtherRoom pid self.old.room self.new.room }
+        ensures capacity { let new = self.new.capacity in
+            new ≡ record self.old.capacity { handles = new.handles } }
+        ensures asked { handle_places self.new.capacity pid ≤ grown_handles self.old pid more }
+        ensures other_places { KeepsOtherPlaces pid self.old.capacity self.new.capacity }
     {
         let places = self.waits.connects_of(pid) + more as usize;
         parts::reserve_handles(&mut self.parts, pid, places)

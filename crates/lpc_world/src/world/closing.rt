@@ -5,6 +5,7 @@ ghost use Rattle.lpc_model.specs.Basics.{Cuts, DropsHandle, Empties, Unbinds};
 ghost use Rattle.lpc_model.specs.Found.{all_registrations, handle_count, holders, is_table, pointer_count, same_birth};
 ghost use Rattle.lpc_model.specs.declared.entry.ObjectKind.TheVariants as kind;
 ghost use Rattle.lpc_world.specs.Closing.{HasMutualPairs};
+ghost use Rattle.lpc_world.specs.Capacity.{but_names};
 ghost use Rattle.lpc_world.specs.Kept.{IsStep, Roomy, owed_rows};
 ghost use Rattle.lpc_world.specs.Names.{stands};
 ghost use Rattle.lpc_world.specs.Shown.{object_stands};
@@ -21,6 +22,7 @@ impl World {
         ensures step { let left = after self.old (Unbinds (birth_at self.old port)) in
             IsStep left self.old self.new }
         ensures loose { self.new.loose ≡ self.old.loose }
+        ensures capacity { but_names self.new.capacity ≡ but_names self.old.capacity }
     {
         self.names.unbind_all(port);
     }
@@ -31,6 +33,7 @@ impl World {
         ensures step { let left = after self.old (Empties (birth_at self.old port)) in
             IsStep left self.old self.new }
         ensures loose { self.new.loose ≡ true }
+        ensures capacity { self.new.capacity ≡ self.old.capacity }
     {
         self.loose = true;
         self.ports.empty(port);
@@ -42,6 +45,7 @@ impl World {
         requires pairs { HasMutualPairs self.old.rows }
         ensures step { IsStep (after self.old (Cuts (birth_at self.old port))) self.old self.new }
         ensures loose { self.new.loose ≡ true }
+        ensures capacity { self.new.capacity ≡ self.old.capacity }
     {
         self.loose = true;
         self.ports.cut(port);
@@ -58,6 +62,7 @@ impl World {
         ensures made { self.new.made + owed_rows self.old.rows
             ≡ self.old.made + owed_rows self.new.rows }
         ensures room { Roomy self.old.room self.new.room }
+        ensures capacity { self.new.capacity ≡ self.old.capacity }
     {
         self.loose = true;
         parts::close_handle(&mut self.parts, pid, value);

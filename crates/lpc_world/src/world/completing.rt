@@ -26,6 +26,7 @@ impl World {
         ensures calls { self.new.calls ≡ self.old.calls }
         ensures loose { self.new.loose ≡ true }
         ensures made { self.new.made ≤ self.old.made + 1 }
+        ensures capacity { self.new.capacity ≡ self.old.capacity }
     {
         let wait = self.waiting(tid);
         match parts::add_handle(&mut self.parts, wait.process, object, access) {

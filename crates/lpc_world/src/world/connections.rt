@@ -23,6 +23,7 @@ impl World {
         requires server { stands self.old.births.ports server ≡ true }
         ensures step { IsStep (joined self.old client server context) self.old self.new }
         ensures loose { self.new.loose ≡ true }
+        ensures capacity { self.new.capacity ≡ self.old.capacity }
     {
         self.loose = true;
         self.ports.join(client, server, context);
@@ -33,6 +34,7 @@ impl World {
         requires { stands self.old.births.ports port ≡ true }
         ensures step { IsStep (with_completion self.old port completed) self.old self.new }
         ensures loose { self.new.loose ≡ self.old.loose }
+        ensures capacity { self.new.capacity ≡ self.old.capacity }
     {
         self.ports.set_completed(port, completed);
     }
@@ -53,6 +55,7 @@ impl World {
         ensures room { Roomy self.old.room self.new.room }
         ensures unqueued { StaysUnqueued self.old.rows self.new.rows }
         ensures still { StaysReady self.old.rows self.new.rows }
+        ensures capacity { self.new.capacity ≡ self.old.capacity }
     {
         self.waits.set_accepted(tid, accepted);
     }
@@ -69,6 +72,7 @@ impl World {
         ensures loose { self.new.loose ≡ (is_some result || self.old.loose) }
         ensures left { IfSome result (λ m. HasLeft self.new.rows (message_of m.bytes.items)) }
         ensures unqueued { StaysUnqueued self.old.rows self.new.rows }
+        ensures capacity { self.new.capacity ≡ self.old.capacity }
     {
         let message = self.ports.first(queue, true)?;
         self.loose = true;

@@ -67,6 +67,7 @@ impl World {
         ensures loose { self.new.loose ≡ self.old.loose }
         ensures made { self.new.made ≡ self.old.made + 1 }
         ensures room { Roomy self.old.room (and_message self.new.room) }
+        ensures capacity { self.new.capacity ≡ self.old.capacity }
     {
         let birth = self.port(port).birth;
         self.procs.register(tid, port, birth);
@@ -84,6 +85,7 @@ impl World {
         ensures budget { CanMake self.new }
         ensures room { Roomy self.old.room self.new.room }
         ensures place { 0 < self.new.room.messages }
+        ensures capacity { self.new.capacity ≡ self.old.capacity }
     {
         self.loose = true;
         self.procs.unregister(tid, birth);
@@ -95,6 +97,7 @@ impl World {
         requires ready { has (waits_as tid) self.old.rows.waits ≡ false }
         ensures step { IsStep (with_ended self.old.rows tid) self.old self.new }
         ensures loose { self.new.loose ≡ true }
+        ensures capacity { self.new.capacity ≡ self.old.capacity }
     {
         self.loose = true;
         self.procs.end_thread(tid);

@@ -2,6 +2,7 @@
 ghost use Rattle.std.specs.Prelude.{◌≡◌, ◌≢◌, ◌+◌, ◌<◌, ◌≤◌, Ok, Err, IfErr, IsOk, OnErr, OnOk, true};
 ghost use Rattle.lpc_model.specs.Named.{free_name};
 ghost use Rattle.lpc_world.specs.Bound.{with_link};
+ghost use Rattle.lpc_world.specs.Capacity.{but_names};
 ghost use Rattle.lpc_world.specs.Kept.{Roomy, Same};
 ghost use Rattle.lpc_world.specs.Names.{stands};
 ghost use Rattle.lpc_world.specs.Clauses.{RefusedAs, and_name, with_directory, with_port_name};
@@ -38,6 +39,7 @@ impl World {
         ensures made { self.new.made ≡ self.old.made }
         ensures memory { 0 < self.old.room.names → result ≢ Err BindFault.OutOfMemory }
         ensures room { Roomy self.old.room (and_name self.new.room) }
+        ensures capacity { but_names self.new.capacity ≡ but_names self.old.capacity }
     {
         self.names.bind(path, port)
     }
@@ -53,6 +55,7 @@ impl World {
         ensures made { self.new.made ≡ self.old.made }
         ensures memory { 0 < self.old.room.names → result ≢ Err BindFault.OutOfMemory }
         ensures room { Roomy self.old.room (and_name self.new.room) }
+        ensures capacity { but_names self.new.capacity ≡ but_names self.old.capacity }
     {
         self.names.add_directory(path)
     }
@@ -70,6 +73,7 @@ impl World {
         ensures made { self.new.made ≡ self.old.made }
         ensures memory { 0 < self.old.room.names → result ≢ Err BindFault.OutOfMemory }
         ensures room { Roomy self.old.room (and_name self.new.room) }
+        ensures capacity { but_names self.new.capacity ≡ but_names self.old.capacity }
     {
         self.names.add_link(path, target)
     }
@@ -84,6 +88,7 @@ impl World {
         ensures wanting { OnErr result (self.old.room.names < more) }
         ensures others { let new = self.new.room in
             new ≡ record self.old.room { names = new.names } }
+        ensures capacity { but_names self.new.capacity ≡ but_names self.old.capacity }
     {
         self.names.reserve(more)
     }

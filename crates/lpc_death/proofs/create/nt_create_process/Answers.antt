@@ -16,6 +16,8 @@ use Rattle.lpc_model.specs.declared.entry.Entry.TheVariants.{Answer}
 use Rattle.lpc_model.specs.Fields.{first_thread, h}
 use Rattle.lpc_model.specs.Creation.{gives_life}
 use Rattle.lpc_death.proofs.Makes.{begins, drawn-later, drawn-stands, load-same, first-birth, load-more, next-birth, two-handles, booted_by, alike, given-alike, served-made}
+use Rattle.lpc_world.specs.Capacity.{Capacity, handle_places}
+use Rattle.lpc_world.proofs.Capacities.{none_pushed}
 use Rattle.lpc_death.proofs.create.nt_create_process.Goals as goal
 
 pub procs_draw_birth-thread-requires-clause-stands : goal.procs_draw_birth-thread-requires-clause-stands
@@ -128,3 +130,27 @@ returns-clause-serves c =
     let told : c.push.new.self.list ≡ c.args.out.now.list ++ Answer by.number NtCreateProcess SUCCESS (h value ∷ first_thread second ∷ []) ∷ [] =
     subst (λ n. c.push.new.self.list ≡ c.args.out.now.list ++ Answer n NtCreateProcess SUCCESS (h value ∷ first_thread second ∷ []) ∷ []) (ap (λ (t : ThreadRow). t.number) is) (rw (c.process_fields.ensures) at c.push.ensures.list) in
     served-made tid c.args.pid c.args.tid value second by old c.give_handle-second.new.world c.args.out.now c.push.new.self refl c.in_default.ensures.found both.0 both.1 g2 told loose calls
+
+-- what a process has memory for in the end it has once that is reserved: the process that is made has none yet
+pub returns-clause-asked_handles : goal.returns-clause-asked_handles
+returns-clause-asked_handles c =
+    let pid = c.caller-caller.result.process in
+    let mine : pid ≡ (caller c.args.world.now.rows c.args.by).process = ap (λ (t : ThreadRow). t.process) c.caller-caller.ensures.row in
+    let made = c.give_handle-second.ensures.capacity ∙ (c.give_handle-value.ensures.capacity ∙ (c.procs_add_thread.ensures.capacity ∙ c.procs_add_process.ensures.capacity)) in
+    let begun = c.procs_draw_birth-thread.ensures.capacity ∙ (c.procs_draw_birth-process.ensures.capacity ∙ c.begin_call-2.ensures.capacity) in
+    let left : handle_places c.give_handle-second.new.world.capacity pid ≡ handle_places c.handles_reserve.new.self.capacity pid =
+    ap (λ (m : Capacity). handle_places m pid) made ∙ (none_pushed c.procs_draw_birth-thread.new.self.capacity.handles c.args.pid pid ∙ ap (λ (m : Capacity). handle_places m pid) begun) in
+    let had = ap (λ (m : Capacity). handle_places m pid) c.in_ok-procs_reserve.ensures.capacity ∙ ap (λ (m : Capacity). handle_places m pid) c.in_ok-thread_reserve.ensures.capacity in
+    let rows = c.in_ok-procs_reserve.ensures.same.rows ∙ c.in_ok-thread_reserve.ensures.same.rows in
+    rw (← mine, left, ← had, ← rows) c.in_ok-handles_reserve.ensures.asked
+
+pub returns-clause-other_places : goal.returns-clause-other_places
+returns-clause-other_places c =
+    let mine : c.caller-caller.result.process ≡ (caller c.args.world.now.rows c.args.by).process = ap (λ (t : ThreadRow). t.process) c.caller-caller.ensures.row in
+    rw (← mine) (λ other off.
+    let made = c.give_handle-second.ensures.capacity ∙ (c.give_handle-value.ensures.capacity ∙ (c.procs_add_thread.ensures.capacity ∙ c.procs_add_process.ensures.capacity)) in
+    let begun = c.procs_draw_birth-thread.ensures.capacity ∙ (c.procs_draw_birth-process.ensures.capacity ∙ c.begin_call-2.ensures.capacity) in
+    let left : handle_places c.give_handle-second.new.world.capacity other ≡ handle_places c.handles_reserve.new.self.capacity other =
+    ap (λ (m : Capacity). handle_places m other) made ∙ (none_pushed c.procs_draw_birth-thread.new.self.capacity.handles c.args.pid other ∙ ap (λ (m : Capacity). handle_places m other) begun) in
+    let had = ap (λ (m : Capacity). handle_places m other) c.in_ok-procs_reserve.ensures.capacity ∙ ap (λ (m : Capacity). handle_places m other) c.in_ok-thread_reserve.ensures.capacity in
+    left ∙ (c.in_ok-handles_reserve.ensures.other_places other off ∙ had))

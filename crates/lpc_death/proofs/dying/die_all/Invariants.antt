@@ -15,6 +15,7 @@ invariant-loop-tid l = record {
       ≡ left_by l.fn.world.rows l.fn.out.list l.fn.world.loose (dying_all l.code l.pid l.fn.world.rows);
   births : l.world.births ≡ l.fn.world.births;
   calls : l.world.calls ≡ l.fn.world.calls;
+  capacity : l.world.capacity ≡ l.fn.world.capacity;
   made : l.world.made ≡ l.fn.world.made;
   spare : l.fn.out.spare + ending_entries l.world.rows ≤ l.out.spare + ending_entries l.fn.world.rows;
 }

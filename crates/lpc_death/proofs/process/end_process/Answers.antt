@@ -39,6 +39,7 @@ loop-value-preserved c =
           (record { world = c.close_handle.new.world.rows; entries = c.close_handle.new.out.list; loose = c.close_handle.new.world.loose }) same c.loop-value.invariant.can.sound c.close_handle.ensures.takes
           ∙ c.loop-value.invariant.leaves;
       calls = c.close_handle.ensures.calls ∙ c.loop-value.invariant.calls;
+      capacity = c.close_handle.ensures.capacity ∙ c.loop-value.invariant.capacity;
       made = omega (arith, c.close_handle.ensures.made, c.loop-value.invariant.made);
       spare = omega (arith, c.close_handle.ensures.spare, c.loop-value.invariant.spare);
     }

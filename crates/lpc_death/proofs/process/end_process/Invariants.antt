@@ -4,6 +4,7 @@ use Rattle.lpc_model.specs.Found.{handles_of, is_table}
 use Rattle.lpc_world.specs.Does.{left_by}
 use Rattle.lpc_death.specs.Closing.{CanCloseAll}
 use Rattle.lpc_model.specs.Death.{end_process}
+use Rattle.lpc_world.specs.Capacity.{but_names}
 use Rattle.lpc_death.proofs.process.end_process.Given as goal
 
 -- the handles that are left to be closed leave what all leave, and there is a wait less for each entry
@@ -14,6 +15,7 @@ invariant-loop-value l = record {
   leaves : left_by l.world.rows l.out.list l.world.loose (end_process l.pid l.world.rows)
       ≡ left_by l.fn.world.rows l.fn.out.list l.fn.world.loose (end_process l.pid l.fn.world.rows);
   calls : l.world.calls ≡ l.fn.world.calls;
+  capacity : but_names l.world.capacity ≡ but_names l.fn.world.capacity;
   made : l.world.made ≤ l.fn.world.made;
   spare : l.out.spare + length l.fn.world.rows.waits ≡ l.fn.out.spare + length l.world.rows.waits;
 }

@@ -40,6 +40,7 @@ loop-death-preserved c =
           ∙ c.loop-death.invariant.leaves;
       births = c.post_death.ensures.births ∙ c.loop-death.invariant.births;
       calls = c.post_death.ensures.calls ∙ c.loop-death.invariant.calls;
+      capacity = c.post_death.ensures.capacity ∙ c.loop-death.invariant.capacity;
       made = omega (arith, c.post_death.ensures.made, c.loop-death.invariant.made);
       spare = omega (arith, c.post_death.ensures.spare, c.loop-death.invariant.spare);
     }

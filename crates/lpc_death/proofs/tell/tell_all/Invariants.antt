@@ -13,6 +13,7 @@ invariant-loop-death l = record {
       ≡ left_by l.fn.world.rows l.fn.out.list l.fn.world.loose (telling_all l.pid l.fn.world.rows);
   births : l.world.births ≡ l.fn.world.births;
   calls : l.world.calls ≡ l.fn.world.calls;
+  capacity : l.world.capacity ≡ l.fn.world.capacity;
   made : l.world.made ≤ l.fn.world.made;
   spare : l.out.spare + length l.fn.world.rows.waits ≡ l.fn.out.spare + length l.world.rows.waits;
 }

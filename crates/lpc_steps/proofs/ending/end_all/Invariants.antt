@@ -16,6 +16,7 @@ invariant-loop-tid l = record {
   handles : l.world.rows.handles ≡ l.fn.world.rows.handles;
   births : l.world.births ≡ l.fn.world.births;
   calls : l.world.calls ≡ l.fn.world.calls;
+  capacity : l.world.capacity ≡ l.fn.world.capacity;
   made : l.world.made ≡ l.fn.world.made;
   spare : l.out.spare + length l.fn.world.rows.waits ≡ l.fn.out.spare + length l.world.rows.waits;
 }

@@ -5,6 +5,8 @@ use Rattle.lpc_world.specs.Kept.{rows_by}
 use Rattle.lpc_homes.specs.Parts.{rows_at}
 use Rattle.lpc_world.specs.Shown.{tables_of}
 use Rattle.lpc_world.proofs.Tables as tables
+use Rattle.std.proofs.Common.{◌-◌, vec_len, vec_capacity}
+use Rattle.lpc_world.proofs.Capacities as capacities
 use Rattle.lpc_world.proofs.world.World.handles_add.Goals as goal
 
 on-few : {A B : Type 0} {P : Type 0} (r : Result A B) (n : ℕ) → (IsErr r ↔ (n ≡ 256)) → n ≤ 256 → (n < 256 → P) → OnOk r P
@@ -51,3 +53,12 @@ pub returns-clause-places : goal.returns-clause-places
 returns-clause-places c =
     rw (← c.self.view_is, tables.room_at c.self.inside.parts.items c.args.pid, tables.room_at c.add_handle.new.parts.items c.args.pid)
     (tables.handed_spare (tables_of c.self.inside.procs c.self.inside.parts.items c.self.inside.ports c.self.inside.waits c.self.inside.names) c.self.inside.calls c.self.inside.made c.self.invariant c.args.pid (record { object = c.args.object; access = c.args.access }) c.add_handle.result c.add_handle.new.parts.items c.add_handle.ensures.parts c.add_handle.ensures.same)
+
+pub returns-clause-capacity : goal.returns-clause-capacity
+returns-clause-capacity c =
+    let some = rw (← c.self.view_is, tables.room_at c.self.inside.parts.items c.args.pid) at c.requires.room in
+    let number = tables.handle_number (tables_of c.self.inside.procs c.self.inside.parts.items c.self.inside.ports c.self.inside.waits c.self.inside.names) c.self.inside.calls c.self.inside.made c.self.invariant c.args.pid in
+    let bound = tables.load_bound (tables_of c.self.inside.procs c.self.inside.parts.items c.self.inside.ports c.self.inside.waits c.self.inside.names) c.self.inside.calls c.self.inside.made c.self.invariant c.args.pid (rw (← c.self.view_is) at c.requires.table) in
+    let place = on-few c.add_handle.result (length (rows_at c.self.inside.parts.items c.args.pid)) c.add_handle.ensures.quota (omega (arith, number, bound)) (λ few. omega (arith, some (omega (arith, number, few)))) in
+    rw (← c.self.view_is, c.add_handle.ensures.len, c.add_handle.ensures.capacity)
+    (capacities.of_handles (tables_of c.self.inside.procs c.self.inside.parts.items c.self.inside.ports c.self.inside.waits c.self.inside.names) (vec_capacity c.self.inside.parts - vec_len c.self.inside.parts) c.add_handle.new.parts.items (capacities.handed_or_same c.args.pid (record { object = c.args.object; access = c.args.access }) c.add_handle.result c.self.inside.parts.items c.add_handle.new.parts.items (tables.single (tables_of c.self.inside.procs c.self.inside.parts.items c.self.inside.ports c.self.inside.waits c.self.inside.names) c.self.inside.calls c.self.inside.made c.self.invariant) c.add_handle.ensures.value c.add_handle.ensures.parts c.add_handle.ensures.same place))

@@ -3,6 +3,8 @@ use Rattle.lpc_homes.specs.Parts.{closing}
 use Rattle.lpc_world.specs.Shown.{tables_of}
 use Rattle.lpc_world.proofs.Dropped as dropped
 use Rattle.lpc_world.proofs.Tables as tables
+use Rattle.std.proofs.Common.{◌-◌, vec_len, vec_capacity}
+use Rattle.lpc_world.proofs.Capacities as capacities
 use Rattle.lpc_world.proofs.world.World.handles_close.Goals as goal
 
 pub close_handle-requires-clause-one : goal.close_handle-requires-clause-one
@@ -31,3 +33,8 @@ returns-clause-room c =
 
 pub returns-clause-made : goal.returns-clause-made
 returns-clause-made c = rw (← c.self.view_is) (omega arith)
+
+pub returns-clause-capacity : goal.returns-clause-capacity
+returns-clause-capacity c =
+    rw (← c.self.view_is, c.close_handle.ensures.len, c.close_handle.ensures.capacity, c.close_handle.ensures.parts)
+    (capacities.of_handles (tables_of c.self.inside.procs c.self.inside.parts.items c.self.inside.ports c.self.inside.waits c.self.inside.names) (vec_capacity c.self.inside.parts - vec_len c.self.inside.parts) (closing c.args.pid c.args.value c.self.inside.parts.items) (capacities.closed_all c.args.pid c.args.value c.self.inside.parts.items))

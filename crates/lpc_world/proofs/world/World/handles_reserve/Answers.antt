@@ -1,6 +1,7 @@
 use Rattle.std.proofs.Common.{◌+◌, refl, ap, sym, ◌∙◌, arith}
 use Rattle.lpc_world.specs.Kept.{owed_rows}
 use Rattle.lpc_world.specs.Shown.{tables_of}
+use Rattle.lpc_world.proofs.Capacities as capacities
 use Rattle.lpc_world.proofs.Tables as tables
 use Rattle.lpc_world.proofs.world.World.handles_reserve.Goals as goal
 
@@ -58,3 +59,17 @@ returns-clause-others c = rw (← c.self.view_is, c.reserve_handles.ensures.len,
 
 pub returns-clause-other_handles : goal.returns-clause-other_handles
 returns-clause-other_handles c = rw (← c.self.view_is) (record { for_handles = λ other off. rw (tables.room_at c.self.inside.parts.items other, tables.room_at c.reserve_handles.new.parts.items other) (tables.roomed_others (tables_of c.self.inside.procs c.self.inside.parts.items c.self.inside.ports c.self.inside.waits c.self.inside.names) c.self.inside.calls c.self.inside.made c.self.invariant c.args.pid c.reserve_handles.new.parts.items c.reserve_handles.ensures.parts other off) })
+
+pub returns-clause-asked : goal.returns-clause-asked
+returns-clause-asked c =
+    let own = tables.promised_are (tables_of c.self.inside.procs c.self.inside.parts.items c.self.inside.ports c.self.inside.waits c.self.inside.names) c.self.inside.calls c.self.inside.made c.self.invariant c.args.pid in
+    let rows = tables.handle_number (tables_of c.self.inside.procs c.self.inside.parts.items c.self.inside.ports c.self.inside.waits c.self.inside.names) c.self.inside.calls c.self.inside.made c.self.invariant c.args.pid in
+    let left = capacities.roomed_number (tables_of c.self.inside.procs c.self.inside.parts.items c.self.inside.ports c.self.inside.waits c.self.inside.names) c.self.inside.calls c.self.inside.made c.self.invariant c.args.pid c.reserve_handles.new.parts.items c.reserve_handles.ensures.parts c.reserve_handles.ensures.spare c.args.pid in
+    rw (← c.self.view_is, capacities.places_at c.reserve_handles.new.parts.items c.args.pid, capacities.places_at c.self.inside.parts.items c.args.pid) (omega (arith, rows, left, own, c.connects_of.ensures, c.reserve_handles.ensures.most))
+
+pub returns-clause-other_places : goal.returns-clause-other_places
+returns-clause-other_places c =
+    rw (← c.self.view_is) (λ other off.
+    let spare = tables.roomed_others (tables_of c.self.inside.procs c.self.inside.parts.items c.self.inside.ports c.self.inside.waits c.self.inside.names) c.self.inside.calls c.self.inside.made c.self.invariant c.args.pid c.reserve_handles.new.parts.items c.reserve_handles.ensures.parts other off in
+    let rows = capacities.roomed_number (tables_of c.self.inside.procs c.self.inside.parts.items c.self.inside.ports c.self.inside.waits c.self.inside.names) c.self.inside.calls c.self.inside.made c.self.invariant c.args.pid c.reserve_handles.new.parts.items c.reserve_handles.ensures.parts c.reserve_handles.ensures.spare other in
+    rw (capacities.places_at c.reserve_handles.new.parts.items other, capacities.places_at c.self.inside.parts.items other) (omega (arith, spare, rows)))

@@ -9,6 +9,10 @@ use Rattle.lpc_world.proofs.Changes as changes
 use Rattle.lpc_world.proofs.OwnMessages.{left-pulled, unqueued-pulled}
 use Rattle.lpc_world.proofs.Rooms as rooms
 use Rattle.lpc_world.proofs.Steps as steps
+use Rattle.std.proofs.Common.{◌∙◌, length, ◌-◌, vec_len, vec_capacity}
+use Rattle.lpc_ports.specs.Table.{PortTable}
+use Rattle.lpc_ports.specs.Table as ports
+use Rattle.lpc_world.proofs.Capacities as capacities
 use Rattle.lpc_world.proofs.world.World.ports_pull.Goals as goal
 
 pub returns-in_err-message-clause-message : goal.returns-in_err-message-clause-message
@@ -77,3 +81,9 @@ returns-clause-step c = record {
       rw (← c.self.view_is, steps.oldest (tables_of c.self.inside.procs c.self.inside.parts.items c.self.inside.ports c.self.inside.waits c.self.inside.names) c.self.inside.calls c.self.inside.made c.self.invariant c.args.queue c.in_ok-message.message c.pull.new.self c.pull.ensures.table (c.pull.ensures.oldest c.args.queue at), ap (λ (v : World). v.messages) (changes.takes (tables_of c.self.inside.procs c.self.inside.parts.items c.self.inside.ports c.self.inside.waits c.self.inside.names) c.self.invariant.named c.args.queue (c.self.inside.ports.message_room + 1) there))
       (rooms.room_take _ _ _ _ _ _ (rows_by (tables_of c.self.inside.procs c.self.inside.parts.items c.self.inside.ports c.self.inside.waits c.self.inside.names)) _ (name_of (births_of c.self.inside.ports).ports c.args.queue) (pulled_row (births_of c.self.inside.ports) c.args.queue c.pull.result) found);
 }
+
+pub returns-clause-capacity : goal.returns-clause-capacity
+returns-clause-capacity c =
+    rw (← c.self.view_is)
+    (capacities.of_ports (tables_of c.self.inside.procs c.self.inside.parts.items c.self.inside.ports c.self.inside.waits c.self.inside.names) (vec_capacity c.self.inside.parts - vec_len c.self.inside.parts) c.pull.new.self (ap (λ (s : PortTable). s.port_room + length s.ports) c.pull.ensures.table)
+    (ap (λ (s : PortTable). s.message_room + length s.messages) (steps.oldest (tables_of c.self.inside.procs c.self.inside.parts.items c.self.inside.ports c.self.inside.waits c.self.inside.names) c.self.inside.calls c.self.inside.made c.self.invariant c.args.queue c.in_ok-message.message c.pull.new.self c.pull.ensures.table (c.pull.ensures.oldest c.args.queue (sym c.in_ok-message.ensures))) ∙ capacities.first_less (ports.is_in c.args.queue) c.self.inside.ports.message_room c.self.inside.ports.messages c.in_ok-message.message (sym c.in_ok-message.ensures)))

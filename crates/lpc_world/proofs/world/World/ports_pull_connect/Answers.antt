@@ -1,6 +1,10 @@
 use Rattle.std.proofs.Common.{rules, refl, ◌-◌, sym, vec_len, vec_capacity}
 use Rattle.lpc_world.specs.Shown.{births_of, pulled_row, tables_of}
 use Rattle.lpc_world.proofs.Pulls as pulls
+use Rattle.std.proofs.Common.{◌+◌, ap, ◌∙◌, length}
+use Rattle.lpc_ports.specs.Table.{PortTable}
+use Rattle.lpc_ports.specs.Table as ports
+use Rattle.lpc_world.proofs.Capacities as capacities
 use Rattle.lpc_world.proofs.world.World.ports_pull_connect.Goals as goal
 
 pub returns-in_err-message-clause-message : goal.returns-in_err-message-clause-message
@@ -76,3 +80,10 @@ returns-clause-step c = record {
       rw (← c.self.view_is, pulls.pulled (tables_of c.self.inside.procs c.self.inside.parts.items c.self.inside.ports c.self.inside.waits c.self.inside.names) c.self.inside.calls c.self.inside.made c.self.invariant c.args.queue there c.in_ok-message.message c.pull.new.self c.pull.ensures.table (c.pull.ensures.oldest_connect c.args.queue at))
       (pulls.pulled_room (tables_of c.self.inside.procs c.self.inside.parts.items c.self.inside.ports c.self.inside.waits c.self.inside.names) c.self.inside.calls c.self.inside.made c.self.invariant c.args.queue there (pulled_row (births_of c.self.inside.ports) c.args.queue c.pull.result) found (vec_capacity c.self.inside.parts - vec_len c.self.inside.parts));
 }
+
+pub returns-clause-capacity : goal.returns-clause-capacity
+returns-clause-capacity c =
+    let there = rw (← c.self.view_is) at c.requires in
+    rw (← c.self.view_is)
+    (capacities.of_ports (tables_of c.self.inside.procs c.self.inside.parts.items c.self.inside.ports c.self.inside.waits c.self.inside.names) (vec_capacity c.self.inside.parts - vec_len c.self.inside.parts) c.pull.new.self (ap (λ (s : PortTable). s.port_room + length s.ports) c.pull.ensures.table)
+    (ap (λ (s : PortTable). s.message_room + length s.messages) (pulls.pulled (tables_of c.self.inside.procs c.self.inside.parts.items c.self.inside.ports c.self.inside.waits c.self.inside.names) c.self.inside.calls c.self.inside.made c.self.invariant c.args.queue there c.in_ok-message.message c.pull.new.self c.pull.ensures.table (c.pull.ensures.oldest_connect c.args.queue (sym c.in_ok-message.ensures))) ∙ capacities.first_less (ports.is_connect_in c.args.queue) c.self.inside.ports.message_room c.self.inside.ports.messages c.in_ok-message.message (sym c.in_ok-message.ensures)))

@@ -1,4 +1,4 @@
-use Rattle.lpc_world.specs.Shown.{birth_of, births_of, shown_message, shown_port}
+use Rattle.lpc_world.specs.Shown.{birth_of, births_of, shown_port}
 use Rattle.std.proofs.lemmas.List.{length-map}
 use Rattle.std.proofs.Common.{refl, arith}
 use Rattle.lpc_world.specs.Shown.{tables_of}
@@ -24,7 +24,7 @@ returns-clause-most c =
     let rows = length-map c.self.inside.ports.ports (shown_port (birth_of (births_of c.self.inside.ports))) in
     rw (← c.self.view_is) (omega (arith, rows, c.reserve.ensures.most_ports))
 
-pub returns-clause-most_messages : goal.returns-clause-most_messages
-returns-clause-most_messages c =
-    let rows = length-map c.self.inside.ports.messages (shown_message (birth_of (births_of c.self.inside.ports))) in
-    rw (← c.self.view_is, c.reserve.ensures.kept) (omega (arith, rows, c.reserve.ensures.most_messages))
+pub returns-clause-others : goal.returns-clause-others
+returns-clause-others c =
+    let same = c.reserve.ensures.enough_messages (omega arith) in
+    rw (← c.self.view_is, c.reserve.ensures.kept, same) refl

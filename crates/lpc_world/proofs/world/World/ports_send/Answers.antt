@@ -9,6 +9,9 @@ use Rattle.lpc_world.proofs.Changes as changes
 use Rattle.lpc_world.proofs.Lawful as lawful
 use Rattle.lpc_world.proofs.Rooms as rooms
 use Rattle.lpc_world.proofs.Steps as steps
+use Rattle.std.proofs.Common.{◌∙◌, length, vec_len, vec_capacity}
+use Rattle.lpc_ports.specs.Table.{PortTable}
+use Rattle.lpc_world.proofs.Capacities as capacities
 use Rattle.lpc_world.proofs.world.World.ports_send.Goals as goal
 
 pub send-requires-clause-room : goal.send-requires-clause-room
@@ -38,3 +41,11 @@ returns-clause-room c =
 
 pub returns-clause-made : goal.returns-clause-made
 returns-clause-made c = rw (← c.self.view_is, c.send.ensures.table) (omega arith)
+
+pub returns-clause-capacity : goal.returns-clause-capacity
+returns-clause-capacity c =
+    let there = rw (← c.self.view_is) at c.requires in
+    let place = steps.message_place (tables_of c.self.inside.procs c.self.inside.parts.items c.self.inside.ports c.self.inside.waits c.self.inside.names) c.self.inside.calls c.self.inside.made c.self.invariant (sent_row (births_of c.self.inside.ports) c.args.queue c.args.sender c.args.context c.args.bytes.now) there.request there.closing there.other in
+    rw (← c.self.view_is)
+    (capacities.of_ports (tables_of c.self.inside.procs c.self.inside.parts.items c.self.inside.ports c.self.inside.waits c.self.inside.names) (vec_capacity c.self.inside.parts - vec_len c.self.inside.parts) c.send.new.self (ap (λ (s : PortTable). s.port_room + length s.ports) c.send.ensures.table)
+    (ap (λ (s : PortTable). s.message_room + length s.messages) c.send.ensures.table ∙ capacities.one_more c.self.inside.ports.message_room c.self.inside.ports.messages (c.send.result, ports.queued c.args.queue c.args.sender c.args.context c.args.bytes.now) place))

@@ -10,6 +10,9 @@ use Rattle.lpc_world.proofs.Promised as promised
 use Rattle.lpc_world.proofs.Rooms as rooms
 use Rattle.lpc_world.proofs.Steps as steps
 use Rattle.lpc_world.proofs.Tables as tables
+use Rattle.std.proofs.Common.{length, vec_len, vec_capacity}
+use Rattle.lpc_waits.specs.Table.{WaitTable}
+use Rattle.lpc_world.proofs.Capacities as capacities
 use Rattle.lpc_world.proofs.world.World.waits_add.Goals as goal
 
 pub add-requires-clause-alone : goal.add-requires-clause-alone
@@ -41,3 +44,9 @@ returns-clause-step c = record {
       let place = steps.more_alive (tables_of c.self.inside.procs c.self.inside.parts.items c.self.inside.ports c.self.inside.waits c.self.inside.names) c.self.inside.calls c.self.inside.made c.self.invariant c.args.tid (rw (← c.self.view_is) at c.requires.live) (rw (← c.self.view_is) at c.requires.ready) in
       rw (← c.self.view_is, c.add.ensures.table, ap (λ (v : World). v.waits) (changes.awaits (tables_of c.self.inside.procs c.self.inside.parts.items c.self.inside.ports c.self.inside.waits c.self.inside.names) c.self.invariant.named x (c.self.inside.waits.spare - 1) (c.self.inside.waits.made + 1))) (rooms.room_wait _ _ _ _ _ _ (rows_by (tables_of c.self.inside.procs c.self.inside.parts.items c.self.inside.ports c.self.inside.waits c.self.inside.names)) _ (shown_wait (birth_of (births_of c.self.inside.ports)) x) place);
 }
+
+pub returns-clause-capacity : goal.returns-clause-capacity
+returns-clause-capacity c =
+    let place = steps.wait_place (tables_of c.self.inside.procs c.self.inside.parts.items c.self.inside.ports c.self.inside.waits c.self.inside.names) c.self.inside.calls c.self.inside.made c.self.invariant c.args.tid (rw (← c.self.view_is) at c.requires.live) (rw (← c.self.view_is) at c.requires.ready) in
+    rw (← c.self.view_is)
+    (capacities.of_waits (tables_of c.self.inside.procs c.self.inside.parts.items c.self.inside.ports c.self.inside.waits c.self.inside.names) (vec_capacity c.self.inside.parts - vec_len c.self.inside.parts) c.add.new.self (ap (λ (s : WaitTable). s.spare + length s.rows) c.add.ensures.table ∙ capacities.one_more c.self.inside.waits.spare c.self.inside.waits.rows (record { thread = c.args.tid; wait = c.args.wait; message = record { items = [] }; accepted = None }) place))

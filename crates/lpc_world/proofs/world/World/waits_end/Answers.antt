@@ -15,6 +15,7 @@ use Rattle.lpc_world.proofs.Rooms as rooms
 use Rattle.lpc_world.proofs.Steps as steps
 use Rattle.lpc_base.proofs.RowWords.{has_none-without}
 use Rattle.lpc_base.proofs.RowMaps.{some-map}
+use Rattle.lpc_world.proofs.Capacities as capacities
 use Rattle.lpc_world.proofs.world.World.waits_end.Goals as goal
 
 pub invariant_of-self : goal.invariant_of-self
@@ -44,3 +45,8 @@ returns-clause-step c = record {
       rw (← c.self.view_is, steps.end_is (tables_of c.self.inside.procs c.self.inside.parts.items c.self.inside.ports c.self.inside.waits c.self.inside.names) c.self.inside.calls c.self.inside.made c.self.invariant c.args.tid c.end.new.self c.end.result c.end.ensures.value c.end.ensures.rows c.end.ensures.spare c.end.ensures.made, ap (λ (v : World). v.waits) (changes.ends (tables_of c.self.inside.procs c.self.inside.parts.items c.self.inside.ports c.self.inside.waits c.self.inside.names) c.self.invariant.named c.args.tid spare c.self.inside.waits.made), ← steps.has_wait (tables_of c.self.inside.procs c.self.inside.parts.items c.self.inside.ports c.self.inside.waits c.self.inside.names) c.self.inside.calls c.self.inside.made c.self.invariant c.args.tid)
       (rooms.room_end _ _ _ _ _ _ (rows_by (tables_of c.self.inside.procs c.self.inside.parts.items c.self.inside.ports c.self.inside.waits c.self.inside.names)) _ c.args.tid c.self.invariant.lawful.single);
 }
+
+pub returns-clause-capacity : goal.returns-clause-capacity
+returns-clause-capacity c =
+    rw (← c.self.view_is)
+    (capacities.of_waits (tables_of c.self.inside.procs c.self.inside.parts.items c.self.inside.ports c.self.inside.waits c.self.inside.names) (vec_capacity c.self.inside.parts - vec_len c.self.inside.parts) c.end.new.self (capacities.ended (tables_of c.self.inside.procs c.self.inside.parts.items c.self.inside.ports c.self.inside.waits c.self.inside.names) c.self.inside.calls c.self.inside.made c.self.invariant c.args.tid c.end.new.self (steps.end_is (tables_of c.self.inside.procs c.self.inside.parts.items c.self.inside.ports c.self.inside.waits c.self.inside.names) c.self.inside.calls c.self.inside.made c.self.invariant c.args.tid c.end.new.self c.end.result c.end.ensures.value c.end.ensures.rows c.end.ensures.spare c.end.ensures.made)))
