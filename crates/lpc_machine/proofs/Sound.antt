@@ -20,8 +20,8 @@ use Rattle.lpc_model.proofs.Sweeping.{step_swept}
 use Rattle.lpc_model.proofs.StandingCalls.{names_line}
 use Rattle.lpc_model.proofs.StepsInTurn.{after-append}
 use Rattle.lpc_world.specs.Does.{Left, left_by}
-use Rattle.lpc_world.specs.Held.{CanSweep}
 use Rattle.lpc_world.specs.Kept.{Kept, Same}
+use Rattle.lpc_sweep.specs.Sweeping.{CanSweep}
 use Rattle.lpc_machine.specs.Settled.{IsSettled}
 
 -- behind the steps of a line the world can be swept, and need not be where no row went

@@ -41,6 +41,7 @@ use lpc_request::{
     nt_register_thread_terminate_port, nt_reply_port, nt_reply_wait_receive_port, nt_request_port,
     nt_request_wait_reply_port,
 };
+use lpc_sweep::sweep;
 use lpc_world::{Condition, World};
 use std::alloc::Global;
 use std::marker::Model;
@@ -283,7 +284,7 @@ impl Machine {
         ensures free { takes_memory (line_of line.now) ≡ false → IsOk result }
     {
         take(&mut self.world, line, out)?;
-        self.world.sweep();
+        sweep(&mut self.world);
         Ok(())
     }
 }

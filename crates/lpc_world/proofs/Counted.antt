@@ -1,12 +1,13 @@
 -- How many rows count for an object: the tables count what the definitions count.
-use Rattle.std.proofs.Common.{◌≡◌, ◌≤◌, ℕ, List, [], ◌∷◌, ◌++◌, Bool, true, length, map, refl, ap, sym, subst, ◌∙◌, arith}
+use Rattle.std.proofs.Common.{◌≡◌, ◌≤◌, ℕ, List, [], ◌∷◌, ◌++◌, Bool, true, false, length, map, not, refl, ap, sym, subst, ◌∙◌, arith}
 use Rattle.std.specs.Prelude.{◌&&◌, ◌==◌}
 use Rattle.std.proofs.lemmas.List.{length-map, map-append}
 use Rattle.lpc_base.specs.declared.birth.Birth.{Birth}
-use Rattle.lpc_base.specs.Rows.{count, each, every}
+use Rattle.lpc_base.specs.Rows.{count, each, every, has}
 use Rattle.lpc_base.proofs.RowMaps.{count-map, every-map}
 use Rattle.lpc_base.proofs.RowWords.{count-bound, every-append, every-back, every-front}
 use Rattle.lpc_handles.specs.declared.table.Row.{Row}
+use Rattle.lpc_model.specs.World.{HandleRow, ObjectName, World}
 use Rattle.lpc_model.specs.Found as found
 use Rattle.lpc_ports.specs.Table as ports
 use Rattle.lpc_ports.specs.declared.Port.{Port}
@@ -16,10 +17,12 @@ use Rattle.lpc_slots.specs.declared.Key.{Key}
 use Rattle.lpc_waits.specs.Table as waits
 use Rattle.lpc_waits.specs.declared.WaitRow.{WaitRow}
 use Rattle.lpc_world.specs.Kept.{is_alive, rows_by}
-use Rattle.lpc_model.specs.Found.{is_born_process}
+use Rattle.lpc_model.specs.Found.{all_handles, handle_count, is_born_process, same_object}
+use Rattle.lpc_model.proofs.Handles.{has-each}
+use Rattle.lpc_world.specs.Held.{has_handles}
 use Rattle.lpc_world.specs.Lawful.{AreLawful}
 use Rattle.lpc_world.specs.Names.{name_of, stands}
-use Rattle.lpc_homes.specs.Parts.{all_rows, names_it}
+use Rattle.lpc_homes.specs.Parts.{all_rows, has_name_of, names_it}
 use Rattle.lpc_world.specs.Shown.{Tables, AreNamed, Births, all_pass, birth_of, births_of, message_refs, name_by, object_stands, part_refs, port_refs, ports_in, shown_handle, shown_message, shown_part, shown_port, shown_process, shown_thread, shown_wait, wait_refs}
 use Rattle.lpc_homes.specs.declared.object.Object.{Object}
 use Rattle.lpc_homes.specs.declared.parts.Part.{Part}
@@ -28,6 +31,19 @@ use Rattle.lpc_world.proofs.Lawful.{waits-fit}
 use Rattle.lpc_world.proofs.Readings as readings
 use Rattle.lpc_world.proofs.Readings.{count-shown, has-shown}
 use Rattle.lpc_world.proofs.Unheld.{the_same}
+
+-- Some rows count where one passes
+pub zero_has : {X : Type 0} (p : X → Bool) (xs : List X) → not (count p xs == 0) ≡ has p xs
+zero_has p [] = refl
+zero_has p (x ∷ xs) = at (p x) refl (zero_has p xs)
+  where
+    at : (c : Bool) → p x ≡ c → not (count p xs == 0) ≡ has p xs → not (count p (x ∷ xs) == 0) ≡ has p (x ∷ xs)
+    at true is later = grind arith
+    at false is later = grind (arith, later)
+
+-- an object has a handle where one of a process's names it
+pub named-counted : (w : World) (o : ObjectName) → not (handle_count w o == 0) ≡ has (λ t. has (λ h. same_object h.object o) t.rows) w.handles
+named-counted w o = zero_has (λ (h : HandleRow). same_object h.object o) (all_handles w) ∙ has-each (λ (h : HandleRow). same_object h.object o) (λ t. t.rows) w.handles
 
 -- Handles that name an object
 module _ (it : Tables) (is : AreNamed (births_of it.ports) it) (o : Object) (there : object_stands (births_of it.ports) o ≡ true) where
@@ -52,6 +68,9 @@ module _ (it : Tables) (is : AreNamed (births_of it.ports) it) (o : Object) (the
   handles_counted =
       ap (count (λ h. found.same_object h.object (name_by g o))) (rows_shown it.parts)
       ∙ count-map (shown_handle g) (λ row. stand row.1.object) (names_it o) (λ h. found.same_object h.object (name_by g o)) (readings.named_same it is o there) (all_rows it.parts) (rows_stand it.parts is.refs.in_handles)
+
+  pub handles_named : has_handles (rows_by it) (name_by g o) ≡ has (has_name_of o) it.parts
+  handles_named = named-counted (rows_by it) (name_by g o) ∙ readings.named_is it is o there
 
 -- Rows that count for a port
 module _ (it : Tables) (is : AreNamed (births_of it.ports) it) (key : Key) (there : stands (births_of it.ports).ports key ≡ true) where

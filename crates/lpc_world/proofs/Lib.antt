@@ -29,9 +29,7 @@ pub mod Pulls
 pub mod Unheld
 pub mod Frees
 pub mod ReceivesAt
-pub mod HeldPorts
 pub mod Vacated
-pub mod HeldLives
 pub mod Lives
 pub mod Withdrawn
 pub mod Counted

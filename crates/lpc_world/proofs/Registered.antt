@@ -1,11 +1,8 @@
 -- The ports that threads registered: what each change of threads and ports leaves of them.
 use Rattle.std.proofs.Common.{◌≡◌, ◌+◌, ◌≤◌, ◌∙◌, ℕ, List, [], ◌∷◌, ◌++◌, Bool, true, false, cond, length, map, refl, ap, sym, subst, arith}
-use Rattle.std.specs.Prelude.{◌||◌, ◌==◌}
-use Rattle.std.proofs.lemmas.Bool.{eqb-true}
 use Rattle.std.proofs.lemmas.List.{length-append, length-map, map-append}
 use Rattle.lpc_base.specs.Rows.{change, count, each, every, has, when, without}
 use Rattle.lpc_base.proofs.RowWords.{count-append, count-bound, every-more}
-use Rattle.lpc_model.specs.Deaths.{has_living_registrations}
 use Rattle.lpc_model.specs.World.{Birth, ThreadRow}
 use Rattle.lpc_model.specs.Found.{is_thread, registered_by, same_birth}
 use Rattle.lpc_model.proofs.Rows.{has-append}
@@ -76,22 +73,6 @@ module _ (n m : Births) (key : Key) (keeps : KeepsOthers key n.ports m.ports) wh
   registered-less (t ∷ ts) all off =
       let parts = has-append (same_birth b) (shown_thread t).registrations (each registrations (map shown_thread ts)) in
       grind (arith, parts, unders-other t.registered.items, registered-less ts)
-
--- Where threads that have ended have none, they are those of live threads
-none-registered : (bs : List Birth) → (length bs == 0) ≡ true → bs ≡ []
-none-registered [] none = refl
-none-registered (b ∷ bs) none = absurd (omega (arith, eqb-true (length (b ∷ bs)) 0 none))
-
-pub registered-live : (ts : List ThreadRow) → every has_living_registrations ts ≡ true → each registrations ts ≡ each registered_by ts
-registered-live [] all = refl
-registered-live (t ∷ ts) all =
-    let one : t.registrations ≡ when t.live t.registrations = at t.live t.registrations (grind arith) in
-    let rest = registered-live ts (grind arith) in
-    λ i. one i ++ rest i
-  where
-    at : (live : Bool) (bs : List Birth) → (live || (length bs == 0)) ≡ true → bs ≡ when live bs
-    at true bs living = refl
-    at false bs living = none-registered bs living
 
 -- the registrations of live threads are no more than all
 pub live-few : (p : Birth → Bool) (ts : List ThreadRow) → count p (each registered_by ts) ≤ length (each registrations ts)

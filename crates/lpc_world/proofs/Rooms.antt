@@ -172,3 +172,26 @@ module _ (a b c d e g : ℕ) (w : World) (hs : List HandleRoom) where
 -- one place less of each of two rooms
 pub min_less : (a b less left : ℕ) → 0 < min a b → less ≡ a - 1 → left + 1 ≡ b → min a b ≤ min less left + 1
 min_less a b less left some one two = rw one (omega (arith, two, some))
+
+-- no room is lost where nothing changes, nor by one change behind another
+pub roomy_same : (a : Room) → Roomy a a
+roomy_same a = record {
+  for_processes = omega arith;
+  for_threads = omega arith;
+  for_waits = omega arith;
+  for_messages = omega arith;
+  for_ports = omega arith;
+  for_names = omega arith;
+  for_handles = λ pid. omega arith;
+}
+
+pub roomy_then : (a b c : Room) → Roomy a b → Roomy b c → Roomy a c
+roomy_then a b c one two = record {
+  for_processes = omega (arith, one.for_processes, two.for_processes);
+  for_threads = omega (arith, one.for_threads, two.for_threads);
+  for_waits = omega (arith, one.for_waits, two.for_waits);
+  for_messages = omega (arith, one.for_messages, two.for_messages);
+  for_ports = omega (arith, one.for_ports, two.for_ports);
+  for_names = omega (arith, one.for_names, two.for_names);
+  for_handles = λ pid. omega (arith, one.for_handles pid, two.for_handles pid);
+}

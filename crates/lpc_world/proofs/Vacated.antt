@@ -17,7 +17,8 @@ use Rattle.lpc_world.specs.Shown.{Tables, births_of, shown_process, shown_thread
 use Rattle.lpc_world.proofs.Born as born
 use Rattle.lpc_world.proofs.Changes as changes
 use Rattle.lpc_world.proofs.Drawn as drawn
-use Rattle.lpc_world.proofs.HeldPorts.{zero_has}
+use Rattle.lpc_world.proofs.Counted.{zero_has}
+use Rattle.lpc_world.proofs.Readings.{has-shown}
 use Rattle.lpc_world.proofs.Registered.{registered-less_threads}
 use Rattle.lpc_world.proofs.Rooms.{room}
 
@@ -90,6 +91,10 @@ lawful-vacated w calls made a c b empty h = record {
 module _ (it : Tables) (calls made : ℕ) (is : AreLawful it calls made) where
   abbrev rows : World
   rows = rows_by it
+
+  -- what the table wants of a thread that goes
+  pub no-life : (b : Birth) → has_holders rows (thread_name b) ≡ false → has (procs.is_life b) it.procs.threads ≡ false
+  no-life b none = sym (has-shown shown_thread (procs.is_life b) (is_life b) (λ t. refl) it.procs.threads) ∙ (sym (zero_has (is_life b) rows.threads) ∙ none)
 
   pub thread-shown : (b : Birth) (left : ℕ) → rows_by (record it { procs = procs.without_thread_born it.procs b left }) ≡ record rows { threads = without (is_born_thread b) rows.threads }
   thread-shown b left = rw (without-map shown_thread (λ _. true) (procs.is_thread_born b) (is_born_thread b) (λ t _. refl) it.procs.threads (changes.all_true it is.named it.procs.threads)) refl

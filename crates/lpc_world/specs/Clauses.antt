@@ -1,5 +1,5 @@
 -- Words of the world's clauses: what stands at a key, what a call leaves of the rows, and the room that it takes.
-use Rattle.std.specs.Prelude.{◌≡◌, ℕ, ◌+◌, ◌<◌, ◌≤◌, Bool, false, true, List, [], map, Option, option_map, is_some, slice_get, IfErr, MatchOption, None, Some, MatchResult, Result, Ok, Err, length}
+use Rattle.std.specs.Prelude.{◌≡◌, ℕ, ◌+◌, ◌<◌, ◌≤◌, Bool, false, true, List, [], map, Option, option_map, is_some, IfErr, MatchOption, None, Some, MatchResult, Result, Ok, Err, length}
 use Rattle.lpc_base.specs.declared.birth.Birth.{Birth}
 use Rattle.lpc_base.specs.declared.limits.TheConstants.{HANDLE_LIMIT}
 use Rattle.lpc_base.specs.declared.port_kind.PortKind.{PortKind}
@@ -8,9 +8,8 @@ use Rattle.lpc_base.specs.Rows.{change, first, has, without}
 use Rattle.lpc_handles.specs.declared.table.Row.{Row}
 use Rattle.lpc_model.specs.Basics.{Basic, basic, AddsHandle, Enters, Joins, Makes}
 use Rattle.lpc_model.specs.Entering.{takes, takes_from}
-use Rattle.lpc_model.specs.Found.{handles_of, is_port, is_process, is_queued, is_queued_connect, is_table, is_thread, pair_of, port_name, port_row, waits_as}
+use Rattle.lpc_model.specs.Found.{handles_of, is_port, is_process, is_queued, is_queued_connect, is_table, is_thread, pair_of, port_row, waits_as}
 use Rattle.lpc_model.specs.Message.{asks}
-use Rattle.lpc_model.specs.Sweep.{is_unheld}
 use Rattle.lpc_model.specs.Tests.{handle_load, handle_row, next_birth}
 use Rattle.lpc_model.specs.World as model
 use Rattle.lpc_model.specs.World.{ObjectName, World}
@@ -58,28 +57,9 @@ row_at w key = port_row w.rows (birth_at w key)
 abbrev pub some_birth : Kept → Option Key → Option Birth
 some_birth w key = option_map (birth_at w) key
 
--- a port's row stands
-abbrev pub has_port : Kept → Key → Bool
-has_port w key = has (is_port (birth_at w key)) w.rows.ports
-
--- the birth of the port at a place, in the order of making
-abbrev pub birth_in_place : Kept → ℕ → Option Birth
-birth_in_place w place = option_map (λ p. p.birth) (slice_get w.rows.ports place)
-
--- the birth of the thread, and of the process, at a place
-abbrev pub thread_in_place : Kept → ℕ → Option Birth
-thread_in_place w place = option_map (λ t. t.birth) (slice_get w.rows.threads place)
-
-abbrev pub process_in_place : Kept → ℕ → Option Birth
-process_in_place w place = option_map (λ p. p.birth) (slice_get w.rows.processes place)
-
 -- a thread as it is told to who knows its birth
 abbrev pub born_thread : model.ThreadRow → BornThread
 born_thread t = record { number = t.number; process = t.process; live = t.live }
-
--- no row names the port
-abbrev pub is_unheld_at : Kept → Key → Bool
-is_unheld_at w key = is_unheld w.rows (port_name (birth_at w key))
 
 -- the port's other end
 abbrev pub pair_at : Kept → Key → Option Birth

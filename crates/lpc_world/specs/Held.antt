@@ -1,17 +1,10 @@
--- What holds a port in the tables, and when the rows that no row names can go.
-use Rattle.std.specs.Prelude.{◌≡◌, ◌==◌, ◌||◌, ◌≤◌, Bool, not, true}
-use Rattle.lpc_base.specs.Rows.{every, has}
+-- What names a port in the tables, and what counts for an object.
+use Rattle.std.specs.Prelude.{◌==◌, ◌||◌, Bool, not}
+use Rattle.lpc_base.specs.Rows.{has}
 use Rattle.lpc_names.specs.Binding.{has_name}
 use Rattle.lpc_model.specs.World.{Birth, MessageRow, ObjectName, PortRow, WaitRow, World}
-use Rattle.lpc_model.specs.Found.{holders, is_connected_to, is_made_on, is_open, is_paired_to, is_queued, is_sent_on, process_name, same_birth, thread_name}
-use Rattle.lpc_model.specs.Deaths.{HasLivingRegistrations}
-use Rattle.lpc_model.specs.Linked.{IsLinked}
-use Rattle.lpc_model.specs.OpenQueues.{HasOpenQueues}
-use Rattle.lpc_model.specs.SoundWaits.{IsSoundWorld}
-use Rattle.lpc_model.specs.Standing.{NamesWhatStands}
-use Rattle.lpc_world.specs.Kept.{Kept, Roomy, registered_ports}
-use Rattle.lpc_model.specs.Basics.{world_after}
-use Rattle.lpc_model.specs.Sweep.{is_unheld, sweep}
+use Rattle.lpc_model.specs.Found.{handle_count, holders, is_connected_to, is_made_on, is_open, is_paired_to, is_queued, is_sent_on, same_birth}
+use Rattle.lpc_world.specs.Kept.{registered_ports}
 
 -- a port has this one as its other end or as its connection port
 abbrev pub is_joined_to : Birth → PortRow → Bool
@@ -41,30 +34,10 @@ is_registered_port w b = has (same_birth b) (registered_ports w)
 abbrev pub is_named : World → Birth → Bool
 is_named w b = is_named_by_row w b || is_registered_port w b
 
+-- a handle names an object
+abbrev pub has_handles : World → ObjectName → Bool
+has_handles w o = not (handle_count w o == 0)
+
 -- a row but handles counts for an object
 abbrev pub has_holders : World → ObjectName → Bool
 has_holders w o = not (holders w o.kind o.birth == 0)
-
--- some row counts for each thread
-abbrev pub HasHeldThreads : World → Type 0
-HasHeldThreads w = every (λ t. not (is_unheld w (thread_name t.birth))) w.threads ≡ true
-
--- some row counts for each process
-abbrev pub HasHeldProcesses : World → Type 0
-HasHeldProcesses w = every (λ p. not (is_unheld w (process_name p.birth))) w.processes ≡ true
-
--- what the lines keep, so that each object that no row counts for can go
-pub record CanSweep (w : World) : Type 0 where
-  pub sound : IsSoundWorld w
-  pub linked : IsLinked w
-  pub queues : HasOpenQueues w
-  pub standing : NamesWhatStands w
-  pub registrations : HasLivingRegistrations w
-
--- Rows went ahead that the sweep takes away: it can still be done, and leaves the same world. Their room is spare.
-pub record SweepsAhead (old new : Kept) : Type 0 where
-  pub can : CanSweep new.rows
-  pub leaves : world_after new.rows (sweep new.rows) ≡ world_after old.rows (sweep old.rows)
-  pub calls : new.calls ≡ old.calls
-  pub made : new.made ≤ old.made
-  pub room : Roomy old.room new.room

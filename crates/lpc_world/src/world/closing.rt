@@ -6,6 +6,7 @@ ghost use Rattle.lpc_model.specs.Found.{all_registrations, handle_count, holders
 ghost use Rattle.lpc_model.specs.declared.entry.ObjectKind.TheVariants as kind;
 ghost use Rattle.lpc_world.specs.Closing.{HasMutualPairs};
 ghost use Rattle.lpc_world.specs.Capacity.{but_names};
+ghost use Rattle.lpc_world.specs.Held.{has_handles};
 ghost use Rattle.lpc_world.specs.Kept.{IsStep, Roomy, owed_rows};
 ghost use Rattle.lpc_world.specs.Names.{stands};
 ghost use Rattle.lpc_world.specs.Shown.{object_stands};
@@ -66,6 +67,14 @@ impl World {
     {
         self.loose = true;
         parts::close_handle(&mut self.parts, pid, value);
+    }
+
+    /// A handle names an object.
+    pub fn has_handles(&self, object: Object) -> bool
+        requires { object_stands self.now.births object ≡ true }
+        ensures { result ≡ has_handles self.now.rows (name_at self.now object) }
+    {
+        parts::names(&self.parts, object)
     }
 
     /// How many handles of all processes name an object.

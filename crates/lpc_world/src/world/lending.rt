@@ -1,7 +1,9 @@
-// The tables as they are lent for reading: each with the rows that it stands for.
+// The tables as they are lent for reading: each with the rows that it stands for, and what the world keeps of them.
 ghost use Rattle.std.specs.Prelude.{◌≡◌, map, true};
 ghost use Rattle.lpc_base.specs.Rows.{has};
 ghost use Rattle.lpc_model.specs.Found.{handles_of, is_table};
+ghost use Rattle.lpc_world.specs.Lawful.{AreBornIn};
+ghost use Rattle.lpc_world.specs.Names.{are_apart};
 ghost use Rattle.lpc_world.specs.Shown.{births_of, shown_binding, shown_handle, shown_message, shown_port, shown_process, shown_thread, shown_used, shown_wait};
 ghost use Rattle.lpc_world.specs.Clauses.{shown_in};
 
@@ -22,6 +24,7 @@ impl World {
         ensures used_processes { self.now.rows.used_processes ≡ result.now.used_processes }
         ensures used_threads { self.now.rows.used_threads
             ≡ map shown_used result.now.used_threads }
+        ensures born { AreBornIn self.now.rows }
     {
         &self.procs
     }
@@ -29,6 +32,7 @@ impl World {
     /// Ports, and the messages in their queues.
     pub fn ports(&self) -> &Ports
         ensures births { self.now.births ≡ births_of result.now }
+        ensures apart { are_apart self.now.births.ports ≡ true }
         ensures ports { self.now.rows.ports ≡ shown_in self.now shown_port result.now.ports }
         ensures messages { self.now.rows.messages
             ≡ shown_in self.now shown_message result.now.messages }

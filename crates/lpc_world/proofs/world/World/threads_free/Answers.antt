@@ -3,7 +3,6 @@ use Rattle.lpc_model.specs.World.{World}
 use Rattle.lpc_world.specs.Kept.{registered_ports, rows_by}
 use Rattle.lpc_model.specs.Found.{is_born_thread}
 use Rattle.lpc_world.specs.Shown.{tables_of}
-use Rattle.lpc_world.proofs.HeldLives as lives
 use Rattle.lpc_world.proofs.Registered.{registered-less_threads}
 use Rattle.lpc_world.proofs.Vacated as vacated
 use Rattle.lpc_world.proofs.world.World.threads_free.Goals as goal
@@ -11,7 +10,7 @@ use Rattle.lpc_world.proofs.world.World.threads_free.Goals as goal
 pub free_thread_born-requires : goal.free_thread_born-requires
 free_thread_born-requires c =
     let there = rw (← c.self.view_is) at c.requires in
-    record { ended = lives.no-life (tables_of c.self.inside.procs c.self.inside.parts.items c.self.inside.ports c.self.inside.waits c.self.inside.names) c.self.inside.calls c.self.inside.made c.self.invariant c.args.birth there.ended }
+    record { ended = vacated.no-life (tables_of c.self.inside.procs c.self.inside.parts.items c.self.inside.ports c.self.inside.waits c.self.inside.names) c.self.inside.calls c.self.inside.made c.self.invariant c.args.birth there.ended }
 
 pub invariant_of-self : goal.invariant_of-self
 invariant_of-self c =

@@ -1,0 +1,50 @@
+-- Rows go ahead of the sweep, one after the other, and the sweep still leaves the same.
+use Rattle.std.proofs.Common.{◌≡◌, ◌≤◌, not, refl, ap, sym, subst, ◌∙◌, true, arith}
+use Rattle.std.specs.Prelude.{◌==◌}
+use Rattle.lpc_base.specs.declared.birth.Birth.{Birth}
+use Rattle.lpc_base.proofs.RowWords.{every-more}
+use Rattle.lpc_model.specs.World.{ObjectName, World}
+use Rattle.lpc_model.specs.Basics.{Frees, basic, world_after}
+use Rattle.lpc_model.specs.Found.{process_name, thread_name}
+use Rattle.lpc_model.specs.Sweep.{is_unheld, sweep}
+use Rattle.lpc_model.proofs.FreedFirst.{process_first, thread_first}
+use Rattle.lpc_model.proofs.SweptLives.{same-thread}
+use Rattle.lpc_world.specs.Kept.{Kept, Roomy}
+use Rattle.lpc_world.proofs.Rooms.{roomy_same, roomy_then}
+use Rattle.lpc_sweep.specs.Sweeping.{CanSweep, HasHeldThreads, SweepsAhead}
+use Rattle.lpc_sweep.proofs.HeldPorts.{can_freed}
+
+pub ahead_same : (w : Kept) → CanSweep w.rows → SweepsAhead w w
+ahead_same w can = record { can = can; leaves = refl; calls = refl; made = omega arith; room = roomy_same w.room }
+
+pub ahead_then : (u v w : Kept) → SweepsAhead u v → SweepsAhead v w → SweepsAhead u w
+ahead_then u v w one two = record {
+  can = two.can;
+  leaves = two.leaves ∙ one.leaves;
+  calls = two.calls ∙ one.calls;
+  made = omega (arith, one.made, two.made);
+  room = roomy_then _ _ _ one.room two.room;
+}
+
+-- what no row counts for goes
+module _ (u v : Kept) (b : Birth) (calls : v.calls ≡ u.calls) (made : v.made ≤ u.made) (room : Roomy u.room v.room) (can : CanSweep u.rows) where
+  ahead-by : (o : ObjectName) → v.rows ≡ basic u.rows (Frees o) → is_unheld u.rows o ≡ true → world_after (basic u.rows (Frees o)) (sweep (basic u.rows (Frees o))) ≡ world_after u.rows (sweep u.rows) → SweepsAhead u v
+  ahead-by o went none same = record {
+    can = subst CanSweep (sym went) (can_freed u.rows o can none);
+    leaves = ap (λ (w : World). world_after w (sweep w)) went ∙ same;
+    calls = calls;
+    made = made;
+    room = room;
+  }
+
+  pub thread-ahead : v.rows ≡ basic u.rows (Frees (thread_name b)) → is_unheld u.rows (thread_name b) ≡ true → SweepsAhead u v
+  thread-ahead went none = ahead-by (thread_name b) went none (thread_first u.rows b none)
+
+  pub process-ahead : v.rows ≡ basic u.rows (Frees (process_name b)) → is_unheld u.rows (process_name b) ≡ true → SweepsAhead u v
+  process-ahead went none = ahead-by (process_name b) went none (process_first u.rows b none)
+
+-- threads that are held stay so where a process goes
+pub threads-held : (w : World) (b : Birth) → is_unheld w (process_name b) ≡ true → HasHeldThreads w → HasHeldThreads (basic w (Frees (process_name b)))
+threads-held w b none held =
+    let v = basic w (Frees (process_name b)) in
+    every-more (λ t. not (is_unheld w (thread_name t.birth))) (λ t. not (is_unheld v (thread_name t.birth))) (λ t is. ap (λ n. not (n == 0)) (same-thread w (process_name b) t.birth none) ∙ is) w.threads held

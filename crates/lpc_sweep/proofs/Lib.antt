@@ -1,0 +1,4 @@
+pub mod Ahead
+pub mod HeldLives
+pub mod HeldPorts
+pub mod Places

@@ -1,0 +1,44 @@
+use Rattle.std.proofs.Common.{ap, not, length, subst, sym, arith, ◌≡◌}
+use Rattle.lpc_model.specs.Basics.{Frees, basic}
+use Rattle.lpc_model.specs.Found.{is_born_process, process_name}
+use Rattle.lpc_model.specs.Sweep.{is_unheld}
+use Rattle.lpc_model.specs.World.{ProcessRow, World}
+use Rattle.lpc_sweep.specs.Sweeping.{HasHeldThreads}
+use Rattle.lpc_sweep.proofs.Ahead.{ahead_same, ahead_then, process-ahead, threads-held}
+use Rattle.lpc_sweep.proofs.Places.{length_less, none_left}
+use Rattle.lpc_sweep.proofs.freeing.free_processes.Goals as goal
+
+pub loop-freed-init : goal.loop-freed-init
+loop-freed-init c = record { ahead = ahead_same c.args.world.now c.requires.can; threads = c.requires.threads; fewer = omega arith }
+
+pub free-requires-clause-can : goal.free-requires-clause-can
+free-requires-clause-can c = c.loop-freed.invariant.ahead.can
+
+pub loop-freed-preserved : goal.loop-freed-preserved
+loop-freed-preserved c =
+    let w = c.loop-freed.world.rows in
+    let b = c.in-Some.birth in
+    let went : c.free.new.world.rows ≡ basic w (Frees (process_name b)) = c.free.ensures.rows in
+    let less = length_less (is_born_process b) w.processes c.in-Some.ensures.row in
+    record {
+      ahead = ahead_then _ _ _ c.loop-freed.invariant.ahead (process-ahead _ _ b c.free.ensures.calls c.free.ensures.made c.free.ensures.room c.loop-freed.invariant.ahead.can went c.in-Some.ensures.unheld);
+      threads = subst HasHeldThreads (sym went) (threads-held w b c.in-Some.ensures.unheld c.loop-freed.invariant.threads);
+      fewer = omega (arith, less, ap (λ (v : World). length v.processes) went, c.loop-freed.invariant.fewer);
+    }
+
+pub returns-in-None-clause-ahead : goal.returns-in-None-clause-ahead
+returns-in-None-clause-ahead c = c.loop-freed.invariant.ahead
+
+pub returns-in-None-clause-held : goal.returns-in-None-clause-held
+returns-in-None-clause-held c = record { threads = c.loop-freed.invariant.threads; processes = c.in-None.ensures.none }
+
+pub returns-clause-ahead : goal.returns-clause-ahead
+returns-clause-ahead c = c.loop-freed.invariant.ahead
+
+pub returns-clause-held : goal.returns-clause-held
+returns-clause-held c =
+    let w = c.loop-freed.world.rows in
+    record {
+      threads = c.loop-freed.invariant.threads;
+      processes = none_left (λ (p : ProcessRow). not (is_unheld w (process_name p.birth))) w.processes (omega (arith, c.loop-freed.invariant.fewer, c.loop-freed-test.false, c.process_count-freed-end.ensures));
+    }

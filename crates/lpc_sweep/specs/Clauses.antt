@@ -1,0 +1,28 @@
+-- Words of the sweep's clauses: a port at its key, and what stands in a place.
+use Rattle.std.specs.Prelude.{ℕ, Bool, Option, option_map, slice_get}
+use Rattle.lpc_base.specs.declared.birth.Birth.{Birth}
+use Rattle.lpc_base.specs.Rows.{has}
+use Rattle.lpc_model.specs.Found.{is_port, port_name}
+use Rattle.lpc_model.specs.Sweep.{is_unheld}
+use Rattle.lpc_slots.specs.declared.Key.{Key}
+use Rattle.lpc_world.specs.Clauses.{birth_at}
+use Rattle.lpc_world.specs.Kept.{Kept}
+
+-- a port's row stands
+abbrev pub has_port : Kept → Key → Bool
+has_port w key = has (is_port (birth_at w key)) w.rows.ports
+
+-- the birth of the port at a place, in the order of making
+abbrev pub birth_in_place : Kept → ℕ → Option Birth
+birth_in_place w place = option_map (λ p. p.birth) (slice_get w.rows.ports place)
+
+-- the birth of the thread, and of the process, at a place
+abbrev pub thread_in_place : Kept → ℕ → Option Birth
+thread_in_place w place = option_map (λ t. t.birth) (slice_get w.rows.threads place)
+
+abbrev pub process_in_place : Kept → ℕ → Option Birth
+process_in_place w place = option_map (λ p. p.birth) (slice_get w.rows.processes place)
+
+-- no row counts for the port
+abbrev pub is_unheld_at : Kept → Key → Bool
+is_unheld_at w key = is_unheld w.rows (port_name (birth_at w key))

@@ -1,0 +1,135 @@
+// The oldest row of each kind that no row counts for.
+ghost use Rattle.std.specs.Prelude.{◌≡◌, ◌<◌, true, IfNone, IfSome, Some, length, not};
+ghost use Rattle.lpc_base.specs.Rows.{has};
+ghost use Rattle.lpc_model.specs.Found.{is_born_process, is_born_thread, process_name, thread_name};
+ghost use Rattle.lpc_model.specs.Linked.{HasHeldPorts};
+ghost use Rattle.lpc_model.specs.Sweep.{is_unheld};
+ghost use Rattle.lpc_sweep.specs.Clauses.{birth_in_place, has_port, is_unheld_at, process_in_place, thread_in_place};
+ghost use Rattle.lpc_sweep.specs.Sweeping.{CanSweep, HasHeldProcesses, HasHeldThreads};
+ghost use Rattle.lpc_world.specs.Clauses.{birth_at, name_at};
+ghost use Rattle.lpc_world.specs.Held.{has_holders};
+ghost use Rattle.lpc_world.specs.Names.{stands};
+ghost use Rattle.lpc_world.specs.Shown.{object_stands};
+
+use lpc_base::Birth;
+use lpc_procs::Life;
+use lpc_slots::Key;
+use lpc_world::{Object, World};
+
+/// How many ports there are.
+pub fn port_count(world: &World) -> usize
+    ensures { result ≡ length world.now.rows.ports }
+{
+    world.ports().count()
+}
+
+/// The port at a place, in the order of making.
+fn port_key(world: &World, place: usize) -> Key
+    requires { place < length world.now.rows.ports }
+    ensures stands { stands world.now.births.ports result ≡ true }
+    ensures port { birth_in_place world.now place ≡ Some (birth_at world.now result) }
+{
+    world.ports().key_at(place)
+}
+
+/// A row counts for the port. The other end of a pair counts, so that of most ports the row alone tells it.
+fn is_held(world: &World, port: Key) -> bool
+    requires can { CanSweep world.now.rows }
+    requires stands { stands world.now.births.ports port ≡ true }
+    ensures { result ≡ not (is_unheld_at world.now port) }
+{
+    if let Some(_) = world.port(port).pair {
+        return true;
+    }
+    world.is_named(port)
+}
+
+/// The oldest port that no row holds: None exactly where each port is held.
+pub fn unheld_port(world: &World) -> Option<Key>
+    requires { CanSweep world.now.rows }
+    ensures none { IfNone result (HasHeldPorts world.now.rows) }
+    ensures stands { IfSome result (λ key. stands world.now.births.ports key ≡ true) }
+    ensures row { IfSome result (λ key. has_port world.now key ≡ true) }
+    ensures unheld { IfSome result (λ key. is_unheld_at world.now key ≡ true) }
+{
+    for place in 0..port_count(world) {
+        let port = port_key(world, place);
+        if !is_held(world, port) {
+            return Some(port);
+        }
+    }
+    None
+}
+
+/// A process or thread has a handle, or is held by a live thread. No handle is asked for where one lives.
+fn is_life_held(world: &World, object: Object, live: bool) -> bool
+    requires stands { object_stands world.now.births object ≡ true }
+    requires live { live ≡ has_holders world.now.rows (name_at world.now object) }
+    ensures { result ≡ not (is_unheld world.now.rows (name_at world.now object)) }
+{
+    live || world.has_handles(object)
+}
+
+/// How many threads have a row.
+pub fn thread_count(world: &World) -> usize
+    ensures { result ≡ length world.now.rows.threads }
+{
+    world.procs().threads()
+}
+
+/// The thread at a place, in the order of making, and whether a live thread counts for it, which is itself.
+fn thread_life(world: &World, place: usize) -> Life
+    requires { place < length world.now.rows.threads }
+    ensures birth { thread_in_place world.now place ≡ Some result.birth }
+    ensures live { result.live ≡ has_holders world.now.rows (thread_name result.birth) }
+{
+    world.procs().thread_in(place)
+}
+
+/// The oldest thread that no row holds: None exactly where each thread is held.
+pub fn unheld_thread(world: &World) -> Option<Birth>
+    ensures none { IfNone result (HasHeldThreads world.now.rows) }
+    ensures row { IfSome result
+        (λ b. has (is_born_thread b) world.now.rows.threads ≡ true) }
+    ensures unheld { IfSome result (λ b. is_unheld world.now.rows (thread_name b) ≡ true) }
+{
+    for place in 0..thread_count(world) {
+        let thread = thread_life(world, place);
+        if !is_life_held(world, Object::Thread(thread.birth), thread.live) {
+            return Some(thread.birth);
+        }
+    }
+    None
+}
+
+/// How many processes have a row.
+pub fn process_count(world: &World) -> usize
+    ensures { result ≡ length world.now.rows.processes }
+{
+    world.procs().processes()
+}
+
+/// The process at a place, in the order of making, and whether a live thread counts for it.
+fn process_life(world: &World, place: usize) -> Life
+    requires { place < length world.now.rows.processes }
+    ensures birth { process_in_place world.now place ≡ Some result.birth }
+    ensures live { result.live ≡ has_holders world.now.rows (process_name result.birth) }
+{
+    world.procs().process_in(place)
+}
+
+/// The oldest process that no row holds: None exactly where each process is held.
+pub fn unheld_process(world: &World) -> Option<Birth>
+    ensures none { IfNone result (HasHeldProcesses world.now.rows) }
+    ensures row { IfSome result
+        (λ b. has (is_born_process b) world.now.rows.processes ≡ true) }
+    ensures unheld { IfSome result (λ b. is_unheld world.now.rows (process_name b) ≡ true) }
+{
+    for place in 0..process_count(world) {
+        let process = process_life(world, place);
+        if !is_life_held(world, Object::Process(process.birth), process.live) {
+            return Some(process.birth);
+        }
+    }
+    None
+}

@@ -1,0 +1,101 @@
+// Rows that no row counts for go, one after the other.
+ghost use Rattle.std.specs.Prelude.{◌≡◌, ◌≤◌, [], false, true};
+ghost use Rattle.lpc_model.specs.Basics.{world_after, Frees};
+ghost use Rattle.lpc_model.specs.Linked.{AreLivesHeld};
+ghost use Rattle.lpc_model.specs.Sweep as model;
+ghost use Rattle.lpc_model.specs.Sweep.{is_unheld};
+ghost use Rattle.lpc_sweep.specs.Sweeping.{CanSweep, HasHeldThreads, SweepsAhead};
+ghost use Rattle.lpc_world.specs.Clauses.{after, name_at};
+ghost use Rattle.lpc_world.specs.Kept.{Roomy};
+ghost use Rattle.lpc_world.specs.Shown.{object_stands};
+
+use crate::finding::{
+    port_count, process_count, thread_count, unheld_port, unheld_process, unheld_thread,
+};
+use lpc_world::{Object, World};
+
+/// The row of an object that no row counts for goes. Its room is spare then.
+fn free(world: &mut World, object: Object)
+    requires stands { object_stands world.old.births object ≡ true }
+    requires can { CanSweep world.old.rows }
+    requires unheld { is_unheld world.old.rows (name_at world.old object) ≡ true }
+    ensures rows { world.new.rows ≡ after world.old (Frees (name_at world.old object)) }
+    ensures calls { world.new.calls ≡ world.old.calls }
+    ensures made { world.new.made ≤ world.old.made }
+    ensures loose { world.new.loose ≡ true }
+    ensures room { Roomy world.old.room world.new.room }
+{
+    match object {
+        Object::Port(port) => world.ports_free(port),
+        Object::Process(birth) => world.processes_free(birth),
+        Object::Thread(birth) => world.threads_free(birth),
+    }
+}
+
+/// While there is a thread that no row counts for, it goes.
+fn free_threads(world: &mut World)
+    requires can { CanSweep world.old.rows }
+    ensures ahead { SweepsAhead world.old world.new }
+    ensures held { HasHeldThreads world.new.rows }
+{
+    for freed in 0..thread_count(world) {
+        let _ = freed;
+        match unheld_thread(world) {
+            Some(birth) => free(world, Object::Thread(birth)),
+            None => return,
+        }
+    }
+}
+
+/// While there is a process that no row counts for, it goes. Some row counts for each thread.
+fn free_processes(world: &mut World)
+    requires can { CanSweep world.old.rows }
+    requires threads { HasHeldThreads world.old.rows }
+    ensures ahead { SweepsAhead world.old world.new }
+    ensures held { AreLivesHeld world.new.rows }
+{
+    for freed in 0..process_count(world) {
+        let _ = freed;
+        match unheld_process(world) {
+            Some(birth) => free(world, Object::Process(birth)),
+            None => return,
+        }
+    }
+}
+
+/// While there is a port that no row counts for, it goes. Some row counts for each thread and each process.
+fn free_ports(world: &mut World)
+    requires can { CanSweep world.old.rows }
+    requires lives { AreLivesHeld world.old.rows }
+    ensures rows { world.new.rows ≡ world_after world.old.rows (model.sweep world.old.rows) }
+    ensures calls { world.new.calls ≡ world.old.calls }
+    ensures made { world.new.made ≤ world.old.made }
+    ensures room { Roomy world.old.room world.new.room }
+{
+    for freed in 0..port_count(world) {
+        let _ = freed;
+        match unheld_port(world) {
+            Some(port) => free(world, Object::Port(port)),
+            None => return,
+        }
+    }
+}
+
+/// Each object goes that no row counts for, and then each that only those counted for: the threads that have ended,
+/// the processes without a live thread, and ports. There is nothing to do where no row went since the last time.
+pub fn sweep(world: &mut World)
+    requires can { CanSweep world.old.rows }
+    requires still { world.old.loose ≡ false → model.unheld world.old.rows ≡ [] }
+    ensures rows { world.new.rows ≡ world_after world.old.rows (model.sweep world.old.rows) }
+    ensures calls { world.new.calls ≡ world.old.calls }
+    ensures made { world.new.made ≤ world.old.made }
+    ensures loose { world.new.loose ≡ false }
+    ensures room { Roomy world.old.room world.new.room }
+{
+    if world.is_loose() {
+        free_threads(world);
+        free_processes(world);
+        free_ports(world);
+        world.set_still();
+    }
+}
