@@ -22,7 +22,7 @@ ghost use Rattle.lpc_machine.specs.Settled.{IsSettled};
 ghost use Rattle.lpc_machine.specs.Memory.{GoesOn, call_takes_memory, lacks_call_room, lacks_room, makes_call, takes_memory};
 ghost use Rattle.lpc_world.specs.Called.{MayServe};
 ghost use Rattle.lpc_world.specs.Does.{Took};
-ghost use Rattle.lpc_world.specs.Capacity.{but_names};
+ghost use Rattle.lpc_world.specs.Capacity.{but_lives, but_names};
 ghost use Rattle.lpc_world.specs.Kept.{Same};
 ghost use Rattle.lpc_world.specs.Ready.{HasRoom, is_ready, room_needed};
 
@@ -282,6 +282,8 @@ impl Machine {
         ensures late { OnErr result (GoesOn self.old.rows (line_of line.now)) }
         ensures wanting { OnErr result (lacks_room self.old (line_of line.now) ≡ true) }
         ensures free { takes_memory (line_of line.now) ≡ false → IsOk result }
+        ensures capacity { takes_memory (line_of line.now) ≡ false →
+            but_lives (but_names self.new.capacity) ≡ but_lives (but_names self.old.capacity) }
     {
         take(&mut self.world, line, out)?;
         sweep(&mut self.world);

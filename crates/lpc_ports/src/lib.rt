@@ -1,7 +1,7 @@
 //! Ports, and the messages that stand in their queues.
 #![tactic(auto)]
 
-ghost use Rattle.std.specs.Prelude.{◌≡◌, ◌||◌, ◌<◌, ◌-◌, ◌≤◌, ◌^◌, length, OnOk, OnErr, Some, None, IsSome, option_copied, option_map, slice_get};
+ghost use Rattle.std.specs.Prelude.{◌≡◌, ◌||◌, ◌<◌, ◌-◌, ◌≤◌, ◌^◌, ◌+◌, length, OnOk, OnErr, Some, None, IsSome, option_copied, option_map, slice_get};
 ghost use Rattle.lpc_base.specs.Room.{grown_room};
 ghost use Rattle.lpc_base.specs.Rows.{count, first, has};
 ghost use Rattle.lpc_base.specs.declared.limits.TheConstants.{MESSAGE_LIMIT};
@@ -261,6 +261,7 @@ impl Ports {
         requires open { IsSome (row_at self.old.ports port) }
         requires empty { has_none_in self.old.messages port }
         ensures table { self.new ≡ without_port self.old port }
+        ensures fewer { length self.new.ports + 1 ≡ length self.old.ports }
     {
         if self.ports.remove(port).is_none() {
             unreachable!()

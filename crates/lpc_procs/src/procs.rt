@@ -1,5 +1,5 @@
 // The table of processes and threads.
-ghost use Rattle.std.specs.Prelude.{◌≡◌, ◌-◌, ◌*◌, ◌<◌, ◌≤◌, ◌++◌, ◌∷◌, [], true, false, length, is_some, option_map, slice_get, Some, IsSomeAnd, OnOk, OnErr, IfSome};
+ghost use Rattle.std.specs.Prelude.{◌≡◌, ◌-◌, ◌*◌, ◌<◌, ◌≤◌, ◌++◌, ◌∷◌, ◌+◌, [], true, false, length, is_some, option_map, slice_get, Some, IsSomeAnd, OnOk, OnErr, IfSome};
 ghost use Rattle.std.specs.List.{position};
 ghost use Rattle.lpc_base.specs.Room.{grown_room};
 ghost use Rattle.lpc_base.specs.Rows.{count, first, has};
@@ -439,20 +439,24 @@ impl Procs {
     }
 
     /// Removes the rows of the processes that were made under the name. Their numbers stay used, so the room need not
-    /// grow.
+    /// grow. It grows by as many rows at most.
     pub fn free_process_born(&mut self, birth: Birth)
         ensures table { self.new ≡ without_process_born self.old birth self.new.process_room }
         ensures room { self.old.process_room ≤ self.new.process_room }
+        ensures most { let old = self.old in let new = self.new in
+            new.process_room + length new.processes ≤ old.process_room + length old.processes }
     {
         births::remove_processes(&mut self.processes, birth);
     }
 
     /// Removes the rows of the threads that were made under the name, of which none is live. Their numbers stay used,
-    /// so the room need not grow.
+    /// so the room need not grow. It grows by as many rows at most.
     pub fn free_thread_born(&mut self, birth: Birth)
         requires ended { has (is_life birth) self.old.threads ≡ false }
         ensures table { self.new ≡ without_thread_born self.old birth self.new.thread_room }
         ensures room { self.old.thread_room ≤ self.new.thread_room }
+        ensures most { let old = self.old in let new = self.new in
+            new.thread_room + length new.threads ≤ old.thread_room + length old.threads }
     {
         births::remove_threads(&mut self.threads, birth);
     }

@@ -165,6 +165,7 @@ impl<T> Slots<T> {
         ensures value { result ≡ at self.old key }
         ensures table { self.new ≡ (if is_some result then removed self.old key else self.old) }
         ensures listed { OnSome result (listed self.new ≡ without (at_key key) (listed self.old)) }
+        ensures fewer { OnSome result (length (listed self.new) + 1 ≡ length (listed self.old)) }
     {
         match self.position(key) {
             Some(index) => {

@@ -9,13 +9,17 @@ use Rattle.lpc_model.specs.Found.{process_name, thread_name}
 use Rattle.lpc_model.specs.Sweep.{is_unheld, sweep}
 use Rattle.lpc_model.proofs.FreedFirst.{process_first, thread_first}
 use Rattle.lpc_model.proofs.SweptLives.{same-thread}
-use Rattle.lpc_world.specs.Kept.{Kept, Roomy}
+use Rattle.lpc_world.specs.Capacity.{but_lives}
+use Rattle.lpc_world.specs.Kept.{GainsNoLives, Kept, Roomy}
 use Rattle.lpc_world.proofs.Rooms.{roomy_same, roomy_then}
 use Rattle.lpc_sweep.specs.Sweeping.{CanSweep, HasHeldThreads, SweepsAhead}
 use Rattle.lpc_sweep.proofs.HeldPorts.{can_freed}
 
 pub ahead_same : (w : Kept) → CanSweep w.rows → SweepsAhead w w
-ahead_same w can = record { can = can; leaves = refl; calls = refl; made = omega arith; room = roomy_same w.room }
+ahead_same w can = record { can = can; leaves = refl; calls = refl; made = omega arith; room = roomy_same w.room; capacity = refl; lives = record { for_processes = omega arith; for_threads = omega arith } }
+
+pub lives_then : (u v w : Kept) → GainsNoLives u v → GainsNoLives v w → GainsNoLives u w
+lives_then u v w one two = record { for_processes = omega (arith, one.for_processes, two.for_processes); for_threads = omega (arith, one.for_threads, two.for_threads) }
 
 pub ahead_then : (u v w : Kept) → SweepsAhead u v → SweepsAhead v w → SweepsAhead u w
 ahead_then u v w one two = record {
@@ -24,10 +28,12 @@ ahead_then u v w one two = record {
   calls = two.calls ∙ one.calls;
   made = omega (arith, one.made, two.made);
   room = roomy_then _ _ _ one.room two.room;
+  capacity = two.capacity ∙ one.capacity;
+  lives = lives_then u v w one.lives two.lives;
 }
 
 -- what no row counts for goes
-module _ (u v : Kept) (b : Birth) (calls : v.calls ≡ u.calls) (made : v.made ≤ u.made) (room : Roomy u.room v.room) (can : CanSweep u.rows) where
+module _ (u v : Kept) (b : Birth) (calls : v.calls ≡ u.calls) (made : v.made ≤ u.made) (room : Roomy u.room v.room) (capacity : but_lives v.capacity ≡ but_lives u.capacity) (lives : GainsNoLives u v) (can : CanSweep u.rows) where
   ahead-by : (o : ObjectName) → v.rows ≡ basic u.rows (Frees o) → is_unheld u.rows o ≡ true → world_after (basic u.rows (Frees o)) (sweep (basic u.rows (Frees o))) ≡ world_after u.rows (sweep u.rows) → SweepsAhead u v
   ahead-by o went none same = record {
     can = subst CanSweep (sym went) (can_freed u.rows o can none);
@@ -35,6 +41,8 @@ module _ (u v : Kept) (b : Birth) (calls : v.calls ≡ u.calls) (made : v.made �
     calls = calls;
     made = made;
     room = room;
+    capacity = capacity;
+    lives = lives;
   }
 
   pub thread-ahead : v.rows ≡ basic u.rows (Frees (thread_name b)) → is_unheld u.rows (thread_name b) ≡ true → SweepsAhead u v

@@ -10,7 +10,8 @@ use Rattle.lpc_model.specs.SoundWaits.{IsSoundWorld}
 use Rattle.lpc_model.specs.Standing.{NamesWhatStands}
 use Rattle.lpc_model.specs.Sweep.{is_unheld, sweep}
 use Rattle.lpc_model.specs.World.{World}
-use Rattle.lpc_world.specs.Kept.{Kept, Roomy}
+use Rattle.lpc_world.specs.Capacity.{but_lives}
+use Rattle.lpc_world.specs.Kept.{GainsNoLives, Kept, Roomy}
 
 -- some row counts for each thread
 abbrev pub HasHeldThreads : World → Type 0
@@ -28,10 +29,13 @@ pub record CanSweep (w : World) : Type 0 where
   pub standing : NamesWhatStands w
   pub registrations : HasLivingRegistrations w
 
--- Rows went ahead that the sweep takes away: it can still be done, and leaves the same world. Their room is spare.
+-- Rows went ahead that the sweep takes away: it can still be done, and leaves the same world. Their room is spare, and no
+-- memory was asked for.
 pub record SweepsAhead (old new : Kept) : Type 0 where
   pub can : CanSweep new.rows
   pub leaves : world_after new.rows (sweep new.rows) ≡ world_after old.rows (sweep old.rows)
   pub calls : new.calls ≡ old.calls
   pub made : new.made ≤ old.made
   pub room : Roomy old.room new.room
+  pub capacity : but_lives new.capacity ≡ but_lives old.capacity
+  pub lives : GainsNoLives old new

@@ -6,7 +6,8 @@ ghost use Rattle.lpc_model.specs.Sweep as model;
 ghost use Rattle.lpc_model.specs.Sweep.{is_unheld};
 ghost use Rattle.lpc_sweep.specs.Sweeping.{CanSweep, HasHeldThreads, SweepsAhead};
 ghost use Rattle.lpc_world.specs.Clauses.{after, name_at};
-ghost use Rattle.lpc_world.specs.Kept.{Roomy};
+ghost use Rattle.lpc_world.specs.Capacity.{but_lives};
+ghost use Rattle.lpc_world.specs.Kept.{GainsNoLives, Roomy};
 ghost use Rattle.lpc_world.specs.Shown.{object_stands};
 
 use crate::finding::{
@@ -24,6 +25,8 @@ fn free(world: &mut World, object: Object)
     ensures made { world.new.made ≤ world.old.made }
     ensures loose { world.new.loose ≡ true }
     ensures room { Roomy world.old.room world.new.room }
+    ensures capacity { but_lives world.new.capacity ≡ but_lives world.old.capacity }
+    ensures lives { GainsNoLives world.old world.new }
 {
     match object {
         Object::Port(port) => world.ports_free(port),
@@ -71,6 +74,8 @@ fn free_ports(world: &mut World)
     ensures calls { world.new.calls ≡ world.old.calls }
     ensures made { world.new.made ≤ world.old.made }
     ensures room { Roomy world.old.room world.new.room }
+    ensures capacity { but_lives world.new.capacity ≡ but_lives world.old.capacity }
+    ensures lives { GainsNoLives world.old world.new }
 {
     for freed in 0..port_count(world) {
         let _ = freed;
@@ -91,6 +96,8 @@ pub fn sweep(world: &mut World)
     ensures made { world.new.made ≤ world.old.made }
     ensures loose { world.new.loose ≡ false }
     ensures room { Roomy world.old.room world.new.room }
+    ensures capacity { but_lives world.new.capacity ≡ but_lives world.old.capacity }
+    ensures lives { GainsNoLives world.old world.new }
 {
     if world.is_loose() {
         free_threads(world);

@@ -39,6 +39,10 @@ capacity_by it places = record {
 abbrev pub but_names : Capacity → Capacity
 but_names c = record c { names = 0 }
 
+-- the memory of all tables but those of processes and threads
+abbrev pub but_lives : Capacity → Capacity
+but_lives c = record c { processes = 0; threads = 0 }
+
 -- how many handles a process has memory for
 abbrev pub is_of_process : ℕ → HandlePlaces → Bool
 is_of_process pid p = p.process == pid

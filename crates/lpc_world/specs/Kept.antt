@@ -142,6 +142,11 @@ grown_ports w more = grown_capacity w.capacity.ports more (length w.rows.ports)
 abbrev pub grown_handles : Kept → ℕ → ℕ → ℕ
 grown_handles w pid more = grown_capacity (handle_places w.capacity pid) (owed_handles w.rows pid + more) (length (handles_of w.rows pid))
 
+-- there is no more memory for processes and threads, those that stand and the room together
+pub record GainsNoLives (old new : Kept) : Type 0 where
+  pub for_processes : new.room.processes + length new.rows.processes ≤ old.room.processes + length old.rows.processes
+  pub for_threads : new.room.threads + length new.rows.threads ≤ old.room.threads + length old.rows.threads
+
 -- nothing changed but the room
 pub record Same (old new : Kept) : Type 0 where
   pub rows : new.rows ≡ old.rows

@@ -4,7 +4,7 @@ ghost use Rattle.lpc_model.specs.Basics.{Frees};
 ghost use Rattle.lpc_model.specs.Found.{port_name, process_name, thread_name};
 ghost use Rattle.lpc_world.specs.Held as held;
 ghost use Rattle.lpc_world.specs.Held.{has_holders};
-ghost use Rattle.lpc_world.specs.Kept.{Roomy};
+ghost use Rattle.lpc_world.specs.Kept.{GainsNoLives, Roomy};
 ghost use Rattle.lpc_world.specs.Names.{KeepsOthers, stands};
 ghost use Rattle.lpc_world.specs.Clauses.{after, birth_at};
 
@@ -56,6 +56,7 @@ impl World {
         ensures made { self.new.made ≡ self.old.made }
         ensures loose { self.new.loose ≡ false }
         ensures room { self.new.room ≡ self.old.room }
+        ensures capacity { self.new.capacity ≡ self.old.capacity }
     {
         self.loose = false;
     }
@@ -68,6 +69,9 @@ impl World {
         ensures made { self.new.made ≤ self.old.made }
         ensures loose { self.new.loose ≡ true }
         ensures room { Roomy self.old.room self.new.room }
+        ensures capacity { let new = self.new.capacity in
+            new ≡ record self.old.capacity { threads = new.threads } }
+        ensures lives { GainsNoLives self.old self.new }
     {
         self.loose = true;
         self.procs.free_thread_born(birth);
@@ -81,6 +85,9 @@ impl World {
         ensures made { self.new.made ≤ self.old.made }
         ensures loose { self.new.loose ≡ true }
         ensures room { Roomy self.old.room self.new.room }
+        ensures capacity { let new = self.new.capacity in
+            new ≡ record self.old.capacity { processes = new.processes } }
+        ensures lives { GainsNoLives self.old self.new }
     {
         self.loose = true;
         self.procs.free_process_born(birth);
@@ -97,6 +104,8 @@ impl World {
         ensures made { self.new.made ≤ self.old.made }
         ensures loose { self.new.loose ≡ true }
         ensures room { Roomy self.old.room self.new.room }
+        ensures capacity { self.new.capacity ≡ self.old.capacity }
+        ensures lives { GainsNoLives self.old self.new }
     {
         self.loose = true;
         self.ports.free(port);

@@ -35,6 +35,8 @@ loop-freed-preserved c =
         calls = c.free.ensures.calls;
         made = c.free.ensures.made;
         room = c.free.ensures.room;
+        capacity = c.free.ensures.capacity;
+        lives = c.free.ensures.lives;
       });
       lives = subst AreLivesHeld (sym went) (lives_freed w b c.loop-freed.invariant.lives);
       fewer = omega (arith, less, ap (λ (v : World). length v.ports) went, c.loop-freed.invariant.fewer);
@@ -68,3 +70,15 @@ returns-clause-made c = c.loop-freed.invariant.ahead.made
 
 pub returns-clause-room : goal.returns-clause-room
 returns-clause-room c = c.loop-freed.invariant.ahead.room
+
+pub returns-in-None-clause-capacity : goal.returns-in-None-clause-capacity
+returns-in-None-clause-capacity c = c.loop-freed.invariant.ahead.capacity
+
+pub returns-in-None-clause-lives : goal.returns-in-None-clause-lives
+returns-in-None-clause-lives c = c.loop-freed.invariant.ahead.lives
+
+pub returns-clause-capacity : goal.returns-clause-capacity
+returns-clause-capacity c = c.loop-freed.invariant.ahead.capacity
+
+pub returns-clause-lives : goal.returns-clause-lives
+returns-clause-lives c = c.loop-freed.invariant.ahead.lives

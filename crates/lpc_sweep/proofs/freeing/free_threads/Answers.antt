@@ -20,7 +20,7 @@ loop-freed-preserved c =
     let went : c.free.new.world.rows ≡ basic w (Frees (thread_name b)) = c.free.ensures.rows in
     let less = length_less (is_born_thread b) w.threads c.in-Some.ensures.row in
     record {
-      ahead = ahead_then _ _ _ c.loop-freed.invariant.ahead (thread-ahead _ _ b c.free.ensures.calls c.free.ensures.made c.free.ensures.room c.loop-freed.invariant.ahead.can went c.in-Some.ensures.unheld);
+      ahead = ahead_then _ _ _ c.loop-freed.invariant.ahead (thread-ahead _ _ b c.free.ensures.calls c.free.ensures.made c.free.ensures.room c.free.ensures.capacity c.free.ensures.lives c.loop-freed.invariant.ahead.can went c.in-Some.ensures.unheld);
       fewer = omega (arith, less, ap (λ (v : World). length v.threads) went, c.loop-freed.invariant.fewer);
     }
 

@@ -1,5 +1,7 @@
 use Rattle.std.proofs.Common.{arith}
-use Rattle.std.proofs.Common.{◌+◌, sym, ap, ◌∙◌}
+use Rattle.std.proofs.Common.{◌≡◌, ◌+◌, ◌-◌, length, sym, ap, ◌∙◌, vec_len, vec_capacity}
+use Rattle.lpc_ports.specs.Table.{PortTable}
+use Rattle.lpc_world.proofs.Capacities as capacities
 use Rattle.std.proofs.lemmas.Bool.{or_parts}
 use Rattle.lpc_model.specs.Found.{is_port}
 use Rattle.lpc_model.specs.World.{World}
@@ -49,3 +51,10 @@ returns-clause-made c =
     let none = sym (unheld.held_is (tables_of c.self.inside.procs c.self.inside.parts.items c.self.inside.ports c.self.inside.waits c.self.inside.names) c.self.invariant.named c.args.port h.stands) ∙ off.0 in
     let owed = frees.freed_owed (tables_of c.self.inside.procs c.self.inside.parts.items c.self.inside.ports c.self.inside.waits c.self.inside.names) c.self.invariant.named c.args.port (c.self.inside.ports.port_room + 1) none h.stands in
     rw (← c.self.view_is, c.free.ensures.table) (omega (arith, owed))
+
+pub returns-clause-capacity : goal.returns-clause-capacity
+returns-clause-capacity c =
+    let fewer = c.free.ensures.fewer in
+    let ports : c.free.new.self.port_room + length c.free.new.self.ports ≡ c.self.inside.ports.port_room + length c.self.inside.ports.ports =
+    ap (λ (s : PortTable). s.port_room + length c.free.new.self.ports) c.free.ensures.table ∙ omega (arith, fewer) in
+    rw (← c.self.view_is) (capacities.of_ports (tables_of c.self.inside.procs c.self.inside.parts.items c.self.inside.ports c.self.inside.waits c.self.inside.names) (vec_capacity c.self.inside.parts - vec_len c.self.inside.parts) c.free.new.self ports (ap (λ (s : PortTable). s.message_room + length s.messages) c.free.ensures.table))
