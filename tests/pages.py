@@ -9,7 +9,7 @@
 - Each example line of docs/SERVICES.md stands in the script that it names, whose transcript tells for it what the page
   says, and no more.
 - The scripts that stand in examples/ are worked in the specs, text for text.
-- The scripts and transcripts of docs/EXERCISES.md stand in examples/exercises/, and its diagrams are those that the
+- The scripts and transcripts of the exercises stand in examples/exercises/, and their diagrams are those that the
   companion tool draws.
 - With PROGRAM, each script of docs/FAULTS.md stops at its last line with the kind of its section, or prints the
   transcript that stands behind it, and the commands of docs/CHECK_YOUR_OWN.md print what the page shows.
@@ -189,16 +189,17 @@ def worked_examples():
 
 
 def exercises():
-    """The scripts, transcripts and diagrams of docs/EXERCISES.md, three an exercise, in the order of the files."""
+    """The scripts, transcripts and diagrams of the exercises, three for each, in the order of the files."""
     kinds = ("script", "transcript", "mermaid")
-    shown = [(it.kind, it.text) for it in blocks_of(DOCS / "EXERCISES.md") if it.kind in kinds]
+    pages = [DOCS / "EXERCISES.md", DOCS / "EXERCISES_CONNECTIONS.md"]
+    shown = [(it.kind, it.text) for page in pages for it in blocks_of(page) if it.kind in kinds]
     scripts = sorted((EXAMPLES / "exercises").glob("*.script"))
-    yield "EXERCISES.md shows each file", [] if len(shown) == 3 * len(scripts) else [f"{len(shown)} blocks are shown"]
+    yield "the exercises show each file", [] if len(shown) == 3 * len(scripts) else [f"{len(shown)} blocks are shown"]
     for at, script in enumerate(scripts):
         transcript = script.with_suffix(".transcript")
         texts = (script.read_text(encoding="utf-8"), transcript.read_text(encoding="utf-8"), drawn(script, transcript))
         others = [kind for kind, pair in zip(kinds, zip(kinds, texts)) if pair not in shown[3 * at : 3 * at + 3]]
-        yield f"EXERCISES.md: {script.stem}", [f"the page shows another {kind}" for kind in others]
+        yield f"exercise {script.stem}", [f"the page shows another {kind}" for kind in others]
 
 
 def drawn(script, transcript):
