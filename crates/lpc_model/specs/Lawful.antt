@@ -17,9 +17,10 @@ use Rattle.lpc_model.specs.SingleClosings.{HasSingleClosings}
 abbrev pub HasThreadsOnce : World → Type 0
 HasThreadsOnce w = (n : ℕ) → count (is_thread n) w.threads ≤ 1
 
--- Waits are sound, ports are linked, some row counts for each object, queues are open, what rows name stands, and of an
--- open port no message tells that it is closed. A thread has one row, an ended one has no registrations, and no port is
--- registered twice. Only living processes have handles, and of the two ports of a connection one at least is open.
+-- Waits are sound, ports are linked, some row counts for each object, queues are open, and what rows name stands. Of a
+-- closed port that stays so one message at most tells that it is closed, and of an open one none does. A thread has one
+-- row, an ended one has no registrations, and no port is registered twice. Only living processes have handles, and of the
+-- two ports of a connection one at least is open.
 pub record IsLawfulWorld (w : World) : Type 0 where
   pub sound : IsSoundWorld w
   pub linked : IsLinked w
