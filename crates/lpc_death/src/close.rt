@@ -23,8 +23,8 @@ use lpc_handles::Row;
 use lpc_message::kind;
 use lpc_model::{CallName, Entries, Entry, Fields, Message, Outcome, refuse};
 use lpc_slots::Key;
-use lpc_steps::{Closed, closing_post, deliver, end_all, own_handle};
-use lpc_world::{Ending, Object, World};
+use lpc_steps::{Closed, Ending, closing_post, deliver, end_all, own_handle};
+use lpc_world::{Object, World};
 
 /// The message that tells of a closed port: it is of the connect that made the port, and names the port by its birth.
 fn closed_message(closed: &Closed) -> Message

@@ -1,4 +1,5 @@
 pub mod Composed
+pub mod NextEnding
 pub mod Endings
 pub mod Delivered
 pub mod Fits

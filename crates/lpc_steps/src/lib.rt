@@ -14,7 +14,7 @@ mod waiting;
 
 pub use closing::{Closed, closing_post};
 pub use connections::{Completable, answered_connect, completion_test, is_connection};
-pub use ending::end_all;
+pub use ending::{Ending, end_all};
 pub use entering::deliver;
 pub use fitting::{client_test, fitted};
 pub use handles::{give_handle, handles_test, kind_of, object_at, own_handle, port_at};

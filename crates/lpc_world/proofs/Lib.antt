@@ -12,7 +12,6 @@ pub mod Capacities
 pub mod Promised
 pub mod Finished
 pub mod Naming
-pub mod NextEnding
 pub mod Readings
 pub mod Registered
 pub mod Rooms

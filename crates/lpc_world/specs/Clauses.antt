@@ -4,7 +4,7 @@ use Rattle.lpc_base.specs.declared.birth.Birth.{Birth}
 use Rattle.lpc_base.specs.declared.limits.TheConstants.{HANDLE_LIMIT}
 use Rattle.lpc_base.specs.declared.port_kind.PortKind.{PortKind}
 use Rattle.lpc_base.specs.declared.status.Status.{Status}
-use Rattle.lpc_base.specs.Rows.{change, first, has, without}
+use Rattle.lpc_base.specs.Rows.{change, every, first, has, without}
 use Rattle.lpc_handles.specs.declared.table.Row.{Row}
 use Rattle.lpc_model.specs.Basics.{Basic, basic, AddsHandle, Enters, Joins, Makes}
 use Rattle.lpc_model.specs.Entering.{takes, takes_from}
@@ -31,7 +31,7 @@ use Rattle.lpc_world.specs.Kept.{Kept, Room, handle_room, has_queued, is_pending
 use Rattle.lpc_world.specs.Lawful.{is_quiet}
 use Rattle.lpc_world.specs.Names.{name_of}
 use Rattle.lpc_world.specs.Ready.{port_of, waiter}
-use Rattle.lpc_world.specs.Shown.{birth_of, name_by, port_with, pulled_row, row_with, waiting_row, with_message}
+use Rattle.lpc_world.specs.Shown.{all_pass, birth_of, name_by, object_stands, port_with, pulled_row, row_with, waiting_row, with_message}
 use Rattle.lpc_world.specs.OwedClosings.{TellsOnce, closing_places}
 use Rattle.lpc_homes.specs.declared.object.Object.{Object}
 
@@ -72,6 +72,10 @@ name_at w object = name_by (birth_of w.births) object
 -- the rows of a table as the definitions have them
 abbrev pub shown_in : {R S : Type 0} → Kept → ((Object → Birth) → R → S) → List R → List S
 shown_in w show rows = map (show (birth_of w.births)) rows
+
+-- each object that the rows of a table name stands
+abbrev pub all_stand : {R : Type 0} → Kept → (R → List Object) → List R → Bool
+all_stand w refs rows = every (all_pass refs (object_stands w.births)) rows
 
 -- the row of a thread, and what the thread draws next: an identifier, a birth
 abbrev pub thread_row : World → ℕ → Option model.ThreadRow

@@ -1,67 +1,9 @@
--- The waits that end when a port is closed, by the reason for it.
-use Rattle.std.specs.Prelude.{◌≡◌, ℕ, Bool, false, true, Option, None, if◌then◌else◌}
-use Rattle.lpc_base.specs.Rows.{every, passes}
-use Rattle.lpc_model.specs.World.{Birth, WaitRow, World}
-use Rattle.lpc_model.specs.Found.{is_client_port, is_connect, pair_of, port_row}
-use Rattle.lpc_model.specs.Close.{is_accepted_across, is_offered_to, is_queued_request, is_receive_across, is_receiver, is_request_across, is_request_on}
+-- How the ports stand where one is closed.
+use Rattle.std.specs.Prelude.{◌≡◌, true}
+use Rattle.lpc_base.specs.Rows.{every}
+use Rattle.lpc_model.specs.World.{World}
 use Rattle.lpc_model.specs.Linked.{is_mutual}
-use Rattle.lpc_slots.specs.declared.Key.{Key}
-use Rattle.lpc_world.specs.Clauses.{birth_at}
-use Rattle.lpc_world.specs.Kept.{Kept, has_queued}
-use Rattle.lpc_world.specs.Ready.{waiter}
-use Rattle.lpc_world.specs.declared.ending.Ending.{Ending}
-use Rattle.lpc_world.specs.declared.ending.Ending.TheVariants.{AcceptedAcross, Offers, QueuedRequests, Receives, ReceivesAcross, Requests, RequestsAcross}
-
--- the wait ends for this reason when the port is closed
-abbrev pub ends : Ending → Birth → World → WaitRow → Bool
-ends Receives b w = is_receiver b
-ends Requests b w = is_request_on b
-ends QueuedRequests b w = is_queued_request b
-ends Offers b w = is_offered_to b
-ends RequestsAcross b w = is_request_across b w
-ends ReceivesAcross b w = is_receive_across b w
-ends AcceptedAcross b w = is_accepted_across b w
-
--- the message of such a wait leaves its queue
-abbrev pub withdraws : Ending → Bool
-withdraws Receives = false
-withdraws Requests = true
-withdraws QueuedRequests = true
-withdraws Offers = true
-withdraws RequestsAcross = true
-withdraws ReceivesAcross = false
-withdraws AcceptedAcross = false
-
--- such a wait is a connect
-abbrev pub is_of_connects : Ending → Bool
-is_of_connects Receives = false
-is_of_connects Requests = false
-is_of_connects QueuedRequests = false
-is_of_connects Offers = true
-is_of_connects RequestsAcross = false
-is_of_connects ReceivesAcross = false
-is_of_connects AcceptedAcross = true
-
--- where its message stays, no message of the thread's own stands in a queue
-abbrev pub IsUnqueued : World → Ending → ℕ → Type 0
-IsUnqueued w e tid = withdraws e ≡ false → has_queued w tid ≡ false
-
--- where such a wait is a connect, that of the thread is one
-abbrev pub IsOfItsKind : World → Ending → ℕ → Type 0
-IsOfItsKind w e tid = is_of_connects e ≡ true → is_connect (waiter w tid) ≡ true
 
 -- each port's other end stands, and has the port as its own other end
 abbrev pub HasMutualPairs : World → Type 0
 HasMutualPairs w = every (is_mutual w) w.ports ≡ true
-
--- a port's other end, where that is a client port
-abbrev pub client_across : World → Birth → Option Birth
-client_across w b =
-    if passes (pair_of w b) (λ q. passes (port_row w q) is_client_port) then pair_of w b else None
-
--- the same of the port at a key
-abbrev pub ends_at : Kept → Key → Ending → WaitRow → Bool
-ends_at w port e = ends e (birth_at w port) w.rows
-
-abbrev pub client_across_at : Kept → Key → Option Birth
-client_across_at w port = client_across w.rows (birth_at w port)

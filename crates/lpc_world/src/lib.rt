@@ -3,11 +3,9 @@
 
 mod condition;
 mod death;
-mod ending;
 mod world;
 
 pub use condition::Condition;
 pub use death::Death;
-pub use ending::Ending;
 pub use lpc_homes::Object;
 pub use world::World;

@@ -29,7 +29,6 @@ mod completing;
 mod connecting;
 mod connections;
 mod dying;
-mod ending;
 mod freeing;
 mod lending;
 mod lives;

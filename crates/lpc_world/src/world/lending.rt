@@ -1,11 +1,12 @@
 // The tables as they are lent for reading: each with the rows that it stands for, and what the world keeps of them.
 ghost use Rattle.std.specs.Prelude.{◌≡◌, map, true};
-ghost use Rattle.lpc_base.specs.Rows.{has};
-ghost use Rattle.lpc_model.specs.Found.{handles_of, is_table};
-ghost use Rattle.lpc_world.specs.Lawful.{AreBornIn};
+ghost use Rattle.lpc_base.specs.Rows.{every, has};
+ghost use Rattle.lpc_model.specs.Found.{handles_of, is_table, is_taken};
+ghost use Rattle.lpc_world.specs.Kept.{OwnPend};
+ghost use Rattle.lpc_world.specs.Lawful.{AreBornIn, are_single};
 ghost use Rattle.lpc_world.specs.Names.{are_apart};
-ghost use Rattle.lpc_world.specs.Shown.{births_of, shown_binding, shown_handle, shown_message, shown_port, shown_process, shown_thread, shown_used, shown_wait};
-ghost use Rattle.lpc_world.specs.Clauses.{shown_in};
+ghost use Rattle.lpc_world.specs.Shown.{births_of, shown_binding, shown_handle, shown_message, shown_port, shown_process, shown_thread, shown_used, shown_wait, wait_refs};
+ghost use Rattle.lpc_world.specs.Clauses.{all_stand, shown_in};
 
 use crate::world::World;
 use lpc_handles::Table;
@@ -43,6 +44,11 @@ impl World {
     /// The waits of threads.
     pub fn waits(&self) -> &Waits
         ensures waits { self.now.rows.waits ≡ shown_in self.now shown_wait result.now.rows }
+        ensures stand { all_stand self.now wait_refs result.now.rows ≡ true }
+        ensures apart { are_apart self.now.births.ports ≡ true }
+        ensures single { are_single self.now.rows.waits ≡ true }
+        ensures taken { every is_taken self.now.rows.waits ≡ true }
+        ensures own { OwnPend self.now.rows }
     {
         &self.waits
     }

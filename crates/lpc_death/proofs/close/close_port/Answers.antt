@@ -5,7 +5,7 @@ use Rattle.lpc_model.proofs.Closing.{behind}
 use Rattle.lpc_steps.specs.Closing.{end_all}
 use Rattle.lpc_world.specs.Does.{Left}
 use Rattle.lpc_world.specs.Names.{name_of}
-use Rattle.lpc_world.specs.declared.ending.Ending.TheVariants.{Receives, Requests}
+use Rattle.lpc_steps.specs.declared.ending.Ending.TheVariants.{Receives, Requests}
 use Rattle.lpc_steps.proofs.Composed.{took-one, took-then}
 use Rattle.lpc_death.proofs.Five.{five-is}
 use Rattle.lpc_death.proofs.HandlesKept.{handles-kept}

@@ -2,7 +2,7 @@ use Rattle.std.proofs.Common.{[], ◌∷◌, refl}
 use Rattle.lpc_model.specs.Basics.{Empties, Steps, doing, ◌▹◌}
 use Rattle.lpc_steps.specs.Closing.{end_all}
 use Rattle.lpc_world.specs.Names.{name_of}
-use Rattle.lpc_world.specs.declared.ending.Ending.TheVariants.{Offers, QueuedRequests}
+use Rattle.lpc_steps.specs.declared.ending.Ending.TheVariants.{Offers, QueuedRequests}
 use Rattle.lpc_steps.proofs.Composed.{took-one, took-then}
 use Rattle.lpc_death.proofs.close.empty_queue.Goals as goal
 

@@ -1,6 +1,6 @@
 use Rattle.std.proofs.Common.{◌∙◌, ap, sym, arith}
 use Rattle.lpc_base.specs.Rows.{first}
-use Rattle.lpc_world.specs.Closing.{ends}
+use Rattle.lpc_steps.specs.Closing.{ends}
 use Rattle.lpc_world.specs.Names.{name_of, stands}
 use Rattle.lpc_world.specs.Shown.{Births}
 use Rattle.lpc_steps.proofs.Endings.{IsWalked, left-by-none, pairs-kept, walked}

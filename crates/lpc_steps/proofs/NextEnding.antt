@@ -2,7 +2,7 @@
 use Rattle.std.proofs.Common.{◌≡◌, ◌∙◌, ℕ, List, [], ◌∷◌, Bool, true, false, cond, not, ◌&&◌, ◌||◌, Option, Some, None, MatchOption, IfSome, length, map, option_and_then, option_map, refl, ap, sym, subst, arith}
 use Rattle.std.specs.Prelude.{is_none, is_some}
 use Rattle.lpc_base.specs.declared.birth.Birth.{Birth}
-use Rattle.lpc_base.specs.Rows.{first, has, passes}
+use Rattle.lpc_base.specs.Rows.{every, first, has, passes}
 use Rattle.lpc_base.proofs.RowMaps.{every-first, first-map, mapped-twice}
 use Rattle.lpc_base.proofs.RowWords.{first-passes}
 use Rattle.lpc_base.proofs.Births.{birth-same}
@@ -14,26 +14,25 @@ use Rattle.lpc_model.specs.World.{PortRow, WaitRow, World}
 use Rattle.lpc_slots.specs.Table.{is_key}
 use Rattle.lpc_slots.specs.declared.Key.{Key}
 use Rattle.lpc_waits.specs.Table as waits
-use Rattle.lpc_waits.specs.Table.{first_thread}
+use Rattle.lpc_waits.specs.Table.{WaitTable, first_thread}
 use Rattle.lpc_waits.specs.declared.Accepted.{Accepted}
 use Rattle.lpc_waits.specs.declared.WaitKind.{WaitKind}
 use Rattle.lpc_waits.specs.declared.WaitKind.TheVariants as wait
 use Rattle.lpc_waits.specs.declared.WaitRow as table
-use Rattle.lpc_world.specs.Closing.{HasMutualPairs, client_across, ends, is_of_connects, withdraws}
-use Rattle.lpc_world.specs.Kept.{has_queued, is_pending, is_pending_in, rows_by}
-use Rattle.lpc_world.specs.Lawful.{AreLawful}
-use Rattle.lpc_world.specs.Names.{name_of, some_stands, stands}
+use Rattle.lpc_world.specs.Closing.{HasMutualPairs}
+use Rattle.lpc_steps.specs.Closing.{client_across, ends, is_of_connects, withdraws}
+use Rattle.lpc_world.specs.Kept.{OwnPend, has_queued, is_pending, is_pending_in}
+use Rattle.lpc_world.specs.Lawful.{are_single}
+use Rattle.lpc_world.specs.Names.{are_apart, name_of, some_stands, stands}
 use Rattle.lpc_world.specs.Ready.{waiter}
-use Rattle.lpc_world.specs.Shown.{Births, all_pass, birth_of, births_of, object_stands, shown_kind, shown_wait, wait_refs}
-use Rattle.lpc_world.specs.Shown.{Tables}
-use Rattle.lpc_world.specs.declared.ending.Ending.{Ending}
-use Rattle.lpc_world.specs.declared.ending.Ending.TheVariants.{AcceptedAcross, Offers, QueuedRequests, Receives, ReceivesAcross, Requests, RequestsAcross}
+use Rattle.lpc_world.specs.Shown.{Births, all_pass, birth_of, object_stands, shown_kind, shown_wait, wait_refs}
+use Rattle.lpc_steps.specs.declared.ending.Ending.{Ending}
+use Rattle.lpc_steps.specs.declared.ending.Ending.TheVariants.{AcceptedAcross, Offers, QueuedRequests, Receives, ReceivesAcross, Requests, RequestsAcross}
 use Rattle.lpc_homes.specs.declared.object.Object.{Object}
 use Rattle.lpc_world.proofs.Connecting.{IsMet, met, received_off}
 use Rattle.lpc_world.proofs.Finds as finds
 use Rattle.lpc_world.proofs.Finished.{found-waiter, own-waiter}
-use Rattle.lpc_world.proofs.Follows as follows
-use Rattle.lpc_world.proofs.OwnMessages.{none-queued}
+use Rattle.lpc_world.proofs.Naming.{agrees}
 
 -- Across a pair
 either : (a b : Bool) → (a ≡ true → b ≡ true) → (b ≡ true → a ≡ true) → a ≡ b
@@ -145,60 +144,62 @@ pub record IsNext (w : World) (e : Ending) (b : Birth) (r : Option ℕ) : Type 0
   pub found : MatchOption r (first (ends e b w) w.waits ≡ None) (λ tid. first (ends e b w) w.waits ≡ Some (waiter w tid))
   pub waits : IfSome r (λ tid. has (waits_as tid) w.waits ≡ true)
 
-module _ (it : Tables) (calls made : ℕ) (is : AreLawful it calls made) where
-  abbrev n : Births
-  n = births_of it.ports
+-- what is told of the waits where they are lent
+pub record AreLent (n : Births) (w : World) (lent : WaitTable) : Type 0 where
+  pub waits : w.waits ≡ map (shown_wait (birth_of n)) lent.rows
+  pub stand : every (all_pass wait_refs (object_stands n)) lent.rows ≡ true
+  pub apart : are_apart n.ports ≡ true
+  pub single : are_single w.waits ≡ true
 
+-- what its end needs
+module _ (w : World) (single : are_single w.waits ≡ true) (taken : every is_taken w.waits ≡ true) (own : OwnPend w) where
+  waiter-idle : (tid : ℕ) → has (waits_as tid) w.waits ≡ true → is_pending (waiter w tid) ≡ false → is_pending_in w tid ≡ false
+  waiter-idle tid there idle =
+      subst (λ m. is_pending_in w m ≡ false) (own-waiter w tid there)
+      (finds.idle_first (waits_as tid) w.waits (waiter w tid) single (found-waiter w tid there) idle)
+
+  passes-by : (e : Ending) (b : Birth) (tid : ℕ) → IsNext w e b (Some tid) → ends e b w (waiter w tid) ≡ true
+  passes-by e b tid next = first-passes (ends e b w) w.waits (waiter w tid) next.found
+
+  pub left-by : (e : Ending) (b : Birth) (r : Option ℕ) → IsNext w e b r → IfSome r (λ tid. withdraws e ≡ false → has_queued w tid ≡ false)
+  left-by e b None next = tt
+  left-by e b (Some tid) next = λ stays. own.left tid
+      (waiter-idle tid next.waits (idle-by e b w (waiter w tid) stays (every-first is_taken (waits_as tid) w.waits (waiter w tid) taken (found-waiter w tid next.waits)) (passes-by e b tid next)))
+
+  pub connect_of : (e : Ending) (b : Birth) (r : Option ℕ) → IsNext w e b r → IfSome r (λ tid. is_of_connects e ≡ true → is_connect (waiter w tid) ≡ true)
+  connect_of e b None next = tt
+  connect_of e b (Some tid) next = λ of. connect-by e b w (waiter w tid) of (passes-by e b tid next)
+
+module _ (n : Births) (rows : World) (lent : WaitTable) (is : AreLent n rows lent) where
   abbrev f : Object → Birth
   f = birth_of n
 
-  abbrev rows : World
-  rows = rows_by it
-
-  waiter-idle : (tid : ℕ) → has (waits_as tid) rows.waits ≡ true → is_pending (waiter rows tid) ≡ false → is_pending_in rows tid ≡ false
-  waiter-idle tid there idle =
-      subst (λ m. is_pending_in rows m ≡ false) (own-waiter rows tid there)
-      (finds.idle_first (waits_as tid) rows.waits (waiter rows tid) is.lawful.single (found-waiter rows tid there) idle)
-
   -- where no thread waits, none is found
-  pub none_waits : (e : Ending) (b : Birth) → length it.waits.rows ≡ 0 → first (ends e b rows) rows.waits ≡ None
-  none_waits e b none = by it.waits.rows none
+  pub none_waits : (e : Ending) (b : Birth) → length lent.rows ≡ 0 → first (ends e b rows) rows.waits ≡ None
+  none_waits e b none = ap (first (ends e b rows)) is.waits ∙ by lent.rows none
     where
       by : (xs : List table.WaitRow) → length xs ≡ 0 → first (ends e b rows) (map (shown_wait f) xs) ≡ None
       by [] none = refl
       by (x ∷ xs) none = absurd (omega arith)
-
-  -- what its end needs
-  passes-by : (e : Ending) (b : Birth) (tid : ℕ) → IsNext rows e b (Some tid) → ends e b rows (waiter rows tid) ≡ true
-  passes-by e b tid next = first-passes (ends e b rows) rows.waits (waiter rows tid) next.found
-
-  pub left-by : (e : Ending) (b : Birth) (r : Option ℕ) → IsNext rows e b r → IfSome r (λ tid. withdraws e ≡ false → has_queued rows tid ≡ false)
-  left-by e b None next = tt
-  left-by e b (Some tid) next = λ stays. none-queued rows tid is.lawful.own
-      (waiter-idle tid next.waits (idle-by e b rows (waiter rows tid) stays (every-first is_taken (waits_as tid) rows.waits (waiter rows tid) is.promised.taken (found-waiter rows tid next.waits)) (passes-by e b tid next)))
-
-  pub connect_of : (e : Ending) (b : Birth) (r : Option ℕ) → IsNext rows e b r → IfSome r (λ tid. is_of_connects e ≡ true → is_connect (waiter rows tid) ≡ true)
-  connect_of e b None next = tt
-  connect_of e b (Some tid) next = λ of. connect-by e b rows (waiter rows tid) of (passes-by e b tid next)
 
   -- where the tests of the tables' rows are those of the waits
   module _ (e : Ending) (b : Birth) (s : table.WaitRow → Bool) (same : (row : table.WaitRow) → all_pass wait_refs (object_stands n) row ≡ true → ends e b rows (shown_wait f row) ≡ s row) where
     next_of : {r : Option ℕ} → IsMet rows (ends e b rows) r → IsNext rows e b r
     next_of m = record { found = m.found; waits = m.waits }
 
-    next_met : (r : Option ℕ) → r ≡ first_thread s it.waits → IsNext rows e b r
+    next_met : (r : Option ℕ) → r ≡ first_thread s lent → IsNext rows e b r
     next_met r at =
-        let firsts = first-map (shown_wait f) (all_pass wait_refs (object_stands n)) s (ends e b rows) same it.waits.rows is.named.refs.in_waits in
-        next_of (met rows (ends e b rows) r is.lawful.single
-        (at ∙ sym (ap (λ o. option_map (λ (x : WaitRow). x.thread) o) firsts ∙ mapped-twice (shown_wait f) (λ (x : WaitRow). x.thread) (first s it.waits.rows))))
+        let firsts = ap (first (ends e b rows)) is.waits ∙ first-map (shown_wait f) (all_pass wait_refs (object_stands n)) s (ends e b rows) same lent.rows is.stand in
+        next_of (met rows (ends e b rows) r is.single
+        (at ∙ sym (ap (λ o. option_map (λ (x : WaitRow). x.thread) o) firsts ∙ mapped-twice (shown_wait f) (λ (x : WaitRow). x.thread) (first s lent.rows))))
 
   -- the ports of a row, and the kind of its wait
   module _ (key : Key) (there : stands n.ports key ≡ true) (row : table.WaitRow) (ok : all_pass wait_refs (object_stands n) row ≡ true) where
     port_same : same_birth (name_of n.ports row.wait.port) (name_of n.ports key) ≡ is_key row.wait.port key
-    port_same = follows.agree it is.named row.wait.port key (grind arith) there
+    port_same = agrees n.ports row.wait.port key is.apart (grind arith) there
 
     queue_same : same_birth (name_of n.ports row.wait.queue) (name_of n.ports key) ≡ is_key row.wait.queue key
-    queue_same = follows.agree it is.named row.wait.queue key (grind arith) there
+    queue_same = agrees n.ports row.wait.queue key is.apart (grind arith) there
 
     kinds : IsSeenAs (shown_kind row.wait.kind row.message.items row.accepted) row.wait.kind row.accepted
     kinds = seen row.wait.kind row.message.items row.accepted
@@ -215,16 +216,16 @@ module _ (it : Tables) (calls made : ℕ) (is : AreLawful it calls made) where
     offered_same : is_offered_to (name_of n.ports key) (shown_wait f row) ≡ waits.is_offered_to key row
     offered_same = rw (queue_same, kinds.offered) refl
 
-  pub next-receiver : (key : Key) → stands n.ports key ≡ true → (r : Option ℕ) → r ≡ first_thread (waits.is_receiver_at key) it.waits → IsNext rows Receives (name_of n.ports key) r
+  pub next-receiver : (key : Key) → stands n.ports key ≡ true → (r : Option ℕ) → r ≡ first_thread (waits.is_receiver_at key) lent → IsNext rows Receives (name_of n.ports key) r
   next-receiver key there = next_met Receives (name_of n.ports key) (waits.is_receiver_at key) (receiver_same key there)
 
-  pub next-request : (key : Key) → stands n.ports key ≡ true → (r : Option ℕ) → r ≡ first_thread (waits.is_request_on key) it.waits → IsNext rows Requests (name_of n.ports key) r
+  pub next-request : (key : Key) → stands n.ports key ≡ true → (r : Option ℕ) → r ≡ first_thread (waits.is_request_on key) lent → IsNext rows Requests (name_of n.ports key) r
   next-request key there = next_met Requests (name_of n.ports key) (waits.is_request_on key) (request_same key there)
 
-  pub next-queued : (key : Key) → stands n.ports key ≡ true → (r : Option ℕ) → r ≡ first_thread (waits.is_unreceived_request_in key) it.waits → IsNext rows QueuedRequests (name_of n.ports key) r
+  pub next-queued : (key : Key) → stands n.ports key ≡ true → (r : Option ℕ) → r ≡ first_thread (waits.is_unreceived_request_in key) lent → IsNext rows QueuedRequests (name_of n.ports key) r
   next-queued key there = next_met QueuedRequests (name_of n.ports key) (waits.is_unreceived_request_in key) (queued_same key there)
 
-  pub next-offered : (key : Key) → stands n.ports key ≡ true → (r : Option ℕ) → r ≡ first_thread (waits.is_offered_to key) it.waits → IsNext rows Offers (name_of n.ports key) r
+  pub next-offered : (key : Key) → stands n.ports key ≡ true → (r : Option ℕ) → r ≡ first_thread (waits.is_offered_to key) lent → IsNext rows Offers (name_of n.ports key) r
   next-offered key there = next_met Offers (name_of n.ports key) (waits.is_offered_to key) (offered_same key there)
 
   -- Across a pair
@@ -250,7 +251,7 @@ module _ (it : Tables) (calls made : ℕ) (is : AreLawful it calls made) where
 
   module _ (key : Key) (there : stands n.ports key ≡ true) (pairs : HasMutualPairs rows) where
     request_across : (other : Option Key) → some_stands n.ports other ≡ true → name_in other ≡ pair_of rows (name_of n.ports key) → (r : Option ℕ)
-        → r ≡ first_thread (λ row. waits.is_request row.wait.kind && is_at other row) it.waits → IsNext rows RequestsAcross (name_of n.ports key) r
+        → r ≡ first_thread (λ row. waits.is_request row.wait.kind && is_at other row) lent → IsNext rows RequestsAcross (name_of n.ports key) r
     request_across other stand pair = next_met RequestsAcross (name_of n.ports key) (λ row. waits.is_request row.wait.kind && is_at other row) (λ row ok.
         request-turned rows pairs (name_of n.ports key) (shown_wait f row)
         ∙ ap (λ o. is_request (shown_wait f row) && is_the (name_of n.ports row.wait.port) o) (sym pair)
@@ -258,14 +259,14 @@ module _ (it : Tables) (calls made : ℕ) (is : AreLawful it calls made) where
         ∙ ap (λ t. t && is_at other row) (seen row.wait.kind row.message.items row.accepted).request)
 
     pub next-request_across : (other : Key) → stands n.ports other ≡ true → Some (name_of n.ports other) ≡ pair_of rows (name_of n.ports key) → (r : Option ℕ)
-        → r ≡ first_thread (waits.is_request_on other) it.waits → IsNext rows RequestsAcross (name_of n.ports key) r
+        → r ≡ first_thread (waits.is_request_on other) lent → IsNext rows RequestsAcross (name_of n.ports key) r
     next-request_across other stand pair r at = request_across (Some other) stand pair r at
 
     pub no-request_across : None ≡ pair_of rows (name_of n.ports key) → IsNext rows RequestsAcross (name_of n.ports key) None
-    no-request_across pair = request_across None refl pair None (none-first (λ row. waits.is_request row.wait.kind) it.waits.rows)
+    no-request_across pair = request_across None refl pair None (none-first (λ row. waits.is_request row.wait.kind) lent.rows)
 
     receive_across : (other : Option Key) → some_stands n.ports other ≡ true → name_in other ≡ client_across rows (name_of n.ports key) → (r : Option ℕ)
-        → r ≡ first_thread (λ row. waits.is_receive row.wait.kind && is_at other row) it.waits → IsNext rows ReceivesAcross (name_of n.ports key) r
+        → r ≡ first_thread (λ row. waits.is_receive row.wait.kind && is_at other row) lent → IsNext rows ReceivesAcross (name_of n.ports key) r
     receive_across other stand client = next_met ReceivesAcross (name_of n.ports key) (λ row. waits.is_receive row.wait.kind && is_at other row) (λ row ok.
         receive-turned rows pairs (name_of n.ports key) (shown_wait f row)
         ∙ ap (λ o. is_receive (shown_wait f row) && is_the (name_of n.ports row.wait.port) o) (sym client)
@@ -273,14 +274,14 @@ module _ (it : Tables) (calls made : ℕ) (is : AreLawful it calls made) where
         ∙ ap (λ t. t && is_at other row) (seen row.wait.kind row.message.items row.accepted).receive)
 
     pub next-receive_across : (other : Key) → stands n.ports other ≡ true → Some (name_of n.ports other) ≡ client_across rows (name_of n.ports key) → (r : Option ℕ)
-        → r ≡ first_thread (waits.is_receive_on other) it.waits → IsNext rows ReceivesAcross (name_of n.ports key) r
+        → r ≡ first_thread (waits.is_receive_on other) lent → IsNext rows ReceivesAcross (name_of n.ports key) r
     next-receive_across other stand client r at = receive_across (Some other) stand client r at
 
     pub no-receive_across : None ≡ client_across rows (name_of n.ports key) → IsNext rows ReceivesAcross (name_of n.ports key) None
-    no-receive_across client = receive_across None refl client None (none-first (λ row. waits.is_receive row.wait.kind) it.waits.rows)
+    no-receive_across client = receive_across None refl client None (none-first (λ row. waits.is_receive row.wait.kind) lent.rows)
 
     pub next-accepted_across : (other : Option Key) → some_stands n.ports other ≡ true → name_in other ≡ pair_of rows (name_of n.ports key) → (r : Option ℕ)
-        → r ≡ first_thread (waits.is_accepted_at key other) it.waits → IsNext rows AcceptedAcross (name_of n.ports key) r
+        → r ≡ first_thread (waits.is_accepted_at key other) lent → IsNext rows AcceptedAcross (name_of n.ports key) r
     next-accepted_across other stand pair = next_met AcceptedAcross (name_of n.ports key) (waits.is_accepted_at key other) (λ row ok.
         accepted-turned rows pairs (name_of n.ports key) (shown_wait f row)
         ∙ ap (λ o. is_accepted (shown_wait f row) && (is_made_on (name_of n.ports key) (shown_wait f row) || is_the (name_of n.ports row.wait.port) o)) (sym pair)
