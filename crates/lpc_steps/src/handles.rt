@@ -99,6 +99,14 @@ pub fn port_at(world: &World, tid: u32, handle: u32) -> Result<Key, Status>
     }
 }
 
+/// How many handles a process has, with those that its waiting connects are to get.
+fn handle_load(world: &World, pid: u32) -> usize
+    requires { has (is_table pid) world.now.rows.handles ≡ true }
+    ensures { result ≡ tests.handle_load world.now.rows pid }
+{
+    world.handles(pid).count() + world.waits().connects_of(pid)
+}
+
 /// The process may have so many more handles, of which there are at most 256; QUOTA_EXCEEDED where it would have over 256
 /// then, with those that its waiting connects are to get.
 pub fn handles_test(world: &World, pid: u32, more: usize) -> Result<(), Status>
@@ -107,7 +115,7 @@ pub fn handles_test(world: &World, pid: u32, more: usize) -> Result<(), Status>
     ensures full { result ≡ tests.handles_test world.now.rows pid more }
     ensures few { OnOk result (tests.handle_load world.now.rows pid + more ≤ HANDLE_LIMIT) }
 {
-    if world.handle_load(pid) > HANDLE_LIMIT - more {
+    if handle_load(world, pid) > HANDLE_LIMIT - more {
         return Err(QUOTA_EXCEEDED);
     }
     Ok(())

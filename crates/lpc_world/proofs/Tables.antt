@@ -3,6 +3,7 @@ use Rattle.std.proofs.Common.{◌≡◌, ℕ, ◌*◌, ◌<◌, ◌≤◌, ◌&&
 use Rattle.std.specs.Prelude.{Result, Ok, Err, IfOk, OnErr, OnOk, is_some, nat_le, ◌==◌, ◌+◌}
 use Rattle.std.proofs.lemmas.Bool.{eqb-true}
 use Rattle.std.proofs.lemmas.List.{length-map}
+use Rattle.lpc_base.specs.declared.birth.Birth.{Birth}
 use Rattle.lpc_base.specs.Places.{least_handle}
 use Rattle.lpc_base.specs.Rows.{change, count, first, has}
 use Rattle.std.proofs.lemmas.Bool.Decides.{nat_tests}
@@ -43,6 +44,19 @@ room_at parts pid = ap kept.room_in (first-map room_of_part (λ _. true) (is_par
     spared : (o : Option Part) → kept.room_in (option_map room_of_part o) ≡ spare_in o
     spared None = refl
     spared (Some part) = refl
+
+-- A table's connects are those of the definitions
+connect_is : (kind : WaitKind) (bytes : List ℕ) (accepted : Option Accepted)
+    → ((elim (shown_kind kind bytes accepted) [ model.Connect m ↦ true | _ ↦ false ]) || (elim (shown_kind kind bytes accepted) [ model.Accepted m reply ↦ true | _ ↦ false ])) ≡ waits.is_connect kind
+connect_is wait.Connect bytes None = refl
+connect_is wait.Connect bytes (Some accepted) = refl
+connect_is b bytes accepted = refl
+
+pub connect_same : (f : Object → Birth) (row : WaitRow) → found.is_connect (shown_wait f row) ≡ waits.is_connect row.wait.kind
+connect_same f row = connect_is row.wait.kind row.message.items row.accepted
+
+pub connects_shown : (f : Object → Birth) (pid : ℕ) (rows : List WaitRow) → count (is_connect_of pid) (map (shown_wait f) rows) ≡ count (waits.is_connect_of pid) rows
+connects_shown f pid rows = count-map (shown_wait f) (λ _. true) (waits.is_connect_of pid) (is_connect_of pid) (λ row _. ap (λ b. b && (row.wait.process == pid)) (connect_same f row)) rows (every-true rows)
 
 module _ (it : Tables) (calls made : ℕ) (is : AreLawful it calls made) where
   abbrev rows : World
@@ -147,17 +161,8 @@ module _ (it : Tables) (calls made : ℕ) (is : AreLawful it calls made) where
   welcome pid there load room = record { place = rw (← room_at it.parts pid) room; load = load; table = there }
 
   -- how many of a process's threads wait in a connect
-  connect_is : (kind : WaitKind) (bytes : List ℕ) (accepted : Option Accepted)
-      → ((elim (shown_kind kind bytes accepted) [ model.Connect m ↦ true | _ ↦ false ]) || (elim (shown_kind kind bytes accepted) [ model.Accepted m reply ↦ true | _ ↦ false ])) ≡ waits.is_connect kind
-  connect_is wait.Connect bytes None = refl
-  connect_is wait.Connect bytes (Some accepted) = refl
-  connect_is b bytes accepted = refl
-
-  pub connect_same : (row : WaitRow) → found.is_connect (shown_wait (birth_of (births_of it.ports)) row) ≡ waits.is_connect row.wait.kind
-  connect_same row = connect_is row.wait.kind row.message.items row.accepted
-
   pub promised_are : (pid : ℕ) → kept.owed_handles rows pid ≡ count (waits.is_connect_of pid) it.waits.rows
-  promised_are pid = count-map (shown_wait (birth_of (births_of it.ports))) (λ _. true) (waits.is_connect_of pid) (is_connect_of pid) (λ row _. ap (λ b. b && (row.wait.process == pid)) (connect_same row)) it.waits.rows (every-true it.waits.rows)
+  promised_are pid = connects_shown (birth_of (births_of it.ports)) pid it.waits.rows
 
   pub load_bound : (pid : ℕ) → has (is_table pid) rows.handles ≡ true → handle_load rows pid ≤ 256
   load_bound pid there = by_first (first (is_table pid) rows.handles) refl

@@ -1,7 +1,9 @@
 // The tables as they are lent for reading: each with the rows that it stands for, and what the world keeps of them.
-ghost use Rattle.std.specs.Prelude.{◌≡◌, map, true};
+ghost use Rattle.std.specs.Prelude.{◌≡◌, ◌≤◌, map, true};
 ghost use Rattle.lpc_base.specs.Rows.{every, has};
+ghost use Rattle.lpc_base.specs.declared.limits.TheConstants.{HANDLE_LIMIT};
 ghost use Rattle.lpc_model.specs.Found.{handles_of, is_table, is_taken};
+ghost use Rattle.lpc_model.specs.Tests.{handle_load};
 ghost use Rattle.lpc_world.specs.Kept.{OwnPend};
 ghost use Rattle.lpc_world.specs.Lawful.{AreBornIn, are_single};
 ghost use Rattle.lpc_world.specs.Names.{are_apart};
@@ -66,6 +68,7 @@ impl World {
         requires { has (is_table pid) self.now.rows.handles ≡ true }
         ensures rows { handles_of self.now.rows pid
             ≡ shown_in self.now shown_handle result.now.rows }
+        ensures load { handle_load self.now.rows pid ≤ HANDLE_LIMIT }
     {
         parts::handles_of(&self.parts, pid)
     }

@@ -2,8 +2,7 @@
 ghost use Rattle.std.specs.Prelude.{◌≡◌, ◌<◌, None, Some, true, false, is_none, IfSome, length, option_map};
 ghost use Rattle.lpc_base.specs.Rows.{count, has};
 ghost use Rattle.lpc_model.specs.Found as found;
-ghost use Rattle.lpc_model.specs.Found.{datagrams, handle_at, handles_of, is_live_thread, is_table, is_thread, live_count, objects, same_birth, waits_as, waits_at, was_process, was_thread};
-ghost use Rattle.lpc_model.specs.Tests as tests;
+ghost use Rattle.lpc_model.specs.Found.{datagrams, handle_at, is_live_thread, is_table, is_thread, live_count, objects, same_birth, waits_as, waits_at, was_process, was_thread};
 ghost use Rattle.lpc_world.specs.Lawful.{are_single};
 ghost use Rattle.lpc_world.specs.Names.{are_apart, some_stands, stands};
 ghost use Rattle.lpc_world.specs.Shown.{object_stands, shown_creator, shown_thread};
@@ -118,21 +117,6 @@ impl World {
         ensures object { IfSome result (λ row. HasRow self.now row.object) }
     {
         parts::handles_of(&self.parts, pid).get(value)
-    }
-
-    fn handle_count(&self, pid: u32) -> usize
-        requires { has (is_table pid) self.now.rows.handles ≡ true }
-        ensures { result ≡ length (handles_of self.now.rows pid) }
-    {
-        parts::handles_of(&self.parts, pid).count()
-    }
-
-    /// How many handles a process has, with those that its waiting connects are to get.
-    pub fn handle_load(&self, pid: u32) -> usize
-        requires { has (is_table pid) self.now.rows.handles ≡ true }
-        ensures { result ≡ tests.handle_load self.now.rows pid }
-    {
-        self.handle_count(pid) + self.waits.connects_of(pid)
     }
 
     /// A handle names the port.

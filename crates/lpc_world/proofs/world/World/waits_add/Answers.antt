@@ -26,7 +26,7 @@ invariant_of-self c =
     let there = rw (← c.self.view_is) at c.requires in
     rw c.add.ensures.table (steps.awaited (tables_of c.self.inside.procs c.self.inside.parts.items c.self.inside.ports c.self.inside.waits c.self.inside.names) c.self.inside.calls c.self.inside.made c.self.invariant (record { thread = c.args.tid; wait = c.args.wait; message = record { items = [] }; accepted = None }) (steps.two_stand (tables_of c.self.inside.procs c.self.inside.parts.items c.self.inside.ports c.self.inside.waits c.self.inside.names) c.self.inside.calls c.self.inside.made c.self.invariant c.args.wait.port c.args.wait.queue there.port there.queue) there.budget there.live there.ready there.quiet
     (promised.begins (rows_by (tables_of c.self.inside.procs c.self.inside.parts.items c.self.inside.ports c.self.inside.waits c.self.inside.names)).waits (rows_by (tables_of c.self.inside.procs c.self.inside.parts.items c.self.inside.ports c.self.inside.waits c.self.inside.names)).handles c.self.inside.parts.items c.self.invariant.promised (shown_wait (birth_of (births_of c.self.inside.ports)) (record { thread = c.args.tid; wait = c.args.wait; message = record { items = [] }; accepted = None })) (tables.single (tables_of c.self.inside.procs c.self.inside.parts.items c.self.inside.ports c.self.inside.waits c.self.inside.names) c.self.inside.calls c.self.inside.made c.self.invariant) c.self.invariant.lawful.tables_single (tables.fresh_taken (tables_of c.self.inside.procs c.self.inside.parts.items c.self.inside.ports c.self.inside.waits c.self.inside.names) c.self.inside.calls c.self.inside.made c.self.invariant c.args.tid c.args.wait)
-    (λ connects. let is = sym (tables.connect_same (tables_of c.self.inside.procs c.self.inside.parts.items c.self.inside.ports c.self.inside.waits c.self.inside.names) c.self.inside.calls c.self.inside.made c.self.invariant (record { thread = c.args.tid; wait = c.args.wait; message = record { items = [] }; accepted = None })) ∙ connects in tables.welcome (tables_of c.self.inside.procs c.self.inside.parts.items c.self.inside.ports c.self.inside.waits c.self.inside.names) c.self.inside.calls c.self.inside.made c.self.invariant c.args.wait.process (there.table is) (there.load is) (there.handles is))))
+    (λ connects. let is = sym (tables.connect_same (birth_of (births_of c.self.inside.ports)) (record { thread = c.args.tid; wait = c.args.wait; message = record { items = [] }; accepted = None })) ∙ connects in tables.welcome (tables_of c.self.inside.procs c.self.inside.parts.items c.self.inside.ports c.self.inside.waits c.self.inside.names) c.self.inside.calls c.self.inside.made c.self.invariant c.args.wait.process (there.table is) (there.load is) (there.handles is))))
 
 pub returns-clause-unsent : goal.returns-clause-unsent
 returns-clause-unsent c =
