@@ -3,6 +3,7 @@ ghost use Rattle.lpc_world.specs.Kept.{grown_messages};
 ghost use Rattle.std.specs.Prelude.{◌≡◌, ◌<◌, ◌+◌, ◌≤◌, Ok, Err, true, false, IfOk, MatchResult, OnErr, OnOk, IsErr};
 ghost use Rattle.lpc_base.specs.declared.limits.TheConstants.{LINES_LIMIT};
 ghost use Rattle.lpc_model.specs.Lines.{register_thread_terminate_port};
+ghost use Rattle.lpc_model.specs.Register as register;
 ghost use Rattle.lpc_model.specs.Register.{is_registered, register_steps};
 ghost use Rattle.lpc_world.specs.Called.{MayServe, service};
 ghost use Rattle.lpc_world.specs.Clauses.{birth_at};
@@ -10,12 +11,46 @@ ghost use Rattle.lpc_world.specs.Names.{stands};
 ghost use Rattle.lpc_world.specs.Ready.{HasRoom, caller, is_ready};
 ghost use Rattle.lpc_world.specs.Registered.{HasFewRegistrations};
 
-use lpc_base::status::SUCCESS;
+use lpc_base::limits::REGISTRATION_LIMIT;
+use lpc_base::status::{QUOTA_EXCEEDED, SUCCESS};
 use lpc_base::{OutOfMemory, Status};
 use lpc_model::{CallName, Entries, Entry, Fields, Outcome, refuse};
 use lpc_slots::Key;
 use lpc_steps::port_at;
 use lpc_world::World;
+
+/// The thread, which can make a call, registered the port.
+pub fn has_registered(world: &World, tid: u32, port: Key) -> bool
+    requires ready { is_ready world.now.rows tid ≡ true }
+    requires port { stands world.now.births.ports port ≡ true }
+    ensures { let by = caller world.now.rows tid in
+        result ≡ is_registered (birth_at world.now port) by }
+{
+    let by = world.caller(tid);
+    let birth = world.port(port).birth;
+    world.procs().is_registered(by.number, birth)
+}
+
+/// The thread has this port registered already, or may register a further one; QUOTA_EXCEEDED where it registered
+/// 16 others.
+pub fn registration_test(world: &World, tid: u32, port: Key) -> Result<(), Status>
+    requires ready { is_ready world.now.rows tid ≡ true }
+    requires port { stands world.now.births.ports port ≡ true }
+    ensures test { let by = caller world.now.rows tid in
+        result ≡ register.registration_test by (birth_at world.now port) }
+    ensures few { let by = caller world.now.rows tid in
+        OnOk result (is_registered (birth_at world.now port) by ≡ false →
+        HasFewRegistrations world.now.rows tid) }
+{
+    if has_registered(world, tid, port) {
+        return Ok(());
+    }
+    let by = world.caller(tid);
+    if world.procs().registration_count(by.number) >= REGISTRATION_LIMIT {
+        return Err(QUOTA_EXCEEDED);
+    }
+    Ok(())
+}
 
 /// The port that a thread is to register: the refusals of its handle, and QUOTA_EXCEEDED where the thread registered 16
 /// others.
@@ -33,7 +68,7 @@ fn register_test(world: &World, tid: u32, handle: u32) -> Result<Key, Status>
         HasFewRegistrations world.now.rows tid) }
 {
     let port = port_at(world, tid, handle)?;
-    world.registration_test(tid, port)?;
+    registration_test(world, tid, port)?;
     Ok(port)
 }
 
@@ -80,7 +115,7 @@ pub fn nt_register_thread_terminate_port(
             ));
         }
     };
-    let registered = world.has_registered(by, port);
+    let registered = has_registered(world, by, port);
     if !registered {
         world.messages_reserve(1)?;
     }

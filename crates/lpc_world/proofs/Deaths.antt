@@ -1,20 +1,16 @@
--- What isn't told yet of threads that have ended: the table finds the first of it. And what a thread that can make a
--- call has registered.
-use Rattle.std.proofs.Common.{◌≡◌, ◌<◌, ◌≤◌, ◌∙◌, ℕ, List, [], ◌∷◌, Bool, true, false, length, map, Option, Some, None, option_map, refl, ap, sym, subst, arith}
-use Rattle.std.specs.Prelude.{◌==◌, Err, MatchOption, Ok, nat_le, is_some, option_and_then, slice_get}
+-- What isn't told yet of threads that have ended: the table finds the first of it.
+use Rattle.std.proofs.Common.{◌≡◌, ◌∙◌, ℕ, List, [], ◌∷◌, Bool, true, false, map, Option, Some, None, option_map, refl, ap, sym, subst, arith}
+use Rattle.std.specs.Prelude.{◌==◌, MatchOption, is_some, option_and_then, slice_get}
 use Rattle.std.proofs.lemmas.Bool.{eqb-true}
 use Rattle.std.proofs.lemmas.Bool.Decides.{nat_tests}
-use Rattle.std.proofs.lemmas.List.{length-map}
 use Rattle.std.proofs.lemmas.Option.{same_Some}
 use Rattle.lpc_base.specs.declared.birth.Birth.{Birth}
-use Rattle.lpc_base.specs.declared.status.TheConstants.{QUOTA_EXCEEDED}
-use Rattle.lpc_base.specs.Rows.{differ_by, each, every, first, given, has, which}
+use Rattle.lpc_base.specs.Rows.{differ_by, each, every, first, has, which}
 use Rattle.lpc_base.proofs.RowMaps.{every-first}
 use Rattle.lpc_base.proofs.RowWords.{first-passes}
 use Rattle.lpc_base.proofs.Births.{birth-same}
 use Rattle.lpc_model.specs.Found as found
-use Rattle.lpc_model.specs.Found.{is_thread, live_thread, waits_as}
-use Rattle.lpc_model.specs.Register.{is_registered, registration_test}
+use Rattle.lpc_model.specs.Found.{is_thread, waits_as}
 use Rattle.lpc_model.specs.World as model
 use Rattle.lpc_model.specs.World.{World}
 use Rattle.lpc_procs.specs.Procs as procs
@@ -26,13 +22,11 @@ use Rattle.lpc_waits.specs.declared.WaitRow.{WaitRow}
 use Rattle.lpc_world.specs.Kept.{rows_by}
 use Rattle.lpc_world.specs.Lawful.{AreLawful, are_single_threads, has_named_ports, is_under_name}
 use Rattle.lpc_world.specs.Names.{name_of, stands}
-use Rattle.lpc_world.specs.Ready.{caller, is_ready, thread_in}
 use Rattle.lpc_world.specs.Registered as registered
-use Rattle.lpc_world.specs.Registered.{Death, HasFewRegistrations, accepted_port_in, death_by, deaths_of, has_ended_in, registrations_of, untold_of}
+use Rattle.lpc_world.specs.Registered.{Death, accepted_port_in, death_by, deaths_of, has_ended_in, untold_of}
 use Rattle.lpc_world.specs.Shown.{Births, Tables, all_pass, birth_of, births_of, object_stands, shown_thread, shown_wait, wait_refs}
 use Rattle.lpc_world.proofs.Connecting.{accepted_kind}
 use Rattle.lpc_world.proofs.Readings as readings
-use Rattle.lpc_world.proofs.Registered.{births-registered}
 
 abbrev head_of : ThreadRow → Option Death
 head_of t = option_map (λ (r : Registration). death_by (shown_thread t) r.birth) (procs.first_registered t)
@@ -173,63 +167,3 @@ module _ (it : Tables) (calls made : ℕ) (is : AreLawful it calls made) where
       by_row (Some row) here =
           of_row row (every-first (all_pass wait_refs (object_stands n)) (waits.is_of tid) it.waits.rows row is.named.refs.in_waits here)
           (seen ∙ ap (λ o. option_and_then accepted_port_in (option_map (shown_wait (birth_of n)) o)) here) (waits.is_accepted row) refl
-
--- What a thread that can make a call has registered
-module _ (it : Tables) (calls made : ℕ) (is : AreLawful it calls made) where
-  -- its row in the table
-  pub record IsRow (tid : ℕ) : Type 0 where
-    pub row : ThreadRow
-    pub found : first (procs.is_thread tid) it.procs.threads ≡ Some row
-    pub shown : caller (rows_by it) tid ≡ shown_thread row
-
-  pub caller_row : (tid : ℕ) → is_ready (rows_by it) tid ≡ true → IsRow tid
-  unfolding caller
-  caller_row tid ready = by_row (first (procs.is_live_thread tid) it.procs.threads) refl
-    where
-      live : live_thread (rows_by it) tid ≡ option_map shown_thread (first (procs.is_live_thread tid) it.procs.threads)
-      live = readings.first-shown shown_thread (procs.is_live_thread tid) (found.is_live_thread tid) (λ t. refl) it.procs.threads
-
-      by_row : (o : Option ThreadRow) → first (procs.is_live_thread tid) it.procs.threads ≡ o → IsRow tid
-      by_row None none = let gone : live_thread (rows_by it) tid ≡ None = live ∙ ap (option_map shown_thread) none in let never : false ≡ true = rw gone at ready in absurd (cc)
-      by_row (Some t) here =
-          let number : t.number ≡ tid = eqb-true t.number tid (let passes = first-passes (procs.is_live_thread tid) it.procs.threads t here in grind arith) in
-          record {
-            row = t;
-            found = subst (λ k. first (procs.is_thread k) it.procs.threads ≡ Some t) number (own_first (procs.is_live_thread tid) it.procs.threads t (differ_shown it.procs.threads is.drawn.threads_single) here);
-            shown = ap thread_in (live ∙ ap (option_map shown_thread) here);
-          }
-
-  same_bool : (a b : Bool) → let x : Option Bool = Some a in let y : Option Bool = Some b in x ≡ y → a ≡ b
-  same_bool a b e = cc
-
-  same_nat : (a b : ℕ) → let x : Option ℕ = Some a in let y : Option ℕ = Some b in x ≡ y → a ≡ b
-  same_nat a b e = cc
-
-  -- it registered a port, and so many
-  pub caller_registered : (tid : ℕ) (b : Birth) (result : Bool) → is_ready (rows_by it) tid ≡ true → option_map (procs.has_registered b) (first (procs.is_thread tid) it.procs.threads) ≡ Some result
-      → result ≡ is_registered b (caller (rows_by it) tid)
-  caller_registered tid b result ready at =
-      let r = caller_row tid ready in
-      let here : procs.has_registered b r.row ≡ result = same_bool (procs.has_registered b r.row) result (sym (ap (option_map (procs.has_registered b)) r.found) ∙ at) in
-      sym here ∙ sym (births-registered b r.row.registered.items) ∙ sym (ap (is_registered b) r.shown)
-
-  pub caller_count : (tid count : ℕ) → is_ready (rows_by it) tid ≡ true → option_map (λ (t : ThreadRow). length t.registered.items) (first (procs.is_thread tid) it.procs.threads) ≡ Some count
-      → length (caller (rows_by it) tid).registrations ≡ count
-  caller_count tid count ready at =
-      let r = caller_row tid ready in
-      let here : length r.row.registered.items ≡ count = same_nat (length r.row.registered.items) count (sym (ap (option_map (λ (t : ThreadRow). length t.registered.items)) r.found) ∙ at) in
-      ap (λ (t : model.ThreadRow). length t.registrations) r.shown ∙ length-map r.row.registered.items (λ (x : Registration). x.birth) ∙ here
-
-  pub caller_few : (tid : ℕ) → is_ready (rows_by it) tid ≡ true → length (caller (rows_by it) tid).registrations < 16 → HasFewRegistrations (rows_by it) tid
-  caller_few tid ready few =
-      let r = caller_row tid ready in
-      let row : first (is_thread tid) (rows_by it).threads ≡ Some (shown_thread r.row) = readings.first-shown shown_thread (procs.is_thread tid) (is_thread tid) (λ t. refl) it.procs.threads ∙ ap (option_map shown_thread) r.found in
-      let same : registrations_of (rows_by it) tid ≡ (caller (rows_by it) tid).registrations = ap (λ o. given o (λ (t : model.ThreadRow). t.registrations)) row ∙ sym (ap (λ (t : model.ThreadRow). t.registrations) r.shown) in
-      subst (λ bs. length bs < 16) (sym same) few
-
--- The test of a further registration
-pub is_refused : (by : model.ThreadRow) (b : Birth) (count : ℕ) → is_registered b by ≡ false → length by.registrations ≡ count → 16 ≤ count → registration_test by b ≡ Err QUOTA_EXCEEDED
-is_refused by b count off long full = let le : nat_le 16 count ≡ true = grind (arith, nat_tests) in rw (off, long, le) refl
-
-pub is_granted : (by : model.ThreadRow) (b : Birth) (count : ℕ) → is_registered b by ≡ false → length by.registrations ≡ count → count < 16 → registration_test by b ≡ Ok tt
-is_granted by b count off long few = let le : nat_le 16 count ≡ false = grind (arith, nat_tests) in rw (off, long, le) refl

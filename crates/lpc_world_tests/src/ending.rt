@@ -13,6 +13,7 @@ use lpc_base::status::SUCCESS;
 use lpc_base::{PortKind, Status};
 use lpc_machine::Machine;
 use lpc_model::{Call, CallName, Entries, Entry, Fields, Line, ProcArg};
+use lpc_request::{has_registered, registration_test};
 use lpc_slots::Key;
 use lpc_world::World;
 use std::process::Abort;
@@ -26,12 +27,12 @@ fn registers(rt: &impl Abort, world: &mut World, port: Key) -> Result<(), Fail>
     ensures calls { world.new.calls ≤ world.old.calls + 1 }
 {
     let caller = world.caller(24);
-    assert!(rt; !world.has_registered(24, port));
+    assert!(rt; !has_registered(world, 24, port));
     world.messages_reserve(1)?;
-    let Ok(()) = world.registration_test(24, port) else {
+    let Ok(()) = registration_test(world, 24, port) else {
         return Ok(assert!(rt; false));
     };
-    if world.has_registered(24, port) {
+    if has_registered(world, 24, port) {
         return Ok(assert!(rt; false));
     }
     world.begin_call();

@@ -1,58 +1,23 @@
 // Ports that threads register, and threads that end.
-ghost use Rattle.std.specs.Prelude.{◌≡◌, ◌+◌, ◌<◌, ◌≤◌, false, true, IfSome, OnOk, option_map};
+ghost use Rattle.std.specs.Prelude.{◌≡◌, ◌+◌, ◌<◌, ◌≤◌, false, true, IfSome, option_map};
 ghost use Rattle.lpc_base.specs.Rows.{first, has};
 ghost use Rattle.lpc_model.specs.Basics.{Registers, Unregisters};
 ghost use Rattle.lpc_model.specs.Found.{is_live_thread, is_thread, lives_in, waits_as};
-ghost use Rattle.lpc_model.specs.Register as register;
-ghost use Rattle.lpc_model.specs.Register.{is_registered};
 ghost use Rattle.lpc_world.specs.Clauses.{Finds, after, and_message, birth_at};
 ghost use Rattle.lpc_world.specs.Kept.{CanMake, IsStep, Roomy};
 ghost use Rattle.lpc_world.specs.Lawful.{are_single_threads};
 ghost use Rattle.lpc_world.specs.Names.{stands};
-ghost use Rattle.lpc_world.specs.Ready.{caller, is_ready};
 ghost use Rattle.lpc_world.specs.Registered as registered;
 ghost use Rattle.lpc_world.specs.Registered.{HasFewRegistrations, untold_of, death_shown, with_ended};
 
 use crate::Death;
 use crate::world::World;
-use lpc_base::limits::REGISTRATION_LIMIT;
-use lpc_base::status::QUOTA_EXCEEDED;
-use lpc_base::{Birth, Status};
+use lpc_base::Birth;
 use lpc_message::ClientId;
 use lpc_procs::Number;
 use lpc_slots::Key;
 
 impl World {
-    /// The thread, which can make a call, registered the port.
-    pub fn has_registered(&self, tid: u32, port: Key) -> bool
-        requires ready { is_ready self.now.rows tid ≡ true }
-        requires port { stands self.now.births.ports port ≡ true }
-        ensures { let by = caller self.now.rows tid in
-            result ≡ is_registered (birth_at self.now port) by }
-    {
-        self.procs.is_registered(tid, self.port(port).birth)
-    }
-
-    /// The thread has this port registered already, or may register a further one; QUOTA_EXCEEDED where it registered
-    /// 16 others.
-    pub fn registration_test(&self, tid: u32, port: Key) -> Result<(), Status>
-        requires ready { is_ready self.now.rows tid ≡ true }
-        requires port { stands self.now.births.ports port ≡ true }
-        ensures test { let by = caller self.now.rows tid in
-            result ≡ register.registration_test by (birth_at self.now port) }
-        ensures few { let by = caller self.now.rows tid in
-            OnOk result (is_registered (birth_at self.now port) by ≡ false →
-            HasFewRegistrations self.now.rows tid) }
-    {
-        if self.has_registered(tid, port) {
-            return Ok(());
-        }
-        if self.procs.registration_count(tid) >= REGISTRATION_LIMIT {
-            return Err(QUOTA_EXCEEDED);
-        }
-        Ok(())
-    }
-
     /// A port is registered with a thread that registered fewer than 16, behind those. There is a place for the message
     /// that is to tell of the thread's end.
     pub fn procs_register(&mut self, tid: u32, port: Key)
