@@ -162,8 +162,12 @@ pub fn nt_create_thread(
         IsErr (service world.old.rows by call) → world.new.room ≡ world.old.room }
     ensures capacity { let new = world.new.capacity in
         let old = world.old.capacity in
-        new ≡ record old { threads = new.threads; waits = new.waits;
-            messages = new.messages; handles = new.handles } }
+        new ≡ record old {
+          threads = new.threads;
+          waits = new.waits;
+          messages = new.messages;
+          handles = new.handles;
+        } }
     ensures asked_threads { let new = world.new.capacity in
         new.threads ≤ grown_threads world.old 1 }
     ensures asked_waits { let new = world.new.capacity in new.waits ≤ grown_waits world.old 1 }

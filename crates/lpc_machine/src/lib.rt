@@ -2,5 +2,7 @@
 #![tactic(auto)]
 
 mod machine;
+mod reading;
 
 pub use machine::Machine;
+pub use reading::{Condition, condition_of, objects, room_needed};

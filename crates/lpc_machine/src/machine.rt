@@ -24,8 +24,10 @@ ghost use Rattle.lpc_world.specs.Called.{MayServe};
 ghost use Rattle.lpc_world.specs.Does.{Took};
 ghost use Rattle.lpc_world.specs.Capacity.{but_lives, but_names};
 ghost use Rattle.lpc_world.specs.Kept.{Same};
-ghost use Rattle.lpc_world.specs.Ready.{HasRoom, is_ready, room_needed};
+ghost use Rattle.lpc_world.specs.Ready as ready;
+ghost use Rattle.lpc_world.specs.Ready.{HasRoom, is_ready};
 
+use crate::reading::{Condition, condition_of, objects, room_needed};
 use lpc_base::{OutOfMemory, Status};
 use lpc_connect::{
     nt_accept_connect_port, nt_complete_connect_port, nt_connect_port, nt_create_port,
@@ -42,7 +44,7 @@ use lpc_request::{
     nt_request_wait_reply_port,
 };
 use lpc_sweep::sweep;
-use lpc_world::{Condition, World};
+use lpc_world::World;
 use std::alloc::Global;
 use std::marker::Model;
 
@@ -154,7 +156,7 @@ fn run(world: &mut World, tid: u32, call: &Call<'_>, out: &mut Entries) -> Resul
     ensures capacity { call_takes_memory (call_of call.now) ≡ false →
         but_names world.new.capacity ≡ but_names world.old.capacity }
 {
-    match world.condition(tid) {
+    match condition_of(world, tid) {
         Condition::Absent => out.push(Entry::NoThread { tid }),
         Condition::Waits => out.push(Entry::Busy { tid }),
         Condition::Ready => {
@@ -234,16 +236,16 @@ impl Machine {
 
     /// The room for entries that one step asks for: three for each live thread, and one. No step takes more.
     pub fn room_needed(&self) -> usize
-        ensures { result ≡ room_needed self.now.rows }
+        ensures { result ≡ ready.room_needed self.now.rows }
     {
-        self.world.room_needed()
+        room_needed(&self.world)
     }
 
     /// How many objects there are: processes, threads and ports.
     pub fn objects(&self) -> usize
         ensures { result ≡ found.objects self.now.rows }
     {
-        self.world.objects()
+        objects(&self.world)
     }
 
     /// One line's step: its call or directive, and then the objects go that no row counts for. Its entries are added to

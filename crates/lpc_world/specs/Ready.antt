@@ -15,18 +15,8 @@ use Rattle.lpc_world.specs.Kept.{Kept, is_alive}
 use Rattle.lpc_slots.specs.declared.Key.{Key}
 use Rattle.lpc_homes.specs.declared.object.Object.{Object}
 use Rattle.lpc_homes.specs.declared.object.Object.TheVariants as object
-use Rattle.lpc_world.specs.declared.condition.Condition.{Condition}
-use Rattle.lpc_world.specs.declared.condition.Condition.TheVariants.{Absent, Ready, Waits}
 
 -- a thread that lives and doesn't wait can make a call
-abbrev pub condition_by : Option ThreadRow → Bool → Condition
-condition_by None waits = Absent
-condition_by (Some t) false = Ready
-condition_by (Some t) true = Waits
-
-abbrev pub condition_of : World → ℕ → Condition
-condition_of w tid = condition_by (live_thread w tid) (is_some (wait_of w tid))
-
 abbrev pub is_ready : World → ℕ → Bool
 is_ready w tid = is_some (live_thread w tid) && is_none (wait_of w tid)
 

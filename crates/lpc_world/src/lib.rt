@@ -1,11 +1,9 @@
 //! The composed world: the tables together, seen as the rows of the definitions.
 #![tactic(auto)]
 
-mod condition;
 mod death;
 mod world;
 
-pub use condition::Condition;
 pub use death::Death;
 pub use lpc_homes::Object;
 pub use world::World;

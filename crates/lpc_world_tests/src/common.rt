@@ -7,10 +7,11 @@ ghost use Rattle.lpc_world.specs.Ready.{is_ready};
 
 use lpc_base::{PortKind, Status};
 use lpc_directives::{boot, thread};
+use lpc_machine::{Condition, condition_of};
 use lpc_model::{FieldName, Fields, Value};
 use lpc_ports::Creator;
 use lpc_slots::Key;
-use lpc_world::{Condition, World};
+use lpc_world::World;
 use std::process::Abort;
 use std::test::Fail;
 
@@ -67,7 +68,7 @@ pub fn threads(
 pub fn can_call(rt: &impl Abort, world: &World, tid: u32)
     ensures { is_ready world.now.rows tid ≡ true }
 {
-    let Condition::Ready = world.condition(tid) else {
+    let Condition::Ready = condition_of(world, tid) else {
         panic!(rt; "the thread can't call");
     };
 }

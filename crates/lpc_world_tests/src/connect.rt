@@ -6,6 +6,7 @@ use crate::common::{boots, can_call, one};
 use lpc_base::status::SUCCESS;
 use lpc_connect::nt_create_port;
 use lpc_directives::directory;
+use lpc_machine::{objects, room_needed};
 use lpc_model::{CallName, Entries, Entry, FieldName, Outcome, Value};
 use lpc_names::Found;
 use lpc_world::World;
@@ -21,7 +22,7 @@ fn begins(rt: &impl Abort, world: &mut World, out: &mut Entries) -> Result<(), F
 {
     boots(rt, world, 20, 24, SUCCESS)?;
     can_call(rt, world, 24);
-    out.reserve(world.room_needed())?;
+    out.reserve(room_needed(world))?;
     Ok(())
 }
 
@@ -59,7 +60,7 @@ fn makes_the_first_port(rt: &impl Abort, world: &mut World, out: &mut Entries) -
 {
     makes_a_port(rt, world, None, out)?;
     answers_handle_4(rt, out)?;
-    assert!(rt; world.objects() == 3);
+    assert!(rt; objects(world) == 3);
     Ok(())
 }
 

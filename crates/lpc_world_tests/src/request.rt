@@ -8,6 +8,7 @@ use crate::common::{GIVEN, boots, can_call, makes_a_port, one, threads};
 use arrayvec::ArrayVec;
 use lpc_base::PortKind;
 use lpc_base::status::{REPLY_MESSAGE_MISMATCH, SUCCESS};
+use lpc_machine::room_needed;
 use lpc_model::{CallName, Entries, Entry, FieldName, Fields, Outcome, Value};
 use lpc_request::{
     nt_reply_port, nt_reply_wait_receive_port, nt_request_port, nt_request_wait_reply_port,
@@ -46,7 +47,7 @@ fn makes_room(world: &World, out: &mut Entries) -> Result<(), Fail>
     ensures { OnOk result (HasRoom world.now out.new) }
 {
     out.clear();
-    out.reserve(world.room_needed())?;
+    out.reserve(room_needed(world))?;
     Ok(())
 }
 

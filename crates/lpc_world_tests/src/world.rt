@@ -15,6 +15,7 @@ use lpc_base::status::{
 };
 use lpc_base::{PortKind, Status};
 use lpc_directives::{directory, link};
+use lpc_machine::{Condition, condition_of, objects, room_needed};
 use lpc_message::{ClientId, Header, kind};
 use lpc_model::{Body, Entries, Message, ObjectKind, kept};
 use lpc_names::{BindFault, Found};
@@ -25,7 +26,7 @@ use lpc_steps::{
     read_message, receive_test, route, wait_with,
 };
 use lpc_waits::{Wait, WaitKind};
-use lpc_world::{Condition, Object, World};
+use lpc_world::{Object, World};
 use std::process::Abort;
 use std::test::Fail;
 
@@ -53,9 +54,9 @@ fn makes_processes_and_threads(rt: &impl Abort, world: &mut World) -> Result<(),
 // What those directives left, counted.
 fn counts_processes_and_threads(rt: &impl Abort, world: &World) {
     assert!(rt; world.calls() == 6);
-    assert!(rt; world.objects() == 3);
+    assert!(rt; objects(world) == 3);
     assert!(rt; world.live_count(20) == 2);
-    assert!(rt; world.room_needed() == 7);
+    assert!(rt; room_needed(world) == 7);
 }
 
 // The numbers that those directives used.
@@ -76,8 +77,8 @@ fn is_client(world: &World, process: u32) -> bool {
 
 // The threads that those directives made.
 fn shows_threads(rt: &impl Abort, world: &World) {
-    assert!(rt; world.condition(28) == Condition::Ready);
-    assert!(rt; world.condition(20) == Condition::Absent);
+    assert!(rt; condition_of(world, 28) == Condition::Ready);
+    assert!(rt; condition_of(world, 20) == Condition::Absent);
     assert!(rt; is_client(world, 20) && !is_client(world, 32));
 }
 

@@ -1,10 +1,10 @@
 // The tables as they are lent for reading: each with the rows that it stands for, and what the world keeps of them.
-ghost use Rattle.std.specs.Prelude.{◌≡◌, ◌≤◌, map, true};
+ghost use Rattle.std.specs.Prelude.{◌≡◌, ◌*◌, ◌≤◌, map, true};
 ghost use Rattle.lpc_base.specs.Rows.{every, has};
-ghost use Rattle.lpc_base.specs.declared.limits.TheConstants.{HANDLE_LIMIT};
-ghost use Rattle.lpc_model.specs.Found.{handles_of, is_table, is_taken};
+ghost use Rattle.lpc_base.specs.declared.limits.TheConstants.{HANDLE_LIMIT, LINES_LIMIT};
+ghost use Rattle.lpc_model.specs.Found.{handles_of, is_table, is_taken, objects};
 ghost use Rattle.lpc_model.specs.Tests.{handle_load};
-ghost use Rattle.lpc_world.specs.Kept.{OwnPend};
+ghost use Rattle.lpc_world.specs.Kept.{CALL_BUDGET, OwnPend};
 ghost use Rattle.lpc_world.specs.Lawful.{AreBornIn, are_single};
 ghost use Rattle.lpc_world.specs.Names.{are_apart};
 ghost use Rattle.lpc_world.specs.Shown.{births_of, shown_binding, shown_handle, shown_message, shown_port, shown_process, shown_thread, shown_used, shown_wait, wait_refs};
@@ -28,6 +28,7 @@ impl World {
         ensures used_threads { self.now.rows.used_threads
             ≡ map shown_used result.now.used_threads }
         ensures born { AreBornIn self.now.rows }
+        ensures few { objects self.now.rows ≤ CALL_BUDGET * LINES_LIMIT }
     {
         &self.procs
     }

@@ -2,15 +2,14 @@
 ghost use Rattle.std.specs.Prelude.{◌≡◌, ◌<◌, None, Some, true, false, is_none, IfSome, length, option_map};
 ghost use Rattle.lpc_base.specs.Rows.{count, has};
 ghost use Rattle.lpc_model.specs.Found as found;
-ghost use Rattle.lpc_model.specs.Found.{datagrams, handle_at, is_live_thread, is_table, is_thread, live_count, objects, same_birth, waits_as, waits_at, was_process, was_thread};
+ghost use Rattle.lpc_model.specs.Found.{datagrams, handle_at, is_live_thread, is_table, is_thread, live_count, same_birth, waits_as, waits_at, was_process, was_thread};
 ghost use Rattle.lpc_world.specs.Lawful.{are_single};
 ghost use Rattle.lpc_world.specs.Names.{are_apart, some_stands, stands};
 ghost use Rattle.lpc_world.specs.Shown.{object_stands, shown_creator, shown_thread};
 ghost use Rattle.lpc_world.specs.Kept.{OwnPend, has_queued, is_alive, is_pending_in};
-ghost use Rattle.lpc_world.specs.Ready.{HasRow, IsWait, caller, condition_of, is_ready, room_needed, waiter};
+ghost use Rattle.lpc_world.specs.Ready.{HasRow, IsWait, caller, is_ready, waiter};
 ghost use Rattle.lpc_world.specs.Clauses.{Finds, FindsWait, IsOwnWait, birth_at, has_process, has_table, is_quiet_for, oldest, port_at, row_at, row_shown, some_birth, takes_at, thread_row};
 
-use crate::Condition;
 use crate::world::World;
 use lpc_handles::Row;
 use lpc_homes::{Object, parts};
@@ -21,22 +20,6 @@ use lpc_waits::Wait;
 
 impl World {
     // Threads and processes.
-
-    /// Whether a thread can make a call: no live thread has the number, it can, or it waits.
-    pub fn condition(&self, tid: u32) -> Condition
-        ensures { result ≡ condition_of self.now.rows tid }
-    {
-        match self.live_thread(tid) {
-            Some(_) => {
-                if self.is_waiting(tid) {
-                    Condition::Waits
-                } else {
-                    Condition::Ready
-                }
-            }
-            None => Condition::Absent,
-        }
-    }
 
     /// The row of a live thread: None exactly where no live thread has the number.
     pub fn live_thread(&self, tid: u32) -> Option<ThreadRow>
@@ -91,20 +74,6 @@ impl World {
         ensures { result ≡ live_count self.now.rows pid }
     {
         self.procs.live_count(pid)
-    }
-
-    /// How many objects there are: processes, threads and ports.
-    pub fn objects(&self) -> usize
-        ensures { result ≡ objects self.now.rows }
-    {
-        self.procs.processes() + self.procs.threads() + self.ports.count()
-    }
-
-    /// The room for entries that one step asks for: three for each live thread, and one. It is more than a step takes.
-    pub fn room_needed(&self) -> usize
-        ensures { result ≡ room_needed self.now.rows }
-    {
-        3 * self.procs.alive() + 1
     }
 
     // Handles.

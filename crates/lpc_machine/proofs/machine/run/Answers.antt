@@ -21,10 +21,10 @@ pub returns-in-Waits-clause-takes : goal.returns-in-Waits-clause-takes
 returns-in-Waits-clause-takes c =
     let w : World = c.args.world.now.rows in
     let call : ScriptCall = call_of c.args.call.now in
-    rw (c.push-in-Waits.ensures.list) (ap (λ (bs : List Basic). left_by w c.args.out.now.list c.args.world.now.loose bs) (sym (busy w c.args.tid call (sym c.condition.ensures ∙ c.in-Waits.is))))
+    rw (c.push-in-Waits.ensures.list) (ap (λ (bs : List Basic). left_by w c.args.out.now.list c.args.world.now.loose bs) (sym (busy w c.args.tid call (sym c.condition_of.ensures ∙ c.in-Waits.is))))
 
 pub returns-in_ok-serve-in-Ready-clause-takes : goal.returns-in_ok-serve-in-Ready-clause-takes
 returns-in_ok-serve-in-Ready-clause-takes c =
     let w : World = c.args.world.now.rows in
     let call : ScriptCall = call_of c.args.call.now in
-    c.in_ok-serve-in-Ready.ensures.serves.takes ∙ ap (λ (bs : List Basic). left_by w c.args.out.now.list c.args.world.now.loose bs) (sym (called w c.args.tid call (sym c.condition.ensures ∙ c.in-Ready.is)))
+    c.in_ok-serve-in-Ready.ensures.serves.takes ∙ ap (λ (bs : List Basic). left_by w c.args.out.now.list c.args.world.now.loose bs) (sym (called w c.args.tid call (sym c.condition_of.ensures ∙ c.in-Ready.is)))
