@@ -160,14 +160,12 @@ pub fn nt_create_thread(
         OnErr result (lacks_member_room world.old by ≡ true) }
     ensures room_stays { let call = create_thread process tid in
         IsErr (service world.old.rows by call) → world.new.room ≡ world.old.room }
-    ensures capacity { let new = world.new.capacity in
-        let old = world.old.capacity in
-        new ≡ record old {
-          threads = new.threads;
-          waits = new.waits;
-          messages = new.messages;
-          handles = new.handles;
-        } }
+    ensures processes { let new = world.new.capacity in
+        let old = world.old.capacity in new.processes ≡ old.processes }
+    ensures ports { let new = world.new.capacity in
+        let old = world.old.capacity in new.ports ≡ old.ports }
+    ensures names { let new = world.new.capacity in
+        let old = world.old.capacity in new.names ≡ old.names }
     ensures asked_threads { let new = world.new.capacity in
         new.threads ≤ grown_threads world.old 1 }
     ensures asked_waits { let new = world.new.capacity in new.waits ≤ grown_waits world.old 1 }
