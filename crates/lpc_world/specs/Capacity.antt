@@ -1,4 +1,4 @@
--- How much memory the world's tables have: a table asks for more of it, or never has more.
+-- How much memory the world's tables have.
 use Rattle.std.specs.Prelude.{◌≡◌, ℕ, ◌+◌, ◌==◌, Bool, false, List, length, map, max, min, Option, Some, None}
 use Rattle.lpc_base.specs.Rows.{first}
 use Rattle.lpc_homes.specs.declared.parts.Part.{Part}
@@ -9,8 +9,9 @@ pub record HandlePlaces : Type 0 where
   pub process : ℕ
   pub places : ℕ
 
--- How many rows each table has memory for, be they there or not: only a table that asks for memory has more of them. The
--- places of processes and threads are those of the numbers ever used, which stay used.
+-- How many rows each table has memory for, be they there or not: only a table that asks for memory has more of them. Of
+-- processes and threads it is the numbers ever used, which stay used, and the room for more: a row that goes may leave a
+-- place, so that there is room for one more then.
 pub record Capacity : Type 0 where
   pub processes : ℕ
   pub threads : ℕ
@@ -20,10 +21,11 @@ pub record Capacity : Type 0 where
   pub names : ℕ
   pub handles : List HandlePlaces
 
--- the memory of tables with so many places for parts left
+-- the places for handles of a process
 abbrev pub places_of_part : Part → HandlePlaces
 places_of_part part = record { process = part.process; places = part.handles.spare + length part.handles.rows }
 
+-- the memory of tables with so many places for parts left
 abbrev pub capacity_by : Tables → ℕ → Capacity
 capacity_by it places = record {
   processes = min it.procs.process_room places + length it.procs.used_processes;
@@ -43,10 +45,11 @@ but_names c = record c { names = 0 }
 abbrev pub but_lives : Capacity → Capacity
 but_lives c = record c { processes = 0; threads = 0 }
 
--- how many handles a process has memory for
+-- places are those of this process
 abbrev pub is_of_process : ℕ → HandlePlaces → Bool
 is_of_process pid p = p.process == pid
 
+-- how many handles a process has memory for
 abbrev pub places_in : Option HandlePlaces → ℕ
 places_in None = 0
 places_in (Some p) = p.places

@@ -147,7 +147,7 @@ pub record GainsNoLives (old new : Kept) : Type 0 where
   pub for_processes : new.room.processes + length new.rows.processes ≤ old.room.processes + length old.rows.processes
   pub for_threads : new.room.threads + length new.rows.threads ≤ old.room.threads + length old.rows.threads
 
--- nothing changed but the room
+-- nothing changed but the room, and the memory that it is of
 pub record Same (old new : Kept) : Type 0 where
   pub rows : new.rows ≡ old.rows
   pub births : new.births ≡ old.births
