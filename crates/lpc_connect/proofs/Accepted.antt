@@ -12,9 +12,9 @@ use Rattle.lpc_model.specs.Fields.{h}
 use Rattle.lpc_model.specs.Found.{free_handle, is_offered, port_name, waits_as}
 use Rattle.lpc_model.specs.Tests.{PORT_ACCESS, handle_row, next_birth}
 use Rattle.lpc_model.specs.World.{ThreadRow, WaitRow, World}
-use Rattle.lpc_world.specs.Does.{Left, left_by}
-use Rattle.lpc_world.specs.Kept.{is_pending_in, pends_as}
-use Rattle.lpc_world.specs.Ready.{wait_in, waiter}
+use Rattle.lpc_rows.specs.Does.{Left, left_by}
+use Rattle.lpc_rows.specs.Kept.{is_pending_in, pends_as}
+use Rattle.lpc_rows.specs.Ready.{wait_in, waiter}
 
 -- a connect that isn't accepted and isn't pending was received
 received-among : (tid : ℕ) (xs : List WaitRow) → has (waits_as tid) xs ≡ true → is_offered (wait_in (first (waits_as tid) xs)) ≡ true → has (pends_as tid) xs ≡ false

@@ -17,8 +17,8 @@ use Rattle.lpc_model.specs.Found.{free_handle, port_name, waits_as}
 use Rattle.lpc_model.specs.Machine.{settled}
 use Rattle.lpc_model.specs.Tests.{PORT_ACCESS, handle_row}
 use Rattle.lpc_model.specs.World.{ThreadRow, WaitRow, World}
-use Rattle.lpc_world.specs.Does.{Left, left_by}
-use Rattle.lpc_world.specs.Ready.{waiter}
+use Rattle.lpc_rows.specs.Does.{Left, left_by}
+use Rattle.lpc_rows.specs.Ready.{waiter}
 
 module _ (w : World) (es : List Entry) (l : Bool) (t : ThreadRow) (server client : Birth) (tid : ℕ) where
   abbrev x : WaitRow

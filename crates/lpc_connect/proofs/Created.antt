@@ -19,7 +19,7 @@ use Rattle.lpc_model.specs.Then.{◌>>=◌}
 use Rattle.lpc_model.specs.Tests.{PORT_ACCESS, handle_row, handles_test, next_birth}
 use Rattle.lpc_model.specs.World.{Path, ThreadRow, World}
 use Rattle.lpc_model.proofs.StepsInTurn.{after-append}
-use Rattle.lpc_world.specs.Does.{Left, left_by}
+use Rattle.lpc_rows.specs.Does.{Left, left_by}
 
 -- the birth that a thread draws is its next
 pub drawn-birth : (w : World) (t : ThreadRow) (b : Birth) → first (is_thread t.number) w.threads ≡ Some t → option_map next_birth (first (is_thread t.number) w.threads) ≡ Some b → b ≡ next_birth t

@@ -13,9 +13,9 @@ use Rattle.lpc_model.specs.Machine.{service_of}
 use Rattle.lpc_model.specs.World.{ThreadRow, World}
 use Rattle.lpc_model.specs.declared.message.Message.{Message}
 use Rattle.lpc_slots.specs.declared.Key.{Key}
-use Rattle.lpc_world.specs.Clauses.{birth_at, port_at}
-use Rattle.lpc_world.specs.Kept.{Kept}
-use Rattle.lpc_world.specs.Ready.{waiter}
+use Rattle.lpc_rows.specs.Clauses.{birth_at, port_at}
+use Rattle.lpc_rows.specs.Kept.{Kept}
+use Rattle.lpc_rows.specs.Ready.{waiter}
 
 -- Rows
 -- the thread stands, with this row

@@ -1,7 +1,7 @@
 -- The room that the calls need, and the room that they keep.
 use Rattle.std.specs.Prelude.{ℕ, ◌≤◌, ◌==◌, ◌&&◌, ◌||◌, Bool, nat_le, is_some, List, Option}
 use Rattle.lpc_model.specs.World.{ThreadRow}
-use Rattle.lpc_world.specs.Kept.{Kept, handle_room, owed_handles}
+use Rattle.lpc_rows.specs.Kept.{Kept, handle_room, owed_handles}
 
 -- no process lost room for handles
 abbrev pub KeepsHandleRoom : Kept → Kept → Type 0

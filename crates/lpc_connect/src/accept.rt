@@ -1,20 +1,20 @@
 // The call that answers a connect: it accepts it, or refuses it.
-ghost use Rattle.lpc_world.specs.Capacity.{KeepsOtherPlaces, handle_places};
+ghost use Rattle.lpc_rows.specs.Capacity.{KeepsOtherPlaces, handle_places};
 ghost use Rattle.std.specs.Prelude.{◌≡◌, ◌≤◌, ◌<◌, Ok, Err, true, false, IfErr, IfOk, IsOk, OnOk, OnErr, MatchResult, ◌+◌, IsErr};
 ghost use Rattle.lpc_base.specs.Rows.{has};
 ghost use Rattle.lpc_base.specs.declared.limits.TheConstants.{HANDLE_LIMIT, LINES_LIMIT};
-ghost use Rattle.lpc_world.specs.Clauses.{HasHandleRoom, IsOwnWait};
+ghost use Rattle.lpc_rows.specs.Clauses.{HasHandleRoom, IsOwnWait};
 ghost use Rattle.lpc_connect.specs.Calls.{Answering, HasThread, accepting, answer_with, shown_answer, was_received};
 ghost use Rattle.lpc_connect.specs.Room.{lacks_port_room};
 ghost use Rattle.lpc_model.specs.Connect as connect;
 ghost use Rattle.lpc_model.specs.Found.{is_offered, is_table, waits_as};
 ghost use Rattle.lpc_model.specs.Lines.{accept_connect_port};
 ghost use Rattle.lpc_model.specs.Tests as tests;
-ghost use Rattle.lpc_world.specs.Called.{MayServe, service};
-ghost use Rattle.lpc_world.specs.Does.{Took};
-ghost use Rattle.lpc_world.specs.Kept.{HasWholeBudget, grown_handles, grown_ports, has_queued, is_pending_in};
-ghost use Rattle.lpc_world.specs.Ready.{HasRoom, caller, is_ready, waiter};
-ghost use Rattle.lpc_world.specs.Shown.{shown_thread};
+ghost use Rattle.lpc_rows.specs.Called.{MayServe, service};
+ghost use Rattle.lpc_rows.specs.Does.{Took};
+ghost use Rattle.lpc_rows.specs.Kept.{HasWholeBudget, grown_handles, grown_ports, has_queued, is_pending_in};
+ghost use Rattle.lpc_rows.specs.Ready.{HasRoom, caller, is_ready, waiter};
+ghost use Rattle.lpc_rows.specs.Shown.{shown_thread};
 
 use crate::create::PORT_ACCESS;
 use lpc_base::status::{REPLY_MESSAGE_MISMATCH, SUCCESS};
@@ -123,7 +123,7 @@ fn refuse_connect(
 }
 
 /// A connect is accepted: the server port is made, gets a handle, and is joined to the client port.
-#[tactic(auto, unfolding(lpc_world::specs::Ready::waiter))]
+#[tactic(auto, unfolding(lpc_rows::specs::Ready::waiter))]
 fn accept_connect(
     world: &mut World,
     by: &ThreadRow,

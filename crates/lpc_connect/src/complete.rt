@@ -2,17 +2,17 @@
 ghost use Rattle.std.specs.Prelude.{◌≡◌, ◌≤◌, ◌<◌, Ok, Err, IfOk, MatchResult, true, false, ◌+◌};
 ghost use Rattle.lpc_base.specs.Rows.{has};
 ghost use Rattle.lpc_base.specs.declared.limits.TheConstants.{LINES_LIMIT};
-ghost use Rattle.lpc_world.specs.Clauses.{IsOwnWait};
+ghost use Rattle.lpc_rows.specs.Clauses.{IsOwnWait};
 ghost use Rattle.lpc_connect.specs.Calls.{completing, shown_connection};
 ghost use Rattle.lpc_model.specs.Connect as connect;
 ghost use Rattle.lpc_model.specs.Found.{is_accepted, waits_as};
 ghost use Rattle.lpc_model.specs.Lines.{complete_connect_port};
-ghost use Rattle.lpc_world.specs.Called.{Served};
-ghost use Rattle.lpc_world.specs.Does.{Took};
-ghost use Rattle.lpc_world.specs.Kept.{CanMake, has_queued};
-ghost use Rattle.lpc_world.specs.Names.{stands};
-ghost use Rattle.lpc_world.specs.Ready.{HasRoom, caller, is_ready, waiter};
-ghost use Rattle.lpc_world.specs.Shown.{shown_thread};
+ghost use Rattle.lpc_rows.specs.Called.{Served};
+ghost use Rattle.lpc_rows.specs.Does.{Took};
+ghost use Rattle.lpc_rows.specs.Kept.{CanMake, has_queued};
+ghost use Rattle.lpc_rows.specs.Names.{stands};
+ghost use Rattle.lpc_rows.specs.Ready.{HasRoom, caller, is_ready, waiter};
+ghost use Rattle.lpc_rows.specs.Shown.{shown_thread};
 
 use crate::create::PORT_ACCESS;
 use lpc_base::Status;
@@ -54,7 +54,7 @@ fn complete_test(world: &World, tid: u32, handle: u32) -> Result<Connection, Sta
 }
 
 /// A connection is completed: the client gets its handle, and its thread is told.
-#[tactic(auto, unfolding(lpc_world::specs::Ready::waiter))]
+#[tactic(auto, unfolding(lpc_rows::specs::Ready::waiter))]
 fn complete(world: &mut World, by: &ThreadRow, connection: Connection, out: &mut Entries)
     requires spare { 2 ≤ out.old.spare }
     requires server { stands world.old.births.ports connection.server ≡ true }

@@ -1,9 +1,9 @@
 // The call that asks for a connection.
-ghost use Rattle.lpc_world.specs.Capacity.{KeepsOtherPlaces, handle_places};
+ghost use Rattle.lpc_rows.specs.Capacity.{KeepsOtherPlaces, handle_places};
 ghost use Rattle.std.specs.Prelude.{◌≡◌, ◌≤◌, ◌<◌, ◌+◌, Ok, Err, None, Some, IfErr, IfOk, OnOk, OnErr, false, length, true, IsErr};
 ghost use Rattle.lpc_base.specs.Rows.{has};
 ghost use Rattle.lpc_base.specs.declared.limits.TheConstants.{HANDLE_LIMIT, HEADER_SIZE, LINES_LIMIT, MESSAGE_LIMIT};
-ghost use Rattle.lpc_world.specs.Clauses.{HasHandleRoom, birth_at};
+ghost use Rattle.lpc_rows.specs.Clauses.{HasHandleRoom, birth_at};
 ghost use Rattle.lpc_connect.specs.Calls.{HasThread, connecting, draws};
 ghost use Rattle.lpc_connect.specs.Room.{KeepsHandleRoom, lacks_connect_room};
 ghost use Rattle.lpc_model.specs.Basics.{basic, world_after, Makes};
@@ -14,13 +14,13 @@ ghost use Rattle.lpc_model.specs.Machine.{service_of};
 ghost use Rattle.lpc_model.specs.Message.{asks};
 ghost use Rattle.lpc_model.specs.Tests as tests;
 ghost use Rattle.lpc_model.specs.Tests.{next_birth};
-ghost use Rattle.lpc_world.specs.Called.{MayServe, service};
-ghost use Rattle.lpc_world.specs.Does.{Took};
-ghost use Rattle.lpc_world.specs.Kept.{CanMake, HasWholeBudget, grown_handles, grown_messages, grown_ports};
-ghost use Rattle.lpc_world.specs.Lawful.{drew};
-ghost use Rattle.lpc_world.specs.Names.{name_of, stands};
-ghost use Rattle.lpc_world.specs.Ready.{HasRoom, caller, is_ready};
-ghost use Rattle.lpc_world.specs.Shown.{shown_thread};
+ghost use Rattle.lpc_rows.specs.Called.{MayServe, service};
+ghost use Rattle.lpc_rows.specs.Does.{Took};
+ghost use Rattle.lpc_rows.specs.Kept.{CanMake, HasWholeBudget, grown_handles, grown_messages, grown_ports};
+ghost use Rattle.lpc_rows.specs.Lawful.{drew};
+ghost use Rattle.lpc_rows.specs.Names.{name_of, stands};
+ghost use Rattle.lpc_rows.specs.Ready.{HasRoom, caller, is_ready};
+ghost use Rattle.lpc_rows.specs.Shown.{shown_thread};
 
 use lpc_base::limits::{HEADER_SIZE, MESSAGE_LIMIT};
 use lpc_base::status::PORT_MESSAGE_TOO_LONG;

@@ -2,17 +2,17 @@
 ghost use Rattle.std.specs.Prelude.{◌≡◌, ◌≤◌, ◌<◌, Ok, Err, true, false, IfOk, MatchResult, ◌+◌};
 ghost use Rattle.lpc_base.specs.Rows.{has};
 ghost use Rattle.lpc_base.specs.declared.limits.TheConstants.{LINES_LIMIT};
-ghost use Rattle.lpc_world.specs.Clauses.{birth_at};
+ghost use Rattle.lpc_rows.specs.Clauses.{birth_at};
 ghost use Rattle.lpc_connect.specs.Calls.{listening, row_birth};
 ghost use Rattle.lpc_model.specs.Basics.{outcome_of};
 ghost use Rattle.lpc_model.specs.Found.{is_live_thread, waits_as};
 ghost use Rattle.lpc_model.specs.Lines.{listen_port};
-ghost use Rattle.lpc_world.specs.Called.{Served, service};
-ghost use Rattle.lpc_world.specs.Does.{Does, Took};
-ghost use Rattle.lpc_world.specs.Kept.{HasWholeBudget};
-ghost use Rattle.lpc_world.specs.Names.{stands};
-ghost use Rattle.lpc_world.specs.Ready.{HasRoom, caller, is_ready};
-ghost use Rattle.lpc_world.specs.Shown.{shown_thread};
+ghost use Rattle.lpc_rows.specs.Called.{Served, service};
+ghost use Rattle.lpc_rows.specs.Does.{Does, Took};
+ghost use Rattle.lpc_rows.specs.Kept.{HasWholeBudget};
+ghost use Rattle.lpc_rows.specs.Names.{stands};
+ghost use Rattle.lpc_rows.specs.Ready.{HasRoom, caller, is_ready};
+ghost use Rattle.lpc_rows.specs.Shown.{shown_thread};
 
 use lpc_base::Status;
 use lpc_base::status::{INVALID_PORT_HANDLE, SUCCESS};

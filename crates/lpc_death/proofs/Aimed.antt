@@ -9,8 +9,8 @@ use Rattle.lpc_model.specs.Targets.{thread_target}
 use Rattle.lpc_model.specs.World.{ThreadRow, World}
 use Rattle.lpc_model.specs.declared.line.ProcArg.{ProcArg}
 use Rattle.lpc_procs.specs.declared.rows.BornThread.{BornThread}
-use Rattle.lpc_world.specs.Clauses.{born_thread, thread_row}
-use Rattle.lpc_world.specs.Ready.{caller, thread_in}
+use Rattle.lpc_rows.specs.Clauses.{born_thread, thread_row}
+use Rattle.lpc_rows.specs.Ready.{caller, thread_in}
 use Rattle.lpc_death.specs.Ends.{living_thread}
 
 -- the row that is seen so

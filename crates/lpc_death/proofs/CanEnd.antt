@@ -20,10 +20,10 @@ use Rattle.lpc_model.proofs.SoundTerminate.{die-safe, enter-safe, unregister-saf
 use Rattle.lpc_model.proofs.Told.{hushed-enter}
 use Rattle.lpc_model.proofs.ToldLines.{die-hushed}
 use Rattle.lpc_model.proofs.SingleClosings.{hushed-all}
-use Rattle.lpc_world.specs.Registered.{Death}
-use Rattle.lpc_death.specs.Closing.{CanCloseAll}
+use Rattle.lpc_rows.specs.Registered.{Death}
+use Rattle.lpc_closing.specs.Closing.{CanCloseAll}
 use Rattle.lpc_death.specs.Dying.{telling_one, told_row}
-use Rattle.lpc_death.proofs.HandlesKept.{KeepHandles, keeps_handles, kept-all, kept-away, kept-given}
+use Rattle.lpc_closing.proofs.HandlesKept.{KeepHandles, keeps_handles, kept-all, kept-away, kept-given}
 
 -- Threads that end
 dead-can : (code : Status) (t : ThreadRow) (w : World) → CanCloseAll w → CanCloseAll (behind (die code t) w)

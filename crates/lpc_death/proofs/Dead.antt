@@ -23,12 +23,12 @@ use Rattle.lpc_model.proofs.Ending.{die-pass}
 use Rattle.lpc_model.proofs.LinkedSteps.{cut-mutual}
 use Rattle.lpc_model.proofs.Rows.{count-change, every-left, has-found, has-off}
 use Rattle.lpc_model.proofs.StepsInTurn.{steps-keep}
-use Rattle.lpc_world.specs.Closing.{HasMutualPairs}
-use Rattle.lpc_world.specs.Does.{Left, Took, left_by}
-use Rattle.lpc_world.specs.Kept.{Kept, is_alive}
-use Rattle.lpc_world.specs.Registered.{accepted_port_in}
+use Rattle.lpc_rows.specs.Closing.{HasMutualPairs}
+use Rattle.lpc_rows.specs.Does.{Left, Took, left_by}
+use Rattle.lpc_rows.specs.Kept.{Kept, is_alive}
+use Rattle.lpc_rows.specs.Registered.{accepted_port_in}
 use Rattle.lpc_steps.proofs.Composed.{left-then, left_further}
-use Rattle.lpc_world.proofs.Dying.{fewer-alive}
+use Rattle.lpc_rows.proofs.Dying.{fewer-alive}
 use Rattle.lpc_steps.proofs.Endings.{pairs-kept, which-none}
 use Rattle.lpc_death.specs.Dying.{dying_all, ending_entries}
 use Rattle.lpc_model.specs.Lawful.{HasThreadsOnce}

@@ -1,10 +1,3 @@
-pub mod Steps
-pub mod Posted
-pub mod HandlesKept
-pub mod FreshClosings
-pub mod Paid
-pub mod Turns
-pub mod Five
 pub mod Untelling
 pub mod Aimed
 pub mod CanEnd

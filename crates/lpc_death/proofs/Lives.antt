@@ -9,11 +9,11 @@ use Rattle.lpc_model.specs.Found.{handles_of}
 use Rattle.lpc_model.specs.Listed.{Listed}
 use Rattle.lpc_model.specs.World.{MessageRow, World}
 use Rattle.lpc_model.proofs.Ending.{AreEnding, ending-enter, handle-ending, is_ending, turn-pass}
-use Rattle.lpc_world.specs.Does.{Left, Took}
-use Rattle.lpc_world.specs.Kept.{Kept, is_alive}
-use Rattle.lpc_world.specs.Registered.{Death, untold_of}
-use Rattle.lpc_world.proofs.Dying.{fewer-alive}
-use Rattle.lpc_world.proofs.Lawful.{alive-change}
+use Rattle.lpc_rows.specs.Does.{Left, Took}
+use Rattle.lpc_rows.specs.Kept.{Kept, is_alive}
+use Rattle.lpc_rows.specs.Registered.{Death, untold_of}
+use Rattle.lpc_rows.proofs.Dying.{fewer-alive}
+use Rattle.lpc_rows.proofs.Lawful.{alive-change}
 use Rattle.lpc_death.specs.Dying.{telling_all, telling_one, told_row}
 
 -- A step by which something ends makes no thread live

@@ -12,8 +12,8 @@ use Rattle.lpc_model.specs.Tests.{handle_load, handle_row, is_connect_of, next_b
 use Rattle.lpc_model.specs.World.{Birth, HandleRow, HandleTable, ObjectName, ThreadRow, World}
 use Rattle.lpc_model.proofs.Rows.{first-change}
 use Rattle.lpc_model.proofs.Creating.{rows-behind}
-use Rattle.lpc_world.specs.Clauses.{birth_next, thread_row}
-use Rattle.lpc_world.specs.Lawful.{can_begin, drew}
+use Rattle.lpc_rows.specs.Clauses.{birth_next, thread_row}
+use Rattle.lpc_rows.specs.Lawful.{can_begin, drew}
 use Rattle.std.specs.Prelude.{Ok}
 use Rattle.lpc_base.specs.declared.status.TheConstants.{SUCCESS}
 use Rattle.lpc_model.specs.declared.entry.CallName.TheVariants.{NtCreateProcess}
@@ -23,9 +23,9 @@ use Rattle.lpc_model.specs.Fields.{first_thread, h}
 use Rattle.lpc_model.specs.Lines.{create_process}
 use Rattle.lpc_model.specs.Listed.{Listed}
 use Rattle.lpc_model.specs.Machine.{settled}
-use Rattle.lpc_world.specs.Called.{Served, called, service}
-use Rattle.lpc_world.specs.Kept.{Kept}
-use Rattle.lpc_world.specs.Ready.{caller}
+use Rattle.lpc_rows.specs.Called.{Served, called, service}
+use Rattle.lpc_rows.specs.Kept.{Kept}
+use Rattle.lpc_rows.specs.Ready.{caller}
 
 pub begins : (ts : List ThreadRow) (n : ℕ) (b : Birth) → (b.maker == 0) ≡ false → has (drew b) ts ≡ true → can_begin ts n b ≡ true
 begins ts n b off drawn = rw off drawn

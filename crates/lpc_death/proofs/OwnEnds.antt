@@ -27,11 +27,11 @@ use Rattle.lpc_model.specs.declared.line.ProcArg.TheVariants.{Current}
 use Rattle.lpc_model.proofs.Closing.{behind}
 use Rattle.lpc_model.proofs.Ending.{behind_dead}
 use Rattle.lpc_model.proofs.Usable.{live-number}
-use Rattle.lpc_world.specs.Called.{Served, called}
-use Rattle.lpc_world.specs.Does.{Took}
-use Rattle.lpc_world.specs.Kept.{Kept}
-use Rattle.lpc_world.specs.Ready.{caller, is_ready, thread_in}
-use Rattle.lpc_world.proofs.Finds.{not_ready}
+use Rattle.lpc_rows.specs.Called.{Served, called}
+use Rattle.lpc_rows.specs.Does.{Took}
+use Rattle.lpc_rows.specs.Kept.{Kept}
+use Rattle.lpc_rows.specs.Ready.{caller, is_ready, thread_in}
+use Rattle.lpc_rows.proofs.Finds.{not_ready}
 use Rattle.lpc_death.specs.Ends.{CanEnd, ended_outcome, living_process, living_thread, told_unless, telling_ends}
 use Rattle.lpc_steps.proofs.Composed.{took-then}
 use Rattle.lpc_death.proofs.CanEnd.{one-dead}

@@ -20,13 +20,13 @@ use Rattle.lpc_model.specs.World.{Accepted, Birth, Connect, Listen, MessageRow, 
 use Rattle.lpc_model.proofs.SingleRegistrations.{different-less}
 use Rattle.lpc_model.proofs.SoundWorlds.{by_kind}
 use Rattle.lpc_model.proofs.Usable.{port-birth}
-use Rattle.lpc_world.specs.Clauses.{birth_at, port_at, row_at}
+use Rattle.lpc_rows.specs.Clauses.{birth_at, port_at, row_at}
 use Rattle.lpc_steps.specs.Clauses.{route_at}
-use Rattle.lpc_world.specs.Does.{Left, Took, left_by}
-use Rattle.lpc_world.specs.Kept.{Kept}
-use Rattle.lpc_world.specs.Lawful.{are_single_threads}
-use Rattle.lpc_world.specs.Registered.{Death, death_by, has_ended_in, has_registered, untold_of}
-use Rattle.lpc_world.specs.Shown.{row_with}
+use Rattle.lpc_rows.specs.Does.{Left, Took, left_by}
+use Rattle.lpc_rows.specs.Kept.{Kept}
+use Rattle.lpc_rows.specs.Lawful.{are_single_threads}
+use Rattle.lpc_rows.specs.Registered.{Death, death_by, has_ended_in, has_registered, untold_of}
+use Rattle.lpc_rows.specs.Shown.{row_with}
 use Rattle.lpc_steps.proofs.Composed.{left-then, left_further, took-one, took-then}
 use Rattle.lpc_base.specs.declared.status.TheConstants.{SUCCESS}
 use Rattle.lpc_death.specs.Dying.{told_row, telling_all, telling_one, untold_message}

@@ -16,7 +16,7 @@ use Rattle.lpc_model.specs.World.{Birth, ThreadRow, World}
 use Rattle.lpc_model.proofs.Closing.{behind}
 use Rattle.lpc_model.proofs.DeathLines.{die-threads}
 use Rattle.lpc_model.proofs.Ending.{behind_dead}
-use Rattle.lpc_world.specs.Registered.{death_by, deaths_of, has_ended_in}
+use Rattle.lpc_rows.specs.Registered.{death_by, deaths_of, has_ended_in}
 use Rattle.lpc_death.specs.Dying.{dying_all, telling_all, telling_one}
 use Rattle.lpc_model.proofs.StepsInTurn.{after-append}
 use Rattle.lpc_death.specs.Ends.{telling_ends}

@@ -8,8 +8,8 @@ use Rattle.lpc_model.specs.Entering.{enter}
 use Rattle.lpc_model.specs.Found.{live_threads}
 use Rattle.lpc_model.specs.declared.message.Message.{Message}
 use Rattle.lpc_model.specs.World.{MessageRow, World}
-use Rattle.lpc_world.specs.Kept.{is_alive}
-use Rattle.lpc_world.specs.Registered.{Death, untold_of}
+use Rattle.lpc_rows.specs.Kept.{is_alive}
+use Rattle.lpc_rows.specs.Registered.{Death, untold_of}
 
 -- the live threads of a process end, in the order in which they were made
 abbrev pub dying_all : Status → ℕ → Steps

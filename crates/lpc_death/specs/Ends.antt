@@ -18,7 +18,7 @@ use Rattle.lpc_model.specs.Basics.{Steps, provided, ◌▹◌}
 use Rattle.lpc_model.specs.Deaths.{HasLivingRegistrations, HasSingleRegistrations}
 use Rattle.lpc_model.specs.Found.{is_live}
 use Rattle.lpc_model.specs.World.{ThreadRow, World}
-use Rattle.lpc_death.specs.Closing.{CanCloseAll}
+use Rattle.lpc_closing.specs.Closing.{CanCloseAll}
 use Rattle.lpc_death.specs.Dying.{telling_all}
 use Rattle.lpc_model.specs.Death.{end_process}
 use Rattle.lpc_model.specs.Lawful.{HasThreadsOnce}

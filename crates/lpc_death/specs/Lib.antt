@@ -1,5 +1,3 @@
-pub mod Calls
-pub mod Closing
+pub mod Room
 pub mod Dying
 pub mod Ends
-pub mod Process

@@ -1,19 +1,19 @@
 // The calls that make processes and threads.
-ghost use Rattle.lpc_world.specs.Capacity.{KeepsOtherPlaces, handle_places};
-ghost use Rattle.lpc_world.specs.Kept.{grown_handles, grown_messages, grown_processes, grown_threads, grown_waits};
+ghost use Rattle.lpc_rows.specs.Capacity.{KeepsOtherPlaces, handle_places};
+ghost use Rattle.lpc_rows.specs.Kept.{grown_handles, grown_messages, grown_processes, grown_threads, grown_waits};
 ghost use Rattle.std.specs.Prelude.{◌≡◌, ◌+◌, ◌<◌, ◌≤◌, false, true, Err, IfOk, IsErr, MatchResult, Ok, OnErr, OnOk};
 ghost use Rattle.lpc_base.specs.Rows.{has};
 ghost use Rattle.lpc_base.specs.declared.limits.TheConstants.{HANDLE_LIMIT};
 ghost use Rattle.lpc_base.specs.declared.limits.TheConstants.{LINES_LIMIT};
 ghost use Rattle.lpc_model.specs.Creation.{making_process, making_thread};
-ghost use Rattle.lpc_death.specs.Calls.{lacks_child_room, lacks_member_room};
+ghost use Rattle.lpc_death.specs.Room.{lacks_child_room, lacks_member_room};
 ghost use Rattle.lpc_model.specs.Found.{is_process, is_table, was_process, was_thread};
 ghost use Rattle.lpc_model.specs.Tests.{handle_load};
-ghost use Rattle.lpc_world.specs.Clauses.{HasSmallLoad};
+ghost use Rattle.lpc_rows.specs.Clauses.{HasSmallLoad};
 ghost use Rattle.lpc_model.specs.Lines.{create_process, create_thread};
 ghost use Rattle.lpc_procs.specs.Procs.{IsNumber};
-ghost use Rattle.lpc_world.specs.Called.{MayServe, service};
-ghost use Rattle.lpc_world.specs.Ready.{HasRoom, caller, is_ready};
+ghost use Rattle.lpc_rows.specs.Called.{MayServe, service};
+ghost use Rattle.lpc_rows.specs.Ready.{HasRoom, caller, is_ready};
 
 use crate::targets::{LIFE_ACCESS, process_target};
 use lpc_base::limits::CHILD_LIMIT;

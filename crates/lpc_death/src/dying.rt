@@ -6,11 +6,11 @@ ghost use Rattle.lpc_death.specs.Dying.{dying_all, ending_entries};
 ghost use Rattle.lpc_model.specs.Lawful.{HasThreadsOnce};
 ghost use Rattle.lpc_model.specs.Basics.{Dies, Withdraws};
 ghost use Rattle.lpc_model.specs.Found.{is_live_thread};
-ghost use Rattle.lpc_world.specs.Closing.{HasMutualPairs};
-ghost use Rattle.lpc_world.specs.Does.{Took};
+ghost use Rattle.lpc_rows.specs.Closing.{HasMutualPairs};
+ghost use Rattle.lpc_rows.specs.Does.{Took};
 
-use crate::close::cut_pair;
 use lpc_base::Status;
+use lpc_closing::cut_pair;
 use lpc_model::{Entries, Entry};
 use lpc_world::World;
 

@@ -5,8 +5,8 @@ ghost use Rattle.lpc_death.specs.Ends.{living_process, living_thread};
 ghost use Rattle.lpc_model.specs.Found.{is_table, live_thread};
 ghost use Rattle.lpc_model.specs.SoundWaits.{IsSoundWorld};
 ghost use Rattle.lpc_model.specs.Targets as targets;
-ghost use Rattle.lpc_world.specs.Clauses.{Answers, born_thread, thread_row};
-ghost use Rattle.lpc_world.specs.Ready.{caller, is_ready, thread_in};
+ghost use Rattle.lpc_rows.specs.Clauses.{Answers, born_thread, thread_row};
+ghost use Rattle.lpc_rows.specs.Ready.{caller, is_ready, thread_in};
 ghost use Rattle.lpc_model.specs.declared.line.ProcArg.TheVariants.{By};
 
 use lpc_base::Status;

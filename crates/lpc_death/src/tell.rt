@@ -2,16 +2,17 @@
 ghost use Rattle.std.specs.Prelude.{◌≡◌, ◌≤◌, ◌<◌, ◌+◌, true, length};
 ghost use Rattle.lpc_death.specs.Dying.{telling_all, telling_one, untold_message};
 ghost use Rattle.lpc_model.specs.Deaths.{HasSingleRegistrations};
-ghost use Rattle.lpc_world.specs.Clauses.{birth_at};
-ghost use Rattle.lpc_world.specs.Does.{Took};
-ghost use Rattle.lpc_world.specs.Names.{stands};
-ghost use Rattle.lpc_world.specs.Registered.{death_shown, has_registered};
+ghost use Rattle.lpc_rows.specs.Clauses.{birth_at};
+ghost use Rattle.lpc_rows.specs.Does.{Took};
+ghost use Rattle.lpc_rows.specs.Names.{stands};
+ghost use Rattle.lpc_rows.specs.Registered.{death_shown, has_registered};
 
-use crate::telling::telling;
+use lpc_closing::telling;
 use lpc_message::kind;
 use lpc_model::{Entries, Message};
+use lpc_rows::Death;
 use lpc_steps::{context, deliver, route};
-use lpc_world::{Death, World};
+use lpc_world::World;
 
 /// The message that tells of a thread's end: it is in the thread's name, and names the thread by its birth.
 fn died_message(death: &Death) -> Message

@@ -2,25 +2,25 @@
 ghost use Rattle.std.specs.Prelude.{◌≡◌, ◌+◌, ◌++◌, ◌≤◌, ◌<◌, ◌∷◌, [], Some, true, length};
 ghost use Rattle.lpc_base.specs.Rows.{count, has};
 ghost use Rattle.lpc_base.specs.declared.limits.TheConstants.{LINES_LIMIT};
-ghost use Rattle.lpc_death.specs.Closing.{CanCloseAll};
+ghost use Rattle.lpc_closing.specs.Closing.{CanCloseAll};
 ghost use Rattle.lpc_death.specs.Dying.{ending_entries};
 ghost use Rattle.lpc_death.specs.Ends.{CanEnd, ended_outcome, told_unless, telling_ends};
 ghost use Rattle.lpc_model.specs.Deaths.{HasSingleRegistrations};
 ghost use Rattle.lpc_model.specs.Death as model;
 ghost use Rattle.lpc_model.specs.Found.{is_table, live_thread, live_threads};
 ghost use Rattle.lpc_model.specs.Lines.{terminate_process, terminate_thread};
-ghost use Rattle.lpc_world.specs.Called.{Served};
-ghost use Rattle.lpc_world.specs.Does.{Took};
-ghost use Rattle.lpc_world.specs.Capacity.{but_names};
-ghost use Rattle.lpc_world.specs.Kept.{CanMake, is_alive};
-ghost use Rattle.lpc_world.specs.Ready.{HasRoom, caller, is_ready};
+ghost use Rattle.lpc_rows.specs.Called.{Served};
+ghost use Rattle.lpc_rows.specs.Does.{Took};
+ghost use Rattle.lpc_rows.specs.Capacity.{but_names};
+ghost use Rattle.lpc_rows.specs.Kept.{CanMake, is_alive};
+ghost use Rattle.lpc_rows.specs.Ready.{HasRoom, caller, is_ready};
 
 use crate::dying::{die, die_all};
-use crate::process::end_process;
 use crate::targets::{living_process, living_thread};
 use crate::tell::tell_all;
 use lpc_base::Status;
 use lpc_base::status::SUCCESS;
+use lpc_closing::end_process;
 use lpc_model::{CallName, Entries, Entry, Fields, Outcome, ProcArg, refuse};
 use lpc_world::World;
 

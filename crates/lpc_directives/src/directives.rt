@@ -2,11 +2,11 @@
 ghost use Rattle.std.specs.Prelude.{◌≡◌, ◌<◌, ◌≤◌, OnErr, true, IsErr};
 ghost use Rattle.lpc_model.specs.Machine as model;
 ghost use Rattle.lpc_model.specs.Machine.{boot_line, dir_line, link_line, thread_line};
-ghost use Rattle.lpc_world.specs.Bound.{status_of_binding};
+ghost use Rattle.lpc_rows.specs.Bound.{status_of_binding};
 ghost use Rattle.lpc_procs.specs.Procs.{IsNumber};
-ghost use Rattle.lpc_world.specs.Does.{Directs};
-ghost use Rattle.lpc_world.specs.Capacity.{KeepsPlaces, but_names};
-ghost use Rattle.lpc_world.specs.Kept.{grown_messages, grown_processes, grown_threads, grown_waits, lacks_name_room, lacks_process_room, lacks_thread_room};
+ghost use Rattle.lpc_rows.specs.Does.{Directs};
+ghost use Rattle.lpc_rows.specs.Capacity.{KeepsPlaces, but_names};
+ghost use Rattle.lpc_rows.specs.Kept.{grown_messages, grown_processes, grown_threads, grown_waits, lacks_name_room, lacks_process_room, lacks_thread_room};
 ghost use Rattle.lpc_base.specs.declared.limits.TheConstants.{LINES_LIMIT};
 
 use lpc_base::status::{OBJECT_NAME_COLLISION, SUCCESS};

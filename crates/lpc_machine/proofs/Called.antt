@@ -8,7 +8,7 @@ use Rattle.lpc_model.specs.Found.{is_live_thread, live_thread, wait_of}
 use Rattle.lpc_model.specs.Lines.{ScriptCall}
 use Rattle.lpc_model.specs.Machine.{call_steps, ready_steps, thread_steps}
 use Rattle.lpc_model.specs.World.{ThreadRow, WaitRow, World}
-use Rattle.lpc_world.specs.Ready.{caller, is_ready, thread_in}
+use Rattle.lpc_rows.specs.Ready.{caller, is_ready, thread_in}
 use Rattle.lpc_machine.specs.Condition.{condition_by, condition_of}
 use Rattle.lpc_machine.specs.declared.reading.Condition.TheVariants.{Absent, Ready, Waits}
 

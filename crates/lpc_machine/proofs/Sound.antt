@@ -19,8 +19,8 @@ use Rattle.lpc_model.proofs.SoundLines.{line-sound}
 use Rattle.lpc_model.proofs.Sweeping.{step_swept}
 use Rattle.lpc_model.proofs.StandingCalls.{names_line}
 use Rattle.lpc_model.proofs.StepsInTurn.{after-append}
-use Rattle.lpc_world.specs.Does.{Left, left_by}
-use Rattle.lpc_world.specs.Kept.{Kept, Same}
+use Rattle.lpc_rows.specs.Does.{Left, left_by}
+use Rattle.lpc_rows.specs.Kept.{Kept, Same}
 use Rattle.lpc_sweep.specs.Sweeping.{CanSweep}
 use Rattle.lpc_machine.specs.Settled.{IsSettled}
 

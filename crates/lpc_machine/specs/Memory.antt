@@ -1,11 +1,12 @@
 -- Which lines may need memory, and which make a call.
 use Rattle.std.specs.Prelude.{◌≡◌, ◌==◌, ℕ, Bool, true, false, IsOk}
 use Rattle.lpc_connect.specs.Room.{lacks_connect_room, lacks_port_room, lacks_room_for}
-use Rattle.lpc_death.specs.Calls.{lacks_child_room, lacks_handle_room, lacks_member_room}
+use Rattle.lpc_closing.specs.Calls.{lacks_handle_room}
+use Rattle.lpc_death.specs.Room.{lacks_child_room, lacks_member_room}
 use Rattle.lpc_model.specs.World.{World}
 use Rattle.lpc_model.specs.Machine.{boot_line, dir_line, link_line, service_of, thread_line}
-use Rattle.lpc_world.specs.Kept.{Kept, lacks_name_room, lacks_process_room, lacks_thread_room}
-use Rattle.lpc_world.specs.Ready.{caller, is_ready}
+use Rattle.lpc_rows.specs.Kept.{Kept, lacks_name_room, lacks_process_room, lacks_thread_room}
+use Rattle.lpc_rows.specs.Ready.{caller, is_ready}
 use Rattle.lpc_model.specs.Lines.{ScriptCall, ScriptLine, boot, thread, dir, link, run, accept_connect_port, connect_port, create_port, create_process, create_thread, duplicate_object, register_thread_terminate_port, request_port}
 
 -- the calls whose step may take memory: they make a port, a process, a thread, a further handle, a message that no

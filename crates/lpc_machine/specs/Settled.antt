@@ -1,7 +1,7 @@
 -- The world between two lines.
 use Rattle.std.specs.Prelude.{◌≡◌, false}
 use Rattle.lpc_model.specs.Lawful.{IsLawfulWorld}
-use Rattle.lpc_world.specs.Kept.{Kept}
+use Rattle.lpc_rows.specs.Kept.{Kept}
 
 -- what each line leaves: what the definitions' lines keep, and nothing went since the last sweep
 pub record IsSettled (w : Kept) : Type 0 where

@@ -16,27 +16,25 @@ ghost use Rattle.lpc_base.specs.declared.limits.TheConstants.{LINES_LIMIT};
 ghost use Rattle.lpc_model.specs.Machine.{bare_steps, step, thread_steps};
 ghost use Rattle.lpc_model.specs.SoundWaits.{HasSoundWaits};
 ghost use Rattle.lpc_model.specs.declared.entry.Entry.TheVariants as entry;
-ghost use Rattle.lpc_death.specs.Closing.{CanClose};
+ghost use Rattle.lpc_closing.specs.Closing.{CanClose};
 ghost use Rattle.lpc_death.specs.Ends.{CanEnd};
 ghost use Rattle.lpc_machine.specs.Settled.{IsSettled};
 ghost use Rattle.lpc_machine.specs.Memory.{GoesOn, call_takes_memory, lacks_call_room, lacks_room, makes_call, takes_memory};
-ghost use Rattle.lpc_world.specs.Called.{MayServe};
-ghost use Rattle.lpc_world.specs.Does.{Took};
-ghost use Rattle.lpc_world.specs.Capacity.{but_lives, but_names};
-ghost use Rattle.lpc_world.specs.Kept.{Same};
-ghost use Rattle.lpc_world.specs.Ready as ready;
-ghost use Rattle.lpc_world.specs.Ready.{HasRoom, is_ready};
+ghost use Rattle.lpc_rows.specs.Called.{MayServe};
+ghost use Rattle.lpc_rows.specs.Does.{Took};
+ghost use Rattle.lpc_rows.specs.Capacity.{but_lives, but_names};
+ghost use Rattle.lpc_rows.specs.Kept.{Same};
+ghost use Rattle.lpc_rows.specs.Ready as ready;
+ghost use Rattle.lpc_rows.specs.Ready.{HasRoom, is_ready};
 
 use crate::reading::{Condition, condition_of, objects, room_needed};
 use lpc_base::{OutOfMemory, Status};
+use lpc_closing::{nt_close, nt_duplicate_object, nt_query_object};
 use lpc_connect::{
     nt_accept_connect_port, nt_complete_connect_port, nt_connect_port, nt_create_port,
     nt_listen_port,
 };
-use lpc_death::{
-    nt_close, nt_create_process, nt_create_thread, nt_duplicate_object, nt_query_object,
-    nt_terminate_process, nt_terminate_thread,
-};
+use lpc_death::{nt_create_process, nt_create_thread, nt_terminate_process, nt_terminate_thread};
 use lpc_directives::{boot, directory, link, thread};
 use lpc_model::{Call, Entries, Entry, Line, Outcome, Word};
 use lpc_request::{
@@ -60,7 +58,7 @@ pub struct Machine {
 
 impl Model for Machine {
     ghost use Rattle.lpc_machine.specs.Settled.{IsSettled};
-    ghost use Rattle.lpc_world.specs.Kept.{Kept};
+    ghost use Rattle.lpc_rows.specs.Kept.{Kept};
 
     ghost Value = { Kept };
 

@@ -2,7 +2,7 @@
 ghost use Rattle.std.specs.Prelude.{◌≡◌};
 ghost use Rattle.lpc_machine.specs.Condition.{condition_of};
 ghost use Rattle.lpc_model.specs.Found as found;
-ghost use Rattle.lpc_world.specs.Ready as ready;
+ghost use Rattle.lpc_rows.specs.Ready as ready;
 
 use lpc_world::World;
 

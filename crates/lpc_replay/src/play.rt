@@ -13,7 +13,8 @@ use crate::reading::ended;
 use crate::sending::send_all;
 use lpc_base::{Failed, OutOfMemory, Sink};
 use lpc_model::LineFault;
-use lpc_script::{Scratch, next_line};
+use lpc_script::Scratch;
+use lpc_words::next_line;
 use std::alloc::Global;
 
 /// Why a script wasn't run to its end or its first faulty line.

@@ -10,8 +10,8 @@ use Rattle.lpc_model.specs.Basics.{Basic, Receives, Takes, Tells, basic, entries
 use Rattle.lpc_model.specs.Entering.{take_steps}
 use Rattle.lpc_request.specs.Replied.{replied_steps}
 use Rattle.lpc_request.specs.declared.receive.Replied.{Replied}
-use Rattle.lpc_world.specs.Does.{Left, left_by}
-use Rattle.lpc_world.specs.Ready.{waiter}
+use Rattle.lpc_rows.specs.Does.{Left, left_by}
+use Rattle.lpc_rows.specs.Ready.{waiter}
 
 -- a message less changes no wait
 replied-same : (w : World) (q : Birth) (replied : Option Replied) → replied_steps (basic w (Takes q)) replied ≡ replied_steps w replied

@@ -13,9 +13,9 @@ use Rattle.lpc_model.specs.World as model
 use Rattle.lpc_procs.specs.Procs as procs
 use Rattle.lpc_procs.specs.declared.rows.Registration.{Registration}
 use Rattle.lpc_procs.specs.declared.rows.ThreadRow.{ThreadRow}
-use Rattle.lpc_world.specs.Shown.{shown_thread}
-use Rattle.lpc_world.proofs.Readings as readings
-use Rattle.lpc_world.proofs.Registered.{births-registered}
+use Rattle.lpc_rows.specs.Shown.{shown_thread}
+use Rattle.lpc_rows.proofs.Readings as readings
+use Rattle.lpc_rows.proofs.Registered.{births-registered}
 
 module _ (threads : List model.ThreadRow) (lent : List ThreadRow) (are : threads ≡ map shown_thread lent) (by : ThreadRow) (there : first (is_thread by.number) threads ≡ Some (shown_thread by)) where
   -- its row in the table

@@ -4,9 +4,9 @@ use Rattle.lpc_base.specs.declared.status.Status.{Status}
 use Rattle.lpc_model.specs.Listed.{Listed}
 use Rattle.lpc_model.specs.Request.{nt_reply_port, nt_reply_wait_receive_port, nt_request_wait_reply_port}
 use Rattle.lpc_model.specs.declared.entry.Outcome.{Outcome}
-use Rattle.lpc_world.specs.Does.{Does}
-use Rattle.lpc_world.specs.Kept.{Kept}
-use Rattle.lpc_world.specs.Ready.{caller}
+use Rattle.lpc_rows.specs.Does.{Does}
+use Rattle.lpc_rows.specs.Kept.{Kept}
+use Rattle.lpc_rows.specs.Ready.{caller}
 
 -- NtRequestWaitReplyPort of a thread on a handle, with these bytes
 abbrev pub Asked : Result Outcome Status → ℕ → ℕ → List ℕ → Kept → Kept → Listed → Listed → Type 0

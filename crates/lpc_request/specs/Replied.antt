@@ -10,13 +10,13 @@ use Rattle.lpc_model.specs.Request as request
 use Rattle.lpc_model.specs.Request.{reply}
 use Rattle.lpc_model.specs.declared.message.Message.{Message}
 use Rattle.lpc_procs.specs.declared.rows.ThreadRow.{ThreadRow}
-use Rattle.lpc_world.specs.Clauses.{birth_at, port_at}
+use Rattle.lpc_rows.specs.Clauses.{birth_at, port_at}
 use Rattle.lpc_request.specs.declared.receive.Replied.{Replied}
 use Rattle.lpc_slots.specs.declared.Key.{Key}
-use Rattle.lpc_world.specs.Does.{Took}
-use Rattle.lpc_world.specs.Kept.{Kept, has_queued}
-use Rattle.lpc_world.specs.Ready.{caller, waiter}
-use Rattle.lpc_world.specs.Shown.{shown_thread}
+use Rattle.lpc_rows.specs.Does.{Took}
+use Rattle.lpc_rows.specs.Kept.{Kept, has_queued}
+use Rattle.lpc_rows.specs.Ready.{caller, waiter}
+use Rattle.lpc_rows.specs.Shown.{shown_thread}
 
 -- the wait that a message fits through a port, or why there is none
 abbrev pub answered_by : Kept → Key → Message → Result WaitRow Status

@@ -6,13 +6,13 @@ use Rattle.lpc_model.specs.Listed.{Listed}
 use Rattle.lpc_model.specs.Request as request
 use Rattle.lpc_model.specs.declared.message.Message.{Message}
 use Rattle.lpc_procs.specs.declared.rows.ThreadRow.{ThreadRow}
-use Rattle.lpc_world.specs.Clauses.{birth_at, port_at}
+use Rattle.lpc_rows.specs.Clauses.{birth_at, port_at}
 use Rattle.lpc_request.specs.declared.send.Sendable.{Sendable}
 use Rattle.lpc_slots.specs.declared.Key.{Key}
-use Rattle.lpc_world.specs.Does.{Took}
-use Rattle.lpc_world.specs.Kept.{Kept}
-use Rattle.lpc_world.specs.Ready.{caller}
-use Rattle.lpc_world.specs.Shown.{shown_thread}
+use Rattle.lpc_rows.specs.Does.{Took}
+use Rattle.lpc_rows.specs.Kept.{Kept}
+use Rattle.lpc_rows.specs.Ready.{caller}
+use Rattle.lpc_rows.specs.Shown.{shown_thread}
 
 -- a message that may be sent, with the rows of its port and its queue
 abbrev pub shown : Kept → Sendable → request.Sendable

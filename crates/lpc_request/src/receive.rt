@@ -8,11 +8,11 @@ ghost use Rattle.lpc_model.specs.Lines.{reply_wait_receive_port};
 ghost use Rattle.lpc_steps.specs.Clauses.{IsUnderName};
 ghost use Rattle.lpc_request.specs.Called.{Received};
 ghost use Rattle.lpc_request.specs.Replied.{RepliesFirst, TakesOrWaits, may_be_told, receive_by};
-ghost use Rattle.lpc_world.specs.Called.{Served};
-ghost use Rattle.lpc_world.specs.Clauses.{birth_at};
-ghost use Rattle.lpc_world.specs.Kept.{HasWholeBudget, Roomy, StaysReady};
-ghost use Rattle.lpc_world.specs.Names.{stands};
-ghost use Rattle.lpc_world.specs.Ready.{HasRoom, is_ready};
+ghost use Rattle.lpc_rows.specs.Called.{Served};
+ghost use Rattle.lpc_rows.specs.Clauses.{birth_at};
+ghost use Rattle.lpc_rows.specs.Kept.{HasWholeBudget, Roomy, StaysReady};
+ghost use Rattle.lpc_rows.specs.Names.{stands};
+ghost use Rattle.lpc_rows.specs.Ready.{HasRoom, is_ready};
 
 use crate::reply::{as_reply, reply_test};
 use lpc_base::Status;

@@ -1,15 +1,15 @@
 // The call that registers a port with a thread.
-ghost use Rattle.lpc_world.specs.Kept.{grown_messages};
+ghost use Rattle.lpc_rows.specs.Kept.{grown_messages};
 ghost use Rattle.std.specs.Prelude.{◌≡◌, ◌<◌, ◌+◌, ◌≤◌, Ok, Err, true, false, IfOk, MatchResult, OnErr, OnOk, IsErr};
 ghost use Rattle.lpc_base.specs.declared.limits.TheConstants.{LINES_LIMIT};
 ghost use Rattle.lpc_model.specs.Lines.{register_thread_terminate_port};
 ghost use Rattle.lpc_model.specs.Register as register;
 ghost use Rattle.lpc_model.specs.Register.{is_registered, register_steps};
-ghost use Rattle.lpc_world.specs.Called.{MayServe, service};
-ghost use Rattle.lpc_world.specs.Clauses.{birth_at};
-ghost use Rattle.lpc_world.specs.Names.{stands};
-ghost use Rattle.lpc_world.specs.Ready.{HasRoom, caller, is_ready};
-ghost use Rattle.lpc_world.specs.Registered.{HasFewRegistrations};
+ghost use Rattle.lpc_rows.specs.Called.{MayServe, service};
+ghost use Rattle.lpc_rows.specs.Clauses.{birth_at};
+ghost use Rattle.lpc_rows.specs.Names.{stands};
+ghost use Rattle.lpc_rows.specs.Ready.{HasRoom, caller, is_ready};
+ghost use Rattle.lpc_rows.specs.Registered.{HasFewRegistrations};
 
 use lpc_base::limits::REGISTRATION_LIMIT;
 use lpc_base::status::{QUOTA_EXCEEDED, SUCCESS};

@@ -8,11 +8,11 @@ ghost use Rattle.lpc_model.specs.Message as kept;
 ghost use Rattle.lpc_steps.specs.Clauses.{IsUnderName};
 ghost use Rattle.lpc_request.specs.Called.{Answered};
 ghost use Rattle.lpc_request.specs.Replied.{Returns, answered_by};
-ghost use Rattle.lpc_world.specs.Clauses.{Answers};
-ghost use Rattle.lpc_world.specs.Called.{Served};
-ghost use Rattle.lpc_world.specs.Kept.{has_queued};
-ghost use Rattle.lpc_world.specs.Names.{stands};
-ghost use Rattle.lpc_world.specs.Ready.{HasRoom, is_ready, waiter};
+ghost use Rattle.lpc_rows.specs.Clauses.{Answers};
+ghost use Rattle.lpc_rows.specs.Called.{Served};
+ghost use Rattle.lpc_rows.specs.Kept.{has_queued};
+ghost use Rattle.lpc_rows.specs.Names.{stands};
+ghost use Rattle.lpc_rows.specs.Ready.{HasRoom, is_ready, waiter};
 
 use lpc_base::Status;
 use lpc_base::status::{REPLY_MESSAGE_MISMATCH, SUCCESS};

@@ -12,7 +12,7 @@ use Rattle.lpc_message.specs.declared.message.ClientId.{ClientId}
 use Rattle.lpc_model.specs.declared.fault.LineFault.{LineFault}
 use Rattle.lpc_model.specs.Words.{hex_word, hex_or_fault, hex_message, made_message}
 use Rattle.lpc_model.specs.Then.{◌>>=◌}
-use Rattle.lpc_script.specs.Gives.{behind}
+use Rattle.lpc_script.specs.Front.{behind}
 
 pairs_same : (read : Result (List ℕ) FromHexError) (bytes : List ℕ) → hex_or_fault read ≡ Ok bytes → read ≡ Ok bytes
 pairs_same (Ok found) bytes h = cc h

@@ -1,2 +1,2 @@
 pub mod Worked
-pub mod Gives
+pub mod Front

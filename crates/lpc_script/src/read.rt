@@ -9,14 +9,15 @@ ghost use Rattle.lpc_model.specs.Lines.{call_of, line_of};
 ghost use Rattle.lpc_model.specs.Words.{is_id, words};
 ghost use Rattle.lpc_model.specs.Grammar.{call_words, directive_words, has_call_ids, has_ids};
 ghost use Rattle.lpc_model.specs.Grammar as grammar;
-ghost use Rattle.lpc_script.specs.Gives.{Gives};
+ghost use Rattle.lpc_words.specs.Gives.{Gives};
 
-use crate::names::{call_name, directive_name};
-use crate::number::{id, number};
 use crate::scratch::Scratch;
-use crate::words::{four_words, next_word, one_or_two_words, one_word, two_words};
 use lpc_base::limits::LINE_LIMIT;
 use lpc_model::{Call, CallName, Line, LineFault, ProcArg, Word};
+use lpc_words::{
+    call_name, directive_name, four_words, id, next_word, number, one_or_two_words, one_word,
+    two_words,
+};
 
 /// The word `-`, the one that may stand for a quality of service or for a view so far; `Word` for any other.
 fn dash(word: &[u8]) -> Result<(), LineFault>

@@ -2,15 +2,15 @@
 ghost use Rattle.std.specs.Prelude.{◌≡◌, ◌≤◌, ◌+◌, ◌/◌, length, take, IfOk};
 ghost use Rattle.lpc_base.specs.declared.limits.TheConstants.{HEADER_SIZE, LINE_LIMIT};
 ghost use Rattle.lpc_model.specs.Words.{hex_word, hex_message, info_word, reply_message, message_word};
-ghost use Rattle.lpc_script.specs.Gives.{Gives, behind};
+ghost use Rattle.lpc_script.specs.Front.{behind};
+ghost use Rattle.lpc_words.specs.Gives.{Gives};
 
-use crate::number::number;
-use crate::words::{split_once, three_parts};
 use hex::decode_to_slice;
 use lpc_base::OutOfMemory;
 use lpc_base::limits::{HEADER_SIZE, LINE_LIMIT};
 use lpc_message::{ClientId, Header, write_header};
 use lpc_model::LineFault;
+use lpc_words::{number, split_once, three_parts};
 use std::alloc::Global;
 use std::marker::Model;
 

@@ -7,12 +7,12 @@ use Rattle.lpc_model.specs.Connect.{names_connect}
 use Rattle.lpc_model.specs.Found.{is_offered, waits_as}
 use Rattle.lpc_model.specs.World.{ThreadRow, WaitRow, World}
 use Rattle.lpc_steps.specs.Connecting.{is_answered}
-use Rattle.lpc_world.specs.Kept.{is_pending}
-use Rattle.lpc_world.specs.Lawful.{are_single}
-use Rattle.lpc_world.specs.Ready.{waiter}
-use Rattle.lpc_world.proofs.Finds as finds
+use Rattle.lpc_rows.specs.Kept.{is_pending}
+use Rattle.lpc_rows.specs.Lawful.{are_single}
+use Rattle.lpc_rows.specs.Ready.{waiter}
+use Rattle.lpc_rows.proofs.Finds as finds
 use Rattle.lpc_steps.proofs.Fits.{none_fits, own_test}
-use Rattle.lpc_world.proofs.Connecting.{received_off}
+use Rattle.lpc_rows.proofs.Connecting.{received_off}
 
 module _ (w : World) (pid : ℕ) (client : ClientId) (identifier : ℕ) where
   abbrev p : WaitRow → Bool

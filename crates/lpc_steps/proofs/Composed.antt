@@ -8,8 +8,8 @@ use Rattle.lpc_model.specs.Listed.{Listed}
 use Rattle.lpc_model.specs.Sweep.{loosened, loosens}
 use Rattle.lpc_model.specs.World.{World}
 use Rattle.lpc_model.proofs.StepsInTurn.{after-append, entries-append}
-use Rattle.lpc_world.specs.Does.{Left, Took, left_by}
-use Rattle.lpc_world.specs.Kept.{Kept}
+use Rattle.lpc_rows.specs.Does.{Left, Took, left_by}
+use Rattle.lpc_rows.specs.Kept.{Kept}
 
 pub loosened-append : (loose : Bool) (bs cs : List Basic) → loosened loose (bs ++ cs) ≡ loosened (loosened loose bs) cs
 loosened-append loose [] cs = refl

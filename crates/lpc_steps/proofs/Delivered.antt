@@ -21,12 +21,12 @@ use Rattle.lpc_model.specs.Fields.{msg, receipt}
 use Rattle.lpc_model.specs.Entering.{enter, given_steps, received_steps, shown, take_connect_steps, take_steps, takes, woken}
 use Rattle.lpc_model.specs.Sweep.{loosened, loosens}
 use Rattle.lpc_model.proofs.StepsInTurn.{after-append}
-use Rattle.lpc_world.specs.Does.{Left, left_by}
-use Rattle.lpc_world.specs.Kept.{has_queued, is_unsent, pends_as}
-use Rattle.lpc_world.specs.Lawful.{are_single, is_quiet}
-use Rattle.lpc_world.specs.Shown.{with_message}
+use Rattle.lpc_rows.specs.Does.{Left, left_by}
+use Rattle.lpc_rows.specs.Kept.{has_queued, is_unsent, pends_as}
+use Rattle.lpc_rows.specs.Lawful.{are_single, is_quiet}
+use Rattle.lpc_rows.specs.Shown.{with_message}
 use Rattle.lpc_steps.proofs.Endings.{length-rest}
-use Rattle.lpc_world.proofs.Changes.{pending_kept}
+use Rattle.lpc_rows.proofs.Changes.{pending_kept}
 
 -- a message that enters a queue where none like it stands is the one that is taken
 taken-at-once : (p : MessageRow → Bool) (m : MessageRow) (ms : List MessageRow) → p m ≡ true → has p ms ≡ false → without_first p (ms ++ m ∷ []) ≡ ms

@@ -14,15 +14,15 @@ use Rattle.lpc_model.specs.Entering.{woken}
 use Rattle.lpc_model.specs.Found.{is_port, is_the, waits_as}
 use Rattle.lpc_model.specs.Linked.{passes_or_none}
 use Rattle.lpc_model.specs.World.{PortRow, WaitRow, World}
-use Rattle.lpc_world.specs.Closing.{HasMutualPairs}
+use Rattle.lpc_rows.specs.Closing.{HasMutualPairs}
 use Rattle.lpc_steps.specs.Closing.{end_all, ending, ends}
-use Rattle.lpc_world.specs.Does.{Left, left_by}
-use Rattle.lpc_world.specs.Lawful.{are_single}
-use Rattle.lpc_world.specs.Ready.{waiter}
+use Rattle.lpc_rows.specs.Does.{Left, left_by}
+use Rattle.lpc_rows.specs.Lawful.{are_single}
+use Rattle.lpc_rows.specs.Ready.{waiter}
 use Rattle.lpc_steps.specs.declared.ending.Ending.{Ending}
 use Rattle.lpc_steps.specs.declared.ending.Ending.TheVariants.{AcceptedAcross, Offers, QueuedRequests, Receives, ReceivesAcross, Requests, RequestsAcross}
 use Rattle.lpc_steps.proofs.Composed.{left-append, left_further}
-use Rattle.lpc_world.proofs.Finished.{own-waiter}
+use Rattle.lpc_rows.proofs.Finished.{own-waiter}
 
 -- The first of the waits that pass
 -- none passes

@@ -8,9 +8,9 @@ use Rattle.lpc_base.proofs.RowWords.{first-passes}
 use Rattle.lpc_message.specs.declared.message.ClientId.{ClientId}
 use Rattle.lpc_model.specs.World.{Accepted, Connect, Request, WaitKind, WaitRow, World}
 use Rattle.lpc_model.specs.Found.{fits_as, wait_of, waits_as}
-use Rattle.lpc_world.specs.Kept.{is_pending}
-use Rattle.lpc_world.specs.Lawful.{are_single}
-use Rattle.lpc_world.specs.Ready.{wait_in, waiter}
+use Rattle.lpc_rows.specs.Kept.{is_pending}
+use Rattle.lpc_rows.specs.Lawful.{are_single}
+use Rattle.lpc_rows.specs.Ready.{wait_in, waiter}
 
 -- a wait that a message fits isn't pending
 fit_idle : (k : WaitKind) (a b c e f : Bool) → (a && (b && (c && ((elim k [ Request m ↦ true | _ ↦ false ]) && (e && f))))) ≡ true

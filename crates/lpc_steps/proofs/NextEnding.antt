@@ -19,20 +19,20 @@ use Rattle.lpc_waits.specs.declared.Accepted.{Accepted}
 use Rattle.lpc_waits.specs.declared.WaitKind.{WaitKind}
 use Rattle.lpc_waits.specs.declared.WaitKind.TheVariants as wait
 use Rattle.lpc_waits.specs.declared.WaitRow as table
-use Rattle.lpc_world.specs.Closing.{HasMutualPairs}
+use Rattle.lpc_rows.specs.Closing.{HasMutualPairs}
 use Rattle.lpc_steps.specs.Closing.{client_across, ends, is_of_connects, withdraws}
-use Rattle.lpc_world.specs.Kept.{OwnPend, has_queued, is_pending, is_pending_in}
-use Rattle.lpc_world.specs.Lawful.{are_single}
-use Rattle.lpc_world.specs.Names.{are_apart, name_of, some_stands, stands}
-use Rattle.lpc_world.specs.Ready.{waiter}
-use Rattle.lpc_world.specs.Shown.{Births, all_pass, birth_of, object_stands, shown_kind, shown_wait, wait_refs}
+use Rattle.lpc_rows.specs.Kept.{OwnPend, has_queued, is_pending, is_pending_in}
+use Rattle.lpc_rows.specs.Lawful.{are_single}
+use Rattle.lpc_rows.specs.Names.{are_apart, name_of, some_stands, stands}
+use Rattle.lpc_rows.specs.Ready.{waiter}
+use Rattle.lpc_rows.specs.Shown.{Births, all_pass, birth_of, object_stands, shown_kind, shown_wait, wait_refs}
 use Rattle.lpc_steps.specs.declared.ending.Ending.{Ending}
 use Rattle.lpc_steps.specs.declared.ending.Ending.TheVariants.{AcceptedAcross, Offers, QueuedRequests, Receives, ReceivesAcross, Requests, RequestsAcross}
 use Rattle.lpc_homes.specs.declared.object.Object.{Object}
-use Rattle.lpc_world.proofs.Connecting.{IsMet, met, received_off}
-use Rattle.lpc_world.proofs.Finds as finds
-use Rattle.lpc_world.proofs.Finished.{found-waiter, own-waiter}
-use Rattle.lpc_world.proofs.Naming.{agrees}
+use Rattle.lpc_rows.proofs.Connecting.{IsMet, met, received_off}
+use Rattle.lpc_rows.proofs.Finds as finds
+use Rattle.lpc_rows.proofs.Finished.{found-waiter, own-waiter}
+use Rattle.lpc_rows.proofs.Naming.{agrees}
 
 -- Across a pair
 either : (a b : Bool) → (a ≡ true → b ≡ true) → (b ≡ true → a ≡ true) → a ≡ b

@@ -16,12 +16,12 @@ use Rattle.lpc_message.specs.declared.message.ClientId.{ClientId}
 use Rattle.lpc_model.specs.declared.entry.Field.{Field}
 use Rattle.lpc_model.specs.declared.message.Message as whole
 use Rattle.lpc_slots.specs.declared.Key.{Key}
-use Rattle.lpc_world.specs.Kept.{Kept}
-use Rattle.lpc_world.specs.Ready.{caller, waiter}
+use Rattle.lpc_rows.specs.Kept.{Kept}
+use Rattle.lpc_rows.specs.Ready.{caller, waiter}
 use Rattle.lpc_steps.specs.declared.connections.Completable.{Completable}
 use Rattle.lpc_model.specs.Listed.{is_read}
 use Rattle.std.specs.List.{list_any}
-use Rattle.lpc_world.specs.Clauses.{FindsWait, birth_at, port_at}
+use Rattle.lpc_rows.specs.Clauses.{FindsWait, birth_at, port_at}
 
 -- the port at a key is found under its name
 abbrev pub IsUnderName : Kept → Key → Type 0

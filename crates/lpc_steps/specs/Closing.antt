@@ -7,9 +7,9 @@ use Rattle.lpc_model.specs.Basics.{Basic, Steps, end_each}
 use Rattle.lpc_model.specs.Close.{closed_message, end_accepted, end_offered, end_request, is_accepted_across, is_offered_to, is_queued_request, is_receive_across, is_receiver, is_request_across, is_request_on, server_of, closing_post, wake}
 use Rattle.lpc_model.specs.Found.{is_client_port, is_connect, pair_of, port_row}
 use Rattle.lpc_slots.specs.declared.Key.{Key}
-use Rattle.lpc_world.specs.Clauses.{birth_at, port_at}
-use Rattle.lpc_world.specs.Kept.{Kept, has_queued}
-use Rattle.lpc_world.specs.Ready.{waiter}
+use Rattle.lpc_rows.specs.Clauses.{birth_at, port_at}
+use Rattle.lpc_rows.specs.Kept.{Kept, has_queued}
+use Rattle.lpc_rows.specs.Ready.{waiter}
 use Rattle.lpc_steps.specs.declared.closing.Closed.{Closed}
 use Rattle.lpc_steps.specs.declared.ending.Ending.{Ending}
 use Rattle.lpc_steps.specs.declared.ending.Ending.TheVariants.{AcceptedAcross, Offers, QueuedRequests, Receives, ReceivesAcross, Requests, RequestsAcross}

@@ -1,8 +1,8 @@
 // What is told of a port that is closed.
 ghost use Rattle.std.specs.Prelude.{◌≡◌, IfSome, Some, true};
 ghost use Rattle.lpc_steps.specs.Closing.{closed_row_of, server_at, told_at};
-ghost use Rattle.lpc_world.specs.Clauses.{Finds, port_at, row_at, some_birth};
-ghost use Rattle.lpc_world.specs.Names.{some_stands, stands};
+ghost use Rattle.lpc_rows.specs.Clauses.{Finds, port_at, row_at, some_birth};
+ghost use Rattle.lpc_rows.specs.Names.{some_stands, stands};
 
 use crate::queues::if_open;
 use lpc_base::{Birth, PortKind};

@@ -6,10 +6,10 @@ ghost use Rattle.lpc_model.specs.Found.{is_accepted, is_connection_port, is_offe
 ghost use Rattle.lpc_model.specs.declared.message.Message.{Message};
 ghost use Rattle.lpc_steps.specs.Clauses.{FindsConnect, completion_at};
 ghost use Rattle.lpc_steps.specs.Connecting.{is_answered};
-ghost use Rattle.lpc_world.specs.Clauses.{Answers, IsOwnWait, port_at};
-ghost use Rattle.lpc_world.specs.Kept.{has_queued, is_pending_in};
-ghost use Rattle.lpc_world.specs.Names.{stands};
-ghost use Rattle.lpc_world.specs.Ready.{caller, is_ready, waiter};
+ghost use Rattle.lpc_rows.specs.Clauses.{Answers, IsOwnWait, port_at};
+ghost use Rattle.lpc_rows.specs.Kept.{has_queued, is_pending_in};
+ghost use Rattle.lpc_rows.specs.Names.{stands};
+ghost use Rattle.lpc_rows.specs.Ready.{caller, is_ready, waiter};
 
 use lpc_base::status::{INVALID_PARAMETER, INVALID_PORT_HANDLE, PORT_DISCONNECTED};
 use lpc_base::{PortKind, Status};

@@ -4,12 +4,12 @@ ghost use Rattle.lpc_base.specs.Rows.{has};
 ghost use Rattle.lpc_model.specs.Close as close;
 ghost use Rattle.lpc_model.specs.Found.{is_connect, waits_as};
 ghost use Rattle.lpc_steps.specs.Closing.{IsOfItsKind, IsUnqueued, client_across_at, end_all, ending as ending_of, ends_at};
-ghost use Rattle.lpc_world.specs.Clauses.{FindsWait, birth_at, pair_at, some_birth};
-ghost use Rattle.lpc_world.specs.Closing.{HasMutualPairs};
-ghost use Rattle.lpc_world.specs.Does.{Took};
-ghost use Rattle.lpc_world.specs.Lawful.{are_single};
-ghost use Rattle.lpc_world.specs.Names.{some_stands, stands};
-ghost use Rattle.lpc_world.specs.Ready.{waiter};
+ghost use Rattle.lpc_rows.specs.Clauses.{FindsWait, birth_at, pair_at, some_birth};
+ghost use Rattle.lpc_rows.specs.Closing.{HasMutualPairs};
+ghost use Rattle.lpc_rows.specs.Does.{Took};
+ghost use Rattle.lpc_rows.specs.Lawful.{are_single};
+ghost use Rattle.lpc_rows.specs.Names.{some_stands, stands};
+ghost use Rattle.lpc_rows.specs.Ready.{waiter};
 
 use crate::waiting::{end_connect, wake};
 use lpc_base::status::{LPC_REPLY_LOST, PORT_DISCONNECTED};

@@ -3,13 +3,13 @@ ghost use Rattle.std.specs.Prelude.{◌+◌, ◌<◌, ◌≡◌, ◌≤◌, None
 ghost use Rattle.lpc_base.specs.declared.status.TheConstants.{SUCCESS};
 ghost use Rattle.lpc_model.specs.Entering.{enter, takes};
 ghost use Rattle.lpc_steps.specs.Clauses.{passed};
-ghost use Rattle.lpc_world.specs.Clauses.{IsAwaited, TellsOnceOn, and_message, birth_at, has_message, has_taker, is_quiet_for, sent};
-ghost use Rattle.lpc_world.specs.Does.{Took};
-ghost use Rattle.lpc_world.specs.Kept.{CanMake, Roomy, StaysUnqueued};
-ghost use Rattle.lpc_world.specs.Names.{stands};
-ghost use Rattle.lpc_world.specs.Ready.{waiter};
-ghost use Rattle.lpc_world.specs.Shown.{row_with};
-ghost use Rattle.lpc_world.specs.OwedClosings.{is_owed};
+ghost use Rattle.lpc_rows.specs.Clauses.{IsAwaited, TellsOnceOn, and_message, birth_at, has_message, has_taker, is_quiet_for, sent};
+ghost use Rattle.lpc_rows.specs.Does.{Took};
+ghost use Rattle.lpc_rows.specs.Kept.{CanMake, Roomy, StaysUnqueued};
+ghost use Rattle.lpc_rows.specs.Names.{stands};
+ghost use Rattle.lpc_rows.specs.Ready.{waiter};
+ghost use Rattle.lpc_rows.specs.Shown.{row_with};
+ghost use Rattle.lpc_rows.specs.OwedClosings.{is_owed};
 
 use crate::message::{asks_to_connect, wants_answer};
 use crate::waiting::{taken_fields, tell_wake, waiting_call};

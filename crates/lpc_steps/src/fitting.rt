@@ -5,10 +5,10 @@ ghost use Rattle.lpc_model.specs.Found.{is_the, waits_as};
 ghost use Rattle.lpc_model.specs.Tests as tests;
 ghost use Rattle.lpc_steps.specs.Clauses.{fits_at};
 ghost use Rattle.lpc_waits.specs.Table.{is_request};
-ghost use Rattle.lpc_world.specs.Clauses.{FindsWait, IsOwnWait, birth_at, pair_at};
-ghost use Rattle.lpc_world.specs.Kept.{has_queued, is_pending_in};
-ghost use Rattle.lpc_world.specs.Names.{stands};
-ghost use Rattle.lpc_world.specs.Ready.{waiter};
+ghost use Rattle.lpc_rows.specs.Clauses.{FindsWait, IsOwnWait, birth_at, pair_at};
+ghost use Rattle.lpc_rows.specs.Kept.{has_queued, is_pending_in};
+ghost use Rattle.lpc_rows.specs.Names.{stands};
+ghost use Rattle.lpc_rows.specs.Ready.{waiter};
 
 use lpc_base::Status;
 use lpc_base::status::INVALID_CID;

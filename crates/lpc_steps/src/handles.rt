@@ -6,11 +6,11 @@ ghost use Rattle.lpc_model.specs.Found as found;
 ghost use Rattle.lpc_model.specs.Found.{free_handle, is_table};
 ghost use Rattle.lpc_model.specs.Tests as tests;
 ghost use Rattle.lpc_steps.specs.Clauses.{IsUnderName, handle_for, object_for, port_for};
-ghost use Rattle.lpc_world.specs.Clauses.{Answers, HasHandleRoom, HasSmallLoad, port_at, row_shown, with_handle};
-ghost use Rattle.lpc_world.specs.Kept.{CanMake, handle_room};
-ghost use Rattle.lpc_world.specs.Names.{stands};
-ghost use Rattle.lpc_world.specs.Ready.{HasRow, is_ready};
-ghost use Rattle.lpc_world.specs.Shown.{birth_of, kind_of, object_stands};
+ghost use Rattle.lpc_rows.specs.Clauses.{Answers, HasHandleRoom, HasSmallLoad, port_at, row_shown, with_handle};
+ghost use Rattle.lpc_rows.specs.Kept.{CanMake, handle_room};
+ghost use Rattle.lpc_rows.specs.Names.{stands};
+ghost use Rattle.lpc_rows.specs.Ready.{HasRow, is_ready};
+ghost use Rattle.lpc_rows.specs.Shown.{birth_of, kind_of, object_stands};
 
 use lpc_base::Status;
 use lpc_base::limits::HANDLE_LIMIT;

@@ -2,7 +2,7 @@
 ghost use Rattle.std.specs.Prelude.{◌<◌, ◌≡◌, ◌≤◌, Err, IfOk, Ok, length};
 ghost use Rattle.lpc_base.specs.declared.limits.TheConstants.{MESSAGE_LIMIT};
 ghost use Rattle.lpc_model.specs.Message.{asks, is_connection_request, message_of, message_test};
-ghost use Rattle.lpc_world.specs.Clauses.{Answers};
+ghost use Rattle.lpc_rows.specs.Clauses.{Answers};
 
 use lpc_base::Status;
 use lpc_base::limits::MESSAGE_LIMIT;

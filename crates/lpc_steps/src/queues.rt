@@ -4,8 +4,8 @@ ghost use Rattle.lpc_model.specs.Found as found;
 ghost use Rattle.lpc_model.specs.Found.{datagrams};
 ghost use Rattle.lpc_model.specs.Request as request;
 ghost use Rattle.lpc_steps.specs.Clauses.{queue_at, receive_at, route_at};
-ghost use Rattle.lpc_world.specs.Clauses.{Answers, birth_at, port_at, row_at, some_birth};
-ghost use Rattle.lpc_world.specs.Names.{some_stands, stands};
+ghost use Rattle.lpc_rows.specs.Clauses.{Answers, birth_at, port_at, row_at, some_birth};
+ghost use Rattle.lpc_rows.specs.Names.{some_stands, stands};
 
 use lpc_base::limits::DATAGRAM_LIMIT;
 use lpc_base::status::{PORT_DISCONNECTED, QUOTA_EXCEEDED};

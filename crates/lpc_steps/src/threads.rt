@@ -4,7 +4,7 @@ ghost use Rattle.lpc_base.specs.Room.{grown_room};
 ghost use Rattle.lpc_base.specs.Rows.{has};
 ghost use Rattle.lpc_model.specs.Creation as model;
 ghost use Rattle.lpc_model.specs.Found.{is_process, is_table, was_thread};
-ghost use Rattle.lpc_world.specs.Kept.{Roomy, Same, grown_messages, grown_waits, lacks_thread_parts};
+ghost use Rattle.lpc_rows.specs.Kept.{Roomy, Same, grown_messages, grown_waits, lacks_thread_parts};
 
 use lpc_base::limits::THREAD_LIMIT;
 use lpc_base::status::{INVALID_CID, OBJECT_NAME_COLLISION, QUOTA_EXCEEDED};

@@ -9,9 +9,9 @@ use Rattle.lpc_model.specs.Found.{process_name, thread_name}
 use Rattle.lpc_model.specs.Sweep.{is_unheld, sweep}
 use Rattle.lpc_model.proofs.FreedFirst.{process_first, thread_first}
 use Rattle.lpc_model.proofs.SweptLives.{same-thread}
-use Rattle.lpc_world.specs.Capacity.{but_lives}
-use Rattle.lpc_world.specs.Kept.{GainsNoLives, Kept, Roomy}
-use Rattle.lpc_world.proofs.Rooms.{roomy_same, roomy_then}
+use Rattle.lpc_rows.specs.Capacity.{but_lives}
+use Rattle.lpc_rows.specs.Kept.{GainsNoLives, Kept, Roomy}
+use Rattle.lpc_rows.proofs.Rooms.{roomy_same, roomy_then}
 use Rattle.lpc_sweep.specs.Sweeping.{CanSweep, HasHeldThreads, SweepsAhead}
 use Rattle.lpc_sweep.proofs.HeldPorts.{can_freed}
 

@@ -12,11 +12,11 @@ use Rattle.lpc_procs.specs.Procs as procs
 use Rattle.lpc_procs.specs.declared.rows.Life.{Life}
 use Rattle.lpc_procs.specs.declared.rows.ProcessRow as process_row
 use Rattle.lpc_procs.specs.declared.rows.ThreadRow as thread_row
-use Rattle.lpc_world.specs.Held.{has_handles, has_holders}
-use Rattle.lpc_world.specs.Lawful.{AreBornIn}
-use Rattle.lpc_world.specs.Shown.{shown_process, shown_thread}
-use Rattle.lpc_world.proofs.Counted.{zero_has}
-use Rattle.lpc_world.proofs.Readings.{has-shown}
+use Rattle.lpc_rows.specs.Held.{has_handles, has_holders}
+use Rattle.lpc_rows.specs.Lawful.{AreBornIn}
+use Rattle.lpc_rows.specs.Shown.{shown_process, shown_thread}
+use Rattle.lpc_rows.proofs.Counted.{zero_has}
+use Rattle.lpc_rows.proofs.Readings.{has-shown}
 use Rattle.lpc_sweep.proofs.Places.{mapped_at}
 
 -- What holds an object: a handle, or another row that counts for it

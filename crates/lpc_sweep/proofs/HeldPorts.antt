@@ -25,9 +25,9 @@ use Rattle.lpc_model.proofs.Standing.{gone-names, unheld_no_queue}
 use Rattle.lpc_model.proofs.LinkedJoins.{gone-linked}
 use Rattle.lpc_model.proofs.SoundFrees.{freed-sound}
 use Rattle.lpc_model.proofs.Swept.{unheld-parts}
-use Rattle.lpc_world.specs.Held.{is_joined_to, is_named}
-use Rattle.lpc_world.proofs.Counted.{named-counted}
-use Rattle.lpc_world.proofs.Registered.{registrations}
+use Rattle.lpc_rows.specs.Held.{is_joined_to, is_named}
+use Rattle.lpc_rows.proofs.Counted.{named-counted}
+use Rattle.lpc_rows.proofs.Registered.{registrations}
 use Rattle.lpc_sweep.specs.Sweeping.{CanSweep}
 
 has_or : {X : Type 0} (p q : X → Bool) (xs : List X) → has (λ x. p x || q x) xs ≡ (has p xs || has q xs)

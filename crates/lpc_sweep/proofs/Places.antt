@@ -11,9 +11,9 @@ use Rattle.lpc_ports.specs.Table.{PortTable}
 use Rattle.lpc_ports.specs.declared.Port.{Port}
 use Rattle.lpc_slots.proofs.Walk.{drop_row}
 use Rattle.lpc_slots.specs.declared.Key.{Key}
-use Rattle.lpc_world.specs.Names.{are_apart, name_of, stands}
-use Rattle.lpc_world.specs.Shown.{Births, birth_of, births_of, shown_port}
-use Rattle.lpc_world.proofs.Follows.{is_own, own_birth, rows_own}
+use Rattle.lpc_rows.specs.Names.{are_apart, name_of, stands}
+use Rattle.lpc_rows.specs.Shown.{Births, birth_of, births_of, shown_port}
+use Rattle.lpc_rows.proofs.Follows.{is_own, own_birth, rows_own}
 
 -- The port at a place
 every_at : {X : Type 0} (p : X → Bool) (xs : List X) (place : ℕ) (x : X) → every p xs ≡ true → slice_get xs place ≡ Some x → p x ≡ true

@@ -5,8 +5,8 @@ use Rattle.lpc_base.specs.Rows.{has}
 use Rattle.lpc_model.specs.Found.{is_port, port_name}
 use Rattle.lpc_model.specs.Sweep.{is_unheld}
 use Rattle.lpc_slots.specs.declared.Key.{Key}
-use Rattle.lpc_world.specs.Clauses.{birth_at}
-use Rattle.lpc_world.specs.Kept.{Kept}
+use Rattle.lpc_rows.specs.Clauses.{birth_at}
+use Rattle.lpc_rows.specs.Kept.{Kept}
 
 -- a port's row stands
 abbrev pub has_port : Kept → Key → Bool

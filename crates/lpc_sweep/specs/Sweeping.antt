@@ -10,8 +10,8 @@ use Rattle.lpc_model.specs.SoundWaits.{IsSoundWorld}
 use Rattle.lpc_model.specs.Standing.{NamesWhatStands}
 use Rattle.lpc_model.specs.Sweep.{is_unheld, sweep}
 use Rattle.lpc_model.specs.World.{World}
-use Rattle.lpc_world.specs.Capacity.{but_lives}
-use Rattle.lpc_world.specs.Kept.{GainsNoLives, Kept, Roomy}
+use Rattle.lpc_rows.specs.Capacity.{but_lives}
+use Rattle.lpc_rows.specs.Kept.{GainsNoLives, Kept, Roomy}
 
 -- some row counts for each thread
 abbrev pub HasHeldThreads : World → Type 0

@@ -6,10 +6,10 @@ ghost use Rattle.lpc_model.specs.Linked.{HasHeldPorts};
 ghost use Rattle.lpc_model.specs.Sweep.{is_unheld};
 ghost use Rattle.lpc_sweep.specs.Clauses.{birth_in_place, has_port, is_unheld_at, process_in_place, thread_in_place};
 ghost use Rattle.lpc_sweep.specs.Sweeping.{CanSweep, HasHeldProcesses, HasHeldThreads};
-ghost use Rattle.lpc_world.specs.Clauses.{birth_at, name_at};
-ghost use Rattle.lpc_world.specs.Held.{has_holders};
-ghost use Rattle.lpc_world.specs.Names.{stands};
-ghost use Rattle.lpc_world.specs.Shown.{object_stands};
+ghost use Rattle.lpc_rows.specs.Clauses.{birth_at, name_at};
+ghost use Rattle.lpc_rows.specs.Held.{has_holders};
+ghost use Rattle.lpc_rows.specs.Names.{stands};
+ghost use Rattle.lpc_rows.specs.Shown.{object_stands};
 
 use lpc_base::Birth;
 use lpc_procs::Life;

@@ -5,10 +5,10 @@ ghost use Rattle.lpc_model.specs.Linked.{AreLivesHeld};
 ghost use Rattle.lpc_model.specs.Sweep as model;
 ghost use Rattle.lpc_model.specs.Sweep.{is_unheld};
 ghost use Rattle.lpc_sweep.specs.Sweeping.{CanSweep, HasHeldThreads, SweepsAhead};
-ghost use Rattle.lpc_world.specs.Clauses.{after, name_at};
-ghost use Rattle.lpc_world.specs.Capacity.{but_lives};
-ghost use Rattle.lpc_world.specs.Kept.{GainsNoLives, Roomy};
-ghost use Rattle.lpc_world.specs.Shown.{object_stands};
+ghost use Rattle.lpc_rows.specs.Clauses.{after, name_at};
+ghost use Rattle.lpc_rows.specs.Capacity.{but_lives};
+ghost use Rattle.lpc_rows.specs.Kept.{GainsNoLives, Roomy};
+ghost use Rattle.lpc_rows.specs.Shown.{object_stands};
 
 use crate::finding::{
     port_count, process_count, thread_count, unheld_port, unheld_process, unheld_thread,

@@ -1,6 +1,7 @@
 // Lines whose faults and messages were found by hand from the grammar.
 use lpc_model::{Call, Line, ProcArg};
-use lpc_script::{LineFault, Scratch, law_worked_lines, next_line, read_line};
+use lpc_script::{LineFault, Scratch, law_worked_lines, read_line};
+use lpc_words::next_line;
 use std::process::Abort;
 use std::test::Fail;
 

@@ -1,9 +1,7 @@
 //! The composed world: the tables together, seen as the rows of the definitions.
 #![tactic(auto)]
 
-mod death;
 mod world;
 
-pub use death::Death;
 pub use lpc_homes::Object;
 pub use world::World;

@@ -14,15 +14,15 @@ ghost use Rattle.lpc_model.specs.Basics.{AddsProcess, AddsThread, Awaits, DrawsI
 ghost use Rattle.lpc_model.specs.Machine.{new_process, new_thread};
 ghost use Rattle.lpc_model.specs.Message.{message_of};
 ghost use Rattle.lpc_procs.specs.Procs.{IsNumber, most_rows};
-ghost use Rattle.lpc_world.specs.Names.{KeepsNames, name_of, some_stands, stands};
-ghost use Rattle.lpc_world.specs.Shown.{object_stands};
-ghost use Rattle.lpc_world.specs.Lawful.{can_begin, drew, is_quiet};
-ghost use Rattle.lpc_world.specs.Capacity.{KeepsOtherPlaces, handle_places, no_places};
-ghost use Rattle.lpc_world.specs.Kept.{CanMake, HasWholeBudget, IsMakingStep, IsStep, KeepsOtherRoom, Roomy, Same, StaysReady, StaysUnqueued, grown_handles, grown_messages, grown_ports, grown_processes, grown_threads, grown_waits, handle_room, has_queued, is_unsent, owed_handles, owed_messages, owed_waits, process_rows};
-ghost use Rattle.lpc_world.specs.Ready.{IsWait};
-ghost use Rattle.lpc_world.specs.OwedClosings.{closing_places, is_owed};
+ghost use Rattle.lpc_rows.specs.Names.{KeepsNames, name_of, some_stands, stands};
+ghost use Rattle.lpc_rows.specs.Shown.{object_stands};
+ghost use Rattle.lpc_rows.specs.Lawful.{can_begin, drew, is_quiet};
+ghost use Rattle.lpc_rows.specs.Capacity.{KeepsOtherPlaces, handle_places, no_places};
+ghost use Rattle.lpc_rows.specs.Kept.{CanMake, HasWholeBudget, IsMakingStep, IsStep, KeepsOtherRoom, Roomy, Same, StaysReady, StaysUnqueued, grown_handles, grown_messages, grown_ports, grown_processes, grown_threads, grown_waits, handle_room, has_queued, is_unsent, owed_handles, owed_messages, owed_waits, process_rows};
+ghost use Rattle.lpc_rows.specs.Ready.{IsWait};
+ghost use Rattle.lpc_rows.specs.OwedClosings.{closing_places, is_owed};
 ghost use Rattle.lpc_base.specs.declared.limits.TheConstants.{HANDLE_LIMIT, HEADER_SIZE, LINES_LIMIT, MESSAGE_LIMIT};
-ghost use Rattle.lpc_world.specs.Clauses.{HasFewHandles, HasHandlePlaces, HasHandleRoom, HasLeft, HasSmallLoad, IsAwaited, TellsOnceOn, after, and_message, and_port, and_process, and_thread, birth_at, birth_next, connects, has_message, has_table, has_taker, identifier_next, new_wait, oldest, pends, pulled, sent, waiting_with, with_handle, with_port, without_wait};
+ghost use Rattle.lpc_rows.specs.Clauses.{HasFewHandles, HasHandlePlaces, HasHandleRoom, HasLeft, HasSmallLoad, IsAwaited, TellsOnceOn, after, and_message, and_port, and_process, and_thread, birth_at, birth_next, connects, has_message, has_table, has_taker, identifier_next, new_wait, oldest, pends, pulled, sent, waiting_with, with_handle, with_port, without_wait};
 
 mod closing;
 mod completing;
@@ -66,9 +66,9 @@ pub struct World {
 
 impl Model for World {
     ghost use Rattle.std.specs.Prelude.{◌-◌, vec_len, vec_capacity};
-    ghost use Rattle.lpc_world.specs.Kept.{Kept, kept_by};
-    ghost use Rattle.lpc_world.specs.Lawful.{AreLawful};
-    ghost use Rattle.lpc_world.specs.Shown.{tables_of};
+    ghost use Rattle.lpc_rows.specs.Kept.{Kept, kept_by};
+    ghost use Rattle.lpc_rows.specs.Lawful.{AreLawful};
+    ghost use Rattle.lpc_rows.specs.Shown.{tables_of};
 
     ghost Value = { Kept };
 

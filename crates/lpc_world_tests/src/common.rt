@@ -2,8 +2,8 @@
 ghost use Rattle.std.specs.Prelude.{◌≡◌, ◌≤◌, ◌<◌, ◌+◌, ◌∷◌, [], true, IfOk};
 ghost use Rattle.lpc_base.specs.declared.limits.TheConstants.{LINES_LIMIT};
 ghost use Rattle.lpc_procs.specs.Procs.{IsNumber};
-ghost use Rattle.lpc_world.specs.Names.{KeepsNames, stands};
-ghost use Rattle.lpc_world.specs.Ready.{is_ready};
+ghost use Rattle.lpc_rows.specs.Names.{KeepsNames, stands};
+ghost use Rattle.lpc_rows.specs.Ready.{is_ready};
 
 use lpc_base::{PortKind, Status};
 use lpc_directives::{boot, thread};

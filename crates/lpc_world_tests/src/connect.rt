@@ -1,6 +1,6 @@
 // A port is made with ample memory. The entry is written out by hand.
 ghost use Rattle.std.specs.Prelude.{◌≡◌, ◌≤◌, ◌<◌, ◌+◌, OnOk, true};
-ghost use Rattle.lpc_world.specs.Ready.{HasRoom, is_ready};
+ghost use Rattle.lpc_rows.specs.Ready.{HasRoom, is_ready};
 
 use crate::common::{boots, can_call, one};
 use lpc_base::status::SUCCESS;

@@ -1,8 +1,8 @@
 // A datagram, and a request with its receipt and its reply, with ample memory. The entries are written out by hand.
 ghost use Rattle.std.specs.Prelude.{◌≡◌, ◌≤◌, ◌<◌, ◌+◌, true, OnOk};
 ghost use Rattle.lpc_base.specs.declared.limits.TheConstants.{LINES_LIMIT};
-ghost use Rattle.lpc_world.specs.Names.{stands};
-ghost use Rattle.lpc_world.specs.Ready.{HasRoom, is_ready};
+ghost use Rattle.lpc_rows.specs.Names.{stands};
+ghost use Rattle.lpc_rows.specs.Ready.{HasRoom, is_ready};
 
 use crate::common::{GIVEN, boots, can_call, makes_a_port, one, threads};
 use arrayvec::ArrayVec;

@@ -3,9 +3,9 @@
 ghost use Rattle.std.specs.Prelude.{◌≡◌, ◌≤◌, ◌<◌, ◌+◌, ◌*◌, false, true, IfOk, OnOk};
 ghost use Rattle.lpc_model.specs.Message.{asks};
 ghost use Rattle.lpc_waits.specs.declared.WaitKind.TheVariants as WaitKind;
-ghost use Rattle.lpc_world.specs.Names.{KeepsNames, stands};
+ghost use Rattle.lpc_rows.specs.Names.{KeepsNames, stands};
 ghost use Rattle.lpc_procs.specs.Procs.{IsNumber};
-ghost use Rattle.lpc_world.specs.Ready.{is_ready};
+ghost use Rattle.lpc_rows.specs.Ready.{is_ready};
 ghost use Rattle.lpc_base.specs.declared.limits.TheConstants.{LINES_LIMIT};
 
 use crate::common::{boots, can_call, makes_a_port, threads};

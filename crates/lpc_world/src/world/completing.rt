@@ -2,10 +2,10 @@
 ghost use Rattle.std.specs.Prelude.{◌≡◌, ◌+◌, ◌≤◌, true, false};
 ghost use Rattle.lpc_base.specs.Rows.{has};
 ghost use Rattle.lpc_model.specs.Found.{free_handle, is_connect, waits_as};
-ghost use Rattle.lpc_world.specs.Kept.{CanMake, has_queued};
-ghost use Rattle.lpc_world.specs.Ready.{waiter};
-ghost use Rattle.lpc_world.specs.Shown.{object_stands};
-ghost use Rattle.lpc_world.specs.Clauses.{finished};
+ghost use Rattle.lpc_rows.specs.Kept.{CanMake, has_queued};
+ghost use Rattle.lpc_rows.specs.Ready.{waiter};
+ghost use Rattle.lpc_rows.specs.Shown.{object_stands};
+ghost use Rattle.lpc_rows.specs.Clauses.{finished};
 
 use crate::world::World;
 use lpc_homes::{Object, parts};

@@ -5,10 +5,10 @@ ghost use Rattle.lpc_model.specs.Connect as connect;
 ghost use Rattle.lpc_model.specs.Connect.{answer_of, is_accepted_on};
 ghost use Rattle.lpc_model.specs.Found.{is_accepted, is_offered, is_table, waits_as};
 ghost use Rattle.lpc_model.specs.Named.{named_port};
-ghost use Rattle.lpc_world.specs.Kept.{has_queued, is_pending_in};
-ghost use Rattle.lpc_world.specs.Names.{stands};
-ghost use Rattle.lpc_world.specs.Ready.{waiter};
-ghost use Rattle.lpc_world.specs.Clauses.{Answers, FindsWait, IsOwnWait, birth_at};
+ghost use Rattle.lpc_rows.specs.Kept.{has_queued, is_pending_in};
+ghost use Rattle.lpc_rows.specs.Names.{stands};
+ghost use Rattle.lpc_rows.specs.Ready.{waiter};
+ghost use Rattle.lpc_rows.specs.Clauses.{Answers, FindsWait, IsOwnWait, birth_at};
 
 use crate::world::World;
 use arrayvec::ArrayVec;

@@ -5,11 +5,11 @@ ghost use Rattle.lpc_base.specs.Rows.{has};
 ghost use Rattle.lpc_model.specs.Basics.{Accepts, TakesConnect};
 ghost use Rattle.lpc_model.specs.Found.{is_accepted, waits_as};
 ghost use Rattle.lpc_model.specs.Message.{message_of};
-ghost use Rattle.lpc_world.specs.Kept.{IsStep, Roomy, StaysReady, StaysUnqueued};
-ghost use Rattle.lpc_world.specs.Names.{stands};
-ghost use Rattle.lpc_world.specs.Ready.{waiter};
+ghost use Rattle.lpc_rows.specs.Kept.{IsStep, Roomy, StaysReady, StaysUnqueued};
+ghost use Rattle.lpc_rows.specs.Names.{stands};
+ghost use Rattle.lpc_rows.specs.Ready.{waiter};
 ghost use Rattle.lpc_base.specs.declared.limits.TheConstants.{HEADER_SIZE, MESSAGE_LIMIT};
-ghost use Rattle.lpc_world.specs.Clauses.{HasLeft, after, birth_at, joined, oldest_connect, pulled, with_completion};
+ghost use Rattle.lpc_rows.specs.Clauses.{HasLeft, after, birth_at, joined, oldest_connect, pulled, with_completion};
 
 use crate::world::World;
 use lpc_ports::Message;

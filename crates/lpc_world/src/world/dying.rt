@@ -3,18 +3,18 @@ ghost use Rattle.std.specs.Prelude.{◌≡◌, ◌+◌, ◌<◌, ◌≤◌, fals
 ghost use Rattle.lpc_base.specs.Rows.{first, has};
 ghost use Rattle.lpc_model.specs.Basics.{Registers, Unregisters};
 ghost use Rattle.lpc_model.specs.Found.{is_live_thread, is_thread, lives_in, waits_as};
-ghost use Rattle.lpc_world.specs.Clauses.{Finds, after, and_message, birth_at};
-ghost use Rattle.lpc_world.specs.Kept.{CanMake, IsStep, Roomy};
-ghost use Rattle.lpc_world.specs.Lawful.{are_single_threads};
-ghost use Rattle.lpc_world.specs.Names.{stands};
-ghost use Rattle.lpc_world.specs.Registered as registered;
-ghost use Rattle.lpc_world.specs.Registered.{HasFewRegistrations, untold_of, death_shown, with_ended};
+ghost use Rattle.lpc_rows.specs.Clauses.{Finds, after, and_message, birth_at};
+ghost use Rattle.lpc_rows.specs.Kept.{CanMake, IsStep, Roomy};
+ghost use Rattle.lpc_rows.specs.Lawful.{are_single_threads};
+ghost use Rattle.lpc_rows.specs.Names.{stands};
+ghost use Rattle.lpc_rows.specs.Registered as registered;
+ghost use Rattle.lpc_rows.specs.Registered.{HasFewRegistrations, untold_of, death_shown, with_ended};
 
-use crate::Death;
 use crate::world::World;
 use lpc_base::Birth;
 use lpc_message::ClientId;
 use lpc_procs::Number;
+use lpc_rows::Death;
 use lpc_slots::Key;
 
 impl World {

@@ -2,11 +2,11 @@
 ghost use Rattle.std.specs.Prelude.{◌≡◌, ◌≤◌, true, false};
 ghost use Rattle.lpc_model.specs.Basics.{Frees};
 ghost use Rattle.lpc_model.specs.Found.{port_name, process_name, thread_name};
-ghost use Rattle.lpc_world.specs.Held as held;
-ghost use Rattle.lpc_world.specs.Held.{has_holders};
-ghost use Rattle.lpc_world.specs.Kept.{GainsNoLives, Roomy};
-ghost use Rattle.lpc_world.specs.Names.{KeepsOthers, stands};
-ghost use Rattle.lpc_world.specs.Clauses.{after, birth_at};
+ghost use Rattle.lpc_rows.specs.Held as held;
+ghost use Rattle.lpc_rows.specs.Held.{has_holders};
+ghost use Rattle.lpc_rows.specs.Kept.{GainsNoLives, Roomy};
+ghost use Rattle.lpc_rows.specs.Names.{KeepsOthers, stands};
+ghost use Rattle.lpc_rows.specs.Clauses.{after, birth_at};
 
 use crate::world::World;
 use lpc_base::Birth;

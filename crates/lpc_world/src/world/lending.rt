@@ -4,11 +4,11 @@ ghost use Rattle.lpc_base.specs.Rows.{every, has};
 ghost use Rattle.lpc_base.specs.declared.limits.TheConstants.{HANDLE_LIMIT, LINES_LIMIT};
 ghost use Rattle.lpc_model.specs.Found.{handles_of, is_table, is_taken, objects};
 ghost use Rattle.lpc_model.specs.Tests.{handle_load};
-ghost use Rattle.lpc_world.specs.Kept.{CALL_BUDGET, OwnPend};
-ghost use Rattle.lpc_world.specs.Lawful.{AreBornIn, are_single};
-ghost use Rattle.lpc_world.specs.Names.{are_apart};
-ghost use Rattle.lpc_world.specs.Shown.{births_of, shown_binding, shown_handle, shown_message, shown_port, shown_process, shown_thread, shown_used, shown_wait, wait_refs};
-ghost use Rattle.lpc_world.specs.Clauses.{all_stand, shown_in};
+ghost use Rattle.lpc_rows.specs.Kept.{CALL_BUDGET, OwnPend};
+ghost use Rattle.lpc_rows.specs.Lawful.{AreBornIn, are_single};
+ghost use Rattle.lpc_rows.specs.Names.{are_apart};
+ghost use Rattle.lpc_rows.specs.Shown.{births_of, shown_binding, shown_handle, shown_message, shown_port, shown_process, shown_thread, shown_used, shown_wait, wait_refs};
+ghost use Rattle.lpc_rows.specs.Clauses.{all_stand, shown_in};
 
 use crate::world::World;
 use lpc_handles::Table;

@@ -3,7 +3,7 @@ ghost use Rattle.std.specs.Prelude.{◌≡◌, IfSome, option_map};
 ghost use Rattle.lpc_base.specs.Rows.{first};
 ghost use Rattle.lpc_model.specs.Creation as creation;
 ghost use Rattle.lpc_model.specs.Found.{is_born_process, is_born_thread};
-ghost use Rattle.lpc_world.specs.Clauses.{born_thread, thread_row};
+ghost use Rattle.lpc_rows.specs.Clauses.{born_thread, thread_row};
 
 use crate::world::World;
 use lpc_base::Birth;

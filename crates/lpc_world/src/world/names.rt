@@ -1,11 +1,11 @@
 // The name space: what its calls bind, and why they don't.
 ghost use Rattle.std.specs.Prelude.{◌≡◌, ◌≢◌, ◌+◌, ◌<◌, ◌≤◌, Ok, Err, IfErr, IsOk, OnErr, OnOk, true};
 ghost use Rattle.lpc_model.specs.Named.{free_name};
-ghost use Rattle.lpc_world.specs.Bound.{with_link};
-ghost use Rattle.lpc_world.specs.Capacity.{but_names};
-ghost use Rattle.lpc_world.specs.Kept.{Roomy, Same};
-ghost use Rattle.lpc_world.specs.Names.{stands};
-ghost use Rattle.lpc_world.specs.Clauses.{RefusedAs, and_name, with_directory, with_port_name};
+ghost use Rattle.lpc_rows.specs.Bound.{with_link};
+ghost use Rattle.lpc_rows.specs.Capacity.{but_names};
+ghost use Rattle.lpc_rows.specs.Kept.{Roomy, Same};
+ghost use Rattle.lpc_rows.specs.Names.{stands};
+ghost use Rattle.lpc_rows.specs.Clauses.{RefusedAs, and_name, with_directory, with_port_name};
 
 use crate::world::World;
 use lpc_base::{OutOfMemory, Status};

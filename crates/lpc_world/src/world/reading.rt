@@ -3,12 +3,12 @@ ghost use Rattle.std.specs.Prelude.{◌≡◌, ◌<◌, None, Some, true, false,
 ghost use Rattle.lpc_base.specs.Rows.{count, has};
 ghost use Rattle.lpc_model.specs.Found as found;
 ghost use Rattle.lpc_model.specs.Found.{datagrams, handle_at, is_live_thread, is_table, is_thread, live_count, same_birth, waits_as, waits_at, was_process, was_thread};
-ghost use Rattle.lpc_world.specs.Lawful.{are_single};
-ghost use Rattle.lpc_world.specs.Names.{are_apart, some_stands, stands};
-ghost use Rattle.lpc_world.specs.Shown.{object_stands, shown_creator, shown_thread};
-ghost use Rattle.lpc_world.specs.Kept.{OwnPend, has_queued, is_alive, is_pending_in};
-ghost use Rattle.lpc_world.specs.Ready.{HasRow, IsWait, caller, is_ready, waiter};
-ghost use Rattle.lpc_world.specs.Clauses.{Finds, FindsWait, IsOwnWait, birth_at, has_process, has_table, is_quiet_for, oldest, port_at, row_at, row_shown, some_birth, takes_at, thread_row};
+ghost use Rattle.lpc_rows.specs.Lawful.{are_single};
+ghost use Rattle.lpc_rows.specs.Names.{are_apart, some_stands, stands};
+ghost use Rattle.lpc_rows.specs.Shown.{object_stands, shown_creator, shown_thread};
+ghost use Rattle.lpc_rows.specs.Kept.{OwnPend, has_queued, is_alive, is_pending_in};
+ghost use Rattle.lpc_rows.specs.Ready.{HasRow, IsWait, caller, is_ready, waiter};
+ghost use Rattle.lpc_rows.specs.Clauses.{Finds, FindsWait, IsOwnWait, birth_at, has_process, has_table, is_quiet_for, oldest, port_at, row_at, row_shown, some_birth, takes_at, thread_row};
 
 use crate::world::World;
 use lpc_handles::Row;

@@ -1,8 +1,8 @@
 use Rattle.std.proofs.Common.{ap, sym, ◌∙◌}
 use Rattle.lpc_model.specs.World.{World}
-use Rattle.lpc_world.specs.Names.{Names, name_of}
-use Rattle.lpc_world.specs.Ready.{waiter}
-use Rattle.lpc_world.specs.Shown.{Births, shown_thread}
+use Rattle.lpc_rows.specs.Names.{Names, name_of}
+use Rattle.lpc_rows.specs.Ready.{waiter}
+use Rattle.lpc_rows.specs.Shown.{Births, shown_thread}
 use Rattle.lpc_connect.proofs.Accepted.{accepted}
 use Rattle.lpc_connect.proofs.Created.{drawn-birth}
 use Rattle.lpc_connect.proofs.accept.accept_connect.Goals as goal

@@ -1,6 +1,6 @@
 use Rattle.std.proofs.Common.{refl}
-use Rattle.lpc_world.specs.Names.{name_of}
-use Rattle.lpc_world.specs.Shown.{shown_thread}
+use Rattle.lpc_rows.specs.Names.{name_of}
+use Rattle.lpc_rows.specs.Shown.{shown_thread}
 use Rattle.lpc_connect.proofs.Completed.{completed}
 use Rattle.lpc_connect.proofs.complete.complete.Goals as goal
 

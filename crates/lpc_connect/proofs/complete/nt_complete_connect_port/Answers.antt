@@ -1,9 +1,9 @@
 use Rattle.std.proofs.Common.{◌∙◌, arith}
 use Rattle.lpc_model.specs.Connect.{Completable}
 use Rattle.lpc_model.specs.World.{World}
-use Rattle.lpc_world.specs.Names.{name_of}
-use Rattle.lpc_world.specs.Ready.{waiter}
-use Rattle.lpc_world.specs.Shown.{shown_thread}
+use Rattle.lpc_rows.specs.Names.{name_of}
+use Rattle.lpc_rows.specs.Ready.{waiter}
+use Rattle.lpc_rows.specs.Shown.{shown_thread}
 use Rattle.lpc_connect.proofs.Completed.{completes, completes_outcome}
 use Rattle.lpc_connect.proofs.complete.nt_complete_connect_port.Goals as goal
 

@@ -1,8 +1,8 @@
 use Rattle.std.proofs.Common.{◌∙◌}
 use Rattle.std.specs.Prelude.{option_copied}
 use Rattle.lpc_model.specs.World.{World}
-use Rattle.lpc_world.specs.Names.{name_of}
-use Rattle.lpc_world.specs.Shown.{shown_thread}
+use Rattle.lpc_rows.specs.Names.{name_of}
+use Rattle.lpc_rows.specs.Shown.{shown_thread}
 use Rattle.lpc_connect.proofs.Created.{created, drawn-birth}
 use Rattle.lpc_connect.proofs.create.create.Goals as goal
 

@@ -1,7 +1,7 @@
 use Rattle.std.proofs.Common.{◌≡◌, ◌∙◌, arith}
 use Rattle.std.specs.Prelude.{option_copied}
 use Rattle.lpc_model.specs.World.{World}
-use Rattle.lpc_world.specs.Shown.{shown_thread}
+use Rattle.lpc_rows.specs.Shown.{shown_thread}
 use Rattle.lpc_connect.proofs.Created.{creates, creates_outcome}
 use Rattle.lpc_connect.proofs.create.nt_create_port.Goals as goal
 

@@ -8,16 +8,16 @@ use Rattle.lpc_model.specs.Creation.{new_process, new_thread, second_birth}
 use Rattle.lpc_model.specs.Found.{free_handle, is_process, is_table, is_thread, process_name, thread_name}
 use Rattle.lpc_model.specs.Tests.{handle_load, next_birth}
 use Rattle.lpc_model.specs.World.{ThreadRow, World}
-use Rattle.lpc_world.specs.Clauses.{thread_row, birth_next}
-use Rattle.lpc_world.specs.Ready.{caller}
+use Rattle.lpc_rows.specs.Clauses.{thread_row, birth_next}
+use Rattle.lpc_rows.specs.Ready.{caller}
 use Rattle.lpc_base.specs.declared.status.TheConstants.{SUCCESS}
 use Rattle.lpc_model.specs.declared.entry.CallName.TheVariants.{NtCreateProcess}
 use Rattle.lpc_model.specs.declared.entry.Entry.TheVariants.{Answer}
 use Rattle.lpc_model.specs.Fields.{first_thread, h}
 use Rattle.lpc_model.specs.Creation.{gives_life}
 use Rattle.lpc_death.proofs.Makes.{begins, drawn-later, drawn-stands, load-same, first-birth, load-more, next-birth, two-handles, booted_by, alike, given-alike, served-made}
-use Rattle.lpc_world.specs.Capacity.{Capacity, handle_places}
-use Rattle.lpc_world.proofs.Capacities.{none_pushed}
+use Rattle.lpc_rows.specs.Capacity.{Capacity, handle_places}
+use Rattle.lpc_rows.proofs.Capacities.{none_pushed}
 use Rattle.lpc_death.proofs.create.nt_create_process.Goals as goal
 
 pub procs_draw_birth-thread-requires-clause-stands : goal.procs_draw_birth-thread-requires-clause-stands

@@ -2,8 +2,8 @@ use Rattle.std.proofs.Common.{[], ◌∷◌, ap, arith}
 use Rattle.lpc_model.specs.Basics.{Dies, Steps, Withdraws, doing}
 use Rattle.lpc_model.specs.Death.{cut_accepted}
 use Rattle.lpc_model.specs.Found.{wait_of}
-use Rattle.lpc_world.specs.Does.{Left}
-use Rattle.lpc_world.specs.Names.{name_of}
+use Rattle.lpc_rows.specs.Does.{Left}
+use Rattle.lpc_rows.specs.Names.{name_of}
 use Rattle.lpc_steps.proofs.Composed.{took-then}
 use Rattle.lpc_death.proofs.Dead.{cut-spare, ended-spare, one-spare, took-cut, took-uncut}
 use Rattle.lpc_death.proofs.dying.die.Goals as goal

@@ -1,7 +1,7 @@
 use Rattle.std.proofs.Common.{ap, arith, length, ◌∙◌}
 use Rattle.lpc_model.specs.Found.{live_threads}
 use Rattle.lpc_model.specs.World.{World}
-use Rattle.lpc_world.specs.Does.{Left}
+use Rattle.lpc_rows.specs.Does.{Left}
 use Rattle.lpc_death.proofs.Dead.{dead-left, dead-once, dead-pairs, first-live, none-dead, one-dead}
 use Rattle.lpc_death.proofs.dying.die_all.Goals as goal
 

@@ -1,7 +1,7 @@
 use Rattle.std.proofs.Common.{◌≡◌, ◌+◌, ◌≤◌, length}
 use Rattle.lpc_model.specs.Found.{live_threads}
-use Rattle.lpc_world.specs.Closing.{HasMutualPairs}
-use Rattle.lpc_world.specs.Does.{left_by}
+use Rattle.lpc_rows.specs.Closing.{HasMutualPairs}
+use Rattle.lpc_rows.specs.Does.{left_by}
 use Rattle.lpc_death.specs.Dying.{dying_all, ending_entries}
 use Rattle.lpc_model.specs.Lawful.{HasThreadsOnce}
 use Rattle.lpc_death.proofs.dying.die_all.Given as goal

@@ -2,8 +2,8 @@ use Rattle.std.proofs.Common.{ap, ◌∙◌}
 use Rattle.lpc_base.specs.Rows.{has}
 use Rattle.lpc_model.specs.Found.{waits_as}
 use Rattle.lpc_model.specs.World.{World}
-use Rattle.lpc_world.specs.Clauses.{without_wait}
-use Rattle.lpc_world.specs.Registered.{with_ended}
+use Rattle.lpc_rows.specs.Clauses.{without_wait}
+use Rattle.lpc_rows.specs.Registered.{with_ended}
 use Rattle.lpc_death.proofs.Dead.{none-waits, took-end}
 use Rattle.lpc_death.proofs.dying.end_thread.Goals as goal
 

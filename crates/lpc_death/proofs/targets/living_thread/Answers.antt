@@ -2,7 +2,7 @@ use Rattle.std.proofs.Common.{◌≡◌, ◌∙◌, true, ap, sym, arith}
 use Rattle.std.specs.Prelude.{Ok}
 use Rattle.lpc_model.specs.Targets.{thread_target}
 use Rattle.lpc_model.specs.declared.line.ProcArg.TheVariants.{By}
-use Rattle.lpc_world.specs.Ready.{caller}
+use Rattle.lpc_rows.specs.Ready.{caller}
 use Rattle.lpc_death.proofs.Aimed.{aimed, target-lives}
 use Rattle.lpc_death.proofs.OwnEnds.{caller-found, own-living}
 use Rattle.lpc_death.proofs.targets.living_thread.Goals as goal

@@ -1,7 +1,7 @@
 use Rattle.std.proofs.Common.{ap, ◌∙◌}
-use Rattle.lpc_world.specs.Names.{name_of}
-use Rattle.lpc_world.specs.Registered.{death_shown}
-use Rattle.lpc_world.specs.Shown.{Births}
+use Rattle.lpc_rows.specs.Names.{name_of}
+use Rattle.lpc_rows.specs.Registered.{death_shown}
+use Rattle.lpc_rows.specs.Shown.{Births}
 use Rattle.lpc_death.proofs.Registrations.{post-took}
 use Rattle.lpc_death.proofs.tell.post_death.Goals as goal
 

@@ -1,7 +1,7 @@
 use Rattle.std.proofs.Common.{ap, arith, drop, length, ◌∙◌}
 use Rattle.lpc_model.specs.World.{World}
-use Rattle.lpc_world.specs.Does.{Left}
-use Rattle.lpc_world.specs.Registered.{death_shown, untold_of}
+use Rattle.lpc_rows.specs.Does.{Left}
+use Rattle.lpc_rows.specs.Registered.{death_shown, untold_of}
 use Rattle.lpc_death.proofs.Registrations.{first-is, first-none, left-untold, next-registered, none-told, one-told, single-left}
 use Rattle.lpc_death.proofs.tell.tell_all.Goals as goal
 

@@ -1,7 +1,7 @@
 use Rattle.std.proofs.Common.{◌≡◌, ◌+◌, ◌≤◌, length}
 use Rattle.lpc_model.specs.Deaths.{HasSingleRegistrations}
-use Rattle.lpc_world.specs.Does.{left_by}
-use Rattle.lpc_world.specs.Registered.{untold_of}
+use Rattle.lpc_rows.specs.Does.{left_by}
+use Rattle.lpc_rows.specs.Registered.{untold_of}
 use Rattle.lpc_death.specs.Dying.{telling_all}
 use Rattle.lpc_death.proofs.tell.tell_all.Given as goal
 

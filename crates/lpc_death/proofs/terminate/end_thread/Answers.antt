@@ -3,10 +3,10 @@ use Rattle.lpc_base.specs.Rows.{has}
 use Rattle.lpc_model.specs.Basics.{Steps, ◌▹◌}
 use Rattle.lpc_model.specs.Deaths.{HasSingleRegistrations}
 use Rattle.lpc_model.specs.Found.{is_table}
-use Rattle.lpc_world.specs.Does.{Left, Took}
-use Rattle.lpc_world.specs.Ready.{caller}
+use Rattle.lpc_rows.specs.Does.{Left, Took}
+use Rattle.lpc_rows.specs.Ready.{caller}
 use Rattle.lpc_steps.proofs.Composed.{took-then}
-use Rattle.lpc_death.specs.Closing.{CanCloseAll}
+use Rattle.lpc_closing.specs.Closing.{CanCloseAll}
 use Rattle.lpc_death.specs.Ends.{telling_ends}
 use Rattle.lpc_death.proofs.CanEnd.{died-can, died-single, died-table}
 use Rattle.lpc_model.specs.Death.{dying, end_threads}

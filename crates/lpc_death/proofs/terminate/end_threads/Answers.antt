@@ -1,7 +1,7 @@
 use Rattle.std.proofs.Common.{ap, subst}
 use Rattle.lpc_model.specs.Basics.{Steps}
 use Rattle.lpc_model.specs.Found.{live_threads}
-use Rattle.lpc_world.specs.Does.{Left, Took}
+use Rattle.lpc_rows.specs.Does.{Left, Took}
 use Rattle.lpc_steps.proofs.Composed.{took-then}
 use Rattle.lpc_death.specs.Dying.{dying_all}
 use Rattle.lpc_death.specs.Ends.{telling_ends}

@@ -2,8 +2,8 @@ use Rattle.std.proofs.Common.{◌≡◌, ◌∙◌, false, not, ap, sym, arith}
 use Rattle.lpc_base.specs.Rows.{when}
 use Rattle.lpc_model.specs.Basics.{Steps, provided}
 use Rattle.lpc_model.specs.Found.{is_live}
-use Rattle.lpc_world.specs.Does.{Left, left_by}
-use Rattle.lpc_world.specs.Registered.{untold_of}
+use Rattle.lpc_rows.specs.Does.{Left, left_by}
+use Rattle.lpc_rows.specs.Registered.{untold_of}
 use Rattle.lpc_steps.proofs.Composed.{took-then}
 use Rattle.lpc_death.specs.Dying.{telling_all}
 use Rattle.lpc_model.specs.Death.{end_process}

@@ -1,7 +1,7 @@
 use Rattle.std.proofs.Common.{◌≡◌, ◌∙◌, ap, subst, sym}
 use Rattle.std.specs.Prelude.{◌==◌, Ok, Err}
 use Rattle.lpc_model.specs.World.{ThreadRow, World}
-use Rattle.lpc_world.specs.Ready.{caller}
+use Rattle.lpc_rows.specs.Ready.{caller}
 use Rattle.lpc_death.specs.Ends.{living_process}
 use Rattle.lpc_death.proofs.OwnEnds.{served-process, served-process-refused}
 use Rattle.lpc_death.proofs.terminate.nt_terminate_process.Goals as goal

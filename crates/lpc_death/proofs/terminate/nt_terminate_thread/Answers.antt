@@ -3,8 +3,8 @@ use Rattle.std.specs.Prelude.{◌==◌, Ok, Err}
 use Rattle.lpc_model.specs.Death.{code_status, end_threads}
 use Rattle.lpc_model.specs.World.{ThreadRow, World}
 use Rattle.lpc_model.proofs.Usable.{live-number}
-use Rattle.lpc_world.specs.Does.{Took}
-use Rattle.lpc_world.specs.Ready.{caller}
+use Rattle.lpc_rows.specs.Does.{Took}
+use Rattle.lpc_rows.specs.Ready.{caller}
 use Rattle.lpc_death.specs.Ends.{living_thread}
 use Rattle.lpc_death.proofs.OwnEnds.{served-thread, served-thread-refused}
 use Rattle.lpc_death.proofs.terminate.nt_terminate_thread.Goals as goal

@@ -5,8 +5,8 @@ use Rattle.lpc_model.specs.Basics.{no_handles}
 use Rattle.lpc_model.specs.Found.{is_process, is_table}
 use Rattle.lpc_model.specs.Machine.{new_process}
 use Rattle.lpc_model.specs.World.{World}
-use Rattle.lpc_world.specs.Capacity.{Capacity, handle_places}
-use Rattle.lpc_world.proofs.Capacities.{none_pushed}
+use Rattle.lpc_rows.specs.Capacity.{Capacity, handle_places}
+use Rattle.lpc_rows.proofs.Capacities.{none_pushed}
 use Rattle.lpc_directives.proofs.directives.boot.Goals as goal
 
 pub procs_add_thread-requires-clause-process : goal.procs_add_thread-requires-clause-process

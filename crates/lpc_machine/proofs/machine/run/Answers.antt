@@ -2,7 +2,7 @@ use Rattle.std.proofs.Common.{ap, sym, ◌∙◌, List}
 use Rattle.lpc_model.specs.Basics.{Basic}
 use Rattle.lpc_model.specs.Lines.{ScriptCall, call_of}
 use Rattle.lpc_model.specs.World.{World}
-use Rattle.lpc_world.specs.Does.{left_by}
+use Rattle.lpc_rows.specs.Does.{left_by}
 use Rattle.lpc_machine.proofs.Called.{busy, called}
 use Rattle.lpc_machine.proofs.machine.run.Goals as goal
 

@@ -1,9 +1,9 @@
 use Rattle.std.proofs.Common.{◌+◌, ◌*◌, ap, arith, length, refl, sym, ◌∙◌}
 use Rattle.std.proofs.lemmas.List.{length-map}
 use Rattle.lpc_base.specs.Rows.{count}
-use Rattle.lpc_world.specs.Kept.{is_alive}
-use Rattle.lpc_world.specs.Shown.{shown_thread}
-use Rattle.lpc_world.proofs.Readings as readings
+use Rattle.lpc_rows.specs.Kept.{is_alive}
+use Rattle.lpc_rows.specs.Shown.{shown_thread}
+use Rattle.lpc_rows.proofs.Readings as readings
 use Rattle.lpc_machine.proofs.reading.room_needed.Goals as goal
 
 pub overflow_mul-result : goal.overflow_mul-result

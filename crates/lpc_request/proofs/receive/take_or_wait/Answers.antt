@@ -8,7 +8,7 @@ use Rattle.lpc_model.specs.World.{World, MessageRow}
 use Rattle.lpc_model.specs.Basics.{Receives, basic}
 use Rattle.lpc_model.specs.Fields.{receipt}
 use Rattle.lpc_model.specs.Message.{asks, message_of}
-use Rattle.lpc_world.specs.Shown.{pulled_row}
+use Rattle.lpc_rows.specs.Shown.{pulled_row}
 use Rattle.lpc_request.proofs.Received.{taken}
 use Rattle.lpc_request.proofs.receive.take_or_wait.Goals as goal
 

@@ -2,9 +2,9 @@ use Rattle.std.proofs.Common.{◌<◌, ◌∙◌, ap, length, subst, sym}
 use Rattle.std.specs.Prelude.{is_some}
 use Rattle.lpc_base.specs.Rows.{given}
 use Rattle.lpc_model.specs.World as model
-use Rattle.lpc_world.specs.Clauses.{birth_at}
-use Rattle.lpc_world.specs.Ready.{caller}
-use Rattle.lpc_world.specs.Registered.{registrations_of}
+use Rattle.lpc_rows.specs.Clauses.{birth_at}
+use Rattle.lpc_rows.specs.Ready.{caller}
+use Rattle.lpc_rows.specs.Registered.{registrations_of}
 use Rattle.lpc_request.proofs.Registrations.{is_granted, is_refused, its_row, registered_many}
 use Rattle.lpc_request.proofs.register.registration_test.Goals as goal
 

@@ -1,7 +1,7 @@
 use Rattle.std.proofs.Common.{Some, option_map, ap, sym, ◌∙◌}
 use Rattle.lpc_model.specs.Close.{closed_message}
-use Rattle.lpc_world.specs.Clauses.{birth_at, port_at}
-use Rattle.lpc_world.specs.Shown.{shown_creator}
+use Rattle.lpc_rows.specs.Clauses.{birth_at, port_at}
+use Rattle.lpc_rows.specs.Shown.{shown_creator}
 use Rattle.lpc_steps.proofs.Told.{told_is}
 use Rattle.lpc_steps.proofs.closing.closing_post.Goals as goal
 

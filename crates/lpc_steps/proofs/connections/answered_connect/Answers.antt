@@ -4,9 +4,9 @@ use Rattle.lpc_message.specs.declared.message.ClientId.{ClientId}
 use Rattle.lpc_model.specs.Found.{waits_as}
 use Rattle.lpc_model.specs.World.{ThreadRow, World}
 use Rattle.lpc_steps.specs.Connecting.{is_answered}
-use Rattle.lpc_world.specs.Lawful.{are_single}
-use Rattle.lpc_world.specs.Ready.{caller, waiter}
-use Rattle.lpc_world.proofs.Finds as finds
+use Rattle.lpc_rows.specs.Lawful.{are_single}
+use Rattle.lpc_rows.specs.Ready.{caller, waiter}
+use Rattle.lpc_rows.proofs.Finds as finds
 use Rattle.lpc_steps.proofs.Answered as answered
 use Rattle.lpc_steps.proofs.connections.answered_connect.Goals as goal
 

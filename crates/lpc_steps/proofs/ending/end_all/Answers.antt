@@ -1,8 +1,8 @@
 use Rattle.std.proofs.Common.{◌∙◌, ap, sym, arith}
 use Rattle.lpc_base.specs.Rows.{first}
 use Rattle.lpc_steps.specs.Closing.{ends}
-use Rattle.lpc_world.specs.Names.{name_of, stands}
-use Rattle.lpc_world.specs.Shown.{Births}
+use Rattle.lpc_rows.specs.Names.{name_of, stands}
+use Rattle.lpc_rows.specs.Shown.{Births}
 use Rattle.lpc_steps.proofs.Endings.{IsWalked, left-by-none, pairs-kept, walked}
 use Rattle.lpc_steps.proofs.ending.end_all.Goals as goal
 

@@ -1,8 +1,8 @@
 use Rattle.std.proofs.Common.{◌≡◌, ◌+◌, true, length}
-use Rattle.lpc_world.specs.Closing.{HasMutualPairs}
+use Rattle.lpc_rows.specs.Closing.{HasMutualPairs}
 use Rattle.lpc_steps.specs.Closing.{end_all}
-use Rattle.lpc_world.specs.Does.{left_by}
-use Rattle.lpc_world.specs.Names.{name_of, stands}
+use Rattle.lpc_rows.specs.Does.{left_by}
+use Rattle.lpc_rows.specs.Names.{name_of, stands}
 use Rattle.lpc_steps.proofs.ending.end_all.Given as goal
 
 -- the waits that are left to end leave what all leave, and there is a wait less for each entry

@@ -4,10 +4,10 @@ use Rattle.lpc_model.specs.World.{World}
 use Rattle.lpc_model.specs.Entering.{end_connect}
 use Rattle.lpc_model.specs.Fields.{info}
 use Rattle.lpc_model.specs.Found.{is_connect}
-use Rattle.lpc_world.specs.Does.{left_by}
-use Rattle.lpc_world.specs.Ready.{waiter}
+use Rattle.lpc_rows.specs.Does.{left_by}
+use Rattle.lpc_rows.specs.Ready.{waiter}
 use Rattle.lpc_steps.proofs.Endings.{same-waiter, withdrawn-first}
-use Rattle.lpc_world.proofs.Finished.{own-waiter}
+use Rattle.lpc_rows.proofs.Finished.{own-waiter}
 use Rattle.lpc_steps.proofs.ending.end_offered.Goals as goal
 
 pub end_connect-requires-clause-connect : goal.end_connect-requires-clause-connect

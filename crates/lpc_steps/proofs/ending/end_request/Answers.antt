@@ -3,10 +3,10 @@ use Rattle.lpc_model.specs.World.{World}
 use Rattle.lpc_model.specs.Basics.{Withdraws}
 use Rattle.lpc_model.specs.declared.entry.Field.{Field}
 use Rattle.lpc_model.specs.Entering.{woken}
-use Rattle.lpc_world.specs.Does.{left_by}
-use Rattle.lpc_world.specs.Ready.{waiter}
+use Rattle.lpc_rows.specs.Does.{left_by}
+use Rattle.lpc_rows.specs.Ready.{waiter}
 use Rattle.lpc_steps.proofs.Endings.{withdrawn-first, woken-left}
-use Rattle.lpc_world.proofs.Finished.{own-waiter}
+use Rattle.lpc_rows.proofs.Finished.{own-waiter}
 use Rattle.lpc_steps.proofs.ending.end_request.Goals as goal
 
 pub returns-clause-took : goal.returns-clause-took

@@ -1,6 +1,6 @@
 use Rattle.std.proofs.Common.{sym, subst}
 use Rattle.std.specs.Prelude.{ℕ, Option}
-use Rattle.lpc_world.specs.Names.{name_of}
+use Rattle.lpc_rows.specs.Names.{name_of}
 use Rattle.lpc_steps.specs.declared.ending.Ending.{Ending}
 use Rattle.lpc_steps.specs.declared.ending.Ending.TheVariants.{ReceivesAcross, RequestsAcross}
 use Rattle.lpc_steps.proofs.NextEnding as next

@@ -1,5 +1,5 @@
 use Rattle.std.proofs.Common.{arith}
-use Rattle.lpc_world.specs.Names.{name_of}
+use Rattle.lpc_rows.specs.Names.{name_of}
 use Rattle.lpc_steps.proofs.NextEnding as next
 use Rattle.lpc_steps.proofs.ending.next_to_end.Goals as goal
 

@@ -2,8 +2,8 @@ use Rattle.std.proofs.Common.{◌+◌, ap, length, arith}
 use Rattle.lpc_base.specs.Rows.{without}
 use Rattle.lpc_model.specs.Found.{waits_as}
 use Rattle.lpc_model.specs.World.{World}
-use Rattle.lpc_world.specs.Ready.{waiter}
-use Rattle.lpc_world.specs.Shown.{row_with}
+use Rattle.lpc_rows.specs.Ready.{waiter}
+use Rattle.lpc_rows.specs.Shown.{row_with}
 use Rattle.lpc_steps.proofs.Delivered.{delivered, one-fewer}
 use Rattle.lpc_steps.proofs.Endings.{length-rest}
 use Rattle.lpc_steps.proofs.entering.deliver.Goals as goal

@@ -1,6 +1,6 @@
 use Rattle.std.proofs.Common.{sym, ◌∙◌}
-use Rattle.lpc_world.specs.Ready.{waiter}
-use Rattle.lpc_world.specs.Shown.{row_with}
+use Rattle.lpc_rows.specs.Ready.{waiter}
+use Rattle.lpc_rows.specs.Shown.{row_with}
 use Rattle.lpc_steps.proofs.Delivered.{passed-asking, passed-other}
 use Rattle.lpc_steps.proofs.entering.pass.Goals as goal
 

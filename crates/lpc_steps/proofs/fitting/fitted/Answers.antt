@@ -4,11 +4,11 @@ use Rattle.lpc_model.specs.Found.{fits_as, waits_as}
 use Rattle.lpc_message.specs.declared.message.ClientId.{ClientId}
 use Rattle.lpc_model.specs.World.{World}
 use Rattle.lpc_base.specs.declared.birth.Birth.{Birth}
-use Rattle.lpc_world.specs.Lawful.{are_single}
-use Rattle.lpc_world.specs.Names.{name_of}
-use Rattle.lpc_world.specs.Ready.{waiter}
+use Rattle.lpc_rows.specs.Lawful.{are_single}
+use Rattle.lpc_rows.specs.Names.{name_of}
+use Rattle.lpc_rows.specs.Ready.{waiter}
 use Rattle.lpc_steps.proofs.Fits as fits
-use Rattle.lpc_world.proofs.Finds as finds
+use Rattle.lpc_rows.proofs.Finds as finds
 use Rattle.lpc_steps.proofs.fitting.fitted.Goals as goal
 
 found_as : (w : World) (port : Birth) (client : ClientId) (identifier : ℕ) → are_single w.waits ≡ true → has (waits_as client.thread) w.waits ≡ true → (b : Bool) → b ≡ fits_as w port client identifier (waiter w client.thread) → finds.IsFound w (fits_as w port client identifier) (cond b (Some client.thread) None)

@@ -2,8 +2,8 @@ use Rattle.std.proofs.Common.{◌+◌, ap, arith, length, sym, ◌∙◌}
 use Rattle.std.proofs.lemmas.List.{length-map}
 use Rattle.lpc_base.specs.Rows.{count}
 use Rattle.lpc_model.specs.Tests.{is_connect_of}
-use Rattle.lpc_world.specs.Shown.{birth_of, shown_handle}
-use Rattle.lpc_world.proofs.Tables.{connects_shown}
+use Rattle.lpc_rows.specs.Shown.{birth_of, shown_handle}
+use Rattle.lpc_rows.proofs.Tables.{connects_shown}
 use Rattle.lpc_steps.proofs.handles.handle_load.Goals as goal
 
 pub overflow_add-result : goal.overflow_add-result

@@ -4,10 +4,10 @@ use Rattle.lpc_model.specs.Found.{waits_as}
 use Rattle.lpc_model.specs.Message.{message_of}
 use Rattle.lpc_model.specs.declared.message.Message.{Message}
 use Rattle.lpc_model.specs.World.{World, WaitRow}
-use Rattle.lpc_world.specs.Shown.{waiting_row, with_message}
-use Rattle.lpc_world.specs.Kept.{is_unsent}
+use Rattle.lpc_rows.specs.Shown.{waiting_row, with_message}
+use Rattle.lpc_rows.specs.Kept.{is_unsent}
 use Rattle.lpc_steps.proofs.Delivered.{begun-change, begun-waits, unsent-message}
-use Rattle.lpc_world.proofs.Rooms.{roomy_then}
+use Rattle.lpc_rows.proofs.Rooms.{roomy_then}
 use Rattle.lpc_steps.proofs.waiting.wait_with.Goals as goal
 
 pub waits_set_message-requires-clause-waits : goal.waits_set_message-requires-clause-waits

@@ -1,6 +1,6 @@
 use Rattle.std.proofs.Common.{not, ap, sym, ◌∙◌}
-use Rattle.lpc_world.specs.Clauses.{birth_at, port_at}
-use Rattle.lpc_world.specs.Names.{name_of}
+use Rattle.lpc_rows.specs.Clauses.{birth_at, port_at}
+use Rattle.lpc_rows.specs.Names.{name_of}
 use Rattle.lpc_sweep.proofs.HeldPorts.{held_as, paired_held}
 use Rattle.lpc_sweep.proofs.finding.is_held.Goals as goal
 

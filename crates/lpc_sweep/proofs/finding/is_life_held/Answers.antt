@@ -1,5 +1,5 @@
 use Rattle.std.proofs.Common.{sym, ◌∙◌}
-use Rattle.lpc_world.specs.Clauses.{name_at}
+use Rattle.lpc_rows.specs.Clauses.{name_at}
 use Rattle.lpc_sweep.proofs.HeldLives.{held-handled, held-living}
 use Rattle.lpc_sweep.proofs.finding.is_life_held.Goals as goal
 

@@ -1,7 +1,7 @@
 use Rattle.std.proofs.Common.{ap, arith, length, subst, ◌≡◌, true}
 use Rattle.std.proofs.lemmas.List.{length-map}
-use Rattle.lpc_world.specs.Names.{are_apart}
-use Rattle.lpc_world.specs.Shown.{Births, birth_of, shown_port}
+use Rattle.lpc_rows.specs.Names.{are_apart}
+use Rattle.lpc_rows.specs.Shown.{Births, birth_of, shown_port}
 use Rattle.lpc_sweep.proofs.Places as places
 use Rattle.lpc_sweep.proofs.finding.port_key.Goals as goal
 

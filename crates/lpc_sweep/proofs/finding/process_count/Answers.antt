@@ -1,7 +1,7 @@
 use Rattle.std.proofs.Common.{List, ap, length, sym, ◌∙◌}
 use Rattle.std.proofs.lemmas.List.{length-map}
 use Rattle.lpc_model.specs.World.{ProcessRow}
-use Rattle.lpc_world.specs.Shown.{shown_process}
+use Rattle.lpc_rows.specs.Shown.{shown_process}
 use Rattle.lpc_sweep.proofs.finding.process_count.Goals as goal
 
 pub returns : goal.returns

@@ -1,6 +1,6 @@
 use Rattle.std.proofs.Common.{ap, arith, length}
 use Rattle.std.proofs.lemmas.List.{length-map}
-use Rattle.lpc_world.specs.Shown.{shown_process}
+use Rattle.lpc_rows.specs.Shown.{shown_process}
 use Rattle.lpc_sweep.proofs.HeldLives.{process-at}
 use Rattle.lpc_sweep.proofs.finding.process_life.Goals as goal
 

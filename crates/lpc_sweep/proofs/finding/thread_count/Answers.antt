@@ -1,7 +1,7 @@
 use Rattle.std.proofs.Common.{List, ap, length, sym, ◌∙◌}
 use Rattle.std.proofs.lemmas.List.{length-map}
 use Rattle.lpc_model.specs.World.{ThreadRow}
-use Rattle.lpc_world.specs.Shown.{shown_thread}
+use Rattle.lpc_rows.specs.Shown.{shown_thread}
 use Rattle.lpc_sweep.proofs.finding.thread_count.Goals as goal
 
 pub returns : goal.returns

@@ -1,6 +1,6 @@
 use Rattle.std.proofs.Common.{ap, arith, length}
 use Rattle.std.proofs.lemmas.List.{length-map}
-use Rattle.lpc_world.specs.Shown.{shown_thread}
+use Rattle.lpc_rows.specs.Shown.{shown_thread}
 use Rattle.lpc_sweep.proofs.HeldLives.{thread-at}
 use Rattle.lpc_sweep.proofs.finding.thread_life.Goals as goal
 

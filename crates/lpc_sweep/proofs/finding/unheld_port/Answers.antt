@@ -3,7 +3,7 @@ use Rattle.lpc_base.specs.Rows.{every}
 use Rattle.lpc_model.specs.Found.{port_name}
 use Rattle.lpc_model.specs.Sweep.{is_unheld}
 use Rattle.lpc_model.specs.World.{PortRow}
-use Rattle.lpc_world.specs.Names.{name_of}
+use Rattle.lpc_rows.specs.Names.{name_of}
 use Rattle.lpc_sweep.proofs.Places.{drop_all, held_on, row_at_place}
 use Rattle.lpc_sweep.proofs.finding.unheld_port.Goals as goal
 

@@ -1,5 +1,5 @@
 use Rattle.lpc_model.specs.Found.{process_name, thread_name}
-use Rattle.lpc_world.specs.Clauses.{birth_at}
+use Rattle.lpc_rows.specs.Clauses.{birth_at}
 use Rattle.lpc_sweep.proofs.HeldLives.{none-hold}
 use Rattle.lpc_sweep.proofs.HeldPorts.{free_port}
 use Rattle.lpc_sweep.proofs.freeing.free.Goals as goal

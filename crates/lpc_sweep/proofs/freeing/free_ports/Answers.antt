@@ -6,7 +6,7 @@ use Rattle.lpc_model.specs.Sweep.{is_unheld, sweep}
 use Rattle.lpc_model.specs.World.{PortRow, World}
 use Rattle.lpc_model.proofs.Sweeping.{free_one, lives_freed, swept_none_world, unheld_ports}
 use Rattle.lpc_sweep.specs.Sweeping.{CanSweep}
-use Rattle.lpc_world.specs.Names.{name_of}
+use Rattle.lpc_rows.specs.Names.{name_of}
 use Rattle.lpc_sweep.proofs.Ahead.{ahead_same, ahead_then}
 use Rattle.lpc_sweep.proofs.HeldPorts.{can_freed}
 use Rattle.lpc_sweep.proofs.Places.{length_less, none_left}

@@ -1,10 +1,10 @@
-use Rattle.lpc_world.specs.Kept.{rows_by}
-use Rattle.lpc_world.specs.Names.{name_of}
-use Rattle.lpc_world.specs.Shown.{births_of}
-use Rattle.lpc_world.specs.Shown.{tables_of}
-use Rattle.lpc_world.proofs.OwnMessages.{none-queued_if}
-use Rattle.lpc_world.proofs.Connecting as connecting
-use Rattle.lpc_world.proofs.Finished as finished
+use Rattle.lpc_rows.specs.Kept.{rows_by}
+use Rattle.lpc_rows.specs.Names.{name_of}
+use Rattle.lpc_rows.specs.Shown.{births_of}
+use Rattle.lpc_rows.specs.Shown.{tables_of}
+use Rattle.lpc_rows.proofs.OwnMessages.{none-queued_if}
+use Rattle.lpc_rows.proofs.Connecting as connecting
+use Rattle.lpc_rows.proofs.Finished as finished
 use Rattle.lpc_world.proofs.world.World.accepted_on.Goals as goal
 
 pub returns-clause-found : goal.returns-clause-found

@@ -1,5 +1,5 @@
-use Rattle.lpc_world.specs.Shown.{tables_of}
-use Rattle.lpc_world.proofs.Deaths.{accepted_port_is}
+use Rattle.lpc_rows.specs.Shown.{tables_of}
+use Rattle.lpc_rows.proofs.Deaths.{accepted_port_is}
 use Rattle.lpc_world.proofs.world.World.accepted_port.Goals as goal
 
 pub returns-clause-port : goal.returns-clause-port

@@ -2,11 +2,11 @@ use Rattle.std.proofs.Common.{option_map, refl, ap, sym, ◌∙◌}
 use Rattle.lpc_model.specs.Found as found
 use Rattle.lpc_model.specs.Found.{fits_as, is_table, port_row, waits_as}
 use Rattle.lpc_procs.specs.Procs as procs
-use Rattle.lpc_world.specs.Kept.{rows_by}
-use Rattle.lpc_world.specs.Shown.{shown_thread, tables_of}
-use Rattle.lpc_world.proofs.Drawn.{live-found}
-use Rattle.lpc_world.proofs.Finds as finds
-use Rattle.lpc_world.proofs.Readings as readings
+use Rattle.lpc_rows.specs.Kept.{rows_by}
+use Rattle.lpc_rows.specs.Shown.{shown_thread, tables_of}
+use Rattle.lpc_rows.proofs.Drawn.{live-found}
+use Rattle.lpc_rows.proofs.Finds as finds
+use Rattle.lpc_rows.proofs.Readings as readings
 use Rattle.lpc_world.proofs.world.World.caller.Goals as goal
 
 pub unreachable-requires : goal.unreachable-requires

@@ -3,14 +3,14 @@ use Rattle.lpc_base.specs.Rows.{without}
 use Rattle.lpc_model.specs.Basics.{AddsHandle, basic}
 use Rattle.lpc_model.specs.Found.{free_handle, waits_as}
 use Rattle.lpc_model.specs.World.{World}
-use Rattle.lpc_world.specs.Kept.{rows_by}
-use Rattle.lpc_world.specs.Shown.{birth_of, births_of, shown_handle, tables_of}
-use Rattle.lpc_world.proofs.Finished as finished
-use Rattle.lpc_world.proofs.Steps as steps
-use Rattle.lpc_world.proofs.Tables as tables
+use Rattle.lpc_rows.specs.Kept.{rows_by}
+use Rattle.lpc_rows.specs.Shown.{birth_of, births_of, shown_handle, tables_of}
+use Rattle.lpc_rows.proofs.Finished as finished
+use Rattle.lpc_rows.proofs.Steps as steps
+use Rattle.lpc_rows.proofs.Tables as tables
 use Rattle.std.proofs.Common.{◌-◌, vec_len, vec_capacity}
 use Rattle.std.specs.Prelude.{Ok}
-use Rattle.lpc_world.proofs.Capacities as capacities
+use Rattle.lpc_rows.proofs.Capacities as capacities
 use Rattle.lpc_world.proofs.world.World.connects_finish.Goals as goal
 
 pub add_handle-requires-clause-one : goal.add_handle-requires-clause-one

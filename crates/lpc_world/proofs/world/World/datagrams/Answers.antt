@@ -1,6 +1,6 @@
 use Rattle.std.proofs.Common.{◌-◌, sym, ◌∙◌, vec_len, vec_capacity}
-use Rattle.lpc_world.specs.Shown.{tables_of}
-use Rattle.lpc_world.proofs.Readings as readings
+use Rattle.lpc_rows.specs.Shown.{tables_of}
+use Rattle.lpc_rows.proofs.Readings as readings
 use Rattle.lpc_world.proofs.world.World.datagrams.Goals as goal
 
 pub returns : goal.returns

@@ -1,4 +1,4 @@
-use Rattle.lpc_world.proofs.Steps.{none_lawful}
+use Rattle.lpc_rows.proofs.Steps.{none_lawful}
 use Rattle.lpc_world.proofs.world.World.empty.Goals as goal
 
 pub invariant_of-result : goal.invariant_of-result

@@ -5,8 +5,8 @@ use Rattle.lpc_base.specs.Rows.{first}
 use Rattle.lpc_model.specs.Found as found
 use Rattle.lpc_model.specs.World as model
 use Rattle.lpc_procs.specs.Procs as procs
-use Rattle.lpc_world.specs.Shown.{shown_thread}
-use Rattle.lpc_world.proofs.Readings as readings
+use Rattle.lpc_rows.specs.Shown.{shown_thread}
+use Rattle.lpc_rows.proofs.Readings as readings
 use Rattle.lpc_world.proofs.world.World.first_live.Goals as goal
 
 pub returns : goal.returns

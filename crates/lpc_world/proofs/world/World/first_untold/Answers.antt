@@ -1,8 +1,8 @@
 use Rattle.std.proofs.Common.{ap, sym, ◌∙◌}
 use Rattle.std.specs.Prelude.{is_some, option_map}
 use Rattle.lpc_procs.specs.declared.rows.ThreadRow.{ThreadRow}
-use Rattle.lpc_world.specs.Shown.{tables_of}
-use Rattle.lpc_world.proofs.Deaths.{untold_found, untold_is, untold_name, untold_none, untold_port}
+use Rattle.lpc_rows.specs.Shown.{tables_of}
+use Rattle.lpc_rows.proofs.Deaths.{untold_found, untold_is, untold_name, untold_none, untold_port}
 use Rattle.lpc_world.proofs.world.World.first_untold.Goals as goal
 
 pub returns-in_err-thread-clause-found : goal.returns-in_err-thread-clause-found

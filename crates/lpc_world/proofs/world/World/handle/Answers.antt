@@ -1,8 +1,8 @@
 use Rattle.std.proofs.Common.{◌-◌, ap, sym, ◌∙◌, vec_len, vec_capacity}
 use Rattle.lpc_handles.specs.Handles as handles
-use Rattle.lpc_world.specs.Shown.{tables_of}
+use Rattle.lpc_rows.specs.Shown.{tables_of}
 use Rattle.lpc_homes.specs.Parts.{rows_at}
-use Rattle.lpc_world.proofs.Readings as readings
+use Rattle.lpc_rows.proofs.Readings as readings
 use Rattle.lpc_world.proofs.world.World.handle.Goals as goal
 
 pub handles_of-requires : goal.handles_of-requires

@@ -1,8 +1,8 @@
 use Rattle.std.proofs.Common.{ap, sym, ◌∙◌, map}
 use Rattle.lpc_homes.specs.Parts.{rows_at}
-use Rattle.lpc_world.specs.Shown.{birth_of, births_of, shown_handle, tables_of}
-use Rattle.lpc_world.proofs.Readings as readings
-use Rattle.lpc_world.proofs.Tables as tables
+use Rattle.lpc_rows.specs.Shown.{birth_of, births_of, shown_handle, tables_of}
+use Rattle.lpc_rows.proofs.Readings as readings
+use Rattle.lpc_rows.proofs.Tables as tables
 use Rattle.lpc_world.proofs.world.World.handles.Goals as goal
 
 pub handles_of-requires : goal.handles_of-requires

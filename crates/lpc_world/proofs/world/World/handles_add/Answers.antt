@@ -1,12 +1,12 @@
 use Rattle.std.proofs.Common.{ℕ, ◌≡◌, ◌≤◌, ◌<◌, ◌↔◌, Result, Ok, Err, OnOk, length, sym, ◌∙◌, arith}
 use Rattle.std.specs.Prelude.{IsErr}
 use Rattle.lpc_model.specs.Found.{handles_of}
-use Rattle.lpc_world.specs.Kept.{rows_by}
+use Rattle.lpc_rows.specs.Kept.{rows_by}
 use Rattle.lpc_homes.specs.Parts.{rows_at}
-use Rattle.lpc_world.specs.Shown.{tables_of}
-use Rattle.lpc_world.proofs.Tables as tables
+use Rattle.lpc_rows.specs.Shown.{tables_of}
+use Rattle.lpc_rows.proofs.Tables as tables
 use Rattle.std.proofs.Common.{◌-◌, vec_len, vec_capacity}
-use Rattle.lpc_world.proofs.Capacities as capacities
+use Rattle.lpc_rows.proofs.Capacities as capacities
 use Rattle.lpc_world.proofs.world.World.handles_add.Goals as goal
 
 on-few : {A B : Type 0} {P : Type 0} (r : Result A B) (n : ℕ) → (IsErr r ↔ (n ≡ 256)) → n ≤ 256 → (n < 256 → P) → OnOk r P

@@ -1,10 +1,10 @@
 use Rattle.std.proofs.Common.{sym, ◌∙◌, arith}
 use Rattle.lpc_homes.specs.Parts.{closing}
-use Rattle.lpc_world.specs.Shown.{tables_of}
-use Rattle.lpc_world.proofs.Dropped as dropped
-use Rattle.lpc_world.proofs.Tables as tables
+use Rattle.lpc_rows.specs.Shown.{tables_of}
+use Rattle.lpc_rows.proofs.Dropped as dropped
+use Rattle.lpc_rows.proofs.Tables as tables
 use Rattle.std.proofs.Common.{◌-◌, vec_len, vec_capacity}
-use Rattle.lpc_world.proofs.Capacities as capacities
+use Rattle.lpc_rows.proofs.Capacities as capacities
 use Rattle.lpc_world.proofs.world.World.handles_close.Goals as goal
 
 pub close_handle-requires-clause-one : goal.close_handle-requires-clause-one

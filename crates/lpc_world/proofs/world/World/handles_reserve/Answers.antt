@@ -1,8 +1,8 @@
 use Rattle.std.proofs.Common.{◌+◌, refl, ap, sym, ◌∙◌, arith}
-use Rattle.lpc_world.specs.Kept.{owed_rows}
-use Rattle.lpc_world.specs.Shown.{tables_of}
-use Rattle.lpc_world.proofs.Capacities as capacities
-use Rattle.lpc_world.proofs.Tables as tables
+use Rattle.lpc_rows.specs.Kept.{owed_rows}
+use Rattle.lpc_rows.specs.Shown.{tables_of}
+use Rattle.lpc_rows.proofs.Capacities as capacities
+use Rattle.lpc_rows.proofs.Tables as tables
 use Rattle.lpc_world.proofs.world.World.handles_reserve.Goals as goal
 
 pub reserve_handles-requires-clause-one : goal.reserve_handles-requires-clause-one

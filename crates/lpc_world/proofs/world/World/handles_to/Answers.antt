@@ -1,8 +1,8 @@
 use Rattle.std.proofs.Common.{ap, sym, ◌∙◌}
 use Rattle.lpc_base.specs.Rows.{count}
 use Rattle.lpc_homes.specs.Parts.{all_rows, names_it}
-use Rattle.lpc_world.specs.Shown.{tables_of}
-use Rattle.lpc_world.proofs.Counted.{handles_counted}
+use Rattle.lpc_rows.specs.Shown.{tables_of}
+use Rattle.lpc_rows.proofs.Counted.{handles_counted}
 use Rattle.lpc_world.proofs.world.World.handles_to.Goals as goal
 
 pub returns : goal.returns

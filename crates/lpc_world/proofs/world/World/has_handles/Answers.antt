@@ -1,8 +1,8 @@
 use Rattle.std.proofs.Common.{ap, sym, ◌∙◌}
 use Rattle.lpc_base.specs.Rows.{has}
 use Rattle.lpc_homes.specs.Parts.{has_name_of}
-use Rattle.lpc_world.specs.Shown.{tables_of}
-use Rattle.lpc_world.proofs.Counted.{handles_named}
+use Rattle.lpc_rows.specs.Shown.{tables_of}
+use Rattle.lpc_rows.proofs.Counted.{handles_named}
 use Rattle.lpc_world.proofs.world.World.has_handles.Goals as goal
 
 pub returns : goal.returns

@@ -1,6 +1,6 @@
 use Rattle.std.proofs.Common.{sym, ◌∙◌, arith}
-use Rattle.lpc_world.specs.Shown.{tables_of}
-use Rattle.lpc_world.proofs.Counted as counted
+use Rattle.lpc_rows.specs.Shown.{tables_of}
+use Rattle.lpc_rows.proofs.Counted as counted
 use Rattle.lpc_world.proofs.world.World.holders_of.Goals as goal
 
 pub lives_of_process-requires : goal.lives_of_process-requires

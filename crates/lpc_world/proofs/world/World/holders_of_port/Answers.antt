@@ -1,6 +1,6 @@
 use Rattle.std.proofs.Common.{arith}
-use Rattle.lpc_world.specs.Shown.{tables_of}
-use Rattle.lpc_world.proofs.Counted.{connected_counted, connected_few, made_counted, made_few, paired_counted, paired_few, sent_counted}
+use Rattle.lpc_rows.specs.Shown.{tables_of}
+use Rattle.lpc_rows.proofs.Counted.{connected_counted, connected_few, made_counted, made_few, paired_counted, paired_few, sent_counted}
 use Rattle.lpc_world.proofs.world.World.holders_of_port.Goals as goal
 
 pub overflow_add-ports : goal.overflow_add-ports

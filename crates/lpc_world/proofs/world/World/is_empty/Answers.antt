@@ -5,9 +5,9 @@ use Rattle.lpc_ports.specs.Table as ports
 use Rattle.lpc_ports.specs.Table.{row_at}
 use Rattle.lpc_ports.specs.declared.messages.QueuedMessage.{QueuedMessage}
 use Rattle.lpc_slots.specs.declared.Key.{Key}
-use Rattle.lpc_world.specs.Shown.{birth_of, births_of, shown_message, tables_of}
-use Rattle.lpc_world.proofs.Follows as follows
-use Rattle.lpc_world.proofs.Readings as readings
+use Rattle.lpc_rows.specs.Shown.{birth_of, births_of, shown_message, tables_of}
+use Rattle.lpc_rows.proofs.Follows as follows
+use Rattle.lpc_rows.proofs.Readings as readings
 use Rattle.lpc_world.proofs.world.World.is_empty.Goals as goal
 
 pub returns-in-Some : goal.returns-in-Some

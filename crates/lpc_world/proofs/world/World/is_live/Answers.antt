@@ -2,10 +2,10 @@ use Rattle.std.proofs.Common.{refl, sym, ◌∙◌}
 use Rattle.lpc_model.specs.Found as found
 use Rattle.lpc_model.specs.Found.{fits_as, is_table, port_row, waits_as}
 use Rattle.lpc_procs.specs.Procs as procs
-use Rattle.lpc_world.specs.Kept.{rows_by}
-use Rattle.lpc_world.specs.Shown.{shown_thread, tables_of}
-use Rattle.lpc_world.proofs.Finds as finds
-use Rattle.lpc_world.proofs.Readings as readings
+use Rattle.lpc_rows.specs.Kept.{rows_by}
+use Rattle.lpc_rows.specs.Shown.{shown_thread, tables_of}
+use Rattle.lpc_rows.proofs.Finds as finds
+use Rattle.lpc_rows.proofs.Readings as readings
 use Rattle.lpc_world.proofs.world.World.is_live.Goals as goal
 
 pub returns-clause-live : goal.returns-clause-live

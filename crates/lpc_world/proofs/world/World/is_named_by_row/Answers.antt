@@ -2,8 +2,8 @@ use Rattle.std.proofs.Common.{◌≡◌, ap, ◌∙◌, arith}
 use Rattle.lpc_base.specs.Rows.{has}
 use Rattle.lpc_homes.specs.Parts.{has_name_of}
 use Rattle.lpc_homes.specs.declared.object.Object.TheVariants as object
-use Rattle.lpc_world.specs.Shown.{tables_of}
-use Rattle.lpc_world.proofs.Unheld as unheld
+use Rattle.lpc_rows.specs.Shown.{tables_of}
+use Rattle.lpc_rows.proofs.Unheld as unheld
 use Rattle.lpc_world.proofs.world.World.is_named_by_row.Goals as goal
 use Rattle.lpc_world.proofs.world.World.is_named_by_row.Goals.{then-names, else-names, then-is_named, else-is_named}
 

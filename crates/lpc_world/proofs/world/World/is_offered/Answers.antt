@@ -2,8 +2,8 @@ use denote.Ref.{Bor}
 use Rattle.lpc_waits.specs.declared.Accepted.{Accepted}
 use Rattle.std.proofs.Common.{◌∙◌}
 use Rattle.std.specs.Prelude.{option_copied}
-use Rattle.lpc_world.specs.Shown.{tables_of}
-use Rattle.lpc_world.proofs.Connecting as connecting
+use Rattle.lpc_rows.specs.Shown.{tables_of}
+use Rattle.lpc_rows.proofs.Connecting as connecting
 use Rattle.lpc_world.proofs.world.World.is_offered.Goals as goal
 
 pub accepted-requires : goal.accepted-requires

@@ -2,8 +2,8 @@ use Rattle.std.proofs.Common.{ap, sym, ◌∙◌}
 use Rattle.lpc_base.specs.Rows.{has}
 use Rattle.lpc_homes.specs.Parts.{has_name_of}
 use Rattle.lpc_homes.specs.declared.object.Object.TheVariants as object
-use Rattle.lpc_world.specs.Shown.{tables_of}
-use Rattle.lpc_world.proofs.Readings as readings
+use Rattle.lpc_rows.specs.Shown.{tables_of}
+use Rattle.lpc_rows.proofs.Readings as readings
 use Rattle.lpc_world.proofs.world.World.is_open.Goals as goal
 
 pub returns : goal.returns

@@ -1,8 +1,8 @@
 use Rattle.std.proofs.Common.{ap, sym, ◌∙◌}
 use Rattle.lpc_base.specs.Rows.{has}
 use Rattle.lpc_procs.specs.Procs.{has_registered}
-use Rattle.lpc_world.specs.Clauses.{birth_at}
-use Rattle.lpc_world.proofs.Registered.{registered-names}
+use Rattle.lpc_rows.specs.Clauses.{birth_at}
+use Rattle.lpc_rows.proofs.Registered.{registered-names}
 use Rattle.lpc_world.proofs.world.World.is_registered_port.Goals as goal
 
 pub returns : goal.returns

@@ -1,6 +1,6 @@
 use Rattle.std.proofs.Common.{rules, ◌≡◌, sym, ◌∙◌}
 use Rattle.lpc_slots.specs.Table.{is_key}
-use Rattle.lpc_world.proofs.Naming.{agrees}
+use Rattle.lpc_rows.proofs.Naming.{agrees}
 use Rattle.lpc_world.proofs.world.World.is_same.Goals as goal
 
 pub returns : goal.returns

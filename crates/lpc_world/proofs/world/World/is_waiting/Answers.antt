@@ -3,10 +3,10 @@ use Rattle.std.specs.Prelude.{is_some, option_copied}
 use Rattle.lpc_base.proofs.RowMaps.{some-map}
 use Rattle.lpc_waits.specs.Table.{row_of}
 use Rattle.lpc_waits.specs.declared.WaitRow.{WaitRow}
-use Rattle.lpc_world.specs.Kept.{rows_by}
-use Rattle.lpc_world.specs.Shown.{tables_of}
-use Rattle.lpc_world.proofs.OwnMessages.{none-queued}
-use Rattle.lpc_world.proofs.Readings as readings
+use Rattle.lpc_rows.specs.Kept.{rows_by}
+use Rattle.lpc_rows.specs.Shown.{tables_of}
+use Rattle.lpc_rows.proofs.OwnMessages.{none-queued}
+use Rattle.lpc_rows.proofs.Readings as readings
 use Rattle.lpc_world.proofs.world.World.is_waiting.Goals as goal
 
 pub returns-in-Some-clause-waits : goal.returns-in-Some-clause-waits

@@ -1,11 +1,11 @@
-use Rattle.lpc_world.specs.Shown.{birth_of, births_of, shown_message}
+use Rattle.lpc_rows.specs.Shown.{birth_of, births_of, shown_message}
 use Rattle.std.proofs.lemmas.List.{length-map}
 use Rattle.std.proofs.Common.{◌+◌, ◌≤◌, ◌<◌, refl, arith}
 use Rattle.std.proofs.lemmas.Result.{on_err_weaker, on_ok_weaker}
-use Rattle.lpc_world.specs.Shown.{tables_of}
-use Rattle.lpc_world.specs.Kept.{rows_by}
-use Rattle.lpc_world.proofs.Rooms as rooms
-use Rattle.lpc_world.proofs.Steps as steps
+use Rattle.lpc_rows.specs.Shown.{tables_of}
+use Rattle.lpc_rows.specs.Kept.{rows_by}
+use Rattle.lpc_rows.proofs.Rooms as rooms
+use Rattle.lpc_rows.proofs.Steps as steps
 use Rattle.lpc_world.proofs.world.World.messages_reserve.Goals as goal
 
 pub invariant_of-self : goal.invariant_of-self

@@ -1,11 +1,11 @@
 use Rattle.std.proofs.Common.{refl}
 use Rattle.std.proofs.Common.{◌-◌, ◌||◌, ap, sym, ◌∙◌, vec_len, vec_capacity}
-use Rattle.lpc_world.specs.Shown.{tables_of}
-use Rattle.lpc_world.proofs.Withdrawn as withdrawn
+use Rattle.lpc_rows.specs.Shown.{tables_of}
+use Rattle.lpc_rows.proofs.Withdrawn as withdrawn
 use Rattle.std.proofs.Common.{◌+◌, length}
 use Rattle.lpc_ports.specs.Table.{PortTable}
 use Rattle.lpc_ports.specs.Table as ports
-use Rattle.lpc_world.proofs.Capacities as capacities
+use Rattle.lpc_rows.proofs.Capacities as capacities
 use Rattle.lpc_world.proofs.world.World.messages_withdraw.Goals as goal
 
 pub invariant_of-self : goal.invariant_of-self

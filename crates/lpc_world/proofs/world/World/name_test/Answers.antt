@@ -1,5 +1,5 @@
-use Rattle.lpc_world.specs.Shown.{tables_of}
-use Rattle.lpc_world.proofs.Bound as bound
+use Rattle.lpc_rows.specs.Shown.{tables_of}
+use Rattle.lpc_rows.proofs.Bound as bound
 use Rattle.lpc_world.proofs.world.World.name_test.Goals as goal
 
 pub returns-in-Ok-clause-free : goal.returns-in-Ok-clause-free

@@ -1,7 +1,7 @@
 use Rattle.std.proofs.Common.{Ok, Err, ap, sym, ◌∙◌}
 use Rattle.lpc_names.specs.declared.names.Found.TheVariants.{Directory, Item}
-use Rattle.lpc_world.specs.Shown.{tables_of}
-use Rattle.lpc_world.proofs.Connecting as connecting
+use Rattle.lpc_rows.specs.Shown.{tables_of}
+use Rattle.lpc_rows.proofs.Connecting as connecting
 use Rattle.lpc_world.proofs.world.World.named_port.Goals as goal
 
 pub returns-in-Ok-Item-clause-port : goal.returns-in-Ok-Item-clause-port

@@ -1,7 +1,7 @@
 use Rattle.lpc_names.specs.declared.names.Found.TheVariants.{Directory}
 use Rattle.lpc_names.specs.Walk.{Stands}
-use Rattle.lpc_world.specs.Shown.{tables_of}
-use Rattle.lpc_world.proofs.Bound as bound
+use Rattle.lpc_rows.specs.Shown.{tables_of}
+use Rattle.lpc_rows.proofs.Bound as bound
 use Rattle.lpc_world.proofs.world.World.names_add_directory.Goals as goal
 
 pub returns-clause-bound : goal.returns-clause-bound

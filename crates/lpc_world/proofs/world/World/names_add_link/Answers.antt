@@ -1,5 +1,5 @@
-use Rattle.lpc_world.specs.Shown.{tables_of}
-use Rattle.lpc_world.proofs.Bound as bound
+use Rattle.lpc_rows.specs.Shown.{tables_of}
+use Rattle.lpc_rows.proofs.Bound as bound
 use Rattle.lpc_world.proofs.world.World.names_add_link.Goals as goal
 
 pub returns-clause-bound : goal.returns-clause-bound

@@ -1,7 +1,7 @@
 use Rattle.lpc_names.specs.declared.names.Found.TheVariants.{Item}
 use Rattle.lpc_names.specs.Walk.{Stands}
-use Rattle.lpc_world.specs.Shown.{tables_of}
-use Rattle.lpc_world.proofs.Bound as bound
+use Rattle.lpc_rows.specs.Shown.{tables_of}
+use Rattle.lpc_rows.proofs.Bound as bound
 use Rattle.lpc_world.proofs.world.World.names_bind.Goals as goal
 
 pub returns-clause-bound : goal.returns-clause-bound

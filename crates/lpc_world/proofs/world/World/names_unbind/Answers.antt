@@ -1,6 +1,6 @@
 use Rattle.std.proofs.Common.{refl, ◌-◌, vec_len, vec_capacity}
-use Rattle.lpc_world.specs.Shown.{tables_of}
-use Rattle.lpc_world.proofs.Unbound as unbound
+use Rattle.lpc_rows.specs.Shown.{tables_of}
+use Rattle.lpc_rows.proofs.Unbound as unbound
 use Rattle.lpc_world.proofs.world.World.names_unbind.Goals as goal
 
 pub invariant_of-self : goal.invariant_of-self

@@ -2,10 +2,10 @@ use Rattle.std.proofs.Common.{refl, sym, ◌∙◌, arith}
 use Rattle.std.proofs.lemmas.List.{length-map}
 use Rattle.lpc_base.proofs.RowWords.{count-bound}
 use Rattle.lpc_ports.specs.Table.{is_client}
-use Rattle.lpc_world.specs.Kept.{is_alive}
-use Rattle.lpc_world.specs.Shown.{birth_of, births_of, shown_port, shown_thread, tables_of}
-use Rattle.lpc_world.proofs.Readings as readings
-use Rattle.lpc_world.proofs.Registered.{registered-many}
+use Rattle.lpc_rows.specs.Kept.{is_alive}
+use Rattle.lpc_rows.specs.Shown.{birth_of, births_of, shown_port, shown_thread, tables_of}
+use Rattle.lpc_rows.proofs.Readings as readings
+use Rattle.lpc_rows.proofs.Registered.{registered-many}
 use Rattle.lpc_world.proofs.world.World.owed_messages.Goals as goal
 
 pub «overflow_add-result-2» : goal.«overflow_add-result-2»

@@ -1,8 +1,8 @@
 use Rattle.std.proofs.Common.{refl, sym, ◌∙◌, arith}
-use Rattle.lpc_world.specs.Kept.{is_alive}
+use Rattle.lpc_rows.specs.Kept.{is_alive}
 use Rattle.std.proofs.lemmas.List.{length-map}
-use Rattle.lpc_world.specs.Shown.{birth_of, births_of, shown_thread, shown_wait}
-use Rattle.lpc_world.proofs.Readings as readings
+use Rattle.lpc_rows.specs.Shown.{birth_of, births_of, shown_thread, shown_wait}
+use Rattle.lpc_rows.proofs.Readings as readings
 use Rattle.lpc_world.proofs.world.World.owed_waits.Goals as goal
 
 pub returns-clause-owed : goal.returns-clause-owed

@@ -3,8 +3,8 @@ use Rattle.std.specs.Prelude.{is_some, option_copied}
 use Rattle.lpc_model.specs.World as model
 use Rattle.lpc_model.specs.World.{World}
 use Rattle.lpc_ports.specs.Table.{row_at}
-use Rattle.lpc_world.specs.Shown.{tables_of}
-use Rattle.lpc_world.proofs.Readings as readings
+use Rattle.lpc_rows.specs.Shown.{tables_of}
+use Rattle.lpc_rows.proofs.Readings as readings
 use Rattle.lpc_world.proofs.world.World.port.Goals as goal
 
 pub unreachable-requires : goal.unreachable-requires

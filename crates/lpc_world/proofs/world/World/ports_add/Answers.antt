@@ -1,11 +1,11 @@
 use Rattle.std.proofs.Common.{arith}
 use Rattle.std.proofs.Common.{◌+◌, ◌-◌, None, false, refl, ap}
 use Rattle.lpc_model.specs.World.{World}
-use Rattle.lpc_world.specs.Kept.{rows_by}
-use Rattle.lpc_world.specs.Shown.{birth_of, births_of, shown_port, tables_of}
-use Rattle.lpc_world.proofs.Makes as makes
-use Rattle.lpc_world.proofs.Rooms as rooms
-use Rattle.lpc_world.proofs.Steps as steps
+use Rattle.lpc_rows.specs.Kept.{rows_by}
+use Rattle.lpc_rows.specs.Shown.{birth_of, births_of, shown_port, tables_of}
+use Rattle.lpc_rows.proofs.Makes as makes
+use Rattle.lpc_rows.proofs.Rooms as rooms
+use Rattle.lpc_rows.proofs.Steps as steps
 use Rattle.lpc_world.proofs.world.World.ports_add.Goals as goal
 
 pub invariant_of-self : goal.invariant_of-self

@@ -1,15 +1,15 @@
 use Rattle.std.proofs.Common.{arith}
 use Rattle.std.proofs.Common.{◌≡◌, ◌+◌, ◌-◌, length, sym, ap, ◌∙◌, vec_len, vec_capacity}
 use Rattle.lpc_ports.specs.Table.{PortTable}
-use Rattle.lpc_world.proofs.Capacities as capacities
+use Rattle.lpc_rows.proofs.Capacities as capacities
 use Rattle.std.proofs.lemmas.Bool.{or_parts}
 use Rattle.lpc_model.specs.Found.{is_port}
 use Rattle.lpc_model.specs.World.{World}
-use Rattle.lpc_world.specs.Kept.{rows_by}
-use Rattle.lpc_world.specs.Names.{name_of}
-use Rattle.lpc_world.specs.Shown.{births_of, tables_of}
-use Rattle.lpc_world.proofs.Frees as frees
-use Rattle.lpc_world.proofs.Unheld as unheld
+use Rattle.lpc_rows.specs.Kept.{rows_by}
+use Rattle.lpc_rows.specs.Names.{name_of}
+use Rattle.lpc_rows.specs.Shown.{births_of, tables_of}
+use Rattle.lpc_rows.proofs.Frees as frees
+use Rattle.lpc_rows.proofs.Unheld as unheld
 use Rattle.lpc_world.proofs.world.World.ports_free.Goals as goal
 
 pub free-requires : goal.free-requires

@@ -2,17 +2,17 @@ use Rattle.std.proofs.Common.{rules, refl, ◌+◌, sym, ap}
 use Rattle.lpc_base.proofs.RowWords.{without_first-none}
 use Rattle.lpc_model.specs.Found.{is_queued}
 use Rattle.lpc_model.specs.World.{World}
-use Rattle.lpc_world.specs.Kept.{rows_by}
-use Rattle.lpc_world.specs.Names.{name_of}
-use Rattle.lpc_world.specs.Shown.{births_of, pulled_row, tables_of}
-use Rattle.lpc_world.proofs.Changes as changes
-use Rattle.lpc_world.proofs.OwnMessages.{left-pulled, unqueued-pulled}
-use Rattle.lpc_world.proofs.Rooms as rooms
-use Rattle.lpc_world.proofs.Steps as steps
+use Rattle.lpc_rows.specs.Kept.{rows_by}
+use Rattle.lpc_rows.specs.Names.{name_of}
+use Rattle.lpc_rows.specs.Shown.{births_of, pulled_row, tables_of}
+use Rattle.lpc_rows.proofs.Changes as changes
+use Rattle.lpc_rows.proofs.OwnMessages.{left-pulled, unqueued-pulled}
+use Rattle.lpc_rows.proofs.Rooms as rooms
+use Rattle.lpc_rows.proofs.Steps as steps
 use Rattle.std.proofs.Common.{◌∙◌, length, ◌-◌, vec_len, vec_capacity}
 use Rattle.lpc_ports.specs.Table.{PortTable}
 use Rattle.lpc_ports.specs.Table as ports
-use Rattle.lpc_world.proofs.Capacities as capacities
+use Rattle.lpc_rows.proofs.Capacities as capacities
 use Rattle.lpc_world.proofs.world.World.ports_pull.Goals as goal
 
 pub returns-in_err-message-clause-message : goal.returns-in_err-message-clause-message

@@ -1,10 +1,10 @@
 use Rattle.std.proofs.Common.{rules, refl, ◌-◌, sym, vec_len, vec_capacity}
-use Rattle.lpc_world.specs.Shown.{births_of, pulled_row, tables_of}
-use Rattle.lpc_world.proofs.Pulls as pulls
+use Rattle.lpc_rows.specs.Shown.{births_of, pulled_row, tables_of}
+use Rattle.lpc_rows.proofs.Pulls as pulls
 use Rattle.std.proofs.Common.{◌+◌, ap, ◌∙◌, length}
 use Rattle.lpc_ports.specs.Table.{PortTable}
 use Rattle.lpc_ports.specs.Table as ports
-use Rattle.lpc_world.proofs.Capacities as capacities
+use Rattle.lpc_rows.proofs.Capacities as capacities
 use Rattle.lpc_world.proofs.world.World.ports_pull_connect.Goals as goal
 
 pub returns-in_err-message-clause-message : goal.returns-in_err-message-clause-message

@@ -1,10 +1,10 @@
-use Rattle.lpc_world.specs.Shown.{birth_of, births_of, shown_port}
+use Rattle.lpc_rows.specs.Shown.{birth_of, births_of, shown_port}
 use Rattle.std.proofs.lemmas.List.{length-map}
 use Rattle.std.proofs.Common.{refl, arith}
-use Rattle.lpc_world.specs.Shown.{tables_of}
-use Rattle.lpc_world.specs.Kept.{rows_by}
-use Rattle.lpc_world.proofs.Rooms as rooms
-use Rattle.lpc_world.proofs.Steps as steps
+use Rattle.lpc_rows.specs.Shown.{tables_of}
+use Rattle.lpc_rows.specs.Kept.{rows_by}
+use Rattle.lpc_rows.proofs.Rooms as rooms
+use Rattle.lpc_rows.proofs.Steps as steps
 use Rattle.lpc_world.proofs.world.World.ports_reserve.Goals as goal
 
 pub invariant_of-self : goal.invariant_of-self

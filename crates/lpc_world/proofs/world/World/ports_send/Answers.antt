@@ -3,15 +3,15 @@ use Rattle.lpc_model.specs.World.{World}
 use Rattle.lpc_ports.specs.Table as ports
 use Rattle.lpc_slots.specs.declared.Key.{Key}
 use Rattle.lpc_ports.specs.declared.messages.QueuedMessage.{QueuedMessage}
-use Rattle.lpc_world.specs.Kept.{rows_by}
-use Rattle.lpc_world.specs.Shown.{birth_of, births_of, sent_row, shown_message, tables_of}
-use Rattle.lpc_world.proofs.Changes as changes
-use Rattle.lpc_world.proofs.Lawful as lawful
-use Rattle.lpc_world.proofs.Rooms as rooms
-use Rattle.lpc_world.proofs.Steps as steps
+use Rattle.lpc_rows.specs.Kept.{rows_by}
+use Rattle.lpc_rows.specs.Shown.{birth_of, births_of, sent_row, shown_message, tables_of}
+use Rattle.lpc_rows.proofs.Changes as changes
+use Rattle.lpc_rows.proofs.Lawful as lawful
+use Rattle.lpc_rows.proofs.Rooms as rooms
+use Rattle.lpc_rows.proofs.Steps as steps
 use Rattle.std.proofs.Common.{◌∙◌, length, vec_len, vec_capacity}
 use Rattle.lpc_ports.specs.Table.{PortTable}
-use Rattle.lpc_world.proofs.Capacities as capacities
+use Rattle.lpc_rows.proofs.Capacities as capacities
 use Rattle.lpc_world.proofs.world.World.ports_send.Goals as goal
 
 pub send-requires-clause-room : goal.send-requires-clause-room

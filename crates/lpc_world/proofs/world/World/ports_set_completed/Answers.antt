@@ -1,7 +1,7 @@
 use Rattle.std.proofs.Common.{arith, refl}
 use Rattle.std.proofs.Common.{◌-◌, vec_len, vec_capacity}
-use Rattle.lpc_world.specs.Shown.{tables_of}
-use Rattle.lpc_world.proofs.Joins as joins
+use Rattle.lpc_rows.specs.Shown.{tables_of}
+use Rattle.lpc_rows.proofs.Joins as joins
 use Rattle.lpc_world.proofs.world.World.ports_set_completed.Goals as goal
 
 pub invariant_of-self : goal.invariant_of-self

@@ -1,6 +1,6 @@
 use Rattle.std.proofs.Common.{sym, ◌∙◌}
-use Rattle.lpc_world.specs.Shown.{tables_of}
-use Rattle.lpc_world.proofs.Lives as lives
+use Rattle.lpc_rows.specs.Shown.{tables_of}
+use Rattle.lpc_rows.proofs.Lives as lives
 use Rattle.lpc_world.proofs.world.World.process_born.Goals as goal
 
 pub returns : goal.returns

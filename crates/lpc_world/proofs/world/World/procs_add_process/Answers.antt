@@ -1,8 +1,8 @@
 use Rattle.std.proofs.Common.{◌-◌, refl, arith}
-use Rattle.lpc_world.specs.Shown.{tables_of}
-use Rattle.lpc_world.specs.Kept.{room_of_part}
-use Rattle.lpc_world.proofs.Rooms as rooms
-use Rattle.lpc_world.proofs.Steps as steps
+use Rattle.lpc_rows.specs.Shown.{tables_of}
+use Rattle.lpc_rows.specs.Kept.{room_of_part}
+use Rattle.lpc_rows.proofs.Rooms as rooms
+use Rattle.lpc_rows.proofs.Steps as steps
 use Rattle.lpc_base.proofs.RowMaps.{push-map}
 use Rattle.lpc_homes.specs.declared.parts.Part.{Part}
 use Rattle.lpc_world.proofs.world.World.procs_add_process.Goals as goal

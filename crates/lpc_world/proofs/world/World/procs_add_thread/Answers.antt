@@ -1,6 +1,6 @@
 use Rattle.std.proofs.Common.{◌-◌, [], true, refl, sym, ◌∙◌, arith}
-use Rattle.lpc_world.specs.Shown.{tables_of}
-use Rattle.lpc_world.proofs.Steps as steps
+use Rattle.lpc_rows.specs.Shown.{tables_of}
+use Rattle.lpc_rows.proofs.Steps as steps
 use Rattle.lpc_world.proofs.world.World.procs_add_thread.Goals as goal
 
 pub add_thread-requires-clause-new : goal.add_thread-requires-clause-new

@@ -4,13 +4,13 @@ use Rattle.lpc_model.specs.World.{World}
 use Rattle.lpc_base.specs.Rows.{change}
 use Rattle.lpc_model.specs.Found.{is_thread}
 use Rattle.lpc_model.specs.Basics.{past_ordinal}
-use Rattle.lpc_world.specs.Kept.{registered_ports, rows_by}
-use Rattle.lpc_world.specs.Shown.{tables_of}
-use Rattle.lpc_world.proofs.Changes as changes
-use Rattle.lpc_world.proofs.Lawful.{alive-change}
-use Rattle.lpc_world.proofs.Registered.{registered-change}
-use Rattle.lpc_world.proofs.Rooms as rooms
-use Rattle.lpc_world.proofs.Steps as steps
+use Rattle.lpc_rows.specs.Kept.{registered_ports, rows_by}
+use Rattle.lpc_rows.specs.Shown.{tables_of}
+use Rattle.lpc_rows.proofs.Changes as changes
+use Rattle.lpc_rows.proofs.Lawful.{alive-change}
+use Rattle.lpc_rows.proofs.Registered.{registered-change}
+use Rattle.lpc_rows.proofs.Rooms as rooms
+use Rattle.lpc_rows.proofs.Steps as steps
 use Rattle.lpc_world.proofs.world.World.procs_draw_birth.Goals as goal
 
 pub draw_birth-requires : goal.draw_birth-requires

@@ -1,11 +1,11 @@
 use Rattle.std.proofs.Common.{ap, refl, length, ◌∙◌, arith}
 use Rattle.lpc_model.specs.Basics.{ended}
 use Rattle.lpc_model.specs.World.{World}
-use Rattle.lpc_world.specs.Kept.{registered_ports, rows_by}
-use Rattle.lpc_world.specs.Shown.{tables_of}
-use Rattle.lpc_world.proofs.Dying.{fewer-alive}
-use Rattle.lpc_world.proofs.Enrolling as enrolling
-use Rattle.lpc_world.proofs.Registered.{registered-change}
+use Rattle.lpc_rows.specs.Kept.{registered_ports, rows_by}
+use Rattle.lpc_rows.specs.Shown.{tables_of}
+use Rattle.lpc_rows.proofs.Dying.{fewer-alive}
+use Rattle.lpc_rows.proofs.Enrolling as enrolling
+use Rattle.lpc_rows.proofs.Registered.{registered-change}
 use Rattle.lpc_world.proofs.world.World.procs_end_thread.Goals as goal
 
 pub end_thread-requires : goal.end_thread-requires

@@ -2,11 +2,11 @@ use Rattle.std.proofs.Common.{ap, sym, length, ◌∙◌, arith}
 use Rattle.lpc_model.specs.Basics.{Registers, basic}
 use Rattle.lpc_model.specs.World.{World}
 use Rattle.lpc_procs.specs.declared.rows.Registration.{Registration}
-use Rattle.lpc_world.specs.Kept.{registered_ports, rows_by}
-use Rattle.lpc_world.specs.Shown.{tables_of}
-use Rattle.lpc_world.proofs.Dying.{longer-registered}
-use Rattle.lpc_world.proofs.Enrolling as enrolling
-use Rattle.lpc_world.proofs.Steps as steps
+use Rattle.lpc_rows.specs.Kept.{registered_ports, rows_by}
+use Rattle.lpc_rows.specs.Shown.{tables_of}
+use Rattle.lpc_rows.proofs.Dying.{longer-registered}
+use Rattle.lpc_rows.proofs.Enrolling as enrolling
+use Rattle.lpc_rows.proofs.Steps as steps
 use Rattle.lpc_world.proofs.world.World.procs_register.Goals as goal
 
 pub register-requires : goal.register-requires

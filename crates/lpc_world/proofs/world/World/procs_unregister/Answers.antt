@@ -1,12 +1,12 @@
 use Rattle.std.proofs.Common.{ap, refl, length, arith}
 use Rattle.lpc_model.specs.World.{World}
-use Rattle.lpc_world.specs.Kept.{registered_ports, rows_by}
-use Rattle.lpc_world.specs.Shown.{tables_of}
-use Rattle.lpc_world.proofs.Dying.{fewer-registered}
-use Rattle.lpc_world.proofs.Enrolling as enrolling
+use Rattle.lpc_rows.specs.Kept.{registered_ports, rows_by}
+use Rattle.lpc_rows.specs.Shown.{tables_of}
+use Rattle.lpc_rows.proofs.Dying.{fewer-registered}
+use Rattle.lpc_rows.proofs.Enrolling as enrolling
 use Rattle.lpc_model.specs.Basics.{unregistering}
 use Rattle.lpc_world.proofs.world.World.procs_unregister.Goals as goal
-use Rattle.lpc_world.proofs.Lawful.{alive-change}
+use Rattle.lpc_rows.proofs.Lawful.{alive-change}
 
 pub unregister-requires : goal.unregister-requires
 unregister-requires c =

@@ -2,9 +2,9 @@ use Rattle.std.proofs.Common.{ap, sym, ◌∙◌}
 use Rattle.lpc_base.specs.Rows.{has}
 use Rattle.lpc_homes.specs.Parts.{names_it, rows_at}
 use Rattle.lpc_homes.specs.declared.object.Object.TheVariants as object
-use Rattle.lpc_world.proofs.Connecting as connecting
-use Rattle.lpc_world.proofs.Readings as readings
-use Rattle.lpc_world.specs.Shown.{tables_of}
+use Rattle.lpc_rows.proofs.Connecting as connecting
+use Rattle.lpc_rows.proofs.Readings as readings
+use Rattle.lpc_rows.specs.Shown.{tables_of}
 use Rattle.lpc_world.proofs.world.World.reaches.Goals as goal
 
 pub reaches_port-requires : goal.reaches_port-requires

@@ -4,12 +4,12 @@ use Rattle.lpc_base.proofs.RowMaps.{mapped-twice}
 use Rattle.lpc_model.specs.Entering.{takes_from}
 use Rattle.lpc_model.specs.World as model
 use Rattle.lpc_waits.specs.Table as waits
-use Rattle.lpc_world.specs.Kept.{rows_by}
-use Rattle.lpc_world.specs.Names.{name_of}
-use Rattle.lpc_world.specs.Shown.{birth_of, births_of, shown_wait, tables_of}
-use Rattle.lpc_world.proofs.OwnMessages.{none-queued_if}
-use Rattle.lpc_world.proofs.Finds as finds
-use Rattle.lpc_world.proofs.Follows as follows
+use Rattle.lpc_rows.specs.Kept.{rows_by}
+use Rattle.lpc_rows.specs.Names.{name_of}
+use Rattle.lpc_rows.specs.Shown.{birth_of, births_of, shown_wait, tables_of}
+use Rattle.lpc_rows.proofs.OwnMessages.{none-queued_if}
+use Rattle.lpc_rows.proofs.Finds as finds
+use Rattle.lpc_rows.proofs.Follows as follows
 use Rattle.lpc_world.proofs.world.World.receiver.Goals as goal
 
 pub returns-clause-found : goal.returns-clause-found

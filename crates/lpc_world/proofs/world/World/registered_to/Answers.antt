@@ -2,10 +2,10 @@ use Rattle.std.proofs.Common.{ap, sym, ◌∙◌, arith}
 use Rattle.lpc_base.specs.Rows.{count}
 use Rattle.lpc_model.specs.Found.{same_birth}
 use Rattle.lpc_procs.specs.Procs.{is_of_birth, live_registrations}
-use Rattle.lpc_world.specs.Clauses.{birth_at}
-use Rattle.lpc_world.specs.Kept.{rows_by}
-use Rattle.lpc_world.specs.Shown.{tables_of}
-use Rattle.lpc_world.proofs.Registered.{live-counted, live-few}
+use Rattle.lpc_rows.specs.Clauses.{birth_at}
+use Rattle.lpc_rows.specs.Kept.{rows_by}
+use Rattle.lpc_rows.specs.Shown.{tables_of}
+use Rattle.lpc_rows.proofs.Registered.{live-counted, live-few}
 use Rattle.lpc_world.proofs.world.World.registered_to.Goals as goal
 
 pub returns-clause-number : goal.returns-clause-number

@@ -1,7 +1,7 @@
 use Rattle.std.proofs.Common.{Some, ap, ◌∙◌}
 use Rattle.std.specs.Prelude.{option_copied}
-use Rattle.lpc_world.specs.Shown.{tables_of}
-use Rattle.lpc_world.proofs.Connecting as connecting
+use Rattle.lpc_rows.specs.Shown.{tables_of}
+use Rattle.lpc_rows.proofs.Connecting as connecting
 use Rattle.lpc_world.proofs.world.World.reply_bytes.Goals as goal
 
 pub accepted-requires : goal.accepted-requires

@@ -1,10 +1,10 @@
 use Rattle.std.proofs.Common.{length, ap, arith}
 use Rattle.lpc_model.specs.World.{World}
-use Rattle.lpc_world.specs.Kept.{registered_ports, rows_by}
+use Rattle.lpc_rows.specs.Kept.{registered_ports, rows_by}
 use Rattle.lpc_model.specs.Found.{is_born_thread}
-use Rattle.lpc_world.specs.Shown.{tables_of}
-use Rattle.lpc_world.proofs.Registered.{registered-less_threads}
-use Rattle.lpc_world.proofs.Vacated as vacated
+use Rattle.lpc_rows.specs.Shown.{tables_of}
+use Rattle.lpc_rows.proofs.Registered.{registered-less_threads}
+use Rattle.lpc_rows.proofs.Vacated as vacated
 use Rattle.lpc_world.proofs.world.World.threads_free.Goals as goal
 
 pub free_thread_born-requires : goal.free_thread_born-requires

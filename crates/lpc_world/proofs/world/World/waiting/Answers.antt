@@ -3,8 +3,8 @@ use Rattle.std.specs.Prelude.{is_some, option_copied}
 use Rattle.lpc_base.proofs.RowMaps.{some-map}
 use Rattle.lpc_waits.specs.Table.{row_of}
 use Rattle.lpc_waits.specs.declared.WaitRow.{WaitRow}
-use Rattle.lpc_world.specs.Shown.{tables_of}
-use Rattle.lpc_world.proofs.Readings as readings
+use Rattle.lpc_rows.specs.Shown.{tables_of}
+use Rattle.lpc_rows.proofs.Readings as readings
 use Rattle.lpc_world.proofs.world.World.waiting.Goals as goal
 
 pub unreachable-requires : goal.unreachable-requires

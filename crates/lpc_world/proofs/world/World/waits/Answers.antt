@@ -1,6 +1,6 @@
-use Rattle.lpc_world.specs.Kept.{rows_by}
-use Rattle.lpc_world.specs.Shown.{tables_of}
-use Rattle.lpc_world.proofs.OwnMessages.{none-queued}
+use Rattle.lpc_rows.specs.Kept.{rows_by}
+use Rattle.lpc_rows.specs.Shown.{tables_of}
+use Rattle.lpc_rows.proofs.OwnMessages.{none-queued}
 use Rattle.lpc_world.proofs.world.World.waits.Goals as goal
 
 pub returns-clause-stand : goal.returns-clause-stand

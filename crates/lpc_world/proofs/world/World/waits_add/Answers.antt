@@ -2,17 +2,17 @@ use Rattle.std.proofs.Common.{refl, arith}
 use Rattle.std.proofs.Common.{◌+◌, ◌-◌, None, ap, sym, ◌∙◌, []}
 use Rattle.lpc_model.specs.World.{World}
 use Rattle.lpc_waits.specs.declared.WaitRow.{WaitRow}
-use Rattle.lpc_world.specs.Kept.{rows_by}
-use Rattle.lpc_world.specs.Shown.{birth_of, births_of, shown_wait, tables_of}
-use Rattle.lpc_world.proofs.Changes as changes
-use Rattle.lpc_world.proofs.OwnMessages.{unsent-begun}
-use Rattle.lpc_world.proofs.Promised as promised
-use Rattle.lpc_world.proofs.Rooms as rooms
-use Rattle.lpc_world.proofs.Steps as steps
-use Rattle.lpc_world.proofs.Tables as tables
+use Rattle.lpc_rows.specs.Kept.{rows_by}
+use Rattle.lpc_rows.specs.Shown.{birth_of, births_of, shown_wait, tables_of}
+use Rattle.lpc_rows.proofs.Changes as changes
+use Rattle.lpc_rows.proofs.OwnMessages.{unsent-begun}
+use Rattle.lpc_rows.proofs.Promised as promised
+use Rattle.lpc_rows.proofs.Rooms as rooms
+use Rattle.lpc_rows.proofs.Steps as steps
+use Rattle.lpc_rows.proofs.Tables as tables
 use Rattle.std.proofs.Common.{length, vec_len, vec_capacity}
 use Rattle.lpc_waits.specs.Table.{WaitTable}
-use Rattle.lpc_world.proofs.Capacities as capacities
+use Rattle.lpc_rows.proofs.Capacities as capacities
 use Rattle.lpc_world.proofs.world.World.waits_add.Goals as goal
 
 pub add-requires-clause-alone : goal.add-requires-clause-alone

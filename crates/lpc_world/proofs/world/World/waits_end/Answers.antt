@@ -7,15 +7,15 @@ use Rattle.lpc_model.specs.Found.{waits_as}
 use Rattle.lpc_waits.specs.Table as waits
 use Rattle.lpc_waits.specs.Table.{row_of}
 use Rattle.lpc_waits.specs.declared.WaitRow.{WaitRow}
-use Rattle.lpc_world.specs.Shown.{tables_of}
-use Rattle.lpc_world.specs.Kept.{rows_by}
-use Rattle.lpc_world.proofs.Changes as changes
-use Rattle.lpc_world.proofs.Readings as readings
-use Rattle.lpc_world.proofs.Rooms as rooms
-use Rattle.lpc_world.proofs.Steps as steps
+use Rattle.lpc_rows.specs.Shown.{tables_of}
+use Rattle.lpc_rows.specs.Kept.{rows_by}
+use Rattle.lpc_rows.proofs.Changes as changes
+use Rattle.lpc_rows.proofs.Readings as readings
+use Rattle.lpc_rows.proofs.Rooms as rooms
+use Rattle.lpc_rows.proofs.Steps as steps
 use Rattle.lpc_base.proofs.RowWords.{has_none-without}
 use Rattle.lpc_base.proofs.RowMaps.{some-map}
-use Rattle.lpc_world.proofs.Capacities as capacities
+use Rattle.lpc_rows.proofs.Capacities as capacities
 use Rattle.lpc_world.proofs.world.World.waits_end.Goals as goal
 
 pub invariant_of-self : goal.invariant_of-self

@@ -1,8 +1,8 @@
 use Rattle.std.proofs.Common.{rules, ◌≡◌, true, ap, sym, ◌∙◌}
 use Rattle.lpc_base.specs.Rows.{has}
 use Rattle.lpc_model.specs.Found.{same_birth, waits_as}
-use Rattle.lpc_world.specs.Names.{name_of}
-use Rattle.lpc_world.proofs.ReceivesAt.{at_queue, none_at}
+use Rattle.lpc_rows.specs.Names.{name_of}
+use Rattle.lpc_rows.proofs.ReceivesAt.{at_queue, none_at}
 use Rattle.lpc_world.proofs.world.World.waits_on.Goals as goal
 
 pub returns-then-not-is_waiting : goal.returns-then-not-is_waiting

@@ -3,14 +3,14 @@ use Rattle.lpc_base.proofs.RowWords.{length-change}
 use Rattle.lpc_model.specs.Basics.{received}
 use Rattle.lpc_model.specs.Found.{waits_as}
 use Rattle.lpc_model.specs.World.{World}
-use Rattle.lpc_world.specs.Names.{name_of}
-use Rattle.lpc_world.specs.Shown.{births_of, tables_of}
-use Rattle.lpc_world.specs.Kept.{rows_by}
-use Rattle.lpc_world.proofs.Changes as changes
-use Rattle.lpc_world.proofs.Connecting as connecting
-use Rattle.lpc_world.proofs.ReceivesAt as at
-use Rattle.lpc_world.proofs.Rooms as rooms
-use Rattle.lpc_world.proofs.Steps as steps
+use Rattle.lpc_rows.specs.Names.{name_of}
+use Rattle.lpc_rows.specs.Shown.{births_of, tables_of}
+use Rattle.lpc_rows.specs.Kept.{rows_by}
+use Rattle.lpc_rows.proofs.Changes as changes
+use Rattle.lpc_rows.proofs.Connecting as connecting
+use Rattle.lpc_rows.proofs.ReceivesAt as at
+use Rattle.lpc_rows.proofs.Rooms as rooms
+use Rattle.lpc_rows.proofs.Steps as steps
 use Rattle.lpc_world.proofs.world.World.waits_receive.Goals as goal
 
 pub receive-requires : goal.receive-requires

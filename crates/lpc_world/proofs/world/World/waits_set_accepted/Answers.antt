@@ -1,7 +1,7 @@
 use Rattle.std.proofs.Common.{◌-◌, vec_len, vec_capacity}
-use Rattle.lpc_world.specs.Shown.{tables_of}
-use Rattle.lpc_world.proofs.Accepts as accepts
-use Rattle.lpc_world.proofs.Steps as steps
+use Rattle.lpc_rows.specs.Shown.{tables_of}
+use Rattle.lpc_rows.proofs.Accepts as accepts
+use Rattle.lpc_rows.proofs.Steps as steps
 use Rattle.lpc_world.proofs.world.World.waits_set_accepted.Goals as goal
 
 pub set_accepted-requires : goal.set_accepted-requires

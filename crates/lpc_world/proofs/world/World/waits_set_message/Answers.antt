@@ -3,12 +3,12 @@ use Rattle.std.proofs.Common.{ap}
 use Rattle.lpc_base.specs.Rows.{change}
 use Rattle.lpc_model.specs.World.{World}
 use Rattle.lpc_model.specs.Found.{waits_as}
-use Rattle.lpc_world.specs.Kept.{rows_by}
-use Rattle.lpc_world.specs.Shown.{with_message, tables_of}
+use Rattle.lpc_rows.specs.Kept.{rows_by}
+use Rattle.lpc_rows.specs.Shown.{with_message, tables_of}
 use Rattle.lpc_model.specs.Message.{message_of}
-use Rattle.lpc_world.proofs.Changes as changes
-use Rattle.lpc_world.proofs.Rooms as rooms
-use Rattle.lpc_world.proofs.Steps as steps
+use Rattle.lpc_rows.proofs.Changes as changes
+use Rattle.lpc_rows.proofs.Rooms as rooms
+use Rattle.lpc_rows.proofs.Steps as steps
 use Rattle.lpc_world.proofs.world.World.waits_set_message.Goals as goal
 
 pub set_message-requires-clause-waits : goal.set_message-requires-clause-waits

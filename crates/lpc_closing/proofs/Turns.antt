@@ -1,0 +1,89 @@
+-- Handles of a process that are closed in turn: behind the first of them the others are left, and can be closed.
+use Rattle.std.proofs.Common.{◌≡◌, ◌∙◌, ℕ, List, [], ◌∷◌, ◌++◌, Bool, true, false, Some, None, drop, map, refl, ap, sym, arith}
+use Rattle.std.specs.Prelude.{slice_get}
+use Rattle.std.proofs.lemmas.Bool.Decides.{nat_tests}
+use Rattle.std.proofs.lemmas.List.{append-nil}
+use Rattle.lpc_base.specs.Rows.{change, first, has, when}
+use Rattle.lpc_base.proofs.RowWords.{has-change}
+use Rattle.lpc_model.specs.declared.entry.Entry.{Entry}
+use Rattle.lpc_handles.specs.Handles.{first_from}
+use Rattle.lpc_handles.specs.declared.table.Row.{Row}
+use Rattle.lpc_homes.specs.declared.object.Object.{Object}
+use Rattle.lpc_model.specs.World.{Birth, HandleRow, World}
+use Rattle.lpc_model.specs.Found.{handle_at, handles_of, has_value, is_table}
+use Rattle.lpc_model.specs.Basics.{DropsHandle, in_turn, without_handle, world_after}
+use Rattle.lpc_model.specs.Close.{close_handle, close_port, is_last}
+use Rattle.lpc_model.specs.SoundWaits.{IsSoundWorld}
+use Rattle.lpc_model.proofs.Ending.{rows-left}
+use Rattle.lpc_model.proofs.LinkedClose.{handle-plain}
+use Rattle.lpc_model.proofs.LinkedSteps.{plain-all}
+use Rattle.lpc_model.proofs.SoundClose.{close_handle-sound}
+use Rattle.lpc_model.proofs.SingleClosingsClose.{handle-untold}
+use Rattle.lpc_model.proofs.StepsInTurn.{after-append}
+use Rattle.lpc_rows.specs.Does.{Left, left_by}
+use Rattle.lpc_rows.specs.Shown.{shown_handle}
+use Rattle.lpc_steps.proofs.Composed.{left-then, left_further}
+use Rattle.lpc_closing.specs.Closing.{CanClose, CanCloseAll}
+use Rattle.lpc_model.specs.Death.{end_process}
+use Rattle.lpc_closing.proofs.HandlesKept.{handles-kept}
+
+-- The handles that are left
+-- the close of a handle takes it away, and changes no other
+tables-left : (w : World) (pid : ℕ) (r : HandleRow) → (world_after w (close_handle pid r w)).handles ≡ change (is_table pid) (without_handle r.value) w.handles
+tables-left w pid r = by_last (is_last r w)
+  where
+    by_last : (last : Bool) → (world_after w (when last (close_port r.object.birth w) ++ DropsHandle pid r.value ∷ [])).handles ≡ change (is_table pid) (without_handle r.value) w.handles
+    by_last true =
+        ap (λ (v : World). v.handles) (after-append w (close_port r.object.birth w) (DropsHandle pid r.value ∷ []))
+        ∙ ap (change (is_table pid) (without_handle r.value)) (handles-kept w r.object.birth)
+    by_last false = refl
+
+pub table-left : (w : World) (pid : ℕ) (r : HandleRow) → has (is_table pid) w.handles ≡ true → has (is_table pid) (world_after w (close_handle pid r w)).handles ≡ true
+table-left w pid r there = ap (has (is_table pid)) (tables-left w pid r) ∙ (has-change (is_table pid) (is_table pid) (without_handle r.value) (λ t. refl) w.handles ∙ there)
+
+-- What is kept
+pub can-close : (w : World) → CanCloseAll w → CanClose w
+can-close w can = record { pairs = can.linked.pairs; single_closings = can.single_closings }
+
+pub closed-can : (w : World) (pid : ℕ) (r : HandleRow) → handle_at w pid r.value ≡ Some r → CanCloseAll w → CanCloseAll (world_after w (close_handle pid r w))
+closed-can w pid r at can = record {
+  sound = close_handle-sound w pid r at can.sound;
+  linked = plain-all w (close_handle pid r w) (handle-plain w pid r) can.linked;
+  single_closings = handle-untold w pid r at can.sound can.single_closings;
+}
+
+-- All handles: behind the first of them, what is left to be done leaves what all of it leaves
+pub one-closed : (w : World) (pid : ℕ) (r : HandleRow) (rows : List HandleRow) (es : List Entry) (loose : Bool) (l : Left) → handles_of w pid ≡ r ∷ rows → IsSoundWorld w → l ≡ left_by w es loose (close_handle pid r w)
+    → left_further l (end_process pid) ≡ left_by w es loose (end_process pid w)
+one-closed w pid r rows es loose l same sound took =
+    let v = world_after w (close_handle pid r w) in
+    let rest = ap (λ rs. left_further (left_by w es loose (close_handle pid r w)) (in_turn (close_handle pid) rs)) (rows-left w pid r rows same sound) in
+    let all = ap (λ rs. left_by w es loose (in_turn (close_handle pid) rs w)) (sym same) in
+    ap (λ (l : Left). left_further l (end_process pid)) took
+    ∙ rest
+    ∙ left-then w es loose (close_handle pid r) (in_turn (close_handle pid) rows)
+    ∙ all
+
+-- where none is left, nothing
+pub none-closed : (w : World) (pid : ℕ) (es : List Entry) (loose : Bool) → handles_of w pid ≡ []
+    → (let l : Left = record { world = w; entries = es; loose = loose } in l ≡ left_by w es loose (end_process pid w))
+none-closed w pid es loose none = rw (none, append-nil es) refl
+
+-- The handle that stands first, if one does
+pub head-is : (rows : List HandleRow) (r : HandleRow) → slice_get rows 0 ≡ Some r → rows ≡ r ∷ drop 1 rows
+head-is [] r is = absurd (cc)
+head-is (x ∷ xs) r is = let same : x ≡ r = cc in ap (λ (h : HandleRow). h ∷ xs) same
+
+pub head-none : (rows : List HandleRow) → slice_get rows 0 ≡ None → rows ≡ []
+head-none [] none = refl
+head-none (x ∷ xs) none = absurd (cc)
+
+-- it is that of the least value
+module _ (f : Object → Birth) where
+  pub none-first : (rows : List (ℕ × Row Object)) (hs : List HandleRow) → hs ≡ map (shown_handle f) rows → None ≡ first_from rows 0 → slice_get hs 0 ≡ None
+  none-first [] hs same none = rw same refl
+  none-first (row ∷ rows) hs same none = absurd (grind (arith, nat_tests))
+
+  pub some-first : (rows : List (ℕ × Row Object)) (hs : List HandleRow) (value : ℕ) → hs ≡ map (shown_handle f) rows → Some value ≡ first_from rows 0 → first (has_value value) hs ≡ slice_get hs 0
+  some-first [] hs value same some = absurd (cc)
+  some-first (row ∷ rows) hs value same some = rw same (grind (arith, nat_tests))

@@ -1,1 +1,0 @@
--- A single step that tells nothing.

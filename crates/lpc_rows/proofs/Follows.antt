@@ -1,0 +1,100 @@
+-- What is found in the tables is what is found in the rows that they stand for.
+use Rattle.std.proofs.Common.{◌≡◌, ℕ, List, [], ◌∷◌, Bool, true, false, ◌&&◌, map, option_map, refl, ap, sym, ◌∙◌, arith, Option, Some, None, ◌||◌}
+use Rattle.lpc_base.specs.declared.birth.Birth.{Birth}
+use Rattle.lpc_base.specs.Rows.{every, first}
+use Rattle.lpc_base.proofs.RowMaps.{every-both, every-map, first-map}
+use Rattle.lpc_base.proofs.Births.{birth-same}
+use Rattle.lpc_model.specs.World as model
+use Rattle.lpc_model.specs.Found.{is_port, is_queued, same_birth}
+use Rattle.lpc_model.specs.Entering.{takes_from}
+use Rattle.lpc_waits.specs.declared.Accepted.{Accepted}
+use Rattle.lpc_ports.specs.Table as ports
+use Rattle.lpc_ports.specs.declared.Port.{Port}
+use Rattle.lpc_ports.specs.declared.messages.QueuedMessage.{QueuedMessage}
+use Rattle.lpc_slots.specs.Table.{at_key, is_key}
+use Rattle.lpc_slots.specs.declared.Key.{Key}
+use Rattle.lpc_waits.specs.Table as waits
+use Rattle.lpc_waits.specs.declared.WaitKind.{WaitKind}
+use Rattle.lpc_waits.specs.declared.WaitKind.TheVariants as wait
+use Rattle.lpc_waits.specs.declared.WaitRow.{WaitRow}
+use Rattle.lpc_rows.specs.Names.{Names, are_apart, name_of, names_of, stands}
+use Rattle.lpc_rows.specs.Shown.{Tables, AreNamed, Births, all_pass, birth_of, births_of, message_refs, object_stands, shown_kind, shown_message, shown_port, shown_wait, wait_refs}
+use Rattle.lpc_homes.specs.declared.object.Object.{Object}
+use Rattle.lpc_rows.proofs.Naming.{agrees, key_itself, own}
+
+-- A row's own key stands, and its birth is its own name
+still_stands : (n m : Key × Birth) (names : Names) → stands names m.0 ≡ true → stands (n ∷ names) m.0 ≡ true
+unfolding stands
+still_stands n m names there = grind arith
+
+all_still : (n : Key × Birth) (names : Names) → every (λ m. stands names m.0) names ≡ true → every (λ m. stands (n ∷ names) m.0) names ≡ true
+all_still n names all = every-both (λ m. stands names m.0) (λ m. stands names m.0) (λ m. stands (n ∷ names) m.0) (λ m a b. still_stands n m names a) names all all
+
+own_stands : (names : Names) → every (λ n. stands names n.0) names ≡ true
+unfolding stands
+own_stands [] = refl
+own_stands (n ∷ names) = grind (arith, key_itself n.0, all_still n names (own_stands names))
+
+module _ {R : Type 0} (birth : R → Birth) (rows : List (Key × R)) where
+  -- the row's own key stands under its own birth
+  abbrev pub is_own : Key × R → Bool
+  is_own row = stands (names_of birth rows) row.0 && same_birth (name_of (names_of birth rows) row.0) (birth row.1)
+
+  pub rows_own : are_apart (names_of birth rows) ≡ true → every is_own rows ≡ true
+  rows_own apart =
+      let names = names_of birth rows in
+      let here = sym (every-map (λ (n : Key × Birth). stands names n.0) (λ (row : Key × R). (row.0, birth row.1)) rows) ∙ own_stands names in
+      let named = sym (every-map (λ (n : Key × Birth). same_birth (name_of names n.0) n.1) (λ (row : Key × R). (row.0, birth row.1)) rows) ∙ own names apart in
+      every-both (λ row. stands names row.0) (λ row. same_birth (name_of names row.0) (birth row.1)) is_own (λ row a b. grind arith) rows here named
+
+  pub own_birth : (row : Key × R) → is_own row ≡ true → name_of (names_of birth rows) row.0 ≡ birth row.1
+  own_birth row ok = birth-same _ _ (grind arith)
+
+module _ (it : Tables) (is : AreNamed (births_of it.ports) it) where
+  abbrev n : Births
+  n = births_of it.ports
+
+  abbrev f : Object → Birth
+  f = birth_of n
+
+  pub agree : (a b : Key) → stands n.ports a ≡ true → stands n.ports b ≡ true → same_birth (name_of n.ports a) (name_of n.ports b) ≡ is_key a b
+  agree a b one two = agrees n.ports a b is.ports_apart one two
+
+  abbrev own_port : Key × Port → Bool
+  own_port = is_own (λ (r : Port). r.birth) it.ports.ports
+
+  pub own_ports : every own_port it.ports.ports ≡ true
+  own_ports = rows_own (λ (r : Port). r.birth) it.ports.ports is.ports_apart
+
+  -- the tests of rows agree
+  pub port_same : (key : Key) → stands n.ports key ≡ true → (row : Key × Port) → own_port row ≡ true → is_port (name_of n.ports key) (shown_port f row) ≡ at_key key row
+  port_same key there row ok =
+      ap (λ b. same_birth b (name_of n.ports key)) (sym (own_birth (λ (r : Port). r.birth) it.ports.ports row ok)) ∙ agree row.0 key (grind arith) there
+
+  pub queue_same : (key : Key) → stands n.ports key ≡ true → (row : Key × QueuedMessage) → all_pass message_refs (object_stands n) row ≡ true → is_queued (name_of n.ports key) (shown_message f row) ≡ ports.is_in key row
+  queue_same key there row ok = agree row.1.queue key (grind arith) there
+
+  kind_same : (kind : WaitKind) (bytes : List ℕ) (accepted : Option Accepted) (connects b : Bool)
+      → ((elim (shown_kind kind bytes accepted) [ model.Receive ↦ true | _ ↦ false ]) || ((elim (shown_kind kind bytes accepted) [ model.Listen ↦ true | _ ↦ false ]) && connects)) && b ≡ waits.takes connects kind && b
+  kind_same wait.Request bytes accepted true b = refl
+  kind_same wait.Request bytes accepted false b = refl
+  kind_same wait.Receive bytes accepted connects b = refl
+  kind_same wait.Listen bytes accepted true b = refl
+  kind_same wait.Listen bytes accepted false b = refl
+  kind_same wait.Connect bytes None true b = refl
+  kind_same wait.Connect bytes None false b = refl
+  kind_same wait.Connect bytes (Some accepted) true b = refl
+  kind_same wait.Connect bytes (Some accepted) false b = refl
+
+  pub taker_same : (key : Key) (connects : Bool) → stands n.ports key ≡ true → (row : WaitRow) → all_pass wait_refs (object_stands n) row ≡ true → takes_from (name_of n.ports key) connects (shown_wait f row) ≡ waits.is_taker_on key connects row
+  taker_same key connects there row ok = rw (agree row.wait.queue key (grind arith) there) (kind_same row.wait.kind row.message.items row.accepted connects (is_key row.wait.queue key))
+
+  -- what is found
+  pub first_port : (key : Key) → stands n.ports key ≡ true → first (is_port (name_of n.ports key)) (map (shown_port f) it.ports.ports) ≡ option_map (shown_port f) (first (at_key key) it.ports.ports)
+  first_port key there = first-map (shown_port f) own_port (at_key key) (is_port (name_of n.ports key)) (port_same key there) it.ports.ports own_ports
+
+  pub first_queued : (key : Key) → stands n.ports key ≡ true → first (is_queued (name_of n.ports key)) (map (shown_message f) it.ports.messages) ≡ option_map (shown_message f) (first (ports.is_in key) it.ports.messages)
+  first_queued key there = first-map (shown_message f) (all_pass message_refs (object_stands n)) (ports.is_in key) (is_queued (name_of n.ports key)) (queue_same key there) it.ports.messages is.refs.in_messages
+
+  pub first_taker : (key : Key) (connects : Bool) → stands n.ports key ≡ true → first (takes_from (name_of n.ports key) connects) (map (shown_wait f) it.waits.rows) ≡ option_map (shown_wait f) (first (waits.is_taker_on key connects) it.waits.rows)
+  first_taker key connects there = first-map (shown_wait f) (all_pass wait_refs (object_stands n)) (waits.is_taker_on key connects) (takes_from (name_of n.ports key) connects) (taker_same key connects there) it.waits.rows is.refs.in_waits

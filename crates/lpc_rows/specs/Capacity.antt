@@ -1,0 +1,74 @@
+-- How much memory the world's tables have.
+use Rattle.std.specs.Prelude.{◌≡◌, ℕ, ◌+◌, ◌==◌, Bool, false, List, length, map, max, min, Option, Some, None}
+use Rattle.lpc_base.specs.Rows.{first}
+use Rattle.lpc_homes.specs.declared.parts.Part.{Part}
+use Rattle.lpc_rows.specs.Shown.{Tables}
+
+-- how many handles the table of a process has memory for, be they there or not
+pub record HandlePlaces : Type 0 where
+  pub process : ℕ
+  pub places : ℕ
+
+-- How many rows each table has memory for, be they there or not: only a table that asks for memory has more of them. Of
+-- processes and threads it is the numbers ever used, which stay used, and the room for more: a row that goes may leave a
+-- place, so that there is room for one more then.
+pub record Capacity : Type 0 where
+  pub processes : ℕ
+  pub threads : ℕ
+  pub waits : ℕ
+  pub messages : ℕ
+  pub ports : ℕ
+  pub names : ℕ
+  pub handles : List HandlePlaces
+
+-- the places for handles of a process
+abbrev pub places_of_part : Part → HandlePlaces
+places_of_part part = record { process = part.process; places = part.handles.spare + length part.handles.rows }
+
+-- the memory of tables with so many places for parts left
+abbrev pub capacity_by : Tables → ℕ → Capacity
+capacity_by it places = record {
+  processes = min it.procs.process_room places + length it.procs.used_processes;
+  threads = it.procs.thread_room + length it.procs.used_threads;
+  waits = it.waits.spare + length it.waits.rows;
+  messages = it.ports.message_room + length it.ports.messages;
+  ports = it.ports.port_room + length it.ports.ports;
+  names = it.space.spare + length it.space.bindings;
+  handles = map places_of_part it.parts;
+}
+
+-- the memory of all tables but that of names
+abbrev pub but_names : Capacity → Capacity
+but_names c = record c { names = 0 }
+
+-- the memory of all tables but those of processes and threads
+abbrev pub but_lives : Capacity → Capacity
+but_lives c = record c { processes = 0; threads = 0 }
+
+-- places are those of this process
+abbrev pub is_of_process : ℕ → HandlePlaces → Bool
+is_of_process pid p = p.process == pid
+
+-- how many handles a process has memory for
+abbrev pub places_in : Option HandlePlaces → ℕ
+places_in None = 0
+places_in (Some p) = p.places
+
+abbrev pub handle_places : Capacity → ℕ → ℕ
+handle_places c pid = places_in (first (is_of_process pid) c.handles)
+
+-- a process whose table has no memory yet
+abbrev pub no_places : ℕ → HandlePlaces
+no_places pid = record { process = pid; places = 0 }
+
+-- the tables of handles of all processes have the memory that they had, or of all but one
+abbrev pub KeepsPlaces : Capacity → Capacity → Type 0
+KeepsPlaces old new = (pid : ℕ) → handle_places new pid ≡ handle_places old pid
+
+abbrev pub KeepsOtherPlaces : ℕ → Capacity → Capacity → Type 0
+KeepsOtherPlaces pid old new = (other : ℕ) → (other == pid) ≡ false → handle_places new other ≡ handle_places old other
+
+-- The most memory that a table has once it was asked for so many rows more: what it had, or its rows with those, or twice
+-- its rows
+abbrev pub grown_capacity : ℕ → ℕ → ℕ → ℕ
+grown_capacity had more rows = max had (rows + max more rows)

@@ -1,0 +1,14 @@
+//! The lines of a script, and the words, numbers and names that stand in a line.
+#![tactic(auto)]
+
+mod lines;
+mod names;
+mod numbers;
+mod words;
+
+pub use lines::next_line;
+pub use names::{call_name, directive_name};
+pub use numbers::{id, number};
+pub use words::{
+    four_words, next_word, one_or_two_words, one_word, split_once, three_parts, two_words,
+};
