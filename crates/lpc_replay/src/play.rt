@@ -51,7 +51,6 @@ impl From<Failed> for PlayError {
 /// Runs the lines of a script one after the other and sends what each tells. Answers the fault of the first faulty
 /// line.
 fn play_lines<K: Sink>(
-    alloc: Global,
     playback: &mut Playback,
     scratch: &mut Scratch,
     script: &[u8],
@@ -77,7 +76,7 @@ fn play_lines<K: Sink>(
     let mut rest = script;
     while !rest.is_empty() {
         let (line, more) = next_line(rest);
-        if let Some(fault) = playback.run_line(alloc, scratch, line)? {
+        if let Some(fault) = playback.run_line(scratch, line)? {
             return Ok(Some(fault));
         }
         send_all(sink, playback.text())?;
@@ -112,7 +111,6 @@ fn end<K: Sink>(
 
 /// Runs a script from its first line on, and sends its transcript.
 fn play_all<K: Sink>(
-    alloc: Global,
     playback: &mut Playback,
     scratch: &mut Scratch,
     script: &[u8],
@@ -131,7 +129,7 @@ fn play_all<K: Sink>(
         TellsFirst (K.sent sink.old) (K.sent sink.new) 1 (run_of script.now) }
     ensures later { K.faults sink.old ≤ K.faults sink.new }
 {
-    let fault = play_lines(alloc, playback, scratch, script, sink)?;
+    let fault = play_lines(playback, scratch, script, sink)?;
     end(playback, fault, sink)?;
     Ok(fault.is_none())
 }
@@ -139,7 +137,6 @@ fn play_all<K: Sink>(
 /// Runs the lines of a script that are ended by byte 10, from its first line on, and sends what they tell. The last
 /// line is sent only where one of them is faulty.
 fn play_ended_lines<K: Sink>(
-    alloc: Global,
     playback: &mut Playback,
     scratch: &mut Scratch,
     script: &[u8],
@@ -161,7 +158,7 @@ fn play_ended_lines<K: Sink>(
         TellsFirst (K.sent sink.old) (K.sent sink.new) 1 (run_of script.now) }
     ensures later { K.faults sink.old ≤ K.faults sink.new }
 {
-    let fault = play_lines(alloc, playback, scratch, ended(script), sink)?;
+    let fault = play_lines(playback, scratch, ended(script), sink)?;
     if fault.is_some() {
         end(playback, fault, sink)?;
         return Ok(false);
@@ -188,7 +185,7 @@ pub fn play<K: Sink>(alloc: Global, script: &[u8], sink: &mut K) -> Result<bool,
 {
     let mut scratch = Scratch::new(alloc)?;
     let mut playback = Playback::new(alloc)?;
-    play_all(alloc, &mut playback, &mut scratch, script, sink)
+    play_all(&mut playback, &mut scratch, script, sink)
 }
 
 /// Sends what the lines of a script tell that are ended by byte 10: of a script that was broken off. Where one of them
@@ -214,5 +211,5 @@ pub fn play_ended<K: Sink>(alloc: Global, script: &[u8], sink: &mut K) -> Result
 {
     let mut scratch = Scratch::new(alloc)?;
     let mut playback = Playback::new(alloc)?;
-    play_ended_lines(alloc, &mut playback, &mut scratch, script, sink)
+    play_ended_lines(&mut playback, &mut scratch, script, sink)
 }

@@ -70,7 +70,6 @@ impl Playback {
     /// of when it does, or of what it leaves.
     pub fn run_line(
         &mut self,
-        alloc: Global,
         scratch: &mut Scratch,
         line: &[u8],
     ) -> Result<Option<LineFault>, OutOfMemory>
@@ -87,7 +86,6 @@ impl Playback {
         self.lines += 1;
         if let Some(said) = said {
             let told = tell(
-                alloc,
                 &mut self.machine,
                 &mut self.out,
                 self.lines,
@@ -123,7 +121,6 @@ impl Playback {
 
 /// Takes the step of a line of this number and appends its text. Answers how many entries it told.
 fn tell(
-    alloc: Global,
     machine: &mut Machine,
     out: &mut Entries,
     number: u32,
@@ -143,6 +140,6 @@ fn tell(
     out.clear();
     out.reserve(machine.room_needed())?;
     machine.step(said, out)?;
-    print(alloc, number, out, text)?;
+    print(number, out, text)?;
     Ok(out.list().len())
 }

@@ -18,7 +18,7 @@ fn printed(rt: &impl Abort, alloc: Global, line: u32, entry: Entry, text: &str) 
     entries.reserve(1)?;
     entries.push(entry);
     let mut into = Vec::new(alloc);
-    print(alloc, line, &entries, &mut into)?;
+    print(line, &entries, &mut into)?;
     assert!(rt; into.as_slice() == text.as_bytes());
     Ok(())
 }
@@ -325,7 +325,7 @@ fn entries_follow_in_order_behind_what_stands(rt: HostRuntime) -> Result<(), Fai
         fields,
     });
     let mut into = Vec::from_slice(alloc, b"4 20 busy\n")?;
-    print(alloc, 5, &entries, &mut into)?;
+    print(5, &entries, &mut into)?;
     let text =
         b"4 20 busy\n5 20 NtReplyPort 00000000 data=68656c6c6f\n5 24 NtReplyWaitReceivePort wait ctx=00000007 id=2\n";
     assert!(rt; into.as_slice() == text.as_slice());

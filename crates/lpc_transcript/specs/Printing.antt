@@ -1,5 +1,5 @@
 -- What is printed, and what stands of a text while more of it is printed.
-use Rattle.std.specs.Prelude.{◌≡◌, ℕ, List, ◌++◌, codes, decimal, length, map, OnOk, Result, take}
+use Rattle.std.specs.Prelude.{◌≡◌, ℕ, ◌+◌, ◌<◌, List, ◌++◌, codes, decimal, length, map, OnOk, Result, take, Vec, vec_capacity, vec_items}
 use Rattle.lpc_base.specs.declared.status.Status.{Status}
 use Rattle.lpc_model.specs.Listed.{shown_entry, shown_field, shown_value}
 use Rattle.lpc_model.specs.Text.{by_text, entries_text, entry_text, field_text, fields_text, rest_text, status_text, value_text, word_text}
@@ -17,6 +17,10 @@ pub record BeginsWith (text front : List ℕ) : Type 0 where
 -- where it succeeds, more stands behind the text
 abbrev pub Puts : {T E : Type 0} → List ℕ → List ℕ → List ℕ → Result T E → Type 0
 Puts before now more result = OnOk result (now ≡ before ++ more)
+
+-- there is no room for so much behind the text
+abbrev pub LacksRoom : {Z : Type 0} → Vec ℕ Z → List ℕ → Type 0
+LacksRoom into more = vec_capacity into < length (vec_items into) + length more
 
 -- the text of a value, of a field, of fields, of what stands behind a line's number, of an entry and of entries, with
 -- these bytes where a memory read stands

@@ -1,8 +1,8 @@
 // The text of entries, and the last line of a transcript.
-ghost use Rattle.std.specs.Prelude.{◌≡◌, take, OnOk, OnErr};
+ghost use Rattle.std.specs.Prelude.{◌≡◌, ◌≤◌, take, OnOk, OnErr, vec_capacity};
 ghost use Rattle.lpc_model.specs.Script.{kind_number};
 ghost use Rattle.lpc_model.specs.Text.{entries_text, end_text, stop_text};
-ghost use Rattle.lpc_transcript.specs.Printing.{BeginsWith, Puts, line_of, lines_of, rest_of};
+ghost use Rattle.lpc_transcript.specs.Printing.{BeginsWith, LacksRoom, Puts, line_of, lines_of, rest_of};
 
 use crate::fields::put_fields;
 use crate::words::{
@@ -10,18 +10,14 @@ use crate::words::{
 };
 use lpc_base::OutOfMemory;
 use lpc_model::{Entries, Entry, LineFault};
-use std::alloc::Global;
 
 // What stands behind the line's number, with these bytes where a memory read stands.
 #[tactic(auto, using(std::proofs::Common::append_assoc, crate::proofs::Begins::begins_before))]
-fn put_rest(
-    alloc: Global,
-    into: &mut Vec<u8>,
-    entry: &Entry,
-    read: &[u8],
-) -> Result<(), OutOfMemory>
+fn put_rest(into: &mut Vec<u8>, entry: &Entry, read: &[u8]) -> Result<(), OutOfMemory>
     ensures ok { Puts into.old.items into.new.items (rest_of read.now entry.now) result }
     ensures err { OnErr result (BeginsWith into.new.items into.old.items) }
+    ensures room { vec_capacity into.old ≤ vec_capacity into.new }
+    ensures wanting { OnErr result (LacksRoom into.old (rest_of read.now entry.now)) }
 {
     match entry {
         Entry::Answer {
@@ -31,12 +27,12 @@ fn put_rest(
             fields,
         } => {
             put_ended(into, *tid, *call, *status)?;
-            put_fields(alloc, into, fields, read)
+            put_fields(into, fields, read)
         }
         Entry::Waits { tid, call, fields } => {
             put_by(into, *tid, *call)?;
             put(into, b" wait")?;
-            put_fields(alloc, into, fields, read)
+            put_fields(into, fields, read)
         }
         Entry::Wakes {
             tid,
@@ -46,7 +42,7 @@ fn put_rest(
         } => {
             put(into, b"*")?;
             put_ended(into, *tid, *call, *status)?;
-            put_fields(alloc, into, fields, read)
+            put_fields(into, fields, read)
         }
         Entry::Busy { tid } => put_state(into, *tid, b" busy"),
         Entry::NoThread { tid } => put_state(into, *tid, b" nothread"),
@@ -56,25 +52,20 @@ fn put_rest(
 }
 
 #[tactic(auto, using(std::proofs::Common::append_assoc, crate::proofs::Begins::begins_before), unfolding(lpc_model::specs::Text::entry_text))]
-fn put_entry(
-    alloc: Global,
-    into: &mut Vec<u8>,
-    line: u32,
-    entry: &Entry,
-    read: &[u8],
-) -> Result<(), OutOfMemory>
+fn put_entry(into: &mut Vec<u8>, line: u32, entry: &Entry, read: &[u8]) -> Result<(), OutOfMemory>
     ensures ok { Puts into.old.items into.new.items (line_of line read.now entry.now) result }
     ensures err { OnErr result (BeginsWith into.new.items into.old.items) }
+    ensures room { vec_capacity into.old ≤ vec_capacity into.new }
+    ensures wanting { OnErr result (LacksRoom into.old (line_of line read.now entry.now)) }
 {
     put_number(into, u64::from(line))?;
     put(into, b" ")?;
-    put_rest(alloc, into, entry, read)?;
+    put_rest(into, entry, read)?;
     put(into, b"\n")
 }
 
 #[tactic(auto, using(std::proofs::Common::append_assoc, crate::proofs::Begins::begins_before), unfolding(lpc_model::specs::Text::entries_text))]
 fn put_entries(
-    alloc: Global,
     into: &mut Vec<u8>,
     line: u32,
     entries: &[Entry],
@@ -82,9 +73,11 @@ fn put_entries(
 ) -> Result<(), OutOfMemory>
     ensures ok { Puts into.old.items into.new.items (lines_of line read.now entries.now) result }
     ensures err { OnErr result (BeginsWith into.new.items into.old.items) }
+    ensures room { vec_capacity into.old ≤ vec_capacity into.new }
+    ensures wanting { OnErr result (LacksRoom into.old (lines_of line read.now entries.now)) }
 {
     for entry in entries {
-        put_entry(alloc, into, line, entry, read)?;
+        put_entry(into, line, entry, read)?;
     }
     Ok(())
 }
@@ -98,6 +91,7 @@ fn all_or_none(
     ensures result { result ≡ printed }
     ensures ok { OnOk printed (into.new.items ≡ into.old.items) }
     ensures err { OnErr printed (into.new.items ≡ take before into.old.items) }
+    ensures room { vec_capacity into.new ≡ vec_capacity into.old }
 {
     if printed.is_err() {
         into.truncate(before);
@@ -108,18 +102,16 @@ fn all_or_none(
 /// Appends the text of a line's entries: for each entry in order the number of the line, who is spoken of, the call,
 /// how it ended and its fields, ended by byte 10. The form is this project's own.
 ///
-/// After want of memory the text is as it was.
-pub fn print(
-    alloc: Global,
-    line: u32,
-    entries: &Entries,
-    into: &mut Vec<u8>,
-) -> Result<(), OutOfMemory>
+/// OutOfMemory comes only where there was no room for that behind the text; the text is as it was then, and the room
+/// never shrinks.
+pub fn print(line: u32, entries: &Entries, into: &mut Vec<u8>) -> Result<(), OutOfMemory>
     ensures ok { Puts into.old.items into.new.items (entries_text line entries.now.list) result }
     ensures err { OnErr result (into.new.items ≡ into.old.items) }
+    ensures room { vec_capacity into.old ≤ vec_capacity into.new }
+    ensures wanting { OnErr result (LacksRoom into.old (entries_text line entries.now.list)) }
 {
     let before = into.len();
-    let printed = put_entries(alloc, into, line, entries.list(), entries.read_bytes());
+    let printed = put_entries(into, line, entries.list(), entries.read_bytes());
     all_or_none(into, before, printed)
 }
 
@@ -127,6 +119,8 @@ pub fn print(
 fn put_end(into: &mut Vec<u8>, lines: u32, entries: u128, objects: usize) -> Result<(), OutOfMemory>
     ensures ok { Puts into.old.items into.new.items (end_text lines entries objects) result }
     ensures err { OnErr result (BeginsWith into.new.items into.old.items) }
+    ensures room { vec_capacity into.old ≤ vec_capacity into.new }
+    ensures wanting { OnErr result (LacksRoom into.old (end_text lines entries objects)) }
 {
     put(into, b"end ")?;
     put_number(into, u64::from(lines))?;
@@ -140,7 +134,8 @@ fn put_end(into: &mut Vec<u8>, lines: u32, entries: u128, objects: usize) -> Res
 /// Appends the last line of a script that was read to its end: `end`, the lines read, the entries printed and the
 /// objects left. The form is this project's own.
 ///
-/// After want of memory the text is as it was.
+/// OutOfMemory comes only where there was no room for that behind the text; the text is as it was then, and the room
+/// never shrinks.
 pub fn print_end(
     into: &mut Vec<u8>,
     lines: u32,
@@ -149,6 +144,8 @@ pub fn print_end(
 ) -> Result<(), OutOfMemory>
     ensures ok { Puts into.old.items into.new.items (end_text lines entries objects) result }
     ensures err { OnErr result (into.new.items ≡ into.old.items) }
+    ensures room { vec_capacity into.old ≤ vec_capacity into.new }
+    ensures wanting { OnErr result (LacksRoom into.old (end_text lines entries objects)) }
 {
     let before = into.len();
     let printed = put_end(into, lines, entries, objects);
@@ -175,6 +172,8 @@ fn kind_of(fault: LineFault) -> u64
 fn put_stop(into: &mut Vec<u8>, line: u32, fault: LineFault) -> Result<(), OutOfMemory>
     ensures ok { Puts into.old.items into.new.items (stop_text line (kind_number fault)) result }
     ensures err { OnErr result (BeginsWith into.new.items into.old.items) }
+    ensures room { vec_capacity into.old ≤ vec_capacity into.new }
+    ensures wanting { OnErr result (LacksRoom into.old (stop_text line (kind_number fault))) }
 {
     put(into, b"stop ")?;
     put_number(into, u64::from(line))?;
@@ -186,10 +185,13 @@ fn put_stop(into: &mut Vec<u8>, line: u32, fault: LineFault) -> Result<(), OutOf
 /// Appends the last line of a script that has a faulty line: `stop`, the number of that line and the number of its
 /// fault's kind. The form is this project's own.
 ///
-/// After want of memory the text is as it was.
+/// OutOfMemory comes only where there was no room for that behind the text; the text is as it was then, and the room
+/// never shrinks.
 pub fn print_stop(into: &mut Vec<u8>, line: u32, fault: LineFault) -> Result<(), OutOfMemory>
     ensures ok { Puts into.old.items into.new.items (stop_text line (kind_number fault)) result }
     ensures err { OnErr result (into.new.items ≡ into.old.items) }
+    ensures room { vec_capacity into.old ≤ vec_capacity into.new }
+    ensures wanting { OnErr result (LacksRoom into.old (stop_text line (kind_number fault))) }
 {
     let before = into.len();
     let printed = put_stop(into, line, fault);

@@ -1,19 +1,20 @@
-// The words of a transcript's line, each put behind the text so far. Each may want for memory: what stood before still
-// begins the text then.
-ghost use Rattle.std.specs.Prelude.{◌≡◌, ◌≤◌, ◌++◌, length, decimal, OnErr};
+// The words of a transcript's line, each put behind the text so far. Each wants for memory only where there was no room
+// for it behind the text: what stood before still begins the text then. The room never shrinks.
+ghost use Rattle.std.specs.Prelude.{◌≡◌, ◌≤◌, ◌++◌, length, decimal, OnErr, vec_capacity};
 ghost use Rattle.lpc_base.specs.declared.limits.TheConstants.{MESSAGE_LIMIT};
 ghost use Rattle.hex.specs.Hex.{encode_lower};
 ghost use Rattle.lpc_model.specs.Text.{eight_digits, kind_text, name_text, by_text, status_text};
-ghost use Rattle.lpc_transcript.specs.Printing.{BeginsWith, Puts, died_text, directive_text, ended_text};
+ghost use Rattle.lpc_transcript.specs.Printing.{BeginsWith, LacksRoom, Puts, died_text, directive_text, ended_text};
 
 use lpc_base::{OutOfMemory, Status};
 use lpc_model::{CallName, FieldName, ObjectKind, Word};
-use std::alloc::Global;
 
 /// Bytes as they stand.
 pub(crate) fn put(into: &mut Vec<u8>, bytes: &[u8]) -> Result<(), OutOfMemory>
     ensures ok { Puts into.old.items into.new.items bytes.now result }
     ensures err { OnErr result (BeginsWith into.new.items into.old.items) }
+    ensures room { vec_capacity into.old ≤ vec_capacity into.new }
+    ensures wanting { OnErr result (LacksRoom into.old bytes.now) }
 {
     if into.extend_from_slice(bytes).is_err() {
         return Err(OutOfMemory);
@@ -25,6 +26,8 @@ pub(crate) fn put(into: &mut Vec<u8>, bytes: &[u8]) -> Result<(), OutOfMemory>
 pub(crate) fn put_number(into: &mut Vec<u8>, number: u64) -> Result<(), OutOfMemory>
     ensures ok { Puts into.old.items into.new.items (decimal number) result }
     ensures err { OnErr result (BeginsWith into.new.items into.old.items) }
+    ensures room { vec_capacity into.old ≤ vec_capacity into.new }
+    ensures wanting { OnErr result (LacksRoom into.old (decimal number)) }
 {
     put(into, itoa::Buffer::new().format(number).as_bytes())
 }
@@ -33,6 +36,8 @@ pub(crate) fn put_number(into: &mut Vec<u8>, number: u64) -> Result<(), OutOfMem
 pub(crate) fn put_long_number(into: &mut Vec<u8>, number: u128) -> Result<(), OutOfMemory>
     ensures ok { Puts into.old.items into.new.items (decimal number) result }
     ensures err { OnErr result (BeginsWith into.new.items into.old.items) }
+    ensures room { vec_capacity into.old ≤ vec_capacity into.new }
+    ensures wanting { OnErr result (LacksRoom into.old (decimal number)) }
 {
     put(into, itoa::Buffer::new().format(number).as_bytes())
 }
@@ -41,6 +46,8 @@ pub(crate) fn put_long_number(into: &mut Vec<u8>, number: u128) -> Result<(), Ou
 pub(crate) fn put_digits(into: &mut Vec<u8>, number: u32) -> Result<(), OutOfMemory>
     ensures ok { Puts into.old.items into.new.items (eight_digits number) result }
     ensures err { OnErr result (BeginsWith into.new.items into.old.items) }
+    ensures room { vec_capacity into.old ≤ vec_capacity into.new }
+    ensures wanting { OnErr result (LacksRoom into.old (eight_digits number)) }
 {
     let mut digits = [0u8; 8];
     hex::encode_to_slice(number.to_be_bytes().as_slice(), &mut digits).unwrap();
@@ -52,6 +59,8 @@ pub(crate) fn put_bytes(into: &mut Vec<u8>, bytes: &[u8]) -> Result<(), OutOfMem
     requires { length bytes.now ≤ MESSAGE_LIMIT }
     ensures ok { Puts into.old.items into.new.items (encode_lower bytes.now) result }
     ensures err { OnErr result (BeginsWith into.new.items into.old.items) }
+    ensures room { vec_capacity into.old ≤ vec_capacity into.new }
+    ensures wanting { OnErr result (LacksRoom into.old (encode_lower bytes.now)) }
 {
     let mut buffer = [0u8; 512];
     let digits = &mut buffer[..2 * bytes.len()];
@@ -59,15 +68,22 @@ pub(crate) fn put_bytes(into: &mut Vec<u8>, bytes: &[u8]) -> Result<(), OutOfMem
     put(into, digits)
 }
 
-/// The bytes of a memory read as pairs of hexadecimal digits. There may be too many for a buffer on the stack.
-pub(crate) fn put_read(alloc: Global, into: &mut Vec<u8>, bytes: &[u8]) -> Result<(), OutOfMemory>
+/// The bytes of a memory read as pairs of hexadecimal digits, written where they are to stand: there may be too many
+/// for a buffer on the stack.
+pub(crate) fn put_read(into: &mut Vec<u8>, bytes: &[u8]) -> Result<(), OutOfMemory>
     ensures ok { Puts into.old.items into.new.items (encode_lower bytes.now) result }
     ensures err { OnErr result (BeginsWith into.new.items into.old.items) }
+    ensures room { vec_capacity into.old ≤ vec_capacity into.new }
+    ensures wanting { OnErr result (LacksRoom into.old (encode_lower bytes.now)) }
 {
-    let Ok(digits) = hex::encode(alloc, bytes) else {
+    let digits = 2 * bytes.len();
+    if into.reserve(digits).is_err() {
         return Err(OutOfMemory);
-    };
-    put(into, digits.as_bytes())
+    }
+    let before = into.len();
+    into.resize(before + digits, 0).unwrap();
+    hex::encode_to_slice(bytes, &mut into[before..]).unwrap();
+    Ok(())
 }
 
 /// The word for a kind of object.
@@ -108,6 +124,8 @@ pub(crate) fn field_name(name: FieldName) -> &'static [u8]
 pub(crate) fn put_by(into: &mut Vec<u8>, tid: u32, call: CallName) -> Result<(), OutOfMemory>
     ensures ok { Puts into.old.items into.new.items (by_text tid call) result }
     ensures err { OnErr result (BeginsWith into.new.items into.old.items) }
+    ensures room { vec_capacity into.old ≤ vec_capacity into.new }
+    ensures wanting { OnErr result (LacksRoom into.old (by_text tid call)) }
 {
     put_number(into, u64::from(tid))?;
     put(into, b" ")?;
@@ -118,6 +136,8 @@ pub(crate) fn put_by(into: &mut Vec<u8>, tid: u32, call: CallName) -> Result<(),
 fn put_status(into: &mut Vec<u8>, status: Status) -> Result<(), OutOfMemory>
     ensures ok { Puts into.old.items into.new.items (status_text status) result }
     ensures err { OnErr result (BeginsWith into.new.items into.old.items) }
+    ensures room { vec_capacity into.old ≤ vec_capacity into.new }
+    ensures wanting { OnErr result (LacksRoom into.old (status_text status)) }
 {
     put(into, b" ")?;
     put_digits(into, status.0)
@@ -133,6 +153,8 @@ pub(crate) fn put_ended(
 ) -> Result<(), OutOfMemory>
     ensures ok { Puts into.old.items into.new.items (ended_text tid call status) result }
     ensures err { OnErr result (BeginsWith into.new.items into.old.items) }
+    ensures room { vec_capacity into.old ≤ vec_capacity into.new }
+    ensures wanting { OnErr result (LacksRoom into.old (ended_text tid call status)) }
 {
     put_by(into, tid, call)?;
     put_status(into, status)
@@ -143,6 +165,8 @@ pub(crate) fn put_ended(
 pub(crate) fn put_state(into: &mut Vec<u8>, tid: u32, state: &[u8]) -> Result<(), OutOfMemory>
     ensures ok { Puts into.old.items into.new.items (decimal tid ++ state.now) result }
     ensures err { OnErr result (BeginsWith into.new.items into.old.items) }
+    ensures room { vec_capacity into.old ≤ vec_capacity into.new }
+    ensures wanting { OnErr result (LacksRoom into.old (decimal tid ++ state.now)) }
 {
     put_number(into, u64::from(tid))?;
     put(into, state)
@@ -153,6 +177,8 @@ pub(crate) fn put_state(into: &mut Vec<u8>, tid: u32, state: &[u8]) -> Result<()
 pub(crate) fn put_death(into: &mut Vec<u8>, tid: u32, status: Status) -> Result<(), OutOfMemory>
     ensures ok { Puts into.old.items into.new.items (died_text tid status) result }
     ensures err { OnErr result (BeginsWith into.new.items into.old.items) }
+    ensures room { vec_capacity into.old ≤ vec_capacity into.new }
+    ensures wanting { OnErr result (LacksRoom into.old (died_text tid status)) }
 {
     put(into, b"~")?;
     put_number(into, u64::from(tid))?;
@@ -169,6 +195,8 @@ pub(crate) fn put_directive(
 ) -> Result<(), OutOfMemory>
     ensures ok { Puts into.old.items into.new.items (directive_text word status) result }
     ensures err { OnErr result (BeginsWith into.new.items into.old.items) }
+    ensures room { vec_capacity into.old ≤ vec_capacity into.new }
+    ensures wanting { OnErr result (LacksRoom into.old (directive_text word status)) }
 {
     put(into, b"- ")?;
     put(into, word.name())?;
