@@ -366,6 +366,7 @@ impl Entries {
         ensures err { OnErr result (self.new ≡ self.old) }
         ensures most { let rows = length self.old.list in
             self.new.spare ≤ grown_room self.old.spare more rows }
+        ensures enough { more ≤ self.old.spare → self.new.spare ≡ self.old.spare }
     {
         reserve_rows(&mut self.list, more)
     }
