@@ -339,13 +339,14 @@ impl Model for Entries {
 }
 
 impl Entries {
-    /// No entries, and the buffer for the bytes of a memory read.
+    /// No entries and no spare room, and the buffer for the bytes of a memory read.
     ///
     /// OutOfMemory comes where memory for the buffer is wanting; no clause tells more of when it does.
     pub fn new(alloc: Global) -> Result<Entries, OutOfMemory>
         ensures list { IfOk result (λ e. e.list ≡ []) }
         ensures read { IfOk result (λ e. e.read ≡ []) }
         ensures reads { IfOk result (λ e. e.reads ≡ false) }
+        ensures spare { IfOk result (λ e. e.spare ≡ 0) }
     {
         let list = Vec::new(alloc);
         let Ok(read) = Vec::with_capacity(alloc, READ_LIMIT) else {
