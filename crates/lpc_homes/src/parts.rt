@@ -85,6 +85,8 @@ pub fn reserve_handles(parts: &mut Vec<Part>, pid: u32, more: usize) -> Result<(
     ensures spare { spare_at parts.old.items pid ≤ spare_at parts.new.items pid }
     ensures most { let rows = length (rows_at parts.old.items pid) in
         spare_at parts.new.items pid ≤ grown_room (spare_at parts.old.items pid) more rows }
+    ensures enough { let old = spare_at parts.old.items pid in
+        more ≤ old → spare_at parts.new.items pid ≡ old }
     ensures len { vec_len parts.new ≡ vec_len parts.old }
     ensures capacity { vec_capacity parts.new ≡ vec_capacity parts.old }
 {

@@ -29,3 +29,9 @@ returns-clause-most c =
     let at = part_is c.args.parts.now.items c.args.pid c.place_of-index.result c.index_mut.result.now (rw c.deref.ensures.value at c.place_of-index.ensures) c.index_mut.ensures.value in
     let roomed = roomed_part c.args.parts.now.items c.args.pid c.place_of-index.result c.index_mut.result.now c.reserve.new.self c.requires.one at c.reserve.ensures.rows in
     rw (roomed.spare_is, at.is_first) c.reserve.ensures.most
+
+pub returns-clause-enough : goal.returns-clause-enough
+returns-clause-enough c =
+    let at = part_is c.args.parts.now.items c.args.pid c.place_of-index.result c.index_mut.result.now (rw c.deref.ensures.value at c.place_of-index.ensures) c.index_mut.ensures.value in
+    let roomed = roomed_part c.args.parts.now.items c.args.pid c.place_of-index.result c.index_mut.result.now c.reserve.new.self c.requires.one at c.reserve.ensures.rows in
+    rw (roomed.spare_is, at.is_first) c.reserve.ensures.enough
