@@ -129,6 +129,7 @@ impl Waits {
         ensures spare { self.old.spare ≤ self.new.spare }
         ensures most { let rows = length self.old.rows in
             self.new.spare ≤ grown_room self.old.spare more rows }
+        ensures enough { more ≤ self.old.spare → self.new.spare ≡ self.old.spare }
     {
         reserve_rows(&mut self.rows, more)
     }
