@@ -1,9 +1,10 @@
 -- Which lines may need memory, and which make a call.
-use Rattle.std.specs.Prelude.{◌≡◌, ◌==◌, ℕ, Bool, true, false, IsOk}
+use Rattle.std.specs.Prelude.{◌≡◌, ◌==◌, ◌&&◌, ℕ, Bool, true, false, not, IsOk}
 use Rattle.lpc_connect.specs.Room.{lacks_connect_room, lacks_port_room, lacks_room_for}
 use Rattle.lpc_closing.specs.Calls.{lacks_handle_room}
 use Rattle.lpc_death.specs.Room.{lacks_child_room, lacks_member_room}
 use Rattle.lpc_model.specs.World.{World}
+use Rattle.lpc_request.specs.Called.{was_registered}
 use Rattle.lpc_model.specs.Machine.{boot_line, dir_line, link_line, service_of, thread_line}
 use Rattle.lpc_rows.specs.Kept.{Kept, lacks_name_room, lacks_process_room, lacks_thread_room}
 use Rattle.lpc_rows.specs.Ready.{caller, is_ready}
@@ -55,7 +56,8 @@ lacks_call_room w tid (create_port name) = lacks_room_for w (caller w.rows tid) 
 lacks_call_room w tid (connect_port name info) = lacks_connect_room w (caller w.rows tid)
 lacks_call_room w tid (accept_connect_port context message accept) = lacks_port_room w (caller w.rows tid)
 lacks_call_room w tid (request_port handle message) = w.room.messages == 0
-lacks_call_room w tid (register_thread_terminate_port handle) = w.room.messages == 0
+lacks_call_room w tid (register_thread_terminate_port handle) =
+    not (was_registered w.rows tid handle) && (w.room.messages == 0)
 lacks_call_room w tid (duplicate_object handle access) = lacks_handle_room w (caller w.rows tid)
 lacks_call_room w tid (create_process pid new) = lacks_child_room w (caller w.rows tid)
 lacks_call_room w tid (create_thread target new) = lacks_member_room w (caller w.rows tid)

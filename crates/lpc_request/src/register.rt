@@ -1,10 +1,11 @@
 // The call that registers a port with a thread.
 ghost use Rattle.lpc_rows.specs.Kept.{grown_messages};
-ghost use Rattle.std.specs.Prelude.{◌≡◌, ◌<◌, ◌+◌, ◌≤◌, Ok, Err, true, false, IfOk, MatchResult, OnErr, OnOk, IsErr};
+ghost use Rattle.std.specs.Prelude.{◌≡◌, ◌<◌, ◌+◌, ◌≤◌, Ok, Err, true, false, IfOk, MatchResult, OnErr, OnOk, IsErr, IsOk};
 ghost use Rattle.lpc_base.specs.declared.limits.TheConstants.{LINES_LIMIT};
 ghost use Rattle.lpc_model.specs.Lines.{register_thread_terminate_port};
 ghost use Rattle.lpc_model.specs.Register as register;
 ghost use Rattle.lpc_model.specs.Register.{is_registered, register_steps};
+ghost use Rattle.lpc_request.specs.Called.{was_registered};
 ghost use Rattle.lpc_rows.specs.Called.{MayServe, service};
 ghost use Rattle.lpc_rows.specs.Clauses.{birth_at};
 ghost use Rattle.lpc_rows.specs.Names.{stands};
@@ -66,6 +67,9 @@ fn register_test(world: &World, tid: u32, handle: u32) -> Result<Key, Status>
     ensures few { let by = caller world.now.rows tid in
         IfOk result (λ port. is_registered (birth_at world.now port) by ≡ false →
         HasFewRegistrations world.now.rows tid) }
+    ensures known { let by = caller world.now.rows tid in
+        IfOk result (λ port. was_registered world.now.rows tid handle
+        ≡ is_registered (birth_at world.now port) by) }
 {
     let port = port_at(world, tid, handle)?;
     registration_test(world, tid, port)?;
@@ -95,6 +99,9 @@ pub fn nt_register_thread_terminate_port(
     ensures room_stays { let call = register_thread_terminate_port handle in
         IsErr (service world.old.rows by call) → world.new.room ≡ world.old.room }
     ensures spare { OnOk result (out.new.spare + 1 ≡ out.old.spare) }
+    ensures answered { was_registered world.old.rows by handle ≡ true → IsOk result }
+    ensures capacity_stays { was_registered world.old.rows by handle ≡ true →
+        world.new.capacity ≡ world.old.capacity }
     ensures wanting { OnErr result (world.old.room.messages < 1) }
     ensures capacity { let new = world.new.capacity in
         let old = world.old.capacity in
