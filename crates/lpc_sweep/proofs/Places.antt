@@ -3,7 +3,7 @@ use Rattle.std.proofs.Common.{◌≡◌, ◌+◌, ◌≤◌, ℕ, zero, suc, Lis
 use Rattle.std.proofs.lemmas.Option.{same_Some}
 use Rattle.std.specs.Prelude.{◌&&◌}
 use Rattle.lpc_base.specs.declared.birth.Birth.{Birth}
-use Rattle.lpc_base.specs.Rows.{every, has, without}
+use Rattle.lpc_base.specs.Rows.{every, first, has, without}
 use Rattle.lpc_base.proofs.Births.{birth-self}
 use Rattle.lpc_model.specs.Found.{same_birth}
 use Rattle.lpc_model.specs.World.{PortRow}
@@ -57,6 +57,26 @@ module _ {X : Type 0} (birth : X → Birth) (held : Birth → Bool) where
       by_row (Some x) here at =
           let one : held (birth x) ≡ true = ap held (same_Some (birth x) b at) ∙ is in
           ap (every (λ y. held (birth y))) (drop_row xs place x here) ∙ ap (λ c. c && every (λ y. held (birth y)) (drop (place + 1) xs)) one
+
+-- Rows that don't pass so far, and the first one that does
+module _ {X : Type 0} (birth : X → Birth) (test : Birth → Bool) where
+  pub passed_on : (xs : List X) (place : ℕ) (b : Birth) → option_map birth (slice_get xs place) ≡ Some b → test b ≡ false → first (λ x. test (birth x)) (drop place xs) ≡ first (λ x. test (birth x)) (drop (place + 1) xs)
+  passed_on xs place b at off = by_row (slice_get xs place) refl at
+    where
+      by_row : (o : Option X) → slice_get xs place ≡ o → option_map birth o ≡ Some b → first (λ x. test (birth x)) (drop place xs) ≡ first (λ x. test (birth x)) (drop (place + 1) xs)
+      by_row None here at = absurd (cc)
+      by_row (Some x) here at =
+          let one : test (birth x) ≡ false = ap test (same_Some (birth x) b at) ∙ off in
+          ap (first (λ y. test (birth y))) (drop_row xs place x here) ∙ rw one refl
+
+  pub found_at : (xs : List X) (place : ℕ) (b : Birth) → option_map birth (slice_get xs place) ≡ Some b → test b ≡ true → option_map birth (first (λ x. test (birth x)) (drop place xs)) ≡ Some b
+  found_at xs place b at on = by_row (slice_get xs place) refl at
+    where
+      by_row : (o : Option X) → slice_get xs place ≡ o → option_map birth o ≡ Some b → option_map birth (first (λ x. test (birth x)) (drop place xs)) ≡ Some b
+      by_row None here at = absurd (cc)
+      by_row (Some x) here at =
+          let one : test (birth x) ≡ true = ap test (same_Some (birth x) b at) ∙ on in
+          ap (λ ys. option_map birth (first (λ y. test (birth y)) ys)) (drop_row xs place x here) ∙ rw one (ap Some (same_Some (birth x) b at))
 
 -- a row at a place is among the rows
 pub row_at_place : {X : Type 0} (birth : X → Birth) (xs : List X) (place : ℕ) (b : Birth) → option_map birth (slice_get xs place) ≡ Some b → has (λ x. same_birth (birth x) b) xs ≡ true

@@ -1,9 +1,10 @@
 -- Words of the sweep's clauses: a port at its key, and what stands in a place.
 use Rattle.std.specs.Prelude.{ℕ, Bool, Option, option_map, slice_get}
 use Rattle.lpc_base.specs.declared.birth.Birth.{Birth}
-use Rattle.lpc_base.specs.Rows.{has}
-use Rattle.lpc_model.specs.Found.{is_port, port_name}
+use Rattle.lpc_base.specs.Rows.{first, has}
+use Rattle.lpc_model.specs.Found.{is_port, port_name, process_name, thread_name}
 use Rattle.lpc_model.specs.Sweep.{is_unheld}
+use Rattle.lpc_model.specs.World.{World}
 use Rattle.lpc_slots.specs.declared.Key.{Key}
 use Rattle.lpc_rows.specs.Clauses.{birth_at}
 use Rattle.lpc_rows.specs.Kept.{Kept}
@@ -26,3 +27,13 @@ process_in_place w place = option_map (λ p. p.birth) (slice_get w.rows.processe
 -- no row counts for the port
 abbrev pub is_unheld_at : Kept → Key → Bool
 is_unheld_at w key = is_unheld w.rows (port_name (birth_at w key))
+
+-- the birth of the oldest thread that no row counts for, of the oldest such process, and of the oldest such port
+abbrev pub oldest_thread : World → Option Birth
+oldest_thread w = option_map (λ t. t.birth) (first (λ t. is_unheld w (thread_name t.birth)) w.threads)
+
+abbrev pub oldest_process : World → Option Birth
+oldest_process w = option_map (λ p. p.birth) (first (λ p. is_unheld w (process_name p.birth)) w.processes)
+
+abbrev pub oldest_port : World → Option Birth
+oldest_port w = option_map (λ p. p.birth) (first (λ p. is_unheld w (port_name p.birth)) w.ports)

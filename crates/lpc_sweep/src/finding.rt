@@ -4,9 +4,9 @@ ghost use Rattle.lpc_base.specs.Rows.{has};
 ghost use Rattle.lpc_model.specs.Found.{is_born_process, is_born_thread, process_name, thread_name};
 ghost use Rattle.lpc_model.specs.Linked.{HasHeldPorts};
 ghost use Rattle.lpc_model.specs.Sweep.{is_unheld};
-ghost use Rattle.lpc_sweep.specs.Clauses.{birth_in_place, has_port, is_unheld_at, process_in_place, thread_in_place};
+ghost use Rattle.lpc_sweep.specs.Clauses.{birth_in_place, has_port, is_unheld_at, oldest_port, oldest_process, oldest_thread, process_in_place, thread_in_place};
 ghost use Rattle.lpc_sweep.specs.Sweeping.{CanSweep, HasHeldProcesses, HasHeldThreads};
-ghost use Rattle.lpc_rows.specs.Clauses.{birth_at, name_at};
+ghost use Rattle.lpc_rows.specs.Clauses.{birth_at, name_at, some_birth};
 ghost use Rattle.lpc_rows.specs.Held.{has_holders};
 ghost use Rattle.lpc_rows.specs.Names.{stands};
 ghost use Rattle.lpc_rows.specs.Shown.{object_stands};
@@ -48,6 +48,7 @@ fn is_held(world: &World, port: Key) -> bool
 pub fn unheld_port(world: &World) -> Option<Key>
     requires { CanSweep world.now.rows }
     ensures none { IfNone result (HasHeldPorts world.now.rows) }
+    ensures oldest { some_birth world.now result ≡ oldest_port world.now.rows }
     ensures stands { IfSome result (λ key. stands world.now.births.ports key ≡ true) }
     ensures row { IfSome result (λ key. has_port world.now key ≡ true) }
     ensures unheld { IfSome result (λ key. is_unheld_at world.now key ≡ true) }
@@ -89,6 +90,7 @@ fn thread_life(world: &World, place: usize) -> Life
 /// The oldest thread that no row holds: None exactly where each thread is held.
 pub fn unheld_thread(world: &World) -> Option<Birth>
     ensures none { IfNone result (HasHeldThreads world.now.rows) }
+    ensures oldest { result ≡ oldest_thread world.now.rows }
     ensures row { IfSome result
         (λ b. has (is_born_thread b) world.now.rows.threads ≡ true) }
     ensures unheld { IfSome result (λ b. is_unheld world.now.rows (thread_name b) ≡ true) }
@@ -121,6 +123,7 @@ fn process_life(world: &World, place: usize) -> Life
 /// The oldest process that no row holds: None exactly where each process is held.
 pub fn unheld_process(world: &World) -> Option<Birth>
     ensures none { IfNone result (HasHeldProcesses world.now.rows) }
+    ensures oldest { result ≡ oldest_process world.now.rows }
     ensures row { IfSome result
         (λ b. has (is_born_process b) world.now.rows.processes ≡ true) }
     ensures unheld { IfSome result (λ b. is_unheld world.now.rows (process_name b) ≡ true) }

@@ -1,10 +1,10 @@
-use Rattle.std.proofs.Common.{◌≡◌, ap, sym, ◌∙◌, true, not, arith}
-use Rattle.lpc_base.specs.Rows.{every}
+use Rattle.std.proofs.Common.{◌≡◌, ap, sym, ◌∙◌, true, false, not, option_map, arith}
+use Rattle.lpc_base.specs.Rows.{every, first}
 use Rattle.lpc_model.specs.Found.{port_name}
 use Rattle.lpc_model.specs.Sweep.{is_unheld}
 use Rattle.lpc_model.specs.World.{PortRow}
 use Rattle.lpc_rows.specs.Names.{name_of}
-use Rattle.lpc_sweep.proofs.Places.{drop_all, held_on, row_at_place}
+use Rattle.lpc_sweep.proofs.Places.{drop_all, found_at, held_on, passed_on, row_at_place}
 use Rattle.lpc_sweep.proofs.finding.unheld_port.Goals as goal
 
 pub loop-place-preserved : goal.loop-place-preserved
@@ -12,13 +12,31 @@ loop-place-preserved c =
     let w = c.args.world.now.rows in
     let b = name_of c.args.world.now.births.ports c.port_key-port.result in
     let held : not (is_unheld w (port_name b)) ≡ true = grind (arith, c.is_held.ensures, c.if-not-is_held.false) in
-    sym (held_on (λ (p : PortRow). p.birth) (λ d. not (is_unheld w (port_name d))) w.ports c.loop-place.place b c.port_key-port.ensures.port held) ∙ c.loop-place.invariant
+    let off : is_unheld w (port_name b) ≡ false = grind (arith, c.is_held.ensures, c.if-not-is_held.false) in
+    (
+      sym (held_on (λ (p : PortRow). p.birth) (λ d. not (is_unheld w (port_name d))) w.ports c.loop-place.place b c.port_key-port.ensures.port held) ∙ c.loop-place.invariant.0,
+      sym (passed_on (λ (p : PortRow). p.birth) (λ d. is_unheld w (port_name d)) w.ports c.loop-place.place b c.port_key-port.ensures.port off) ∙ c.loop-place.invariant.1
+    )
 
 pub returns-clause-none : goal.returns-clause-none
 returns-clause-none c =
     let w = c.args.world.now.rows in
-    sym c.loop-place.invariant
+    sym c.loop-place.invariant.0
     ∙ ap (every (λ p. not (is_unheld w (port_name p.birth)))) (drop_all w.ports c.loop-place.place (omega (arith, c.loop-place-test.false, c.port_count-place-end.ensures)))
 
 pub returns-then-not-is_held-clause-row : goal.returns-then-not-is_held-clause-row
 returns-then-not-is_held-clause-row c = row_at_place (λ (p : PortRow). p.birth) c.args.world.now.rows.ports c.loop-place.place (name_of c.args.world.now.births.ports c.port_key-port.result) c.port_key-port.ensures.port
+
+pub returns-clause-oldest : goal.returns-clause-oldest
+returns-clause-oldest c =
+    let w = c.args.world.now.rows in
+    let test = λ (p : PortRow). is_unheld w (port_name p.birth) in
+    let passed = drop_all w.ports c.loop-place.place (omega (arith, c.loop-place-test.false, c.port_count-place-end.ensures)) in
+    sym (ap (option_map (λ (p : PortRow). p.birth)) (sym c.loop-place.invariant.1 ∙ ap (first test) passed))
+
+pub returns-then-not-is_held-clause-oldest : goal.returns-then-not-is_held-clause-oldest
+returns-then-not-is_held-clause-oldest c =
+    let w = c.args.world.now.rows in
+    let b = name_of c.args.world.now.births.ports c.port_key-port.result in
+    let on : is_unheld w (port_name b) ≡ true = grind (arith, c.is_held.ensures, c.if-not-is_held.true) in
+    sym (ap (option_map (λ (p : PortRow). p.birth)) (sym c.loop-place.invariant.1) ∙ found_at (λ (p : PortRow). p.birth) (λ d. is_unheld w (port_name d)) w.ports c.loop-place.place b c.port_key-port.ensures.port on)
