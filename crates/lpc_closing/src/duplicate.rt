@@ -72,6 +72,8 @@ pub fn nt_duplicate_object(
         OnErr result (lacks_handle_room world.old by ≡ true) }
     ensures room_stays { let call = duplicate_object handle access in
         IsErr (service world.old.rows by call) → world.new.room ≡ world.old.room }
+    ensures unasked { let call = duplicate_object handle access in
+        IsErr (service world.old.rows by call) → world.new.capacity ≡ world.old.capacity }
     ensures capacity { let new = world.new.capacity in
         let old = world.old.capacity in
         new ≡ record old { handles = new.handles } }

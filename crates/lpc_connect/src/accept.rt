@@ -190,6 +190,8 @@ pub fn nt_accept_connect_port(
         MayServe by call result world.old world.new out.old out.new }
     ensures room_stays { let call = accept_connect_port context message.now accept in
         IsErr (service world.old.rows by call) → world.new.room ≡ world.old.room }
+    ensures unasked { let call = accept_connect_port context message.now accept in
+        IsErr (service world.old.rows by call) → world.new.capacity ≡ world.old.capacity }
     ensures spare { OnOk result (out.old.spare ≤ out.new.spare + 2) }
     ensures answered { accept ≡ false → IsOk result }
     ensures capacity_stays { accept ≡ false → world.new.capacity ≡ world.old.capacity }

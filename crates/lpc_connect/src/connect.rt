@@ -217,6 +217,8 @@ pub fn nt_connect_port(
         MayServe by call result world.old world.new out.old out.new }
     ensures room_stays { let call = connect_port name.now info.now in
         IsErr (service world.old.rows by call) → world.new.room ≡ world.old.room }
+    ensures unasked { let call = connect_port name.now info.now in
+        IsErr (service world.old.rows by call) → world.new.capacity ≡ world.old.capacity }
     ensures spare { OnOk result (out.old.spare ≤ out.new.spare + 2) }
     ensures wanting { let row = caller world.old.rows by in
         OnErr result (lacks_connect_room world.old row ≡ true) }

@@ -151,6 +151,8 @@ pub fn nt_create_port(
         MayServe by call result world.old world.new out.old out.new }
     ensures room_stays { let call = create_port (option_copied name.entry) in
         IsErr (service world.old.rows by call) → world.new.room ≡ world.old.room }
+    ensures unasked { let call = create_port (option_copied name.entry) in
+        IsErr (service world.old.rows by call) → world.new.capacity ≡ world.old.capacity }
     ensures spare { OnOk result (out.old.spare ≤ out.new.spare + 2) }
     ensures wanting { let named = option_copied name.entry in
         OnErr result (lacks_room_for world.old (caller world.old.rows by) named ≡ true) }

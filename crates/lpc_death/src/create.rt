@@ -74,6 +74,8 @@ pub fn nt_create_process(
         OnErr result (lacks_child_room world.old by ≡ true) }
     ensures room_stays { let call = create_process pid tid in
         IsErr (service world.old.rows by call) → world.new.room ≡ world.old.room }
+    ensures unasked { let call = create_process pid tid in
+        IsErr (service world.old.rows by call) → world.new.capacity ≡ world.old.capacity }
     ensures ports { let new = world.new.capacity in
         let old = world.old.capacity in new.ports ≡ old.ports }
     ensures names { let new = world.new.capacity in
@@ -160,6 +162,8 @@ pub fn nt_create_thread(
         OnErr result (lacks_member_room world.old by ≡ true) }
     ensures room_stays { let call = create_thread process tid in
         IsErr (service world.old.rows by call) → world.new.room ≡ world.old.room }
+    ensures unasked { let call = create_thread process tid in
+        IsErr (service world.old.rows by call) → world.new.capacity ≡ world.old.capacity }
     ensures processes { let new = world.new.capacity in
         let old = world.old.capacity in new.processes ≡ old.processes }
     ensures ports { let new = world.new.capacity in

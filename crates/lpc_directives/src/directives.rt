@@ -49,6 +49,8 @@ pub fn boot(world: &mut World, pid: u32, tid: u32) -> Result<Status, OutOfMemory
     ensures directs { Directs result (boot_line world.old.rows pid tid) world.old world.new }
     ensures room_stays { IsErr (boot_line world.old.rows pid tid) →
         world.new.room ≡ world.old.room }
+    ensures unasked { IsErr (boot_line world.old.rows pid tid) →
+        world.new.capacity ≡ world.old.capacity }
     ensures wanting { OnErr result (lacks_process_room world.old ≡ true) }
     ensures ports { let new = world.new.capacity in
         let old = world.old.capacity in new.ports ≡ old.ports }
@@ -87,6 +89,8 @@ pub fn thread(world: &mut World, tid: u32, pid: u32) -> Result<Status, OutOfMemo
     ensures directs { Directs result (thread_line world.old.rows tid pid) world.old world.new }
     ensures room_stays { IsErr (thread_line world.old.rows tid pid) →
         world.new.room ≡ world.old.room }
+    ensures unasked { IsErr (thread_line world.old.rows tid pid) →
+        world.new.capacity ≡ world.old.capacity }
     ensures wanting { OnErr result (lacks_thread_room world.old ≡ true) }
     ensures capacity { let new = world.new.capacity in
         let old = world.old.capacity in

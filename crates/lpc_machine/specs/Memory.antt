@@ -1,5 +1,5 @@
 -- Which lines may need memory, and which make a call.
-use Rattle.std.specs.Prelude.{◌≡◌, ◌==◌, ◌&&◌, ℕ, Bool, true, false, not, IsOk}
+use Rattle.std.specs.Prelude.{◌≡◌, ◌==◌, ◌&&◌, ℕ, Bool, true, false, not, IsErr, IsOk}
 use Rattle.lpc_connect.specs.Room.{lacks_connect_room, lacks_port_room, lacks_room_for}
 use Rattle.lpc_closing.specs.Calls.{lacks_handle_room}
 use Rattle.lpc_death.specs.Room.{lacks_child_room, lacks_member_room}
@@ -47,10 +47,19 @@ GoesOn w (dir path) = IsOk (dir_line w path)
 GoesOn w (link path target) = IsOk (link_line w path target)
 GoesOn w (run tid call) = (is_ready w tid ≡ true) × IsOk (service_of w (caller w tid) call)
 
+-- the line makes no call, or one that is refused
+abbrev pub Halts : World → ScriptLine → Type 0
+Halts w (boot pid tid) = IsErr (boot_line w pid tid)
+Halts w (thread tid pid) = IsErr (thread_line w tid pid)
+Halts w (dir path) = IsErr (dir_line w path)
+Halts w (link path target) = IsErr (link_line w path target)
+Halts w (run tid call) = is_ready w tid ≡ true → IsErr (service_of w (caller w tid) call)
+
 -- There is no room for what a thread's call makes: a port with its handle, and its name; a client port with its handle
 -- and the message that is to tell that it is closed; a server port with its handle; a message that no thread waits
--- with, or one that is to tell of a thread's end; a further handle; a process with its first thread and a handle to
--- each; a thread with a handle. What the other calls need was reserved when their threads were made.
+-- with; of a port that isn't registered yet, the message that is to tell of a thread's end; a further handle; a process
+-- with its first thread and a handle to each; a thread with a handle. What the other calls need was reserved when their
+-- threads were made.
 abbrev pub lacks_call_room : Kept → ℕ → ScriptCall → Bool
 lacks_call_room w tid (create_port name) = lacks_room_for w (caller w.rows tid) name
 lacks_call_room w tid (connect_port name info) = lacks_connect_room w (caller w.rows tid)

@@ -1,5 +1,5 @@
 // The machine, and one line's step.
-ghost use Rattle.std.specs.Prelude.{◌≡◌, ◌≤◌, ◌<◌, ◌+◌, [], ◌∷◌, ◌++◌, true, false, IsOk, OnOk, OnErr};
+ghost use Rattle.std.specs.Prelude.{◌≡◌, ◌≤◌, ◌<◌, ◌+◌, [], ◌∷◌, ◌++◌, true, false, IsOk, OnOk, OnErr, IsErr};
 ghost use Rattle.lpc_model.specs.World.{no_rows};
 ghost use Rattle.lpc_model.specs.Found as found;
 ghost use Rattle.lpc_model.specs.Found.{live_thread};
@@ -19,8 +19,8 @@ ghost use Rattle.lpc_model.specs.declared.entry.Entry.TheVariants as entry;
 ghost use Rattle.lpc_closing.specs.Closing.{CanClose};
 ghost use Rattle.lpc_death.specs.Ends.{CanEnd};
 ghost use Rattle.lpc_machine.specs.Settled.{IsSettled};
-ghost use Rattle.lpc_machine.specs.Memory.{GoesOn, call_takes_memory, lacks_call_room, lacks_room, makes_call, takes_memory};
-ghost use Rattle.lpc_rows.specs.Called.{MayServe};
+ghost use Rattle.lpc_machine.specs.Memory.{GoesOn, Halts, call_takes_memory, lacks_call_room, lacks_room, makes_call, takes_memory};
+ghost use Rattle.lpc_rows.specs.Called.{MayServe, service};
 ghost use Rattle.lpc_rows.specs.Does.{Took};
 ghost use Rattle.lpc_rows.specs.Capacity.{but_lives, but_names};
 ghost use Rattle.lpc_rows.specs.Kept.{Same};
@@ -93,6 +93,8 @@ fn serve(
     ensures free { call_takes_memory (call_of call.now) ≡ false → IsOk result }
     ensures capacity { call_takes_memory (call_of call.now) ≡ false →
         but_names world.new.capacity ≡ but_names world.old.capacity }
+    ensures unasked { IsErr (service world.old.rows by (call_of call.now)) →
+        but_names world.new.capacity ≡ but_names world.old.capacity }
 {
     match call {
         Call::CreatePort { name } => nt_create_port(world, by, *name, out),
@@ -153,6 +155,8 @@ fn run(world: &mut World, tid: u32, call: &Call<'_>, out: &mut Entries) -> Resul
     ensures free { call_takes_memory (call_of call.now) ≡ false → IsOk result }
     ensures capacity { call_takes_memory (call_of call.now) ≡ false →
         but_names world.new.capacity ≡ but_names world.old.capacity }
+    ensures unasked { Halts world.old.rows (script.run tid (call_of call.now)) →
+        but_names world.new.capacity ≡ but_names world.old.capacity }
 {
     match condition_of(world, tid) {
         Condition::Absent => out.push(Entry::NoThread { tid }),
@@ -184,6 +188,8 @@ fn take(world: &mut World, line: &Line<'_>, out: &mut Entries) -> Result<(), Out
     ensures wanting { OnErr result (lacks_room world.old (line_of line.now) ≡ true) }
     ensures free { takes_memory (line_of line.now) ≡ false → IsOk result }
     ensures capacity { takes_memory (line_of line.now) ≡ false →
+        but_names world.new.capacity ≡ but_names world.old.capacity }
+    ensures unasked { Halts world.old.rows (line_of line.now) →
         but_names world.new.capacity ≡ but_names world.old.capacity }
 {
     match line {
@@ -283,6 +289,8 @@ impl Machine {
         ensures wanting { OnErr result (lacks_room self.old (line_of line.now) ≡ true) }
         ensures free { takes_memory (line_of line.now) ≡ false → IsOk result }
         ensures capacity { takes_memory (line_of line.now) ≡ false →
+            but_lives (but_names self.new.capacity) ≡ but_lives (but_names self.old.capacity) }
+        ensures unasked { Halts self.old.rows (line_of line.now) →
             but_lives (but_names self.new.capacity) ≡ but_lives (but_names self.old.capacity) }
     {
         take(&mut self.world, line, out)?;

@@ -98,6 +98,8 @@ pub fn nt_register_thread_terminate_port(
         MayServe by call result world.old world.new out.old out.new }
     ensures room_stays { let call = register_thread_terminate_port handle in
         IsErr (service world.old.rows by call) → world.new.room ≡ world.old.room }
+    ensures unasked { let call = register_thread_terminate_port handle in
+        IsErr (service world.old.rows by call) → world.new.capacity ≡ world.old.capacity }
     ensures spare { OnOk result (out.new.spare + 1 ≡ out.old.spare) }
     ensures answered { was_registered world.old.rows by handle ≡ true → IsOk result }
     ensures capacity_stays { was_registered world.old.rows by handle ≡ true →

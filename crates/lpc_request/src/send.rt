@@ -144,6 +144,8 @@ pub fn nt_request_port(
         MayServe by call result world.old world.new out.old out.new }
     ensures room_stays { let call = request_port handle message.now in
         IsErr (service world.old.rows by call) → world.new.room ≡ world.old.room }
+    ensures unasked { let call = request_port handle message.now in
+        IsErr (service world.old.rows by call) → world.new.capacity ≡ world.old.capacity }
     ensures spare { OnOk result (out.old.spare ≤ out.new.spare + 2) }
     ensures wanting { OnErr result (world.old.room.messages < 1) }
     ensures capacity { let new = world.new.capacity in

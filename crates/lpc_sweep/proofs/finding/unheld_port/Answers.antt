@@ -12,10 +12,9 @@ loop-place-preserved c =
     let w = c.args.world.now.rows in
     let b = name_of c.args.world.now.births.ports c.port_key-port.result in
     let held : not (is_unheld w (port_name b)) ≡ true = grind (arith, c.is_held.ensures, c.if-not-is_held.false) in
-    let off : is_unheld w (port_name b) ≡ false = grind (arith, c.is_held.ensures, c.if-not-is_held.false) in
-    (
+    let off : is_unheld w (port_name b) ≡ false = grind (arith, c.is_held.ensures, c.if-not-is_held.false) in (
       sym (held_on (λ (p : PortRow). p.birth) (λ d. not (is_unheld w (port_name d))) w.ports c.loop-place.place b c.port_key-port.ensures.port held) ∙ c.loop-place.invariant.0,
-      sym (passed_on (λ (p : PortRow). p.birth) (λ d. is_unheld w (port_name d)) w.ports c.loop-place.place b c.port_key-port.ensures.port off) ∙ c.loop-place.invariant.1
+      sym (passed_on (λ (p : PortRow). p.birth) (λ d. is_unheld w (port_name d)) w.ports c.loop-place.place b c.port_key-port.ensures.port off) ∙ c.loop-place.invariant.1,
     )
 
 pub returns-clause-none : goal.returns-clause-none

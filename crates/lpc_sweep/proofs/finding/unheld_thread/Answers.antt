@@ -11,10 +11,9 @@ loop-place-preserved c =
     let w = c.args.world.now.rows in
     let b = c.thread_life-thread.result.birth in
     let held : not (is_unheld w (thread_name b)) ≡ true = grind (arith, c.is_life_held.ensures, c.if-not-is_life_held.false) in
-    let off : is_unheld w (thread_name b) ≡ false = grind (arith, c.is_life_held.ensures, c.if-not-is_life_held.false) in
-    (
+    let off : is_unheld w (thread_name b) ≡ false = grind (arith, c.is_life_held.ensures, c.if-not-is_life_held.false) in (
       sym (held_on (λ (x : ThreadRow). x.birth) (λ d. not (is_unheld w (thread_name d))) w.threads c.loop-place.place b c.thread_life-thread.ensures.birth held) ∙ c.loop-place.invariant.0,
-      sym (passed_on (λ (x : ThreadRow). x.birth) (λ d. is_unheld w (thread_name d)) w.threads c.loop-place.place b c.thread_life-thread.ensures.birth off) ∙ c.loop-place.invariant.1
+      sym (passed_on (λ (x : ThreadRow). x.birth) (λ d. is_unheld w (thread_name d)) w.threads c.loop-place.place b c.thread_life-thread.ensures.birth off) ∙ c.loop-place.invariant.1,
     )
 
 pub returns-clause-none : goal.returns-clause-none
