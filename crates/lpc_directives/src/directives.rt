@@ -120,6 +120,10 @@ pub fn thread(world: &mut World, tid: u32, pid: u32) -> Result<Status, OutOfMemo
 pub fn directory(world: &mut World, path: &[u8]) -> Result<Status, OutOfMemory>
     requires calls { world.old.calls < LINES_LIMIT }
     ensures directs { Directs result (dir_line world.old.rows path.now) world.old world.new }
+    ensures room_stays { IsErr (dir_line world.old.rows path.now) →
+        world.new.room ≡ world.old.room }
+    ensures unasked { IsErr (dir_line world.old.rows path.now) →
+        world.new.capacity ≡ world.old.capacity }
     ensures wanting { OnErr result (lacks_name_room world.old ≡ true) }
     ensures births { world.new.births ≡ world.old.births }
     ensures capacity { but_names world.new.capacity ≡ but_names world.old.capacity }
@@ -139,6 +143,10 @@ pub fn link(world: &mut World, path: &[u8], target: &[u8]) -> Result<Status, Out
     requires calls { world.old.calls < LINES_LIMIT }
     ensures directs { Directs result
         (link_line world.old.rows path.now target.now) world.old world.new }
+    ensures room_stays { IsErr (link_line world.old.rows path.now target.now) →
+        world.new.room ≡ world.old.room }
+    ensures unasked { IsErr (link_line world.old.rows path.now target.now) →
+        world.new.capacity ≡ world.old.capacity }
     ensures wanting { OnErr result (lacks_name_room world.old ≡ true) }
     ensures births { world.new.births ≡ world.old.births }
     ensures capacity { but_names world.new.capacity ≡ but_names world.old.capacity }

@@ -143,6 +143,7 @@ impl Ports {
     pub fn add(&mut self, kind: PortKind, birth: Birth, connection: Option<Key>) -> Key
         requires room { 0 < self.old.port_room }
         requires few { self.old.ports_made < 2 ^ 64 - 1 }
+        ensures generation { result.generation ≡ self.old.ports_made + 1 }
         ensures vacant { first (at_key result) self.old.ports ≡ None }
         ensures table { self.new ≡ with_port self.old result (new_port kind birth connection) }
     {
@@ -275,6 +276,7 @@ impl Ports {
         requires room { 0 < self.old.message_room }
         requires few { self.old.messages_made < 2 ^ 64 - 1 }
         requires bound { length bytes.now ≤ MESSAGE_LIMIT }
+        ensures generation { result.generation ≡ self.old.messages_made + 1 }
         ensures vacant { first (at_key result) self.old.messages ≡ None }
         ensures table { self.new
             ≡ with_sent self.old result (queued queue sender context bytes.now) }

@@ -1,12 +1,12 @@
 -- A name more: the table's binding is the definitions' over the rows that it stands for.
-use Rattle.std.proofs.Common.{◌≡◌, ℕ, List, [], ◌∷◌, ◌++◌, true, map, Result, Ok, Err, IsOk, OnOk, IfErr, refl, ap, sym, subst, ◌∙◌}
+use Rattle.std.proofs.Common.{◌≡◌, ℕ, List, [], ◌∷◌, ◌++◌, true, map, Result, Ok, Err, IsErr, IsOk, OnOk, IfErr, refl, ap, sym, subst, ◌∙◌}
 use Rattle.lpc_base.specs.Rows.{every}
 use Rattle.lpc_base.proofs.RowWords.{every-push}
 use Rattle.lpc_base.proofs.RowMaps.{push-map}
 use Rattle.lpc_model.specs.World.{World}
 use Rattle.lpc_model.specs.Named.{free_name, as_status}
 use Rattle.lpc_names.specs.Faults.{status_of}
-use Rattle.lpc_names.specs.Binding.{NameSpace, Refuses, bound, linked, with_node, with_link as with_link_bound}
+use Rattle.lpc_names.specs.Binding.{Leaves, NameSpace, Refuses, bound, linked, with_node, with_link as with_link_bound}
 use Rattle.lpc_names.specs.declared.fault.BindFault.{BindFault}
 use Rattle.lpc_names.specs.declared.fault.BindFault.TheVariants.{Name, OutOfMemory}
 use Rattle.lpc_names.specs.declared.fault.NameFault.{NameFault}
@@ -128,6 +128,13 @@ spaced_lawful it calls made space is named = record {
   promised = is.promised;
 }
 
+-- where a name is refused, the name space stays as it is
+same_refused : {X : Type 0} (old new : NameSpace Key) (given : X) (answer : Result X NameFault) (r : Result Unit BindFault) → OnOk r (answer ≡ Ok given) → IfErr r (λ fault. Refuses fault answer) → IfErr r (λ fault. Leaves fault old new) → IsErr answer → new ≡ old
+same_refused old new given (Ok x) r is_bound refused left err = absurd (cc)
+same_refused old new given (Err x) (Ok u) is_bound refused left err = absurd (cc)
+same_refused old new given (Err x) (Err (Name fault)) is_bound refused left err = left
+same_refused old new given (Err x) (Err OutOfMemory) is_bound refused left err = absurd (cc)
+
 -- What the calls on names answer
 module _ (it : Tables) (is : AreNamed (births_of it.ports) it) (space : NameSpace Key) (text : List ℕ) where
   abbrev m : Births
@@ -148,6 +155,12 @@ module _ (it : Tables) (is : AreNamed (births_of it.ports) it) (space : NameSpac
   pub refused_link_clause : (target : List ℕ) (r : Result Unit BindFault) → IfErr r (λ fault. Refuses fault (with_link_bound it.space.bindings text target)) → IfErr r (λ fault. Refuses fault (with_link (shown_by m it) text target))
   refused_link_clause target (Ok u) h = tt
   refused_link_clause target (Err fault) h = refuses_link it is fault text target h
+
+  pub kept_clause : (node : Node Key) (r : Result Unit BindFault) → OnOk r (bound it.space.bindings text node ≡ Ok space.bindings) → IfErr r (λ fault. Refuses fault (bound it.space.bindings text node)) → IfErr r (λ fault. Leaves fault it.space space) → IsErr (with_name (shown_by m it) text (shown_node (birth_of m) node)) → space ≡ it.space
+  kept_clause node r is_bound refused left err = same_refused it.space space (shown_by m (record it { space = space })) (with_name (shown_by m it) text (shown_node (birth_of m) node)) r (bound_clause node r is_bound) (refused_clause node r refused) left err
+
+  pub kept_link_clause : (target : List ℕ) (r : Result Unit BindFault) → OnOk r (with_link_bound it.space.bindings text target ≡ Ok space.bindings) → IfErr r (λ fault. Refuses fault (with_link_bound it.space.bindings text target)) → IfErr r (λ fault. Leaves fault it.space space) → IsErr (with_link (shown_by m it) text target) → space ≡ it.space
+  kept_link_clause target r is_bound refused left err = same_refused it.space space (shown_by m (record it { space = space })) (with_link (shown_by m it) text target) r (link_clause target r is_bound) (refused_link_clause target r refused) left err
 
 -- what the test of a name says
 fault_by : {X : Type 0} (r : Result X NameFault) (fault : NameFault) → r ≡ Err fault → as_status r ≡ Err (status_of fault)

@@ -1,5 +1,5 @@
 -- How much memory the world's tables have.
-use Rattle.std.specs.Prelude.{◌≡◌, ℕ, ◌+◌, ◌==◌, Bool, false, List, length, map, max, min, Option, Some, None}
+use Rattle.std.specs.Prelude.{◌≡◌, ℕ, ◌+◌, ◌==◌, Bool, false, List, [], length, map, max, min, Option, Some, None}
 use Rattle.lpc_base.specs.Rows.{first}
 use Rattle.lpc_homes.specs.declared.parts.Part.{Part}
 use Rattle.lpc_rows.specs.Shown.{Tables}
@@ -20,6 +20,10 @@ pub record Capacity : Type 0 where
   pub ports : ℕ
   pub names : ℕ
   pub handles : List HandlePlaces
+
+-- no memory
+abbrev pub no_capacity : Capacity
+no_capacity = record { processes = 0; threads = 0; waits = 0; messages = 0; ports = 0; names = 0; handles = [] }
 
 -- the places for handles of a process
 abbrev pub places_of_part : Part → HandlePlaces

@@ -17,8 +17,8 @@ ghost use Rattle.lpc_procs.specs.Procs.{IsNumber, most_rows};
 ghost use Rattle.lpc_rows.specs.Names.{KeepsNames, name_of, some_stands, stands};
 ghost use Rattle.lpc_rows.specs.Shown.{object_stands};
 ghost use Rattle.lpc_rows.specs.Lawful.{can_begin, drew, is_quiet};
-ghost use Rattle.lpc_rows.specs.Capacity.{KeepsOtherPlaces, handle_places, no_places};
-ghost use Rattle.lpc_rows.specs.Kept.{CanMake, HasWholeBudget, IsMakingStep, IsStep, KeepsOtherRoom, Roomy, Same, StaysReady, StaysUnqueued, grown_handles, grown_messages, grown_ports, grown_processes, grown_threads, grown_waits, handle_room, has_queued, is_unsent, owed_handles, owed_messages, owed_waits, process_rows};
+ghost use Rattle.lpc_rows.specs.Capacity.{KeepsOtherPlaces, but_names, handle_places, no_capacity, no_places};
+ghost use Rattle.lpc_rows.specs.Kept.{CanMake, HasWholeBudget, IsMakingStep, IsStep, KeepsOtherRoom, Roomy, Same, StaysReady, StaysUnqueued, grown_handles, grown_messages, grown_ports, grown_processes, grown_threads, grown_waits, handle_room, has_queued, is_unsent, owed_handles, owed_messages, owed_rows, owed_waits, process_rows};
 ghost use Rattle.lpc_rows.specs.Ready.{IsWait};
 ghost use Rattle.lpc_rows.specs.OwedClosings.{closing_places, is_owed};
 ghost use Rattle.lpc_base.specs.declared.limits.TheConstants.{HANDLE_LIMIT, HEADER_SIZE, LINES_LIMIT, MESSAGE_LIMIT};
@@ -85,6 +85,7 @@ impl World {
         ensures calls { result.calls ≡ 0 }
         ensures made { result.made ≡ 0 }
         ensures loose { result.loose ≡ false }
+        ensures capacity { but_names result.capacity ≡ no_capacity }
     {
         World {
             procs: Procs::new(alloc),
@@ -383,6 +384,8 @@ impl World {
         ensures calls { self.new.calls ≡ self.old.calls }
         ensures loose { self.new.loose ≡ self.old.loose }
         ensures made { self.new.made ≤ self.old.made + 1 }
+        ensures counted { self.new.made + owed_rows self.old.rows
+            ≡ self.old.made + owed_rows self.new.rows }
         ensures same { OnErr result (self.new ≡ self.old) }
         ensures places { handle_room self.old.room pid ≤ handle_room self.new.room pid + 1 }
         ensures capacity { self.new.capacity ≡ self.old.capacity }
@@ -413,6 +416,8 @@ impl World {
             new ≡ record self.old.capacity { processes = new.processes; threads = new.threads } }
         ensures enough { let new = self.new.capacity in let old = self.old.capacity in
             processes ≤ self.old.room.processes → new.processes ≡ old.processes }
+        ensures enough_threads { let new = self.new.capacity in let old = self.old.capacity in
+            threads ≤ self.old.room.threads → new.threads ≡ old.threads }
         ensures asked_processes { let new = self.new.capacity in
             new.processes ≤ grown_processes self.old processes }
         ensures asked_threads { let new = self.new.capacity in
@@ -437,6 +442,7 @@ impl World {
         ensures capacity { let new = self.new.capacity in
             new ≡ record self.old.capacity { ports = new.ports } }
         ensures asked { let new = self.new.capacity in new.ports ≤ grown_ports self.old more }
+        ensures enough { more ≤ self.old.room.ports → self.new.capacity ≡ self.old.capacity }
     {
         self.ports.reserve(more, 0)
     }
@@ -474,6 +480,7 @@ impl World {
         ensures capacity { let new = self.new.capacity in
             new ≡ record self.old.capacity { messages = new.messages } }
         ensures asked { let new = self.new.capacity in new.messages ≤ grown_messages self.old more }
+        ensures enough { more ≤ self.old.room.messages → self.new.capacity ≡ self.old.capacity }
     {
         let wanted = self.owed_messages() + more as usize;
         self.ports.reserve(0, wanted)
@@ -494,6 +501,7 @@ impl World {
         ensures capacity { let new = self.new.capacity in
             new ≡ record self.old.capacity { waits = new.waits } }
         ensures asked { let new = self.new.capacity in new.waits ≤ grown_waits self.old more }
+        ensures enough { more ≤ self.old.room.waits → self.new.capacity ≡ self.old.capacity }
     {
         let wanted = self.owed_waits() + more as usize;
         self.waits.reserve(wanted)
@@ -518,6 +526,8 @@ impl World {
         ensures capacity { let new = self.new.capacity in
             new ≡ record self.old.capacity { handles = new.handles } }
         ensures asked { handle_places self.new.capacity pid ≤ grown_handles self.old pid more }
+        ensures enough { HasHandlePlaces self.old pid more →
+            handle_places self.new.capacity pid ≡ handle_places self.old.capacity pid }
         ensures other_places { KeepsOtherPlaces pid self.old.capacity self.new.capacity }
     {
         let places = self.waits.connects_of(pid) + more as usize;

@@ -2,7 +2,7 @@
 ghost use Rattle.std.specs.Prelude.{◌≡◌, ◌+◌, ◌≤◌, true, false};
 ghost use Rattle.lpc_base.specs.Rows.{has};
 ghost use Rattle.lpc_model.specs.Found.{free_handle, is_connect, waits_as};
-ghost use Rattle.lpc_rows.specs.Kept.{CanMake, has_queued};
+ghost use Rattle.lpc_rows.specs.Kept.{CanMake, has_queued, owed_rows};
 ghost use Rattle.lpc_rows.specs.Ready.{waiter};
 ghost use Rattle.lpc_rows.specs.Shown.{object_stands};
 ghost use Rattle.lpc_rows.specs.Clauses.{finished};
@@ -26,6 +26,8 @@ impl World {
         ensures calls { self.new.calls ≡ self.old.calls }
         ensures loose { self.new.loose ≡ true }
         ensures made { self.new.made ≤ self.old.made + 1 }
+        ensures counted { self.new.made + owed_rows self.old.rows
+            ≡ self.old.made + owed_rows self.new.rows }
         ensures capacity { self.new.capacity ≡ self.old.capacity }
     {
         let wait = self.waiting(tid);

@@ -4,7 +4,7 @@ ghost use Rattle.lpc_base.specs.Rows.{first, has};
 ghost use Rattle.lpc_model.specs.Basics.{Registers, Unregisters};
 ghost use Rattle.lpc_model.specs.Found.{is_live_thread, is_thread, lives_in, waits_as};
 ghost use Rattle.lpc_rows.specs.Clauses.{Finds, after, and_message, birth_at};
-ghost use Rattle.lpc_rows.specs.Kept.{CanMake, IsStep, Roomy};
+ghost use Rattle.lpc_rows.specs.Kept.{CanMake, IsStep, Roomy, owed_rows};
 ghost use Rattle.lpc_rows.specs.Lawful.{are_single_threads};
 ghost use Rattle.lpc_rows.specs.Names.{stands};
 ghost use Rattle.lpc_rows.specs.Registered as registered;
@@ -47,6 +47,8 @@ impl World {
         ensures calls { self.new.calls ≡ self.old.calls }
         ensures loose { self.new.loose ≡ true }
         ensures made { self.new.made + 1 ≤ self.old.made }
+        ensures counted { self.new.made + owed_rows self.old.rows
+            ≡ self.old.made + owed_rows self.new.rows }
         ensures budget { CanMake self.new }
         ensures room { Roomy self.old.room self.new.room }
         ensures place { 0 < self.new.room.messages }

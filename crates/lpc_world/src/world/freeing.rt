@@ -1,10 +1,10 @@
 // What names a port in the tables, and the rows that go. The sweep, which stands above, lets them go.
-ghost use Rattle.std.specs.Prelude.{◌≡◌, ◌≤◌, true, false};
+ghost use Rattle.std.specs.Prelude.{◌≡◌, ◌+◌, ◌≤◌, true, false};
 ghost use Rattle.lpc_model.specs.Basics.{Frees};
 ghost use Rattle.lpc_model.specs.Found.{port_name, process_name, thread_name};
 ghost use Rattle.lpc_rows.specs.Held as held;
 ghost use Rattle.lpc_rows.specs.Held.{has_holders};
-ghost use Rattle.lpc_rows.specs.Kept.{GainsNoLives, Roomy};
+ghost use Rattle.lpc_rows.specs.Kept.{GainsNoLives, Roomy, owed_rows};
 ghost use Rattle.lpc_rows.specs.Names.{KeepsOthers, stands};
 ghost use Rattle.lpc_rows.specs.Clauses.{after, birth_at};
 
@@ -65,8 +65,11 @@ impl World {
     pub fn threads_free(&mut self, birth: Birth)
         requires ended { has_holders self.old.rows (thread_name birth) ≡ false }
         ensures rows { self.new.rows ≡ after self.old (Frees (thread_name birth)) }
+        ensures births { self.new.births ≡ self.old.births }
         ensures calls { self.new.calls ≡ self.old.calls }
         ensures made { self.new.made ≤ self.old.made }
+        ensures counted { self.new.made + owed_rows self.old.rows
+            ≡ self.old.made + owed_rows self.new.rows }
         ensures loose { self.new.loose ≡ true }
         ensures room { Roomy self.old.room self.new.room }
         ensures capacity { let new = self.new.capacity in
@@ -81,8 +84,11 @@ impl World {
     pub fn processes_free(&mut self, birth: Birth)
         requires empty { has_holders self.old.rows (process_name birth) ≡ false }
         ensures rows { self.new.rows ≡ after self.old (Frees (process_name birth)) }
+        ensures births { self.new.births ≡ self.old.births }
         ensures calls { self.new.calls ≡ self.old.calls }
         ensures made { self.new.made ≤ self.old.made }
+        ensures counted { self.new.made + owed_rows self.old.rows
+            ≡ self.old.made + owed_rows self.new.rows }
         ensures loose { self.new.loose ≡ true }
         ensures room { Roomy self.old.room self.new.room }
         ensures capacity { let new = self.new.capacity in
@@ -102,6 +108,8 @@ impl World {
         ensures others { KeepsOthers port self.old.births.ports self.new.births.ports }
         ensures calls { self.new.calls ≡ self.old.calls }
         ensures made { self.new.made ≤ self.old.made }
+        ensures counted { self.new.made + owed_rows self.old.rows
+            ≡ self.old.made + owed_rows self.new.rows }
         ensures loose { self.new.loose ≡ true }
         ensures room { Roomy self.old.room self.new.room }
         ensures capacity { self.new.capacity ≡ self.old.capacity }

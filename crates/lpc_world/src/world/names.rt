@@ -1,5 +1,5 @@
 // The name space: what its calls bind, and why they don't.
-ghost use Rattle.std.specs.Prelude.{◌≡◌, ◌≢◌, ◌+◌, ◌<◌, ◌≤◌, Ok, Err, IfErr, IsOk, OnErr, OnOk, true};
+ghost use Rattle.std.specs.Prelude.{◌≡◌, ◌≢◌, ◌+◌, ◌<◌, ◌≤◌, Ok, Err, IfErr, IsErr, IsOk, OnErr, OnOk, true};
 ghost use Rattle.lpc_model.specs.Named.{free_name};
 ghost use Rattle.lpc_rows.specs.Bound.{with_link};
 ghost use Rattle.lpc_rows.specs.Capacity.{but_names};
@@ -32,6 +32,7 @@ impl World {
         requires stands { stands self.old.births.ports port ≡ true }
         ensures bound { OnOk result (with_port_name self.old path.now port ≡ Ok self.new.rows) }
         ensures refused { RefusedAs result (with_port_name self.old path.now port) }
+        ensures kept { IsErr (with_port_name self.old path.now port) → self.new ≡ self.old }
         ensures same { OnErr result (Same self.old self.new) }
         ensures births { self.new.births ≡ self.old.births }
         ensures calls { self.new.calls ≡ self.old.calls }
@@ -48,6 +49,7 @@ impl World {
     pub fn names_add_directory(&mut self, path: &[u8]) -> Result<(), BindFault>
         ensures bound { OnOk result (with_directory self.old.rows path.now ≡ Ok self.new.rows) }
         ensures refused { RefusedAs result (with_directory self.old.rows path.now) }
+        ensures kept { IsErr (with_directory self.old.rows path.now) → self.new ≡ self.old }
         ensures same { OnErr result (Same self.old self.new) }
         ensures births { self.new.births ≡ self.old.births }
         ensures calls { self.new.calls ≡ self.old.calls }
@@ -66,6 +68,7 @@ impl World {
         ensures bound { OnOk result
             (with_link self.old.rows path.now target.now ≡ Ok self.new.rows) }
         ensures refused { RefusedAs result (with_link self.old.rows path.now target.now) }
+        ensures kept { IsErr (with_link self.old.rows path.now target.now) → self.new ≡ self.old }
         ensures same { OnErr result (Same self.old self.new) }
         ensures births { self.new.births ≡ self.old.births }
         ensures calls { self.new.calls ≡ self.old.calls }

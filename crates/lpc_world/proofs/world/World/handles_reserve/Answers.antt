@@ -73,3 +73,12 @@ returns-clause-other_places c =
     let spare = tables.roomed_others (tables_of c.self.inside.procs c.self.inside.parts.items c.self.inside.ports c.self.inside.waits c.self.inside.names) c.self.inside.calls c.self.inside.made c.self.invariant c.args.pid c.reserve_handles.new.parts.items c.reserve_handles.ensures.parts other off in
     let rows = capacities.roomed_number (tables_of c.self.inside.procs c.self.inside.parts.items c.self.inside.ports c.self.inside.waits c.self.inside.names) c.self.inside.calls c.self.inside.made c.self.invariant c.args.pid c.reserve_handles.new.parts.items c.reserve_handles.ensures.parts c.reserve_handles.ensures.spare other in
     rw (capacities.places_at c.reserve_handles.new.parts.items other, capacities.places_at c.self.inside.parts.items other) (omega (arith, spare, rows)))
+
+pub returns-clause-enough : goal.returns-clause-enough
+returns-clause-enough c =
+    let own = tables.promised_are (tables_of c.self.inside.procs c.self.inside.parts.items c.self.inside.ports c.self.inside.waits c.self.inside.names) c.self.inside.calls c.self.inside.made c.self.invariant c.args.pid in
+    let left = capacities.roomed_number (tables_of c.self.inside.procs c.self.inside.parts.items c.self.inside.ports c.self.inside.waits c.self.inside.names) c.self.inside.calls c.self.inside.made c.self.invariant c.args.pid c.reserve_handles.new.parts.items c.reserve_handles.ensures.parts c.reserve_handles.ensures.spare c.args.pid in
+    λ some.
+    let there = rw (← c.self.view_is, tables.room_at c.self.inside.parts.items c.args.pid, own, ← c.connects_of.ensures) at some in
+    let spare = c.reserve_handles.ensures.enough there in
+    rw (← c.self.view_is, capacities.places_at c.reserve_handles.new.parts.items c.args.pid, capacities.places_at c.self.inside.parts.items c.args.pid) (omega (arith, left, spare))

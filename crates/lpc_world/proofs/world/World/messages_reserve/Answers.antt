@@ -35,3 +35,12 @@ returns-clause-most c =
     let owed = rw (← c.self.view_is) at c.owed_messages.ensures.owed in
     let rows = length-map c.self.inside.ports.messages (shown_message (birth_of (births_of c.self.inside.ports))) in
     rw (← c.self.view_is, c.reserve.ensures.kept) (omega (arith, rows, owed, c.reserve.ensures.most_messages))
+
+pub returns-clause-enough : goal.returns-clause-enough
+returns-clause-enough c =
+    λ some.
+    let there = rw (← c.self.view_is) at some in
+    let owed = rw (← c.self.view_is) at c.owed_messages.ensures.owed in
+    let ports = c.reserve.ensures.enough_ports (omega arith) in
+    let messages = c.reserve.ensures.enough_messages (omega (arith, there, owed, c.self.invariant.lawful.messages_fit)) in
+    rw (← c.self.view_is, c.reserve.ensures.kept, ports, messages) refl

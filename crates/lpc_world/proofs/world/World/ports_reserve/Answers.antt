@@ -28,3 +28,11 @@ pub returns-clause-others : goal.returns-clause-others
 returns-clause-others c =
     let same = c.reserve.ensures.enough_messages (omega arith) in
     rw (← c.self.view_is, c.reserve.ensures.kept, same) refl
+
+pub returns-clause-enough : goal.returns-clause-enough
+returns-clause-enough c =
+    λ some.
+    let there = rw (← c.self.view_is) at some in
+    let messages = c.reserve.ensures.enough_messages (omega arith) in
+    let ports = c.reserve.ensures.enough_ports there in
+    rw (← c.self.view_is, c.reserve.ensures.kept, messages, ports) refl
