@@ -23,7 +23,7 @@ ghost use Rattle.lpc_machine.specs.Memory.{GoesOn, Halts, call_takes_memory, lac
 ghost use Rattle.lpc_rows.specs.Called.{MayServe, service};
 ghost use Rattle.lpc_rows.specs.Does.{Took};
 ghost use Rattle.lpc_rows.specs.Capacity.{but_lives, but_names};
-ghost use Rattle.lpc_rows.specs.Kept.{Same};
+ghost use Rattle.lpc_rows.specs.Kept.{Same, grown_messages, grown_ports, grown_waits};
 ghost use Rattle.lpc_rows.specs.Ready as ready;
 ghost use Rattle.lpc_rows.specs.Ready.{HasRoom, is_ready};
 
@@ -76,6 +76,7 @@ fn tell(word: Word, status: Status, out: &mut Entries)
 }
 
 /// A call of a thread that can make it.
+#[tactic(auto, using(crate::proofs::Asked::ports_within, crate::proofs::Asked::messages_within, crate::proofs::Asked::waits_within))]
 fn serve(
     world: &mut World,
     by: u32,
@@ -95,6 +96,10 @@ fn serve(
         but_names world.new.capacity ≡ but_names world.old.capacity }
     ensures unasked { IsErr (service world.old.rows by (call_of call.now)) →
         but_names world.new.capacity ≡ but_names world.old.capacity }
+    ensures asked_ports { let new = world.new.capacity in new.ports ≤ grown_ports world.old 1 }
+    ensures asked_messages { let new = world.new.capacity in
+        new.messages ≤ grown_messages world.old 1 }
+    ensures asked_waits { let new = world.new.capacity in new.waits ≤ grown_waits world.old 1 }
 {
     match call {
         Call::CreatePort { name } => nt_create_port(world, by, *name, out),
@@ -136,6 +141,7 @@ fn serve(
 }
 
 /// A call of a thread, which makes it where it lives and doesn't wait.
+#[tactic(auto, using(crate::proofs::Asked::ports_within, crate::proofs::Asked::messages_within, crate::proofs::Asked::waits_within))]
 fn run(world: &mut World, tid: u32, call: &Call<'_>, out: &mut Entries) -> Result<(), OutOfMemory>
     requires room { HasRoom world.old out.old }
     requires calls { world.old.calls < LINES_LIMIT }
@@ -157,6 +163,10 @@ fn run(world: &mut World, tid: u32, call: &Call<'_>, out: &mut Entries) -> Resul
         but_names world.new.capacity ≡ but_names world.old.capacity }
     ensures unasked { Halts world.old.rows (script.run tid (call_of call.now)) →
         but_names world.new.capacity ≡ but_names world.old.capacity }
+    ensures asked_ports { let new = world.new.capacity in new.ports ≤ grown_ports world.old 1 }
+    ensures asked_messages { let new = world.new.capacity in
+        new.messages ≤ grown_messages world.old 1 }
+    ensures asked_waits { let new = world.new.capacity in new.waits ≤ grown_waits world.old 1 }
 {
     match condition_of(world, tid) {
         Condition::Absent => out.push(Entry::NoThread { tid }),
@@ -169,7 +179,7 @@ fn run(world: &mut World, tid: u32, call: &Call<'_>, out: &mut Entries) -> Resul
 }
 
 /// What a line does on the world alone, before rows go.
-#[tactic(auto, unfolding(lpc_model::specs::Machine::bare_steps))]
+#[tactic(auto, unfolding(lpc_model::specs::Machine::bare_steps), using(crate::proofs::Asked::ports_within, crate::proofs::Asked::messages_within, crate::proofs::Asked::waits_within))]
 fn take(world: &mut World, line: &Line<'_>, out: &mut Entries) -> Result<(), OutOfMemory>
     requires empty { out.old.list ≡ [] }
     requires room { HasRoom world.old out.old }
@@ -191,6 +201,10 @@ fn take(world: &mut World, line: &Line<'_>, out: &mut Entries) -> Result<(), Out
         but_names world.new.capacity ≡ but_names world.old.capacity }
     ensures unasked { Halts world.old.rows (line_of line.now) →
         but_names world.new.capacity ≡ but_names world.old.capacity }
+    ensures asked_ports { let new = world.new.capacity in new.ports ≤ grown_ports world.old 1 }
+    ensures asked_messages { let new = world.new.capacity in
+        new.messages ≤ grown_messages world.old 1 }
+    ensures asked_waits { let new = world.new.capacity in new.waits ≤ grown_waits world.old 1 }
 {
     match line {
         Line::Boot { pid, tid } => {
@@ -259,8 +273,9 @@ impl Machine {
     /// After want of memory nothing has changed but the room. Only directives, `NtCreatePort`, `NtConnectPort`,
     /// `NtAcceptConnectPort` to accept, `NtRequestPort`, `NtRegisterThreadTerminatePort`, `NtDuplicateObject`,
     /// `NtCreateProcess` and `NtCreateThread` take memory, only where they aren't refused, and they want for it only
-    /// where the room for what they make wasn't there; every other line is answered. A directive, and a call of a
-    /// thread that lives and doesn't wait, counts as a call, refused or not.
+    /// where the room for what they make wasn't there; every other line is answered. Of ports, messages and waits none
+    /// asks for more than one row. A directive, and a call of a thread that lives and doesn't wait, counts as a call,
+    /// refused or not.
     pub fn step(&mut self, line: &Line<'_>, out: &mut Entries) -> Result<(), OutOfMemory>
         requires empty { out.old.list ≡ [] }
         requires room { HasRoom self.old out.old }
@@ -292,6 +307,10 @@ impl Machine {
             but_lives (but_names self.new.capacity) ≡ but_lives (but_names self.old.capacity) }
         ensures unasked { Halts self.old.rows (line_of line.now) →
             but_lives (but_names self.new.capacity) ≡ but_lives (but_names self.old.capacity) }
+        ensures asked_ports { let new = self.new.capacity in new.ports ≤ grown_ports self.old 1 }
+        ensures asked_messages { let new = self.new.capacity in
+            new.messages ≤ grown_messages self.old 1 }
+        ensures asked_waits { let new = self.new.capacity in new.waits ≤ grown_waits self.old 1 }
     {
         take(&mut self.world, line, out)?;
         sweep(&mut self.world);
