@@ -17,7 +17,7 @@ ghost use Rattle.lpc_rows.specs.Names.{stands};
 ghost use Rattle.lpc_rows.specs.Ready.{HasRoom, is_ready};
 ghost use Rattle.lpc_rows.specs.Shown.{object_stands};
 
-use crate::messages::telling;
+use crate::messages::birth_message;
 use lpc_base::status::SUCCESS;
 use lpc_handles::Row;
 use lpc_message::kind;
@@ -30,7 +30,7 @@ use lpc_world::{Object, World};
 fn closed_message(closed: &Closed) -> Message
     ensures { result ≡ model.closed_message (creator_of closed.now) closed.now.birth }
 {
-    telling(
+    birth_message(
         kind::PORT_CLOSED,
         closed.client,
         closed.message_id,

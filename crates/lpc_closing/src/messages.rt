@@ -21,7 +21,7 @@ fn birth_data(birth: Birth) -> [u8; 8]
 }
 
 /// A message of a type, in the name of a client and with an identifier, whose data name an object by its birth.
-pub fn telling(kind: u16, client: ClientId, message_id: u32, birth: Birth) -> Message
+pub fn birth_message(kind: u16, client: ClientId, message_id: u32, birth: Birth) -> Message
     ensures { result ≡ made kind client message_id (birth_bytes birth) }
 {
     let data = birth_data(birth);

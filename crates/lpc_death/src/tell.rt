@@ -7,7 +7,7 @@ ghost use Rattle.lpc_rows.specs.Does.{Took};
 ghost use Rattle.lpc_rows.specs.Names.{stands};
 ghost use Rattle.lpc_rows.specs.Registered.{death_shown, has_registered};
 
-use lpc_closing::telling;
+use lpc_closing::birth_message;
 use lpc_message::kind;
 use lpc_model::{Entries, Message};
 use lpc_rows::Death;
@@ -18,7 +18,7 @@ use lpc_world::World;
 fn died_message(death: &Death) -> Message
     ensures { result ≡ untold_message (death_shown death.now) }
 {
-    telling(kind::CLIENT_DIED, death.client, 0, death.birth)
+    birth_message(kind::CLIENT_DIED, death.client, 0, death.birth)
 }
 
 /// That a thread has ended is posted on a port that it registered, where that is open and has a way. The registration

@@ -273,9 +273,11 @@ impl Machine {
     /// After want of memory nothing has changed but the room. Only directives, `NtCreatePort`, `NtConnectPort`,
     /// `NtAcceptConnectPort` to accept, `NtRequestPort`, `NtRegisterThreadTerminatePort`, `NtDuplicateObject`,
     /// `NtCreateProcess` and `NtCreateThread` take memory, only where they aren't refused, and they want for it only
-    /// where the room for what they make wasn't there; every other line is answered. Of ports, messages and waits no line
-    /// leaves more memory than there was, than one row more needs with what is owed, or than twice the rows do. A
-    /// directive, and a call of a thread that lives and doesn't wait, counts as a call, refused or not.
+    /// where the room for what they make wasn't there; every other line is answered. Of ports, messages and waits no
+    /// line leaves more memory than there was, than the rows before it need with one more and what was owed, or than
+    /// twice these rows do; how far that of processes, threads and handles may grow is said of each call alone, and of
+    /// names nowhere. A directive, and a call of a thread that lives and doesn't wait, counts as a call, refused or
+    /// not.
     pub fn step(&mut self, line: &Line<'_>, out: &mut Entries) -> Result<(), OutOfMemory>
         requires empty { out.old.list ≡ [] }
         requires room { HasRoom self.old out.old }

@@ -10,8 +10,8 @@ pub record HandlePlaces : Type 0 where
   pub places : ℕ
 
 -- How many rows each table has memory for, be they there or not: only a table that asks for memory has more of them. Of
--- processes and threads it is the numbers ever used, which stay used, and the room for more: a row that goes may leave a
--- place, so that there is room for one more then.
+-- processes and threads it is the numbers ever used, which stay used, and the room for more: a row that goes may leave
+-- a place, so that there is room for one more then.
 pub record Capacity : Type 0 where
   pub processes : ℕ
   pub threads : ℕ

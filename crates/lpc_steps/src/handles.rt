@@ -107,8 +107,8 @@ fn handle_load(world: &World, pid: u32) -> usize
     world.handles(pid).count() + world.waits().connects_of(pid)
 }
 
-/// The process may have so many more handles, of which there are at most 256; QUOTA_EXCEEDED where it would have over 256
-/// then, with those that its waiting connects are to get.
+/// The process may have so many more handles, of which there are at most 256; QUOTA_EXCEEDED where it would have over
+/// 256 then, with those that its waiting connects are to get.
 pub fn handles_test(world: &World, pid: u32, more: usize) -> Result<(), Status>
     requires table { has (is_table pid) world.now.rows.handles ≡ true }
     requires within { more ≤ HANDLE_LIMIT }

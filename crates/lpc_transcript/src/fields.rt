@@ -9,7 +9,7 @@ use lpc_model::{FieldName, Fields, Value};
 fn put_value(into: &mut Vec<u8>, value: &Value, read: &[u8]) -> Result<(), OutOfMemory>
     ensures ok { Puts into.old.items into.new.items (value_of read.now value.now) result }
     ensures err { OnErr result (BeginsWith into.new.items into.old.items) }
-    ensures room { vec_capacity into.old ≤ vec_capacity into.new }
+    ensures capacity { vec_capacity into.old ≤ vec_capacity into.new }
     ensures wanting { OnErr result (LacksRoom into.old (value_of read.now value.now)) }
 {
     match value {
@@ -30,7 +30,7 @@ fn put_field(
 ) -> Result<(), OutOfMemory>
     ensures ok { Puts into.old.items into.new.items (field_of read.now name value.now) result }
     ensures err { OnErr result (BeginsWith into.new.items into.old.items) }
-    ensures room { vec_capacity into.old ≤ vec_capacity into.new }
+    ensures capacity { vec_capacity into.old ≤ vec_capacity into.new }
     ensures wanting { OnErr result (LacksRoom into.old (field_of read.now name value.now)) }
 {
     put(into, b" ")?;
@@ -49,7 +49,7 @@ pub(crate) fn put_fields(
 ) -> Result<(), OutOfMemory>
     ensures ok { Puts into.old.items into.new.items (fields_of read.now fields.now) result }
     ensures err { OnErr result (BeginsWith into.new.items into.old.items) }
-    ensures room { vec_capacity into.old ≤ vec_capacity into.new }
+    ensures capacity { vec_capacity into.old ≤ vec_capacity into.new }
     ensures wanting { OnErr result (LacksRoom into.old (fields_of read.now fields.now)) }
 {
     for at in 0..fields.count() {

@@ -16,7 +16,7 @@ use lpc_model::{Entries, Entry, LineFault};
 fn put_rest(into: &mut Vec<u8>, entry: &Entry, read: &[u8]) -> Result<(), OutOfMemory>
     ensures ok { Puts into.old.items into.new.items (rest_of read.now entry.now) result }
     ensures err { OnErr result (BeginsWith into.new.items into.old.items) }
-    ensures room { vec_capacity into.old ≤ vec_capacity into.new }
+    ensures capacity { vec_capacity into.old ≤ vec_capacity into.new }
     ensures wanting { OnErr result (LacksRoom into.old (rest_of read.now entry.now)) }
 {
     match entry {
@@ -55,7 +55,7 @@ fn put_rest(into: &mut Vec<u8>, entry: &Entry, read: &[u8]) -> Result<(), OutOfM
 fn put_entry(into: &mut Vec<u8>, line: u32, entry: &Entry, read: &[u8]) -> Result<(), OutOfMemory>
     ensures ok { Puts into.old.items into.new.items (line_of line read.now entry.now) result }
     ensures err { OnErr result (BeginsWith into.new.items into.old.items) }
-    ensures room { vec_capacity into.old ≤ vec_capacity into.new }
+    ensures capacity { vec_capacity into.old ≤ vec_capacity into.new }
     ensures wanting { OnErr result (LacksRoom into.old (line_of line read.now entry.now)) }
 {
     put_number(into, u64::from(line))?;
@@ -73,7 +73,7 @@ fn put_entries(
 ) -> Result<(), OutOfMemory>
     ensures ok { Puts into.old.items into.new.items (lines_of line read.now entries.now) result }
     ensures err { OnErr result (BeginsWith into.new.items into.old.items) }
-    ensures room { vec_capacity into.old ≤ vec_capacity into.new }
+    ensures capacity { vec_capacity into.old ≤ vec_capacity into.new }
     ensures wanting { OnErr result (LacksRoom into.old (lines_of line read.now entries.now)) }
 {
     for entry in entries {
@@ -91,7 +91,7 @@ fn all_or_none(
     ensures result { result ≡ printed }
     ensures ok { OnOk printed (into.new.items ≡ into.old.items) }
     ensures err { OnErr printed (into.new.items ≡ take before into.old.items) }
-    ensures room { vec_capacity into.new ≡ vec_capacity into.old }
+    ensures capacity { vec_capacity into.new ≡ vec_capacity into.old }
 {
     if printed.is_err() {
         into.truncate(before);
@@ -102,12 +102,12 @@ fn all_or_none(
 /// Appends the text of a line's entries: for each entry in order the number of the line, who is spoken of, the call,
 /// how it ended and its fields, ended by byte 10. The form is this project's own.
 ///
-/// OutOfMemory comes only where there was no room for that behind the text; the text is as it was then, and the room
+/// OutOfMemory comes only where there was no room for that behind the text; the text is as it was then. Its capacity
 /// never shrinks.
 pub fn print(line: u32, entries: &Entries, into: &mut Vec<u8>) -> Result<(), OutOfMemory>
     ensures ok { Puts into.old.items into.new.items (entries_text line entries.now.list) result }
     ensures err { OnErr result (into.new.items ≡ into.old.items) }
-    ensures room { vec_capacity into.old ≤ vec_capacity into.new }
+    ensures capacity { vec_capacity into.old ≤ vec_capacity into.new }
     ensures wanting { OnErr result (LacksRoom into.old (entries_text line entries.now.list)) }
 {
     let before = into.len();
@@ -119,7 +119,7 @@ pub fn print(line: u32, entries: &Entries, into: &mut Vec<u8>) -> Result<(), Out
 fn put_end(into: &mut Vec<u8>, lines: u32, entries: u128, objects: usize) -> Result<(), OutOfMemory>
     ensures ok { Puts into.old.items into.new.items (end_text lines entries objects) result }
     ensures err { OnErr result (BeginsWith into.new.items into.old.items) }
-    ensures room { vec_capacity into.old ≤ vec_capacity into.new }
+    ensures capacity { vec_capacity into.old ≤ vec_capacity into.new }
     ensures wanting { OnErr result (LacksRoom into.old (end_text lines entries objects)) }
 {
     put(into, b"end ")?;
@@ -134,7 +134,7 @@ fn put_end(into: &mut Vec<u8>, lines: u32, entries: u128, objects: usize) -> Res
 /// Appends the last line of a script that was read to its end: `end`, the lines read, the entries printed and the
 /// objects left. The form is this project's own.
 ///
-/// OutOfMemory comes only where there was no room for that behind the text; the text is as it was then, and the room
+/// OutOfMemory comes only where there was no room for that behind the text; the text is as it was then. Its capacity
 /// never shrinks.
 pub fn print_end(
     into: &mut Vec<u8>,
@@ -144,7 +144,7 @@ pub fn print_end(
 ) -> Result<(), OutOfMemory>
     ensures ok { Puts into.old.items into.new.items (end_text lines entries objects) result }
     ensures err { OnErr result (into.new.items ≡ into.old.items) }
-    ensures room { vec_capacity into.old ≤ vec_capacity into.new }
+    ensures capacity { vec_capacity into.old ≤ vec_capacity into.new }
     ensures wanting { OnErr result (LacksRoom into.old (end_text lines entries objects)) }
 {
     let before = into.len();
@@ -172,7 +172,7 @@ fn kind_of(fault: LineFault) -> u64
 fn put_stop(into: &mut Vec<u8>, line: u32, fault: LineFault) -> Result<(), OutOfMemory>
     ensures ok { Puts into.old.items into.new.items (stop_text line (kind_number fault)) result }
     ensures err { OnErr result (BeginsWith into.new.items into.old.items) }
-    ensures room { vec_capacity into.old ≤ vec_capacity into.new }
+    ensures capacity { vec_capacity into.old ≤ vec_capacity into.new }
     ensures wanting { OnErr result (LacksRoom into.old (stop_text line (kind_number fault))) }
 {
     put(into, b"stop ")?;
@@ -185,12 +185,12 @@ fn put_stop(into: &mut Vec<u8>, line: u32, fault: LineFault) -> Result<(), OutOf
 /// Appends the last line of a script that has a faulty line: `stop`, the number of that line and the number of its
 /// fault's kind. The form is this project's own.
 ///
-/// OutOfMemory comes only where there was no room for that behind the text; the text is as it was then, and the room
+/// OutOfMemory comes only where there was no room for that behind the text; the text is as it was then. Its capacity
 /// never shrinks.
 pub fn print_stop(into: &mut Vec<u8>, line: u32, fault: LineFault) -> Result<(), OutOfMemory>
     ensures ok { Puts into.old.items into.new.items (stop_text line (kind_number fault)) result }
     ensures err { OnErr result (into.new.items ≡ into.old.items) }
-    ensures room { vec_capacity into.old ≤ vec_capacity into.new }
+    ensures capacity { vec_capacity into.old ≤ vec_capacity into.new }
     ensures wanting { OnErr result (LacksRoom into.old (stop_text line (kind_number fault))) }
 {
     let before = into.len();

@@ -1,5 +1,5 @@
 // The words of a transcript's line, each put behind the text so far. Each wants for memory only where there was no room
-// for it behind the text: what stood before still begins the text then. The room never shrinks.
+// for it behind the text; what stood before still begins the text then. The text's capacity never shrinks.
 ghost use Rattle.std.specs.Prelude.{◌≡◌, ◌≤◌, ◌++◌, length, decimal, OnErr, vec_capacity};
 ghost use Rattle.lpc_base.specs.declared.limits.TheConstants.{MESSAGE_LIMIT};
 ghost use Rattle.hex.specs.Hex.{encode_lower};
@@ -13,7 +13,7 @@ use lpc_model::{CallName, FieldName, ObjectKind, Word};
 pub(crate) fn put(into: &mut Vec<u8>, bytes: &[u8]) -> Result<(), OutOfMemory>
     ensures ok { Puts into.old.items into.new.items bytes.now result }
     ensures err { OnErr result (BeginsWith into.new.items into.old.items) }
-    ensures room { vec_capacity into.old ≤ vec_capacity into.new }
+    ensures capacity { vec_capacity into.old ≤ vec_capacity into.new }
     ensures wanting { OnErr result (LacksRoom into.old bytes.now) }
 {
     if into.extend_from_slice(bytes).is_err() {
@@ -26,7 +26,7 @@ pub(crate) fn put(into: &mut Vec<u8>, bytes: &[u8]) -> Result<(), OutOfMemory>
 pub(crate) fn put_number(into: &mut Vec<u8>, number: u64) -> Result<(), OutOfMemory>
     ensures ok { Puts into.old.items into.new.items (decimal number) result }
     ensures err { OnErr result (BeginsWith into.new.items into.old.items) }
-    ensures room { vec_capacity into.old ≤ vec_capacity into.new }
+    ensures capacity { vec_capacity into.old ≤ vec_capacity into.new }
     ensures wanting { OnErr result (LacksRoom into.old (decimal number)) }
 {
     put(into, itoa::Buffer::new().format(number).as_bytes())
@@ -36,7 +36,7 @@ pub(crate) fn put_number(into: &mut Vec<u8>, number: u64) -> Result<(), OutOfMem
 pub(crate) fn put_long_number(into: &mut Vec<u8>, number: u128) -> Result<(), OutOfMemory>
     ensures ok { Puts into.old.items into.new.items (decimal number) result }
     ensures err { OnErr result (BeginsWith into.new.items into.old.items) }
-    ensures room { vec_capacity into.old ≤ vec_capacity into.new }
+    ensures capacity { vec_capacity into.old ≤ vec_capacity into.new }
     ensures wanting { OnErr result (LacksRoom into.old (decimal number)) }
 {
     put(into, itoa::Buffer::new().format(number).as_bytes())
@@ -46,7 +46,7 @@ pub(crate) fn put_long_number(into: &mut Vec<u8>, number: u128) -> Result<(), Ou
 pub(crate) fn put_digits(into: &mut Vec<u8>, number: u32) -> Result<(), OutOfMemory>
     ensures ok { Puts into.old.items into.new.items (eight_digits number) result }
     ensures err { OnErr result (BeginsWith into.new.items into.old.items) }
-    ensures room { vec_capacity into.old ≤ vec_capacity into.new }
+    ensures capacity { vec_capacity into.old ≤ vec_capacity into.new }
     ensures wanting { OnErr result (LacksRoom into.old (eight_digits number)) }
 {
     let mut digits = [0u8; 8];
@@ -59,7 +59,7 @@ pub(crate) fn put_bytes(into: &mut Vec<u8>, bytes: &[u8]) -> Result<(), OutOfMem
     requires { length bytes.now ≤ MESSAGE_LIMIT }
     ensures ok { Puts into.old.items into.new.items (encode_lower bytes.now) result }
     ensures err { OnErr result (BeginsWith into.new.items into.old.items) }
-    ensures room { vec_capacity into.old ≤ vec_capacity into.new }
+    ensures capacity { vec_capacity into.old ≤ vec_capacity into.new }
     ensures wanting { OnErr result (LacksRoom into.old (encode_lower bytes.now)) }
 {
     let mut buffer = [0u8; 512];
@@ -73,7 +73,7 @@ pub(crate) fn put_bytes(into: &mut Vec<u8>, bytes: &[u8]) -> Result<(), OutOfMem
 pub(crate) fn put_read(into: &mut Vec<u8>, bytes: &[u8]) -> Result<(), OutOfMemory>
     ensures ok { Puts into.old.items into.new.items (encode_lower bytes.now) result }
     ensures err { OnErr result (BeginsWith into.new.items into.old.items) }
-    ensures room { vec_capacity into.old ≤ vec_capacity into.new }
+    ensures capacity { vec_capacity into.old ≤ vec_capacity into.new }
     ensures wanting { OnErr result (LacksRoom into.old (encode_lower bytes.now)) }
 {
     let digits = 2 * bytes.len();
@@ -124,7 +124,7 @@ pub(crate) fn field_name(name: FieldName) -> &'static [u8]
 pub(crate) fn put_by(into: &mut Vec<u8>, tid: u32, call: CallName) -> Result<(), OutOfMemory>
     ensures ok { Puts into.old.items into.new.items (by_text tid call) result }
     ensures err { OnErr result (BeginsWith into.new.items into.old.items) }
-    ensures room { vec_capacity into.old ≤ vec_capacity into.new }
+    ensures capacity { vec_capacity into.old ≤ vec_capacity into.new }
     ensures wanting { OnErr result (LacksRoom into.old (by_text tid call)) }
 {
     put_number(into, u64::from(tid))?;
@@ -136,7 +136,7 @@ pub(crate) fn put_by(into: &mut Vec<u8>, tid: u32, call: CallName) -> Result<(),
 fn put_status(into: &mut Vec<u8>, status: Status) -> Result<(), OutOfMemory>
     ensures ok { Puts into.old.items into.new.items (status_text status) result }
     ensures err { OnErr result (BeginsWith into.new.items into.old.items) }
-    ensures room { vec_capacity into.old ≤ vec_capacity into.new }
+    ensures capacity { vec_capacity into.old ≤ vec_capacity into.new }
     ensures wanting { OnErr result (LacksRoom into.old (status_text status)) }
 {
     put(into, b" ")?;
@@ -153,7 +153,7 @@ pub(crate) fn put_ended(
 ) -> Result<(), OutOfMemory>
     ensures ok { Puts into.old.items into.new.items (ended_text tid call status) result }
     ensures err { OnErr result (BeginsWith into.new.items into.old.items) }
-    ensures room { vec_capacity into.old ≤ vec_capacity into.new }
+    ensures capacity { vec_capacity into.old ≤ vec_capacity into.new }
     ensures wanting { OnErr result (LacksRoom into.old (ended_text tid call status)) }
 {
     put_by(into, tid, call)?;
@@ -165,7 +165,7 @@ pub(crate) fn put_ended(
 pub(crate) fn put_state(into: &mut Vec<u8>, tid: u32, state: &[u8]) -> Result<(), OutOfMemory>
     ensures ok { Puts into.old.items into.new.items (decimal tid ++ state.now) result }
     ensures err { OnErr result (BeginsWith into.new.items into.old.items) }
-    ensures room { vec_capacity into.old ≤ vec_capacity into.new }
+    ensures capacity { vec_capacity into.old ≤ vec_capacity into.new }
     ensures wanting { OnErr result (LacksRoom into.old (decimal tid ++ state.now)) }
 {
     put_number(into, u64::from(tid))?;
@@ -177,7 +177,7 @@ pub(crate) fn put_state(into: &mut Vec<u8>, tid: u32, state: &[u8]) -> Result<()
 pub(crate) fn put_death(into: &mut Vec<u8>, tid: u32, status: Status) -> Result<(), OutOfMemory>
     ensures ok { Puts into.old.items into.new.items (died_text tid status) result }
     ensures err { OnErr result (BeginsWith into.new.items into.old.items) }
-    ensures room { vec_capacity into.old ≤ vec_capacity into.new }
+    ensures capacity { vec_capacity into.old ≤ vec_capacity into.new }
     ensures wanting { OnErr result (LacksRoom into.old (died_text tid status)) }
 {
     put(into, b"~")?;
@@ -195,7 +195,7 @@ pub(crate) fn put_directive(
 ) -> Result<(), OutOfMemory>
     ensures ok { Puts into.old.items into.new.items (directive_text word status) result }
     ensures err { OnErr result (BeginsWith into.new.items into.old.items) }
-    ensures room { vec_capacity into.old ≤ vec_capacity into.new }
+    ensures capacity { vec_capacity into.old ≤ vec_capacity into.new }
     ensures wanting { OnErr result (LacksRoom into.old (directive_text word status)) }
 {
     put(into, b"- ")?;

@@ -26,8 +26,8 @@ impl World {
 
     /// Gives a port that stands a name, where a path leads.
     ///
-    /// `Name`: the path's fault. `OutOfMemory`: there was no room for a name, and memory ran out. In both cases nothing
-    /// but the room may change.
+    /// `Name`: the path's fault; nothing changes. `OutOfMemory`: there was no room for a name, and memory ran out;
+    /// nothing but the room may change.
     pub fn names_bind(&mut self, path: &[u8], port: Key) -> Result<(), BindFault>
         requires stands { stands self.old.births.ports port ≡ true }
         ensures bound { OnOk result (with_port_name self.old path.now port ≡ Ok self.new.rows) }
