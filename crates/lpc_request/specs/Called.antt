@@ -6,9 +6,11 @@ use Rattle.lpc_model.specs.Register.{is_registered}
 use Rattle.lpc_model.specs.Request.{nt_reply_port, nt_reply_wait_receive_port, nt_request_wait_reply_port}
 use Rattle.lpc_model.specs.World.{PortRow, ThreadRow, World}
 use Rattle.lpc_model.specs.declared.entry.Outcome.{Outcome}
+use Rattle.lpc_rows.specs.Clauses.{birth_at}
 use Rattle.lpc_rows.specs.Does.{Does}
 use Rattle.lpc_rows.specs.Kept.{Kept}
 use Rattle.lpc_rows.specs.Ready.{caller}
+use Rattle.lpc_slots.specs.declared.Key.{Key}
 use Rattle.lpc_steps.specs.Clauses.{port_for}
 
 -- NtRequestWaitReplyPort of a thread on a handle, with these bytes
@@ -25,6 +27,10 @@ Answered result tid handle bytes old new before after =
 abbrev pub Received : Result Outcome Status → ℕ → ℕ → Option (List ℕ) → Kept → Kept → Listed → Listed → Type 0
 Received result tid handle bytes old new before after =
     Does result (nt_reply_wait_receive_port old.rows (caller old.rows tid) handle bytes) old new before after
+
+-- a port is registered with a thread
+abbrev pub is_registered_at : Kept → ℕ → Key → Bool
+is_registered_at w tid port = is_registered (birth_at w port) (caller w.rows tid)
 
 -- the port that a handle names, where it names one, is registered with the thread
 abbrev pub is_registered_with : ThreadRow → Result PortRow Status → Bool

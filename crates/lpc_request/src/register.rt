@@ -5,7 +5,7 @@ ghost use Rattle.lpc_base.specs.declared.limits.TheConstants.{LINES_LIMIT};
 ghost use Rattle.lpc_model.specs.Lines.{register_thread_terminate_port};
 ghost use Rattle.lpc_model.specs.Register as register;
 ghost use Rattle.lpc_model.specs.Register.{is_registered, register_steps};
-ghost use Rattle.lpc_request.specs.Called.{was_registered};
+ghost use Rattle.lpc_request.specs.Called.{is_registered_at, was_registered};
 ghost use Rattle.lpc_rows.specs.Called.{MayServe, service};
 ghost use Rattle.lpc_rows.specs.Clauses.{birth_at};
 ghost use Rattle.lpc_rows.specs.Names.{stands};
@@ -39,8 +39,7 @@ pub fn registration_test(world: &World, tid: u32, port: Key) -> Result<(), Statu
     requires port { stands world.now.births.ports port ≡ true }
     ensures test { let by = caller world.now.rows tid in
         result ≡ register.registration_test by (birth_at world.now port) }
-    ensures few { let by = caller world.now.rows tid in
-        OnOk result (is_registered (birth_at world.now port) by ≡ false →
+    ensures few { OnOk result (is_registered_at world.now tid port ≡ false →
         HasFewRegistrations world.now.rows tid) }
 {
     if has_registered(world, tid, port) {
@@ -64,12 +63,10 @@ fn register_test(world: &World, tid: u32, handle: u32) -> Result<Key, Status>
         (λ port. found ≡ Ok (register_steps (caller world.now.rows tid) (birth_at world.now port)))
         (λ s. found ≡ Err s) }
     ensures stands { IfOk result (λ port. stands world.now.births.ports port ≡ true) }
-    ensures few { let by = caller world.now.rows tid in
-        IfOk result (λ port. is_registered (birth_at world.now port) by ≡ false →
+    ensures few { IfOk result (λ port. is_registered_at world.now tid port ≡ false →
         HasFewRegistrations world.now.rows tid) }
-    ensures known { let by = caller world.now.rows tid in
-        IfOk result (λ port. was_registered world.now.rows tid handle
-        ≡ is_registered (birth_at world.now port) by) }
+    ensures known { let known = was_registered world.now.rows tid handle in
+        IfOk result (λ port. is_registered_at world.now tid port ≡ known) }
 {
     let port = port_at(world, tid, handle)?;
     registration_test(world, tid, port)?;

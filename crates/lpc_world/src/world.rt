@@ -480,7 +480,8 @@ impl World {
         ensures capacity { let new = self.new.capacity in
             new ≡ record self.old.capacity { messages = new.messages } }
         ensures asked { let new = self.new.capacity in new.messages ≤ grown_messages self.old more }
-        ensures enough { more ≤ self.old.room.messages → self.new.capacity ≡ self.old.capacity }
+        ensures enough { let places = self.old.room.messages in
+            more ≤ places → self.new.capacity ≡ self.old.capacity }
     {
         let wanted = self.owed_messages() + more as usize;
         self.ports.reserve(0, wanted)

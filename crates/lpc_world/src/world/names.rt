@@ -68,7 +68,8 @@ impl World {
         ensures bound { OnOk result
             (with_link self.old.rows path.now target.now ≡ Ok self.new.rows) }
         ensures refused { RefusedAs result (with_link self.old.rows path.now target.now) }
-        ensures kept { IsErr (with_link self.old.rows path.now target.now) → self.new ≡ self.old }
+        ensures kept { let bound = with_link self.old.rows path.now target.now in
+            IsErr bound → self.new ≡ self.old }
         ensures same { OnErr result (Same self.old self.new) }
         ensures births { self.new.births ≡ self.old.births }
         ensures calls { self.new.calls ≡ self.old.calls }
