@@ -66,7 +66,7 @@ offered-in a b c d is = grind arith
 pub reached-of : (a b c d : Bool) → (a && (b && (c && d))) ≡ true → d ≡ true
 reached-of a b c d is = grind arith
 
-answer-found : (m : Group) (c : ℕ) (u w : World) (by : ThreadRow) (bytes : List ℕ) → Caller m c u w by → Holds (IsAnswer m c w by bytes) (answer_test w by bytes)
+pub answer-found : (m : Group) (c : ℕ) (u w : World) (by : ThreadRow) (bytes : List ℕ) → Caller m c u w by → Holds (IsAnswer m c w by bytes) (answer_test w by bytes)
 answer-found m c u w by bytes k =
     let P : ConnectAnswer → Type 0 = IsAnswer m c w by bytes in
     bind_holds (message_test bytes) _ P (λ b at.
@@ -191,7 +191,7 @@ accept-fair m c u w by context value bytes a k is =
     and_from _ _ made (and_from _ _ (same-number by.process) (and_from _ _ (and_from _ _ s.in_only (and_from _ _ s.of_c (and_from _ _ j.clients j.servers))) refl))
 
 -- apart
-accept-apart : (m : Group) (c : ℕ) (u : World) (d : Whose) (w : World) (by : ThreadRow) (context value : ℕ) (bytes : List ℕ) (a : ConnectAnswer) → Caller m c u w by → IsAnswer m c w by bytes a → m by.process ≡ false → are_apart m c u d w (accept_steps by context value a) ≡ true
+pub accept-apart : (m : Group) (c : ℕ) (u : World) (d : Whose) (w : World) (by : ThreadRow) (context value : ℕ) (bytes : List ℕ) (a : ConnectAnswer) → Caller m c u w by → IsAnswer m c w by bytes a → m by.process ≡ false → are_apart m c u d w (accept_steps by context value a) ≡ true
 accept-apart m c u d w by context value bytes a k is out =
     let s = sides m c by a.wait is.fair is.offered is.queue in
     let client_out : m a.wait.port.process ≡ false = other-side (m a.wait.port.process) (m by.process) out s.in_only in
@@ -203,7 +203,7 @@ accept-apart m c u d w by context value bytes a k is out =
     other-side a b off is = grind arith
 
 -- the steps of an accept whose client is a member
-accept-ours : (m : Group) (c : ℕ) (u w : World) (by : ThreadRow) (context value : ℕ) (bytes : List ℕ) (a : ConnectAnswer) → Caller m c u w by → IsAnswer m c w by bytes a → m by.process ≡ true → m a.wait.process ≡ true → are_ours m w (accept_steps by context value a) ≡ true
+pub accept-ours : (m : Group) (c : ℕ) (u w : World) (by : ThreadRow) (context value : ℕ) (bytes : List ℕ) (a : ConnectAnswer) → Caller m c u w by → IsAnswer m c w by bytes a → m by.process ≡ true → m a.wait.process ≡ true → are_ours m w (accept_steps by context value a) ≡ true
 accept-ours m c u w by context value bytes a k is by_in x_in =
     let s = sides m c by a.wait is.fair is.offered is.queue in
     let p_in : m a.wait.port.process ≡ true = ap m s.port ∙ x_in in
@@ -289,7 +289,7 @@ c-refuse m c u w by context bytes k mine inside =
     rw (c-answer_test m c w by bytes k.c_in mine k.fair inside) (bind-same (answer_test w by bytes) _ _ (λ a at. refl))
 
 -- an outsider's refusal
-refuse-apart : (m : Group) (c : ℕ) (u : World) (d : Whose) (w : World) (by : ThreadRow) (bytes : List ℕ) (a : ConnectAnswer) → Caller m c u w by → IsAnswer m c w by bytes a → m by.process ≡ false → are_apart m c u d w (refuse_steps by a) ≡ true
+pub refuse-apart : (m : Group) (c : ℕ) (u : World) (d : Whose) (w : World) (by : ThreadRow) (bytes : List ℕ) (a : ConnectAnswer) → Caller m c u w by → IsAnswer m c w by bytes a → m by.process ≡ false → are_apart m c u d w (refuse_steps by a) ≡ true
 refuse-apart m c u d w by bytes a k is out =
     let s = sides m c by a.wait is.fair is.offered is.queue in
     let client_out : m a.wait.port.process ≡ false = other-side (m a.wait.port.process) (m by.process) out s.in_only in
@@ -312,9 +312,6 @@ refuse-fair m c w by a = refl
 
 pub accept-call-fair : (m : Group) (c : ℕ) (u w : World) (by : ThreadRow) (context : ℕ) (bytes : List ℕ) (accept : Bool) → Caller m c u w by → Holds (λ bs. are_fair m c w bs ≡ true) (nt_accept_connect_port w by context bytes accept)
 accept-call-fair m c u w by context bytes accept k = on-answer (λ bs. are_fair m c w bs ≡ true) m c u w by context bytes accept k (λ a is. accept-fair m c u w by context (free_handle w by.process) bytes a k is) (λ a is. refuse-fair m c w by a)
-
-pub accept-call-apart : (m : Group) (c : ℕ) (u : World) (d : Whose) (w : World) (by : ThreadRow) (context : ℕ) (bytes : List ℕ) (accept : Bool) → Caller m c u w by → m by.process ≡ false → Holds (λ bs. are_apart m c u d w bs ≡ true) (nt_accept_connect_port w by context bytes accept)
-accept-call-apart m c u d w by context bytes accept k out = on-answer (λ bs. are_apart m c u d w bs ≡ true) m c u w by context bytes accept k (λ a is. accept-apart m c u d w by context (free_handle w by.process) bytes a k is out) (λ a is. refuse-apart m c u d w by bytes a k is out)
 
 -- a refusal by another member than c
 abbrev pub led_refuse : Group → World → ThreadRow → List ℕ → List Basic
@@ -363,18 +360,13 @@ accept-call-led m c u d w by context bytes false queue k known by_in other =
     bind_holds (answer_test w by bytes) _ (λ bs. Led m c u d w bs (led_answer m (view m w) by context bytes false queue)) (λ a at.
     refuse-led m c u d w by bytes a k (holds_ok (IsAnswer m c w by bytes) (answer_test w by bytes) a (answer-found m c u w by bytes k) at) by_in other)
 
-c-side : (m : Group) (c : ℕ) (by : ThreadRow) (x : WaitRow) → m c ≡ true → by.process ≡ c → is_fair_wait m c x ≡ true → is_offered x ≡ true → x.queue.process ≡ by.process → m x.process ≡ true
+pub c-side : (m : Group) (c : ℕ) (by : ThreadRow) (x : WaitRow) → m c ≡ true → by.process ≡ c → is_fair_wait m c x ≡ true → is_offered x ≡ true → x.queue.process ≡ by.process → m x.process ≡ true
 c-side m c by x c_in mine fair offered queue =
     let s = sides m c by x fair offered queue in
     let of_c = s.of_c in
     let by_c : (by.process == c) ≡ true = ap (λ p. p == c) mine ∙ same-number c in
     let p_in : m x.port.process ≡ true = grind arith in
     sym (ap m s.port) ∙ p_in
-
-pub c-accept-ours : (m : Group) (c : ℕ) (u w : World) (by : ThreadRow) (context : ℕ) (bytes : List ℕ) (accept : Bool) → Caller m c u w by → by.process ≡ c → Holds (λ bs. are_ours m w bs ≡ true) (nt_accept_connect_port w by context bytes accept)
-c-accept-ours m c u w by context bytes accept k mine = on-answer (λ bs. are_ours m w bs ≡ true) m c u w by context bytes accept k
-    (λ a is. accept-ours m c u w by context (free_handle w by.process) bytes a k is (ap m mine ∙ k.c_in) (c-side m c by a.wait k.c_in mine is.fair is.offered is.queue))
-    (λ a is. refuse-ours m w by a)
 
 pub c-answer : (m : Group) (c : ℕ) (u w : World) (by : ThreadRow) (context : ℕ) (bytes : List ℕ) (accept : Bool) → Caller m c u w by → by.process ≡ c → names_no_outsider m w bytes ≡ true → nt_accept_connect_port (view m w) by context bytes accept ≡ nt_accept_connect_port w by context bytes accept
 c-answer m c u w by context bytes true k mine inside = c-accept m c u w by context bytes k mine inside

@@ -33,7 +33,6 @@ use Rattle.lpc_isolation.proofs.Callers.{Led, led-same}
 use Rattle.lpc_isolation.proofs.Receive.{led-append}
 use Rattle.lpc_isolation.proofs.Play.{told_inputs}
 use Rattle.lpc_isolation.proofs.Sends.{Caller}
-use Rattle.lpc_isolation.proofs.Bound.{OnceBound}
 use Rattle.lpc_isolation.proofs.Paths.{Paths, are_paths}
 use Rattle.lpc_isolation.proofs.Sent.{append-sent, are_sent}
 use Rattle.lpc_isolation.proofs.Asked.{Asked, basic-asked}
@@ -48,8 +47,8 @@ use Rattle.lpc_isolation.proofs.Instances.{At, Leading, caller}
 use Rattle.lpc_isolation.proofs.Thin.{Alive, Closed, handle_closed, port-live, thin}
 use Rattle.lpc_isolation.proofs.ThinCalls.{AreClosed, rows-closed}
 use Rattle.lpc_isolation.proofs.Fine.{FineAfter, makes_fine}
-use Rattle.lpc_isolation.proofs.Duplicates.{unnoted}
-use Rattle.lpc_isolation.proofs.Mild.{AreMild, Sure, mild-bound, mild-fine, mild-known, mild-orderly, mild-paths}
+use Rattle.lpc_isolation.proofs.Tame.{unnoted}
+use Rattle.lpc_isolation.proofs.Mild.{AreMild, Sure, mild-fine, mild-known, mild-orderly, mild-paths}
 use Rattle.lpc_isolation.proofs.Stages.{Good, mute-append}
 use Rattle.lpc_isolation.proofs.Closings.{close-good}
 
@@ -182,24 +181,11 @@ fair-close m c w by known handle a =
     let k = caller m c w by known w a refl in
     on-close (λ bs. HasFineRows m c (world_after w bs) → are_fair m c w bs ≡ true) w by handle (λ r at fine. (good m c w w by handle r k at).fair w w (caller-sure m c w w by k))
 
-pub names-close : (m : Group) (c : ℕ) (u w : World) (by : ThreadRow) (handle : ℕ) → Caller m c u w by → Holds (λ bs. OnceBound (world_after w bs).bindings) (served w by (close handle))
-names-close m c u w by handle k = on-close (λ bs. OnceBound (world_after w bs).bindings) w by handle (λ r at. mild-bound w (close_handle by.process r w) ((good m c u w by handle r k at).mild w) k.bound)
-
 pub paths-close : (m : Group) (c : ℕ) (w : World) (by : ThreadRow) (handle : ℕ) → Paths w → Caller m c w w by → Holds (λ bs. are_paths w bs ≡ true) (served w by (close handle))
 paths-close m c w by handle all k = on-close (λ bs. are_paths w bs ≡ true) w by handle (λ r at. mild-paths w (close_handle by.process r w) ((good m c w w by handle r k at).mild w))
 
-pub sends-close : (u : World) (by : ThreadRow) (handle : ℕ) → Holds (λ bs. are_sent u bs ≡ true) (served u by (close handle))
-sends-close u by handle = on-close (λ bs. are_sent u bs ≡ true) u by handle (λ r at. handle-sent u by.process r)
-
 pub asked-close : (m : Group) (c : ℕ) (w : World) (by : ThreadRow) (handle : ℕ) → Asked w → Caller m c w w by → Holds (λ bs. Asked (world_after w bs)) (served w by (close handle))
 asked-close m c w by handle a k = on-close (λ bs. Asked (world_after w bs)) w by handle (λ r at. (good m c w w by handle r k at).asked w w (caller-sure m c w w by k))
-
-pub apart-close : (m : Group) (c : ℕ) (u : World) (d : Whose) (w : World) (by : ThreadRow) (known : List ℕ → Birth) (handle : ℕ) → At m c w by known → u.used_threads ≡ w.used_threads → m by.process ≡ false → Holds (λ bs. HasFineRows m c (world_after w bs) → are_apart m c u d w bs ≡ true) (served w by (close handle))
-apart-close m c u d w by known handle a used out =
-    let k = caller m c w by known u a used in
-    on-close (λ bs. HasFineRows m c (world_after w bs) → are_apart m c u d w bs ≡ true) w by handle (λ r at fine.
-    let b_out : m r.object.birth.process ≡ false = ap m (whose m c u w by handle r k at) ∙ out in
-    and_from _ _ (rw (k.here, out) refl) ((good m c u w by handle r k at).apart u d w (caller-sure m c u w by k) b_out))
 
 pub same-close : (m : Group) (c : ℕ) (w : World) (by : ThreadRow) (known : List ℕ → Birth) (handle : ℕ) → At m c w by known → by.process ≡ c → is_fine_call m w (close handle) ≡ true → served (view m w) by (close handle) ≡ served w by (close handle)
 unfolding nt_close
@@ -208,12 +194,6 @@ same-close m c w by known handle a mine fine =
     rw (handle-view m w by.process handle (ap m mine ∙ a.c_in)) (bind-same (own_handle w by handle) _ _ (λ r at.
     let here = found_ok (handle_at w by.process handle) INVALID_HANDLE r at in
     ap (λ bs. Ok (Tells (told_first by) ∷ bs)) ((good m c w w by handle r k here).same w w (caller-sure m c w w by k) (whose m c w w by handle r k here ∙ mine))))
-
-pub ours-close : (m : Group) (c : ℕ) (w : World) (by : ThreadRow) (known : List ℕ → Birth) (handle : ℕ) → At m c w by known → by.process ≡ c → Holds (λ bs. HasFineRows m c (world_after w bs) → are_ours m w bs ≡ true) (served w by (close handle))
-ours-close m c w by known handle a mine =
-    let k = caller m c w by known w a refl in
-    on-close (λ bs. HasFineRows m c (world_after w bs) → are_ours m w bs ≡ true) w by handle (λ r at fine.
-    (good m c w w by handle r k at).ours w w (caller-sure m c w w by k) (ap m (whose m c w w by handle r k at ∙ mine) ∙ a.c_in))
 
 -- the same steps behind an entry
 pub tells-led : (m : Group) (c : ℕ) (u : World) (d : Whose) (w : World) (e : Entry) (bs led : List Basic) → Led m c u d w bs led → Led m c u d w (Tells e ∷ bs) (Tells e ∷ led)
@@ -260,9 +240,3 @@ handle-stands k u pid r c live = every-append _ (provided (is_last r) (close_por
     gone : (e : Bool) → is_last r u ≡ e → AreClosed k (when e (close_port r.object.birth u))
     gone true last = (close-good (λ p. true) 0 r.object.birth).stands k u c (port-live k r.object live (first-true _ _ last))
     gone false off = refl
-
-pub stands-close : (k : Alive) (u : World) (by : ThreadRow) (handle : ℕ) → IsSoundWorld u → Closed k u → k.ports (next_birth by) ≡ true → Holds (AreClosed k) (served u by (close handle))
-stands-close k u by handle s c new = on-close (AreClosed k) u by handle (λ r at. handle-stands k u by.process r c (every-first (handle_closed k) (has_value handle) (handles_of u by.process) r (rows-closed k by.process u.handles (first (is_table by.process) u.handles) refl c.tables) at))
-
-pub fine-close : (m : Group) (c : ℕ) (after u : World) (by : ThreadRow) (handle : ℕ) → wait_of u by.number ≡ None → HasFineRows m c after → Holds (FineAfter m c after u) (served u by (close handle))
-fine-close m c after u by handle idle f = on-close (FineAfter m c after u) u by handle (λ r at _. every-more _ (makes_fine m c) (mild-fine m c) (close_handle by.process r u) (handle-mild u by.process r))

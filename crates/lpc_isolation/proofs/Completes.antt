@@ -58,7 +58,7 @@ completion-found m c w by handle p at n =
       found = found_ok (first (is_accepted_on client) w.waits) PORT_DISCONNECTED x found;
     }))))
 
-completable : (m : Group) (c : ℕ) (u w : World) (by : ThreadRow) (handle : ℕ) → Caller m c u w by → Holds (IsCompletable m c w by handle) (complete_test w by handle)
+pub completable : (m : Group) (c : ℕ) (u w : World) (by : ThreadRow) (handle : ℕ) → Caller m c u w by → Holds (IsCompletable m c w by handle) (complete_test w by handle)
 completable m c u w by handle k = bind_holds (port_test w by handle) _ (IsCompletable m c w by handle) (λ p at.
     completion-found m c w by handle p at (holds_ok (Named m c w by) (port_test w by handle) p (named-port m c u w by handle k) at))
 
@@ -100,16 +100,13 @@ complete-call-fair m c u w by handle k = on-complete (λ bs. are_fair m c w bs �
 pub out-other : (m : Group) (c p : ℕ) → m c ≡ true → m p ≡ false → (p == c) ≡ false
 out-other m c p c_in out = false_from_ne_true (p == c) (λ is. let k : m p ≡ m c = ap m (eqb-true _ _ is) in cc)
 
-complete-apart : (m : Group) (c : ℕ) (u : World) (d : Whose) (w : World) (by : ThreadRow) (handle value : ℕ) (r : Completable) → Caller m c u w by → IsCompletable m c w by handle r → m by.process ≡ false → are_apart m c u d w (complete_steps by value r) ≡ true
+pub complete-apart : (m : Group) (c : ℕ) (u : World) (d : Whose) (w : World) (by : ThreadRow) (handle value : ℕ) (r : Completable) → Caller m c u w by → IsCompletable m c w by handle r → m by.process ≡ false → are_apart m c u d w (complete_steps by value r) ≡ true
 complete-apart m c u d w by handle value r k is out =
     let c_out : m r.client.process ≡ false = client-out m c w by handle r is out in
     let x_out : m r.wait.process ≡ false = ap m (wait-client m c w by handle r k.fair is) ∙ c_out in
     let s_out : m r.server.process ≡ false = ap (λ (b : Birth). m b.process) is.birth ∙ ap m is.named.process ∙ out in
     let v : World = basic (basic (basic w (Completes r.server)) (Completes r.client)) (AddsHandle r.wait.process (handle_row value (port_name r.client) PORT_ACCESS)) in
     rw (k.here, out, c_out, x_out, s_out) (and_from _ _ (and_from _ _ (end-apart m c u d v r.wait SUCCESS (h value ∷ max MESSAGE_LIMIT ∷ info (answer_of r.wait) ∷ []) k.owned (every-first (is_owned u) (is_accepted_on r.client) w.waits r.wait k.owned is.found) (out-other m c r.wait.process k.c_in x_out)) refl) refl)
-
-pub complete-call-apart : (m : Group) (c : ℕ) (u : World) (d : Whose) (w : World) (by : ThreadRow) (handle : ℕ) → Caller m c u w by → m by.process ≡ false → Holds (λ bs. are_apart m c u d w bs ≡ true) (nt_complete_connect_port w by handle)
-complete-call-apart m c u d w by handle k out = on-complete (λ bs. are_apart m c u d w bs ≡ true) m c u w by handle k (λ r is. complete-apart m c u d w by handle (free_handle w r.wait.process) r k is out)
 
 -- the wait of a member's client is in the view
 accepted-connect : (x : WaitRow) (b : Birth) → is_accepted_on b x ≡ true → is_connect x ≡ true
@@ -198,6 +195,3 @@ c-complete m c u w by handle k mine =
     let c_in : m r.client.process ≡ true = grind arith in
     let x_in : m r.wait.process ≡ true = ap m (wait-client m c w by handle r k.fair is) ∙ c_in in
     rw (free-view m w r.wait.process x_in) refl)
-
-pub c-complete-ours : (m : Group) (c : ℕ) (u w : World) (by : ThreadRow) (handle : ℕ) → Caller m c u w by → Holds (λ bs. are_ours m w bs ≡ true) (nt_complete_connect_port w by handle)
-c-complete-ours m c u w by handle k = on-complete (λ bs. are_ours m w bs ≡ true) m c u w by handle k (λ r is. refl)

@@ -107,7 +107,7 @@ connect-fair m c u w by q bytes k fine =
 pub fine-other : (m : Group) (c : ℕ) (by : ThreadRow) (q : Birth) → is_fine_client m c (next_birth by) q ≡ true → m by.process ≡ false → (q.process == c) ≡ false
 fine-other m c by q fine out = grind arith
 
-connect-apart : (m : Group) (c : ℕ) (u : World) (d : Whose) (w : World) (by : ThreadRow) (q : Birth) (bytes : List ℕ) → Caller m c u w by → is_fine_client m c (next_birth by) q ≡ true → m by.process ≡ false → are_apart m c u d w (steps_of w by q bytes) ≡ true
+pub connect-apart : (m : Group) (c : ℕ) (u : World) (d : Whose) (w : World) (by : ThreadRow) (q : Birth) (bytes : List ℕ) → Caller m c u w by → is_fine_client m c (next_birth by) q ≡ true → m by.process ≡ false → are_apart m c u d w (steps_of w by q bytes) ≡ true
 connect-apart m c u d w by q bytes k fine out =
     let v : World = world_after w (starting by q bytes) in
     let s = begun m c u w by q bytes k fine in
@@ -123,7 +123,7 @@ fine-in m c by q fine is = grind arith
 start-ours : (m : Group) (w : World) (by : ThreadRow) (q : Birth) (bytes : List ℕ) → m by.process ≡ true → m q.process ≡ true → are_ours m w (starting by q bytes) ≡ true
 start-ours m w by q bytes is q_in = rw (is, q_in) refl
 
-connect-ours : (m : Group) (c : ℕ) (u w : World) (by : ThreadRow) (q : Birth) (bytes : List ℕ) → Caller m c u w by → is_fine_client m c (next_birth by) q ≡ true → m by.process ≡ true → are_ours m w (steps_of w by q bytes) ≡ true
+pub connect-ours : (m : Group) (c : ℕ) (u w : World) (by : ThreadRow) (q : Birth) (bytes : List ℕ) → Caller m c u w by → is_fine_client m c (next_birth by) q ≡ true → m by.process ≡ true → are_ours m w (steps_of w by q bytes) ≡ true
 connect-ours m c u w by q bytes k fine is =
     let q_in = fine-in m c by q fine is in
     ours-append m w (starting by q bytes) (enter (row by q bytes) (world_after w (starting by q bytes))) (start-ours m w by q bytes is q_in) (enter-ours m (world_after w (starting by q bytes)) (row by q bytes) (and_from _ _ is q_in) (begun m c u w by q bytes k fine).patient)
@@ -142,9 +142,6 @@ on-connect P w by name bytes then_ =
 
 pub connect-call-fair : (m : Group) (c : ℕ) (u w : World) (by : ThreadRow) (name bytes : List ℕ) → Caller m c u w by → Holds (λ bs. HasFineRows m c (world_after w bs) → are_fair m c w bs ≡ true) (nt_connect_port w by name bytes)
 connect-call-fair m c u w by name bytes k = on-connect (λ bs. HasFineRows m c (world_after w bs) → are_fair m c w bs ≡ true) w by name bytes (λ q at fine. connect-fair m c u w by q bytes k (connect-fine m c w by q bytes fine))
-
-pub connect-call-apart : (m : Group) (c : ℕ) (u : World) (d : Whose) (w : World) (by : ThreadRow) (name bytes : List ℕ) → Caller m c u w by → m by.process ≡ false → Holds (λ bs. HasFineRows m c (world_after w bs) → are_apart m c u d w bs ≡ true) (nt_connect_port w by name bytes)
-connect-call-apart m c u d w by name bytes k out = on-connect (λ bs. HasFineRows m c (world_after w bs) → are_apart m c u d w bs ≡ true) w by name bytes (λ q at fine. connect-apart m c u d w by q bytes k (connect-fine m c w by q bytes fine) out)
 
 -- of another member than c
 abbrev pub led_connect : World → ThreadRow → List ℕ → List ℕ → List Basic
@@ -192,9 +189,6 @@ c-connect m c u w by name bytes k mine inside =
     let q_in : m q.process ≡ true = named-in m w name q inside at in
     let fine : is_fine_client m c (next_birth by) q ≡ true = fine-both m c by q by_in q_in in
     ap (λ bs. Ok bs) (connect-view m c u w by q bytes k fine by_in)))))
-
-pub c-connect-ours : (m : Group) (c : ℕ) (u w : World) (by : ThreadRow) (name bytes : List ℕ) → Caller m c u w by → by.process ≡ c → Holds (λ bs. HasFineRows m c (world_after w bs) → are_ours m w bs ≡ true) (nt_connect_port w by name bytes)
-c-connect-ours m c u w by name bytes k mine = on-connect (λ bs. HasFineRows m c (world_after w bs) → are_ours m w bs ≡ true) w by name bytes (λ q at fine. connect-ours m c u w by q bytes k (connect-fine m c w by q bytes fine) (ap m mine ∙ k.c_in))
 
 -- NtCreatePort's names
 pub c-making : (m : Group) (w : World) (b : Birth) (name : List ℕ) → SeenNames m w.bindings → names_inside m w name ≡ true → making (view m w) b (Some name) ≡ making w b (Some name)

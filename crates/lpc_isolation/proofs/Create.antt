@@ -21,10 +21,10 @@ use Rattle.lpc_isolation.proofs.Apart.{are_apart}
 use Rattle.lpc_isolation.proofs.Callers.{handles_test-view, on_ok, unseen-thread}
 
 -- the steps: a member's, fair, an outsider's
-unnamed-ours : (m : Group) (w : World) (by : ThreadRow) (value : ℕ) → m by.process ≡ true → are_ours m w (create_steps by (unnamed_steps (next_birth by)) value) ≡ true
+pub unnamed-ours : (m : Group) (w : World) (by : ThreadRow) (value : ℕ) → m by.process ≡ true → are_ours m w (create_steps by (unnamed_steps (next_birth by)) value) ≡ true
 unnamed-ours m w by value is = rw is refl
 
-named-ours : (m : Group) (w : World) (by : ThreadRow) (path : Path) (value : ℕ) → m by.process ≡ true → are_ours m w (create_steps by (named_steps (next_birth by) path) value) ≡ true
+pub named-ours : (m : Group) (w : World) (by : ThreadRow) (path : Path) (value : ℕ) → m by.process ≡ true → are_ours m w (create_steps by (named_steps (next_birth by) path) value) ≡ true
 named-ours m w by path value is = rw is refl
 
 unnamed-fair : (m : Group) (c : ℕ) (w : World) (by : ThreadRow) (value : ℕ) → are_fair m c w (create_steps by (unnamed_steps (next_birth by)) value) ≡ true
@@ -33,11 +33,11 @@ unnamed-fair m c w by value = rw (same-number by.process) refl
 named-fair : (m : Group) (c : ℕ) (w : World) (by : ThreadRow) (path : Path) (value : ℕ) → are_fair m c w (create_steps by (named_steps (next_birth by) path) value) ≡ true
 named-fair m c w by path value = rw (same-number by.process) refl
 
-unnamed-apart : (m : Group) (c : ℕ) (u : World) (d : Whose) (w : World) (by : ThreadRow) (value : ℕ) → Fair m c w → owner w by.number ≡ Some by.process → owner u by.number ≡ Some by.process → m by.process ≡ false
+pub unnamed-apart : (m : Group) (c : ℕ) (u : World) (d : Whose) (w : World) (by : ThreadRow) (value : ℕ) → Fair m c w → owner w by.number ≡ Some by.process → owner u by.number ≡ Some by.process → m by.process ≡ false
     → are_apart m c u d w (create_steps by (unnamed_steps (next_birth by)) value) ≡ true
 unnamed-apart m c u d w by value f own here out = rw (here, unseen-thread m c w by.number by.process f own out, out) refl
 
-named-apart : (m : Group) (c : ℕ) (u : World) (d : Whose) (w : World) (by : ThreadRow) (path : Path) (value : ℕ) → Fair m c w → owner w by.number ≡ Some by.process → owner u by.number ≡ Some by.process → m by.process ≡ false
+pub named-apart : (m : Group) (c : ℕ) (u : World) (d : Whose) (w : World) (by : ThreadRow) (path : Path) (value : ℕ) → Fair m c w → owner w by.number ≡ Some by.process → owner u by.number ≡ Some by.process → m by.process ≡ false
     → are_apart m c u d w (create_steps by (named_steps (next_birth by) path) value) ≡ true
 named-apart m c u d w by path value f own here out = rw (here, unseen-thread m c w by.number by.process f own out, out) refl
 
@@ -63,9 +63,6 @@ create-ours m w by name is = made-holds (λ bs. are_ours m w bs ≡ true) w by n
 
 pub create-fair : (m : Group) (c : ℕ) (w : World) (by : ThreadRow) (name : Option (List ℕ)) → Holds (λ bs. are_fair m c w bs ≡ true) (nt_create_port w by name)
 create-fair m c w by name = made-holds (λ bs. are_fair m c w bs ≡ true) w by name (λ value. unnamed-fair m c w by value) (λ path value. named-fair m c w by path value)
-
-pub create-apart : (m : Group) (c : ℕ) (u : World) (d : Whose) (w : World) (by : ThreadRow) (name : Option (List ℕ)) → Fair m c w → owner w by.number ≡ Some by.process → owner u by.number ≡ Some by.process → m by.process ≡ false → Holds (λ bs. are_apart m c u d w bs ≡ true) (nt_create_port w by name)
-create-apart m c u d w by name f own here out = made-holds (λ bs. are_apart m c u d w bs ≡ true) w by name (λ value. unnamed-apart m c u d w by value f own here out) (λ path value. named-apart m c u d w by path value f own here out)
 
 -- of c, in the view as in the world, where the name is seen alike
 pub create-c : (m : Group) (c : ℕ) (w : World) (by : ThreadRow) (name : Option (List ℕ)) → m c ≡ true → by.process ≡ c → Fair m c w → making (view m w) (next_birth by) name ≡ making w (next_birth by) name → nt_create_port (view m w) by name ≡ nt_create_port w by name

@@ -42,14 +42,13 @@ use Rattle.lpc_isolation.proofs.Calls.{Begins}
 use Rattle.lpc_isolation.proofs.Refuses.{Refuses, bind, handles, if_refuses}
 use Rattle.lpc_isolation.proofs.Knows.{AllKnown}
 use Rattle.lpc_isolation.proofs.KnownCalls.{Hears, still-hears}
-use Rattle.lpc_isolation.proofs.Bound.{OnceBound}
 use Rattle.lpc_isolation.proofs.Paths.{are_paths}
 use Rattle.lpc_isolation.proofs.Sent.{are_sent}
 use Rattle.lpc_isolation.proofs.Instances.{At, Leading}
 use Rattle.lpc_isolation.proofs.Thin.{Alive, Closed, is_live-thin, process_alive, process_closed, thin, thread_closed, threads-thin}
 use Rattle.lpc_isolation.proofs.ThinCalls.{AreClosed}
 use Rattle.lpc_isolation.proofs.Fine.{FineAfter, kept-last}
-use Rattle.lpc_isolation.proofs.Duplicates.{unnoted}
+use Rattle.lpc_isolation.proofs.Tame.{unnoted}
 use Rattle.lpc_isolation.proofs.Aims.{process-thin, process-view, process-whose, refuses-process}
 use Rattle.lpc_isolation.proofs.Laws.{Lawful, Room, at-most, home-live}
 
@@ -297,7 +296,6 @@ process-lawful pid tid = record {
   numbered = λ m c w by known a ids n. on-process (λ bs. Numbered (world_after w bs)) w by pid tid (λ _ _. every-push of_number w.used_threads (used (new_thread tid pid (second_birth by))) n (and_from _ _ (id-most pid (first-true _ _ ids)) (id-most tid (second-true _ _ ids))));
   refuses = λ w by. process-refuses pid tid w by;
   fair = λ m c w by known a. on-process (λ bs. HasFineRows m c (world_after w bs) → are_fair m c w bs ≡ true) w by pid tid (λ _ unused fine. process-fair m c w by pid tid (made-group m c by pid w.processes fine.0) unused);
-  names = λ m c w by known a. on-process (λ bs. OnceBound (world_after w bs).bindings) w by pid tid (λ _ _. a.bound);
   paths = λ m c w by known a all. on-process (λ bs. are_paths w bs ≡ true) w by pid tid (λ _ _. refl);
   asked = λ m c w by known a b. on-process (λ bs. Asked (world_after w bs)) w by pid tid (λ _ _. record { sorts = b.sorts; own = b.own; one = b.one });
   sent = λ u by s live. on-process (λ bs. are_sent u bs ≡ true) u by pid tid (λ _ _. refl);
@@ -336,7 +334,6 @@ thread-lawful target tid = record {
   numbered = λ m c w by known a ids n. on-thread (λ bs. Numbered (world_after w bs)) w by target tid (λ pid _ live _. every-push of_number w.used_threads (used (new_thread tid pid (next_birth by))) n (and_from _ _ (live-most m c w pid a.fair n live) (id-most tid ids)));
   refuses = λ w by. thread-refuses target tid w by;
   fair = λ m c w by known a. on-thread (λ bs. HasFineRows m c (world_after w bs) → are_fair m c w bs ≡ true) w by target tid (λ pid at _ unused fine. thread-fair m c w by tid pid (target-group m c w by target pid a.fair at) unused);
-  names = λ m c w by known a. on-thread (λ bs. OnceBound (world_after w bs).bindings) w by target tid (λ _ _ _ _. a.bound);
   paths = λ m c w by known a all. on-thread (λ bs. are_paths w bs ≡ true) w by target tid (λ _ _ _ _. refl);
   asked = λ m c w by known a b. on-thread (λ bs. Asked (world_after w bs)) w by target tid (λ _ _ _ _. record { sorts = b.sorts; own = b.own; one = b.one });
   sent = λ u by s live. on-thread (λ bs. are_sent u bs ≡ true) u by target tid (λ _ _ _ _. refl);

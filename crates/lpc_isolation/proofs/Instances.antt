@@ -27,21 +27,21 @@ use Rattle.lpc_isolation.proofs.Fair.{Fair}
 use Rattle.lpc_isolation.proofs.Apart.{Owned, are_apart}
 use Rattle.lpc_isolation.proofs.Callers.{Answered, Led, answered-same, led-same, on_ok}
 use Rattle.lpc_isolation.proofs.Enter.{sound-patient}
-use Rattle.lpc_isolation.proofs.Create.{create-apart, create-c, create-led, create-ours, led_create}
-use Rattle.lpc_isolation.proofs.Reply.{led_reply_port, reply-apart, reply-call-led}
-use Rattle.lpc_isolation.proofs.Mine.{Ways, c-reply, c-reply-ours}
+use Rattle.lpc_isolation.proofs.Create.{create-c, create-led, create-ours, led_create}
+use Rattle.lpc_isolation.proofs.Reply.{led_reply_port, reply-call-led}
+use Rattle.lpc_isolation.proofs.Mine.{Ways, c-reply}
 use Rattle.lpc_isolation.proofs.Names.{SeenNames}
 use Rattle.lpc_isolation.proofs.Bound.{OnceBound}
 use Rattle.lpc_isolation.proofs.Paths.{Paths}
 use Rattle.lpc_isolation.proofs.Asked.{Asked}
-use Rattle.lpc_isolation.proofs.Sends.{Caller, c-request_port, c-request_port-ours, led_datagram, request_port-apart, request_port-led}
-use Rattle.lpc_isolation.proofs.Requests.{c-request, c-request-ours, led_request, request-call-apart, request-call-led}
+use Rattle.lpc_isolation.proofs.Sends.{Caller, c-request_port, led_datagram, request_port-led}
+use Rattle.lpc_isolation.proofs.Requests.{c-request, led_request, request-call-led}
 use Rattle.lpc_isolation.proofs.Takes.{is_readable}
-use Rattle.lpc_isolation.proofs.Listens.{c-listen, c-listen-ours, led_listen, listen-call-apart, listen-call-led, own_entry}
-use Rattle.lpc_isolation.proofs.Receive.{c-receive, c-receive-ours, led_receive, receive-call-apart, receive-call-led}
-use Rattle.lpc_isolation.proofs.Connects.{c-connect, c-connect-ours, c-making, connect-call-apart, connect-call-led, led_connect, making-view}
-use Rattle.lpc_isolation.proofs.Completes.{c-complete, c-complete-ours, complete-call-apart, complete-call-led, led_complete}
-use Rattle.lpc_isolation.proofs.Accepts.{accept-call-apart, accept-call-led, c-accept-ours, c-answer, led_answer}
+use Rattle.lpc_isolation.proofs.Listens.{c-listen, led_listen, listen-call-led, own_entry}
+use Rattle.lpc_isolation.proofs.Receive.{c-receive, led_receive, receive-call-led}
+use Rattle.lpc_isolation.proofs.Connects.{c-connect, c-making, connect-call-led, led_connect, making-view}
+use Rattle.lpc_isolation.proofs.Completes.{c-complete, complete-call-led, led_complete}
+use Rattle.lpc_isolation.proofs.Accepts.{accept-call-led, c-answer, led_answer}
 use Rattle.lpc_isolation.proofs.Lines.{Leads}
 
 -- by its answer alone
@@ -133,33 +133,6 @@ own-same m c u d w by call same ours =
 pub later : (P : List Basic → Type 0) (m : Group) (c : ℕ) (w : World) (r : Result (List Basic) Status) → Holds P r → Holds (λ bs. HasFineRows m c (world_after w bs) → P bs) r
 later P m c w r h = holds-more P (λ bs. HasFineRows m c (world_after w bs) → P bs) r (λ bs p fine. p) h
 
-pub apart-create : (m : Group) (c : ℕ) (u : World) (d : Whose) (w : World) (by : ThreadRow) (known : List ℕ → Birth) (name : Option (List ℕ)) → At m c w by known → u.used_threads ≡ w.used_threads → m by.process ≡ false → Holds (λ bs. HasFineRows m c (world_after w bs) → are_apart m c u d w bs ≡ true) (served w by (create_port name))
-apart-create m c u d w by known name a used out = later (λ bs. are_apart m c u d w bs ≡ true) m c w (served w by (create_port name)) (create-apart m c u d w by name a.fair a.own (caller m c w by known u a used).here out)
-
-pub apart-connect : (m : Group) (c : ℕ) (u : World) (d : Whose) (w : World) (by : ThreadRow) (known : List ℕ → Birth) (name bytes : List ℕ) → At m c w by known → u.used_threads ≡ w.used_threads → m by.process ≡ false → Holds (λ bs. HasFineRows m c (world_after w bs) → are_apart m c u d w bs ≡ true) (served w by (connect_port name bytes))
-apart-connect m c u d w by known name info a used out = connect-call-apart m c u d w by name info (caller m c w by known u a used) out
-
-pub apart-listen : (m : Group) (c : ℕ) (u : World) (d : Whose) (w : World) (by : ThreadRow) (known : List ℕ → Birth) (handle : ℕ) → At m c w by known → u.used_threads ≡ w.used_threads → m by.process ≡ false → Holds (λ bs. HasFineRows m c (world_after w bs) → are_apart m c u d w bs ≡ true) (served w by (listen_port handle))
-apart-listen m c u d w by known handle a used out = later (λ bs. are_apart m c u d w bs ≡ true) m c w (served w by (listen_port handle)) (listen-call-apart m c u d w by handle (caller m c w by known u a used) out)
-
-pub apart-accept : (m : Group) (c : ℕ) (u : World) (d : Whose) (w : World) (by : ThreadRow) (known : List ℕ → Birth) (context : ℕ) (message : List ℕ) (accept : Bool) → At m c w by known → u.used_threads ≡ w.used_threads → m by.process ≡ false → Holds (λ bs. HasFineRows m c (world_after w bs) → are_apart m c u d w bs ≡ true) (served w by (accept_connect_port context message accept))
-apart-accept m c u d w by known context bytes accept a used out = later (λ bs. are_apart m c u d w bs ≡ true) m c w (served w by (accept_connect_port context bytes accept)) (accept-call-apart m c u d w by context bytes accept (caller m c w by known u a used) out)
-
-pub apart-complete : (m : Group) (c : ℕ) (u : World) (d : Whose) (w : World) (by : ThreadRow) (known : List ℕ → Birth) (handle : ℕ) → At m c w by known → u.used_threads ≡ w.used_threads → m by.process ≡ false → Holds (λ bs. HasFineRows m c (world_after w bs) → are_apart m c u d w bs ≡ true) (served w by (complete_connect_port handle))
-apart-complete m c u d w by known handle a used out = later (λ bs. are_apart m c u d w bs ≡ true) m c w (served w by (complete_connect_port handle)) (complete-call-apart m c u d w by handle (caller m c w by known u a used) out)
-
-pub apart-datagram : (m : Group) (c : ℕ) (u : World) (d : Whose) (w : World) (by : ThreadRow) (known : List ℕ → Birth) (handle : ℕ) (message : List ℕ) → At m c w by known → u.used_threads ≡ w.used_threads → m by.process ≡ false → Holds (λ bs. HasFineRows m c (world_after w bs) → are_apart m c u d w bs ≡ true) (served w by (request_port handle message))
-apart-datagram m c u d w by known handle bytes a used out = later (λ bs. are_apart m c u d w bs ≡ true) m c w (served w by (request_port handle bytes)) (request_port-apart m c u d w by handle bytes (caller m c w by known u a used) out)
-
-pub apart-request : (m : Group) (c : ℕ) (u : World) (d : Whose) (w : World) (by : ThreadRow) (known : List ℕ → Birth) (handle : ℕ) (message : List ℕ) → At m c w by known → u.used_threads ≡ w.used_threads → m by.process ≡ false → Holds (λ bs. HasFineRows m c (world_after w bs) → are_apart m c u d w bs ≡ true) (served w by (request_wait_reply_port handle message))
-apart-request m c u d w by known handle bytes a used out = later (λ bs. are_apart m c u d w bs ≡ true) m c w (served w by (request_wait_reply_port handle bytes)) (request-call-apart m c u d w by handle bytes (caller m c w by known u a used) out)
-
-pub apart-reply : (m : Group) (c : ℕ) (u : World) (d : Whose) (w : World) (by : ThreadRow) (known : List ℕ → Birth) (handle : ℕ) (message : List ℕ) → At m c w by known → u.used_threads ≡ w.used_threads → m by.process ≡ false → Holds (λ bs. HasFineRows m c (world_after w bs) → are_apart m c u d w bs ≡ true) (served w by (reply_port handle message))
-apart-reply m c u d w by known handle bytes a used out = let k = caller m c w by known u a used in later (λ bs. are_apart m c u d w bs ≡ true) m c w (served w by (reply_port handle bytes)) (reply-apart m c u d w by handle bytes a.c_in a.fair k.owned k.here out)
-
-pub apart-receive : (m : Group) (c : ℕ) (u : World) (d : Whose) (w : World) (by : ThreadRow) (known : List ℕ → Birth) (handle : ℕ) (message : Option (List ℕ)) → At m c w by known → u.used_threads ≡ w.used_threads → m by.process ≡ false → Holds (λ bs. HasFineRows m c (world_after w bs) → are_apart m c u d w bs ≡ true) (served w by (reply_wait_receive_port handle message))
-apart-receive m c u d w by known handle bytes a used out = later (λ bs. are_apart m c u d w bs ≡ true) m c w (served w by (reply_wait_receive_port handle bytes)) (receive-call-apart m c u d w by handle bytes (caller m c w by known u a used) out)
-
 pub same-create : (m : Group) (c : ℕ) (w : World) (by : ThreadRow) (known : List ℕ → Birth) (name : Option (List ℕ)) → At m c w by known → by.process ≡ c → is_fine_call m w (create_port name) ≡ true → served (view m w) by (create_port name) ≡ served w by (create_port name)
 same-create m c w by known None a mine fine = create-c m c w by None a.c_in mine a.fair refl
 same-create m c w by known (Some name) a mine fine = create-c m c w by (Some name) a.c_in mine a.fair (c-making m w (next_birth by) name a.names fine)
@@ -188,33 +161,6 @@ same-reply m c w by known handle bytes a mine fine = c-reply m c w by handle byt
 pub same-receive : (m : Group) (c : ℕ) (w : World) (by : ThreadRow) (known : List ℕ → Birth) (handle : ℕ) (message : Option (List ℕ)) → At m c w by known → by.process ≡ c → is_fine_call m w (reply_wait_receive_port handle message) ≡ true → served (view m w) by (reply_wait_receive_port handle message) ≡ served w by (reply_wait_receive_port handle message)
 same-receive m c w by known handle None a mine fine = c-receive m c w w by handle None (caller m c w by known w a refl) mine a.ways refl
 same-receive m c w by known handle (Some bytes) a mine fine = c-receive m c w w by handle (Some bytes) (caller m c w by known w a refl) mine a.ways fine
-
-pub ours-create : (m : Group) (c : ℕ) (w : World) (by : ThreadRow) (known : List ℕ → Birth) (name : Option (List ℕ)) → At m c w by known → by.process ≡ c → Holds (λ bs. HasFineRows m c (world_after w bs) → are_ours m w bs ≡ true) (served w by (create_port name))
-ours-create m c w by known name a mine = later (λ bs. are_ours m w bs ≡ true) m c w (served w by (create_port name)) (create-ours m w by name (ap m mine ∙ a.c_in))
-
-pub ours-connect : (m : Group) (c : ℕ) (w : World) (by : ThreadRow) (known : List ℕ → Birth) (name bytes : List ℕ) → At m c w by known → by.process ≡ c → Holds (λ bs. HasFineRows m c (world_after w bs) → are_ours m w bs ≡ true) (served w by (connect_port name bytes))
-ours-connect m c w by known name info a mine = c-connect-ours m c w w by name info (caller m c w by known w a refl) mine
-
-pub ours-listen : (m : Group) (c : ℕ) (w : World) (by : ThreadRow) (known : List ℕ → Birth) (handle : ℕ) → At m c w by known → by.process ≡ c → Holds (λ bs. HasFineRows m c (world_after w bs) → are_ours m w bs ≡ true) (served w by (listen_port handle))
-ours-listen m c w by known handle a mine = later (λ bs. are_ours m w bs ≡ true) m c w (served w by (listen_port handle)) (c-listen-ours m c w w by handle (caller m c w by known w a refl) mine)
-
-pub ours-accept : (m : Group) (c : ℕ) (w : World) (by : ThreadRow) (known : List ℕ → Birth) (context : ℕ) (message : List ℕ) (accept : Bool) → At m c w by known → by.process ≡ c → Holds (λ bs. HasFineRows m c (world_after w bs) → are_ours m w bs ≡ true) (served w by (accept_connect_port context message accept))
-ours-accept m c w by known context bytes accept a mine = later (λ bs. are_ours m w bs ≡ true) m c w (served w by (accept_connect_port context bytes accept)) (c-accept-ours m c w w by context bytes accept (caller m c w by known w a refl) mine)
-
-pub ours-complete : (m : Group) (c : ℕ) (w : World) (by : ThreadRow) (known : List ℕ → Birth) (handle : ℕ) → At m c w by known → by.process ≡ c → Holds (λ bs. HasFineRows m c (world_after w bs) → are_ours m w bs ≡ true) (served w by (complete_connect_port handle))
-ours-complete m c w by known handle a mine = later (λ bs. are_ours m w bs ≡ true) m c w (served w by (complete_connect_port handle)) (c-complete-ours m c w w by handle (caller m c w by known w a refl))
-
-pub ours-datagram : (m : Group) (c : ℕ) (w : World) (by : ThreadRow) (known : List ℕ → Birth) (handle : ℕ) (message : List ℕ) → At m c w by known → by.process ≡ c → Holds (λ bs. HasFineRows m c (world_after w bs) → are_ours m w bs ≡ true) (served w by (request_port handle message))
-ours-datagram m c w by known handle bytes a mine = later (λ bs. are_ours m w bs ≡ true) m c w (served w by (request_port handle bytes)) (c-request_port-ours m c w w by handle bytes (caller m c w by known w a refl) mine)
-
-pub ours-request : (m : Group) (c : ℕ) (w : World) (by : ThreadRow) (known : List ℕ → Birth) (handle : ℕ) (message : List ℕ) → At m c w by known → by.process ≡ c → Holds (λ bs. HasFineRows m c (world_after w bs) → are_ours m w bs ≡ true) (served w by (request_wait_reply_port handle message))
-ours-request m c w by known handle bytes a mine = later (λ bs. are_ours m w bs ≡ true) m c w (served w by (request_wait_reply_port handle bytes)) (c-request-ours m c w w by handle bytes (caller m c w by known w a refl) mine)
-
-pub ours-reply : (m : Group) (c : ℕ) (w : World) (by : ThreadRow) (known : List ℕ → Birth) (handle : ℕ) (message : List ℕ) → At m c w by known → by.process ≡ c → Holds (λ bs. HasFineRows m c (world_after w bs) → are_ours m w bs ≡ true) (served w by (reply_port handle message))
-ours-reply m c w by known handle bytes a mine = later (λ bs. are_ours m w bs ≡ true) m c w (served w by (reply_port handle bytes)) (c-reply-ours m w by handle bytes)
-
-pub ours-receive : (m : Group) (c : ℕ) (w : World) (by : ThreadRow) (known : List ℕ → Birth) (handle : ℕ) (message : Option (List ℕ)) → At m c w by known → by.process ≡ c → Holds (λ bs. HasFineRows m c (world_after w bs) → are_ours m w bs ≡ true) (served w by (reply_wait_receive_port handle message))
-ours-receive m c w by known handle bytes a mine = later (λ bs. are_ours m w bs ≡ true) m c w (served w by (reply_wait_receive_port handle bytes)) (c-receive-ours m c w w by handle bytes (caller m c w by known w a refl) mine)
 
 abbrev pub Leading : Group → ℕ → World → Whose → World → ThreadRow → (List ℕ → Birth) → ScriptCall → List Basic → Type 0
 Leading m c u d w by known call bs = Led m c u d w bs (leads_by m known (view m w) by call (own_entry bs))

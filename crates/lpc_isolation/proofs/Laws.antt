@@ -22,7 +22,6 @@ use Rattle.lpc_isolation.proofs.View.{view}
 use Rattle.lpc_isolation.proofs.Fair.{are_fair}
 use Rattle.lpc_isolation.proofs.Apart.{Owned, are_apart}
 use Rattle.lpc_isolation.proofs.Callers.{Answered, Led}
-use Rattle.lpc_isolation.proofs.Bound.{OnceBound}
 use Rattle.lpc_isolation.proofs.Calls.{Begins}
 use Rattle.lpc_isolation.proofs.Lines.{OnceUsed}
 use Rattle.lpc_isolation.proofs.Listens.{own_entry}
@@ -90,7 +89,6 @@ pub record Lawful (call : ScriptCall) : Type 0 where
   pub refuses : (w : World) (by : ThreadRow) → Refuses (served w by call)
   -- what it keeps: rows that are fair, names, the ways of requests, the waits of those who asked
   pub fair : (m : Group) (c : ℕ) (w : World) (by : ThreadRow) (known : List ℕ → Birth) → At m c w by known → Holds (λ bs. HasFineRows m c (world_after w bs) → are_fair m c w bs ≡ true) (served w by call)
-  pub names : (m : Group) (c : ℕ) (w : World) (by : ThreadRow) (known : List ℕ → Birth) → At m c w by known → Holds (λ bs. OnceBound (world_after w bs).bindings) (served w by call)
   pub paths : (m : Group) (c : ℕ) (w : World) (by : ThreadRow) (known : List ℕ → Birth) → At m c w by known → Paths w → Holds (λ bs. are_paths w bs ≡ true) (served w by call)
   pub asked : (m : Group) (c : ℕ) (w : World) (by : ThreadRow) (known : List ℕ → Birth) → At m c w by known → Asked w → Holds (λ bs. Asked (world_after w bs)) (served w by call)
   pub sent : (u : World) (by : ThreadRow) → IsSoundWorld u → live_thread u by.number ≡ Some by → Holds (λ bs. are_sent u bs ≡ true) (served u by call)

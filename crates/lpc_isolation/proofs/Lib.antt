@@ -1,5 +1,6 @@
 pub mod Alone
 pub mod Served
+pub mod Deeds
 pub mod Bare
 pub mod Firm
 pub mod Filters
@@ -52,9 +53,13 @@ pub mod Counted
 pub mod Queries
 pub mod Registers
 pub mod Aims
+pub mod Doomed
 pub mod Terminates
 pub mod Held
 pub mod Laws
+pub mod NamesKept
+pub mod Calm
+pub mod Tame
 pub mod Creates
 pub mod Born
 pub mod Grown
@@ -65,6 +70,11 @@ pub mod Swept
 pub mod Paths
 pub mod Sent
 pub mod Ways
+pub mod SentDeeds
+pub mod OursDeeds
+pub mod ApartDeeds
+pub mod StandsDeeds
+pub mod FineDeeds
 pub mod Ids
 pub mod Asked
 pub mod AskedCalls

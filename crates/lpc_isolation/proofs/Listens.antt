@@ -54,7 +54,7 @@ listen-fair : (m : Group) (c : ℕ) (w : World) (by : ThreadRow) (p : PortRow) (
 listen-fair m c w by p (Some x) c_in own = take_connect-fair m c w x
 listen-fair m c w by p None c_in own = rw (own-wait-fair m c (listen_wait by p.birth) c_in own own) refl
 
-listen-apart : (m : Group) (c : ℕ) (u : World) (d : Whose) (w : World) (by : ThreadRow) (p : PortRow) (o : Option MessageRow) → first (is_queued_connect p.birth) w.messages ≡ o → owner u by.number ≡ Some by.process → m by.process ≡ false → p.birth.process ≡ by.process → are_apart m c u d w (listen_steps by p.birth o) ≡ true
+pub listen-apart : (m : Group) (c : ℕ) (u : World) (d : Whose) (w : World) (by : ThreadRow) (p : PortRow) (o : Option MessageRow) → first (is_queued_connect p.birth) w.messages ≡ o → owner u by.number ≡ Some by.process → m by.process ≡ false → p.birth.process ≡ by.process → are_apart m c u d w (listen_steps by p.birth o) ≡ true
 listen-apart m c u d w by p (Some x) at here out own = rw (here, out) (take_connect-apart m c u d w x (first-own p.birth w x at) (ap (λ (b : Birth). m b.process) (listen-queue p.birth w x at) ∙ ap m own ∙ out))
 listen-apart m c u d w by p None at here out own = rw (here, out) refl
 
@@ -67,9 +67,6 @@ on-port P m c u w by handle k then_ =
 
 pub listen-call-fair : (m : Group) (c : ℕ) (u w : World) (by : ThreadRow) (handle : ℕ) → Caller m c u w by → Holds (λ bs. are_fair m c w bs ≡ true) (nt_listen_port w by handle)
 listen-call-fair m c u w by handle k = on-port (λ bs. are_fair m c w bs ≡ true) m c u w by handle k (λ p at n. listen-fair m c w by p (first (is_queued_connect p.birth) w.messages) k.c_in n.process)
-
-pub listen-call-apart : (m : Group) (c : ℕ) (u : World) (d : Whose) (w : World) (by : ThreadRow) (handle : ℕ) → Caller m c u w by → m by.process ≡ false → Holds (λ bs. are_apart m c u d w bs ≡ true) (nt_listen_port w by handle)
-listen-call-apart m c u d w by handle k out = on-port (λ bs. are_apart m c u d w bs ≡ true) m c u w by handle k (λ p at n. listen-apart m c u d w by p (first (is_queued_connect p.birth) w.messages) refl k.here out n.process)
 
 -- of another member than c, by what it was told
 abbrev pub own_entry : List Basic → Entry
@@ -127,7 +124,7 @@ c-listen m c u w by handle k mine =
     let n : Named m c w by p = holds_ok (Named m c w by) (port_test w by handle) p (named-port m c u w by handle k) at in
     rw (c-first m c w p.birth (is_queued_connect p.birth) k.c_in k.fair (ap (λ b. b == c) (n.process ∙ mine) ∙ same-number c) (λ x is. first-true _ _ is)) refl))
 
-c-listened-ours : (m : Group) (c : ℕ) (w : World) (by : ThreadRow) (p : PortRow) (o : Option MessageRow) → first (is_queued_connect p.birth) w.messages ≡ o → m c ≡ true → Fair m c w → by.process ≡ c → p.birth.process ≡ by.process → are_ours m w (listen_steps by p.birth o) ≡ true
+pub c-listened-ours : (m : Group) (c : ℕ) (w : World) (by : ThreadRow) (p : PortRow) (o : Option MessageRow) → first (is_queued_connect p.birth) w.messages ≡ o → m c ≡ true → Fair m c w → by.process ≡ c → p.birth.process ≡ by.process → are_ours m w (listen_steps by p.birth o) ≡ true
 c-listened-ours m c w by p None at c_in f mine own = rw (ap m mine ∙ c_in, ap m (own ∙ mine) ∙ c_in) refl
 c-listened-ours m c w by p (Some x) at c_in f mine own =
     let queue : x.queue.process ≡ c = ap (λ (b : Birth). b.process) (listen-queue p.birth w x at) ∙ own ∙ mine in
@@ -135,6 +132,3 @@ c-listened-ours m c w by p (Some x) at c_in f mine own =
     let q_c : (x.queue.process == c) ≡ true = ap (λ b. b == c) queue ∙ same-number c in
     let s_in : m x.sender.process ≡ true = grind arith in
     take_connect-ours m w x (first-own p.birth w x at) (and_from _ _ s_in (ap m queue ∙ c_in))
-
-pub c-listen-ours : (m : Group) (c : ℕ) (u w : World) (by : ThreadRow) (handle : ℕ) → Caller m c u w by → by.process ≡ c → Holds (λ bs. are_ours m w bs ≡ true) (nt_listen_port w by handle)
-c-listen-ours m c u w by handle k mine = on-port (λ bs. are_ours m w bs ≡ true) m c u w by handle k (λ p at n. c-listened-ours m c w by p (first (is_queued_connect p.birth) w.messages) refl k.c_in k.fair mine n.process)

@@ -198,9 +198,3 @@ c-reply m c w by handle bytes c_in mine f ways inside =
     bind-same (message_test bytes) _ _ (λ a is.
     let p_in : m p.birth.process ≡ true = ap m ((holds_ok _ (port_test w by handle) p (port-own m c w by handle f) at).0 ∙ mine) ∙ c_in in
     rw (c-answered m c w p a f ways p_in (message-names m w bytes a is inside)) refl)))
-
-pub c-reply-ours : (m : Group) (w : World) (by : ThreadRow) (handle : ℕ) (bytes : List ℕ) → Holds (λ bs. are_ours m w bs ≡ true) (nt_reply_port w by handle bytes)
-unfolding nt_reply_port
-c-reply-ours m w by handle bytes =
-    let P : List Basic → Type 0 = λ bs. are_ours m w bs ≡ true in
-    bind_holds (port_test w by handle) _ P (λ port _. bind_holds (message_test bytes) _ P (λ a _. bind_holds (reply_test w port a) _ P (λ x _. refl)))

@@ -36,6 +36,7 @@ use Rattle.lpc_isolation.proofs.Calls.{busy, called, nobody}
 use Rattle.lpc_isolation.proofs.Instances.{At}
 use Rattle.lpc_isolation.proofs.Bound.{OnceBound, once-bound, seen-names}
 use Rattle.lpc_isolation.proofs.Bindings.{free-unbound}
+use Rattle.lpc_isolation.proofs.NamesKept.{bound-call}
 use Rattle.lpc_isolation.proofs.Directives.{boot-directs, dir-directs, link-directs, thread-directs}
 use Rattle.lpc_isolation.proofs.Stands.{Kept, State, Stood, ready-at}
 use Rattle.lpc_isolation.proofs.Knows.{known_queue}
@@ -99,7 +100,7 @@ ok-next m c w by known call (Err s) ids a n is fine = n
 ok-next m c w by known call (Ok bs) ids a n is fine = record {
   fair = run-fair m c w bs (holds_ok (λ bs. HasFineRows m c (world_after w bs) → are_fair m c w bs ≡ true) (served w by call) bs ((lawful call).fair m c w by known a) is fine) n.fair;
   once = holds_ok (λ bs. OnceUsed (world_after w bs)) (served w by call) bs ((lawful call).once m c w by known a n.once) is;
-  names = holds_ok (λ bs. OnceBound (world_after w bs).bindings) (served w by call) bs ((lawful call).names m c w by known a) is;
+  names = holds_ok (λ bs. OnceBound (world_after w bs).bindings) (served w by call) bs (bound-call m c w by known call a) is;
   paths = run-paths w bs (holds_ok (λ bs. are_paths w bs ≡ true) (served w by call) bs ((lawful call).paths m c w by known a n.paths) is) n.paths;
   numbered = holds_ok (λ bs. Numbered (world_after w bs)) (served w by call) bs ((lawful call).numbered m c w by known a ids n.numbered) is;
   asked = holds_ok (λ bs. Asked (world_after w bs)) (served w by call) bs ((lawful call).asked m c w by known a n.asked) is;

@@ -24,6 +24,7 @@ use Rattle.lpc_model.specs.Basics.{Awaits, Basic, Tells, basic, entries_of, told
 use Rattle.lpc_model.specs.Request.{reply_test, given_reply, is_spent, nt_reply_wait_receive_port, optional_message, receive_steps, receive_test, receive_wait, reply}
 use Rattle.lpc_model.specs.Entering.{take_steps}
 use Rattle.lpc_model.specs.Tests.{port_test}
+use Rattle.lpc_model.proofs.Outcomes.{IsReceiving}
 use Rattle.lpc_model.proofs.Holding.{Holds, bind_holds, found_ok, holds_ok}
 use Rattle.lpc_model.specs.Circle.{Group, Whose, names_no_outsider, owner}
 use Rattle.lpc_isolation.proofs.Alone.{alone}
@@ -34,7 +35,7 @@ use Rattle.lpc_isolation.proofs.Fair.{Fair, all_of, are_fair, implies, is_fair_m
 use Rattle.lpc_isolation.proofs.Seen.{bind-same, c-port, open-view, port_test-view}
 use Rattle.lpc_isolation.proofs.Apart.{Owned, are_apart, heard, is_heard, is_owned}
 use Rattle.std.proofs.lemmas.List.Elements.{filter-append}
-use Rattle.lpc_model.proofs.StandingCalls.{tested-queue}
+use Rattle.lpc_model.proofs.Acts.{tested-queue}
 use Rattle.lpc_model.proofs.StepsInTurn.{after-append, entries-append}
 use Rattle.lpc_isolation.proofs.Callers.{Led, on_ok}
 use Rattle.lpc_isolation.proofs.Reply.{answered-fit, led_reply, led-wakes, not-c, wakes-apart}
@@ -89,6 +90,14 @@ pub record Receivable (m : Group) (c : ℕ) (w : World) (by : ThreadRow) (handle
   pub queue : queue_of w p ≡ Some q
   pub replies : given_reply w p a ≡ Ok replied
 
+pub receivable : (m : Group) (c : ℕ) (u w : World) (by : ThreadRow) (handle : ℕ) (bytes : Option (List ℕ)) (a : Option Message) (p : PortRow) (q : Birth) (replied : List Basic) → Caller m c u w by → IsReceiving w by handle bytes a p q replied → Receivable m c w by handle a p q replied
+receivable m c u w by handle bytes a p q replied k is = record {
+  from = is.port_found;
+  named = holds_ok (Named m c w by) (port_test w by handle) p (named-port m c u w by handle k) is.port_found;
+  queue = holds_ok (λ q. queue_of w p ≡ Some q) (receive_test w p) q (tested-queue w p) is.queue_found;
+  replies = is.reply_made;
+}
+
 pub on-receive : (P : List Basic → Type 0) (m : Group) (c : ℕ) (u w : World) (by : ThreadRow) (handle : ℕ) (bytes : Option (List ℕ)) → Caller m c u w by
     → ((a : Option Message) (p : PortRow) (q : Birth) (replied : List Basic) → optional_message bytes ≡ Ok a → Receivable m c w by handle a p q replied → P (receive_steps by p q replied (first (is_queued q) w.messages))) → Holds P (nt_reply_wait_receive_port w by handle bytes)
 unfolding nt_reply_wait_receive_port
@@ -130,21 +139,13 @@ receive-call-fair m c u w by handle bytes k = on-receive (λ bs. are_fair m c w 
     (λ b y some at. replied-fair m c w by p q y b (first (is_queued q) w.messages) k.c_in r.named.process queue))
 
 -- apart
-received-apart : (m : Group) (c : ℕ) (u : World) (d : Whose) (w : World) (by : ThreadRow) (p : PortRow) (q : Birth) (o : Option MessageRow) → first (is_queued q) w.messages ≡ o → owner u by.number ≡ Some by.process → m q.process ≡ false → m by.process ≡ false → are_apart m c u d w (receive_steps by p q [] o) ≡ true
+pub received-apart : (m : Group) (c : ℕ) (u : World) (d : Whose) (w : World) (by : ThreadRow) (p : PortRow) (q : Birth) (o : Option MessageRow) → first (is_queued q) w.messages ≡ o → owner u by.number ≡ Some by.process → m q.process ≡ false → m by.process ≡ false → are_apart m c u d w (receive_steps by p q [] o) ≡ true
 received-apart m c u d w by p q None at here q_out out = rw (here, out) refl
 received-apart m c u d w by p q (Some x) at here q_out out = rw (here, out) (take-apart m c u d w x (first-own q w x at) (ap (λ (b : Birth). m b.process) (receive-queue q w x at) ∙ q_out))
 
-replied-apart : (m : Group) (c : ℕ) (u : World) (d : Whose) (w : World) (by : ThreadRow) (p : PortRow) (q : Birth) (y : WaitRow) (b : Message) (o : Option MessageRow) → first (is_queued q) w.messages ≡ o → owner u by.number ≡ Some by.process → m q.process ≡ false → m by.process ≡ false → are_apart m c u d w (reply y b ∷ []) ≡ true → are_apart m c u d w (receive_steps by p q (reply y b ∷ []) o) ≡ true
+pub replied-apart : (m : Group) (c : ℕ) (u : World) (d : Whose) (w : World) (by : ThreadRow) (p : PortRow) (q : Birth) (y : WaitRow) (b : Message) (o : Option MessageRow) → first (is_queued q) w.messages ≡ o → owner u by.number ≡ Some by.process → m q.process ≡ false → m by.process ≡ false → are_apart m c u d w (reply y b ∷ []) ≡ true → are_apart m c u d w (receive_steps by p q (reply y b ∷ []) o) ≡ true
 replied-apart m c u d w by p q y b None at here q_out out woke = rw (here, out) (and_from _ _ (first-true _ _ woke) refl)
 replied-apart m c u d w by p q y b (Some x) at here q_out out woke = rw (here, out) (and_from _ _ (first-true _ _ woke) (take-apart m c u d (basic w (reply y b)) x (first-own q w x at) (ap (λ (b : Birth). m b.process) (receive-queue q w x at) ∙ q_out)))
-
-pub receive-call-apart : (m : Group) (c : ℕ) (u : World) (d : Whose) (w : World) (by : ThreadRow) (handle : ℕ) (bytes : Option (List ℕ)) → Caller m c u w by → m by.process ≡ false → Holds (λ bs. are_apart m c u d w bs ≡ true) (nt_reply_wait_receive_port w by handle bytes)
-receive-call-apart m c u d w by handle bytes k out = on-receive (λ bs. are_apart m c u d w bs ≡ true) m c u w by handle bytes k (λ a p q replied is r.
-    let p_out : m p.birth.process ≡ false = ap m r.named.process ∙ out in
-    let q_out : m q.process ≡ false = ap m (queue-own m c w p q r.named.right r.queue) ∙ p_out in
-    replied-as (λ rs. are_apart m c u d w (receive_steps by p q rs (first (is_queued q) w.messages)) ≡ true) w p a replied r.replies
-    (λ none. received-apart m c u d w by p q (first (is_queued q) w.messages) refl k.here q_out out)
-    (λ b y some at. replied-apart m c u d w by p q y b (first (is_queued q) w.messages) refl k.here q_out out (wakes-apart m c u d w p b y k.c_in k.fair k.owned p_out at)))
 
 -- of another member than c, by what it was told
 abbrev pub led_replied : World → Option (List ℕ) → List Basic
@@ -220,7 +221,7 @@ received-led m c u d w by p q a replied led o at k readable by_in other queue l 
     off None = rw (k.here, other) refl
     off (Some x) = rw (k.here, other) refl
 
-receive-as : (by : ThreadRow) (p : PortRow) (q : Birth) (replied : List Basic) (o : Option MessageRow) → receive_steps by p q replied o ≡ Tells (own by o) ∷ replied ++ rest by p.birth q o
+pub receive-as : (by : ThreadRow) (p : PortRow) (q : Birth) (replied : List Basic) (o : Option MessageRow) → receive_steps by p q replied o ≡ Tells (own by o) ∷ replied ++ rest by p.birth q o
 receive-as by p q replied None = refl
 receive-as by p q replied (Some x) = refl
 
@@ -318,7 +319,7 @@ c-receive m c u w by handle bytes k mine ways inside =
     rw (c-messages m c w by p q k.c_in mine k.fair n (holds_ok (λ q. queue_of w p ≡ Some q) (receive_test w p) q (tested-queue w p) to)) refl)))))))
 
 -- whose steps are members'
-c-rest-ours : (m : Group) (c : ℕ) (w v : World) (by : ThreadRow) (port q : Birth) (o : Option MessageRow) → v.messages ≡ w.messages → first (is_queued q) w.messages ≡ o → m c ≡ true → Fair m c w → by.process ≡ c → q.process ≡ by.process → are_ours m v (rest by port q o) ≡ true
+pub c-rest-ours : (m : Group) (c : ℕ) (w v : World) (by : ThreadRow) (port q : Birth) (o : Option MessageRow) → v.messages ≡ w.messages → first (is_queued q) w.messages ≡ o → m c ≡ true → Fair m c w → by.process ≡ c → q.process ≡ by.process → are_ours m v (rest by port q o) ≡ true
 c-rest-ours m c w v by port q None same at c_in f mine queue = rw (ap m mine ∙ c_in, ap m (queue ∙ mine) ∙ c_in) refl
 c-rest-ours m c w v by port q (Some x) same at c_in f mine queue =
     let own_q : x.queue.process ≡ c = ap (λ (b : Birth). b.process) (receive-queue q w x at) ∙ queue ∙ mine in
@@ -326,10 +327,3 @@ c-rest-ours m c w v by port q (Some x) same at c_in f mine queue =
     let q_c : (x.queue.process == c) ≡ true = ap (λ b. b == c) own_q ∙ same-number c in
     let s_in : m x.sender.process ≡ true = grind arith in
     take-ours m v x (ap (first (is_queued x.queue)) same ∙ first-own q w x at) (and_from _ _ s_in (ap m own_q ∙ c_in))
-
-pub c-receive-ours : (m : Group) (c : ℕ) (u w : World) (by : ThreadRow) (handle : ℕ) (bytes : Option (List ℕ)) → Caller m c u w by → by.process ≡ c → Holds (λ bs. are_ours m w bs ≡ true) (nt_reply_wait_receive_port w by handle bytes)
-c-receive-ours m c u w by handle bytes k mine = on-receive (λ bs. are_ours m w bs ≡ true) m c u w by handle bytes k (λ a p q replied is r.
-    let queue : q.process ≡ by.process = queue-own m c w p q r.named.right r.queue ∙ r.named.process in
-    replied-as (λ rs. are_ours m w (receive_steps by p q rs (first (is_queued q) w.messages)) ≡ true) w p a replied r.replies
-    (λ none. rw (receive-as by p q [] (first (is_queued q) w.messages)) (c-rest-ours m c w w by p.birth q (first (is_queued q) w.messages) refl refl k.c_in k.fair mine queue))
-    (λ b y some at. rw (receive-as by p q (reply y b ∷ []) (first (is_queued q) w.messages)) (c-rest-ours m c w (basic w (reply y b)) by p.birth q (first (is_queued q) w.messages) refl refl k.c_in k.fair mine queue)))

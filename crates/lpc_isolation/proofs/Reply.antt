@@ -88,16 +88,6 @@ wakes-apart m c u d w port a x c_in f owned out is =
     let at : fitted w port.birth a ≡ Some x = answered-fit w port a x is in
     and_from _ _ (and_from _ _ (end-apart m c u d w x SUCCESS (msg (as_reply a) ∷ []) owned (every-first (is_owned u) (fits w port.birth a) w.waits x owned at) (fit-other m c w port.birth a x f c_in out at)) refl) refl
 
-pub reply-apart : (m : Group) (c : ℕ) (u : World) (d : Whose) (w : World) (by : ThreadRow) (handle : ℕ) (bytes : List ℕ) → m c ≡ true → Fair m c w → Owned u w → owner u by.number ≡ Some by.process → m by.process ≡ false → Holds (λ bs. are_apart m c u d w bs ≡ true) (nt_reply_port w by handle bytes)
-unfolding nt_reply_port
-reply-apart m c u d w by handle bytes c_in f owned here out =
-    let P : List Basic → Type 0 = λ bs. are_apart m c u d w bs ≡ true in
-    bind_holds (port_test w by handle) _ P (λ port at.
-    bind_holds (message_test bytes) _ P (λ a _.
-    bind_holds (reply_test w port a) _ P (λ x is.
-    let port_out : m port.birth.process ≡ false = ap m (holds_ok _ (port_test w by handle) port (port-own m c w by handle f) at).0 ∙ out in
-    rw (here, out) (wakes-apart m c u d w port a x c_in f owned port_out is))))
-
 pub reply-fair : (m : Group) (c : ℕ) (w : World) (by : ThreadRow) (handle : ℕ) (bytes : List ℕ) → Holds (λ bs. are_fair m c w bs ≡ true) (nt_reply_port w by handle bytes)
 unfolding nt_reply_port
 reply-fair m c w by handle bytes =

@@ -57,7 +57,7 @@ request-fair : (m : Group) (c : ℕ) (u w : World) (by : ThreadRow) (p : PortRow
 request-fair m c u w by p q a k n to =
     rw (wait-fair m c w by p q (sent_by by REQUEST a) k.c_in n to) (enter-fair m c (world_after w (request_start by p.birth q (sent_by by REQUEST a))) (row_of q p (sent_by by REQUEST a)) (row-fair m c w by p q REQUEST a k.c_in k.own n to))
 
-request-apart : (m : Group) (c : ℕ) (u : World) (d : Whose) (w : World) (by : ThreadRow) (p : PortRow) (q : Birth) (a : Message) → Caller m c u w by → Named m c w by p → route w p ≡ Some q → m by.process ≡ false → are_apart m c u d w (request_steps by p q (sent_by by REQUEST a) w) ≡ true
+pub request-apart : (m : Group) (c : ℕ) (u : World) (d : Whose) (w : World) (by : ThreadRow) (p : PortRow) (q : Birth) (a : Message) → Caller m c u w by → Named m c w by p → route w p ≡ Some q → m by.process ≡ false → are_apart m c u d w (request_steps by p q (sent_by by REQUEST a) w) ≡ true
 request-apart m c u d w by p q a k n to out =
     let p_out : m p.birth.process ≡ false = ap m n.process ∙ out in
     let s = started m c u w by p q (sent_by by REQUEST a) k n to in
@@ -65,7 +65,7 @@ request-apart m c u d w by p q a k n to out =
     (enter-apart m c u d (world_after w (request_start by p.birth q (sent_by by REQUEST a))) (row_of q p (sent_by by REQUEST a)) (rw p_out refl) (routed-out m c w p q n.right k.c_in p_out to)
     (unseen-at m (world_after w (request_start by p.birth q (sent_by by REQUEST a))) by.number q (unseen-wait m u (world_after w (request_start by p.birth q (sent_by by REQUEST a))) by.number by.process s.owned k.here out)) s.owned s.fair s.patient)
 
-request-ours : (m : Group) (c : ℕ) (u w : World) (by : ThreadRow) (p : PortRow) (q : Birth) (a : Message) → Caller m c u w by → Named m c w by p → route w p ≡ Some q → m by.process ≡ true → m q.process ≡ true → are_ours m w (request_steps by p q (sent_by by REQUEST a) w) ≡ true
+pub request-ours : (m : Group) (c : ℕ) (u w : World) (by : ThreadRow) (p : PortRow) (q : Birth) (a : Message) → Caller m c u w by → Named m c w by p → route w p ≡ Some q → m by.process ≡ true → m q.process ≡ true → are_ours m w (request_steps by p q (sent_by by REQUEST a) w) ≡ true
 request-ours m c u w by p q a k n to is q_in =
     let p_in : m p.birth.process ≡ true = ap m n.process ∙ is in
     let bs : List Basic = request_start by p.birth q (sent_by by REQUEST a) in
@@ -88,9 +88,6 @@ sent-request P m c u w by handle bytes k then_ =
 
 pub request-call-fair : (m : Group) (c : ℕ) (u w : World) (by : ThreadRow) (handle : ℕ) (bytes : List ℕ) → Caller m c u w by → Holds (λ bs. are_fair m c w bs ≡ true) (nt_request_wait_reply_port w by handle bytes)
 request-call-fair m c u w by handle bytes k = sent-request (λ bs. are_fair m c w bs ≡ true) m c u w by handle bytes k (λ s is. request-fair m c u w by s.port s.queue s.message k is.named is.to)
-
-pub request-call-apart : (m : Group) (c : ℕ) (u : World) (d : Whose) (w : World) (by : ThreadRow) (handle : ℕ) (bytes : List ℕ) → Caller m c u w by → m by.process ≡ false → Holds (λ bs. are_apart m c u d w bs ≡ true) (nt_request_wait_reply_port w by handle bytes)
-request-call-apart m c u d w by handle bytes k out = sent-request (λ bs. are_apart m c u d w bs ≡ true) m c u w by handle bytes k (λ s is. request-apart m c u d w by s.port s.queue s.message k is.named is.to out)
 
 -- of another member than c
 abbrev pub request_gone : ThreadRow → List Basic
@@ -135,7 +132,3 @@ c-request m c u w by handle bytes k mine =
     let q_in : m s.queue.process ≡ true = routed-in m c w s.port s.queue is.named.right k.c_in (ap (λ b. b == c) (is.named.process ∙ mine) ∙ same-number c) is.to in
     let same : seen_port m s.port ≡ s.port = (c-route m c w by s.port k.c_in mine k.fair is.named).0 in
     ap (λ bs. Ok bs) (subst (λ p. request_steps by p s.queue (sent_by by REQUEST s.message) (view m w) ≡ request_steps by s.port s.queue (sent_by by REQUEST s.message) w) same (request-view m c u w by s.port s.queue s.message k is.named is.to by_in q_in)))
-
-pub c-request-ours : (m : Group) (c : ℕ) (u w : World) (by : ThreadRow) (handle : ℕ) (bytes : List ℕ) → Caller m c u w by → by.process ≡ c → Holds (λ bs. are_ours m w bs ≡ true) (nt_request_wait_reply_port w by handle bytes)
-c-request-ours m c u w by handle bytes k mine = sent-request (λ bs. are_ours m w bs ≡ true) m c u w by handle bytes k (λ s is.
-    request-ours m c u w by s.port s.queue s.message k is.named is.to (ap m mine ∙ k.c_in) (routed-in m c w s.port s.queue is.named.right k.c_in (ap (λ b. b == c) (is.named.process ∙ mine) ∙ same-number c) is.to))

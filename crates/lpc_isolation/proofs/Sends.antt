@@ -100,14 +100,14 @@ after-start m c u w by k = keeps-fair m c w (DrawsIdentifier by.number) refl k.f
 datagram-fair : (m : Group) (c : ℕ) (w : World) (by : ThreadRow) (p : PortRow) (q : Birth) (a : Message) → m c ≡ true → owner w by.number ≡ Some by.process → Named m c w by p → route w p ≡ Some q → are_fair m c w (datagram_steps by p q (sent_by by DATAGRAM a) w) ≡ true
 datagram-fair m c w by p q a c_in own n to = enter-fair m c (world_after w (datagram_start by)) (row_of q p (sent_by by DATAGRAM a)) (row-fair m c w by p q DATAGRAM a c_in own n to)
 
-datagram-apart : (m : Group) (c : ℕ) (u : World) (d : Whose) (w : World) (by : ThreadRow) (p : PortRow) (q : Birth) (a : Message) → Caller m c u w by → Named m c w by p → route w p ≡ Some q → m by.process ≡ false → are_apart m c u d w (datagram_steps by p q (sent_by by DATAGRAM a) w) ≡ true
+pub datagram-apart : (m : Group) (c : ℕ) (u : World) (d : Whose) (w : World) (by : ThreadRow) (p : PortRow) (q : Birth) (a : Message) → Caller m c u w by → Named m c w by p → route w p ≡ Some q → m by.process ≡ false → are_apart m c u d w (datagram_steps by p q (sent_by by DATAGRAM a) w) ≡ true
 datagram-apart m c u d w by p q a k n to out =
     let p_out : m p.birth.process ≡ false = ap m n.process ∙ out in
     rw (k.here, out, unseen-thread m c w by.number by.process k.fair k.own out)
     (enter-apart m c u d (world_after w (datagram_start by)) (row_of q p (sent_by by DATAGRAM a)) (rw p_out refl) (routed-out m c w p q n.right k.c_in p_out to)
     (unseen-at m w by.number q (unseen-wait m u w by.number by.process k.owned k.here out)) k.owned (after-start m c u w by k) k.patient)
 
-datagram-ours : (m : Group) (c : ℕ) (u w : World) (by : ThreadRow) (p : PortRow) (q : Birth) (a : Message) → Caller m c u w by → Named m c w by p → m by.process ≡ true → m q.process ≡ true → are_ours m w (datagram_steps by p q (sent_by by DATAGRAM a) w) ≡ true
+pub datagram-ours : (m : Group) (c : ℕ) (u w : World) (by : ThreadRow) (p : PortRow) (q : Birth) (a : Message) → Caller m c u w by → Named m c w by p → m by.process ≡ true → m q.process ≡ true → are_ours m w (datagram_steps by p q (sent_by by DATAGRAM a) w) ≡ true
 datagram-ours m c u w by p q a k n is q_in =
     let p_in : m p.birth.process ≡ true = ap m n.process ∙ is in
     enter-ours m (world_after w (datagram_start by)) (row_of q p (sent_by by DATAGRAM a)) (and_from _ _ p_in q_in) k.patient
@@ -132,9 +132,6 @@ sent-datagram P m c u w by handle bytes k then_ =
 
 pub request_port-fair : (m : Group) (c : ℕ) (u w : World) (by : ThreadRow) (handle : ℕ) (bytes : List ℕ) → Caller m c u w by → Holds (λ bs. are_fair m c w bs ≡ true) (nt_request_port w by handle bytes)
 request_port-fair m c u w by handle bytes k = sent-datagram (λ bs. are_fair m c w bs ≡ true) m c u w by handle bytes k (λ s is. datagram-fair m c w by s.port s.queue s.message k.c_in k.own is.named is.to)
-
-pub request_port-apart : (m : Group) (c : ℕ) (u : World) (d : Whose) (w : World) (by : ThreadRow) (handle : ℕ) (bytes : List ℕ) → Caller m c u w by → m by.process ≡ false → Holds (λ bs. are_apart m c u d w bs ≡ true) (nt_request_port w by handle bytes)
-request_port-apart m c u d w by handle bytes k out = sent-datagram (λ bs. are_apart m c u d w bs ≡ true) m c u w by handle bytes k (λ s is. datagram-apart m c u d w by s.port s.queue s.message k is.named is.to out)
 
 -- of another member than c, by what it was told
 abbrev pub sent_way : List Basic → (Birth → List Basic) → Option Birth → List Basic
@@ -206,7 +203,7 @@ c-datagram_test m c u w by handle bytes k mine =
     let n : Named m c w by s.port = (holds_ok (IsSendable m c w by handle bytes) (send_test w by handle bytes) s (sendable m c u w by handle bytes k) at).named in
     rw (c-datagrams m c w s.port.birth k.c_in k.fair (ap (λ b. b == c) (n.process ∙ mine) ∙ same-number c)) refl))
 
-tested-sendable : (m : Group) (c : ℕ) (u w : World) (by : ThreadRow) (handle : ℕ) (bytes : List ℕ) → Caller m c u w by → Holds (IsSendable m c w by handle bytes) (datagram_send_test w by handle bytes)
+pub tested-sendable : (m : Group) (c : ℕ) (u w : World) (by : ThreadRow) (handle : ℕ) (bytes : List ℕ) → Caller m c u w by → Holds (IsSendable m c w by handle bytes) (datagram_send_test w by handle bytes)
 tested-sendable m c u w by handle bytes k =
     let Q : Sendable → Type 0 = IsSendable m c w by handle bytes in
     bind_holds (send_test w by handle bytes) _ Q (λ s at. bind_holds (datagram_test w s.port) _ Q (λ _ _. holds_ok Q (send_test w by handle bytes) s (sendable m c u w by handle bytes k) at))
@@ -221,8 +218,3 @@ c-request_port m c u w by handle bytes k mine =
     let q_in : m s.queue.process ≡ true = routed-in m c w s.port s.queue is.named.right k.c_in (ap (λ b. b == c) (is.named.process ∙ mine) ∙ same-number c) is.to in
     let same : seen_port m s.port ≡ s.port = (c-route m c w by s.port k.c_in mine k.fair is.named).0 in
     ap (λ bs. Ok bs) (subst (λ p. datagram_steps by p s.queue (sent_by by DATAGRAM s.message) (view m w) ≡ datagram_steps by s.port s.queue (sent_by by DATAGRAM s.message) w) same (datagram-view m c u w by s.port s.queue s.message k is.named by_in q_in)))
-
--- whose steps are all members'
-pub c-request_port-ours : (m : Group) (c : ℕ) (u w : World) (by : ThreadRow) (handle : ℕ) (bytes : List ℕ) → Caller m c u w by → by.process ≡ c → Holds (λ bs. are_ours m w bs ≡ true) (nt_request_port w by handle bytes)
-c-request_port-ours m c u w by handle bytes k mine = sent-datagram (λ bs. are_ours m w bs ≡ true) m c u w by handle bytes k (λ s is.
-    datagram-ours m c u w by s.port s.queue s.message k is.named (ap m mine ∙ k.c_in) (routed-in m c w s.port s.queue is.named.right k.c_in (ap (λ b. b == c) (is.named.process ∙ mine) ∙ same-number c) is.to))

@@ -1,12 +1,10 @@
 -- NtTerminateThread and NtTerminateProcess in a view.
-use Rattle.std.proofs.Common.{◌≡◌, ℕ, List, [], ◌∷◌, Bool, true, false, cond, not, Some, None, refl, ap, sym, subst, ◌∙◌, arith}
-use Rattle.std.specs.Prelude.{◌&&◌, ◌||◌, ◌==◌, Result, Ok, Err}
-use Rattle.std.proofs.lemmas.Bool.{and_from, eqb-true, not-false}
-use Rattle.std.proofs.Math.Bool.{or-true}
-use Rattle.lpc_base.specs.Rows.{every, first, passes, which}
-use Rattle.lpc_base.proofs.RowWords.{every-more, first-passes}
-use Rattle.lpc_base.proofs.RowMaps.{every-both}
-use Rattle.lpc_base.proofs.Bools.{first-true, or-last, same-number, second-true}
+use Rattle.std.proofs.Common.{◌≡◌, ℕ, List, [], ◌∷◌, Bool, true, false, cond, not, Some, None, refl, ap, sym, subst, ◌∙◌}
+use Rattle.std.specs.Prelude.{◌==◌, Result, Ok, Err}
+use Rattle.std.proofs.lemmas.Bool.{and_from, not-false}
+use Rattle.lpc_base.specs.Rows.{every}
+use Rattle.lpc_base.proofs.RowWords.{every-more}
+use Rattle.lpc_base.proofs.Bools.{same-number, second-true}
 use Rattle.lpc_base.specs.declared.status.Status.{Status}
 use Rattle.lpc_base.specs.declared.status.TheConstants.{INVALID_CID, SUCCESS}
 use Rattle.lpc_model.specs.declared.entry.CallName.{CallName}
@@ -17,31 +15,30 @@ use Rattle.lpc_model.specs.declared.line.ProcArg.{ProcArg}
 use Rattle.lpc_model.specs.Refusal.{refuse_if}
 use Rattle.lpc_model.specs.Then.{◌>>=◌}
 use Rattle.lpc_model.specs.World.{Birth, ThreadRow, World}
-use Rattle.lpc_model.specs.Found.{is_live, is_live_thread, live_thread, live_threads, lives_in, registered_by, wait_of}
+use Rattle.lpc_model.specs.Found.{is_live, live_thread, live_threads, wait_of}
 use Rattle.lpc_model.specs.Basics.{Basic, Tells, entries_of, world_after}
 use Rattle.lpc_model.specs.Death.{code_status, end_threads, nt_terminate_process, nt_terminate_thread, terminate_process_steps, terminate_thread_steps}
 use Rattle.lpc_model.specs.Targets.{process_target, thread_target}
 use Rattle.lpc_model.specs.Tests.{live_test, next_birth}
 use Rattle.lpc_model.specs.Lines.{ScriptCall, terminate_process, terminate_thread}
 use Rattle.lpc_model.specs.SoundWaits.{IsSoundWorld}
-use Rattle.lpc_model.specs.Circle.{Group, Whose, owner}
+use Rattle.lpc_model.specs.Circle.{Group, Whose}
 use Rattle.lpc_model.proofs.Ending.{answered_end}
 use Rattle.lpc_model.proofs.Holding.{Holds, bind_holds, holds_ok, not_refused}
-use Rattle.lpc_model.proofs.Registrations.{every-each}
+use Rattle.lpc_model.proofs.Outcomes.{AreDoomed, all as all_live, one}
 use Rattle.lpc_isolation.proofs.Alone.{HasFineRows}
 use Rattle.lpc_isolation.proofs.Served.{served}
 use Rattle.lpc_isolation.proofs.View.{view}
-use Rattle.lpc_isolation.proofs.Fair.{Fair, are_fair, is_fair_thread, is_homed}
-use Rattle.lpc_isolation.proofs.Seen.{bind-same, homed-number}
+use Rattle.lpc_isolation.proofs.Fair.{Fair, are_fair}
+use Rattle.lpc_isolation.proofs.Seen.{bind-same}
 use Rattle.lpc_isolation.proofs.Apart.{Owned, are_apart}
 use Rattle.lpc_isolation.proofs.Callers.{Answered, Led, answered-bind, on_ok}
 use Rattle.lpc_isolation.proofs.Sends.{Caller}
-use Rattle.lpc_isolation.proofs.Bound.{OnceBound}
 use Rattle.lpc_isolation.proofs.Paths.{Paths, are_paths}
 use Rattle.lpc_isolation.proofs.Sent.{are_sent}
 use Rattle.lpc_isolation.proofs.Asked.{Asked}
 use Rattle.lpc_isolation.proofs.Ids.{Numbered, of_number}
-use Rattle.lpc_isolation.proofs.Serves.{is_call_of, same_owner, tells_own}
+use Rattle.lpc_isolation.proofs.Serves.{is_call_of, tells_own}
 use Rattle.lpc_isolation.proofs.Listens.{own_entry}
 use Rattle.lpc_isolation.proofs.Refuses.{Refuses, bind, if_refuses}
 use Rattle.lpc_isolation.proofs.Play.{told_inputs}
@@ -52,13 +49,13 @@ use Rattle.lpc_isolation.proofs.Instances.{At, Leading, caller, leads_by}
 use Rattle.lpc_isolation.proofs.Thin.{Alive, Closed, is_live-thin, thin, threads-thin}
 use Rattle.lpc_isolation.proofs.ThinCalls.{AreClosed}
 use Rattle.lpc_isolation.proofs.Fine.{FineAfter, makes_fine}
-use Rattle.lpc_isolation.proofs.Duplicates.{unnoted}
-use Rattle.lpc_isolation.proofs.Mild.{AreMild, is_mild, mild-bound, mild-fine, mild-known, mild-orderly, mild-paths}
-use Rattle.lpc_isolation.proofs.Ends.{every-passing}
-use Rattle.lpc_isolation.proofs.Closes.{caller-sure, tells-led}
+use Rattle.lpc_isolation.proofs.Tame.{unnoted}
+use Rattle.lpc_isolation.proofs.Mild.{AreMild, is_mild, mild-fine, mild-known, mild-orderly, mild-paths}
+use Rattle.lpc_isolation.proofs.Closes.{tells-led}
+use Rattle.lpc_isolation.proofs.Doomed.{doomed-heads, doomed-part, doomed-remains, doomed-whose, heads_own, steady}
 use Rattle.lpc_isolation.proofs.Parts.{Part, Remains, Steady}
-use Rattle.lpc_isolation.proofs.Endings.{are_standing, ends-mild, ends-part, ends-remains, ends-sent, is_ending_of, lives-view, threads-view}
-use Rattle.lpc_isolation.proofs.Aims.{lives-row, process-thin, process-view, process-whose, refuses-process, refuses-thread, thread-row, thread-thin, thread-view, thread-whose}
+use Rattle.lpc_isolation.proofs.Endings.{ends-mild, ends-sent, lives-view, threads-view}
+use Rattle.lpc_isolation.proofs.Aims.{process-thin, process-view, process-whose, refuses-process, refuses-thread, thread-thin, thread-view}
 
 -- A call that ends threads of a process
 -- whether its own thread is among them, so that it has no answer; the process, and the threads
@@ -67,11 +64,6 @@ pub record Aim : Type 0 where
   pub pid : ℕ
   pub threads : List ThreadRow
 
--- the first of some threads is of the caller's process
-abbrev heads_own : World → ℕ → List ThreadRow → Bool
-heads_own w tid [] = false
-heads_own w tid (t ∷ ts) = same_owner w tid t.number
-
 pub record EndsThreads (call : ScriptCall) (code : Status) : Type 0 where
   pub name : CallName
   pub aim : World → ThreadRow → Result Aim Status
@@ -79,48 +71,11 @@ pub record EndsThreads (call : ScriptCall) (code : Status) : Type 0 where
   pub refuses : (w : World) (by : ThreadRow) → Refuses (aim w by)
   pub leads : (m : Group) (known : List ℕ → Birth) (v : World) (by : ThreadRow) (e : Entry) (a : Aim) → aim v by ≡ Ok a → leads_by m known v by call e ≡ answered_end by name a.own a.pid code a.threads v
   pub memo : (m : Group) (v : World) (by : ThreadRow) (e : Entry) (memo : List Heard) → call_memo m v by call e memo ≡ memo
-  -- the process is a member's where the caller's is
-  pub whose : (m : Group) (c : ℕ) (w : World) (by : ThreadRow) → Fair m c w → Holds (λ a. m a.pid ≡ m by.process) (aim w by)
   -- it aims alike in a view, and where rows have gone
   pub seen : (m : Group) (c : ℕ) (w : World) (by : ThreadRow) → m by.process ≡ true → Fair m c w → aim (view m w) by ≡ aim w by
   pub thinly : (k : Alive) (u : World) (by : ThreadRow) → Closed k u → aim (thin k u) by ≡ aim u by
-  -- they are live threads of the process; where the call has no answer, the first is of the caller's process
-  pub rows : (p : ThreadRow → ℕ → Bool) (w : World) (by : ThreadRow) → live_thread w by.number ≡ Some by → ((pid : ℕ) → every (λ t. not (lives_in pid t) || p t pid) w.threads ≡ true) → Holds (λ a. every (λ t. p t a.pid) a.threads ≡ true) (aim w by)
-  pub heads : (m : Group) (c : ℕ) (w : World) (by : ThreadRow) → Fair m c w → live_thread w by.number ≡ Some by → owner w by.number ≡ Some by.process → Holds (λ a. a.own ≡ true → heads_own w by.number a.threads ≡ true) (aim w by)
-
--- What is known of its threads
-abbrev is_filled : List ThreadRow → Bool
-is_filled [] = false
-is_filled (t ∷ ts) = true
-
-filled : (p q : ThreadRow → Bool) (ts : List ThreadRow) (t : ThreadRow) → first p ts ≡ Some t → q t ≡ true → is_filled (which q ts) ≡ true
-filled p q [] t at is = absurd (cc)
-filled p q (x ∷ xs) t at is = grind (arith, filled p q xs t)
-
--- whatever holds of each row that lives in the process
-ending-row : (u w : World) (pid : ℕ) (t : ThreadRow) → u.used_threads ≡ w.used_threads → is_homed w.used_threads t ≡ true → is_fair_thread t ≡ true → (not (lives_in pid t) || is_ending_of u pid t) ≡ true
-ending-row u w pid t used homed fair = at (lives_in pid t) refl
-  where
-    at : (e : Bool) → lives_in pid t ≡ e → (not e || is_ending_of u pid t) ≡ true
-    at false off = refl
-    at true is =
-        let process : (t.process == pid) ≡ true = first-true _ _ is in
-        let own : owner u t.number ≡ Some pid = rw used (homed-number w t.number t homed refl) ∙ ap (λ p. Some p) (eqb-true t.process pid process) in
-        and_from _ _ (rw own (same-number pid)) (and_from _ _ process fair)
-
-ending-rows : (m : Group) (c : ℕ) (u w : World) (pid : ℕ) → Fair m c w → u.used_threads ≡ w.used_threads → every (λ t. not (lives_in pid t) || is_ending_of u pid t) w.threads ≡ true
-ending-rows m c u w pid f used = every-both (is_homed w.used_threads) is_fair_thread (λ t. not (lives_in pid t) || is_ending_of u pid t) (λ t homed fair. ending-row u w pid t used homed fair) w.threads f.threads f.registrations
-
--- ports that live threads registered stand
-standing-rows : (k : Alive) (u : World) (pid : ℕ) → Closed k u → every (λ t. not (lives_in pid t) || are_standing k t) u.threads ≡ true
-standing-rows k u pid c = every-more (λ t. every k.ports (registered_by t)) (λ t. not (lives_in pid t) || are_standing k t) (λ t is. at t t.live refl is) u.threads (sym (every-each k.ports registered_by u.threads) ∙ c.registrations)
-  where
-    at : (t : ThreadRow) (e : Bool) → t.live ≡ e → every k.ports (registered_by t) ≡ true → (not (lives_in pid t) || are_standing k t) ≡ true
-    at t true live is = let all : every k.ports t.registrations ≡ true = rw live at is in rw all (or-true (not (lives_in pid t)))
-    at t false dead is = rw dead (grind arith)
-
-steady : (m : Group) (c : ℕ) (u w : World) (by : ThreadRow) → Caller m c u w by → Steady m c u w
-steady m c u w by k = record { sure = caller-sure m c u w by k; safe = record { sound = k.sound; shut = k.shut } }
+  -- they are what the call's tests find
+  pub doomed : (w : World) (by : ThreadRow) → Holds (λ a. AreDoomed w by a.own a.pid a.threads) (aim w by)
 
 -- its first step ends a thread of the caller's process
 abbrev starts : World → ℕ → List Basic → Bool
@@ -158,17 +113,17 @@ module _ (call : ScriptCall) (code : Status) (e : EndsThreads call code) where
   on-ends : (P : List Basic → Type 0) (w : World) (by : ThreadRow) → ((a : Aim) → e.aim w by ≡ Ok a → P (ends_told by a w)) → Holds P (served w by call)
   on-ends P w by all = subst (Holds P) (sym (e.is w by)) (bind_holds (e.aim w by) _ P (λ a at. all a at))
 
-  threads-of : (m : Group) (c : ℕ) (u w : World) (by : ThreadRow) (a : Aim) → Caller m c u w by → e.aim w by ≡ Ok a → every (is_ending_of u a.pid) a.threads ≡ true
-  threads-of m c u w by a k at = holds_ok (λ (a : Aim). every (is_ending_of u a.pid) a.threads ≡ true) (e.aim w by) a (e.rows (λ t pid. is_ending_of u pid t) w by k.live (λ pid. ending-rows m c u w pid k.fair k.used)) at
+  doomed-by : (w : World) (by : ThreadRow) (a : Aim) → e.aim w by ≡ Ok a → AreDoomed w by a.own a.pid a.threads
+  doomed-by w by a at = holds_ok (λ (a : Aim). AreDoomed w by a.own a.pid a.threads) (e.aim w by) a (e.doomed w by) at
 
   part : (m : Group) (c : ℕ) (u w : World) (by : ThreadRow) (a : Aim) → Caller m c u w by → e.aim w by ≡ Ok a → Part m c u a.pid (Steady m c u) (end_threads a.pid code a.threads)
-  part m c u w by a k at = ends-part m c u a.pid k.c_in code a.threads (threads-of m c u w by a k at)
+  part m c u w by a k at = doomed-part m c u w by a.own a.pid code a.threads k (doomed-by w by a at)
 
   group-of : (m : Group) (c : ℕ) (w : World) (by : ThreadRow) (a : Aim) → Fair m c w → e.aim w by ≡ Ok a → m a.pid ≡ m by.process
-  group-of m c w by a f at = holds_ok (λ (a : Aim). m a.pid ≡ m by.process) (e.aim w by) a (e.whose m c w by f) at
+  group-of m c w by a f at = doomed-whose m c w by a.own a.pid a.threads f (doomed-by w by a at)
 
   remains : (k : Alive) (u : World) (by : ThreadRow) (a : Aim) → live_thread u by.number ≡ Some by → Closed k u → e.aim u by ≡ Ok a → Remains k (end_threads a.pid code a.threads)
-  remains k u by a live c at = ends-remains k a.pid code a.threads (holds_ok (λ (a : Aim). every (are_standing k) a.threads ≡ true) (e.aim u by) a (e.rows (λ t pid. are_standing k t) u by live (λ pid. standing-rows k u pid c)) at)
+  remains k u by a live c at = doomed-remains k u by a.own a.pid code a.threads live c (doomed-by u by a at)
 
   behind-known : (m : Group) (memo : List Heard) (w : World) (a : Aim) → AllKnown m memo w → AllKnown m memo (world_after w (ends a w))
   behind-known m memo w a all = run-known m memo w (ends a w) (mild-known m memo w (ends a w) (ends-mild a.pid code a.threads w)) all
@@ -176,7 +131,7 @@ module _ (call : ScriptCall) (code : Status) (e : EndsThreads call code) where
   pub orderly-ends : (m : Group) (c : ℕ) (u w : World) (by : ThreadRow) → Caller m c u w by → Holds (λ bs. is_call_of w by.number bs ≡ true) (served w by call)
   orderly-ends m c u w by k = on-ends (λ bs. is_call_of w by.number bs ≡ true) w by (λ a at.
       by-answer (λ bs. is_call_of w by.number bs ≡ true) by a w
-      (λ own. ends-orderly w a.pid by.number code a.threads (holds_ok (λ (a : Aim). a.own ≡ true → heads_own w by.number a.threads ≡ true) (e.aim w by) a (e.heads m c w by k.fair k.live k.own) at own))
+      (λ own. ends-orderly w a.pid by.number code a.threads (doomed-heads m c w by a.own a.pid a.threads k.fair k.live k.own (doomed-by w by a at) own))
       (λ _. and_from _ _ (and_from _ _ (same-number by.number) refl) (mild-orderly (ends a w) (ends-mild a.pid code a.threads w))))
 
   pub refuses-ends : (w : World) (by : ThreadRow) → Refuses (served w by call)
@@ -188,29 +143,13 @@ module _ (call : ScriptCall) (code : Status) (e : EndsThreads call code) where
       on-ends (λ bs. HasFineRows m c (world_after w bs) → are_fair m c w bs ≡ true) w by (λ a at fine.
       let p = part m c w w by a k at in let is = p.fair w (steady m c w w by k) in by-answer (λ bs. are_fair m c w bs ≡ true) by a w (λ _. is) (λ _. is))
 
-  pub names-ends : (m : Group) (c : ℕ) (u w : World) (by : ThreadRow) → Caller m c u w by → Holds (λ bs. OnceBound (world_after w bs).bindings) (served w by call)
-  names-ends m c u w by k = on-ends (λ bs. OnceBound (world_after w bs).bindings) w by (λ a at.
-      let is = mild-bound w (ends a w) (ends-mild a.pid code a.threads w) k.bound in by-answer (λ bs. OnceBound (world_after w bs).bindings) by a w (λ _. is) (λ _. is))
-
   pub paths-ends : (m : Group) (c : ℕ) (w : World) (by : ThreadRow) → Paths w → Caller m c w w by → Holds (λ bs. are_paths w bs ≡ true) (served w by call)
   paths-ends m c w by all k = on-ends (λ bs. are_paths w bs ≡ true) w by (λ a at.
       let is = mild-paths w (ends a w) (ends-mild a.pid code a.threads w) in by-answer (λ bs. are_paths w bs ≡ true) by a w (λ _. is) (λ _. is))
 
-  pub sends-ends : (u : World) (by : ThreadRow) → Holds (λ bs. are_sent u bs ≡ true) (served u by call)
-  sends-ends u by = on-ends (λ bs. are_sent u bs ≡ true) u by (λ a at.
-      let is = ends-sent a.pid code a.threads u in by-answer (λ bs. are_sent u bs ≡ true) by a u (λ _. is) (λ _. is))
-
   pub asked-ends : (m : Group) (c : ℕ) (w : World) (by : ThreadRow) → Asked w → Caller m c w w by → Holds (λ bs. Asked (world_after w bs)) (served w by call)
   asked-ends m c w by b k = on-ends (λ bs. Asked (world_after w bs)) w by (λ a at.
       let p = part m c w w by a k at in let is = p.asked w (steady m c w w by k) in by-answer (λ bs. Asked (world_after w bs)) by a w (λ _. is) (λ _. is))
-
-  pub apart-ends : (m : Group) (c : ℕ) (u : World) (d : Whose) (w : World) (by : ThreadRow) (known : List ℕ → Birth) → At m c w by known → u.used_threads ≡ w.used_threads → m by.process ≡ false → Holds (λ bs. HasFineRows m c (world_after w bs) → are_apart m c u d w bs ≡ true) (served w by call)
-  apart-ends m c u d w by known a0 used out =
-      let k = caller m c w by known u a0 used in
-      on-ends (λ bs. HasFineRows m c (world_after w bs) → are_apart m c u d w bs ≡ true) w by (λ a at fine.
-      let p = part m c u w by a k at in
-      let is = p.apart d w (steady m c u w by k) (group-of m c w by a a0.fair at ∙ out) in
-      by-answer (λ bs. are_apart m c u d w bs ≡ true) by a w (λ _. is) (λ _. and_from _ _ (rw (k.here, out) refl) is))
 
   -- the view changes by the same steps in it
   led-ends : (m : Group) (c : ℕ) (u : World) (d : Whose) (w : World) (by : ThreadRow) (a : Aim) → Caller m c u w by → e.aim w by ≡ Ok a → m by.process ≡ true → Led m c u d w (ends_told by a w) (ends_told by a (view m w))
@@ -267,15 +206,6 @@ module _ (call : ScriptCall) (code : Status) (e : EndsThreads call code) where
       by-own a at true = let r = remains k u by a live c at in r.alike u c
       by-own a at false = let r = remains k u by a live c at in ap (λ bs. Tells (told_first by) ∷ bs) (r.alike u c)
 
-  pub stands-ends : (k : Alive) (u : World) (by : ThreadRow) → live_thread u by.number ≡ Some by → IsSoundWorld u → Closed k u → k.ports (next_birth by) ≡ true → Holds (AreClosed k) (served u by call)
-  stands-ends k u by live s c new = on-ends (AreClosed k) u by (λ a at.
-      let r = remains k u by a live c at in let is = r.stands u c in by-answer (AreClosed k) by a u (λ _. is) (λ _. is))
-
-  pub fine-ends : (m : Group) (c : ℕ) (after u : World) (by : ThreadRow) → wait_of u by.number ≡ None → HasFineRows m c after → Holds (FineAfter m c after u) (served u by call)
-  fine-ends m c after u by idle f = on-ends (FineAfter m c after u) u by (λ a at _.
-      let is : every (makes_fine m c) (ends a u) ≡ true = every-more is_mild (makes_fine m c) (mild-fine m c) (ends a u) (ends-mild a.pid code a.threads u) in
-      by-answer (λ bs. every (makes_fine m c) bs ≡ true) by a u (λ _. is) (λ _. is))
-
 -- binds in turn
 bind-again : {A B C : Type 0} (r : Result A Status) (f : A → Result B Status) (g : B → Result C Status) → ((r >>= f) >>= g) ≡ (r >>= (λ x. f x >>= g))
 bind-again (Ok x) f g = refl
@@ -292,9 +222,6 @@ thread-is w by target code = sym (bind-again (thread_target w by target) _ _ ∙
 live-of : (t : ThreadRow) (u : Unit {0}) → refuse_if (not t.live) INVALID_CID ≡ Ok u → t.live ≡ true
 live-of t u is = not-false t.live (not_refused (not t.live) INVALID_CID u is)
 
-thread-heads : (m : Group) (c : ℕ) (w : World) (by : ThreadRow) (t : ThreadRow) → owner w by.number ≡ Some by.process → (t.number == by.number) ≡ true → heads_own w by.number (t ∷ []) ≡ true
-thread-heads m c w by t own is = rw (eqb-true t.number by.number is, own) (same-number by.process)
-
 pub thread-ends-it : (target : ProcArg) (code : ℕ) → EndsThreads (terminate_thread target code) (code_status code)
 thread-ends-it target code = record {
   name = NtTerminateThread;
@@ -303,15 +230,9 @@ thread-ends-it target code = record {
   refuses = λ w by. bind (thread_target w by target) _ (refuses-thread w by target) (λ t. bind (refuse_if (not t.live) INVALID_CID) _ (if_refuses (not t.live) INVALID_CID refl) (λ _. tt));
   leads = λ m known v by e a at. leads (thread_target v by target) v by a at;
   memo = λ m v by e memo. refl;
-  whose = λ m c w by f. bind_holds (thread_target w by target) _ (λ (a : Aim). m a.pid ≡ m by.process) (λ t at. bind_holds (refuse_if (not t.live) INVALID_CID) _ (λ (a : Aim). m a.pid ≡ m by.process) (λ _ _.
-      holds_ok (λ (t : ThreadRow). m t.process ≡ m by.process) (thread_target w by target) t (thread-whose m c w by target f) at));
   seen = λ m c w by inside f. ap (λ r. r >>= (λ (t : ThreadRow). refuse_if (not t.live) INVALID_CID >>= (λ _. Ok (record { own = t.number == by.number; pid = t.process; threads = t ∷ [] })))) (thread-view m c w by target inside f);
   thinly = λ k u by c. ap (λ r. r >>= (λ (t : ThreadRow). refuse_if (not t.live) INVALID_CID >>= (λ _. Ok (record { own = t.number == by.number; pid = t.process; threads = t ∷ [] })))) (thread-thin k u by target c);
-  rows = λ p w by live all. bind_holds (thread_target w by target) _ (λ (a : Aim). every (λ t. p t a.pid) a.threads ≡ true) (λ t at. bind_holds (refuse_if (not t.live) INVALID_CID) _ (λ (a : Aim). every (λ t. p t a.pid) a.threads ≡ true) (λ v is.
-      let lives : t.live ≡ true = live-of t v is in
-      let row = holds_ok (λ (t : ThreadRow). t.live ≡ true → every (λ x. not (lives_in t.process x) || p x t.process) w.threads ≡ true → (not (lives_in t.process t) || p t t.process) ≡ true) (thread_target w by target) t (thread-row (λ t x. not (lives_in t.process x) || p x t.process) w by target live) at lives (all t.process) in
-      and_from _ _ (lives-row (λ x. p x t.process) t lives row) refl));
-  heads = λ m c w by f live own. bind_holds (thread_target w by target) _ (λ (a : Aim). a.own ≡ true → heads_own w by.number a.threads ≡ true) (λ t at. bind_holds (refuse_if (not t.live) INVALID_CID) _ (λ (a : Aim). a.own ≡ true → heads_own w by.number a.threads ≡ true) (λ _ _ is. thread-heads m c w by t own is));
+  doomed = λ w by. bind_holds (thread_target w by target) _ (λ (a : Aim). AreDoomed w by a.own a.pid a.threads) (λ t at. bind_holds (refuse_if (not t.live) INVALID_CID) _ (λ (a : Aim). AreDoomed w by a.own a.pid a.threads) (λ v is. one target t at (live-of t v is)));
 }
   where
     aimed : (t : ThreadRow) (v : World) (by : ThreadRow) (e : Bool) (a : Aim) → (refuse_if e INVALID_CID >>= (λ _. Ok (record { own = t.number == by.number; pid = t.process; threads = t ∷ [] }))) ≡ Ok a → terminate_thread_steps by (code_status code) t v ≡ answered_end by NtTerminateThread a.own a.pid (code_status code) a.threads v
@@ -335,23 +256,6 @@ process-is : (w : World) (by : ThreadRow) (target : ProcArg) (code : ℕ) → nt
 unfolding nt_terminate_process
 process-is w by target code = sym (bind-again (process_target w by target) _ _ ∙ bind-same (process_target w by target) _ _ (λ pid at. bind-again (live_test w pid) _ _))
 
--- the first of the live threads of the caller's process is of it
-first-own : (m : Group) (c : ℕ) (w : World) (by : ThreadRow) → Fair m c w → live_thread w by.number ≡ Some by → owner w by.number ≡ Some by.process → heads_own w by.number (live_threads w by.process) ≡ true
-first-own m c w by f live own = at (live_threads w by.process) refl
-  where
-    is : is_live_thread by.number by ≡ true
-    is = first-passes (is_live_thread by.number) w.threads by live
-
-    there : is_filled (live_threads w by.process) ≡ true
-    there = filled (is_live_thread by.number) (lives_in by.process) w.threads by live (and_from (by.process == by.process) by.live (same-number by.process) (second-true (by.number == by.number) by.live is))
-
-    homed : every (λ t. passes (owner w t.number) (λ q. q == by.process)) (live_threads w by.process) ≡ true
-    homed = every-passing (λ t. not (lives_in by.process t) || is_ending_of w by.process t) (lives_in by.process) (λ t. passes (owner w t.number) (λ q. q == by.process)) (λ t either lives. first-true (passes (owner w t.number) (λ q. q == by.process)) ((t.process == by.process) && is_fair_thread t) (or-last (lives_in by.process t) (is_ending_of w by.process t) lives either)) w.threads (ending-rows m c w w by.process f refl)
-
-    at : (ts : List ThreadRow) → live_threads w by.process ≡ ts → heads_own w by.number ts ≡ true
-    at [] none = let never : is_filled [] ≡ true = rw none at there in absurd (cc)
-    at (t ∷ ts) some = let all : every (λ t. passes (owner w t.number) (λ q. q == by.process)) (t ∷ ts) ≡ true = rw some at homed in rw own (first-true _ _ all)
-
 process-seen : (m : Group) (w : World) (by : ThreadRow) (pid : ℕ) → m pid ≡ true → process_aims (view m w) by pid ≡ process_aims w by pid
 process-seen m w by pid inside = rw (lives-view m w pid inside, threads-view m w pid inside) refl
 
@@ -366,15 +270,10 @@ process-ends-it target code = record {
   refuses = λ w by. bind (process_target w by target) _ (refuses-process w by target) (λ pid. bind (live_test w pid) _ (if_refuses (not (is_live w pid)) INVALID_CID refl) (λ _. tt));
   leads = λ m known v by e a at. leads (process_target v by target) v by a at;
   memo = λ m v by e memo. refl;
-  whose = λ m c w by f. bind_holds (process_target w by target) _ (λ (a : Aim). m a.pid ≡ m by.process) (λ pid at. bind_holds (live_test w pid) _ (λ (a : Aim). m a.pid ≡ m by.process) (λ _ _.
-      holds_ok (λ pid. m pid ≡ m by.process) (process_target w by target) pid (process-whose m c w by target f) at));
   seen = λ m c w by inside f. ap (λ r. r >>= process_aims (view m w) by) (process-view m c w by target inside f)
       ∙ bind-same (process_target w by target) (process_aims (view m w) by) (process_aims w by) (λ pid at. process-seen m w by pid (holds_ok (λ pid. m pid ≡ m by.process) (process_target w by target) pid (process-whose m c w by target f) at ∙ inside));
   thinly = λ k u by c. ap (λ r. r >>= process_aims (thin k u) by) (process-thin k u by target c) ∙ bind-same (process_target u by target) (process_aims (thin k u) by) (process_aims u by) (λ pid at. process-thinly k u by pid c);
-  rows = λ p w by live all. bind_holds (process_target w by target) _ (λ (a : Aim). every (λ t. p t a.pid) a.threads ≡ true) (λ pid at. bind_holds (live_test w pid) _ (λ (a : Aim). every (λ t. p t a.pid) a.threads ≡ true) (λ _ _.
-      every-passing (λ t. not (lives_in pid t) || p t pid) (lives_in pid) (λ t. p t pid) (λ t either lives. or-last (lives_in pid t) (p t pid) lives either) w.threads (all pid)));
-  heads = λ m c w by f live own. bind_holds (process_target w by target) _ (λ (a : Aim). a.own ≡ true → heads_own w by.number a.threads ≡ true) (λ pid at. bind_holds (live_test w pid) _ (λ (a : Aim). a.own ≡ true → heads_own w by.number a.threads ≡ true) (λ _ _ is.
-      subst (λ pid. heads_own w by.number (live_threads w pid) ≡ true) (sym (eqb-true pid by.process is)) (first-own m c w by f live own)));
+  doomed = λ w by. bind_holds (process_target w by target) _ (λ (a : Aim). AreDoomed w by a.own a.pid a.threads) (λ pid at. bind_holds (live_test w pid) _ (λ (a : Aim). AreDoomed w by a.own a.pid a.threads) (λ v is. all_live target pid at (not-false (is_live w pid) (not_refused (not (is_live w pid)) INVALID_CID v is))));
 }
   where
     aimed : (pid : ℕ) (v : World) (by : ThreadRow) (e : Bool) (a : Aim) → (refuse_if e INVALID_CID >>= (λ _. Ok (record { own = pid == by.process; pid = pid; threads = live_threads v pid }))) ≡ Ok a → terminate_process_steps v by (code_status code) pid v ≡ answered_end by NtTerminateProcess a.own a.pid (code_status code) a.threads v

@@ -1,4 +1,4 @@
--- What each call does in a world without some rows that no row names: the same, and it names none of them.
+-- What each call does in a world without some rows that no row names: the same.
 use Rattle.lpc_model.specs.Lines.{accept_connect_port, complete_connect_port, connect_port, create_port, listen_port, reply_port, reply_wait_receive_port, request_port, request_wait_reply_port}
 use Rattle.lpc_isolation.proofs.Served.{served}
 use Rattle.std.proofs.Common.{◌≡◌, ℕ, List, [], ◌∷◌, ◌++◌, Bool, true, false, not, Option, Some, None, refl, ap, sym, subst, ◌∙◌, arith}
@@ -85,39 +85,7 @@ first-same p f g same (x ∷ xs) all = grind (arith, same x, first-same p f g sa
 pub fitted-thin : (k : Alive) (u : World) (port : Birth) (m : Message) → Closed k u → fitted (thin k u) port m ≡ fitted u port m
 fitted-thin k u port m c = first-same (wait_closed k) (fits (thin k u) port m) (fits u port m) (λ x closed. rw (row-thin k u x.port closed) refl) u.waits c.waits
 
--- a port that is open stands, and so does one that a name leads to
-open-live : (k : Alive) (b : Birth) (ts : List HandleTable) → every (table_closed k) ts ≡ true → has (has_handle_to b) ts ≡ true → k.ports b ≡ true
-open-live k b [] all opens = absurd (cc)
-open-live k b (t ∷ ts) all opens = at (has_handle_to b t) refl (open-live k b ts (second-true _ _ all))
-  where
-    named : (hs : List HandleRow) → every (handle_closed k) hs ≡ true → has (λ h. names_port b h.object) hs ≡ true → k.ports b ≡ true
-    named [] one is = absurd (cc)
-    named (h ∷ hs) one is = here (names_port b h.object) refl (named hs (second-true _ _ one))
-      where
-        here : (e : Bool) → names_port b h.object ≡ e → (has (λ h. names_port b h.object) hs ≡ true → k.ports b ≡ true) → k.ports b ≡ true
-        here true its rest = let live : k.ports h.object.birth ≡ true = port-live k h.object (first-true _ _ one) (first-true _ _ its) in ap k.ports (sym (birth-same h.object.birth b (grind arith))) ∙ live
-        here false off rest = rest (grind arith)
-
-    at : (e : Bool) → has_handle_to b t ≡ e → (has (has_handle_to b) ts ≡ true → k.ports b ≡ true) → k.ports b ≡ true
-    at true its rest = named t.rows (first-true _ _ all) its
-    at false off rest = rest (grind arith)
-
-unnamed : (k : Alive) (u : World) → ((b : Birth) → is_open u b ≡ true → k.ports b ≡ true) → (bindings : Bindings Birth) → every (λ b. leads_open u b.1) bindings ≡ true → (port : Birth) → has_name (λ other _. not (k.ports other)) port bindings ≡ false
-unnamed k u live [] opens port = refl
-unnamed k u live ((path, LinkTo target) ∷ rest) opens port = unnamed k u live rest opens port
-unnamed k u live ((path, Stands Directory) ∷ rest) opens port = unnamed k u live rest opens port
-unnamed k u live ((path, Stands (Item other)) ∷ rest) opens port = grind (arith, unnamed k u live rest, live other)
-
-name-live : (k : Alive) (u : World) (text : List ℕ) → IsSoundWorld u → Closed k u → Holds (λ port. k.ports port ≡ true) (named_port u text)
-name-live k u text s c = at (lookup u.bindings text) refl
-  where
-    at : (r : Result (Found Birth) NameFault) → lookup u.bindings text ≡ r → Holds (λ port. k.ports port ≡ true) (as_status r >>= port_found)
-    at (Err fault) is = tt
-    at (Ok Directory) is = tt
-    at (Ok (Item port)) is =
-        let closed = nameless-is-not-found (λ other _. not (k.ports other)) port port u.bindings text (unnamed k u (λ b opens. open-live k b u.handles c.tables opens) u.bindings s.names port) is in grind arith
-
--- What enters and what is taken
+-- What enters
 abbrev pub AreClosed : Alive → List Basic → Type 0
 AreClosed k bs = every (is_closed k) bs ≡ true
 
@@ -140,63 +108,19 @@ entered-closed k x (Some y) = given-closed k x y y.kind (asks x.message) refl re
 pub enter-closed : (k : Alive) (u : World) (x : MessageRow) → message_closed k x ≡ true → AreClosed k (enter x u)
 enter-closed k u x ok = and_from _ _ ok (entered-closed k x (first (takes x) u.waits))
 
-then-closed : (k : Alive) (u : World) (start : List Basic) (x : MessageRow) → AreClosed k start → message_closed k x ≡ true → AreClosed k (start ++ enter x (world_after u start))
-then-closed k u start x ok live = every-append (is_closed k) start (enter x (world_after u start)) ok (enter-closed k (world_after u start) x live)
-
-taken-closed : (k : Alive) (x : MessageRow) (asked : Bool) → asks x.message ≡ asked → AreClosed k (take_steps x) × AreClosed k (take_connect_steps x)
-taken-closed k x true asked = (rw asked refl, rw asked refl)
-taken-closed k x false asked = (rw asked refl, rw asked refl)
-
--- Each call: it answers alike, and names what stands
+-- Each call answers alike
 pub create-thin : (k : Alive) (u : World) (by : ThreadRow) (name : Option (List ℕ)) → nt_create_port (thin k u) by name ≡ nt_create_port u by name
 unfolding nt_create_port
 create-thin k u by None = refl
 create-thin k u by (Some name) = refl
 
-pub create-closed : (k : Alive) (u : World) (by : ThreadRow) (name : Option (List ℕ)) → k.ports (next_birth by) ≡ true → Holds (AreClosed k) (nt_create_port u by name)
-create-closed k u by name new = made-holds (AreClosed k) u by name (λ value. rw new refl) (λ path value. rw new refl)
-
 pub connect-thin : (k : Alive) (u : World) (by : ThreadRow) (name bytes : List ℕ) → nt_connect_port (thin k u) by name bytes ≡ nt_connect_port u by name bytes
 unfolding nt_connect_port
 connect-thin k u by name bytes = refl
 
-pub connect-closed : (k : Alive) (u : World) (by : ThreadRow) (name bytes : List ℕ) → IsSoundWorld u → Closed k u → k.ports (next_birth by) ≡ true → Holds (AreClosed k) (nt_connect_port u by name bytes)
-connect-closed k u by name bytes s c new = on-connect (AreClosed k) u by name bytes (λ q at.
-    let live : k.ports q ≡ true = holds_ok (λ port. k.ports port ≡ true) (named_port u name) q (name-live k u name s c) at in
-    then-closed k u (connect_start by q (connection_request by bytes)) (row_of q (client_port by q) (connection_request by bytes)) (rw (new, live) refl) new)
-
-listened-closed : (k : Alive) (by : ThreadRow) (port : Birth) (o : Option MessageRow) → k.ports port ≡ true → AreClosed k (listen_steps by port o)
-listened-closed k by port None live = rw live refl
-listened-closed k by port (Some x) live = (taken-closed k x (asks x.message) refl).1
-
 pub listen-thin : (k : Alive) (u : World) (by : ThreadRow) (handle : ℕ) → Closed k u → nt_listen_port (thin k u) by handle ≡ nt_listen_port u by handle
 unfolding nt_listen_port
 listen-thin k u by handle c = rw (port-thin k u by handle c) refl
-
-pub listen-closed : (k : Alive) (u : World) (by : ThreadRow) (handle : ℕ) → Closed k u → Holds (AreClosed k) (nt_listen_port u by handle)
-unfolding nt_listen_port
-listen-closed k u by handle c =
-    bind_holds (port_test u by handle) _ (AreClosed k) (λ p at. bind_holds (refuse_if (not (is_connection_port p)) INVALID_PORT_HANDLE) (λ _. Ok (listen_steps by p.birth (first (is_queued_connect p.birth) u.messages))) (AreClosed k) (λ _ _.
-    listened-closed k by p.birth (first (is_queued_connect p.birth) u.messages) (holds_ok (StandsBy k) (port_test u by handle) p (port-stands k u by handle c) at).here))
-
--- an answered connect's port stands, and so does its queue, which is open
-abbrev answer_live : Alive → ConnectAnswer → Bool
-answer_live k a = k.ports a.wait.port && k.ports a.wait.queue
-
-offered-opens : (u : World) (x : WaitRow) (sort : WaitKind) → x.kind ≡ sort → is_offered x ≡ true → is_sound_wait u x ≡ true → is_open u x.queue ≡ true
-offered-opens u x (Connect b) is on sound = let own : is_sound_as u x (Connect b) ≡ true = rw is at (second-true (is_client u (waiter_of x)) (is_sound_as u x x.kind) sound) in grind arith
-offered-opens u x b is on sound = let off : false ≡ true = rw is at on in absurd (cc)
-
-answered-live : (k : Alive) (u : World) (by : ThreadRow) (bytes : List ℕ) → IsSoundWorld u → Closed k u → Holds (λ (a : ConnectAnswer). answer_live k a ≡ true) (answer_test u by bytes)
-answered-live k u by bytes s c =
-    let P : ConnectAnswer → Type 0 = λ a. answer_live k a ≡ true in
-    bind_holds (message_test bytes) _ P (λ m _.
-    bind_holds (client_test u m.header.client) _ P (λ _ _.
-    bind_holds (found_or (first (names_connect u by m) u.waits) REPLY_MESSAGE_MISMATCH) _ P (λ x at.
-    let found = found_ok (first (names_connect u by m) u.waits) REPLY_MESSAGE_MISMATCH x at in
-    let named = first-passes (names_connect u by m) u.waits x found in
-    let opens = offered-opens u x x.kind refl (grind arith) (every-first (is_sound_wait u) (names_connect u by m) u.waits x s.waits found) in
-    and_from _ _ (every-first (wait_closed k) (names_connect u by m) u.waits x c.waits found) (open-live k x.queue u.handles c.tables opens))))
 
 answer-thin : (k : Alive) (u : World) (by : ThreadRow) (bytes : List ℕ) → Closed k u → answer_test (thin k u) by bytes ≡ answer_test u by bytes
 answer-thin k u by bytes c = bind-same (message_test bytes) _ _ (λ m _. rw (client-thin k u m.header.client c) refl)
@@ -206,80 +130,23 @@ unfolding nt_accept_connect_port
 accept-thin k u by context bytes true c = rw (answer-thin k u by bytes c) refl
 accept-thin k u by context bytes false c = rw (answer-thin k u by bytes c) refl
 
-accepted-closed : (k : Alive) (by : ThreadRow) (context value : ℕ) (a : ConnectAnswer) → k.ports (next_birth by) ≡ true → k.ports a.wait.port ≡ true → k.ports a.wait.queue ≡ true → AreClosed k (accept_steps by context value a)
-accepted-closed k by context value a new port queue = rw (new, port, queue) refl
-
-pub accept-closed : (k : Alive) (u : World) (by : ThreadRow) (context : ℕ) (bytes : List ℕ) (accept : Bool) → IsSoundWorld u → Closed k u → k.ports (next_birth by) ≡ true → Holds (AreClosed k) (nt_accept_connect_port u by context bytes accept)
-unfolding nt_accept_connect_port
-accept-closed k u by context bytes true s c new =
-    bind_holds (answer_test u by bytes) _ (AreClosed k) (λ a at. bind_holds (handles_test u by.process 1) _ (AreClosed k) (λ _ _.
-    let live : answer_live k a ≡ true = holds_ok (λ (a : ConnectAnswer). answer_live k a ≡ true) (answer_test u by bytes) a (answered-live k u by bytes s c) at in
-    accepted-closed k by context (free_handle u by.process) a new (first-true _ _ live) (second-true _ _ live)))
-accept-closed k u by context bytes false s c new = bind_holds (answer_test u by bytes) _ (AreClosed k) (λ a at. refl)
-
--- a completion
-completed-live : (k : Alive) (u : World) (port : PortRow) → StandsBy k port → Holds (λ (c : Completable). k.ports c.client ≡ true) (completion_test u port)
-completed-live k u port s =
-    let P : Completable → Type 0 = λ c. k.ports c.client ≡ true in
-    bind_holds (refuse_if (not (is_server_port port)) INVALID_PORT_HANDLE) _ P (λ _ _. bind_holds (refuse_if port.completed INVALID_PARAMETER) _ P (λ _ _.
-    bind_holds (found_or port.pair PORT_DISCONNECTED) _ P (λ b pair.
-    bind_holds (found_or (first (is_accepted_on b) u.waits) PORT_DISCONNECTED) _ P (λ x at.
-    subst (λ o. all_alive k.ports o ≡ true) (found_ok port.pair PORT_DISCONNECTED b pair) s.pair))))
-
 pub complete-thin : (k : Alive) (u : World) (by : ThreadRow) (handle : ℕ) → Closed k u → nt_complete_connect_port (thin k u) by handle ≡ nt_complete_connect_port u by handle
 unfolding nt_complete_connect_port
 complete-thin k u by handle c = rw (port-thin k u by handle c) refl
-
-pub complete-closed : (k : Alive) (u : World) (by : ThreadRow) (handle : ℕ) → Closed k u → Holds (AreClosed k) (nt_complete_connect_port u by handle)
-unfolding nt_complete_connect_port
-complete-closed k u by handle c =
-    bind_holds (complete_test u by handle) _ (AreClosed k) (λ r at.
-    let live : k.ports r.client ≡ true = holds_ok (λ (c : Completable). k.ports c.client ≡ true) (complete_test u by handle) r
-    (bind_holds (port_test u by handle) _ (λ (c : Completable). k.ports c.client ≡ true) (λ p is. completed-live k u p (holds_ok (StandsBy k) (port_test u by handle) p (port-stands k u by handle c) is))) at in
-    rw live refl)
-
--- what is sent
-sent-live : (k : Alive) (u : World) (by : ThreadRow) (handle : ℕ) (bytes : List ℕ) → Closed k u → Holds (λ (s : Sendable). k.ports s.port.birth ≡ true) (send_test u by handle bytes)
-sent-live k u by handle bytes c =
-    let P : Sendable → Type 0 = λ s. k.ports s.port.birth ≡ true in
-    bind_holds (port_test u by handle) _ P (λ p at. bind_holds (message_test bytes) _ P (λ m _. bind_holds (found_or (route u p) PORT_DISCONNECTED) _ P (λ q there.
-    let s = holds_ok (StandsBy k) (port_test u by handle) p (port-stands k u by handle c) at in s.here)))
 
 pub datagram-thin : (k : Alive) (u : World) (by : ThreadRow) (handle : ℕ) (bytes : List ℕ) → Closed k u → nt_request_port (thin k u) by handle bytes ≡ nt_request_port u by handle bytes
 unfolding nt_request_port
 datagram-thin k u by handle bytes c = rw (port-thin k u by handle c) refl
 
-pub datagram-closed : (k : Alive) (u : World) (by : ThreadRow) (handle : ℕ) (bytes : List ℕ) → Closed k u → Holds (AreClosed k) (nt_request_port u by handle bytes)
-unfolding nt_request_port
-datagram-closed k u by handle bytes c =
-    let P : Sendable → Type 0 = λ s. k.ports s.port.birth ≡ true in
-    bind_holds (datagram_send_test u by handle bytes) _ (AreClosed k) (λ s at.
-    let live : k.ports s.port.birth ≡ true = holds_ok P (datagram_send_test u by handle bytes) s
-    (bind_holds (send_test u by handle bytes) _ P (λ s is. bind_holds (datagram_test u s.port) _ P (λ _ _. holds_ok P (send_test u by handle bytes) s (sent-live k u by handle bytes c) is))) at in
-    then-closed k u (datagram_start by) (row_of s.queue s.port (sent_by by DATAGRAM s.message)) refl live)
-
 pub request-thin : (k : Alive) (u : World) (by : ThreadRow) (handle : ℕ) (bytes : List ℕ) → Closed k u → nt_request_wait_reply_port (thin k u) by handle bytes ≡ nt_request_wait_reply_port u by handle bytes
 unfolding nt_request_wait_reply_port
 request-thin k u by handle bytes c = rw (port-thin k u by handle c) refl
-
-pub request-closed : (k : Alive) (u : World) (by : ThreadRow) (handle : ℕ) (bytes : List ℕ) → Closed k u → Holds (AreClosed k) (nt_request_wait_reply_port u by handle bytes)
-unfolding nt_request_wait_reply_port
-request-closed k u by handle bytes c =
-    let P : Sendable → Type 0 = λ s. k.ports s.port.birth ≡ true in
-    bind_holds (send_test u by handle bytes) _ (AreClosed k) (λ s at.
-    let live : k.ports s.port.birth ≡ true = holds_ok P (send_test u by handle bytes) s (sent-live k u by handle bytes c) at in
-    then-closed k u (request_start by s.port.birth s.queue (sent_by by REQUEST s.message)) (row_of s.queue s.port (sent_by by REQUEST s.message)) (rw live refl) live)
 
 -- replies and receives
 pub reply-thin : (k : Alive) (u : World) (by : ThreadRow) (handle : ℕ) (bytes : List ℕ) → Closed k u → nt_reply_port (thin k u) by handle bytes ≡ nt_reply_port u by handle bytes
 unfolding nt_reply_port
 reply-thin k u by handle bytes c =
     rw (port-thin k u by handle c) (bind-same (port_test u by handle) _ _ (λ p _. bind-same (message_test bytes) _ _ (λ m _. rw (client-thin k u m.header.client c, fitted-thin k u p.birth m c) refl)))
-
-pub reply-closed : (k : Alive) (u : World) (by : ThreadRow) (handle : ℕ) (bytes : List ℕ) → Holds (AreClosed k) (nt_reply_port u by handle bytes)
-unfolding nt_reply_port
-reply-closed k u by handle bytes =
-    bind_holds (port_test u by handle) _ (AreClosed k) (λ p _. bind_holds (message_test bytes) _ (AreClosed k) (λ m _. bind_holds (reply_test u p m) _ (AreClosed k) (λ x _. refl)))
 
 given-thin : (k : Alive) (u : World) (p : PortRow) (o : Option Message) → Closed k u → given_reply (thin k u) p o ≡ given_reply u p o
 given-thin k u p None c = refl
@@ -289,22 +156,6 @@ pub receive-thin : (k : Alive) (u : World) (by : ThreadRow) (handle : ℕ) (byte
 unfolding nt_reply_wait_receive_port
 receive-thin k u by handle bytes c =
     rw (port-thin k u by handle c) (bind-same (port_test u by handle) _ _ (λ p _. bind-same (optional_message bytes) _ _ (λ m _. bind-same (receive_test u p) _ _ (λ q _. rw (given-thin k u p m c) refl))))
-
-replied-closed : (k : Alive) (u : World) (p : PortRow) (o : Option Message) → Holds (AreClosed k) (given_reply u p o)
-replied-closed k u p None = refl
-replied-closed k u p (Some m) = bind_holds (reply_test u p m) _ (AreClosed k) (λ x _. refl)
-
-received-closed : (k : Alive) (by : ThreadRow) (p : PortRow) (q : Birth) (rs : List Basic) (o : Option MessageRow) → k.ports p.birth ≡ true → AreClosed k rs → AreClosed k (receive_steps by p q rs o)
-received-closed k by p q rs None port ok = every-append (is_closed k) rs _ ok (rw port refl)
-received-closed k by p q rs (Some x) port ok = every-append (is_closed k) rs (take_steps x) ok (taken-closed k x (asks x.message) refl).0
-
-pub receive-closed : (k : Alive) (u : World) (by : ThreadRow) (handle : ℕ) (bytes : Option (List ℕ)) → Closed k u → Holds (AreClosed k) (nt_reply_wait_receive_port u by handle bytes)
-unfolding nt_reply_wait_receive_port
-receive-closed k u by handle bytes c =
-    bind_holds (port_test u by handle) _ (AreClosed k) (λ p at. bind_holds (optional_message bytes) _ (AreClosed k) (λ m _.
-    bind_holds (receive_test u p) _ (AreClosed k) (λ q is. bind_holds (given_reply u p m) _ (AreClosed k) (λ rs replied.
-    let s = holds_ok (StandsBy k) (port_test u by handle) p (port-stands k u by handle c) at in
-    received-closed k by p q rs (first (is_queued q) u.messages) s.here (holds_ok (AreClosed k) (given_reply u p m) rs (replied-closed k u p m) replied)))))
 
 -- Each call, by its name
 pub alike-create : (k : Alive) (u : World) (by : ThreadRow) (name : Option (List ℕ)) → Closed k u → served (thin k u) by (create_port name) ≡ served u by (create_port name)
@@ -333,30 +184,3 @@ alike-reply k u by handle message c = reply-thin k u by handle message c
 
 pub alike-receive : (k : Alive) (u : World) (by : ThreadRow) (handle : ℕ) (message : Option (List ℕ)) → Closed k u → served (thin k u) by (reply_wait_receive_port handle message) ≡ served u by (reply_wait_receive_port handle message)
 alike-receive k u by handle message c = receive-thin k u by handle message c
-
-pub stands-create : (k : Alive) (u : World) (by : ThreadRow) (name : Option (List ℕ)) → IsSoundWorld u → Closed k u → k.ports (next_birth by) ≡ true → Holds (AreClosed k) (served u by (create_port name))
-stands-create k u by name s c new = create-closed k u by name new
-
-pub stands-connect : (k : Alive) (u : World) (by : ThreadRow) (name bytes : List ℕ) → IsSoundWorld u → Closed k u → k.ports (next_birth by) ≡ true → Holds (AreClosed k) (served u by (connect_port name bytes))
-stands-connect k u by name info s c new = connect-closed k u by name info s c new
-
-pub stands-listen : (k : Alive) (u : World) (by : ThreadRow) (handle : ℕ) → IsSoundWorld u → Closed k u → k.ports (next_birth by) ≡ true → Holds (AreClosed k) (served u by (listen_port handle))
-stands-listen k u by handle s c new = listen-closed k u by handle c
-
-pub stands-accept : (k : Alive) (u : World) (by : ThreadRow) (context : ℕ) (message : List ℕ) (accept : Bool) → IsSoundWorld u → Closed k u → k.ports (next_birth by) ≡ true → Holds (AreClosed k) (served u by (accept_connect_port context message accept))
-stands-accept k u by context message accept s c new = accept-closed k u by context message accept s c new
-
-pub stands-complete : (k : Alive) (u : World) (by : ThreadRow) (handle : ℕ) → IsSoundWorld u → Closed k u → k.ports (next_birth by) ≡ true → Holds (AreClosed k) (served u by (complete_connect_port handle))
-stands-complete k u by handle s c new = complete-closed k u by handle c
-
-pub stands-datagram : (k : Alive) (u : World) (by : ThreadRow) (handle : ℕ) (message : List ℕ) → IsSoundWorld u → Closed k u → k.ports (next_birth by) ≡ true → Holds (AreClosed k) (served u by (request_port handle message))
-stands-datagram k u by handle message s c new = datagram-closed k u by handle message c
-
-pub stands-request : (k : Alive) (u : World) (by : ThreadRow) (handle : ℕ) (message : List ℕ) → IsSoundWorld u → Closed k u → k.ports (next_birth by) ≡ true → Holds (AreClosed k) (served u by (request_wait_reply_port handle message))
-stands-request k u by handle message s c new = request-closed k u by handle message c
-
-pub stands-reply : (k : Alive) (u : World) (by : ThreadRow) (handle : ℕ) (message : List ℕ) → IsSoundWorld u → Closed k u → k.ports (next_birth by) ≡ true → Holds (AreClosed k) (served u by (reply_port handle message))
-stands-reply k u by handle message s c new = reply-closed k u by handle message
-
-pub stands-receive : (k : Alive) (u : World) (by : ThreadRow) (handle : ℕ) (message : Option (List ℕ)) → IsSoundWorld u → Closed k u → k.ports (next_birth by) ≡ true → Holds (AreClosed k) (served u by (reply_wait_receive_port handle message))
-stands-receive k u by handle message s c new = receive-closed k u by handle message c

@@ -53,7 +53,7 @@ stays (Frees o) = false
 stays (Enters x) = false
 stays b = true
 
-abbrev AreStill : List Basic → Type 0
+abbrev pub AreStill : List Basic → Type 0
 AreStill bs = every stays bs ≡ true
 
 still-step : (w : World) (b : Basic) → stays b ≡ true → keeps_paths w b ≡ true
@@ -98,13 +98,10 @@ still-none (Enters x) ok = absurd (cc)
 still-none (Frees o) ok = absurd (cc)
 still-none b ok = refl
 
-still-sent : (w : World) (bs : List Basic) → AreStill bs → are_sent w bs ≡ true
+pub still-sent : (w : World) (bs : List Basic) → AreStill bs → are_sent w bs ≡ true
 still-sent w bs ok = none-sent w bs (every-more stays sends_none still-none bs ok)
 
-still-sends : (w : World) (r : Result (List Basic) Status) → Holds AreStill r → Holds (λ bs. are_sent w bs ≡ true) r
-still-sends w r ok = holds-more AreStill (λ bs. are_sent w bs ≡ true) r (still-sent w) ok
-
-then-sent : (u : World) (start : List Basic) (x : MessageRow) → are_sent u start ≡ true → is_sent_home (world_after u start) x ≡ true → are_sent u (start ++ enter x (world_after u start)) ≡ true
+pub then-sent : (u : World) (start : List Basic) (x : MessageRow) → are_sent u start ≡ true → is_sent_home (world_after u start) x ≡ true → are_sent u (start ++ enter x (world_after u start)) ≡ true
 then-sent u start x ok home =
     let v : World = world_after u start in
     append-sent u start (enter x v) ok (and_from _ _ home (still-sent (basic v (Enters x)) (given (first (takes x) v.waits) (λ z. given_steps z x ++ woken SUCCESS (shown z x) z ∷ [])) (entered-still x (first (takes x) v.waits))))
@@ -113,7 +110,7 @@ taken-still : (x : MessageRow) (asked : Bool) → asks x.message ≡ asked → A
 taken-still x true asked = (rw asked refl, rw asked refl)
 taken-still x false asked = (rw asked refl, rw asked refl)
 
-listened-still : (by : ThreadRow) (port : Birth) (o : Option MessageRow) → AreStill (listen_steps by port o)
+pub listened-still : (by : ThreadRow) (port : Birth) (o : Option MessageRow) → AreStill (listen_steps by port o)
 listened-still by port None = refl
 listened-still by port (Some x) = (taken-still x (asks x.message) refl).1
 
@@ -135,11 +132,11 @@ reply-still : (u : World) (by : ThreadRow) (handle : ℕ) (bytes : List ℕ) →
 unfolding nt_reply_port
 reply-still u by handle bytes = bind_holds (port_test u by handle) _ (AreStill) (λ p _. bind_holds (message_test bytes) _ (AreStill) (λ b _. bind_holds (reply_test u p b) _ (AreStill) (λ x _. refl)))
 
-replied-still : (u : World) (p : PortRow) (o : Option Message) → Holds (AreStill) (given_reply u p o)
+pub replied-still : (u : World) (p : PortRow) (o : Option Message) → Holds (AreStill) (given_reply u p o)
 replied-still u p None = refl
 replied-still u p (Some b) = bind_holds (reply_test u p b) _ (AreStill) (λ x _. refl)
 
-received-still : (by : ThreadRow) (p : PortRow) (q : Birth) (rs : List Basic) (o : Option MessageRow) → AreStill rs → AreStill (receive_steps by p q rs o)
+pub received-still : (by : ThreadRow) (p : PortRow) (q : Birth) (rs : List Basic) (o : Option MessageRow) → AreStill rs → AreStill (receive_steps by p q rs o)
 received-still by p q rs None ok = every-append (stays) rs (Awaits (receive_wait by p.birth q) ∷ []) ok refl
 received-still by p q rs (Some x) ok = every-append (stays) rs (take_steps x) ok (taken-still x (asks x.message) refl).0
 
@@ -283,7 +280,7 @@ client-lead q p b is on = rw is refl
 pub route-home : (w : World) (p : PortRow) (q : Birth) → route w p ≡ Some q → leads_home q p ≡ true
 route-home w p q to = client-lead q p p.kind refl (way-lead w p q p.kind refl (route-way w p q to))
 
-sends-home : (w : World) (by : ThreadRow) (handle : ℕ) (bytes : List ℕ) → Holds (λ s. passes (port_row w s.port.birth) (leads_home s.queue) ≡ true) (send_test w by handle bytes)
+pub sends-home : (w : World) (by : ThreadRow) (handle : ℕ) (bytes : List ℕ) → Holds (λ s. passes (port_row w s.port.birth) (leads_home s.queue) ≡ true) (send_test w by handle bytes)
 sends-home w by handle bytes =
     let P : Sendable → Type 0 = λ s. passes (port_row w s.port.birth) (leads_home s.queue) ≡ true in
     bind_holds (port_test w by handle) _ P (λ p at.
@@ -292,41 +289,7 @@ sends-home w by handle bytes =
     let here : port_row w p.birth ≡ Some p = holds_ok (λ p. port_row w p.birth ≡ Some p) (port_test w by handle) p (port-row w by handle) at in
     rw here (route-home w p q (found_ok (route w p) PORT_DISCONNECTED q to)))))
 
-pub sends-create : (u : World) (by : ThreadRow) (name : Option (List ℕ)) → Holds (λ bs. are_sent u bs ≡ true) (served u by (create_port name))
-sends-create u by name = still-sends u (served u by (create_port name)) (made-holds AreStill u by name (λ value. refl) (λ path value. refl))
-
-pub sends-connect : (u : World) (by : ThreadRow) (name bytes : List ℕ) → IsSoundWorld u → live_thread u by.number ≡ Some by → Holds (λ bs. are_sent u bs ≡ true) (served u by (connect_port name bytes))
-sends-connect u by name bytes s live = on-connect (λ bs. are_sent u bs ≡ true) u by name bytes (λ q at.
-    let here : port_row (world_after u (starting by q bytes)) (next_birth by) ≡ Some (client_port by q) = first-push (is_port (next_birth by)) u.ports (client_port by q) (has-off (is_port (next_birth by)) u.ports (next-new u by.number by s live)) (birth-self (next_birth by)) in
-    then-sent u (starting by q bytes) (row by q bytes) refl (rw here (birth-self q)))
-
-pub sends-listen : (u : World) (by : ThreadRow) (handle : ℕ) → Holds (λ bs. are_sent u bs ≡ true) (served u by (listen_port handle))
-sends-listen u by handle = still-sends u (served u by (listen_port handle)) (listen-still u by handle)
-
-pub sends-accept : (u : World) (by : ThreadRow) (context : ℕ) (bytes : List ℕ) (accept : Bool) → Holds (λ bs. are_sent u bs ≡ true) (served u by (accept_connect_port context bytes accept))
-unfolding nt_accept_connect_port
-sends-accept u by context bytes true = bind_holds (answer_test u by bytes) _ (λ bs. are_sent u bs ≡ true) (λ a at. bind_holds (handles_test u by.process 1) _ (λ bs. are_sent u bs ≡ true) (λ _ _. refl))
-sends-accept u by context bytes false = bind_holds (answer_test u by bytes) _ (λ bs. are_sent u bs ≡ true) (λ a at. refl)
-
-pub sends-complete : (u : World) (by : ThreadRow) (handle : ℕ) → Holds (λ bs. are_sent u bs ≡ true) (served u by (complete_connect_port handle))
-sends-complete u by handle = still-sends u (served u by (complete_connect_port handle)) (complete-still u by handle)
-
-pub sends-datagram : (u : World) (by : ThreadRow) (handle : ℕ) (bytes : List ℕ) → Holds (λ bs. are_sent u bs ≡ true) (served u by (request_port handle bytes))
-unfolding nt_request_port
-sends-datagram u by handle bytes = bind_holds (datagram_send_test u by handle bytes) _ (λ bs. are_sent u bs ≡ true) (λ s at.
-    let P : Sendable → Type 0 = λ s. passes (port_row u s.port.birth) (leads_home s.queue) ≡ true in
-    let home = holds_ok P (datagram_send_test u by handle bytes) s
-    (bind_holds (send_test u by handle bytes) _ P (λ s is. bind_holds (datagram_test u s.port) _ P (λ _ _. holds_ok P (send_test u by handle bytes) s (sends-home u by handle bytes) is))) at in
-    then-sent u (datagram_start by) (row_of s.queue s.port (sent_by by DATAGRAM s.message)) refl home)
-
-pub sends-request : (u : World) (by : ThreadRow) (handle : ℕ) (bytes : List ℕ) → Holds (λ bs. are_sent u bs ≡ true) (served u by (request_wait_reply_port handle bytes))
-unfolding nt_request_wait_reply_port
-sends-request u by handle bytes = bind_holds (send_test u by handle bytes) _ (λ bs. are_sent u bs ≡ true) (λ s at.
-    let home = holds_ok (λ s. passes (port_row u s.port.birth) (leads_home s.queue) ≡ true) (send_test u by handle bytes) s (sends-home u by handle bytes) at in
-    then-sent u (request_start by s.port.birth s.queue (sent_by by REQUEST s.message)) (row_of s.queue s.port (sent_by by REQUEST s.message)) refl home)
-
-pub sends-reply : (u : World) (by : ThreadRow) (handle : ℕ) (bytes : List ℕ) → Holds (λ bs. are_sent u bs ≡ true) (served u by (reply_port handle bytes))
-sends-reply u by handle bytes = still-sends u (served u by (reply_port handle bytes)) (reply-still u by handle bytes)
-
-pub sends-receive : (u : World) (by : ThreadRow) (handle : ℕ) (bytes : Option (List ℕ)) → Holds (λ bs. are_sent u bs ≡ true) (served u by (reply_wait_receive_port handle bytes))
-sends-receive u by handle bytes = still-sends u (served u by (reply_wait_receive_port handle bytes)) (receive-still u by handle bytes)
+pub datagram-home : (w : World) (by : ThreadRow) (handle : ℕ) (bytes : List ℕ) → Holds (λ s. passes (port_row w s.port.birth) (leads_home s.queue) ≡ true) (datagram_send_test w by handle bytes)
+datagram-home w by handle bytes =
+    let P : Sendable → Type 0 = λ s. passes (port_row w s.port.birth) (leads_home s.queue) ≡ true in
+    bind_holds (send_test w by handle bytes) _ P (λ s is. bind_holds (datagram_test w s.port) _ P (λ _ _. holds_ok P (send_test w by handle bytes) s (sends-home w by handle bytes) is))

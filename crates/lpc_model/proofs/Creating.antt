@@ -11,7 +11,7 @@ use Rattle.lpc_model.specs.Basics.{AddsProcess, AddsThread, Basic, DrawsOrdinal,
 use Rattle.lpc_model.specs.Lines.{ProcArg}
 use Rattle.lpc_model.specs.Targets.{LIFE_ACCESS, process_target}
 use Rattle.lpc_model.specs.Tests.{handle_row, handles_test, live_test, next_birth}
-use Rattle.lpc_model.specs.Creation.{child_count_test, create_process_steps, create_thread_steps, gives_life, new_process, new_thread, nt_create_process, nt_create_thread, second_birth, second_handle, thread_count_test, thread_test, unused_test, unused_thread_test}
+use Rattle.lpc_model.specs.Creation.{child_count_test, create_process_steps, create_thread_steps, gives_life, making_process, new_process, new_thread, nt_create_process, nt_create_thread, second_birth, second_handle, thread_count_test, thread_test, unused_test, unused_thread_test}
 use Rattle.lpc_model.proofs.Holding.{Holds, bind_holds, holds_any, holds_ok, not_refused}
 use Rattle.lpc_model.proofs.Usable.{CanCall}
 use Rattle.lpc_model.proofs.Rows.{first-change}
@@ -62,30 +62,16 @@ pub rows-behind : (hs : List HandleTable) (pid n : ℕ) (h : HandleRow) → has 
 rows-behind hs pid n h home =
     rw (first-change (is_table pid) (is_table pid) (with_handle h) (λ t. refl) (hs ++ no_handles n ∷ []), first-change (is_table pid) (is_table pid) (with_handle h) (λ t. refl) hs, first-behind (is_table pid) hs (no_handles n ∷ []) home) refl
 
--- the second handle is the one that is free then
-free-first : (w : World) (by : ThreadRow) (pid : ℕ) → has (is_table by.process) w.handles ≡ true → free_handle (record w { handles = w.handles ++ no_handles pid ∷ [] }) by.process ≡ free_handle w by.process
-free-first w by pid home = rw (first-behind (is_table by.process) w.handles (no_handles pid ∷ []) home) refl
-
 module _ (P : World → Type 0) (w : World) (by : ThreadRow) (c : CanCall w by) (draws : (v : World) → P v → P (basic v (DrawsOrdinal by.number)))
     (gives : (v : World) (o : ObjectName) → P v → P (basic v (gives_life by (free_handle v by.process) o))) where
   -- what each step keeps
-  pub process_holds : (pid tid : ℕ)
-      → (was_process w pid ≡ false → was_thread w tid ≡ false → P (basic (basic w (DrawsOrdinal by.number)) (DrawsOrdinal by.number)) → P (booted (basic (basic w (DrawsOrdinal by.number)) (DrawsOrdinal by.number)) by pid tid))
-      → P w → Holds (λ bs. P (world_after w bs)) (nt_create_process w by pid tid)
-  process_holds pid tid makes start =
-      process-made (λ bs. P (world_after w bs)) w by pid tid (λ new unused.
+  pub process-keeps : (pid tid : ℕ) → (P (basic (basic w (DrawsOrdinal by.number)) (DrawsOrdinal by.number)) → P (booted (basic (basic w (DrawsOrdinal by.number)) (DrawsOrdinal by.number)) by pid tid)) → P w → P (world_after w (making_process w by pid tid))
+  process-keeps pid tid makes start =
       let made : World = booted (basic (basic w (DrawsOrdinal by.number)) (DrawsOrdinal by.number)) by pid tid in
-      let one : P made = makes new unused (draws (basic w (DrawsOrdinal by.number)) (draws w start)) in
+      let one : P made = makes (draws (basic w (DrawsOrdinal by.number)) (draws w start)) in
       let value = free_handle w by.process in
       let same : free_handle made by.process ≡ value = rw (first-behind (is_table by.process) w.handles (no_handles pid ∷ []) c.home) refl in
       let given : World = basic made (gives_life by value (process_name (next_birth by))) in
       let two : P given = subst (λ n. P (basic made (gives_life by n (process_name (next_birth by))))) same (gives made (process_name (next_birth by)) one) in
       let next : free_handle given by.process ≡ second_handle w by = rw (rows-behind w.handles by.process pid (handle_row value (process_name (next_birth by)) LIFE_ACCESS) c.home) refl in
-      subst (λ n. P (basic given (gives_life by n (thread_name (second_birth by))))) next (gives given (thread_name (second_birth by)) two))
-
-  pub thread_holds : (target : ProcArg) (tid : ℕ)
-      → ((pid : ℕ) → is_live w pid ≡ true → was_thread w tid ≡ false → P (basic w (DrawsOrdinal by.number)) → P (threaded (basic w (DrawsOrdinal by.number)) by tid pid))
-      → P w → Holds (λ bs. P (world_after w bs)) (nt_create_thread w by target tid)
-  thread_holds target tid makes start =
-      thread-made (λ bs. P (world_after w bs)) w by target tid (λ pid live unused.
-      gives (threaded (basic w (DrawsOrdinal by.number)) by tid pid) (thread_name (next_birth by)) (makes pid live unused (draws w start)))
+      subst (λ n. P (basic given (gives_life by n (thread_name (second_birth by))))) next (gives given (thread_name (second_birth by)) two)

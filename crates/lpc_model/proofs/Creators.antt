@@ -1,42 +1,31 @@
 -- Each line leaves client ports with a connection port, and with a connect of the thread that made them.
 use Rattle.std.proofs.Common.{◌≡◌, ℕ, List, [], ◌∷◌, Bool, true, false, cond, Option, Some, None, refl}
-use Rattle.std.specs.Prelude.{Result}
+use Rattle.std.proofs.lemmas.Bool.{and_from}
 use Rattle.std.specs.List.{AllByRecursion}
 use Rattle.lpc_base.specs.Rows.{every}
 use Rattle.lpc_base.proofs.RowWords.{every-append, every-change, every-more, every-push, every-without}
 use Rattle.lpc_base.proofs.RowMaps.{every-map}
 use Rattle.lpc_base.proofs.Bools.{same-number}
-use Rattle.lpc_base.specs.declared.status.Status.{Status}
 use Rattle.lpc_model.specs.declared.entry.ObjectKind.TheVariants as kind
-use Rattle.lpc_model.specs.declared.entry.Word.TheVariants as word
 use Rattle.lpc_model.specs.World.{Birth, ObjectKind, PortRow, ThreadRow, World, no_rows}
-use Rattle.lpc_model.specs.Found.{free_handle, is_port}
-use Rattle.lpc_model.specs.Basics.{Basic, Completes, Cuts, Frees, Joins, Makes, basic, completed, cut, freed, is_end_of, joined, paired, world_after}
-use Rattle.lpc_model.specs.Entering.{enter, row_of}
-use Rattle.lpc_model.specs.Named.{free_name, named_port}
-use Rattle.lpc_model.specs.Tests.{handles_test, next_birth}
-use Rattle.lpc_model.specs.Connect.{ConnectAnswer, answer_test, answered_steps, client_port, connect_start, connect_steps, connection_request, create_steps, info_test, making, nt_accept_connect_port, nt_connect_port, nt_create_port}
+use Rattle.lpc_model.specs.Found.{is_port}
+use Rattle.lpc_model.specs.Basics.{Awaits, Basic, Completes, Cuts, Frees, Joins, Makes, basic, completed, cut, freed, is_end_of, joined, paired, world_after}
+use Rattle.lpc_model.specs.Entering.{enter, received_steps, row_of}
+use Rattle.lpc_model.specs.Connect.{client_port, connect_start, connection_request}
+use Rattle.lpc_model.specs.Close.{close_handle}
 use Rattle.lpc_model.specs.Creators.{KeepsConnects, RunKeepsConnects, keeps_connect}
-use Rattle.lpc_model.specs.Lines.{ScriptCall, ScriptLine, accept_connect_port, close, complete_connect_port, connect_port, create_port, create_process, create_thread, duplicate_object, listen_port, query_object, register_thread_terminate_port, reply_port, reply_wait_receive_port, request_port, request_wait_reply_port, terminate_process, terminate_thread}
-use Rattle.lpc_model.specs.Machine.{Stepped, bare_steps, service_of, step}
+use Rattle.lpc_model.specs.Death.{die}
+use Rattle.lpc_model.specs.Lawful.{IsLawfulWorld}
+use Rattle.lpc_model.specs.Lines.{ScriptLine}
+use Rattle.lpc_model.specs.Machine.{Stepped, bare_steps, step}
 use Rattle.lpc_model.specs.Run.{said_in, trace}
 use Rattle.lpc_model.specs.Sweep.{sweep}
-use Rattle.lpc_model.proofs.Holding.{Holds, bind_holds, holds-more, holds_ok}
-use Rattle.lpc_model.proofs.SteadySteps.{AreSteady, steady-enter}
-use Rattle.lpc_model.proofs.SteadyListen.{listen-steady}
-use Rattle.lpc_model.proofs.SteadyDatagram.{datagram-steady}
-use Rattle.lpc_model.proofs.SteadyRequest.{request-steady}
-use Rattle.lpc_model.proofs.SteadyReply.{reply-steady}
-use Rattle.lpc_model.proofs.SteadyReceive.{receive-steady}
-use Rattle.lpc_model.proofs.SteadyQuery.{query-steady}
-use Rattle.lpc_model.proofs.LinkedSteps.{is_plain, is_steady, steady-plain}
-use Rattle.lpc_model.proofs.LinkedCalls.{ArePlain}
-use Rattle.lpc_model.proofs.LinkedClose.{close-plain}
-use Rattle.lpc_model.proofs.LinkedComplete.{complete-plain}
-use Rattle.lpc_model.proofs.LinkedDuplicate.{duplicate-plain}
-use Rattle.lpc_model.proofs.LinkedLines.{create-process-plain, create-thread-plain, process-plain, thread-plain}
-use Rattle.lpc_model.proofs.SteadyRegister.{register-steady}
-use Rattle.lpc_model.proofs.EachLine.{line_holds, stepped, sweep_every}
+use Rattle.lpc_model.proofs.Acts.{Law, outcomes}
+use Rattle.lpc_model.proofs.EachLine.{stepped, sweep_every}
+use Rattle.lpc_model.proofs.Ending.{AreEnding, die-ending, ending-enter, ending-receipt, handle-ending, is_ending}
+use Rattle.lpc_model.proofs.LineLaws.{AnyWorld, Shut, LineLaw, line-does, passing-lines}
+use Rattle.lpc_model.proofs.Runs.{lawful_none, lawful_step}
+use Rattle.lpc_model.proofs.SoundTerminate.{IsSafe}
 use Rattle.lpc_model.proofs.StepsInTurn.{steps-keep}
 
 -- Basic steps
@@ -73,93 +62,63 @@ keeping-step w b is k = k
 keeping-all : (w : World) (bs : List Basic) → AreKeeping bs → KeepsConnects w → KeepsConnects (world_after w bs)
 keeping-all = steps-keep is_keeping KeepsConnects keeping-step
 
--- Steps that make no port
-plain-keeps : (b : Basic) → is_plain b ≡ true → is_keeping b ≡ true
-plain-keeps (Makes p) is = absurd (cc)
-plain-keeps b is = refl
+-- Acts
+ending-keeps : (b : Basic) → is_ending b ≡ true → is_keeping b ≡ true
+ending-keeps (Makes p) is = absurd (cc)
+ending-keeps b is = refl
 
-steady-keeps : (b : Basic) → is_steady b ≡ true → is_keeping b ≡ true
-steady-keeps b is = plain-keeps b (steady-plain b is)
+ended-keeps : (bs : List Basic) → AreEnding bs → AreKeeping bs
+ended-keeps = every-more is_ending is_keeping ending-keeps
 
-plain_keep : (r : Result (List Basic) Status) → Holds ArePlain r → Holds AreKeeping r
-plain_keep r plain = holds-more ArePlain AreKeeping r (every-more is_plain is_keeping plain-keeps) plain
-
-steady_keep : (r : Result (List Basic) Status) → Holds AreSteady r → Holds AreKeeping r
-steady_keep r steady = holds-more AreSteady AreKeeping r (every-more is_steady is_keeping steady-keeps) steady
-
--- Calls that make ports
-making-keeps : (w : World) (by : ThreadRow) (name : Option (List ℕ)) (value : ℕ) → Holds (λ made. AreKeeping (create_steps by made value)) (making w (next_birth by) name)
-making-keeps w by None value = refl
-making-keeps w by (Some name) value = bind_holds (free_name w name) _ (λ made. AreKeeping (create_steps by made value)) (λ path _. refl)
-
-create-keeps : (w : World) (by : ThreadRow) (name : Option (List ℕ)) → Holds AreKeeping (nt_create_port w by name)
-unfolding nt_create_port
-create-keeps w by name =
-    let value = free_handle w by.process in
-    bind_holds (making w (next_birth by) name) _ AreKeeping (λ made at.
-    bind_holds (handles_test w by.process 1) _ AreKeeping (λ _ _.
-    holds_ok (λ made. AreKeeping (create_steps by made value)) (making w (next_birth by) name) made (making-keeps w by name value) at))
-
-connected-keeps : (w : World) (by : ThreadRow) (connection : Birth) (bytes : List ℕ) → AreKeeping (connect_steps by connection (connection_request by bytes) w)
-connected-keeps w by connection bytes =
-    let m = connection_request by bytes in
-    let row = row_of connection (client_port by connection) m in
-    let waiting = world_after w (connect_start by connection m) in
-    let begun : AreKeeping (connect_start by connection m) = rw (same-number by.number) refl in
-    every-append is_keeping (connect_start by connection m) (enter row waiting) begun
-    (every-more is_steady is_keeping steady-keeps (enter row waiting) (steady-enter row waiting))
-
-connect-keeps : (w : World) (by : ThreadRow) (name bytes : List ℕ) → Holds AreKeeping (nt_connect_port w by name bytes)
-unfolding nt_connect_port
-connect-keeps w by name bytes =
-    bind_holds (info_test bytes) _ AreKeeping (λ _ _.
-    bind_holds (named_port w name) _ AreKeeping (λ connection _.
-    bind_holds (handles_test w by.process 1) _ AreKeeping (λ _ _. connected-keeps w by connection bytes)))
-
-accept-keeps : (w : World) (by : ThreadRow) (context : ℕ) (bytes : List ℕ) (accept : Bool) → Holds AreKeeping (nt_accept_connect_port w by context bytes accept)
-unfolding nt_accept_connect_port
-accept-keeps w by context bytes accept = bind_holds (answer_test w by bytes) _ AreKeeping (λ a _. answered accept a)
-  where
-    answered : (accept : Bool) (a : ConnectAnswer) → Holds AreKeeping (answered_steps w by context accept a)
-    answered false a = refl
-    answered true a = bind_holds (handles_test w by.process 1) _ AreKeeping (λ _ _. refl)
-
--- Calls
-service-keeps : (w : World) (by : ThreadRow) (call : ScriptCall) → Holds AreKeeping (service_of w by call)
-service-keeps w by (create_port name) = create-keeps w by name
-service-keeps w by (connect_port name info) = connect-keeps w by name info
-service-keeps w by (listen_port handle) = steady_keep _ (listen-steady w by handle)
-service-keeps w by (accept_connect_port context message accept) = accept-keeps w by context message accept
-service-keeps w by (complete_connect_port handle) = plain_keep _ (complete-plain w by handle)
-service-keeps w by (request_port handle bytes) = steady_keep _ (datagram-steady w by handle bytes)
-service-keeps w by (request_wait_reply_port handle bytes) = steady_keep _ (request-steady w by handle bytes)
-service-keeps w by (reply_port handle bytes) = steady_keep _ (reply-steady w by handle bytes)
-service-keeps w by (reply_wait_receive_port handle bytes) = steady_keep _ (receive-steady w by handle bytes)
-service-keeps w by (register_thread_terminate_port handle) = steady_keep _ (register-steady w by handle)
-service-keeps w by (close handle) = plain_keep _ (close-plain w by handle)
-service-keeps w by (duplicate_object handle access) = plain_keep _ (duplicate-plain w by handle access)
-service-keeps w by (query_object handle) = steady_keep _ (query-steady w by handle)
-service-keeps w by (create_process pid tid) = plain_keep _ (create-process-plain w by pid tid)
-service-keeps w by (create_thread target tid) = plain_keep _ (create-thread-plain w by target tid)
-service-keeps w by (terminate_thread target code) = plain_keep _ (thread-plain w by target code)
-service-keeps w by (terminate_process target code) = plain_keep _ (process-plain w by target code)
+keeping-law : (by : ThreadRow) → Law by (Shut AnyWorld) AnyWorld (λ _. AreKeeping)
+keeping-law by = record {
+  keeps = λ w bs all _. tt;
+  nothing = λ w. refl;
+  follows = λ w. every-append is_keeping;
+  says = λ w e. refl;
+  numbers = λ w. refl;
+  wakes = λ w status fields x. refl;
+  takes = λ w m. ended-keeps (received_steps m) (ending-receipt m);
+  listens = λ w m. ended-keeps (received_steps m) (ending-receipt m);
+  waits = λ w x off is. refl;
+  sends = λ w m is. ended-keeps (enter m w) (ending-enter m w);
+  asks = λ w x m off wait post. let v = basic w (Awaits x) in ended-keeps (enter m v) (ending-enter m v);
+  creates = λ w is. refl;
+  founds = λ w name path free is. refl;
+  connects = λ w connection bytes opens is.
+      let m = connection_request by bytes in
+      let row = row_of connection (client_port by connection) m in
+      let v = world_after w (connect_start by connection m) in
+      and_from (keeps_connect (client_port by connection)) _ (rw (same-number by.number) refl) (ended-keeps (enter row v) (ending-enter row v));
+  gives = λ w pid o access is. refl;
+  accepts = λ w context m x at is. refl;
+  completes = λ w c is. refl;
+  registers = λ w b stands. refl;
+  spawns = λ w pid tid new unused s. refl;
+  starts = λ w tid pid live unused s. refl;
+  closes = λ w pid r at s _. ended-keeps (close_handle pid r w) (handle-ending pid r w);
+  dies = λ w code t is. ended-keeps (die code t w) (die-ending code t w);
+  leaves = λ w n b. refl;
+}
 
 -- Lines
-line-keeps : (w : World) (line : ScriptLine) → AreKeeping (bare_steps line w)
-line-keeps w = line_holds w AreKeeping (λ _. refl) (record { boots = λ _ _ _ _. refl; threads = λ _ _ _ _. refl; dirs = λ _. refl; links = λ _ _. refl }) (λ _ by call _ _. service-keeps w by call)
+keeping-lines : LineLaw (Shut AnyWorld) (λ _ _. AreKeeping)
+keeping-lines = passing-lines (Shut AnyWorld) (λ _. AreKeeping) (λ _. is_keeping) (λ w bs all. all) (λ w. record { tells = λ _. refl; processes = λ _. refl; threads = λ _ _ _. refl; binds = λ _ _. refl }) (λ by. outcomes by (Shut AnyWorld) AnyWorld (λ _. AreKeeping) (keeping-law by) (λ w c. c))
 
-keeps_step : (w : World) (line : ScriptLine) → KeepsConnects w → KeepsConnects (step w line).world
-keeps_step w line k = stepped KeepsConnects w line (λ v. keeping-all v (sweep v) (sweep_every is_keeping (λ _. refl) v)) (keeping-all w (bare_steps line w) (line-keeps w line) k)
+keeps_step : (w : World) (line : ScriptLine) → IsSafe w → KeepsConnects w → KeepsConnects (step w line).world
+keeps_step w line is k =
+    stepped KeepsConnects w line (λ v. keeping-all v (sweep v) (sweep_every is_keeping (λ _. refl) v)) (keeping-all w (bare_steps line w) (line-does (Shut AnyWorld) (λ _ _. AreKeeping) keeping-lines w is.sound (is.shut, tt) line) k)
 
 -- Runs
-trace-keeps : (w : World) (lines : List (Option ScriptLine)) → KeepsConnects w → AllByRecursion (λ (s : Stepped). KeepsConnects s.world) (trace w lines)
+trace-keeps : (w : World) (lines : List (Option ScriptLine)) → IsLawfulWorld w → KeepsConnects w → AllByRecursion (λ (s : Stepped). KeepsConnects s.world) (trace w lines)
 unfolding trace
-trace-keeps w [] k = tt
-trace-keeps w (None ∷ later) k = (k, trace-keeps w later k)
-trace-keeps w (Some line ∷ later) k =
-    let after = keeps_step w line k in
-    (after, trace-keeps (step w line).world later after)
+trace-keeps w [] l k = tt
+trace-keeps w (None ∷ later) l k = (k, trace-keeps w later l k)
+trace-keeps w (Some line ∷ later) l k =
+    let shut = l.single_closings in
+    let after = keeps_step w line (record { sound = l.sound; shut = shut.connects }) k in
+    (after, trace-keeps (step w line).world later (lawful_step w line l) after)
 
 -- behind each line of a script each client port has its connection port and its connect
 pub keeps_run : (bytes : List ℕ) → RunKeepsConnects bytes
-keeps_run bytes = trace-keeps no_rows (said_in bytes) refl
+keeps_run bytes = trace-keeps no_rows (said_in bytes) lawful_none refl

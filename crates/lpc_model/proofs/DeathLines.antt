@@ -1,43 +1,32 @@
 -- Each line tells of the threads that end by it, once on each port that they registered, and of no other.
-use Rattle.std.proofs.Common.{◌≡◌, ◌∙◌, ℕ, ◌≤◌, List, [], ◌∷◌, ◌++◌, Bool, true, false, cond, map, not, Option, Some, None, refl, sym, ap, subst, arith, append-nil, append_assoc}
-use Rattle.std.specs.Prelude.{◌&&◌, ◌==◌, Result, Ok}
-use Rattle.std.proofs.lemmas.Bool.Decides.{nat_tests}
-use Rattle.lpc_base.specs.Rows.{change, count, each, every, first, given, when, which}
-use Rattle.lpc_base.proofs.RowWords.{every-append, every-more, every-which}
+use Rattle.std.proofs.Common.{◌≡◌, ◌∙◌, ℕ, List, [], ◌∷◌, ◌++◌, Bool, true, false, cond, map, not, Option, Some, None, refl, sym, ap, subst, arith, append-nil, append_assoc}
+use Rattle.lpc_base.specs.Rows.{change, each, every, first, given, when, which}
+use Rattle.lpc_base.proofs.RowWords.{every-append, every-more}
 use Rattle.lpc_base.proofs.Bools.{first-true, second-true}
 use Rattle.lpc_base.specs.declared.status.Status.{Status}
 use Rattle.lpc_model.specs.declared.entry.CallName.{CallName}
-use Rattle.lpc_model.specs.declared.entry.Entry.TheVariants as entry
-use Rattle.lpc_model.specs.declared.entry.Word.TheVariants as word
-use Rattle.lpc_model.specs.declared.entry.ObjectKind.TheVariants as kind
-use Rattle.lpc_model.specs.declared.line.ProcArg.TheVariants.{By, Current}
-use Rattle.lpc_model.specs.declared.entry.CallName.TheVariants.{NtRegisterThreadTerminatePort, NtTerminateProcess, NtTerminateThread}
 use Rattle.lpc_model.specs.World.{Birth, MessageRow, ThreadRow, World}
-use Rattle.lpc_model.specs.Found.{handles_of, is_live, is_live_thread, is_thread, live_thread, live_threads, lives_in, same_birth, wait_of}
-use Rattle.lpc_model.specs.Basics.{AddsThread, Basic, Cuts, Dies, DrawsIdentifier, DrawsOrdinal, Empties, Enters, Frees, Registers, Tells, Unbinds, Unregisters, Wakes, Withdraws, basic, ended, in_turn, posted, posts_of, unregistering, world_after}
-use Rattle.lpc_model.specs.Entering.{enter, given_steps, shown, takes, woken}
+use Rattle.lpc_model.specs.Found.{handles_of, is_live, is_thread, live_thread, wait_of}
+use Rattle.lpc_model.specs.Basics.{AddsThread, Basic, Cuts, Dies, DrawsIdentifier, DrawsOrdinal, Empties, Enters, Frees, Registers, Unbinds, Unregisters, Wakes, Withdraws, basic, ended, in_turn, posted, posts_of, unregistering, world_after}
+use Rattle.lpc_model.specs.Entering.{enter}
 use Rattle.lpc_model.specs.Close.{close_handle}
-use Rattle.lpc_model.specs.Targets.{LIFE_RIGHT, thread_target}
-use Rattle.lpc_model.specs.Death.{answer_unless, code_status, cut_accepted, die, end_process, end_threads, nt_terminate_process, nt_terminate_thread, post_death, post_deaths, death_post}
+use Rattle.lpc_model.specs.Death.{answer_unless, cut_accepted, die, end_process, end_threads, post_death, post_deaths, death_post}
 use Rattle.lpc_model.specs.Deaths.{DeathsAreTold, TellsDeaths, ended_registrations, ending_registrations, is_died_post, leaves, rank_of, registration, registrations_of, rises, death_posts, deaths_posted}
-use Rattle.lpc_model.proofs.Closing.{behind, takes_away}
-use Rattle.lpc_model.proofs.Rows.{first-change}
-use Rattle.lpc_model.proofs.Told.{posts-append, which-append}
-use Rattle.lpc_model.proofs.SoundFrees.{none-pass}
-use Rattle.lpc_model.proofs.Undying.{AreUndying, handle-undying, is_undying, register_holds, service-undying, undying-taken}
-use Rattle.lpc_model.proofs.DeathOrder.{order-behind, parts-order, undying-order}
-use Rattle.lpc_model.proofs.Ending.{AreEnding, accepted-pass, answered_end, behind_dead, behind_told, die-ending, die-pass, ending-death, is_ending, process-ends, thread-ends, told-facts, turn-pass}
 use Rattle.lpc_model.specs.Lawful.{HasThreadsOnce}
-use Rattle.lpc_base.specs.declared.status.TheConstants.{INVALID_HANDLE, SUCCESS}
-use Rattle.lpc_model.specs.Tests.{object_test}
+use Rattle.lpc_model.specs.Lines.{ScriptLine}
+use Rattle.lpc_model.specs.Machine.{bare_steps}
+use Rattle.lpc_model.specs.SoundWaits.{HasShutConnects, IsSoundWorld}
 use Rattle.lpc_model.specs.Sweep.{sweep}
-use Rattle.lpc_model.specs.SoundWaits.{IsSoundWorld}
-use Rattle.lpc_model.specs.Lines.{ProcArg, ScriptCall, ScriptLine, create_process, create_thread, register_thread_terminate_port, terminate_process, terminate_thread}
-use Rattle.lpc_model.specs.Machine.{bare_steps, service_of}
-use Rattle.lpc_model.proofs.Holding.{Holds, bind_holds, found_holds, holds-more, holds_ok}
-use Rattle.lpc_model.proofs.Usable.{CanCall}
-use Rattle.lpc_model.proofs.Creating.{process-made, thread-made}
-use Rattle.lpc_model.proofs.EachLine.{sound_line_holds, sweep_every}
+use Rattle.lpc_model.proofs.Closing.{behind, takes_away}
+use Rattle.lpc_model.proofs.Deathless.{AreDeathless, LifeLaw, away-deathless, deathless-taken, handle-deathless, is_deathless, life-outcomes, milds-deathless}
+use Rattle.lpc_model.proofs.DeathOrder.{deathless-order, order-behind, parts-order}
+use Rattle.lpc_model.proofs.Doomed.{AreFound, doomed-found, found-live, found-other}
+use Rattle.lpc_model.proofs.EachLine.{sweep_every}
+use Rattle.lpc_model.proofs.Ending.{AreEnding, accepted-pass, answered_end, behind_dead, behind_told, die-ending, die-pass, ending-death, is_ending, told-facts, turn-pass}
+use Rattle.lpc_model.proofs.LineLaws.{LineLaw, line-does, passing-lines}
+use Rattle.lpc_model.proofs.Rows.{first-change}
+use Rattle.lpc_model.proofs.Taking.{taken_at_once}
+use Rattle.lpc_model.proofs.Told.{posts-append, which-append}
 
 -- Lists of steps
 posts-both : (xs ys : List Basic) → which is_died_post (posts_of (xs ++ ys)) ≡ which is_died_post (posts_of xs) ++ which is_died_post (posts_of ys)
@@ -104,23 +93,23 @@ undead-registrations w [] all = refl
 undead-registrations w (b ∷ bs) all =
     ap (λ rs. rs ++ ending_registrations (basic w b) bs) (undead-registration w b (first-true (is_still b) (every is_still bs) all)) ∙ undead-registrations (basic w b) bs (second-true (is_still b) (every is_still bs) all)
 
-undying-silent : (b : Basic) → is_undying b ≡ true → is_silent b ≡ true
-undying-silent (Unregisters who b) is = absurd (cc)
-undying-silent (Enters m) is = is
-undying-silent b is = refl
+deathless-silent : (b : Basic) → is_deathless b ≡ true → is_silent b ≡ true
+deathless-silent (Unregisters who b) is = absurd (cc)
+deathless-silent (Enters m) is = is
+deathless-silent b is = refl
 
-pub undying-still : (b : Basic) → is_undying b ≡ true → is_still b ≡ true
-undying-still (Dies who status) is = absurd (cc)
-undying-still b is = refl
+pub deathless-still : (b : Basic) → is_deathless b ≡ true → is_still b ≡ true
+deathless-still (Dies who status) is = absurd (cc)
+deathless-still b is = refl
 
-pub undying-tells : (w : World) (bs : List Basic) → AreUndying bs → TellsDeaths w bs
-undying-tells w bs all =
-    let silent = every-more is_undying is_silent undying-silent bs all in
-    let undead = every-more is_undying is_still undying-still bs all in
+pub deathless-tells : (w : World) (bs : List Basic) → AreDeathless bs → TellsDeaths w bs
+deathless-tells w bs all =
+    let silent = every-more is_deathless is_silent deathless-silent bs all in
+    let undead = every-more is_deathless is_still deathless-still bs all in
     record {
       told = silent-posts bs silent ∙ sym (silent-told w bs silent);
       registrations = silent-leaves bs silent ∙ sym (undead-registrations w bs undead);
-      order = undying-order bs all;
+      order = deathless-order bs all;
     }
 
 pub tells-both : (w : World) (xs ys : List Basic) → rises (each rank_of (xs ++ ys)) ≡ true → TellsDeaths w xs → TellsDeaths (world_after w xs) ys → TellsDeaths w (xs ++ ys)
@@ -192,34 +181,26 @@ rows-kept w bs all (t ∷ ts) rows = (row-kept w t bs all rows.0, rows-kept w bs
 same-death : (w : World) (u t : ThreadRow) (b : Birth) → u.number ≡ t.number → u.process ≡ t.process → u.birth ≡ t.birth → death_post w u b ≡ death_post w t b
 same-death w u t b one two three = rw (one, two, three) refl
 
+silent-taken : (m : MessageRow) (w : World) → every is_silent (taken_at_once m w) ≡ true
+silent-taken m w = every-more is_deathless is_silent deathless-silent (taken_at_once m w) (deathless-taken m w)
+
 told-given : (w : World) (t : ThreadRow) (b : Birth) (o : Option MessageRow) → ((m : MessageRow) → o ≡ Some m → is_died_post m ≡ true) → which is_died_post (posts_of (given o (λ m. enter m w))) ≡ given o (λ m. m ∷ [])
 told-given w t b None died = refl
 told-given w t b (Some m) died =
-    let taken = undying-taken m (first (takes m) w.waits) in
-    let steps = given (first (takes m) w.waits) (λ x. given_steps x m ++ woken SUCCESS (shown x m) x ∷ []) in
-    let none = silent-posts steps (every-more is_undying is_silent undying-silent steps taken) in
+    let none = silent-posts (taken_at_once m w) (silent-taken m w) in
     let is = died m refl in rw (is, none) refl
 
 enter-told : (w : World) (o : Option MessageRow) → deaths_posted w (given o (λ m. enter m w)) ≡ []
 enter-told w None = refl
-enter-told w (Some m) =
-    let taken = undying-taken m (first (takes m) w.waits) in
-    let steps = given (first (takes m) w.waits) (λ x. given_steps x m ++ woken SUCCESS (shown x m) x ∷ []) in
-    silent-told (basic w (Enters m)) steps (every-more is_undying is_silent undying-silent steps taken)
+enter-told w (Some m) = silent-told (basic w (Enters m)) (taken_at_once m w) (silent-taken m w)
 
 enter-leaves : (w : World) (o : Option MessageRow) → each leaves (given o (λ m. enter m w)) ≡ []
 enter-leaves w None = refl
-enter-leaves w (Some m) =
-    let taken = undying-taken m (first (takes m) w.waits) in
-    let steps = given (first (takes m) w.waits) (λ x. given_steps x m ++ woken SUCCESS (shown x m) x ∷ []) in
-    silent-leaves steps (every-more is_undying is_silent undying-silent steps taken)
+enter-leaves w (Some m) = silent-leaves (taken_at_once m w) (silent-taken m w)
 
 enter-undead : (w : World) (o : Option MessageRow) → every is_still (given o (λ m. enter m w)) ≡ true
 enter-undead w None = refl
-enter-undead w (Some m) =
-    let taken = undying-taken m (first (takes m) w.waits) in
-    let steps = given (first (takes m) w.waits) (λ x. given_steps x m ++ woken SUCCESS (shown x m) x ∷ []) in
-    every-more is_undying is_still undying-still steps taken
+enter-undead w (Some m) = every-more is_deathless is_still deathless-still (taken_at_once m w) (deathless-taken m w)
 
 -- what some steps tell of the registrations that go by them
 abbrev ToldHere : World → List Basic → Type 0
@@ -268,32 +249,6 @@ pub death-still : (t : ThreadRow) (b : Birth) (w : World) → every is_still (po
 death-still t b w = enter-undead (basic w (Unregisters t.number b)) (death_post (basic w (Unregisters t.number b)) t b)
 
 -- Threads that end
--- each is found by its number, and lives; no two have one number
-abbrev pub AreFound : List ThreadRow → List ThreadRow → Type 0
-AreFound all [] = Unit {0}
-AreFound all (t ∷ ts) = (first (is_thread t.number) all ≡ Some t) × (t.live ≡ true) × (every (λ u. not (is_thread t.number u)) ts ≡ true) × AreFound all ts
-
-found-live : (ts : List ThreadRow) (n : ℕ) (t : ThreadRow) → first (is_thread n) ts ≡ Some t → t.live ≡ true → first (is_live_thread n) ts ≡ Some t
-found-live [] n t at live = absurd (cc)
-found-live (u ∷ us) n t at live = grind (arith, found-live us n t)
-
--- the others are found once one has ended
-pub found-other : (all : List ThreadRow) (n : ℕ) (ts : List ThreadRow) → every (λ u. not (is_thread n u)) ts ≡ true → AreFound all ts → AreFound (change (is_thread n) ended all) ts
-found-other all n [] apart found = tt
-found-other all n (u ∷ us) apart found = (
-  rw (first-change (is_thread u.number) (is_thread n) ended (λ t. refl) all, found.0) (same (is_thread n u) (off (is_thread n u) _ apart)),
-  found.1,
-  found.2,
-  found-other all n us (second-true _ _ apart) found.3,
-)
-  where
-    off : (a b : Bool) → (not a && b) ≡ true → a ≡ false
-    off a b is = grind arith
-
-    same : (c : Bool) → c ≡ false → Some (cond c (ended u) u) ≡ Some u
-    same true is = absurd (cc)
-    same false is = refl
-
 -- no other step of its end touches a thread
 abbrev keeps_threads : Basic → Bool
 keeps_threads (Wakes who call status fields) = true
@@ -323,18 +278,10 @@ away-threads (Unbinds b) is = refl
 away-threads x is = absurd (cc)
 
 pub away-still : (x : Basic) → takes_away x ≡ true → is_still x ≡ true
-away-still (Wakes who call status fields) is = refl
-away-still (Withdraws who) is = refl
-away-still (Empties q) is = refl
-away-still (Unbinds b) is = refl
-away-still x is = absurd (cc)
+away-still x is = deathless-still x (away-deathless x is)
 
 away-silent : (x : Basic) → takes_away x ≡ true → is_silent x ≡ true
-away-silent (Wakes who call status fields) is = refl
-away-silent (Withdraws who) is = refl
-away-silent (Empties q) is = refl
-away-silent (Unbinds b) is = refl
-away-silent x is = absurd (cc)
+away-silent x is = deathless-silent x (away-deathless x is)
 
 die-silent : (code : Status) (t : ThreadRow) (w : World) → every is_silent (die code t w) ≡ true
 die-silent code t w = die-pass is_silent away-silent (λ n c. refl) (λ b. refl) code t w
@@ -390,15 +337,15 @@ end-deaths pid code ts w found = at (not (is_live (behind_told code ts w) pid))
     silent : every is_silent (in_turn (die code) ts w) ≡ true
     silent = turn-pass is_silent (die code) (λ t v. die-silent code t v) ts w
 
-    ended-part : (bs : List Basic) → AreUndying bs → TellsDeaths w (in_turn (die code) ts w ++ (in_turn post_deaths ts (behind_dead code ts w) ++ bs))
+    ended-part : (bs : List Basic) → AreDeathless bs → TellsDeaths w (in_turn (die code) ts w ++ (in_turn post_deaths ts (behind_dead code ts w) ++ bs))
     ended-part bs all =
-        let last = undying-tells (behind_told code ts w) bs all in
+        let last = deathless-tells (behind_told code ts w) bs all in
         let mid = in_turn post_deaths ts (behind_dead code ts w) in
         let first_part = in_turn (die code) ts w in
         let rows = rows-kept w first_part (turn-pass is_ending (die code) (λ t v. die-ending code t v) ts w) ts (found-rows w ts found) in
         let undead_mid : every is_still mid ≡ true = turn-pass is_still post_deaths (λ t v. turn-pass is_still (post_death t) (λ b u. death-still t b u) t.registrations v) ts (behind_dead code ts w) in
-        let undead_last = every-more is_undying is_still undying-still bs all in
-        let silent_last = every-more is_undying is_silent undying-silent bs all in
+        let undead_last = every-more is_deathless is_still deathless-still bs all in
+        let silent_last = every-more is_deathless is_silent deathless-silent bs all in
         record {
           told = here-both w first_part (mid ++ bs) (silent-posts first_part silent ∙ sym (silent-told w first_part silent)) (here-both (behind_dead code ts w) mid bs (all-here ts (behind_dead code ts w) rows) last.told);
           registrations =
@@ -409,125 +356,30 @@ end-deaths pid code ts w found = at (not (is_live (behind_told code ts w) pid))
         }
 
     at : (last : Bool) → TellsDeaths w (in_turn (die code) ts w ++ (in_turn post_deaths ts (behind_dead code ts w) ++ when last (end_process pid (behind_told code ts w))))
-    at true = ended-part (end_process pid (behind_told code ts w)) (turn-pass is_undying (close_handle pid) (λ r u. handle-undying pid r u) (handles_of (behind_told code ts w) pid) (behind_told code ts w))
+    at true = ended-part (end_process pid (behind_told code ts w)) (turn-pass is_deathless (close_handle pid) (λ r u. handle-deathless pid r u) (handles_of (behind_told code ts w) pid) (behind_told code ts w))
     at false = ended-part [] refl
 
 -- The calls
--- a row that some test finds is the one of its number, where a number has one row
-unique-row : (q : ThreadRow → Bool) (ts : List ThreadRow) (t : ThreadRow) → count (is_thread t.number) ts ≤ 1 → first q ts ≡ Some t → first (is_thread t.number) ts ≡ Some t
-unique-row q [] t once at = absurd (cc)
-unique-row q (u ∷ us) t once at = by_test (q u) refl (is_thread t.number u) refl (unique-row q us t)
-  where
-    fewer : count (is_thread t.number) us ≤ 1
-    fewer = grind arith
-
-    self : is_thread t.number t ≡ true
-    self = grind (arith, nat_tests)
-
-    there : (us : List ThreadRow) → first q us ≡ Some t → 1 ≤ count (is_thread t.number) us
-    there [] at = absurd (cc)
-    there (v ∷ vs) at = grind (arith, nat_tests, there vs)
-
-    by_test : (c : Bool) → q u ≡ c → (d : Bool) → is_thread t.number u ≡ d → (count (is_thread t.number) us ≤ 1 → first q us ≡ Some t → first (is_thread t.number) us ≡ Some t) → first (is_thread t.number) (u ∷ us) ≡ Some t
-    by_test true is d same later =
-        let its : u ≡ t = let one : Some u ≡ Some t = rw is at at in cc in
-        subst (λ v. first (is_thread t.number) (v ∷ us) ≡ Some t) (sym its) (rw self refl)
-    by_test false off true same later =
-        let later_at : first q us ≡ Some t = rw off at at in
-        let some = there us later_at in
-        let few : count (is_thread t.number) (u ∷ us) ≤ 1 = once in absurd (grind (arith, some, same))
-    by_test false off false other later =
-        let later_at : first q us ≡ Some t = rw off at at in rw other (later fewer later_at)
-
--- the live threads of a process
-middle-first : (front ts : List ThreadRow) (t : ThreadRow) → count (is_thread t.number) (front ++ t ∷ ts) ≤ 1 → first (is_thread t.number) (front ++ t ∷ ts) ≡ Some t
-middle-first [] ts t once = let self : is_thread t.number t ≡ true = grind (arith, nat_tests) in rw self refl
-middle-first (u ∷ us) ts t once = at (is_thread t.number u) refl (middle-first us ts t)
-  where
-    there : (us : List ThreadRow) → 1 ≤ count (is_thread t.number) (us ++ t ∷ ts)
-    there [] = grind (arith, nat_tests)
-    there (v ∷ vs) = grind (arith, nat_tests, there vs)
-
-    at : (c : Bool) → is_thread t.number u ≡ c → (count (is_thread t.number) (us ++ t ∷ ts) ≤ 1 → first (is_thread t.number) (us ++ t ∷ ts) ≡ Some t) → first (is_thread t.number) (u ∷ (us ++ t ∷ ts)) ≡ Some t
-    at true same later = let some = there us in absurd (grind (arith, some, same))
-    at false other later = rw other (later (grind arith))
-
-after-none : (front ts : List ThreadRow) (t : ThreadRow) → count (is_thread t.number) (front ++ t ∷ ts) ≤ 1 → count (is_thread t.number) ts ≤ 0
-after-none [] ts t once = let self : is_thread t.number t ≡ true = grind (arith, nat_tests) in grind arith
-after-none (u ∷ us) ts t once = after-none us ts t (grind arith)
-
-one-more : (front ts : List ThreadRow) (t : ThreadRow) → front ++ t ∷ ts ≡ (front ++ t ∷ []) ++ ts
-one-more front ts t = sym (append_assoc front (t ∷ []) ts)
-
-pub live-found : (pid : ℕ) (front ts : List ThreadRow) → ((n : ℕ) → count (is_thread n) (front ++ ts) ≤ 1) → AreFound (front ++ ts) (which (lives_in pid) ts)
-live-found pid front [] once = tt
-live-found pid front (t ∷ ts) once = at (lives_in pid t) refl (live-found pid (front ++ t ∷ []) ts)
-  where
-    later : ((n : ℕ) → count (is_thread n) ((front ++ t ∷ []) ++ ts) ≤ 1)
-    later n = subst (λ all. count (is_thread n) all ≤ 1) (one-more front ts t) (once n)
-
-    back : AreFound ((front ++ t ∷ []) ++ ts) (which (lives_in pid) ts) → AreFound (front ++ t ∷ ts) (which (lives_in pid) ts)
-    back found = subst (λ all. AreFound all (which (lives_in pid) ts)) (sym (one-more front ts t)) found
-
-    at : (c : Bool) → lives_in pid t ≡ c → (((n : ℕ) → count (is_thread n) ((front ++ t ∷ []) ++ ts) ≤ 1) → AreFound ((front ++ t ∷ []) ++ ts) (which (lives_in pid) ts)) → AreFound (front ++ t ∷ ts) (which (lives_in pid) (t ∷ ts))
-    at true is rest =
-        rw is (middle-first front ts t (once t.number), second-true (t.process == pid) t.live is, every-which (λ u. not (is_thread t.number u)) (lives_in pid) ts (none-pass (is_thread t.number) ts (after-none front ts t (once t.number))), back (rest later))
-    at false is rest = rw is (back (rest later))
-
--- a thread that a call is to end is the one of its number
-pub target-found : (w : World) (by : ThreadRow) (target : ProcArg) (t : ThreadRow) → HasThreadsOnce w → CanCall w by → thread_target w by target ≡ Ok t → first (is_thread t.number) w.threads ≡ Some t
-target-found w by target t once c at = holds_ok (λ t. first (is_thread t.number) w.threads ≡ Some t) (thread_target w by target) t (of target) at
-  where
-    of : (target : ProcArg) → Holds (λ t. first (is_thread t.number) w.threads ≡ Some t) (thread_target w by target)
-    of Current = unique-row (is_live_thread by.number) w.threads by (once by.number) c.lives
-    of (By handle) =
-        bind_holds (object_test w by kind.Thread LIFE_RIGHT handle) _ (λ t. first (is_thread t.number) w.threads ≡ Some t) (λ b _.
-        found_holds (λ t. first (is_thread t.number) w.threads ≡ Some t) (first (λ t. same_birth t.birth b) w.threads) INVALID_HANDLE (λ t at. unique-row (λ t. same_birth t.birth b) w.threads t (once t.number) at))
-
 answered-deaths : (w : World) (by : ThreadRow) (call : CallName) (own : Bool) (pid : ℕ) (code : Status) (ts : List ThreadRow) → AreFound w.threads ts → TellsDeaths w (answered_end by call own pid code ts w)
 answered-deaths w by call true pid code ts found = end-deaths pid code ts w found
 answered-deaths w by call false pid code ts found =
     let ends = end-deaths pid code ts w found in tells-both w (answer_unless false by call) (end_threads pid code ts w) ends.order (record { told = refl; registrations = refl; order = refl }) ends
 
-thread-deaths : (w : World) (by : ThreadRow) (target : ProcArg) (code : ℕ) → HasThreadsOnce w → CanCall w by → Holds (TellsDeaths w) (nt_terminate_thread w by target code)
-thread-deaths w by target code once c =
-    thread-ends (TellsDeaths w) w by target code (λ t own at live. answered-deaths w by NtTerminateThread own t.process (code_status code) (t ∷ []) (target-found w by target t once c at, live, refl, tt))
-
-process-deaths : (w : World) (by : ThreadRow) (target : ProcArg) (code : ℕ) → HasThreadsOnce w → Holds (TellsDeaths w) (nt_terminate_process w by target code)
-process-deaths w by target code once =
-    process-ends (TellsDeaths w) w by target code (λ pid own _. answered-deaths w by NtTerminateProcess own pid (code_status code) (live_threads w pid) (live-found pid [] w.threads once))
-
-undying_holds : (w : World) (r : Result (List Basic) Status) → Holds AreUndying r → Holds (TellsDeaths w) r
-undying_holds w r all = holds-more AreUndying (TellsDeaths w) r (undying-tells w) all
-
-service-deaths : (w : World) (by : ThreadRow) (call : ScriptCall) → HasThreadsOnce w → CanCall w by → Holds (TellsDeaths w) (service_of w by call)
-service-deaths w by (create_process pid tid) once c = process-made (TellsDeaths w) w by pid tid (λ _ _. record { told = refl; registrations = refl; order = refl })
-service-deaths w by (create_thread target tid) once c = thread-made (TellsDeaths w) w by target tid (λ pid _ _. record { told = refl; registrations = refl; order = refl })
-service-deaths w by (terminate_thread target code) once c = thread-deaths w by target code once c
-service-deaths w by (terminate_process target code) once c = process-deaths w by target code once
-service-deaths w by (register_thread_terminate_port handle) once c = register_holds (TellsDeaths w) w by handle (λ b new _. at b new)
-  where
-    at : (b : Birth) (new : Bool) → TellsDeaths w (Tells (entry.Answer by.number NtRegisterThreadTerminatePort SUCCESS []) ∷ when new (Registers by.number b ∷ []))
-    at b true = record { told = refl; registrations = refl; order = refl }
-    at b false = record { told = refl; registrations = refl; order = refl }
-service-deaths w by call once c = undying_holds w _ (service-undying w by call refl)
+deaths-law : (by : ThreadRow) → LifeLaw by HasThreadsOnce TellsDeaths
+deaths-law by = record {
+  mild = λ w bs all. deathless-tells w bs (milds-deathless w bs all);
+  registers = λ w b new is. deathless-tells w _ refl;
+  ends = λ w name own pid code ts doomed is. answered-deaths w by name own pid code ts (doomed-found w by own pid ts doomed is.known is.can);
+}
 
 -- Lines
-line-deaths : (w : World) (line : ScriptLine) → IsSoundWorld w → HasThreadsOnce w → TellsDeaths w (bare_steps line w)
-line-deaths w line s once =
-    sound_line_holds w (TellsDeaths w) (λ _. record { told = refl; registrations = refl; order = refl }) s
-    (record {
-      boots = λ _ _ _ _. record { told = refl; registrations = refl; order = refl };
-      threads = λ _ _ _ _. record { told = refl; registrations = refl; order = refl };
-      dirs = λ _. record { told = refl; registrations = refl; order = refl };
-      links = λ _ _. record { told = refl; registrations = refl; order = refl };
-    })
-    (λ by call c. service-deaths w by call once c) line
+deaths-lines : LineLaw HasThreadsOnce (λ _. TellsDeaths)
+deaths-lines = passing-lines HasThreadsOnce TellsDeaths (λ _. is_deathless) deathless-tells (λ w. record { tells = λ _. refl; processes = λ _. refl; threads = λ _ _ _. refl; binds = λ _ _. refl }) (λ by. life-outcomes by HasThreadsOnce TellsDeaths (deaths-law by))
 
 -- the steps of a line tell of the threads that end by it
 pub deaths_told : (w : World) (line : ScriptLine) → IsSoundWorld w → HasThreadsOnce w → DeathsAreTold w line
 deaths_told w line s once =
     let bs = bare_steps line w in
     let v = world_after w bs in
-    let bare = line-deaths w line s once in
-    let swept = sweep_every is_undying (λ _. refl) v in tells-both w bs (sweep v) (order-behind bs (sweep v) bare.order swept) bare (undying-tells v (sweep v) swept)
+    let bare = line-does HasThreadsOnce (λ _. TellsDeaths) deaths-lines w s once line in
+    let swept = sweep_every is_deathless (λ _. refl) v in tells-both w bs (sweep v) (order-behind bs (sweep v) bare.order swept) bare (deathless-tells v (sweep v) swept)

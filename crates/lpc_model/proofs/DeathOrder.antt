@@ -3,22 +3,21 @@ use Rattle.std.proofs.Common.{Bool, List, None, Option, Some, [], ap, arith, fal
 use Rattle.std.specs.Prelude.{nat_le, ◌==◌}
 use Rattle.std.proofs.lemmas.Bool.Decides.{nat_tests}
 use Rattle.std.proofs.lemmas.Bool.{and_from}
-use Rattle.lpc_base.specs.Rows.{each, every, first, given, when, which}
+use Rattle.lpc_base.specs.Rows.{each, every, given, when, which}
 use Rattle.lpc_base.specs.declared.status.Status.{Status}
-use Rattle.lpc_base.specs.declared.status.TheConstants.{LPC_REPLY_LOST, PORT_DISCONNECTED, SUCCESS}
+use Rattle.lpc_base.specs.declared.status.TheConstants.{LPC_REPLY_LOST, PORT_DISCONNECTED}
 use Rattle.lpc_base.proofs.RowWords.{every-append, every-more}
 use Rattle.lpc_model.specs.World.{Birth, MessageRow, ThreadRow, WaitRow, World}
 use Rattle.lpc_model.specs.Found.{is_accepted, wait_of}
-use Rattle.lpc_model.specs.Basics.{Basic, Cuts, Dies, DropsHandle, Enters, Receives, Steps, Unbinds, Unregisters, Withdraws, basic, end_each, in_turn, world_after}
-use Rattle.lpc_model.specs.Message.{asks}
-use Rattle.lpc_model.specs.Entering.{enter, given_steps, received_steps, shown, takes, woken}
+use Rattle.lpc_model.specs.Basics.{Basic, Cuts, Dies, DropsHandle, Enters, Receives, Steps, Takes, TakesConnect, Unbinds, Unregisters, Wakes, Withdraws, basic, end_each, in_turn, world_after}
+use Rattle.lpc_model.specs.Entering.{enter}
 use Rattle.lpc_model.specs.Close.{cut_pair, end_accepted, end_request, is_accepted_across, is_receive_across, is_request_across, wake}
 use Rattle.lpc_model.specs.Death.{cut_accepted, die, post_death, post_deaths, death_post}
 use Rattle.lpc_model.specs.Deaths.{is_died_post, rank_of, rises}
 use Rattle.lpc_model.proofs.Closing.{behind}
 use Rattle.lpc_model.proofs.Ending.{turn-pass}
-use Rattle.lpc_model.proofs.SoundWorlds.{by_kind}
-use Rattle.lpc_model.proofs.Undying.{AreUndying, is_undying}
+use Rattle.lpc_model.proofs.Deathless.{AreDeathless, is_deathless}
+use Rattle.lpc_model.proofs.Taking.{is_taking, taken_at_once, taking-entered}
 
 -- Ranks that rise
 alike-rise : (k : ℕ) (ns : List ℕ) → every (λ n. n == k) ns ≡ true → rises ns ≡ true
@@ -81,27 +80,27 @@ highest (b ∷ bs) = every-append (λ n. nat_le n 2) (rank_of b) (each rank_of b
     of b = refl
 
 -- no step that tells of no end has a lower rank than the last
-undying-rank : (b : Basic) → is_undying b ≡ true → has_rank 2 b ≡ true
-undying-rank (Enters m) is = at (is_died_post m) is
+deathless-rank : (b : Basic) → is_deathless b ≡ true → has_rank 2 b ≡ true
+deathless-rank (Enters m) is = at (is_died_post m) is
   where
     at : (died : Bool) → not died ≡ true → every (λ n. n == 2) (when died (1 ∷ [])) ≡ true
     at true is = absurd (cc)
     at false is = refl
-undying-rank (Dies who status) is = absurd (cc)
-undying-rank (Unregisters who b) is = absurd (cc)
-undying-rank b is = refl
+deathless-rank (Dies who status) is = absurd (cc)
+deathless-rank (Unregisters who b) is = absurd (cc)
+deathless-rank b is = refl
 
-last-ranks : (bs : List Basic) → AreUndying bs → every (λ n. n == 2) (each rank_of bs) ≡ true
-last-ranks bs all = ranked 2 bs (every-more is_undying (has_rank 2) undying-rank bs all)
+last-ranks : (bs : List Basic) → AreDeathless bs → every (λ n. n == 2) (each rank_of bs) ≡ true
+last-ranks bs all = ranked 2 bs (every-more is_deathless (has_rank 2) deathless-rank bs all)
 
-pub undying-order : (bs : List Basic) → AreUndying bs → rises (each rank_of bs) ≡ true
-undying-order bs all = alike-rise 2 (each rank_of bs) (last-ranks bs all)
+pub deathless-order : (bs : List Basic) → AreDeathless bs → rises (each rank_of bs) ≡ true
+deathless-order bs all = alike-rise 2 (each rank_of bs) (last-ranks bs all)
 
 -- and so such steps may stand behind any others
-pub order-behind : (xs ys : List Basic) → rises (each rank_of xs) ≡ true → AreUndying ys → rises (each rank_of (xs ++ ys)) ≡ true
+pub order-behind : (xs ys : List Basic) → rises (each rank_of xs) ≡ true → AreDeathless ys → rises (each rank_of (xs ++ ys)) ≡ true
 order-behind xs ys order all =
     subst (λ ns. rises ns ≡ true) (sym (ranks-both xs ys))
-    (both-rise 2 (each rank_of xs) (each rank_of ys) (highest xs) (every-more (λ n. n == 2) (nat_le 2) (λ n is. grind (arith, nat_tests)) (each rank_of ys) (last-ranks ys all)) order (undying-order ys all))
+    (both-rise 2 (each rank_of xs) (each rank_of ys) (highest xs) (every-more (λ n. n == 2) (nat_le 2) (λ n is. grind (arith, nat_tests)) (each rank_of ys) (last-ranks ys all)) order (deathless-order ys all))
 
 -- Threads that end
 ends-rank : (ending : WaitRow → List Basic) → ((x : WaitRow) → every (has_rank 0) (ending x) ≡ true) → (xs : List WaitRow) → every (has_rank 0) (each ending xs) ≡ true
@@ -133,32 +132,19 @@ die-rank code t w =
     every-append (has_rank 0) first (cut_accepted (wait_of w t.number) (world_after w first)) refl (accepted-rank (wait_of w t.number) (world_after w first))
 
 -- Registrations that go
-receipt-rank : (m : MessageRow) → every (has_rank 1) (received_steps m) ≡ true
-receipt-rank m = at (asks m.message)
-  where
-    at : (a : Bool) → every (has_rank 1) (when a (Receives m.message.header.client.thread m.queue ∷ [])) ≡ true
-    at true = refl
-    at false = refl
-
-given-rank : (m : MessageRow) (x : WaitRow) → every (has_rank 1) (given_steps x m ++ woken SUCCESS (shown x m) x ∷ []) ≡ true
-given-rank m x =
-    by_kind (λ x. every (has_rank 1) (given_steps x m ++ woken SUCCESS (shown x m) x ∷ []) ≡ true)
-    (λ x r. every-append (has_rank 1) (received_steps m) _ (receipt-rank m) refl)
-    (λ x. every-append (has_rank 1) (received_steps m) _ (receipt-rank m) refl)
-    (λ x. every-append (has_rank 1) (received_steps m) _ (receipt-rank m) refl)
-    (λ x r. every-append (has_rank 1) (received_steps m) _ (receipt-rank m) refl)
-    (λ x r reply. every-append (has_rank 1) (received_steps m) _ (receipt-rank m) refl) x
+taking-rank : (b : Basic) → is_taking b ≡ true → has_rank 1 b ≡ true
+taking-rank (Takes queue) is = refl
+taking-rank (TakesConnect queue) is = refl
+taking-rank (Receives who queue) is = refl
+taking-rank (Wakes who call status fields) is = refl
+taking-rank b is = absurd (cc)
 
 enter-rank : (m : MessageRow) (w : World) → every (has_rank 1) (enter m w) ≡ true
-enter-rank m w = and_from _ _ (posts (is_died_post m)) (at (first (takes m) w.waits))
+enter-rank m w = and_from _ _ (posts (is_died_post m)) (every-more is_taking (has_rank 1) taking-rank (taken_at_once m w) (taking-entered m w))
   where
     posts : (died : Bool) → every (λ n. n == 1) (when died (1 ∷ [])) ≡ true
     posts true = refl
     posts false = refl
-
-    at : (o : Option WaitRow) → every (has_rank 1) (given o (λ x. given_steps x m ++ woken SUCCESS (shown x m) x ∷ [])) ≡ true
-    at None = refl
-    at (Some x) = given-rank m x
 
 death-rank : (t : ThreadRow) (b : Birth) (w : World) → every (has_rank 1) (post_death t b w) ≡ true
 death-rank t b w = at (death_post v t b)
@@ -171,7 +157,7 @@ death-rank t b w = at (death_post v t b)
     at (Some m) = enter-rank m (basic w (Unregisters t.number b))
 
 -- The three parts
-pub parts-order : (code : Status) (ts : List ThreadRow) (w v : World) (bs : List Basic) → AreUndying bs → rises (each rank_of (in_turn (die code) ts w ++ (in_turn post_deaths ts v ++ bs))) ≡ true
+pub parts-order : (code : Status) (ts : List ThreadRow) (w v : World) (bs : List Basic) → AreDeathless bs → rises (each rank_of (in_turn (die code) ts w ++ (in_turn post_deaths ts v ++ bs))) ≡ true
 parts-order code ts w v bs all =
     subst (λ ns. rises ns ≡ true) (sym (ranks-both dying (telling ++ bs)))
     (both-rise 0 (each rank_of dying) (each rank_of (telling ++ bs)) (every-more (λ n. n == 0) (λ n. nat_le n 0) (λ n is. grind (arith, nat_tests)) (each rank_of dying) none) (lowest (each rank_of (telling ++ bs)))

@@ -91,7 +91,7 @@ soft-receipt m = at (asks m.message)
     at true = refl
     at false = refl
 
-level-receipt : (m : MessageRow) → every is_level (received_steps m) ≡ true
+pub level-receipt : (m : MessageRow) → every is_level (received_steps m) ≡ true
 level-receipt m = at (asks m.message)
   where
     at : (a : Bool) → every is_level (when a (Receives m.message.header.client.thread m.queue ∷ [])) ≡ true

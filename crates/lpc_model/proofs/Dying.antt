@@ -72,10 +72,6 @@ gone-accepted n b w =
     ∙ (gone-same w _ _ (without (is_own_of n) w.messages) _ (change (is_thread n) ended w.threads) (ap (λ vs. rest vs (without (waits_as n) w.waits)) (which-without (is_accepted_across b w) (waits_as n) w.waits) ∙ rest-less n xs w.waits) refl
     ∙ ap (gone n) (sym (ended-world xs w)))
 
--- a thread that waits in an accepted connect alone
-abbrev pub is_connected : ℕ → WaitRow → Bool
-is_connected n z = not (waits_as n z) || is_accepted z
-
 -- so a connection is cut behind it as before it
 abbrev pub asked_across : Birth → World → World
 asked_across b w = behind (end_each (is_request_across b) (end_request LPC_REPLY_LOST)) w

@@ -5,16 +5,15 @@ use Rattle.std.proofs.lemmas.Bool.Decides.{nat_tests}
 use Rattle.std.proofs.lemmas.Bool.{not-false}
 use Rattle.lpc_base.specs.Rows.{change, every, first, given, has, when, without_first}
 use Rattle.lpc_base.specs.declared.status.Status.{Status}
-use Rattle.lpc_base.specs.declared.status.TheConstants.{INVALID_CID, SUCCESS}
+use Rattle.lpc_base.specs.declared.status.TheConstants.{INVALID_CID}
 use Rattle.lpc_base.proofs.RowWords.{every-append, every-more, first-passes}
 use Rattle.lpc_base.proofs.Births.{birth-same}
 use Rattle.lpc_model.specs.declared.entry.CallName.{CallName}
 use Rattle.lpc_model.specs.declared.entry.CallName.TheVariants.{NtTerminateProcess, NtTerminateThread}
 use Rattle.lpc_model.specs.World.{Birth, Creator, HandleRow, HandleTable, MessageRow, PortRow, ThreadRow, WaitRow, World}
 use Rattle.lpc_model.specs.Found.{handle_at, handles_of, has_value, is_accepted, is_live, is_open, is_port, is_table, live_threads, port_row, route, rows_in, wait_of, way}
-use Rattle.lpc_model.specs.Message.{asks}
-use Rattle.lpc_model.specs.Basics.{Accepts, AddsHandle, AddsProcess, AddsThread, Awaits, Basic, Binds, Completes, Cuts, Dies, DrawsIdentifier, DrawsOrdinal, DropsHandle, Empties, Frees, Joins, Makes, Receives, Registers, Steps, Unbinds, Unregisters, Wakes, Withdraws, basic, doing, in_turn, provided, without_handle, world_after, ◌▹◌}
-use Rattle.lpc_model.specs.Entering.{enter, given_steps, received_steps, row_of, shown, takes, woken}
+use Rattle.lpc_model.specs.Basics.{Accepts, AddsHandle, AddsProcess, AddsThread, Awaits, Basic, Binds, Completes, Cuts, Dies, DrawsIdentifier, DrawsOrdinal, DropsHandle, Empties, Frees, Joins, Makes, Receives, Registers, Steps, Takes, TakesConnect, Unbinds, Unregisters, Wakes, Withdraws, basic, doing, in_turn, provided, without_handle, world_after, ◌▹◌}
+use Rattle.lpc_model.specs.Entering.{enter, received_steps, row_of}
 use Rattle.lpc_model.specs.Refusal.{refuse_if}
 use Rattle.lpc_model.specs.Lines.{ProcArg}
 use Rattle.lpc_model.specs.Tests.{live_test}
@@ -24,11 +23,11 @@ use Rattle.lpc_model.specs.Death.{answer_unless, code_status, cut_accepted, die,
 use Rattle.lpc_model.specs.SoundWaits.{IsSoundWorld}
 use Rattle.lpc_model.proofs.Holding.{Holds, bind_holds, holds-more, not_refused}
 use Rattle.lpc_model.proofs.Closing.{behind, close-pass, pair-pass, stage_five, takes_away, then-holds}
-use Rattle.lpc_model.proofs.SoundWorlds.{by_kind}
 use Rattle.lpc_model.proofs.SoundClosing.{close-shut}
 use Rattle.lpc_model.specs.Closings.{is_closed_post}
 use Rattle.lpc_model.proofs.Usable.{way-open}
 use Rattle.lpc_model.proofs.StepsInTurn.{after-append}
+use Rattle.lpc_model.proofs.Taking.{is_taking, taken_at_once, taking-entered, taking-receipt}
 use Rattle.lpc_model.specs.Deaths.{is_died_post}
 
 -- Steps in turn
@@ -68,28 +67,18 @@ away-ending (Empties q) is = refl
 away-ending (Unbinds b) is = refl
 away-ending x is = absurd (cc)
 
-ending-receipt : (m : MessageRow) → AreEnding (received_steps m)
-ending-receipt m = at (asks m.message)
-  where
-    at : (a : Bool) → every is_ending (when a (Receives m.message.header.client.thread m.queue ∷ [])) ≡ true
-    at true = refl
-    at false = refl
+taking-ending : (b : Basic) → is_taking b ≡ true → is_ending b ≡ true
+taking-ending (Takes queue) is = refl
+taking-ending (TakesConnect queue) is = refl
+taking-ending (Receives who queue) is = refl
+taking-ending (Wakes who call status fields) is = refl
+taking-ending b is = absurd (cc)
 
-ending-given : (m : MessageRow) (x : WaitRow) → AreEnding (given_steps x m ++ woken SUCCESS (shown x m) x ∷ [])
-ending-given m x =
-    by_kind (λ x. every is_ending (given_steps x m ++ woken SUCCESS (shown x m) x ∷ []) ≡ true)
-    (λ x r. every-append is_ending (received_steps m) _ (ending-receipt m) refl)
-    (λ x. every-append is_ending (received_steps m) _ (ending-receipt m) refl)
-    (λ x. every-append is_ending (received_steps m) _ (ending-receipt m) refl)
-    (λ x r. every-append is_ending (received_steps m) _ (ending-receipt m) refl)
-    (λ x r reply. every-append is_ending (received_steps m) _ (ending-receipt m) refl) x
+pub ending-receipt : (m : MessageRow) → AreEnding (received_steps m)
+ending-receipt m = every-more is_taking is_ending taking-ending (received_steps m) (taking-receipt m)
 
 pub ending-enter : (m : MessageRow) (w : World) → AreEnding (enter m w)
-ending-enter m w = at (first (takes m) w.waits)
-  where
-    at : (o : Option WaitRow) → AreEnding (given o (λ x. given_steps x m ++ woken SUCCESS (shown x m) x ∷ []))
-    at None = refl
-    at (Some x) = ending-given m x
+ending-enter m w = every-more is_taking is_ending taking-ending (taken_at_once m w) (taking-entered m w)
 
 ending-accepted : (o : Option WaitRow) (w : World) → AreEnding (cut_accepted o w)
 ending-accepted None w = refl

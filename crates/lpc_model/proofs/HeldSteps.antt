@@ -1,8 +1,6 @@
 -- What steps do to the counts of rows that name an object: where none of them falls, what was named is named.
 use Rattle.std.proofs.Common.{Bool, List, [], ap, arith, cond, false, not, refl, true, ℕ, ◌++◌, ◌+◌, ◌∷◌, ◌≡◌, ◌≤◌}
-use Rattle.std.specs.Prelude.{◌&&◌, ◌||◌, ◌==◌, nat_lt, Result}
-use Rattle.lpc_base.specs.declared.status.Status.{Status}
-use Rattle.lpc_model.proofs.Holding.{Holds, holds-more}
+use Rattle.std.specs.Prelude.{◌&&◌, ◌||◌, ◌==◌, nat_lt}
 use Rattle.std.proofs.lemmas.Bool.Decides.{nat_tests}
 use Rattle.std.proofs.Math.Bool.{or-true}
 use Rattle.lpc_base.specs.Rows.{change, count, each, every, has, which}
@@ -112,9 +110,6 @@ holds-thread w t = not (is_unheld w (thread_name t.birth))
 
 abbrev holds-process : World → ProcessRow → Bool
 holds-process w p = not (is_unheld w (process_name p.birth))
-
-sum-more : (a b c d : ℕ) → a ≤ b → c ≤ d → a + c ≤ b + d
-sum-more a b c d one two = omega (arith, one, two)
 
 same-sum : (a b c : ℕ) → c ≡ b → a + b ≤ a + c
 same-sum a b c is = omega (arith, is)
@@ -234,17 +229,3 @@ quiet-all w (b ∷ bs) all quiet held =
     at : (c : Bool) → loosens b ≡ c → is_steady b ≡ true → every is_steady bs ≡ true → loosened c bs ≡ false → (loosened false bs ≡ false → HasHeldPorts (basic w b) → HasHeldPorts (world_after (basic w b) bs)) → HasHeldPorts (world_after (basic w b) bs)
     at true is here later off more = let on = loosened-on bs in absurd (cc)
     at false is here later off more = more off (quiet-step w b here is held)
-
--- What a list of steps keeps
-abbrev pub KeepLives : World → List Basic → Type 0
-KeepLives w bs = AreLivesHeld (world_after w bs)
-
--- the ports that it leaves are named by rows, where none of its steps lets a name go
-abbrev pub KeepQuiet : World → List Basic → Type 0
-KeepQuiet w bs = loosened false bs ≡ false → HasHeldPorts (world_after w bs)
-
-pub steady_lives : (w : World) (r : Result (List Basic) Status) → AreLivesHeld w → Holds (λ bs. every is_steady bs ≡ true) r → Holds (KeepLives w) r
-steady_lives w r held steady = holds-more (λ bs. every is_steady bs ≡ true) (KeepLives w) r (λ bs steady. lives-all w bs (every-more is_steady keeps_lives steady-keeps bs steady) held) steady
-
-pub steady_quiet : (w : World) (r : Result (List Basic) Status) → HasHeldPorts w → Holds (λ bs. every is_steady bs ≡ true) r → Holds (KeepQuiet w) r
-steady_quiet w r held steady = holds-more (λ bs. every is_steady bs ≡ true) (KeepQuiet w) r (λ bs steady. λ quiet. quiet-all w bs steady quiet held) steady

@@ -9,12 +9,11 @@ use Rattle.lpc_model.specs.Basics.{Basic, DropsHandle, Empties, Unbinds, Wakes, 
 use Rattle.lpc_model.specs.Entering.{enter}
 use Rattle.lpc_model.specs.Tests.{own_handle}
 use Rattle.lpc_model.specs.Close.{close_handle, close_port, closed_row, is_last, nt_close, post_closed, server_of, closing_post}
-use Rattle.lpc_model.specs.Linked.{IsLinked}
 use Rattle.lpc_model.proofs.Holding.{Holds, bind_holds}
 use Rattle.lpc_model.proofs.Closing.{close-pass, stage_five, takes_away}
 use Rattle.lpc_model.proofs.LinkedSteps.{is_plain, is_steady, steady-plain}
 use Rattle.lpc_model.proofs.SteadySteps.{AreSteady, steady-enter}
-use Rattle.lpc_model.proofs.LinkedCalls.{ArePlain, KeepLinked, plain_holds}
+use Rattle.lpc_model.proofs.LinkedCalls.{ArePlain}
 
 -- what takes rows away is steady, and so is what is posted
 away-steady : (x : Basic) → takes_away x ≡ true → is_steady x ≡ true
@@ -49,10 +48,3 @@ handle-plain w pid r = at (is_last r w)
     at : (last : Bool) → ArePlain (when last (close_port r.object.birth w) ++ DropsHandle pid r.value ∷ [])
     at true = every-append is_plain (close_port r.object.birth w) (DropsHandle pid r.value ∷ []) (every-more is_steady is_plain steady-plain (close_port r.object.birth w) (port-steady r.object.birth w)) refl
     at false = refl
-
-pub close-plain : (w : World) (by : ThreadRow) (handle : ℕ) → Holds ArePlain (nt_close w by handle)
-unfolding nt_close
-close-plain w by handle = bind_holds (own_handle w by handle) _ ArePlain (λ r _. handle-plain w by.process r)
-
-pub close-linked : (w : World) (by : ThreadRow) (handle : ℕ) → IsLinked w → Holds (KeepLinked w) (nt_close w by handle)
-close-linked w by handle l = plain_holds w (nt_close w by handle) l (close-plain w by handle)

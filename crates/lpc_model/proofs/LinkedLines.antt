@@ -1,42 +1,47 @@
 -- Each line keeps ports linked, and leaves no port row that no row names.
-use Rattle.std.proofs.Common.{arith, refl, true, ℕ, ◌≡◌}
-use Rattle.lpc_model.specs.declared.entry.Word.TheVariants as word
-use Rattle.lpc_model.specs.World.{ThreadRow, World}
-use Rattle.lpc_model.specs.Basics.{Awaits, Basic, Binds, Frees, Joins, Makes, world_after}
-use Rattle.lpc_model.specs.Lines.{ProcArg, ScriptCall, ScriptLine, accept_connect_port, close, complete_connect_port, connect_port, create_port, create_process, create_thread, duplicate_object, listen_port, query_object, register_thread_terminate_port, reply_port, reply_wait_receive_port, request_port, request_wait_reply_port, terminate_process, terminate_thread}
-use Rattle.lpc_model.specs.Machine.{service_of, bare_steps}
+use Rattle.lpc_base.proofs.RowWords.{every-more}
 use Rattle.lpc_model.specs.SoundWaits.{HasShutConnects, IsSoundWorld}
-use Rattle.lpc_model.proofs.Holding.{Holds}
-use Rattle.lpc_model.specs.World.{no_rows}
 use Rattle.lpc_model.specs.Sweep.{free_unheld, sweep}
 use Rattle.lpc_model.specs.Linked.{HasHeldRows, IsLinked}
-use Rattle.lpc_model.specs.Machine.{step}
-use Rattle.lpc_model.proofs.Usable.{CanCall}
 use Rattle.lpc_model.proofs.SoundLines.{line-sound}
-use Rattle.lpc_model.proofs.SteadyListen.{listen-steady}
-use Rattle.lpc_model.proofs.SteadyDatagram.{datagram-steady}
-use Rattle.lpc_model.proofs.SteadyRequest.{request-steady}
-use Rattle.lpc_model.proofs.SteadyReply.{reply-steady}
-use Rattle.lpc_model.proofs.SteadyReceive.{receive-steady}
-use Rattle.lpc_model.proofs.SteadyQuery.{query-steady}
 use Rattle.lpc_model.proofs.LinkedJoins.{swept-linked}
 use Rattle.lpc_model.proofs.Swept.{two-passes}
 use Rattle.lpc_model.proofs.SweptLives.{processes-held, threads-held}
-use Rattle.lpc_model.proofs.LinkedCalls.{ArePlain, KeepLinked, plain_holds, steady_holds}
-use Rattle.lpc_model.proofs.LinkedCreate.{create-linked}
-use Rattle.lpc_model.proofs.LinkedConnect.{connect-linked}
-use Rattle.lpc_model.proofs.LinkedAccept.{accept-linked}
-use Rattle.lpc_model.proofs.LinkedComplete.{complete-linked}
-use Rattle.lpc_model.proofs.LinkedClose.{close-linked}
-use Rattle.lpc_model.proofs.LinkedDuplicate.{duplicate-linked}
 use Rattle.lpc_model.specs.Death.{nt_terminate_process, nt_terminate_thread}
-use Rattle.lpc_model.proofs.SteadyRegister.{register-steady}
 use Rattle.lpc_model.proofs.LinkedSteps.{is_plain, plain-all}
-use Rattle.lpc_model.proofs.Ending.{ending-pass, is_ending, process-ending, thread-ending}
-use Rattle.lpc_model.proofs.Creating.{process-made, thread-made}
-use Rattle.lpc_model.proofs.EachLine.{passing_directives, sound_line_holds}
 use Rattle.lpc_model.proofs.StepsInTurn.{after-append}
-use Rattle.lpc_model.specs.Creation.{nt_create_process, nt_create_thread}
+use Rattle.std.proofs.Common.{List, None, Some, [], arith, refl, true, ℕ, ◌∷◌, ◌≡◌}
+use Rattle.lpc_base.specs.Rows.{first}
+use Rattle.lpc_base.specs.declared.status.TheConstants.{SUCCESS}
+use Rattle.lpc_message.specs.declared.kind.TheConstants.{DATAGRAM, REQUEST}
+use Rattle.lpc_names.specs.Walk.{LinkTo, Stands}
+use Rattle.lpc_names.specs.declared.names.Found.TheVariants.{Directory}
+use Rattle.lpc_model.specs.declared.entry.CallName.TheVariants.{NtRegisterThreadTerminatePort}
+use Rattle.lpc_model.specs.declared.entry.Entry.TheVariants as entry
+use Rattle.lpc_model.specs.declared.entry.Entry.TheVariants.{Answer}
+use Rattle.lpc_model.specs.declared.entry.Word.TheVariants as word
+use Rattle.lpc_model.specs.World.{ThreadRow, World, no_rows}
+use Rattle.lpc_model.specs.Basics.{AddsProcess, AddsThread, Awaits, Basic, Binds, Frees, Joins, Makes, Registers, Tells, world_after}
+use Rattle.lpc_model.specs.Close.{close_steps}
+use Rattle.lpc_model.specs.Connect.{ConnectAnswer, answer_test, complete_steps, listen_steps, names_connect, refuse_steps}
+use Rattle.lpc_model.specs.Counts.{asked, duplicate_steps}
+use Rattle.lpc_model.specs.Creation.{making_process, making_thread, nt_create_process, nt_create_thread}
+use Rattle.lpc_model.specs.Entering.{row_of}
+use Rattle.lpc_model.specs.Found.{free_handle}
+use Rattle.lpc_model.specs.Lines.{ProcArg, ScriptLine}
+use Rattle.lpc_model.specs.Linked.{is_root_port}
+use Rattle.lpc_model.specs.Machine.{bare_steps, directive_birth, new_process, new_thread, step}
+use Rattle.lpc_model.specs.Named.{named_port}
+use Rattle.lpc_model.specs.Request.{datagram_start, datagram_steps, receive_steps, reply_steps, request_start, request_steps, sent_by}
+use Rattle.lpc_model.proofs.Creating.{process-made, thread-made}
+use Rattle.lpc_model.proofs.Ending.{AreEnding, answered_end, ending-pass, is_ending, process-ending, steps-end, thread-ending}
+use Rattle.lpc_model.proofs.Holding.{Holds, holds_ok}
+use Rattle.lpc_model.proofs.LineLaws.{AnyWorld, IsCalled, Keep, LineLaw, line-does}
+use Rattle.lpc_model.proofs.LinkedCalls.{ArePlain, accepted-linked, connected-linked, name-ends, named-linked, steady-all, unnamed-linked}
+use Rattle.lpc_model.proofs.LinkedClose.{handle-plain}
+use Rattle.lpc_model.proofs.Outcomes.{Outcomes}
+use Rattle.lpc_model.proofs.Tested.{named-wait}
+use Rattle.lpc_model.proofs.SteadySteps.{steady-await, steady-enter, steady-receipt, steady-receive}
 
 -- what ends is plain
 pub ending-plain : (b : Basic) → is_ending b ≡ true → is_plain b ≡ true
@@ -47,45 +52,50 @@ ending-plain (Joins client server context) is = absurd (cc)
 ending-plain (Frees o) is = absurd (cc)
 ending-plain b is = refl
 
-pub thread-plain : (w : World) (by : ThreadRow) (target : ProcArg) (code : ℕ) → Holds ArePlain (nt_terminate_thread w by target code)
-thread-plain w by target code = ending-pass is_plain ending-plain (nt_terminate_thread w by target code) (thread-ending w by target code)
-
-pub process-plain : (w : World) (by : ThreadRow) (target : ProcArg) (code : ℕ) → Holds ArePlain (nt_terminate_process w by target code)
-process-plain w by target code = ending-pass is_plain ending-plain (nt_terminate_process w by target code) (process-ending w by target code)
-
-pub create-process-plain : (w : World) (by : ThreadRow) (pid tid : ℕ) → Holds ArePlain (nt_create_process w by pid tid)
-create-process-plain w by pid tid = process-made ArePlain w by pid tid (λ _ _. refl)
-
-pub create-thread-plain : (w : World) (by : ThreadRow) (target : ProcArg) (tid : ℕ) → Holds ArePlain (nt_create_thread w by target tid)
-create-thread-plain w by target tid = thread-made ArePlain w by target tid (λ pid _ _. refl)
+-- so it leaves ports linked
+pub ended-linked : (w : World) (bs : List Basic) → AreEnding bs → IsLinked w → IsLinked (world_after w bs)
+ended-linked w bs all l = plain-all w bs (every-more is_ending is_plain ending-plain bs all) l
 
 -- Calls
-service-linked : (w : World) (by : ThreadRow) (call : ScriptCall) → CanCall w by → IsSoundWorld w → IsLinked w → Holds (KeepLinked w) (service_of w by call)
-service-linked w by (create_port name) c s l = create-linked w by name c s l
-service-linked w by (connect_port name info) c s l = connect-linked w by name info c s l
-service-linked w by (listen_port handle) c s l = steady_holds w _ l (listen-steady w by handle)
-service-linked w by (accept_connect_port context message accept) c s l = accept-linked w by context message accept c s l
-service-linked w by (complete_connect_port handle) c s l = complete-linked w by handle l
-service-linked w by (request_port handle bytes) c s l = steady_holds w _ l (datagram-steady w by handle bytes)
-service-linked w by (request_wait_reply_port handle bytes) c s l = steady_holds w _ l (request-steady w by handle bytes)
-service-linked w by (reply_port handle bytes) c s l = steady_holds w _ l (reply-steady w by handle bytes)
-service-linked w by (reply_wait_receive_port handle bytes) c s l = steady_holds w _ l (receive-steady w by handle bytes)
-service-linked w by (register_thread_terminate_port handle) c s l = steady_holds w _ l (register-steady w by handle)
-service-linked w by (close handle) c s l = close-linked w by handle l
-service-linked w by (duplicate_object handle access) c s l = duplicate-linked w by handle access l
-service-linked w by (query_object handle) c s l = steady_holds w _ l (query-steady w by handle)
-service-linked w by (create_process pid tid) c s l = plain_holds w _ l (create-process-plain w by pid tid)
-service-linked w by (create_thread target tid) c s l = plain_holds w _ l (create-thread-plain w by target tid)
-service-linked w by (terminate_thread target code) c s l = plain_holds w _ l (thread-plain w by target code)
-service-linked w by (terminate_process target code) c s l = plain_holds w _ l (process-plain w by target code)
+linked-calls : (by : ThreadRow) (w : World) → IsCalled AnyWorld w by → Outcomes w by (λ _. Keep IsLinked w)
+linked-calls by w is = record {
+  creates = unnamed-linked w by is.can is.sound;
+  founds = λ name path free. named-linked w by path is.can is.sound;
+  connects = λ name bytes connection at l. connected-linked w by connection bytes is.can (holds_ok (λ port. is_root_port w port ≡ true) (named_port w name) connection (name-ends w name l) at) is.sound l;
+  listens = λ handle port m found at. steady-all w (listen_steps by port.birth (Some m)) (steady-receipt m);
+  awaits_connect = λ handle port found at. steady-all w (listen_steps by port.birth None) refl;
+  refuses = λ context bytes a at. plain-all w (refuse_steps by a) refl;
+  accepts = λ context bytes a at. accepted-linked w by context (free_handle w by.process) a.message a.wait (holds_ok (λ (a : ConnectAnswer). first (names_connect w by a.message) w.waits ≡ Some a.wait) (answer_test w by bytes) a (named-wait w by bytes) at) is.can is.sound;
+  completes = λ handle c at. plain-all w (complete_steps by (free_handle w c.wait.process) c) refl;
+  sends = λ handle bytes s at. steady-all w (datagram_steps by s.port s.queue (sent_by by DATAGRAM s.message) w) (steady-enter (row_of s.queue s.port (sent_by by DATAGRAM s.message)) (world_after w (datagram_start by)));
+  asks = λ handle bytes s at. let m = sent_by by REQUEST s.message in steady-all w (request_steps by s.port s.queue m w) (steady-enter (row_of s.queue s.port m) (world_after w (request_start by s.port.birth s.queue m)));
+  replies = λ handle bytes port m x at read fits. plain-all w (reply_steps by x m) refl;
+  receives = λ handle bytes o port queue replied m r at. steady-all w (receive_steps by port queue replied (Some m)) (steady-receive w by handle bytes o port queue replied m r);
+  awaits_message = λ handle bytes o port queue replied r at. steady-all w (receive_steps by port queue replied None) (steady-await w by handle bytes o port queue replied r);
+  registers = λ handle port at new few. plain-all w (Tells (Answer by.number NtRegisterThreadTerminatePort SUCCESS []) ∷ Registers by.number port.birth ∷ []) refl;
+  repeats = λ handle port at known l. l;
+  closes = λ handle r at. plain-all w (close_steps by r w) (handle-plain w by.process r);
+  duplicates = λ handle access r at. plain-all w (duplicate_steps by (free_handle w by.process) r (asked r access)) refl;
+  queries = λ handle r at l. l;
+  spawns = λ pid tid new unused. plain-all w (making_process w by pid tid) refl;
+  starts = λ target tid pid _ live unused. plain-all w (making_thread w by tid pid) refl;
+  ends = λ call name own pid code ts doomed. ended-linked w (answered_end by name own pid code ts w) (steps-end w by name own pid code ts);
+}
 
 -- Lines
+linked-lines : LineLaw AnyWorld (λ _. Keep IsLinked)
+linked-lines = record {
+  tells = λ line w e _ l. l;
+  calls = linked-calls;
+  boots = λ w pid tid _ _ s _. plain-all w (Tells (entry.Directive word.Boot SUCCESS) ∷ AddsProcess (new_process pid None (directive_birth pid pid)) ∷ AddsThread (new_thread tid pid (directive_birth tid pid)) ∷ []) refl;
+  threads = λ w tid pid _ _ s _. plain-all w (Tells (entry.Directive word.Thread SUCCESS) ∷ AddsThread (new_thread tid pid (directive_birth tid pid)) ∷ []) refl;
+  dirs = λ w text path free _. plain-all w (Tells (entry.Directive word.Dir SUCCESS) ∷ Binds path (Stands Directory) ∷ []) refl;
+  links = λ w text target path to free _. plain-all w (Tells (entry.Directive word.Link SUCCESS) ∷ Binds path (LinkTo to) ∷ []) refl;
+}
+
 -- before rows go
-pub line_linked : (w : World) (line : ScriptLine) → IsSoundWorld w → IsLinked w → KeepLinked w (bare_steps line w)
-line_linked w line s l =
-    sound_line_holds w (KeepLinked w) (λ _. l) s
-    (passing_directives w is_plain (KeepLinked w) (λ bs all. plain-all w bs all l) (record { boots = λ _ _ _ _. refl; threads = λ _ _ _ _. refl; dirs = λ _. refl; links = λ _ _. refl }))
-    (λ by call c. service-linked w by call c s l) line
+pub line_linked : (w : World) (line : ScriptLine) → IsSoundWorld w → IsLinked w → IsLinked (world_after w (bare_steps line w))
+line_linked w line s l = line-does AnyWorld (λ _. Keep IsLinked) linked-lines w s tt line l
 
 -- the step of a line keeps ports linked, and leaves no port row that no row names
 pub linked_step : (w : World) (line : ScriptLine) → IsSoundWorld w → HasShutConnects w → IsLinked w → IsLinked (step w line).world

@@ -173,10 +173,6 @@ cut-unjoined : (c : Bool) (p : PortRow) → is_unjoined p ≡ true → is_unjoin
 cut-unjoined true p is = second-true (is_none p.pair) (is_some p.connection) is
 cut-unjoined false p is = is
 
-cut-connection : (c : Bool) (p : PortRow) → let q : PortRow = cond c (cut p) p in q.connection ≡ p.connection
-cut-connection true p = refl
-cut-connection false p = refl
-
 pub cut-mutual : (w : World) (b : Birth) (p : PortRow) → is_mutual w p ≡ true → is_end_of b p ≡ false → is_mutual (basic w (Cuts b)) p ≡ true
 cut-mutual w b p is off = at p.pair refl is
   where
@@ -215,10 +211,6 @@ cut-linked w b l =
       offers = every-more (is_lone_offer w) (is_lone_offer v) (λ x. offer-kept w v ends x (λ is. cut-passes w b x.port is_unjoined cut-unjoined is)) w.waits l.offers;
       targets = every-more (λ b. leads_to_root w b.1) (λ b. leads_to_root v b.1) (λ x. leads-kept w v ends x.1) w.bindings l.targets;
     }
-
--- Plain steps
-same-all : {X : Type 0} (p : X → Bool) (xs : List X) → every p xs ≡ true → every p xs ≡ true
-same-all p xs all = all
 
 plain-linked : (w : World) (b : Basic) → is_plain b ≡ true → IsLinked w → IsLinked (basic w b)
 plain-linked w (Tells e) is l = l

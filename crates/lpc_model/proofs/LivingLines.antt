@@ -1,49 +1,40 @@
 -- The step of each line leaves handles to living processes alone.
 use Rattle.std.proofs.Common.{◌≡◌, ℕ, ◌≤◌, List, [], ◌∷◌, Bool, true, false, not, refl, sym, subst, arith}
-use Rattle.std.specs.Prelude.{◌&&◌, ◌||◌, ◌==◌, Result}
+use Rattle.std.specs.Prelude.{◌&&◌, ◌||◌, ◌==◌}
 use Rattle.std.proofs.lemmas.Bool.{eqb-true, or_left, or_right}
 use Rattle.std.proofs.lemmas.Bool.Decides.{nat_tests}
-use Rattle.lpc_base.specs.Rows.{change, count, every, first, has, when}
+use Rattle.lpc_base.specs.Rows.{count, every, first, has, when}
 use Rattle.lpc_base.specs.declared.status.Status.{Status}
-use Rattle.lpc_base.proofs.RowWords.{every-change, every-more, first-passes, has-change, none-counted}
+use Rattle.lpc_base.specs.declared.status.TheConstants.{SUCCESS}
+use Rattle.lpc_base.proofs.RowWords.{every-change, every-more, has-change, none-counted}
 use Rattle.lpc_base.proofs.RowMaps.{every-both}
-use Rattle.lpc_base.proofs.Bools.{first-true, same-number, second-true}
-use Rattle.lpc_model.specs.declared.entry.CallName.TheVariants.{NtTerminateProcess, NtTerminateThread}
-use Rattle.lpc_model.specs.declared.entry.Word.TheVariants as word
+use Rattle.lpc_base.proofs.Bools.{first-true, second-true}
+use Rattle.lpc_model.specs.declared.entry.CallName.TheVariants.{NtRegisterThreadTerminatePort}
+use Rattle.lpc_model.specs.declared.entry.Entry.TheVariants.{Answer}
 use Rattle.lpc_model.specs.World.{HandleRow, HandleTable, ThreadRow, World}
-use Rattle.lpc_model.specs.Found.{handles_of, is_live, is_table, is_thread, live_threads, lives_in, rows_in, wait_of}
-use Rattle.lpc_model.specs.Basics.{Accepts, AddsHandle, AddsProcess, AddsThread, Awaits, Basic, Dies, DrawsIdentifier, DrawsOrdinal, DropsHandle, Frees, Registers, Unregisters, Withdraws, basic, ended, in_turn, provided, unregistering, without_handle, world_after, ◌▹◌}
+use Rattle.lpc_model.specs.Found.{handles_of, is_live, is_table, is_thread, lives_in, rows_in, wait_of}
+use Rattle.lpc_model.specs.Basics.{Accepts, AddsHandle, AddsProcess, AddsThread, Awaits, Basic, Dies, DrawsIdentifier, DrawsOrdinal, DropsHandle, Frees, Registers, Tells, Unregisters, Withdraws, basic, ended, in_turn, provided, unregistering, without_handle, world_after, ◌▹◌}
 use Rattle.lpc_model.specs.Close.{close_handle}
-use Rattle.lpc_model.specs.Death.{code_status, cut_accepted, die, end_process, end_threads, nt_terminate_process, nt_terminate_thread, post_death, post_deaths}
-use Rattle.lpc_model.specs.Lines.{ProcArg, ScriptCall, ScriptLine, accept_connect_port, close, complete_connect_port, connect_port, create_port, create_process, create_thread, duplicate_object, listen_port, query_object, register_thread_terminate_port, reply_port, reply_wait_receive_port, request_port, request_wait_reply_port, terminate_process, terminate_thread}
-use Rattle.lpc_model.specs.Machine.{bare_steps, service_of, step}
-use Rattle.lpc_model.specs.SoundWaits.{IsSoundWorld}
+use Rattle.lpc_model.specs.Death.{cut_accepted, die, end_process, end_threads, post_death, post_deaths}
+use Rattle.lpc_model.specs.Lawful.{HasThreadsOnce}
 use Rattle.lpc_model.specs.Left.{HasLivingHandles, is_living_table, lacks_handles}
-use Rattle.lpc_model.proofs.Holding.{Holds, holds-more}
-use Rattle.lpc_model.proofs.Rows.{has-change_to, lone}
-use Rattle.lpc_model.proofs.Usable.{CanCall}
+use Rattle.lpc_model.specs.Lines.{ScriptLine}
+use Rattle.lpc_model.specs.Machine.{step}
+use Rattle.lpc_model.specs.SoundWaits.{IsSoundWorld}
 use Rattle.lpc_model.proofs.Closing.{behind, then-holds}
-use Rattle.lpc_model.proofs.SoundFrees.{which-all}
+use Rattle.lpc_model.proofs.Deathless.{LifeLaw, handle-deathless, is_deathless, is_mild, life-outcomes}
+use Rattle.lpc_model.proofs.DeathLines.{away-still, death-still, deathless-still, die-threads, is_still}
+use Rattle.lpc_model.proofs.Doomed.{AreOf, IsOf, doomed-of, of-ended}
+use Rattle.lpc_model.proofs.Ending.{AreEnding, accepted-pass, behind_dead, behind_told, die-ending, ending-death, first-at, handle-ending, is_ending, rows-left, turn-keeps, world-ends}
+use Rattle.lpc_model.proofs.LineLaws.{Keep, LineLaw, Shut, passing-lines, step-keeps}
+use Rattle.lpc_model.proofs.LivingHandles.{homely-all, is_homely, lacks-less, living-swept, mild-homely}
+use Rattle.lpc_model.proofs.Rows.{has-change_to}
 use Rattle.lpc_model.proofs.SoundClose.{close_handle-sound}
 use Rattle.lpc_model.proofs.SoundTerminate.{IsSafe, sound-of, told-safe}
-use Rattle.lpc_model.proofs.SteadyListen.{listen-steady}
-use Rattle.lpc_model.proofs.SteadyDatagram.{datagram-steady}
-use Rattle.lpc_model.proofs.SteadyRequest.{request-steady}
-use Rattle.lpc_model.proofs.SteadyReply.{reply-steady}
-use Rattle.lpc_model.proofs.SteadyReceive.{receive-steady}
-use Rattle.lpc_model.proofs.SteadyQuery.{query-steady}
-use Rattle.lpc_model.proofs.SteadyRegister.{register-steady}
-use Rattle.lpc_model.proofs.Ending.{AreEnding, accepted-pass, behind_dead, behind_told, die-ending, ending-death, first-at, handle-ending, is_ending, process-ends, rows-left, thread-ends, turn-keeps, world-ends}
-use Rattle.lpc_model.specs.Lawful.{HasThreadsOnce}
-use Rattle.lpc_model.proofs.DeathLines.{AreFound, away-still, death-still, die-threads, is_still, live-found, target-found, undying-still}
-use Rattle.lpc_model.proofs.LivingHandles.{AreHomely, accept-homely, close-homely, complete-homely, connect-homely, create-homely, duplicate-homely, homely-all, lacks-less, living-swept, steady_homely, caller-lives, is_homely}
-use Rattle.lpc_model.proofs.Undying.{handle-undying, is_undying}
-use Rattle.lpc_model.proofs.Creating.{process-made, thread-made}
-use Rattle.lpc_model.proofs.EachLine.{passing_directives, sound_line_holds, stepped}
 
 -- a handle that goes ends no thread
 handle-still : (pid : ℕ) (r : HandleRow) (w : World) → every is_still (close_handle pid r w) ≡ true
-handle-still pid r w = every-more is_undying is_still undying-still (close_handle pid r w) (handle-undying pid r w)
+handle-still pid r w = every-more is_deathless is_still deathless-still (close_handle pid r w) (handle-deathless pid r w)
 
 -- All tables but those of one process
 abbrev is_almost : ℕ → World → HandleTable → Bool
@@ -60,9 +51,6 @@ almost-more true a b c more is = refl
 almost-more false a b c more is = grind (arith, more refl)
 
 -- a thread of the process ends
-abbrev IsOf : ℕ → ℕ → List ThreadRow → Type 0
-IsOf pid n ts = every (λ u. not (is_thread n u) || (u.process == pid)) ts ≡ true
-
 dies-but : (pid n : ℕ) (code : Status) (w : World) → IsOf pid n w.threads → HasLivingBut pid w → HasLivingBut pid (basic w (Dies n code))
 dies-but pid n code w of l =
     let v = basic w (Dies n code) in
@@ -102,14 +90,6 @@ still-all pid w (b ∷ bs) all still l =
     still-all pid (basic w b) bs (second-true (is_ending b) _ all) (second-true (is_still b) _ still) (still-step pid w b (first-true (is_ending b) _ all) (first-true (is_still b) _ still) l)
 
 -- The threads of the process end
-abbrev AreOf : ℕ → List ThreadRow → List ThreadRow → Type 0
-AreOf pid all [] = Unit {0}
-AreOf pid all (t ∷ ts) = IsOf pid t.number all × AreOf pid all ts
-
-of-ended : (pid n : ℕ) (all ts : List ThreadRow) → AreOf pid all ts → AreOf pid (change (is_thread n) ended all) ts
-of-ended pid n all [] of = tt
-of-ended pid n all (t ∷ ts) of = (every-change (λ u. not (is_thread t.number u) || (u.process == pid)) (is_thread n) ended (λ u is. is) all of.0, of-ended pid n all ts of.1)
-
 die-but : (pid : ℕ) (code : Status) (t : ThreadRow) (w : World) → IsOf pid t.number w.threads → HasLivingBut pid w → HasLivingBut pid (behind (die code t) w)
 die-but pid code t w of l =
     let dead = basic w (Dies t.number code) in
@@ -190,55 +170,17 @@ end-living pid code ts w is of l =
         living-empty pid (behind (in_turn (close_handle pid) (handles_of v pid)) v) t.0 t.1 t.2
 
 -- The calls
-are-of : (pid : ℕ) (all ts : List ThreadRow) → ((n : ℕ) → count (is_thread n) all ≤ 1) → AreFound all ts → every (λ t. t.process == pid) ts ≡ true → AreOf pid all ts
-are-of pid all [] once found of = tt
-are-of pid all (t ∷ ts) once found of = (
-  lone (is_thread t.number) (λ u. u.process == pid) (is_thread t.number) all t (once t.number) found.0 (first-passes (is_thread t.number) all t found.0) (first-true _ _ of),
-  are-of pid all ts once found.3 (second-true _ _ of),
-)
-
-abbrev KeepLiving : World → List Basic → Type 0
-KeepLiving w bs = HasLivingHandles (world_after w bs)
-
-thread-living : (w : World) (by : ThreadRow) (target : ProcArg) (code : ℕ) → IsSafe w → HasThreadsOnce w → CanCall w by → HasLivingHandles w → Holds (KeepLiving w) (nt_terminate_thread w by target code)
-thread-living w by target code is once c l =
-    thread-ends (KeepLiving w) w by target code (λ t own at live. world-ends HasLivingHandles w by NtTerminateThread own t.process (code_status code) (t ∷ [])
-    (end-living t.process (code_status code) (t ∷ []) w is (are-of t.process w.threads (t ∷ []) once (target-found w by target t once c at, live, refl, tt) (rw (same-number t.process) refl)) l))
-
-process-living : (w : World) (by : ThreadRow) (target : ProcArg) (code : ℕ) → IsSafe w → HasThreadsOnce w → HasLivingHandles w → Holds (KeepLiving w) (nt_terminate_process w by target code)
-process-living w by target code is once l =
-    process-ends (KeepLiving w) w by target code (λ pid own _. world-ends HasLivingHandles w by NtTerminateProcess own pid (code_status code) (live_threads w pid)
-    (end-living pid (code_status code) (live_threads w pid) w is (are-of pid w.threads (live_threads w pid) once (live-found pid [] w.threads once) (every-more (lives_in pid) (λ t. t.process == pid) (λ t one. first-true _ _ one) (live_threads w pid) (which-all (lives_in pid) w.threads))) l))
-
-homely_holds : (w : World) (r : Result (List Basic) Status) → HasLivingHandles w → Holds (AreHomely w) r → Holds (KeepLiving w) r
-homely_holds w r l all = holds-more (AreHomely w) (KeepLiving w) r (λ bs all. homely-all w bs all l) all
-
-service-living : (w : World) (by : ThreadRow) (call : ScriptCall) → CanCall w by → IsSafe w → HasThreadsOnce w → HasLivingHandles w → Holds (KeepLiving w) (service_of w by call)
-service-living w by (create_port name) c is once l = homely_holds w _ l (create-homely w by name c)
-service-living w by (connect_port name info) c is once l = homely_holds w _ l (connect-homely w by name info)
-service-living w by (listen_port handle) c is once l = homely_holds w _ l (steady_homely w _ (listen-steady w by handle))
-service-living w by (accept_connect_port context message accept) c is once l = homely_holds w _ l (accept-homely w by context message accept c)
-service-living w by (complete_connect_port handle) c is once l = homely_holds w _ l (complete-homely w by handle (sound-of w is))
-service-living w by (request_port handle bytes) c is once l = homely_holds w _ l (steady_homely w _ (datagram-steady w by handle bytes))
-service-living w by (request_wait_reply_port handle bytes) c is once l = homely_holds w _ l (steady_homely w _ (request-steady w by handle bytes))
-service-living w by (reply_port handle bytes) c is once l = homely_holds w _ l (steady_homely w _ (reply-steady w by handle bytes))
-service-living w by (reply_wait_receive_port handle bytes) c is once l = homely_holds w _ l (steady_homely w _ (receive-steady w by handle bytes))
-service-living w by (register_thread_terminate_port handle) c is once l = homely_holds w _ l (steady_homely w _ (register-steady w by handle))
-service-living w by (close handle) c is once l = homely_holds w _ l (close-homely w by handle)
-service-living w by (duplicate_object handle access) c is once l = homely_holds w _ l (duplicate-homely w by handle access c)
-service-living w by (query_object handle) c is once l = homely_holds w _ l (steady_homely w _ (query-steady w by handle))
-service-living w by (create_process pid tid) c is once l = homely_holds w _ l (process-made (AreHomely w) w by pid tid (λ _ _. rw (caller-lives w by c) refl))
-service-living w by (create_thread target tid) c is once l = homely_holds w _ l (thread-made (AreHomely w) w by target tid (λ n _ _. rw (caller-lives w by c) refl))
-service-living w by (terminate_thread target code) c is once l = thread-living w by target code is once c l
-service-living w by (terminate_process target code) c is once l = process-living w by target code is once l
+living-law : (by : ThreadRow) → LifeLaw by (Shut HasThreadsOnce) (Keep HasLivingHandles)
+living-law by = record {
+  mild = λ w bs all. homely-all w bs (every-more (is_mild w) (is_homely w) (mild-homely w) bs all);
+  registers = λ w b new is. homely-all w (Tells (Answer by.number NtRegisterThreadTerminatePort SUCCESS []) ∷ Registers by.number b ∷ []) refl;
+  ends = λ w name own pid code ts doomed is l. world-ends HasLivingHandles w by name own pid code ts (end-living pid code ts w (record { sound = is.sound; shut = is.known.0 }) (doomed-of w by own pid ts doomed is.known.1 is.can) l);
+}
 
 -- Lines
-line-living : (w : World) (line : ScriptLine) → IsSafe w → HasThreadsOnce w → HasLivingHandles w → KeepLiving w (bare_steps line w)
-line-living w line is once l =
-    sound_line_holds w (KeepLiving w) (λ _. l) (sound-of w is)
-    (passing_directives w (is_homely w) (KeepLiving w) (λ bs all. homely-all w bs all l) (record { boots = λ _ _ _ _. refl; threads = λ _ _ _ _. refl; dirs = λ _. refl; links = λ _ _. refl }))
-    (λ by call c. service-living w by call c is once l) line
+living-lines : LineLaw (Shut HasThreadsOnce) (λ _. Keep HasLivingHandles)
+living-lines = passing-lines (Shut HasThreadsOnce) (Keep HasLivingHandles) is_homely homely-all (λ w. record { tells = λ _. refl; processes = λ _. refl; threads = λ _ _ _. refl; binds = λ _ _. refl }) (λ by. life-outcomes by (Shut HasThreadsOnce) (Keep HasLivingHandles) (living-law by))
 
 -- the step of a line leaves handles to living processes alone
 pub living_step : (w : World) (line : ScriptLine) → IsSafe w → HasThreadsOnce w → HasLivingHandles w → HasLivingHandles (step w line).world
-living_step w line is once l = stepped HasLivingHandles w line living-swept (line-living w line is once l)
+living_step w line is once = step-keeps (Shut HasThreadsOnce) HasLivingHandles living-lines living-swept w line is.sound (is.shut, once)

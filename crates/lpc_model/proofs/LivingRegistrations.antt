@@ -1,6 +1,6 @@
 -- The step of each line leaves registrations to live threads alone.
 use Rattle.std.proofs.Common.{◌≡◌, ℕ, ◌≤◌, List, [], ◌∷◌, Bool, true, false, length, not, refl, sym, subst, arith}
-use Rattle.std.specs.Prelude.{◌&&◌, ◌||◌, ◌==◌, Result}
+use Rattle.std.specs.Prelude.{◌&&◌, ◌||◌, ◌==◌}
 use Rattle.std.proofs.lemmas.Bool.Decides.{nat_tests}
 use Rattle.std.proofs.lemmas.Bool.{and_from, or_left, or_right}
 use Rattle.lpc_base.specs.Rows.{change, count, every, given, when, without}
@@ -9,32 +9,29 @@ use Rattle.lpc_base.proofs.RowWords.{every-change, every-more, every-push, every
 use Rattle.lpc_base.proofs.RowMaps.{every-both, every-change_to}
 use Rattle.lpc_base.proofs.Bools.{first-true, same-number, second-true}
 use Rattle.lpc_base.proofs.Births.{birth-self}
-use Rattle.lpc_model.specs.declared.entry.CallName.TheVariants.{NtTerminateProcess, NtTerminateThread}
 use Rattle.lpc_model.specs.declared.entry.ObjectKind.TheVariants as kind
-use Rattle.lpc_model.specs.declared.entry.Word.TheVariants as word
 use Rattle.lpc_model.specs.World.{Birth, ObjectKind, ThreadRow, World}
-use Rattle.lpc_model.specs.Found.{handles_of, is_live, is_live_thread, is_thread, live_threads, same_birth}
+use Rattle.lpc_model.specs.Found.{handles_of, is_live, is_live_thread, is_thread, same_birth}
 use Rattle.lpc_model.specs.Basics.{AddsThread, Basic, Dies, DrawsIdentifier, DrawsOrdinal, Frees, Registers, Unregisters, basic, ended, freed, in_turn, past_identifier, past_ordinal, provided, registering, unregistering, world_after, ◌▹◌}
 use Rattle.lpc_model.specs.Close.{close_handle}
-use Rattle.lpc_model.specs.Death.{code_status, die, end_process, end_threads, nt_terminate_process, nt_terminate_thread, post_death, post_deaths, death_post}
+use Rattle.lpc_model.specs.Death.{die, end_process, end_threads, post_death, post_deaths, death_post}
 use Rattle.lpc_model.specs.Deaths.{HasLivingRegistrations, has_living_registrations}
-use Rattle.lpc_model.specs.Sweep.{sweep}
-use Rattle.lpc_model.specs.Lines.{ProcArg, ScriptCall, ScriptLine, create_process, create_thread, register_thread_terminate_port, terminate_process, terminate_thread}
-use Rattle.lpc_model.specs.Machine.{bare_steps, service_of, step}
-use Rattle.lpc_model.specs.SoundWaits.{IsSoundWorld}
-use Rattle.lpc_model.proofs.Closing.{behind, then-holds}
-use Rattle.lpc_model.proofs.Holding.{Holds, holds-more}
-use Rattle.lpc_model.proofs.Rows.{lone}
-use Rattle.lpc_model.proofs.Usable.{CanCall}
-use Rattle.lpc_model.proofs.Undying.{AreUndying, handle-undying, is_undying, register_holds, service-undying}
-use Rattle.lpc_model.proofs.Ending.{behind_dead, behind_told, ending-death, is_ending, process-ends, thread-ends, turn-keeps, world-ends}
-use Rattle.lpc_model.specs.Lawful.{HasThreadsOnce}
-use Rattle.lpc_model.proofs.DeathLines.{AreFound, death-still, die-threads, is_still, live-found, target-found}
 use Rattle.lpc_model.specs.Entering.{enter}
-use Rattle.lpc_model.proofs.Creating.{process-made, thread-made}
-use Rattle.lpc_model.proofs.EachLine.{passing_directives, sound_line_holds, stepped, sweep_every}
+use Rattle.lpc_model.specs.Lawful.{HasThreadsOnce}
+use Rattle.lpc_model.specs.Lines.{ScriptLine}
+use Rattle.lpc_model.specs.Machine.{bare_steps, step}
+use Rattle.lpc_model.specs.SoundWaits.{HasShutConnects, IsSoundWorld}
+use Rattle.lpc_model.specs.Sweep.{sweep}
+use Rattle.lpc_model.proofs.Closing.{behind, then-holds}
+use Rattle.lpc_model.proofs.Deathless.{AreMild, LifeLaw, handle-mild, is_mild, life-outcomes}
+use Rattle.lpc_model.proofs.DeathLines.{death-still, die-threads, is_still}
+use Rattle.lpc_model.proofs.Doomed.{AreFound, doomed-found}
+use Rattle.lpc_model.proofs.EachLine.{sweep_every}
+use Rattle.lpc_model.proofs.Ending.{behind_dead, behind_told, ending-death, is_ending, turn-keeps, world-ends}
+use Rattle.lpc_model.proofs.LineLaws.{Keep, LineLaw, line-does, passing-lines, step-keeps}
+use Rattle.lpc_model.proofs.Rows.{lone}
 use Rattle.lpc_model.proofs.StepsInTurn.{steps-keep}
-use Rattle.lpc_model.specs.Creation.{nt_create_process, nt_create_thread}
+use Rattle.lpc_model.proofs.Usable.{CanCall}
 
 -- a list with a row that passes
 abbrev some : {X : Type 0} → (X → Bool) → List X → Bool
@@ -258,11 +255,14 @@ living-step w b is l = l
 living-all : (w : World) (bs : List Basic) → every is_lasting bs ≡ true → HasLivingRegistrations w → HasLivingRegistrations (world_after w bs)
 living-all = steps-keep is_lasting HasLivingRegistrations living-step
 
-undying-lasting : (b : Basic) → is_undying b ≡ true → is_lasting b ≡ true
-undying-lasting (Dies who status) is = absurd (cc)
-undying-lasting (Registers who b) is = absurd (cc)
-undying-lasting (AddsThread t) is = absurd (cc)
-undying-lasting b is = refl
+mild-lasting : (w : World) (b : Basic) → is_mild w b ≡ true → is_lasting b ≡ true
+mild-lasting w (Dies who status) is = absurd (cc)
+mild-lasting w (Registers who b) is = absurd (cc)
+mild-lasting w (AddsThread t) is = or_left t.live _ (first-true t.live _ is)
+mild-lasting w b is = refl
+
+milds-living : (w : World) (bs : List Basic) → AreMild w bs → HasLivingRegistrations w → HasLivingRegistrations (world_after w bs)
+milds-living w bs all = living-all w bs (every-more (is_mild w) is_lasting (mild-lasting w) bs all)
 
 -- Calls
 end-living : (pid : ℕ) (code : Status) (ts : List ThreadRow) (w : World) → HasThreadsOnce w → AreFound w.threads ts → HasLivingRegistrations w → HasLivingRegistrations (behind (end_threads pid code ts) w)
@@ -273,21 +273,8 @@ end-living pid code ts w once found l =
     (at (not (is_live (behind_told code ts w) pid)) (none-living (behind_told code ts w) (told-owed ts (behind_dead code ts w) (kept-owed ts (behind_dead code ts w) (dead-kept code ts ts w (one-self ts) (kept-first ts w once found l)))))))
   where
     at : (last : Bool) → HasLivingRegistrations (behind_told code ts w) → HasLivingRegistrations (world_after (behind_told code ts w) (when last (end_process pid (behind_told code ts w))))
-    at true l = turn-keeps HasLivingRegistrations (close_handle pid) (λ r v l. living-all v (close_handle pid r v) (every-more is_undying is_lasting undying-lasting (close_handle pid r v) (handle-undying pid r v)) l) (handles_of (behind_told code ts w) pid) (behind_told code ts w) l
+    at true l = turn-keeps HasLivingRegistrations (close_handle pid) (λ r v. milds-living v (close_handle pid r v) (handle-mild v pid r)) (handles_of (behind_told code ts w) pid) (behind_told code ts w) l
     at false l = l
-
-abbrev KeepRegistrationsLiving : World → List Basic → Type 0
-KeepRegistrationsLiving w bs = HasLivingRegistrations (world_after w bs)
-
-thread-living : (w : World) (by : ThreadRow) (target : ProcArg) (code : ℕ) → HasThreadsOnce w → CanCall w by → HasLivingRegistrations w → Holds (KeepRegistrationsLiving w) (nt_terminate_thread w by target code)
-thread-living w by target code once c l =
-    thread-ends (KeepRegistrationsLiving w) w by target code (λ t own at live. world-ends HasLivingRegistrations w by NtTerminateThread own t.process (code_status code) (t ∷ [])
-    (end-living t.process (code_status code) (t ∷ []) w once (target-found w by target t once c at, live, refl, tt) l))
-
-process-living : (w : World) (by : ThreadRow) (target : ProcArg) (code : ℕ) → HasThreadsOnce w → HasLivingRegistrations w → Holds (KeepRegistrationsLiving w) (nt_terminate_process w by target code)
-process-living w by target code once l =
-    process-ends (KeepRegistrationsLiving w) w by target code (λ pid own _. world-ends HasLivingRegistrations w by NtTerminateProcess own pid (code_status code) (live_threads w pid)
-    (end-living pid (code_status code) (live_threads w pid) w once (live-found pid [] w.threads once) l))
 
 -- a caller lives
 registered-living : (w : World) (by : ThreadRow) (b : Birth) → HasThreadsOnce w → CanCall w by → HasLivingRegistrations w → HasLivingRegistrations (basic w (Registers by.number b))
@@ -299,41 +286,21 @@ registered-living w by b once c l =
     lives : (l n live z : Bool) → n ≡ true → (l && (not n || live)) ≡ true → (live || z) ≡ true
     lives l n live z same is = grind arith
 
-undying_holds : (w : World) (r : Result (List Basic) Status) → HasLivingRegistrations w → Holds AreUndying r → Holds (KeepRegistrationsLiving w) r
-undying_holds w r l all = holds-more AreUndying (KeepRegistrationsLiving w) r (λ bs all. living-all w bs (every-more is_undying is_lasting undying-lasting bs all) l) all
-
--- Processes and threads that are made
-abbrev AreLasting : List Basic → Type 0
-AreLasting bs = every is_lasting bs ≡ true
-
-lasting_holds : (w : World) (r : Result (List Basic) Status) → HasLivingRegistrations w → Holds AreLasting r → Holds (KeepRegistrationsLiving w) r
-lasting_holds w r l all = holds-more AreLasting (KeepRegistrationsLiving w) r (λ bs all. living-all w bs all l) all
-
-create-process-lasting : (w : World) (by : ThreadRow) (pid tid : ℕ) → Holds AreLasting (nt_create_process w by pid tid)
-create-process-lasting w by pid tid = process-made AreLasting w by pid tid (λ _ _. refl)
-
-create-thread-lasting : (w : World) (by : ThreadRow) (target : ProcArg) (tid : ℕ) → Holds AreLasting (nt_create_thread w by target tid)
-create-thread-lasting w by target tid = thread-made AreLasting w by target tid (λ pid _ _. refl)
-
-service-living : (w : World) (by : ThreadRow) (call : ScriptCall) → HasThreadsOnce w → CanCall w by → HasLivingRegistrations w → Holds (KeepRegistrationsLiving w) (service_of w by call)
-service-living w by (create_process pid tid) once c l = lasting_holds w _ l (create-process-lasting w by pid tid)
-service-living w by (create_thread target tid) once c l = lasting_holds w _ l (create-thread-lasting w by target tid)
-service-living w by (terminate_thread target code) once c l = thread-living w by target code once c l
-service-living w by (terminate_process target code) once c l = process-living w by target code once l
-service-living w by (register_thread_terminate_port handle) once c l = register_holds (KeepRegistrationsLiving w) w by handle (λ b new _. at b new)
-  where
-    at : (b : Birth) (new : Bool) → HasLivingRegistrations (world_after w (when new (Registers by.number b ∷ [])))
-    at b true = registered-living w by b once c l
-    at b false = l
-service-living w by call once c l = undying_holds w _ l (service-undying w by call refl)
+living-law : (by : ThreadRow) → LifeLaw by HasThreadsOnce (Keep HasLivingRegistrations)
+living-law by = record {
+  mild = milds-living;
+  registers = λ w b new is. registered-living w by b is.known is.can;
+  ends = λ w name own pid code ts doomed is l. world-ends HasLivingRegistrations w by name own pid code ts (end-living pid code ts w is.known (doomed-found w by own pid ts doomed is.known is.can) l);
+}
 
 -- Lines
-pub line-living : (w : World) (line : ScriptLine) → IsSoundWorld w → HasThreadsOnce w → HasLivingRegistrations w → KeepRegistrationsLiving w (bare_steps line w)
-line-living w line s once l =
-    sound_line_holds w (KeepRegistrationsLiving w) (λ _. l) s
-    (passing_directives w is_lasting (KeepRegistrationsLiving w) (λ bs all. living-all w bs all l) (record { boots = λ _ _ _ _. refl; threads = λ _ _ _ _. refl; dirs = λ _. refl; links = λ _ _. refl }))
-    (λ by call c. service-living w by call once c l) line
+living-lines : LineLaw HasThreadsOnce (λ _. Keep HasLivingRegistrations)
+living-lines = passing-lines HasThreadsOnce (Keep HasLivingRegistrations) (λ _. is_lasting) living-all (λ w. record { tells = λ _. refl; processes = λ _. refl; threads = λ _ _ _. refl; binds = λ _ _. refl }) (λ by. life-outcomes by HasThreadsOnce (Keep HasLivingRegistrations) (living-law by))
+
+-- before rows go
+pub line-living : (w : World) (line : ScriptLine) → IsSoundWorld w → HasThreadsOnce w → HasLivingRegistrations w → HasLivingRegistrations (world_after w (bare_steps line w))
+line-living w line s once = line-does HasThreadsOnce (λ _. Keep HasLivingRegistrations) living-lines w s once line
 
 -- the step of a line leaves registrations to live threads alone
 pub living_registrations_step : (w : World) (line : ScriptLine) → IsSoundWorld w → HasThreadsOnce w → HasLivingRegistrations w → HasLivingRegistrations (step w line).world
-living_registrations_step w line s once l = stepped HasLivingRegistrations w line (λ v. living-all v (sweep v) (sweep_every is_lasting (λ _. refl) v)) (line-living w line s once l)
+living_registrations_step = step-keeps HasThreadsOnce HasLivingRegistrations living-lines (λ v. living-all v (sweep v) (sweep_every is_lasting (λ _. refl) v))

@@ -1,65 +1,45 @@
 -- Each line keeps messages in queues of open ports, and what waits to be received.
-use Rattle.std.proofs.Common.{◌≡◌, ℕ, ◌≤◌, List, [], ◌∷◌, ◌++◌, Bool, true, false, not, Option, Some, None, refl, sym, subst, arith}
-use Rattle.std.proofs.lemmas.Bool.{and_from, not-true, or_left, or_right}
-use Rattle.std.specs.Prelude.{◌&&◌, ◌||◌, Result, Ok}
-use Rattle.lpc_base.specs.Rows.{count, every, first, given, when}
-use Rattle.lpc_base.proofs.RowWords.{every-append, every-change, every-more, every-push, every-without, first-passes, has-kept}
-use Rattle.lpc_base.proofs.RowMaps.{every-both, every-change_to, every-without_first}
-use Rattle.lpc_base.proofs.Bools.{second-more, first-true, second-true, or-last}
-use Rattle.lpc_base.specs.declared.limits.TheConstants.{MESSAGE_LIMIT}
-use Rattle.lpc_base.specs.declared.port_kind.PortKind.TheVariants.{Connection, Unnamed}
-use Rattle.lpc_base.specs.declared.status.Status.{Status}
-use Rattle.lpc_base.specs.declared.status.TheConstants.{INVALID_HANDLE, INVALID_PORT_HANDLE, PORT_DISCONNECTED, SUCCESS}
-use Rattle.lpc_message.specs.declared.kind.TheConstants.{DATAGRAM, REQUEST}
-use Rattle.lpc_names.specs.Walk.{Stands}
-use Rattle.lpc_names.specs.declared.names.Found.TheVariants.{Item}
 use Rattle.lpc_model.specs.declared.entry.ObjectKind.TheVariants as kind
-use Rattle.lpc_model.specs.declared.entry.Word.TheVariants as word
-use Rattle.lpc_model.specs.World.{Birth, HandleRow, Message, MessageRow, ObjectKind, ObjectName, PortRow, ThreadRow, WaitRow, World, no_rows}
-use Rattle.lpc_model.specs.Found.{free_handle, handle_at, has_handle_to, is_accepted, is_connection_port, is_open, is_own_of, is_queued, is_queued_connect, is_table, is_taken, live_threads, port_name, queue_of, waits_as, waits_at}
-use Rattle.lpc_model.specs.Basics.{Accepts, AddsHandle, AddsProcess, AddsThread, Awaits, Basic, Binds, Completes, Cuts, Dies, DrawsOrdinal, DropsHandle, Empties, Enters, Frees, Joins, Makes, Receives, Registers, Takes, TakesConnect, Tells, Unbinds, Unregisters, Wakes, Withdraws, accepted, basic, freed, no_handles, received, world_after, with_handle}
-use Rattle.lpc_model.specs.Sweep.{sweep}
-use Rattle.lpc_model.specs.Message.{asks, message_test}
-use Rattle.lpc_model.specs.Fields.{h, info, max}
-use Rattle.lpc_model.specs.Entering.{enter, given_steps, received_steps, row_of, shown, takes, woken}
-use Rattle.lpc_model.specs.Named.{free_name, named_port}
-use Rattle.lpc_model.specs.Refusal.{found_or, refuse_if}
-use Rattle.lpc_model.specs.Tests.{PORT_ACCESS, handle_row, handles_test, next_birth, own_handle, port_test}
-use Rattle.lpc_model.specs.Connect.{Completable, ConnectAnswer, accept_steps, answer_of, answer_test, answered_steps, client_port, complete_steps, complete_test, connect_start, connection_request, create_steps, info_test, listen_steps, making, names_connect, new_port, nt_accept_connect_port, nt_complete_connect_port, nt_connect_port, nt_create_port, nt_listen_port, refuse_steps, server_port}
-use Rattle.lpc_model.specs.Request.{Sendable, reply_test, datagram_send_test, datagram_start, datagram_test, given_reply, is_spent, nt_reply_port, nt_reply_wait_receive_port, nt_request_port, nt_request_wait_reply_port, optional_message, receive_steps, receive_test, request_start, send_test, sent_by}
-use Rattle.lpc_model.specs.Lines.{ProcArg, ScriptCall, ScriptLine, accept_connect_port, close, complete_connect_port, connect_port, create_port, create_process, create_thread, duplicate_object, listen_port, query_object, register_thread_terminate_port, reply_port, reply_wait_receive_port, request_port, request_wait_reply_port, terminate_process, terminate_thread, thread}
-use Rattle.lpc_model.specs.Machine.{bare_steps, service_of}
-use Rattle.lpc_model.specs.Close.{close_handle, close_port, is_last, nt_close}
-use Rattle.lpc_model.specs.Counts.{asked, nt_duplicate_object, nt_query_object, rights_test}
-use Rattle.lpc_model.specs.Linked.{IsLinked}
-use Rattle.lpc_model.specs.SoundWaits.{HasShutConnects, IsSoundWorld, is_sound_wait}
-use Rattle.lpc_model.specs.OpenQueues.{HasOpenQueues, StepsKeepQueuesOpen}
-use Rattle.lpc_model.proofs.Holding.{Holds, bind_holds, found_ok, holds-more, holds_ok}
-use Rattle.lpc_model.proofs.Handles.{open-add}
-use Rattle.lpc_model.proofs.Usable.{HasRoute, IsUsable, port-usable, queue-open, CanCall}
-use Rattle.lpc_model.proofs.SoundWorlds.{by_kind}
-use Rattle.lpc_model.proofs.SoundCalls.{send-routed}
-use Rattle.lpc_model.proofs.SoundConnect.{name-open}
-use Rattle.lpc_model.proofs.SoundAccept.{named-alone, named-wait}
+use Rattle.lpc_base.proofs.Bools.{first-true, or-last, second-more, second-true}
+use Rattle.lpc_base.proofs.RowMaps.{every-both, every-change_to, every-without_first}
+use Rattle.lpc_base.proofs.RowWords.{every-append, every-change, every-more, every-push, every-without, first-passes, has-kept}
+use Rattle.lpc_base.specs.Rows.{count, every, first, given, when}
+use Rattle.lpc_base.specs.declared.limits.TheConstants.{MESSAGE_LIMIT}
+use Rattle.lpc_base.specs.declared.status.TheConstants.{SUCCESS}
+use Rattle.lpc_model.proofs.Acts.{Law, accept_act, complete_act, connect_act, create_act, keeps_on, outcomes}
+use Rattle.lpc_model.proofs.LineLaws.{Shut, LineLaw, line-does, passing-lines}
+use Rattle.lpc_model.proofs.Closing.{takes_away}
+use Rattle.lpc_model.proofs.EachLine.{stepped, sweep_every}
+use Rattle.lpc_model.proofs.Ending.{die-pass}
+use Rattle.lpc_model.proofs.Handles.{alone, open-add}
+use Rattle.lpc_model.proofs.LinkedLines.{ended-linked}
+use Rattle.lpc_model.proofs.OpenClose.{closed-messages, closed-waits}
+use Rattle.lpc_model.proofs.SoundConnect.{named-alone}
+use Rattle.lpc_model.proofs.SoundClose.{but-opens, close_handle-sound, shut-found, still-open}
 use Rattle.lpc_model.proofs.SoundClosing.{close-shut}
-use Rattle.lpc_model.proofs.SoundClose.{but-opens, close_handle-sound, found-value, shut-found, still-open}
-use Rattle.lpc_model.proofs.OpenClose.{closed-messages, closed-waits, is_elsewhere}
-use Rattle.lpc_model.proofs.LinkedLines.{ending-plain}
-use Rattle.lpc_model.specs.Register.{is_registered, nt_register_thread_terminate_port, register_steps, registration_test}
-use Rattle.lpc_model.specs.Death.{code_status, die, end_threads, nt_terminate_process, nt_terminate_thread}
-use Rattle.lpc_model.specs.declared.entry.CallName.TheVariants.{NtRegisterThreadTerminatePort, NtTerminateProcess, NtTerminateThread}
-use Rattle.lpc_model.specs.declared.entry.Entry.TheVariants.{Answer}
-use Rattle.lpc_model.proofs.Ending.{AreEnding, die-ending, die-pass, end-keeps, ending-enter, handle-ending, is_ending, process-ends, thread-ends, told-facts, world-ends}
-use Rattle.lpc_model.proofs.SoundTerminate.{IsSafe, die-safe, enter-safe, handle-safe, sound-of, unregister-safe}
-use Rattle.lpc_model.proofs.Closing.{behind, takes_away}
-use Rattle.lpc_model.proofs.LinkedSteps.{is_plain, plain-all}
-use Rattle.lpc_model.proofs.Creating.{process_holds, thread_holds}
-use Rattle.lpc_model.specs.Creation.{gives_life, new_process, new_thread, nt_create_process, nt_create_thread, second_birth}
-use Rattle.lpc_model.specs.Targets.{LIFE_ACCESS}
-use Rattle.lpc_model.proofs.SoundBasics.{sound-ordinal, sound-process}
-use Rattle.lpc_model.proofs.Rows.{count-change}
-use Rattle.lpc_model.proofs.EachLine.{passing_directives, sound_line_holds, stepped, sweep_every}
+use Rattle.lpc_model.proofs.OpenClose.{is_elsewhere}
+use Rattle.lpc_model.proofs.SoundWorlds.{by_kind}
 use Rattle.lpc_model.proofs.StepsInTurn.{after-append}
+use Rattle.lpc_model.specs.Basics.{Accepts, AddsHandle, AddsProcess, AddsThread, Awaits, Basic, Completes, Cuts, Dies, DrawsIdentifier, DrawsOrdinal, DropsHandle, Empties, Enters, Frees, Joins, Makes, Receives, Registers, Takes, TakesConnect, Tells, Unbinds, Unregisters, Wakes, Withdraws, accepted, basic, freed, no_handles, received, world_after}
+use Rattle.lpc_model.specs.Close.{close_handle, close_port, is_last}
+use Rattle.lpc_model.specs.Connect.{Completable, answer_of, client_port, connect_start, connection_request, named_steps, names_connect, server_port, unnamed_steps}
+use Rattle.lpc_model.specs.Creation.{new_process, new_thread, second_birth}
+use Rattle.lpc_model.specs.Death.{die}
+use Rattle.lpc_model.specs.Entering.{enter, given_steps, received_steps, row_of, shown, take_connect_steps, take_steps, takes, woken}
+use Rattle.lpc_model.specs.Fields.{h, info, max}
+use Rattle.lpc_model.specs.Found.{free_handle, handle_at, has_handle_to, is_accepted, is_open, is_own_of, is_queued, is_queued_connect, is_table, is_taken, port_name, waits_as, waits_at}
+use Rattle.lpc_model.specs.Lines.{ScriptLine}
+use Rattle.lpc_model.specs.Linked.{IsLinked}
+use Rattle.lpc_model.specs.Machine.{bare_steps}
+use Rattle.lpc_model.specs.Message.{asks, made}
+use Rattle.lpc_model.specs.OpenQueues.{HasOpenQueues, StepsKeepQueuesOpen}
+use Rattle.lpc_model.specs.SoundWaits.{HasShutConnects, IsSoundWorld, is_sound_wait}
+use Rattle.lpc_model.specs.Sweep.{sweep}
+use Rattle.lpc_model.specs.Tests.{PORT_ACCESS, handle_row, next_birth}
+use Rattle.lpc_model.specs.World.{Birth, HandleRow, Message, MessageRow, ObjectKind, ObjectName, ThreadRow, WaitRow, World, no_rows}
+use Rattle.std.proofs.Common.{Bool, List, None, Option, Some, [], arith, false, not, refl, subst, sym, true, ℕ, ◌++◌, ◌∷◌, ◌≡◌, ◌≤◌}
+use Rattle.std.proofs.lemmas.Bool.{and_from, not-true, or_left, or_right}
+use Rattle.std.specs.Prelude.{◌&&◌, ◌||◌}
 
 -- What keeps queues open
 -- the ports that are open in one world are open in another
@@ -181,57 +161,25 @@ open-enter w m v opens = and_from (is_open w m.queue) _ opens (at (first (takes 
     at None = refl
     at (Some x) = open-given w m x
 
--- Services
+-- Acts
 abbrev KeepOpen : World → List Basic → Type 0
-KeepOpen w bs = HasOpenQueues (world_after w bs)
+KeepOpen w bs = HasOpenQueues w → HasOpenQueues (world_after w bs)
 
-open_holds : (w : World) (r : Result (List Basic) Status) → HasOpenQueues w → Holds (AreOpen w) r → Holds (KeepOpen w) r
-open_holds w r q all = holds-more (AreOpen w) (KeepOpen w) r (λ bs all. open-all w bs all q) all
+created-open : (w : World) (by : ThreadRow) (made : List Basic) → IsSoundWorld w → (world_after (basic w (DrawsOrdinal by.number)) made).handles ≡ w.handles → AreOpen w made → KeepOpen w (create_act w by made)
+created-open w by made s same all q =
+    let bs = DrawsOrdinal by.number ∷ made in
+    let v = world_after w bs in
+    let value : free_handle v by.process ≡ free_handle w by.process = rw same refl in
+    let one : count (is_table by.process) v.handles ≤ 1 = rw same (s.tables by.process) in
+    let given = handled v by.process (port_name (next_birth by)) PORT_ACCESS one (open-all w bs all q) in
+    rw (after-append w bs (AddsHandle by.process (handle_row (free_handle w by.process) (port_name (next_birth by)) PORT_ACCESS) ∷ [])) (subst (λ n. HasOpenQueues (basic v (AddsHandle by.process (handle_row n (port_name (next_birth by)) PORT_ACCESS)))) value given)
 
--- NtCreatePort
-making-open : (w : World) (by : ThreadRow) (name : Option (List ℕ)) → IsSoundWorld w → HasOpenQueues w → Holds (λ made. KeepOpen w (create_steps by made (free_handle w by.process))) (making w (next_birth by) name)
-making-open w by None s q =
-    let bs = DrawsOrdinal by.number ∷ Makes (new_port (next_birth by) Unnamed) ∷ [] in
-    handled (world_after w bs) by.process (port_name (next_birth by)) PORT_ACCESS (s.tables by.process) (open-all w bs refl q)
-making-open w by (Some name) s q =
-    bind_holds (free_name w name) _ (λ made. KeepOpen w (create_steps by made (free_handle w by.process))) (λ path _.
-    let bs = DrawsOrdinal by.number ∷ Makes (new_port (next_birth by) Connection) ∷ Binds path (Stands (Item (next_birth by))) ∷ [] in
-    handled (world_after w bs) by.process (port_name (next_birth by)) PORT_ACCESS (s.tables by.process) (open-all w bs refl q))
-
-create-open : (w : World) (by : ThreadRow) (name : Option (List ℕ)) → IsSoundWorld w → HasOpenQueues w → Holds (KeepOpen w) (nt_create_port w by name)
-unfolding nt_create_port
-create-open w by name s q =
-    let value = free_handle w by.process in
-    bind_holds (making w (next_birth by) name) _ (KeepOpen w) (λ made at.
-    bind_holds (handles_test w by.process 1) _ (KeepOpen w) (λ _ _.
-    holds_ok (λ made. KeepOpen w (create_steps by made value)) (making w (next_birth by) name) made (making-open w by name s q) at))
-
--- NtConnectPort
 -- a name leads to an open port, in whose queue the request enters and its thread waits
-connect-open : (w : World) (by : ThreadRow) (name bytes : List ℕ) → IsSoundWorld w → Holds (AreOpen w) (nt_connect_port w by name bytes)
-unfolding nt_connect_port
-connect-open w by name bytes s =
-    bind_holds (info_test bytes) _ (AreOpen w) (λ _ _.
-    bind_holds (named_port w name) _ (AreOpen w) (λ connection at.
-    bind_holds (handles_test w by.process 1) _ (AreOpen w) (λ _ _.
+connected-open : (w : World) (by : ThreadRow) (connection : Birth) (bytes : List ℕ) → is_open w connection ≡ true → KeepOpen w (connect_act w by connection (connection_request by bytes))
+connected-open w by connection bytes opens =
     let m = connection_request by bytes in
-    let opens = holds_ok (λ port. is_open w port ≡ true) (named_port w name) connection (name-open w name s) at in
-    and_from (is_open w connection && true) _ (and_from (is_open w connection) true opens refl) (open-enter w (row_of connection (client_port by connection) m) (world_after w (connect_start by connection m)) opens))))
+    open-all w (connect_act w by connection m) (and_from (is_open w connection && true) _ (and_from (is_open w connection) true opens refl) (open-enter w (row_of connection (client_port by connection) m) (world_after w (connect_start by connection m)) opens))
 
--- NtListenPort
-listened-open : (w : World) (by : ThreadRow) (port : Birth) (o : Option MessageRow) → is_open w port ≡ true → AreOpen w (listen_steps by port o)
-listened-open w by port (Some m) opens = open-receipt w m
-listened-open w by port None opens = and_from (is_open w port && true) true (and_from (is_open w port) true opens refl) refl
-
-listen-open : (w : World) (by : ThreadRow) (handle : ℕ) → Holds (AreOpen w) (nt_listen_port w by handle)
-unfolding nt_listen_port
-listen-open w by handle =
-    bind_holds (port_test w by handle) _ (AreOpen w) (λ port at.
-    bind_holds (refuse_if (not (is_connection_port port)) INVALID_PORT_HANDLE) _ (AreOpen w) (λ _ _.
-    let u = holds_ok (IsUsable w) (port_test w by handle) port (port-usable w by handle) at in
-    listened-open w by port.birth (first (is_queued_connect port.birth) w.messages) u.opens))
-
--- NtAcceptConnectPort
 -- a connect that an answer names was received, and is its thread's only wait
 received-alone : (w : World) (by : ThreadRow) (m : Message) (x : WaitRow) → first (names_connect w by m) w.waits ≡ Some x → IsSoundWorld w → every (λ y. not (waits_as x.thread y) || y.received) w.waits ≡ true
 received-alone w by m x at s = named-alone w by m x (λ y. y.received) at (named x (first-passes (names_connect w by m) w.waits x at)) s
@@ -249,7 +197,7 @@ accepted-alone w who reply alone q =
           (λ y is own. or_right (not (is_accepted (accepted reply y))) y.received (or-last (waits_as who y) y.received own (second-true (is_taken y) _ is))) (λ y is off. first-true (is_taken y) _ is) w.waits both;
     }
 
-accepted-open : (w : World) (by : ThreadRow) (context : ℕ) (m : Message) (x : WaitRow) → first (names_connect w by m) w.waits ≡ Some x → IsSoundWorld w → HasOpenQueues w → KeepOpen w (accept_steps by context (free_handle w by.process) (record { message = m; wait = x }))
+accepted-open : (w : World) (by : ThreadRow) (context : ℕ) (m : Message) (x : WaitRow) → first (names_connect w by m) w.waits ≡ Some x → IsSoundWorld w → KeepOpen w (accept_act w by context m x)
 accepted-open w by context m x at s q =
     let server = next_birth by in
     let bs = DrawsOrdinal by.number ∷ Makes (server_port server x.queue) ∷ [] in
@@ -258,19 +206,8 @@ accepted-open w by context m x at s q =
     let t = handled made by.process (port_name server) PORT_ACCESS (s.tables by.process) (open-all w bs refl q) in
     open-all (basic held (Accepts x.thread m.body)) (Joins x.port server context ∷ []) refl (accepted-alone held x.thread m.body (received-alone w by m x at s) t)
 
-accept-open : (w : World) (by : ThreadRow) (context : ℕ) (bytes : List ℕ) (accept : Bool) → IsSoundWorld w → HasOpenQueues w → Holds (KeepOpen w) (nt_accept_connect_port w by context bytes accept)
-unfolding nt_accept_connect_port
-accept-open w by context bytes accept s q =
-    bind_holds (answer_test w by bytes) _ (KeepOpen w) (λ a is.
-    answered accept a (holds_ok (λ (a : ConnectAnswer). first (names_connect w by a.message) w.waits ≡ Some a.wait) (answer_test w by bytes) a (named-wait w by bytes) is))
-  where
-    answered : (accept : Bool) (a : ConnectAnswer) → first (names_connect w by a.message) w.waits ≡ Some a.wait → Holds (KeepOpen w) (answered_steps w by context accept a)
-    answered false a at = open-all w (refuse_steps by a) refl q
-    answered true a at = bind_holds (handles_test w by.process 1) _ (KeepOpen w) (λ _ _. accepted-open w by context a.message a.wait at s q)
-
--- NtCompleteConnectPort
-completed-open : (w : World) (by : ThreadRow) (c : Completable) → IsSoundWorld w → HasOpenQueues w → KeepOpen w (complete_steps by (free_handle w c.wait.process) c)
-completed-open w by c s q =
+completed-open : (w : World) (c : Completable) → IsSoundWorld w → KeepOpen w (complete_act w c)
+completed-open w c s q =
     let pid = c.wait.process in
     let value = free_handle w pid in
     let bs = Completes c.server ∷ Completes c.client ∷ [] in
@@ -278,74 +215,6 @@ completed-open w by c s q =
     open-all held (woken SUCCESS (h value ∷ max MESSAGE_LIMIT ∷ info (answer_of c.wait) ∷ []) c.wait ∷ []) refl
     (handled (world_after w bs) pid (port_name c.client) PORT_ACCESS (s.tables pid) (open-all w bs refl q))
 
-complete-open : (w : World) (by : ThreadRow) (handle : ℕ) → IsSoundWorld w → HasOpenQueues w → Holds (KeepOpen w) (nt_complete_connect_port w by handle)
-unfolding nt_complete_connect_port
-complete-open w by handle s q = bind_holds (complete_test w by handle) _ (KeepOpen w) (λ c _. completed-open w by c s q)
-
--- NtRequestPort and NtRequestWaitReplyPort
--- a message is sent only to an open queue, in which it enters and its thread waits
-sent-open : (w : World) (by : ThreadRow) (handle : ℕ) (bytes : List ℕ) (s : Sendable) → send_test w by handle bytes ≡ Ok s → is_open w s.queue ≡ true
-sent-open w by handle bytes s at =
-    let r = holds_ok (λ (s : Sendable). HasRoute w s.port s.queue) (send_test w by handle bytes) s (send-routed w by handle bytes) at in
-    r.to
-
-datagram-to : (w : World) (by : ThreadRow) (handle : ℕ) (bytes : List ℕ) → Holds (λ (s : Sendable). is_open w s.queue ≡ true) (datagram_send_test w by handle bytes)
-datagram-to w by handle bytes =
-    let P : Sendable → Type 0 = λ s. is_open w s.queue ≡ true in
-    bind_holds (send_test w by handle bytes) _ P (λ s at.
-    bind_holds (datagram_test w s.port) _ P (λ _ _. sent-open w by handle bytes s at))
-
-datagram-open : (w : World) (by : ThreadRow) (handle : ℕ) (bytes : List ℕ) → Holds (AreOpen w) (nt_request_port w by handle bytes)
-unfolding nt_request_port
-datagram-open w by handle bytes =
-    bind_holds (datagram_send_test w by handle bytes) _ (AreOpen w) (λ s at.
-    let opens = holds_ok (λ (s : Sendable). is_open w s.queue ≡ true) (datagram_send_test w by handle bytes) s (datagram-to w by handle bytes) at in
-    open-enter w (row_of s.queue s.port (sent_by by DATAGRAM s.message)) (world_after w (datagram_start by)) opens)
-
-request-open : (w : World) (by : ThreadRow) (handle : ℕ) (bytes : List ℕ) → Holds (AreOpen w) (nt_request_wait_reply_port w by handle bytes)
-unfolding nt_request_wait_reply_port
-request-open w by handle bytes =
-    bind_holds (send_test w by handle bytes) _ (AreOpen w) (λ s at.
-    let m = sent_by by REQUEST s.message in
-    let opens = sent-open w by handle bytes s at in
-    and_from (is_open w s.queue && true) _ (and_from (is_open w s.queue) true opens refl) (open-enter w (row_of s.queue s.port m) (world_after w (request_start by s.port.birth s.queue m)) opens))
-
--- NtReplyPort
-reply-open : (w : World) (by : ThreadRow) (handle : ℕ) (bytes : List ℕ) → Holds (AreOpen w) (nt_reply_port w by handle bytes)
-unfolding nt_reply_port
-reply-open w by handle bytes =
-    bind_holds (port_test w by handle) _ (AreOpen w) (λ port _.
-    bind_holds (message_test bytes) _ (AreOpen w) (λ m _.
-    bind_holds (reply_test w port m) _ (AreOpen w) (λ x _. refl)))
-
--- NtReplyWaitReceivePort
-given-reply-open : (w : World) (port : PortRow) (m : Option Message) → Holds (AreOpen w) (given_reply w port m)
-given-reply-open w port None = refl
-given-reply-open w port (Some m) = bind_holds (reply_test w port m) _ (AreOpen w) (λ x _. refl)
-
--- a receive waits only on an open queue
-receive-at : (w : World) (port : PortRow) → Holds (λ queue. is_open w queue ≡ true) (receive_test w port)
-receive-at w port =
-    let P : Birth → Type 0 = λ queue. is_open w queue ≡ true in
-    bind_holds (found_or (queue_of w port) PORT_DISCONNECTED) _ P (λ queue at.
-    bind_holds (refuse_if (is_spent w port queue) PORT_DISCONNECTED) _ P (λ _ _. queue-open w queue port (found_ok (queue_of w port) PORT_DISCONNECTED queue at)))
-
-received-open : (w : World) (by : ThreadRow) (port : PortRow) (queue : Birth) (replied : List Basic) (o : Option MessageRow) → AreOpen w replied → is_open w queue ≡ true → AreOpen w (receive_steps by port queue replied o)
-received-open w by port queue replied (Some m) all opens = every-append (is_open_step w) replied _ all (open-receipt w m)
-received-open w by port queue replied None all opens = every-append (is_open_step w) replied _ all (and_from (is_open w queue && true) true (and_from (is_open w queue) true opens refl) refl)
-
-receive-open : (w : World) (by : ThreadRow) (handle : ℕ) (bytes : Option (List ℕ)) → Holds (AreOpen w) (nt_reply_wait_receive_port w by handle bytes)
-unfolding nt_reply_wait_receive_port
-receive-open w by handle bytes =
-    bind_holds (port_test w by handle) _ (AreOpen w) (λ port _.
-    bind_holds (optional_message bytes) _ (AreOpen w) (λ m _.
-    bind_holds (receive_test w port) _ (AreOpen w) (λ queue found.
-    bind_holds (given_reply w port m) _ (AreOpen w) (λ replied at.
-    received-open w by port queue replied (first (is_queued queue) w.messages)
-    (holds_ok (AreOpen w) (given_reply w port m) replied (given-reply-open w port m) at)
-    (holds_ok (λ queue. is_open w queue ≡ true) (receive_test w port) queue (receive-at w port) found)))))
-
--- NtClose
 -- what waits to be received does so on the queue of an open port, in a sound world where accepted connects were received
 waits-open : (w : World) (x : WaitRow) → is_sound_wait w x ≡ true → is_taken x ≡ true → waits_open w x ≡ true
 waits-open w =
@@ -360,7 +229,7 @@ from-sound w s messages accepts = record {
 }
 
 -- the handle that goes is the last one of a port that was closed, or leaves each port open
-closed-open : (w : World) (pid : ℕ) (r : HandleRow) → handle_at w pid r.value ≡ Some r → IsSoundWorld w → IsLinked w → HasOpenQueues w → KeepOpen w (close_handle pid r w)
+closed-open : (w : World) (pid : ℕ) (r : HandleRow) → handle_at w pid r.value ≡ Some r → IsSoundWorld w → IsLinked w → KeepOpen w (close_handle pid r w)
 closed-open w pid r at s l q = by_last (is_last r w) refl (close_handle-sound w pid r at s)
   where
     by_last : (last : Bool) → is_last r w ≡ last → IsSoundWorld (world_after w (when last (close_port r.object.birth w) ++ DropsHandle pid r.value ∷ [])) → HasOpenQueues (world_after w (when last (close_port r.object.birth w) ++ DropsHandle pid r.value ∷ []))
@@ -380,44 +249,6 @@ closed-open w pid r at s l q = by_last (is_last r w) refl (close_handle-sound w 
         let opens = still-open w pid r (s.tables pid) at more in
         from-sound u sound (every-more (enters_open w) (enters_open u) (λ m is. opens m.queue is) w.messages q.messages) q.accepts
 
-close-open : (w : World) (by : ThreadRow) (handle : ℕ) → IsSoundWorld w → IsLinked w → HasOpenQueues w → Holds (KeepOpen w) (nt_close w by handle)
-unfolding nt_close
-close-open w by handle s l q =
-    bind_holds (own_handle w by handle) _ (KeepOpen w) (λ r is.
-    closed-open w by.process r (found-value w by.process handle r (found_ok (handle_at w by.process handle) INVALID_HANDLE r is)) s l q)
-
--- NtDuplicateObject and NtQueryObject
-duplicate-open : (w : World) (by : ThreadRow) (handle : ℕ) (access : Option ℕ) → IsSoundWorld w → HasOpenQueues w → Holds (KeepOpen w) (nt_duplicate_object w by handle access)
-unfolding nt_duplicate_object
-duplicate-open w by handle access s q =
-    bind_holds (own_handle w by handle) _ (KeepOpen w) (λ r _.
-    bind_holds (rights_test r (asked r access)) _ (KeepOpen w) (λ _ _.
-    bind_holds (handles_test w by.process 1) _ (KeepOpen w) (λ _ _. handled w by.process r.object (asked r access) (s.tables by.process) q)))
-
-query-open : (w : World) (by : ThreadRow) (handle : ℕ) → Holds (AreOpen w) (nt_query_object w by handle)
-unfolding nt_query_object
-query-open w by handle = bind_holds (own_handle w by handle) _ (AreOpen w) (λ r _. refl)
-
--- NtRegisterThreadTerminatePort
-registered-open : (w : World) (by : ThreadRow) (b : Birth) → AreOpen w (register_steps by b)
-registered-open w by b = at (not (is_registered b by))
-  where
-    at : (new : Bool) → AreOpen w (Tells (Answer by.number NtRegisterThreadTerminatePort SUCCESS []) ∷ when new (Registers by.number b ∷ []))
-    at true = refl
-    at false = refl
-
-register-open : (w : World) (by : ThreadRow) (handle : ℕ) → Holds (AreOpen w) (nt_register_thread_terminate_port w by handle)
-unfolding nt_register_thread_terminate_port
-register-open w by handle =
-    bind_holds (port_test w by handle) _ (AreOpen w) (λ port _.
-    bind_holds (registration_test by port.birth) _ (AreOpen w) (λ _ _. registered-open w by port.birth))
-
--- NtTerminateThread and NtTerminateProcess
-record IsOpenWorld (w : World) : Type 0 where
-  safe : IsSafe w
-  linked : IsLinked w
-  queues : HasOpenQueues w
-
 away-open : (w : World) (x : Basic) → takes_away x ≡ true → is_open_step w x ≡ true
 away-open w (Wakes who call status fields) is = refl
 away-open w (Withdraws who) is = refl
@@ -425,94 +256,40 @@ away-open w (Empties q) is = refl
 away-open w (Unbinds b) is = refl
 away-open w x is = absurd (cc)
 
-ended-linked : (w : World) (bs : List Basic) → AreEnding bs → IsLinked w → IsLinked (world_after w bs)
-ended-linked w bs all l = plain-all w bs (every-more is_ending is_plain ending-plain bs all) l
-
-end-open : (pid : ℕ) (code : Status) (ts : List ThreadRow) (w : World) → IsOpenWorld w → IsOpenWorld (behind (end_threads pid code ts) w)
-end-open =
-    end-keeps IsOpenWorld (λ code t w is. record {
-      safe = die-safe code t w is.safe;
-      linked = ended-linked w (die code t w) (die-ending code t w) is.linked;
-      queues = open-all w (die code t w) (die-pass (is_open_step w) (away-open w) (λ n c. refl) (λ b. refl) code t w) is.queues;
-    })
-    (λ n b w is. record { safe = unregister-safe n b w is.safe; linked = ended-linked w (Unregisters n b ∷ []) refl is.linked; queues = open-all w (Unregisters n b ∷ []) refl is.queues })
-    (λ t b m w some is.
-    let told = told-facts t b m w some in
-    record { safe = enter-safe m w is.safe; linked = ended-linked w (enter m w) (ending-enter m w) is.linked; queues = open-all w (enter m w) (open-enter w m w told.opens) is.queues })
-    (λ w is. sound-of w is.safe)
-    (λ w pid r at is. record {
-      safe = handle-safe w pid r at is.safe;
-      linked = ended-linked w (close_handle pid r w) (handle-ending pid r w) is.linked;
-      queues = closed-open w pid r at (sound-of w is.safe) is.linked is.queues;
-    })
-
-ended-open : (pid : ℕ) (code : Status) (ts : List ThreadRow) (w : World) → IsSoundWorld w → HasShutConnects w → IsLinked w → HasOpenQueues w → HasOpenQueues (behind (end_threads pid code ts) w)
-ended-open pid code ts w s shut l q = let t = end-open pid code ts w (record { safe = record { sound = s; shut = shut }; linked = l; queues = q }) in t.queues
-
-terminate-thread-open : (w : World) (by : ThreadRow) (target : ProcArg) (code : ℕ) → IsSoundWorld w → HasShutConnects w → IsLinked w → HasOpenQueues w → Holds (KeepOpen w) (nt_terminate_thread w by target code)
-terminate-thread-open w by target code s shut l q =
-    thread-ends (KeepOpen w) w by target code (λ t own _ _. world-ends HasOpenQueues w by NtTerminateThread own t.process (code_status code) (t ∷ []) (ended-open t.process (code_status code) (t ∷ []) w s shut l q))
-
-terminate-process-open : (w : World) (by : ThreadRow) (target : ProcArg) (code : ℕ) → IsSoundWorld w → HasShutConnects w → IsLinked w → HasOpenQueues w → Holds (KeepOpen w) (nt_terminate_process w by target code)
-terminate-process-open w by target code s shut l q =
-    process-ends (KeepOpen w) w by target code (λ pid own _. world-ends HasOpenQueues w by NtTerminateProcess own pid (code_status code) (live_threads w pid) (ended-open pid (code_status code) (live_threads w pid) w s shut l q))
-
--- NtCreateProcess and NtCreateThread
-record IsTabledWorld (by : ThreadRow) (w : World) : Type 0 where
-  tables : count (is_table by.process) w.handles ≤ 1
-  queues : HasOpenQueues w
-
-given-open : (by : ThreadRow) (w : World) (o : ObjectName) → IsTabledWorld by w → IsTabledWorld by (basic w (gives_life by (free_handle w by.process) o))
-given-open by w o is = record {
-  tables = rw (count-change (is_table by.process) (is_table by.process) (with_handle (handle_row (free_handle w by.process) o LIFE_ACCESS)) (λ t. refl) w.handles) is.tables;
-  queues = handled w by.process o LIFE_ACCESS is.tables is.queues;
+open-law : (by : ThreadRow) → Law by (Shut IsLinked) IsLinked KeepOpen
+open-law by = record {
+  keeps = ended-linked;
+  nothing = λ w q. q;
+  follows = keeps_on HasOpenQueues;
+  says = λ w e q. open-all w (Tells e ∷ []) refl q;
+  numbers = λ w. open-all w (DrawsIdentifier by.number ∷ []) refl;
+  wakes = λ w status fields x. open-all w (woken status fields x ∷ []) refl;
+  takes = λ w m. open-all w (take_steps m) (open-receipt w m);
+  listens = λ w m. open-all w (take_connect_steps m) (open-receipt w m);
+  waits = λ w x off is. open-all w (Awaits x ∷ []) (and_from (is_open w x.queue && not (is_accepted x)) true (and_from (is_open w x.queue) _ is.opens is.begins) refl);
+  sends = λ w m is. open-all w (enter m w) (open-enter w m w is.opens);
+  asks = λ w x m off wait post. open-all w (Awaits x ∷ enter m (basic w (Awaits x))) (and_from (is_open w x.queue && not (is_accepted x)) _ (and_from (is_open w x.queue) _ wait.opens wait.begins) (open-enter w m (basic w (Awaits x)) post.opens));
+  creates = λ w is. created-open w by (unnamed_steps (next_birth by)) is.sound refl refl;
+  founds = λ w name path free is. created-open w by (named_steps (next_birth by) path) is.sound refl refl;
+  connects = λ w connection bytes opens is. connected-open w by connection bytes opens;
+  gives = λ w pid o access is. handled w pid o access is.one;
+  accepts = λ w context m x at is. accepted-open w by context m x at is.sound;
+  completes = λ w c is. completed-open w c is.sound;
+  registers = λ w b stands. open-all w (Registers by.number b ∷ []) refl;
+  spawns = λ w pid tid new unused s. open-all w (DrawsOrdinal by.number ∷ DrawsOrdinal by.number ∷ AddsProcess (new_process pid (Some by.process) (next_birth by)) ∷ AddsThread (new_thread tid pid (second_birth by)) ∷ []) refl;
+  starts = λ w tid pid live unused s. open-all w (DrawsOrdinal by.number ∷ AddsThread (new_thread tid pid (next_birth by)) ∷ []) refl;
+  closes = λ w pid r at s l. closed-open w pid r at s l;
+  dies = λ w code t is. open-all w (die code t w) (die-pass (is_open_step w) (away-open w) (λ n c. refl) (λ b. refl) code t w);
+  leaves = λ w n b. open-all w (Unregisters n b ∷ []) refl;
 }
 
-drawn-open : (by : ThreadRow) (w : World) → IsTabledWorld by w → IsTabledWorld by (basic w (DrawsOrdinal by.number))
-drawn-open by w is = record { tables = is.tables; queues = open-all w (DrawsOrdinal by.number ∷ []) refl is.queues }
-
-create-process-open : (w : World) (by : ThreadRow) (pid tid : ℕ) → CanCall w by → IsSoundWorld w → HasOpenQueues w → Holds (KeepOpen w) (nt_create_process w by pid tid)
-create-process-open w by pid tid c s q =
-    holds-more (λ bs. IsTabledWorld by (world_after w bs)) (KeepOpen w) (nt_create_process w by pid tid) (λ bs is. is.queues) (process_holds (IsTabledWorld by) w by c (drawn-open by) (given-open by) pid tid
-    (λ new unused is.
-    let v : World = basic (basic w (DrawsOrdinal by.number)) (DrawsOrdinal by.number) in
-    let t = sound-process v (new_process pid (Some by.process) (next_birth by)) new (sound-ordinal (basic w (DrawsOrdinal by.number)) by.number (sound-ordinal w by.number s)) in
-    record { tables = t.tables by.process; queues = open-all v (AddsProcess (new_process pid (Some by.process) (next_birth by)) ∷ AddsThread (new_thread tid pid (second_birth by)) ∷ []) refl is.queues })
-    (record { tables = s.tables by.process; queues = q }))
-
-create-thread-open : (w : World) (by : ThreadRow) (target : ProcArg) (tid : ℕ) → CanCall w by → IsSoundWorld w → HasOpenQueues w → Holds (KeepOpen w) (nt_create_thread w by target tid)
-create-thread-open w by target tid c s q =
-    holds-more (λ bs. IsTabledWorld by (world_after w bs)) (KeepOpen w) (nt_create_thread w by target tid) (λ bs is. is.queues) (thread_holds (IsTabledWorld by) w by c (drawn-open by) (given-open by) target tid
-    (λ pid live unused is. record { tables = is.tables; queues = open-all (basic w (DrawsOrdinal by.number)) (AddsThread (new_thread tid pid (next_birth by)) ∷ []) refl is.queues })
-    (record { tables = s.tables by.process; queues = q }))
-
--- Calls
-service-open : (w : World) (by : ThreadRow) (call : ScriptCall) → CanCall w by → IsSoundWorld w → HasShutConnects w → IsLinked w → HasOpenQueues w → Holds (KeepOpen w) (service_of w by call)
-service-open w by (create_port name) c s shut l q = create-open w by name s q
-service-open w by (connect_port name info) c s shut l q = open_holds w _ q (connect-open w by name info s)
-service-open w by (listen_port handle) c s shut l q = open_holds w _ q (listen-open w by handle)
-service-open w by (accept_connect_port context message accept) c s shut l q = accept-open w by context message accept s q
-service-open w by (complete_connect_port handle) c s shut l q = complete-open w by handle s q
-service-open w by (request_port handle bytes) c s shut l q = open_holds w _ q (datagram-open w by handle bytes)
-service-open w by (request_wait_reply_port handle bytes) c s shut l q = open_holds w _ q (request-open w by handle bytes)
-service-open w by (reply_port handle bytes) c s shut l q = open_holds w _ q (reply-open w by handle bytes)
-service-open w by (reply_wait_receive_port handle bytes) c s shut l q = open_holds w _ q (receive-open w by handle bytes)
-service-open w by (register_thread_terminate_port handle) c s shut l q = open_holds w _ q (register-open w by handle)
-service-open w by (close handle) c s shut l q = close-open w by handle s l q
-service-open w by (duplicate_object handle access) c s shut l q = duplicate-open w by handle access s q
-service-open w by (query_object handle) c s shut l q = open_holds w _ q (query-open w by handle)
-service-open w by (create_process pid tid) c s shut l q = create-process-open w by pid tid c s q
-service-open w by (create_thread target tid) c s shut l q = create-thread-open w by target tid c s q
-service-open w by (terminate_thread target code) c s shut l q = terminate-thread-open w by target code s shut l q
-service-open w by (terminate_process target code) c s shut l q = terminate-process-open w by target code s shut l q
-
 -- Lines
+open-lines : LineLaw (Shut IsLinked) (λ _. KeepOpen)
+open-lines = passing-lines (Shut IsLinked) KeepOpen is_open_step open-all (λ w. record { tells = λ _. refl; processes = λ _. refl; threads = λ _ _ _. refl; binds = λ _ _. refl }) (λ by. outcomes by (Shut IsLinked) IsLinked KeepOpen (open-law by) (λ w c. c))
+
 -- before rows go
 pub queues_line : (w : World) (line : ScriptLine) → IsSoundWorld w → HasShutConnects w → IsLinked w → HasOpenQueues w → HasOpenQueues (world_after w (bare_steps line w))
-queues_line w line s shut l q =
-    sound_line_holds w (KeepOpen w) (λ _. q) s
-    (passing_directives w (is_open_step w) (KeepOpen w) (λ bs all. open-all w bs all q) (record { boots = λ _ _ _ _. refl; threads = λ _ _ _ _. refl; dirs = λ _. refl; links = λ _ _. refl }))
-    (λ by call c. service-open w by call c s shut l q) line
+queues_line w line s shut l q = line-does (Shut IsLinked) (λ _. KeepOpen) open-lines w s (shut, l) line q
 
 -- the row of an object that goes takes no handle, no message and no wait away
 pub queues_freed : (w : World) (o : ObjectName) → HasOpenQueues w → HasOpenQueues (basic w (Frees o))

@@ -1,55 +1,63 @@
 -- A line that lets no name go leaves no row of an object that no row names.
-use Rattle.std.proofs.Common.{◌≡◌, ℕ, ◌+◌, ◌≤◌, List, [], ◌∷◌, ◌++◌, Bool, true, false, Option, Some, None, refl, ap, arith}
-use Rattle.std.specs.Prelude.{Result, ◌&&◌, ◌==◌, ◌||◌}
-use Rattle.std.proofs.lemmas.Bool.Decides.{nat_tests}
-use Rattle.lpc_base.specs.Rows.{count, has, which}
-use Rattle.lpc_base.proofs.RowWords.{count-has, every-push, has-kept, has-push}
 use Rattle.lpc_base.proofs.Births.{birth-self}
-use Rattle.lpc_model.specs.declared.entry.Word.TheVariants as word
-use Rattle.lpc_model.specs.World.{Birth, Node, ObjectName, Path, ProcessRow, ThreadRow, World}
-use Rattle.lpc_model.specs.Found.{handle_count, is_connected_to, is_life, is_made_on, is_paired_to, is_sent_on, live_threads, lives_by, lives_in, port_name, process_name, registered_by, same_birth, same_object, thread_name, wait_of, is_table, free_handle}
-use Rattle.lpc_model.specs.Basics.{AddsProcess, AddsThread, Basic, Binds, Dies, Withdraws, basic, in_turn, no_handles, world_after, DrawsOrdinal, AddsHandle, with_handle}
-use Rattle.lpc_model.specs.Lines.{ProcArg, ScriptCall, ScriptLine, accept_connect_port, close, complete_connect_port, connect_port, create_port, create_process, create_thread, duplicate_object, listen_port, query_object, register_thread_terminate_port, reply_port, reply_wait_receive_port, request_port, request_wait_reply_port, terminate_process, terminate_thread}
-use Rattle.lpc_names.specs.Walk.{LinkTo, Stands}
-use Rattle.lpc_names.specs.declared.names.Found.TheVariants.{Directory}
-use Rattle.lpc_model.specs.Machine.{bare_steps, directive_birth, new_process, new_thread, service_of}
-use Rattle.lpc_model.specs.Sweep.{loosened, loosens, unheld}
-use Rattle.lpc_model.specs.Linked.{AreLivesHeld, HasHeldPorts, HasHeldRows}
-use Rattle.lpc_model.specs.SoundWaits.{IsSoundWorld}
-use Rattle.lpc_model.proofs.SoundFrees.{fewer-pass}
-use Rattle.lpc_model.proofs.Holding.{Holds, holds-more}
-use Rattle.lpc_model.proofs.Registrations.{back-more, push-each}
-use Rattle.lpc_model.proofs.Usable.{CanCall}
-use Rattle.lpc_model.proofs.SteadyListen.{listen-steady}
-use Rattle.lpc_model.proofs.SteadyDatagram.{datagram-steady}
-use Rattle.lpc_model.proofs.SteadyRequest.{request-steady}
-use Rattle.lpc_model.proofs.SteadyReply.{reply-steady}
-use Rattle.lpc_model.proofs.SteadyReceive.{receive-steady}
-use Rattle.lpc_model.proofs.SteadyQuery.{query-steady}
-use Rattle.lpc_model.proofs.Sweeping.{unheld_ports}
-use Rattle.lpc_model.proofs.HeldSteps.{KeepLives, KeepQuiet, counts-more, handles-push, held-some, lives-more, loosened-on, not-less, ports-more, push-more, steady_lives, steady_quiet, lives-handle, lives-all, quiet-all}
-use Rattle.lpc_model.proofs.HeldCreate.{create-lives, create-quiet}
-use Rattle.lpc_model.proofs.HeldConnect.{connect-lives, connect-quiet}
-use Rattle.lpc_model.proofs.HeldAccept.{accept-lives, accept-quiet}
-use Rattle.lpc_model.proofs.HeldComplete.{complete-lives, complete-quiet}
-use Rattle.lpc_model.proofs.HeldClose.{close-loosens}
-use Rattle.lpc_model.proofs.HeldDuplicate.{handle-quiet, duplicate-lives, duplicate-quiet}
+use Rattle.lpc_base.proofs.RowWords.{count-has, every-more, every-push, has-kept, has-push}
+use Rattle.lpc_base.specs.Rows.{count, has, when, which}
+use Rattle.lpc_base.specs.declared.port_kind.PortKind.{PortKind}
+use Rattle.lpc_base.specs.declared.port_kind.PortKind.TheVariants.{Connection, Unnamed}
 use Rattle.lpc_base.specs.declared.status.Status.{Status}
-use Rattle.lpc_model.specs.declared.entry.CallName.{CallName}
-use Rattle.lpc_model.specs.declared.entry.CallName.TheVariants.{NtTerminateProcess, NtTerminateThread}
-use Rattle.lpc_model.specs.Death.{code_status, cut_accepted, die, end_threads, nt_terminate_process, nt_terminate_thread}
-use Rattle.lpc_model.proofs.SteadyRegister.{register-steady}
-use Rattle.lpc_model.proofs.Ending.{answered_end, process-ends, thread-ends}
+use Rattle.lpc_base.specs.declared.status.TheConstants.{SUCCESS}
+use Rattle.lpc_message.specs.declared.kind.TheConstants.{DATAGRAM, REQUEST}
 use Rattle.lpc_model.proofs.Closing.{behind}
-use Rattle.lpc_model.proofs.Creating.{process_holds, thread_holds}
-use Rattle.lpc_model.specs.Creation.{gives_life, nt_create_process, nt_create_thread, second_birth}
-use Rattle.lpc_model.specs.Tests.{handle_row, next_birth}
-use Rattle.lpc_model.specs.Targets.{LIFE_ACCESS}
-use Rattle.lpc_model.proofs.SoundBasics.{sound-ordinal, sound-process}
+use Rattle.lpc_model.proofs.Creating.{process-keeps, threaded}
+use Rattle.lpc_model.proofs.Ending.{answered_end}
+use Rattle.lpc_model.proofs.Handles.{open-count, open-new}
+use Rattle.lpc_model.proofs.HeldSteps.{counts-more, handle-count, handles-push, held-some, holds-port, keeps_lives, lives-all, lives-handle, lives-more, loosened-on, not-less, ports-more, push-more, quiet-all, steady-keeps}
+use Rattle.lpc_model.proofs.LineLaws.{AnyWorld, IsCalled, LineLaw, line-does}
+use Rattle.lpc_model.proofs.LinkedSteps.{is_steady}
+use Rattle.lpc_model.proofs.Outcomes.{AreDoomed, Outcomes, all, one}
+use Rattle.lpc_model.proofs.Registrations.{back-more, push-each, same-each}
 use Rattle.lpc_model.proofs.Rows.{count-change}
-use Rattle.lpc_model.proofs.EachLine.{sound_line_holds}
+use Rattle.lpc_model.proofs.SoundBasics.{sound-ordinal, sound-process}
+use Rattle.lpc_model.proofs.SoundFrees.{fewer-pass}
+use Rattle.lpc_model.proofs.SteadySteps.{AreSteady, steady-await, steady-enter, steady-receipt, steady-receive}
+use Rattle.lpc_model.proofs.Sweeping.{unheld_ports}
+use Rattle.lpc_model.proofs.Usable.{CanCall}
+use Rattle.lpc_model.specs.Basics.{AddsHandle, AddsProcess, AddsThread, Basic, Binds, Dies, DrawsIdentifier, DrawsOrdinal, DropsHandle, Makes, Registers, Tells, Withdraws, basic, in_turn, no_handles, past_identifier, past_ordinal, with_handle, world_after}
+use Rattle.lpc_model.specs.Close.{close_port, close_steps, is_last}
+use Rattle.lpc_model.specs.Connect.{client_port, connect_start, connect_wait, connection_request, create_steps, listen_steps, new_port}
+use Rattle.lpc_model.specs.Counts.{asked}
+use Rattle.lpc_model.specs.Creation.{gives_life, making_process, making_thread, second_birth}
+use Rattle.lpc_model.specs.Death.{cut_accepted, die, end_threads}
+use Rattle.lpc_model.specs.Entering.{enter, row_of}
+use Rattle.lpc_model.specs.Found.{all_registrations, free_handle, handle_count, is_connected_to, is_life, is_made_on, is_paired_to, is_sent_on, is_table, is_thread, live_threads, lives_by, lives_in, port_name, process_name, registered_by, same_birth, same_object, thread_name, wait_of, was_process}
+use Rattle.lpc_model.specs.Lines.{ScriptLine}
+use Rattle.lpc_model.specs.Linked.{AreLivesHeld, HasHeldPorts, HasHeldRows}
+use Rattle.lpc_model.specs.Machine.{bare_steps, directive_birth, new_process, new_thread}
+use Rattle.lpc_model.specs.Request.{datagram_start, datagram_steps, receive_steps, request_start, request_steps, sent_by}
+use Rattle.lpc_model.specs.SoundWaits.{IsSoundWorld}
+use Rattle.lpc_model.specs.Sweep.{loosened, loosens, unheld}
+use Rattle.lpc_model.specs.Targets.{LIFE_ACCESS}
+use Rattle.lpc_model.specs.Tests.{PORT_ACCESS, handle_row, next_birth}
+use Rattle.lpc_model.specs.World.{Birth, HandleRow, Message, Node, ObjectName, Path, ProcessRow, ThreadRow, World}
+use Rattle.lpc_model.specs.declared.entry.CallName.{CallName}
+use Rattle.lpc_model.specs.declared.entry.CallName.TheVariants.{NtRegisterThreadTerminatePort}
+use Rattle.lpc_model.specs.declared.entry.Entry.TheVariants.{Answer}
+use Rattle.lpc_names.specs.Walk.{LinkTo, Stands}
+use Rattle.lpc_names.specs.declared.names.Found.TheVariants.{Directory, Item}
+use Rattle.std.proofs.Common.{Bool, List, None, Option, Some, [], ap, arith, false, refl, true, ℕ, ◌++◌, ◌+◌, ◌∙◌, ◌∷◌, ◌≡◌, ◌≤◌}
+use Rattle.std.proofs.lemmas.Bool.Decides.{nat_tests}
+use Rattle.std.specs.Prelude.{◌&&◌, ◌==◌, ◌||◌}
 
--- NtTerminateThread and NtTerminateProcess let a thread go
+-- What lets a name go
+-- the last step lets a handle go
+loosened-last : (before : Bool) (bs : List Basic) (pid value : ℕ) → loosened before (bs ++ DropsHandle pid value ∷ []) ≡ true
+loosened-last before [] pid value = refl
+loosened-last before (b ∷ bs) pid value = loosened-last (loosens b || before) bs pid value
+
+closed-loosens : (w : World) (by : ThreadRow) (r : HandleRow) → loosened false (close_steps by r w) ≡ true
+closed-loosens w by r = loosened-last false (when (is_last r w) (close_port r.object.birth w)) by.process r.value
+
+-- and so does the end of the first thread
 loosened-front : (xs ys : List Basic) (before : Bool) → loosened before xs ≡ true → loosened before (xs ++ ys) ≡ true
 loosened-front [] ys true is = loosened-on ys
 loosened-front [] ys false is = absurd (cc)
@@ -72,22 +80,67 @@ abbrev is_empty : List ThreadRow → Bool
 is_empty [] = true
 is_empty (t ∷ ts) = false
 
-abbrev AreLoose : List Basic → Type 0
-AreLoose bs = loosened false bs ≡ true
-
-thread-loosens : (w : World) (by : ThreadRow) (target : ProcArg) (code : ℕ) → Holds AreLoose (nt_terminate_thread w by target code)
-thread-loosens w by target code = thread-ends AreLoose w by target code (λ t own _ _. answered-loosens w by NtTerminateThread own t.process (code_status code) t [])
-
-process-loosens : (w : World) (by : ThreadRow) (target : ProcArg) (code : ℕ) → Holds AreLoose (nt_terminate_process w by target code)
-process-loosens w by target code = process-ends AreLoose w by target code (λ pid own live. at own pid (live_threads w pid) (some (lives_in pid) w.threads live))
+doomed-loosens : (w : World) (by : ThreadRow) (call : CallName) (own : Bool) (pid : ℕ) (code : Status) (ts : List ThreadRow) → AreDoomed w by own pid ts → loosened false (answered_end by call own pid code ts w) ≡ true
+doomed-loosens w by call own pid code ts (one target t at live) = answered-loosens w by call (t.number == by.number) t.process code t []
+doomed-loosens w by call own pid code ts (all target number found live) = at (live_threads w number) (some (lives_in number) w.threads live)
   where
     some : (p : ThreadRow → Bool) (ts : List ThreadRow) → has p ts ≡ true → is_empty (which p ts) ≡ false
     some p [] is = absurd (cc)
     some p (t ∷ ts) is = grind (arith, some p ts)
 
-    at : (own : Bool) (pid : ℕ) (ts : List ThreadRow) → is_empty ts ≡ false → AreLoose (answered_end by NtTerminateProcess own pid (code_status code) ts w)
-    at own pid [] off = absurd (cc)
-    at own pid (t ∷ ts) off = answered-loosens w by NtTerminateProcess own pid (code_status code) t ts
+    at : (ts : List ThreadRow) → is_empty ts ≡ false → loosened false (answered_end by call (number == by.process) number code ts w) ≡ true
+    at [] off = absurd (cc)
+    at (t ∷ ts) off = answered-loosens w by call (number == by.process) number code t ts
+
+-- Handles that are given
+handle-quiet : (w : World) (pid : ℕ) (object : ObjectName) (access : ℕ) → count (is_table pid) w.handles ≤ 1 → HasHeldPorts w → HasHeldPorts (basic w (AddsHandle pid (handle_row (free_handle w pid) object access)))
+handle-quiet w pid object access few held =
+    ports-more w (basic w (AddsHandle pid (handle_row (free_handle w pid) object access)))
+    (λ b. counts-more _ (count (is_paired_to b) w.ports) (count (is_connected_to b) w.ports) (count (is_sent_on b) w.messages) (count (is_made_on b) w.waits) (count (same_birth b) (all_registrations w)) _ _ _ _ _ _ (handle-count w pid object access (port_name b) few) (omega arith) (omega arith) (omega arith) (omega arith) (omega arith)) held
+
+-- Ports that are made
+-- the new port has a handle
+some-sum : (a b : ℕ) → 1 ≤ a → 1 ≤ a + b
+some-sum a b some = omega (arith, some)
+
+created-quiet : (w : World) (by : ThreadRow) (kind : PortKind) → CanCall w by → IsSoundWorld w → HasHeldPorts w → HasHeldPorts (world_after w (create_steps by (Makes (new_port (next_birth by) kind) ∷ []) (free_handle w by.process)))
+created-quiet w by kind c s held =
+    let own = next_birth by in
+    let port = new_port own kind in
+    let made = basic (basic w (DrawsOrdinal by.number)) (Makes port) in
+    let v = basic made (AddsHandle by.process (handle_row (free_handle w by.process) (port_name own) PORT_ACCESS)) in
+    let old = ports-more w v (λ b. counts-more _ _ _ (count (is_sent_on b) w.messages) (count (is_made_on b) w.waits) _ _ _ _ _ _ _ (handle-count w by.process (port_name own) PORT_ACCESS (port_name b) (s.tables by.process)) (push-more (is_paired_to b) w.ports port) (push-more (is_connected_to b) w.ports port) (omega arith) (omega arith) (not-less _ _ (ap (count (same_birth b)) (same-each registered_by (is_thread by.number) past_ordinal (λ t. refl) w.threads)))) held in
+    let some = open-count v own (open-new made by.process (free_handle w by.process) PORT_ACCESS own c.home) in
+    every-push (holds-port v) w.ports port old (held-some _ (some-sum (handle_count v (port_name own)) _ some))
+
+created-lives : (w : World) (by : ThreadRow) (kind : PortKind) → IsSoundWorld w → AreLivesHeld w → AreLivesHeld (world_after w (create_steps by (Makes (new_port (next_birth by) kind) ∷ []) (free_handle w by.process)))
+created-lives w by kind s held =
+    let made = basic (basic w (DrawsOrdinal by.number)) (Makes (new_port (next_birth by) kind)) in
+    lives-handle made by.process (port_name (next_birth by)) PORT_ACCESS (s.tables by.process) (lives-all w (DrawsOrdinal by.number ∷ Makes (new_port (next_birth by) kind) ∷ []) refl held)
+
+-- the client port of a connect has a wait
+last-some : (a b c d e f : ℕ) → 1 ≤ e → 1 ≤ a + (b + (c + (d + (e + f))))
+last-some a b c d e f some = omega (arith, some)
+
+-- its thread draws both numbers
+drawn-twice : (w : World) (by : ThreadRow) → all_registrations (basic (basic w (DrawsIdentifier by.number)) (DrawsOrdinal by.number)) ≡ all_registrations w
+drawn-twice w by =
+    let v = basic w (DrawsIdentifier by.number) in
+    same-each registered_by (is_thread by.number) past_ordinal (λ t. refl) v.threads ∙ same-each registered_by (is_thread by.number) past_identifier (λ t. refl) w.threads
+
+started-quiet : (w : World) (by : ThreadRow) (connection : Birth) (m : Message) → HasHeldPorts w → HasHeldPorts (world_after w (connect_start by connection m))
+started-quiet w by connection m held =
+    let own = next_birth by in
+    let port = client_port by connection in
+    let x = connect_wait by connection m in
+    let v = world_after w (connect_start by connection m) in
+    let old = ports-more w v (λ b. counts-more (handle_count w (port_name b)) _ _ (count (is_sent_on b) w.messages) _ _ _ _ _ _ _ _ (omega arith) (push-more (is_paired_to b) w.ports port) (push-more (is_connected_to b) w.ports port) (omega arith) (push-more (is_made_on b) w.waits x) (not-less _ _ (ap (count (same_birth b)) (drawn-twice w by)))) held in
+    let some = count-has (is_made_on own) (world_after w (connect_start by connection m)).waits (has-push (is_made_on own) w.waits x (birth-self own)) in
+    every-push (holds-port v) w.ports port old (held-some _ (last-some (handle_count v (port_name own)) (count (is_paired_to own) v.ports) (count (is_connected_to own) v.ports) (count (is_sent_on own) v.messages) _ _ some))
+
+-- a name that is bound holds no row
+bound-lives : (w : World) (path : Path) (node : Node Birth) → AreLivesHeld w → AreLivesHeld (basic w (Binds path node))
+bound-lives w path node held = record { threads = held.threads; processes = held.processes }
 
 -- Threads that are made
 back-some : (a b : ℕ) → 1 ≤ b → 1 ≤ a + b
@@ -126,10 +179,10 @@ module _ (w : World) (pid tid : ℕ) (maker : Option ℕ) (birth next : Birth) w
       at l x y more is = grind (arith, more)
 
   both-more : (a b c d : ℕ) → a ≤ b → c ≤ d → a + c ≤ b + d
-  both-more a b c d one two = omega (arith, one, two)
+  both-more a b c d front back = omega (arith, front, back)
 
   through : (a b c : ℕ) → a ≤ b → b ≤ c → a ≤ c
-  through a b c one two = omega (arith, one, two)
+  through a b c low high = omega (arith, low, high)
 
   own-process : has (λ (p : ProcessRow). same_birth p.birth booted_process.birth && (p.number == pid)) (w.processes ++ booted_process ∷ []) ≡ true
   own-process = has-push (λ (p : ProcessRow). same_birth p.birth booted_process.birth && (p.number == pid)) w.processes booted_process (let self = birth-self booted_process.birth in grind (arith, nat_tests))
@@ -155,7 +208,8 @@ further-ports w tid pid birth held =
     ports-more w (basic w (AddsThread t)) (λ b. counts-more (handle_count w (port_name b)) (count (is_paired_to b) w.ports) (count (is_connected_to b) w.ports) (count (is_sent_on b) w.messages) (count (is_made_on b) w.waits) _ _ _ _ _ _ _
     (omega arith) (omega arith) (omega arith) (omega arith) (omega arith) (not-less _ _ (ap (count (same_birth b)) (push-each registered_by t refl w.threads)))) held
 
--- NtCreateProcess and NtCreateThread
+-- Calls
+-- a thread that gets handles has one table of them
 record IsTabledWorld (P : World → Type 0) (by : ThreadRow) (w : World) : Type 0 where
   tables : count (is_table by.process) w.handles ≤ 1
   held : P w
@@ -170,115 +224,102 @@ given-held P gives by w o is = record {
   held = gives w by.process o is.tables is.held;
 }
 
-held_of : (P : World → Type 0) (w : World) (by : ThreadRow) (r : Result (List Basic) Status) → Holds (λ bs. IsTabledWorld P by (world_after w bs)) r → Holds (λ bs. loosened false bs ≡ false → P (world_after w bs)) r
-held_of P w by r is = holds-more (λ bs. IsTabledWorld P by (world_after w bs)) (λ bs. loosened false bs ≡ false → P (world_after w bs)) r (λ bs is. λ _. is.held) is
+-- what steady steps keep that let no name go, and the steps that make rows
+record KeepsRows (Q : World → Type 0) : Type 0 where
+  steady : (w : World) (bs : List Basic) → AreSteady bs → loosened false bs ≡ false → Q w → Q (world_after w bs)
+  gives : (w : World) (pid : ℕ) (o : ObjectName) (access : ℕ) → count (is_table pid) w.handles ≤ 1 → Q w → Q (basic w (AddsHandle pid (handle_row (free_handle w pid) o access)))
+  binds : (w : World) (path : Path) (node : Node Birth) → Q w → Q (basic w (Binds path node))
+  creates : (w : World) (by : ThreadRow) (kind : PortKind) → CanCall w by → IsSoundWorld w → Q w → Q (world_after w (create_steps by (Makes (new_port (next_birth by) kind) ∷ []) (free_handle w by.process)))
+  connects : (w : World) (by : ThreadRow) (connection : Birth) (m : Message) → Q w → Q (world_after w (connect_start by connection m))
+  boots : (w : World) (pid tid : ℕ) (maker : Option ℕ) (birth next : Birth) → Q w → Q (booted w pid tid maker birth next)
+  threads : (w : World) (tid pid : ℕ) (birth : Birth) → Q w → Q (basic w (AddsThread (new_thread tid pid birth)))
 
--- what is kept by each of their steps
-module _ (P : World → Type 0) (draws : (w : World) (n : ℕ) → P w → P (basic w (DrawsOrdinal n)))
-    (gives : (w : World) (pid : ℕ) (o : ObjectName) → count (is_table pid) w.handles ≤ 1 → P w → P (basic w (AddsHandle pid (handle_row (free_handle w pid) o LIFE_ACCESS))))
-    (boots : (w : World) (pid tid : ℕ) (maker : Option ℕ) (birth next : Birth) → P w → P (booted w pid tid maker birth next))
-    (threads : (w : World) (tid pid : ℕ) (birth : Birth) → P w → P (basic w (AddsThread (new_thread tid pid birth)))) where
-  create-process-held : (w : World) (by : ThreadRow) (pid tid : ℕ) → CanCall w by → IsSoundWorld w → P w → Holds (λ bs. loosened false bs ≡ false → P (world_after w bs)) (nt_create_process w by pid tid)
-  create-process-held w by pid tid c s held =
-      held_of P w by (nt_create_process w by pid tid) (process_holds (IsTabledWorld P by) w by c (drawn-held P draws by) (given-held P gives by) pid tid
-      (λ new unused is.
+abbrev KeepQuiet : (World → Type 0) → World → List Basic → Type 0
+KeepQuiet Q w bs = loosened false bs ≡ false → Q w → Q (world_after w bs)
+
+module _ (Q : World → Type 0) (k : KeepsRows Q) where
+  spawned : (w : World) (by : ThreadRow) (pid tid : ℕ) → was_process w pid ≡ false → CanCall w by → IsSoundWorld w → Q w → Q (world_after w (making_process w by pid tid))
+  spawned w by pid tid new c s held =
       let v : World = basic (basic w (DrawsOrdinal by.number)) (DrawsOrdinal by.number) in
       let t = sound-process v (new_process pid (Some by.process) (next_birth by)) new (sound-ordinal (basic w (DrawsOrdinal by.number)) by.number (sound-ordinal w by.number s)) in
-      record { tables = t.tables by.process; held = boots v pid tid (Some by.process) (next_birth by) (second_birth by) is.held })
-      (record { tables = s.tables by.process; held = held }))
+      (process-keeps (IsTabledWorld Q by) w by c (drawn-held Q draws by) (given-held Q (λ w pid o. k.gives w pid o LIFE_ACCESS) by) pid tid
+      (λ is. record { tables = t.tables by.process; held = k.boots v pid tid (Some by.process) (next_birth by) (second_birth by) is.held })
+      (record { tables = s.tables by.process; held = held })).held
+    where
+      draws : (w : World) (n : ℕ) → Q w → Q (basic w (DrawsOrdinal n))
+      draws w n = k.steady w (DrawsOrdinal n ∷ []) refl refl
 
-  create-thread-held : (w : World) (by : ThreadRow) (target : ProcArg) (tid : ℕ) → CanCall w by → IsSoundWorld w → P w → Holds (λ bs. loosened false bs ≡ false → P (world_after w bs)) (nt_create_thread w by target tid)
-  create-thread-held w by target tid c s held =
-      held_of P w by (nt_create_thread w by target tid) (thread_holds (IsTabledWorld P by) w by c (drawn-held P draws by) (given-held P gives by) target tid
-      (λ pid live unused is. record { tables = is.tables; held = threads (basic w (DrawsOrdinal by.number)) tid pid (next_birth by) is.held })
-      (record { tables = s.tables by.process; held = held }))
+  started : (w : World) (by : ThreadRow) (tid pid : ℕ) → IsSoundWorld w → Q w → Q (world_after w (making_thread w by tid pid))
+  started w by tid pid s held =
+      let drawn = k.steady w (DrawsOrdinal by.number ∷ []) refl refl held in
+      k.gives (threaded (basic w (DrawsOrdinal by.number)) by tid pid) by.process (thread_name (next_birth by)) LIFE_ACCESS (s.tables by.process) (k.threads (basic w (DrawsOrdinal by.number)) tid pid (next_birth by) drawn)
 
-ordinal-ports : (w : World) (n : ℕ) → HasHeldPorts w → HasHeldPorts (basic w (DrawsOrdinal n))
-ordinal-ports w n held = quiet-all w (DrawsOrdinal n ∷ []) refl refl held
+  quiet-calls : (by : ThreadRow) (w : World) → IsCalled AnyWorld w by → Outcomes w by (λ _. KeepQuiet Q w)
+  quiet-calls by w is = record {
+    creates = λ quiet held. k.creates w by Unnamed is.can is.sound held;
+    founds = λ name path free quiet held. k.binds _ path (Stands (Item (next_birth by))) (k.creates w by Connection is.can is.sound held);
+    connects = λ name bytes connection at quiet held. 
+        let m = connection_request by bytes in
+        let v = world_after w (connect_start by connection m) in
+        let row = row_of connection (client_port by connection) m in
+        k.steady v (enter row v) (steady-enter row v) quiet (k.connects w by connection m held);
+    listens = λ handle port m found at. k.steady w (listen_steps by port.birth (Some m)) (steady-receipt m);
+    awaits_connect = λ handle port found at. k.steady w (listen_steps by port.birth None) refl;
+    refuses = λ context bytes a at quiet. absurd (cc);
+    accepts = λ context bytes a at quiet. absurd (cc);
+    completes = λ handle c at quiet. absurd (cc);
+    sends = λ handle bytes s at. k.steady w (datagram_steps by s.port s.queue (sent_by by DATAGRAM s.message) w) (steady-enter (row_of s.queue s.port (sent_by by DATAGRAM s.message)) (world_after w (datagram_start by)));
+    asks = λ handle bytes s at. let m = sent_by by REQUEST s.message in k.steady w (request_steps by s.port s.queue m w) (steady-enter (row_of s.queue s.port m) (world_after w (request_start by s.port.birth s.queue m)));
+    replies = λ handle bytes port m x at read fits quiet. absurd (cc);
+    receives = λ handle bytes o port queue replied m r at. k.steady w (receive_steps by port queue replied (Some m)) (steady-receive w by handle bytes o port queue replied m r);
+    awaits_message = λ handle bytes o port queue replied r at. k.steady w (receive_steps by port queue replied None) (steady-await w by handle bytes o port queue replied r);
+    registers = λ handle port at new few. k.steady w (Tells (Answer by.number NtRegisterThreadTerminatePort SUCCESS []) ∷ Registers by.number port.birth ∷ []) refl;
+    repeats = λ handle port at known quiet held. held;
+    closes = λ handle r at quiet. let loose = closed-loosens w by r in absurd (cc);
+    duplicates = λ handle access r at quiet. k.gives w by.process r.object (asked r access) (let s = is.sound in s.tables by.process);
+    queries = λ handle r at quiet held. held;
+    spawns = λ pid tid new unused quiet. spawned w by pid tid new is.can is.sound;
+    starts = λ target tid pid _ live unused quiet. started w by tid pid is.sound;
+    ends = λ call name own pid code ts doomed quiet. let loose = doomed-loosens w by name own pid code ts doomed in absurd (cc);
+  }
 
-ordinal-lives : (w : World) (n : ℕ) → AreLivesHeld w → AreLivesHeld (basic w (DrawsOrdinal n))
-ordinal-lives w n held = lives-all w (DrawsOrdinal n ∷ []) refl held
+  -- Lines
+  quiet-lines : LineLaw AnyWorld (λ _. KeepQuiet Q)
+  quiet-lines = record {
+    tells = λ line w e _ quiet held. k.steady w (Tells e ∷ []) refl refl held;
+    calls = quiet-calls;
+    boots = λ w pid tid _ _ s _ quiet. k.boots w pid tid None (directive_birth pid pid) (directive_birth tid pid);
+    threads = λ w tid pid _ _ s _ quiet. k.threads w tid pid (directive_birth tid pid);
+    dirs = λ w text path free _ quiet. k.binds w path (Stands Directory);
+    links = λ w text target path to free _ quiet. k.binds w path (LinkTo to);
+  }
 
--- Calls
--- the processes and threads that steps leave are named by rows, where none of the steps lets a name go
-abbrev KeepLivesQuiet : World → List Basic → Type 0
-KeepLivesQuiet w bs = loosened false bs ≡ false → AreLivesHeld (world_after w bs)
+  line-quiet : (w : World) (line : ScriptLine) → IsSoundWorld w → KeepQuiet Q w (bare_steps line w)
+  line-quiet w line s = line-does AnyWorld (λ _. KeepQuiet Q) quiet-lines w s tt line
 
-lives-later : (w : World) (r : Result (List Basic) Status) → Holds (KeepLives w) r → Holds (KeepLivesQuiet w) r
-lives-later w r held = holds-more (KeepLives w) (KeepLivesQuiet w) r (λ bs held. λ _. held) held
-
-loose-lives : (w : World) (r : Result (List Basic) Status) → Holds AreLoose r → Holds (KeepLivesQuiet w) r
-loose-lives w r loose = holds-more AreLoose (KeepLivesQuiet w) r (λ bs loose. λ quiet. absurd (cc)) loose
-
-loose-quiet : (w : World) (r : Result (List Basic) Status) → Holds AreLoose r → Holds (KeepQuiet w) r
-loose-quiet w r loose = holds-more AreLoose (KeepQuiet w) r (λ bs loose. λ quiet. absurd (cc)) loose
-
-service-lives : (w : World) (by : ThreadRow) (call : ScriptCall) → CanCall w by → IsSoundWorld w → AreLivesHeld w → Holds (KeepLivesQuiet w) (service_of w by call)
-service-lives w by (create_port name) c s held = lives-later w _ (create-lives w by name s held)
-service-lives w by (connect_port name info) c s held = lives-later w _ (connect-lives w by name info held)
-service-lives w by (listen_port handle) c s held = lives-later w _ (steady_lives w _ held (listen-steady w by handle))
-service-lives w by (accept_connect_port context message accept) c s held = lives-later w _ (accept-lives w by context message accept s held)
-service-lives w by (complete_connect_port handle) c s held = lives-later w _ (complete-lives w by handle s held)
-service-lives w by (request_port handle bytes) c s held = lives-later w _ (steady_lives w _ held (datagram-steady w by handle bytes))
-service-lives w by (request_wait_reply_port handle bytes) c s held = lives-later w _ (steady_lives w _ held (request-steady w by handle bytes))
-service-lives w by (reply_port handle bytes) c s held = lives-later w _ (steady_lives w _ held (reply-steady w by handle bytes))
-service-lives w by (reply_wait_receive_port handle bytes) c s held = lives-later w _ (steady_lives w _ held (receive-steady w by handle bytes))
-service-lives w by (register_thread_terminate_port handle) c s held = lives-later w _ (steady_lives w _ held (register-steady w by handle))
-service-lives w by (close handle) c s held = loose-lives w _ (close-loosens w by handle)
-service-lives w by (duplicate_object handle access) c s held = lives-later w _ (duplicate-lives w by handle access s held)
-service-lives w by (query_object handle) c s held = lives-later w _ (steady_lives w _ held (query-steady w by handle))
-service-lives w by (create_process pid tid) c s held = create-process-held AreLivesHeld ordinal-lives (λ w pid o one. lives-handle w pid o LIFE_ACCESS one) boot-held further-thread w by pid tid c s held
-service-lives w by (create_thread target tid) c s held = create-thread-held AreLivesHeld ordinal-lives (λ w pid o one. lives-handle w pid o LIFE_ACCESS one) boot-held further-thread w by target tid c s held
-service-lives w by (terminate_thread target code) c s held = loose-lives w _ (thread-loosens w by target code)
-service-lives w by (terminate_process target code) c s held = loose-lives w _ (process-loosens w by target code)
-
-service-quiet : (w : World) (by : ThreadRow) (call : ScriptCall) → CanCall w by → IsSoundWorld w → HasHeldPorts w → Holds (KeepQuiet w) (service_of w by call)
-service-quiet w by (create_port name) c s held = create-quiet w by name c s held
-service-quiet w by (connect_port name info) c s held = connect-quiet w by name info held
-service-quiet w by (listen_port handle) c s held = steady_quiet w _ held (listen-steady w by handle)
-service-quiet w by (accept_connect_port context message accept) c s held = accept-quiet w by context message accept
-service-quiet w by (complete_connect_port handle) c s held = complete-quiet w by handle
-service-quiet w by (request_port handle bytes) c s held = steady_quiet w _ held (datagram-steady w by handle bytes)
-service-quiet w by (request_wait_reply_port handle bytes) c s held = steady_quiet w _ held (request-steady w by handle bytes)
-service-quiet w by (reply_port handle bytes) c s held = steady_quiet w _ held (reply-steady w by handle bytes)
-service-quiet w by (reply_wait_receive_port handle bytes) c s held = steady_quiet w _ held (receive-steady w by handle bytes)
-service-quiet w by (register_thread_terminate_port handle) c s held = steady_quiet w _ held (register-steady w by handle)
-service-quiet w by (close handle) c s held = loose-quiet w _ (close-loosens w by handle)
-service-quiet w by (duplicate_object handle access) c s held = duplicate-quiet w by handle access s held
-service-quiet w by (query_object handle) c s held = steady_quiet w _ held (query-steady w by handle)
-service-quiet w by (create_process pid tid) c s held = create-process-held HasHeldPorts ordinal-ports (λ w pid o one. handle-quiet w pid o LIFE_ACCESS one) boot-ports further-ports w by pid tid c s held
-service-quiet w by (create_thread target tid) c s held = create-thread-held HasHeldPorts ordinal-ports (λ w pid o one. handle-quiet w pid o LIFE_ACCESS one) boot-ports further-ports w by target tid c s held
-service-quiet w by (terminate_thread target code) c s held = loose-quiet w _ (thread-loosens w by target code)
-service-quiet w by (terminate_process target code) c s held = loose-quiet w _ (process-loosens w by target code)
-
--- a name that is bound holds no row
-bound-lives : (w : World) (path : Path) (node : Node Birth) → AreLivesHeld w → AreLivesHeld (basic w (Binds path node))
-bound-lives w path node held = record { threads = held.threads; processes = held.processes }
-
--- Lines
 -- before rows go, each process and thread row is named by a row, where the line lets no name go
 pub lives_kept : (w : World) (line : ScriptLine) → IsSoundWorld w → AreLivesHeld w → loosened false (bare_steps line w) ≡ false → AreLivesHeld (world_after w (bare_steps line w))
-lives_kept w line s held =
-    sound_line_holds w (KeepLivesQuiet w) (λ _ _. held) s
-    (record {
-      boots = λ pid tid _ _ _. boot-held w pid tid None (directive_birth pid pid) (directive_birth tid pid) held;
-      threads = λ tid pid _ _ _. further-thread w tid pid (directive_birth tid pid) held;
-      dirs = λ path _. bound-lives w path (Stands Directory) held;
-      links = λ path to _. bound-lives w path (LinkTo to) held;
-    })
-    (λ by call c. service-lives w by call c s held) line
+lives_kept w line s held quiet = line-quiet AreLivesHeld (record {
+  steady = λ w bs all _. lives-all w bs (every-more is_steady keeps_lives steady-keeps bs all);
+  gives = lives-handle;
+  binds = bound-lives;
+  creates = λ w by kind _ s. created-lives w by kind s;
+  connects = λ w by connection m. lives-all w (connect_start by connection m) refl;
+  boots = boot-held;
+  threads = further-thread;
+}) w line s quiet held
 
 -- and each port row, where the line lets no name go
 pub ports_kept : (w : World) (line : ScriptLine) → IsSoundWorld w → HasHeldPorts w → loosened false (bare_steps line w) ≡ false → HasHeldPorts (world_after w (bare_steps line w))
-ports_kept w line s held =
-    sound_line_holds w (KeepQuiet w) (λ _ _. held) s
-    (record {
-      boots = λ pid tid _ _ _. boot-ports w pid tid None (directive_birth pid pid) (directive_birth tid pid) held;
-      threads = λ tid pid _ _ _. further-ports w tid pid (directive_birth tid pid) held;
-      dirs = λ _ _. held;
-      links = λ _ _ _. held;
-    })
-    (λ by call c. service-quiet w by call c s held) line
+ports_kept w line s held quiet = line-quiet HasHeldPorts (record {
+  steady = quiet-all;
+  gives = handle-quiet;
+  binds = λ w path node held. held;
+  creates = created-quiet;
+  connects = started-quiet;
+  boots = boot-ports;
+  threads = further-ports;
+}) w line s quiet held
 
 -- so such a line leaves no row that no row names
 pub quiet_line : (w : World) (line : ScriptLine) → IsSoundWorld w → HasHeldRows w → loosened false (bare_steps line w) ≡ false → unheld (world_after w (bare_steps line w)) ≡ []

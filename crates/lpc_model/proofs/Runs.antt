@@ -56,7 +56,7 @@ lawful_step w line t = let shut = t.single_closings in let safe : IsSafe w = rec
   queues = queues_step w line t.sound shut.connects t.linked t.queues;
   names = names_step w line t.sound shut.connects t.linked t.names;
   single_closings = untold_step w line t.sound t.names t.single_closings;
-  threads = once_step w line t.sound t.threads;
+  threads = once_step w line t.sound shut.connects t.threads;
   registrations = living_registrations_step w line t.sound t.threads t.registrations;
   single = single_step w line t.sound t.threads t.single;
   living = living_step w line safe t.threads t.living;

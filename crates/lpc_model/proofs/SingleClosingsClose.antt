@@ -5,19 +5,16 @@ use Rattle.lpc_base.specs.Rows.{count, has, when}
 use Rattle.lpc_base.proofs.RowWords.{count-none, count-push, every-more, every-not, first-passes}
 use Rattle.lpc_base.proofs.Births.{birth-same}
 use Rattle.lpc_base.proofs.Bools.{first-true}
-use Rattle.lpc_base.specs.declared.status.TheConstants.{INVALID_HANDLE}
-use Rattle.lpc_model.specs.World.{Birth, Creator, HandleRow, HandleTable, PortRow, ThreadRow, World}
+use Rattle.lpc_model.specs.World.{Birth, Creator, HandleRow, HandleTable, PortRow, World}
 use Rattle.lpc_model.specs.Found.{handle_at, is_open, is_port, port_row, same_birth}
 use Rattle.lpc_model.specs.Basics.{Cuts, DropsHandle, basic, world_after}
-use Rattle.lpc_model.specs.Tests.{own_handle}
-use Rattle.lpc_model.specs.Close.{close_handle, close_port, closed_row, is_last, nt_close, post_closed}
+use Rattle.lpc_model.specs.Close.{close_handle, close_port, closed_row, is_last, post_closed}
 use Rattle.lpc_model.specs.SoundWaits.{IsSoundWorld, is_connect_on}
 use Rattle.lpc_model.specs.SingleClosings.{HasSingleClosings, is_closing_of, is_shut}
 use Rattle.lpc_model.proofs.Rows.{has-off}
-use Rattle.lpc_model.proofs.Holding.{Holds, bind_holds, found_ok}
 use Rattle.lpc_model.proofs.SoundLess.{IsLess}
 use Rattle.lpc_model.proofs.SoundClosing.{five-shut, posted-less}
-use Rattle.lpc_model.proofs.SoundClose.{found-value, last-closes, shut-found}
+use Rattle.lpc_model.proofs.SoundClose.{last-closes, shut-found}
 use Rattle.lpc_model.proofs.Closing.{behind, closed-is, cut-is, fewer-uncut, stage_five, uncut}
 use Rattle.lpc_model.proofs.OpenClose.{posted-messages, posted-pass}
 use Rattle.lpc_model.proofs.SingleClosings.{dropped-shut, dropped-untold, fewer-untold, first-once, hushed-all, open-unconnected, open-untold, tells-more, tells_shut, waits-more, waits_shut}
@@ -108,9 +105,3 @@ handle-untold w pid r at s u = by_last (is_last r w) refl
         let same : world_after w (bs ++ DropsHandle pid r.value ∷ []) ≡ basic (world_after w bs) (DropsHandle pid r.value) = after-append w bs (DropsHandle pid r.value ∷ []) in
         subst HasSingleClosings (sym same) (subst (λ (v : World). HasSingleClosings (basic v (DropsHandle pid r.value))) (sym (closed-is w b)) (last-untold w pid r at is s u))
     by_last false more = dropped-untold w pid r.value u
-
-pub close-untold : (w : World) (by : ThreadRow) (handle : ℕ) → IsSoundWorld w → HasSingleClosings w → Holds (λ bs. HasSingleClosings (world_after w bs)) (nt_close w by handle)
-unfolding nt_close
-close-untold w by handle s u =
-    bind_holds (own_handle w by handle) _ (λ bs. HasSingleClosings (world_after w bs)) (λ r is.
-    handle-untold w by.process r (found-value w by.process handle r (found_ok (handle_at w by.process handle) INVALID_HANDLE r is)) s u)

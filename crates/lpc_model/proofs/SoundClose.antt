@@ -2,7 +2,6 @@
 use Rattle.std.proofs.Common.{◌≡◌, ℕ, ◌+◌, ◌≤◌, List, [], ◌∷◌, ◌++◌, Bool, true, false, cond, not, Option, Some, None, refl, sym, ap, subst, arith}
 use Rattle.std.specs.Prelude.{◌&&◌, ◌||◌, ◌==◌}
 use Rattle.lpc_base.specs.Rows.{count, every, first, has, passes, when}
-use Rattle.lpc_base.specs.declared.status.TheConstants.{INVALID_HANDLE}
 use Rattle.lpc_base.proofs.RowWords.{every-more, first-passes, has-change}
 use Rattle.std.proofs.lemmas.Bool.{and_from, and_right, eqb-true, false_from_ne_true}
 use Rattle.lpc_base.proofs.RowMaps.{every-both}
@@ -12,14 +11,13 @@ use Rattle.lpc_names.specs.Binding.{is_name}
 use Rattle.lpc_names.specs.Walk.{LinkTo, Stands}
 use Rattle.lpc_names.specs.declared.names.Found.TheVariants.{Directory, Item}
 use Rattle.lpc_model.specs.declared.entry.ObjectKind.TheVariants as kind
-use Rattle.lpc_model.specs.World.{Birth, ObjectKind, ObjectName, HandleRow, HandleTable, Listen, Node, Path, Receive, ThreadRow, WaitRow, World}
+use Rattle.lpc_model.specs.World.{Birth, ObjectKind, ObjectName, HandleRow, HandleTable, Listen, Node, Path, Receive, WaitRow, World}
 use Rattle.lpc_model.specs.Found.{all_handles, handle_at, handle_count, handles_of, has_value, port_name, rows_in, is_open, is_table, is_the, names_port, pair_of, port_row, same_birth, same_kind, same_object}
 use Rattle.lpc_model.specs.Basics.{DropsHandle, basic, world_after, without_handle}
-use Rattle.lpc_model.specs.Tests.{is_client, own_handle}
-use Rattle.lpc_model.specs.Close.{close_handle, close_port, is_last, nt_close}
+use Rattle.lpc_model.specs.Tests.{is_client}
+use Rattle.lpc_model.specs.Close.{close_handle, close_port, is_last}
 use Rattle.lpc_model.specs.SoundWaits.{IsSoundWorld, has_client_port, has_come, has_home, is_answerable, is_joined, is_message_of, leads_open, waiter_of}
 use Rattle.lpc_model.proofs.Rows.{count-change}
-use Rattle.lpc_model.proofs.Holding.{Holds, bind_holds, found_ok}
 use Rattle.lpc_model.proofs.SoundPairs.{tied-of}
 use Rattle.lpc_model.proofs.SoundWorlds.{InOrder, by_kind, is_sure, leads-kept, port-kept, sound-from, sound-kept, stands-same, sure-waits}
 use Rattle.lpc_model.proofs.SoundCalls.{LeaveSound}
@@ -156,12 +154,6 @@ pub found-value : (w : World) (pid value : ℕ) (r : HandleRow) → handle_at w 
 found-value w pid value r at =
     let same : (r.value == value) ≡ true = first-passes (has_value value) (handles_of w pid) r at in
     subst (λ n. handle_at w pid n ≡ Some r) (sym (eqb-true r.value value same)) at
-
-pub close-sound : (w : World) (by : ThreadRow) (value : ℕ) → IsSoundWorld w → Holds (LeaveSound w) (nt_close w by value)
-unfolding nt_close
-close-sound w by value s =
-    bind_holds (own_handle w by value) _ (LeaveSound w) (λ r is.
-    close_handle-sound w by.process r (found-value w by.process value r (found_ok (handle_at w by.process value) INVALID_HANDLE r is)) s)
 
 -- A handle that goes as the last one closes its port.
 last-own : (w : World) (r : HandleRow) → is_last r w ≡ true → names_port r.object.birth r.object ≡ true

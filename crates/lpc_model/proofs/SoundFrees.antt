@@ -28,9 +28,6 @@ none-pass p (x ∷ xs) few = grind (arith, none-pass p xs)
 pub is-zero : (n : ℕ) → (n == 0) ≡ true → n ≤ 0
 is-zero n is = grind (arith, nat_tests)
 
-pub zero-is : (n : ℕ) → n ≤ 0 → (n == 0) ≡ true
-zero-is n is = grind (arith, nat_tests)
-
 pub sum-first : (a b : ℕ) → a + b ≤ 0 → a ≤ 0
 sum-first a b few = omega arith
 

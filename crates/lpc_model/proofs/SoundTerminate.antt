@@ -1,22 +1,19 @@
--- NtTerminateThread and NtTerminateProcess leave sound waits behind.
-use Rattle.std.proofs.Common.{List, Some, [], ℕ, ◌∷◌, ◌≡◌}
+-- Threads and processes that end leave sound waits behind.
+use Rattle.std.proofs.Common.{List, Some, ℕ, ◌≡◌}
 use Rattle.lpc_base.specs.declared.status.Status.{Status}
-use Rattle.lpc_model.specs.declared.entry.CallName.TheVariants.{NtTerminateProcess, NtTerminateThread}
 use Rattle.lpc_model.specs.World.{Birth, HandleRow, MessageRow, ThreadRow, World}
-use Rattle.lpc_model.specs.Found.{handle_at, live_threads}
+use Rattle.lpc_model.specs.Found.{handle_at}
 use Rattle.lpc_model.specs.Basics.{Unregisters, basic}
 use Rattle.lpc_model.specs.Entering.{enter}
-use Rattle.lpc_model.specs.Lines.{ProcArg}
 use Rattle.lpc_model.specs.Close.{close_handle}
-use Rattle.lpc_model.specs.Death.{code_status, die, end_threads, nt_terminate_process, nt_terminate_thread}
+use Rattle.lpc_model.specs.Death.{die, end_threads}
 use Rattle.lpc_model.specs.SoundWaits.{HasShutConnects, IsSoundWorld}
-use Rattle.lpc_model.proofs.Holding.{Holds}
 use Rattle.lpc_model.proofs.Closing.{behind}
-use Rattle.lpc_model.proofs.SoundCalls.{LeaveSound, entered-sound}
+use Rattle.lpc_model.proofs.SoundCalls.{entered-sound}
 use Rattle.lpc_model.proofs.SoundBasics.{sound-unregisters}
 use Rattle.lpc_model.proofs.SoundClose.{close_handle-sound}
 use Rattle.lpc_model.proofs.SoundDeath.{die-sound}
-use Rattle.lpc_model.proofs.Ending.{behind_told, die-ending, end-keeps, ending-enter, handle-ending, process-ends, thread-ends, told-keeps, world-ends}
+use Rattle.lpc_model.proofs.Ending.{behind_told, die-ending, end-keeps, ending-enter, handle-ending, told-keeps}
 use Rattle.lpc_model.proofs.ShutConnects.{shut-all}
 
 -- a sound world in which no connect waits on an open port
@@ -48,13 +45,5 @@ told-safe = told-keeps IsSafe die-safe unregister-safe (λ t b m w some is. ente
 pub end-safe : (pid : ℕ) (code : Status) (ts : List ThreadRow) (w : World) → IsSafe w → IsSafe (behind (end_threads pid code ts) w)
 end-safe = end-keeps IsSafe die-safe unregister-safe (λ t b m w some is. enter-safe m w is) sound-of handle-safe
 
-end-sound : (pid : ℕ) (code : Status) (ts : List ThreadRow) (w : World) → IsSoundWorld w → HasShutConnects w → IsSoundWorld (behind (end_threads pid code ts) w)
+pub end-sound : (pid : ℕ) (code : Status) (ts : List ThreadRow) (w : World) → IsSoundWorld w → HasShutConnects w → IsSoundWorld (behind (end_threads pid code ts) w)
 end-sound pid code ts w s shut = let t = end-safe pid code ts w (record { sound = s; shut = shut }) in t.sound
-
-pub terminate-thread-sound : (w : World) (by : ThreadRow) (target : ProcArg) (code : ℕ) → IsSoundWorld w → HasShutConnects w → Holds (LeaveSound w) (nt_terminate_thread w by target code)
-terminate-thread-sound w by target code s shut =
-    thread-ends (LeaveSound w) w by target code (λ t own _ _. world-ends IsSoundWorld w by NtTerminateThread own t.process (code_status code) (t ∷ []) (end-sound t.process (code_status code) (t ∷ []) w s shut))
-
-pub terminate-process-sound : (w : World) (by : ThreadRow) (target : ProcArg) (code : ℕ) → IsSoundWorld w → HasShutConnects w → Holds (LeaveSound w) (nt_terminate_process w by target code)
-terminate-process-sound w by target code s shut =
-    process-ends (LeaveSound w) w by target code (λ pid own _. world-ends IsSoundWorld w by NtTerminateProcess own pid (code_status code) (live_threads w pid) (end-sound pid (code_status code) (live_threads w pid) w s shut))

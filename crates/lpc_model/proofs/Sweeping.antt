@@ -364,7 +364,3 @@ step_swept w line =
     let bs = bare_steps line w in
     let v = world_after w bs in
     stepped-same _ _ _ _ _ _ (after-append w bs (sweep v)) (also-telling bs (sweep v) (sweep-tells v)) (also-posting bs (sweep v) (sweep-posts v))
-
--- where nothing is to be swept, a line does its bare steps
-pub step_bare : (w : World) (line : ScriptLine) → unheld (bare_step w line).world ≡ [] → step w line ≡ bare_step w line
-step_bare w line none = step_swept w line ∙ ap (λ (v : World). record (bare_step w line) { world = v }) (swept_none_world (bare_step w line).world none)

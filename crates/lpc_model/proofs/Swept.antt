@@ -320,8 +320,3 @@ module _ (w : World) (l : IsLinked w) where
       held p listed off =
           parts (is_unheld once_swept (port_name p.birth)) (goes-later p) (is_unheld swept (port_name p.birth)) (is_held_aside once_swept p.birth) (has (is_paired_to p.birth) once_swept.ports) (has (is_connected_to p.birth) once_swept.ports) (has (is_paired_to p.birth) swept.ports) (has (is_connected_to p.birth) swept.ports)
           listed off (unheld-parts once_swept p.birth) (subst (λ a. is_unheld swept (port_name p.birth) ≡ not (a || is_held_by swept.ports p.birth)) (aside-two p.birth) (unheld-parts swept p.birth)) (stays p.birth) (stays-connected p.birth)
-
--- behind a sweep each port row is named by a row
-pub swept-held : (w : World) → IsLinked w → HasHeldPorts (world_after w (sweep w))
-unfolding sweep
-swept-held w l = rw (after-append w (free_unheld w) (free_unheld (world_after w (free_unheld w)))) (two-passes w l)

@@ -131,9 +131,6 @@ thinned name o os xs ys zs keeps off later = record {
   gone = every-both (λ x. not (same_object (name x) o)) (λ x. not (is_among os (name x))) (λ x. not (is_among (o ∷ os) (name x))) (λ x one two. listed-parts (name x) o os one two) zs (later.keeps (λ x. not (same_object (name x) o)) off) later.gone;
 }
 
-thread-of : ThreadRow → ObjectName
-thread-of t = thread_name t.birth
-
 process-of : ProcessRow → ObjectName
 process-of p = process_name p.birth
 

@@ -1,30 +1,30 @@
 -- A thread number has one row at most, behind each line.
-use Rattle.std.proofs.Common.{◌≡◌, ℕ, ◌+◌, ◌≤◌, List, [], ◌∷◌, ◌++◌, Bool, true, false, cond, not, refl, subst, arith}
-use Rattle.std.specs.Prelude.{Result}
-use Rattle.std.proofs.lemmas.Bool.{eqb-true}
-use Rattle.lpc_base.specs.Rows.{change, count, every, has, when}
-use Rattle.lpc_base.specs.declared.status.Status.{Status}
-use Rattle.lpc_base.proofs.RowWords.{count-none, count-push, every-more}
-use Rattle.lpc_model.specs.declared.entry.Word.TheVariants as word
-use Rattle.lpc_model.specs.World.{Birth, ObjectKind, ThreadRow, World}
 use Rattle.lpc_model.specs.declared.entry.ObjectKind.TheVariants as kind
-use Rattle.lpc_model.specs.Found.{is_thread, same_birth, was_thread}
-use Rattle.lpc_model.specs.Basics.{AddsThread, Basic, Dies, DrawsIdentifier, DrawsOrdinal, Frees, Registers, Unregisters, basic, ended, freed, past_identifier, past_ordinal, registering, unregistering, world_after}
-use Rattle.lpc_model.specs.Sweep.{sweep}
-use Rattle.lpc_model.specs.Lines.{ScriptCall, ScriptLine, create_process, create_thread, register_thread_terminate_port, terminate_process, terminate_thread, ProcArg}
-use Rattle.lpc_model.specs.Machine.{bare_steps, new_thread, directive_birth, service_of, step}
-use Rattle.lpc_model.specs.Lawful.{HasThreadsOnce}
-use Rattle.lpc_model.specs.SoundWaits.{IsSoundWorld}
-use Rattle.lpc_model.proofs.Holding.{Holds, holds-more}
+use Rattle.lpc_base.proofs.RowWords.{count-none, count-push, every-more}
+use Rattle.lpc_base.specs.Rows.{change, count, every, has}
+use Rattle.lpc_model.proofs.Acts.{Law, accept_act, complete_act, create_act, keeps_on, outcomes}
+use Rattle.lpc_model.proofs.LineLaws.{AnyWorld, Shut, Keep, LineLaw, step-keeps}
+use Rattle.lpc_model.proofs.EachLine.{sweep_every}
+use Rattle.lpc_model.proofs.Ending.{AreEnding, die-ending, ending-enter, ending-receipt, handle-ending, is_ending}
 use Rattle.lpc_model.proofs.Rows.{count-change, count-less, has-off}
-use Rattle.lpc_model.proofs.Undying.{AreUndying, is_undying, register_holds, service-undying}
-use Rattle.lpc_model.proofs.Ending.{AreEnding, is_ending, process-ending, thread-ending}
-use Rattle.lpc_model.proofs.Creating.{process-made, thread-made}
-use Rattle.lpc_model.specs.Creation.{nt_create_process, nt_create_thread, second_birth}
-use Rattle.lpc_model.specs.Tests.{next_birth}
 use Rattle.lpc_model.proofs.SoundBasics.{sound-ordinal}
-use Rattle.lpc_model.proofs.EachLine.{line_holds, stepped, sweep_every}
 use Rattle.lpc_model.proofs.StepsInTurn.{steps-keep}
+use Rattle.lpc_model.specs.Basics.{AddsThread, Awaits, Basic, Dies, DrawsIdentifier, DrawsOrdinal, Frees, Registers, Unregisters, basic, ended, freed, past_identifier, past_ordinal, registering, unregistering, world_after}
+use Rattle.lpc_model.specs.Close.{close_handle}
+use Rattle.lpc_model.specs.Connect.{client_port, connect_start, connection_request, named_steps, unnamed_steps}
+use Rattle.lpc_model.specs.Creation.{new_thread, second_birth}
+use Rattle.lpc_model.specs.Death.{die}
+use Rattle.lpc_model.specs.Entering.{enter, row_of, take_connect_steps, take_steps}
+use Rattle.lpc_model.specs.Found.{is_thread, same_birth, was_thread}
+use Rattle.lpc_model.specs.Lawful.{HasThreadsOnce}
+use Rattle.lpc_model.specs.Lines.{ScriptLine}
+use Rattle.lpc_model.specs.Machine.{directive_birth, step}
+use Rattle.lpc_model.specs.SoundWaits.{HasShutConnects, IsSoundWorld}
+use Rattle.lpc_model.specs.Sweep.{sweep}
+use Rattle.lpc_model.specs.Tests.{next_birth}
+use Rattle.lpc_model.specs.World.{Birth, ObjectKind, ThreadRow, World}
+use Rattle.std.proofs.Common.{Bool, List, [], arith, cond, false, not, refl, subst, true, ℕ, ◌++◌, ◌+◌, ◌∷◌, ◌≡◌, ◌≤◌}
+use Rattle.std.proofs.lemmas.Bool.{eqb-true}
 
 -- Steps
 -- a step makes no thread
@@ -52,23 +52,16 @@ once-step w b is once = once
 once-all : (w : World) (bs : List Basic) → every is_childless bs ≡ true → HasThreadsOnce w → HasThreadsOnce (world_after w bs)
 once-all = steps-keep is_childless HasThreadsOnce once-step
 
-undying-childless : (b : Basic) → is_undying b ≡ true → is_childless b ≡ true
-undying-childless (AddsThread t) is = absurd (cc)
-undying-childless b is = refl
-
 ending-childless : (b : Basic) → is_ending b ≡ true → is_childless b ≡ true
 ending-childless (AddsThread t) is = absurd (cc)
 ending-childless b is = refl
 
--- Calls
+-- Acts
 abbrev KeepOnce : World → List Basic → Type 0
-KeepOnce w bs = HasThreadsOnce (world_after w bs)
+KeepOnce = Keep HasThreadsOnce
 
-undying_holds : (w : World) (r : Result (List Basic) Status) → HasThreadsOnce w → Holds AreUndying r → Holds (KeepOnce w) r
-undying_holds w r once all = holds-more AreUndying (KeepOnce w) r (λ bs all. once-all w bs (every-more is_undying is_childless undying-childless bs all) once) all
-
-ending_holds : (w : World) (r : Result (List Basic) Status) → HasThreadsOnce w → Holds AreEnding r → Holds (KeepOnce w) r
-ending_holds w r once all = holds-more AreEnding (KeepOnce w) r (λ bs all. once-all w bs (every-more is_ending is_childless ending-childless bs all) once) all
+ended-once : (w : World) (bs : List Basic) → AreEnding bs → KeepOnce w bs
+ended-once w bs all = once-all w bs (every-more is_ending is_childless ending-childless bs all)
 
 -- a thread of a number that was never used
 pub new-once : (ts : List ThreadRow) (t : ThreadRow) → ((n : ℕ) → count (is_thread n) ts ≤ 1) → has (is_thread t.number) ts ≡ false → (n : ℕ) → count (is_thread n) (ts ++ t ∷ []) ≤ 1
@@ -91,44 +84,52 @@ unused-none w tid off s = has-off (is_thread tid) w.threads (every-more (λ t. w
     apart : (t : ThreadRow) → was_thread w t.number ≡ true → not (is_thread tid t) ≡ true
     apart t is = at t is (is_thread tid t) refl
 
--- NtCreateProcess and NtCreateThread
-create-process-once : (w : World) (by : ThreadRow) (pid tid : ℕ) → IsSoundWorld w → HasThreadsOnce w → Holds (KeepOnce w) (nt_create_process w by pid tid)
-create-process-once w by pid tid s once =
-    process-made (KeepOnce w) w by pid tid (λ new unused.
-    let v : World = basic (basic w (DrawsOrdinal by.number)) (DrawsOrdinal by.number) in
-    let drawn = once-all w (DrawsOrdinal by.number ∷ DrawsOrdinal by.number ∷ []) refl once in
-    new-once v.threads (new_thread tid pid (second_birth by)) drawn (unused-none v tid unused (sound-ordinal (basic w (DrawsOrdinal by.number)) by.number (sound-ordinal w by.number s))))
-
-create-thread-once : (w : World) (by : ThreadRow) (target : ProcArg) (tid : ℕ) → IsSoundWorld w → HasThreadsOnce w → Holds (KeepOnce w) (nt_create_thread w by target tid)
-create-thread-once w by target tid s once =
-    thread-made (KeepOnce w) w by target tid (λ pid live unused.
-    let v : World = basic w (DrawsOrdinal by.number) in
-    let drawn = once-all w (DrawsOrdinal by.number ∷ []) refl once in
-    new-once v.threads (new_thread tid pid (next_birth by)) drawn (unused-none v tid unused (sound-ordinal w by.number s)))
-
-service-once : (w : World) (by : ThreadRow) (call : ScriptCall) → IsSoundWorld w → HasThreadsOnce w → Holds (KeepOnce w) (service_of w by call)
-service-once w by (create_process pid tid) s once = create-process-once w by pid tid s once
-service-once w by (create_thread target tid) s once = create-thread-once w by target tid s once
-service-once w by (terminate_thread target code) s once = ending_holds w _ once (thread-ending w by target code)
-service-once w by (terminate_process target code) s once = ending_holds w _ once (process-ending w by target code)
-service-once w by (register_thread_terminate_port handle) s once = register_holds (KeepOnce w) w by handle (λ b new _. at b new)
-  where
-    at : (b : Birth) (new : Bool) → HasThreadsOnce (world_after w (when new (Registers by.number b ∷ [])))
-    at b true = once-step w (Registers by.number b) refl once
-    at b false = once
-service-once w by call s once = undying_holds w _ once (service-undying w by call refl)
+once-law : (by : ThreadRow) → Law by (Shut AnyWorld) AnyWorld KeepOnce
+once-law by = record {
+  keeps = λ w bs all _. tt;
+  nothing = λ w once. once;
+  follows = keeps_on HasThreadsOnce;
+  says = λ w e once. once;
+  numbers = λ w. once-all w (DrawsIdentifier by.number ∷ []) refl;
+  wakes = λ w status fields x once. once;
+  takes = λ w m. ended-once w (take_steps m) (ending-receipt m);
+  listens = λ w m. ended-once w (take_connect_steps m) (ending-receipt m);
+  waits = λ w x off is once. once;
+  sends = λ w m is. ended-once w (enter m w) (ending-enter m w);
+  asks = λ w x m off wait post. let v = basic w (Awaits x) in ended-once v (enter m v) (ending-enter m v);
+  creates = λ w is. once-all w (create_act w by (unnamed_steps (next_birth by))) refl;
+  founds = λ w name path free is. once-all w (create_act w by (named_steps (next_birth by) path)) refl;
+  connects = λ w connection bytes opens is once.
+      let v = world_after w (connect_start by connection (connection_request by bytes)) in
+      let row = row_of connection (client_port by connection) (connection_request by bytes) in
+      ended-once v (enter row v) (ending-enter row v) (once-all w (connect_start by connection (connection_request by bytes)) refl once);
+  gives = λ w pid o access is once. once;
+  accepts = λ w context m x at is. once-all w (accept_act w by context m x) refl;
+  completes = λ w c is. once-all w (complete_act w c) refl;
+  registers = λ w b stands. once-step w (Registers by.number b) refl;
+  spawns = λ w pid tid new unused s once.
+      let v : World = basic (basic w (DrawsOrdinal by.number)) (DrawsOrdinal by.number) in
+      let drawn = once-all w (DrawsOrdinal by.number ∷ DrawsOrdinal by.number ∷ []) refl once in
+      new-once v.threads (new_thread tid pid (second_birth by)) drawn (unused-none v tid unused (sound-ordinal (basic w (DrawsOrdinal by.number)) by.number (sound-ordinal w by.number s)));
+  starts = λ w tid pid live unused s once.
+      let v : World = basic w (DrawsOrdinal by.number) in
+      let drawn = once-all w (DrawsOrdinal by.number ∷ []) refl once in
+      new-once v.threads (new_thread tid pid (next_birth by)) drawn (unused-none v tid unused (sound-ordinal w by.number s));
+  closes = λ w pid r at s _. ended-once w (close_handle pid r w) (handle-ending pid r w);
+  dies = λ w code t is. ended-once w (die code t w) (die-ending code t w);
+  leaves = λ w n b. ended-once w (Unregisters n b ∷ []) refl;
+}
 
 -- Lines
-line-once : (w : World) (line : ScriptLine) → IsSoundWorld w → HasThreadsOnce w → KeepOnce w (bare_steps line w)
-line-once w line s once =
-    line_holds w (KeepOnce w) (λ _. once)
-    (record {
-      boots = λ pid tid _ unused. new-once w.threads (new_thread tid pid (directive_birth tid pid)) once (unused-none w tid unused s);
-      threads = λ tid pid _ unused. new-once w.threads (new_thread tid pid (directive_birth tid pid)) once (unused-none w tid unused s);
-      dirs = λ _. once;
-      links = λ _ _. once;
-    })
-    (λ _ by call _ _. service-once w by call s once) line
+once-lines : LineLaw (Shut AnyWorld) (λ _. KeepOnce)
+once-lines = record {
+  tells = λ line w e _ once. once;
+  calls = λ by. outcomes by (Shut AnyWorld) AnyWorld KeepOnce (once-law by) (λ w c. c);
+  boots = λ w pid tid _ unused s _ once. new-once w.threads (new_thread tid pid (directive_birth tid pid)) once (unused-none w tid unused s);
+  threads = λ w tid pid _ unused s _ once. new-once w.threads (new_thread tid pid (directive_birth tid pid)) once (unused-none w tid unused s);
+  dirs = λ w text path free _ once. once;
+  links = λ w text target path to free _ once. once;
+}
 
-pub once_step : (w : World) (line : ScriptLine) → IsSoundWorld w → HasThreadsOnce w → HasThreadsOnce (step w line).world
-once_step w line s once = stepped HasThreadsOnce w line (λ v. once-all v (sweep v) (sweep_every is_childless (λ _. refl) v)) (line-once w line s once)
+pub once_step : (w : World) (line : ScriptLine) → IsSoundWorld w → HasShutConnects w → HasThreadsOnce w → HasThreadsOnce (step w line).world
+once_step w line s shut = step-keeps (Shut AnyWorld) HasThreadsOnce once-lines (λ v. once-all v (sweep v) (sweep_every is_childless (λ _. refl) v)) w line s (shut, tt)

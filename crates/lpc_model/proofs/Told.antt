@@ -2,25 +2,24 @@
 use Rattle.std.proofs.Common.{◌≡◌, ◌∙◌, ℕ, List, [], ◌∷◌, ◌++◌, Bool, true, false, cond, not, Option, Some, None, refl, sym, ap, arith, append-nil, append_assoc}
 use Rattle.std.proofs.lemmas.Bool.{and_from}
 use Rattle.std.specs.Prelude.{◌&&◌, option_and_then, option_map}
-use Rattle.lpc_base.specs.Rows.{change, each, every, first, given, when, which}
-use Rattle.lpc_base.proofs.RowWords.{every-append, every-more, first-passes}
+use Rattle.lpc_base.specs.Rows.{change, each, every, given, when, which}
+use Rattle.lpc_base.proofs.RowWords.{every-more, first-passes}
 use Rattle.lpc_base.proofs.Bools.{first-true, second-true}
-use Rattle.lpc_base.specs.declared.status.TheConstants.{PORT_DISCONNECTED, SUCCESS}
-use Rattle.lpc_model.specs.Message.{asks}
-use Rattle.lpc_model.specs.World.{Birth, Creator, HandleRow, MessageRow, PortRow, WaitRow, World}
+use Rattle.lpc_base.specs.declared.status.TheConstants.{PORT_DISCONNECTED}
+use Rattle.lpc_model.specs.World.{Birth, Creator, HandleRow, MessageRow, PortRow, World}
 use Rattle.lpc_model.specs.Found.{handle_at, if_open, is_client_port, is_connect, is_port, port_row}
-use Rattle.lpc_model.specs.Basics.{AddsHandle, Awaits, Basic, Cuts, DropsHandle, Empties, Enters, Receives, Unbinds, Wakes, Withdraws, basic, cut, is_end_of, posted, posts_of, world_after}
-use Rattle.lpc_model.specs.Entering.{enter, given_steps, received_steps, shown, takes, woken}
+use Rattle.lpc_model.specs.Basics.{AddsHandle, Awaits, Basic, Cuts, DropsHandle, Empties, Enters, Receives, Takes, TakesConnect, Unbinds, Wakes, Withdraws, basic, cut, is_end_of, posted, posts_of, world_after}
+use Rattle.lpc_model.specs.Entering.{enter, received_steps}
 use Rattle.lpc_model.specs.Sweep.{sweep}
 use Rattle.lpc_model.specs.Closings.{closes, is_closed_post, closing_posts, closings_posted}
 use Rattle.lpc_model.specs.Close.{close_handle, close_port, closed_row, cut_pair, drop_name, empty_queue, end_receives, end_request, end_requests, is_last, is_receiver, is_request_on, post_closed, server_of, closing_post, wake}
 use Rattle.lpc_model.specs.SoundWaits.{IsSoundWorld}
-use Rattle.lpc_model.proofs.SoundWorlds.{by_kind}
 use Rattle.lpc_model.proofs.SoundCuts.{cut-row, no-row}
 use Rattle.lpc_model.proofs.Closing.{close-pass, ends-pass, pair-pass, queue-pass, stage_five, stage_four, stage_one, stage_three, stage_two, takes_away}
 use Rattle.lpc_model.proofs.SoundClosing.{close-shut, five-shut}
 use Rattle.lpc_model.proofs.SoundClose.{shut-found}
 use Rattle.lpc_model.proofs.EachLine.{sweep_every}
+use Rattle.lpc_model.proofs.Taking.{is_taking, taken_at_once, taking-entered, taking-receipt}
 
 -- Calm steps
 -- no handle goes by a step; it tells of no closed port
@@ -101,34 +100,21 @@ pub sweep-dropless : (w : World) → every is_dropless (sweep w) ≡ true
 sweep-dropless = sweep_every is_dropless (λ _. refl)
 
 -- Messages that enter
+taking-hushed : (b : Basic) → is_taking b ≡ true → is_hushed b ≡ true
+taking-hushed (Takes queue) is = refl
+taking-hushed (TakesConnect queue) is = refl
+taking-hushed (Receives who queue) is = refl
+taking-hushed (Wakes who call status fields) is = refl
+taking-hushed b is = absurd (cc)
+
 pub hushed-receipt : (m : MessageRow) → AreHushed (received_steps m)
-hushed-receipt m = at (asks m.message)
-  where
-    at : (a : Bool) → every is_hushed (when a (Receives m.message.header.client.thread m.queue ∷ [])) ≡ true
-    at true = refl
-    at false = refl
+hushed-receipt m = every-more is_taking is_hushed taking-hushed (received_steps m) (taking-receipt m)
 
-hushed-given : (m : MessageRow) (x : WaitRow) → AreHushed (given_steps x m ++ woken SUCCESS (shown x m) x ∷ [])
-hushed-given m x =
-    by_kind (λ x. every is_hushed (given_steps x m ++ woken SUCCESS (shown x m) x ∷ []) ≡ true)
-    (λ x r. every-append is_hushed (received_steps m) _ (hushed-receipt m) refl)
-    (λ x. every-append is_hushed (received_steps m) _ (hushed-receipt m) refl)
-    (λ x. every-append is_hushed (received_steps m) _ (hushed-receipt m) refl)
-    (λ x r. every-append is_hushed (received_steps m) _ (hushed-receipt m) refl)
-    (λ x r reply. every-append is_hushed (received_steps m) _ (hushed-receipt m) refl) x
-
-hushed-taken : (m : MessageRow) (o : Option WaitRow) → AreHushed (given o (λ x. given_steps x m ++ woken SUCCESS (shown x m) x ∷ []))
-hushed-taken m None = refl
-hushed-taken m (Some x) = hushed-given m x
-
-abbrev taken_steps : MessageRow → Option WaitRow → List Basic
-taken_steps m o = given o (λ x. given_steps x m ++ woken SUCCESS (shown x m) x ∷ [])
-
-calm-taken : (m : MessageRow) (o : Option WaitRow) → AreCalm (taken_steps m o)
-calm-taken m o = calm-all (taken_steps m o) (hushed-taken m o)
+hushed-taken : (m : MessageRow) (w : World) → AreHushed (taken_at_once m w)
+hushed-taken m w = every-more is_taking is_hushed taking-hushed (taken_at_once m w) (taking-entered m w)
 
 pub hushed-enter : (m : MessageRow) (w : World) → not (is_closed_post m) ≡ true → AreHushed (enter m w)
-hushed-enter m w off = and_from _ _ off (hushed-taken m (first (takes m) w.waits))
+hushed-enter m w off = and_from _ _ off (hushed-taken m w)
 
 -- A port that is closed
 -- behind calm steps
@@ -156,7 +142,7 @@ posted-row : (w : World) (p : PortRow) (queue : Birth) (o : Option Creator) → 
 posted-row w p queue None = refl
 posted-row w p queue (Some by) =
     let m = closed_row p queue by in
-    let none = calm-posts (taken_steps m (first (takes m) w.waits)) (calm-taken m (first (takes m) w.waits)) in rw none refl
+    let none = calm-posts (taken_at_once m w) (calm-all (taken_at_once m w) (hushed-taken m w)) in rw none refl
 
 posted-given : (w : World) (p : PortRow) (o : Option Birth) → which is_closed_post (posts_of (given (option_and_then (λ queue. option_map (closed_row p queue) p.creator) o) (λ m. enter m w)))
     ≡ given (option_and_then (λ queue. option_map (closed_row p queue) p.creator) o) (λ m. m ∷ [])
@@ -215,7 +201,7 @@ posted-dropless b w = at (port_row w b)
   where
     by_creator : (p : PortRow) (queue : Birth) (o : Option Creator) → every is_dropless (given (option_map (closed_row p queue) o) (λ m. enter m w)) ≡ true
     by_creator p queue None = refl
-    by_creator p queue (Some by) = let m = closed_row p queue by in calm-dropless (taken_steps m (first (takes m) w.waits)) (calm-taken m (first (takes m) w.waits))
+    by_creator p queue (Some by) = let m = closed_row p queue by in calm-dropless (taken_at_once m w) (calm-all (taken_at_once m w) (hushed-taken m w))
 
     queued : (p : PortRow) (o : Option Birth) → every is_dropless (given (option_and_then (λ queue. option_map (closed_row p queue) p.creator) o) (λ m. enter m w)) ≡ true
     queued p None = refl

@@ -1,32 +1,31 @@
--- The calls by which no thread is made or ends: none of their steps tells of an end.
-use Rattle.std.proofs.Common.{Bool, List, None, Option, Some, [], false, not, refl, true, ℕ, ◌++◌, ◌∷◌, ◌≡◌}
-use Rattle.std.proofs.lemmas.Bool.{and_from}
-use Rattle.std.specs.Prelude.{option_and_then, option_map}
-use Rattle.lpc_base.specs.Rows.{every, first, given, when}
+-- Calls of which no process or thread is made or ends by any step, whatever the world.
+use Rattle.std.proofs.Common.{Bool, List, None, Option, Some, [], false, not, refl, true, ℕ, ◌∷◌, ◌≡◌}
+use Rattle.lpc_base.specs.Rows.{every, first, when}
+use Rattle.lpc_base.proofs.RowMaps.{every-both}
 use Rattle.lpc_base.proofs.RowWords.{every-append}
 use Rattle.lpc_base.specs.declared.status.TheConstants.{INVALID_PORT_HANDLE, SUCCESS}
 use Rattle.lpc_message.specs.declared.kind.TheConstants.{DATAGRAM, REQUEST}
-use Rattle.lpc_model.specs.World.{Birth, Creator, HandleRow, Message, MessageRow, PortRow, ThreadRow, WaitRow, World}
-use Rattle.lpc_model.specs.Found.{is_connection_port, is_queued, is_queued_connect, port_row}
-use Rattle.lpc_model.specs.Basics.{AddsHandle, AddsProcess, AddsThread, Basic, Dies, DropsHandle, Empties, Enters, Receives, Registers, Tells, Unbinds, Unregisters, Wakes, Withdraws, world_after}
-use Rattle.lpc_model.specs.Message.{asks, message_test}
-use Rattle.lpc_model.specs.Entering.{enter, given_steps, received_steps, row_of, shown, takes, woken}
+use Rattle.lpc_model.specs.World.{Birth, HandleRow, Message, MessageRow, PortRow, ThreadRow, World}
+use Rattle.lpc_model.specs.Found.{is_connection_port, is_queued, is_queued_connect}
+use Rattle.lpc_model.specs.Basics.{AddsHandle, AddsProcess, AddsThread, Basic, Dies, Enters, Registers, Tells, Unregisters, world_after}
+use Rattle.lpc_model.specs.Message.{message_test}
+use Rattle.lpc_model.specs.Entering.{enter, received_steps, row_of}
 use Rattle.lpc_model.specs.Named.{free_name, named_port}
 use Rattle.lpc_model.specs.Refusal.{refuse_if}
 use Rattle.lpc_model.specs.Tests.{PORT_ACCESS, handle_row, handles_test, next_birth, own_handle, port_test}
 use Rattle.lpc_model.specs.Connect.{ConnectAnswer, answer_test, answered_steps, client_port, complete_test, connect_start, connection_request, info_test, listen_steps, making, nt_accept_connect_port, nt_complete_connect_port, nt_connect_port, nt_create_port, nt_listen_port}
 use Rattle.lpc_model.specs.Request.{reply_test, datagram_send_test, datagram_start, given_reply, nt_reply_port, nt_reply_wait_receive_port, nt_request_port, nt_request_wait_reply_port, optional_message, receive_steps, receive_test, request_start, send_test, sent_by}
-use Rattle.lpc_model.specs.Close.{close_handle, close_port, closed_row, is_last, nt_close, post_closed, server_of, closing_post}
+use Rattle.lpc_model.specs.Close.{close_handle, nt_close}
 use Rattle.lpc_model.specs.Counts.{asked, nt_duplicate_object, nt_query_object, rights_test}
+use Rattle.lpc_model.specs.Deaths.{is_died_post}
 use Rattle.lpc_model.specs.Lines.{ScriptCall, accept_connect_port, close, complete_connect_port, connect_port, create_port, create_process, create_thread, duplicate_object, listen_port, query_object, register_thread_terminate_port, reply_port, reply_wait_receive_port, request_port, request_wait_reply_port, terminate_process, terminate_thread}
 use Rattle.lpc_model.specs.Machine.{service_of}
-use Rattle.lpc_model.proofs.Holding.{Holds, bind_holds, holds_ok}
 use Rattle.lpc_model.specs.Register.{is_registered, nt_register_thread_terminate_port, registration_test}
 use Rattle.lpc_model.specs.declared.entry.CallName.TheVariants.{NtRegisterThreadTerminatePort}
 use Rattle.lpc_model.specs.declared.entry.Entry.TheVariants.{Answer}
-use Rattle.lpc_model.proofs.Closing.{close-pass, stage_five, takes_away}
-use Rattle.lpc_model.specs.Deaths.{is_died_post}
-use Rattle.lpc_model.proofs.SoundWorlds.{by_kind}
+use Rattle.lpc_model.proofs.Deathless.{deathless-enter, deathless-receipt, handle-deathless, is_deathless}
+use Rattle.lpc_model.proofs.Ending.{ending-enter, ending-receipt, handle-ending, is_ending}
+use Rattle.lpc_model.proofs.Holding.{Holds, bind_holds, holds_ok}
 
 -- Steps
 -- no process or thread is made or ends by a step, and no registration goes; it tells of no end
@@ -42,59 +41,21 @@ is_undying b = true
 abbrev pub AreUndying : List Basic → Type 0
 AreUndying bs = every is_undying bs ≡ true
 
--- a message enters
+-- what ends something, but no thread and no registration
+ending-undying : (b : Basic) → is_ending b ≡ true → is_deathless b ≡ true → is_undying b ≡ true
+ending-undying (Registers who b) ends is = absurd (cc)
+ending-undying (AddsProcess p) ends is = absurd (cc)
+ending-undying (AddsThread t) ends is = absurd (cc)
+ending-undying b ends is = is
+
 undying-receipt : (m : MessageRow) → AreUndying (received_steps m)
-undying-receipt m = at (asks m.message)
-  where
-    at : (a : Bool) → every is_undying (when a (Receives m.message.header.client.thread m.queue ∷ [])) ≡ true
-    at true = refl
-    at false = refl
-
-undying-given : (m : MessageRow) (x : WaitRow) → AreUndying (given_steps x m ++ woken SUCCESS (shown x m) x ∷ [])
-undying-given m x =
-    by_kind (λ x. every is_undying (given_steps x m ++ woken SUCCESS (shown x m) x ∷ []) ≡ true)
-    (λ x r. every-append is_undying (received_steps m) _ (undying-receipt m) refl)
-    (λ x. every-append is_undying (received_steps m) _ (undying-receipt m) refl)
-    (λ x. every-append is_undying (received_steps m) _ (undying-receipt m) refl)
-    (λ x r. every-append is_undying (received_steps m) _ (undying-receipt m) refl)
-    (λ x r reply. every-append is_undying (received_steps m) _ (undying-receipt m) refl) x
-
-pub undying-taken : (m : MessageRow) (o : Option WaitRow) → AreUndying (given o (λ x. given_steps x m ++ woken SUCCESS (shown x m) x ∷ []))
-undying-taken m None = refl
-undying-taken m (Some x) = undying-given m x
+undying-receipt m = every-both is_ending is_deathless is_undying ending-undying (received_steps m) (ending-receipt m) (deathless-receipt m)
 
 undying-enter : (m : MessageRow) (w : World) → not (is_died_post m) ≡ true → AreUndying (enter m w)
-undying-enter m w off = and_from _ _ off (undying-taken m (first (takes m) w.waits))
+undying-enter m w off = every-both is_ending is_deathless is_undying ending-undying (enter m w) (ending-enter m w) (deathless-enter m w off)
 
--- a port that is closed
-away-undying : (x : Basic) → takes_away x ≡ true → is_undying x ≡ true
-away-undying (Wakes who call status fields) is = refl
-away-undying (Withdraws who) is = refl
-away-undying (Empties q) is = refl
-away-undying (Unbinds b) is = refl
-away-undying x is = absurd (cc)
-
-posted-undying : (b : Birth) (w : World) → AreUndying (post_closed b w)
-posted-undying b w = at (port_row w b)
-  where
-    by_creator : (p : PortRow) (queue : Birth) (o : Option Creator) → AreUndying (given (option_map (closed_row p queue) o) (λ m. enter m w))
-    by_creator p queue None = refl
-    by_creator p queue (Some by) = undying-enter (closed_row p queue by) w refl
-
-    queued : (p : PortRow) (o : Option Birth) → AreUndying (given (option_and_then (λ queue. option_map (closed_row p queue) p.creator) o) (λ m. enter m w))
-    queued p None = refl
-    queued p (Some queue) = by_creator p queue p.creator
-
-    at : (o : Option PortRow) → AreUndying (given o (λ p. given (closing_post w p) (λ m. enter m w)))
-    at None = refl
-    at (Some p) = queued p (server_of w p)
-
-pub handle-undying : (pid : ℕ) (r : HandleRow) (w : World) → AreUndying (close_handle pid r w)
-handle-undying pid r w = at (is_last r w)
-  where
-    at : (last : Bool) → AreUndying (when last (close_port r.object.birth w) ++ DropsHandle pid r.value ∷ [])
-    at true = every-append is_undying (close_port r.object.birth w) (DropsHandle pid r.value ∷ []) (close-pass is_undying away-undying r.object.birth w refl (posted-undying r.object.birth (stage_five w r.object.birth))) refl
-    at false = refl
+handle-undying : (pid : ℕ) (r : HandleRow) (w : World) → AreUndying (close_handle pid r w)
+handle-undying pid r w = every-both is_ending is_deathless is_undying ending-undying (close_handle pid r w) (handle-ending pid r w) (handle-deathless pid r w)
 
 close-undying : (w : World) (by : ThreadRow) (value : ℕ) → Holds AreUndying (nt_close w by value)
 unfolding nt_close
