@@ -7,9 +7,9 @@ use Rattle.lpc_model.specs.Close.{closing_post}
 use Rattle.lpc_model.specs.Found.{handle_count, has_handle_to, is_client_port, is_open, is_port, names_port, port_name, port_row}
 use Rattle.lpc_model.specs.SingleClosings.{HasSingleClosings, is_closing_of}
 use Rattle.lpc_model.specs.World.{Birth, HandleRow, HandleTable, MessageRow, PortRow, World}
-use Rattle.lpc_model.proofs.Closing.{cut-is, fewer-uncut, stage_five, uncut}
+use Rattle.lpc_model.proofs.Steps.Closing.{cut-is, fewer-uncut, stage_five, uncut}
 use Rattle.lpc_closing.specs.Closing.{is_told}
-use Rattle.lpc_model.proofs.SingleClosings.{open-untold}
+use Rattle.lpc_model.proofs.Closings.Single.{open-untold}
 
 -- A port that handles name is open
 abbrev names_it : Birth → HandleRow → Bool

@@ -9,9 +9,9 @@ use Rattle.lpc_model.specs.Found.{port_row}
 use Rattle.lpc_model.specs.Basics.{AddsHandle, AddsProcess, Basic, DropsHandle, Empties, Frees, Unbinds, Wakes, Withdraws, basic, freed, world_after}
 use Rattle.lpc_model.specs.Close.{close_port, post_closed, closing_post}
 use Rattle.lpc_model.specs.Entering.{enter}
-use Rattle.lpc_model.proofs.Closing.{close-pass, stage_five, takes_away}
-use Rattle.lpc_model.proofs.LinkedSteps.{is_steady}
-use Rattle.lpc_model.proofs.SteadySteps.{steady-enter}
+use Rattle.lpc_model.proofs.Steps.Closing.{close-pass, stage_five, takes_away}
+use Rattle.lpc_model.proofs.Linked.Steps.{is_steady}
+use Rattle.lpc_model.proofs.Steps.Steady.{steady-enter}
 
 -- a step that gives and takes no handle
 abbrev pub keeps_handles : Basic → Bool

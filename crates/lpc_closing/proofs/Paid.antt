@@ -13,12 +13,12 @@ use Rattle.lpc_model.specs.Found.{handle_at, handle_count, handles_in, has_value
 use Rattle.lpc_model.specs.Basics.{Basic, Completes, Cuts, DropsHandle, Frees, Joins, Makes, basic, completed, cut, is_end_of, without_handle, world_after}
 use Rattle.lpc_model.specs.Close.{close_port, closing_post}
 use Rattle.lpc_model.specs.Tests.{handle_row}
-use Rattle.lpc_model.proofs.Closing.{cut-is, fewer-uncut, stage_five, uncut}
-use Rattle.lpc_model.proofs.Handles.{open-count}
-use Rattle.lpc_model.proofs.LinkedClose.{port-steady}
-use Rattle.lpc_model.proofs.LinkedSteps.{is_steady}
-use Rattle.lpc_model.proofs.Rows.{count-change}
-use Rattle.lpc_model.proofs.SingleClosings.{dropped-shut}
+use Rattle.lpc_model.proofs.Steps.Closing.{cut-is, fewer-uncut, stage_five, uncut}
+use Rattle.lpc_model.proofs.Steps.Handles.{open-count}
+use Rattle.lpc_model.proofs.Linked.Close.{port-steady}
+use Rattle.lpc_model.proofs.Linked.Steps.{is_steady}
+use Rattle.lpc_model.proofs.Steps.Rows.{count-change}
+use Rattle.lpc_model.proofs.Closings.Single.{dropped-shut}
 use Rattle.lpc_rows.specs.Kept.{is_open_client, open_clients, owed_rows}
 use Rattle.lpc_rows.specs.OwedClosings.{is_client_of}
 use Rattle.lpc_rows.proofs.OwnMessages.{count-taken_by}

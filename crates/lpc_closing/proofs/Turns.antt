@@ -14,12 +14,12 @@ use Rattle.lpc_model.specs.Found.{handle_at, handles_of, has_value, is_table}
 use Rattle.lpc_model.specs.Basics.{DropsHandle, in_turn, without_handle, world_after}
 use Rattle.lpc_model.specs.Close.{close_handle, close_port, is_last}
 use Rattle.lpc_model.specs.SoundWaits.{IsSoundWorld}
-use Rattle.lpc_model.proofs.Ending.{rows-left}
-use Rattle.lpc_model.proofs.LinkedClose.{handle-plain}
-use Rattle.lpc_model.proofs.LinkedSteps.{plain-all}
-use Rattle.lpc_model.proofs.SoundClose.{close_handle-sound}
-use Rattle.lpc_model.proofs.SingleClosingsClose.{handle-untold}
-use Rattle.lpc_model.proofs.StepsInTurn.{after-append}
+use Rattle.lpc_model.proofs.Steps.Ending.{rows-left}
+use Rattle.lpc_model.proofs.Linked.Close.{handle-plain}
+use Rattle.lpc_model.proofs.Linked.Steps.{plain-all}
+use Rattle.lpc_model.proofs.Sound.Close.{close_handle-sound}
+use Rattle.lpc_model.proofs.Closings.SingleClose.{handle-untold}
+use Rattle.lpc_model.proofs.Steps.InTurn.{after-append}
 use Rattle.lpc_rows.specs.Does.{Left, left_by}
 use Rattle.lpc_rows.specs.Shown.{shown_handle}
 use Rattle.lpc_steps.proofs.Composed.{left-then, left_further}

@@ -11,15 +11,15 @@ use Rattle.lpc_model.specs.Deaths.{HasSingleRegistrations, registers_once}
 use Rattle.lpc_model.specs.Entering.{enter}
 use Rattle.lpc_model.specs.Found.{is_table, is_thread}
 use Rattle.lpc_model.specs.World.{Birth, MessageRow, ThreadRow, World}
-use Rattle.lpc_model.proofs.Closing.{behind}
-use Rattle.lpc_model.proofs.DeathLines.{die-threads}
-use Rattle.lpc_model.proofs.Ending.{behind_dead, die-ending, die-pass, ending-enter, is_ending, told-facts, turn-keeps, turn-pass}
-use Rattle.lpc_model.proofs.LinkedLines.{ending-plain}
-use Rattle.lpc_model.proofs.LinkedSteps.{is_plain, plain-all}
-use Rattle.lpc_model.proofs.SoundTerminate.{die-safe, enter-safe, unregister-safe}
-use Rattle.lpc_model.proofs.Told.{hushed-enter}
-use Rattle.lpc_model.proofs.ToldLines.{die-hushed}
-use Rattle.lpc_model.proofs.SingleClosings.{hushed-all}
+use Rattle.lpc_model.proofs.Steps.Closing.{behind}
+use Rattle.lpc_model.proofs.Deaths.Lines.{die-threads}
+use Rattle.lpc_model.proofs.Steps.Ending.{behind_dead, die-ending, die-pass, ending-enter, is_ending, told-facts, turn-keeps, turn-pass}
+use Rattle.lpc_model.proofs.Linked.Lines.{ending-plain}
+use Rattle.lpc_model.proofs.Linked.Steps.{is_plain, plain-all}
+use Rattle.lpc_model.proofs.Sound.Terminate.{die-safe, enter-safe, unregister-safe}
+use Rattle.lpc_model.proofs.Closings.Told.{hushed-enter}
+use Rattle.lpc_model.proofs.Closings.ToldLines.{die-hushed}
+use Rattle.lpc_model.proofs.Closings.Single.{hushed-all}
 use Rattle.lpc_rows.specs.Registered.{Death}
 use Rattle.lpc_closing.specs.Closing.{CanCloseAll}
 use Rattle.lpc_death.specs.Dying.{telling_one, told_row}

@@ -17,12 +17,12 @@ use Rattle.lpc_model.specs.Found.{is_accepted, is_live_thread, is_thread, lives_
 use Rattle.lpc_model.specs.Linked.{is_mutual}
 use Rattle.lpc_model.specs.Listed.{Listed}
 use Rattle.lpc_model.specs.World.{Birth, ThreadRow, WaitRow, World}
-use Rattle.lpc_model.proofs.Closing.{behind, takes_away}
-use Rattle.lpc_model.proofs.DeathLines.{die-threads}
-use Rattle.lpc_model.proofs.Ending.{die-pass}
-use Rattle.lpc_model.proofs.LinkedSteps.{cut-mutual}
-use Rattle.lpc_model.proofs.Rows.{count-change, every-left, has-found, has-off}
-use Rattle.lpc_model.proofs.StepsInTurn.{steps-keep}
+use Rattle.lpc_model.proofs.Steps.Closing.{behind, takes_away}
+use Rattle.lpc_model.proofs.Deaths.Lines.{die-threads}
+use Rattle.lpc_model.proofs.Steps.Ending.{die-pass}
+use Rattle.lpc_model.proofs.Linked.Steps.{cut-mutual}
+use Rattle.lpc_model.proofs.Steps.Rows.{count-change, every-left, has-found, has-off}
+use Rattle.lpc_model.proofs.Steps.InTurn.{steps-keep}
 use Rattle.lpc_rows.specs.Closing.{HasMutualPairs}
 use Rattle.lpc_rows.specs.Does.{Left, Took, left_by}
 use Rattle.lpc_rows.specs.Kept.{Kept, is_alive}

@@ -8,7 +8,7 @@ use Rattle.lpc_model.specs.Entering.{enter}
 use Rattle.lpc_model.specs.Found.{handles_of}
 use Rattle.lpc_model.specs.Listed.{Listed}
 use Rattle.lpc_model.specs.World.{MessageRow, World}
-use Rattle.lpc_model.proofs.Ending.{AreEnding, ending-enter, handle-ending, is_ending, turn-pass}
+use Rattle.lpc_model.proofs.Steps.Ending.{AreEnding, ending-enter, handle-ending, is_ending, turn-pass}
 use Rattle.lpc_rows.specs.Does.{Left, Took}
 use Rattle.lpc_rows.specs.Kept.{Kept, is_alive}
 use Rattle.lpc_rows.specs.Registered.{Death, untold_of}

@@ -10,8 +10,8 @@ use Rattle.lpc_model.specs.Found.{free_handle, handles_of, is_table, is_thread, 
 use Rattle.lpc_model.specs.Targets.{LIFE_ACCESS}
 use Rattle.lpc_model.specs.Tests.{handle_load, handle_row, is_connect_of, next_birth}
 use Rattle.lpc_model.specs.World.{Birth, HandleRow, HandleTable, ObjectName, ThreadRow, World}
-use Rattle.lpc_model.proofs.Rows.{first-change}
-use Rattle.lpc_model.proofs.Creating.{rows-behind}
+use Rattle.lpc_model.proofs.Steps.Rows.{first-change}
+use Rattle.lpc_model.proofs.Calls.Creating.{rows-behind}
 use Rattle.lpc_rows.specs.Clauses.{birth_next, thread_row}
 use Rattle.lpc_rows.specs.Lawful.{can_begin, drew}
 use Rattle.std.specs.Prelude.{Ok}

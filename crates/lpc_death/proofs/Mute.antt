@@ -13,9 +13,9 @@ use Rattle.lpc_model.specs.Death.{die, end_process, end_threads, post_death, pos
 use Rattle.lpc_model.specs.Entering.{enter, given_steps, received_steps, shown, takes, woken}
 use Rattle.lpc_model.specs.Found.{handles_of, is_live, port_row}
 use Rattle.lpc_model.specs.Message.{asks}
-use Rattle.lpc_model.proofs.Closing.{close-pass, stage_five, takes_away}
-use Rattle.lpc_model.proofs.Ending.{behind_dead, behind_told, die-pass, turn-pass}
-use Rattle.lpc_model.proofs.SoundWorlds.{by_kind}
+use Rattle.lpc_model.proofs.Steps.Closing.{close-pass, stage_five, takes_away}
+use Rattle.lpc_model.proofs.Steps.Ending.{behind_dead, behind_told, die-pass, turn-pass}
+use Rattle.lpc_model.proofs.Sound.Worlds.{by_kind}
 
 -- a step that is no entry of the caller's own
 abbrev is_mute : Basic → Bool

@@ -24,9 +24,9 @@ use Rattle.lpc_model.specs.declared.entry.CallName.TheVariants.{NtTerminateProce
 use Rattle.lpc_model.specs.declared.entry.Entry.TheVariants.{Answer}
 use Rattle.lpc_model.specs.declared.entry.Outcome.{Outcome}
 use Rattle.lpc_model.specs.declared.line.ProcArg.TheVariants.{Current}
-use Rattle.lpc_model.proofs.Closing.{behind}
-use Rattle.lpc_model.proofs.Ending.{behind_dead}
-use Rattle.lpc_model.proofs.Usable.{live-number}
+use Rattle.lpc_model.proofs.Steps.Closing.{behind}
+use Rattle.lpc_model.proofs.Steps.Ending.{behind_dead}
+use Rattle.lpc_model.proofs.Calls.Usable.{live-number}
 use Rattle.lpc_rows.specs.Called.{Served, called}
 use Rattle.lpc_rows.specs.Does.{Took}
 use Rattle.lpc_rows.specs.Kept.{Kept}

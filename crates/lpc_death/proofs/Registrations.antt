@@ -17,9 +17,9 @@ use Rattle.lpc_model.specs.Message.{asks}
 use Rattle.lpc_model.specs.declared.message.Message.{Message}
 use Rattle.lpc_slots.specs.declared.Key.{Key}
 use Rattle.lpc_model.specs.World.{Accepted, Birth, Connect, Listen, MessageRow, PortRow, Receive, Request, ThreadRow, WaitRow, World}
-use Rattle.lpc_model.proofs.SingleRegistrations.{different-less}
-use Rattle.lpc_model.proofs.SoundWorlds.{by_kind}
-use Rattle.lpc_model.proofs.Usable.{port-birth}
+use Rattle.lpc_model.proofs.Lives.SingleRegistrations.{different-less}
+use Rattle.lpc_model.proofs.Sound.Worlds.{by_kind}
+use Rattle.lpc_model.proofs.Calls.Usable.{port-birth}
 use Rattle.lpc_rows.specs.Clauses.{birth_at, port_at, row_at}
 use Rattle.lpc_steps.specs.Clauses.{route_at}
 use Rattle.lpc_rows.specs.Does.{Left, Took, left_by}

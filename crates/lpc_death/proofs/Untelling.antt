@@ -13,12 +13,12 @@ use Rattle.lpc_model.specs.Death.{die, dying, end_process, end_threads, post_dea
 use Rattle.lpc_model.specs.Deaths.{HasLivingRegistrations, has_living_registrations}
 use Rattle.lpc_model.specs.Found.{is_live, is_live_thread, is_thread, live_thread, live_threads, lives_in}
 use Rattle.lpc_model.specs.World.{Birth, ThreadRow, World}
-use Rattle.lpc_model.proofs.Closing.{behind}
-use Rattle.lpc_model.proofs.DeathLines.{die-threads}
-use Rattle.lpc_model.proofs.Ending.{behind_dead}
+use Rattle.lpc_model.proofs.Steps.Closing.{behind}
+use Rattle.lpc_model.proofs.Deaths.Lines.{die-threads}
+use Rattle.lpc_model.proofs.Steps.Ending.{behind_dead}
 use Rattle.lpc_rows.specs.Registered.{death_by, deaths_of, has_ended_in}
 use Rattle.lpc_death.specs.Dying.{dying_all, telling_all, telling_one}
-use Rattle.lpc_model.proofs.StepsInTurn.{after-append}
+use Rattle.lpc_model.proofs.Steps.InTurn.{after-append}
 use Rattle.lpc_death.specs.Ends.{telling_ends}
 use Rattle.lpc_model.specs.Lawful.{HasThreadsOnce}
 

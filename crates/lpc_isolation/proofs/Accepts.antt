@@ -21,7 +21,7 @@ use Rattle.lpc_model.specs.Connect.{ConnectAnswer, accept_steps, answer_test, na
 use Rattle.lpc_model.specs.SoundWaits.{is_connect_on, is_past, lacks_connects, can_stay_as, can_stay_sound}
 use Rattle.lpc_model.specs.Entering.{woken}
 use Rattle.lpc_model.specs.Tests.{PORT_ACCESS, client_test, handle_row, handles_test, next_birth}
-use Rattle.lpc_model.proofs.Holding.{Holds, bind_holds, found_ok, holds_ok}
+use Rattle.lpc_model.proofs.Calls.Holding.{Holds, bind_holds, found_ok, holds_ok}
 use Rattle.lpc_model.specs.Circle.{Group, Whose, names_no_outsider}
 use Rattle.lpc_isolation.proofs.Filters.{first-kept, first-where, shown, shown-push}
 use Rattle.lpc_isolation.proofs.View.{our_port, our_wait, seen_port, view}

@@ -20,7 +20,7 @@ use Rattle.lpc_model.specs.Found.{handle_at, handles_of, has_value, is_born_proc
 use Rattle.lpc_model.specs.Targets.{LIFE_RIGHT, process_target, thread_target}
 use Rattle.lpc_model.specs.Tests.{includes, object_test, own_handle}
 use Rattle.lpc_model.specs.Circle.{Group}
-use Rattle.lpc_model.proofs.Holding.{Holds, bind_holds, found_holds, found_ok, holds_ok, not_refused}
+use Rattle.lpc_model.proofs.Calls.Holding.{Holds, bind_holds, found_holds, found_ok, holds_ok, not_refused}
 use Rattle.lpc_isolation.proofs.View.{of_birth, our_process, our_thread, view}
 use Rattle.lpc_isolation.proofs.Fair.{Fair, is_fair_life, is_fair_process, together}
 use Rattle.lpc_isolation.proofs.Filters.{first-inside, first-where}

@@ -18,7 +18,7 @@ use Rattle.lpc_isolation.proofs.Requests.{request-apart}
 use Rattle.lpc_isolation.proofs.Seen.{handle-own}
 use Rattle.lpc_isolation.proofs.Sends.{Caller, IsSendable, Named, datagram-apart, named-port, sendable, tested-sendable}
 use Rattle.lpc_isolation.proofs.Tame.{object-own, registers-own}
-use Rattle.lpc_model.proofs.Holding.{holds_ok}
+use Rattle.lpc_model.proofs.Calls.Holding.{holds_ok}
 use Rattle.lpc_model.specs.Basics.{Basic, basic, world_after}
 use Rattle.lpc_model.specs.Circle.{Group, Whose, owner}
 use Rattle.lpc_model.specs.Connect.{ConnectAnswer, answer_test, complete_test}

@@ -16,7 +16,7 @@ use Rattle.lpc_model.specs.World.{Accepted, Connect, Listen, MessageRow, Receive
 use Rattle.lpc_model.specs.Found.{is_offered, is_own_of, is_queued, is_queued_connect, is_request, same_birth, wait_of, waits_as, waits_at}
 use Rattle.lpc_model.specs.Basics.{Accepts, Awaits, Basic, Empties, Enters, Frees, Receives, Takes, TakesConnect, Tells, Wakes, Withdraws, accepted, basic, received, world_after, Dies}
 use Rattle.lpc_model.specs.Entering.{enter, given_steps, shown, take_connect_steps, take_steps, takes, woken}
-use Rattle.lpc_model.proofs.Rows.{count-less}
+use Rattle.lpc_model.proofs.Steps.Rows.{count-less}
 use Rattle.lpc_isolation.proofs.Enter.{Patient, is_patient, listen-first, receive-first}
 
 abbrev pub sender_of : MessageRow → ℕ

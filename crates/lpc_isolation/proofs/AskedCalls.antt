@@ -9,7 +9,7 @@ use Rattle.lpc_isolation.proofs.Requests.{sent-request}
 use Rattle.lpc_isolation.proofs.Sends.{Caller}
 use Rattle.lpc_model.specs.Circle.{Group}
 use Rattle.lpc_message.specs.declared.kind.TheConstants.{DATAGRAM, REQUEST}
-use Rattle.lpc_model.proofs.Holding.{Holds, bind_holds, holds-more}
+use Rattle.lpc_model.proofs.Calls.Holding.{Holds, bind_holds, holds-more}
 use Rattle.lpc_model.specs.Basics.{Awaits, Basic, world_after}
 use Rattle.lpc_model.specs.Connect.{nt_accept_connect_port, nt_complete_connect_port, listen_steps}
 use Rattle.lpc_model.specs.Connect.{names_connect, nt_connect_port}
@@ -38,7 +38,7 @@ use Rattle.lpc_base.proofs.RowWords.{has-push}
 use Rattle.lpc_base.proofs.Bools.{first-true, same-number}
 use Rattle.lpc_base.proofs.Births.{birth-same, birth-self}
 use Rattle.lpc_model.specs.Connect.{ConnectAnswer, connect_wait, connection_request, listen_steps, names_connect}
-use Rattle.lpc_model.proofs.SoundBasics.{once-awaits}
+use Rattle.lpc_model.proofs.Sound.Basics.{once-awaits}
 use Rattle.lpc_isolation.proofs.Enter.{is_patient}
 use Rattle.lpc_isolation.proofs.Sends.{sent-datagram}
 use Rattle.lpc_isolation.proofs.Listens.{on-port}

@@ -9,8 +9,8 @@ use Rattle.lpc_base.proofs.RowWords.{every-change, every-more, every-push, every
 use Rattle.lpc_base.proofs.RowMaps.{every-both, every-change_to, every-first}
 use Rattle.lpc_base.proofs.Bools.{first-true, or-last, same-number, second-off, second-true}
 use Rattle.lpc_base.proofs.Births.{birth-same}
-use Rattle.lpc_model.proofs.Rows.{count-change, count-less, has-off, lone}
-use Rattle.lpc_model.proofs.ThreadsOnce.{new-once}
+use Rattle.lpc_model.proofs.Steps.Rows.{count-change, count-less, has-off, lone}
+use Rattle.lpc_model.proofs.Lives.ThreadsOnce.{new-once}
 use Rattle.lpc_model.specs.Lawful.{HasThreadsOnce}
 use Rattle.lpc_names.specs.Walk.{LinkTo, Stands}
 use Rattle.lpc_names.specs.declared.names.Found.TheVariants.{Directory}
@@ -30,11 +30,11 @@ use Rattle.lpc_model.specs.Lines.{ScriptCall, ScriptLine, boot, create_process, 
 use Rattle.lpc_model.specs.Machine.{bare_steps, boot_line, dir_line, directive_birth, link_line, name_of_call, new_process, new_thread, thread_line, thread_test, unused_test}
 use Rattle.lpc_model.specs.Creation.{nt_create_process, nt_create_thread, second_birth}
 use Rattle.lpc_model.specs.Tests.{next_birth, own_handle}
-use Rattle.lpc_model.proofs.Creating.{process-made, tested-further, thread-made}
-use Rattle.lpc_model.proofs.Ending.{is_ending, process-ending, thread-ending}
-use Rattle.lpc_model.proofs.Holding.{Holds, bind_holds, directed_holds, holds-more, holds_ok, not_refused, settled_holds}
+use Rattle.lpc_model.proofs.Calls.Creating.{process-made, tested-further, thread-made}
+use Rattle.lpc_model.proofs.Steps.Ending.{is_ending, process-ending, thread-ending}
+use Rattle.lpc_model.proofs.Calls.Holding.{Holds, bind_holds, directed_holds, holds-more, holds_ok, not_refused, settled_holds}
 use Rattle.lpc_model.proofs.Undying.{is_undying, register_holds, service-undying}
-use Rattle.lpc_model.proofs.Usable.{live-number}
+use Rattle.lpc_model.proofs.Calls.Usable.{live-number}
 use Rattle.lpc_isolation.proofs.Served.{served, served_ready, served_step, served_thread}
 
 -- Of the births that a number may have: a directive gives maker 0 and the number itself, a call its thread as maker

@@ -9,7 +9,7 @@ use Rattle.lpc_names.specs.Path.{Path, same_path}
 use Rattle.lpc_names.specs.Walk.{Node, node_at}
 use Rattle.lpc_model.specs.World.{Birth}
 use Rattle.lpc_model.specs.Found.{same_birth}
-use Rattle.lpc_model.proofs.Rows.{count-less}
+use Rattle.lpc_model.proofs.Steps.Rows.{count-less}
 use Rattle.lpc_model.specs.Circle.{Group}
 use Rattle.lpc_isolation.proofs.View.{our_binding, our_node}
 use Rattle.lpc_isolation.proofs.Names.{Names, SeenNames, seen_node}

@@ -13,7 +13,7 @@ use Rattle.lpc_model.specs.Found.{is_thread}
 use Rattle.lpc_model.specs.Basics.{Basic, entries_of, world_after}
 use Rattle.lpc_model.specs.Tests.{handle_load, handles_test, is_connect_of}
 use Rattle.lpc_model.specs.Then.{◌>>=◌}
-use Rattle.lpc_model.proofs.Holding.{Holds}
+use Rattle.lpc_model.proofs.Calls.Holding.{Holds}
 use Rattle.lpc_model.specs.Circle.{Group, Whose, owner}
 use Rattle.lpc_isolation.proofs.Alone.{alone}
 use Rattle.lpc_isolation.proofs.Filters.{first-nowhere, which-where}

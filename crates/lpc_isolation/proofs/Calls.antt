@@ -15,8 +15,8 @@ use Rattle.lpc_model.specs.Basics.{Accepts, AddsHandle, AddsProcess, AddsThread,
 use Rattle.lpc_model.specs.Lines.{ScriptCall, run}
 use Rattle.lpc_model.specs.Machine.{name_of_call, settled, bare_steps}
 use Rattle.lpc_isolation.proofs.Served.{served, served_step, served_steps}
-use Rattle.lpc_model.proofs.Holding.{Holds, holds_ok}
-use Rattle.lpc_model.proofs.Usable.{live-number}
+use Rattle.lpc_model.proofs.Calls.Holding.{Holds, holds_ok}
+use Rattle.lpc_model.proofs.Calls.Usable.{live-number}
 use Rattle.lpc_model.specs.Circle.{Everyone, Group, Item, Nobody, Of, Told, Whose, entry_whose, is_seen, is_told_to, owned, owner, thread_whose}
 use Rattle.lpc_isolation.proofs.Alone.{HasFineRows, alone}
 use Rattle.lpc_isolation.proofs.Filters.{first-where}

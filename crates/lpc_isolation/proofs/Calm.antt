@@ -21,7 +21,7 @@ use Rattle.lpc_isolation.proofs.Serves.{is_call_of}
 use Rattle.lpc_isolation.proofs.Thin.{Alive, Closed, thin}
 use Rattle.lpc_isolation.proofs.ThinCalls.{AreClosed}
 use Rattle.lpc_isolation.proofs.View.{view}
-use Rattle.lpc_model.proofs.Holding.{Holds}
+use Rattle.lpc_model.proofs.Calls.Holding.{Holds}
 use Rattle.lpc_model.specs.Basics.{world_after}
 use Rattle.lpc_model.specs.Circle.{Group, Whose, is_fine_call}
 use Rattle.lpc_model.specs.Found.{live_thread, wait_of}

@@ -21,8 +21,8 @@ use Rattle.lpc_model.specs.Lines.{close}
 use Rattle.lpc_isolation.proofs.Served.{served}
 use Rattle.lpc_model.specs.SoundWaits.{IsSoundWorld}
 use Rattle.lpc_model.specs.Circle.{Group, Whose, is_fine_call}
-use Rattle.lpc_model.proofs.Holding.{Holds, bind_holds, found_ok}
-use Rattle.lpc_model.proofs.StepsInTurn.{after-append}
+use Rattle.lpc_model.proofs.Calls.Holding.{Holds, bind_holds, found_ok}
+use Rattle.lpc_model.proofs.Steps.InTurn.{after-append}
 use Rattle.lpc_isolation.proofs.Alone.{HasFineRows, alone}
 use Rattle.lpc_isolation.proofs.View.{our_table, view}
 use Rattle.lpc_isolation.proofs.Basics.{are_ours, ours-append}

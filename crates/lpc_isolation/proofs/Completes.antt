@@ -18,7 +18,7 @@ use Rattle.lpc_model.specs.Basics.{AddsHandle, Basic, Completes, basic}
 use Rattle.lpc_model.specs.Connect.{Completable, answer_of, complete_steps, complete_test, completion_test, is_accepted_on, nt_complete_connect_port}
 use Rattle.lpc_model.specs.Entering.{woken}
 use Rattle.lpc_model.specs.Tests.{PORT_ACCESS, handle_row, port_test}
-use Rattle.lpc_model.proofs.Holding.{Holds, bind_holds, found_ok, holds_ok, not_refused}
+use Rattle.lpc_model.proofs.Calls.Holding.{Holds, bind_holds, found_ok, holds_ok, not_refused}
 use Rattle.lpc_model.specs.Circle.{Group, Whose, owner}
 use Rattle.lpc_isolation.proofs.Filters.{first-kept, first-where}
 use Rattle.lpc_isolation.proofs.View.{of_birth, our_wait, view}

@@ -19,7 +19,7 @@ use Rattle.lpc_names.specs.declared.fault.NameFault.{NameFault}
 use Rattle.lpc_names.specs.Path.{Path}
 use Rattle.lpc_names.specs.Walk.{lookup, free_path}
 use Rattle.lpc_model.specs.Tests.{handles_test, next_birth}
-use Rattle.lpc_model.proofs.Holding.{Holds, bind_holds}
+use Rattle.lpc_model.proofs.Calls.Holding.{Holds, bind_holds}
 use Rattle.lpc_model.specs.Circle.{Group, Whose, is_fine_client, leads_inside, is_fine_port, names_inside, owner}
 use Rattle.lpc_isolation.proofs.Alone.{HasFineRows}
 use Rattle.lpc_isolation.proofs.View.{view}

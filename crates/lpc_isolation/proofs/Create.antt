@@ -10,7 +10,7 @@ use Rattle.lpc_model.specs.Basics.{Basic}
 use Rattle.lpc_model.specs.Connect.{create_steps, making, named_steps, nt_create_port, unnamed_steps}
 use Rattle.lpc_model.specs.Named.{free_name}
 use Rattle.lpc_model.specs.Tests.{handles_test, next_birth}
-use Rattle.lpc_model.proofs.Holding.{Holds, bind_holds}
+use Rattle.lpc_model.proofs.Calls.Holding.{Holds, bind_holds}
 use Rattle.lpc_names.specs.Walk.{Path}
 use Rattle.lpc_model.specs.Circle.{Group, Whose, owner}
 use Rattle.lpc_isolation.proofs.View.{view}

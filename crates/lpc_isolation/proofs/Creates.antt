@@ -22,8 +22,8 @@ use Rattle.lpc_model.specs.Targets.{process_target}
 use Rattle.lpc_model.specs.Tests.{handles_test, live_test, next_birth}
 use Rattle.lpc_model.specs.Lines.{create_process, create_thread}
 use Rattle.lpc_model.specs.Circle.{Group, Whose, is_fine_call, is_fine_process, is_no_outsider, is_no_outsiders_thread, owned, owner}
-use Rattle.lpc_model.proofs.Creating.{process-made, tested-further}
-use Rattle.lpc_model.proofs.Holding.{Holds, bind_holds, holds_ok}
+use Rattle.lpc_model.proofs.Calls.Creating.{process-made, tested-further}
+use Rattle.lpc_model.proofs.Calls.Holding.{Holds, bind_holds, holds_ok}
 use Rattle.lpc_isolation.proofs.Served.{served}
 use Rattle.lpc_isolation.proofs.Alone.{HasFineRows}
 use Rattle.lpc_isolation.proofs.View.{our_process, our_used, view}

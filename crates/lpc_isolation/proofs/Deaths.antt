@@ -15,11 +15,11 @@ use Rattle.lpc_model.specs.Close.{cut_pair}
 use Rattle.lpc_model.specs.Death.{cut_accepted, die, died_message, post_death, death_post}
 use Rattle.lpc_model.specs.Entering.{enter, row_of, takes, given_steps, woken, shown}
 use Rattle.lpc_model.specs.Circle.{Group, Whose, owner}
-use Rattle.lpc_model.proofs.SoundTerminate.{IsSafe, die-safe, enter-safe, unregister-safe}
-use Rattle.lpc_model.proofs.Closing.{takes_away}
-use Rattle.lpc_model.proofs.Ending.{die-pass}
-use Rattle.lpc_model.proofs.StepsInTurn.{after-append}
-use Rattle.lpc_model.proofs.Usable.{port-birth}
+use Rattle.lpc_model.proofs.Sound.Terminate.{IsSafe, die-safe, enter-safe, unregister-safe}
+use Rattle.lpc_model.proofs.Steps.Closing.{takes_away}
+use Rattle.lpc_model.proofs.Steps.Ending.{die-pass}
+use Rattle.lpc_model.proofs.Steps.InTurn.{after-append}
+use Rattle.lpc_model.proofs.Calls.Usable.{port-birth}
 use Rattle.lpc_isolation.proofs.View.{our_wait, seen_pair, seen_port, view}
 use Rattle.lpc_isolation.proofs.Basics.{sees_wait, sees_own}
 use Rattle.lpc_isolation.proofs.Fair.{are_fair, implies, is_fair_message, is_fair_wait, is_sent, owner-sent}

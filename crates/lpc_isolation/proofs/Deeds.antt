@@ -5,9 +5,9 @@ use Rattle.lpc_base.specs.declared.status.Status.{Status}
 use Rattle.lpc_base.specs.declared.status.TheConstants.{INVALID_HANDLE, SUCCESS}
 use Rattle.lpc_isolation.proofs.Served.{query_steps, served}
 use Rattle.lpc_message.specs.declared.kind.TheConstants.{DATAGRAM, REQUEST}
-use Rattle.lpc_model.proofs.Ending.{answered_end}
-use Rattle.lpc_model.proofs.Holding.{Holds, bind_holds, holds-more}
-use Rattle.lpc_model.proofs.Outcomes.{AreDoomed, EndCall, IsListening, IsReceiving, Outcomes, end_call, of_process, of_thread, service-does}
+use Rattle.lpc_model.proofs.Steps.Ending.{answered_end}
+use Rattle.lpc_model.proofs.Calls.Holding.{Holds, bind_holds, holds-more}
+use Rattle.lpc_model.proofs.Calls.Outcomes.{AreDoomed, EndCall, IsListening, IsReceiving, Outcomes, end_call, of_process, of_thread, service-does}
 use Rattle.lpc_model.specs.Basics.{AddsHandle, Basic, DrawsIdentifier, Registers, Tells}
 use Rattle.lpc_model.specs.Close.{close_steps}
 use Rattle.lpc_model.specs.Connect.{Completable, ConnectAnswer, accept_steps, answer_test, complete_steps, complete_test, connect_steps, connection_request, create_steps, listen_steps, named_steps, refuse_steps, unnamed_steps}

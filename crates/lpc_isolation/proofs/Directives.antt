@@ -17,7 +17,7 @@ use Rattle.lpc_model.specs.Named.{as_status, free_name, spelled_name}
 use Rattle.lpc_model.specs.Found.{is_live, live_count, was_process, was_thread}
 use Rattle.lpc_base.specs.declared.limits.TheConstants.{THREAD_LIMIT}
 use Rattle.lpc_names.specs.Path.{spelled}
-use Rattle.lpc_model.proofs.Holding.{Holds, bind_holds}
+use Rattle.lpc_model.proofs.Calls.Holding.{Holds, bind_holds}
 use Rattle.lpc_names.specs.Walk.{LinkTo, Stands, free_path}
 use Rattle.lpc_names.specs.declared.fault.NameFault.{NameFault}
 use Rattle.lpc_names.specs.declared.names.Found.TheVariants.{Directory}

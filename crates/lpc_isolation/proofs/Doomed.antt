@@ -17,10 +17,10 @@ use Rattle.lpc_model.specs.Basics.{Basic, Tells}
 use Rattle.lpc_model.specs.Death.{end_threads}
 use Rattle.lpc_model.specs.Targets.{process_target, thread_target}
 use Rattle.lpc_model.specs.Circle.{Group, owner}
-use Rattle.lpc_model.proofs.Ending.{answered_end}
-use Rattle.lpc_model.proofs.Holding.{holds_ok}
-use Rattle.lpc_model.proofs.Outcomes.{AreDoomed, all, one}
-use Rattle.lpc_model.proofs.Registrations.{every-each}
+use Rattle.lpc_model.proofs.Steps.Ending.{answered_end}
+use Rattle.lpc_model.proofs.Calls.Holding.{holds_ok}
+use Rattle.lpc_model.proofs.Calls.Outcomes.{AreDoomed, all, one}
+use Rattle.lpc_model.proofs.Steps.Registrations.{every-each}
 use Rattle.lpc_isolation.proofs.Fair.{Fair, is_fair_thread, is_homed}
 use Rattle.lpc_isolation.proofs.Seen.{homed-number}
 use Rattle.lpc_isolation.proofs.Sends.{Caller}

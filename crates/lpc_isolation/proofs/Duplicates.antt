@@ -10,7 +10,7 @@ use Rattle.lpc_model.specs.Counts.{asked, duplicate_steps, nt_duplicate_object, 
 use Rattle.lpc_model.specs.Lines.{duplicate_object}
 use Rattle.lpc_isolation.proofs.Served.{served}
 use Rattle.lpc_model.specs.Circle.{Group, Whose, is_fine_call}
-use Rattle.lpc_model.proofs.Holding.{Holds, bind_holds, found_ok}
+use Rattle.lpc_model.proofs.Calls.Holding.{Holds, bind_holds, found_ok}
 use Rattle.lpc_isolation.proofs.Alone.{HasFineRows}
 use Rattle.lpc_isolation.proofs.View.{view}
 use Rattle.lpc_isolation.proofs.Seen.{free-view, handle-view}

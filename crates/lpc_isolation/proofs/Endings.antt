@@ -13,8 +13,8 @@ use Rattle.lpc_model.specs.Basics.{Steps, in_turn, provided, world_after, ◌▹
 use Rattle.lpc_model.specs.Close.{close_handle}
 use Rattle.lpc_model.specs.Death.{die, end_process, end_threads, post_death, post_deaths}
 use Rattle.lpc_model.specs.Circle.{Group, owner}
-use Rattle.lpc_model.proofs.Ending.{first-at, rows-left, turn-pass}
-use Rattle.lpc_model.proofs.SoundTerminate.{handle-safe}
+use Rattle.lpc_model.proofs.Steps.Ending.{first-at, rows-left, turn-pass}
+use Rattle.lpc_model.proofs.Sound.Terminate.{handle-safe}
 use Rattle.lpc_isolation.proofs.View.{our_thread, view}
 use Rattle.lpc_isolation.proofs.Fair.{is_fair_table, is_fair_thread, is_own}
 use Rattle.lpc_isolation.proofs.Filters.{count-inside, first-inside}

@@ -13,7 +13,7 @@ use Rattle.lpc_model.specs.World.{Birth, MessageRow, WaitRow, World}
 use Rattle.lpc_model.specs.Found.{is_own_of, waits_as}
 use Rattle.lpc_model.specs.Basics.{Basic, Steps, Withdraws, basic, end_each, entries_of, world_after}
 use Rattle.lpc_model.specs.Entering.{woken}
-use Rattle.lpc_model.proofs.Rows.{count-less}
+use Rattle.lpc_model.proofs.Steps.Rows.{count-less}
 use Rattle.lpc_model.specs.Circle.{Group, Whose}
 use Rattle.lpc_isolation.proofs.Alone.{alone}
 use Rattle.lpc_isolation.proofs.View.{our_message, our_wait, view}

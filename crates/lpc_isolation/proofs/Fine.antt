@@ -23,7 +23,7 @@ use Rattle.lpc_model.specs.Lines.{accept_connect_port, complete_connect_port, co
 use Rattle.lpc_isolation.proofs.Served.{served}
 use Rattle.lpc_model.specs.Circle.{Group, is_fine_client, is_fine_port, is_fine_process}
 use Rattle.lpc_isolation.proofs.Alone.{HasFineRows}
-use Rattle.lpc_model.proofs.Holding.{Holds, bind_holds, holds-more, holds_ok}
+use Rattle.lpc_model.proofs.Calls.Holding.{Holds, bind_holds, holds-more, holds_ok}
 use Rattle.lpc_isolation.proofs.Filters.{first-push_off}
 use Rattle.lpc_isolation.proofs.Create.{made-holds}
 use Rattle.lpc_isolation.proofs.Orderly.{other-thread}

@@ -16,7 +16,7 @@ use Rattle.lpc_isolation.proofs.Mild.{AreMild, is_mild, mild-fine}
 use Rattle.lpc_isolation.proofs.Orderly.{other-thread}
 use Rattle.lpc_isolation.proofs.Thin.{Alive, Behind, port_alive, wait_closed}
 use Rattle.lpc_message.specs.declared.kind.TheConstants.{DATAGRAM, REQUEST}
-use Rattle.lpc_model.proofs.Holding.{Holds, bind_holds, holds_ok}
+use Rattle.lpc_model.proofs.Calls.Holding.{Holds, bind_holds, holds_ok}
 use Rattle.lpc_model.specs.Basics.{Awaits, Basic, Enters, basic, received, world_after}
 use Rattle.lpc_model.specs.Circle.{Group, is_fine_client, is_fine_port}
 use Rattle.lpc_model.specs.Close.{close_handle}

@@ -7,10 +7,10 @@ use Rattle.lpc_model.specs.Linked.{IsLinked}
 use Rattle.lpc_model.specs.SoundWaits.{HasShutConnects, IsSoundWorld}
 use Rattle.lpc_model.specs.Standing.{NamesWhatStands}
 use Rattle.lpc_model.specs.SingleClosings.{HasSingleClosings}
-use Rattle.lpc_model.proofs.SoundLines.{line-sound, sound_none, sound_step}
-use Rattle.lpc_model.proofs.LinkedLines.{line_linked, linked_none, linked_step}
-use Rattle.lpc_model.proofs.StandingCalls.{names_line, names_none, names_step}
-use Rattle.lpc_model.proofs.SingleClosingsLines.{untold_line, untold_none, untold_step}
+use Rattle.lpc_model.proofs.Sound.Lines.{line-sound, sound_none, sound_step}
+use Rattle.lpc_model.proofs.Linked.Lines.{line_linked, linked_none, linked_step}
+use Rattle.lpc_model.proofs.Standing.Lines.{names_line, names_none, names_step}
+use Rattle.lpc_model.proofs.Closings.SingleLines.{untold_line, untold_none, untold_step}
 
 -- waits are sound, ports are linked, what rows name stands, and closings are told once
 pub record Firm (w : World) : Type 0 where

@@ -18,8 +18,8 @@ use Rattle.lpc_model.specs.Machine.{bare_steps, boot_line, directive_birth, thre
 use Rattle.lpc_model.specs.Creation.{second_birth}
 use Rattle.lpc_model.specs.Tests.{next_birth}
 use Rattle.lpc_model.specs.SoundWaits.{IsSoundWorld}
-use Rattle.lpc_model.proofs.Creating.{tested-further}
-use Rattle.lpc_model.proofs.Holding.{bind_holds, directed_holds, holds_ok}
+use Rattle.lpc_model.proofs.Calls.Creating.{tested-further}
+use Rattle.lpc_model.proofs.Calls.Holding.{bind_holds, directed_holds, holds_ok}
 use Rattle.lpc_isolation.proofs.Served.{served_steps}
 use Rattle.lpc_isolation.proofs.Fresh.{next-new}
 use Rattle.lpc_isolation.proofs.Thin.{Alive, Closed, alive_as, all_alive, handle_closed, message_closed, port_alive, port_closed, port_cut, process_alive, process_closed, table_closed, thin, thread_alive, thread_closed, wait_closed}

@@ -13,8 +13,8 @@ use Rattle.lpc_model.specs.Found.{handle_count, is_client_port, is_connected_to,
 use Rattle.lpc_model.specs.Sweep.{is_unheld}
 use Rattle.lpc_model.specs.Linked.{HasHeldPorts, IsLinked, is_mutual, names_nothing}
 use Rattle.lpc_model.specs.Standing.{NamesWhatStands, has_near_queue, is_near}
-use Rattle.lpc_model.proofs.Rows.{has-found}
-use Rattle.lpc_model.proofs.Swept.{connected-end, found-self, is_held_aside, is_held_by, unheld-parts}
+use Rattle.lpc_model.proofs.Steps.Rows.{has-found}
+use Rattle.lpc_model.proofs.Held.Ports.{connected-end, found-self, is_held_aside, is_held_by, unheld-parts}
 use Rattle.lpc_isolation.proofs.Served.{is_aside, is_made_to, is_sent_to, standing_count}
 use Rattle.lpc_isolation.proofs.Sent.{Sent, is_sent_home, leads_home}
 

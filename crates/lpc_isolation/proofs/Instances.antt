@@ -18,7 +18,7 @@ use Rattle.lpc_model.specs.Targets.{process_target, thread_target}
 use Rattle.lpc_model.specs.declared.line.ProcArg.{ProcArg}
 use Rattle.lpc_isolation.proofs.Served.{served}
 use Rattle.lpc_model.specs.SoundWaits.{IsSoundWorld, HasShutConnects}
-use Rattle.lpc_model.proofs.Holding.{Holds, holds-more}
+use Rattle.lpc_model.proofs.Calls.Holding.{Holds, holds-more}
 use Rattle.lpc_model.specs.Circle.{Group, Whose, is_fine_call, owner}
 use Rattle.lpc_isolation.proofs.Alone.{HasFineRows}
 use Rattle.lpc_isolation.proofs.View.{view}

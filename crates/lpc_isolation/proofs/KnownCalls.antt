@@ -27,8 +27,8 @@ use Rattle.lpc_model.specs.Request.{reply_test, datagram_start, datagram_steps, 
 use Rattle.lpc_model.specs.Tests.{port_test}
 use Rattle.lpc_model.specs.Lines.{ScriptCall, accept_connect_port, complete_connect_port, connect_port, create_port, listen_port, reply_port, reply_wait_receive_port, request_port, request_wait_reply_port}
 use Rattle.lpc_isolation.proofs.Served.{served}
-use Rattle.lpc_model.proofs.Holding.{Holds, bind_holds}
-use Rattle.lpc_model.proofs.Rows.{lone}
+use Rattle.lpc_model.proofs.Calls.Holding.{Holds, bind_holds}
+use Rattle.lpc_model.proofs.Steps.Rows.{lone}
 use Rattle.lpc_model.specs.Circle.{Group, Whose, owner}
 use Rattle.lpc_isolation.proofs.Alone.{HasFineRows}
 use Rattle.lpc_isolation.proofs.Filters.{first-kept, first-push_off}

@@ -15,7 +15,7 @@ use Rattle.lpc_model.specs.Named.{free_name, spelled_name}
 use Rattle.lpc_model.specs.Lines.{ScriptCall, ScriptLine, boot, dir, link, run, thread}
 use Rattle.lpc_model.specs.Machine.{bare_steps, boot_line, dir_line, link_line, name_of_call, settled, thread_line, thread_test, unused_test}
 use Rattle.lpc_isolation.proofs.Served.{served, served_step, served_steps}
-use Rattle.lpc_model.proofs.Holding.{bind_holds, directed_holds, holds_ok}
+use Rattle.lpc_model.proofs.Calls.Holding.{bind_holds, directed_holds, holds_ok}
 use Rattle.lpc_model.specs.Circle.{Group, Item, Whose, is_fine_line, is_seen, line_whose, owner, thread_whose}
 use Rattle.lpc_isolation.proofs.Alone.{HasFineRows, alone}
 use Rattle.lpc_isolation.proofs.View.{view}

@@ -17,7 +17,7 @@ use Rattle.lpc_model.specs.Found.{is_offered, is_the, no_birth, waits_as, waits_
 use Rattle.lpc_model.specs.Basics.{Accepts, Awaits, Basic, Frees, Receives, Wakes, accepted, basic, received, world_after, Dies}
 use Rattle.lpc_model.specs.Tests.{client_test}
 use Rattle.lpc_model.specs.Connect.{ConnectAnswer, answer_test, names_connect}
-use Rattle.lpc_model.proofs.Holding.{Holds, bind_holds, found_ok}
+use Rattle.lpc_model.proofs.Calls.Holding.{Holds, bind_holds, found_ok}
 use Rattle.lpc_model.specs.Circle.{Group}
 use Rattle.lpc_isolation.proofs.Heard.{Heard, recall}
 

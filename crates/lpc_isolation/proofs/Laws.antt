@@ -15,7 +15,7 @@ use Rattle.lpc_model.specs.Creation.{second_birth}
 use Rattle.lpc_model.specs.Lines.{ScriptCall, create_process}
 use Rattle.lpc_model.specs.SoundWaits.{IsSoundWorld}
 use Rattle.lpc_model.specs.Circle.{Group, Whose, is_fine_call}
-use Rattle.lpc_model.proofs.Holding.{Holds}
+use Rattle.lpc_model.proofs.Calls.Holding.{Holds}
 use Rattle.lpc_isolation.proofs.Served.{served}
 use Rattle.lpc_isolation.proofs.Alone.{HasFineRows}
 use Rattle.lpc_isolation.proofs.View.{view}

@@ -10,7 +10,7 @@ use Rattle.lpc_model.specs.Message.{asks}
 use Rattle.lpc_model.specs.World.{MessageRow, WaitRow, World}
 use Rattle.lpc_model.specs.Found.{is_offered, is_own_of, is_request, wait_of, waits_as}
 use Rattle.lpc_model.specs.Circle.{Group, owner}
-use Rattle.lpc_model.proofs.Rows.{has-found}
+use Rattle.lpc_model.proofs.Steps.Rows.{has-found}
 use Rattle.lpc_isolation.proofs.View.{of_birth, our_message, our_wait, view}
 use Rattle.lpc_isolation.proofs.Filters.{first-kept}
 use Rattle.lpc_isolation.proofs.Basics.{sees_own, sees_wait}

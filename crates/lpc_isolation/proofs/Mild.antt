@@ -9,7 +9,7 @@ use Rattle.lpc_model.specs.Found.{is_own_of, is_queued, same_birth, waits_as}
 use Rattle.lpc_model.specs.Basics.{Basic, Cuts, DropsHandle, Empties, Enters, Takes, TakesConnect, Unbinds, Wakes, Withdraws, basic, world_after, Dies, Unregisters}
 use Rattle.lpc_model.specs.Entering.{takes}
 use Rattle.lpc_model.specs.Circle.{Group}
-use Rattle.lpc_model.proofs.Rows.{count-less}
+use Rattle.lpc_model.proofs.Steps.Rows.{count-less}
 use Rattle.lpc_isolation.proofs.Alone.{HasFineRows}
 use Rattle.lpc_isolation.proofs.View.{of_birth}
 use Rattle.lpc_isolation.proofs.Basics.{are_ours}

@@ -20,8 +20,8 @@ use Rattle.lpc_model.specs.World.{Birth, PortRow, ThreadRow, WaitRow, World}
 use Rattle.lpc_model.specs.Found.{fits, fitted, is_live_thread, is_port, is_request, is_the, live_thread, pair_of, port_row, same_birth}
 use Rattle.lpc_model.specs.Request.{reply_test, nt_reply_port}
 use Rattle.lpc_model.specs.Tests.{client_test, fit_test, is_client, port_test}
-use Rattle.lpc_model.proofs.Holding.{Holds, bind_holds, holds-more, holds_ok, not_refused}
-use Rattle.lpc_model.proofs.SoundReply.{fits-request}
+use Rattle.lpc_model.proofs.Calls.Holding.{Holds, bind_holds, holds-more, holds_ok, not_refused}
+use Rattle.lpc_model.proofs.Sound.Reply.{fits-request}
 use Rattle.lpc_model.specs.Circle.{Group, is_no_outsider, is_no_outsiders_thread, names_no_outsider, owner}
 use Rattle.lpc_isolation.proofs.Reply.{fit-parts}
 use Rattle.lpc_isolation.proofs.Filters.{first-agree, first-none_kept}

@@ -4,13 +4,13 @@ use Rattle.lpc_isolation.proofs.Bindings.{free-unbound}
 use Rattle.lpc_isolation.proofs.Bound.{OnceBound, once-bound, once-unbound}
 use Rattle.lpc_isolation.proofs.Instances.{At}
 use Rattle.lpc_isolation.proofs.Served.{served}
-use Rattle.lpc_model.proofs.Acts.{Law, keeps_on, outcomes}
-use Rattle.lpc_model.proofs.LineLaws.{AnyWorld, Shut}
-use Rattle.lpc_model.proofs.Outcomes.{service-does}
-use Rattle.lpc_model.proofs.Ending.{AreEnding, die-ending, ending-enter, handle-ending, is_ending}
-use Rattle.lpc_model.proofs.Holding.{Holds, bind_holds, holds-more}
-use Rattle.lpc_model.proofs.StepsInTurn.{steps-keep}
-use Rattle.lpc_model.proofs.Usable.{can-call}
+use Rattle.lpc_model.proofs.Calls.Acts.{Law, keeps_on, outcomes}
+use Rattle.lpc_model.proofs.Calls.Lines.{AnyWorld, Shut}
+use Rattle.lpc_model.proofs.Calls.Outcomes.{service-does}
+use Rattle.lpc_model.proofs.Steps.Ending.{AreEnding, die-ending, ending-enter, handle-ending, is_ending}
+use Rattle.lpc_model.proofs.Calls.Holding.{Holds, bind_holds, holds-more}
+use Rattle.lpc_model.proofs.Steps.InTurn.{steps-keep}
+use Rattle.lpc_model.proofs.Calls.Usable.{can-call}
 use Rattle.lpc_model.specs.Basics.{Awaits, Basic, Binds, Frees, Receives, Takes, TakesConnect, Unbinds, basic, world_after}
 use Rattle.lpc_model.specs.Circle.{Group}
 use Rattle.lpc_model.specs.Close.{close_handle}

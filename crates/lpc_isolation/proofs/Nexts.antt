@@ -20,7 +20,7 @@ use Rattle.lpc_names.specs.declared.names.Found.TheVariants.{Directory}
 use Rattle.lpc_model.specs.Lines.{ScriptCall, ScriptLine, boot, dir, link, run, thread}
 use Rattle.lpc_model.specs.Machine.{boot_line, dir_line, directed, directive_birth, link_line, live_test, name_of_call, new_process, new_thread, settled, thread_count_test, thread_line, thread_test, unused_thread_test}
 use Rattle.lpc_isolation.proofs.Served.{served, served_step}
-use Rattle.lpc_model.proofs.Holding.{Holds, bind_holds, holds_any, holds_ok, not_refused}
+use Rattle.lpc_model.proofs.Calls.Holding.{Holds, bind_holds, holds_any, holds_ok, not_refused}
 use Rattle.lpc_model.specs.Circle.{Group}
 use Rattle.lpc_isolation.proofs.Alone.{HasFineRows}
 use Rattle.lpc_isolation.proofs.Fair.{are_fair, run-fair, together-of}

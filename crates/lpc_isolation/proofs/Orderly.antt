@@ -17,7 +17,7 @@ use Rattle.lpc_model.specs.Lines.{accept_connect_port, complete_connect_port, co
 use Rattle.lpc_isolation.proofs.Served.{served}
 use Rattle.lpc_model.specs.Message.{message_test}
 use Rattle.lpc_model.specs.Tests.{port_test}
-use Rattle.lpc_model.proofs.Holding.{Holds, bind_holds}
+use Rattle.lpc_model.proofs.Calls.Holding.{Holds, bind_holds}
 use Rattle.lpc_model.specs.Circle.{Group}
 use Rattle.lpc_isolation.proofs.Create.{made-holds}
 use Rattle.lpc_isolation.proofs.Reply.{answered-fit}

@@ -17,7 +17,7 @@ use Rattle.lpc_isolation.proofs.Routes.{routed-in}
 use Rattle.lpc_isolation.proofs.Seen.{handle-own}
 use Rattle.lpc_isolation.proofs.Sends.{Caller, IsSendable, Named, datagram-ours, named-port, sendable, tested-sendable}
 use Rattle.lpc_isolation.proofs.Served.{served}
-use Rattle.lpc_model.proofs.Holding.{holds-more, holds_ok}
+use Rattle.lpc_model.proofs.Calls.Holding.{holds-more, holds_ok}
 use Rattle.lpc_model.specs.Basics.{Basic, basic, world_after}
 use Rattle.lpc_model.specs.Circle.{Group}
 use Rattle.lpc_model.specs.Connect.{answer_test}

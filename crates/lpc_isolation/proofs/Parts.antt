@@ -6,9 +6,9 @@ use Rattle.lpc_base.proofs.Bools.{first-true, second-true}
 use Rattle.lpc_model.specs.World.{Birth, World}
 use Rattle.lpc_model.specs.Basics.{Steps, doing, entries_of, in_turn, provided, world_after, ◌▹◌, Basic}
 use Rattle.lpc_model.specs.Circle.{Group, Whose}
-use Rattle.lpc_model.proofs.Closing.{then-holds}
-use Rattle.lpc_model.proofs.SoundTerminate.{IsSafe}
-use Rattle.lpc_model.proofs.StepsInTurn.{after-append}
+use Rattle.lpc_model.proofs.Steps.Closing.{then-holds}
+use Rattle.lpc_model.proofs.Sound.Terminate.{IsSafe}
+use Rattle.lpc_model.proofs.Steps.InTurn.{after-append}
 use Rattle.lpc_isolation.proofs.View.{view}
 use Rattle.lpc_isolation.proofs.Fair.{are_fair, fair-append, run-fair, Fair}
 use Rattle.lpc_isolation.proofs.Apart.{apart-append, are_apart}

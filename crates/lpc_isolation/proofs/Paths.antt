@@ -12,7 +12,7 @@ use Rattle.lpc_model.specs.World.{Birth, PortKind, PortRow, Request, WaitKind, W
 use Rattle.lpc_model.specs.Found.{is_cut, is_port, is_request, is_server_port, is_the, port_row, same_birth, waits_as, waits_at}
 use Rattle.lpc_model.specs.Basics.{Accepts, Awaits, Basic, Completes, Cuts, Frees, Joins, Makes, Receives, Wakes, accepted, basic, completed, cut, is_end_of, joined, received, world_after, Dies}
 use Rattle.lpc_model.specs.Circle.{Group, is_fine_client, is_fine_port}
-use Rattle.lpc_model.proofs.Rows.{first-map}
+use Rattle.lpc_model.proofs.Steps.Rows.{first-map}
 use Rattle.lpc_isolation.proofs.Alone.{HasFineRows}
 use Rattle.lpc_isolation.proofs.View.{of_birth}
 use Rattle.lpc_isolation.proofs.Fair.{Fair, implies, is_fair_wait}

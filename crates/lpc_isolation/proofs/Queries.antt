@@ -13,7 +13,7 @@ use Rattle.lpc_model.specs.Fields.{object_fields}
 use Rattle.lpc_model.specs.Tests.{own_handle}
 use Rattle.lpc_model.specs.Lines.{query_object}
 use Rattle.lpc_model.specs.Circle.{Group, Whose, is_fine_call}
-use Rattle.lpc_model.proofs.Holding.{Holds, bind_holds, found_ok}
+use Rattle.lpc_model.proofs.Calls.Holding.{Holds, bind_holds, found_ok}
 use Rattle.lpc_isolation.proofs.Alone.{HasFineRows}
 use Rattle.lpc_isolation.proofs.Served.{served, standing_count}
 use Rattle.lpc_isolation.proofs.View.{view}

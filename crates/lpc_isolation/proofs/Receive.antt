@@ -24,8 +24,8 @@ use Rattle.lpc_model.specs.Basics.{Awaits, Basic, Tells, basic, entries_of, told
 use Rattle.lpc_model.specs.Request.{reply_test, given_reply, is_spent, nt_reply_wait_receive_port, optional_message, receive_steps, receive_test, receive_wait, reply}
 use Rattle.lpc_model.specs.Entering.{take_steps}
 use Rattle.lpc_model.specs.Tests.{port_test}
-use Rattle.lpc_model.proofs.Outcomes.{IsReceiving}
-use Rattle.lpc_model.proofs.Holding.{Holds, bind_holds, found_ok, holds_ok}
+use Rattle.lpc_model.proofs.Calls.Outcomes.{IsReceiving}
+use Rattle.lpc_model.proofs.Calls.Holding.{Holds, bind_holds, found_ok, holds_ok}
 use Rattle.lpc_model.specs.Circle.{Group, Whose, names_no_outsider, owner}
 use Rattle.lpc_isolation.proofs.Alone.{alone}
 use Rattle.lpc_isolation.proofs.Filters.{first-kept}
@@ -35,8 +35,8 @@ use Rattle.lpc_isolation.proofs.Fair.{Fair, all_of, are_fair, implies, is_fair_m
 use Rattle.lpc_isolation.proofs.Seen.{bind-same, c-port, open-view, port_test-view}
 use Rattle.lpc_isolation.proofs.Apart.{Owned, are_apart, heard, is_heard, is_owned}
 use Rattle.std.proofs.lemmas.List.Elements.{filter-append}
-use Rattle.lpc_model.proofs.Acts.{tested-queue}
-use Rattle.lpc_model.proofs.StepsInTurn.{after-append, entries-append}
+use Rattle.lpc_model.proofs.Calls.Acts.{tested-queue}
+use Rattle.lpc_model.proofs.Steps.InTurn.{after-append, entries-append}
 use Rattle.lpc_isolation.proofs.Callers.{Led, on_ok}
 use Rattle.lpc_isolation.proofs.Reply.{answered-fit, led_reply, led-wakes, not-c, wakes-apart}
 use Rattle.lpc_isolation.proofs.Mine.{Ways, c-answered, c-port_test, message-names}

@@ -13,7 +13,7 @@ use Rattle.lpc_model.specs.World.{Birth, Listen, MessageRow, WaitKind, WaitRow, 
 use Rattle.lpc_model.specs.Found.{same_birth, waits_as}
 use Rattle.lpc_model.specs.Basics.{Basic, Enters, Receives, Takes, TakesConnect, basic, world_after}
 use Rattle.lpc_model.specs.Entering.{enter, given_steps, shown, take_connect_steps, take_steps, takes, woken}
-use Rattle.lpc_model.proofs.Rows.{lone}
+use Rattle.lpc_model.proofs.Steps.Rows.{lone}
 use Rattle.lpc_model.specs.Circle.{Group, owner}
 use Rattle.lpc_isolation.proofs.View.{of_birth}
 use Rattle.lpc_isolation.proofs.Fair.{is_sent, sent-owner}

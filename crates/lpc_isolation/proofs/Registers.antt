@@ -14,7 +14,7 @@ use Rattle.lpc_model.specs.Register.{is_registered, nt_register_thread_terminate
 use Rattle.lpc_model.specs.Tests.{port_test}
 use Rattle.lpc_model.specs.Lines.{register_thread_terminate_port}
 use Rattle.lpc_model.specs.Circle.{Group, Whose, is_fine_call}
-use Rattle.lpc_model.proofs.Holding.{Holds, bind_holds}
+use Rattle.lpc_model.proofs.Calls.Holding.{Holds, bind_holds}
 use Rattle.lpc_isolation.proofs.Alone.{HasFineRows}
 use Rattle.lpc_isolation.proofs.Served.{served}
 use Rattle.lpc_isolation.proofs.View.{view}

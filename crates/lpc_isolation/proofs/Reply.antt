@@ -21,7 +21,7 @@ use Rattle.lpc_model.specs.Found.{fits, fitted, is_port, is_request, is_the, pai
 use Rattle.lpc_model.specs.Basics.{Basic}
 use Rattle.lpc_model.specs.Request.{reply_test, nt_reply_port, reply, reply_steps}
 use Rattle.lpc_model.specs.Tests.{client_test, port_test}
-use Rattle.lpc_model.proofs.Holding.{Holds, bind_holds, found_holds, holds_ok}
+use Rattle.lpc_model.proofs.Calls.Holding.{Holds, bind_holds, found_holds, holds_ok}
 use Rattle.lpc_model.specs.Circle.{Group, Whose, owner}
 use Rattle.lpc_isolation.proofs.Alone.{alone}
 use Rattle.lpc_isolation.proofs.Filters.{first-kept}

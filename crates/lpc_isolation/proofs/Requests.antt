@@ -15,7 +15,7 @@ use Rattle.lpc_model.specs.Request.{Sendable, nt_request_wait_reply_port, reques
 use Rattle.lpc_model.specs.declared.entry.CallName.TheVariants.{NtRequestWaitReplyPort}
 use Rattle.lpc_model.specs.declared.entry.Entry.TheVariants.{Waits}
 use Rattle.lpc_model.specs.Fields.{id}
-use Rattle.lpc_model.proofs.Holding.{Holds, bind_holds, holds_ok}
+use Rattle.lpc_model.proofs.Calls.Holding.{Holds, bind_holds, holds_ok}
 use Rattle.lpc_model.specs.Circle.{Group, Whose}
 use Rattle.lpc_isolation.proofs.View.{our_wait, seen_port, view}
 use Rattle.lpc_isolation.proofs.Basics.{are_ours, basic-unseen, ours-append, run-ours}

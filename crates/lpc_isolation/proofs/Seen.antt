@@ -16,7 +16,7 @@ use Rattle.lpc_model.specs.World.{Birth, HandleRow, HandleTable, PortRow, Thread
 use Rattle.lpc_model.specs.Found.{free_handle, handle_at, handles_of, has_handle_to, has_value, is_live_thread, is_open, is_port, is_table, is_used_thread, live_thread, names_port, port_row, rows_in, same_kind}
 use Rattle.lpc_base.specs.declared.status.TheConstants.{ACCESS_DENIED, INVALID_HANDLE, OBJECT_TYPE_MISMATCH}
 use Rattle.lpc_model.specs.Tests.{PORT_RIGHT, includes, object_test, own_handle, port_test}
-use Rattle.lpc_model.proofs.Holding.{Holds, bind_holds, found_holds, found_ok, holds_ok}
+use Rattle.lpc_model.proofs.Calls.Holding.{Holds, bind_holds, found_holds, found_ok, holds_ok}
 use Rattle.lpc_model.specs.Circle.{Group, owner}
 use Rattle.lpc_isolation.proofs.Filters.{first-inside, first-nowhere, first-shown, first-where, has-inside}
 use Rattle.lpc_isolation.proofs.View.{of_birth, our_port, our_table, our_thread, seen_port, view}

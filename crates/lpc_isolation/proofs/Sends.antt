@@ -18,7 +18,7 @@ use Rattle.lpc_model.specs.Entering.{enter, row_of}
 use Rattle.lpc_model.specs.Request.{Sendable, datagram_send_test, datagram_start, datagram_steps, datagram_test, nt_request_port, send_test, sent_by}
 use Rattle.lpc_model.specs.Tests.{port_test}
 use Rattle.lpc_model.specs.SoundWaits.{IsSoundWorld, HasShutConnects}
-use Rattle.lpc_model.proofs.Holding.{Holds, bind_holds, found_ok, holds-more, holds_ok}
+use Rattle.lpc_model.proofs.Calls.Holding.{Holds, bind_holds, found_ok, holds-more, holds_ok}
 use Rattle.lpc_model.specs.Circle.{Group, Whose, owner}
 use Rattle.lpc_isolation.proofs.Alone.{HasFineRows}
 use Rattle.lpc_isolation.proofs.Filters.{first-none_kept, which-where}

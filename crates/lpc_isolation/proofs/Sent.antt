@@ -10,7 +10,7 @@ use Rattle.lpc_isolation.proofs.Paths.{joined-same}
 use Rattle.lpc_model.specs.World.{Birth, MessageRow, PortRow, World}
 use Rattle.lpc_model.specs.Found.{is_client_port, is_own_of, is_port, is_queued, is_queued_connect, is_the, port_row}
 use Rattle.lpc_model.specs.Basics.{Basic, Completes, Cuts, Empties, Enters, Frees, Joins, Makes, Takes, TakesConnect, Withdraws, basic, completed, cut, is_end_of, joined, world_after}
-use Rattle.lpc_model.proofs.Rows.{first-map}
+use Rattle.lpc_model.proofs.Steps.Rows.{first-map}
 
 abbrev pub leads_home : Birth → PortRow → Bool
 leads_home q p = not (is_client_port p) || is_the q p.connection

@@ -13,8 +13,8 @@ use Rattle.lpc_model.specs.Request.{Sendable, datagram_send_test, datagram_start
 use Rattle.lpc_model.specs.SoundWaits.{IsSoundWorld}
 use Rattle.lpc_model.specs.Tests.{next_birth}
 use Rattle.lpc_model.specs.World.{Birth, ThreadRow, World}
-use Rattle.lpc_model.proofs.Holding.{holds_ok}
-use Rattle.lpc_model.proofs.Rows.{has-off}
+use Rattle.lpc_model.proofs.Calls.Holding.{holds_ok}
+use Rattle.lpc_model.proofs.Steps.Rows.{has-off}
 use Rattle.lpc_isolation.proofs.Closes.{handle-sent}
 use Rattle.lpc_isolation.proofs.Connects.{row, starting}
 use Rattle.lpc_isolation.proofs.Deeds.{AreTame, Deeds, gives, more, none, numbers, registers}

@@ -8,7 +8,7 @@ use Rattle.lpc_model.specs.Lines.{ScriptCall, accept_connect_port, close, comple
 use Rattle.lpc_model.specs.Death.{code_status}
 use Rattle.lpc_isolation.proofs.Served.{served}
 use Rattle.lpc_model.specs.Circle.{Group, is_fine_call}
-use Rattle.lpc_model.proofs.Holding.{Holds, holds-more, holds_any}
+use Rattle.lpc_model.proofs.Calls.Holding.{Holds, holds-more, holds_any}
 use Rattle.lpc_base.specs.Rows.{every}
 use Rattle.lpc_isolation.proofs.Alone.{HasFineRows}
 use Rattle.lpc_isolation.proofs.View.{view}

@@ -6,7 +6,7 @@ use Rattle.lpc_model.specs.declared.entry.Entry.{Entry}
 use Rattle.lpc_model.specs.World.{Birth, World}
 use Rattle.lpc_model.specs.Basics.{Basic, Steps, entries_of, world_after, ◌▹◌}
 use Rattle.lpc_model.specs.Circle.{Group, Whose}
-use Rattle.lpc_model.proofs.StepsInTurn.{after-append, entries-append}
+use Rattle.lpc_model.proofs.Steps.InTurn.{after-append, entries-append}
 use Rattle.lpc_isolation.proofs.View.{view}
 use Rattle.lpc_isolation.proofs.Basics.{are_ours, ours-append, run-ours}
 use Rattle.lpc_isolation.proofs.Fair.{are_fair, fair-append}

@@ -12,8 +12,8 @@ use Rattle.lpc_model.specs.Connect.{ConnectAnswer, answer_test}
 use Rattle.lpc_model.specs.Lines.{ScriptCall, ScriptLine, boot, dir, link, run, thread}
 use Rattle.lpc_model.specs.Machine.{boot_line, dir_line, link_line, thread_line}
 use Rattle.lpc_isolation.proofs.Served.{served_step}
-use Rattle.lpc_model.proofs.Holding.{holds_ok}
-use Rattle.lpc_model.proofs.Usable.{live-number}
+use Rattle.lpc_model.proofs.Calls.Holding.{holds_ok}
+use Rattle.lpc_model.proofs.Calls.Usable.{live-number}
 use Rattle.lpc_model.specs.Circle.{Everyone, Group, Item, Of, is_fine_call, is_fine_line, is_seen, items, line_whose, owner}
 use Rattle.lpc_isolation.proofs.Alone.{HasFineRows, alone}
 use Rattle.lpc_isolation.proofs.Bare.{bare_line_events}

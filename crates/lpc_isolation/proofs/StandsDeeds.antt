@@ -27,7 +27,7 @@ use Rattle.lpc_model.specs.Tests.{client_test, is_client, next_birth, port_test}
 use Rattle.lpc_model.specs.Connect.{Completable, ConnectAnswer, accept_steps, answer_test, client_port, complete_test, completion_test, connect_start, connection_request, is_accepted_on, listen_steps, names_connect}
 use Rattle.lpc_model.specs.Request.{Sendable, reply_test, datagram_send_test, datagram_start, datagram_test, given_reply, receive_steps, request_start, send_test, sent_by}
 use Rattle.lpc_model.specs.SoundWaits.{IsSoundWorld, is_sound_as, is_sound_wait, leads_open, waiter_of}
-use Rattle.lpc_model.proofs.Holding.{Holds, bind_holds, found_ok, holds_ok}
+use Rattle.lpc_model.proofs.Calls.Holding.{Holds, bind_holds, found_ok, holds_ok}
 use Rattle.lpc_names.proofs.Bound.{nameless-is-not-found}
 use Rattle.lpc_isolation.proofs.Thin.{Alive, Closed, all_alive, handle_closed, is_closed, message_closed, table_closed, wait_closed, port-live}
 use Rattle.lpc_isolation.proofs.Deeds.{AreTame, gives, more, none, numbers, registers, Deeds}

@@ -27,14 +27,14 @@ use Rattle.lpc_base.specs.declared.status.Status.{Status}
 use Rattle.lpc_base.specs.declared.status.TheConstants.{SUCCESS}
 use Rattle.lpc_model.specs.declared.entry.CallName.TheVariants.{NtQueryObject}
 use Rattle.lpc_model.specs.declared.entry.Entry.TheVariants.{Answer}
-use Rattle.lpc_model.proofs.LinkedLines.{held_step}
-use Rattle.lpc_model.proofs.Usable.{live-number}
+use Rattle.lpc_model.proofs.Linked.Lines.{held_step}
+use Rattle.lpc_model.proofs.Calls.Usable.{live-number}
 use Rattle.lpc_isolation.proofs.Seen.{bind-same}
 use Rattle.lpc_isolation.proofs.Sent.{Sent, are_sent, is_sent_home, run-sent}
 use Rattle.lpc_isolation.proofs.Held.{Held, held-counts}
-use Rattle.lpc_model.proofs.Holding.{bind_holds, directed_holds, settled_holds}
-use Rattle.lpc_model.proofs.Sweeping.{sweep-tells}
-use Rattle.lpc_model.proofs.StepsInTurn.{after-append, entries-append}
+use Rattle.lpc_model.proofs.Calls.Holding.{bind_holds, directed_holds, settled_holds}
+use Rattle.lpc_model.proofs.Held.FreedPort.{sweep-tells}
+use Rattle.lpc_model.proofs.Steps.InTurn.{after-append, entries-append}
 use Rattle.lpc_isolation.proofs.Thin.{is_live-thin, live-thin, threads-thin, Alive, Behind, Closed, behind-sweep, closed-run, message_closed, thin, thin-run}
 use Rattle.lpc_isolation.proofs.ThinCalls.{AreClosed, row-thin}
 use Rattle.lpc_isolation.proofs.Firm.{Firm, firm-line, firm-step}

@@ -23,8 +23,8 @@ use Rattle.lpc_model.specs.Run.{Along, said_in, world_behind}
 use Rattle.lpc_model.specs.Circle.{Event, Everyone, Group, IsCircleIn, IsFineAt, IsFineWorld, Isolation, Nobody, Of, Ran, Told, Whose, entry_whose, events, inputs, is_fine_call, is_fine_line, is_item, is_seen, item_of, items, line_events, line_whose, members, owner, told_event}
 use Rattle.lpc_isolation.proofs.Alone.{HasFineRows, alone}
 use Rattle.lpc_isolation.proofs.Bare.{BareIsolation, IsBareCircle, bare_events, bare_line_events}
-use Rattle.lpc_model.proofs.Holding.{bind_holds, directed_holds, settled_holds}
-use Rattle.lpc_model.proofs.Usable.{live-number}
+use Rattle.lpc_model.proofs.Calls.Holding.{bind_holds, directed_holds, settled_holds}
+use Rattle.lpc_model.proofs.Calls.Usable.{live-number}
 use Rattle.lpc_isolation.proofs.BareLaw.{bare-isolation}
 use Rattle.lpc_isolation.proofs.Thin.{Alive, Behind, thin}
 use Rattle.lpc_isolation.proofs.Sweeps.{InStep, Sides, entries-same, line-behind}

@@ -25,7 +25,7 @@ use Rattle.lpc_isolation.proofs.Serves.{is_orderly}
 use Rattle.lpc_isolation.proofs.Thin.{Alive, Closed, handle_closed, thin}
 use Rattle.lpc_isolation.proofs.ThinCalls.{AreClosed, StandsBy, port-stands, rows-closed}
 use Rattle.lpc_isolation.proofs.View.{view}
-use Rattle.lpc_model.proofs.Holding.{Holds, holds-more, holds_ok}
+use Rattle.lpc_model.proofs.Calls.Holding.{Holds, holds-more, holds_ok}
 use Rattle.lpc_model.specs.Basics.{AddsHandle, Basic, DrawsIdentifier, Registers, Tells, basic, world_after}
 use Rattle.lpc_model.specs.Circle.{Group, Whose, is_fine_call, owner}
 use Rattle.lpc_model.specs.Found.{handle_at, handles_of, has_value, is_table}

@@ -23,9 +23,9 @@ use Rattle.lpc_model.specs.Tests.{live_test, next_birth}
 use Rattle.lpc_model.specs.Lines.{ScriptCall, terminate_process, terminate_thread}
 use Rattle.lpc_model.specs.SoundWaits.{IsSoundWorld}
 use Rattle.lpc_model.specs.Circle.{Group, Whose}
-use Rattle.lpc_model.proofs.Ending.{answered_end}
-use Rattle.lpc_model.proofs.Holding.{Holds, bind_holds, holds_ok, not_refused}
-use Rattle.lpc_model.proofs.Outcomes.{AreDoomed, all as all_live, one}
+use Rattle.lpc_model.proofs.Steps.Ending.{answered_end}
+use Rattle.lpc_model.proofs.Calls.Holding.{Holds, bind_holds, holds_ok, not_refused}
+use Rattle.lpc_model.proofs.Calls.Outcomes.{AreDoomed, all as all_live, one}
 use Rattle.lpc_isolation.proofs.Alone.{HasFineRows}
 use Rattle.lpc_isolation.proofs.Served.{served}
 use Rattle.lpc_isolation.proofs.View.{view}

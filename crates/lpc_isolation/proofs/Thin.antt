@@ -15,14 +15,14 @@ use Rattle.lpc_model.specs.Basics.{Accepts, AddsHandle, AddsProcess, AddsThread,
 use Rattle.lpc_model.specs.Sweep.{free_unheld, is_unheld, sweep, unheld}
 use Rattle.lpc_model.specs.SoundWaits.{IsSoundWorld}
 use Rattle.lpc_model.specs.Linked.{IsLinked}
-use Rattle.lpc_model.proofs.LinkedJoins.{gone-linked}
-use Rattle.lpc_model.proofs.Swept.{lonely}
-use Rattle.lpc_model.proofs.SoundFrees.{freed-sound, is-zero, less-held, none-pass, sum-first, sum-second, which-all}
-use Rattle.lpc_model.proofs.Registrations.{all-pushed, all-changed, registering-all, unregistering-all}
+use Rattle.lpc_model.proofs.Linked.Joins.{gone-linked}
+use Rattle.lpc_model.proofs.Held.Ports.{lonely}
+use Rattle.lpc_model.proofs.Sound.Frees.{freed-sound, is-zero, less-held, none-pass, sum-first, sum-second, which-all}
+use Rattle.lpc_model.proofs.Steps.Registrations.{all-pushed, all-changed, registering-all, unregistering-all}
 use Rattle.lpc_message.specs.declared.message.ClientId.{ClientId}
 use Rattle.lpc_model.specs.Tests.{client_test}
-use Rattle.lpc_model.proofs.Rows.{has-off}
-use Rattle.lpc_model.proofs.StepsInTurn.{after-append}
+use Rattle.lpc_model.proofs.Steps.Rows.{has-off}
+use Rattle.lpc_model.proofs.Steps.InTurn.{after-append}
 use Rattle.lpc_isolation.proofs.Filters.{first-where, has-inside, kept-change, kept-push, which-where}
 
 -- the births of the ports, processes and threads that stand, and the numbers of processes that stand while they live

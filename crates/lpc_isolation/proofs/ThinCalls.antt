@@ -30,7 +30,7 @@ use Rattle.lpc_model.specs.Tests.{client_test, is_client, handles_test, includes
 use Rattle.lpc_model.specs.Connect.{Completable, ConnectAnswer, accept_steps, answer_test, client_port, complete_test, completion_test, connect_start, connection_request, is_accepted_on, listen_steps, names_connect, nt_accept_connect_port, nt_complete_connect_port, nt_connect_port, nt_create_port, nt_listen_port}
 use Rattle.lpc_model.specs.Request.{Sendable, reply_test, datagram_send_test, datagram_start, datagram_test, given_reply, nt_reply_port, nt_reply_wait_receive_port, nt_request_port, nt_request_wait_reply_port, optional_message, receive_steps, receive_test, request_start, send_test, sent_by}
 use Rattle.lpc_model.specs.SoundWaits.{IsSoundWorld, is_sound_as, is_sound_wait, leads_open, waiter_of}
-use Rattle.lpc_model.proofs.Holding.{Holds, bind_holds, found_holds, found_ok, holds_ok, not_refused}
+use Rattle.lpc_model.proofs.Calls.Holding.{Holds, bind_holds, found_holds, found_ok, holds_ok, not_refused}
 use Rattle.lpc_names.proofs.Bound.{nameless-is-not-found}
 use Rattle.lpc_isolation.proofs.Seen.{bind-same}
 use Rattle.lpc_isolation.proofs.Filters.{first-inside}

@@ -24,9 +24,9 @@ use Rattle.lpc_model.specs.Lines.{accept_connect_port, complete_connect_port, co
 use Rattle.lpc_isolation.proofs.Served.{served}
 use Rattle.lpc_model.specs.SoundWaits.{IsSoundWorld}
 use Rattle.lpc_model.specs.Circle.{Group}
-use Rattle.lpc_model.proofs.Holding.{Holds, bind_holds, found_holds, found_ok, holds-more, holds_ok}
-use Rattle.lpc_model.proofs.Rows.{has-off}
-use Rattle.lpc_model.proofs.Usable.{if-same}
+use Rattle.lpc_model.proofs.Calls.Holding.{Holds, bind_holds, found_holds, found_ok, holds-more, holds_ok}
+use Rattle.lpc_model.proofs.Steps.Rows.{has-off}
+use Rattle.lpc_model.proofs.Calls.Usable.{if-same}
 use Rattle.lpc_isolation.proofs.Sent.{append-sent, are_sent, is_sent_home, leads_home, none-sent, sends_none}
 use Rattle.lpc_isolation.proofs.Create.{made-holds}
 use Rattle.lpc_isolation.proofs.Connects.{on-connect, row, starting}

@@ -9,16 +9,16 @@ use Rattle.lpc_model.specs.Left.{LeavesNothing}
 use Rattle.lpc_model.specs.Lines.{ScriptLine}
 use Rattle.lpc_model.specs.Machine.{Stepped, bare_steps, step}
 use Rattle.lpc_model.specs.Sweep.{loosened, sweep, unheld}
-use Rattle.lpc_model.proofs.Bare.{bare}
-use Rattle.lpc_model.proofs.LinkedLines.{line_linked}
-use Rattle.lpc_model.proofs.LivingRegistrations.{line-living}
-use Rattle.lpc_model.proofs.OpenQueues.{queues_line}
-use Rattle.lpc_model.proofs.Quiet.{quiet_line}
+use Rattle.lpc_model.proofs.Lives.Bare.{bare}
+use Rattle.lpc_model.proofs.Linked.Lines.{line_linked}
+use Rattle.lpc_model.proofs.Lives.Registrations.{line-living}
+use Rattle.lpc_model.proofs.Queues.Open.{queues_line}
+use Rattle.lpc_model.proofs.Held.Lines.{quiet_line}
 use Rattle.lpc_model.proofs.Runs.{lawful_none, lawful_step}
-use Rattle.lpc_model.proofs.SoundLines.{line-sound}
-use Rattle.lpc_model.proofs.Sweeping.{step_swept}
-use Rattle.lpc_model.proofs.StandingCalls.{names_line}
-use Rattle.lpc_model.proofs.StepsInTurn.{after-append}
+use Rattle.lpc_model.proofs.Sound.Lines.{line-sound}
+use Rattle.lpc_model.proofs.Held.FreedPort.{step_swept}
+use Rattle.lpc_model.proofs.Standing.Lines.{names_line}
+use Rattle.lpc_model.proofs.Steps.InTurn.{after-append}
 use Rattle.lpc_rows.specs.Does.{Left, left_by}
 use Rattle.lpc_rows.specs.Kept.{Kept, Same}
 use Rattle.lpc_sweep.specs.Sweeping.{CanSweep}

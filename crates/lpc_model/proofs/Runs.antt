@@ -12,24 +12,24 @@ use Rattle.lpc_model.specs.OpenQueues.{HasOpenQueues, RunKeepsQueuesOpen}
 use Rattle.lpc_model.specs.Standing.{NamesWhatStands, RunNamesWhatStands}
 use Rattle.lpc_model.specs.SingleClosings.{HasSingleClosings, RunHasSingleClosings}
 use Rattle.lpc_model.specs.SoundWaits.{HasSoundWaits, RefusesCutPairsAlone, RunRefusesCutPairsAlone, RunStaysSound}
-use Rattle.lpc_model.proofs.SoundPairs.{refuses_cut_pairs}
-use Rattle.lpc_model.proofs.SoundLines.{sound_none, sound_step, sound_waits}
-use Rattle.lpc_model.proofs.LinkedLines.{held_step, linked_none, linked_step}
-use Rattle.lpc_model.proofs.StandingCalls.{names_none, names_step}
-use Rattle.lpc_model.proofs.OpenQueues.{queues_none, queues_step}
-use Rattle.lpc_model.proofs.ToldLines.{closings_told}
-use Rattle.lpc_model.proofs.SingleClosingsLines.{untold_none, untold_step}
+use Rattle.lpc_model.proofs.Sound.Pairs.{refuses_cut_pairs}
+use Rattle.lpc_model.proofs.Sound.Lines.{sound_none, sound_step, sound_waits}
+use Rattle.lpc_model.proofs.Linked.Lines.{held_step, linked_none, linked_step}
+use Rattle.lpc_model.proofs.Standing.Lines.{names_none, names_step}
+use Rattle.lpc_model.proofs.Queues.Open.{queues_none, queues_step}
+use Rattle.lpc_model.proofs.Closings.ToldLines.{closings_told}
+use Rattle.lpc_model.proofs.Closings.SingleLines.{untold_none, untold_step}
 use Rattle.lpc_model.specs.Deaths.{DeathsAreTold, HasLivingRegistrations, HasSingleRegistrations, RunHasLivingRegistrations, RunHasSingleRegistrations, RunTellsDeaths}
-use Rattle.lpc_model.proofs.ThreadsOnce.{once_step}
-use Rattle.lpc_model.proofs.DeathLines.{deaths_told}
+use Rattle.lpc_model.proofs.Lives.ThreadsOnce.{once_step}
+use Rattle.lpc_model.proofs.Deaths.Lines.{deaths_told}
 use Rattle.lpc_model.specs.Lawful.{IsLawfulWorld}
 use Rattle.lpc_model.specs.Left.{LeavesNothing, RunLeavesNothing}
-use Rattle.lpc_model.proofs.SoundTerminate.{IsSafe}
-use Rattle.lpc_model.proofs.LivingLines.{living_step}
-use Rattle.lpc_model.proofs.KeptPairs.{pairs_step}
-use Rattle.lpc_model.proofs.Bare.{bare}
-use Rattle.lpc_model.proofs.LivingRegistrations.{living_registrations_step}
-use Rattle.lpc_model.proofs.SingleRegistrations.{single_step}
+use Rattle.lpc_model.proofs.Sound.Terminate.{IsSafe}
+use Rattle.lpc_model.proofs.Lives.Handles.{living_step}
+use Rattle.lpc_model.proofs.Lives.KeptPairs.{pairs_step}
+use Rattle.lpc_model.proofs.Lives.Bare.{bare}
+use Rattle.lpc_model.proofs.Lives.Registrations.{living_registrations_step}
+use Rattle.lpc_model.proofs.Lives.SingleRegistrations.{single_step}
 
 -- before the first line
 pub lawful_none : IsLawfulWorld no_rows

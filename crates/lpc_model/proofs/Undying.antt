@@ -23,9 +23,9 @@ use Rattle.lpc_model.specs.Machine.{service_of}
 use Rattle.lpc_model.specs.Register.{is_registered, nt_register_thread_terminate_port, registration_test}
 use Rattle.lpc_model.specs.declared.entry.CallName.TheVariants.{NtRegisterThreadTerminatePort}
 use Rattle.lpc_model.specs.declared.entry.Entry.TheVariants.{Answer}
-use Rattle.lpc_model.proofs.Deathless.{deathless-enter, deathless-receipt, handle-deathless, is_deathless}
-use Rattle.lpc_model.proofs.Ending.{ending-enter, ending-receipt, handle-ending, is_ending}
-use Rattle.lpc_model.proofs.Holding.{Holds, bind_holds, holds_ok}
+use Rattle.lpc_model.proofs.Deaths.Deathless.{deathless-enter, deathless-receipt, handle-deathless, is_deathless}
+use Rattle.lpc_model.proofs.Steps.Ending.{ending-enter, ending-receipt, handle-ending, is_ending}
+use Rattle.lpc_model.proofs.Calls.Holding.{Holds, bind_holds, holds_ok}
 
 -- Steps
 -- no process or thread is made or ends by a step, and no registration goes; it tells of no end

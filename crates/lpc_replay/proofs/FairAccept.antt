@@ -9,7 +9,7 @@ use Rattle.lpc_model.specs.Lines.{accept_connect_port, run}
 use Rattle.lpc_model.specs.Tests.{handles_test}
 use Rattle.lpc_model.specs.World.{ThreadRow, World}
 use Rattle.lpc_model.specs.declared.entry.Entry.TheVariants as entry
-use Rattle.lpc_model.proofs.Holding.{Holds, bind_holds}
+use Rattle.lpc_model.proofs.Calls.Holding.{Holds, bind_holds}
 use Rattle.lpc_replay.specs.Connects.{IsRefusedBy}
 use Rattle.lpc_replay.proofs.Fair.{AreFair, IsRight, answer_wakes, failure_wakes}
 

@@ -13,7 +13,7 @@ use Rattle.lpc_model.specs.Found.{live_thread}
 use Rattle.lpc_model.specs.Lines.{ScriptLine, close, run}
 use Rattle.lpc_model.specs.Tests.{own_handle}
 use Rattle.lpc_model.specs.World.{HandleRow, ThreadRow, WaitRow, World}
-use Rattle.lpc_model.proofs.Holding.{Holds, bind_holds}
+use Rattle.lpc_model.proofs.Calls.Holding.{Holds, bind_holds}
 use Rattle.lpc_replay.specs.Connects.{IsAnsweredBy, IsClosedBy}
 use Rattle.lpc_replay.proofs.Fair.{AreFair, HasItsCall, HaveTheirCalls, IsFair, answer_wakes, failure_wakes}
 use Rattle.lpc_replay.proofs.FairClosing.{HasRefusal, Knows, port_on}

@@ -18,9 +18,9 @@ use Rattle.lpc_model.specs.Lines.{ScriptLine}
 use Rattle.lpc_model.specs.Message.{asks}
 use Rattle.lpc_model.specs.World.{Creator, MessageRow, PortRow, WaitRow, World}
 use Rattle.lpc_model.specs.declared.entry.Entry.TheVariants as entry
-use Rattle.lpc_model.proofs.Closing.{behind, close-pass, pair-pass, queue-pass, stage_five, takes_away, ends-pass}
-use Rattle.lpc_model.proofs.Rows.{first-change}
-use Rattle.lpc_model.proofs.SoundWorlds.{by_kind}
+use Rattle.lpc_model.proofs.Steps.Closing.{behind, close-pass, pair-pass, queue-pass, stage_five, takes_away, ends-pass}
+use Rattle.lpc_model.proofs.Steps.Rows.{first-change}
+use Rattle.lpc_model.proofs.Sound.Worlds.{by_kind}
 use Rattle.lpc_replay.proofs.Fair.{AreFair, HasItsCall, HaveTheirCalls, IsFair, IsRight, enter_fair, failure_wakes, request_wakes, waiter_wakes}
 use Rattle.lpc_replay.proofs.Holding.{all_append, all_filter, all_more}
 

@@ -14,7 +14,7 @@ use Rattle.lpc_model.specs.Refusal.{found_or, refuse_if}
 use Rattle.lpc_model.specs.Tests.{port_test}
 use Rattle.lpc_model.specs.World.{ThreadRow, World}
 use Rattle.lpc_model.specs.declared.entry.Entry.TheVariants as entry
-use Rattle.lpc_model.proofs.Holding.{Holds, bind_holds, found_ok, holds_ok}
+use Rattle.lpc_model.proofs.Calls.Holding.{Holds, bind_holds, found_ok, holds_ok}
 use Rattle.lpc_replay.specs.Connects.{IsCompletedBy}
 use Rattle.lpc_replay.proofs.Fair.{AreFair, HasItsCall, HaveTheirCalls, IsRight, accepted_wakes, answer_wakes}
 use Rattle.lpc_replay.proofs.Holding.{find_all}

@@ -17,7 +17,7 @@ use Rattle.lpc_model.specs.Named.{as_status, named_port, port_found}
 use Rattle.lpc_model.specs.Tests.{handles_test}
 use Rattle.lpc_model.specs.Then.{◌>>=◌}
 use Rattle.lpc_model.specs.World.{ThreadRow, World}
-use Rattle.lpc_model.proofs.Holding.{Holds, bind_holds}
+use Rattle.lpc_model.proofs.Calls.Holding.{Holds, bind_holds}
 use Rattle.lpc_replay.proofs.Failing.{Fails, bind_ends, refuse_fails}
 use Rattle.lpc_replay.proofs.Fair.{AreFair, HaveTheirCalls, sent_fair}
 

@@ -5,10 +5,10 @@ use Rattle.lpc_model.specs.Counts.{asked, nt_duplicate_object, nt_query_object, 
 use Rattle.lpc_model.specs.Lines.{ScriptLine}
 use Rattle.lpc_model.specs.Tests.{handles_test, own_handle}
 use Rattle.lpc_model.specs.World.{ThreadRow, World}
-use Rattle.lpc_model.proofs.Holding.{Holds, bind_holds}
+use Rattle.lpc_model.proofs.Calls.Holding.{Holds, bind_holds}
 use Rattle.lpc_model.specs.Creation.{nt_create_process, nt_create_thread}
 use Rattle.lpc_model.specs.declared.line.ProcArg.{ProcArg}
-use Rattle.lpc_model.proofs.Creating.{process-made, thread-made}
+use Rattle.lpc_model.proofs.Calls.Creating.{process-made, thread-made}
 use Rattle.lpc_replay.proofs.Fair.{AreFair}
 
 pub duplicate_fair : (w : World) (line : ScriptLine) (by : ThreadRow) (handle : ℕ) (access : Option ℕ) → Holds (AreFair w line) (nt_duplicate_object w by handle access)

@@ -7,7 +7,7 @@ use Rattle.lpc_model.specs.Lines.{ScriptLine}
 use Rattle.lpc_model.specs.Named.{free_name}
 use Rattle.lpc_model.specs.Tests.{handles_test, next_birth}
 use Rattle.lpc_model.specs.World.{ThreadRow, World}
-use Rattle.lpc_model.proofs.Holding.{Holds, bind_holds, holds_ok}
+use Rattle.lpc_model.proofs.Calls.Holding.{Holds, bind_holds, holds_ok}
 use Rattle.lpc_replay.proofs.Fair.{AreFair, IsFair}
 use Rattle.lpc_replay.proofs.Holding.{all_append}
 

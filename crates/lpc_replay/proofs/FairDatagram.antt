@@ -5,7 +5,7 @@ use Rattle.lpc_model.specs.Entering.{row_of}
 use Rattle.lpc_model.specs.Lines.{ScriptLine}
 use Rattle.lpc_model.specs.Request.{datagram_send_test, datagram_start, nt_request_port, sent_by}
 use Rattle.lpc_model.specs.World.{ThreadRow, World}
-use Rattle.lpc_model.proofs.Holding.{Holds, bind_holds}
+use Rattle.lpc_model.proofs.Calls.Holding.{Holds, bind_holds}
 use Rattle.lpc_replay.proofs.Fair.{AreFair, HaveTheirCalls, sent_fair}
 
 pub datagram_fair : (w : World) (line : ScriptLine) (by : ThreadRow) (handle : ℕ) (bytes : List ℕ) → HaveTheirCalls w → Holds (AreFair w line) (nt_request_port w by handle bytes)

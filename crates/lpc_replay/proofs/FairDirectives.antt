@@ -8,7 +8,7 @@ use Rattle.lpc_model.specs.Named.{free_name, spelled_name}
 use Rattle.lpc_model.specs.World.{World}
 use Rattle.lpc_model.specs.declared.entry.Entry.TheVariants as entry
 use Rattle.lpc_model.specs.declared.entry.Word.TheVariants as word
-use Rattle.lpc_model.proofs.Holding.{Holds, bind_holds}
+use Rattle.lpc_model.proofs.Calls.Holding.{Holds, bind_holds}
 use Rattle.lpc_replay.proofs.Fair.{AreFair}
 
 pub boot_fair : (w : World) (line : ScriptLine) (pid tid : ℕ) → Holds (λ bs. AreFair w line (Tells (entry.Directive word.Boot SUCCESS) ∷ bs)) (boot_line w pid tid)

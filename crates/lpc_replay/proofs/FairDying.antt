@@ -23,13 +23,13 @@ use Rattle.lpc_model.specs.Message.{asks}
 use Rattle.lpc_model.specs.SoundWaits.{HasShutConnects, can_stay_sound, has_client_port, waiter_of}
 use Rattle.lpc_model.specs.Tests.{is_client}
 use Rattle.lpc_model.specs.World.{MessageRow, ThreadRow, WaitRow, World}
-use Rattle.lpc_model.proofs.Closing.{behind}
-use Rattle.lpc_model.proofs.DeathLines.{death-still, die-threads, is_still}
-use Rattle.lpc_model.proofs.Ending.{behind_dead, behind_told, die-pass, told-facts, turn-pass}
-use Rattle.lpc_model.proofs.SoundTerminate.{IsSafe, die-safe}
-use Rattle.lpc_model.proofs.SoundWorlds.{by_kind, is_sure, sure-waits}
-use Rattle.lpc_model.proofs.SingleClosingsLines.{its-maker}
-use Rattle.lpc_model.proofs.StepsInTurn.{after-append}
+use Rattle.lpc_model.proofs.Steps.Closing.{behind}
+use Rattle.lpc_model.proofs.Deaths.Lines.{death-still, die-threads, is_still}
+use Rattle.lpc_model.proofs.Steps.Ending.{behind_dead, behind_told, die-pass, told-facts, turn-pass}
+use Rattle.lpc_model.proofs.Sound.Terminate.{IsSafe, die-safe}
+use Rattle.lpc_model.proofs.Sound.Worlds.{by_kind, is_sure, sure-waits}
+use Rattle.lpc_model.proofs.Closings.SingleLines.{its-maker}
+use Rattle.lpc_model.proofs.Steps.InTurn.{after-append}
 use Rattle.lpc_replay.specs.Connects.{lives_beside}
 use Rattle.lpc_replay.proofs.Fair.{AreFair, HasItsCall, IsFair}
 use Rattle.lpc_replay.proofs.FairClosing.{AreFairOn, KeepKnown, Knows, keeps_known, away-keeps, enter-keeps, enter_on, knows-all, pair_on, then_fair}

@@ -13,8 +13,8 @@ use Rattle.lpc_model.specs.declared.entry.Entry.TheVariants as entry
 use Rattle.lpc_model.specs.declared.entry.Entry.TheVariants.{Answer}
 use Rattle.lpc_model.specs.declared.entry.Word.TheVariants as word
 use Rattle.lpc_model.proofs.GivenBytes.{GivesBytes, HasBytes}
-use Rattle.lpc_model.proofs.Holding.{Holds, directed_holds, settled_holds}
-use Rattle.lpc_model.proofs.SoundTerminate.{IsSafe}
+use Rattle.lpc_model.proofs.Calls.Holding.{Holds, directed_holds, settled_holds}
+use Rattle.lpc_model.proofs.Sound.Terminate.{IsSafe}
 use Rattle.lpc_replay.proofs.Failing.{fails_with}
 use Rattle.lpc_replay.proofs.Fair.{AreFair, HaveTheirCalls, IsFair, swept_fair}
 use Rattle.lpc_replay.proofs.FairAccept.{accept_fair}

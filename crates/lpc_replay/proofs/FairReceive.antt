@@ -14,7 +14,7 @@ use Rattle.lpc_model.specs.Tests.{port_test}
 use Rattle.lpc_model.specs.World.{MessageRow, PortRow, ThreadRow, World}
 use Rattle.lpc_model.specs.declared.message.Message.{Message}
 use Rattle.lpc_model.proofs.GivenBytes.{AreBytes, HasBytes}
-use Rattle.lpc_model.proofs.Holding.{Holds, bind_holds, holds_ok}
+use Rattle.lpc_model.proofs.Calls.Holding.{Holds, bind_holds, holds_ok}
 use Rattle.lpc_replay.proofs.Fair.{AreFair, HaveTheirCalls, IsFair, take_fair}
 use Rattle.lpc_replay.proofs.FairReplies.{optional_holds, returned_fair}
 use Rattle.lpc_replay.proofs.Holding.{all_append}

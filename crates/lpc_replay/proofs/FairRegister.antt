@@ -4,7 +4,7 @@ use Rattle.lpc_model.specs.Basics.{Registers}
 use Rattle.lpc_model.specs.Lines.{ScriptLine}
 use Rattle.lpc_model.specs.Register.{nt_register_thread_terminate_port}
 use Rattle.lpc_model.specs.World.{ThreadRow, World}
-use Rattle.lpc_model.proofs.Holding.{Holds}
+use Rattle.lpc_model.proofs.Calls.Holding.{Holds}
 use Rattle.lpc_model.proofs.Undying.{register_holds}
 use Rattle.lpc_replay.proofs.Fair.{AreFair, when_fair}
 

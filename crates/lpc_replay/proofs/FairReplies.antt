@@ -21,8 +21,8 @@ use Rattle.lpc_model.specs.declared.entry.ObjectKind.TheVariants as kind
 use Rattle.lpc_model.specs.declared.entry.Value.TheVariants.{Bytes}
 use Rattle.lpc_model.specs.declared.message.Message.{Message}
 use Rattle.lpc_model.proofs.GivenBytes.{AreBytes, written_back}
-use Rattle.lpc_model.proofs.Holding.{Holds, bind_holds, found_holds, found_ok, holds_ok, not_refused}
-use Rattle.lpc_model.proofs.SoundReply.{fits-request}
+use Rattle.lpc_model.proofs.Calls.Holding.{Holds, bind_holds, found_holds, found_ok, holds_ok, not_refused}
+use Rattle.lpc_model.proofs.Sound.Reply.{fits-request}
 use Rattle.lpc_replay.proofs.Fair.{HasItsCall, HaveTheirCalls, IsFair, reply_wakes, request_wakes}
 use Rattle.lpc_replay.proofs.Holding.{find_all, not_false}
 

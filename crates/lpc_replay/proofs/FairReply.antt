@@ -9,7 +9,7 @@ use Rattle.lpc_model.specs.Request.{reply_test, nt_reply_port}
 use Rattle.lpc_model.specs.Tests.{port_test}
 use Rattle.lpc_model.specs.World.{ThreadRow, World}
 use Rattle.lpc_model.proofs.GivenBytes.{AreBytes}
-use Rattle.lpc_model.proofs.Holding.{Holds, bind_holds, holds_ok}
+use Rattle.lpc_model.proofs.Calls.Holding.{Holds, bind_holds, holds_ok}
 use Rattle.lpc_replay.proofs.Fair.{AreFair, HaveTheirCalls}
 use Rattle.lpc_replay.proofs.FairReplies.{returned_fair}
 

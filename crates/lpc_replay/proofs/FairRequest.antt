@@ -11,7 +11,7 @@ use Rattle.lpc_model.specs.Refusal.{found_or}
 use Rattle.lpc_model.specs.Request.{Sendable, nt_request_wait_reply_port, request_start, send_test, sent_by}
 use Rattle.lpc_model.specs.Tests.{port_test}
 use Rattle.lpc_model.specs.World.{ThreadRow, World}
-use Rattle.lpc_model.proofs.Holding.{Holds, bind_holds}
+use Rattle.lpc_model.proofs.Calls.Holding.{Holds, bind_holds}
 use Rattle.lpc_replay.proofs.Failing.{Fails, bind_ends, found_fails, message_fails, port_fails}
 use Rattle.lpc_replay.proofs.Fair.{AreFair, HaveTheirCalls, sent_fair}
 

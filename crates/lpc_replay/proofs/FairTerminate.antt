@@ -24,12 +24,12 @@ use Rattle.lpc_model.specs.Lines.{ScriptLine, run, terminate_process, terminate_
 use Rattle.lpc_model.specs.SoundWaits.{HasSoundWaits, is_sound_as, is_sound_wait, waiter_of}
 use Rattle.lpc_model.specs.Tests.{is_client, live_test}
 use Rattle.lpc_model.specs.World.{HandleRow, ThreadRow, WaitRow, World}
-use Rattle.lpc_model.proofs.Closing.{behind}
-use Rattle.lpc_model.proofs.Ending.{answered_end, behind_dead, behind_told, first-at, rows-left, thread-ends, turn-pass}
-use Rattle.lpc_model.proofs.Holding.{Holds, bind_holds}
-use Rattle.lpc_model.proofs.Rows.{has-found}
-use Rattle.lpc_model.proofs.SoundTerminate.{IsSafe, handle-safe, told-safe}
-use Rattle.lpc_model.proofs.StepsInTurn.{after-append}
+use Rattle.lpc_model.proofs.Steps.Closing.{behind}
+use Rattle.lpc_model.proofs.Steps.Ending.{answered_end, behind_dead, behind_told, first-at, rows-left, thread-ends, turn-pass}
+use Rattle.lpc_model.proofs.Calls.Holding.{Holds, bind_holds}
+use Rattle.lpc_model.proofs.Steps.Rows.{has-found}
+use Rattle.lpc_model.proofs.Sound.Terminate.{IsSafe, handle-safe, told-safe}
+use Rattle.lpc_model.proofs.Steps.InTurn.{after-append}
 use Rattle.lpc_replay.specs.Connects.{IsEndedBy, lives_beside}
 use Rattle.lpc_replay.proofs.Fair.{AreFair, HasItsCall, HaveTheirCalls, IsFair}
 use Rattle.lpc_replay.proofs.FairClose.{IsKnown, known_call, knows_first, refusal_right}

@@ -10,7 +10,7 @@ use Rattle.lpc_model.specs.Sweep.{sweep}
 use Rattle.lpc_model.specs.World.{World}
 use Rattle.lpc_model.specs.Lawful.{IsLawfulWorld}
 use Rattle.lpc_model.proofs.Runs.{said-lawful}
-use Rattle.lpc_model.proofs.Sweeping.{step_swept, swept_none, unheld_none}
+use Rattle.lpc_model.proofs.Held.FreedPort.{step_swept, swept_none, unheld_none}
 
 -- no row goes at the end of a line where each is held
 pub held_sweep : (w : World) → HasHeldRows w → sweep w ≡ []

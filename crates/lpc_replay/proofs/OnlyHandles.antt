@@ -13,7 +13,7 @@ use Rattle.lpc_model.specs.Basics.{DropsHandle, basic, without_handle}
 use Rattle.lpc_model.specs.Close.{is_last}
 use Rattle.lpc_model.specs.Found.{all_handles, handle_count, handles_of, has_handle_to, is_open, is_table, names_port, rows_in, same_birth, same_kind}
 use Rattle.lpc_model.specs.World.{HandleRow, HandleTable, World}
-use Rattle.lpc_model.proofs.SingleClosings.{dropped-shut}
+use Rattle.lpc_model.proofs.Closings.Single.{dropped-shut}
 use Rattle.lpc_replay.specs.Connects.{is_only_with}
 
 -- of handles in tables, where one passes that is the first of a process and no other does, none of another process's

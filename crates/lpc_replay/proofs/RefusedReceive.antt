@@ -17,7 +17,7 @@ use Rattle.lpc_model.specs.World.{MessageRow, PortRow, ThreadRow, WaitRow, World
 use Rattle.lpc_model.specs.declared.entry.CallName.TheVariants.{NtReplyWaitReceivePort}
 use Rattle.lpc_model.specs.declared.entry.Entry.TheVariants.{Answer, Waits}
 use Rattle.lpc_model.specs.declared.message.Message.{Message}
-use Rattle.lpc_model.proofs.Holding.{Holds, bind_holds, holds_ok}
+use Rattle.lpc_model.proofs.Calls.Holding.{Holds, bind_holds, holds_ok}
 use Rattle.lpc_replay.proofs.Failing.{Ends, Fails, bind_ends, found_fails, message_fails, port_fails, refuse_fails}
 use Rattle.lpc_replay.proofs.FairReplies.{message_holds, optional_holds, port_holds}
 use Rattle.lpc_replay.proofs.Misfits.{OneRefusal, StaysWhereRefused, answered_fails, no_fit, no_success}

@@ -12,7 +12,7 @@ use Rattle.lpc_model.specs.World.{ThreadRow, WaitRow, World}
 use Rattle.lpc_model.specs.declared.entry.CallName.TheVariants.{NtReplyPort}
 use Rattle.lpc_model.specs.declared.entry.Entry.TheVariants.{Answer}
 use Rattle.lpc_model.specs.declared.message.Message.{Message}
-use Rattle.lpc_model.proofs.Holding.{Holds, bind_holds, holds_ok}
+use Rattle.lpc_model.proofs.Calls.Holding.{Holds, bind_holds, holds_ok}
 use Rattle.lpc_replay.proofs.Failing.{Ends, bind_ends, message_fails, port_fails}
 use Rattle.lpc_replay.proofs.FairReplies.{message_holds, port_holds}
 use Rattle.lpc_replay.proofs.Misfits.{OneRefusal, StaysWhereRefused, answered_fails, no_fit, no_success}

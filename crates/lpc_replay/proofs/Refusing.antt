@@ -16,7 +16,7 @@ use Rattle.lpc_model.specs.World.{ThreadRow, WaitRow, World}
 use Rattle.lpc_model.specs.declared.entry.CallName.{CallName}
 use Rattle.lpc_model.specs.declared.entry.Entry.TheVariants.{Answer, Busy, NoThread}
 use Rattle.lpc_model.specs.declared.entry.Entry.{Entry}
-use Rattle.lpc_model.proofs.Holding.{Holds, settled_holds}
+use Rattle.lpc_model.proofs.Calls.Holding.{Holds, settled_holds}
 use Rattle.lpc_replay.proofs.Failing.{Ends}
 use Rattle.lpc_replay.proofs.HeldWorlds.{held_sweep, step_tells}
 use Rattle.lpc_replay.proofs.Misfits.{OneRefusal, StaysWhereRefused}

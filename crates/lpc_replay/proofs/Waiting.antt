@@ -10,7 +10,7 @@ use Rattle.lpc_model.specs.Found.{waits_as, waits_at}
 use Rattle.lpc_model.specs.Lines.{ScriptLine}
 use Rattle.lpc_model.specs.Machine.{steps}
 use Rattle.lpc_model.specs.World.{WaitRow, World}
-use Rattle.lpc_model.proofs.Rows.{has-append}
+use Rattle.lpc_model.proofs.Steps.Rows.{has-append}
 use Rattle.lpc_replay.specs.Waits.{WaitsEndAsTold, tells_end}
 use Rattle.lpc_replay.proofs.Fair.{freed_waits}
 

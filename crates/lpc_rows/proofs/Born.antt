@@ -13,7 +13,7 @@ use Rattle.lpc_model.specs.Basics.{past_ordinal}
 use Rattle.lpc_model.specs.Found.{is_born_process, is_born_thread, is_thread, same_birth}
 use Rattle.lpc_model.specs.Tests.{next_birth}
 use Rattle.lpc_model.specs.World.{ProcessRow, ThreadRow, UsedThread, World}
-use Rattle.lpc_model.proofs.Rows.{count-change, count-less}
+use Rattle.lpc_model.proofs.Steps.Rows.{count-change, count-less}
 use Rattle.lpc_rows.specs.Lawful.{AreBorn, AreBornIn, can_begin, drew, drew_own, is_birth_of, is_noted, is_noted_process, is_numbered, was_drawn}
 use Rattle.lpc_rows.proofs.Drawn.{not-drawn, unnoted, was-drawn-by, was-drawn-less, was-drawn-push}
 

@@ -18,7 +18,7 @@ use Rattle.lpc_waits.specs.Table as waits
 use Rattle.lpc_waits.specs.declared.WaitRow.{WaitRow}
 use Rattle.lpc_rows.specs.Kept.{is_alive, rows_by}
 use Rattle.lpc_model.specs.Found.{all_handles, handle_count, is_born_process, same_object}
-use Rattle.lpc_model.proofs.Handles.{has-each}
+use Rattle.lpc_model.proofs.Steps.Handles.{has-each}
 use Rattle.lpc_rows.specs.Held.{has_handles}
 use Rattle.lpc_rows.specs.Lawful.{AreLawful}
 use Rattle.lpc_rows.specs.Names.{name_of, stands}

@@ -10,7 +10,7 @@ use Rattle.lpc_base.proofs.Bools.{same-number}
 use Rattle.lpc_model.specs.Creation as creation
 use Rattle.lpc_model.specs.Found.{is_born_process, is_born_thread, is_thread, lives_in}
 use Rattle.lpc_model.specs.World.{ProcessRow, ThreadRow, World}
-use Rattle.lpc_model.proofs.Rows.{has-found}
+use Rattle.lpc_model.proofs.Steps.Rows.{has-found}
 use Rattle.lpc_procs.specs.Procs as procs
 use Rattle.lpc_procs.specs.declared.rows.BornThread.{BornThread}
 use Rattle.lpc_rows.specs.Clauses.{born_thread, thread_row}

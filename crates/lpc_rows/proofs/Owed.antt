@@ -10,7 +10,7 @@ use Rattle.lpc_handles.specs.declared.table.Row.{Row}
 use Rattle.lpc_model.specs.World.{HandleRow, PortRow, World}
 use Rattle.lpc_model.specs.Basics.{no_handles, with_handle, without_handle}
 use Rattle.lpc_model.specs.Found.{has_handle_to, is_client_port, is_open, is_port, is_table, names_port, same_birth}
-use Rattle.lpc_model.proofs.SingleClosings.{put-none}
+use Rattle.lpc_model.proofs.Closings.Single.{put-none}
 use Rattle.lpc_ports.specs.declared.Port.{Port}
 use Rattle.lpc_slots.specs.declared.Key.{Key}
 use Rattle.lpc_rows.specs.Kept.{is_open_client, owed_deaths, owed_rows}

@@ -5,7 +5,7 @@ use Rattle.lpc_base.specs.Rows.{change, count, each, every, has, when, without}
 use Rattle.lpc_base.proofs.RowWords.{count-append, count-bound, every-more}
 use Rattle.lpc_model.specs.World.{Birth, ThreadRow}
 use Rattle.lpc_model.specs.Found.{is_thread, registered_by, same_birth}
-use Rattle.lpc_model.proofs.Rows.{has-append}
+use Rattle.lpc_model.proofs.Steps.Rows.{has-append}
 use Rattle.lpc_procs.specs.Procs.{has_registered, is_of_birth, live_registrations, registered_live}
 use Rattle.lpc_procs.specs.declared.rows.ThreadRow as procs
 use Rattle.lpc_procs.specs.declared.rows.Registration.{Registration}

@@ -8,7 +8,7 @@ use Rattle.lpc_base.proofs.RowMaps.{every-both, without-map}
 use Rattle.lpc_base.proofs.RowWords.{count-bound, count-left, every-more, every-off, every-without}
 use Rattle.lpc_model.specs.World.{ProcessRow, ThreadRow, World}
 use Rattle.lpc_model.specs.Found.{is_born_process, is_born_thread, is_life, is_live_thread, is_process, lives_by, process_name, same_birth, thread_name}
-use Rattle.lpc_model.proofs.Rows.{has-without}
+use Rattle.lpc_model.proofs.Steps.Rows.{has-without}
 use Rattle.lpc_procs.specs.Procs as procs
 use Rattle.lpc_rows.specs.Held.{has_holders}
 use Rattle.lpc_rows.specs.Kept.{HandleRoom, Roomy, is_alive, rows_by}

@@ -7,7 +7,7 @@ use Rattle.lpc_model.specs.Basics.{Basic, Steps, basic, entries_of, told, world_
 use Rattle.lpc_model.specs.Listed.{Listed}
 use Rattle.lpc_model.specs.Sweep.{loosened, loosens}
 use Rattle.lpc_model.specs.World.{World}
-use Rattle.lpc_model.proofs.StepsInTurn.{after-append, entries-append}
+use Rattle.lpc_model.proofs.Steps.InTurn.{after-append, entries-append}
 use Rattle.lpc_rows.specs.Does.{Left, Took, left_by}
 use Rattle.lpc_rows.specs.Kept.{Kept}
 

@@ -20,7 +20,7 @@ use Rattle.lpc_model.specs.Basics.{Basic, Enters, Receives, Wakes, basic, entrie
 use Rattle.lpc_model.specs.Fields.{msg, receipt}
 use Rattle.lpc_model.specs.Entering.{enter, given_steps, received_steps, shown, take_connect_steps, take_steps, takes, woken}
 use Rattle.lpc_model.specs.Sweep.{loosened, loosens}
-use Rattle.lpc_model.proofs.StepsInTurn.{after-append}
+use Rattle.lpc_model.proofs.Steps.InTurn.{after-append}
 use Rattle.lpc_rows.specs.Does.{Left, left_by}
 use Rattle.lpc_rows.specs.Kept.{has_queued, is_unsent, pends_as}
 use Rattle.lpc_rows.specs.Lawful.{are_single, is_quiet}

@@ -7,8 +7,8 @@ use Rattle.lpc_model.specs.World.{ObjectName, World}
 use Rattle.lpc_model.specs.Basics.{Frees, basic, world_after}
 use Rattle.lpc_model.specs.Found.{process_name, thread_name}
 use Rattle.lpc_model.specs.Sweep.{is_unheld, sweep}
-use Rattle.lpc_model.proofs.FreedFirst.{process_first, thread_first}
-use Rattle.lpc_model.proofs.SweptLives.{same-thread}
+use Rattle.lpc_model.proofs.Held.FreedLife.{process_first, thread_first}
+use Rattle.lpc_model.proofs.Held.Lives.{same-thread}
 use Rattle.lpc_rows.specs.Capacity.{but_lives}
 use Rattle.lpc_rows.specs.Kept.{GainsNoLives, Kept, Roomy}
 use Rattle.lpc_rows.proofs.Rooms.{roomy_same, roomy_then}

@@ -19,12 +19,12 @@ use Rattle.lpc_model.specs.Linked.{is_mutual}
 use Rattle.lpc_base.proofs.RowMaps.{every-first}
 use Rattle.lpc_base.proofs.RowWords.{every-without}
 use Rattle.lpc_base.proofs.Births.{birth-same}
-use Rattle.lpc_model.proofs.OpenQueues.{queues_freed}
-use Rattle.lpc_model.proofs.Rows.{has-found}
-use Rattle.lpc_model.proofs.Standing.{gone-names, unheld_no_queue}
-use Rattle.lpc_model.proofs.LinkedJoins.{gone-linked}
-use Rattle.lpc_model.proofs.SoundFrees.{freed-sound}
-use Rattle.lpc_model.proofs.Swept.{unheld-parts}
+use Rattle.lpc_model.proofs.Queues.Open.{queues_freed}
+use Rattle.lpc_model.proofs.Steps.Rows.{has-found}
+use Rattle.lpc_model.proofs.Standing.Steps.{gone-names, unheld_no_queue}
+use Rattle.lpc_model.proofs.Linked.Joins.{gone-linked}
+use Rattle.lpc_model.proofs.Sound.Frees.{freed-sound}
+use Rattle.lpc_model.proofs.Held.Ports.{unheld-parts}
 use Rattle.lpc_rows.specs.Held.{is_joined_to, is_named}
 use Rattle.lpc_rows.proofs.Counted.{named-counted}
 use Rattle.lpc_rows.proofs.Registered.{registrations}

@@ -1,7 +1,7 @@
 use Rattle.std.proofs.Common.{◌≡◌, [], ◌∷◌, ap, arith, refl, ◌∙◌}
 use Rattle.lpc_model.specs.Basics.{Steps, Unbinds, doing, ◌▹◌}
 use Rattle.lpc_model.specs.Close.{close_port, cut_pair, empty_queue, end_receives, end_requests, post_closed}
-use Rattle.lpc_model.proofs.Closing.{behind}
+use Rattle.lpc_model.proofs.Steps.Closing.{behind}
 use Rattle.lpc_steps.specs.Closing.{end_all}
 use Rattle.lpc_rows.specs.Does.{Left}
 use Rattle.lpc_rows.specs.Names.{name_of}

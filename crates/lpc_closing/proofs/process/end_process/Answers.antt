@@ -1,7 +1,7 @@
 use Rattle.std.proofs.Common.{drop, length, ap, arith, ◌∙◌}
 use Rattle.lpc_model.specs.Found.{handles_of}
 use Rattle.lpc_model.specs.World.{World}
-use Rattle.lpc_model.proofs.Ending.{first-at, rows-left}
+use Rattle.lpc_model.proofs.Steps.Ending.{first-at, rows-left}
 use Rattle.lpc_rows.specs.Clauses.{row_shown}
 use Rattle.lpc_rows.specs.Does.{Left}
 use Rattle.lpc_closing.proofs.Turns.{closed-can, head-is, head-none, none-closed, one-closed, table-left}

@@ -2,7 +2,7 @@ use Rattle.std.proofs.Common.{◌≡◌, ◌∙◌, [], ◌∷◌, ap, subst, sy
 use Rattle.std.specs.Prelude.{◌==◌, Ok, Err}
 use Rattle.lpc_model.specs.Death.{code_status, end_threads}
 use Rattle.lpc_model.specs.World.{ThreadRow, World}
-use Rattle.lpc_model.proofs.Usable.{live-number}
+use Rattle.lpc_model.proofs.Calls.Usable.{live-number}
 use Rattle.lpc_rows.specs.Does.{Took}
 use Rattle.lpc_rows.specs.Ready.{caller}
 use Rattle.lpc_death.specs.Ends.{living_thread}

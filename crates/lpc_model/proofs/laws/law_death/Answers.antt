@@ -1,4 +1,4 @@
-use Rattle.lpc_model.proofs.AccountedRuns.{deaths-accounted}
+use Rattle.lpc_model.proofs.Account.Runs.{deaths-accounted}
 use Rattle.lpc_model.proofs.Runs.{deaths_told_run, living_registrations_run, leaves_nothing_run, single_registrations_run}
 use Rattle.lpc_model.proofs.laws.law_death.Goals as goal
 

@@ -1,4 +1,4 @@
-use Rattle.lpc_model.proofs.AccountedRuns.{messages-accounted}
+use Rattle.lpc_model.proofs.Account.Runs.{messages-accounted}
 use Rattle.lpc_model.proofs.laws.law_messages_are_accounted_for.Goals as goal
 
 pub returns : goal.returns

@@ -1,4 +1,4 @@
-use Rattle.lpc_model.proofs.OpenQueues.{queues_none, queues_step}
+use Rattle.lpc_model.proofs.Queues.Open.{queues_none, queues_step}
 use Rattle.lpc_model.proofs.Runs.{queues_run}
 use Rattle.lpc_model.proofs.laws.law_open_queues.Goals as goal
 

@@ -1,4 +1,4 @@
-use Rattle.lpc_model.proofs.Queues.{first_in_first_out, first_waiter_takes}
+use Rattle.lpc_model.proofs.Queues.Order.{first_in_first_out, first_waiter_takes}
 use Rattle.lpc_model.proofs.laws.law_queues_keep_their_order.Goals as goal
 
 pub returns-clause-messages : goal.returns-clause-messages

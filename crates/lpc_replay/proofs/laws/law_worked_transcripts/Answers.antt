@@ -1,8 +1,8 @@
-use Rattle.lpc_model.proofs.WorkedClosings.{worked_closings}
-use Rattle.lpc_model.proofs.WorkedConnections.{worked_connections}
-use Rattle.lpc_model.proofs.WorkedCreations.{worked_creations}
-use Rattle.lpc_model.proofs.WorkedEndings.{worked_endings}
-use Rattle.lpc_model.proofs.WorkedTranscripts.{worked_transcripts}
+use Rattle.lpc_model.proofs.Worked.Closings.{worked_closings}
+use Rattle.lpc_model.proofs.Worked.Connections.{worked_connections}
+use Rattle.lpc_model.proofs.Worked.Creations.{worked_creations}
+use Rattle.lpc_model.proofs.Worked.Endings.{worked_endings}
+use Rattle.lpc_model.proofs.Worked.Transcripts.{worked_transcripts}
 use Rattle.lpc_replay.proofs.laws.law_worked_transcripts.Goals as goal
 
 pub returns-clause-transcripts : goal.returns-clause-transcripts

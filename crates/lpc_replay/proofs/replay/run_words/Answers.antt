@@ -1,7 +1,7 @@
 use Rattle.lpc_model.specs.Accounts.{RunAccountsForDeaths}
 use Rattle.lpc_model.specs.Deaths.{RunTellsDeaths}
 use Rattle.lpc_model.specs.Left.{RunLeavesNothing}
-use Rattle.lpc_model.proofs.AccountedRuns.{deaths-accounted}
+use Rattle.lpc_model.proofs.Account.Runs.{deaths-accounted}
 use Rattle.lpc_model.proofs.Runs.{deaths_told_run, leaves_nothing_run}
 use Rattle.lpc_replay.specs.Laws.{ClientsApart, ConnectsReturn, MisfitsRefused, RefusalsIdle, RefusalsStay, RequestsReturn, WaitsEnd}
 use Rattle.lpc_replay.proofs.EveryScript.{every_client, every_connect, every_misfit, every_refusal, every_removal, every_request, every_wait}

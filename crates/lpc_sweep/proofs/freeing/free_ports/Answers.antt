@@ -4,7 +4,7 @@ use Rattle.lpc_model.specs.Found.{is_port, port_name}
 use Rattle.lpc_model.specs.Linked.{AreLivesHeld}
 use Rattle.lpc_model.specs.Sweep.{is_unheld, sweep}
 use Rattle.lpc_model.specs.World.{PortRow, World}
-use Rattle.lpc_model.proofs.Sweeping.{free_one, lives_freed, swept_none_world, unheld_ports}
+use Rattle.lpc_model.proofs.Held.FreedPort.{free_one, lives_freed, swept_none_world, unheld_ports}
 use Rattle.lpc_sweep.specs.Sweeping.{CanSweep}
 use Rattle.lpc_rows.specs.Names.{name_of}
 use Rattle.lpc_sweep.proofs.Ahead.{ahead_same, ahead_then}

@@ -1,5 +1,5 @@
 use Rattle.std.proofs.Common.{sym, ◌∙◌}
-use Rattle.lpc_model.proofs.Sweeping.{swept_none_world}
+use Rattle.lpc_model.proofs.Held.FreedPort.{swept_none_world}
 use Rattle.lpc_sweep.proofs.freeing.sweep.Goals as goal
 
 pub returns-else-is_loose-clause-rows : goal.returns-else-is_loose-clause-rows

@@ -1,7 +1,7 @@
 use Rattle.lpc_model.specs.Lines.{line_of}
-use Rattle.lpc_model.proofs.SoundLines.{sound_waits}
-use Rattle.lpc_model.proofs.DeathLines.{deaths_told}
-use Rattle.lpc_model.proofs.ToldLines.{closings_told}
+use Rattle.lpc_model.proofs.Sound.Lines.{sound_waits}
+use Rattle.lpc_model.proofs.Deaths.Lines.{deaths_told}
+use Rattle.lpc_model.proofs.Closings.ToldLines.{closings_told}
 use Rattle.lpc_machine.proofs.Sound as sound
 use Rattle.lpc_machine.proofs.machine.Machine.step.Goals as goal
 

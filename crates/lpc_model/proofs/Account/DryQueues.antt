@@ -1,0 +1,247 @@
+-- Where a receive waits no message stands, and what enters there it takes: a message that enters a queue is in balance.
+use Rattle.std.proofs.Common.{◌≡◌, ◌∙◌, ℕ, ◌+◌, ◌≤◌, append_assoc, List, [], ◌∷◌, ◌++◌, Bool, true, false, not, Option, Some, None, ap, refl, sym, subst, arith}
+use Rattle.std.proofs.lemmas.Bool.{and_from, eq-eqb, or_left}
+use Rattle.std.specs.Prelude.{◌&&◌, ◌||◌, option_map}
+use Rattle.lpc_base.specs.Rows.{count, every, first, given, has, passes, when, without, without_first}
+use Rattle.lpc_base.proofs.RowWords.{count-append, every-append, every-change, every-more, every-push, every-without, first-passes, has_none-more, has_none-push, has_none-without, has_none-without_first, none-counted}
+use Rattle.lpc_base.proofs.RowMaps.{every-both, every-first, every-none}
+use Rattle.lpc_base.proofs.Births.{birth-same, birth-self, births-apart}
+use Rattle.lpc_base.proofs.Bools.{first-true}
+use Rattle.lpc_base.specs.declared.birth.Birth.{Birth}
+use Rattle.lpc_base.specs.declared.status.TheConstants.{SUCCESS}
+use Rattle.lpc_model.specs.declared.entry.Entry.TheVariants as entry
+use Rattle.lpc_model.specs.declared.entry.ObjectKind.{ObjectKind}
+use Rattle.lpc_model.specs.declared.entry.ObjectKind.TheVariants as kind
+use Rattle.lpc_model.specs.World.{Listen, MessageRow, Receive, WaitRow, World}
+use Rattle.lpc_model.specs.Message.{asks, is_connection_request, message_of}
+use Rattle.lpc_model.specs.Fields.{msg, receipt}
+use Rattle.lpc_model.specs.Found.{is_listen, is_open, is_own_of, is_queued, is_queued_connect, is_receive, is_the, port_row, same_birth, waits_as, waits_at}
+use Rattle.lpc_model.specs.Basics.{Accepts, Awaits, Basic, Dies, Empties, Enters, Frees, Receives, Takes, TakesConnect, Wakes, Withdraws, accepted, basic, freed, received, world_after}
+use Rattle.lpc_model.specs.Entering.{enter, given_steps, received_steps, shown, takes, woken}
+use Rattle.lpc_model.specs.Tests.{is_client}
+use Rattle.lpc_model.specs.SoundWaits.{IsSoundWorld, has_come, is_joined, is_sound_wait, waiter_of}
+use Rattle.lpc_model.specs.Lines.{ScriptLine}
+use Rattle.lpc_model.proofs.Steps.Rows.{without_first-push}
+use Rattle.lpc_model.proofs.Sound.Drops.{one_if}
+use Rattle.lpc_model.proofs.Sound.Worlds.{by_kind}
+use Rattle.lpc_model.specs.Accounts.{Receipt, shows_receipt, is_received, has_receipt, standing, waited_on}
+use Rattle.lpc_model.proofs.Account.Balance.{AreBalanced, is_level, level-balanced}
+
+-- in a world behind some steps of a line: no message stands on the queue on which a receive waits, and its thread waited there
+-- before the line
+abbrev pub is_dry : World → World → WaitRow → Bool
+is_dry w v x = not (is_receive x) || (not (has (is_queued x.queue) v.messages) && is_the x.queue (waited_on w x.thread))
+
+abbrev pub HasDryQueues : World → World → Type 0
+HasDryQueues w v = every (is_dry w v) v.waits ≡ true
+
+-- Steps that let no message in, and begin no receive
+abbrev pub is_soft : Basic → Bool
+is_soft (Enters m) = false
+is_soft (Awaits x) = not (is_receive x)
+is_soft b = true
+
+less-dry : (w v u : World) (x : WaitRow) → (is_receive x ≡ true → has (is_queued x.queue) v.messages ≡ false → has (is_queued x.queue) u.messages ≡ false) → is_dry w v x ≡ true → is_dry w u x ≡ true
+less-dry w v u x = parts (is_receive x) (has (is_queued x.queue) v.messages) (has (is_queued x.queue) u.messages) (is_the x.queue (waited_on w x.thread))
+  where
+    parts : (r a b c : Bool) → (r ≡ true → a ≡ false → b ≡ false) → (not r || (not a && c)) ≡ true → (not r || (not b && c)) ≡ true
+    parts false a b c more is = refl
+    parts true true b c more is = absurd (cc)
+    parts true false b c more is = let off = more refl refl in grind (arith, off, is)
+
+fewer-dry : (w v : World) (ms : List MessageRow) → ((q : Birth) → has (is_queued q) v.messages ≡ false → has (is_queued q) ms ≡ false) → HasDryQueues w v → HasDryQueues w (record v { messages = ms })
+fewer-dry w v ms less dry = every-more (is_dry w v) (is_dry w (record v { messages = ms })) (λ x. less-dry w v (record v { messages = ms }) x (λ _ off. less x.queue off)) v.waits dry
+
+accepted-dry : (w v : World) (reply : List ℕ) (x : WaitRow) → is_dry w v x ≡ true → is_dry w v (accepted reply x) ≡ true
+accepted-dry w v reply = by_kind (λ x. is_dry w v x ≡ true → is_dry w v (accepted reply x) ≡ true) (λ x m is. is) (λ x is. is) (λ x is. is) (λ x m is. refl) (λ x m r is. is)
+
+freed-dry : (w v : World) (k : ObjectKind) (b : Birth) → HasDryQueues w v → HasDryQueues w (freed v k b)
+freed-dry w v kind.Port b dry = dry
+freed-dry w v kind.Section b dry = dry
+freed-dry w v kind.Token b dry = dry
+freed-dry w v kind.Process b dry = dry
+freed-dry w v kind.Thread b dry = dry
+
+dry-step : (w v : World) (b : Basic) → is_soft b ≡ true → HasDryQueues w v → HasDryQueues w (basic v b)
+dry-step w v (Wakes who call status fields) is dry = every-without (is_dry w v) (waits_as who) v.waits dry
+dry-step w v (Dies who status) is dry = every-without (is_dry w v) (waits_as who) v.waits dry
+dry-step w v (Awaits x) is dry = every-push (is_dry w v) v.waits x dry (or_left (not (is_receive x)) _ is)
+dry-step w v (Receives who queue) is dry = every-change (is_dry w v) (waits_at who queue) received (λ x one. one) v.waits dry
+dry-step w v (Accepts who reply) is dry = every-change (is_dry w v) (waits_as who) (accepted reply) (accepted-dry w v reply) v.waits dry
+dry-step w v (Takes queue) is dry = fewer-dry w v (without_first (is_queued queue) v.messages) (λ q off. has_none-without_first (is_queued q) (is_queued queue) v.messages off) dry
+dry-step w v (TakesConnect queue) is dry = fewer-dry w v (without_first (is_queued_connect queue) v.messages) (λ q off. has_none-without_first (is_queued q) (is_queued_connect queue) v.messages off) dry
+dry-step w v (Withdraws who) is dry = fewer-dry w v (without (is_own_of who) v.messages) (λ q off. has_none-without (is_queued q) (is_own_of who) v.messages off) dry
+dry-step w v (Empties queue) is dry = fewer-dry w v (without (is_queued queue) v.messages) (λ q off. has_none-without (is_queued q) (is_queued queue) v.messages off) dry
+dry-step w v (Frees o) is dry = freed-dry w v o.kind o.birth dry
+dry-step w v (Enters m) is dry = absurd (cc)
+dry-step w v b is dry = dry
+
+pub dry-all : (w v : World) (bs : List Basic) → every is_soft bs ≡ true → HasDryQueues w v → HasDryQueues w (world_after v bs)
+dry-all w v [] all dry = dry
+dry-all w v (b ∷ bs) all dry =
+    let here : is_soft b ≡ true = grind arith in
+    let later : every is_soft bs ≡ true = grind arith in
+    dry-all w (basic v b) bs later (dry-step w v b here dry)
+
+-- A message that enters
+soft-receipt : (m : MessageRow) → every is_soft (received_steps m) ≡ true
+soft-receipt m = at (asks m.message)
+  where
+    at : (a : Bool) → every is_soft (when a (Receives m.message.header.client.thread m.queue ∷ [])) ≡ true
+    at true = refl
+    at false = refl
+
+pub level-receipt : (m : MessageRow) → every is_level (received_steps m) ≡ true
+level-receipt m = at (asks m.message)
+  where
+    at : (a : Bool) → every is_level (when a (Receives m.message.header.client.thread m.queue ∷ [])) ≡ true
+    at true = refl
+    at false = refl
+
+pushed-off : (q : Birth) (ms : List MessageRow) (m : MessageRow) → same_birth m.queue q ≡ false → has (is_queued q) ms ≡ false → has (is_queued q) (ms ++ m ∷ []) ≡ false
+pushed-off q ms m other off = has_none-push (is_queued q) ms m off other
+
+-- a connection request that enters and is taken leaves no message more where none stood
+connect-off : (q : Birth) (ms : List MessageRow) (m : MessageRow) → is_connection_request m.message ≡ true → has (is_queued q) ms ≡ false → has (is_queued q) (without_first (is_queued_connect m.queue) (ms ++ m ∷ [])) ≡ false
+connect-off q ms m connects off = at (same_birth m.queue q) refl
+  where
+    at : (c : Bool) → same_birth m.queue q ≡ c → has (is_queued q) (without_first (is_queued_connect m.queue) (ms ++ m ∷ [])) ≡ false
+    at false other = has_none-without_first (is_queued q) (is_queued_connect m.queue) (ms ++ m ∷ []) (pushed-off q ms m other off)
+    at true is =
+        let same : m.queue ≡ q = birth-same m.queue q is in
+        let none : has (is_queued_connect m.queue) ms ≡ false = rw same (has_none-more (is_queued q) (is_queued_connect q) (λ x off. grind (arith, off)) ms off) in
+        let all : without_first (is_queued_connect m.queue) (ms ++ m ∷ []) ≡ ms = without_first-push (is_queued_connect m.queue) ms m none (and_from (same_birth m.queue m.queue) (is_connection_request m.message) (birth-self m.queue) connects) in
+        rw all off
+
+pub count-one : {X : Type 0} (p : X → Bool) (x : X) → count p (x ∷ []) ≡ one_if (p x)
+count-one p x = grind arith
+
+pub one-each : {X Y : Type 0} (p : X → Bool) (q : Y → Bool) (x : X) (y : Y) → q y ≡ p x → (n : ℕ) → n + count p (x ∷ []) ≡ n + (count q (y ∷ []) + 0)
+one-each p q x y same n = at (p x) refl
+  where
+    at : (b : Bool) → p x ≡ b → n + count p (x ∷ []) ≡ n + (count q (y ∷ []) + 0)
+    at true is = let other = same ∙ is in grind (arith, is, other)
+    at false is = let other = same ∙ is in grind (arith, is, other)
+
+-- what is so of steps that let a message in: the balance, and dry queues behind them
+module _ (s : Receipt) (quiet : asks (message_of s.bytes) ≡ false) (w : World) (line : ScriptLine) where
+  pub record IsEntered (v : World) (bs : List Basic) : Type 0 where
+    pub balanced : AreBalanced s quiet w line v bs
+    pub dry : HasDryQueues w (world_after v bs)
+
+  -- none takes it
+  kept-dry : (v : World) (m : MessageRow) → first (takes m) v.waits ≡ None → HasDryQueues w v → HasDryQueues w (basic v (Enters m))
+  kept-dry v m none dry = every-both (is_dry w v) (λ x. not (takes m x)) (is_dry w (basic v (Enters m))) one v.waits dry (every-none (takes m) v.waits none)
+    where
+      away : (r l c q : Bool) → not ((r || (l && c)) && q) ≡ true → r ≡ true → q ≡ false
+      away r l c q is receives = grind arith
+
+      one : (x : WaitRow) → is_dry w v x ≡ true → not (takes m x) ≡ true → is_dry w (basic v (Enters m)) x ≡ true
+      one x dry off = less-dry w v (basic v (Enters m)) x (λ receives none. pushed-off x.queue v.messages m (births-apart x.queue m.queue (away (is_receive x) (is_listen x) (is_connection_request m.message) (same_birth x.queue m.queue) off receives)) none) dry
+
+  enter-none : (v : World) (m : MessageRow) → first (takes m) v.waits ≡ None → HasDryQueues w v → IsEntered v (Enters m ∷ [])
+  enter-none v m none dry = record { balanced = level-balanced s quiet w line v (Enters m ∷ []) refl; dry = kept-dry v m none dry }
+
+  -- a listen takes it
+  enter-listen : (v : World) (m : MessageRow) (x : WaitRow) → is_connection_request m.message ≡ true → HasDryQueues w v → IsEntered v (Enters m ∷ TakesConnect m.queue ∷ received_steps m ++ woken SUCCESS (msg m.message ∷ []) x ∷ [])
+  enter-listen v m x connects dry =
+      let rest = received_steps m ++ woken SUCCESS (msg m.message ∷ []) x ∷ [] in
+      record {
+        balanced = level-balanced s quiet w line v (Enters m ∷ TakesConnect m.queue ∷ rest) (every-append is_level (received_steps m) _ (level-receipt m) refl);
+        dry = dry-all w (basic (basic v (Enters m)) (TakesConnect m.queue)) rest (every-append is_soft (received_steps m) _ (soft-receipt m) refl)
+            (fewer-dry w v (without_first (is_queued_connect m.queue) (v.messages ++ m ∷ [])) (λ q off. connect-off q v.messages m connects off) dry);
+      }
+
+  -- a receive takes it
+  pub seen-as : (o : Option Birth) (m : MessageRow) → is_the m.queue o ≡ true → (is_the s.queue o && shows_receipt s (receipt m)) ≡ has_receipt s m
+  seen-as None m is = absurd (cc)
+  seen-as (Some q) m is = let same : m.queue ≡ q = birth-same m.queue q is in rw (sym same) refl
+
+  enter-receive : (v : World) (m : MessageRow) (x : WaitRow) → has (is_queued m.queue) v.messages ≡ false → is_the m.queue (waited_on w x.thread) ≡ true → HasDryQueues w v → IsEntered v (Enters m ∷ Takes m.queue ∷ received_steps m ++ woken SUCCESS (receipt m) x ∷ [])
+  enter-receive v m x none its dry =
+      let u = basic (basic v (Enters m)) (Takes m.queue) in
+      let rest = received_steps m ++ woken SUCCESS (receipt m) x ∷ [] in
+      let all : without_first (is_queued m.queue) (v.messages ++ m ∷ []) ≡ v.messages = without_first-push (is_queued m.queue) v.messages m none (birth-self m.queue) in
+      record {
+        balanced = at (asks m.message) all;
+        dry = dry-all w u rest (every-append is_soft (received_steps m) _ (soft-receipt m) refl) (fewer-dry w v (without_first (is_queued m.queue) (v.messages ++ m ∷ [])) (λ q off. rw all off) dry);
+      }
+    where
+      -- it stands, and is shown then
+      shown-once : (n : ℕ) → (is_the s.queue (waited_on w x.thread) && shows_receipt s (receipt m)) ≡ has_receipt s m → n + count (has_receipt s) (m ∷ []) ≡ n + (count (is_received s w line) (entry.Wakes x.thread x.call SUCCESS (receipt m) ∷ []) + 0)
+      shown-once n same = one-each (has_receipt s) (is_received s w line) m (entry.Wakes x.thread x.call SUCCESS (receipt m)) same n
+
+      at : (a : Bool) → without_first (is_queued m.queue) (v.messages ++ m ∷ []) ≡ v.messages → AreBalanced s quiet w line v (Enters m ∷ Takes m.queue ∷ when a (Receives m.message.header.client.thread m.queue ∷ []) ++ woken SUCCESS (receipt m) x ∷ [])
+      at true all = rw all (shown-once (standing s v) (seen-as (waited_on w x.thread) m its))
+      at false all = rw all (shown-once (standing s v) (seen-as (waited_on w x.thread) m its))
+
+  -- one that waits there does, which has waited longest
+  enter-given : (v : World) (m : MessageRow) (x : WaitRow) → takes m x ≡ true → is_dry w v x ≡ true → HasDryQueues w v → IsEntered v (Enters m ∷ given_steps x m ++ woken SUCCESS (shown x m) x ∷ [])
+  enter-given v m =
+      by_kind (λ x. takes m x ≡ true → is_dry w v x ≡ true → HasDryQueues w v → IsEntered v (Enters m ∷ given_steps x m ++ woken SUCCESS (shown x m) x ∷ []))
+      (λ x r is one dry. absurd (cc))
+      (λ x is one dry.
+      let same : x.queue ≡ m.queue = birth-same x.queue m.queue is in
+      enter-receive v m (record x { kind = Receive })
+      (subst (λ q. has (is_queued q) v.messages ≡ false) same (off-part (has (is_queued x.queue) v.messages) (is_the x.queue (waited_on w x.thread)) one))
+      (subst (λ q. is_the q (waited_on w x.thread) ≡ true) same (second-part (has (is_queued x.queue) v.messages) (is_the x.queue (waited_on w x.thread)) one)) dry)
+      (λ x is one dry. enter-listen v m (record x { kind = Listen }) (first-true (is_connection_request m.message) (same_birth x.queue m.queue) is) dry)
+      (λ x r is one dry. absurd (cc))
+      (λ x r reply is one dry. absurd (cc))
+    where
+      off-part : (a b : Bool) → (not a && b) ≡ true → a ≡ false
+      off-part a b is = grind arith
+
+      second-part : (a b : Bool) → (not a && b) ≡ true → b ≡ true
+      second-part a b is = grind arith
+
+  pub entered : (v : World) (m : MessageRow) → HasDryQueues w v → IsEntered v (enter m v)
+  entered v m dry = at (first (takes m) v.waits) refl
+    where
+      at : (o : Option WaitRow) → first (takes m) v.waits ≡ o → IsEntered v (Enters m ∷ given o (λ x. given_steps x m ++ woken SUCCESS (shown x m) x ∷ []))
+      at None none = enter-none v m none dry
+      at (Some x) found = enter-given v m x (first-passes (takes m) v.waits x found) (every-first (is_dry w v) (takes m) v.waits x dry found) dry
+
+-- The world before a line has dry queues
+first-behind : {X : Type 0} (p : X → Bool) (front : List X) (x : X) (xs : List X) → has p front ≡ false → p x ≡ true → first p (front ++ x ∷ xs) ≡ Some x
+first-behind p [] x xs none is = rw is refl
+first-behind p (y ∷ front) x xs none is =
+    let off : p y ≡ false = grind arith in
+    let later : has p front ≡ false = grind arith in
+    rw off (first-behind p front x xs later is)
+
+-- of the waits of a world each is the one of its thread
+own-wait : (all front xs : List WaitRow) → ((n : ℕ) → count (waits_as n) all ≤ 1) → all ≡ front ++ xs → every (λ x. is_the x.queue (option_map (λ (y : WaitRow). y.queue) (first (waits_as x.thread) all))) xs ≡ true
+own-wait all front [] once same = refl
+own-wait all front (x ∷ xs) once same =
+    let n = x.thread in
+    let own : waits_as n x ≡ true = eq-eqb n n refl in
+    let sum = count-append (waits_as n) front (x ∷ xs) in
+    let most : count (waits_as n) (front ++ x ∷ xs) ≤ 1 = subst (λ ys. count (waits_as n) ys ≤ 1) same (once n) in
+    let one : 1 ≤ count (waits_as n) (x ∷ xs) = counts-first (waits_as n) x xs own in
+    let none : has (waits_as n) front ≡ false = none-counted (waits_as n) front (omega arith) in
+    let found : first (waits_as n) all ≡ Some x = ap (first (waits_as n)) same ∙ first-behind (waits_as n) front x xs none own in
+    and_from (is_the x.queue (option_map (λ (y : WaitRow). y.queue) (first (waits_as n) all))) _ (rw found (birth-self x.queue))
+    (own-wait all (front ++ x ∷ []) xs once (same ∙ sym (append_assoc front (x ∷ []) xs)))
+  where
+    counts-first : (p : WaitRow → Bool) (x : WaitRow) (xs : List WaitRow) → p x ≡ true → 1 ≤ count p (x ∷ xs)
+    counts-first p x xs is = grind (arith, is)
+
+dry-sound : (w : World) (x : WaitRow) → is_sound_wait w x ≡ true → is_the x.queue (waited_on w x.thread) ≡ true → is_dry w w x ≡ true
+dry-sound w =
+    by_kind (λ x. is_sound_wait w x ≡ true → is_the x.queue (waited_on w x.thread) ≡ true → is_dry w w x ≡ true)
+    (λ x m is own. refl)
+    (λ x is own. receives x (come-part (is_client w (waiter_of x)) (is_open w x.port) (is_open w x.queue) (has_come w (record x { kind = Receive })) (passes (port_row w x.port) is_joined) is) own)
+    (λ x is own. refl) (λ x m is own. refl) (λ x m reply is own. refl)
+  where
+    come-part : (c o q h j : Bool) → (c && (o && (q && (not h && j)))) ≡ true → h ≡ false
+    come-part c o q h j is = grind arith
+
+    both : (a b : Bool) → a ≡ false → b ≡ true → (not a && b) ≡ true
+    both a b one two = grind arith
+
+    receives : (x : WaitRow) → has_come w (record x { kind = Receive }) ≡ false → is_the x.queue (waited_on w x.thread) ≡ true → is_dry w w (record x { kind = Receive }) ≡ true
+    receives x none own = both (has (is_queued x.queue) w.messages) (is_the x.queue (waited_on w x.thread)) (has_none-more (λ m. same_birth x.queue m.queue) (is_queued x.queue) (λ m off. births-apart x.queue m.queue off) w.messages none) own
+
+pub dry-first : (w : World) → IsSoundWorld w → HasDryQueues w w
+dry-first w s = every-both (is_sound_wait w) (λ x. is_the x.queue (waited_on w x.thread)) (is_dry w w) (dry-sound w) w.waits s.waits (own-wait w.waits [] w.waits s.once refl)

@@ -1,0 +1,176 @@
+-- Each line is in balance: of the messages that it finds and posts each stands behind it, is shown as received, or is lost.
+use Rattle.std.proofs.Common.{◌≡◌, ℕ, ◌+◌, List, [], ◌∷◌, ◌++◌, Bool, true, false, not, Option, Some, None, refl, sym, subst, arith}
+use Rattle.std.proofs.lemmas.Bool.{and_from}
+use Rattle.lpc_base.specs.Rows.{count, every, first, when, without_first}
+use Rattle.lpc_base.proofs.RowWords.{count-append, first-passes}
+use Rattle.lpc_base.proofs.Births.{birth-same, birth-self}
+use Rattle.lpc_base.specs.declared.birth.Birth.{Birth}
+use Rattle.lpc_base.specs.declared.status.Status.{Status}
+use Rattle.lpc_base.specs.declared.status.TheConstants.{SUCCESS}
+use Rattle.lpc_message.specs.declared.kind.TheConstants.{DATAGRAM, REQUEST}
+use Rattle.lpc_model.specs.declared.entry.CallName.{CallName}
+use Rattle.lpc_model.specs.declared.entry.CallName.TheVariants.{NtClose, NtReplyWaitReceivePort}
+use Rattle.lpc_model.specs.declared.entry.Entry.{Entry}
+use Rattle.lpc_model.specs.declared.entry.Entry.TheVariants as entry
+use Rattle.lpc_model.specs.declared.message.Message.{Message}
+use Rattle.lpc_model.specs.World.{HandleRow, MessageRow, PortRow, ThreadRow, World}
+use Rattle.lpc_model.specs.Accounts.{Receipt, is_received, has_receipt, received_on, standing}
+use Rattle.lpc_model.specs.Basics.{Basic, Receives, Takes, Tells, Wakes, world_after}
+use Rattle.lpc_model.specs.Close.{close_handle, close_steps}
+use Rattle.lpc_model.specs.Connect.{client_port, connect_start, connection_request}
+use Rattle.lpc_model.specs.Death.{end_threads}
+use Rattle.lpc_model.specs.Entering.{enter, row_of}
+use Rattle.lpc_model.specs.Fields.{receipt}
+use Rattle.lpc_model.specs.Found.{is_queued}
+use Rattle.lpc_model.specs.Lines.{ScriptLine, reply_wait_receive_port, run}
+use Rattle.lpc_model.specs.Machine.{bare_steps, steps}
+use Rattle.lpc_model.specs.Message.{asks, message_of}
+use Rattle.lpc_model.specs.Request.{datagram_start, given_reply, receive_steps, receive_test, reply_test, request_start, sent_by}
+use Rattle.lpc_model.specs.SoundWaits.{IsSoundWorld}
+use Rattle.lpc_model.specs.Sweep.{sweep}
+use Rattle.lpc_model.proofs.Account.Steps.{ArePlain, end_balances, handle_balances, plain-level, sent_balances, sweep-plain}
+use Rattle.lpc_model.proofs.Calls.Acts.{tested-queue}
+use Rattle.lpc_model.proofs.Account.Balance.{AreBalanced, are_two, both-balanced, is_level, level-balanced, none-read, tells_two}
+use Rattle.lpc_model.proofs.Account.DryQueues.{count-one, dry-first, level-receipt, one-each, seen-as}
+use Rattle.lpc_model.proofs.Steps.Ending.{answered_end}
+use Rattle.lpc_model.proofs.Calls.Holding.{Holds, bind_holds, holds_ok}
+use Rattle.lpc_model.proofs.Calls.Lines.{AnyWorld, IsCalled, LineLaw, line-does, shows_status}
+use Rattle.lpc_model.proofs.Calls.Outcomes.{Outcomes}
+use Rattle.lpc_model.proofs.Sound.Drops.{count-first, one_if}
+
+-- an entry that shows a status alone tells of no receipt
+status-level : (e : Entry) → shows_status e ≡ true → not (tells_two e) ≡ true
+status-level (entry.Wakes who call status fields) is = absurd (cc)
+status-level (entry.Answer who call status []) is = refl
+status-level (entry.Answer who call status (f ∷ fields)) is = absurd (cc)
+status-level e is = refl
+
+module _ (s : Receipt) (quiet : asks (message_of s.bytes) ≡ false) where
+  abbrev Balanced : ScriptLine → World → List Basic → Type 0
+  Balanced line w bs = AreBalanced s quiet w line w bs
+
+  -- what the law says of a line, in which its steps can be read
+  record IsBalanced (line : ScriptLine) (w : World) (bs : List Basic) : Type 0 where
+    sum : Balanced line w bs
+
+  level : (w : World) (line : ScriptLine) (bs : List Basic) → every is_level bs ≡ true → IsBalanced line w bs
+  level w line bs all = record { sum = level-balanced s quiet w line w bs all }
+
+  sent : (w : World) (line : ScriptLine) (m : MessageRow) (start : List Basic) → ArePlain start → IsSoundWorld w → IsBalanced line w (start ++ enter m (world_after w start))
+  sent w line m start plain sound = record { sum = sent_balances s quiet w line m start plain (dry-first w sound) }
+
+  -- A receive takes what it shows
+  -- what a reply does before: nothing, or a wake
+  abbrev are_replies : List Basic → Bool
+  are_replies [] = true
+  are_replies (Wakes who call status fields ∷ []) = not (are_two fields)
+  are_replies bs = false
+
+  given-replies : (w : World) (port : PortRow) (o : Option Message) → Holds (λ bs. are_replies bs ≡ true) (given_reply w port o)
+  given-replies w port None = refl
+  given-replies w port (Some m) = bind_holds (reply_test w port m) _ (λ bs. are_replies bs ≡ true) (λ x _. refl)
+
+  module _ (w : World) (line : ScriptLine) (by : ThreadRow) (port : PortRow) (queue : Birth) (m : MessageRow) (found : first (is_queued queue) w.messages ≡ Some m) (from : received_on w line ≡ Some queue) where
+    abbrev answer : Entry
+    answer = entry.Answer by.number NtReplyWaitReceivePort SUCCESS (receipt m)
+
+    its_queue : m.queue ≡ queue
+    its_queue = birth-same m.queue queue (first-passes (is_queued queue) w.messages m found)
+
+    seen : is_received s w line answer ≡ has_receipt s m
+    seen = seen-as s quiet w line (received_on w line) m (rw (from, its_queue) (birth-self queue))
+
+    -- it stood, and is shown
+    taken-sum : standing s w ≡ count (has_receipt s) (without_first (is_queued m.queue) w.messages) + count (is_received s w line) (answer ∷ [])
+    taken-sum =
+        let first = count-first (has_receipt s) (is_queued queue) w.messages m found in
+        let here : count (has_receipt s) (without_first (is_queued m.queue) w.messages) + one_if (has_receipt s m) ≡ standing s w = subst (λ q. count (has_receipt s) (without_first (is_queued q) w.messages) + one_if (has_receipt s m) ≡ standing s w) (sym its_queue) first in
+        let one = one-each (has_receipt s) (is_received s w line) m answer seen (count (has_receipt s) (without_first (is_queued m.queue) w.messages)) in
+        let own = count-one (has_receipt s) m in
+        omega (arith, here, one, own)
+
+    taken-balanced : (replied : List Basic) → are_replies replied ≡ true → Balanced line w (receive_steps by port queue replied (Some m))
+    taken-balanced [] is = at (asks m.message)
+      where
+        at : (a : Bool) → Balanced line w (Tells answer ∷ Takes m.queue ∷ when a (Receives m.message.header.client.thread m.queue ∷ []))
+        at true = omega (arith, taken-sum)
+        at false = omega (arith, taken-sum)
+    taken-balanced (Wakes who call status fields ∷ []) is = at (asks m.message)
+      where
+        none : count (is_received s w line) (entry.Wakes who call status fields ∷ []) ≡ 0
+        none = none-read s quiet w line (entry.Wakes who call status fields) is
+
+        more : count (is_received s w line) (answer ∷ entry.Wakes who call status fields ∷ []) ≡ count (is_received s w line) (answer ∷ []) + count (is_received s w line) (entry.Wakes who call status fields ∷ [])
+        more = count-append (is_received s w line) (answer ∷ []) (entry.Wakes who call status fields ∷ [])
+
+        at : (a : Bool) → Balanced line w (Tells answer ∷ Wakes who call status fields ∷ Takes m.queue ∷ when a (Receives m.message.header.client.thread m.queue ∷ []))
+        at true = omega (arith, taken-sum, none, more)
+        at false = omega (arith, taken-sum, none, more)
+    taken-balanced (Wakes who call status fields ∷ b ∷ bs) is = absurd (cc)
+    taken-balanced (b ∷ bs) is = absurd (cc)
+
+  waits-balanced : (w : World) (line : ScriptLine) (by : ThreadRow) (port : PortRow) (queue : Birth) (replied : List Basic) → are_replies replied ≡ true → IsBalanced line w (receive_steps by port queue replied None)
+  waits-balanced w line by port queue [] is = level w line (receive_steps by port queue [] None) refl
+  waits-balanced w line by port queue (Wakes who call status fields ∷ []) is = level w line (receive_steps by port queue (Wakes who call status fields ∷ []) None) (rw is refl)
+  waits-balanced w line by port queue (Wakes who call status fields ∷ b ∷ bs) is = absurd (cc)
+  waits-balanced w line by port queue (b ∷ bs) is = absurd (cc)
+
+  -- A port, a thread, a process ends
+  -- behind an answer without fields
+  answered : (w : World) (line : ScriptLine) (by : ThreadRow) (name : CallName) (bs : List Basic) → Balanced line w bs → IsBalanced line w (Tells (entry.Answer by.number name SUCCESS []) ∷ bs)
+  answered w line by name bs sum =
+      let told = Tells (entry.Answer by.number name SUCCESS []) ∷ [] in
+      record { sum = both-balanced s quiet w line w told bs (level-balanced s quiet w line w told refl) sum }
+
+  closed-balanced : (w : World) (line : ScriptLine) (by : ThreadRow) (r : HandleRow) → IsSoundWorld w → IsBalanced line w (close_steps by r w)
+  closed-balanced w line by r sound = let closed = handle_balances s quiet w line by.process r w (dry-first w sound) in answered w line by NtClose (close_handle by.process r w) closed.balanced
+
+  ended-balanced : (w : World) (line : ScriptLine) (by : ThreadRow) (name : CallName) (own : Bool) (pid : ℕ) (code : Status) (ts : List ThreadRow) → IsSoundWorld w → IsBalanced line w (answered_end by name own pid code ts w)
+  ended-balanced w line by name true pid code ts sound = let ends = end_balances s quiet w line pid code ts w (dry-first w sound) in record { sum = ends.balanced }
+  ended-balanced w line by name false pid code ts sound = let ends = end_balances s quiet w line pid code ts w (dry-first w sound) in answered w line by name (end_threads pid code ts w) ends.balanced
+
+  -- The calls
+  calls-balanced : (by : ThreadRow) (w : World) → IsCalled AnyWorld w by → Outcomes w by (λ call. IsBalanced (run by.number call) w)
+  calls-balanced by w is = record {
+    creates = level w _ _ refl;
+    founds = λ name path free. level w _ _ refl;
+    connects = λ name bytes connection at. let m = connection_request by bytes in sent w _ (row_of connection (client_port by connection) m) (connect_start by connection m) refl is.sound;
+    listens = λ handle port m l at. level w _ _ (level-receipt m);
+    awaits_connect = λ handle port l at. level w _ _ refl;
+    refuses = λ context bytes a at. level w _ _ refl;
+    accepts = λ context bytes a at. level w _ _ refl;
+    completes = λ handle c at. level w _ _ refl;
+    sends = λ handle bytes t at. sent w _ (row_of t.queue t.port (sent_by by DATAGRAM t.message)) (datagram_start by) refl is.sound;
+    asks = λ handle bytes t at. let m = sent_by by REQUEST t.message in sent w _ (row_of t.queue t.port m) (request_start by t.port.birth t.queue m) refl is.sound;
+    replies = λ handle bytes port m x at read fits. level w _ _ refl;
+    receives = λ handle bytes o port queue replied m r at.
+        let line = run by.number (reply_wait_receive_port handle bytes) in
+        let from : received_on w line ≡ Some queue = rw (is.can.lives, r.port_found) (holds_ok _ (receive_test w port) queue (tested-queue w port) r.queue_found) in
+        record { sum = taken-balanced w line by port queue m at from replied (holds_ok _ (given_reply w port o) replied (given-replies w port o) r.reply_made) };
+    awaits_message = λ handle bytes o port queue replied r at. waits-balanced w _ by port queue replied (holds_ok _ (given_reply w port o) replied (given-replies w port o) r.reply_made);
+    registers = λ handle port at new few. level w _ _ refl;
+    repeats = λ handle port at known. level w _ _ refl;
+    closes = λ handle r at. closed-balanced w _ by r is.sound;
+    duplicates = λ handle access r at. level w _ _ refl;
+    queries = λ handle r at. level w _ _ refl;
+    spawns = λ pid tid new unused. level w _ _ refl;
+    starts = λ target tid pid _ live unused. level w _ _ refl;
+    ends = λ call name own pid code ts doomed. ended-balanced w _ by name own pid code ts is.sound;
+  }
+
+  -- The lines
+  balanced-lines : LineLaw AnyWorld IsBalanced
+  balanced-lines = record {
+    tells = λ line w e is. level w line _ (and_from _ true (status-level e is) refl);
+    calls = calls-balanced;
+    boots = λ w pid tid new unused sound more. level w _ _ refl;
+    threads = λ w tid pid live unused sound more. level w _ _ refl;
+    dirs = λ w text path free more. level w _ _ refl;
+    links = λ w text target path to free more. level w _ _ refl;
+  }
+
+  pub line-balanced : (w : World) (line : ScriptLine) → IsSoundWorld w → Balanced line w (steps line w)
+  line-balanced w line sound =
+      let v = world_after w (bare_steps line w) in
+      let bare = line-does AnyWorld IsBalanced balanced-lines w sound tt line in
+      both-balanced s quiet w line w (bare_steps line w) (sweep v) bare.sum (level-balanced s quiet w line v (sweep v) (plain-level (sweep v) (sweep-plain v)))

@@ -1,0 +1,145 @@
+-- The steps of each line are in balance.
+use Rattle.std.proofs.Common.{◌≡◌, ℕ, List, [], ◌∷◌, ◌++◌, Bool, true, false, not, Option, Some, None, refl, sym, subst}
+use Rattle.std.specs.Prelude.{◌&&◌, option_and_then, option_map}
+use Rattle.lpc_base.specs.Rows.{each, every, given, when, which}
+use Rattle.lpc_base.proofs.RowWords.{every-append, every-more}
+use Rattle.lpc_base.proofs.Bools.{first-true, second-true}
+use Rattle.lpc_base.specs.declared.birth.Birth.{Birth}
+use Rattle.lpc_base.specs.declared.status.Status.{Status}
+use Rattle.lpc_base.specs.declared.status.TheConstants.{LPC_REPLY_LOST, PORT_DISCONNECTED}
+use Rattle.lpc_model.specs.World.{Creator, HandleRow, MessageRow, PortRow, ThreadRow, WaitRow, World}
+use Rattle.lpc_model.specs.Message.{asks, message_of}
+use Rattle.lpc_model.specs.Found.{handles_of, is_accepted, is_live, port_row, wait_of}
+use Rattle.lpc_model.specs.Basics.{Basic, Cuts, Dies, DropsHandle, Empties, Steps, Unregisters, Withdraws, doing, end_each, in_turn, provided, world_after, ◌▹◌}
+use Rattle.lpc_model.specs.Entering.{enter}
+use Rattle.lpc_model.specs.Close.{close_handle, close_port, closed_row, cut_pair, drop_name, empty_queue, end_accepted, end_offered, end_receives, end_request, end_requests, is_accepted_across, is_last, is_offered_to, is_queued_request, is_receive_across, is_receiver, is_request_across, is_request_on, post_closed, server_of, closing_post, wake}
+use Rattle.lpc_model.specs.Death.{cut_accepted, die, end_process, end_threads, post_death, post_deaths, death_post}
+use Rattle.lpc_model.specs.Lines.{ScriptLine}
+use Rattle.lpc_model.specs.Sweep.{sweep}
+use Rattle.lpc_model.proofs.Steps.Closing.{behind}
+use Rattle.lpc_model.specs.Accounts.{Receipt}
+use Rattle.lpc_model.proofs.Account.Balance.{AreBalanced, both-balanced, is_level, level-balanced}
+use Rattle.lpc_model.proofs.Account.DryQueues.{HasDryQueues, IsEntered, dry-all, entered, is_soft}
+use Rattle.lpc_model.proofs.Steps.Sweep.{sweep_every}
+use Rattle.lpc_model.proofs.Steps.InTurn.{after-append}
+
+-- Plain steps: they tell of no receipt, let no message in, and begin no receive
+abbrev pub is_plain : Basic → Bool
+is_plain b = is_level b && is_soft b
+
+abbrev pub ArePlain : List Basic → Type 0
+ArePlain bs = every is_plain bs ≡ true
+
+pub plain-level : (bs : List Basic) → ArePlain bs → every is_level bs ≡ true
+plain-level bs all = every-more is_plain is_level (λ b is. first-true (is_level b) (is_soft b) is) bs all
+
+pub plain-soft : (bs : List Basic) → ArePlain bs → every is_soft bs ≡ true
+plain-soft bs all = every-more is_plain is_soft (λ b is. second-true (is_level b) (is_soft b) is) bs all
+
+each-plain : (ending : WaitRow → List Basic) → ((x : WaitRow) → ArePlain (ending x)) → (xs : List WaitRow) → ArePlain (each ending xs)
+each-plain ending all [] = refl
+each-plain ending all (x ∷ xs) = every-append is_plain (ending x) (each ending xs) (all x) (each-plain ending all xs)
+
+pub sweep-plain : (w : World) → ArePlain (sweep w)
+sweep-plain = sweep_every is_plain (λ _. refl)
+
+module _ (s : Receipt) (quiet : asks (message_of s.bytes) ≡ false) (w : World) (line : ScriptLine) where
+  -- steps that are in balance, and leave dry queues behind, where they find them
+  abbrev pub Balances : Steps → Type 0
+  Balances f = (v : World) → HasDryQueues w v → IsEntered s quiet w line v (f v)
+
+  pub plain_balances : (f : Steps) → ((v : World) → ArePlain (f v)) → Balances f
+  plain_balances f plain v dry = record { balanced = level-balanced s quiet w line v (f v) (plain-level (f v) (plain v)); dry = dry-all w v (f v) (plain-soft (f v) (plain v)) dry }
+
+  pub then_balances : (f g : Steps) → Balances f → Balances g → Balances (f ▹ g)
+  then_balances f g one two v dry =
+      let here = one v dry in
+      let there = two (behind f v) here.dry in
+      record {
+        balanced = both-balanced s quiet w line v (f v) (g (behind f v)) here.balanced there.balanced;
+        dry = subst (HasDryQueues w) (sym (after-append v (f v) (g (behind f v)))) there.dry;
+      }
+
+  turn_balances : {A : Type 0} (f : A → Steps) → ((x : A) → Balances (f x)) → (xs : List A) → Balances (in_turn f xs)
+  turn_balances f each [] v dry = plain_balances (doing []) (λ v. refl) v dry
+  turn_balances f each (x ∷ xs) v dry = then_balances (f x) (in_turn f xs) (each x) (turn_balances f each xs) v dry
+
+  enter_balances : (m : MessageRow) → Balances (enter m)
+  enter_balances m v dry = entered s quiet w line v m dry
+
+  none_balances : (v : World) → HasDryQueues w v → IsEntered s quiet w line v []
+  none_balances v dry = plain_balances (doing []) (λ v. refl) v dry
+
+  ends_balance : (test : World → WaitRow → Bool) (ending : WaitRow → List Basic) → ((x : WaitRow) → ArePlain (ending x)) → Balances (end_each test ending)
+  ends_balance test ending all = plain_balances (end_each test ending) (λ v. each-plain ending all (which (test v) v.waits))
+
+  -- A port that is closed
+  queue_balances : (b : Birth) → Balances (empty_queue b)
+  queue_balances b = then_balances (end_each (λ w. is_queued_request b) (end_request LPC_REPLY_LOST)) (end_each (λ w. is_offered_to b) end_offered ▹ doing (Empties b ∷ [])) (ends_balance (λ w. is_queued_request b) (end_request LPC_REPLY_LOST) (λ x. refl))
+      (then_balances (end_each (λ w. is_offered_to b) end_offered) (doing (Empties b ∷ [])) (ends_balance (λ w. is_offered_to b) end_offered (λ x. refl)) (plain_balances (doing (Empties b ∷ [])) (λ v. refl)))
+
+  pair_balances : (b : Birth) → Balances (cut_pair b)
+  pair_balances b = then_balances (end_each (is_request_across b) (end_request LPC_REPLY_LOST)) (end_each (is_receive_across b) (wake PORT_DISCONNECTED) ▹ (end_each (is_accepted_across b) end_accepted ▹ doing (Cuts b ∷ []))) (ends_balance (is_request_across b) (end_request LPC_REPLY_LOST) (λ x. refl))
+      (then_balances (end_each (is_receive_across b) (wake PORT_DISCONNECTED)) (end_each (is_accepted_across b) end_accepted ▹ doing (Cuts b ∷ [])) (ends_balance (is_receive_across b) (wake PORT_DISCONNECTED) (λ x. refl))
+      (then_balances (end_each (is_accepted_across b) end_accepted) (doing (Cuts b ∷ [])) (ends_balance (is_accepted_across b) end_accepted (λ x. refl)) (plain_balances (doing (Cuts b ∷ [])) (λ v. refl))))
+
+  post_balances : (b : Birth) → Balances (post_closed b)
+  post_balances b v dry = at (port_row v b)
+    where
+      by_creator : (p : PortRow) (queue : Birth) (o : Option Creator) → IsEntered s quiet w line v (given (option_map (closed_row p queue) o) (λ m. enter m v))
+      by_creator p queue None = none_balances v dry
+      by_creator p queue (Some by) = enter_balances (closed_row p queue by) v dry
+
+      queued : (p : PortRow) (o : Option Birth) → IsEntered s quiet w line v (given (option_and_then (λ queue. option_map (closed_row p queue) p.creator) o) (λ m. enter m v))
+      queued p None = none_balances v dry
+      queued p (Some queue) = by_creator p queue p.creator
+
+      at : (o : Option PortRow) → IsEntered s quiet w line v (given o (λ p. given (closing_post v p) (λ m. enter m v)))
+      at None = none_balances v dry
+      at (Some p) = queued p (server_of v p)
+
+  port_balances : (b : Birth) → Balances (close_port b)
+  unfolding close_port
+  port_balances b =
+      then_balances (drop_name b) (end_receives b ▹ (end_requests b ▹ (empty_queue b ▹ (cut_pair b ▹ post_closed b)))) (plain_balances (drop_name b) (λ v. refl))
+      (then_balances (end_receives b) (end_requests b ▹ (empty_queue b ▹ (cut_pair b ▹ post_closed b))) (ends_balance (λ w. is_receiver b) (wake PORT_DISCONNECTED) (λ x. refl))
+      (then_balances (end_requests b) (empty_queue b ▹ (cut_pair b ▹ post_closed b)) (ends_balance (λ w. is_request_on b) (end_request PORT_DISCONNECTED) (λ x. refl))
+      (then_balances (empty_queue b) (cut_pair b ▹ post_closed b) (queue_balances b)
+      (then_balances (cut_pair b) (post_closed b) (pair_balances b) (post_balances b)))))
+
+  provided_balances : (test : World → Bool) (f : Steps) → Balances f → Balances (provided test f)
+  provided_balances test f one v dry = at (test v)
+    where
+      at : (b : Bool) → IsEntered s quiet w line v (when b (f v))
+      at true = one v dry
+      at false = none_balances v dry
+
+  pub handle_balances : (pid : ℕ) (r : HandleRow) → Balances (close_handle pid r)
+  handle_balances pid r = then_balances (provided (is_last r) (close_port r.object.birth)) (doing (DropsHandle pid r.value ∷ [])) (provided_balances (is_last r) (close_port r.object.birth) (port_balances r.object.birth)) (plain_balances (doing (DropsHandle pid r.value ∷ [])) (λ v. refl))
+
+  -- Threads that end
+  accepted_balances : (o : Option WaitRow) → Balances (cut_accepted o)
+  accepted_balances None = plain_balances (doing []) (λ v. refl)
+  accepted_balances (Some x) = provided_balances (λ w. is_accepted x) (cut_pair x.port) (pair_balances x.port)
+
+  die_balances : (code : Status) (t : ThreadRow) → Balances (die code t)
+  die_balances code t v dry = then_balances (doing (Dies t.number code ∷ Withdraws t.number ∷ [])) (cut_accepted (wait_of v t.number)) (plain_balances (doing (Dies t.number code ∷ Withdraws t.number ∷ [])) (λ v. refl)) (accepted_balances (wait_of v t.number)) v dry
+
+  told_balances : (t : ThreadRow) (b : Birth) → Balances (post_death t b)
+  told_balances t b = then_balances (doing (Unregisters t.number b ∷ [])) (λ w. given (death_post w t b) (λ m. enter m w)) (plain_balances (doing (Unregisters t.number b ∷ [])) (λ v. refl)) (λ v dry. at v dry (death_post v t b))
+    where
+      at : (v : World) → HasDryQueues w v → (o : Option MessageRow) → IsEntered s quiet w line v (given o (λ m. enter m v))
+      at v dry None = none_balances v dry
+      at v dry (Some m) = enter_balances m v dry
+
+  pub end_balances : (pid : ℕ) (code : Status) (ts : List ThreadRow) → Balances (end_threads pid code ts)
+  unfolding end_threads
+  end_balances pid code ts =
+      then_balances (in_turn (die code) ts) (in_turn post_deaths ts ▹ provided (λ w. not (is_live w pid)) (end_process pid)) (turn_balances (die code) (die_balances code) ts)
+      (then_balances (in_turn post_deaths ts) (provided (λ w. not (is_live w pid)) (end_process pid)) (turn_balances post_deaths (λ t. turn_balances (post_death t) (told_balances t) t.registrations) ts)
+      (provided_balances (λ w. not (is_live w pid)) (end_process pid) (λ v dry. turn_balances (close_handle pid) (handle_balances pid) (handles_of v pid) v dry)))
+
+  -- Messages that are sent
+  pub sent_balances : (m : MessageRow) (start : List Basic) → ArePlain start → HasDryQueues w w → AreBalanced s quiet w line w (start ++ enter m (world_after w start))
+  sent_balances m start plain dry =
+      let all = then_balances (doing start) (enter m) (plain_balances (doing start) (λ v. plain)) (enter_balances m) w dry in all.balanced

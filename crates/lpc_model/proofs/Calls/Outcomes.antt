@@ -1,0 +1,237 @@
+-- What calls come to: each way in which a call isn't refused, with what its tests found. A call's tests are taken off here
+-- and nowhere else; what holds of each outcome holds of each call.
+use Rattle.lpc_base.specs.Rows.{first, when}
+use Rattle.lpc_base.specs.declared.status.Status.{Status}
+use Rattle.lpc_base.specs.declared.status.TheConstants.{INVALID_CID, INVALID_HANDLE, INVALID_PORT_HANDLE, SUCCESS}
+use Rattle.lpc_message.specs.declared.kind.TheConstants.{DATAGRAM, REQUEST}
+use Rattle.lpc_model.proofs.Calls.Creating.{process-made, tested-further}
+use Rattle.lpc_model.proofs.Steps.Ending.{answered_end}
+use Rattle.lpc_model.proofs.Calls.Holding.{Holds, bind_holds, found_ok, holds_ok, not_refused}
+use Rattle.lpc_model.specs.Basics.{Basic, Registers, Tells}
+use Rattle.lpc_model.specs.Close.{close_steps, nt_close}
+use Rattle.lpc_model.specs.Connect.{Completable, ConnectAnswer, accept_steps, answer_test, answered_steps, complete_steps, complete_test, connect_steps, connection_request, create_steps, info_test, listen_steps, making, named_steps, nt_accept_connect_port, nt_complete_connect_port, nt_connect_port, nt_create_port, nt_listen_port, refuse_steps, unnamed_steps}
+use Rattle.lpc_model.specs.Counts.{asked, counts_of, duplicate_steps, nt_duplicate_object, nt_query_object, rights_test}
+use Rattle.lpc_model.specs.Creation.{making_process, making_thread, nt_create_thread, thread_test}
+use Rattle.lpc_model.specs.Death.{code_status, nt_terminate_process, nt_terminate_thread}
+use Rattle.lpc_model.specs.Found.{free_handle, handle_at, is_connection_port, is_live, is_queued, is_queued_connect, live_threads, was_process, was_thread}
+use Rattle.lpc_model.specs.Lines.{ProcArg, ScriptCall, accept_connect_port, close, complete_connect_port, connect_port, create_port, create_process, create_thread, duplicate_object, listen_port, query_object, register_thread_terminate_port, reply_port, reply_wait_receive_port, request_port, request_wait_reply_port, terminate_process, terminate_thread}
+use Rattle.lpc_model.specs.Machine.{service_of}
+use Rattle.lpc_model.specs.Message.{message_test}
+use Rattle.lpc_model.specs.Named.{free_name, named_port}
+use Rattle.lpc_model.specs.Refusal.{refuse_if}
+use Rattle.lpc_model.specs.Register.{is_registered, nt_register_thread_terminate_port, registration_test}
+use Rattle.lpc_model.specs.Request.{Sendable, datagram_send_test, datagram_steps, given_reply, nt_reply_port, nt_reply_wait_receive_port, nt_request_port, nt_request_wait_reply_port, optional_message, receive_steps, receive_test, reply_steps, reply_test, request_steps, send_test, sent_by}
+use Rattle.lpc_model.specs.Targets.{process_target, thread_target}
+use Rattle.lpc_model.specs.Tests.{handles_test, live_test, next_birth, own_handle, port_test}
+use Rattle.lpc_model.specs.World.{Birth, HandleRow, Message, MessageRow, Path, PortRow, ThreadRow, WaitRow, World}
+use Rattle.lpc_model.specs.declared.entry.CallName.{CallName}
+use Rattle.lpc_model.specs.declared.entry.CallName.TheVariants.{NtQueryObject, NtRegisterThreadTerminatePort, NtTerminateProcess, NtTerminateThread}
+use Rattle.lpc_model.specs.declared.entry.Entry.TheVariants.{Answer}
+use Rattle.std.proofs.Common.{Bool, List, None, Option, Some, [], false, not, refl, true, ℕ, ◌∷◌, ◌≡◌}
+use Rattle.std.proofs.lemmas.Bool.{not-false}
+use Rattle.std.specs.Prelude.{Ok, ◌==◌}
+
+-- the tests of a listen find a connection port
+pub record IsListening (w : World) (by : ThreadRow) (handle : ℕ) (port : PortRow) : Type 0 where
+  pub port_found : port_test w by handle ≡ Ok port
+  pub kind : is_connection_port port ≡ true
+
+-- the tests of a receive find its port, its message, its queue, and the reply that it makes first
+pub record IsReceiving (w : World) (by : ThreadRow) (handle : ℕ) (bytes : Option (List ℕ)) (o : Option Message) (port : PortRow) (queue : Birth) (replied : List Basic) : Type 0 where
+  pub port_found : port_test w by handle ≡ Ok port
+  pub message_read : optional_message bytes ≡ Ok o
+  pub queue_found : receive_test w port ≡ Ok queue
+  pub reply_made : given_reply w port o ≡ Ok replied
+
+-- the threads that a call ends, all of one process: the one that it names, or those of the process that it names; and whether
+-- its own is among them
+pub data AreDoomed (w : World) (by : ThreadRow) : Bool → ℕ → List ThreadRow → Type 0 where
+  one : (target : ProcArg) (t : ThreadRow) → thread_target w by target ≡ Ok t → t.live ≡ true → AreDoomed w by (t.number == by.number) t.process (t ∷ [])
+  all : (target : ProcArg) (pid : ℕ) → process_target w by target ≡ Ok pid → is_live w pid ≡ true → AreDoomed w by (pid == by.process) pid (live_threads w pid)
+
+-- the calls that end threads
+pub data EndCall : Type 0 where
+  of_thread : (target : ProcArg) (code : ℕ) → EndCall
+  of_process : (target : ProcArg) (code : ℕ) → EndCall
+
+abbrev pub end_call : EndCall → ScriptCall
+end_call (of_thread target code) = terminate_thread target code
+end_call (of_process target code) = terminate_process target code
+
+-- What calls of a thread come to in a world, each with its steps
+pub record Outcomes (w : World) (by : ThreadRow) (P : ScriptCall → List Basic → Type 0) : Type 0 where
+  -- a port is made, without a name and with one
+  pub creates : P (create_port None) (create_steps by (unnamed_steps (next_birth by)) (free_handle w by.process))
+  pub founds : (name : List ℕ) (path : Path) → free_name w name ≡ Ok path → P (create_port (Some name)) (create_steps by (named_steps (next_birth by) path) (free_handle w by.process))
+  -- a connect is made, listened for, refused, accepted, completed
+  pub connects : (name bytes : List ℕ) (connection : Birth) → named_port w name ≡ Ok connection → P (connect_port name bytes) (connect_steps by connection (connection_request by bytes) w)
+  pub listens : (handle : ℕ) (port : PortRow) (m : MessageRow) → IsListening w by handle port → first (is_queued_connect port.birth) w.messages ≡ Some m → P (listen_port handle) (listen_steps by port.birth (Some m))
+  pub awaits_connect : (handle : ℕ) (port : PortRow) → IsListening w by handle port → first (is_queued_connect port.birth) w.messages ≡ None → P (listen_port handle) (listen_steps by port.birth None)
+  pub refuses : (context : ℕ) (bytes : List ℕ) (a : ConnectAnswer) → answer_test w by bytes ≡ Ok a → P (accept_connect_port context bytes false) (refuse_steps by a)
+  pub accepts : (context : ℕ) (bytes : List ℕ) (a : ConnectAnswer) → answer_test w by bytes ≡ Ok a → P (accept_connect_port context bytes true) (accept_steps by context (free_handle w by.process) a)
+  pub completes : (handle : ℕ) (c : Completable) → complete_test w by handle ≡ Ok c → P (complete_connect_port handle) (complete_steps by (free_handle w c.wait.process) c)
+  -- a message is sent, and its sender goes on or waits
+  pub sends : (handle : ℕ) (bytes : List ℕ) (s : Sendable) → datagram_send_test w by handle bytes ≡ Ok s → P (request_port handle bytes) (datagram_steps by s.port s.queue (sent_by by DATAGRAM s.message) w)
+  pub asks : (handle : ℕ) (bytes : List ℕ) (s : Sendable) → send_test w by handle bytes ≡ Ok s → P (request_wait_reply_port handle bytes) (request_steps by s.port s.queue (sent_by by REQUEST s.message) w)
+  -- a reply is made; a message is received, or waited for
+  pub replies : (handle : ℕ) (bytes : List ℕ) (port : PortRow) (m : Message) (x : WaitRow) → port_test w by handle ≡ Ok port → message_test bytes ≡ Ok m → reply_test w port m ≡ Ok x → P (reply_port handle bytes) (reply_steps by x m)
+  pub receives : (handle : ℕ) (bytes : Option (List ℕ)) (o : Option Message) (port : PortRow) (queue : Birth) (replied : List Basic) (m : MessageRow) → IsReceiving w by handle bytes o port queue replied → first (is_queued queue) w.messages ≡ Some m → P (reply_wait_receive_port handle bytes) (receive_steps by port queue replied (Some m))
+  pub awaits_message : (handle : ℕ) (bytes : Option (List ℕ)) (o : Option Message) (port : PortRow) (queue : Birth) (replied : List Basic) → IsReceiving w by handle bytes o port queue replied → first (is_queued queue) w.messages ≡ None → P (reply_wait_receive_port handle bytes) (receive_steps by port queue replied None)
+  -- a port is registered, newly or again
+  pub registers : (handle : ℕ) (port : PortRow) → port_test w by handle ≡ Ok port → is_registered port.birth by ≡ false → registration_test by port.birth ≡ Ok tt → P (register_thread_terminate_port handle) (Tells (Answer by.number NtRegisterThreadTerminatePort SUCCESS []) ∷ Registers by.number port.birth ∷ [])
+  pub repeats : (handle : ℕ) (port : PortRow) → port_test w by handle ≡ Ok port → is_registered port.birth by ≡ true → P (register_thread_terminate_port handle) (Tells (Answer by.number NtRegisterThreadTerminatePort SUCCESS []) ∷ [])
+  -- a handle is closed, given again, asked
+  pub closes : (handle : ℕ) (r : HandleRow) → handle_at w by.process handle ≡ Some r → P (close handle) (close_steps by r w)
+  pub duplicates : (handle : ℕ) (access : Option ℕ) (r : HandleRow) → handle_at w by.process handle ≡ Some r → P (duplicate_object handle access) (duplicate_steps by (free_handle w by.process) r (asked r access))
+  pub queries : (handle : ℕ) (r : HandleRow) → handle_at w by.process handle ≡ Some r → P (query_object handle) (Tells (Answer by.number NtQueryObject SUCCESS (counts_of w r)) ∷ [])
+  -- a process is made with its thread, a thread is made
+  pub spawns : (pid tid : ℕ) → was_process w pid ≡ false → was_thread w tid ≡ false → P (create_process pid tid) (making_process w by pid tid)
+  pub starts : (target : ProcArg) (tid pid : ℕ) → process_target w by target ≡ Ok pid → is_live w pid ≡ true → was_thread w tid ≡ false → P (create_thread target tid) (making_thread w by tid pid)
+  -- threads end, the caller itself (own) or others
+  pub ends : (call : EndCall) (name : CallName) (own : Bool) (pid : ℕ) (code : Status) (ts : List ThreadRow) → AreDoomed w by own pid ts → P (end_call call) (answered_end by name own pid code ts w)
+
+-- The calls
+module _ (w : World) (by : ThreadRow) (P : ScriptCall → List Basic → Type 0) (o : Outcomes w by P) where
+  making-does : (name : Option (List ℕ)) → Holds (λ made. P (create_port name) (create_steps by made (free_handle w by.process))) (making w (next_birth by) name)
+  making-does None = o.creates
+  making-does (Some name) = bind_holds (free_name w name) _ (λ made. P (create_port (Some name)) (create_steps by made (free_handle w by.process))) (λ path free. o.founds name path free)
+
+  create-does : (name : Option (List ℕ)) → Holds (P (create_port name)) (nt_create_port w by name)
+  unfolding nt_create_port
+  create-does name =
+      bind_holds (making w (next_birth by) name) _ (P (create_port name)) (λ made at.
+      bind_holds (handles_test w by.process 1) _ (P (create_port name)) (λ _ _.
+      holds_ok (λ made. P (create_port name) (create_steps by made (free_handle w by.process))) (making w (next_birth by) name) made (making-does name) at))
+
+  connect-does : (name bytes : List ℕ) → Holds (P (connect_port name bytes)) (nt_connect_port w by name bytes)
+  unfolding nt_connect_port
+  connect-does name bytes =
+      let Q = P (connect_port name bytes) in
+      bind_holds (info_test bytes) _ Q (λ _ _.
+      bind_holds (named_port w name) _ Q (λ connection at.
+      bind_holds (handles_test w by.process 1) _ Q (λ _ _. o.connects name bytes connection at)))
+
+  listened-does : (handle : ℕ) (port : PortRow) (m : Option MessageRow) → IsListening w by handle port → first (is_queued_connect port.birth) w.messages ≡ m → P (listen_port handle) (listen_steps by port.birth m)
+  listened-does handle port (Some m) l at = o.listens handle port m l at
+  listened-does handle port None l at = o.awaits_connect handle port l at
+
+  listen-does : (handle : ℕ) → Holds (P (listen_port handle)) (nt_listen_port w by handle)
+  unfolding nt_listen_port
+  listen-does handle =
+      let Q = P (listen_port handle) in
+      bind_holds (port_test w by handle) _ Q (λ port at.
+      bind_holds (refuse_if (not (is_connection_port port)) INVALID_PORT_HANDLE) _ Q (λ u off.
+      listened-does handle port (first (is_queued_connect port.birth) w.messages) (record { port_found = at; kind = not-false (is_connection_port port) (not_refused _ INVALID_PORT_HANDLE u off) }) refl))
+
+  accept-does : (context : ℕ) (bytes : List ℕ) (accept : Bool) → Holds (P (accept_connect_port context bytes accept)) (nt_accept_connect_port w by context bytes accept)
+  unfolding nt_accept_connect_port
+  accept-does context bytes accept = bind_holds (answer_test w by bytes) _ (P (accept_connect_port context bytes accept)) (λ a at. answered accept a at)
+    where
+      answered : (accept : Bool) (a : ConnectAnswer) → answer_test w by bytes ≡ Ok a → Holds (P (accept_connect_port context bytes accept)) (answered_steps w by context accept a)
+      answered false a at = o.refuses context bytes a at
+      answered true a at = bind_holds (handles_test w by.process 1) _ (P (accept_connect_port context bytes true)) (λ _ _. o.accepts context bytes a at)
+
+  complete-does : (handle : ℕ) → Holds (P (complete_connect_port handle)) (nt_complete_connect_port w by handle)
+  unfolding nt_complete_connect_port
+  complete-does handle = bind_holds (complete_test w by handle) _ (P (complete_connect_port handle)) (λ c at. o.completes handle c at)
+
+  datagram-does : (handle : ℕ) (bytes : List ℕ) → Holds (P (request_port handle bytes)) (nt_request_port w by handle bytes)
+  unfolding nt_request_port
+  datagram-does handle bytes = bind_holds (datagram_send_test w by handle bytes) _ (P (request_port handle bytes)) (λ s at. o.sends handle bytes s at)
+
+  request-does : (handle : ℕ) (bytes : List ℕ) → Holds (P (request_wait_reply_port handle bytes)) (nt_request_wait_reply_port w by handle bytes)
+  unfolding nt_request_wait_reply_port
+  request-does handle bytes = bind_holds (send_test w by handle bytes) _ (P (request_wait_reply_port handle bytes)) (λ s at. o.asks handle bytes s at)
+
+  reply-does : (handle : ℕ) (bytes : List ℕ) → Holds (P (reply_port handle bytes)) (nt_reply_port w by handle bytes)
+  unfolding nt_reply_port
+  reply-does handle bytes =
+      let Q = P (reply_port handle bytes) in
+      bind_holds (port_test w by handle) _ Q (λ port at.
+      bind_holds (message_test bytes) _ Q (λ m read.
+      bind_holds (reply_test w port m) _ Q (λ x fits. o.replies handle bytes port m x at read fits)))
+
+  received-does : (handle : ℕ) (bytes : Option (List ℕ)) (m : Option Message) (port : PortRow) (queue : Birth) (replied : List Basic) (row : Option MessageRow) → IsReceiving w by handle bytes m port queue replied → first (is_queued queue) w.messages ≡ row → P (reply_wait_receive_port handle bytes) (receive_steps by port queue replied row)
+  received-does handle bytes m port queue replied (Some row) r at = o.receives handle bytes m port queue replied row r at
+  received-does handle bytes m port queue replied None r at = o.awaits_message handle bytes m port queue replied r at
+
+  receive-does : (handle : ℕ) (bytes : Option (List ℕ)) → Holds (P (reply_wait_receive_port handle bytes)) (nt_reply_wait_receive_port w by handle bytes)
+  unfolding nt_reply_wait_receive_port
+  receive-does handle bytes =
+      let Q = P (reply_wait_receive_port handle bytes) in
+      bind_holds (port_test w by handle) _ Q (λ port at.
+      bind_holds (optional_message bytes) _ Q (λ m read.
+      bind_holds (receive_test w port) _ Q (λ queue found.
+      bind_holds (given_reply w port m) _ Q (λ replied made.
+      received-does handle bytes m port queue replied (first (is_queued queue) w.messages) (record { port_found = at; message_read = read; queue_found = found; reply_made = made }) refl))))
+
+  register-does : (handle : ℕ) → Holds (P (register_thread_terminate_port handle)) (nt_register_thread_terminate_port w by handle)
+  unfolding nt_register_thread_terminate_port
+  register-does handle =
+      let Q = P (register_thread_terminate_port handle) in
+      bind_holds (port_test w by handle) _ Q (λ port at.
+      bind_holds (registration_test by port.birth) _ Q (λ u few. registered port at few (is_registered port.birth by) refl))
+    where
+      registered : (port : PortRow) → port_test w by handle ≡ Ok port → registration_test by port.birth ≡ Ok tt → (known : Bool) → is_registered port.birth by ≡ known → P (register_thread_terminate_port handle) (Tells (Answer by.number NtRegisterThreadTerminatePort SUCCESS []) ∷ when (not known) (Registers by.number port.birth ∷ []))
+      registered port at few true known = o.repeats handle port at known
+      registered port at few false new = o.registers handle port at new few
+
+  close-does : (handle : ℕ) → Holds (P (close handle)) (nt_close w by handle)
+  unfolding nt_close
+  close-does handle = bind_holds (own_handle w by handle) _ (P (close handle)) (λ r at. o.closes handle r (found_ok (handle_at w by.process handle) INVALID_HANDLE r at))
+
+  duplicate-does : (handle : ℕ) (access : Option ℕ) → Holds (P (duplicate_object handle access)) (nt_duplicate_object w by handle access)
+  unfolding nt_duplicate_object
+  duplicate-does handle access =
+      let Q = P (duplicate_object handle access) in
+      bind_holds (own_handle w by handle) _ Q (λ r at.
+      bind_holds (rights_test r (asked r access)) _ Q (λ _ _.
+      bind_holds (handles_test w by.process 1) _ Q (λ _ _. o.duplicates handle access r (found_ok (handle_at w by.process handle) INVALID_HANDLE r at))))
+
+  query-does : (handle : ℕ) → Holds (P (query_object handle)) (nt_query_object w by handle)
+  unfolding nt_query_object
+  query-does handle = bind_holds (own_handle w by handle) _ (P (query_object handle)) (λ r at. o.queries handle r (found_ok (handle_at w by.process handle) INVALID_HANDLE r at))
+
+  create-thread-does : (target : ProcArg) (tid : ℕ) → Holds (P (create_thread target tid)) (nt_create_thread w by target tid)
+  unfolding nt_create_thread
+  create-thread-does target tid =
+      let Q = P (create_thread target tid) in
+      bind_holds (process_target w by target) _ Q (λ pid at.
+      bind_holds (thread_test w tid pid) _ Q (λ u is.
+      let found = holds_ok (λ _. (is_live w pid ≡ true) × (was_thread w tid ≡ false)) (thread_test w tid pid) u (tested-further w tid pid) is in
+      bind_holds (handles_test w by.process 1) _ Q (λ _ _. o.starts target tid pid at found.0 found.1)))
+
+  thread-does : (target : ProcArg) (code : ℕ) → Holds (P (terminate_thread target code)) (nt_terminate_thread w by target code)
+  unfolding nt_terminate_thread
+  thread-does target code =
+      let Q = P (terminate_thread target code) in
+      bind_holds (thread_target w by target) _ Q (λ t at.
+      bind_holds (refuse_if (not t.live) INVALID_CID) _ Q (λ u off.
+      o.ends (of_thread target code) NtTerminateThread (t.number == by.number) t.process (code_status code) (t ∷ []) (one target t at (not-false t.live (not_refused (not t.live) INVALID_CID u off)))))
+
+  process-does : (target : ProcArg) (code : ℕ) → Holds (P (terminate_process target code)) (nt_terminate_process w by target code)
+  unfolding nt_terminate_process
+  process-does target code =
+      let Q = P (terminate_process target code) in
+      bind_holds (process_target w by target) _ Q (λ pid at.
+      bind_holds (live_test w pid) _ Q (λ u off.
+      o.ends (of_process target code) NtTerminateProcess (pid == by.process) pid (code_status code) (live_threads w pid) (all target pid at (not-false (is_live w pid) (not_refused (not (is_live w pid)) INVALID_CID u off)))))
+
+  pub service-does : (call : ScriptCall) → Holds (P call) (service_of w by call)
+  service-does (create_port name) = create-does name
+  service-does (connect_port name bytes) = connect-does name bytes
+  service-does (listen_port handle) = listen-does handle
+  service-does (accept_connect_port context bytes accept) = accept-does context bytes accept
+  service-does (complete_connect_port handle) = complete-does handle
+  service-does (request_port handle bytes) = datagram-does handle bytes
+  service-does (request_wait_reply_port handle bytes) = request-does handle bytes
+  service-does (reply_port handle bytes) = reply-does handle bytes
+  service-does (reply_wait_receive_port handle bytes) = receive-does handle bytes
+  service-does (register_thread_terminate_port handle) = register-does handle
+  service-does (close handle) = close-does handle
+  service-does (duplicate_object handle access) = duplicate-does handle access
+  service-does (query_object handle) = query-does handle
+  service-does (create_process pid tid) = process-made (P (create_process pid tid)) w by pid tid (λ new unused. o.spawns pid tid new unused)
+  service-does (create_thread target tid) = create-thread-does target tid
+  service-does (terminate_thread target code) = thread-does target code
+  service-does (terminate_process target code) = process-does target code

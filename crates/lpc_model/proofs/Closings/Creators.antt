@@ -1,0 +1,124 @@
+-- Each line leaves client ports with a connection port, and with a connect of the thread that made them.
+use Rattle.std.proofs.Common.{◌≡◌, ℕ, List, [], ◌∷◌, Bool, true, false, cond, Option, Some, None, refl}
+use Rattle.std.proofs.lemmas.Bool.{and_from}
+use Rattle.std.specs.List.{AllByRecursion}
+use Rattle.lpc_base.specs.Rows.{every}
+use Rattle.lpc_base.proofs.RowWords.{every-append, every-change, every-more, every-push, every-without}
+use Rattle.lpc_base.proofs.RowMaps.{every-map}
+use Rattle.lpc_base.proofs.Bools.{same-number}
+use Rattle.lpc_model.specs.declared.entry.ObjectKind.TheVariants as kind
+use Rattle.lpc_model.specs.World.{Birth, ObjectKind, PortRow, ThreadRow, World, no_rows}
+use Rattle.lpc_model.specs.Found.{is_port}
+use Rattle.lpc_model.specs.Basics.{Awaits, Basic, Completes, Cuts, Frees, Joins, Makes, basic, completed, cut, freed, is_end_of, joined, paired, world_after}
+use Rattle.lpc_model.specs.Entering.{enter, received_steps, row_of}
+use Rattle.lpc_model.specs.Connect.{client_port, connect_start, connection_request}
+use Rattle.lpc_model.specs.Close.{close_handle}
+use Rattle.lpc_model.specs.Creators.{KeepsConnects, RunKeepsConnects, keeps_connect}
+use Rattle.lpc_model.specs.Death.{die}
+use Rattle.lpc_model.specs.Lawful.{IsLawfulWorld}
+use Rattle.lpc_model.specs.Lines.{ScriptLine}
+use Rattle.lpc_model.specs.Machine.{Stepped, bare_steps, step}
+use Rattle.lpc_model.specs.Run.{said_in, trace}
+use Rattle.lpc_model.specs.Sweep.{sweep}
+use Rattle.lpc_model.proofs.Calls.Acts.{Law, outcomes}
+use Rattle.lpc_model.proofs.Steps.Sweep.{stepped, sweep_every}
+use Rattle.lpc_model.proofs.Steps.Ending.{AreEnding, die-ending, ending-enter, ending-receipt, handle-ending, is_ending}
+use Rattle.lpc_model.proofs.Calls.Lines.{AnyWorld, Shut, LineLaw, line-does, passing-lines}
+use Rattle.lpc_model.proofs.Runs.{lawful_none, lawful_step}
+use Rattle.lpc_model.proofs.Sound.Terminate.{IsSafe}
+use Rattle.lpc_model.proofs.Steps.InTurn.{steps-keep}
+
+-- Basic steps
+-- a step makes no client port without them
+abbrev is_keeping : Basic → Bool
+is_keeping (Makes p) = keeps_connect p
+is_keeping b = true
+
+abbrev AreKeeping : List Basic → Type 0
+AreKeeping bs = every is_keeping bs ≡ true
+
+joined-keeps : (client server : Birth) (context : ℕ) (p : PortRow) → keeps_connect (joined client server context p) ≡ keeps_connect p
+joined-keeps client server context p = at (is_port client p) (is_port server p)
+  where
+    at : (c s : Bool) → keeps_connect (cond c (paired server context p) (cond s (paired client context p) p)) ≡ keeps_connect p
+    at true s = refl
+    at false true = refl
+    at false false = refl
+
+freed-keeps : (w : World) (k : ObjectKind) (b : Birth) → KeepsConnects w → KeepsConnects (freed w k b)
+freed-keeps w kind.Port b k = every-without keeps_connect (is_port b) w.ports k
+freed-keeps w e b k = k
+
+keeping-step : (w : World) (b : Basic) → is_keeping b ≡ true → KeepsConnects w → KeepsConnects (basic w b)
+keeping-step w (Makes p) is k = every-push keeps_connect w.ports p k is
+keeping-step w (Joins client server context) is k =
+    rw (every-map keeps_connect (joined client server context) w.ports)
+    (every-more keeps_connect (λ p. keeps_connect (joined client server context p)) (λ p is. rw (joined-keeps client server context p) is) w.ports k)
+keeping-step w (Completes b) is k = every-change keeps_connect (is_port b) completed (λ p is. is) w.ports k
+keeping-step w (Cuts b) is k = every-change keeps_connect (is_end_of b) cut (λ p is. is) w.ports k
+keeping-step w (Frees o) is k = freed-keeps w o.kind o.birth k
+keeping-step w b is k = k
+
+keeping-all : (w : World) (bs : List Basic) → AreKeeping bs → KeepsConnects w → KeepsConnects (world_after w bs)
+keeping-all = steps-keep is_keeping KeepsConnects keeping-step
+
+-- Acts
+ending-keeps : (b : Basic) → is_ending b ≡ true → is_keeping b ≡ true
+ending-keeps (Makes p) is = absurd (cc)
+ending-keeps b is = refl
+
+ended-keeps : (bs : List Basic) → AreEnding bs → AreKeeping bs
+ended-keeps = every-more is_ending is_keeping ending-keeps
+
+keeping-law : (by : ThreadRow) → Law by (Shut AnyWorld) AnyWorld (λ _. AreKeeping)
+keeping-law by = record {
+  keeps = λ w bs all _. tt;
+  nothing = λ w. refl;
+  follows = λ w. every-append is_keeping;
+  says = λ w e. refl;
+  numbers = λ w. refl;
+  wakes = λ w status fields x. refl;
+  takes = λ w m. ended-keeps (received_steps m) (ending-receipt m);
+  listens = λ w m. ended-keeps (received_steps m) (ending-receipt m);
+  waits = λ w x off is. refl;
+  sends = λ w m is. ended-keeps (enter m w) (ending-enter m w);
+  asks = λ w x m off wait post. let v = basic w (Awaits x) in ended-keeps (enter m v) (ending-enter m v);
+  creates = λ w is. refl;
+  founds = λ w name path free is. refl;
+  connects = λ w connection bytes opens is.
+      let m = connection_request by bytes in
+      let row = row_of connection (client_port by connection) m in
+      let v = world_after w (connect_start by connection m) in
+      and_from (keeps_connect (client_port by connection)) _ (rw (same-number by.number) refl) (ended-keeps (enter row v) (ending-enter row v));
+  gives = λ w pid o access is. refl;
+  accepts = λ w context m x at is. refl;
+  completes = λ w c is. refl;
+  registers = λ w b stands. refl;
+  spawns = λ w pid tid new unused s. refl;
+  starts = λ w tid pid live unused s. refl;
+  closes = λ w pid r at s _. ended-keeps (close_handle pid r w) (handle-ending pid r w);
+  dies = λ w code t is. ended-keeps (die code t w) (die-ending code t w);
+  leaves = λ w n b. refl;
+}
+
+-- Lines
+keeping-lines : LineLaw (Shut AnyWorld) (λ _ _. AreKeeping)
+keeping-lines = passing-lines (Shut AnyWorld) (λ _. AreKeeping) (λ _. is_keeping) (λ w bs all. all) (λ w. record { tells = λ _. refl; processes = λ _. refl; threads = λ _ _ _. refl; binds = λ _ _. refl }) (λ by. outcomes by (Shut AnyWorld) AnyWorld (λ _. AreKeeping) (keeping-law by) (λ w c. c))
+
+keeps_step : (w : World) (line : ScriptLine) → IsSafe w → KeepsConnects w → KeepsConnects (step w line).world
+keeps_step w line is k =
+    stepped KeepsConnects w line (λ v. keeping-all v (sweep v) (sweep_every is_keeping (λ _. refl) v)) (keeping-all w (bare_steps line w) (line-does (Shut AnyWorld) (λ _ _. AreKeeping) keeping-lines w is.sound (is.shut, tt) line) k)
+
+-- Runs
+trace-keeps : (w : World) (lines : List (Option ScriptLine)) → IsLawfulWorld w → KeepsConnects w → AllByRecursion (λ (s : Stepped). KeepsConnects s.world) (trace w lines)
+unfolding trace
+trace-keeps w [] l k = tt
+trace-keeps w (None ∷ later) l k = (k, trace-keeps w later l k)
+trace-keeps w (Some line ∷ later) l k =
+    let shut = l.single_closings in
+    let after = keeps_step w line (record { sound = l.sound; shut = shut.connects }) k in
+    (after, trace-keeps (step w line).world later (lawful_step w line l) after)
+
+-- behind each line of a script each client port has its connection port and its connect
+pub keeps_run : (bytes : List ℕ) → RunKeepsConnects bytes
+keeps_run bytes = trace-keeps no_rows (said_in bytes) lawful_none refl

@@ -1,0 +1,53 @@
+-- A thread or a process that no row counts for may go ahead of the sweep: the sweep leaves the same world.
+use Rattle.std.proofs.Common.{◌≡◌, ◌+◌, ◌∙◌, true, refl, sym, ap, subst}
+use Rattle.std.specs.Prelude.{◌==◌}
+use Rattle.lpc_base.specs.Rows.{count}
+use Rattle.lpc_base.proofs.Births.{birth-same}
+use Rattle.lpc_model.specs.World.{Birth, ObjectName, PortRow, ProcessRow, ThreadRow, World}
+use Rattle.lpc_model.specs.Found.{handle_count, is_connected_to, is_made_on, is_paired_to, is_sent_on, port_name, process_name, same_birth, thread_name}
+use Rattle.lpc_model.specs.Basics.{Frees, basic, world_after}
+use Rattle.lpc_model.specs.Sweep.{is_unheld, sweep}
+use Rattle.lpc_model.proofs.Sound.Frees.{freed-registrations}
+use Rattle.lpc_model.proofs.Held.Ports.{without-same}
+use Rattle.lpc_model.proofs.Held.Lives.{same-process, same-thread}
+use Rattle.lpc_model.proofs.Held.FreedPort.{passed, rows-same, sweep-passes, without-after}
+
+-- as many rows count for each thread and each process, where the row of an object goes that no row counts for
+module _ (w : World) (o : ObjectName) (none : is_unheld w o ≡ true) where
+  abbrev once : World
+  once = basic w (Frees o)
+
+  thread-alike : (b : Birth) → is_unheld w (thread_name b) ≡ is_unheld once (thread_name b)
+  thread-alike b = ap (λ n. n == 0) (sym (same-thread w o b none))
+
+  process-alike : (b : Birth) → is_unheld w (process_name b) ≡ is_unheld once (process_name b)
+  process-alike b = ap (λ n. n == 0) (sym (same-process w o b none))
+
+-- and for each port, where that is a thread or a process
+port-aside : (w : World) (b c : Birth) → is_unheld w (thread_name c) ≡ true → is_unheld w (port_name b) ≡ is_unheld (basic w (Frees (thread_name c))) (port_name b)
+port-aside w b c none =
+    ap (λ rs. (handle_count w (port_name b) + (count (is_paired_to b) w.ports + (count (is_connected_to b) w.ports + (count (is_sent_on b) w.messages + (count (is_made_on b) w.waits + count (same_birth b) rs))))) == 0)
+    (sym (freed-registrations w (thread_name c) none))
+
+module _ (w : World) (b : Birth) where
+  pub thread_first : is_unheld w (thread_name b) ≡ true → world_after (basic w (Frees (thread_name b))) (sweep (basic w (Frees (thread_name b)))) ≡ world_after w (sweep w)
+  thread_first none =
+      let once = basic w (Frees (thread_name b)) in
+      let goes = λ (t : ThreadRow). is_unheld w (thread_name t.birth) in
+      sweep-passes once
+      ∙ ap passed (rows-same w _ _ _ _ _ _
+      (without-same (λ (p : ProcessRow). is_unheld once (process_name p.birth)) (λ p. is_unheld w (process_name p.birth)) (λ p. process-alike w (thread_name b) none p.birth) w.processes)
+      (without-same (λ (t : ThreadRow). is_unheld once (thread_name t.birth)) goes (λ t. thread-alike w (thread_name b) none t.birth) once.threads ∙ without-after (λ (t : ThreadRow). same_birth t.birth b) goes (λ t is. subst (λ c. is_unheld w (thread_name c) ≡ true) (sym (birth-same t.birth b is)) none) w.threads)
+      (without-same (λ (p : PortRow). is_unheld once (port_name p.birth)) (λ p. is_unheld w (port_name p.birth)) (λ p. port-aside w p.birth b none) w.ports))
+      ∙ sym (sweep-passes w)
+
+  pub process_first : is_unheld w (process_name b) ≡ true → world_after (basic w (Frees (process_name b))) (sweep (basic w (Frees (process_name b)))) ≡ world_after w (sweep w)
+  process_first none =
+      let once = basic w (Frees (process_name b)) in
+      let goes = λ (p : ProcessRow). is_unheld w (process_name p.birth) in
+      sweep-passes once
+      ∙ ap passed (rows-same w _ _ _ _ _ _
+      (without-same (λ (p : ProcessRow). is_unheld once (process_name p.birth)) goes (λ p. process-alike w (process_name b) none p.birth) once.processes ∙ without-after (λ (p : ProcessRow). same_birth p.birth b) goes (λ p is. subst (λ c. is_unheld w (process_name c) ≡ true) (sym (birth-same p.birth b is)) none) w.processes)
+      (without-same (λ (t : ThreadRow). is_unheld once (thread_name t.birth)) (λ t. is_unheld w (thread_name t.birth)) (λ t. thread-alike w (process_name b) none t.birth) w.threads)
+      refl)
+      ∙ sym (sweep-passes w)

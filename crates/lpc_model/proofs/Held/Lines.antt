@@ -1,0 +1,326 @@
+-- A line that lets no name go leaves no row of an object that no row names.
+use Rattle.lpc_base.proofs.Births.{birth-self}
+use Rattle.lpc_base.proofs.RowWords.{count-has, every-more, every-push, has-kept, has-push}
+use Rattle.lpc_base.specs.Rows.{count, has, when, which}
+use Rattle.lpc_base.specs.declared.port_kind.PortKind.{PortKind}
+use Rattle.lpc_base.specs.declared.port_kind.PortKind.TheVariants.{Connection, Unnamed}
+use Rattle.lpc_base.specs.declared.status.Status.{Status}
+use Rattle.lpc_base.specs.declared.status.TheConstants.{SUCCESS}
+use Rattle.lpc_message.specs.declared.kind.TheConstants.{DATAGRAM, REQUEST}
+use Rattle.lpc_model.proofs.Steps.Closing.{behind}
+use Rattle.lpc_model.proofs.Calls.Creating.{process-keeps, threaded}
+use Rattle.lpc_model.proofs.Steps.Ending.{answered_end}
+use Rattle.lpc_model.proofs.Steps.Handles.{open-count, open-new}
+use Rattle.lpc_model.proofs.Held.Steps.{counts-more, handle-count, handles-push, held-some, holds-port, keeps_lives, lives-all, lives-handle, lives-more, loosened-on, not-less, ports-more, push-more, quiet-all, steady-keeps}
+use Rattle.lpc_model.proofs.Calls.Lines.{AnyWorld, IsCalled, LineLaw, line-does}
+use Rattle.lpc_model.proofs.Linked.Steps.{is_steady}
+use Rattle.lpc_model.proofs.Calls.Outcomes.{AreDoomed, Outcomes, all, one}
+use Rattle.lpc_model.proofs.Steps.Registrations.{back-more, push-each, same-each}
+use Rattle.lpc_model.proofs.Steps.Rows.{count-change}
+use Rattle.lpc_model.proofs.Sound.Basics.{sound-ordinal, sound-process}
+use Rattle.lpc_model.proofs.Sound.Frees.{fewer-pass}
+use Rattle.lpc_model.proofs.Steps.Steady.{AreSteady, steady-await, steady-enter, steady-receipt, steady-receive}
+use Rattle.lpc_model.proofs.Held.FreedPort.{unheld_ports}
+use Rattle.lpc_model.proofs.Calls.Usable.{CanCall}
+use Rattle.lpc_model.specs.Basics.{AddsHandle, AddsProcess, AddsThread, Basic, Binds, Dies, DrawsIdentifier, DrawsOrdinal, DropsHandle, Makes, Registers, Tells, Withdraws, basic, in_turn, no_handles, past_identifier, past_ordinal, with_handle, world_after}
+use Rattle.lpc_model.specs.Close.{close_port, close_steps, is_last}
+use Rattle.lpc_model.specs.Connect.{client_port, connect_start, connect_wait, connection_request, create_steps, listen_steps, new_port}
+use Rattle.lpc_model.specs.Counts.{asked}
+use Rattle.lpc_model.specs.Creation.{gives_life, making_process, making_thread, second_birth}
+use Rattle.lpc_model.specs.Death.{cut_accepted, die, end_threads}
+use Rattle.lpc_model.specs.Entering.{enter, row_of}
+use Rattle.lpc_model.specs.Found.{all_registrations, free_handle, handle_count, is_connected_to, is_life, is_made_on, is_paired_to, is_sent_on, is_table, is_thread, live_threads, lives_by, lives_in, port_name, process_name, registered_by, same_birth, same_object, thread_name, wait_of, was_process}
+use Rattle.lpc_model.specs.Lines.{ScriptLine}
+use Rattle.lpc_model.specs.Linked.{AreLivesHeld, HasHeldPorts, HasHeldRows}
+use Rattle.lpc_model.specs.Machine.{bare_steps, directive_birth, new_process, new_thread}
+use Rattle.lpc_model.specs.Request.{datagram_start, datagram_steps, receive_steps, request_start, request_steps, sent_by}
+use Rattle.lpc_model.specs.SoundWaits.{IsSoundWorld}
+use Rattle.lpc_model.specs.Sweep.{loosened, loosens, unheld}
+use Rattle.lpc_model.specs.Targets.{LIFE_ACCESS}
+use Rattle.lpc_model.specs.Tests.{PORT_ACCESS, handle_row, next_birth}
+use Rattle.lpc_model.specs.World.{Birth, HandleRow, Message, Node, ObjectName, Path, ProcessRow, ThreadRow, World}
+use Rattle.lpc_model.specs.declared.entry.CallName.{CallName}
+use Rattle.lpc_model.specs.declared.entry.CallName.TheVariants.{NtRegisterThreadTerminatePort}
+use Rattle.lpc_model.specs.declared.entry.Entry.TheVariants.{Answer}
+use Rattle.lpc_names.specs.Walk.{LinkTo, Stands}
+use Rattle.lpc_names.specs.declared.names.Found.TheVariants.{Directory, Item}
+use Rattle.std.proofs.Common.{Bool, List, None, Option, Some, [], ap, arith, false, refl, true, ℕ, ◌++◌, ◌+◌, ◌∙◌, ◌∷◌, ◌≡◌, ◌≤◌}
+use Rattle.std.proofs.lemmas.Bool.Decides.{nat_tests}
+use Rattle.std.specs.Prelude.{◌&&◌, ◌==◌, ◌||◌}
+
+-- What lets a name go
+-- the last step lets a handle go
+loosened-last : (before : Bool) (bs : List Basic) (pid value : ℕ) → loosened before (bs ++ DropsHandle pid value ∷ []) ≡ true
+loosened-last before [] pid value = refl
+loosened-last before (b ∷ bs) pid value = loosened-last (loosens b || before) bs pid value
+
+closed-loosens : (w : World) (by : ThreadRow) (r : HandleRow) → loosened false (close_steps by r w) ≡ true
+closed-loosens w by r = loosened-last false (when (is_last r w) (close_port r.object.birth w)) by.process r.value
+
+-- and so does the end of the first thread
+loosened-front : (xs ys : List Basic) (before : Bool) → loosened before xs ≡ true → loosened before (xs ++ ys) ≡ true
+loosened-front [] ys true is = loosened-on ys
+loosened-front [] ys false is = absurd (cc)
+loosened-front (x ∷ xs) ys before is = loosened-front xs ys (loosens x || before) is
+
+die-loosens : (code : Status) (t : ThreadRow) (w : World) → loosened false (die code t w) ≡ true
+die-loosens code t w =
+    let first = Dies t.number code ∷ Withdraws t.number ∷ [] in
+    loosened-front first (cut_accepted (wait_of w t.number) (world_after w first)) false refl
+
+end-loosens : (pid : ℕ) (code : Status) (t : ThreadRow) (ts : List ThreadRow) (w : World) → loosened false (end_threads pid code (t ∷ ts) w) ≡ true
+unfolding end_threads
+end-loosens pid code t ts w = loosened-front (in_turn (die code) (t ∷ ts) w) _ false (loosened-front (die code t w) (in_turn (die code) ts (behind (die code t) w)) false (die-loosens code t w))
+
+answered-loosens : (w : World) (by : ThreadRow) (call : CallName) (own : Bool) (pid : ℕ) (code : Status) (t : ThreadRow) (ts : List ThreadRow) → loosened false (answered_end by call own pid code (t ∷ ts) w) ≡ true
+answered-loosens w by call true pid code t ts = end-loosens pid code t ts w
+answered-loosens w by call false pid code t ts = end-loosens pid code t ts w
+
+abbrev is_empty : List ThreadRow → Bool
+is_empty [] = true
+is_empty (t ∷ ts) = false
+
+doomed-loosens : (w : World) (by : ThreadRow) (call : CallName) (own : Bool) (pid : ℕ) (code : Status) (ts : List ThreadRow) → AreDoomed w by own pid ts → loosened false (answered_end by call own pid code ts w) ≡ true
+doomed-loosens w by call own pid code ts (one target t at live) = answered-loosens w by call (t.number == by.number) t.process code t []
+doomed-loosens w by call own pid code ts (all target number found live) = at (live_threads w number) (some (lives_in number) w.threads live)
+  where
+    some : (p : ThreadRow → Bool) (ts : List ThreadRow) → has p ts ≡ true → is_empty (which p ts) ≡ false
+    some p [] is = absurd (cc)
+    some p (t ∷ ts) is = grind (arith, some p ts)
+
+    at : (ts : List ThreadRow) → is_empty ts ≡ false → loosened false (answered_end by call (number == by.process) number code ts w) ≡ true
+    at [] off = absurd (cc)
+    at (t ∷ ts) off = answered-loosens w by call (number == by.process) number code t ts
+
+-- Handles that are given
+handle-quiet : (w : World) (pid : ℕ) (object : ObjectName) (access : ℕ) → count (is_table pid) w.handles ≤ 1 → HasHeldPorts w → HasHeldPorts (basic w (AddsHandle pid (handle_row (free_handle w pid) object access)))
+handle-quiet w pid object access few held =
+    ports-more w (basic w (AddsHandle pid (handle_row (free_handle w pid) object access)))
+    (λ b. counts-more _ (count (is_paired_to b) w.ports) (count (is_connected_to b) w.ports) (count (is_sent_on b) w.messages) (count (is_made_on b) w.waits) (count (same_birth b) (all_registrations w)) _ _ _ _ _ _ (handle-count w pid object access (port_name b) few) (omega arith) (omega arith) (omega arith) (omega arith) (omega arith)) held
+
+-- Ports that are made
+-- the new port has a handle
+some-sum : (a b : ℕ) → 1 ≤ a → 1 ≤ a + b
+some-sum a b some = omega (arith, some)
+
+created-quiet : (w : World) (by : ThreadRow) (kind : PortKind) → CanCall w by → IsSoundWorld w → HasHeldPorts w → HasHeldPorts (world_after w (create_steps by (Makes (new_port (next_birth by) kind) ∷ []) (free_handle w by.process)))
+created-quiet w by kind c s held =
+    let own = next_birth by in
+    let port = new_port own kind in
+    let made = basic (basic w (DrawsOrdinal by.number)) (Makes port) in
+    let v = basic made (AddsHandle by.process (handle_row (free_handle w by.process) (port_name own) PORT_ACCESS)) in
+    let old = ports-more w v (λ b. counts-more _ _ _ (count (is_sent_on b) w.messages) (count (is_made_on b) w.waits) _ _ _ _ _ _ _ (handle-count w by.process (port_name own) PORT_ACCESS (port_name b) (s.tables by.process)) (push-more (is_paired_to b) w.ports port) (push-more (is_connected_to b) w.ports port) (omega arith) (omega arith) (not-less _ _ (ap (count (same_birth b)) (same-each registered_by (is_thread by.number) past_ordinal (λ t. refl) w.threads)))) held in
+    let some = open-count v own (open-new made by.process (free_handle w by.process) PORT_ACCESS own c.home) in
+    every-push (holds-port v) w.ports port old (held-some _ (some-sum (handle_count v (port_name own)) _ some))
+
+created-lives : (w : World) (by : ThreadRow) (kind : PortKind) → IsSoundWorld w → AreLivesHeld w → AreLivesHeld (world_after w (create_steps by (Makes (new_port (next_birth by) kind) ∷ []) (free_handle w by.process)))
+created-lives w by kind s held =
+    let made = basic (basic w (DrawsOrdinal by.number)) (Makes (new_port (next_birth by) kind)) in
+    lives-handle made by.process (port_name (next_birth by)) PORT_ACCESS (s.tables by.process) (lives-all w (DrawsOrdinal by.number ∷ Makes (new_port (next_birth by) kind) ∷ []) refl held)
+
+-- the client port of a connect has a wait
+last-some : (a b c d e f : ℕ) → 1 ≤ e → 1 ≤ a + (b + (c + (d + (e + f))))
+last-some a b c d e f some = omega (arith, some)
+
+-- its thread draws both numbers
+drawn-twice : (w : World) (by : ThreadRow) → all_registrations (basic (basic w (DrawsIdentifier by.number)) (DrawsOrdinal by.number)) ≡ all_registrations w
+drawn-twice w by =
+    let v = basic w (DrawsIdentifier by.number) in
+    same-each registered_by (is_thread by.number) past_ordinal (λ t. refl) v.threads ∙ same-each registered_by (is_thread by.number) past_identifier (λ t. refl) w.threads
+
+started-quiet : (w : World) (by : ThreadRow) (connection : Birth) (m : Message) → HasHeldPorts w → HasHeldPorts (world_after w (connect_start by connection m))
+started-quiet w by connection m held =
+    let own = next_birth by in
+    let port = client_port by connection in
+    let x = connect_wait by connection m in
+    let v = world_after w (connect_start by connection m) in
+    let old = ports-more w v (λ b. counts-more (handle_count w (port_name b)) _ _ (count (is_sent_on b) w.messages) _ _ _ _ _ _ _ _ (omega arith) (push-more (is_paired_to b) w.ports port) (push-more (is_connected_to b) w.ports port) (omega arith) (push-more (is_made_on b) w.waits x) (not-less _ _ (ap (count (same_birth b)) (drawn-twice w by)))) held in
+    let some = count-has (is_made_on own) (world_after w (connect_start by connection m)).waits (has-push (is_made_on own) w.waits x (birth-self own)) in
+    every-push (holds-port v) w.ports port old (held-some _ (last-some (handle_count v (port_name own)) (count (is_paired_to own) v.ports) (count (is_connected_to own) v.ports) (count (is_sent_on own) v.messages) _ _ some))
+
+-- a name that is bound holds no row
+bound-lives : (w : World) (path : Path) (node : Node Birth) → AreLivesHeld w → AreLivesHeld (basic w (Binds path node))
+bound-lives w path node held = record { threads = held.threads; processes = held.processes }
+
+-- Threads that are made
+back-some : (a b : ℕ) → 1 ≤ b → 1 ≤ a + b
+back-some a b some = omega (arith, some)
+
+-- a thread that is made holds itself
+further-thread : (w : World) (tid pid : ℕ) (birth : Birth) → AreLivesHeld w → AreLivesHeld (basic w (AddsThread (new_thread tid pid birth)))
+further-thread w tid pid birth held =
+    let t = new_thread tid pid birth in
+    let v = basic w (AddsThread t) in
+    let more = lives-more w v (λ b. back-more (handle_count w (thread_name b)) _ _ (push-more (is_life b) w.threads t)) (λ b. back-more (handle_count w (process_name b)) _ _ (push-more (lives_by w b) w.threads t)) held in
+    let some = count-has (is_life t.birth) v.threads (has-push (is_life t.birth) w.threads t (birth-self t.birth)) in
+    record {
+      threads = every-push _ w.threads t more.0 (held-some _ (back-some (handle_count v (thread_name t.birth)) _ some));
+      processes = more.1;
+    }
+
+-- A process that is made with a thread
+module _ (w : World) (pid tid : ℕ) (maker : Option ℕ) (birth next : Birth) where
+  abbrev booted_process : ProcessRow
+  booted_process = new_process pid maker birth
+
+  abbrev booted_thread : ThreadRow
+  booted_thread = new_thread tid pid next
+
+  abbrev booted : World
+  booted = basic (basic w (AddsProcess booted_process)) (AddsThread booted_thread)
+
+  booted-handles : (o : ObjectName) → handle_count w o ≤ handle_count booted o
+  booted-handles o = handles-push (λ h. same_object h.object o) w.handles (no_handles pid)
+
+  still-lives : (b : Birth) (t : ThreadRow) → lives_by w b t ≡ true → lives_by booted b t ≡ true
+  still-lives b t is = at t.live _ _ (has-kept (λ (p : ProcessRow). same_birth p.birth b && (p.number == t.process)) w.processes booted_process) is
+    where
+      at : (l x y : Bool) → (x ≡ true → y ≡ true) → (l && x) ≡ true → (l && y) ≡ true
+      at l x y more is = grind (arith, more)
+
+  both-more : (a b c d : ℕ) → a ≤ b → c ≤ d → a + c ≤ b + d
+  both-more a b c d front back = omega (arith, front, back)
+
+  through : (a b c : ℕ) → a ≤ b → b ≤ c → a ≤ c
+  through a b c low high = omega (arith, low, high)
+
+  own-process : has (λ (p : ProcessRow). same_birth p.birth booted_process.birth && (p.number == pid)) (w.processes ++ booted_process ∷ []) ≡ true
+  own-process = has-push (λ (p : ProcessRow). same_birth p.birth booted_process.birth && (p.number == pid)) w.processes booted_process (let self = birth-self booted_process.birth in grind (arith, nat_tests))
+
+  boot-held : AreLivesHeld w → AreLivesHeld booted
+  boot-held held =
+      let more = lives-more w booted (λ b. both-more _ _ _ _ (booted-handles (thread_name b)) (push-more (is_life b) w.threads booted_thread))
+      (λ b. both-more _ _ _ _ (booted-handles (process_name b)) (through _ _ _ (fewer-pass (lives_by w b) (lives_by booted b) (still-lives b) w.threads) (push-more (lives_by booted b) w.threads booted_thread))) held in
+      let thread_some = count-has (is_life booted_thread.birth) booted.threads (has-push (is_life booted_thread.birth) w.threads booted_thread (birth-self booted_thread.birth)) in
+      let process_some = count-has (lives_by booted booted_process.birth) booted.threads (has-push (lives_by booted booted_process.birth) w.threads booted_thread own-process) in
+      record {
+        threads = every-push _ w.threads booted_thread more.0 (held-some _ (back-some (handle_count booted (thread_name booted_thread.birth)) _ thread_some));
+        processes = every-push _ w.processes booted_process more.1 (held-some _ (back-some (handle_count booted (process_name booted_process.birth)) _ process_some));
+      }
+
+  boot-ports : HasHeldPorts w → HasHeldPorts booted
+  boot-ports held = ports-more w booted (λ b. counts-more _ (count (is_paired_to b) w.ports) (count (is_connected_to b) w.ports) (count (is_sent_on b) w.messages) (count (is_made_on b) w.waits) _ _ _ _ _ _ _ (booted-handles (port_name b)) (omega arith) (omega arith) (omega arith) (omega arith) (not-less _ _ (ap (count (same_birth b)) (push-each registered_by booted_thread refl w.threads)))) held
+
+-- a thread that is made has registered no port
+further-ports : (w : World) (tid pid : ℕ) (birth : Birth) → HasHeldPorts w → HasHeldPorts (basic w (AddsThread (new_thread tid pid birth)))
+further-ports w tid pid birth held =
+    let t = new_thread tid pid birth in
+    ports-more w (basic w (AddsThread t)) (λ b. counts-more (handle_count w (port_name b)) (count (is_paired_to b) w.ports) (count (is_connected_to b) w.ports) (count (is_sent_on b) w.messages) (count (is_made_on b) w.waits) _ _ _ _ _ _ _
+    (omega arith) (omega arith) (omega arith) (omega arith) (omega arith) (not-less _ _ (ap (count (same_birth b)) (push-each registered_by t refl w.threads)))) held
+
+-- Calls
+-- a thread that gets handles has one table of them
+record IsTabledWorld (P : World → Type 0) (by : ThreadRow) (w : World) : Type 0 where
+  tables : count (is_table by.process) w.handles ≤ 1
+  held : P w
+
+drawn-held : (P : World → Type 0) → ((w : World) (n : ℕ) → P w → P (basic w (DrawsOrdinal n))) → (by : ThreadRow) (w : World) → IsTabledWorld P by w → IsTabledWorld P by (basic w (DrawsOrdinal by.number))
+drawn-held P draws by w is = record { tables = is.tables; held = draws w by.number is.held }
+
+given-held : (P : World → Type 0) → ((w : World) (pid : ℕ) (o : ObjectName) → count (is_table pid) w.handles ≤ 1 → P w → P (basic w (AddsHandle pid (handle_row (free_handle w pid) o LIFE_ACCESS))))
+    → (by : ThreadRow) (w : World) (o : ObjectName) → IsTabledWorld P by w → IsTabledWorld P by (basic w (gives_life by (free_handle w by.process) o))
+given-held P gives by w o is = record {
+  tables = rw (count-change (is_table by.process) (is_table by.process) (with_handle (handle_row (free_handle w by.process) o LIFE_ACCESS)) (λ t. refl) w.handles) is.tables;
+  held = gives w by.process o is.tables is.held;
+}
+
+-- what steady steps keep that let no name go, and the steps that make rows
+record KeepsRows (Q : World → Type 0) : Type 0 where
+  steady : (w : World) (bs : List Basic) → AreSteady bs → loosened false bs ≡ false → Q w → Q (world_after w bs)
+  gives : (w : World) (pid : ℕ) (o : ObjectName) (access : ℕ) → count (is_table pid) w.handles ≤ 1 → Q w → Q (basic w (AddsHandle pid (handle_row (free_handle w pid) o access)))
+  binds : (w : World) (path : Path) (node : Node Birth) → Q w → Q (basic w (Binds path node))
+  creates : (w : World) (by : ThreadRow) (kind : PortKind) → CanCall w by → IsSoundWorld w → Q w → Q (world_after w (create_steps by (Makes (new_port (next_birth by) kind) ∷ []) (free_handle w by.process)))
+  connects : (w : World) (by : ThreadRow) (connection : Birth) (m : Message) → Q w → Q (world_after w (connect_start by connection m))
+  boots : (w : World) (pid tid : ℕ) (maker : Option ℕ) (birth next : Birth) → Q w → Q (booted w pid tid maker birth next)
+  threads : (w : World) (tid pid : ℕ) (birth : Birth) → Q w → Q (basic w (AddsThread (new_thread tid pid birth)))
+
+abbrev KeepQuiet : (World → Type 0) → World → List Basic → Type 0
+KeepQuiet Q w bs = loosened false bs ≡ false → Q w → Q (world_after w bs)
+
+module _ (Q : World → Type 0) (k : KeepsRows Q) where
+  spawned : (w : World) (by : ThreadRow) (pid tid : ℕ) → was_process w pid ≡ false → CanCall w by → IsSoundWorld w → Q w → Q (world_after w (making_process w by pid tid))
+  spawned w by pid tid new c s held =
+      let v : World = basic (basic w (DrawsOrdinal by.number)) (DrawsOrdinal by.number) in
+      let t = sound-process v (new_process pid (Some by.process) (next_birth by)) new (sound-ordinal (basic w (DrawsOrdinal by.number)) by.number (sound-ordinal w by.number s)) in
+      (process-keeps (IsTabledWorld Q by) w by c (drawn-held Q draws by) (given-held Q (λ w pid o. k.gives w pid o LIFE_ACCESS) by) pid tid
+      (λ is. record { tables = t.tables by.process; held = k.boots v pid tid (Some by.process) (next_birth by) (second_birth by) is.held })
+      (record { tables = s.tables by.process; held = held })).held
+    where
+      draws : (w : World) (n : ℕ) → Q w → Q (basic w (DrawsOrdinal n))
+      draws w n = k.steady w (DrawsOrdinal n ∷ []) refl refl
+
+  started : (w : World) (by : ThreadRow) (tid pid : ℕ) → IsSoundWorld w → Q w → Q (world_after w (making_thread w by tid pid))
+  started w by tid pid s held =
+      let drawn = k.steady w (DrawsOrdinal by.number ∷ []) refl refl held in
+      k.gives (threaded (basic w (DrawsOrdinal by.number)) by tid pid) by.process (thread_name (next_birth by)) LIFE_ACCESS (s.tables by.process) (k.threads (basic w (DrawsOrdinal by.number)) tid pid (next_birth by) drawn)
+
+  quiet-calls : (by : ThreadRow) (w : World) → IsCalled AnyWorld w by → Outcomes w by (λ _. KeepQuiet Q w)
+  quiet-calls by w is = record {
+    creates = λ quiet held. k.creates w by Unnamed is.can is.sound held;
+    founds = λ name path free quiet held. k.binds _ path (Stands (Item (next_birth by))) (k.creates w by Connection is.can is.sound held);
+    connects = λ name bytes connection at quiet held.
+        let m = connection_request by bytes in
+        let v = world_after w (connect_start by connection m) in
+        let row = row_of connection (client_port by connection) m in
+        k.steady v (enter row v) (steady-enter row v) quiet (k.connects w by connection m held);
+    listens = λ handle port m found at. k.steady w (listen_steps by port.birth (Some m)) (steady-receipt m);
+    awaits_connect = λ handle port found at. k.steady w (listen_steps by port.birth None) refl;
+    refuses = λ context bytes a at quiet. absurd (cc);
+    accepts = λ context bytes a at quiet. absurd (cc);
+    completes = λ handle c at quiet. absurd (cc);
+    sends = λ handle bytes s at. k.steady w (datagram_steps by s.port s.queue (sent_by by DATAGRAM s.message) w) (steady-enter (row_of s.queue s.port (sent_by by DATAGRAM s.message)) (world_after w (datagram_start by)));
+    asks = λ handle bytes s at. let m = sent_by by REQUEST s.message in k.steady w (request_steps by s.port s.queue m w) (steady-enter (row_of s.queue s.port m) (world_after w (request_start by s.port.birth s.queue m)));
+    replies = λ handle bytes port m x at read fits quiet. absurd (cc);
+    receives = λ handle bytes o port queue replied m r at. k.steady w (receive_steps by port queue replied (Some m)) (steady-receive w by handle bytes o port queue replied m r);
+    awaits_message = λ handle bytes o port queue replied r at. k.steady w (receive_steps by port queue replied None) (steady-await w by handle bytes o port queue replied r);
+    registers = λ handle port at new few. k.steady w (Tells (Answer by.number NtRegisterThreadTerminatePort SUCCESS []) ∷ Registers by.number port.birth ∷ []) refl;
+    repeats = λ handle port at known quiet held. held;
+    closes = λ handle r at quiet. let loose = closed-loosens w by r in absurd (cc);
+    duplicates = λ handle access r at quiet. k.gives w by.process r.object (asked r access) (let s = is.sound in s.tables by.process);
+    queries = λ handle r at quiet held. held;
+    spawns = λ pid tid new unused quiet. spawned w by pid tid new is.can is.sound;
+    starts = λ target tid pid _ live unused quiet. started w by tid pid is.sound;
+    ends = λ call name own pid code ts doomed quiet. let loose = doomed-loosens w by name own pid code ts doomed in absurd (cc);
+  }
+
+  -- Lines
+  quiet-lines : LineLaw AnyWorld (λ _. KeepQuiet Q)
+  quiet-lines = record {
+    tells = λ line w e _ quiet held. k.steady w (Tells e ∷ []) refl refl held;
+    calls = quiet-calls;
+    boots = λ w pid tid _ _ s _ quiet. k.boots w pid tid None (directive_birth pid pid) (directive_birth tid pid);
+    threads = λ w tid pid _ _ s _ quiet. k.threads w tid pid (directive_birth tid pid);
+    dirs = λ w text path free _ quiet. k.binds w path (Stands Directory);
+    links = λ w text target path to free _ quiet. k.binds w path (LinkTo to);
+  }
+
+  line-quiet : (w : World) (line : ScriptLine) → IsSoundWorld w → KeepQuiet Q w (bare_steps line w)
+  line-quiet w line s = line-does AnyWorld (λ _. KeepQuiet Q) quiet-lines w s tt line
+
+-- before rows go, each process and thread row is named by a row, where the line lets no name go
+pub lives_kept : (w : World) (line : ScriptLine) → IsSoundWorld w → AreLivesHeld w → loosened false (bare_steps line w) ≡ false → AreLivesHeld (world_after w (bare_steps line w))
+lives_kept w line s held quiet = line-quiet AreLivesHeld (record {
+  steady = λ w bs all _. lives-all w bs (every-more is_steady keeps_lives steady-keeps bs all);
+  gives = lives-handle;
+  binds = bound-lives;
+  creates = λ w by kind _ s. created-lives w by kind s;
+  connects = λ w by connection m. lives-all w (connect_start by connection m) refl;
+  boots = boot-held;
+  threads = further-thread;
+}) w line s quiet held
+
+-- and each port row, where the line lets no name go
+pub ports_kept : (w : World) (line : ScriptLine) → IsSoundWorld w → HasHeldPorts w → loosened false (bare_steps line w) ≡ false → HasHeldPorts (world_after w (bare_steps line w))
+ports_kept w line s held quiet = line-quiet HasHeldPorts (record {
+  steady = quiet-all;
+  gives = handle-quiet;
+  binds = λ w path node held. held;
+  creates = created-quiet;
+  connects = started-quiet;
+  boots = boot-ports;
+  threads = further-ports;
+}) w line s quiet held
+
+-- so such a line leaves no row that no row names
+pub quiet_line : (w : World) (line : ScriptLine) → IsSoundWorld w → HasHeldRows w → loosened false (bare_steps line w) ≡ false → unheld (world_after w (bare_steps line w)) ≡ []
+quiet_line w line s held quiet = unheld_ports (world_after w (bare_steps line w)) (lives_kept w line s held.lives quiet) (ports_kept w line s held.ports quiet)

@@ -1,0 +1,116 @@
+-- Each line keeps ports linked, and leaves no port row that no row names.
+use Rattle.lpc_base.proofs.RowWords.{every-more}
+use Rattle.lpc_model.specs.SoundWaits.{HasShutConnects, IsSoundWorld}
+use Rattle.lpc_model.specs.Sweep.{free_unheld, sweep}
+use Rattle.lpc_model.specs.Linked.{HasHeldRows, IsLinked}
+use Rattle.lpc_model.proofs.Sound.Lines.{line-sound}
+use Rattle.lpc_model.proofs.Linked.Joins.{swept-linked}
+use Rattle.lpc_model.proofs.Held.Ports.{two-passes}
+use Rattle.lpc_model.proofs.Held.Lives.{processes-held, threads-held}
+use Rattle.lpc_model.proofs.Linked.Steps.{is_plain, plain-all}
+use Rattle.lpc_model.proofs.Steps.InTurn.{after-append}
+use Rattle.std.proofs.Common.{List, None, Some, [], arith, refl, true, ◌∷◌, ◌≡◌}
+use Rattle.lpc_base.specs.Rows.{first}
+use Rattle.lpc_base.specs.declared.status.TheConstants.{SUCCESS}
+use Rattle.lpc_message.specs.declared.kind.TheConstants.{DATAGRAM, REQUEST}
+use Rattle.lpc_names.specs.Walk.{LinkTo, Stands}
+use Rattle.lpc_names.specs.declared.names.Found.TheVariants.{Directory}
+use Rattle.lpc_model.specs.declared.entry.CallName.TheVariants.{NtRegisterThreadTerminatePort}
+use Rattle.lpc_model.specs.declared.entry.Entry.TheVariants as entry
+use Rattle.lpc_model.specs.declared.entry.Entry.TheVariants.{Answer}
+use Rattle.lpc_model.specs.declared.entry.Word.TheVariants as word
+use Rattle.lpc_model.specs.World.{ThreadRow, World, no_rows}
+use Rattle.lpc_model.specs.Basics.{AddsProcess, AddsThread, Awaits, Basic, Binds, Frees, Joins, Makes, Registers, Tells, world_after}
+use Rattle.lpc_model.specs.Close.{close_steps}
+use Rattle.lpc_model.specs.Connect.{ConnectAnswer, answer_test, complete_steps, listen_steps, names_connect, refuse_steps}
+use Rattle.lpc_model.specs.Counts.{asked, duplicate_steps}
+use Rattle.lpc_model.specs.Creation.{making_process, making_thread}
+use Rattle.lpc_model.specs.Entering.{row_of}
+use Rattle.lpc_model.specs.Found.{free_handle}
+use Rattle.lpc_model.specs.Lines.{ScriptLine}
+use Rattle.lpc_model.specs.Linked.{is_root_port}
+use Rattle.lpc_model.specs.Machine.{bare_steps, directive_birth, new_process, new_thread, step}
+use Rattle.lpc_model.specs.Named.{named_port}
+use Rattle.lpc_model.specs.Request.{datagram_start, datagram_steps, receive_steps, reply_steps, request_start, request_steps, sent_by}
+use Rattle.lpc_model.proofs.Steps.Ending.{AreEnding, answered_end, is_ending, steps-end}
+use Rattle.lpc_model.proofs.Calls.Holding.{holds_ok}
+use Rattle.lpc_model.proofs.Calls.Lines.{AnyWorld, IsCalled, Keep, LineLaw, line-does}
+use Rattle.lpc_model.proofs.Linked.Calls.{accepted-linked, connected-linked, name-ends, named-linked, steady-all, unnamed-linked}
+use Rattle.lpc_model.proofs.Linked.Close.{handle-plain}
+use Rattle.lpc_model.proofs.Calls.Outcomes.{Outcomes}
+use Rattle.lpc_model.proofs.Calls.Tested.{named-wait}
+use Rattle.lpc_model.proofs.Steps.Steady.{steady-await, steady-enter, steady-receipt, steady-receive}
+
+-- what ends is plain
+pub ending-plain : (b : Basic) → is_ending b ≡ true → is_plain b ≡ true
+ending-plain (Awaits x) is = absurd (cc)
+ending-plain (Binds path node) is = absurd (cc)
+ending-plain (Makes p) is = absurd (cc)
+ending-plain (Joins client server context) is = absurd (cc)
+ending-plain (Frees o) is = absurd (cc)
+ending-plain b is = refl
+
+-- so it leaves ports linked
+pub ended-linked : (w : World) (bs : List Basic) → AreEnding bs → IsLinked w → IsLinked (world_after w bs)
+ended-linked w bs all l = plain-all w bs (every-more is_ending is_plain ending-plain bs all) l
+
+-- Calls
+linked-calls : (by : ThreadRow) (w : World) → IsCalled AnyWorld w by → Outcomes w by (λ _. Keep IsLinked w)
+linked-calls by w is = record {
+  creates = unnamed-linked w by is.can is.sound;
+  founds = λ name path free. named-linked w by path is.can is.sound;
+  connects = λ name bytes connection at l. connected-linked w by connection bytes is.can (holds_ok (λ port. is_root_port w port ≡ true) (named_port w name) connection (name-ends w name l) at) is.sound l;
+  listens = λ handle port m found at. steady-all w (listen_steps by port.birth (Some m)) (steady-receipt m);
+  awaits_connect = λ handle port found at. steady-all w (listen_steps by port.birth None) refl;
+  refuses = λ context bytes a at. plain-all w (refuse_steps by a) refl;
+  accepts = λ context bytes a at. accepted-linked w by context (free_handle w by.process) a.message a.wait (holds_ok (λ (a : ConnectAnswer). first (names_connect w by a.message) w.waits ≡ Some a.wait) (answer_test w by bytes) a (named-wait w by bytes) at) is.can is.sound;
+  completes = λ handle c at. plain-all w (complete_steps by (free_handle w c.wait.process) c) refl;
+  sends = λ handle bytes s at. steady-all w (datagram_steps by s.port s.queue (sent_by by DATAGRAM s.message) w) (steady-enter (row_of s.queue s.port (sent_by by DATAGRAM s.message)) (world_after w (datagram_start by)));
+  asks = λ handle bytes s at. let m = sent_by by REQUEST s.message in steady-all w (request_steps by s.port s.queue m w) (steady-enter (row_of s.queue s.port m) (world_after w (request_start by s.port.birth s.queue m)));
+  replies = λ handle bytes port m x at read fits. plain-all w (reply_steps by x m) refl;
+  receives = λ handle bytes o port queue replied m r at. steady-all w (receive_steps by port queue replied (Some m)) (steady-receive w by handle bytes o port queue replied m r);
+  awaits_message = λ handle bytes o port queue replied r at. steady-all w (receive_steps by port queue replied None) (steady-await w by handle bytes o port queue replied r);
+  registers = λ handle port at new few. plain-all w (Tells (Answer by.number NtRegisterThreadTerminatePort SUCCESS []) ∷ Registers by.number port.birth ∷ []) refl;
+  repeats = λ handle port at known l. l;
+  closes = λ handle r at. plain-all w (close_steps by r w) (handle-plain w by.process r);
+  duplicates = λ handle access r at. plain-all w (duplicate_steps by (free_handle w by.process) r (asked r access)) refl;
+  queries = λ handle r at l. l;
+  spawns = λ pid tid new unused. plain-all w (making_process w by pid tid) refl;
+  starts = λ target tid pid _ live unused. plain-all w (making_thread w by tid pid) refl;
+  ends = λ call name own pid code ts doomed. ended-linked w (answered_end by name own pid code ts w) (steps-end w by name own pid code ts);
+}
+
+-- Lines
+linked-lines : LineLaw AnyWorld (λ _. Keep IsLinked)
+linked-lines = record {
+  tells = λ line w e _ l. l;
+  calls = linked-calls;
+  boots = λ w pid tid _ _ s _. plain-all w (Tells (entry.Directive word.Boot SUCCESS) ∷ AddsProcess (new_process pid None (directive_birth pid pid)) ∷ AddsThread (new_thread tid pid (directive_birth tid pid)) ∷ []) refl;
+  threads = λ w tid pid _ _ s _. plain-all w (Tells (entry.Directive word.Thread SUCCESS) ∷ AddsThread (new_thread tid pid (directive_birth tid pid)) ∷ []) refl;
+  dirs = λ w text path free _. plain-all w (Tells (entry.Directive word.Dir SUCCESS) ∷ Binds path (Stands Directory) ∷ []) refl;
+  links = λ w text target path to free _. plain-all w (Tells (entry.Directive word.Link SUCCESS) ∷ Binds path (LinkTo to) ∷ []) refl;
+}
+
+-- before rows go
+pub line_linked : (w : World) (line : ScriptLine) → IsSoundWorld w → IsLinked w → IsLinked (world_after w (bare_steps line w))
+line_linked w line s l = line-does AnyWorld (λ _. Keep IsLinked) linked-lines w s tt line l
+
+-- the step of a line keeps ports linked, and leaves no port row that no row names
+pub linked_step : (w : World) (line : ScriptLine) → IsSoundWorld w → HasShutConnects w → IsLinked w → IsLinked (step w line).world
+linked_step w line s shut l =
+    let bs = bare_steps line w in
+    rw (after-append w bs (sweep (world_after w bs))) (swept-linked (world_after w bs) (line-sound w line s shut) (line_linked w line s l))
+
+swept-rows : (w : World) → IsLinked w → HasHeldRows (world_after w (sweep w))
+unfolding sweep
+swept-rows w l =
+    let v = world_after w (free_unheld w) in
+    rw (after-append w (free_unheld w) (free_unheld v)) (record { ports = two-passes w l; lives = record { threads = threads-held w; processes = processes-held w } })
+
+pub held_step : (w : World) (line : ScriptLine) → IsSoundWorld w → IsLinked w → HasHeldRows (step w line).world
+held_step w line s l =
+    let bs = bare_steps line w in
+    rw (after-append w bs (sweep (world_after w bs))) (swept-rows (world_after w bs) (line_linked w line s l))
+
+pub linked_none : IsLinked no_rows
+linked_none = record { births = λ b. grind arith; pairs = refl; rooted = refl; offers = refl; targets = refl }

@@ -1,0 +1,186 @@
+-- The step of each line leaves handles to living processes alone.
+use Rattle.std.proofs.Common.{◌≡◌, ℕ, ◌≤◌, List, [], ◌∷◌, Bool, true, false, not, refl, sym, subst, arith}
+use Rattle.std.specs.Prelude.{◌&&◌, ◌||◌, ◌==◌}
+use Rattle.std.proofs.lemmas.Bool.{eqb-true, or_left, or_right}
+use Rattle.std.proofs.lemmas.Bool.Decides.{nat_tests}
+use Rattle.lpc_base.specs.Rows.{count, every, first, has, when}
+use Rattle.lpc_base.specs.declared.status.Status.{Status}
+use Rattle.lpc_base.specs.declared.status.TheConstants.{SUCCESS}
+use Rattle.lpc_base.proofs.RowWords.{every-change, every-more, has-change, none-counted}
+use Rattle.lpc_base.proofs.RowMaps.{every-both}
+use Rattle.lpc_base.proofs.Bools.{first-true, second-true}
+use Rattle.lpc_model.specs.declared.entry.CallName.TheVariants.{NtRegisterThreadTerminatePort}
+use Rattle.lpc_model.specs.declared.entry.Entry.TheVariants.{Answer}
+use Rattle.lpc_model.specs.World.{HandleRow, HandleTable, ThreadRow, World}
+use Rattle.lpc_model.specs.Found.{handles_of, is_live, is_table, is_thread, lives_in, rows_in, wait_of}
+use Rattle.lpc_model.specs.Basics.{Accepts, AddsHandle, AddsProcess, AddsThread, Awaits, Basic, Dies, DrawsIdentifier, DrawsOrdinal, DropsHandle, Frees, Registers, Tells, Unregisters, Withdraws, basic, ended, in_turn, provided, unregistering, without_handle, world_after, ◌▹◌}
+use Rattle.lpc_model.specs.Close.{close_handle}
+use Rattle.lpc_model.specs.Death.{cut_accepted, die, end_process, end_threads, post_death, post_deaths}
+use Rattle.lpc_model.specs.Lawful.{HasThreadsOnce}
+use Rattle.lpc_model.specs.Left.{HasLivingHandles, is_living_table, lacks_handles}
+use Rattle.lpc_model.specs.Lines.{ScriptLine}
+use Rattle.lpc_model.specs.Machine.{step}
+use Rattle.lpc_model.specs.SoundWaits.{IsSoundWorld}
+use Rattle.lpc_model.proofs.Steps.Closing.{behind, then-holds}
+use Rattle.lpc_model.proofs.Deaths.Deathless.{LifeLaw, handle-deathless, is_deathless, is_mild, life-outcomes}
+use Rattle.lpc_model.proofs.Deaths.Lines.{away-still, death-still, deathless-still, die-threads, is_still}
+use Rattle.lpc_model.proofs.Deaths.Doomed.{AreOf, IsOf, doomed-of, of-ended}
+use Rattle.lpc_model.proofs.Steps.Ending.{AreEnding, accepted-pass, behind_dead, behind_told, die-ending, ending-death, first-at, handle-ending, is_ending, rows-left, turn-keeps, world-ends}
+use Rattle.lpc_model.proofs.Calls.Lines.{Keep, LineLaw, Shut, passing-lines, step-keeps}
+use Rattle.lpc_model.proofs.Lives.HandleSteps.{homely-all, is_homely, lacks-less, living-swept, mild-homely}
+use Rattle.lpc_model.proofs.Steps.Rows.{has-change_to}
+use Rattle.lpc_model.proofs.Sound.Close.{close_handle-sound}
+use Rattle.lpc_model.proofs.Sound.Terminate.{IsSafe, sound-of, told-safe}
+
+-- a handle that goes ends no thread
+handle-still : (pid : ℕ) (r : HandleRow) (w : World) → every is_still (close_handle pid r w) ≡ true
+handle-still pid r w = every-more is_deathless is_still deathless-still (close_handle pid r w) (handle-deathless pid r w)
+
+-- All tables but those of one process
+abbrev is_almost : ℕ → World → HandleTable → Bool
+is_almost pid w t = (t.process == pid) || is_living_table w t
+
+abbrev HasLivingBut : ℕ → World → Type 0
+HasLivingBut pid w = every (is_almost pid w) w.handles ≡ true
+
+but-all : (pid : ℕ) (w : World) → HasLivingHandles w → HasLivingBut pid w
+but-all pid w l = every-more (is_living_table w) (is_almost pid w) (λ t is. or_right (t.process == pid) _ is) w.handles l
+
+almost-more : (e a b c : Bool) → (e ≡ false → a ≡ true → b ≡ true) → (e || (a || c)) ≡ true → (e || (b || c)) ≡ true
+almost-more true a b c more is = refl
+almost-more false a b c more is = grind (arith, more refl)
+
+-- a thread of the process ends
+dies-but : (pid n : ℕ) (code : Status) (w : World) → IsOf pid n w.threads → HasLivingBut pid w → HasLivingBut pid (basic w (Dies n code))
+dies-but pid n code w of l =
+    let v = basic w (Dies n code) in
+    every-more (is_almost pid w) (is_almost pid v) (λ t. almost-more (t.process == pid) (is_live w t.process) (is_live v t.process) (lacks_handles t) (λ off. still t.process off)) w.handles l
+  where
+    parts : (q : ℕ) (u : ThreadRow) → (q == pid) ≡ false → (not (is_thread n u) || (u.process == pid)) ≡ true → (not (is_thread n u && lives_in q u) || lives_in q (ended u)) ≡ true
+    parts q u off is = grind (arith, nat_tests)
+
+    still : (q : ℕ) → (q == pid) ≡ false → is_live w q ≡ true → is_live (basic w (Dies n code)) q ≡ true
+    still q off is = has-change_to (lives_in q) (is_thread n) ended w.threads (every-more _ _ (λ u one. parts q u off one) w.threads of) is
+
+-- steps that end nothing of a thread
+still-step : (pid : ℕ) (w : World) (b : Basic) → is_ending b ≡ true → is_still b ≡ true → HasLivingBut pid w → HasLivingBut pid (basic w b)
+still-step pid w (DropsHandle p value) is still l =
+    every-change (is_almost pid w) (is_table p) (without_handle value) (λ t was. more (t.process == pid) (is_live w t.process) (lacks_handles t) (lacks_handles (without_handle value t)) (lacks-less value t) was) w.handles l
+  where
+    more : (e a c d : Bool) → (c ≡ true → d ≡ true) → (e || (a || c)) ≡ true → (e || (a || d)) ≡ true
+    more e a c d less was = grind (arith, less)
+still-step pid w (Unregisters who b) is still l =
+    let v = basic w (Unregisters who b) in
+    every-more (is_almost pid w) (is_almost pid v) (λ t. almost-more (t.process == pid) (is_live w t.process) (is_live v t.process) (lacks_handles t) (λ off one. rw (has-change (lives_in t.process) (is_thread who) (unregistering b) (λ u. refl) w.threads) one)) w.handles l
+still-step pid w (Dies who status) is still l = absurd (cc)
+still-step pid w (Awaits x) is still l = absurd (cc)
+still-step pid w (Accepts who reply) is still l = absurd (cc)
+still-step pid w (DrawsIdentifier who) is still l = absurd (cc)
+still-step pid w (DrawsOrdinal who) is still l = absurd (cc)
+still-step pid w (Registers who b) is still l = absurd (cc)
+still-step pid w (AddsProcess p) is still l = absurd (cc)
+still-step pid w (AddsThread t) is still l = absurd (cc)
+still-step pid w (Frees o) is still l = absurd (cc)
+still-step pid w (AddsHandle p h) is still l = absurd (cc)
+still-step pid w b is still l = l
+
+still-all : (pid : ℕ) (w : World) (bs : List Basic) → AreEnding bs → every is_still bs ≡ true → HasLivingBut pid w → HasLivingBut pid (world_after w bs)
+still-all pid w [] all still l = l
+still-all pid w (b ∷ bs) all still l =
+    still-all pid (basic w b) bs (second-true (is_ending b) _ all) (second-true (is_still b) _ still) (still-step pid w b (first-true (is_ending b) _ all) (first-true (is_still b) _ still) l)
+
+-- The threads of the process end
+die-but : (pid : ℕ) (code : Status) (t : ThreadRow) (w : World) → IsOf pid t.number w.threads → HasLivingBut pid w → HasLivingBut pid (behind (die code t) w)
+die-but pid code t w of l =
+    let dead = basic w (Dies t.number code) in
+    let gone = basic dead (Withdraws t.number) in
+    let later = cut_accepted (wait_of w t.number) gone in
+    let all = die-ending code t w in
+    still-all pid gone later all (accepted-pass is_still away-still (λ b. refl) (wait_of w t.number) gone) (dies-but pid t.number code w of l)
+
+dead-but : (pid : ℕ) (code : Status) (ts : List ThreadRow) (w : World) → AreOf pid w.threads ts → HasLivingBut pid w → HasLivingBut pid (behind_dead code ts w)
+dead-but pid code [] w of l = l
+dead-but pid code (t ∷ ts) w of l =
+    let v = behind (die code t) w in
+    then-holds (HasLivingBut pid) (die code t) (in_turn (die code) ts) w
+    (dead-but pid code ts v (subst (λ all. AreOf pid all ts) (sym (die-threads code t w)) (of-ended pid t.number w.threads ts of.1)) (die-but pid code t w of.0 l))
+
+told-but : (pid : ℕ) (code : Status) (ts : List ThreadRow) (w : World) → AreOf pid w.threads ts → HasLivingBut pid w → HasLivingBut pid (behind_told code ts w)
+told-but pid code ts w of l =
+    turn-keeps (HasLivingBut pid) post_deaths (λ t v. turn-keeps (HasLivingBut pid) (post_death t) (λ b u k. still-all pid u (post_death t b u) (ending-death t b u) (death-still t b u) k) t.registrations v) ts (behind_dead code ts w) (dead-but pid code ts w of l)
+
+-- The handles of the process go
+handles-but : (pid : ℕ) (rows : List HandleRow) (w : World) → handles_of w pid ≡ rows → IsSoundWorld w → HasLivingBut pid w → HasLivingBut pid (behind (in_turn (close_handle pid) rows) w) × (handles_of (behind (in_turn (close_handle pid) rows) w) pid ≡ []) × IsSoundWorld (behind (in_turn (close_handle pid) rows) w)
+handles-but pid [] w same s l = (l, same, s)
+handles-but pid (r ∷ rows) w same s l =
+    let v = behind (close_handle pid r) w in
+    then-holds (λ u. HasLivingBut pid u × (handles_of u pid ≡ []) × IsSoundWorld u) (close_handle pid r) (in_turn (close_handle pid) rows) w
+    (handles-but pid rows v (rows-left w pid r rows same s) (close_handle-sound w pid r (first-at w pid r rows same) s) (still-all pid w (close_handle pid r w) (handle-ending pid r w) (handle-still pid r w) l))
+
+-- its table is empty then
+table-lacks : (pid : ℕ) (ts : List HandleTable) → count (is_table pid) ts ≤ 1 → rows_in (first (is_table pid) ts) ≡ [] → every (λ t. not (is_table pid t) || lacks_handles t) ts ≡ true
+table-lacks pid [] one none = refl
+table-lacks pid (t ∷ ts) one none = at (is_table pid t) refl (table-lacks pid ts)
+  where
+    off : (ts : List HandleTable) → has (is_table pid) ts ≡ false → every (λ t. not (is_table pid t) || lacks_handles t) ts ≡ true
+    off [] none = refl
+    off (t ∷ ts) none = grind (arith, off ts)
+
+    lacks : (rs : List HandleRow) → rs ≡ [] → (elim rs [ [] ↦ true | r ∷ rest ↦ false ]) ≡ true
+    lacks [] is = refl
+    lacks (r ∷ rs) is = absurd (cc)
+
+    at : (c : Bool) → is_table pid t ≡ c → (count (is_table pid) ts ≤ 1 → rows_in (first (is_table pid) ts) ≡ [] → every (λ t. not (is_table pid t) || lacks_handles t) ts ≡ true) → every (λ t. not (is_table pid t) || lacks_handles t) (t ∷ ts) ≡ true
+    at true is later =
+        let row : t.rows ≡ [] = rw is at none in
+        let own : lacks_handles t ≡ true = lacks t.rows row in
+        let rest = off ts (none-counted (is_table pid) ts (grind arith)) in grind arith
+    at false is later =
+        let row : rows_in (first (is_table pid) ts) ≡ [] = rw is at none in
+        let few : count (is_table pid) ts ≤ 1 = grind arith in
+        let rest = later few row in grind arith
+
+living-empty : (pid : ℕ) (w : World) → HasLivingBut pid w → handles_of w pid ≡ [] → IsSoundWorld w → HasLivingHandles w
+living-empty pid w l none s =
+    every-both (is_almost pid w) (λ t. not (is_table pid t) || lacks_handles t) (is_living_table w) (λ t one two. parts (t.process == pid) (is_live w t.process) (lacks_handles t) one two) w.handles l (table-lacks pid w.handles (s.tables pid) none)
+  where
+    parts : (e a c : Bool) → (e || (a || c)) ≡ true → (not e || c) ≡ true → (a || c) ≡ true
+    parts e a c one two = grind arith
+
+living-live : (pid : ℕ) (w : World) → HasLivingBut pid w → is_live w pid ≡ true → HasLivingHandles w
+living-live pid w l live = every-more (is_almost pid w) (is_living_table w) (λ t is. at t (t.process == pid) refl is) w.handles l
+  where
+    at : (t : HandleTable) (e : Bool) → (t.process == pid) ≡ e → (e || is_living_table w t) ≡ true → is_living_table w t ≡ true
+    at t true same is = let own = subst (λ n. is_live w n ≡ true) (sym (eqb-true t.process pid same)) live in or_left (is_live w t.process) (lacks_handles t) own
+    at t false off is = is
+
+end-living : (pid : ℕ) (code : Status) (ts : List ThreadRow) (w : World) → IsSafe w → AreOf pid w.threads ts → HasLivingHandles w → HasLivingHandles (behind (end_threads pid code ts) w)
+unfolding end_threads
+end-living pid code ts w is of l =
+    let two = behind_told code ts w in
+    then-holds HasLivingHandles (in_turn (die code) ts) (in_turn post_deaths ts ▹ provided (λ w. not (is_live w pid)) (end_process pid)) w
+    (then-holds HasLivingHandles (in_turn post_deaths ts) (provided (λ w. not (is_live w pid)) (end_process pid)) (behind_dead code ts w)
+    (at (is_live two pid) refl (told-but pid code ts w of (but-all pid w l)) (sound-of two (told-safe code ts w is))))
+  where
+    at : (live : Bool) → is_live (behind_told code ts w) pid ≡ live → HasLivingBut pid (behind_told code ts w) → IsSoundWorld (behind_told code ts w) → HasLivingHandles (world_after (behind_told code ts w) (when (not live) (end_process pid (behind_told code ts w))))
+    at true live l s = living-live pid (behind_told code ts w) l live
+    at false off l s =
+        let v = behind_told code ts w in
+        let t = handles-but pid (handles_of v pid) v refl s l in
+        living-empty pid (behind (in_turn (close_handle pid) (handles_of v pid)) v) t.0 t.1 t.2
+
+-- The calls
+living-law : (by : ThreadRow) → LifeLaw by (Shut HasThreadsOnce) (Keep HasLivingHandles)
+living-law by = record {
+  mild = λ w bs all. homely-all w bs (every-more (is_mild w) (is_homely w) (mild-homely w) bs all);
+  registers = λ w b new is. homely-all w (Tells (Answer by.number NtRegisterThreadTerminatePort SUCCESS []) ∷ Registers by.number b ∷ []) refl;
+  ends = λ w name own pid code ts doomed is l. world-ends HasLivingHandles w by name own pid code ts (end-living pid code ts w (record { sound = is.sound; shut = is.known.0 }) (doomed-of w by own pid ts doomed is.known.1 is.can) l);
+}
+
+-- Lines
+living-lines : LineLaw (Shut HasThreadsOnce) (λ _. Keep HasLivingHandles)
+living-lines = passing-lines (Shut HasThreadsOnce) (Keep HasLivingHandles) is_homely homely-all (λ w. record { tells = λ _. refl; processes = λ _. refl; threads = λ _ _ _. refl; binds = λ _ _. refl }) (λ by. life-outcomes by (Shut HasThreadsOnce) (Keep HasLivingHandles) (living-law by))
+
+-- the step of a line leaves handles to living processes alone
+pub living_step : (w : World) (line : ScriptLine) → IsSafe w → HasThreadsOnce w → HasLivingHandles w → HasLivingHandles (step w line).world
+living_step w line is once = step-keeps (Shut HasThreadsOnce) HasLivingHandles living-lines living-swept w line is.sound (is.shut, once)

@@ -1,0 +1,20 @@
+-- Waits are sound, in each world of a script.
+pub mod Pairs
+pub mod Worlds
+pub mod Ties
+pub mod Basics
+pub mod Ports
+pub mod Queues
+pub mod Calls
+pub mod Connect
+pub mod Reply
+pub mod Less
+pub mod Drops
+pub mod Cuts
+pub mod Closing
+pub mod Death
+pub mod ShutConnects
+pub mod Terminate
+pub mod Close
+pub mod Frees
+pub mod Lines

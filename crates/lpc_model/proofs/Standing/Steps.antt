@@ -1,0 +1,307 @@
+-- Basic steps keep what rows name.
+use Rattle.std.proofs.Common.{◌≡◌, ℕ, ◌+◌, ◌≤◌, List, [], ◌∷◌, Bool, true, false, cond, map, not, Option, Some, None, refl, sym, subst, ◌∙◌, arith}
+use Rattle.std.specs.Prelude.{◌&&◌, ◌||◌, nat_lt}
+use Rattle.std.proofs.lemmas.Bool.Decides.{nat_tests}
+use Rattle.std.proofs.lemmas.Bool.{and_from, not-true}
+use Rattle.lpc_base.specs.Rows.{count, every, has, passes, which, without}
+use Rattle.lpc_base.proofs.RowWords.{every-any, every-append, every-change, every-more, every-push, every-which, every-without, first-passes, has-change, has-kept}
+use Rattle.lpc_base.proofs.RowMaps.{every-both, every-first, every-without_first}
+use Rattle.lpc_base.proofs.Births.{birth-same, births-apart}
+use Rattle.lpc_model.specs.declared.entry.ObjectKind.TheVariants as kind
+use Rattle.lpc_model.specs.World.{Birth, HandleRow, HandleTable, MessageRow, ObjectKind, ObjectName, PortRow, ProcessRow, ThreadRow, WaitRow, World}
+use Rattle.lpc_model.specs.Found.{all_handles, all_registrations, handle_count, has_value, holders, is_born_process, is_born_thread, is_connected_to, is_made_on, is_own_of, is_paired_to, is_port, is_queued, is_queued_connect, is_request, is_sent_on, is_table, is_the, is_thread, pointer_count, port_name, port_row, process_name, registered_by, same_birth, same_kind, same_object, thread_name, waits_as, waits_at}
+use Rattle.lpc_model.specs.Basics.{Accepts, AddsHandle, AddsProcess, AddsThread, Awaits, Basic, Binds, Completes, Cuts, Dies, DrawsIdentifier, DrawsOrdinal, DropsHandle, Empties, Enters, Frees, Joins, Makes, Receives, Registers, Takes, TakesConnect, Tells, Unbinds, Unregisters, Wakes, Withdraws, accepted, basic, completed, cut, ended, freed, is_end_of, no_handles, past_identifier, past_ordinal, put_handle, received, registering, unregistering, with_handle, without_handle, world_after}
+use Rattle.lpc_model.specs.Sweep.{free_unheld, is_unheld, sweep, unheld}
+use Rattle.lpc_model.specs.Standing.{NamesWhatStands, has_near_queue, is_near, names_object, port_stands, stands_as}
+use Rattle.lpc_model.proofs.Steps.Rows.{has-without, passes-change}
+use Rattle.lpc_model.proofs.Sound.Worlds.{by_kind}
+use Rattle.lpc_model.proofs.Sound.Frees.{is-zero, less-held, none-pass, sum-first, sum-second, which-all}
+use Rattle.lpc_model.proofs.Sound.Cuts.{cut-row}
+use Rattle.lpc_model.proofs.Sound.Closing.{is_cut_request}
+use Rattle.lpc_model.proofs.Linked.Steps.{push-passes}
+use Rattle.lpc_model.proofs.Linked.Joins.{row-freed}
+use Rattle.lpc_model.proofs.Steps.Registrations.{All, all-changed, all-left, all-pushed, every-each, registering-all, unregistering-all}
+use Rattle.lpc_model.proofs.Steps.InTurn.{after-append}
+
+-- What keeps it
+-- the objects that stand in one world do in another, and what is near a port there is here
+pub record StaysNear (w v : World) : Type 0 where
+  pub ports : (b : Birth) → has (is_port b) w.ports ≡ true → has (is_port b) v.ports ≡ true
+  pub processes : (b : Birth) → has (is_born_process b) w.processes ≡ true → has (is_born_process b) v.processes ≡ true
+  pub threads : (b : Birth) → has (is_born_thread b) w.threads ≡ true → has (is_born_thread b) v.threads ≡ true
+  pub queues : (x : WaitRow) → has_near_queue w x ≡ true → has_near_queue v x ≡ true
+
+-- one world behind another
+pub record KeepsNames (w v : World) : Type 0 where
+  pub near : StaysNear w v
+  pub names : NamesWhatStands w → NamesWhatStands v
+
+abbrev tables_to_objects : World → HandleTable → Bool
+tables_to_objects w t = every (names_object w) t.rows
+
+abbrev sent_on_port : World → MessageRow → Bool
+sent_on_port w m = has (is_port m.sender) w.ports
+
+-- the object that a handle names still stands
+pub object-kept : (w v : World) → ((b : Birth) → port_stands w b ≡ true → port_stands v b ≡ true) → ((b : Birth) → has (is_born_process b) w.processes ≡ true → has (is_born_process b) v.processes ≡ true)
+    → ((b : Birth) → has (is_born_thread b) w.threads ≡ true → has (is_born_thread b) v.threads ≡ true) → (h : HandleRow) → names_object w h ≡ true → names_object v h ≡ true
+object-kept w v ports processes threads h is = at h.object.kind h.object.birth is
+  where
+    at : (k : ObjectKind) (b : Birth) → stands_as w k b ≡ true → stands_as v k b ≡ true
+    at kind.Port b is = ports b is
+    at kind.Section b is = absurd (cc)
+    at kind.Token b is = absurd (cc)
+    at kind.Process b is = processes b is
+    at kind.Thread b is = threads b is
+
+to-object-kept : (w v : World) → StaysNear w v → (h : HandleRow) → names_object w h ≡ true → names_object v h ≡ true
+to-object-kept w v s = object-kept w v s.ports s.processes s.threads
+
+pub kept : (w v : World) → StaysNear w v → (every (tables_to_objects w) w.handles ≡ true → every (tables_to_objects w) v.handles ≡ true) → (every (sent_on_port w) w.messages ≡ true → every (sent_on_port w) v.messages ≡ true)
+    → (every (has_near_queue w) w.waits ≡ true → every (has_near_queue w) v.waits ≡ true) → (All (port_stands w) w.threads → All (port_stands w) v.threads) → KeepsNames w v
+kept w v s handles senders queues registrations = record {
+  near = s;
+  names = λ n. record {
+    handles = every-more (tables_to_objects w) (tables_to_objects v) (λ t is. every-more (names_object w) (names_object v) (to-object-kept w v s) t.rows is) v.handles (handles n.handles);
+    senders = every-more (sent_on_port w) (sent_on_port v) (λ m is. s.ports m.sender is) v.messages (senders n.senders);
+    queues = every-more (has_near_queue w) (has_near_queue v) (λ x is. s.queues x is) v.waits (queues n.queues);
+    registrations = every-more (port_stands w) (port_stands v) s.ports (all_registrations v) (registrations n.registrations);
+  };
+}
+
+stays : (w : World) → StaysNear w w
+stays w = record { ports = λ b is. is; queues = λ x is. is; processes = λ b is. is; threads = λ b is. is }
+
+-- a world whose ports stay, with other handles, messages, or waits
+handles-kept : (w : World) (handles : List HandleTable) → (every (tables_to_objects w) w.handles ≡ true → every (tables_to_objects w) handles ≡ true) → KeepsNames w (record w { handles = handles })
+handles-kept w handles all = let v : World = record w { handles = handles } in kept w v (record { ports = λ b is. is; queues = λ x is. is; processes = λ b is. is; threads = λ b is. is }) all (λ all. all) (λ all. all) (λ all. all)
+
+messages-kept : (w : World) (messages : List MessageRow) → (every (sent_on_port w) w.messages ≡ true → every (sent_on_port w) messages ≡ true) → KeepsNames w (record w { messages = messages })
+messages-kept w messages all = let v : World = record w { messages = messages } in kept w v (record { ports = λ b is. is; queues = λ x is. is; processes = λ b is. is; threads = λ b is. is }) (λ all. all) all (λ all. all) (λ all. all)
+
+waits-kept : (w : World) (waits : List WaitRow) → (every (has_near_queue w) w.waits ≡ true → every (has_near_queue w) waits ≡ true) → KeepsNames w (record w { waits = waits })
+waits-kept w waits all = let v : World = record w { waits = waits } in kept w v (record { ports = λ b is. is; queues = λ x is. is; processes = λ b is. is; threads = λ b is. is }) (λ all. all) (λ all. all) all (λ all. all)
+
+accepted-near : (w : World) (reply : List ℕ) (x : WaitRow) → has_near_queue w x ≡ true → has_near_queue w (accepted reply x) ≡ true
+accepted-near w reply = by_kind (λ x. has_near_queue w x ≡ true → has_near_queue w (accepted reply x) ≡ true) (λ x m is. is) (λ x is. is) (λ x is. is) (λ x m is. is) (λ x m r is. is)
+
+put-all : (p : HandleRow → Bool) (h : HandleRow) (rows : List HandleRow) → p h ≡ true → every p rows ≡ true → every p (put_handle h rows) ≡ true
+put-all p h rows own all =
+    every-append p (which (λ r. nat_lt r.value h.value) rows) (h ∷ which (λ r. nat_lt h.value r.value) rows) (every-which p (λ r. nat_lt r.value h.value) rows all)
+    (and_from (p h) _ own (every-which p (λ r. nat_lt h.value r.value) rows all))
+
+-- Steps
+-- a basic step that keeps it whatever stands behind it: what enters, waits, is given or registered names what stands, and no
+-- pair changes
+abbrev pub is_naming : World → Basic → Bool
+is_naming w (Awaits x) = has_near_queue w x
+is_naming w (Enters m) = has (is_port m.sender) w.ports
+is_naming w (AddsHandle pid h) = names_object w h
+is_naming w (AddsThread t) = every (port_stands w) (registered_by t)
+is_naming w (Registers who b) = port_stands w b
+is_naming w (Joins client server context) = false
+is_naming w (Cuts b) = false
+is_naming w (Frees o) = false
+is_naming w b = true
+
+abbrev pub AreNaming : World → List Basic → Type 0
+AreNaming w bs = every (is_naming w) bs ≡ true
+
+-- a step that passes in a world keeps it in each later one
+step-kept : (w v : World) (b : Basic) → StaysNear w v → is_naming w b ≡ true → KeepsNames v (basic v b)
+step-kept w v (Tells e) s is = kept v v (stays v) (λ all. all) (λ all. all) (λ all. all) (λ all. all)
+step-kept w v (Wakes who call status fields) s is = waits-kept v _ (every-without (has_near_queue v) (waits_as who) v.waits)
+step-kept w v (Awaits x) s is = waits-kept v _ (λ all. every-push (has_near_queue v) v.waits x all (s.queues x is))
+step-kept w v (Receives who queue) s is = waits-kept v _ (every-change (has_near_queue v) (waits_at who queue) received (λ x is. is) v.waits)
+step-kept w v (Accepts who reply) s is = waits-kept v _ (every-change (has_near_queue v) (waits_as who) (accepted reply) (accepted-near v reply) v.waits)
+step-kept w v (Enters m) s is = messages-kept v _ (λ all. every-push (sent_on_port v) v.messages m all (s.ports m.sender is))
+step-kept w v (Takes q) s is = messages-kept v _ (every-without_first (sent_on_port v) (is_queued q) v.messages)
+step-kept w v (TakesConnect q) s is = messages-kept v _ (every-without_first (sent_on_port v) (is_queued_connect q) v.messages)
+step-kept w v (Withdraws who) s is = messages-kept v _ (every-without (sent_on_port v) (is_own_of who) v.messages)
+step-kept w v (Empties q) s is = messages-kept v _ (every-without (sent_on_port v) (is_queued q) v.messages)
+step-kept w v (DrawsIdentifier who) s is = kept v (basic v (DrawsIdentifier who)) (record { ports = λ c is. is; queues = λ x is. is; processes = λ c is. is; threads = λ c is. rw (has-change (is_born_thread c) (is_thread who) past_identifier (λ t. refl) v.threads) is }) (λ all. all) (λ all. all) (λ all. all) (all-changed (port_stands v) (is_thread who) past_identifier (λ t all. all) v.threads)
+step-kept w v (DrawsOrdinal who) s is = kept v (basic v (DrawsOrdinal who)) (record { ports = λ c is. is; queues = λ x is. is; processes = λ c is. is; threads = λ c is. rw (has-change (is_born_thread c) (is_thread who) past_ordinal (λ t. refl) v.threads) is }) (λ all. all) (λ all. all) (λ all. all) (all-changed (port_stands v) (is_thread who) past_ordinal (λ t all. all) v.threads)
+step-kept w v (Dies who status) s is = kept v (basic v (Dies who status)) (record { ports = λ c is. is; queues = λ x is. is; processes = λ c is. is; threads = λ c is. rw (has-change (is_born_thread c) (is_thread who) ended (λ t. refl) v.threads) is }) (λ all. all) (λ all. all) (every-without (has_near_queue v) (waits_as who) v.waits) (all-changed (port_stands v) (is_thread who) ended (λ t all. refl) v.threads)
+step-kept w v (Registers who b) s is = kept v (basic v (Registers who b)) (record { ports = λ c is. is; queues = λ x is. is; processes = λ c is. is; threads = λ c is. rw (has-change (is_born_thread c) (is_thread who) (registering b) (λ t. refl) v.threads) is }) (λ all. all) (λ all. all) (λ all. all) (all-changed (port_stands v) (is_thread who) (registering b) (registering-all (port_stands v) b (s.ports b is)) v.threads)
+step-kept w v (Unregisters who b) s is = kept v (basic v (Unregisters who b)) (record { ports = λ c is. is; queues = λ x is. is; processes = λ c is. is; threads = λ c is. rw (has-change (is_born_thread c) (is_thread who) (unregistering b) (λ t. refl) v.threads) is }) (λ all. all) (λ all. all) (λ all. all) (all-changed (port_stands v) (is_thread who) (unregistering b) (unregistering-all (port_stands v) b) v.threads)
+step-kept w v (AddsProcess p) s is = kept v (basic v (AddsProcess p)) (record { ports = λ b is. is; queues = λ x is. is; processes = λ b is. has-kept (is_born_process b) v.processes p is; threads = λ b is. is }) (λ all. every-push (tables_to_objects v) v.handles (no_handles p.number) all refl) (λ all. all) (λ all. all) (λ all. all)
+step-kept w v (AddsThread t) s is = kept v (basic v (AddsThread t)) (record { ports = λ b is. is; queues = λ x is. is; processes = λ b is. is; threads = λ b is. has-kept (is_born_thread b) v.threads t is }) (λ all. all) (λ all. all) (λ all. all) (λ all. all-pushed (port_stands v) v.threads t (every-more (port_stands w) (port_stands v) s.ports (registered_by t) is) all)
+step-kept w v (Makes p) s is = kept v (basic v (Makes p)) (record { ports = λ b is. has-kept (is_port b) v.ports p is; queues = λ x is. push-passes v p x.port (is_near x) is; processes = λ b is. is; threads = λ b is. is }) (λ all. all) (λ all. all) (λ all. all) (λ all. all)
+step-kept w v (Joins client server context) s is = absurd (cc)
+step-kept w v (Completes b) s is =
+    kept v (basic v (Completes b)) (record {
+      ports = λ c is. rw (has-change (is_port c) (is_port b) completed (λ p. refl) v.ports) is;
+      queues = λ x is. rw (passes-change (is_port x.port) (is_near x) (is_port b) completed (λ p. refl) (λ p. refl) v.ports) is;
+      processes = λ c is. is;
+      threads = λ c is. is;
+    }) (λ all. all) (λ all. all) (λ all. all) (λ all. all)
+step-kept w v (Cuts b) s is = absurd (cc)
+step-kept w v (Frees o) s is = absurd (cc)
+step-kept w v (Binds path node) s is = kept v (basic v (Binds path node)) (record { ports = λ b is. is; queues = λ x is. is; processes = λ b is. is; threads = λ b is. is }) (λ all. all) (λ all. all) (λ all. all) (λ all. all)
+step-kept w v (Unbinds b) s is = kept v (basic v (Unbinds b)) (record { ports = λ b is. is; queues = λ x is. is; processes = λ b is. is; threads = λ b is. is }) (λ all. all) (λ all. all) (λ all. all) (λ all. all)
+step-kept w v (AddsHandle pid h) s is = handles-kept v _ (every-change (tables_to_objects v) (is_table pid) (with_handle h) (λ t all. put-all (names_object v) h t.rows (to-object-kept w v s h is) all) v.handles)
+step-kept w v (DropsHandle pid value) s is = handles-kept v _ (every-change (tables_to_objects v) (is_table pid) (without_handle value) (λ t all. every-without_first (names_object v) (has_value value) t.rows all) v.handles)
+
+near-then : (w v u : World) → StaysNear w v → StaysNear v u → StaysNear w u
+near-then w v u a b = record {
+  ports = λ c is. b.ports c (a.ports c is);
+  queues = λ x is. b.queues x (a.queues x is);
+  processes = λ c is. b.processes c (a.processes c is);
+  threads = λ c is. b.threads c (a.threads c is);
+}
+
+steps-kept : (w v : World) (bs : List Basic) → StaysNear w v → AreNaming w bs → NamesWhatStands v → NamesWhatStands (world_after v bs)
+steps-kept w v [] s all n = n
+steps-kept w v (b ∷ bs) s all n =
+    let here : is_naming w b ≡ true = grind arith in
+    let later : every (is_naming w) bs ≡ true = grind arith in
+    let k = step-kept w v b s here in
+    steps-kept w (basic v b) bs (near-then w v (basic v b) s k.near) later (k.names n)
+
+-- steps that all pass
+pub naming-all : (w : World) (bs : List Basic) → AreNaming w bs → NamesWhatStands w → NamesWhatStands (world_after w bs)
+naming-all w bs all n = steps-kept w w bs (stays w) all n
+
+-- A connection that is cut
+-- a request whose other end is lost isn't left
+cut-near : (w : World) (b : Birth) (x : WaitRow) → not (is_cut_request w b x) ≡ true → has_near_queue w x ≡ true → has_near_queue (basic w (Cuts b)) x ≡ true
+cut-near w b x free is = at (port_row w x.port) refl
+  where
+    here : (p : PortRow) (own across : Bool) → not (is_request x && (own || across)) ≡ true → is_near x p ≡ true → is_near x (cond (own || across) (cut p) p) ≡ true
+    here p own across none near = of (own || across) none near
+      where
+        of : (c : Bool) → not (is_request x && c) ≡ true → is_near x p ≡ true → is_near x (cond c (cut p) p) ≡ true
+        of true none near = grind arith
+        of false none near = near
+
+    at : (o : Option PortRow) → port_row w x.port ≡ o → has_near_queue (basic w (Cuts b)) x ≡ true
+    at None none = let never : false ≡ true = rw none at is in absurd (cc)
+    at (Some p) row =
+        let near : is_near x p ≡ true = rw row at is in
+        let own = birth-same p.birth x.port (first-passes (is_port x.port) w.ports p row) in
+        let none : not (is_request x && (same_birth x.port b || is_the b p.pair)) ≡ true = rw row at free in
+        let none' : not (is_request x && (is_port b p || is_paired_to b p)) ≡ true = subst (λ c. not (is_request x && (same_birth c b || is_the b p.pair)) ≡ true) (sym own) none in
+        rw (cut-row w b x.port p row) (here p (is_port b p) (is_paired_to b p) none' near)
+
+pub cut-names : (w : World) (b : Birth) → every (λ x. not (is_cut_request w b x)) w.waits ≡ true → NamesWhatStands w → NamesWhatStands (basic w (Cuts b))
+cut-names w b free n =
+    let v = basic w (Cuts b) in
+    let stands = λ (c : Birth) (is : has (is_port c) w.ports ≡ true). subst (λ h. h ≡ true) (sym (has-change (is_port c) (is_end_of b) cut (λ p. refl) w.ports)) is in
+    record {
+      handles = every-more (tables_to_objects w) (tables_to_objects v) (λ t is. every-more (names_object w) (names_object v) (object-kept w v stands (λ c is. is) (λ c is. is)) t.rows is) w.handles n.handles;
+      senders = every-more (sent_on_port w) (sent_on_port v) (λ m. stands m.sender) w.messages n.senders;
+      queues = every-both (λ x. not (is_cut_request w b x)) (has_near_queue w) (has_near_queue v) (λ x none is. cut-near w b x none is) w.waits free n.queues;
+      registrations = every-more (port_stands w) (port_stands v) stands (all_registrations w) n.registrations;
+    }
+
+-- A row that goes
+-- a port that isn't the one that goes stands
+port-left : (w : World) (b c : Birth) → same_birth c b ≡ false → has (is_port c) w.ports ≡ true → has (is_port c) (without (is_port b) w.ports) ≡ true
+port-left w b c off is = has-without (is_port c) (is_port b) w.ports (every-any (λ p. not (is_port b p) || not (is_port c p)) (λ p. apart p.birth) w.ports) is
+  where
+    apart : (d : Birth) → (not (same_birth d b) || not (same_birth d c)) ≡ true
+    apart d = grind (arith, nat_tests)
+
+-- so with a process and a thread
+born-left : {X : Type 0} (birth : X → Birth) (b c : Birth) (xs : List X) → same_birth c b ≡ false → has (λ x. same_birth (birth x) c) xs ≡ true → has (λ x. same_birth (birth x) c) (without (λ x. same_birth (birth x) b) xs) ≡ true
+born-left birth b c xs off is = has-without (λ x. same_birth (birth x) c) (λ x. same_birth (birth x) b) xs (every-any (λ x. not (same_birth (birth x) b) || not (same_birth (birth x) c)) (λ x. apart (birth x)) xs) is
+  where
+    apart : (d : Birth) → (not (same_birth d b) || not (same_birth d c)) ≡ true
+    apart d = grind (arith, nat_tests)
+
+-- a handle to another object names one that stands
+handle-left : (w : World) (o : ObjectName) (h : HandleRow) → names_object w h ≡ true → not (same_object h.object o) ≡ true → names_object (basic w (Frees o)) h ≡ true
+handle-left w o h is off = at o.kind o.birth h.object.kind h.object.birth is off
+  where
+    apart : (s : Bool) → not (true && s) ≡ true → s ≡ false
+    apart s one = grind arith
+
+    at : (k : ObjectKind) (b : Birth) (l : ObjectKind) (c : Birth) → stands_as w l c ≡ true → not (same_kind l k && same_birth c b) ≡ true → stands_as (freed w k b) l c ≡ true
+    at kind.Port b kind.Port c is off = port-left w b c (apart (same_birth c b) off) is
+    at kind.Port b kind.Process c is off = is
+    at kind.Port b kind.Thread c is off = is
+    at kind.Section b l c is off = is
+    at kind.Token b l c is off = is
+    at kind.Process b kind.Port c is off = is
+    at kind.Process b kind.Process c is off = born-left (λ (p : ProcessRow). p.birth) b c w.processes (apart (same_birth c b) off) is
+    at kind.Process b kind.Thread c is off = is
+    at kind.Thread b kind.Port c is off = is
+    at kind.Thread b kind.Process c is off = is
+    at kind.Thread b kind.Thread c is off = born-left (λ (t : ThreadRow). t.birth) b c w.threads (apart (same_birth c b) off) is
+    at k b kind.Section c is off = absurd (cc)
+    at k b kind.Token c is off = absurd (cc)
+
+-- where no row counts for an object, no handle names it, and those that are left name what stands
+handles-left : (w : World) (o : ObjectName) → pointer_count w o ≤ 0 → NamesWhatStands w → every (tables_to_objects (basic w (Frees o))) w.handles ≡ true
+handles-left w o few n =
+    let unnamed = none-pass (λ (h : HandleRow). same_object h.object o) (all_handles w) (sum-first (handle_count w o) (holders w o.kind o.birth) few) in
+    every-both (tables_to_objects w) (λ t. every (λ h. not (same_object h.object o)) t.rows) (tables_to_objects (basic w (Frees o)))
+    (λ t is off. every-both (names_object w) (λ h. not (same_object h.object o)) (names_object (basic w (Frees o))) (handle-left w o) t.rows is off) w.handles n.handles
+    (sym (every-each (λ (h : HandleRow). not (same_object h.object o)) (λ (t : HandleTable). t.rows) w.handles) ∙ unnamed)
+
+port-names : (w : World) (b : Birth) → pointer_count w (port_name b) ≤ 0 → NamesWhatStands w → NamesWhatStands (basic w (Frees (port_name b)))
+port-names w b few n =
+    let v = basic w (Frees (port_name b)) in
+    let held : count (is_paired_to b) w.ports + (count (is_connected_to b) w.ports + (count (is_sent_on b) w.messages + (count (is_made_on b) w.waits + count (same_birth b) (all_registrations w)))) ≤ 0 = sum-second _ _ few in
+    let made = none-pass (is_made_on b) w.waits (omega (arith, held)) in
+    let sent = none-pass (is_sent_on b) w.messages (omega (arith, held)) in
+    let unregistered = none-pass (same_birth b) (all_registrations w) (omega (arith, held)) in
+    record {
+      handles = handles-left w (port_name b) few n;
+      senders = every-both (sent_on_port w) (λ m. not (is_sent_on b m)) (sent_on_port v) (λ m is off. port-left w b m.sender (not-true (same_birth m.sender b) off) is) w.messages n.senders sent;
+      queues = every-both (has_near_queue w) (λ x. not (is_made_on b x)) (has_near_queue v) (λ x is off. rw (row-freed w b x.port (not-true (same_birth x.port b) off)) is) w.waits n.queues made;
+      registrations = every-both (port_stands w) (λ c. not (same_birth b c)) (port_stands v) (λ c is off. port-left w b c (births-apart b c (not-true (same_birth b c) off)) is) (all_registrations w) n.registrations unregistered;
+    }
+
+pub gone-names : (w : World) (o : ObjectName) → is_unheld w o ≡ true → NamesWhatStands w → NamesWhatStands (basic w (Frees o))
+gone-names w o none n = at o.kind o.birth (is-zero (pointer_count w o) none)
+  where
+    at : (k : ObjectKind) (b : Birth) → pointer_count w (record { kind = k; birth = b }) ≤ 0 → NamesWhatStands (basic w (Frees (record { kind = k; birth = b })))
+    at kind.Port b few = port-names w b few n
+    at kind.Section b few = n
+    at kind.Token b few = n
+    at kind.Process b few = record { handles = handles-left w (process_name b) few n; senders = n.senders; queues = n.queues; registrations = n.registrations }
+    at kind.Thread b few = record { handles = handles-left w (thread_name b) few n; senders = n.senders; queues = n.queues; registrations = all-left (port_stands w) (λ t. same_birth t.birth b) w.threads n.registrations }
+
+all-gone : (w : World) (os : List ObjectName) → every (is_unheld w) os ≡ true → NamesWhatStands w → NamesWhatStands (world_after w (map Frees os))
+all-gone w [] all n = n
+all-gone w (o ∷ os) all n =
+    let here : is_unheld w o ≡ true = grind arith in
+    let later : every (is_unheld w) os ≡ true = grind arith in
+    all-gone (basic w (Frees o)) os (every-more (is_unheld w) (is_unheld (basic w (Frees o))) (less-held w o) os later) (gone-names w o here n)
+
+pub swept-names : (w : World) → NamesWhatStands w → NamesWhatStands (world_after w (sweep w))
+unfolding sweep
+swept-names w n =
+    let v = world_after w (free_unheld w) in
+    let m = all-gone w (unheld w) (which-all (is_unheld w) _) n in
+    rw (after-append w (free_unheld w) (free_unheld v)) (all-gone v (unheld v) (which-all (is_unheld v) _) m)
+
+-- the queue of no wait is that of a port that no row counts for
+pub unheld_no_queue : (w : World) (b : Birth) → NamesWhatStands w → is_unheld w (port_name b) ≡ true → every (λ x. not (same_birth x.queue b)) w.waits ≡ true
+unheld_no_queue w b n none =
+    let few = is-zero (pointer_count w (port_name b)) none in
+    let held : count (is_paired_to b) w.ports + (count (is_connected_to b) w.ports + (count (is_sent_on b) w.messages + (count (is_made_on b) w.waits + count (same_birth b) (all_registrations w)))) ≤ 0 = sum-second _ _ few in
+    let made = none-pass (is_made_on b) w.waits (omega (arith, held)) in
+    let unpaired = none-pass (is_paired_to b) w.ports (omega (arith, held)) in
+    let unconnected = none-pass (is_connected_to b) w.ports (omega (arith, held)) in
+    every-both (has_near_queue w) (λ x. not (is_made_on b x)) (λ x. not (same_birth x.queue b)) (λ x near off. elsewhere unpaired unconnected x near off) w.waits n.queues made
+  where
+    parts : (own q c r p : Bool) → own ≡ false → c ≡ false → p ≡ false → (q ≡ true → own ≡ true) → (q || (c || (r && p))) ≡ true → false ≡ true
+    parts own q c r p one two three more is = grind (arith, more)
+
+    elsewhere : every (λ p. not (is_paired_to b p)) w.ports ≡ true → every (λ p. not (is_connected_to b p)) w.ports ≡ true → (x : WaitRow) → has_near_queue w x ≡ true → not (is_made_on b x) ≡ true → not (same_birth x.queue b) ≡ true
+    elsewhere unpaired unconnected x near off = at (same_birth x.queue b) refl
+      where
+        of : x.queue ≡ b → (o : Option PortRow) → port_row w x.port ≡ o → passes o (is_near x) ≡ true → false ≡ true
+        of same None row is = is
+        of same (Some p) row is =
+            let own = birth-same p.birth x.port (first-passes (is_port x.port) w.ports p row) in
+            let near' : (same_birth p.birth b || (is_the b p.connection || (is_request x && is_the b p.pair))) ≡ true = subst (λ q. (same_birth p.birth q || (is_the q p.connection || (is_request x && is_the q p.pair))) ≡ true) same is in
+            parts (same_birth x.port b) (same_birth p.birth b) (is_the b p.connection) (is_request x) (is_the b p.pair) (not-true _ off)
+            (not-true _ (every-first (λ p. not (is_connected_to b p)) (is_port x.port) w.ports p unconnected row)) (not-true _ (every-first (λ p. not (is_paired_to b p)) (is_port x.port) w.ports p unpaired row))
+            (λ is. subst (λ c. same_birth c b ≡ true) own is) near'
+
+        at : (k : Bool) → same_birth x.queue b ≡ k → not k ≡ true
+        at false is = refl
+        at true is = of (birth-same x.queue b is) (port_row w x.port) refl near

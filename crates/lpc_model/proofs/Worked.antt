@@ -1,0 +1,6 @@
+-- Scripts that were worked by hand: the definitions compute their transcripts.
+pub mod Transcripts
+pub mod Connections
+pub mod Closings
+pub mod Endings
+pub mod Creations
