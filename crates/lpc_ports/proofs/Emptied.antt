@@ -1,14 +1,15 @@
 -- What is left where the messages that pass a test go one after the other.
-use Rattle.std.proofs.Common.{◌≡◌, ◌+◌, ◌<◌, ◌||◌, ℕ, List, [], ◌∷◌, Bool, true, false, Option, Some, None, OnSome, is_some, if◌then◌else◌, length, option_map, refl, sym, ap, subst, ◌∙◌, true≢false, arith}
+use Rattle.std.proofs.Common.{◌≡◌, ◌+◌, ◌<◌, ◌||◌, ℕ, List, [], ◌∷◌, Bool, true, false, Option, Some, None, OnSome, is_some, length, option_map, refl, sym, ap, subst, ◌∙◌, true≢false, arith}
 use Rattle.lpc_base.specs.Rows.{count, first, has, without, without_first}
 use Rattle.lpc_base.proofs.RowWords.{count-none, without-none}
-use Rattle.lpc_slots.specs.Table.{Table, at, at_key, listed, removed}
+use Rattle.lpc_slots.specs.Table.{keys_of}
+use Rattle.lpc_slots.specs.Chain.{IsDistinct}
 use Rattle.lpc_slots.specs.declared.Key.{Key}
-use Rattle.lpc_slots.proofs.Same.{first_stands, listed_apart, vacant, without_first_same}
-use Rattle.lpc_ports.specs.Table.{PortTable, key_of_first, without_messages, without_one}
-use Rattle.lpc_ports.specs.declared.Port.{Port}
-use Rattle.lpc_ports.specs.declared.messages.QueuedMessage.{QueuedMessage}
-use Rattle.lpc_ports.proofs.Seen.{seen}
+use Rattle.lpc_slots.proofs.Same.{first_stands, without_first_same}
+use Rattle.lpc_ports.specs.Table.{PortTable, QueuedMessage, key_of_first, row_at, without_message, without_messages, without_one}
+use Rattle.lpc_ports.specs.Lent.{queued_of}
+use Rattle.lpc_ports.proofs.Ordered.{all_apart, none_first}
+use Rattle.lpc_ports.specs.declared.messages.Block.{Block}
 
 module _ {X : Type 0} (test : X → Bool) where
   without-rest : (xs : List X) → without test (without_first test xs) ≡ without test xs
@@ -65,10 +66,9 @@ module _ (test : Key × QueuedMessage → Bool) where
     fewer = subst (λ (t : PortTable). length t.messages < length s.messages) (sym left) (length-rest test s.messages one)
 
   -- the first message that passes goes
-  pub lost : (ports : Table Port) (s new : Table QueuedMessage) (key : Key) (value : Option QueuedMessage) → value ≡ at s key → new ≡ (if is_some value then removed s key else s) → OnSome value (listed new ≡ without (at_key key) (listed s)) → key_of_first test (listed s) ≡ Some key → seen ports new ≡ without_one test (seen ports s)
-  lost ports s new key None is table left oldest = absurd (true≢false (sym (first_stands test (listed s) key oldest) ∙ ap is_some (vacant s key (sym is))))
-  lost ports s new key (Some value) is table left oldest = λ i. record (seen ports s) {
-    messages = (left ∙ without_first_same test (listed s) key (listed_apart s) oldest) i;
-    message_room = ap (λ (t : Table QueuedMessage). t.spare) table i;
-    messages_made = ap (λ (t : Table QueuedMessage). t.made) table i;
-  }
+  pub lost : (s new : PortTable) (key : Key) (found : Option Block) → IsDistinct (keys_of s.messages) → option_map queued_of found ≡ row_at s.messages key → OnSome found (new ≡ without_message s key) → key_of_first test s.messages ≡ Some key → new ≡ without_one test s
+  lost s new key None apart is table oldest = absurd (true≢false (sym (first_stands test s.messages key oldest) ∙ ap is_some (none_first key s.messages (sym is))))
+  lost s new key (Some block) apart is table oldest = table ∙ (λ i. record s {
+    messages = without_first_same test s.messages key (all_apart s.messages apart) oldest i;
+    message_room = s.message_room + 1;
+  })

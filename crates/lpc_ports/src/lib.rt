@@ -1,20 +1,24 @@
 //! Ports, and the messages that stand in their queues.
 #![tactic(auto)]
 
-ghost use Rattle.std.specs.Prelude.{◌≡◌, ◌||◌, ◌<◌, ◌-◌, ◌≤◌, ◌^◌, ◌+◌, length, OnOk, OnErr, Some, None, IsSome, option_copied, option_map, slice_get};
+ghost use Rattle.std.specs.Prelude.{◌≡◌, ◌||◌, ◌<◌, ◌-◌, ◌≤◌, ◌^◌, ◌+◌, length, OnOk, OnErr, OnSome, IfNone, Some, None, IsSome, option_copied, option_map, slice_get};
 ghost use Rattle.lpc_base.specs.Room.{grown_room};
 ghost use Rattle.lpc_base.specs.Rows.{count, first, has};
 ghost use Rattle.lpc_base.specs.declared.limits.TheConstants.{MESSAGE_LIMIT};
-ghost use Rattle.lpc_slots.specs.Table.{at_key};
+ghost use Rattle.lpc_slots.specs.Chain.{IsDistinct};
+ghost use Rattle.lpc_slots.specs.Table.{at_key, keys_of};
+ghost use Rattle.lpc_ports.specs.Lent.{IsQueue, IsSent, messages_of, queued_of};
 ghost use Rattle.lpc_ports.specs.Table.{LeavesOthers, LosesFirst, PullsFirst, first_connect_in, first_in, first_of, first_own_of, has_none_in, is_asking, is_client, is_client_kind, is_closing, is_connect_in, is_connected_to, is_datagram_of, is_in, is_joined_to, is_message_at, is_named, is_own_of, is_paired_to, is_sent_on, is_the, message_at, new_port, nothing, pair_of, paired, parted, queue_at, queued, row_at, unpaired, with_changed, with_completed, with_creator, with_joined, with_port, with_room, with_sent, without_message, without_messages, without_port};
 
 mod messages;
+mod rows;
 
 pub use lpc_base::PortKind;
 use lpc_base::{Birth, OutOfMemory, held};
 use lpc_message::ClientId;
-use lpc_slots::{Key, Slots};
-pub use messages::{Message, QueuedMessage};
+use lpc_slots::{Chain, Key, Links, Slots};
+pub use messages::{Block, Message};
+use rows::{PortRow, push_queued, push_sent, unlink_queued, unlink_sent};
 use std::alloc::Global;
 use std::marker::Model;
 
@@ -81,24 +85,20 @@ fn is_the(key: Key, other: Option<Key>) -> bool
 /// known to this table. No call but `reserve` takes memory. This project's own.
 #[derive(Drop)]
 pub struct Ports {
-    ports: Slots<Port>,
-    messages: Slots<QueuedMessage>,
+    ports: Slots<PortRow>,
+    blocks: Slots<Block>,
 }
 
 impl Model for Ports {
-    ghost use Rattle.lpc_slots.specs.Table.{listed};
     ghost use Rattle.lpc_ports.specs.Table.{PortTable};
 
     ghost Value = { PortTable };
 
-    ghost view = { λ s. record {
-      ports = listed s.ports;
-      messages = listed s.messages;
-      port_room = s.ports.spare;
-      message_room = s.messages.spare;
-      ports_made = s.ports.made;
-      messages_made = s.messages.made;
-    } };
+    ghost use Rattle.lpc_ports.specs.Layout.{InOrder, seen};
+
+    ghost view = { λ s. seen s.ports s.blocks };
+
+    ghost invariant = { λ s. InOrder s.ports s.blocks };
 }
 
 impl Ports {
@@ -108,7 +108,7 @@ impl Ports {
     {
         Ports {
             ports: Slots::new(alloc),
-            messages: Slots::new(alloc),
+            blocks: Slots::new(alloc),
         }
     }
 
@@ -133,7 +133,7 @@ impl Ports {
             self.new.message_room ≡ self.old.message_room }
     {
         self.ports.reserve(ports)?;
-        self.messages.reserve(blocks)
+        self.blocks.reserve(blocks)
     }
 
     /// Adds a port behind the others, and answers its key. It has no pair and no creator yet, its context is 0, and it
@@ -147,14 +147,19 @@ impl Ports {
         ensures vacant { first (at_key result) self.old.ports ≡ None }
         ensures table { self.new ≡ with_port self.old result (new_port kind birth connection) }
     {
-        self.ports.insert_reserved(Port {
-            birth,
-            kind,
-            pair: None,
-            connection,
-            context: 0,
-            creator: None,
-            completed: false,
+        self.ports.insert_reserved(PortRow {
+            port: Port {
+                birth,
+                kind,
+                pair: None,
+                connection,
+                context: 0,
+                creator: None,
+                completed: false,
+            },
+            queued: Chain::empty(),
+            sent: Chain::empty(),
+            sent_count: 0,
         })
     }
 
@@ -162,7 +167,8 @@ impl Ports {
     pub fn get(&self, port: Key) -> Option<&Port>
         ensures { option_copied result ≡ row_at self.now.ports port }
     {
-        self.ports.get(port)
+        let row = self.ports.get(port)?;
+        Some(&row.port)
     }
 
     /// How many ports there are.
@@ -242,7 +248,7 @@ impl Ports {
         ensures { self.new ≡ with_changed self.old port (with_creator creator) }
     {
         if let Some(row) = self.ports.get_mut(port) {
-            row.creator = creator;
+            row.port.creator = creator;
         }
     }
 
@@ -250,8 +256,8 @@ impl Ports {
     pub fn set_completed(&mut self, port: Key, completed: bool)
         ensures { self.new ≡ with_changed self.old port (with_completed completed) }
     {
-        if let Some(side) = self.ports.get_mut(port) {
-            side.completed = completed;
+        if let Some(row) = self.ports.get_mut(port) {
+            row.port.completed = completed;
         }
     }
 
@@ -271,8 +277,11 @@ impl Ports {
 
     /// Puts a message at the end of a queue, and answers its key.
     ///
-    /// The bytes are no more than a message holds, there is spare room, and fewer than 2^64 - 1 messages were made.
+    /// Both ports have rows. The bytes are no more than a message holds, there is spare room, and fewer than 2^64 - 1
+    /// messages were made.
     pub fn send(&mut self, queue: Key, sender: Key, context: u32, bytes: &[u8]) -> Key
+        requires queue { IsSome (row_at self.old.ports queue) }
+        requires sender { IsSome (row_at self.old.ports sender) }
         requires room { 0 < self.old.message_room }
         requires few { self.old.messages_made < 2 ^ 64 - 1 }
         requires bound { length bytes.now ≤ MESSAGE_LIMIT }
@@ -281,14 +290,27 @@ impl Ports {
         ensures table { self.new
             ≡ with_sent self.old result (queued queue sender context bytes.now) }
     {
-        self.messages.insert_reserved(QueuedMessage {
+        // No more messages stand than were made, so one more can be counted.
+        let _ = self.blocks.count();
+        let key = self.blocks.insert_reserved(Block {
             queue,
             message: Message {
                 bytes: held(bytes),
                 sender,
                 context,
             },
-        })
+            in_queue: Links {
+                before: None,
+                after: None,
+            },
+            of_sender: Links {
+                before: None,
+                after: None,
+            },
+        });
+        push_queued(&mut self.ports, &mut self.blocks, queue, key);
+        push_sent(&mut self.ports, &mut self.blocks, sender, key);
+        key
     }
 
     /// The oldest message of a queue, or its oldest connection request alone: None exactly where there is none.
@@ -307,8 +329,8 @@ impl Ports {
         ensures { result ≡ count (is_datagram_of sender) self.now.messages }
     {
         let mut sent = 0;
-        for place in 0..self.messages.count() {
-            let (_, row) = self.messages.row(place);
+        for place in 0..self.blocks.count() {
+            let (_, row) = self.blocks.row(place);
             if row.message.is_datagram_of(sender) {
                 sent += 1;
             }
@@ -321,8 +343,8 @@ impl Ports {
         ensures { result ≡ count is_asking self.now.messages }
     {
         let mut asking = 0;
-        for place in 0..self.messages.count() {
-            let (_, row) = self.messages.row(place);
+        for place in 0..self.blocks.count() {
+            let (_, row) = self.blocks.row(place);
             if row.message.asks() {
                 asking += 1;
             }
@@ -337,7 +359,7 @@ impl Ports {
         let mut paired = 0;
         for place in 0..self.ports.count() {
             let (_, row) = self.ports.row(place);
-            if is_the(port, row.pair) {
+            if is_the(port, row.port.pair) {
                 paired += 1;
             }
         }
@@ -351,26 +373,24 @@ impl Ports {
         let mut connected = 0;
         for place in 0..self.ports.count() {
             let (_, row) = self.ports.row(place);
-            if is_the(port, row.connection) {
+            if is_the(port, row.port.connection) {
                 connected += 1;
             }
         }
         connected
     }
 
-    /// How many of the messages that stand in queues were sent on this port: no more than were ever made.
+    /// How many of the messages that stand in queues were sent on this port, which has a row: no more than were ever made.
     pub fn sent_on(&self, sender: Key) -> usize
+        requires { IsSome (row_at self.now.ports sender) }
         ensures number { result ≡ count (is_sent_on sender) self.now.messages }
         ensures most { result ≤ self.now.messages_made }
     {
-        let mut sent = 0;
-        for place in 0..self.messages.count() {
-            let (_, row) = self.messages.row(place);
-            if row.message.sender == sender {
-                sent += 1;
-            }
+        let _ = self.blocks.count();
+        match self.ports.get(sender) {
+            Some(row) => row.sent_count,
+            None => unreachable!(),
         }
-        sent
     }
 
     /// How many of the messages that stand in queues tell of the closing of the port on which they were sent.
@@ -378,8 +398,8 @@ impl Ports {
         ensures { result ≡ count is_closing self.now.messages }
     {
         let mut closings = 0;
-        for place in 0..self.messages.count() {
-            let (_, row) = self.messages.row(place);
+        for place in 0..self.blocks.count() {
+            let (_, row) = self.blocks.row(place);
             if row.message.tells_closing() {
                 closings += 1;
             }
@@ -393,8 +413,8 @@ impl Ports {
     {
         let mut clients = 0;
         for place in 0..self.ports.count() {
-            let (_, port) = self.ports.row(place);
-            if port.is_client() {
+            let (_, row) = self.ports.row(place);
+            if row.port.is_client() {
                 clients += 1;
             }
         }
@@ -409,12 +429,26 @@ impl Ports {
         self.is_joined(port) || self.has_message(port)
     }
 
+    /// The blocks in which messages stand, and over them two chains of a port that has a row: the messages in its queue,
+    /// and those that were sent on it.
+    pub fn lent(&self, port: Key) -> (&Slots<Block>, &Chain<0>, &Chain<1>)
+        requires { IsSome (row_at self.now.ports port) }
+        ensures blocks { messages_of result.0.now ≡ self.now.messages }
+        ensures queued { IsQueue result.0.now result.1.now port self.now.messages }
+        ensures sent { IsSent result.0.now result.2.now port self.now.messages }
+    {
+        match self.ports.get(port) {
+            Some(row) => (&self.blocks, &row.queued, &row.sent),
+            None => unreachable!(),
+        }
+    }
+
     /// A message that stands in a queue.
     pub fn message(&self, message: Key) -> &Message
         requires { IsSome (row_at self.now.messages message) }
         ensures { message_at self.now.messages message ≡ Some result.now }
     {
-        &self.queued(message).message
+        &self.block(message).message
     }
 
     /// The port in whose queue a message stands.
@@ -422,7 +456,7 @@ impl Ports {
         requires { IsSome (row_at self.now.messages message) }
         ensures { queue_at self.now.messages message ≡ Some result }
     {
-        self.queued(message).queue
+        self.block(message).queue
     }
 
     /// Takes a message from its queue, and answers it. Its room is spare then.
@@ -436,8 +470,8 @@ impl Ports {
         ensures oldest_connect { LeavesOthers is_connect_in
             self.old.messages message self.new.messages }
     {
-        match self.messages.remove(message) {
-            Some(row) => row.message,
+        match self.take(message) {
+            Some(block) => block.message,
             None => unreachable!(),
         }
     }
@@ -494,7 +528,7 @@ impl Ports {
     {
         for place in 0..self.ports.count() {
             let (_, row) = self.ports.row(place);
-            if row.is_joined_to(port) {
+            if row.port.is_joined_to(port) {
                 return true;
             }
         }
@@ -505,8 +539,8 @@ impl Ports {
     fn has_message(&self, port: Key) -> bool
         ensures { result ≡ has (is_message_at port) self.now.messages }
     {
-        for place in 0..self.messages.count() {
-            let (_, row) = self.messages.row(place);
+        for place in 0..self.blocks.count() {
+            let (_, row) = self.blocks.row(place);
             if row.is_at(port) {
                 return true;
             }
@@ -529,21 +563,15 @@ impl Ports {
     fn first_message(&self, queue: Key) -> Option<Key>
         ensures { result ≡ first_in self.now.messages queue }
     {
-        for place in 0..self.messages.count() {
-            let (key, row) = self.messages.row(place);
-            if row.queue == queue {
-                return Some(key);
-            }
-        }
-        None
+        self.ports.get(queue)?.queued.front()
     }
 
     // The oldest connection request of a queue.
     fn first_connect(&self, queue: Key) -> Option<Key>
         ensures { result ≡ first_connect_in self.now.messages queue }
     {
-        for place in 0..self.messages.count() {
-            let (key, row) = self.messages.row(place);
+        for place in 0..self.blocks.count() {
+            let (key, row) = self.blocks.row(place);
             if row.is_connect_in(queue) {
                 return Some(key);
             }
@@ -555,8 +583,8 @@ impl Ports {
     fn first_own_of(&self, thread: u32) -> Option<Key>
         ensures { result ≡ first_own_of self.now.messages thread }
     {
-        for place in 0..self.messages.count() {
-            let (key, row) = self.messages.row(place);
+        for place in 0..self.blocks.count() {
+            let (key, row) = self.blocks.row(place);
             if row.message.is_own_of(thread) {
                 return Some(key);
             }
@@ -568,25 +596,33 @@ impl Ports {
     fn lose(&mut self, message: Key)
         ensures { LosesFirst self.old message self.new }
     {
-        self.messages.remove(message);
+        self.take(message);
     }
 
-    // The row of a message that stands in a queue.
-    fn queued(&self, message: Key) -> &QueuedMessage
-        requires { IsSome (row_at self.now.messages message) }
-        ensures { row_at self.now.messages message ≡ Some result.now }
+    // Takes a message out of both its chains and away, where it stands in a queue. Its room is spare then.
+    fn take(&mut self, message: Key) -> Option<Block>
+        ensures value { option_map queued_of result ≡ row_at self.old.messages message }
+        ensures table { OnSome result (self.new ≡ without_message self.old message) }
+        ensures none { IfNone result (self.new ≡ self.old) }
+        ensures apart { IsDistinct (keys_of self.old.messages) }
     {
-        match self.get_queued(message) {
-            Some(row) => row,
+        let block = self.blocks.get(message)?;
+        let queue = block.queue;
+        let sender = block.message.sender;
+        unlink_queued(&mut self.ports, &mut self.blocks, queue, message);
+        unlink_sent(&mut self.ports, &mut self.blocks, sender, message);
+        self.blocks.remove(message)
+    }
+
+    // The block of a message that stands in a queue.
+    fn block(&self, message: Key) -> &Block
+        requires { IsSome (row_at self.now.messages message) }
+        ensures { row_at self.now.messages message ≡ Some (queued_of result.now) }
+    {
+        match self.blocks.get(message) {
+            Some(block) => block,
             None => unreachable!(),
         }
-    }
-
-    // The row of a message, where it stands in a queue.
-    fn get_queued(&self, message: Key) -> Option<&QueuedMessage>
-        ensures { option_copied result ≡ row_at self.now.messages message }
-    {
-        self.messages.get(message)
     }
 
     // The other end of a port's connection, where the port is open.
@@ -601,8 +637,8 @@ impl Ports {
         ensures { self.new ≡ with_changed self.old port (paired pair context) }
     {
         if let Some(row) = self.ports.get_mut(port) {
-            row.pair = Some(pair);
-            row.context = context;
+            row.port.pair = Some(pair);
+            row.port.context = context;
         }
     }
 
@@ -611,7 +647,7 @@ impl Ports {
         ensures { self.new ≡ with_changed self.old port unpaired }
     {
         if let Some(row) = self.ports.get_mut(port) {
-            row.pair = None;
+            row.port.pair = None;
         }
     }
 }

@@ -8,7 +8,7 @@ ghost use Rattle.lpc_ports.specs.Table.{asks, client_thread, is_of_type};
 
 use arrayvec::ArrayVec;
 use lpc_message::kind::{CONNECTION_REQUEST, DATAGRAM, PORT_CLOSED, REQUEST};
-use lpc_slots::Key;
+use lpc_slots::{Key, Linked, Links};
 
 // Where a message has its type: the low byte, and the high one behind it.
 const KIND_OFFSET: usize = 4;
@@ -80,16 +80,20 @@ impl Message {
     }
 }
 
-/// A row of the table: a message, and the port in whose queue it stands.
+/// A row of the table: a message, the port in whose queue it stands, and its neighbours in two chains.
 #[derive(Drop)]
-pub struct QueuedMessage {
+pub struct Block {
     /// The port in whose queue it stands.
     pub queue: Key,
     /// The message.
     pub message: Message,
+    /// Its neighbours in the queue.
+    pub in_queue: Links,
+    /// Its neighbours among the messages that were sent on one port.
+    pub of_sender: Links,
 }
 
-impl QueuedMessage {
+impl Block {
     /// It stands in this queue, and is a connection request.
     pub(crate) fn is_connect_in(&self, queue: Key) -> bool
         ensures { result
@@ -104,6 +108,48 @@ impl QueuedMessage {
     {
         self.message.sender == port || self.queue == port
     }
+}
+
+impl Linked<0> for Block {
+    ghost use Rattle.lpc_ports.specs.declared.messages.Block.{Block};
+    ghost use Rattle.std.specs.Prelude.{refl};
+
+    ghost links_of = { λ block. block.in_queue };
+
+    ghost with_links = { λ block links. record block { in_queue = links } };
+
+    fn links(&self) -> Links {
+        self.in_queue
+    }
+
+    fn set_links(&mut self, links: Links) {
+        self.in_queue = links;
+    }
+
+    ghost gives_back = { λ block links. refl };
+
+    ghost overwrites = { λ block one two. refl };
+}
+
+impl Linked<1> for Block {
+    ghost use Rattle.lpc_ports.specs.declared.messages.Block.{Block};
+    ghost use Rattle.std.specs.Prelude.{refl};
+
+    ghost links_of = { λ block. block.of_sender };
+
+    ghost with_links = { λ block links. record block { of_sender = links } };
+
+    fn links(&self) -> Links {
+        self.of_sender
+    }
+
+    fn set_links(&mut self, links: Links) {
+        self.of_sender = links;
+    }
+
+    ghost gives_back = { λ block links. refl };
+
+    ghost overwrites = { λ block one two. refl };
 }
 
 // The number in the two bytes from a place on, the low one first. What isn't there of them counts as 0.

@@ -14,7 +14,7 @@ use Rattle.lpc_model.specs.Basics as basics
 use Rattle.lpc_model.specs.Basics.{AddsHandle, AddsProcess, AddsThread, Awaits, DrawsIdentifier, DrawsOrdinal, Enters, Takes, basic, put_handle, with_handle}
 use Rattle.lpc_model.specs.Found.{is_accepted, is_connect, is_queued, is_table, is_thread, waits_as}
 use Rattle.lpc_ports.specs.Table as ports
-use Rattle.lpc_ports.specs.declared.messages.QueuedMessage.{QueuedMessage}
+use Rattle.lpc_ports.specs.Table.{QueuedMessage}
 use Rattle.lpc_procs.specs.Procs as procs
 use Rattle.lpc_procs.specs.declared.rows.ProcessRow.{ProcessRow}
 use Rattle.lpc_procs.specs.declared.rows.ThreadRow.{ThreadRow}

@@ -11,7 +11,7 @@ use Rattle.lpc_model.specs.World.{HandleRow, ObjectName, World}
 use Rattle.lpc_model.specs.Found as found
 use Rattle.lpc_ports.specs.Table as ports
 use Rattle.lpc_ports.specs.declared.Port.{Port}
-use Rattle.lpc_ports.specs.declared.messages.QueuedMessage.{QueuedMessage}
+use Rattle.lpc_ports.specs.Table.{QueuedMessage}
 use Rattle.lpc_procs.specs.Procs as procs
 use Rattle.lpc_slots.specs.declared.Key.{Key}
 use Rattle.lpc_waits.specs.Table as waits

@@ -10,7 +10,7 @@ use Rattle.lpc_model.specs.Entering.{takes_from}
 use Rattle.lpc_waits.specs.declared.Accepted.{Accepted}
 use Rattle.lpc_ports.specs.Table as ports
 use Rattle.lpc_ports.specs.declared.Port.{Port}
-use Rattle.lpc_ports.specs.declared.messages.QueuedMessage.{QueuedMessage}
+use Rattle.lpc_ports.specs.Table.{QueuedMessage}
 use Rattle.lpc_slots.specs.Table.{at_key, is_key}
 use Rattle.lpc_slots.specs.declared.Key.{Key}
 use Rattle.lpc_waits.specs.Table as waits

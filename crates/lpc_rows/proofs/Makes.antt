@@ -10,10 +10,9 @@ use Rattle.lpc_model.specs.Found.{is_port}
 use Rattle.lpc_names.specs.Walk.{LinkTo, Node, Path, Stands}
 use Rattle.lpc_names.specs.declared.names.Found.TheVariants.{Directory, Item}
 use Rattle.lpc_base.specs.declared.port_kind.PortKind.{PortKind}
-use Rattle.lpc_ports.specs.Table.{PortTable, new_port, with_creator, with_row}
+use Rattle.lpc_ports.specs.Table.{PortTable, QueuedMessage, new_port, with_creator, with_row}
 use Rattle.lpc_ports.specs.declared.Creator.{Creator}
 use Rattle.lpc_ports.specs.declared.Port.{Port}
-use Rattle.lpc_ports.specs.declared.messages.QueuedMessage.{QueuedMessage}
 use Rattle.std.proofs.lemmas.Bool.Decides.{nat_tests}
 use Rattle.lpc_slots.specs.Table.{at_key}
 use Rattle.lpc_slots.specs.declared.Key.{Key}

@@ -17,9 +17,8 @@ use Rattle.lpc_model.specs.Message.{message_of}
 use Rattle.lpc_model.specs.World as model
 use Rattle.lpc_model.specs.World.{World}
 use Rattle.lpc_ports.specs.Table as ports
-use Rattle.lpc_ports.specs.Table.{PortTable}
+use Rattle.lpc_ports.specs.Table.{PortTable, QueuedMessage}
 use Rattle.lpc_ports.specs.declared.messages.Message.{Message}
-use Rattle.lpc_ports.specs.declared.messages.QueuedMessage.{QueuedMessage}
 use Rattle.lpc_slots.specs.Table.{at_key, is_key}
 use Rattle.lpc_slots.specs.declared.Key.{Key}
 use Rattle.lpc_slots.proofs.Keys.{key_is}

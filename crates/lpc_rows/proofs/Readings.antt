@@ -17,9 +17,8 @@ use Rattle.lpc_model.specs.Found as found
 use Rattle.lpc_model.specs.Found.{is_port, is_table, port_row, same_object, waits_as}
 use Rattle.lpc_model.specs.Tests.{handle_row}
 use Rattle.lpc_ports.specs.Table as ports
-use Rattle.lpc_ports.specs.Table.{row_at}
+use Rattle.lpc_ports.specs.Table.{QueuedMessage, row_at}
 use Rattle.lpc_ports.specs.declared.Port.{Port}
-use Rattle.lpc_ports.specs.declared.messages.QueuedMessage.{QueuedMessage}
 use Rattle.lpc_slots.specs.Table.{at_key}
 use Rattle.lpc_slots.specs.declared.Key.{Key}
 use Rattle.lpc_waits.specs.Table as waits

@@ -18,10 +18,9 @@ use Rattle.lpc_model.specs.Message.{message_of}
 use Rattle.lpc_model.specs.Tests.{next_birth}
 use Rattle.lpc_names.specs.Binding.{NameSpace}
 use Rattle.lpc_ports.specs.Table as ports
-use Rattle.lpc_ports.specs.Table.{PortTable}
+use Rattle.lpc_ports.specs.Table.{PortTable, QueuedMessage}
 use Rattle.lpc_ports.specs.declared.Port.{Port}
 use Rattle.lpc_ports.specs.declared.messages.Message.{Message}
-use Rattle.lpc_ports.specs.declared.messages.QueuedMessage.{QueuedMessage}
 use Rattle.lpc_procs.specs.Procs as procs
 use Rattle.lpc_procs.specs.declared.rows.ProcessRow.{ProcessRow}
 use Rattle.lpc_procs.specs.declared.rows.ThreadRow.{ThreadRow}

@@ -14,7 +14,7 @@ use Rattle.lpc_names.specs.Walk.{Bindings, LinkTo, Node, Path, Stands}
 use Rattle.lpc_names.specs.declared.names.Found.TheVariants.{Directory, Item}
 use Rattle.lpc_ports.specs.Table as ports
 use Rattle.lpc_ports.specs.declared.Port.{Port}
-use Rattle.lpc_ports.specs.declared.messages.QueuedMessage.{QueuedMessage}
+use Rattle.lpc_ports.specs.Table.{QueuedMessage}
 use Rattle.lpc_slots.specs.Table.{is_key}
 use Rattle.lpc_slots.specs.declared.Key.{Key}
 use Rattle.lpc_slots.proofs.Keys.{key_turned}

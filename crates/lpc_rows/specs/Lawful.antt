@@ -7,8 +7,7 @@ use Rattle.lpc_model.specs.World.{World, HandleTable, MessageRow, ProcessRow, Th
 use Rattle.lpc_model.specs.Found.{is_born_process, is_born_thread, is_connect, is_listen, is_live_thread, is_own_of, is_process, is_queued, is_queued_connect, is_receive, is_table, is_taken, is_used_thread, same_birth}
 use Rattle.lpc_model.specs.Tests.{is_connect_of}
 use Rattle.lpc_model.specs.SingleClosings.{is_closing_of}
-use Rattle.lpc_ports.specs.Table.{PortTable}
-use Rattle.lpc_ports.specs.declared.messages.QueuedMessage.{QueuedMessage}
+use Rattle.lpc_ports.specs.Table.{PortTable, QueuedMessage}
 use Rattle.lpc_procs.specs.declared.rows.ThreadRow as procs
 use Rattle.lpc_procs.specs.declared.rows.Registration.{Registration}
 use Rattle.lpc_slots.specs.declared.Key.{Key}

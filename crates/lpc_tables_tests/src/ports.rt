@@ -136,6 +136,20 @@ fn is_message(rt: &impl Abort, message: &Message, bytes: &[u8], sender: Key) {
     assert!(rt; message.sender == sender);
 }
 
+// Over the lent blocks a port's queue is two messages, one behind the other, and this is the first that was sent on it.
+fn lends(rt: &impl Abort, ports: &Ports, port: Key, queue: [Key; 2], sent: Key)
+    requires { IsSome (row_at ports.now.ports port) }
+{
+    let (blocks, queued, sent_on) = ports.lent(port);
+    assert!(rt; queued.first == Some(queue[0]) && queued.last == Some(queue[1]));
+    assert!(rt; sent_on.front() == Some(sent));
+    let Some(block) = blocks.get(queue[0]) else {
+        assert!(rt; false);
+        return;
+    };
+    assert!(rt; block.in_queue.after == Some(queue[1]));
+}
+
 #[test]
 #[tactic(auto, using(lpc_slots::proofs::Keys::key_itself))]
 fn messages_stand_in_their_queues_in_the_order_of_sending(rt: HostRuntime) -> Result<(), Fail> {
@@ -149,6 +163,7 @@ fn messages_stand_in_their_queues_in_the_order_of_sending(rt: HostRuntime) -> Re
     is_first(&rt, &ports, one, true, None);
     is_first(&rt, &ports, one, false, Some(first));
     is_first(&rt, &ports, two, false, Some(other));
+    lends(&rt, &ports, one, [first, second], second);
     stands(&rt, &ports, first, one, 7);
     is_message(&rt, &ports.pull(first), b"a", two);
     is_first(&rt, &ports, one, false, Some(second));
@@ -157,8 +172,11 @@ fn messages_stand_in_their_queues_in_the_order_of_sending(rt: HostRuntime) -> Re
 
 // A message of a type enters a queue.
 fn sends(ports: &mut Ports, queue: Key, sender: Key, kind: u16)
+    requires queue { IsSome (row_at ports.old.ports queue) }
+    requires sender { IsSome (row_at ports.old.ports sender) }
     requires room { 0 < ports.old.message_room }
     requires few { ports.old.messages_made < 1000 }
+    ensures ports { ports.new.ports ≡ ports.old.ports }
     ensures room { ports.new.message_room + 1 ≡ ports.old.message_room }
     ensures made { ports.new.messages_made ≡ ports.old.messages_made + 1 }
 {
@@ -167,7 +185,9 @@ fn sends(ports: &mut Ports, queue: Key, sender: Key, kind: u16)
 
 // Three datagrams and a request, sent on two ports.
 fn counts_datagrams(rt: &impl Abort, ports: &mut Ports, one: Key, two: Key) -> Result<(), Fail>
-    requires { ports.old.messages_made < 100 }
+    requires one { IsSome (row_at ports.old.ports one) }
+    requires two { IsSome (row_at ports.old.ports two) }
+    requires few { ports.old.messages_made < 100 }
 {
     ports.reserve(0, 4)?;
     sends(ports, one, two, DATAGRAM);
@@ -180,6 +200,7 @@ fn counts_datagrams(rt: &impl Abort, ports: &mut Ports, one: Key, two: Key) -> R
 }
 
 #[test]
+#[tactic(auto, using(lpc_slots::proofs::Keys::key_itself))]
 fn datagrams_are_counted_by_their_senders(rt: HostRuntime) -> Result<(), Fail> {
     let mut ports = Ports::new(rt.alloc());
     ports.reserve(2, 0)?;
@@ -190,7 +211,8 @@ fn datagrams_are_counted_by_their_senders(rt: HostRuntime) -> Result<(), Fail> {
 
 // Four messages of as many types enter a queue, where none stood before: two of them ask.
 fn counts_asking(rt: &impl Abort, ports: &mut Ports, port: Key) -> Result<(), Fail>
-    requires { ports.old.messages_made < 100 }
+    requires port { IsSome (row_at ports.old.ports port) }
+    requires few { ports.old.messages_made < 100 }
 {
     assert!(rt; ports.asking() == 0);
     ports.reserve(0, 4)?;
@@ -203,6 +225,7 @@ fn counts_asking(rt: &impl Abort, ports: &mut Ports, port: Key) -> Result<(), Fa
 }
 
 #[test]
+#[tactic(auto, using(lpc_slots::proofs::Keys::key_itself))]
 fn requests_and_connection_requests_ask(rt: HostRuntime) -> Result<(), Fail> {
     let mut ports = Ports::new(rt.alloc());
     ports.reserve(1, 0)?;
@@ -212,7 +235,9 @@ fn requests_and_connection_requests_ask(rt: HostRuntime) -> Result<(), Fail> {
 
 // Of two ports one is a client port, and of two messages one tells of a closing.
 fn counts_closings(rt: &impl Abort, ports: &mut Ports, queue: Key, client: Key) -> Result<(), Fail>
-    requires { ports.old.messages_made < 100 }
+    requires queue { IsSome (row_at ports.old.ports queue) }
+    requires client { IsSome (row_at ports.old.ports client) }
+    requires few { ports.old.messages_made < 100 }
 {
     ports.reserve(0, 2)?;
     sends(ports, queue, client, PORT_CLOSED);
@@ -222,6 +247,7 @@ fn counts_closings(rt: &impl Abort, ports: &mut Ports, queue: Key, client: Key) 
 }
 
 #[test]
+#[tactic(auto, using(lpc_slots::proofs::Keys::key_itself))]
 fn clients_and_closings_are_counted(rt: HostRuntime) -> Result<(), Fail> {
     let mut ports = Ports::new(rt.alloc());
     ports.reserve(2, 0)?;
@@ -232,8 +258,10 @@ fn clients_and_closings_are_counted(rt: HostRuntime) -> Result<(), Fail> {
 
 // A message of a type that names thread 520 as its client, whose number's low bytes are 8 and 2, enters a queue.
 fn sends_for(ports: &mut Ports, queue: Key, kind: u16)
+    requires queue { IsSome (row_at ports.old.ports queue) }
     requires room { 0 < ports.old.message_room }
     requires few { ports.old.messages_made < 1000 }
+    ensures ports { ports.new.ports ≡ ports.old.ports }
     ensures room { ports.new.message_room + 1 ≡ ports.old.message_room }
     ensures made { ports.new.messages_made ≡ ports.old.messages_made + 1 }
 {
@@ -244,7 +272,8 @@ fn sends_for(ports: &mut Ports, queue: Key, kind: u16)
 
 // Of four messages the two go that ask and name thread 520.
 fn withdraws(rt: &impl Abort, ports: &mut Ports, port: Key) -> Result<(), Fail>
-    requires { ports.old.messages_made < 100 }
+    requires port { IsSome (row_at ports.old.ports port) }
+    requires few { ports.old.messages_made < 100 }
 {
     ports.reserve(0, 4)?;
     sends_for(ports, port, CONNECTION_REQUEST);
@@ -258,6 +287,7 @@ fn withdraws(rt: &impl Abort, ports: &mut Ports, port: Key) -> Result<(), Fail>
 }
 
 #[test]
+#[tactic(auto, using(lpc_slots::proofs::Keys::key_itself))]
 fn own_messages_are_withdrawn(rt: HostRuntime) -> Result<(), Fail> {
     let mut ports = Ports::new(rt.alloc());
     ports.reserve(1, 0)?;
@@ -267,7 +297,9 @@ fn own_messages_are_withdrawn(rt: HostRuntime) -> Result<(), Fail> {
 
 // All messages of one queue go, and those of another stay.
 fn empties(rt: &impl Abort, ports: &mut Ports, one: Key, two: Key) -> Result<(), Fail>
-    requires { ports.old.messages_made < 100 }
+    requires one { IsSome (row_at ports.old.ports one) }
+    requires two { IsSome (row_at ports.old.ports two) }
+    requires few { ports.old.messages_made < 100 }
 {
     ports.reserve(0, 3)?;
     sends(ports, one, two, DATAGRAM);
@@ -280,6 +312,7 @@ fn empties(rt: &impl Abort, ports: &mut Ports, one: Key, two: Key) -> Result<(),
 }
 
 #[test]
+#[tactic(auto, using(lpc_slots::proofs::Keys::key_itself))]
 fn queues_are_emptied(rt: HostRuntime) -> Result<(), Fail> {
     let mut ports = Ports::new(rt.alloc());
     ports.reserve(2, 0)?;

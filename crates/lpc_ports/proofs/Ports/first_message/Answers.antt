@@ -1,20 +1,18 @@
-use Rattle.std.proofs.Common.{◌≡◌, true, false, sym, ap, ◌∙◌, option_map}
-use Rattle.lpc_slots.proofs.Walk.{first_here, first_passed}
-use Rattle.lpc_slots.specs.Table.{listed, is_key}
+use Rattle.std.proofs.Common.{sym, ap, ◌∙◌, option_map}
 use Rattle.lpc_slots.specs.declared.Key.{Key}
-use Rattle.lpc_ports.specs.Table.{is_in}
-use Rattle.lpc_ports.specs.declared.messages.QueuedMessage.{QueuedMessage}
+use Rattle.lpc_ports.specs.Table.{QueuedMessage, is_in}
+use Rattle.lpc_ports.specs.Lent.{messages_of}
+use Rattle.lpc_ports.proofs.Lists.{first_of_which}
+use Rattle.lpc_ports.proofs.Ordered.{first_none, none_in_closed}
 use Rattle.lpc_ports.proofs.Ports.first_message.Goals as goal
 
-pub returns-then-eq : goal.returns-then-eq
-returns-then-eq c =
-    let so_far = rw (← c.self.view_is) at c.loop-place.invariant in
-    let passes : is_key c.row.result.1.now.queue c.args.queue ≡ true = sym c.eq.ensures ∙ c.if-eq.true in
-    let oldest = first_here (is_in c.args.queue) (listed c.self.inside.messages) c.loop-place.place (c.row.result.0, c.row.result.1.now) c.row.ensures passes in
-    rw (← c.self.view_is) (ap (option_map (λ (row : Key × QueuedMessage). row.0)) (sym oldest ∙ so_far))
+pub returns-in_err-get : goal.returns-in_err-get
+returns-in_err-get c =
+    let ms = messages_of c.self.inside.blocks in
+    let none = first_none (is_in c.args.queue) ms (none_in_closed c.self.inside.ports c.args.queue ms (sym c.in_err-get.ensures.value) c.self.invariant.stood_in) in
+    rw (← c.self.view_is) (c.from_residual.ensures ∙ sym (ap (option_map (λ (row : Key × QueuedMessage). row.0)) none))
 
-pub loop-place-preserved : goal.loop-place-preserved
-loop-place-preserved c =
-    let so_far = rw (← c.self.view_is) at c.loop-place.invariant in
-    let off : is_key c.row.result.1.now.queue c.args.queue ≡ false = sym c.eq.ensures ∙ c.if-eq.false in
-    rw (← c.self.view_is) (sym (first_passed (is_in c.args.queue) (listed c.self.inside.messages) c.loop-place.place (c.row.result.0, c.row.result.1.now) c.row.ensures off) ∙ so_far)
+pub returns : goal.returns
+returns c =
+    let ms = messages_of c.self.inside.blocks in
+    rw (← c.self.view_is) (c.front.ensures ∙ (c.self.invariant.queues c.args.queue c.in_ok-get.field-0.now (sym c.in_ok-get.ensures.value)).first ∙ first_of_which (is_in c.args.queue) ms)

@@ -1,14 +1,23 @@
 use Rattle.std.proofs.Common.{sym}
 use Rattle.lpc_ports.specs.Table.{paired}
-use Rattle.lpc_ports.proofs.Seen.{seen_changed, seen_kept}
+use Rattle.lpc_ports.proofs.Fields.{changed_order, seen_changed, seen_kept}
 use Rattle.lpc_ports.proofs.Ports.pair_with.Goals as goal
 use Rattle.lpc_ports.proofs.Ports.pair_with.Goals.{in-Some, in_default}
+
+pub invariant_of-self : goal.invariant_of-self
+invariant_of-self c =
+    let ports = c.self.inside.ports in
+    let blocks = c.self.inside.blocks in
+    elim c.match-get_mut.branch [
+      | in-Some w ↦ rw w.self-inside-is (changed_order ports blocks c.args.port (paired c.args.pair c.args.context) w.in-Some.row.now (sym w.in-Some.ensures.value) c.self.invariant)
+      | in_default w ↦ rw w.self-inside-is c.self.invariant
+    ]
 
 pub returns : goal.returns
 returns c =
     let ports = c.self.inside.ports in
-    let messages = c.self.inside.messages in
+    let blocks = c.self.inside.blocks in
     elim c.match-get_mut.branch [
-      | in-Some w ↦ rw (← c.self.view_is, w.self-inside-is) (seen_changed ports messages c.args.port (paired c.args.pair c.args.context) w.in-Some.row.now (sym w.in-Some.ensures.value))
-      | in_default w ↦ rw (← c.self.view_is, w.self-inside-is) (seen_kept ports messages c.args.port (paired c.args.pair c.args.context) (sym w.in_default.ensures.value))
+      | in-Some w ↦ rw (← c.self.view_is, w.self-inside-is) (seen_changed ports blocks c.args.port (paired c.args.pair c.args.context) w.in-Some.row.now (sym w.in-Some.ensures.value))
+      | in_default w ↦ rw (← c.self.view_is, w.self-inside-is) (seen_kept ports blocks c.args.port (paired c.args.pair c.args.context) (sym w.in_default.ensures.value))
     ]

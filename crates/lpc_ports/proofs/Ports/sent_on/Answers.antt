@@ -1,29 +1,19 @@
-use Rattle.std.proofs.Common.{◌+◌, sym, ap, ◌∙◌, arith, cond}
+use Rattle.std.proofs.Common.{ap, sym, ◌∙◌, arith, is_some, IsSome, true≢false}
 use Rattle.lpc_base.proofs.RowWords.{count-bound}
-use Rattle.lpc_slots.proofs.Walk.{count_fits, count_on}
-use Rattle.lpc_slots.specs.Table.{listed}
+use Rattle.lpc_slots.specs.Table.{at, listed}
+use Rattle.lpc_ports.specs.Layout.{port_of}
+use Rattle.lpc_ports.specs.Lent.{messages_of, queued_of}
 use Rattle.lpc_ports.specs.Table.{is_sent_on}
+use Rattle.lpc_ports.proofs.Ordered.{length_shown, mapped_some, shown_at}
 use Rattle.lpc_ports.proofs.Ports.sent_on.Goals as goal
-use Rattle.lpc_ports.proofs.Ports.sent_on.Goals.{then-eq, else-eq}
 
-pub overflow_add-sent : goal.overflow_add-sent
-overflow_add-sent c =
-    let so_far = rw (← c.self.view_is) at c.loop-place.invariant in
-    let fits = count_fits (is_sent_on c.args.sender) (listed c.self.inside.messages) c.loop-place.place (c.row.result.0, c.row.result.1.now) c.loop-place.sent c.row.ensures so_far (sym c.eq.ensures ∙ c.if-eq.true) in
-    omega (arith, fits, c.count-place-end.ensures.number)
-
-pub loop-place-preserved : goal.loop-place-preserved
-loop-place-preserved c =
-    let so_far = rw (← c.self.view_is) at c.loop-place.invariant in
-    let further = count_on (is_sent_on c.args.sender) (listed c.self.inside.messages) c.loop-place.place (c.row.result.0, c.row.result.1.now) c.loop-place.sent c.row.ensures so_far in
-    rw (← c.self.view_is)
-    (elim c.if-eq.branch [
-      | then-eq w ↦ omega (arith, further, w.sent-is, ap (λ b. cond b (c.loop-place.sent + 1) c.loop-place.sent) (sym c.eq.ensures ∙ w.if-eq.true))
-      | else-eq w ↦ omega (arith, further, w.sent-is, ap (λ b. cond b (c.loop-place.sent + 1) c.loop-place.sent) (sym c.eq.ensures ∙ w.if-eq.false))
-    ])
+pub unreachable-requires : goal.unreachable-requires
+unreachable-requires c =
+    let stands : IsSome (at c.self.inside.ports c.args.sender) = sym (mapped_some port_of (at c.self.inside.ports c.args.sender)) ∙ ap is_some (sym (shown_at port_of c.self.inside.ports c.args.sender)) ∙ (rw (← c.self.view_is) at c.requires) in
+    true≢false (sym stands ∙ ap is_some (sym c.in-None.ensures.value))
 
 pub returns-clause-most : goal.returns-clause-most
 returns-clause-most c =
-    let so_far = rw (← c.self.view_is) at c.loop-place.invariant in
-    let bound = count-bound (is_sent_on c.args.sender) (listed c.self.inside.messages) in
-    rw (← c.self.view_is) (omega (arith, so_far, bound, c.count-place-end.ensures.number, c.count-place-end.ensures.most))
+    let is = c.self.invariant.counts c.args.sender c.in-Some.row.now (sym c.in-Some.ensures.value) in
+    let bound = count-bound (is_sent_on c.args.sender) (messages_of c.self.inside.blocks) in
+    rw (← c.self.view_is) (omega (arith, is, bound, length_shown queued_of (listed c.self.inside.blocks), c.count.ensures.number, c.count.ensures.most))

@@ -1,7 +1,11 @@
 use Rattle.std.proofs.Common.{arith}
 use Rattle.lpc_rows.specs.Shown.{tables_of}
 use Rattle.lpc_rows.proofs.Counted.{connected_counted, connected_few, made_counted, made_few, paired_counted, paired_few, sent_counted}
+use Rattle.lpc_rows.proofs.Unheld as unheld
 use Rattle.lpc_world.proofs.world.World.holders_of_port.Goals as goal
+
+pub sent_on-requires : goal.sent_on-requires
+sent_on-requires c = unheld.has_row (tables_of c.self.inside.procs c.self.inside.parts.items c.self.inside.ports c.self.inside.waits c.self.inside.names) c.self.invariant.named c.args.port (rw (← c.self.view_is) at c.requires)
 
 pub overflow_add-ports : goal.overflow_add-ports
 overflow_add-ports c =

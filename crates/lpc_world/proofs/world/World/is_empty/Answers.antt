@@ -2,8 +2,7 @@ use Rattle.std.proofs.Common.{ap, sym, ◌∙◌}
 use Rattle.std.specs.Prelude.{is_none}
 use Rattle.lpc_base.specs.Rows.{first}
 use Rattle.lpc_ports.specs.Table as ports
-use Rattle.lpc_ports.specs.Table.{row_at}
-use Rattle.lpc_ports.specs.declared.messages.QueuedMessage.{QueuedMessage}
+use Rattle.lpc_ports.specs.Table.{QueuedMessage, row_at}
 use Rattle.lpc_slots.specs.declared.Key.{Key}
 use Rattle.lpc_rows.specs.Shown.{birth_of, births_of, shown_message, tables_of}
 use Rattle.lpc_rows.proofs.Follows as follows

@@ -2,17 +2,23 @@ use Rattle.std.proofs.Common.{◌+◌, ◌-◌, ap, arith}
 use Rattle.lpc_model.specs.World.{World}
 use Rattle.lpc_ports.specs.Table as ports
 use Rattle.lpc_slots.specs.declared.Key.{Key}
-use Rattle.lpc_ports.specs.declared.messages.QueuedMessage.{QueuedMessage}
+use Rattle.lpc_ports.specs.Table.{PortTable, QueuedMessage}
 use Rattle.lpc_rows.specs.Kept.{rows_by}
 use Rattle.lpc_rows.specs.Shown.{birth_of, births_of, sent_row, shown_message, tables_of}
 use Rattle.lpc_rows.proofs.Changes as changes
 use Rattle.lpc_rows.proofs.Lawful as lawful
 use Rattle.lpc_rows.proofs.Rooms as rooms
 use Rattle.lpc_rows.proofs.Steps as steps
+use Rattle.lpc_rows.proofs.Unheld as unheld
 use Rattle.std.proofs.Common.{◌∙◌, length, vec_len, vec_capacity}
-use Rattle.lpc_ports.specs.Table.{PortTable}
 use Rattle.lpc_rows.proofs.Capacities as capacities
 use Rattle.lpc_world.proofs.world.World.ports_send.Goals as goal
+
+pub send-requires-clause-queue : goal.send-requires-clause-queue
+send-requires-clause-queue c = unheld.has_row (tables_of c.self.inside.procs c.self.inside.parts.items c.self.inside.ports c.self.inside.waits c.self.inside.names) c.self.invariant.named c.args.queue (rw (← c.self.view_is) at c.requires.queue)
+
+pub send-requires-clause-sender : goal.send-requires-clause-sender
+send-requires-clause-sender c = unheld.has_row (tables_of c.self.inside.procs c.self.inside.parts.items c.self.inside.ports c.self.inside.waits c.self.inside.names) c.self.invariant.named c.args.sender (rw (← c.self.view_is) at c.requires.sender)
 
 pub send-requires-clause-room : goal.send-requires-clause-room
 send-requires-clause-room c =

@@ -1,0 +1,64 @@
+-- A change of a port's own fields: how it shows, and that the chains stay.
+use Rattle.std.proofs.Common.{◌≡◌, true, refl, sym, ap, ◌∙◌, is_some, List, [], ◌∷◌, Some, None, inl, inr}
+use Rattle.std.proofs.lemmas.Bool.{cases_Bool}
+use Rattle.lpc_base.specs.Rows.{change}
+use Rattle.lpc_base.proofs.RowWords.{change-none, every-more}
+use Rattle.lpc_slots.specs.declared.Key.{Key}
+use Rattle.lpc_slots.specs.Table.{Table, at, at_key, is_key, listed, parts, with_value}
+use Rattle.lpc_slots.proofs.Keys.{key_cases}
+use Rattle.lpc_slots.proofs.Chains.{at_same, at_other}
+use Rattle.lpc_slots.proofs.Same.{listed_put}
+use Rattle.lpc_ports.specs.declared.Port.{Port}
+use Rattle.lpc_ports.specs.declared.rows.PortRow.{PortRow}
+use Rattle.lpc_ports.specs.declared.messages.Block.{Block}
+use Rattle.lpc_ports.specs.Table.{PortTable, with_row}
+use Rattle.lpc_ports.specs.Layout.{InOrder, is_open, port_of, ports_of, seen}
+use Rattle.lpc_ports.specs.Lent.{messages_of, queue_of}
+use Rattle.lpc_ports.proofs.Ordered.{vacant_shown}
+use Rattle.lpc_ports.proofs.Stand.{written}
+
+module _ (ports : Table PortRow) (blocks : Table Block) (key : Key) (f : Port → Port) where
+  abbrev fresh : PortRow → PortRow
+  fresh row = record row { port = f row.port }
+
+  parts_changed : (rows : List (Key × PortRow)) → parts port_of (change (at_key key) (λ row. (row.0, fresh row.1)) rows) ≡ with_row (parts port_of rows) key f
+  parts_changed [] = refl
+  parts_changed (row ∷ rows) =
+      elim (cases_Bool (is_key row.0 key)) [
+        | inl on ↦ rw on (ap (λ rs. (row.0, f row.1.port) ∷ rs) (parts_changed rows))
+        | inr off ↦ rw off (ap (λ rs. (row.0, row.1.port) ∷ rs) (parts_changed rows))
+      ]
+
+  abbrev changed : PortTable
+  changed = record (seen ports blocks) { ports = with_row (ports_of ports) key f }
+
+  pub seen_changed : (row : PortRow) → at ports key ≡ Some row → seen (with_value ports key (fresh row)) blocks ≡ changed
+  seen_changed row some i = record (seen ports blocks) { ports = (ap (parts port_of) (listed_put key fresh ports row some) ∙ parts_changed (listed ports)) i }
+
+  pub seen_kept : at ports key ≡ None → seen ports blocks ≡ changed
+  seen_kept none i = record (seen ports blocks) { ports = sym (change-none (at_key key) (λ row. (row.0, f row.1)) (ports_of ports) (ap is_some (vacant_shown port_of ports key none))) i }
+
+  pub changed_order : (row : PortRow) → at ports key ≡ Some row → InOrder ports blocks → InOrder (with_value ports key (fresh row)) blocks
+  changed_order row there inside = record {
+    queues = λ q other found. elim (written ports key q (fresh row) other found) [
+      | inl here ↦ rw here.1 (inside.queues q row (ap (at ports) here.0 ∙ there))
+      | inr away ↦ inside.queues q other away.1
+    ];
+    senders = λ q other found. elim (written ports key q (fresh row) other found) [
+      | inl here ↦ rw here.1 (inside.senders q row (ap (at ports) here.0 ∙ there))
+      | inr away ↦ inside.senders q other away.1
+    ];
+    stood_in = every-more (is_open ports) (is_open (with_value ports key (fresh row))) (λ r. still (queue_of r.1)) (messages_of blocks) inside.stood_in;
+    counts = λ q other found. elim (written ports key q (fresh row) other found) [
+      | inl here ↦ ap (λ (r : PortRow). r.sent_count) here.1 ∙ inside.counts q row (ap (at ports) here.0 ∙ there)
+      | inr away ↦ inside.counts q other away.1
+    ];
+    young = inside.young;
+  }
+    where
+      still : (q : Key) → is_some (at ports q) ≡ true → is_some (at (with_value ports key (fresh row)) q) ≡ true
+      still q is =
+          elim (key_cases q key) [
+            | inl same ↦ ap (λ k. is_some (at (with_value ports key (fresh row)) k)) same ∙ ap is_some (at_same ports key (fresh row))
+            | inr differs ↦ ap is_some (at_other ports key (fresh row) q (λ e. differs (let k : key ≡ q = cc in sym k))) ∙ is
+          ]

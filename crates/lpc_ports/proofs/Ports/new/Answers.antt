@@ -1,0 +1,17 @@
+use Rattle.std.proofs.Common.{◌≡◌, refl, sym, ap, ◌∙◌, List, [], Some, None, option_map}
+use Rattle.lpc_base.specs.Rows.{first}
+use Rattle.lpc_slots.specs.declared.Key.{Key}
+use Rattle.lpc_slots.specs.Table.{at, at_key, parts}
+use Rattle.lpc_slots.proofs.Same.{at_first}
+use Rattle.lpc_ports.specs.declared.rows.PortRow.{PortRow}
+use Rattle.lpc_ports.specs.Lent.{queued_of}
+use Rattle.lpc_ports.proofs.Ordered.{in_order}
+use Rattle.lpc_ports.proofs.Ports.new.Goals as goal
+
+pub invariant_of-result : goal.invariant_of-result
+invariant_of-result c =
+    let none : (q : Key) → at c.new.result q ≡ None = λ q. at_first c.new.result q ∙ ap (λ (rows : List (Key × PortRow)). option_map (λ (row : Key × PortRow). row.1) (first (at_key q) rows)) c.new.ensures.listed in
+    in_order c.new.result c.new-2.result [] (ap (parts queued_of) c.new-2.ensures.listed)
+    (λ q row found. absurd (let clash : Some row ≡ None = sym found ∙ none q in cc))
+    (λ q row found. absurd (let clash : Some row ≡ None = sym found ∙ none q in cc))
+    refl tt (λ q row found. absurd (let clash : Some row ≡ None = sym found ∙ none q in cc))

@@ -1,0 +1,104 @@
+//! The rows of ports, and how messages come on and off their chains.
+
+ghost use Rattle.std.specs.Prelude.{IsSome};
+ghost use Rattle.lpc_slots.specs.Table.{IsYoung, at};
+ghost use Rattle.lpc_ports.specs.Layout.{ChangesLinks, Enters, HasFewSent, HasPlaced, Keeps, Leaves, QueuesStand, SendersStand, SentCounted, SentStand};
+ghost use Rattle.lpc_ports.specs.Lent.{queue_of, sender_of};
+
+use crate::{Block, Port};
+use lpc_slots::{Chain, Key, Slots};
+
+/// A row of the table of ports: the port, its queue, and the messages that stand in queues and were sent on it.
+#[derive(Drop)]
+pub(crate) struct PortRow {
+    /// The port.
+    pub port: Port,
+    /// The messages in its queue.
+    pub queued: Chain<0>,
+    /// The messages that were sent on it.
+    pub sent: Chain<1>,
+    /// How many were sent on it.
+    pub sent_count: usize,
+}
+
+/// A message goes to the end of the chain of its queue, where the port has a row.
+pub(crate) fn push_queued(
+    ports: &mut Slots<PortRow>,
+    blocks: &mut Slots<Block>,
+    queue: Key,
+    key: Key,
+)
+    requires present { IsSome (at blocks.old key) }
+    ensures queues { Enters QueuesStand
+        ports.old ports.new blocks.old blocks.new queue_of queue key }
+    ensures senders { Keeps SendersStand ports.old ports.new blocks.old blocks.new }
+    ensures counts { Keeps SentCounted ports.old ports.new blocks.old blocks.new }
+    ensures links { ChangesLinks ports.old ports.new blocks.old blocks.new }
+{
+    if let Some(row) = ports.get_mut(queue) {
+        row.queued.push_back(blocks, key);
+    }
+}
+
+/// A message goes to the end of the chain of its sender, where that port has a row.
+pub(crate) fn push_sent(
+    ports: &mut Slots<PortRow>,
+    blocks: &mut Slots<Block>,
+    sender: Key,
+    key: Key,
+)
+    requires present { IsSome (at blocks.old key) }
+    requires few { HasFewSent ports.old sender }
+    ensures queues { Keeps QueuesStand ports.old ports.new blocks.old blocks.new }
+    ensures senders { Enters SendersStand
+        ports.old ports.new blocks.old blocks.new sender_of sender key }
+    ensures counts { Enters SentCounted
+        ports.old ports.new blocks.old blocks.new sender_of sender key }
+    ensures young { IsYoung ports.old sender }
+    ensures links { ChangesLinks ports.old ports.new blocks.old blocks.new }
+{
+    if let Some(row) = ports.get_mut(sender) {
+        row.sent_count += 1;
+        row.sent.push_back(blocks, key);
+    }
+}
+
+/// A message leaves the chain of its queue, where the port has a row.
+pub(crate) fn unlink_queued(
+    ports: &mut Slots<PortRow>,
+    blocks: &mut Slots<Block>,
+    queue: Key,
+    key: Key,
+)
+    requires placed { HasPlaced QueuesStand ports.old blocks.old queue_of queue key }
+    ensures queues { Leaves QueuesStand
+        ports.old ports.new blocks.old blocks.new queue_of queue key }
+    ensures senders { Keeps SendersStand ports.old ports.new blocks.old blocks.new }
+    ensures counts { Keeps SentCounted ports.old ports.new blocks.old blocks.new }
+    ensures links { ChangesLinks ports.old ports.new blocks.old blocks.new }
+{
+    if let Some(row) = ports.get_mut(queue) {
+        row.queued.unlink(blocks, key);
+    }
+}
+
+/// A message leaves the chain of its sender, where that port has a row.
+pub(crate) fn unlink_sent(
+    ports: &mut Slots<PortRow>,
+    blocks: &mut Slots<Block>,
+    sender: Key,
+    key: Key,
+)
+    requires placed { HasPlaced SentStand ports.old blocks.old sender_of sender key }
+    ensures queues { Keeps QueuesStand ports.old ports.new blocks.old blocks.new }
+    ensures senders { Leaves SendersStand
+        ports.old ports.new blocks.old blocks.new sender_of sender key }
+    ensures counts { Leaves SentCounted
+        ports.old ports.new blocks.old blocks.new sender_of sender key }
+    ensures links { ChangesLinks ports.old ports.new blocks.old blocks.new }
+{
+    if let Some(row) = ports.get_mut(sender) {
+        row.sent_count -= 1;
+        row.sent.unlink(blocks, key);
+    }
+}
