@@ -1,0 +1,119 @@
+"""What the definitions and contracts below crates/ say, as far as tests hold pages against it: limits, statuses, the
+refusals of each service in their order, and the names of clauses."""
+import pathlib
+import re
+
+CRATES = pathlib.Path(__file__).resolve().parent.parent / "crates"
+SIGNATURE = re.compile(r"^(?:unfoldable|abbrev) pub (\w+) : (.*)$")
+FUNCTION = re.compile(r"\bfn (\w+)")
+CLAUSE = re.compile(r"^\s*ensures (\w+) \{")
+OWNER = re.compile(r"^(?:impl(?:<.*?>)? (?:\w+(?:<.*?>)? for )?|pub trait )(\w+)")
+# A row that is looked for by the name that a handle has. It stands, as a law says, so this refuses nothing.
+STANDING_ROW = re.compile(r"found_or \((?:port_row|first \(is_born_(?:thread|process)) [^\n]*")
+# How the name space is walked: what each of its calls refuses, in order. `walk` is met from the root on.
+FORM = ["PathSyntax", "NameInvalid"]
+WALK = [*FORM, "PathNotFound", "NameInvalid"]
+NAME_CALLS = {
+    "spelled": FORM,
+    "free_path": [*WALK, "Collision"],
+    "lookup": [*WALK, "NameNotFound"],
+}
+
+
+def text_of(crate, folder, ending):
+    """The files of a crate's folder, one behind the other."""
+    files = sorted((CRATES / crate / folder).rglob(f"*.{ending}"))
+    return "\n".join(it.read_text(encoding="utf-8") for it in files)
+
+
+def profile():
+    """The limits by their names, and the numbers of the statuses, 8 capital hexadecimal digits, by theirs."""
+    text = text_of("lpc_base", "specs", "antt")
+    limits = re.findall(r"^  pub \w+ : (\w+) ≡ ([\d_]+)$", text, re.M)
+    statuses = re.findall(r"^  pub \w+ : (\w+)\.0 ≡ 0x([0-9A-F_]+)$", text, re.M)
+    return {name: int(it) for name, it in limits}, {name: it.replace("_", "") for name, it in statuses}
+
+
+def bodies(crate):
+    """The definitions of a crate by their names: of each its type, and the text behind that."""
+    found, name = {}, None
+    for line in text_of(crate, "specs", "antt").splitlines():
+        head = SIGNATURE.match(line)
+        if head:
+            name = head[1]
+            found[name] = (head[2], [])
+        elif name and line and not line.startswith(("--", "use ", "pub ", "module ")):
+            found[name][1].append(line)
+        elif not line:
+            name = None
+    return {it: (head, "\n".join(lines)) for it, (head, lines) in found.items()}
+
+
+class Refusals:
+    """The statuses that definitions refuse with, in the order of their tests."""
+
+    def __init__(self):
+        self.statuses = profile()[1]
+        self.bodies = bodies("lpc_model")
+        faults = re.findall(r"^status_of (\w+) = (\w+)$", text_of("lpc_names", "specs", "antt"), re.M)
+        self.faults = {fault: self.statuses[name] for fault, name in faults}
+
+    def of(self, name):
+        """Those of a definition, by their numbers; each that stands again behind itself once."""
+        found = []
+        for word in re.findall(r"[\w.]+", STANDING_ROW.sub("", self.bodies[name][1])):
+            if word in NAME_CALLS:
+                found += [self.faults[it] for it in NAME_CALLS[word]]
+            elif word in self.statuses and word != "SUCCESS":
+                found.append(self.statuses[word])
+            elif word != name and self._refuses(word):
+                found += self.of(word)
+        return once(found)
+
+    def _refuses(self, word):
+        """Whether a word is a definition that may refuse: what it gives has statuses."""
+        return re.search(r"\bResult\b.* Status$", self.bodies.get(word, ("",))[0]) is not None
+
+    def used(self):
+        """The numbers of all statuses that a definition of the model names, and those of the name space's faults."""
+        words = set(re.findall(r"\w+", "\n".join(text for _, text in self.bodies.values())))
+        return {self.statuses[it] for it in words & set(self.statuses)} | set(self.faults.values())
+
+
+def once(found):
+    """A list without what stands again right behind itself."""
+    return [it for at, it in enumerate(found) if at == 0 or found[at - 1] != it]
+
+
+def services():
+    """The definition of each call by the call's name, `NtClose`, and of each directive by its word."""
+    text = text_of("lpc_model", "specs", "antt")
+    calls = re.findall(r"^service_of w by \(?[\w ]+\)? = (\w+) w by", text, re.M)
+    lines = re.findall(r"^bare_steps \((\w+) [\w ]+\) w = directed word\.\w+ \((\w+) w ", text, re.M)
+    return {camel(it): it for it in calls}, dict(lines)
+
+
+def camel(name):
+    """A service's name as Windows NT spells it."""
+    return "".join(it.capitalize() for it in name.split("_"))
+
+
+def contracts(crate):
+    """The clauses of each function of a crate by its name: `read`, and with its type `MemSource::read`."""
+    found = {}
+    for file in sorted((CRATES / crate / "src").rglob("*.rt")):
+        owner, names = "", []
+        for line in file.read_text(encoding="utf-8").splitlines():
+            head, of = FUNCTION.search(line.split("//")[0]), OWNER.match(line)
+            if of:
+                owner = of[1]
+            elif line.startswith("}"):
+                owner = ""
+            if head and "ensures" not in line:
+                names = [head[1], f"{owner}::{head[1]}"]
+                for name in names:
+                    found.setdefault(name, set())
+            clause = CLAUSE.match(line)
+            for name in names if clause else []:
+                found[name].add(clause[1])
+    return found

@@ -1,0 +1,292 @@
+#!/usr/bin/env python3
+"""Holds the tables of the pages against the definitions and contracts below crates/, and against the examples.
+
+    tests/tables.py
+
+- The statuses of docs/SERVICES.md have the names and numbers of the profile, and are those that the definitions use;
+  the companion tools have the same names.
+- The refusals of each call and directive stand there in the order of its definition's tests, and so do those that
+  several calls share.
+- Each limit that the pages name is that of the profile, and docs/SERVICES.md names no number that isn't one.
+- The worked tables of README.md and docs/CONNECTIONS.md have the lines of the scripts and transcripts in examples/.
+- Each function, clause and law that docs/PROOFS.md names as carrying a claim stands in that crate, and each clause of
+  the top call is named there, in one claim.
+
+How many rows each of these reads is pinned here, so that a table that isn't read is seen. Each check that fails has a
+line, and the last line is `N passed, M failed`. The exit status is 0 where all passed, 1 where not.
+"""
+import re
+import sys
+
+sys.dont_write_bytecode = True
+import definitions
+import pages
+
+sys.path.insert(0, str(pages.ROOT / "tools"))
+from ntlpc_tool import statuses
+from ntlpc_tool.pages import tables
+
+SERVICES = (pages.DOCS / "SERVICES.md").read_text(encoding="utf-8")
+STATUS = re.compile(r"\b[0-9A-F]{8}\b")
+CODE = re.compile(r"`([^`]*)`")
+# How many there are: who adds one changes the number.
+STATUS_COUNT, SHARED_COUNT, CALL_COUNT, DIRECTIVE_COUNT, LIMIT_COUNT = 18, 5, 17, 4, 6
+WORKED_ROWS = {"README.md": 8, "docs/CONNECTIONS.md": 30}
+CLAIM_COUNT = 44
+# The definitions behind the words that tables share, and the first status of `path` that is met on the way.
+SHARED = {"handle": "port_test", "message": "message_test", "client": "client_test", "quota": "handles_test"}
+# The scripts of each worked table, in the order of the page's tables.
+WORKED = {
+    "README.md": [("first-request", 1, 6)],
+    "docs/CONNECTIONS.md": [("connect-and-ask", 1, 13), ("connect-and-ask", 14, 19), ("two-clients", 14, 17)],
+}
+
+
+def pinned(what, found, wanted):
+    """The check that as many were read as there are."""
+    return f"there are {wanted} {what}", [] if found == wanted else [f"{found} were read"]
+
+
+def status_names():
+    """The table of statuses, against the profile, the definitions and the tools."""
+    rows = next(rows for heading, head, rows in tables(SERVICES) if heading == "The statuses")
+    told = {number: name for row in rows for number, name in zip(row[::2], row[1::2]) if number}
+    numbers = definitions.profile()[1]
+    wanted = {numbers[name]: name for name in numbers if numbers[name] in definitions.Refusals().used()}
+    yield pinned("statuses", len(told), STATUS_COUNT)
+    for number in sorted({*told, *wanted}):
+        here, there = told.get(number), wanted.get(number)
+        yield f"status {number}", [] if here == there else [f"the page has {here}, the definitions {there}"]
+    tool = {number.upper(): name for number, name in statuses.PROFILE.items()}
+    yield "the statuses of the tools", [] if tool == wanted else [f"{tool}, wanted are {wanted}"]
+
+
+def refusals_in(cell, shared):
+    """The statuses that a cell names, in order, with those of the words that tables share."""
+    found = []
+    for part in cell.split(";"):
+        word = part.strip().removeprefix("then ")
+        found += shared[word] if word in shared else STATUS.findall(part)
+    return found
+
+
+def refusals():
+    """The tables of refusals, against the definitions of the services and directives."""
+    model, shared = definitions.Refusals(), {}
+    calls, directives = definitions.services()
+    read = {"call": 0, "directive": 0}
+
+    def check(kind, name, found, definition):
+        read[kind] += 1
+        told, wanted = (" ".join(definitions.once(it)) for it in (found, model.of(definition)))
+        return f"the refusals of {name}", [] if told == wanted else [f"the page has {told}, the definition {wanted}"]
+
+    for heading, head, rows in tables(SERVICES):
+        if head[0] == "Word":
+            shared = {word: STATUS.findall(cell) for word, cell in rows}
+            yield pinned("words that tables share", len(shared), SHARED_COUNT)
+            for word, definition in SHARED.items():
+                wanted = model.of(definition)
+                yield f"the word {word}", [] if shared.get(word) == wanted else [f"the definition has {wanted}"]
+            wanted = [model.faults[it] for it in definitions.WALK]
+            yield "the word path", [] if shared.get("path") == wanted else [f"the definition has {wanted}"]
+        elif head[:2] == ["Line", "Refusals in their order"]:
+            for row in rows:
+                word = row[0].strip("`").split()[0]
+                yield check("directive", word, refusals_in(row[1], shared), directives[word])
+        elif head == ["Refusal", "Cause"]:
+            name = heading.split()[0]
+            yield check("call", name, [it for row in rows for it in refusals_in(row[0], shared)], calls[name])
+    yield pinned("calls", read["call"], CALL_COUNT)
+    yield pinned("calls of the definitions", len(calls), CALL_COUNT)
+    yield pinned("directives", read["directive"], DIRECTIVE_COUNT)
+    yield pinned("directives of the definitions", len(directives), DIRECTIVE_COUNT)
+
+
+def sentences():
+    """What the pages say of limits: of each page the sentences, with the numbers of the profile in them."""
+    limit, _ = definitions.profile()
+    message, header, handles = limit["MESSAGE_LIMIT"], limit["HEADER_SIZE"], limit["HANDLE_LIMIT"]
+    names = definitions.text_of("lpc_names", "specs", "antt")
+    path = int(re.search(r"^is_too_long path = nat_lt (\d+) ", names, re.M)[1])
+    links = int(re.search(r"^  walk_if bindings \(Ok path\) = walk_by (\d+) bindings path$", names, re.M)[1])
+    threads, children = limit["THREAD_LIMIT"], limit["CHILD_LIMIT"]
+    datagrams, ports = limit["DATAGRAM_LIMIT"], limit["REGISTRATION_LIMIT"]
+    line, lines = limit["LINE_LIMIT"], limit["LINES_LIMIT"]
+    data = message - header
+    services = [
+        f"C000002F: its MessageSize is above {message} |",
+        f"or the path has more than {path} bytes.",
+        f"a link gives way to a path of more than {path} bytes, or is the {links + 1}rd on the way",
+        f"the process has {handles} handles, each of its threads that waits in a connect counted as one handle more; "
+        f"where two handles are wanted, {handles - 1} are too many",
+        f"a backslash in front of each, {path} at most.",
+        f"each of the at most {links} links.",
+        f"| {handles} handles of a process |",
+        f"| {datagrams} datagrams of a port |",
+        f"| {message} bytes of a message, {data} bytes of data or INFO |",
+        f"| {threads} live threads of a process |",
+        f"| {children} live children of a process |",
+        f"| {ports} ports of a thread |",
+        f"C0000044: the process has {threads} live threads |",
+        f"| C000002F | INFO has more than {data} bytes |",
+        f"| C0000044 | {datagrams} datagrams of the port aren't received |",
+        f"| C0000044 | the thread has registered {ports} other ports |",
+        f"counts on among the {ports},",
+        f"| C0000044 | the caller's process has {children} live children |",
+        f"| C0000044 | the process has {threads} live threads |",
+        f"a wait, the {datagrams} datagrams",
+        f"There are at least {header} bytes.",
+        f"MessageSize is at least DataSize + {header}.",
+        f"The table begins at {header} or later,",
+        f"MessageSize {header} + DataSize.",
+    ]
+    scripts = [
+        f"A line has at most {line:,} bytes;",
+        f"A script has at most {lines:,} lines.",
+        f"A message is a header of {header} bytes,",
+        f"MessageSize {header} + DataSize, and zeros |",
+        f"| 9 | the line has a byte {line + 1:,} | |",
+        f"| 10 | a line {lines + 1:,}: a byte of it,",
+        f"| decimal: {message} |",
+    ]
+    faults = [
+        f"A line has more than {line:,} bytes,",
+        f'print("#" * {line + 1})',
+        f"A script has at most {lines:,} lines. The fault is found with the first byte of line {lines + 1:,},",
+        f'print("#\\n" * {lines + 1}, end="")',
+        f"a message of {message} bytes takes {2 * message} digits.",
+    ]
+    profile = [
+        f"all limits: {handles} handles of a process, {datagrams} datagrams of a port, {message} bytes of a message, "
+        f"{data} of a connect's INFO, {threads} live threads and {children} live children of a process, {ports} ",
+        f"a closed port counts among the {ports} |",
+        f"A message's limit is {message} bytes for each port.",
+    ]
+    return {"SERVICES.md": services, "SCRIPTS.md": scripts, "FAULTS.md": faults, "PROFILE.md": profile}
+
+
+def limits():
+    """The sentences on limits; and that no further number stands in the prose of SERVICES.md that may be one."""
+    for page, wanted in sentences().items():
+        text = " ".join((pages.DOCS / page).read_text(encoding="utf-8").split())
+        for sentence in wanted:
+            yield f"{page}: {sentence}", [] if sentence in text else ["the page doesn't say so"]
+    rows = next(rows for heading, _, rows in tables(SERVICES) if heading == "Limits")
+    yield pinned("rows of limits", len(rows), LIMIT_COUNT)
+    prose = (line for line in pages.prose_of(pages.DOCS / "SERVICES.md") if not re.match(r"\| `\d", line))
+    text = re.sub(r"\]\([^)]*\)|^\[[\w-]+\]: .*", "", "\n".join(CODE.sub("", line) for line in prose), flags=re.M)
+    text = STATUS.sub("", text).split()
+    # The sentences, as they are left where statuses and code are out.
+    known = sum(len(re.findall(r"\b\d{2,}", STATUS.sub("", it))) for it in sentences()["SERVICES.md"])
+    # The number of a message's type, in the table of what the machine writes over.
+    others = [it for it in re.findall(r"\b\d{2,}", " ".join(text)) if it != "10"]
+    yield "SERVICES.md has no further limit", [] if len(others) == known else [f"{len(others)} numbers, not {known}"]
+
+
+def shortened(text):
+    """A pattern for a line of a transcript, of which a table shows the first and last bytes alone."""
+    return re.compile(".*".join(map(re.escape, text.split(".."))))
+
+
+def worked_table(rows, name, first, last):
+    """What is wrong with a worked table that shows the lines from `first` to `last` of an example."""
+    script, transcript = (
+        (pages.EXAMPLES / f"{name}.{it}").read_text(encoding="utf-8").splitlines() for it in ("script", "transcript")
+    )
+    wanted = list(range(first, last + 1))
+    shown = [int(row[0]) for row in rows if row[0]]
+    if shown != wanted:
+        yield f"it shows the lines {shown}, wanted are {wanted}"
+    for number, line in ((int(row[0]), CODE.findall(row[1])) for row in rows if row[0]):
+        if line != script[number - 1 : number]:
+            yield f"line {number} is {line}, in the script {script[number - 1 : number]}"
+    told = [text for row in rows for text in CODE.findall(row[2])]
+    entries = [it for it in transcript if first <= int(re.search(r"\d+", it)[0]) <= last or it.startswith("end ")]
+    entries = entries if told and told[-1].startswith("end ") else entries[:-1]
+    if len(told) != len(entries):
+        yield f"it shows {len(told)} lines of the transcript, wanted are {len(entries)}"
+    for text, line in zip(told, entries):
+        if not shortened(text).fullmatch(line):
+            yield f"it shows {text}, the transcript has {line}"
+
+
+def worked():
+    """The worked tables, against examples/."""
+    for page, examples in WORKED.items():
+        text = (pages.ROOT / page).read_text(encoding="utf-8")
+        found = [rows for _, head, rows in tables(text) if head[:3] == ["Line", "Script", "Transcript"]]
+        yield pinned(f"rows of worked tables in {page}", sum(map(len, found)), WORKED_ROWS[page])
+        yield pinned(f"worked tables in {page}", len(found), len(examples))
+        for rows, (name, first, last) in zip(found, examples):
+            yield f"{page}: {name}, lines {first} to {last}", list(worked_table(rows, name, first, last))
+
+
+def claims():
+    """The rows of docs/PROOFS.md that name what carries a claim: the crates of each, and its last cell."""
+    text, crates = (pages.DOCS / "PROOFS.md").read_text(encoding="utf-8"), []
+    for _, head, rows in tables(text):
+        if head == ["Crate", "What is proved", "Carried by"]:
+            for row in rows:
+                crates = CODE.findall(row[0]) or crates
+                yield crates, row[2]
+
+
+def carried(crates, cell, contracts):
+    """What a claim's cell names and the crates don't have. A list in brackets names clauses of the functions right in
+    front of it, or, where it stands behind other words, of any function of the crates."""
+    if re.search(r"` (?:of|in) `lpc_\w+`", cell):
+        crates = [*crates, *(it for it in CODE.findall(cell) if it.startswith("lpc_"))]
+    known = {}
+    for crate in crates:
+        for name, clauses in contracts[crate].items():
+            known.setdefault(name, set()).update(clauses)
+    types = {it.partition("::")[0] for it in known if "::" in it}
+    functions = []
+    for front, inside in re.findall(r"([^()]*)(?:\(([^()]*)\))?", cell):
+        named = [it for it in CODE.findall(front) if not it.startswith("lpc_")]
+        if re.search(r"\b(?:those eight|the others|the last three|each (?:service|of these))\b", front):
+            named, functions = [], list(known)
+        for name in named:
+            if name not in known and name not in types and not any(name in it for it in known.values()):
+                yield f"there is no {name} in {', '.join(crates)}"
+        functions = [it for it in known if it in named or it.partition("::")[0] in named] or functions
+        clauses = set().union(*(known[it] for it in functions)) if functions else set()
+        for clause in CODE.findall(inside or ""):
+            if clause not in clauses and clause not in known:
+                yield f"{clause} is no clause of {', '.join(named) or 'these functions'} in {', '.join(crates)}"
+
+
+def proofs():
+    """The last column of docs/PROOFS.md, against the contracts; and each clause of the top call is named there."""
+    rows = list(claims())
+    contracts = {crate: definitions.contracts(crate) for crates, _ in rows for crate in crates}
+    contracts.setdefault("lpc_script", definitions.contracts("lpc_script"))
+    yield pinned("claims", len(rows), CLAIM_COUNT)
+    for at, (crates, cell) in enumerate(rows):
+        yield f"PROOFS.md, claim {at + 1}: {cell[:60]}", list(carried(crates, cell, contracts))
+    named = [word for _, cell in rows if "run_words" in cell for word in sorted(set(CODE.findall(cell)))]
+    counts = {it: named.count(it) for it in sorted(contracts["lpc_replay"]["run_words"])}
+    wrong = [f"{it} is named in {count} claims" for it, count in counts.items() if count != 1]
+    yield "PROOFS.md names each clause of the top call in one claim", wrong
+
+
+def checks():
+    """All checks: each with its name and what it found wrong."""
+    for group in (status_names, refusals, limits, worked, proofs):
+        yield from group()
+
+
+def main():
+    passed = failed = 0
+    for name, found in checks():
+        failed += bool(found)
+        passed += not found
+        for fault in found:
+            print(f"FAILED: {name}: {fault}")
+    print(f"{passed} passed, {failed} failed")
+    return 1 if failed else 0
+
+
+if __name__ == "__main__":
+    sys.exit(main())
