@@ -37,6 +37,10 @@ ELSEWHERE = re.compile(r"[a-z]+:", re.I)
 COMMAND = re.compile(r"^\$ (.*)\n((?:(?!\$ ).*\n)*)", re.M)
 ESCAPE = re.compile(rb"\\(?:x([0-9A-Fa-f]{2})|(.))")
 ESCAPED = {b"t": b"\t", b"r": b"\r", b"n": b"\n", b"\\": b"\\"}
+# How many checks these groups make, so that what is no longer read is seen. Who adds an example line, an example, an
+# exercise or a script of docs/FAULTS.md changes the number.
+COUNTS = {"examples_of_services": 87, "worked_examples": 17, "exercises": 12, "faults": 46}
+LINKS_AT_LEAST = 200
 
 
 class Block:
@@ -114,6 +118,8 @@ def links():
     for page in PAGES:
         name = page.relative_to(ROOT).as_posix()
         yield f"the links of {name}", [it for it in (fault_of(page, link) for link in links_of(page)) if it]
+    count = sum(len(list(links_of(page))) for page in PAGES)
+    yield f"there are {LINKS_AT_LEAST} links at least", [] if count >= LINKS_AT_LEAST else [f"{count} were read"]
     reached = {(ROOT / it.partition("#")[0]).resolve() for it in links_of(ROOT / "README.md")}
     missing = [page.name for page in PAGES if page.parent == DOCS and page not in reached]
     yield "the README leads to each page", [f"it has no link to docs/{it}" for it in missing]
@@ -221,7 +227,11 @@ def terminals(command):
     with tempfile.TemporaryDirectory() as folder:
         for entry in ROOT.iterdir():
             os.symlink(entry, os.path.join(folder, entry.name))
-        for line, wanted in COMMAND.findall(shown):
+        commands = COMMAND.findall(shown)
+        prompts = (DOCS / "CHECK_YOUR_OWN.md").read_text(encoding="utf-8").count("\n$ ")
+        wrong = [] if len(commands) == prompts > 0 else [f"{len(commands)} of {prompts} were read"]
+        yield "CHECK_YOUR_OWN.md: the commands are read", wrong
+        for line, wanted in commands:
             ran = subprocess.run(["sh", "-c", line], cwd=folder, env=env, stdout=subprocess.PIPE, timeout=60)
             printed = ran.stdout.decode("utf-8", "backslashreplace")
             yield f"CHECK_YOUR_OWN.md: {line}", [] if printed == wanted else [f"it prints another text:\n{printed}"]
@@ -258,17 +268,23 @@ def faults(command):
             yield name, [] if good else [f"its transcript is another one:\n{printed}"]
 
 
+def counted(group, *given):
+    """The checks of a group, and that it made as many as there are."""
+    count = 0
+    for check in group(*given):
+        count += 1
+        yield check
+    wanted = COUNTS.get(group.__name__)
+    if wanted:
+        yield f"{group.__name__}: {wanted} checks", [] if count == wanted else [f"{count} were made"]
+
+
 def checks(command):
     """All checks: each with its name and what it found wrong."""
-    yield from links()
-    yield from version()
-    yield from manual()
-    yield from examples_of_services()
-    yield from worked_examples()
-    yield from exercises()
-    if command:
-        yield from faults(command)
-        yield from terminals(command)
+    for group in (links, version, manual, examples_of_services, worked_examples, exercises):
+        yield from counted(group)
+    for group in (faults, terminals) if command else ():
+        yield from counted(group, command)
 
 
 def main(command):
