@@ -115,7 +115,11 @@ fn replay<S: Source, K: Sink>(alloc: Global, source: &mut S, sink: &mut K) -> u8
 /// answer 64, send the usage line and read nothing.
 ///
 /// Whatever the status, what was sent is a front of the transcript of what was read, or of the usage line: nothing else
-/// is sent, and nothing twice. Where a write failed the status is 4, and where a read failed it isn't 0.
+/// is sent, and nothing twice. What is said here of bytes that were read or sent holds of a source and a sink that tell
+/// theirs.
+///
+/// Where the sink's count of failures changed the status is 4, and where the source's did it isn't 0. A failure that
+/// finds the count at its last value leaves it there, so of such a one this says nothing.
 ///
 /// Where the source fails, a rest that isn't ended by byte 10 is no line, since more of it may have been left. But a
 /// rest that passes a limit is a faulty line, whatever comes behind it: once its byte 16,385 was read, or once a byte
