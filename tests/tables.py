@@ -11,6 +11,7 @@
 - The worked tables of README.md and docs/CONNECTIONS.md have the lines of the scripts and transcripts in examples/.
 - Each function, clause and law that docs/PROOFS.md names as carrying a claim stands in that crate, and each clause of
   the top call is named there, in one claim.
+- Each name that the pages on definitions, proofs and code have as code stands below crates/, or is a file.
 
 How many rows each of these reads is pinned here, so that a table that isn't read is seen. Each check that fails has a
 line, and the last line is `N passed, M failed`. The exit status is 0 where all passed, 1 where not.
@@ -33,6 +34,9 @@ CODE = re.compile(r"`([^`]*)`")
 STATUS_COUNT, SHARED_COUNT, CALL_COUNT, DIRECTIVE_COUNT, LIMIT_COUNT = 18, 5, 17, 4, 6
 WORKED_ROWS = {"README.md": 8, "docs/CONNECTIONS.md": 30}
 CLAIM_COUNT = 44
+NAMED_IN = {"ARCHITECTURE.md": 700, "DECISIONS.md": 150, "DEFINITIONS.md": 1_300, "ISOLATION.md": 200, "PROOFS.md": 400}
+# What the pages name that is none of these: files that a new call has by its own name, and a tool with its words.
+PLACEHOLDERS = ("HeldName", "LinkedName", "SoundName", "SteadyName", "gate_seconds")
 # The definitions behind the words that tables share, and the first status of `path` that is met on the way.
 SHARED = {"handle": "port_test", "message": "message_test", "client": "client_test", "quota": "handles_test"}
 # The scripts of each worked table, in the order of the page's tables.
@@ -271,9 +275,24 @@ def proofs():
     yield "PROOFS.md names each clause of the top call in one claim", wrong
 
 
+def names_in_code():
+    """The names that stand as code in the pages on definitions, proofs and code, against the files below crates/."""
+    known = set(PLACEHOLDERS)
+    for file in (it for ending in ("rt", "antt", "edit") for it in definitions.CRATES.rglob(f"*.{ending}")):
+        text = file.read_text(encoding="utf-8")
+        known |= {*re.findall(r"[\w-]+", text), *re.findall(r"\w+", text), *file.parts, file.name, file.stem}
+    for page, least in NAMED_IN.items():
+        text = re.sub(r"^```.*?^```", "", (pages.DOCS / page).read_text(encoding="utf-8"), flags=re.M | re.S)
+        spans = [it for it in CODE.findall(text) if not (pages.ROOT / it).exists()]
+        names = [it for span in spans for it in re.findall(r"[A-Za-z_][\w-]{2,}(?:\.antt|\.rt)?", span)]
+        missing = sorted({it for it in names if it not in known})
+        yield f"the names in {page}", [f"{it} stands nowhere below crates/" for it in missing]
+        yield f"{page} has {least} names at least", [] if len(names) >= least else [f"{len(names)} were read"]
+
+
 def checks():
     """All checks: each with its name and what it found wrong."""
-    for group in (status_names, refusals, limits, worked, proofs):
+    for group in (status_names, refusals, limits, worked, proofs, names_in_code):
         yield from group()
 
 
