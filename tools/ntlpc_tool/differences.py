@@ -6,7 +6,7 @@ their thread. So an entry that is missing on one side makes no other line differ
 import dataclasses
 from typing import Optional, Tuple, Union
 
-from ntlpc_tool import facts, message, reasons, statuses
+from ntlpc_tool import facts, faults, message, reasons, statuses
 from ntlpc_tool.transcript import Closing, Entry
 
 # Parts of a message's header: the name as docs/SCRIPTS.md spells it, the field of Message, and what rules it.
@@ -428,8 +428,12 @@ def _closings_mean(here, there):
 
 def _rule_of_closings(here, there):
     """The rule for two last lines."""
-    if not here or not there or here.word != there.word:
+    if not here or not there:
         return reasons.rule("*", "last line")
+    if here.word != there.word:
+        kind = (here if here.word == "stop" else there).numbers[1]
+        has = "so the script stops there" if here.word == "stop" else "no line of the script has one"
+        return f"A fault of kind {kind} is {faults.name_of(kind)}; {has}.", reasons.FAULTS
     names = ("LINES", "OBJECTS", "ENTRIES") if here.word == "end" else ("LINE", "KIND")
     places = {"LINES": 0, "ENTRIES": 1, "OBJECTS": 2, "LINE": 0, "KIND": 1}
     for name in names:

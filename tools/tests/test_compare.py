@@ -193,9 +193,12 @@ class Kinds(unittest.TestCase):
         got = [*LINES[:3], "stop 4 5"]
         further = "from there on 3 lines of the script have entries in the {} transcript alone"
         says = f"the script has to run to its end, got `stop 4 5`; {further.format('wanted')}"
-        self.check(got, 4, says, reasons.TRANSCRIPT, "stops")
+        found = self.check(got, 4, says, reasons.FAULTS, "stops")
+        told = "A fault of kind 5 is a number out of form or range; "
+        self.assertEqual(found.rule[0], told + "no line of the script has one.")
         says = f"the script has to stop at line 4 with fault 5, got `end 6 7 4`; {further.format('got')}"
-        self.check(LINES, 4, says, reasons.TRANSCRIPT, "runs on", wanted=got)
+        found = self.check(LINES, 4, says, reasons.FAULTS, "runs on", wanted=got)
+        self.assertEqual(found.rule[0], told + "so the script stops there.")
 
     def test_another_fault(self):
         wanted, got = [*LINES[:3], "stop 4 5"], [*LINES[:3], "stop 4 4"]
