@@ -1,4 +1,7 @@
-"""The scripts of the suite and their transcripts, and how a line of a transcript is read."""
+"""The scripts of the suite and their transcripts, and what its commands have in common."""
+import argparse
+import fnmatch
+import os
 import pathlib
 import re
 import subprocess
@@ -9,11 +12,51 @@ ROOT = pathlib.Path(__file__).resolve().parent
 sys.path[:0] = [str(it) for it in (ROOT.parent / "tools", ROOT.parent) if (it / "ntlpc_tool").is_dir()]
 from ntlpc_tool.inputs import shown
 
-STOP = re.compile(rb"stop \d+ \d+\n\Z")
+STOP = re.compile(rb"(?:\A|\n)stop (\d{1,9}) (\d{1,9})\n\Z")
+USAGE_STATUS, INTERRUPTED = 64, 130
 
 
-class Broken(Exception):
+class Parser(argparse.ArgumentParser):
+    """A parser that ends with status 64 where the words are wrong."""
+
+    def error(self, message):
+        self.print_usage(sys.stderr)
+        self.exit(USAGE_STATUS, f"{self.prog}: {message}\n")
+
+
+def end(name, main):
+    """Runs a command of the suite, and ends with its status: 1 where its output or a file can't be written."""
+    if sys.stdout is None:
+        sys.exit(f"{name}: the standard output is closed")
+    sys.stdout.reconfigure(errors="backslashreplace")
+    try:
+        status = main()
+        sys.stdout.flush()
+    except KeyboardInterrupt:
+        status = INTERRUPTED
+    except Stopped as error:
+        print(f"{name}: {error}", file=sys.stderr)
+        status = 1
+    except OSError as error:
+        # Nothing more can be written, also not what Python has kept until it ends. A reader that has gone, as head
+        # does, has enough of it.
+        os.dup2(os.open(os.devnull, os.O_WRONLY), sys.stdout.fileno())
+        if not isinstance(error, BrokenPipeError):
+            what = error.filename or "the output"
+            print(f"{name}: {what} can't be written: {error.strerror}", file=sys.stderr)
+        status = 1
+    sys.exit(status)
+
+
+class Stopped(Exception):
+    """Why a command of the suite can't go on."""
+
+
+class Broken(Stopped):
     """A case of the suite that has no script or no transcript."""
+
+    def __init__(self, what):
+        super().__init__(f"the suite is broken here: {what}")
 
 
 class Case:
@@ -52,9 +95,20 @@ def cases(root=ROOT):
     return [Case(path, root) for path in sorted(found)]
 
 
+def chosen(patterns=None):
+    """The cases whose path fits one of the patterns of the shell; all where there is none."""
+    return [it for it in cases() if any(fnmatch.fnmatchcase(it.path, pattern) for pattern in patterns or ["*"])]
+
+
+def stop_of(transcript):
+    """The line and the kind of fault with which a transcript stops; None where it doesn't."""
+    found = STOP.search(transcript)
+    return (int(found[1]), int(found[2])) if found else None
+
+
 def status_of(transcript):
     """The exit status that goes with a transcript: 2 where its last line is `stop`, else 0."""
-    return 2 if STOP.search(transcript) else 0
+    return 2 if stop_of(transcript) else 0
 
 
 def comments(script):
@@ -65,3 +119,10 @@ def comments(script):
             break
         found.append(shown(line[1:]).strip())
     return found
+
+
+def about(script):
+    """What a script says of itself in its first comments: what it tests, and where the rules of that stand."""
+    found = comments(script)
+    places = [it.removeprefix("Rule:").strip() for it in found if it.startswith("Rule:")]
+    return [f"tests: {it}" for it in found[:1]] + [f"see: {it}" for it in places]

@@ -1,0 +1,310 @@
+"""The commands of the suite: what is left out, how failures are grouped and told, and what can't be done."""
+import json
+import os
+import pathlib
+import subprocess
+import sys
+import unittest
+import xml.etree.ElementTree as xml
+
+import support
+
+SUITE = support.ROOT / "conformance"
+sys.path.insert(0, str(SUITE))
+import judge
+import needs
+import suite
+
+EXAMPLE = [sys.executable, str(SUITE / "example.py")]
+# Of thread/ the example passes 8 scripts, 2 need calls that it doesn't have, and one shows its wrong rule.
+WRONG = "thread/a-used-number-comes-before-the-limit"
+SHORT = "boot/a-process-with-its-first-thread"
+
+
+def command(name, *words, **how):
+    """Runs a command of the suite; the result has `returncode`, `stdout` and `stderr` as text."""
+    how = {"capture_output": True, "text": True, "timeout": 120, **how}
+    return subprocess.run([SUITE / name, *map(str, words)], **how)
+
+
+def run(*words, **how):
+    return command("run", *words, **how)
+
+
+def last(ran):
+    """The closing line of a run."""
+    return ran.stdout.splitlines()[-1]
+
+
+class Needs(unittest.TestCase):
+    """Which calls and directives a script needs, and which a program says that it doesn't have."""
+
+    def test_a_script_needs_what_its_lines_name(self):
+        script = b"# NtClose\nboot 20 24\n\n24 NtCreatePort NtListenPort\n 24  NtQueryObject 4\n"
+        self.assertEqual(needs.of(script, b"end 5 3 3\n"), {"boot", "NtCreatePort", "NtQueryObject"})
+
+    def test_what_stands_behind_the_faulty_line_is_not_needed(self):
+        script = b"boot 20 24\n24 NtClose\ndir \\A\n"
+        self.assertEqual(needs.of(script, b"1 - boot 00000000\nstop 2 4\n"), {"boot", "NtClose"})
+
+    def test_a_fault_that_is_found_before_the_words_needs_no_call(self):
+        for line, kind in ((b"24 NtClose 4\t", 1), (b"24 NtClose " + b"4" * 16384, 9)):
+            script = b"boot 20 24\n" + line + b"\n"
+            self.assertEqual(needs.of(script, b"1 - boot 00000000\nstop 2 %d\n" % kind), {"boot"})
+        for thread in (b"0", b"024", b"0X18", b"2147483648", b"4294967296", b"24x", b"9" * 5000):
+            self.assertEqual(needs.of(thread + b" NtClose 4\n", b"stop 1 5\n"), set())
+        self.assertEqual(needs.of(b"0x18 NtClose 4\n", b"1 24 nothread\nend 1 1 0\n"), {"NtClose"})
+
+    def test_bytes_that_are_no_text_name_nothing(self):
+        self.assertEqual(needs.of(b"\xff\xfe 1\n24 \xff\n24\n-\n", b"stop 1 1\n"), set())
+
+    def test_a_program_knows_no_name_where_it_says_so_of_that_line(self):
+        script = b"boot 20 24\n24 NtClose 4\nlink \\A \\B\n"
+        self.assertEqual(needs.unknown_at(script, b"stop 2 3\n"), "NtClose")
+        self.assertEqual(needs.unknown_at(script, b"1 - boot 00000000\nstop 3 2\n"), "link")
+        for other in (b"stop 2 2", b"stop 3 3", b"stop 2 5", b"stop 4 3", b"stop 0 3", b"end 3 2 2"):
+            self.assertIsNone(needs.unknown_at(script, other + b"\n"), other)
+        self.assertIsNone(needs.unknown_at(script, b"stop 2 3"))
+
+    def test_each_probe_is_well_formed_and_names_one_thing(self):
+        for name in needs.NAMES:
+            self.assertEqual(needs.of(needs.probe(name), b"end 1 1 0\n"), {name})
+        self.assertEqual(needs.not_built(lambda script: b"stop 1 3\n"), [it for it in needs.NAMES if it[0] == "N"])
+        self.assertEqual(needs.not_built(lambda script: b""), [])
+
+    @support.needs_program
+    def test_the_program_knows_all(self):
+        from ntlpc_tool import program
+
+        found = program.find()
+        self.assertEqual(needs.not_built(lambda script: program.replay(found, script).printed), [])
+        for name in needs.NAMES:
+            self.assertEqual(program.replay(found, needs.probe(name)).status, 0, name)
+
+
+class Skips(unittest.TestCase):
+    def test_what_is_not_built_is_left_out_and_counted_apart(self):
+        ran = run("--built", "--only", "thread/*", *EXAMPLE)
+        self.assertEqual((ran.returncode, last(ran)), (1, "8 passed, 1 failed, 2 skipped"))
+        self.assertIn("left out: what needs dir, link, NtConnectPort, ", ran.stdout)
+        self.assertEqual(ran.stdout.count("of the transcript differs"), 1)
+
+    def test_without_takes_names_and_may_stand_twice(self):
+        for words in (["--without", "NtRequestPort,NtReplyWaitReceivePort"], ["--without", "NtRequestPort"] * 2):
+            words += ["--without", "NtReplyWaitReceivePort"]
+            ran = run(*words, "--only", "thread/*", *EXAMPLE)
+            self.assertEqual((ran.returncode, last(ran)), (1, "8 passed, 1 failed, 2 skipped"))
+        self.assertIn("left out: what needs NtRequestPort, NtReplyWaitReceivePort\n", ran.stdout)
+
+    def test_where_all_is_left_out_no_script_was_run(self):
+        ran = run("--without", "boot", "--only", SHORT, *EXAMPLE)
+        self.assertEqual(ran.returncode, 1)
+        self.assertTrue(ran.stdout.endswith("no script was run\n0 passed, 0 failed, 1 skipped\n"))
+
+    def test_where_nothing_is_left_out_that_is_told_too(self):
+        ran = run("--without", "NtClose", "--only", SHORT, *EXAMPLE)
+        self.assertEqual((ran.returncode, last(ran)), (0, "1 passed, 0 failed, 0 skipped"))
+
+    def test_a_program_that_breaks_down_is_not_taken_for_one_without_calls(self):
+        ran = run("--built", "--only", "boot/*", "false")
+        self.assertEqual((ran.returncode, last(ran)), (1, "0 passed, 9 failed, 0 skipped"))
+
+    def test_it_is_told_that_scripts_can_be_left_out(self):
+        ran = run("--only", "thread/*", *EXAMPLE)
+        told = "doesn't know (NtReplyWaitReceivePort, NtRequestPort): 2;"
+        self.assertIn(told, " ".join(ran.stdout.split()))
+        self.assertEqual(last(ran), "8 passed, 3 failed")
+
+    def test_only_may_stand_twice(self):
+        whole = sum(int(last(run("--only", it, *EXAMPLE)).split()[0]) for it in (SHORT, "lines/an-empty-script"))
+        both = run("--only", SHORT, "--only", "lines/an-empty-*", "--only", "boot/a-process-with-*", *EXAMPLE)
+        self.assertEqual((whole, last(both)), (2, "2 passed, 0 failed"))
+
+
+class Blocks(support.WithFolder):
+    """What is told of a script that fails, and how failures are grouped."""
+
+    def judged(self, script, wanted, printed):
+        return judge.of_printed(script, wanted, printed)
+
+    def test_the_rule_is_the_one_that_is_broken(self):
+        ran = run("--only", WRONG, *EXAMPLE)
+        self.assertIn("    see: SERVICES.md, thread TID PID: C0000035, C0000044\n", ran.stdout)
+        self.assertIn("    rule: thread tests c0000035 ", ran.stdout)
+        self.assertIn("          (SERVICES.md, Directives)\n", ran.stdout)
+
+    def test_a_line_of_no_form_breaks_the_form_of_transcripts(self):
+        found = self.judged(b"boot 20 24\n", b"1 - boot 00000000\nend 1 1 2\n", b"1 - boot C0000035\nend 1 1 2\n")
+        self.assertEqual((found.cause.means, found.line), (judge.NO_TRANSCRIPT, 1))
+        self.assertIn("its form: the status `C0000035` isn't 8 hexadecimal digits in lower case", found.told)
+
+    def test_a_faulty_line_that_runs_on_is_one_whatever_is_printed_for_it(self):
+        found = self.judged(b"0 NtCreatePort -\n", b"stop 1 5\n", b"1 0 nothread\nend 1 1 0\n")
+        self.assertTrue(found.cause.means.startswith("it takes a faulty line for well formed: kind 5"))
+
+    def test_a_fault_that_comes_before_the_name_is_no_matter_of_what_is_built(self):
+        found = self.judged(b"24 NtClose 4\t\n", b"stop 1 1\n", b"stop 1 3\n")
+        self.assertTrue(found.cause.means.endswith("kind 1 is told as kind 3"))
+        self.assertIsNone(found.cause.unknown)
+        found = self.judged(b"24 NtClose\n", b"stop 1 4\n", b"stop 1 3\n")
+        self.assertEqual(found.cause.unknown, "NtClose")
+
+    def test_a_line_of_no_form_behind_the_difference_changes_nothing(self):
+        wanted = b"1 - boot 00000000\n2 - boot c0000035\nend 2 2 2\n"
+        found = self.judged(b"boot 20 24\nboot 20 28\n", wanted, b"1 - boot 00000000\n2 - boot 00000000\nwhat\n")
+        self.assertIn("boot is refused with c0000035", found.cause.rule)
+
+    def test_a_missing_last_byte_is_told(self):
+        found = self.judged(b"", b"end 0 0 0\n", b"end 0 0 0")
+        self.assertIn("(without byte 10 at its end)", "\n".join(found.told))
+
+    def test_faults_are_told_apart_by_kind_and_call(self):
+        script = b"boot 20 24\n24 NtClose 4\n"
+        wanted = b"1 - boot 00000000\n2 24 NtClose c0000008\nend 2 2 2\n"
+        means = self.judged(script, wanted, b"1 - boot 00000000\nstop 2 5\n").cause.means
+        self.assertTrue(means.endswith("kind 5, a number out of form or range, in a line of NtClose"), means)
+        means = self.judged(script, b"stop 1 4\n", b"stop 1 5\n").cause.means
+        self.assertTrue(means.endswith("kind 4 is told as kind 5"), means)
+        means = self.judged(script, b"stop 1 5\n", wanted).cause.means
+        self.assertTrue(means.endswith("kind 5, a number out of form or range, in a line of boot"), means)
+        means = self.judged(script, wanted, b"1 - boot 00000000\n").cause.means
+        self.assertTrue(means.endswith("in a line of NtClose"), means)
+
+    def test_a_summary_has_a_block_for_each_cause(self):
+        folder = pathlib.Path(self.folder.name)
+        for case in (SHORT, "boot/a-process-number-is-used-once", "boot/a-thread-number-is-used-once", WRONG):
+            (folder / case).parent.mkdir(exist_ok=True)
+            ran = subprocess.run([*EXAMPLE, "replay"], input=self.script_of(case), capture_output=True)
+            (folder / f"{case}.transcript").write_bytes(ran.stdout.replace(b"boot c0000035", b"boot c0000044"))
+        only = [it for pattern in ("boot/a-*-used-once", SHORT, WRONG) for it in ("--only", pattern)]
+        ran = run("--transcripts", folder, "--summary", *only)
+        told = ran.stdout.splitlines()
+        self.assertEqual((ran.returncode, told[-1]), (1, "1 passed, 3 failed"))
+        self.assertTrue(told[0].startswith("2 scripts: it refuses the call for another cause"))
+        self.assertIn("rule: boot is never refused with c0000044. It is with c0000035 where", told[1])
+        shortest = min(("boot/a-process-number-is-used-once", "boot/a-thread-number-is-used-once"), key=self.size_of)
+        self.assertIn(f"    the shortest is {shortest}", told)
+        self.assertIn(f"    the shortest is {WRONG}", told)
+        self.assertEqual(ran.stdout.count("of the transcript differs"), 2)
+
+    def script_of(self, case):
+        return suite.Case(case).script()
+
+    def size_of(self, case):
+        return sum(not it.startswith(b"#") for it in self.script_of(case).splitlines())
+
+
+class Files(support.WithFolder):
+    """The files with results, the suite as data, and transcripts made elsewhere."""
+
+    def test_json_has_each_script(self):
+        file = self.file("results.json", b"what stood there" * 1000)
+        run("--built", "--only", "thread/*", "--json", file, *EXAMPLE)
+        found = json.loads(pathlib.Path(file).read_bytes())
+        self.assertEqual([found[it] for it in ("passed", "failed", "skipped")], [8, 1, 2])
+        failed = [it for it in found["scripts"] if it["result"] == "failed"]
+        self.assertEqual([it["script"] for it in failed], [WRONG])
+        self.assertEqual((failed[0]["line"], failed[0]["wanted"]), (68, "68 - thread c0000035"))
+        self.assertEqual((failed[0]["printed"], failed[0]["page"]), ("68 - thread c0000044", "SERVICES.md, Directives"))
+        skipped = {it["script"]: it["needs"] for it in found["scripts"] if it["result"] == "skipped"}
+        self.assertEqual(skipped["thread/threads-that-wait-are-live-threads"], ["NtReplyWaitReceivePort"])
+
+    def test_junit_has_what_was_skipped(self):
+        file = str(pathlib.Path(self.folder.name) / "new.xml")
+        run("--built", "--only", "thread/*", "--junit", file, *EXAMPLE)
+        top = xml.parse(file).getroot()
+        self.assertEqual([top.get(it) for it in ("tests", "failures", "skipped")], ["11", "1", "2"])
+        self.assertEqual(len(top.findall("testcase/skipped")), 2)
+
+    def test_a_file_that_cannot_be_written_is_refused_before_the_run(self):
+        file = pathlib.Path(self.folder.name) / "ran"
+        for option in ("--json", "--junit"):
+            ran = run("--only", SHORT, option, self.folder.name, "sh", "-c", f"touch {file}")
+            self.assertEqual((ran.returncode, ran.stdout, file.exists()), (64, "", False))
+            self.assertIn(f"{self.folder.name} can't be written: Is a directory\n", ran.stderr)
+
+    @unittest.skipUnless(os.path.exists("/dev/full"), "this system has no /dev/full")
+    def test_a_full_disk_is_told(self):
+        ran = run("--only", SHORT, "--json", "/dev/full", *EXAMPLE)
+        self.assertEqual((ran.returncode, ran.stdout), (1, "1 passed, 0 failed\n"))
+        self.assertEqual(ran.stderr, "conformance/run: /dev/full can't be written: No space left on device\n")
+        for words in (("run", "--only", SHORT, *EXAMPLE), ("export", f"{self.folder.name}/new", "--only", SHORT)):
+            with open("/dev/full", "wb") as sink:
+                ran = command(*words, capture_output=False, stdout=sink, stderr=subprocess.PIPE)
+            told = f"conformance/{words[0]}: the output can't be written: No space left on device\n"
+            self.assertEqual((ran.returncode, ran.stderr), (1, told))
+
+    def test_an_output_that_is_closed_is_told(self):
+        for name, words in (("run", EXAMPLE), ("coverage", []), ("export", [f"{self.folder.name}/new"])):
+            closed = ["sh", "-c", 'exec "$@" >&-', "sh", SUITE / name, *words]
+            ran = subprocess.run(closed, capture_output=True, text=True)
+            self.assertEqual((ran.returncode, ran.stderr), (1, f"conformance/{name}: the standard output is closed\n"))
+
+    def test_the_suite_is_exported_and_judged(self):
+        folder = pathlib.Path(self.folder.name) / "suite"
+        ran = command("export", "--only", SHORT, "--only", WRONG, folder)
+        self.assertEqual((ran.returncode, ran.stdout), (0, "2 scripts and their transcripts written\n"))
+        script = folder / f"{WRONG}.script"
+        self.assertEqual(script.read_bytes(), suite.Case(WRONG).script())
+        self.assertEqual((folder / f"{SHORT}.script").read_bytes(), (SUITE / f"{SHORT}.script").read_bytes())
+        only = ("--only", SHORT, "--only", WRONG)
+        ran = run("--transcripts", folder, *only)
+        self.assertEqual((ran.returncode, ran.stdout), (0, "2 passed, 0 failed\n"))
+        ran = subprocess.run([*EXAMPLE, "replay"], input=script.read_bytes(), capture_output=True)
+        script.with_suffix(".transcript").write_bytes(ran.stdout)
+        ran = run("--transcripts", folder, *only)
+        self.assertEqual((ran.returncode, last(ran)), (1, "1 passed, 1 failed"))
+        self.assertIn("printed: 68 - thread c0000044\n", ran.stdout)
+        script.with_suffix(".transcript").unlink()
+        self.assertIn("its transcript can't be read: No such file", run("--transcripts", folder, *only).stdout)
+
+    def test_an_export_overwrites_nothing(self):
+        file = self.file("mine", b"")
+        for place, told in ((self.folder.name, "isn't empty"), (file, "is no folder")):
+            ran = command("export", "--only", SHORT, place)
+            self.assertEqual((ran.returncode, ran.stdout), (64, ""))
+            self.assertTrue(ran.stderr.endswith(f"conformance/export: {place} {told}\n"), ran.stderr)
+        ran = command("export", "--only", SHORT, f"{file}/below")
+        self.assertEqual(ran.returncode, 1)
+        self.assertIn("can't be written: Not a directory\n", ran.stderr)
+        self.assertEqual(os.listdir(self.folder.name), ["mine"])
+
+    def test_an_export_of_nothing_fails(self):
+        ran = command("export", "--only", "none", f"{self.folder.name}/new")
+        self.assertEqual((ran.returncode, ran.stdout), (1, "0 scripts and their transcripts written\n"))
+
+
+class WrongWords(support.WithFolder):
+    def test_each_has_a_message(self):
+        folder = self.folder.name
+        wrong = {
+            (): "a program is missing",
+            ("--only", "boot/*"): "a program is missing",
+            ("/nonexistent",): "/nonexistent is no program that can be run",
+            ("--without", "NtFoo", "true"): "'NtFoo' is no call and no directive",
+            ("--without", "NtClose,", "true"): "'' is no call and no directive",
+            ("--transcripts", "/nonexistent"): "/nonexistent is no folder",
+            ("--transcripts", folder, "true"): "--transcripts and a program can't both be given",
+            ("--transcripts", folder, "--built"): "--built asks a program",
+            ("--junit", f"{folder}/a", "--json", f"{folder}/./a", "true"): "--junit and --json name the same file",
+        }
+        for words, told in wrong.items():
+            ran = run(*words)
+            self.assertEqual((ran.returncode, ran.stdout), (64, ""), words)
+            self.assertIn(told, ran.stderr)
+        self.assertEqual(os.listdir(folder), [])
+
+    def test_those_of_coverage_have_one_too(self):
+        ran = command("coverage", "/nonexistent")
+        self.assertEqual((ran.returncode, ran.stdout), (64, ""))
+        self.assertTrue(ran.stderr.endswith("conformance/coverage: /nonexistent is no program that can be run\n"))
+        self.assertEqual(command("coverage", "--unknown").returncode, 64)
+        broken = self.file("broken", b"\x7fELF")
+        os.chmod(broken, 0o755)
+        ran = command("coverage", broken)
+        self.assertEqual((ran.returncode, ran.stdout), (1, ""))
+        self.assertIn(f"{broken} can't be started: ", ran.stderr)
+
+
+if __name__ == "__main__":
+    unittest.main()
