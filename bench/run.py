@@ -4,8 +4,13 @@
     bench/run.py [PROGRAM]
 
 PROGRAM is crates/ntlpc/out/ntlpc where it isn't given. Each script is run once; the table goes to standard output.
+
+The exit status is 0, also where a run of the program ended otherwise, which the table tells; 64 where the words of this
+call are wrong.
 """
+import argparse
 import os
+import shutil
 import subprocess
 import sys
 import tempfile
@@ -136,8 +141,29 @@ def measured(program, script):
     return seconds, memory, child.returncode
 
 
+class Parser(argparse.ArgumentParser):
+    """A parser that ends with status 64 where the words are wrong."""
+
+    def error(self, message):
+        self.print_usage(sys.stderr)
+        self.exit(64, f"{self.prog}: {message}\n")
+
+
+def read_words():
+    """The program."""
+    how = {"description": __doc__, "formatter_class": argparse.RawDescriptionHelpFormatter}
+    parser = Parser(prog="bench/run.py", usage="%(prog)s [PROGRAM]", **how)
+    built = os.path.join(HERE, "..", "crates", "ntlpc", "out", "ntlpc")
+    parser.add_argument("program", metavar="PROGRAM", nargs="?", default=built, help="the program that is measured")
+    program = parser.parse_args().program
+    found = shutil.which(program)
+    if not found:
+        parser.error(f"{program} is no program that can be run")
+    return os.path.abspath(found)
+
+
 def main():
-    program = sys.argv[1] if len(sys.argv) > 1 else os.path.join(HERE, "..", "crates", "ntlpc", "out", "ntlpc")
+    program = read_words()
     print("| Script | Lines | Seconds | Lines a second | Peak memory, MiB | Status |")
     print("|---|---|---|---|---|---|")
     with tempfile.TemporaryDirectory() as folder:

@@ -3,7 +3,6 @@ import argparse
 import fnmatch
 import os
 import pathlib
-import re
 import subprocess
 import sys
 
@@ -12,12 +11,17 @@ ROOT = pathlib.Path(__file__).resolve().parent
 sys.path[:0] = [str(it) for it in (ROOT.parent / "tools", ROOT.parent) if (it / "ntlpc_tool").is_dir()]
 from ntlpc_tool.inputs import shown
 
-STOP = re.compile(rb"(?:\A|\n)stop (\d{1,9}) (\d{1,9})\n\Z")
 USAGE_STATUS, INTERRUPTED = 64, 130
 
 
 class Parser(argparse.ArgumentParser):
-    """A parser that ends with status 64 where the words are wrong."""
+    """A parser that ends with status 64 where the words are wrong, and whose help isn't lost without a word."""
+
+    def _print_message(self, message, file=None):
+        if file is sys.stdout:
+            file.write(message)
+        else:
+            super()._print_message(message, file)
 
     def error(self, message):
         self.print_usage(sys.stderr)
@@ -30,7 +34,11 @@ def end(name, main):
         sys.exit(f"{name}: the standard output is closed")
     sys.stdout.reconfigure(errors="backslashreplace")
     try:
-        status = main()
+        try:
+            status = main()
+        except SystemExit as ended:
+            # Of the parser, which has printed its help, or told what is wrong with the words.
+            status = ended.code
         sys.stdout.flush()
     except KeyboardInterrupt:
         status = INTERRUPTED
@@ -56,7 +64,7 @@ class Broken(Stopped):
     """A case of the suite that has no script or no transcript."""
 
     def __init__(self, what):
-        super().__init__(f"the suite is broken here: {what}")
+        super().__init__(f"the suite is broken: {what}")
 
 
 class Case:
@@ -98,17 +106,6 @@ def cases(root=ROOT):
 def chosen(patterns=None):
     """The cases whose path fits one of the patterns of the shell; all where there is none."""
     return [it for it in cases() if any(fnmatch.fnmatchcase(it.path, pattern) for pattern in patterns or ["*"])]
-
-
-def stop_of(transcript):
-    """The line and the kind of fault with which a transcript stops; None where it doesn't."""
-    found = STOP.search(transcript)
-    return (int(found[1]), int(found[2])) if found else None
-
-
-def status_of(transcript):
-    """The exit status that goes with a transcript: 2 where its last line is `stop`, else 0."""
-    return 2 if stop_of(transcript) else 0
 
 
 def comments(script):

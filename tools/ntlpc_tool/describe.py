@@ -20,6 +20,13 @@ NUMBERS = {
 LABEL = 19
 
 
+def counted(number, word):
+    """A number and what it counts: `1 line`, `2 lines`, `0 entries`."""
+    if number == 1:
+        return f"1 {word}"
+    return f"{number} {word[:-1]}ies" if word.endswith("y") else f"{number} {word}s"
+
+
 def encoding_of(data):
     """How bytes spell text: `ascii` or `utf-16-le`, perhaps with zeros behind it; None where they spell none.
 

@@ -11,9 +11,8 @@ import support
 
 SUITE = support.ROOT / "conformance"
 sys.path.insert(0, str(SUITE))
-import judge
-import needs
 import suite
+from ntlpc_tool import judge, needs, program
 
 EXAMPLE = [sys.executable, str(SUITE / "example.py")]
 # Of thread/ the example passes 8 scripts, 2 need calls that it doesn't have, and one shows its wrong rule.
@@ -74,8 +73,6 @@ class Needs(unittest.TestCase):
 
     @support.needs_program
     def test_the_program_knows_all(self):
-        from ntlpc_tool import program
-
         found = program.find()
         self.assertEqual(needs.not_built(lambda script: program.replay(found, script).printed), [])
         for name in needs.NAMES:
@@ -228,7 +225,8 @@ class Files(support.WithFolder):
         ran = run("--only", SHORT, "--json", "/dev/full", *EXAMPLE)
         self.assertEqual((ran.returncode, ran.stdout), (1, "1 passed, 0 failed\n"))
         self.assertEqual(ran.stderr, "conformance/run: /dev/full can't be written: No space left on device\n")
-        for words in (("run", "--only", SHORT, *EXAMPLE), ("export", f"{self.folder.name}/new", "--only", SHORT)):
+        export = ("export", f"{self.folder.name}/new", "--only", SHORT)
+        for words in (("run", "--only", SHORT, *EXAMPLE), ("run", "--help"), ("coverage", "--help"), export):
             with open("/dev/full", "wb") as sink:
                 ran = command(*words, capture_output=False, stdout=sink, stderr=subprocess.PIPE)
             told = f"conformance/{words[0]}: the output can't be written: No space left on device\n"
@@ -243,7 +241,7 @@ class Files(support.WithFolder):
     def test_the_suite_is_exported_and_judged(self):
         folder = pathlib.Path(self.folder.name) / "suite"
         ran = command("export", "--only", SHORT, "--only", WRONG, folder)
-        self.assertEqual((ran.returncode, ran.stdout), (0, "2 scripts and their transcripts written\n"))
+        self.assertEqual((ran.returncode, ran.stdout), (0, "written: scripts with their transcripts, 2\n"))
         script = folder / f"{WRONG}.script"
         self.assertEqual(script.read_bytes(), suite.Case(WRONG).script())
         self.assertEqual((folder / f"{SHORT}.script").read_bytes(), (SUITE / f"{SHORT}.script").read_bytes())
@@ -271,7 +269,7 @@ class Files(support.WithFolder):
 
     def test_an_export_of_nothing_fails(self):
         ran = command("export", "--only", "none", f"{self.folder.name}/new")
-        self.assertEqual((ran.returncode, ran.stdout), (1, "0 scripts and their transcripts written\n"))
+        self.assertEqual((ran.returncode, ran.stdout), (1, "written: scripts with their transcripts, 0\n"))
 
 
 class WrongWords(support.WithFolder):
@@ -304,6 +302,25 @@ class WrongWords(support.WithFolder):
         ran = command("coverage", broken)
         self.assertEqual((ran.returncode, ran.stdout), (1, ""))
         self.assertIn(f"{broken} can't be started: ", ran.stderr)
+
+
+class Bench(unittest.TestCase):
+    """The words of what measures the program."""
+
+    def bench(self, *words):
+        return subprocess.run([support.ROOT / "bench" / "run.py", *words], capture_output=True, text=True, timeout=60)
+
+    def test_help_is_told_and_nothing_is_run(self):
+        ran = self.bench("--help")
+        self.assertEqual((ran.returncode, ran.stderr), (0, ""))
+        self.assertIn("usage: bench/run.py [PROGRAM]\n", ran.stdout)
+        self.assertNotIn("| Script |", ran.stdout)
+
+    def test_wrong_words_have_a_message(self):
+        for words, told in {("/nonexistent",): "/nonexistent is no program that can be run", ("a", "b"): "b"}.items():
+            ran = self.bench(*words)
+            self.assertEqual((ran.returncode, ran.stdout), (64, ""))
+            self.assertIn(told, ran.stderr)
 
 
 if __name__ == "__main__":

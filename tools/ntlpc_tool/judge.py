@@ -10,9 +10,7 @@ import textwrap
 import threading
 from typing import Optional, Tuple
 
-import needs
-import suite
-from ntlpc_tool import differences, faults, forms, message, reasons, transcript
+from ntlpc_tool import differences, faults, forms, message, needs, reasons, transcript
 from ntlpc_tool.inputs import cut, shown
 
 MUCH = 1 << 20
@@ -98,7 +96,7 @@ def of_run(script, wanted, command, timeout):
     except OSError as error:
         return of_told(f"it could not be started: {error.strerror}")
     failure = of_printed(script, wanted, ran.printed)
-    ended = how_it_ended(ran, suite.status_of(wanted), timeout)
+    ended = how_it_ended(ran, 2 if needs.stop_of(wanted) else 0, timeout)
     if not failure and not ended:
         return None
     told = [*(failure.told if failure else ()), *([ended] if ended else [])]
@@ -180,7 +178,7 @@ def script_line(line):
 def cause_of(script, wanted, printed, number):
     """What the first difference, which is in line `number` of the transcript, means, and the rule that it breaks."""
     unknown = needs.unknown_at(script, printed)
-    if unknown in needs.of(script, wanted) and suite.stop_of(printed) != suite.stop_of(wanted):
+    if unknown in needs.of(script, wanted) and needs.stop_of(printed) != needs.stop_of(wanted):
         what = "call" if unknown in forms.CALLS else "directive"
         rule = f"{forms.form_of(unknown)} is a line of the language."
         return Cause(f"it says that it has no {what} {unknown}", rule, f"{reasons.SCRIPTS}, Lines", unknown)
@@ -188,7 +186,7 @@ def cause_of(script, wanted, printed, number):
     try:
         got = transcript.read(printed)
     except transcript.Malformed as wrong:
-        if wrong.number <= number and not (suite.stop_of(wanted) and number > len(right.entries)):
+        if wrong.number <= number and not (needs.stop_of(wanted) and number > len(right.entries)):
             return Cause(NO_TRANSCRIPT, "Each line of a transcript has one of these forms.", reasons.TRANSCRIPT)
         got = well_formed(printed, wrong.number)
     found = differences.between(right, got)

@@ -1,12 +1,12 @@
 """Which calls and directives a script needs, and which ones a program says that it doesn't have."""
 import re
 
-import suite
 from ntlpc_tool import forms, placing, script_lines
 
 NAMES = (*forms.DIRECTIVES, *forms.CALLS)
 MOST_THREAD = 2_147_483_647
 NUMBER = re.compile(rb"0|[1-9][0-9]{0,9}|0x[0-9A-Fa-f]{1,8}")
+STOP = re.compile(rb"(?:\A|\n)stop (\d{1,9}) (\d{1,9})\n\Z")
 # The kinds of faults that are looked for before a line's words.
 BEFORE_WORDS = (placing.BYTE, placing.LONG, placing.LINES)
 # The kinds with which a program says that it knows no such word.
@@ -35,17 +35,23 @@ def _known(word, names):
     return text if text in names else None
 
 
+def stop_of(transcript):
+    """The line and the kind of fault with which a transcript stops; None where it doesn't."""
+    found = STOP.search(transcript)
+    return (int(found[1]), int(found[2])) if found else None
+
+
 def of(script, transcript):
     """The calls and directives that a program has to know for a script, as its right transcript tells: what stands
     behind a faulty line isn't read, and neither are the words of a line whose fault is looked for before them."""
-    line, kind = suite.stop_of(transcript) or (None, None)
+    line, kind = stop_of(transcript) or (None, None)
     lines = script.split(b"\n")[: line and line - (kind in BEFORE_WORDS)]
     return {it for it in map(name_in, lines) if it}
 
 
 def unknown_at(script, transcript):
     """The call or directive at which a transcript stops since the program knows none of this name; else None."""
-    line, kind = suite.stop_of(transcript) or (0, None)
+    line, kind = stop_of(transcript) or (0, None)
     lines = script.split(b"\n")
     name = name_in(lines[line - 1]) if 1 <= line <= len(lines) else None
     return name if name and kind == UNKNOWN[name in forms.CALLS] else None

@@ -1,4 +1,4 @@
-"""How the scripts of the suite ended, and the files and lists that tell it."""
+"""How scripts with known transcripts ended, and the files and lists that tell it."""
 import dataclasses
 import json
 import os
@@ -7,18 +7,18 @@ import stat
 import xml.etree.ElementTree as xml
 from typing import Optional, Tuple
 
-import judge
-import suite
+from ntlpc_tool import describe, judge
 
 NO_XML = re.compile("[^\t\n\r\x20-\ud7ff\ue000-\ufffd\U00010000-\U0010ffff]")
 
 
 @dataclasses.dataclass(frozen=True)
 class Result:
-    """How one case ended. `lacks` names the calls and directives for want of which it wasn't run; a case that was run
-    passed where there is no failure. `about` is what the script says of itself, `size` its lines without comments."""
+    """How the case at a path ended. `lacks` names the calls and directives for want of which it wasn't run; one that
+    was run passed where there is no failure. `about` is what the script says of itself, `size` its lines without
+    comments."""
 
-    case: suite.Case
+    path: str
     seconds: float
     lacks: Tuple[str, ...] = ()
     failure: Optional[judge.Failure] = None
@@ -44,19 +44,19 @@ def groups(failed):
     found = {}
     for result in failed:
         found.setdefault(result.failure.cause, []).append(result)
-    sorted_ones = [sorted(it, key=lambda one: (one.size, one.case.path)) for it in found.values()]
-    return sorted(sorted_ones, key=lambda group: (-len(group), group[0].case.path))
+    sorted_ones = [sorted(it, key=lambda one: (one.size, one.path)) for it in found.values()]
+    return sorted(sorted_ones, key=lambda group: (-len(group), group[0].path))
 
 
 def tell_groups(results):
     """Prints each group of failed cases: how many, what they have in common, the rule, and the shortest script."""
     for group in groups([it for it in results if it.failure]):
         first = group[0]
-        many = "1 script" if len(group) == 1 else f"{len(group)} scripts"
         rule = first.failure.cause.lines()
         told = (*first.about, *(it for it in first.failure.told if it not in rule))
-        print(f"{many}: {first.failure.cause.means}", *(f"    {it}" for it in rule), sep="\n")
-        print(f"    the shortest is {first.case.path}", *(f"        {it}" for it in told), "", sep="\n")
+        print(f"{describe.counted(len(group), 'script')}: {first.failure.cause.means}")
+        print(*(f"    {it}" for it in rule), sep="\n", end="\n" * bool(rule))
+        print(f"    the shortest is {first.path}", *(f"        {it}" for it in told), "", sep="\n")
 
 
 class Sink:
@@ -81,7 +81,7 @@ def as_junit(results):
     counts["time"] = f"{sum(it.seconds for it in results):.3f}"
     top = xml.Element("testsuite", name="conformance", **counts)
     for result in results:
-        folder, _, name = result.case.path.rpartition("/")
+        folder, _, name = result.path.rpartition("/")
         place = {"classname": folder or "conformance", "name": name, "time": f"{result.seconds:.3f}"}
         case = xml.SubElement(top, "testcase", place)
         if result.lacks:
@@ -101,7 +101,7 @@ def as_json(results):
 
 def _object(result):
     """One case as JSON has it."""
-    found = {"script": result.case.path, "result": result.outcome(), "seconds": round(result.seconds, 3)}
+    found = {"script": result.path, "result": result.outcome(), "seconds": round(result.seconds, 3)}
     if result.lacks:
         found["needs"] = list(result.lacks)
     failure = result.failure
