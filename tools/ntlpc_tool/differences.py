@@ -6,7 +6,7 @@ their thread. So an entry that is missing on one side makes no other line differ
 import dataclasses
 from typing import Optional, Tuple, Union
 
-from ntlpc_tool import facts, faults, message, reasons, statuses
+from ntlpc_tool import describe, facts, faults, message, reasons, statuses
 from ntlpc_tool.transcript import Closing, Entry
 
 # Parts of a message's header: the name as docs/SCRIPTS.md spells it, the field of Message, and what rules it.
@@ -386,8 +386,9 @@ def _of_closing(wanted, got, sides, ends):
     behind = [sum(it >= ends[not side] for it in sides[side]) for side in (0, 1)]
     says = _closings_say(here, there)
     if behind[0] or behind[1]:
-        side = "wanted" if behind[0] else "got"
-        says += f"; from there on {max(behind)} lines of the script have entries in the {side} transcript alone"
+        side, have = "wanted" if behind[0] else "got", "has" if max(behind) == 1 else "have"
+        lines = describe.counted(max(behind), "line")
+        says += f"; from there on {lines} of the script {have} entries in the {side} transcript alone"
     return [Difference(line, here, there, says, _rule_of_closings(here, there), _closings_mean(here, there))]
 
 

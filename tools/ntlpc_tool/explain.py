@@ -7,7 +7,7 @@ import difflib
 import re
 import unicodedata
 
-from ntlpc_tool import absent, forms, inputs, placing
+from ntlpc_tool import absent, describe, forms, inputs, placing
 
 MARKS = {b"\xff\xfe": "UTF-16", b"\xfe\xff": "UTF-16", b"\xef\xbb\xbf": "UTF-8"}
 CALLS = ", ".join(forms.CALLS)
@@ -152,12 +152,12 @@ class Explanation:
         told = [f"the form is {form}"] if form else []
         if self.place.begin < self.place.end:
             extra = len(self.words) - self.place.word
-            return [*told, f"{extra} word{'s' * (extra > 1)} too many", *self.extra_words()]
+            return [*told, f"{describe.counted(extra, 'word')} too many", *self.extra_words()]
         if len(self.words) == 1 and not form:
             return [f"the call is missing behind the thread's number: {CALLS}"]
         missing = placing.missing_words(self.probe, self.line)
         lacks = self.form[len(self.words) : len(self.words) + (missing or 0)]
-        count = f"{missing} word{'s' * (missing > 1)}" if missing else "words"
+        count = describe.counted(missing, "word") if missing else "words"
         return [*told, f"{count} missing at the end{': ' if lacks else ''}{' '.join(lacks)}"]
 
     def extra_words(self):

@@ -304,4 +304,5 @@ def _closing_text(closing):
     """What the last line tells."""
     if closing.word == "stop":
         return "line {}: fault {}, the script stops".format(*closing.numbers)
-    return "end: {} lines, {} entries, {} objects left".format(*closing.numbers)
+    told = (describe.counted(*it) for it in zip(closing.numbers, ("line", "entry", "object")))
+    return f"end: {', '.join(told)} left"

@@ -200,6 +200,10 @@ class Kinds(unittest.TestCase):
         found = self.check(LINES, 4, says, reasons.FAULTS, "runs on", wanted=got)
         self.assertEqual(found.rule[0], told + "so the script stops there.")
 
+    def test_one_line_that_stands_on_one_side_alone(self):
+        says = "the last line is missing; from there on 1 line of the script has entries in the wanted transcript alone"
+        self.check(LINES[:5], 6, says, reasons.TRANSCRIPT, "broken off")
+
     def test_another_fault(self):
         wanted, got = [*LINES[:3], "stop 4 5"], [*LINES[:3], "stop 4 4"]
         self.check(got, 4, "KIND 5 is wanted, got 4", reasons.FAULTS, "KIND", wanted=wanted)

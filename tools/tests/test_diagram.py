@@ -86,7 +86,7 @@ class Events(unittest.TestCase):
         lines = ["5 24 NtRequestPort 00000000 id=7", "end 5 1 3"]
         wanted = [
             "Note over T24: 5 datagram 7 sent, not received",
-            "Note over T24: end: 5 lines, 1 entries, 3 objects left",
+            "Note over T24: end: 5 lines, 1 entry, 3 objects left",
         ]
         self.assertEqual(mermaid(lines)[1:], wanted)
 
@@ -192,7 +192,7 @@ class Events(unittest.TestCase):
 
     def test_a_transcript_without_threads(self):
         self.assertEqual(
-            mermaid(["1 - dir 00000000", "end 1 1 0"]), ["%% 1 dir", "%% end: 1 lines, 1 entries, 0 objects left"]
+            mermaid(["1 - dir 00000000", "end 1 1 0"]), ["%% 1 dir", "%% end: 1 line, 1 entry, 0 objects left"]
         )
 
     def test_threads_of_a_process_stand_side_by_side(self):

@@ -21,7 +21,7 @@ import shlex
 import subprocess
 import textwrap
 
-from ntlpc_tool import differences, inputs, message, program, renaming, script_lines, transcript
+from ntlpc_tool import describe, differences, inputs, message, program, renaming, script_lines, transcript
 from ntlpc_tool.transcript import Closing
 
 NAME = "compare"
@@ -159,6 +159,5 @@ def place(difference):
 def counted(found, wanted):
     """How many differences there are."""
     if not found:
-        entries = len(wanted.entries)
-        return f"no difference in {entries} {'entry' if entries == 1 else 'entries'}"
-    return f"{len(found)} difference{'s' * (len(found) > 1)}"
+        return f"no difference in {describe.counted(len(wanted.entries), 'entry')}"
+    return describe.counted(len(found), "difference")
