@@ -64,11 +64,12 @@ class Words(support.WithFolder):
 
     @unittest.skipUnless(os.path.exists("/dev/full"), "this system has no /dev/full")
     def test_a_disk_that_is_full_has_one_line(self):
-        with open("/dev/full", "wb") as sink:
-            tool = [sys.executable, support.TOOLS / "ntlpc-tool", "json", TRANSCRIPT]
-            ran = subprocess.run(tool, stdout=sink, stderr=subprocess.PIPE, text=True, timeout=60)
-        self.assertEqual(ran.returncode, 2)
-        self.assertRegex(ran.stderr, r"\Antlpc-tool: the output can't be written: .+\n\Z")
+        for words in (("json", TRANSCRIPT), ("--help",), ("json", "--help"), ("--version",)):
+            with open("/dev/full", "wb") as sink:
+                tool = [sys.executable, support.TOOLS / "ntlpc-tool", *words]
+                ran = subprocess.run(tool, stdout=sink, stderr=subprocess.PIPE, text=True, timeout=60)
+            self.assertEqual(ran.returncode, 2, words)
+            self.assertRegex(ran.stderr, r"\Antlpc-tool: the output can't be written: .+\n\Z")
 
 
 class Installed(support.WithFolder):
