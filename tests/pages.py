@@ -141,12 +141,18 @@ def manual():
     forms = first_cells(scripts, "## Lines")
     told = re.findall(r"^\.TP\n\.B (.*)$", page[page.index(".SH SCRIPT") : page.index(".SH TRANSCRIPT")], re.M)
     yield "the lines in ntlpc.1", [] if told == forms else [f"{told}, wanted are {forms}"]
-    names, wanted = (list(map(name_of, it)) for it in (first_cells(readme, "## What can be scripted"), forms))
+    names, wanted = names_of_families(readme), list(map(name_of, forms))
     yield "the lines in the README", [] if names == wanted else [f"{names}, wanted are {wanted}"]
     wanted = re.findall(r"^\| (\d+) \| ([^|]*) \|$", readme.replace("`", ""), re.M)
     entries = re.findall(r"^\.B (\d+)\n((?:[^.].*\n)+)", re.sub(r"\\f[BR]", "", page), re.M)
     told = [(number, " ".join(text.split())) for number, text in entries]
     yield "the statuses in ntlpc.1", [] if told == wanted else [f"{told}, wanted are {wanted}"]
+
+
+def names_of_families(readme):
+    """The calls and directives that the README names, family by family."""
+    table = readme[readme.index("| Family |") :].partition("\n\n")[0]
+    return [name for row in table.splitlines() for name in re.findall(r"`(\w+)`", row)]
 
 
 def first_cells(text, heading):
