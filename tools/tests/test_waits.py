@@ -30,7 +30,8 @@ class Waits(unittest.TestCase):
     def test_each_row_stands_in_its_transcript(self):
         for call, returns, found in rows():
             with self.subTest(call, returns=returns):
-                self.assertTrue(self.died_waiting(call, found) if returns[0] == "n" else self.woke(call, returns, found))
+                shown = self.woke(call, returns, found) if STATUS.match(returns) else self.died_waiting(call, found)
+                self.assertTrue(shown)
 
     def woke(self, call, returns, found):
         """Whether a wake has the status and the fields of a row, an empty `info` where it says so."""
