@@ -6,7 +6,7 @@ is run over these where a symbol is used that no earlier run has told.
 import re
 import string
 
-from ntlpc_tool import inputs, message, script_lines, statuses, transcript
+from ntlpc_tool import faults, inputs, message, script_lines, statuses, transcript
 
 BINDING = re.compile(r" *\$([A-Za-z_][A-Za-z0-9_]*) += +(.*)")
 NAME = re.compile(r"@([A-Za-z_][A-Za-z0-9_]*)")
@@ -15,6 +15,7 @@ WHOLE_REPLY = re.compile(r"r:\$([A-Za-z_][A-Za-z0-9_]*):(.*)")
 PART = r"(\$[A-Za-z_][A-Za-z0-9_]*(?:\.[a-z]+)?|[^:.$]*)"
 REPLY = re.compile(rf"r:{PART}\.{PART}\.{PART}:(.*)")
 FIRST_NUMBER, NUMBERS_APART = 20, 4
+MOST_TOLD = 300
 # What a symbol alone stands for, where that isn't the handle that its call gave.
 IDENTIFIED = ("NtRequestPort", "NtRequestWaitReplyPort")
 RECEIVES = ("NtListenPort", "NtReplyWaitReceivePort")
@@ -23,10 +24,12 @@ OF_MESSAGE = {"process": "process", "thread": "thread", "id": "message_id"}
 
 
 class Wrong(Exception):
-    """Why a trace doesn't become a script: the number of its line, and what is wrong there."""
+    """Why a trace doesn't become a script: the number of its line, and what is wrong there. A trace may be any file, so
+    what stands there is told as it can be printed, and cut."""
 
     def __init__(self, line, reason):
-        super().__init__(f"line {line}: {reason}")
+        plain = "".join(it if it.isprintable() and it.isascii() else f"\\x{ord(it):02x}" for it in reason)
+        super().__init__(f"line {line}: {inputs.cut(plain, MOST_TOLD)}")
         self.line = line
 
 
@@ -229,6 +232,5 @@ class Trace:
         closing = self._told.closing
         if closing and closing.word == "stop":
             line, kind = closing.numbers
-            raise Wrong(
-                line, f"the line `{inputs.shown(self.script[line - 1].encode('latin-1'))}` is faulty, kind {kind}"
-            )
+            text = inputs.cut(self.script[line - 1], 120)
+            raise Wrong(line, f"the line `{text}` is faulty, kind {kind} ({faults.name_of(kind)})")

@@ -205,7 +205,14 @@ class Lines(unittest.TestCase):
 
     def test_a_faulty_line(self):
         told = self.wrong(BOOT, ("@main NtFoo", None), further=["stop 2 3"])
-        self.assertEqual(told, "line 2: the line `24 NtFoo` is faulty, kind 3")
+        told_kind = "kind 3 (the second word is the name of no call)"
+        self.assertEqual(told, f"line 2: the line `24 NtFoo` is faulty, {told_kind}")
+
+    def test_a_file_that_is_no_text_is_told_in_plain_and_short(self):
+        for data in (b"@\x00\xff$a\n" * 1000, b"\x1b[2J @a.\x07\n", b"@" + b"\x00" * 5000 + b"\n"):
+            with self.assertRaises(trace.Wrong) as wrong:
+                trace.Trace(data, lambda script: transcript.Transcript((), None)).lines()
+            self.assertTrue(str(wrong.exception).isprintable() and len(str(wrong.exception)) < 330)
 
 
 class Command(support.WithFolder):
@@ -237,7 +244,13 @@ class Command(support.WithFolder):
     def test_a_faulty_script_is_told(self):
         ran = support.run("script", support.ROOT / "examples" / "faulty-line.script")
         self.assertEqual((ran.returncode, ran.stdout), (1, ""))
-        self.assertIn("line 4: the line `24 NtReplyPort 08 d:` is faulty, kind 5\n", ran.stderr)
+        self.assertIn("line 4: the line `24 NtReplyPort 08 d:` is faulty, kind 5 (a number out of ", ran.stderr)
+
+    @support.needs_program
+    def test_a_binary_file_is_told_in_one_line(self):
+        ran = support.run("script", "-", source=bytes(range(256)) * 40)
+        self.assertEqual((ran.returncode, ran.stdout), (1, ""))
+        self.assertRegex(ran.stderr, r"\Antlpc-tool script: the standard input, line 1: [ -~]{1,330}\n\Z")
 
     @support.needs_program
     def test_lines_are_kept_as_comments(self):

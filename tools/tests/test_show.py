@@ -96,6 +96,13 @@ class Show(support.WithFolder):
         self.assertIn("type                5 (port closed)", told)
         self.assertIn("(thread 36, the port that it made as number 1)", told)
 
+    def test_a_file_that_is_not_its_script_is_refused(self):
+        transcript = support.ROOT / "examples" / "first-request.transcript"
+        ran = support.run("show", "--script", self.file("binary", bytes(range(256)) * 9), transcript)
+        self.assertEqual((ran.returncode, ran.stdout), (2, ""))
+        told = "is not the script of this transcript: line 1 has an entry there, and has a byte outside 32 to 126\n"
+        self.assertTrue(ran.stderr.startswith("ntlpc-tool show: ") and ran.stderr.endswith(told), ran.stderr)
+
     def test_a_faulty_line_is_named(self):
         told = support.run("show", source=b"1 - boot 00000000\nstop 4 5\n").stdout
         self.assertIn("stop: line 4 is faulty, kind 5: a number out of form or range", told)

@@ -29,11 +29,20 @@ def run(arguments):
         script = inputs.lines_of(inputs.read(arguments.script))
     if arguments.transcript is not None or script is None:
         found = transcript.load(arguments.transcript or "-")
+        check_script(arguments.script, script or [], found)
     else:
         found, status = transcript_of(program.find(arguments.program), b"\n".join(script) + b"\n" * bool(script))
     for line in told(found, script):
         print(line)
     return status
+
+
+def check_script(path, script, found):
+    """Tests that a file may be the script of a transcript: a line that has an entry has no byte outside 32 to 126."""
+    for number in sorted({it.line for it in found.entries if it.line <= len(script)}):
+        if not all(32 <= it <= 126 for it in script[number - 1]):
+            why = f"line {number} has an entry there, and has a byte outside 32 to 126"
+            raise inputs.Misuse(f"{inputs.name_of(path)} is not the script of this transcript: {why}")
 
 
 def transcript_of(name, script):
