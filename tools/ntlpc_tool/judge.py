@@ -99,14 +99,20 @@ def of_run(script, wanted, command, timeout):
     ended = how_it_ended(ran, 2 if needs.stop_of(wanted) else 0, timeout)
     if not failure and not ended:
         return None
-    told = [*(failure.told if failure else ()), *([ended] if ended else [])]
-    if ran.said.strip():
-        told.append(f"its standard error ends: {shown(ran.said.strip().splitlines()[-1][-200:])}")
-    # A program that was ended, or broke down, is told apart by that; what it printed last is chance.
-    if not failure or ended and (ran.late or ran.talks or ran.status < 0):
+    if ended and (ran.late or ran.talks or ran.status < 0):
+        # It was ended, or broke down, and is told apart by that; what it printed last is chance.
+        rule = failure.cause.lines() if failure else []
+        told = [it for it in failure.told if it not in rule] if failure else []
+        failure = dataclasses.replace(failure or of_told(ended), cause=Cause(ended), told=(*told, ended))
+    elif not failure:
         cause = Cause(ended, *STATUS)
-        failure = dataclasses.replace(failure, cause=cause) if failure else Failure(cause, ())
-    return dataclasses.replace(failure, told=tuple(told))
+        failure = Failure(cause, (ended, *cause.lines()))
+    elif ended:
+        failure = dataclasses.replace(failure, told=(*failure.told, ended))
+    if ran.said.strip():
+        said = f"its standard error ends: {shown(ran.said.strip().splitlines()[-1][-200:])}"
+        failure = dataclasses.replace(failure, told=(*failure.told, said))
+    return failure
 
 
 def printed_by(command, script, timeout):

@@ -151,6 +151,18 @@ class Blocks(support.WithFolder):
         found = self.judged(b"boot 20 24\nboot 20 28\n", wanted, b"1 - boot 00000000\n2 - boot 00000000\nwhat\n")
         self.assertIn("boot is refused with c0000035", found.cause.rule)
 
+    def test_a_program_that_breaks_down_breaks_no_rule(self):
+        for code, told in (("kill -9 $$", "it ended with signal 9"), ("sleep 9", "it did not end within 0.5 seconds")):
+            ran = run("--timeout", "0.5", "--only", SHORT, "sh", "-c", code)
+            self.assertIn(f"    {told}", ran.stdout)
+            self.assertNotIn("rule:", ran.stdout)
+
+    def test_a_status_alone_has_its_rule(self):
+        wanted = (SUITE / f"{SHORT}.transcript").read_text()
+        ran = run("--only", SHORT, "sh", "-c", f"printf '{wanted}'; echo why >&2; exit 1")
+        told = ["it ended with status 1, status 0 is wanted", "rule: A program ends with status 2 where ", "why"]
+        self.assertEqual([it in ran.stdout for it in told], [True] * 3, ran.stdout)
+
     def test_a_missing_last_byte_is_told(self):
         found = self.judged(b"", b"end 0 0 0\n", b"end 0 0 0")
         self.assertIn("(without byte 10 at its end)", "\n".join(found.told))
