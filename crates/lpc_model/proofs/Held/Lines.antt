@@ -19,7 +19,7 @@ use Rattle.lpc_model.proofs.Steps.Registrations.{back-more, push-each, same-each
 use Rattle.lpc_model.proofs.Steps.Rows.{count-change}
 use Rattle.lpc_model.proofs.Sound.Basics.{sound-ordinal, sound-process}
 use Rattle.lpc_model.proofs.Sound.Frees.{fewer-pass}
-use Rattle.lpc_model.proofs.Steps.Steady.{AreSteady, steady-await, steady-enter, steady-receipt, steady-receive}
+use Rattle.lpc_model.proofs.Steps.Steady.{AreSteady, steady-ask, steady-await, steady-enter, steady-receipt, steady-receive, steady-send}
 use Rattle.lpc_model.proofs.Held.FreedPort.{unheld_ports}
 use Rattle.lpc_model.proofs.Calls.Usable.{CanCall}
 use Rattle.lpc_model.specs.Basics.{AddsHandle, AddsProcess, AddsThread, Basic, Binds, Dies, DrawsIdentifier, DrawsOrdinal, DropsHandle, Makes, Registers, Tells, Withdraws, basic, in_turn, no_handles, past_identifier, past_ordinal, with_handle, world_after}
@@ -33,7 +33,7 @@ use Rattle.lpc_model.specs.Found.{all_registrations, free_handle, handle_count, 
 use Rattle.lpc_model.specs.Lines.{ScriptLine}
 use Rattle.lpc_model.specs.Linked.{AreLivesHeld, HasHeldPorts, HasHeldRows}
 use Rattle.lpc_model.specs.Machine.{bare_steps, directive_birth, new_process, new_thread}
-use Rattle.lpc_model.specs.Request.{datagram_start, datagram_steps, receive_steps, request_start, request_steps, sent_by}
+use Rattle.lpc_model.specs.Request.{datagram_steps, receive_steps, request_steps, sent_by}
 use Rattle.lpc_model.specs.SoundWaits.{IsSoundWorld}
 use Rattle.lpc_model.specs.Sweep.{loosened, loosens, unheld}
 use Rattle.lpc_model.specs.Targets.{LIFE_ACCESS}
@@ -268,8 +268,8 @@ module _ (Q : World → Type 0) (k : KeepsRows Q) where
     refuses = λ context bytes a at quiet. absurd (cc);
     accepts = λ context bytes a at quiet. absurd (cc);
     completes = λ handle c at quiet. absurd (cc);
-    sends = λ handle bytes s at. k.steady w (datagram_steps by s.port s.queue (sent_by by DATAGRAM s.message) w) (steady-enter (row_of s.queue s.port (sent_by by DATAGRAM s.message)) (world_after w (datagram_start by)));
-    asks = λ handle bytes s at. let m = sent_by by REQUEST s.message in k.steady w (request_steps by s.port s.queue m w) (steady-enter (row_of s.queue s.port m) (world_after w (request_start by s.port.birth s.queue m)));
+    sends = λ handle bytes s at. k.steady w (datagram_steps by s.port s.queue (sent_by by DATAGRAM s.message) w) (steady-send w by s);
+    asks = λ handle bytes s at. k.steady w (request_steps by s.port s.queue (sent_by by REQUEST s.message) w) (steady-ask w by s);
     replies = λ handle bytes port m x at read fits quiet. absurd (cc);
     receives = λ handle bytes o port queue replied m r at. k.steady w (receive_steps by port queue replied (Some m)) (steady-receive w by handle bytes o port queue replied m r);
     awaits_message = λ handle bytes o port queue replied r at. k.steady w (receive_steps by port queue replied None) (steady-await w by handle bytes o port queue replied r);

@@ -1,4 +1,4 @@
--- The calls that make and join ports keep ports linked: a port that is made is new, a connect leads to a port that names nothing.
+-- Calls that make and join ports keep ports linked: such a port is new, and a connect is to one that names nothing.
 use Rattle.lpc_base.proofs.Births.{birth-same}
 use Rattle.lpc_base.proofs.RowMaps.{every-both, every-first, every-none}
 use Rattle.lpc_base.proofs.RowWords.{every-more, every-push, first-passes}

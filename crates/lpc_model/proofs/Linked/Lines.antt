@@ -25,13 +25,12 @@ use Rattle.lpc_model.specs.Close.{close_steps}
 use Rattle.lpc_model.specs.Connect.{ConnectAnswer, answer_test, complete_steps, listen_steps, names_connect, refuse_steps}
 use Rattle.lpc_model.specs.Counts.{asked, duplicate_steps}
 use Rattle.lpc_model.specs.Creation.{making_process, making_thread}
-use Rattle.lpc_model.specs.Entering.{row_of}
 use Rattle.lpc_model.specs.Found.{free_handle}
 use Rattle.lpc_model.specs.Lines.{ScriptLine}
 use Rattle.lpc_model.specs.Linked.{is_root_port}
 use Rattle.lpc_model.specs.Machine.{bare_steps, directive_birth, new_process, new_thread, step}
 use Rattle.lpc_model.specs.Named.{named_port}
-use Rattle.lpc_model.specs.Request.{datagram_start, datagram_steps, receive_steps, reply_steps, request_start, request_steps, sent_by}
+use Rattle.lpc_model.specs.Request.{datagram_steps, receive_steps, reply_steps, request_steps, sent_by}
 use Rattle.lpc_model.proofs.Steps.Ending.{AreEnding, answered_end, is_ending, steps-end}
 use Rattle.lpc_model.proofs.Calls.Holding.{holds_ok}
 use Rattle.lpc_model.proofs.Calls.Lines.{AnyWorld, IsCalled, Keep, LineLaw, line-does}
@@ -39,7 +38,7 @@ use Rattle.lpc_model.proofs.Linked.Calls.{accepted-linked, connected-linked, nam
 use Rattle.lpc_model.proofs.Linked.Close.{handle-plain}
 use Rattle.lpc_model.proofs.Calls.Outcomes.{Outcomes}
 use Rattle.lpc_model.proofs.Calls.Tested.{named-wait}
-use Rattle.lpc_model.proofs.Steps.Steady.{steady-await, steady-enter, steady-receipt, steady-receive}
+use Rattle.lpc_model.proofs.Steps.Steady.{steady-ask, steady-await, steady-receipt, steady-receive, steady-send}
 
 -- what ends is plain
 pub ending-plain : (b : Basic) → is_ending b ≡ true → is_plain b ≡ true
@@ -65,8 +64,8 @@ linked-calls by w is = record {
   refuses = λ context bytes a at. plain-all w (refuse_steps by a) refl;
   accepts = λ context bytes a at. accepted-linked w by context (free_handle w by.process) a.message a.wait (holds_ok (λ (a : ConnectAnswer). first (names_connect w by a.message) w.waits ≡ Some a.wait) (answer_test w by bytes) a (named-wait w by bytes) at) is.can is.sound;
   completes = λ handle c at. plain-all w (complete_steps by (free_handle w c.wait.process) c) refl;
-  sends = λ handle bytes s at. steady-all w (datagram_steps by s.port s.queue (sent_by by DATAGRAM s.message) w) (steady-enter (row_of s.queue s.port (sent_by by DATAGRAM s.message)) (world_after w (datagram_start by)));
-  asks = λ handle bytes s at. let m = sent_by by REQUEST s.message in steady-all w (request_steps by s.port s.queue m w) (steady-enter (row_of s.queue s.port m) (world_after w (request_start by s.port.birth s.queue m)));
+  sends = λ handle bytes s at. steady-all w (datagram_steps by s.port s.queue (sent_by by DATAGRAM s.message) w) (steady-send w by s);
+  asks = λ handle bytes s at. steady-all w (request_steps by s.port s.queue (sent_by by REQUEST s.message) w) (steady-ask w by s);
   replies = λ handle bytes port m x at read fits. plain-all w (reply_steps by x m) refl;
   receives = λ handle bytes o port queue replied m r at. steady-all w (receive_steps by port queue replied (Some m)) (steady-receive w by handle bytes o port queue replied m r);
   awaits_message = λ handle bytes o port queue replied r at. steady-all w (receive_steps by port queue replied None) (steady-await w by handle bytes o port queue replied r);

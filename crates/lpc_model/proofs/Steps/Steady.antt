@@ -1,17 +1,16 @@
--- Steps that are steady whatever the world: they make no port, process, thread or handle, and join none. So a message enters,
--- and so it is received.
+-- Steps that are steady whatever the world: they make no port, process, thread or handle, and join none. So messages
+-- enter, and are received.
 use Rattle.std.proofs.Common.{◌≡◌, ℕ, List, [], ◌∷◌, ◌++◌, Bool, true, false, Option, Some, None, refl}
 use Rattle.lpc_base.specs.Rows.{every, first, given, when}
 use Rattle.lpc_base.proofs.RowWords.{every-append}
 use Rattle.lpc_base.specs.declared.status.TheConstants.{SUCCESS}
 use Rattle.lpc_model.specs.World.{Birth, Message, MessageRow, PortRow, ThreadRow, WaitRow, World}
-use Rattle.lpc_model.specs.Request.{given_reply, receive_steps, reply_test}
+use Rattle.lpc_message.specs.declared.kind.TheConstants.{DATAGRAM, REQUEST}
+use Rattle.lpc_model.specs.Request.{Sendable, datagram_start, datagram_steps, given_reply, receive_steps, reply_test, request_start, request_steps, sent_by}
 use Rattle.lpc_model.proofs.Calls.Holding.{Holds, bind_holds, holds_ok}
 use Rattle.lpc_model.proofs.Calls.Outcomes.{IsReceiving}
-use Rattle.lpc_model.specs.Basics.{Basic}
-use Rattle.lpc_model.specs.Entering.{received_steps}
-use Rattle.lpc_model.specs.Entering.{enter, given_steps, shown, takes, woken}
-use Rattle.lpc_model.specs.Basics.{Receives}
+use Rattle.lpc_model.specs.Basics.{Basic, Receives, world_after}
+use Rattle.lpc_model.specs.Entering.{enter, given_steps, received_steps, row_of, shown, takes, woken}
 use Rattle.lpc_model.specs.Message.{asks}
 use Rattle.lpc_model.proofs.Sound.Worlds.{by_kind}
 use Rattle.lpc_model.proofs.Linked.Steps.{is_steady}
@@ -43,6 +42,13 @@ steady-enter m w = at (first (takes m) w.waits)
     at : (o : Option WaitRow) → AreSteady (given o (λ x. given_steps x m ++ woken SUCCESS (shown x m) x ∷ []))
     at None = refl
     at (Some x) = steady-given m x
+
+-- so messages are sent
+pub steady-send : (w : World) (by : ThreadRow) (s : Sendable) → AreSteady (datagram_steps by s.port s.queue (sent_by by DATAGRAM s.message) w)
+steady-send w by s = steady-enter (row_of s.queue s.port (sent_by by DATAGRAM s.message)) (world_after w (datagram_start by))
+
+pub steady-ask : (w : World) (by : ThreadRow) (s : Sendable) → AreSteady (request_steps by s.port s.queue (sent_by by REQUEST s.message) w)
+steady-ask w by s = let m = sent_by by REQUEST s.message in steady-enter (row_of s.queue s.port m) (world_after w (request_start by s.port.birth s.queue m))
 
 -- Receives
 replied-steady : (w : World) (port : PortRow) (m : Option Message) → Holds AreSteady (given_reply w port m)
