@@ -1,6 +1,6 @@
 -- A port that is made: the steps as they are taken one by one, and the steps of the definition.
 use Rattle.std.proofs.Common.{◌≡◌, ℕ, Bool, List, [], ◌∷◌, ◌++◌, Option, Some, None, option_map, Result, Ok, Err, IfOk, IsOk, refl, ap, sym, ◌∙◌}
-use Rattle.lpc_base.specs.Rows.{first}
+use Rattle.std.proofs.lemmas.Option.{same_Some}
 use Rattle.lpc_base.specs.declared.birth.Birth.{Birth}
 use Rattle.lpc_base.specs.declared.status.Status.{Status}
 use Rattle.lpc_base.specs.declared.status.TheConstants.{SUCCESS}
@@ -11,7 +11,7 @@ use Rattle.lpc_model.specs.declared.entry.Outcome.TheVariants.{Answered}
 use Rattle.lpc_model.specs.Basics.{AddsHandle, Basic, DrawsOrdinal, basic, entries_of, outcome_of, world_after}
 use Rattle.lpc_model.specs.Connect.{create_steps, making, named_steps, nt_create_port, unnamed_steps}
 use Rattle.lpc_model.specs.Fields.{h}
-use Rattle.lpc_model.specs.Found.{free_handle, is_thread, port_name}
+use Rattle.lpc_model.specs.Found.{free_handle, port_name}
 use Rattle.lpc_model.specs.Machine.{settled}
 use Rattle.lpc_model.specs.Named.{free_name}
 use Rattle.lpc_model.specs.Sweep.{loosened}
@@ -19,15 +19,19 @@ use Rattle.lpc_model.specs.Then.{◌>>=◌}
 use Rattle.lpc_model.specs.Tests.{PORT_ACCESS, handle_row, handles_test, next_birth}
 use Rattle.lpc_model.specs.World.{Path, ThreadRow, World}
 use Rattle.lpc_model.proofs.Steps.InTurn.{after-append}
+use Rattle.lpc_procs.specs.declared.rows.Caller.{Caller}
+use Rattle.lpc_connect.specs.Calls.{HasCaller}
+use Rattle.lpc_rows.specs.Callers.{as_caller, shown_caller}
+use Rattle.lpc_rows.specs.Clauses.{thread_row}
 use Rattle.lpc_rows.specs.Does.{Left, left_by}
 
--- the birth that a thread draws is its next
-pub drawn-birth : (w : World) (t : ThreadRow) (b : Birth) → first (is_thread t.number) w.threads ≡ Some t → option_map next_birth (first (is_thread t.number) w.threads) ≡ Some b → b ≡ next_birth t
-drawn-birth w t b row drawn = ap (else_next t) (sym drawn ∙ ap (λ o. option_map next_birth o) row)
+-- the birth that a caller draws is its next
+pub drawn-birth : (w : World) (c : Caller) (b : Birth) → HasCaller w c → option_map next_birth (thread_row w c.number) ≡ Some b → b ≡ next_birth (shown_caller c)
+drawn-birth w c b there drawn = same_Some b (next_birth (shown_caller c)) (sym drawn ∙ of_row (thread_row w c.number) there)
   where
-    else_next : ThreadRow → Option Birth → Birth
-    else_next t (Some b) = b
-    else_next t None = next_birth t
+    of_row : (o : Option ThreadRow) → option_map as_caller o ≡ Some c → option_map next_birth o ≡ Some (next_birth (shown_caller c))
+    of_row None there = absurd (cc)
+    of_row (Some t) there = ap (λ k. Some (next_birth (shown_caller k))) (same_Some (as_caller t) c there)
 
 module _ (w : World) (es : List Entry) (l : Bool) (t : ThreadRow) where
   abbrev drawn : World

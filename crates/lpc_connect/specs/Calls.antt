@@ -1,5 +1,5 @@
 -- What the parts of the calls find and do.
-use Rattle.std.specs.Prelude.{◌≡◌, ℕ, Bool, List, [], ◌∷◌, Some, Result}
+use Rattle.std.specs.Prelude.{◌≡◌, ℕ, Bool, List, [], ◌∷◌, Some, Result, option_map}
 use Rattle.lpc_base.specs.Rows.{first}
 use Rattle.lpc_base.specs.declared.birth.Birth.{Birth}
 use Rattle.lpc_base.specs.declared.status.Status.{Status}
@@ -7,20 +7,22 @@ use Rattle.lpc_connect.specs.declared.accept.ConnectAnswer.{ConnectAnswer}
 use Rattle.lpc_connect.specs.declared.complete.Connection.{Connection}
 use Rattle.lpc_model.specs.Basics.{Basic, DrawsIdentifier, DrawsOrdinal}
 use Rattle.lpc_model.specs.Connect as connect
-use Rattle.lpc_model.specs.Found.{free_handle, is_queued_connect, is_thread}
+use Rattle.lpc_model.specs.Found.{free_handle, is_queued_connect}
 use Rattle.lpc_model.specs.Lines.{accept_connect_port}
-use Rattle.lpc_model.specs.Machine.{service_of}
 use Rattle.lpc_model.specs.World.{ThreadRow, World}
 use Rattle.lpc_model.specs.declared.message.Message.{Message}
+use Rattle.lpc_procs.specs.declared.rows.Caller.{Caller}
 use Rattle.lpc_slots.specs.declared.Key.{Key}
-use Rattle.lpc_rows.specs.Clauses.{birth_at, port_at}
+use Rattle.lpc_rows.specs.Called.{service}
+use Rattle.lpc_rows.specs.Callers.{as_caller}
+use Rattle.lpc_rows.specs.Clauses.{birth_at, port_at, thread_row}
 use Rattle.lpc_rows.specs.Kept.{Kept}
 use Rattle.lpc_rows.specs.Ready.{waiter}
 
 -- Rows
--- the thread stands, with this row
-abbrev pub HasThread : World → ThreadRow → Type 0
-HasThread w t = first (is_thread t.number) w.threads ≡ Some t
+-- the thread stands, and this is what a call knows of it
+abbrev pub HasCaller : World → Caller → Type 0
+HasCaller w c = option_map as_caller (thread_row w c.number) ≡ Some c
 
 -- the message with which a thread waits was received
 abbrev pub was_received : World → ℕ → Bool
@@ -57,9 +59,9 @@ abbrev pub shown_answer : World → ConnectAnswer → connect.ConnectAnswer
 shown_answer w a = answer_with w a.thread a.message
 
 -- whatever the context, the call that answers with these bytes does this
-abbrev pub Answering : World → ThreadRow → List ℕ → Bool → (ℕ → Result (List Basic) Status) → Type 0
+abbrev pub Answering : World → ℕ → List ℕ → Bool → (ℕ → Result (List Basic) Status) → Type 0
 Answering w by bytes accept does =
-    (context : ℕ) → service_of w by (accept_connect_port context bytes accept) ≡ does context
+    (context : ℕ) → service w by (accept_connect_port context bytes accept) ≡ does context
 
 -- a connect is accepted, with the least free handle
 abbrev pub accepting : World → ThreadRow → connect.ConnectAnswer → ℕ → List Basic

@@ -4,7 +4,7 @@ ghost use Rattle.std.specs.Prelude.{◌≡◌, ◌≤◌, ◌<◌, Ok, Err, true
 ghost use Rattle.lpc_base.specs.Rows.{has};
 ghost use Rattle.lpc_base.specs.declared.limits.TheConstants.{HANDLE_LIMIT, LINES_LIMIT};
 ghost use Rattle.lpc_rows.specs.Clauses.{HasHandleRoom, IsOwnWait};
-ghost use Rattle.lpc_connect.specs.Calls.{Answering, HasThread, accepting, answer_with, shown_answer, was_received};
+ghost use Rattle.lpc_connect.specs.Calls.{Answering, HasCaller, accepting, answer_with, shown_answer, was_received};
 ghost use Rattle.lpc_connect.specs.Room.{lacks_port_room};
 ghost use Rattle.lpc_model.specs.Connect as connect;
 ghost use Rattle.lpc_model.specs.Found.{is_offered, is_table, waits_as};
@@ -14,13 +14,13 @@ ghost use Rattle.lpc_rows.specs.Called.{MayServe, service};
 ghost use Rattle.lpc_rows.specs.Does.{Took};
 ghost use Rattle.lpc_rows.specs.Kept.{HasWholeBudget, grown_handles, grown_ports, has_queued, is_pending_in};
 ghost use Rattle.lpc_rows.specs.Ready.{HasRoom, caller, is_ready, waiter};
-ghost use Rattle.lpc_rows.specs.Shown.{shown_thread};
+ghost use Rattle.lpc_rows.specs.Callers.{as_caller, shown_caller};
 
 use crate::create::PORT_ACCESS;
 use lpc_base::status::{REPLY_MESSAGE_MISMATCH, SUCCESS};
 use lpc_base::{OutOfMemory, PortKind, Status, held};
 use lpc_model::{CallName, Entries, Entry, Fields, Message, Outcome, handle_field, kept, refuse};
-use lpc_procs::ThreadRow;
+use lpc_procs::Caller;
 use lpc_steps::{
     answered_connect, client_test, end_connect, give_handle, handles_test, read_message,
 };
@@ -63,20 +63,20 @@ fn answer_test(world: &World, by: u32, bytes: &[u8]) -> Result<ConnectAnswer, St
 #[tactic(auto, unfolding(lpc_model::specs::Connect::nt_accept_connect_port))]
 fn accept_test(
     world: &World,
-    by: &ThreadRow,
+    by: &Caller,
     bytes: &[u8],
     accept: bool,
 ) -> Result<ConnectAnswer, Status>
     requires ready { is_ready world.now.rows by.now.number ≡ true }
-    requires row { shown_thread by.now ≡ caller world.now.rows by.now.number }
+    requires row { by.now ≡ as_caller (caller world.now.rows by.now.number) }
     requires table { has (is_table by.now.process) world.now.rows.handles ≡ true }
-    ensures refused { let by = shown_thread by.now in
-        IfErr result (λ s. Answering world.now.rows by bytes.now accept (λ context. Err s)) }
-    ensures refuses { let by = shown_thread by.now in
-        IfOk result (λ a. accept ≡ false → Answering world.now.rows by bytes.now accept
+    ensures refused { let n = by.now.number in
+        IfErr result (λ s. Answering world.now.rows n bytes.now accept (λ context. Err s)) }
+    ensures refuses { let by = shown_caller by.now in
+        IfOk result (λ a. accept ≡ false → Answering world.now.rows by.number bytes.now accept
         (λ context. Ok (connect.refuse_steps by (shown_answer world.now.rows a)))) }
-    ensures accepts { let by = shown_thread by.now in
-        IfOk result (λ a. accept ≡ true → Answering world.now.rows by bytes.now accept
+    ensures accepts { let by = shown_caller by.now in
+        IfOk result (λ a. accept ≡ true → Answering world.now.rows by.number bytes.now accept
         (λ context. Ok (accepting world.now.rows by (shown_answer world.now.rows a) context))) }
     ensures few { let load = tests.handle_load world.now.rows by.now.process in
         OnOk result (accept ≡ true → load < HANDLE_LIMIT) }
@@ -95,19 +95,13 @@ fn accept_test(
 }
 
 /// A connect is refused: it ends, with the data of the answer.
-fn refuse_connect(
-    world: &mut World,
-    by: &ThreadRow,
-    thread: u32,
-    message: &Message,
-    out: &mut Entries,
-)
+fn refuse_connect(world: &mut World, by: &Caller, thread: u32, message: &Message, out: &mut Entries)
     requires spare { 2 ≤ out.old.spare }
     requires waits { has (waits_as thread) world.old.rows.waits ≡ true }
     requires left { has_queued world.old.rows thread ≡ false }
     requires offered { is_offered (waiter world.old.rows thread) ≡ true }
     ensures takes { let a = answer_with world.old.rows thread message.now in
-        let steps = connect.refuse_steps (shown_thread by.now) a in
+        let steps = connect.refuse_steps (shown_caller by.now) a in
         Took steps world.old world.new out.old out.new }
     ensures calls { world.new.calls ≡ world.old.calls }
     ensures capacity { world.new.capacity ≡ world.old.capacity }
@@ -126,7 +120,7 @@ fn refuse_connect(
 #[tactic(auto, unfolding(lpc_rows::specs::Ready::waiter))]
 fn accept_connect(
     world: &mut World,
-    by: &ThreadRow,
+    by: &Caller,
     context: u32,
     thread: u32,
     message: &Message,
@@ -137,14 +131,14 @@ fn accept_connect(
     requires handles { HasHandleRoom world.old by.now.process }
     requires load { tests.handle_load world.old.rows by.now.process < HANDLE_LIMIT }
     requires budget { HasWholeBudget world.old }
-    requires row { HasThread world.old.rows (shown_thread by.now) }
+    requires row { HasCaller world.old.rows by.now }
     requires table { has (is_table by.now.process) world.old.rows.handles ≡ true }
     requires waits { has (waits_as thread) world.old.rows.waits ≡ true }
     requires offered { is_offered (waiter world.old.rows thread) ≡ true }
     requires received { was_received world.old.rows thread ≡ true }
     requires thread { IsOwnWait world.old.rows thread }
     ensures takes { let a = answer_with world.old.rows thread message.now in
-        let steps = accepting world.old.rows (shown_thread by.now) a context in
+        let steps = accepting world.old.rows (shown_caller by.now) a context in
         Took steps world.old world.new out.old out.new }
     ensures calls { world.new.calls ≡ world.old.calls }
     ensures capacity { world.new.capacity ≡ world.old.capacity }

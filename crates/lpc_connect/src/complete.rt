@@ -12,13 +12,13 @@ ghost use Rattle.lpc_rows.specs.Does.{Took};
 ghost use Rattle.lpc_rows.specs.Kept.{CanMake, has_queued};
 ghost use Rattle.lpc_rows.specs.Names.{stands};
 ghost use Rattle.lpc_rows.specs.Ready.{HasRoom, caller, is_ready, waiter};
-ghost use Rattle.lpc_rows.specs.Shown.{shown_thread};
+ghost use Rattle.lpc_rows.specs.Callers.{shown_caller};
 
 use crate::create::PORT_ACCESS;
 use lpc_base::Status;
 use lpc_base::status::SUCCESS;
 use lpc_model::{CallName, Entries, Entry, Fields, Outcome, completion_fields, refuse};
-use lpc_procs::ThreadRow;
+use lpc_procs::Caller;
 use lpc_slots::Key;
 use lpc_steps::{completion_test, port_at, waiting_call};
 use lpc_world::{Object, World};
@@ -55,7 +55,7 @@ fn complete_test(world: &World, tid: u32, handle: u32) -> Result<Connection, Sta
 
 /// A connection is completed: the client gets its handle, and its thread is told.
 #[tactic(auto, unfolding(lpc_rows::specs::Ready::waiter))]
-fn complete(world: &mut World, by: &ThreadRow, connection: Connection, out: &mut Entries)
+fn complete(world: &mut World, by: &Caller, connection: Connection, out: &mut Entries)
     requires spare { 2 ≤ out.old.spare }
     requires server { stands world.old.births.ports connection.server ≡ true }
     requires client { stands world.old.births.ports connection.client ≡ true }
@@ -65,7 +65,7 @@ fn complete(world: &mut World, by: &ThreadRow, connection: Connection, out: &mut
     requires left { has_queued world.old.rows connection.thread ≡ false }
     requires budget { CanMake world.old }
     ensures takes { let c = shown_connection world.old connection in
-        let steps = completing world.old.rows (shown_thread by.now) c in
+        let steps = completing world.old.rows (shown_caller by.now) c in
         Took steps world.old world.new out.old out.new }
     ensures calls { world.new.calls ≡ world.old.calls }
     ensures capacity { world.new.capacity ≡ world.old.capacity }

@@ -4,13 +4,12 @@ ghost use Rattle.std.specs.Prelude.{◌≡◌, ◌≤◌, ◌<◌, ◌+◌, Ok, 
 ghost use Rattle.lpc_base.specs.Rows.{has};
 ghost use Rattle.lpc_base.specs.declared.limits.TheConstants.{HANDLE_LIMIT, HEADER_SIZE, LINES_LIMIT, MESSAGE_LIMIT};
 ghost use Rattle.lpc_rows.specs.Clauses.{HasHandleRoom, birth_at};
-ghost use Rattle.lpc_connect.specs.Calls.{HasThread, connecting, draws};
+ghost use Rattle.lpc_connect.specs.Calls.{HasCaller, connecting, draws};
 ghost use Rattle.lpc_connect.specs.Room.{KeepsHandleRoom, lacks_connect_room};
 ghost use Rattle.lpc_model.specs.Basics.{basic, world_after, Makes};
 ghost use Rattle.lpc_model.specs.Connect as connect;
 ghost use Rattle.lpc_model.specs.Found.{is_live_thread, is_table, is_thread, port_row, waits_as};
 ghost use Rattle.lpc_model.specs.Lines.{connect_port};
-ghost use Rattle.lpc_model.specs.Machine.{service_of};
 ghost use Rattle.lpc_model.specs.Message.{asks};
 ghost use Rattle.lpc_model.specs.Tests as tests;
 ghost use Rattle.lpc_model.specs.Tests.{next_birth};
@@ -20,7 +19,7 @@ ghost use Rattle.lpc_rows.specs.Kept.{CanMake, HasWholeBudget, grown_handles, gr
 ghost use Rattle.lpc_rows.specs.Lawful.{drew};
 ghost use Rattle.lpc_rows.specs.Names.{name_of, stands};
 ghost use Rattle.lpc_rows.specs.Ready.{HasRoom, caller, is_ready};
-ghost use Rattle.lpc_rows.specs.Shown.{shown_thread};
+ghost use Rattle.lpc_rows.specs.Callers.{as_caller, shown_caller};
 
 use lpc_base::limits::{HEADER_SIZE, MESSAGE_LIMIT};
 use lpc_base::status::PORT_MESSAGE_TOO_LONG;
@@ -28,7 +27,7 @@ use lpc_base::{Birth, OutOfMemory, PortKind, Status};
 use lpc_message::{ClientId, Header, kind};
 use lpc_model::{Body, CallName, Entries, Entry, Message, Outcome, identifier_field, refuse};
 use lpc_ports::Creator;
-use lpc_procs::ThreadRow;
+use lpc_procs::Caller;
 use lpc_slots::Key;
 use lpc_steps::{deliver, handles_test, wait_with};
 use lpc_waits::{Wait, WaitKind};
@@ -47,13 +46,14 @@ fn info_test(info: &[u8]) -> Result<(), Status>
 
 /// The tests of a connect: too many bytes, a fault of the name or a directory, then too many handles.
 #[tactic(auto, unfolding(lpc_model::specs::Connect::nt_connect_port))]
-fn connect_test(world: &World, by: &ThreadRow, name: &[u8], info: &[u8]) -> Result<Key, Status>
+fn connect_test(world: &World, by: &Caller, name: &[u8], info: &[u8]) -> Result<Key, Status>
+    requires row { by.now ≡ as_caller (caller world.now.rows by.now.number) }
     requires table { has (is_table by.now.process) world.now.rows.handles ≡ true }
     ensures refused { let call = connect_port name.now info.now in
-        IfErr result (λ s. service_of world.now.rows (shown_thread by.now) call ≡ Err s) }
+        IfErr result (λ s. service world.now.rows by.now.number call ≡ Err s) }
     ensures steps { let call = connect_port name.now info.now in
-        IfOk result (λ key. service_of world.now.rows (shown_thread by.now) call
-        ≡ Ok (connecting world.now (shown_thread by.now) key info.now)) }
+        IfOk result (λ key. service world.now.rows by.now.number call
+        ≡ Ok (connecting world.now (shown_caller by.now) key info.now)) }
     ensures stands { IfOk result (λ key. stands world.now.births.ports key ≡ true) }
     ensures few { OnOk result (tests.handle_load world.now.rows by.now.process < HANDLE_LIMIT) }
     ensures bound { OnOk result (HEADER_SIZE + length info.now ≤ MESSAGE_LIMIT) }
@@ -65,8 +65,8 @@ fn connect_test(world: &World, by: &ThreadRow, name: &[u8], info: &[u8]) -> Resu
 }
 
 /// The client that a thread is.
-fn client_of(by: &ThreadRow) -> ClientId
-    ensures { result ≡ tests.client_of (shown_thread by.now) }
+fn client_of(by: &Caller) -> ClientId
+    ensures { result ≡ tests.client_of (shown_caller by.now) }
 {
     ClientId {
         process: by.process,
@@ -75,9 +75,9 @@ fn client_of(by: &ThreadRow) -> ClientId
 }
 
 /// The connection request, with the identifier that its sender draws.
-fn connection_request(by: &ThreadRow, info: &[u8]) -> Message
+fn connection_request(by: &Caller, info: &[u8]) -> Message
     requires { HEADER_SIZE + length info.now ≤ MESSAGE_LIMIT }
-    ensures { result ≡ connect.connection_request (shown_thread by.now) info.now }
+    ensures { result ≡ connect.connection_request (shown_caller by.now) info.now }
 {
     Message {
         header: Header {
@@ -95,11 +95,11 @@ fn connection_request(by: &ThreadRow, info: &[u8]) -> Message
 
 /// A thread draws the identifier of its connection request, and the birth of its client port, which is answered.
 #[tactic(auto, using(crate::proofs::Drawn::stands_behind_identifier, crate::proofs::Drawn::stands_behind_ordinal, crate::proofs::Drawn::lives_behind_identifier, crate::proofs::Drawn::lives_behind_ordinal, crate::proofs::Drawn::birth_behind_identifier))]
-fn draw(world: &mut World, by: &ThreadRow) -> Birth
+fn draw(world: &mut World, by: &Caller) -> Birth
     requires budget { HasWholeBudget world.old }
-    requires thread { HasThread world.old.rows (shown_thread by.now) }
+    requires thread { HasCaller world.old.rows by.now }
     requires live { has (is_live_thread by.now.number) world.old.rows.threads ≡ true }
-    ensures birth { result ≡ next_birth (shown_thread by.now) }
+    ensures birth { result ≡ next_birth (shown_caller by.now) }
     ensures fresh { port_row world.new.rows result ≡ None }
     ensures drawn { has (drew result) world.new.rows.threads ≡ true }
     ensures rows { world.new.rows ≡ world_after world.old.rows (draws by.now.number) }
@@ -120,16 +120,16 @@ fn draw(world: &mut World, by: &ThreadRow) -> Birth
 
 /// A client port of a connection port is made, which isn't joined yet and keeps the connect that makes it; its key is
 /// answered. It takes a place for the message that is to tell that it is closed.
-fn make_client(world: &mut World, by: &ThreadRow, birth: Birth, connection: Key) -> Key
+fn make_client(world: &mut World, by: &Caller, birth: Birth, connection: Key) -> Key
     requires ports { 0 < world.old.room.ports }
     requires messages { 0 < world.old.room.messages }
     requires budget { CanMake world.old }
     requires connection { stands world.old.births.ports connection ≡ true }
-    requires birth { birth ≡ next_birth (shown_thread by.now) }
+    requires birth { birth ≡ next_birth (shown_caller by.now) }
     requires fresh { port_row world.old.rows birth ≡ None }
     requires drawn { has (drew birth) world.old.rows.threads ≡ true }
     ensures rows { let queue = birth_at world.old connection in
-        let port = connect.client_port (shown_thread by.now) queue in
+        let port = connect.client_port (shown_caller by.now) queue in
         world.new.rows ≡ basic world.old.rows (Makes port) }
     ensures name { name_of world.new.births.ports result ≡ birth }
     ensures stands { stands world.new.births.ports result ≡ true }
@@ -150,13 +150,13 @@ fn make_client(world: &mut World, by: &ThreadRow, birth: Birth, connection: Key)
 
 /// A connect begins: its thread draws the identifier, makes the client port and waits, and the connection request
 /// enters the queue of the connection port.
-fn start(world: &mut World, by: &ThreadRow, connection: Key, message: &Message, out: &mut Entries)
+fn start(world: &mut World, by: &Caller, connection: Key, message: &Message, out: &mut Entries)
     requires spare { 2 ≤ out.old.spare }
     requires ports { 0 < world.old.room.ports }
     requires messages { 0 < world.old.room.messages }
     requires handles { HasHandleRoom world.old by.now.process }
     requires budget { HasWholeBudget world.old }
-    requires thread { HasThread world.old.rows (shown_thread by.now) }
+    requires thread { HasCaller world.old.rows by.now }
     requires live { has (is_live_thread by.now.number) world.old.rows.threads ≡ true }
     requires ready { has (waits_as by.now.number) world.old.rows.waits ≡ false }
     requires table { has (is_table by.now.process) world.old.rows.handles ≡ true }
@@ -165,7 +165,7 @@ fn start(world: &mut World, by: &ThreadRow, connection: Key, message: &Message, 
     requires asks { asks message.now ≡ true }
     requires client { message.now.header.client.thread ≡ by.now.number }
     ensures takes { let queue = birth_at world.old connection in
-        let steps = connect.connect_steps (shown_thread by.now) queue message.now world.old.rows in
+        let steps = connect.connect_steps (shown_caller by.now) queue message.now world.old.rows in
         Took steps world.old world.new out.old out.new }
     ensures calls { world.new.calls ≡ world.old.calls }
     ensures capacity { world.new.capacity ≡ world.old.capacity }

@@ -2,14 +2,13 @@
 ghost use Rattle.std.specs.Prelude.{◌≡◌, ◌≤◌, ◌<◌, ◌+◌, Ok, Err, None, Some, IfErr, IfOk, IsOk, OnOk, OnErr, is_some, option_copied, true, IsErr};
 ghost use Rattle.lpc_base.specs.Rows.{has};
 ghost use Rattle.lpc_base.specs.declared.limits.TheConstants.{HANDLE_LIMIT, LINES_LIMIT};
-ghost use Rattle.lpc_connect.specs.Calls.{HasThread, creating};
+ghost use Rattle.lpc_connect.specs.Calls.{HasCaller, creating};
 ghost use Rattle.lpc_rows.specs.Clauses.{HasHandleRoom};
 ghost use Rattle.lpc_connect.specs.Room.{KeepsHandleRoom, lacks_room_for};
 ghost use Rattle.lpc_model.specs.Basics.{world_after};
 ghost use Rattle.lpc_model.specs.Connect as connect;
 ghost use Rattle.lpc_model.specs.Found.{is_table, port_row};
 ghost use Rattle.lpc_model.specs.Lines.{create_port};
-ghost use Rattle.lpc_model.specs.Machine.{service_of};
 ghost use Rattle.lpc_model.specs.Named.{free_name};
 ghost use Rattle.lpc_model.specs.Tests as tests;
 ghost use Rattle.lpc_model.specs.Tests.{next_birth};
@@ -20,12 +19,12 @@ ghost use Rattle.lpc_rows.specs.Kept.{CanMake, HasWholeBudget, grown_handles, gr
 ghost use Rattle.lpc_rows.specs.Lawful.{drew};
 ghost use Rattle.lpc_rows.specs.Names.{name_of, stands};
 ghost use Rattle.lpc_rows.specs.Ready.{HasRoom, caller, is_ready};
-ghost use Rattle.lpc_rows.specs.Shown.{shown_thread};
+ghost use Rattle.lpc_rows.specs.Callers.{as_caller, shown_caller};
 
 use lpc_base::status::SUCCESS;
 use lpc_base::{Birth, OutOfMemory, PortKind, Status};
 use lpc_model::{CallName, Entries, Entry, Outcome, handle_field, refuse};
-use lpc_procs::ThreadRow;
+use lpc_procs::Caller;
 use lpc_slots::Key;
 use lpc_steps::{give_handle, handles_test};
 use lpc_world::{Object, World};
@@ -35,11 +34,12 @@ pub(crate) const PORT_ACCESS: u32 = 0x001F_0001;
 
 /// Why a thread's process gets no port of that name, or without one.
 #[tactic(auto, unfolding(lpc_model::specs::Connect::nt_create_port))]
-fn create_test(world: &World, by: &ThreadRow, name: Option<&[u8]>) -> Result<(), Status>
+fn create_test(world: &World, by: &Caller, name: Option<&[u8]>) -> Result<(), Status>
+    requires row { by.now ≡ as_caller (caller world.now.rows by.now.number) }
     requires table { has (is_table by.now.process) world.now.rows.handles ≡ true }
     ensures refused { let call = create_port (option_copied name.entry) in
-        IfErr result (λ s. service_of world.now.rows (shown_thread by.now) call ≡ Err s) }
-    ensures name { let port = next_birth (shown_thread by.now) in
+        IfErr result (λ s. service world.now.rows by.now.number call ≡ Err s) }
+    ensures name { let port = next_birth (shown_caller by.now) in
         OnOk result (IsOk (connect.making world.now.rows port (option_copied name.entry))) }
     ensures handles { OnOk result (IsOk (tests.handles_test world.now.rows by.now.process 1)) }
     ensures few { OnOk result (tests.handle_load world.now.rows by.now.process < HANDLE_LIMIT) }
@@ -100,20 +100,20 @@ fn make(world: &mut World, name: Option<&[u8]>, birth: Birth) -> Key
 }
 
 /// A port is made, with a handle to it.
-fn create(world: &mut World, by: &ThreadRow, name: Option<&[u8]>, out: &mut Entries)
+fn create(world: &mut World, by: &Caller, name: Option<&[u8]>, out: &mut Entries)
     requires spare { 1 ≤ out.old.spare }
     requires ports { 0 < world.old.room.ports }
     requires names { is_some name ≡ true → 0 < world.old.room.names }
     requires handles { HasHandleRoom world.old by.now.process }
     requires budget { HasWholeBudget world.old }
-    requires thread { HasThread world.old.rows (shown_thread by.now) }
+    requires thread { HasCaller world.old.rows by.now }
     requires table { has (is_table by.now.process) world.old.rows.handles ≡ true }
     requires few { tests.handle_load world.old.rows by.now.process < HANDLE_LIMIT }
-    requires free { let port = next_birth (shown_thread by.now) in
+    requires free { let port = next_birth (shown_caller by.now) in
         IsOk (connect.making world.old.rows port (option_copied name)) }
-    ensures takes { let port = next_birth (shown_thread by.now) in
+    ensures takes { let port = next_birth (shown_caller by.now) in
         IfOk (connect.making world.old.rows port (option_copied name.entry)) (λ made.
-        let steps = creating world.old.rows (shown_thread by.now) made in
+        let steps = creating world.old.rows (shown_caller by.now) made in
         Took steps world.old world.new out.old out.new) }
     ensures calls { world.new.calls ≡ world.old.calls }
     ensures capacity { but_names world.new.capacity ≡ but_names world.old.capacity }

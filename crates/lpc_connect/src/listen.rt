@@ -12,12 +12,12 @@ ghost use Rattle.lpc_rows.specs.Does.{Does, Took};
 ghost use Rattle.lpc_rows.specs.Kept.{HasWholeBudget};
 ghost use Rattle.lpc_rows.specs.Names.{stands};
 ghost use Rattle.lpc_rows.specs.Ready.{HasRoom, caller, is_ready};
-ghost use Rattle.lpc_rows.specs.Shown.{shown_thread};
+ghost use Rattle.lpc_rows.specs.Callers.{shown_caller};
 
 use lpc_base::Status;
 use lpc_base::status::{INVALID_PORT_HANDLE, SUCCESS};
 use lpc_model::{CallName, Entries, Entry, Fields, Message, Outcome, message_field, refuse};
-use lpc_procs::ThreadRow;
+use lpc_procs::Caller;
 use lpc_slots::Key;
 use lpc_steps::{is_connection, port_at, wants_answer};
 use lpc_waits::{Wait, WaitKind};
@@ -43,17 +43,17 @@ fn listen_test(world: &World, tid: u32, handle: u32) -> Result<Key, Status>
 }
 
 /// The oldest connection request of the port is taken, or the thread waits for one.
-fn take_or_wait(world: &mut World, by: &ThreadRow, port: Key, out: &mut Entries) -> Outcome
+fn take_or_wait(world: &mut World, by: &Caller, port: Key, out: &mut Entries) -> Outcome
     requires spare { 1 ≤ out.old.spare }
     requires budget { HasWholeBudget world.old }
     requires live { has (is_live_thread by.now.number) world.old.rows.threads ≡ true }
     requires ready { has (waits_as by.now.number) world.old.rows.waits ≡ false }
     requires port { stands world.old.births.ports port ≡ true }
     ensures takes { let port = birth_at world.old port in
-        let steps = listening world.old.rows (shown_thread by.now) port in
+        let steps = listening world.old.rows (shown_caller by.now) port in
         Took steps world.old world.new out.old out.new }
     ensures outcome { let port = birth_at world.old port in
-        result ≡ outcome_of (listening world.old.rows (shown_thread by.now) port) }
+        result ≡ outcome_of (listening world.old.rows (shown_caller by.now) port) }
     ensures calls { world.new.calls ≡ world.old.calls }
     ensures capacity { world.new.capacity ≡ world.old.capacity }
     ensures spare { out.old.spare ≤ out.new.spare + 2 }

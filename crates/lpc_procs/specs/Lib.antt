@@ -1,2 +1,3 @@
+pub mod Callers
 pub mod Kept
 pub mod Procs

@@ -8,4 +8,4 @@ mod registrations;
 mod rows;
 
 pub use procs::Procs;
-pub use rows::{BornThread, Life, Number, ProcessRow, Registration, ThreadRow, UsedThread};
+pub use rows::{BornThread, Caller, Life, Number, ProcessRow, Registration, ThreadRow, UsedThread};

@@ -1,12 +1,13 @@
 // Searches and changes of plain lists of rows.
 ghost use Rattle.std.specs.Prelude.{◌≡◌, ◌==◌, option_map, vec_len, vec_capacity};
 ghost use Rattle.lpc_base.specs.Rows.{count, first, has};
+ghost use Rattle.lpc_procs.specs.Callers as callers;
 ghost use Rattle.lpc_procs.specs.Kept.{process_rows, recounted};
 ghost use Rattle.lpc_procs.specs.Procs as procs;
 ghost use Rattle.lpc_procs.specs.Procs.{is_live_client, is_live_thread, is_process, is_used_thread, lives_in, used_process};
 
 use crate::rows::Counted;
-use crate::{ProcessRow, ThreadRow, UsedThread};
+use crate::{Caller, ProcessRow, ThreadRow, UsedThread};
 use lpc_base::Birth;
 use lpc_message::ClientId;
 
@@ -104,20 +105,26 @@ pub fn alive(threads: &[ThreadRow]) -> usize
     threads.iter().filter(|t| t.live).count()
 }
 
-// The row once more.
-fn copy_of(t: &ThreadRow) -> ThreadRow
-    ensures { result ≡ t.now }
+// The thread as a caller.
+fn caller_of(t: &ThreadRow) -> Caller
+    ensures { result ≡ callers.caller_of t.now }
 {
-    t.clone().unwrap()
+    Caller {
+        number: t.number,
+        process: t.process,
+        birth: t.birth,
+        next_identifier: t.next_identifier,
+        next_ordinal: t.next_ordinal,
+    }
 }
 
-/// The live thread that has the number.
-pub fn live_at(threads: &[ThreadRow], tid: u32) -> Option<ThreadRow>
-    ensures { result ≡ first (is_live_thread tid) threads.now }
+/// The live thread that has the number, as a caller.
+pub fn live_at(threads: &[ThreadRow], tid: u32) -> Option<Caller>
+    ensures { result ≡ option_map callers.caller_of (first (is_live_thread tid) threads.now) }
 {
     for t in threads {
         if t.number == tid && t.live {
-            return Some(copy_of(t));
+            return Some(caller_of(t));
         }
     }
     None

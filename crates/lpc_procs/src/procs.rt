@@ -4,13 +4,14 @@ ghost use Rattle.std.specs.List.{position};
 ghost use Rattle.lpc_base.specs.Room.{grown_room};
 ghost use Rattle.lpc_base.specs.Rows.{count, first, has};
 ghost use Rattle.lpc_base.specs.declared.limits.TheConstants.{REGISTRATION_LIMIT};
+ghost use Rattle.lpc_procs.specs.Callers.{caller_of};
 ghost use Rattle.lpc_procs.specs.Procs as procs;
 ghost use Rattle.lpc_procs.specs.Procs.{HasIdentifierLeft, HasOrdinalLeft, HasRegistrationLeft, IsNumber, all_registrations, birth_of, ended, first_process, first_thread, first_untold, has_registered, is_life, is_live_child, is_live_client, is_live_thread, is_of_birth, is_process_born, is_thread, live_registrations, lives_by, lives_in, most_rows, nothing, past_birth, past_identifier, process_at, process_life, registering, registration, thread_at, thread_born, thread_life, unregistering, used_process, with_room, with_thread, without_process_born, without_thread_born};
 
 use crate::rows::Counted;
 use crate::{
-    BornThread, Life, Number, ProcessRow, Registration, ThreadRow, UsedThread, births, lists,
-    registrations,
+    BornThread, Caller, Life, Number, ProcessRow, Registration, ThreadRow, UsedThread, births,
+    lists, registrations,
 };
 use arrayvec::ArrayVec;
 use lpc_base::{Birth, OutOfMemory, reserve_rows};
@@ -178,9 +179,10 @@ impl Procs {
         lists::is_live(&self.threads, client)
     }
 
-    /// The live thread that has the number; None exactly where there is none.
-    pub fn live_row(&self, tid: u32) -> Option<ThreadRow>
-        ensures row { result ≡ first (is_live_thread tid) self.now.threads }
+    /// The live thread that has the number, as a caller; None exactly where there is none.
+    pub fn live_row(&self, tid: u32) -> Option<Caller>
+        ensures row { result
+            ≡ option_map caller_of (first (is_live_thread tid) self.now.threads) }
     {
         lists::live_at(&self.threads, tid)
     }

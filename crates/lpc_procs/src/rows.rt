@@ -63,7 +63,7 @@ pub struct Registration {
 }
 
 /// A thread.
-#[derive(Clone, Drop)]
+#[derive(Drop)]
 pub struct ThreadRow {
     /// From 1 to 2147483647.
     pub number: u32,
@@ -79,6 +79,21 @@ pub struct ThreadRow {
     pub next_ordinal: u32,
     /// The ports that are to be told of its end, in the order in which it registered them.
     pub registered: ArrayVec<Registration, REGISTRATION_LIMIT>,
+}
+
+/// What a call knows of the thread that makes it: the thread's row, but for its registrations.
+#[derive(Clone, Copy)]
+pub struct Caller {
+    /// From 1 to 2147483647.
+    pub number: u32,
+    /// The number of its process.
+    pub process: u32,
+    /// The name that it was made under.
+    pub birth: Birth,
+    /// The message identifier that it draws next, from 1.
+    pub next_identifier: u32,
+    /// The ordinal of the object that it makes next, from 1.
+    pub next_ordinal: u32,
 }
 
 /// A thread number that was ever used, and the process of that thread. It stays when the thread's row goes.

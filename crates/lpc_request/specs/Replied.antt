@@ -9,14 +9,14 @@ use Rattle.lpc_model.specs.Listed.{Listed}
 use Rattle.lpc_model.specs.Request as request
 use Rattle.lpc_model.specs.Request.{reply}
 use Rattle.lpc_model.specs.declared.message.Message.{Message}
-use Rattle.lpc_procs.specs.declared.rows.ThreadRow.{ThreadRow}
+use Rattle.lpc_procs.specs.declared.rows.Caller.{Caller}
 use Rattle.lpc_rows.specs.Clauses.{birth_at, port_at}
 use Rattle.lpc_request.specs.declared.receive.Replied.{Replied}
 use Rattle.lpc_slots.specs.declared.Key.{Key}
 use Rattle.lpc_rows.specs.Does.{Took}
 use Rattle.lpc_rows.specs.Kept.{Kept, has_queued}
 use Rattle.lpc_rows.specs.Ready.{caller, waiter}
-use Rattle.lpc_rows.specs.Shown.{shown_thread}
+use Rattle.lpc_rows.specs.Callers.{shown_caller}
 
 -- the wait that a message fits through a port, or why there is none
 abbrev pub answered_by : Kept → Key → Message → Result WaitRow Status
@@ -41,10 +41,10 @@ may_be_told w None = Unit {0}
 may_be_told w (Some r) = (has (waits_as r.thread) w.waits ≡ true) × (has_queued w r.thread ≡ false)
 
 -- a thread's receive on a port, behind a reply: the oldest message of the queue is taken, or the thread waits
-abbrev pub receive_by : ThreadRow → Key → Key → Option Replied → Kept → List Basic
+abbrev pub receive_by : Caller → Key → Key → Option Replied → Kept → List Basic
 receive_by by port queue replied w =
-    request.receive_steps (shown_thread by) (port_at w port) (birth_at w queue) (replied_steps w.rows replied) (first (is_queued (birth_at w queue)) w.rows.messages)
+    request.receive_steps (shown_caller by) (port_at w port) (birth_at w queue) (replied_steps w.rows replied) (first (is_queued (birth_at w queue)) w.rows.messages)
 
-abbrev pub TakesOrWaits : ThreadRow → Key → Key → Option Replied → Kept → Kept → Listed → Listed → Type 0
+abbrev pub TakesOrWaits : Caller → Key → Key → Option Replied → Kept → Kept → Listed → Listed → Type 0
 TakesOrWaits by port queue replied old new before after =
     Took (receive_by by port queue replied old) old new before after

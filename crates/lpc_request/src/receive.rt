@@ -20,7 +20,7 @@ use lpc_base::status::SUCCESS;
 use lpc_model::{
     CallName, Entries, Entry, Fields, Message, Outcome, kept, message_field, receipt, refuse,
 };
-use lpc_procs::ThreadRow;
+use lpc_procs::Caller;
 use lpc_slots::Key;
 use lpc_steps::{port_at, read_message, receive_test, wake, wants_answer};
 use lpc_waits::{Wait, WaitKind};
@@ -63,7 +63,7 @@ fn make_reply(world: &mut World, replied: &Option<Replied>, out: &mut Entries)
 /// The thread waits for a message of a queue in which none stands; a reply is made before.
 fn wait_for_message(
     world: &mut World,
-    by: &ThreadRow,
+    by: &Caller,
     port: Key,
     queue: Key,
     replied: &Option<Replied>,
@@ -105,7 +105,7 @@ fn wait_for_message(
 /// The oldest message of the queue is taken, or the thread waits for one; a reply is made before.
 fn take_or_wait(
     world: &mut World,
-    by: &ThreadRow,
+    by: &Caller,
     port: Key,
     queue: Key,
     replied: &Option<Replied>,

@@ -13,13 +13,13 @@ ghost use Rattle.lpc_rows.specs.Called.{MayServe, Served, service};
 ghost use Rattle.lpc_rows.specs.Kept.{HasWholeBudget, grown_messages};
 ghost use Rattle.lpc_rows.specs.Names.{stands};
 ghost use Rattle.lpc_rows.specs.Ready.{HasRoom, is_ready};
-ghost use Rattle.lpc_rows.specs.Shown.{shown_thread};
+ghost use Rattle.lpc_rows.specs.Callers.{shown_caller};
 
 use lpc_base::status::{PORT_DISCONNECTED, SUCCESS};
 use lpc_base::{OutOfMemory, Status};
 use lpc_message::{ClientId, kind};
 use lpc_model::{CallName, Entries, Entry, Message, Outcome, identifier_field, kept, refuse};
-use lpc_procs::ThreadRow;
+use lpc_procs::Caller;
 use lpc_slots::Key;
 use lpc_steps::{context, deliver, port_at, read_message, route, wait_with};
 use lpc_waits::{Wait, WaitKind};
@@ -59,8 +59,8 @@ fn send_test(world: &World, tid: u32, handle: u32, bytes: &[u8]) -> Result<Senda
 
 /// The message as its sender's call sends it: its type, its sender, the identifier that the sender draws and no section
 /// are written over.
-fn sent_by(by: &ThreadRow, kind: u16, message: &Message) -> Message
-    ensures { result ≡ request.sent_by (shown_thread by.now) kind message.now }
+fn sent_by(by: &Caller, kind: u16, message: &Message) -> Message
+    ensures { result ≡ request.sent_by (shown_caller by.now) kind message.now }
 {
     let mut sent = message.copy();
     sent.header.kind = kind;
@@ -78,7 +78,7 @@ fn sent_by(by: &ThreadRow, kind: u16, message: &Message) -> Message
 /// A datagram is sent: its sender draws the identifier, and the message enters the queue.
 fn send_datagram(
     world: &mut World,
-    by: &ThreadRow,
+    by: &Caller,
     port: Key,
     queue: Key,
     message: &Message,
@@ -173,7 +173,7 @@ pub fn nt_request_port(
 /// A request is sent: its sender draws the identifier and waits, and the message enters the queue.
 fn send_request(
     world: &mut World,
-    by: &ThreadRow,
+    by: &Caller,
     port: Key,
     queue: Key,
     message: &Message,

@@ -3,6 +3,7 @@ pub mod OwnMessages
 pub mod OwedClosings
 pub mod Changes
 pub mod Connecting
+pub mod Callers
 pub mod Finds
 pub mod Follows
 pub mod Lawful

@@ -9,6 +9,7 @@ pub mod Registered
 pub mod Does
 pub mod Held
 pub mod Called
+pub mod Callers
 pub mod Bound
 pub mod Joined
 pub mod Clauses

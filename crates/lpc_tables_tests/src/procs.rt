@@ -95,7 +95,7 @@ fn shows_its_row(rt: &impl Abort, procs: &Procs) {
         assert!(rt; false);
         return;
     };
-    assert!(rt; (row.number, row.process, row.live) == (24, 20, true));
+    assert!(rt; (row.number, row.process) == (24, 20));
     assert!(rt; (row.next_identifier, row.next_ordinal) == (1, 1));
     assert!(rt; row.birth == made(24));
 }

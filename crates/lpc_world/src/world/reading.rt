@@ -5,7 +5,8 @@ ghost use Rattle.lpc_model.specs.Found as found;
 ghost use Rattle.lpc_model.specs.Found.{datagrams, handle_at, is_live_thread, is_table, is_thread, live_count, same_birth, waits_as, waits_at, was_process, was_thread};
 ghost use Rattle.lpc_rows.specs.Lawful.{are_single};
 ghost use Rattle.lpc_rows.specs.Names.{are_apart, some_stands, stands};
-ghost use Rattle.lpc_rows.specs.Shown.{object_stands, shown_creator, shown_thread};
+ghost use Rattle.lpc_rows.specs.Callers.{as_caller};
+ghost use Rattle.lpc_rows.specs.Shown.{object_stands, shown_creator};
 ghost use Rattle.lpc_rows.specs.Kept.{OwnPend, has_queued, is_alive, is_pending_in};
 ghost use Rattle.lpc_rows.specs.Ready.{HasRow, IsWait, caller, is_ready, waiter};
 ghost use Rattle.lpc_rows.specs.Clauses.{Finds, FindsWait, IsOwnWait, birth_at, has_process, has_table, is_quiet_for, oldest, port_at, row_at, row_shown, some_birth, takes_at, thread_row};
@@ -14,26 +15,28 @@ use crate::world::World;
 use lpc_handles::Row;
 use lpc_homes::{Object, parts};
 use lpc_ports::Port;
-use lpc_procs::{Number, ThreadRow};
+use lpc_procs::{Caller, Number};
 use lpc_slots::Key;
 use lpc_waits::Wait;
 
 impl World {
     // Threads and processes.
 
-    /// The row of a live thread: None exactly where no live thread has the number.
-    pub fn live_thread(&self, tid: u32) -> Option<ThreadRow>
-        ensures { option_map shown_thread result ≡ found.live_thread self.now.rows tid }
+    /// A live thread, as a caller: None exactly where no live thread has the number.
+    pub fn live_thread(&self, tid: u32) -> Option<Caller>
+        ensures { result ≡ option_map as_caller (found.live_thread self.now.rows tid) }
     {
         self.procs.live_row(tid)
     }
 
-    /// The row of a thread that can make a call.
-    pub fn caller(&self, tid: u32) -> ThreadRow
+    /// A thread that can make a call, as a caller.
+    pub fn caller(&self, tid: u32) -> Caller
         requires { is_ready self.now.rows tid ≡ true }
-        ensures row { shown_thread result ≡ caller self.now.rows tid }
+        ensures row { result ≡ as_caller (caller self.now.rows tid) }
         ensures number { result.number ≡ tid }
-        ensures found { thread_row self.now.rows result.number ≡ Some (shown_thread result) }
+        ensures found { option_map as_caller (thread_row self.now.rows result.number)
+            ≡ Some result }
+        ensures whole { thread_row self.now.rows tid ≡ Some (caller self.now.rows tid) }
         ensures stands { has (is_thread tid) self.now.rows.threads ≡ true }
         ensures live { has (is_live_thread tid) self.now.rows.threads ≡ true }
         ensures ready { has (waits_as tid) self.now.rows.waits ≡ false }

@@ -9,7 +9,7 @@ returns-clause-serves c =
     let accepts : c.args.accept ≡ true = search rules in
     let took = rw (same) at c.accept_connect.ensures.takes in
     record {
-      takes = rw (← c.caller-caller.ensures.row, c.in-Ok.ensures.accepts accepts c.args.context) took;
-      outcome = rw (← c.caller-caller.ensures.row, c.in-Ok.ensures.accepts accepts c.args.context) refl;
+      takes = rw (← c.caller-caller.ensures.number, c.in-Ok.ensures.accepts accepts c.args.context) took;
+      outcome = rw (← c.caller-caller.ensures.number, c.in-Ok.ensures.accepts accepts c.args.context) refl;
       calls = grind arith;
     }

@@ -1,7 +1,13 @@
-use Rattle.std.proofs.Common.{◌≡◌, ◌∙◌, arith}
-use Rattle.std.specs.Prelude.{option_copied}
+use Rattle.std.proofs.Common.{◌≡◌, ◌∙◌, subst, arith}
+use Rattle.std.specs.Prelude.{IfOk, IsOk, option_copied}
+use Rattle.lpc_connect.specs.Calls.{creating}
+use Rattle.lpc_model.specs.Connect.{making}
+use Rattle.lpc_model.specs.Tests.{handles_test, next_birth}
 use Rattle.lpc_model.specs.World.{World}
-use Rattle.lpc_rows.specs.Shown.{shown_thread}
+use Rattle.lpc_procs.specs.declared.rows.Caller.{Caller}
+use Rattle.lpc_rows.specs.Callers.{shown_caller}
+use Rattle.lpc_rows.specs.Does.{Left, left_by}
+use Rattle.lpc_rows.specs.Ready.{caller}
 use Rattle.lpc_connect.proofs.Created.{creates, creates_outcome}
 use Rattle.lpc_connect.proofs.create.nt_create_port.Goals as goal
 
@@ -10,9 +16,15 @@ returns-clause-serves c =
     let w : World = c.args.world.now.rows in
     let same : c.begin_call-2.new.self.rows ≡ w = c.begin_call-2.ensures.rows ∙ c.names_reserve.ensures.same.rows ∙ c.handles_reserve.ensures.same.rows ∙ c.ports_reserve.ensures.same.rows in
     let loose : c.begin_call-2.new.self.loose ≡ c.args.world.now.loose = c.begin_call-2.ensures.loose ∙ c.names_reserve.ensures.same.loose ∙ c.handles_reserve.ensures.same.loose ∙ c.ports_reserve.ensures.same.loose in
-    let made = rw (same, loose) at c.create.ensures.takes in
+    let end : Left = record { world = c.create.new.world.rows; entries = c.create.new.out.list; loose = c.create.new.world.loose } in
+    let name = option_copied c.args.name in
+    let row = c.caller-caller.ensures.row in
+    let told = rw (same, loose) at c.create.ensures.takes in
+    let made = subst (λ (k : Caller). IfOk (making w (next_birth (shown_caller k)) name) (λ bs. end ≡ left_by w c.args.out.now.list c.args.world.now.loose (creating w (shown_caller k) bs))) row told in
+    let free = subst (λ (k : Caller). IsOk (making w (next_birth (shown_caller k)) name)) row c.in_default.ensures.name in
+    let few = subst (λ (k : Caller). IsOk (handles_test w k.process 1)) row c.in_default.ensures.handles in
     record {
-      takes = rw (← c.caller-caller.ensures.row) (creates w (shown_thread c.caller-caller.result) c.args.out.now.list c.args.world.now.loose (record { world = c.create.new.world.rows; entries = c.create.new.out.list; loose = c.create.new.world.loose }) (option_copied c.args.name) c.in_default.ensures.name c.in_default.ensures.handles made);
-      outcome = rw (← c.caller-caller.ensures.row) (creates_outcome w (shown_thread c.caller-caller.result) (option_copied c.args.name) c.in_default.ensures.name c.in_default.ensures.handles);
+      takes = creates w (caller w c.args.by) c.args.out.now.list c.args.world.now.loose end name free few made;
+      outcome = creates_outcome w (caller w c.args.by) name free few;
       calls = grind arith;
     }

@@ -7,8 +7,9 @@ use Rattle.lpc_model.specs.Basics.{AddsProcess, AddsThread, DrawsOrdinal, basic,
 use Rattle.lpc_model.specs.Creation.{new_process, new_thread, second_birth}
 use Rattle.lpc_model.specs.Found.{free_handle, is_process, is_table, is_thread, process_name, thread_name}
 use Rattle.lpc_model.specs.Tests.{handle_load, next_birth}
-use Rattle.lpc_model.specs.World.{ThreadRow, World}
+use Rattle.lpc_model.specs.World.{World}
 use Rattle.lpc_rows.specs.Clauses.{thread_row, birth_next}
+use Rattle.lpc_procs.specs.declared.rows.Caller.{Caller}
 use Rattle.lpc_rows.specs.Ready.{caller}
 use Rattle.lpc_base.specs.declared.status.TheConstants.{SUCCESS}
 use Rattle.lpc_model.specs.declared.entry.CallName.TheVariants.{NtCreateProcess}
@@ -60,7 +61,7 @@ give_handle-value-requires-clause-load c =
     let w = c.args.world.now.rows in
     let rows : c.begin_call-2.new.self.rows ≡ w = c.begin_call-2.ensures.rows ∙ (c.in_ok-handles_reserve.ensures.same.rows ∙ (c.in_ok-procs_reserve.ensures.same.rows ∙ c.in_ok-thread_reserve.ensures.same.rows)) in
     let pid = c.caller-caller.result.process in
-    let process = ap (λ (t : ThreadRow). t.process) c.caller-caller.ensures.row in
+    let process = ap (λ (t : Caller). t.process) c.caller-caller.ensures.row in
     let few : handle_load w pid + 2 ≤ 256 = subst (λ p. handle_load w p + 2 ≤ 256) (sym process) c.in_default.ensures.few in
     let same = load-same w pid c.args.pid c.caller-caller.ensures.table in
     let load : handle_load c.procs_add_thread.new.self.rows pid ≡ handle_load w pid = rw (c.procs_add_thread.ensures.rows, c.procs_add_process.ensures.rows, c.procs_draw_birth-thread.ensures.step.rows, c.procs_draw_birth-process.ensures.step.rows, rows) same in
@@ -80,7 +81,7 @@ give_handle-second-requires-clause-load c =
     let w = c.args.world.now.rows in
     let rows : c.begin_call-2.new.self.rows ≡ w = c.begin_call-2.ensures.rows ∙ (c.in_ok-handles_reserve.ensures.same.rows ∙ (c.in_ok-procs_reserve.ensures.same.rows ∙ c.in_ok-thread_reserve.ensures.same.rows)) in
     let pid = c.caller-caller.result.process in
-    let process = ap (λ (t : ThreadRow). t.process) c.caller-caller.ensures.row in
+    let process = ap (λ (t : Caller). t.process) c.caller-caller.ensures.row in
     let few : handle_load w pid + 2 ≤ 256 = subst (λ p. handle_load w p + 2 ≤ 256) (sym process) c.in_default.ensures.few in
     let same = load-same w pid c.args.pid c.caller-caller.ensures.table in
     let load : handle_load c.procs_add_thread.new.self.rows pid ≡ handle_load w pid = rw (c.procs_add_thread.ensures.rows, c.procs_add_process.ensures.rows, c.procs_draw_birth-thread.ensures.step.rows, c.procs_draw_birth-process.ensures.step.rows, rows) same in
@@ -98,9 +99,9 @@ returns-clause-serves c =
     let is = c.caller-caller.ensures.row in
     let number = c.caller-caller.ensures.number in
     let pid = c.caller-caller.result.process in
-    let own : by.number ≡ tid = sym (ap (λ (t : ThreadRow). t.number) is) ∙ number in
-    let process : pid ≡ by.process = ap (λ (t : ThreadRow). t.process) is in
-    let row : thread_row w tid ≡ Some by = subst (λ n. thread_row w n ≡ Some by) number (c.caller-caller.ensures.found ∙ ap (λ t. Some t) is) in
+    let own : by.number ≡ tid = sym (ap (λ (t : Caller). t.number) is) ∙ number in
+    let process : pid ≡ by.process = ap (λ (t : Caller). t.process) is in
+    let row : thread_row w tid ≡ Some by = c.caller-caller.ensures.whole in
     let one = first-birth w tid by c.procs_draw_birth-process.result row (rw rows at c.procs_draw_birth-process.ensures.birth) in
     let two = next-birth w tid by c.procs_draw_birth-thread.result row (rw own (same-number tid)) (subst (λ v. birth_next v tid ≡ Some c.procs_draw_birth-thread.result) (c.procs_draw_birth-process.ensures.step.rows ∙ ap (λ v. basic v (DrawsOrdinal tid)) rows) c.procs_draw_birth-thread.ensures.birth) in
     let u1 = c.procs_draw_birth-process.ensures.step.rows ∙ ap (λ v. basic v (DrawsOrdinal tid)) rows in
@@ -128,14 +129,14 @@ returns-clause-serves c =
     c.give_handle-second.ensures.calls ∙ (c.give_handle-value.ensures.calls ∙ (c.procs_add_thread.ensures.calls ∙ (c.procs_add_process.ensures.calls ∙ (c.procs_draw_birth-thread.ensures.step.calls ∙ (c.procs_draw_birth-process.ensures.step.calls ∙ (c.begin_call-2.ensures.calls
     ∙ ap (λ n. n + 1) (c.in_ok-handles_reserve.ensures.same.calls ∙ (c.in_ok-procs_reserve.ensures.same.calls ∙ c.in_ok-thread_reserve.ensures.same.calls)))))))) in
     let told : c.push.new.self.list ≡ c.args.out.now.list ++ Answer by.number NtCreateProcess SUCCESS (h value ∷ first_thread second ∷ []) ∷ [] =
-    subst (λ n. c.push.new.self.list ≡ c.args.out.now.list ++ Answer n NtCreateProcess SUCCESS (h value ∷ first_thread second ∷ []) ∷ []) (ap (λ (t : ThreadRow). t.number) is) (rw (c.process_fields.ensures) at c.push.ensures.list) in
+    subst (λ n. c.push.new.self.list ≡ c.args.out.now.list ++ Answer n NtCreateProcess SUCCESS (h value ∷ first_thread second ∷ []) ∷ []) (ap (λ (t : Caller). t.number) is) (rw (c.process_fields.ensures) at c.push.ensures.list) in
     served-made tid c.args.pid c.args.tid value second by old c.give_handle-second.new.world c.args.out.now c.push.new.self refl c.in_default.ensures.found both.0 both.1 g2 told loose calls
 
 -- what a process has memory for in the end it has once that is reserved: the process that is made has none yet
 pub returns-clause-asked_handles : goal.returns-clause-asked_handles
 returns-clause-asked_handles c =
     let pid = c.caller-caller.result.process in
-    let mine : pid ≡ (caller c.args.world.now.rows c.args.by).process = ap (λ (t : ThreadRow). t.process) c.caller-caller.ensures.row in
+    let mine : pid ≡ (caller c.args.world.now.rows c.args.by).process = ap (λ (t : Caller). t.process) c.caller-caller.ensures.row in
     let made = c.give_handle-second.ensures.capacity ∙ (c.give_handle-value.ensures.capacity ∙ (c.procs_add_thread.ensures.capacity ∙ c.procs_add_process.ensures.capacity)) in
     let begun = c.procs_draw_birth-thread.ensures.capacity ∙ (c.procs_draw_birth-process.ensures.capacity ∙ c.begin_call-2.ensures.capacity) in
     let left : handle_places c.give_handle-second.new.world.capacity pid ≡ handle_places c.handles_reserve.new.self.capacity pid =
@@ -146,7 +147,7 @@ returns-clause-asked_handles c =
 
 pub returns-clause-other_places : goal.returns-clause-other_places
 returns-clause-other_places c =
-    let mine : c.caller-caller.result.process ≡ (caller c.args.world.now.rows c.args.by).process = ap (λ (t : ThreadRow). t.process) c.caller-caller.ensures.row in
+    let mine : c.caller-caller.result.process ≡ (caller c.args.world.now.rows c.args.by).process = ap (λ (t : Caller). t.process) c.caller-caller.ensures.row in
     rw (← mine) (λ other off.
     let made = c.give_handle-second.ensures.capacity ∙ (c.give_handle-value.ensures.capacity ∙ (c.procs_add_thread.ensures.capacity ∙ c.procs_add_process.ensures.capacity)) in
     let begun = c.procs_draw_birth-thread.ensures.capacity ∙ (c.procs_draw_birth-process.ensures.capacity ∙ c.begin_call-2.ensures.capacity) in

@@ -1,6 +1,7 @@
 use Rattle.std.proofs.Common.{◌≡◌, ◌∙◌, ap, subst, sym}
 use Rattle.std.specs.Prelude.{◌==◌, Ok, Err}
-use Rattle.lpc_model.specs.World.{ThreadRow, World}
+use Rattle.lpc_model.specs.World.{World}
+use Rattle.lpc_procs.specs.declared.rows.Caller.{Caller}
 use Rattle.lpc_rows.specs.Ready.{caller}
 use Rattle.lpc_death.specs.Ends.{living_process}
 use Rattle.lpc_death.proofs.OwnEnds.{served-process, served-process-refused}
@@ -11,8 +12,8 @@ returns-in-Ok-clause-served c =
     let old = c.args.world.now in
     let mid = c.begin_call.new.self in
     let rows = c.begin_call.ensures.rows in
-    let number = ap (λ (x : ThreadRow). x.number) c.caller-caller.ensures.row in
-    let process = ap (λ (x : ThreadRow). x.process) c.caller-caller.ensures.row in
+    let number = ap (λ (x : Caller). x.number) c.caller-caller.ensures.row in
+    let process = ap (λ (x : Caller). x.process) c.caller-caller.ensures.row in
     let found = subst (λ (w : World). living_process w (caller w c.args.by) c.args.process ≡ Ok c.in-Ok.pid) rows (sym c.living_process.ensures.process ∙ c.in-Ok.is) in
     served-process c.args.by c.args.code c.args.process c.in-Ok.pid _ c.answer_unless-outcome.result old mid c.end_threads.new.world c.args.out.now c.answer_unless-outcome.new.out c.end_threads.new.out found
     (ap (λ m. c.in-Ok.pid == m) process) rows c.begin_call.ensures.loose (rw number at c.answer_unless-outcome.ensures.list) c.end_threads.ensures.took c.answer_unless-outcome.ensures.outcome (c.end_threads.ensures.calls ∙ c.begin_call.ensures.calls)
@@ -22,6 +23,6 @@ returns-in-Err-clause-served c =
     let old = c.args.world.now in
     let mid = c.begin_call.new.self in
     let rows = c.begin_call.ensures.rows in
-    let number = ap (λ (x : ThreadRow). x.number) c.caller-caller.ensures.row in
+    let number = ap (λ (x : Caller). x.number) c.caller-caller.ensures.row in
     let found = subst (λ (w : World). living_process w (caller w c.args.by) c.args.process ≡ Err c.in-Err.status) rows (sym c.living_process.ensures.process ∙ c.in-Err.is) in
     served-process-refused c.args.by c.args.code c.args.process c.in-Err.status c.refuse.result old mid c.args.out.now c.refuse.new.out found rows c.begin_call.ensures.loose c.begin_call.ensures.calls (rw number at c.refuse.ensures.list) c.refuse.ensures.outcome

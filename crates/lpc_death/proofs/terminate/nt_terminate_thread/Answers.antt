@@ -1,9 +1,10 @@
 use Rattle.std.proofs.Common.{◌≡◌, ◌∙◌, [], ◌∷◌, ap, subst, sym}
 use Rattle.std.specs.Prelude.{◌==◌, Ok, Err}
 use Rattle.lpc_model.specs.Death.{code_status, end_threads}
-use Rattle.lpc_model.specs.World.{ThreadRow, World}
+use Rattle.lpc_model.specs.World.{World}
 use Rattle.lpc_model.proofs.Calls.Usable.{live-number}
 use Rattle.lpc_rows.specs.Does.{Took}
+use Rattle.lpc_procs.specs.declared.rows.Caller.{Caller}
 use Rattle.lpc_rows.specs.Ready.{caller}
 use Rattle.lpc_death.specs.Ends.{living_thread}
 use Rattle.lpc_death.proofs.OwnEnds.{served-thread, served-thread-refused}
@@ -20,7 +21,7 @@ returns-in-Ok-clause-served c =
     let n = c.in-Ok.thread.number in
     let t = caller mid.rows n in
     let rows = c.begin_call.ensures.rows in
-    let number = ap (λ (x : ThreadRow). x.number) c.caller-caller.ensures.row in
+    let number = ap (λ (x : Caller). x.number) c.caller-caller.ensures.row in
     let found = subst (λ (w : World). living_thread w (caller w c.args.by) c.args.thread ≡ Ok t) rows c.in-Ok.ensures.thread in
     let by = caller old.rows c.args.by in
     let own_is = ap (λ m. m == by.number) (sym (live-number mid.rows n t c.in-Ok.ensures.live)) in
@@ -34,6 +35,6 @@ returns-in-Err-clause-served c =
     let old = c.args.world.now in
     let mid = c.begin_call.new.self in
     let rows = c.begin_call.ensures.rows in
-    let number = ap (λ (x : ThreadRow). x.number) c.caller-caller.ensures.row in
+    let number = ap (λ (x : Caller). x.number) c.caller-caller.ensures.row in
     let found = subst (λ (w : World). living_thread w (caller w c.args.by) c.args.thread ≡ Err c.in-Err.status) rows c.in-Err.ensures.thread in
     served-thread-refused c.args.by c.args.code c.args.thread c.in-Err.status c.refuse.result old mid c.args.out.now c.refuse.new.out found rows c.begin_call.ensures.loose c.begin_call.ensures.calls (rw number at c.refuse.ensures.list) c.refuse.ensures.outcome

@@ -3,6 +3,7 @@ use Rattle.lpc_base.specs.Rows.{has}
 use Rattle.lpc_message.specs.declared.message.ClientId.{ClientId}
 use Rattle.lpc_model.specs.Found.{waits_as}
 use Rattle.lpc_model.specs.World.{ThreadRow, World}
+use Rattle.lpc_procs.specs.declared.rows.Caller.{Caller}
 use Rattle.lpc_steps.specs.Connecting.{is_answered}
 use Rattle.lpc_rows.specs.Lawful.{are_single}
 use Rattle.lpc_rows.specs.Ready.{caller, waiter}
@@ -20,14 +21,14 @@ returns-then-not-is_waiting-clause-found c =
 
 pub returns-then-is_answered-clause-found : goal.returns-then-is_answered-clause-found
 returns-then-is_answered-clause-found c =
-    answered.for_message c.args.world.now.rows (caller c.args.world.now.rows c.args.by) c.args.client c.args.identifier (Some c.args.client.thread) (found_as c.args.world.now.rows (caller c.args.world.now.rows c.args.by) c.caller-process.result.process c.args.client c.args.identifier c.is_waiting.ensures.single (sym c.is_waiting.ensures.waits ∙ search (rules, c.if-not-is_waiting.false)) (ap (λ (t : ThreadRow). t.process) c.caller-process.ensures.row) true (sym c.if-is_answered.true ∙ c.is_answered.ensures))
+    answered.for_message c.args.world.now.rows (caller c.args.world.now.rows c.args.by) c.args.client c.args.identifier (Some c.args.client.thread) (found_as c.args.world.now.rows (caller c.args.world.now.rows c.args.by) c.caller-process.result.process c.args.client c.args.identifier c.is_waiting.ensures.single (sym c.is_waiting.ensures.waits ∙ search (rules, c.if-not-is_waiting.false)) (ap (λ (k : Caller). k.process) c.caller-process.ensures.row) true (sym c.if-is_answered.true ∙ c.is_answered.ensures))
 
 pub returns-then-is_answered-clause-idle : goal.returns-then-is_answered-clause-idle
-returns-then-is_answered-clause-idle c = (found_as c.args.world.now.rows (caller c.args.world.now.rows c.args.by) c.caller-process.result.process c.args.client c.args.identifier c.is_waiting.ensures.single (sym c.is_waiting.ensures.waits ∙ search (rules, c.if-not-is_waiting.false)) (ap (λ (t : ThreadRow). t.process) c.caller-process.ensures.row) true (sym c.if-is_answered.true ∙ c.is_answered.ensures)).idle
+returns-then-is_answered-clause-idle c = (found_as c.args.world.now.rows (caller c.args.world.now.rows c.args.by) c.caller-process.result.process c.args.client c.args.identifier c.is_waiting.ensures.single (sym c.is_waiting.ensures.waits ∙ search (rules, c.if-not-is_waiting.false)) (ap (λ (k : Caller). k.process) c.caller-process.ensures.row) true (sym c.if-is_answered.true ∙ c.is_answered.ensures)).idle
 
 pub returns-then-is_answered-clause-left : goal.returns-then-is_answered-clause-left
 returns-then-is_answered-clause-left c = c.is_waiting.ensures.own.left c.args.client.thread (returns-then-is_answered-clause-idle c)
 
 pub returns-else-is_answered-clause-found : goal.returns-else-is_answered-clause-found
 returns-else-is_answered-clause-found c =
-    answered.for_message c.args.world.now.rows (caller c.args.world.now.rows c.args.by) c.args.client c.args.identifier None (found_as c.args.world.now.rows (caller c.args.world.now.rows c.args.by) c.caller-process.result.process c.args.client c.args.identifier c.is_waiting.ensures.single (sym c.is_waiting.ensures.waits ∙ search (rules, c.if-not-is_waiting.false)) (ap (λ (t : ThreadRow). t.process) c.caller-process.ensures.row) false (sym c.if-is_answered.false ∙ c.is_answered.ensures))
+    answered.for_message c.args.world.now.rows (caller c.args.world.now.rows c.args.by) c.args.client c.args.identifier None (found_as c.args.world.now.rows (caller c.args.world.now.rows c.args.by) c.caller-process.result.process c.args.client c.args.identifier c.is_waiting.ensures.single (sym c.is_waiting.ensures.waits ∙ search (rules, c.if-not-is_waiting.false)) (ap (λ (k : Caller). k.process) c.caller-process.ensures.row) false (sym c.if-is_answered.false ∙ c.is_answered.ensures))
