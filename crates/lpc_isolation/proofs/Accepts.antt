@@ -83,6 +83,9 @@ answer-found m c u w by bytes k =
       queue = reached-own m c w by.process x.queue k.fair (reached-of (names_wait x b) (is_offered x) x.received (reaches w by.process x.queue) passed);
     })))
 
+pub found-answer : (m : Group) (c : ℕ) (u w : World) (by : ThreadRow) (bytes : List ℕ) (a : ConnectAnswer) → Caller m c u w by → answer_test w by bytes ≡ Ok a → IsAnswer m c w by bytes a
+found-answer m c u w by bytes a k at = holds_ok (IsAnswer m c w by bytes) (answer_test w by bytes) a (answer-found m c u w by bytes k) at
+
 -- of the client's process and the server's
 pub record Sides (m : Group) (c : ℕ) (by : ThreadRow) (x : WaitRow) : Type 0 where
   pub port : x.port.process ≡ x.process
@@ -183,7 +186,7 @@ joinable m c u w by bytes a k is =
 server-fair : (m : Group) (c : ℕ) (by : ThreadRow) (q : Birth) → q.process ≡ by.process → is_fair_port m c (server_port (next_birth by) q) ≡ true
 server-fair m c by q same = let is : (q.process == by.process) ≡ true = rw same (same-number by.process) in rw is refl
 
-accept-fair : (m : Group) (c : ℕ) (u w : World) (by : ThreadRow) (context value : ℕ) (bytes : List ℕ) (a : ConnectAnswer) → Caller m c u w by → IsAnswer m c w by bytes a → are_fair m c w (accept_steps by context value a) ≡ true
+pub accept-fair : (m : Group) (c : ℕ) (u w : World) (by : ThreadRow) (context value : ℕ) (bytes : List ℕ) (a : ConnectAnswer) → Caller m c u w by → IsAnswer m c w by bytes a → are_fair m c w (accept_steps by context value a) ≡ true
 accept-fair m c u w by context value bytes a k is =
     let s = sides m c by a.wait is.fair is.offered is.queue in
     let j = joinable m c u w by bytes a k is in
@@ -245,7 +248,7 @@ names-thread a b c is = grind arith
 answered-client : (m : Group) (c : ℕ) (w : World) (by : ThreadRow) (bytes : List ℕ) (a : ConnectAnswer) → IsAnswer m c w by bytes a → a.wait.process ≡ a.message.header.client.process
 answered-client m c w by bytes a is = eqb-true _ _ (names-thread (a.wait.thread == a.message.header.client.thread) (a.wait.process == a.message.header.client.process) (a.wait.identifier == a.message.header.message_id) is.names)
 
-accept-led : (m : Group) (c : ℕ) (u : World) (d : Whose) (w : World) (by : ThreadRow) (context : ℕ) (bytes : List ℕ) (a : ConnectAnswer) (queue : Birth) → (m a.wait.process ≡ false → queue ≡ a.wait.queue) → Caller m c u w by → IsAnswer m c w by bytes a → m by.process ≡ true → (by.process == c) ≡ false
+pub accept-led : (m : Group) (c : ℕ) (u : World) (d : Whose) (w : World) (by : ThreadRow) (context : ℕ) (bytes : List ℕ) (a : ConnectAnswer) (queue : Birth) → (m a.wait.process ≡ false → queue ≡ a.wait.queue) → Caller m c u w by → IsAnswer m c w by bytes a → m by.process ≡ true → (by.process == c) ≡ false
     → Led m c u d w (accept_steps by context (free_handle w by.process) a) (led_accept m (view m w) by context bytes queue)
 accept-led m c u d w by context bytes a queue known k is by_in other =
     let client : m a.message.header.client.process ≡ m a.wait.process = ap m (sym (answered-client m c w by bytes a is)) in
@@ -300,19 +303,6 @@ refuse-apart m c u d w by bytes a k is out =
     other-side : (a b : Bool) → b ≡ false → implies a b ≡ true → a ≡ false
     other-side a b off is = grind arith
 
--- what the call owes
-pub on-answer : (P : List Basic → Type 0) (m : Group) (c : ℕ) (u w : World) (by : ThreadRow) (context : ℕ) (bytes : List ℕ) (accept : Bool) → Caller m c u w by
-    → ((a : ConnectAnswer) → IsAnswer m c w by bytes a → P (accept_steps by context (free_handle w by.process) a)) → ((a : ConnectAnswer) → IsAnswer m c w by bytes a → P (refuse_steps by a)) → Holds P (nt_accept_connect_port w by context bytes accept)
-unfolding nt_accept_connect_port
-on-answer P m c u w by context bytes true k one two = bind_holds (answer_test w by bytes) _ P (λ a at. bind_holds (handles_test w by.process 1) _ P (λ _ _. one a (holds_ok (IsAnswer m c w by bytes) (answer_test w by bytes) a (answer-found m c u w by bytes k) at)))
-on-answer P m c u w by context bytes false k one two = bind_holds (answer_test w by bytes) _ P (λ a at. two a (holds_ok (IsAnswer m c w by bytes) (answer_test w by bytes) a (answer-found m c u w by bytes k) at))
-
-refuse-fair : (m : Group) (c : ℕ) (w : World) (by : ThreadRow) (a : ConnectAnswer) → are_fair m c w (refuse_steps by a) ≡ true
-refuse-fair m c w by a = refl
-
-pub accept-call-fair : (m : Group) (c : ℕ) (u w : World) (by : ThreadRow) (context : ℕ) (bytes : List ℕ) (accept : Bool) → Caller m c u w by → Holds (λ bs. are_fair m c w bs ≡ true) (nt_accept_connect_port w by context bytes accept)
-accept-call-fair m c u w by context bytes accept k = on-answer (λ bs. are_fair m c w bs ≡ true) m c u w by context bytes accept k (λ a is. accept-fair m c u w by context (free_handle w by.process) bytes a k is) (λ a is. refuse-fair m c w by a)
-
 -- a refusal by another member than c
 abbrev pub led_refuse : Group → World → ThreadRow → List ℕ → List Basic
 led_refuse m v by bytes = on_ok (message_test bytes) (λ b. cond (m b.header.client.process)
@@ -331,7 +321,7 @@ refuse-lost m c u d w by bytes a k is other out =
       told = rw (k.here, other, wake-not-c m c u d a.wait a.wait.call PORT_CONNECTION_REFUSED (info a.message.body ∷ []) owned (out-other m c a.wait.process k.c_in out)) refl;
     }
 
-refuse-led : (m : Group) (c : ℕ) (u : World) (d : Whose) (w : World) (by : ThreadRow) (bytes : List ℕ) (a : ConnectAnswer) → Caller m c u w by → IsAnswer m c w by bytes a → m by.process ≡ true → (by.process == c) ≡ false
+pub refuse-led : (m : Group) (c : ℕ) (u : World) (d : Whose) (w : World) (by : ThreadRow) (bytes : List ℕ) (a : ConnectAnswer) → Caller m c u w by → IsAnswer m c w by bytes a → m by.process ≡ true → (by.process == c) ≡ false
     → Led m c u d w (refuse_steps by a) (led_refuse m (view m w) by bytes)
 refuse-led m c u d w by bytes a k is by_in other =
     let client : m a.message.header.client.process ≡ m a.wait.process = ap m (sym (answered-client m c w by bytes a is)) in
@@ -348,17 +338,6 @@ refuse-led m c u d w by bytes a k is by_in other =
 abbrev pub led_answer : Group → World → ThreadRow → ℕ → List ℕ → Bool → Birth → List Basic
 led_answer m v by context bytes true queue = led_accept m v by context bytes queue
 led_answer m v by context bytes false queue = led_refuse m v by bytes
-
-pub accept-call-led : (m : Group) (c : ℕ) (u : World) (d : Whose) (w : World) (by : ThreadRow) (context : ℕ) (bytes : List ℕ) (accept : Bool) (queue : Birth) → Caller m c u w by → ((a : ConnectAnswer) → answer_test w by bytes ≡ Ok a → m a.wait.process ≡ false → queue ≡ a.wait.queue) → m by.process ≡ true → (by.process == c) ≡ false
-    → Holds (λ bs. Led m c u d w bs (led_answer m (view m w) by context bytes accept queue)) (nt_accept_connect_port w by context bytes accept)
-unfolding nt_accept_connect_port
-accept-call-led m c u d w by context bytes true queue k known by_in other =
-    bind_holds (answer_test w by bytes) _ _ (λ a at. bind_holds (handles_test w by.process 1) _ (λ bs. Led m c u d w bs (led_answer m (view m w) by context bytes true queue)) (λ _ _.
-    let is = holds_ok (IsAnswer m c w by bytes) (answer_test w by bytes) a (answer-found m c u w by bytes k) at in
-    accept-led m c u d w by context bytes a queue (known a at) k is by_in other))
-accept-call-led m c u d w by context bytes false queue k known by_in other =
-    bind_holds (answer_test w by bytes) _ (λ bs. Led m c u d w bs (led_answer m (view m w) by context bytes false queue)) (λ a at.
-    refuse-led m c u d w by bytes a k (holds_ok (IsAnswer m c w by bytes) (answer_test w by bytes) a (answer-found m c u w by bytes k) at) by_in other)
 
 pub c-side : (m : Group) (c : ℕ) (by : ThreadRow) (x : WaitRow) → m c ≡ true → by.process ≡ c → is_fair_wait m c x ≡ true → is_offered x ≡ true → x.queue.process ≡ by.process → m x.process ≡ true
 c-side m c by x c_in mine fair offered queue =

@@ -1,14 +1,13 @@
 -- An outsider's call: the view loses only waits whose wakes are told.
-use Rattle.lpc_base.specs.Rows.{first}
-use Rattle.lpc_isolation.proofs.Accepts.{IsAnswer, accept-apart, answer-found, refuse-apart}
+use Rattle.lpc_isolation.proofs.Accepts.{IsAnswer, accept-apart, refuse-apart, found-answer}
 use Rattle.lpc_isolation.proofs.Alone.{HasFineRows}
 use Rattle.lpc_isolation.proofs.Apart.{are_apart}
 use Rattle.lpc_isolation.proofs.Callers.{unseen-thread}
 use Rattle.lpc_isolation.proofs.Closes.{caller-sure, handle-good}
-use Rattle.lpc_isolation.proofs.Completes.{IsCompletable, completable, complete-apart}
+use Rattle.lpc_isolation.proofs.Completes.{complete-apart, found-completion}
 use Rattle.lpc_isolation.proofs.Connects.{connect-apart, connect-fine}
 use Rattle.lpc_isolation.proofs.Create.{named-apart, unnamed-apart}
-use Rattle.lpc_isolation.proofs.Deeds.{AreTame, Deeds, gives, more, none, numbers, registers}
+use Rattle.lpc_isolation.proofs.Deeds.{AreTame, Deeds, gives, more, none, numbers, registers, any-tame}
 use Rattle.lpc_isolation.proofs.Doomed.{doomed-part, doomed-whose, ended, steady}
 use Rattle.lpc_isolation.proofs.Fair.{Fair, keeps-fair}
 use Rattle.lpc_isolation.proofs.Listens.{listen-apart}
@@ -16,16 +15,14 @@ use Rattle.lpc_isolation.proofs.Receive.{queue-own, receivable, received-apart, 
 use Rattle.lpc_isolation.proofs.Reply.{wakes-apart}
 use Rattle.lpc_isolation.proofs.Requests.{request-apart}
 use Rattle.lpc_isolation.proofs.Seen.{handle-own}
-use Rattle.lpc_isolation.proofs.Sends.{Caller, IsSendable, Named, datagram-apart, named-port, sendable, tested-sendable}
-use Rattle.lpc_isolation.proofs.Tame.{object-own, registers-own}
-use Rattle.lpc_model.proofs.Calls.Holding.{holds_ok}
+use Rattle.lpc_isolation.proofs.Sends.{Caller, datagram-apart, found-port, found-request, found-datagram}
+use Rattle.lpc_isolation.proofs.FairDeeds.{object-own, registers-own}
 use Rattle.lpc_model.specs.Basics.{Basic, basic, world_after}
 use Rattle.lpc_model.specs.Circle.{Group, Whose, owner}
-use Rattle.lpc_model.specs.Connect.{ConnectAnswer, answer_test, complete_test}
+use Rattle.lpc_model.specs.Connect.{ConnectAnswer, answer_test}
 use Rattle.lpc_model.specs.Fields.{h}
-use Rattle.lpc_model.specs.Found.{fits, free_handle}
-use Rattle.lpc_model.specs.Message.{asks}
-use Rattle.lpc_model.specs.Request.{datagram_send_test, receive_steps, send_test}
+use Rattle.lpc_model.specs.Found.{free_handle}
+use Rattle.lpc_model.specs.Request.{receive_steps}
 use Rattle.lpc_model.specs.Tests.{port_test}
 use Rattle.lpc_model.specs.World.{PortRow, ThreadRow, World}
 use Rattle.std.proofs.Common.{List, Some, [], ap, false, refl, true, ℕ, ◌∙◌, ◌∷◌, ◌≡◌}
@@ -50,12 +47,12 @@ apart-deeds m c u d w by k out = record {
   listens = λ handle p o at first _. listen-apart m c u d w by p o first k.here out (own handle p at);
   refuses = λ context bytes a at _. refuse-apart m c u d w by bytes a k (answers bytes a at) out;
   accepts = λ context bytes a at _. accept-apart m c u d w by context (free_handle w by.process) bytes a k (answers bytes a at) out;
-  completes = λ handle r at _. complete-apart m c u d w by handle (free_handle w r.wait.process) r k (holds_ok (IsCompletable m c w by handle) (complete_test w by handle) r (completable m c u w by handle k) at) out;
+  completes = λ handle r at _. complete-apart m c u d w by handle (free_handle w r.wait.process) r k (found-completion m c u w by handle r k at) out;
   sends = λ handle bytes s at _.
-      let is = holds_ok (IsSendable m c w by handle bytes) (datagram_send_test w by handle bytes) s (tested-sendable m c u w by handle bytes k) at in
+      let is = found-datagram m c u w by handle bytes s k at in
       datagram-apart m c u d w by s.port s.queue s.message k is.named is.to out;
   asks = λ handle bytes s at _.
-      let is = holds_ok (IsSendable m c w by handle bytes) (send_test w by handle bytes) s (sendable m c u w by handle bytes k) at in
+      let is = found-request m c u w by handle bytes s k at in
       request-apart m c u d w by s.port s.queue s.message k is.named is.to out;
   replies = λ handle bytes p b x at read fits _. rw (k.here, out) (wakes-apart m c u d w p b x k.c_in k.fair k.owned (ap m (own handle p at) ∙ out) fits);
   receives = λ handle bytes a p q replied o is first _.
@@ -69,7 +66,7 @@ apart-deeds m c u d w by k out = record {
       let here : r.object.birth.process ≡ by.process = handle-own m c w by.process handle r k.fair at in
       let g = handle-good m c by.process r here in
       and_from _ _ (rw (k.here, out) refl) (g.apart u d w (caller-sure m c u w by k) (ap m here ∙ out));
-  tames = λ call name fields bs t _. rw (k.here, out) (aparts m c u d w by w bs t out k.fair k.fair k.own);
+  tames = any-tame (λ call name fields bs tame t _. rw (k.here, out) (aparts m c u d w by w bs t out k.fair k.fair k.own));
   ends = λ call name own pid code ts doomed _.
       let p = doomed-part m c u w by own pid code ts k doomed in
       let is = p.apart d w (steady m c u w by k) (doomed-whose m c w by own pid ts k.fair doomed ∙ out) in
@@ -77,7 +74,7 @@ apart-deeds m c u d w by k out = record {
 }
   where
     own : (handle : ℕ) (p : PortRow) → port_test w by handle ≡ Ok p → p.birth.process ≡ by.process
-    own handle p at = (holds_ok (Named m c w by) (port_test w by handle) p (named-port m c u w by handle k) at).process
+    own handle p at = (found-port m c u w by handle p k at).process
 
     answers : (bytes : List ℕ) (a : ConnectAnswer) → answer_test w by bytes ≡ Ok a → IsAnswer m c w by bytes a
-    answers bytes a at = holds_ok (IsAnswer m c w by bytes) (answer_test w by bytes) a (answer-found m c u w by bytes k) at
+    answers bytes a at = found-answer m c u w by bytes a k at

@@ -214,23 +214,6 @@ basic-ours m w (Cuts b) is ok = rw (shown-cut m b is w.ports) refl
 basic-ours m w (Unbinds b) is ok = rw (which-without (our_binding m) (is_name same_birth b) w.bindings) refl
 basic-ours m w (DropsHandle pid value) is ok = rw (kept-change (our_table m) (is_table pid) (without_handle value) (λ t. refl) w.handles) refl
 
--- a step that is seen is one
-seen-ours : (m : Group) (w : World) (b : Basic) → sees m w b ≡ true → is_ours m w b ≡ true
-seen-ours m w (Awaits x) is = is
-seen-ours m w (Enters x) is = is
-seen-ours m w (Takes q) is = is
-seen-ours m w (TakesConnect q) is = is
-seen-ours m w (AddsProcess p) is = is
-seen-ours m w (AddsThread t) is = is
-seen-ours m w (Makes p) is = is
-seen-ours m w (Joins client server context) is = is
-seen-ours m w (Binds path node) is = is
-seen-ours m w (Cuts b) is = is
-seen-ours m w b is = refl
-
-pub basic-seen : (m : Group) (w : World) (b : Basic) → sees m w b ≡ true → is_regular m w b ≡ true → view m (basic w b) ≡ basic (view m w) b
-basic-seen m w b is ok = basic-ours m w b (seen-ours m w b is) ok
-
 -- Unseen steps
 joined-out : (m : Group) (client server : Birth) (context : ℕ) → m client.process ≡ false → m server.process ≡ false → (p : PortRow) → our_port m p ≡ true → seen_port m (joined client server context p) ≡ seen_port m p
 joined-out m client server context one two p kept = at (is_port client p) (is_port server p) refl refl
@@ -335,25 +318,6 @@ basic-unseen m w (Unbinds b) out ok = rw (kept-without_out (our_binding m) (is_n
 basic-unseen m w (DropsHandle pid value) out ok = rw (kept-change_out (our_table m) (is_table pid) (without_handle value) (λ t. refl) (table-out m pid out) w.handles) refl
 
 -- Lists of steps
--- what the view shows of a list of steps
-abbrev pub visible : Group → World → List Basic → List Basic
-visible m w [] = []
-visible m w (b ∷ bs) = cond (sees m w b) (b ∷ visible m (basic w b) bs) (visible m (basic w b) bs)
-
-abbrev pub are_regular : Group → World → List Basic → Bool
-are_regular m w [] = true
-are_regular m w (b ∷ bs) = is_regular m w b && are_regular m (basic w b) bs
-
-run-one : (m : Group) (w : World) (b : Basic) (bs : List Basic) (s : Bool) → sees m w b ≡ s → is_regular m w b ≡ true → view m (world_after w (b ∷ bs)) ≡ world_after (view m (basic w b)) (visible m (basic w b) bs)
-    → view m (world_after w (b ∷ bs)) ≡ world_after (view m w) (cond s (b ∷ visible m (basic w b) bs) (visible m (basic w b) bs))
-run-one m w b bs true is ok rest = rest ∙ ap (λ v. world_after v (visible m (basic w b) bs)) (basic-seen m w b is ok)
-run-one m w b bs false is ok rest = rest ∙ ap (λ v. world_after v (visible m (basic w b) bs)) (basic-unseen m w b is ok)
-
--- the view behind a list of steps is what the visible ones leave of the view before it
-pub run-view : (m : Group) (w : World) (bs : List Basic) → are_regular m w bs ≡ true → view m (world_after w bs) ≡ world_after (view m w) (visible m w bs)
-run-view m w [] ok = refl
-run-view m w (b ∷ bs) ok = run-one m w b bs (sees m w b) refl (first-true _ _ ok) (run-view m (basic w b) bs (second-true _ _ ok))
-
 -- steps that are all members'
 abbrev pub are_ours : Group → World → List Basic → Bool
 are_ours m w [] = true

@@ -1,11 +1,20 @@
 -- Births of processes and threads in the run whose rows never go: what is made next has a birth that no row has.
+use Rattle.lpc_model.specs.declared.message.Message.{Message}
+use Rattle.lpc_message.specs.declared.kind.TheConstants.{DATAGRAM, REQUEST}
+use Rattle.lpc_model.specs.Counts.{asked, duplicate_steps}
+use Rattle.lpc_model.specs.Close.{close_handle, close_steps}
+use Rattle.lpc_model.specs.Entering.{enter, received_steps, row_of}
+use Rattle.lpc_model.specs.Request.{datagram_start, datagram_steps, given_reply, receive_steps, reply_steps, reply_test, request_start, request_steps, sent_by}
+use Rattle.lpc_model.specs.Connect.{accept_steps, client_port, complete_steps, connect_start, connect_steps, connection_request, create_steps, listen_steps, named_steps, refuse_steps, unnamed_steps}
+use Rattle.lpc_model.proofs.Calls.Outcomes.{Outcomes}
+use Rattle.lpc_isolation.proofs.Deeds.{served-does}
 use Rattle.std.proofs.Common.{◌≡◌, ℕ, ◌+◌, List, [], ◌∷◌, ◌++◌, Bool, true, false, not, Option, Some, None, refl, ap, sym, subst, arith}
-use Rattle.std.specs.Prelude.{◌&&◌, ◌||◌, ◌==◌, nat_lt, Result}
+use Rattle.std.specs.Prelude.{◌&&◌, ◌||◌, ◌==◌, nat_lt, Ok}
 use Rattle.std.proofs.lemmas.Bool.{and_from, eqb-true, false_from_ne_true}
 use Rattle.std.proofs.lemmas.Bool.Decides.{nat_tests}
 use Rattle.std.proofs.Math.Bool.{or-true}
-use Rattle.lpc_base.specs.Rows.{change, every, has, when}
-use Rattle.lpc_base.proofs.RowWords.{every-change, every-more, every-push, every-without, has-kept, has-push}
+use Rattle.lpc_base.specs.Rows.{change, every, has}
+use Rattle.lpc_base.proofs.RowWords.{every-change, every-more, every-push, every-without, has-kept, has-push, every-append}
 use Rattle.lpc_base.proofs.RowMaps.{every-both, every-change_to, every-first}
 use Rattle.lpc_base.proofs.Bools.{first-true, or-last, same-number, second-off, second-true}
 use Rattle.lpc_base.proofs.Births.{birth-same}
@@ -14,26 +23,23 @@ use Rattle.lpc_model.proofs.Lives.ThreadsOnce.{new-once}
 use Rattle.lpc_model.specs.Lawful.{HasThreadsOnce}
 use Rattle.lpc_names.specs.Walk.{LinkTo, Stands}
 use Rattle.lpc_names.specs.declared.names.Found.TheVariants.{Directory}
-use Rattle.lpc_base.specs.declared.status.Status.{Status}
 use Rattle.lpc_base.specs.declared.status.TheConstants.{OBJECT_NAME_COLLISION}
 use Rattle.lpc_model.specs.declared.entry.ObjectKind.{ObjectKind}
 use Rattle.lpc_model.specs.declared.entry.ObjectKind.TheVariants as kind
 use Rattle.lpc_model.specs.declared.entry.Word.TheVariants as word
-use Rattle.lpc_model.specs.declared.line.ProcArg.{ProcArg}
 use Rattle.lpc_model.specs.Grammar.{has_call_ids, has_ids}
 use Rattle.lpc_model.specs.Words.{is_id}
-use Rattle.lpc_model.specs.World.{Birth, ProcessRow, ThreadRow, UsedThread, WaitRow, World, no_rows}
-use Rattle.lpc_model.specs.Found.{is_live, is_live_thread, is_thread, live_thread, same_birth, wait_of, was_process, was_thread}
+use Rattle.lpc_model.specs.World.{Birth, ProcessRow, ThreadRow, UsedThread, WaitRow, World, no_rows, MessageRow, PortRow}
+use Rattle.lpc_model.specs.Found.{is_live, is_live_thread, is_thread, live_thread, same_birth, wait_of, was_process, was_thread, free_handle}
 use Rattle.lpc_model.specs.Basics.{AddsProcess, AddsThread, Basic, Binds, Dies, DrawsIdentifier, DrawsOrdinal, Frees, Registers, Unregisters, basic, ended, freed, past_identifier, past_ordinal, registering, unregistering, world_after}
 use Rattle.lpc_model.specs.Named.{free_name, spelled_name}
-use Rattle.lpc_model.specs.Lines.{ScriptCall, ScriptLine, boot, create_process, create_thread, dir, link, query_object, register_thread_terminate_port, run, terminate_process, terminate_thread, thread}
+use Rattle.lpc_model.specs.Lines.{ScriptCall, ScriptLine, boot, dir, link, run, thread}
 use Rattle.lpc_model.specs.Machine.{bare_steps, boot_line, dir_line, directive_birth, link_line, name_of_call, new_process, new_thread, thread_line, thread_test, unused_test}
-use Rattle.lpc_model.specs.Creation.{nt_create_process, nt_create_thread, second_birth}
-use Rattle.lpc_model.specs.Tests.{next_birth, own_handle}
-use Rattle.lpc_model.proofs.Calls.Creating.{process-made, tested-further, thread-made}
-use Rattle.lpc_model.proofs.Steps.Ending.{is_ending, process-ending, thread-ending}
+use Rattle.lpc_model.specs.Creation.{second_birth, making_process, making_thread}
+use Rattle.lpc_model.specs.Tests.{next_birth}
+use Rattle.lpc_model.proofs.Calls.Creating.{tested-further}
+use Rattle.lpc_model.proofs.Steps.Ending.{answered_end, ending-enter, ending-receipt, handle-ending, is_ending, steps-end}
 use Rattle.lpc_model.proofs.Calls.Holding.{Holds, bind_holds, directed_holds, holds-more, holds_ok, not_refused, settled_holds}
-use Rattle.lpc_model.proofs.Undying.{is_undying, register_holds, service-undying}
 use Rattle.lpc_model.proofs.Calls.Usable.{live-number}
 use Rattle.lpc_isolation.proofs.Served.{served, served_ready, served_step, served_thread}
 
@@ -243,54 +249,85 @@ made-by : (u : World) (b : Birth) (n : ℕ) → was_thread u b.maker ≡ true �
 made-by u b n used = rw used (or-true ((b.maker == 0) && (b.ordinal == n)))
 
 -- Calls
-none_holds : (u : World) (r : Result (List Basic) Status) → Born u → Holds (λ bs. every makes_none bs ≡ true) r → Holds (λ bs. Born (world_after u bs)) r
-none_holds u r o none = holds-more (λ bs. every makes_none bs ≡ true) (λ bs. Born (world_after u bs)) r (λ bs all. nones-born u bs all o) none
-
-undying-none : (b : Basic) → is_undying b ≡ true → makes_none b ≡ true
-undying-none (AddsProcess p) is = absurd (cc)
-undying-none (AddsThread t) is = absurd (cc)
-undying-none b is = refl
-
 ending-none : (b : Basic) → is_ending b ≡ true → makes_none b ≡ true
 ending-none (AddsProcess p) is = absurd (cc)
 ending-none (AddsThread t) is = absurd (cc)
 ending-none b is = refl
 
-create-process-born : (u : World) (by : ThreadRow) (pid tid : ℕ) → live_thread u by.number ≡ Some by → (is_id pid && is_id tid) ≡ true → Born u → Holds (λ bs. Born (world_after u bs)) (nt_create_process u by pid tid)
-create-process-born u by pid tid live ids o =
-    process-made (λ bs. Born (world_after u bs)) u by pid tid (λ new unused.
-    let v : World = basic (basic u (DrawsOrdinal by.number)) (DrawsOrdinal by.number) in
-    let used : was_thread u by.number ≡ true = used-live u by live o in
-    let two : Born v = nones-born u (DrawsOrdinal by.number ∷ DrawsOrdinal by.number ∷ []) refl o in
-    let twice : v.threads ≡ change (is_thread by.number) (λ t. past_ordinal (past_ordinal t)) u.threads = change-twice (is_thread by.number) past_ordinal (λ t. refl) u.threads in
-    let first_past : every (is_before (next_birth by)) v.threads ≡ true = rw twice (drawn-past u by (λ t. past_ordinal (past_ordinal t)) (next_birth by) live refl (λ t. refl) (less-second by.next_ordinal) o) in
-    let next_past : every (is_before (second_birth by)) v.threads ≡ true = rw twice (drawn-past u by (λ t. past_ordinal (past_ordinal t)) (second_birth by) live refl (λ t. refl) (less-next (by.next_ordinal + 1)) o) in
-    let three = process-born v (new_process pid (Some by.process) (next_birth by)) (made-by v (next_birth by) pid used) first_past two in
-    let four = thread-born (basic v (AddsProcess (new_process pid (Some by.process) (next_birth by)))) (new_thread tid pid (second_birth by)) (made-by v (second_birth by) tid used) next_past unused (is-id tid (second-true _ _ ids)) three in
-    record { processes = four.processes; threads = four.threads; past = four.past; numbers = four.numbers; uses = four.uses; zero = four.zero; once = four.once })
+enter-none : (m : MessageRow) (v : World) → every makes_none (enter m v) ≡ true
+enter-none m v = every-more is_ending makes_none ending-none (enter m v) (ending-enter m v)
 
-create-thread-born : (u : World) (by : ThreadRow) (target : ProcArg) (tid : ℕ) → live_thread u by.number ≡ Some by → is_id tid ≡ true → Born u → Holds (λ bs. Born (world_after u bs)) (nt_create_thread u by target tid)
-create-thread-born u by target tid live id o =
-    thread-made (λ bs. Born (world_after u bs)) u by target tid (λ pid lives unused.
-    let v : World = basic u (DrawsOrdinal by.number) in
-    let used : was_thread u by.number ≡ true = used-live u by live o in
-    let two : Born v = none-born u (DrawsOrdinal by.number) refl o in
-    let next_past : every (is_before (next_birth by)) v.threads ≡ true = drawn-past u by past_ordinal (next_birth by) live refl (λ t. refl) (less-next by.next_ordinal) o in
-    let three = thread-born v (new_thread tid pid (next_birth by)) (made-by v (next_birth by) tid used) next_past unused (is-id tid id) two in
-    record { processes = three.processes; threads = three.threads; past = three.past; numbers = three.numbers; uses = three.uses; zero = three.zero; once = three.once })
+taken-none : (m : MessageRow) → every makes_none (received_steps m) ≡ true
+taken-none m = every-more is_ending makes_none ending-none (received_steps m) (ending-receipt m)
 
-call-born : (u : World) (by : ThreadRow) (call : ScriptCall) → live_thread u by.number ≡ Some by → has_call_ids call ≡ true → Born u → Holds (λ bs. Born (world_after u bs)) (served u by call)
-call-born u by (create_process pid tid) live ids o = create-process-born u by pid tid live ids o
-call-born u by (create_thread target tid) live ids o = create-thread-born u by target tid live ids o
-call-born u by (query_object handle) live ids o = bind_holds (own_handle u by handle) _ (λ bs. Born (world_after u bs)) (λ r _. o)
-call-born u by (terminate_thread target code) live ids o = none_holds u _ o (holds-more (λ bs. every is_ending bs ≡ true) (λ bs. every makes_none bs ≡ true) _ (λ bs all. every-more is_ending makes_none ending-none bs all) (thread-ending u by target code))
-call-born u by (terminate_process target code) live ids o = none_holds u _ o (holds-more (λ bs. every is_ending bs ≡ true) (λ bs. every makes_none bs ≡ true) _ (λ bs all. every-more is_ending makes_none ending-none bs all) (process-ending u by target code))
-call-born u by (register_thread_terminate_port handle) live ids o = register_holds (λ bs. Born (world_after u bs)) u by handle (λ b new _. at b new)
-  where
-    at : (b : Birth) (new : Bool) → Born (world_after u (when new (Registers by.number b ∷ [])))
-    at b true = none-born u (Registers by.number b) refl o
-    at b false = o
-call-born u by call live ids o = none_holds u _ o (holds-more (λ bs. every is_undying bs ≡ true) (λ bs. every makes_none bs ≡ true) _ (λ bs all. every-more is_undying makes_none undying-none bs all) (service-undying u by call refl))
+given-none : (u : World) (port : PortRow) (o : Option Message) → Holds (λ bs. every makes_none bs ≡ true) (given_reply u port o)
+given-none u port None = refl
+given-none u port (Some m) = bind_holds (reply_test u port m) _ (λ bs. every makes_none bs ≡ true) (λ x _. refl)
+
+module _ (u : World) (by : ThreadRow) (live : live_thread u by.number ≡ Some by) (o : Born u) where
+  used : was_thread u by.number ≡ true
+  used = used-live u by live o
+
+  spawned : (pid tid : ℕ) → (is_id pid && is_id tid) ≡ true → was_thread u tid ≡ false → Born (world_after u (making_process u by pid tid))
+  spawned pid tid ids unused =
+      let v : World = basic (basic u (DrawsOrdinal by.number)) (DrawsOrdinal by.number) in
+      let two : Born v = nones-born u (DrawsOrdinal by.number ∷ DrawsOrdinal by.number ∷ []) refl o in
+      let twice : v.threads ≡ change (is_thread by.number) (λ t. past_ordinal (past_ordinal t)) u.threads = change-twice (is_thread by.number) past_ordinal (λ t. refl) u.threads in
+      let first_past : every (is_before (next_birth by)) v.threads ≡ true = rw twice (drawn-past u by (λ t. past_ordinal (past_ordinal t)) (next_birth by) live refl (λ t. refl) (less-second by.next_ordinal) o) in
+      let next_past : every (is_before (second_birth by)) v.threads ≡ true = rw twice (drawn-past u by (λ t. past_ordinal (past_ordinal t)) (second_birth by) live refl (λ t. refl) (less-next (by.next_ordinal + 1)) o) in
+      let three = process-born v (new_process pid (Some by.process) (next_birth by)) (made-by v (next_birth by) pid used) first_past two in
+      let four = thread-born (basic v (AddsProcess (new_process pid (Some by.process) (next_birth by)))) (new_thread tid pid (second_birth by)) (made-by v (second_birth by) tid used) next_past unused (is-id tid (second-true _ _ ids)) three in
+      record { processes = four.processes; threads = four.threads; past = four.past; numbers = four.numbers; uses = four.uses; zero = four.zero; once = four.once }
+
+  started : (tid pid : ℕ) → is_id tid ≡ true → was_thread u tid ≡ false → Born (world_after u (making_thread u by tid pid))
+  started tid pid id unused =
+      let v : World = basic u (DrawsOrdinal by.number) in
+      let two : Born v = none-born u (DrawsOrdinal by.number) refl o in
+      let next_past : every (is_before (next_birth by)) v.threads ≡ true = drawn-past u by past_ordinal (next_birth by) live refl (λ t. refl) (less-next by.next_ordinal) o in
+      let three = thread-born v (new_thread tid pid (next_birth by)) (made-by v (next_birth by) tid used) next_past unused (is-id tid id) two in
+      record { processes = three.processes; threads = three.threads; past = three.past; numbers = three.numbers; uses = three.uses; zero = three.zero; once = three.once }
+
+  nones : (bs : List Basic) → every makes_none bs ≡ true → Born (world_after u bs)
+  nones bs all = nones-born u bs all o
+
+  born-outcomes : Outcomes u by (λ call bs. has_call_ids call ≡ true → Born (world_after u bs))
+  born-outcomes = record {
+    creates = λ _. nones (create_steps by (unnamed_steps (next_birth by)) (free_handle u by.process)) refl;
+    founds = λ name path free _. nones (create_steps by (named_steps (next_birth by) path) (free_handle u by.process)) refl;
+    connects = λ name bytes q at _.
+        let y = connection_request by bytes in
+        nones (connect_steps by q y u) (enter-none (row_of q (client_port by q) y) (world_after u (connect_start by q y)));
+    listens = λ handle port m l at _. nones (listen_steps by port.birth (Some m)) (taken-none m);
+    awaits_connect = λ handle port l at _. nones (listen_steps by port.birth None) refl;
+    refuses = λ context bytes a at _. nones (refuse_steps by a) refl;
+    accepts = λ context bytes a at _. nones (accept_steps by context (free_handle u by.process) a) refl;
+    completes = λ handle r at _. nones (complete_steps by (free_handle u r.wait.process) r) refl;
+    sends = λ handle bytes s at _.
+        let y = sent_by by DATAGRAM s.message in
+        nones (datagram_steps by s.port s.queue y u) (enter-none (row_of s.queue s.port y) (world_after u (datagram_start by)));
+    asks = λ handle bytes s at _.
+        let y = sent_by by REQUEST s.message in
+        nones (request_steps by s.port s.queue y u) (enter-none (row_of s.queue s.port y) (world_after u (request_start by s.port.birth s.queue y)));
+    replies = λ handle bytes port m x at read fits _. nones (reply_steps by x m) refl;
+    receives = λ handle bytes a port queue replied m r at _. nones (receive_steps by port queue replied (Some m)) (every-append makes_none replied _ (given port a replied r.reply_made) (taken-none m));
+    awaits_message = λ handle bytes a port queue replied r at _. nones (receive_steps by port queue replied None) (every-append makes_none replied _ (given port a replied r.reply_made) refl);
+    registers = λ handle port at new few _. none-born u (Registers by.number port.birth) refl o;
+    repeats = λ handle port at known _. o;
+    closes = λ handle r at _. nones (close_steps by r u) (every-more is_ending makes_none ending-none (close_handle by.process r u) (handle-ending by.process r u));
+    duplicates = λ handle access r at _. nones (duplicate_steps by (free_handle u by.process) r (asked r access)) refl;
+    queries = λ handle r at _. o;
+    spawns = λ pid tid new unused ids. spawned pid tid ids unused;
+    starts = λ target tid pid at lives unused id. started tid pid id unused;
+    ends = λ call name own pid code ts doomed _. let bs = answered_end by name own pid code ts u in nones bs (every-more is_ending makes_none ending-none bs (steps-end u by name own pid code ts));
+  }
+    where
+      given : (port : PortRow) (a : Option Message) (replied : List Basic) → given_reply u port a ≡ Ok replied → every makes_none replied ≡ true
+      given port a replied at = holds_ok (λ bs. every makes_none bs ≡ true) (given_reply u port a) replied (given-none u port a) at
+
+  call-born : (call : ScriptCall) → has_call_ids call ≡ true → Holds (λ bs. Born (world_after u bs)) (served u by call)
+  call-born call ids =
+      let P : ScriptCall → List Basic → Type 0 = λ call bs. has_call_ids call ≡ true → Born (world_after u bs) in
+      holds-more (P call) (λ bs. Born (world_after u bs)) (served u by call) (λ bs born. born ids) (served-does u by P born-outcomes (λ handle r fields at _. o) call)
 
 -- Directives
 boot-born : (u : World) (pid tid : ℕ) → (is_id pid && is_id tid) ≡ true → Born u → Holds (λ bs. Born (world_after u bs)) (boot_line u pid tid)
@@ -320,7 +357,7 @@ link-born u text target o = bind_holds (spelled_name target) _ (λ bs. Born (wor
 -- Lines
 ready-born : (u : World) (by : ThreadRow) (call : ScriptCall) (o : Option WaitRow) → live_thread u by.number ≡ Some by → has_call_ids call ≡ true → Born u → Born (world_after u (served_ready by call o u))
 ready-born u by call (Some x) live ids o = o
-ready-born u by call None live ids o = settled_holds (λ bs. Born (world_after u bs)) by (name_of_call call) (served u by call) (call-born u by call live ids o) (λ _ _. o)
+ready-born u by call None live ids o = settled_holds (λ bs. Born (world_after u bs)) by (name_of_call call) (served u by call) (call-born u by live o call ids) (λ _ _. o)
 
 thread-line-born : (u : World) (tid : ℕ) (call : ScriptCall) (t : Option ThreadRow) → live_thread u tid ≡ t → has_call_ids call ≡ true → Born u → Born (world_after u (served_thread tid call t u))
 thread-line-born u tid call None live ids o = o

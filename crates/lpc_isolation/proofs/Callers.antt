@@ -27,9 +27,6 @@ use Rattle.lpc_isolation.proofs.Apart.{heard, is_heard}
 pub tells-apart : (m : Group) (u : World) (d : Whose) (tid pid : ℕ) (call : CallName) (status : Status) (fields : List Field) → owner u tid ≡ Some pid → m pid ≡ false → is_heard m u d (entry.Answer tid call status fields) ≡ false
 tells-apart m u d tid pid call status fields own out = rw own out
 
-pub waits-apart : (m : Group) (u : World) (d : Whose) (tid pid : ℕ) (call : CallName) (fields : List Field) → owner u tid ≡ Some pid → m pid ≡ false → is_heard m u d (entry.Waits tid call fields) ≡ false
-waits-apart m u d tid pid call fields own out = rw own out
-
 -- an outsider's thread has no row in the view
 homed-same : (w : World) (tid pid : ℕ) (t : ThreadRow) → owner w tid ≡ Some pid → is_homed w.used_threads t ≡ true → is_thread tid t ≡ true → t.process ≡ pid
 homed-same w tid pid t own homed is =

@@ -1,54 +1,45 @@
 -- NtClose in a view.
-use Rattle.std.proofs.Common.{◌≡◌, ℕ, List, [], ◌∷◌, ◌++◌, Bool, true, false, cond, Some, None, refl, ap, sym, subst, ◌∙◌, arith}
+use Rattle.std.proofs.Common.{◌≡◌, ℕ, List, [], ◌∷◌, ◌++◌, Bool, true, false, cond, Some, refl, ap, sym, subst, ◌∙◌, arith}
 use Rattle.std.specs.Prelude.{◌&&◌, ◌==◌, length, Ok}
-use Rattle.std.proofs.lemmas.Bool.{and_from, eqb-true, false_from_ne_true}
+use Rattle.std.proofs.lemmas.Bool.{eqb-true, false_from_ne_true}
 use Rattle.std.proofs.lemmas.List.Elements.{filter-append}
 use Rattle.lpc_base.specs.Rows.{each, every, first, when, which}
-use Rattle.lpc_base.proofs.RowWords.{every-append, every-more}
+use Rattle.lpc_base.proofs.RowWords.{every-append}
 use Rattle.lpc_base.proofs.RowMaps.{every-first}
-use Rattle.lpc_base.proofs.Bools.{first-true, same-number, second-true}
+use Rattle.lpc_base.proofs.Bools.{first-true, second-true}
 use Rattle.lpc_base.specs.declared.status.TheConstants.{INVALID_HANDLE, SUCCESS}
 use Rattle.lpc_model.specs.declared.entry.CallName.TheVariants.{NtClose}
 use Rattle.lpc_model.specs.declared.entry.Entry.{Entry}
 use Rattle.lpc_model.specs.declared.entry.Entry.TheVariants.{Answer}
 use Rattle.lpc_model.specs.declared.entry.ObjectKind.TheVariants as kind
 use Rattle.lpc_model.specs.World.{Birth, HandleRow, HandleTable, ObjectName, ThreadRow, World}
-use Rattle.lpc_model.specs.Found.{handle_at, handle_count, handles_of, has_value, is_table, same_kind, same_object, wait_of}
+use Rattle.lpc_model.specs.Found.{handle_at, handle_count, handles_of, has_value, is_table, same_kind, same_object}
 use Rattle.lpc_model.specs.Basics.{Basic, DropsHandle, Steps, Tells, doing, entries_of, provided, world_after, ◌▹◌}
-use Rattle.lpc_model.specs.Tests.{next_birth, own_handle}
+use Rattle.lpc_model.specs.Tests.{own_handle}
 use Rattle.lpc_model.specs.Close.{close_handle, close_port, is_last, nt_close}
 use Rattle.lpc_model.specs.Lines.{close}
 use Rattle.lpc_isolation.proofs.Served.{served}
-use Rattle.lpc_model.specs.SoundWaits.{IsSoundWorld}
 use Rattle.lpc_model.specs.Circle.{Group, Whose, is_fine_call}
-use Rattle.lpc_model.proofs.Calls.Holding.{Holds, bind_holds, found_ok}
+use Rattle.lpc_model.proofs.Calls.Holding.{found_ok}
 use Rattle.lpc_model.proofs.Steps.InTurn.{after-append}
-use Rattle.lpc_isolation.proofs.Alone.{HasFineRows, alone}
+use Rattle.lpc_isolation.proofs.Alone.{alone}
 use Rattle.lpc_isolation.proofs.View.{our_table, view}
 use Rattle.lpc_isolation.proofs.Basics.{are_ours, ours-append}
 use Rattle.lpc_isolation.proofs.Fair.{are_fair, fair-append, is_fair_table, is_own}
 use Rattle.lpc_isolation.proofs.Seen.{bind-same, handle-own, handle-view}
-use Rattle.lpc_isolation.proofs.Apart.{Owned, apart-append, are_apart, is_heard}
+use Rattle.lpc_isolation.proofs.Apart.{apart-append, are_apart, is_heard}
 use Rattle.lpc_isolation.proofs.Callers.{Led, led-same}
 use Rattle.lpc_isolation.proofs.Receive.{led-append}
 use Rattle.lpc_isolation.proofs.Play.{told_inputs}
 use Rattle.lpc_isolation.proofs.Sends.{Caller}
-use Rattle.lpc_isolation.proofs.Paths.{Paths, are_paths}
 use Rattle.lpc_isolation.proofs.Sent.{append-sent, are_sent}
 use Rattle.lpc_isolation.proofs.Asked.{Asked, basic-asked}
-use Rattle.lpc_isolation.proofs.Ids.{Numbered, of_number}
-use Rattle.lpc_isolation.proofs.Serves.{is_call_of}
-use Rattle.lpc_isolation.proofs.Listens.{own_entry}
 use Rattle.lpc_isolation.proofs.Refuses.{Refuses, bind, found}
-use Rattle.lpc_isolation.proofs.Heard.{Heard, call_memo, entries_memo}
-use Rattle.lpc_isolation.proofs.Knows.{AllKnown, run-known}
-use Rattle.lpc_isolation.proofs.KnownCalls.{Hears}
-use Rattle.lpc_isolation.proofs.Instances.{At, Leading, caller}
+use Rattle.lpc_isolation.proofs.Heard.{entries_memo}
+use Rattle.lpc_isolation.proofs.Instances.{At, caller}
 use Rattle.lpc_isolation.proofs.Thin.{Alive, Closed, handle_closed, port-live, thin}
 use Rattle.lpc_isolation.proofs.ThinCalls.{AreClosed, rows-closed}
-use Rattle.lpc_isolation.proofs.Fine.{FineAfter, makes_fine}
-use Rattle.lpc_isolation.proofs.Tame.{unnoted}
-use Rattle.lpc_isolation.proofs.Mild.{AreMild, Sure, mild-fine, mild-known, mild-orderly, mild-paths}
+use Rattle.lpc_isolation.proofs.Mild.{AreMild, Sure}
 use Rattle.lpc_isolation.proofs.Stages.{Good, mute-append}
 use Rattle.lpc_isolation.proofs.Closings.{close-good}
 
@@ -153,11 +144,6 @@ handle-sent w pid r = append-sent w (provided (is_last r) (close_port r.object.b
 abbrev told_first : ThreadRow → Entry
 told_first by = Answer by.number NtClose SUCCESS []
 
--- whatever holds for the handle that is found holds of the call
-on-close : (P : List Basic → Type 0) (w : World) (by : ThreadRow) (value : ℕ) → ((r : HandleRow) → handle_at w by.process value ≡ Some r → P (Tells (told_first by) ∷ close_handle by.process r w)) → Holds P (nt_close w by value)
-unfolding nt_close
-on-close P w by value then_ = bind_holds (own_handle w by value) _ P (λ r at. then_ r (found_ok (handle_at w by.process value) INVALID_HANDLE r at))
-
 pub caller-sure : (m : Group) (c : ℕ) (u w : World) (by : ThreadRow) → Caller m c u w by → Sure m c u w
 caller-sure m c u w by k = record { c_in = k.c_in; used = k.used; fair = k.fair; fine = k.fine; owned = k.owned; patient = k.patient; once = k.once; paths = k.paths; asked = k.asked }
 
@@ -168,24 +154,9 @@ good m c u w by value r k at = handle-good m c by.process r (handle-own m c w by
 whose : (m : Group) (c : ℕ) (u w : World) (by : ThreadRow) (value : ℕ) (r : HandleRow) → Caller m c u w by → handle_at w by.process value ≡ Some r → r.object.birth.process ≡ by.process
 whose m c u w by value r k at = handle-own m c w by.process value r k.fair at
 
-pub orderly-close : (m : Group) (c : ℕ) (u w : World) (by : ThreadRow) (handle : ℕ) → Caller m c u w by → Holds (λ bs. is_call_of w by.number bs ≡ true) (served w by (close handle))
-orderly-close m c u w by handle k = on-close (λ bs. is_call_of w by.number bs ≡ true) w by handle (λ r at.
-    and_from _ _ (and_from _ _ (same-number by.number) refl) (mild-orderly (close_handle by.process r w) ((good m c u w by handle r k at).mild w)))
-
 pub refuses-close : (w : World) (by : ThreadRow) (handle : ℕ) → Refuses (served w by (close handle))
 unfolding nt_close
 refuses-close w by handle = bind (own_handle w by handle) _ (found (handle_at w by.process handle) INVALID_HANDLE refl) (λ r. tt)
-
-pub fair-close : (m : Group) (c : ℕ) (w : World) (by : ThreadRow) (known : List ℕ → Birth) (handle : ℕ) → At m c w by known → Holds (λ bs. HasFineRows m c (world_after w bs) → are_fair m c w bs ≡ true) (served w by (close handle))
-fair-close m c w by known handle a =
-    let k = caller m c w by known w a refl in
-    on-close (λ bs. HasFineRows m c (world_after w bs) → are_fair m c w bs ≡ true) w by handle (λ r at fine. (good m c w w by handle r k at).fair w w (caller-sure m c w w by k))
-
-pub paths-close : (m : Group) (c : ℕ) (w : World) (by : ThreadRow) (handle : ℕ) → Paths w → Caller m c w w by → Holds (λ bs. are_paths w bs ≡ true) (served w by (close handle))
-paths-close m c w by handle all k = on-close (λ bs. are_paths w bs ≡ true) w by handle (λ r at. mild-paths w (close_handle by.process r w) ((good m c w w by handle r k at).mild w))
-
-pub asked-close : (m : Group) (c : ℕ) (w : World) (by : ThreadRow) (handle : ℕ) → Asked w → Caller m c w w by → Holds (λ bs. Asked (world_after w bs)) (served w by (close handle))
-asked-close m c w by handle a k = on-close (λ bs. Asked (world_after w bs)) w by handle (λ r at. (good m c w w by handle r k at).asked w w (caller-sure m c w w by k))
 
 pub same-close : (m : Group) (c : ℕ) (w : World) (by : ThreadRow) (known : List ℕ → Birth) (handle : ℕ) → At m c w by known → by.process ≡ c → is_fine_call m w (close handle) ≡ true → served (view m w) by (close handle) ≡ served w by (close handle)
 unfolding nt_close
@@ -198,27 +169,6 @@ same-close m c w by known handle a mine fine =
 -- the same steps behind an entry
 pub tells-led : (m : Group) (c : ℕ) (u : World) (d : Whose) (w : World) (e : Entry) (bs led : List Basic) → Led m c u d w bs led → Led m c u d w (Tells e ∷ bs) (Tells e ∷ led)
 tells-led m c u d w e bs led l = record { world = l.world; told = ap (λ es. cond (is_heard (alone c) u d e) (e ∷ es) es) l.told }
-
-pub leads-close : (m : Group) (c : ℕ) (u : World) (d : Whose) (w : World) (by : ThreadRow) (known : List ℕ → Birth) (handle : ℕ) → At m c w by known → u.used_threads ≡ w.used_threads → m by.process ≡ true → (by.process == c) ≡ false → Holds (λ bs. HasFineRows m c (world_after w bs) → Leading m c u d w by known (close handle) bs) (served w by (close handle))
-leads-close m c u d w by known handle a used by_in other =
-    let k = caller m c w by known u a used in
-    on-close (λ bs. HasFineRows m c (world_after w bs) → Leading m c u d w by known (close handle) bs) w by handle (λ r at fine.
-    rw (handle-view m w by.process handle by_in, at) (tells-led m c u d w (told_first by) (close_handle by.process r w) (close_handle by.process r (view m w))
-    ((good m c u w by handle r k at).led u d w (caller-sure m c u w by k) (ap m (whose m c u w by handle r k at) ∙ by_in))))
-
-pub hears-close : (m : Group) (c : ℕ) (u w : World) (by : ThreadRow) (d : Whose) (memo : List Heard) → Caller m c u w by → Owned w w → Numbered w → Asked w → AllKnown m memo w → m by.process ≡ false → (handle : ℕ) → Holds (λ bs. HasFineRows m c (world_after w bs) → Hears m c u d w memo bs) (served w by (close handle))
-hears-close m c u w by d memo k owned n a all out handle = on-close (λ bs. HasFineRows m c (world_after w bs) → Hears m c u d w memo bs) w by handle (λ r at fine.
-    let g = good m c u w by handle r k at in
-    let s = caller-sure m c u w by k in
-    let b_out : m r.object.birth.process ≡ false = ap m (whose m c u w by handle r k at) ∙ out in
-    let numbers : Numbered u = subst (λ us. every of_number us ≡ true) (sym k.used) n in
-    let mute : entries_memo m (view m w) memo (told_inputs m c u d (entries_of (close_handle by.process r w))) ≡ memo = g.mute u d w memo s numbers b_out in
-    let behind : AllKnown m memo (world_after w (close_handle by.process r w)) = run-known m memo w (close_handle by.process r w) (mild-known m memo w (close_handle by.process r w) (g.mild w)) all in
-    rw (k.here, out) (subst (λ n. AllKnown m n (world_after w (close_handle by.process r w))) (sym mute) behind))
-
-pub notes-close : (m : Group) (c : ℕ) (u w : World) (by : ThreadRow) (memo : List Heard) → Caller m c u w by → Owned w w → Numbered w → Asked w → AllKnown m memo w → m by.process ≡ true → (handle : ℕ) → Holds (λ bs. AllKnown m (cond (by.process == c) memo (call_memo m (view m w) by (close handle) (own_entry bs) memo)) (world_after w bs)) (served w by (close handle))
-notes-close m c u w by memo k owned n a all by_in handle = on-close (λ bs. AllKnown m (cond (by.process == c) memo (call_memo m (view m w) by (close handle) (own_entry bs) memo)) (world_after w bs)) w by handle (λ r at.
-    unnoted m memo (world_after w (close_handle by.process r w)) (by.process == c) (run-known m memo w (close_handle by.process r w) (mild-known m memo w (close_handle by.process r w) ((good m c u w by handle r k at).mild w)) all))
 
 -- where rows have gone
 pub thin-handle : (k : Alive) (u : World) (pid : ℕ) (r : HandleRow) → Closed k u → handle_closed k r ≡ true → close_handle pid r (thin k u) ≡ close_handle pid r u

@@ -70,9 +70,6 @@ queue-seen m c x b c_in fair mine is =
 made-own : (m : Group) (c : ℕ) (x : WaitRow) (b : Birth) → is_fair_wait m c x ≡ true → is_made_on b x ≡ true → x.process ≡ b.process
 made-own m c x b fair is = sym (eqb-true _ _ (first-true _ _ fair)) ∙ ap (λ (b : Birth). b.process) (birth-same x.port b is)
 
-fair-of : (m : Group) (c : ℕ) (u w : World) (x : WaitRow) → is_known_wait m c u w x ≡ true → is_fair_wait m c x ≡ true
-fair-of m c u w x known = first-true _ _ known
-
 -- Receives and listens on the port or its queue
 receiver-own : (m : Group) (c : ℕ) (x : WaitRow) (b : Birth) → is_fair_wait m c x ≡ true → is_receiver b x ≡ true → x.process ≡ b.process
 receiver-own m c x b fair is = at (is_made_on b x) refl

@@ -29,7 +29,7 @@ use Rattle.lpc_isolation.proofs.Apart.{are_apart, end-apart, is_owned, owned-by,
 use Rattle.lpc_isolation.proofs.Callers.{Led, led-same, on_ok}
 use Rattle.lpc_isolation.proofs.Reply.{not-c, wake-not-c}
 use Rattle.lpc_isolation.proofs.Mine.{c-port_test}
-use Rattle.lpc_isolation.proofs.Sends.{Caller, Named, named-port}
+use Rattle.lpc_isolation.proofs.Sends.{Caller, Named, found-port}
 
 -- what a completion found
 pub record IsCompletable (m : Group) (c : ℕ) (w : World) (by : ThreadRow) (handle : ℕ) (r : Completable) : Type 0 where
@@ -60,7 +60,10 @@ completion-found m c w by handle p at n =
 
 pub completable : (m : Group) (c : ℕ) (u w : World) (by : ThreadRow) (handle : ℕ) → Caller m c u w by → Holds (IsCompletable m c w by handle) (complete_test w by handle)
 completable m c u w by handle k = bind_holds (port_test w by handle) _ (IsCompletable m c w by handle) (λ p at.
-    completion-found m c w by handle p at (holds_ok (Named m c w by) (port_test w by handle) p (named-port m c u w by handle k) at))
+    completion-found m c w by handle p at (found-port m c u w by handle p k at))
+
+pub found-completion : (m : Group) (c : ℕ) (u w : World) (by : ThreadRow) (handle : ℕ) (r : Completable) → Caller m c u w by → complete_test w by handle ≡ Ok r → IsCompletable m c w by handle r
+found-completion m c u w by handle r k at = holds_ok (IsCompletable m c w by handle) (complete_test w by handle) r (completable m c u w by handle k) at
 
 -- the client's process is that of its wait
 wait-client : (m : Group) (c : ℕ) (w : World) (by : ThreadRow) (handle : ℕ) (r : Completable) → Fair m c w → IsCompletable m c w by handle r → r.wait.process ≡ r.client.process
@@ -86,15 +89,8 @@ client-out m c w by handle r is out =
     let pair = pair-of m c w by handle r is in grind arith
 
 -- fair
-complete-fair : (m : Group) (c : ℕ) (w : World) (by : ThreadRow) (handle value : ℕ) (r : Completable) → Fair m c w → IsCompletable m c w by handle r → are_fair m c w (complete_steps by value r) ≡ true
+pub complete-fair : (m : Group) (c : ℕ) (w : World) (by : ThreadRow) (handle value : ℕ) (r : Completable) → Fair m c w → IsCompletable m c w by handle r → are_fair m c w (complete_steps by value r) ≡ true
 complete-fair m c w by handle value r f is = rw (wait-client m c w by handle r f is, same-number r.client.process) refl
-
-pub on-complete : (P : List Basic → Type 0) (m : Group) (c : ℕ) (u w : World) (by : ThreadRow) (handle : ℕ) → Caller m c u w by → ((r : Completable) → IsCompletable m c w by handle r → P (complete_steps by (free_handle w r.wait.process) r)) → Holds P (nt_complete_connect_port w by handle)
-unfolding nt_complete_connect_port
-on-complete P m c u w by handle k then_ = bind_holds (complete_test w by handle) _ P (λ r at. then_ r (holds_ok (IsCompletable m c w by handle) (complete_test w by handle) r (completable m c u w by handle k) at))
-
-pub complete-call-fair : (m : Group) (c : ℕ) (u w : World) (by : ThreadRow) (handle : ℕ) → Caller m c u w by → Holds (λ bs. are_fair m c w bs ≡ true) (nt_complete_connect_port w by handle)
-complete-call-fair m c u w by handle k = on-complete (λ bs. are_fair m c w bs ≡ true) m c u w by handle k (λ r is. complete-fair m c w by handle (free_handle w r.wait.process) r k.fair is)
 
 -- apart
 pub out-other : (m : Group) (c p : ℕ) → m c ≡ true → m p ≡ false → (p == c) ≡ false
@@ -127,9 +123,6 @@ led_completed v by server (Some client) = given (first (is_accepted_on client) v
 abbrev pub led_complete : World → ThreadRow → ℕ → List Basic
 led_complete v by handle = on_ok (port_test v by handle) (λ p. led_completed v by p.birth p.pair)
 
-complete-ours : (m : Group) (w : World) (by : ThreadRow) (value : ℕ) (r : Completable) → are_ours m w (complete_steps by value r) ≡ true
-complete-ours m w by value r = refl
-
 complete-lost : (m : Group) (c : ℕ) (u : World) (d : Whose) (w : World) (by : ThreadRow) (handle value : ℕ) (r : Completable) → Caller m c u w by → IsCompletable m c w by handle r → (by.process == c) ≡ false → m r.client.process ≡ false → Led m c u d w (complete_steps by value r) (Completes r.server ∷ [])
 complete-lost m c u d w by handle value r k is other out =
     let x_out : m r.wait.process ≡ false = ap m (wait-client m c w by handle r k.fair is) ∙ out in
@@ -151,7 +144,7 @@ complete-lost m c u d w by handle value r k is other out =
         at None none = let none' : passes None (λ p. p == r.wait.process) ≡ true = rw none at owned in absurd (cc)
         at (Some pid) own = unseen-wait m u w r.wait.thread pid k.owned own (ap m (owned-by u r.wait pid own owned) ∙ x_out)
 
-complete-led : (m : Group) (c : ℕ) (u : World) (d : Whose) (w : World) (by : ThreadRow) (handle : ℕ) (r : Completable) → Caller m c u w by → IsCompletable m c w by handle r → m by.process ≡ true → (by.process == c) ≡ false
+pub complete-led : (m : Group) (c : ℕ) (u : World) (d : Whose) (w : World) (by : ThreadRow) (handle : ℕ) (r : Completable) → Caller m c u w by → IsCompletable m c w by handle r → m by.process ≡ true → (by.process == c) ≡ false
     → Led m c u d w (complete_steps by (free_handle w r.wait.process) r) (led_complete (view m w) by handle)
 complete-led m c u d w by handle r k is by_in other =
     rw (port_test-view m c w by handle k.fair by_in, is.from) (rw (is.pair, sym is.birth) (at (m r.client.process) refl))
@@ -163,9 +156,6 @@ complete-led m c u d w by handle r k is by_in other =
         rw (first-kept (our_wait m) (is_accepted_on r.client) w.waits r.wait is.found ours, free-view m w r.wait.process (first-true _ _ ours))
         (led-same m c u d w (complete_steps by (free_handle w r.wait.process) r) refl)
     at false out = complete-lost m c u d w by handle (free_handle w r.wait.process) r k is other out
-
-pub complete-call-led : (m : Group) (c : ℕ) (u : World) (d : Whose) (w : World) (by : ThreadRow) (handle : ℕ) → Caller m c u w by → m by.process ≡ true → (by.process == c) ≡ false → Holds (λ bs. Led m c u d w bs (led_complete (view m w) by handle)) (nt_complete_connect_port w by handle)
-complete-call-led m c u d w by handle k by_in other = on-complete (λ bs. Led m c u d w bs (led_complete (view m w) by handle)) m c u w by handle k (λ r is. complete-led m c u d w by handle r k is by_in other)
 
 -- of c
 c-accepted : (m : Group) (c : ℕ) (w : World) (client : Birth) → Fair m c w → m client.process ≡ true → first (is_accepted_on client) (view m w).waits ≡ first (is_accepted_on client) w.waits
@@ -187,9 +177,9 @@ unfolding nt_complete_connect_port
 c-complete m c u w by handle k mine =
     ap (λ r. r >>= (λ r. Ok (complete_steps by (free_handle (view m w) r.wait.process) r)))
     (ap (λ r. r >>= (λ p. completion_test (view m w) p)) (c-port_test m c w by handle k.c_in mine k.fair)
-    ∙ bind-same (port_test w by handle) (λ p. completion_test (view m w) p) (λ p. completion_test w p) (λ p at. c-completion m c w by p k.c_in mine k.fair (holds_ok (Named m c w by) (port_test w by handle) p (named-port m c u w by handle k) at)))
+    ∙ bind-same (port_test w by handle) (λ p. completion_test (view m w) p) (λ p. completion_test w p) (λ p at. c-completion m c w by p k.c_in mine k.fair (found-port m c u w by handle p k at)))
     ∙ bind-same (complete_test w by handle) (λ r. Ok (complete_steps by (free_handle (view m w) r.wait.process) r)) (λ r. Ok (complete_steps by (free_handle w r.wait.process) r)) (λ r at.
-    let is : IsCompletable m c w by handle r = holds_ok (IsCompletable m c w by handle) (complete_test w by handle) r (completable m c u w by handle k) at in
+    let is : IsCompletable m c w by handle r = found-completion m c u w by handle r k at in
     let p_c : (is.port.birth.process == c) ≡ true = ap (λ b. b == c) (is.named.process ∙ mine) ∙ same-number c in
     let both_pairs = pair-of m c w by handle r is in
     let c_in : m r.client.process ≡ true = grind arith in

@@ -19,7 +19,6 @@ use Rattle.lpc_names.specs.declared.fault.NameFault.{NameFault}
 use Rattle.lpc_names.specs.Path.{Path}
 use Rattle.lpc_names.specs.Walk.{lookup, free_path}
 use Rattle.lpc_model.specs.Tests.{handles_test, next_birth}
-use Rattle.lpc_model.proofs.Calls.Holding.{Holds, bind_holds}
 use Rattle.lpc_model.specs.Circle.{Group, Whose, is_fine_client, leads_inside, is_fine_port, names_inside, owner}
 use Rattle.lpc_isolation.proofs.Alone.{HasFineRows}
 use Rattle.lpc_isolation.proofs.View.{view}
@@ -98,7 +97,7 @@ begun m c u w by q bytes k fine = record {
   owned = every-push (is_owned u) w.waits (connect_wait by q (connection_request by bytes)) k.owned (rw k.here (same-number by.process));
 }
 
-connect-fair : (m : Group) (c : ℕ) (u w : World) (by : ThreadRow) (q : Birth) (bytes : List ℕ) → Caller m c u w by → is_fine_client m c (next_birth by) q ≡ true → are_fair m c w (steps_of w by q bytes) ≡ true
+pub connect-fair : (m : Group) (c : ℕ) (u w : World) (by : ThreadRow) (q : Birth) (bytes : List ℕ) → Caller m c u w by → is_fine_client m c (next_birth by) q ≡ true → are_fair m c w (steps_of w by q bytes) ≡ true
 connect-fair m c u w by q bytes k fine =
     fair-append m c w (starting by q bytes) (enter (row by q bytes) (world_after w (starting by q bytes))) (start-fair m c w by q bytes k.c_in k.own fine)
     (enter-fair m c (world_after w (starting by q bytes)) (row by q bytes) (and_from _ _ (row-fair m c by q bytes k.c_in fine) (owner-sent w (row by q bytes) by.process k.own refl)))
@@ -134,15 +133,6 @@ connect-view m c u w by q bytes k fine is =
     ap (λ v. starting by q bytes ++ enter (row by q bytes) v) (sym (run-ours m w (starting by q bytes) (start-ours m w by q bytes is q_in)))
     ∙ ap (λ es. starting by q bytes ++ es) (enter-view m c (world_after w (starting by q bytes)) (row by q bytes) (begun m c u w by q bytes k fine).fair q_in)
 
--- what the call owes; the world behind it is the circle's too
-pub on-connect : (P : List Basic → Type 0) (w : World) (by : ThreadRow) (name bytes : List ℕ) → ((q : Birth) → named_port w name ≡ Ok q → P (steps_of w by q bytes)) → Holds P (nt_connect_port w by name bytes)
-unfolding nt_connect_port
-on-connect P w by name bytes then_ =
-    bind_holds (info_test bytes) _ P (λ _ _. bind_holds (named_port w name) _ P (λ q at. bind_holds (handles_test w by.process 1) _ P (λ _ _. then_ q at)))
-
-pub connect-call-fair : (m : Group) (c : ℕ) (u w : World) (by : ThreadRow) (name bytes : List ℕ) → Caller m c u w by → Holds (λ bs. HasFineRows m c (world_after w bs) → are_fair m c w bs ≡ true) (nt_connect_port w by name bytes)
-connect-call-fair m c u w by name bytes k = on-connect (λ bs. HasFineRows m c (world_after w bs) → are_fair m c w bs ≡ true) w by name bytes (λ q at fine. connect-fair m c u w by q bytes k (connect-fine m c w by q bytes fine))
-
 -- of another member than c
 abbrev pub led_connect : World → ThreadRow → List ℕ → List ℕ → List Basic
 led_connect v by name bytes = on_ok (named_port v name) (λ q. connect_steps by q (connection_request by bytes) v)
@@ -158,10 +148,9 @@ named-view m w name q s q_in is = at (lookup w.bindings name) refl is
         let there : lookup (view m w).bindings name ≡ Ok (Item q) = lookup-view m w.bindings name q s q_in (r ∙ ap (λ b. Ok (Item b)) same) in
         rw there refl
 
-pub connect-call-led : (m : Group) (c : ℕ) (u : World) (d : Whose) (w : World) (by : ThreadRow) (name bytes : List ℕ) → Caller m c u w by → m by.process ≡ true → Holds (λ bs. HasFineRows m c (world_after w bs) → Led m c u d w bs (led_connect (view m w) by name bytes)) (nt_connect_port w by name bytes)
-connect-call-led m c u d w by name bytes k is = on-connect (λ bs. HasFineRows m c (world_after w bs) → Led m c u d w bs (led_connect (view m w) by name bytes)) w by name bytes (λ q at fine_next.
-    let fine = connect-fine m c w by q bytes fine_next in
-    rw (named-view m w name q k.names (fine-in m c by q fine is) at, connect-view m c u w by q bytes k fine is) (led-same m c u d w (steps_of w by q bytes) (connect-ours m c u w by q bytes k fine is)))
+pub connect-led : (m : Group) (c : ℕ) (u : World) (d : Whose) (w : World) (by : ThreadRow) (name bytes : List ℕ) (q : Birth) → Caller m c u w by → m by.process ≡ true → is_fine_client m c (next_birth by) q ≡ true → named_port w name ≡ Ok q → Led m c u d w (steps_of w by q bytes) (led_connect (view m w) by name bytes)
+connect-led m c u d w by name bytes q k is fine at =
+    rw (named-view m w name q k.names (fine-in m c by q fine is) at, connect-view m c u w by q bytes k fine is) (led-same m c u d w (steps_of w by q bytes) (connect-ours m c u w by q bytes k fine is))
 
 -- of c
 c-named : (m : Group) (w : World) (name : List ℕ) → SeenNames m w.bindings → names_inside m w name ≡ true → named_port (view m w) name ≡ named_port w name

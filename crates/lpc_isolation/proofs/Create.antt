@@ -1,16 +1,11 @@
 -- NtCreatePort in a view.
-use Rattle.std.proofs.Common.{◌≡◌, ℕ, List, true, false, Option, Some, None, refl, ap, sym, subst, ◌∙◌}
-use Rattle.std.specs.Prelude.{Result, Ok, Err}
-use Rattle.lpc_base.specs.declared.status.Status.{Status}
+use Rattle.std.proofs.Common.{◌≡◌, ℕ, List, true, false, Option, Some, refl, ap, sym, subst, ◌∙◌}
 use Rattle.lpc_base.proofs.Bools.{same-number}
-use Rattle.lpc_model.specs.Then.{◌>>=◌}
 use Rattle.lpc_model.specs.World.{ThreadRow, World}
 use Rattle.lpc_model.specs.Found.{free_handle}
 use Rattle.lpc_model.specs.Basics.{Basic}
 use Rattle.lpc_model.specs.Connect.{create_steps, making, named_steps, nt_create_port, unnamed_steps}
-use Rattle.lpc_model.specs.Named.{free_name}
 use Rattle.lpc_model.specs.Tests.{handles_test, next_birth}
-use Rattle.lpc_model.proofs.Calls.Holding.{Holds, bind_holds}
 use Rattle.lpc_names.specs.Walk.{Path}
 use Rattle.lpc_model.specs.Circle.{Group, Whose, owner}
 use Rattle.lpc_isolation.proofs.View.{view}
@@ -27,10 +22,10 @@ unnamed-ours m w by value is = rw is refl
 pub named-ours : (m : Group) (w : World) (by : ThreadRow) (path : Path) (value : ℕ) → m by.process ≡ true → are_ours m w (create_steps by (named_steps (next_birth by) path) value) ≡ true
 named-ours m w by path value is = rw is refl
 
-unnamed-fair : (m : Group) (c : ℕ) (w : World) (by : ThreadRow) (value : ℕ) → are_fair m c w (create_steps by (unnamed_steps (next_birth by)) value) ≡ true
+pub unnamed-fair : (m : Group) (c : ℕ) (w : World) (by : ThreadRow) (value : ℕ) → are_fair m c w (create_steps by (unnamed_steps (next_birth by)) value) ≡ true
 unnamed-fair m c w by value = rw (same-number by.process) refl
 
-named-fair : (m : Group) (c : ℕ) (w : World) (by : ThreadRow) (path : Path) (value : ℕ) → are_fair m c w (create_steps by (named_steps (next_birth by) path) value) ≡ true
+pub named-fair : (m : Group) (c : ℕ) (w : World) (by : ThreadRow) (path : Path) (value : ℕ) → are_fair m c w (create_steps by (named_steps (next_birth by) path) value) ≡ true
 named-fair m c w by path value = rw (same-number by.process) refl
 
 pub unnamed-apart : (m : Group) (c : ℕ) (u : World) (d : Whose) (w : World) (by : ThreadRow) (value : ℕ) → Fair m c w → owner w by.number ≡ Some by.process → owner u by.number ≡ Some by.process → m by.process ≡ false
@@ -40,29 +35,6 @@ unnamed-apart m c u d w by value f own here out = rw (here, unseen-thread m c w 
 pub named-apart : (m : Group) (c : ℕ) (u : World) (d : Whose) (w : World) (by : ThreadRow) (path : Path) (value : ℕ) → Fair m c w → owner w by.number ≡ Some by.process → owner u by.number ≡ Some by.process → m by.process ≡ false
     → are_apart m c u d w (create_steps by (named_steps (next_birth by) path) value) ≡ true
 named-apart m c u d w by path value f own here out = rw (here, unseen-thread m c w by.number by.process f own out, out) refl
-
--- whatever holds of both ways of making holds of a creation
-pub made-holds : (P : List Basic → Type 0) (w : World) (by : ThreadRow) (name : Option (List ℕ)) → ((value : ℕ) → P (create_steps by (unnamed_steps (next_birth by)) value)) → ((path : Path) (value : ℕ) → P (create_steps by (named_steps (next_birth by) path) value)) → Holds P (nt_create_port w by name)
-unfolding nt_create_port
-made-holds P w by None one two = bind_holds (handles_test w by.process 1) _ P (λ u is. one (free_handle w by.process))
-made-holds P w by (Some name) one two =
-    bind_holds (making w (next_birth by) (Some name)) _ P (λ made is.
-    bind_holds (handles_test w by.process 1) _ P (λ u ok.
-    made-path name made is))
-  where
-    made-path : (name : List ℕ) (made : List Basic) → making w (next_birth by) (Some name) ≡ Ok made → P (create_steps by made (free_handle w by.process))
-    made-path name made is = at (free_name w name) refl is
-      where
-        at : (r : Result Path Status) → free_name w name ≡ r → (r >>= (λ path. Ok (named_steps (next_birth by) path))) ≡ Ok made → P (create_steps by made (free_handle w by.process))
-        at (Ok path) r is = let same : named_steps (next_birth by) path ≡ made = cc in subst (λ made. P (create_steps by made (free_handle w by.process))) same (two path (free_handle w by.process))
-        at (Err s) r is = absurd (cc)
-
--- what the call owes
-pub create-ours : (m : Group) (w : World) (by : ThreadRow) (name : Option (List ℕ)) → m by.process ≡ true → Holds (λ bs. are_ours m w bs ≡ true) (nt_create_port w by name)
-create-ours m w by name is = made-holds (λ bs. are_ours m w bs ≡ true) w by name (λ value. unnamed-ours m w by value is) (λ path value. named-ours m w by path value is)
-
-pub create-fair : (m : Group) (c : ℕ) (w : World) (by : ThreadRow) (name : Option (List ℕ)) → Holds (λ bs. are_fair m c w bs ≡ true) (nt_create_port w by name)
-create-fair m c w by name = made-holds (λ bs. are_fair m c w bs ≡ true) w by name (λ value. unnamed-fair m c w by value) (λ path value. named-fair m c w by path value)
 
 -- of c, in the view as in the world, where the name is seen alike
 pub create-c : (m : Group) (c : ℕ) (w : World) (by : ThreadRow) (name : Option (List ℕ)) → m c ≡ true → by.process ≡ c → Fair m c w → making (view m w) (next_birth by) name ≡ making w (next_birth by) name → nt_create_port (view m w) by name ≡ nt_create_port w by name
@@ -75,11 +47,3 @@ create-c m c w by name c_in mine f same =
 -- of another member, by what it was told
 abbrev pub led_create : World → ThreadRow → Option (List ℕ) → List Basic
 led_create v by name = on_ok (making v (next_birth by) name) (λ made. create_steps by made (free_handle v by.process))
-
-pub create-led : (m : Group) (w : World) (by : ThreadRow) (name : Option (List ℕ)) → m by.process ≡ true → ((made : List Basic) → making w (next_birth by) name ≡ Ok made → making (view m w) (next_birth by) name ≡ Ok made) → Holds (λ bs. bs ≡ led_create (view m w) by name) (nt_create_port w by name)
-unfolding nt_create_port
-create-led m w by name by_in same =
-    let P : List Basic → Type 0 = λ bs. bs ≡ led_create (view m w) by name in
-    bind_holds (making w (next_birth by) name) _ P (λ made is.
-    bind_holds (handles_test w by.process 1) _ P (λ u ok.
-    rw (same made is, free-view m w by.process by_in) refl))

@@ -41,14 +41,13 @@ use Rattle.lpc_isolation.proofs.Lines.{OnceUsed}
 use Rattle.lpc_isolation.proofs.Calls.{Begins}
 use Rattle.lpc_isolation.proofs.Refuses.{Refuses, bind, handles, if_refuses}
 use Rattle.lpc_isolation.proofs.Knows.{AllKnown}
-use Rattle.lpc_isolation.proofs.KnownCalls.{Hears, still-hears}
+use Rattle.lpc_isolation.proofs.KnownCalls.{Hears, still-hears, unnoted}
 use Rattle.lpc_isolation.proofs.Paths.{are_paths}
 use Rattle.lpc_isolation.proofs.Sent.{are_sent}
 use Rattle.lpc_isolation.proofs.Instances.{At, Leading}
 use Rattle.lpc_isolation.proofs.Thin.{Alive, Closed, is_live-thin, process_alive, process_closed, thin, thread_closed, threads-thin}
 use Rattle.lpc_isolation.proofs.ThinCalls.{AreClosed}
 use Rattle.lpc_isolation.proofs.Fine.{FineAfter, kept-last}
-use Rattle.lpc_isolation.proofs.Tame.{unnoted}
 use Rattle.lpc_isolation.proofs.Aims.{process-thin, process-view, process-whose, refuses-process}
 use Rattle.lpc_isolation.proofs.Laws.{Lawful, Room, at-most, home-live}
 

@@ -1,19 +1,21 @@
 -- What calls come to in the machine whose rows never go, each with its steps and what its tests found. What holds of each deed
 -- holds of each call that is served.
-use Rattle.lpc_base.specs.Rows.{first}
+use Rattle.lpc_model.specs.Register.{is_registered, register_steps}
+use Rattle.lpc_model.specs.Counts.{asked, counts_of, duplicate_steps}
+use Rattle.lpc_model.specs.declared.entry.CallName.TheVariants.{NtDuplicateObject, NtQueryObject, NtRegisterThreadTerminatePort}
+use Rattle.lpc_base.specs.Rows.{first, when}
 use Rattle.lpc_base.specs.declared.status.Status.{Status}
 use Rattle.lpc_base.specs.declared.status.TheConstants.{INVALID_HANDLE, SUCCESS}
-use Rattle.lpc_isolation.proofs.Served.{query_steps, served}
+use Rattle.lpc_isolation.proofs.Served.{served}
 use Rattle.lpc_message.specs.declared.kind.TheConstants.{DATAGRAM, REQUEST}
 use Rattle.lpc_model.proofs.Steps.Ending.{answered_end}
-use Rattle.lpc_model.proofs.Calls.Holding.{Holds, bind_holds, holds-more}
-use Rattle.lpc_model.proofs.Calls.Outcomes.{AreDoomed, EndCall, IsListening, IsReceiving, Outcomes, end_call, of_process, of_thread, service-does}
+use Rattle.lpc_model.proofs.Calls.Holding.{Holds, bind_holds, holds-more, found_ok}
+use Rattle.lpc_model.proofs.Calls.Outcomes.{AreDoomed, EndCall, IsReceiving, Outcomes, end_call, of_process, of_thread, service-does}
 use Rattle.lpc_model.specs.Basics.{AddsHandle, Basic, DrawsIdentifier, Registers, Tells}
 use Rattle.lpc_model.specs.Close.{close_steps}
 use Rattle.lpc_model.specs.Connect.{Completable, ConnectAnswer, accept_steps, answer_test, complete_steps, complete_test, connect_steps, connection_request, create_steps, listen_steps, named_steps, refuse_steps, unnamed_steps}
 use Rattle.lpc_model.specs.Found.{free_handle, handle_at, is_queued, is_queued_connect}
-use Rattle.lpc_model.specs.Lines.{ScriptCall, accept_connect_port, close, complete_connect_port, connect_port, create_port, create_process, create_thread, listen_port, query_object, reply_port, reply_wait_receive_port, request_port, request_wait_reply_port, terminate_process, terminate_thread}
-use Rattle.lpc_model.specs.Machine.{service_of}
+use Rattle.lpc_model.specs.Lines.{ScriptCall, accept_connect_port, close, complete_connect_port, connect_port, create_port, create_process, create_thread, listen_port, query_object, reply_port, reply_wait_receive_port, request_port, request_wait_reply_port, terminate_process, terminate_thread, duplicate_object, register_thread_terminate_port}
 use Rattle.lpc_model.specs.Message.{message_test}
 use Rattle.lpc_model.specs.Named.{free_name, named_port}
 use Rattle.lpc_model.specs.Request.{Sendable, datagram_send_test, datagram_steps, receive_steps, reply_steps, reply_test, request_steps, send_test, sent_by}
@@ -23,7 +25,7 @@ use Rattle.lpc_model.specs.declared.entry.CallName.{CallName}
 use Rattle.lpc_model.specs.declared.entry.Entry.TheVariants.{Answer}
 use Rattle.lpc_model.specs.declared.entry.Field.{Field}
 use Rattle.lpc_model.specs.declared.message.Message.{Message}
-use Rattle.std.proofs.Common.{Bool, List, None, Option, Some, [], false, refl, true, ℕ, ◌∷◌, ◌≡◌}
+use Rattle.std.proofs.Common.{Bool, List, None, Option, Some, [], false, refl, true, ℕ, ◌∷◌, ◌≡◌, not, subst}
 use Rattle.std.specs.Prelude.{Ok}
 
 -- Tame calls: they tell an answer, and change rows of their own process alone
@@ -49,9 +51,34 @@ spares (terminate_thread target code) = false
 spares (terminate_process target code) = false
 spares call = true
 
+-- a call that is tame
+abbrev pub is_tame : ScriptCall → Bool
+is_tame (register_thread_terminate_port handle) = true
+is_tame (duplicate_object handle access) = true
+is_tame (query_object handle) = true
+is_tame call = false
+
 pub ends-some : (call : EndCall) → spares (end_call call) ≡ false
 ends-some (of_thread target code) = refl
 ends-some (of_process target code) = refl
+
+-- what the tame calls come to
+pub record Tames (w : World) (by : ThreadRow) (P : ScriptCall → List Basic → Type 0) : Type 0 where
+  pub of_register : (handle : ℕ) (port : PortRow) → port_test w by handle ≡ Ok port → P (register_thread_terminate_port handle) (register_steps by port.birth)
+  pub of_duplicate : (handle : ℕ) (access : Option ℕ) (r : HandleRow) → handle_at w by.process handle ≡ Some r → P (duplicate_object handle access) (duplicate_steps by (free_handle w by.process) r (asked r access))
+  pub of_query : (handle : ℕ) (r : HandleRow) (fields : List Field) → handle_at w by.process handle ≡ Some r → P (query_object handle) (Tells (Answer by.number NtQueryObject SUCCESS fields) ∷ [])
+
+-- what holds of each answer with such steps behind it holds of them
+pub any-tame : {w : World} {by : ThreadRow} {P : ScriptCall → List Basic → Type 0} → ((call : ScriptCall) (name : CallName) (fields : List Field) (bs : List Basic) → is_tame call ≡ true → AreTame w by bs → P call (Tells (Answer by.number name SUCCESS fields) ∷ bs)) → Tames w by P
+any-tame {w} {by} {P} all = record {
+  of_register = λ handle port at. all (register_thread_terminate_port handle) NtRegisterThreadTerminatePort [] _ refl (at_most handle port at (not (is_registered port.birth by)));
+  of_duplicate = λ handle access r at. all (duplicate_object handle access) NtDuplicateObject _ _ refl (more (gives _ r handle at refl) none);
+  of_query = λ handle r fields at. all (query_object handle) NtQueryObject fields [] refl none;
+}
+  where
+    at_most : (handle : ℕ) (port : PortRow) → port_test w by handle ≡ Ok port → (new : Bool) → AreTame w by (when new (Registers by.number port.birth ∷ []))
+    at_most handle port at true = more (registers port handle at) none
+    at_most handle port at false = none
 
 -- What such calls of a thread come to in a world
 pub record Deeds (w : World) (by : ThreadRow) (P : ScriptCall → List Basic → Type 0) : Type 0 where
@@ -67,10 +94,18 @@ pub record Deeds (w : World) (by : ThreadRow) (P : ScriptCall → List Basic →
   pub replies : (handle : ℕ) (bytes : List ℕ) (port : PortRow) (m : Message) (x : WaitRow) → port_test w by handle ≡ Ok port → message_test bytes ≡ Ok m → reply_test w port m ≡ Ok x → P (reply_port handle bytes) (reply_steps by x m)
   pub receives : (handle : ℕ) (bytes : Option (List ℕ)) (a : Option Message) (port : PortRow) (queue : Birth) (replied : List Basic) (o : Option MessageRow) → IsReceiving w by handle bytes a port queue replied → first (is_queued queue) w.messages ≡ o → P (reply_wait_receive_port handle bytes) (receive_steps by port queue replied o)
   pub closes : (handle : ℕ) (r : HandleRow) → handle_at w by.process handle ≡ Some r → P (close handle) (close_steps by r w)
-  pub tames : (call : ScriptCall) (name : CallName) (fields : List Field) (bs : List Basic) → AreTame w by bs → P call (Tells (Answer by.number name SUCCESS fields) ∷ bs)
+  pub tames : Tames w by P
   pub ends : (call : EndCall) (name : CallName) (own : Bool) (pid : ℕ) (code : Status) (ts : List ThreadRow) → AreDoomed w by own pid ts → P (end_call call) (answered_end by name own pid code ts w)
 
+-- what holds of each outcome, and of a query with any fields, holds of each call that is served
+pub served-does : (w : World) (by : ThreadRow) (P : ScriptCall → List Basic → Type 0) → Outcomes w by P → ((handle : ℕ) (r : HandleRow) (fields : List Field) → handle_at w by.process handle ≡ Some r → P (query_object handle) (Tells (Answer by.number NtQueryObject SUCCESS fields) ∷ [])) → (call : ScriptCall) → Holds (P call) (served w by call)
+served-does w by P o queries (query_object handle) = bind_holds (own_handle w by handle) _ (P (query_object handle)) (λ r at. queries handle r _ (found_ok (handle_at w by.process handle) INVALID_HANDLE r at))
+served-does w by P o queries call = service-does w by P o call
+
 module _ (w : World) (by : ThreadRow) (P : ScriptCall → List Basic → Type 0) (d : Deeds w by P) where
+  abbrev registering : Bool → PortRow → List Basic
+  registering known port = Tells (Answer by.number NtRegisterThreadTerminatePort SUCCESS []) ∷ when (not known) (Registers by.number port.birth ∷ [])
+
   -- calls that are tame are so here, for all laws
   outcomes-of : Outcomes w by (λ call bs. is_calm call ≡ true → P call bs)
   outcomes-of = record {
@@ -87,19 +122,17 @@ module _ (w : World) (by : ThreadRow) (P : ScriptCall → List Basic → Type 0)
     replies = λ handle bytes port m x at read fits _. d.replies handle bytes port m x at read fits;
     receives = λ handle bytes a port queue replied m r at _. d.receives handle bytes a port queue replied (Some m) r at;
     awaits_message = λ handle bytes a port queue replied r at _. d.receives handle bytes a port queue replied None r at;
-    registers = λ handle port at new few _. d.tames _ _ _ _ (more (registers port handle at) none);
-    repeats = λ handle port at known _. d.tames _ _ _ _ none;
+    registers = λ handle port at new few _. subst (λ known. P (register_thread_terminate_port handle) (registering known port)) new (d.tames.of_register handle port at);
+    repeats = λ handle port at known _. subst (λ known. P (register_thread_terminate_port handle) (registering known port)) known (d.tames.of_register handle port at);
     closes = λ handle r at _. d.closes handle r at;
-    duplicates = λ handle access r at _. d.tames _ _ _ _ (more (gives _ r handle at refl) none);
-    queries = λ handle r at _. d.tames _ _ _ _ none;
+    duplicates = λ handle access r at _. d.tames.of_duplicate handle access r at;
+    queries = λ handle r at _. d.tames.of_query handle r (counts_of w r) at;
     spawns = λ pid tid new unused off. absurd (cc);
     starts = λ target tid pid at live unused off. absurd (cc);
     ends = λ call name own pid code ts doomed _. d.ends call name own pid code ts doomed;
   }
 
-  query-served : (handle : ℕ) → Holds (P (query_object handle)) (served w by (query_object handle))
-  query-served handle = bind_holds (own_handle w by handle) _ (P (query_object handle)) (λ r at. d.tames (query_object handle) _ _ [] none)
-
   pub deeds-do : (call : ScriptCall) → is_calm call ≡ true → Holds (P call) (served w by call)
-  deeds-do (query_object handle) is = query-served handle
-  deeds-do call is = holds-more (λ bs. is_calm call ≡ true → P call bs) (P call) (service_of w by call) (λ bs all. all is) (service-does w by (λ call bs. is_calm call ≡ true → P call bs) outcomes-of call)
+  deeds-do call is =
+      let Q : ScriptCall → List Basic → Type 0 = λ call bs. is_calm call ≡ true → P call bs in
+      holds-more (Q call) (P call) (served w by call) (λ bs all. all is) (served-does w by Q outcomes-of (λ handle r fields at _. d.tames.of_query handle r fields at) call)

@@ -1,34 +1,14 @@
 -- The ports that go are as fine as those that stay.
-use Rattle.std.proofs.Common.{◌≡◌, ℕ, List, [], ◌∷◌, ◌++◌, Bool, true, false, not, map, Option, Some, None, refl, ap, sym, subst, ◌∙◌, arith}
-use Rattle.std.specs.Prelude.{◌&&◌, ◌==◌, Result, Ok}
-use Rattle.std.proofs.lemmas.Bool.{and_from, eqb-true}
-use Rattle.lpc_base.specs.Rows.{change, every, first, given, has, which, without}
-use Rattle.lpc_base.proofs.RowWords.{every-append, every-change, every-push, has-change, has-off, has-push}
-use Rattle.lpc_base.proofs.Bools.{first-true, same-number, second-true}
-use Rattle.lpc_base.proofs.Births.{birth-same, birth-self}
-use Rattle.lpc_base.specs.declared.status.Status.{Status}
-use Rattle.lpc_base.specs.declared.status.TheConstants.{INVALID_PORT_HANDLE, SUCCESS}
-use Rattle.lpc_model.specs.Message.{asks, message_test}
-use Rattle.lpc_model.specs.World.{Accepted, Birth, Connect, Listen, MessageRow, PortRow, Receive, Request, ThreadRow, WaitKind, WaitRow, World}
-use Rattle.lpc_model.specs.Found.{is_connection_port, is_made_on, is_port, is_queued, is_queued_connect, wait_of, waits_as, waits_at}
-use Rattle.lpc_model.specs.Basics.{AddsProcess, Awaits, Basic, Completes, Cuts, Enters, Frees, Joins, Makes, basic, completed, cut, is_end_of, joined, received, world_after}
-use Rattle.lpc_model.specs.Entering.{enter, given_steps, row_of, shown, take_connect_steps, take_steps, takes, woken}
-use Rattle.lpc_model.specs.Refusal.{refuse_if}
-use Rattle.lpc_model.specs.declared.message.Message.{Message}
-use Rattle.lpc_message.specs.declared.kind.TheConstants.{DATAGRAM, REQUEST}
-use Rattle.lpc_model.specs.Request.{reply_test, datagram_send_test, datagram_start, given_reply, nt_reply_port, nt_reply_wait_receive_port, nt_request_port, nt_request_wait_reply_port, optional_message, receive_steps, receive_test, receive_wait, request_start, send_test, sent_by}
-use Rattle.lpc_model.specs.Tests.{handles_test, next_birth, port_test}
-use Rattle.lpc_model.specs.Connect.{answer_test, complete_test, nt_accept_connect_port, nt_complete_connect_port, nt_listen_port, client_port, connect_wait, connection_request, listen_steps}
-use Rattle.lpc_model.specs.Lines.{accept_connect_port, complete_connect_port, connect_port, create_port, listen_port, reply_port, reply_wait_receive_port, request_port, request_wait_reply_port}
-use Rattle.lpc_isolation.proofs.Served.{served}
-use Rattle.lpc_model.specs.Circle.{Group, is_fine_client, is_fine_port, is_fine_process}
+use Rattle.std.proofs.Common.{◌≡◌, ℕ, List, [], ◌∷◌, ◌++◌, Bool, true, false, map, refl, ◌∙◌, arith}
+use Rattle.lpc_base.specs.Rows.{every, which}
+use Rattle.lpc_base.proofs.RowWords.{every-change, every-push}
+use Rattle.lpc_base.proofs.Bools.{first-true, second-true}
+use Rattle.lpc_model.specs.World.{Birth, PortRow, World}
+use Rattle.lpc_model.specs.Found.{is_port}
+use Rattle.lpc_model.specs.Basics.{AddsProcess, Basic, Completes, Cuts, Frees, Joins, Makes, basic, completed, cut, is_end_of, joined, world_after}
+use Rattle.lpc_model.specs.Circle.{Group, is_fine_port, is_fine_process}
 use Rattle.lpc_isolation.proofs.Alone.{HasFineRows}
-use Rattle.lpc_model.proofs.Calls.Holding.{Holds, bind_holds, holds-more, holds_ok}
-use Rattle.lpc_isolation.proofs.Filters.{first-push_off}
-use Rattle.lpc_isolation.proofs.Create.{made-holds}
-use Rattle.lpc_isolation.proofs.Orderly.{other-thread}
-use Rattle.lpc_isolation.proofs.Connects.{enter-ports, on-connect, row, starting, steps_of}
-use Rattle.lpc_isolation.proofs.Thin.{Alive, Behind, port_alive, wait_closed}
+use Rattle.lpc_isolation.proofs.Thin.{Behind}
 
 abbrev pub makes_fine : Group → ℕ → Basic → Bool
 makes_fine m c (Makes p) = is_fine_port m c p

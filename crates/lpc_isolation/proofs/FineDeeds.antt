@@ -7,7 +7,7 @@ use Rattle.lpc_base.specs.declared.status.TheConstants.{SUCCESS}
 use Rattle.lpc_isolation.proofs.Alone.{HasFineRows}
 use Rattle.lpc_isolation.proofs.Closes.{handle-mild}
 use Rattle.lpc_isolation.proofs.Connects.{enter-ports, row, starting, steps_of}
-use Rattle.lpc_isolation.proofs.Deeds.{AreTame, Deeds, gives, more, none, numbers, registers}
+use Rattle.lpc_isolation.proofs.Deeds.{AreTame, Deeds, gives, more, none, numbers, registers, any-tame}
 use Rattle.lpc_isolation.proofs.Doomed.{ended}
 use Rattle.lpc_isolation.proofs.Endings.{ends-mild}
 use Rattle.lpc_isolation.proofs.Filters.{first-push_off}
@@ -146,6 +146,6 @@ fine-deeds m c after u by idle f = record {
   replies = λ handle bytes p b x at read fits _. refl;
   receives = λ handle bytes a p q replied o is first _. received-fine m c by p q replied o (holds_ok (AreFine m c) (given_reply u p a) replied (replied-fine m c u p a) is.reply_made);
   closes = λ handle r at _. are-fine m c (close_handle by.process r u) (handle-mild u by.process r);
-  tames = λ call name fields bs t _. keeps-fine m c u by bs t;
+  tames = any-tame (λ call name fields bs tame t _. keeps-fine m c u by bs t);
   ends = λ call name own pid code ts doomed _. let is = are-fine m c (end_threads pid code ts u) (ends-mild pid code ts u) in ended (AreFine m c) by name own pid code ts u (λ _. is) (λ _. is);
 }

@@ -1,13 +1,12 @@
 -- Each service owes what its calls' lines need.
-use Rattle.std.proofs.Common.{◌≡◌, ℕ, List, [], true, false, Option, Some, None, refl, ap, subst, ◌∙◌, Bool}
-use Rattle.std.specs.Prelude.{◌==◌, Result, Ok, Err}
+use Rattle.std.proofs.Common.{◌≡◌, ℕ, List, [], true, false, Option, Some, None}
+use Rattle.std.specs.Prelude.{Ok}
 use Rattle.lpc_base.specs.Rows.{every}
-use Rattle.lpc_base.specs.declared.status.Status.{Status}
 use Rattle.lpc_model.specs.World.{Birth, ThreadRow, World}
 use Rattle.lpc_model.specs.Found.{free_handle, live_thread, wait_of}
 use Rattle.lpc_model.specs.Basics.{Basic, world_after}
 use Rattle.lpc_model.specs.Connect.{ConnectAnswer, answer_test}
-use Rattle.lpc_model.specs.Tests.{next_birth, own_handle, port_test}
+use Rattle.lpc_model.specs.Tests.{own_handle, port_test}
 use Rattle.lpc_model.specs.Lines.{ScriptCall, accept_connect_port, close, complete_connect_port, connect_port, create_port, duplicate_object, listen_port, query_object, reply_port, reply_wait_receive_port, request_port, request_wait_reply_port, register_thread_terminate_port, create_process, create_thread, terminate_thread, terminate_process}
 use Rattle.lpc_model.specs.Close.{close_steps}
 use Rattle.lpc_model.specs.Counts.{asked, duplicate_steps}
@@ -19,29 +18,29 @@ use Rattle.lpc_model.specs.declared.line.ProcArg.{ProcArg}
 use Rattle.lpc_isolation.proofs.Served.{served}
 use Rattle.lpc_model.specs.SoundWaits.{IsSoundWorld, HasShutConnects}
 use Rattle.lpc_model.proofs.Calls.Holding.{Holds, holds-more}
-use Rattle.lpc_model.specs.Circle.{Group, Whose, is_fine_call, owner}
+use Rattle.lpc_model.specs.Circle.{Group, Whose, owner}
 use Rattle.lpc_isolation.proofs.Alone.{HasFineRows}
 use Rattle.lpc_isolation.proofs.View.{view}
 use Rattle.lpc_isolation.proofs.Basics.{are_ours}
 use Rattle.lpc_isolation.proofs.Fair.{Fair}
-use Rattle.lpc_isolation.proofs.Apart.{Owned, are_apart}
+use Rattle.lpc_isolation.proofs.Apart.{Owned}
 use Rattle.lpc_isolation.proofs.Callers.{Answered, Led, answered-same, led-same, on_ok}
 use Rattle.lpc_isolation.proofs.Enter.{sound-patient}
-use Rattle.lpc_isolation.proofs.Create.{create-c, create-led, create-ours, led_create}
-use Rattle.lpc_isolation.proofs.Reply.{led_reply_port, reply-call-led}
-use Rattle.lpc_isolation.proofs.Mine.{Ways, c-reply}
+use Rattle.lpc_isolation.proofs.Create.{led_create}
+use Rattle.lpc_isolation.proofs.Reply.{led_reply_port}
+use Rattle.lpc_isolation.proofs.Mine.{Ways}
 use Rattle.lpc_isolation.proofs.Names.{SeenNames}
 use Rattle.lpc_isolation.proofs.Bound.{OnceBound}
 use Rattle.lpc_isolation.proofs.Paths.{Paths}
 use Rattle.lpc_isolation.proofs.Asked.{Asked}
-use Rattle.lpc_isolation.proofs.Sends.{Caller, c-request_port, led_datagram, request_port-led}
-use Rattle.lpc_isolation.proofs.Requests.{c-request, led_request, request-call-led}
+use Rattle.lpc_isolation.proofs.Sends.{Caller, led_datagram}
+use Rattle.lpc_isolation.proofs.Requests.{led_request}
 use Rattle.lpc_isolation.proofs.Takes.{is_readable}
-use Rattle.lpc_isolation.proofs.Listens.{c-listen, led_listen, listen-call-led, own_entry}
-use Rattle.lpc_isolation.proofs.Receive.{c-receive, led_receive, receive-call-led}
-use Rattle.lpc_isolation.proofs.Connects.{c-connect, c-making, connect-call-led, led_connect, making-view}
-use Rattle.lpc_isolation.proofs.Completes.{c-complete, complete-call-led, led_complete}
-use Rattle.lpc_isolation.proofs.Accepts.{accept-call-led, c-answer, led_answer}
+use Rattle.lpc_isolation.proofs.Listens.{led_listen, own_entry}
+use Rattle.lpc_isolation.proofs.Receive.{led_receive}
+use Rattle.lpc_isolation.proofs.Connects.{led_connect}
+use Rattle.lpc_isolation.proofs.Completes.{led_complete}
+use Rattle.lpc_isolation.proofs.Accepts.{led_answer}
 use Rattle.lpc_isolation.proofs.Lines.{Leads}
 
 -- by its answer alone
@@ -129,75 +128,5 @@ own-same m c u d w by call same ours =
     answered-same (λ bs led. HasFineRows m c (world_after w bs) → Led m c u d w bs led) (served w by call) (served (view m w) by call) same
     (holds-more (λ bs. HasFineRows m c (world_after w bs) → are_ours m w bs ≡ true) (λ bs. HasFineRows m c (world_after w bs) → Led m c u d w bs bs) (served w by call) (λ bs h fine. led-same m c u d w bs (h fine)) ours)
 
--- whatever the circle says of the next world
-pub later : (P : List Basic → Type 0) (m : Group) (c : ℕ) (w : World) (r : Result (List Basic) Status) → Holds P r → Holds (λ bs. HasFineRows m c (world_after w bs) → P bs) r
-later P m c w r h = holds-more P (λ bs. HasFineRows m c (world_after w bs) → P bs) r (λ bs p fine. p) h
-
-pub same-create : (m : Group) (c : ℕ) (w : World) (by : ThreadRow) (known : List ℕ → Birth) (name : Option (List ℕ)) → At m c w by known → by.process ≡ c → is_fine_call m w (create_port name) ≡ true → served (view m w) by (create_port name) ≡ served w by (create_port name)
-same-create m c w by known None a mine fine = create-c m c w by None a.c_in mine a.fair refl
-same-create m c w by known (Some name) a mine fine = create-c m c w by (Some name) a.c_in mine a.fair (c-making m w (next_birth by) name a.names fine)
-
-pub same-connect : (m : Group) (c : ℕ) (w : World) (by : ThreadRow) (known : List ℕ → Birth) (name bytes : List ℕ) → At m c w by known → by.process ≡ c → is_fine_call m w (connect_port name bytes) ≡ true → served (view m w) by (connect_port name bytes) ≡ served w by (connect_port name bytes)
-same-connect m c w by known name info a mine fine = c-connect m c w w by name info (caller m c w by known w a refl) mine fine
-
-pub same-listen : (m : Group) (c : ℕ) (w : World) (by : ThreadRow) (known : List ℕ → Birth) (handle : ℕ) → At m c w by known → by.process ≡ c → is_fine_call m w (listen_port handle) ≡ true → served (view m w) by (listen_port handle) ≡ served w by (listen_port handle)
-same-listen m c w by known handle a mine fine = c-listen m c w w by handle (caller m c w by known w a refl) mine
-
-pub same-accept : (m : Group) (c : ℕ) (w : World) (by : ThreadRow) (known : List ℕ → Birth) (context : ℕ) (message : List ℕ) (accept : Bool) → At m c w by known → by.process ≡ c → is_fine_call m w (accept_connect_port context message accept) ≡ true → served (view m w) by (accept_connect_port context message accept) ≡ served w by (accept_connect_port context message accept)
-same-accept m c w by known context bytes accept a mine fine = c-answer m c w w by context bytes accept (caller m c w by known w a refl) mine fine
-
-pub same-complete : (m : Group) (c : ℕ) (w : World) (by : ThreadRow) (known : List ℕ → Birth) (handle : ℕ) → At m c w by known → by.process ≡ c → is_fine_call m w (complete_connect_port handle) ≡ true → served (view m w) by (complete_connect_port handle) ≡ served w by (complete_connect_port handle)
-same-complete m c w by known handle a mine fine = c-complete m c w w by handle (caller m c w by known w a refl) mine
-
-pub same-datagram : (m : Group) (c : ℕ) (w : World) (by : ThreadRow) (known : List ℕ → Birth) (handle : ℕ) (message : List ℕ) → At m c w by known → by.process ≡ c → is_fine_call m w (request_port handle message) ≡ true → served (view m w) by (request_port handle message) ≡ served w by (request_port handle message)
-same-datagram m c w by known handle bytes a mine fine = c-request_port m c w w by handle bytes (caller m c w by known w a refl) mine
-
-pub same-request : (m : Group) (c : ℕ) (w : World) (by : ThreadRow) (known : List ℕ → Birth) (handle : ℕ) (message : List ℕ) → At m c w by known → by.process ≡ c → is_fine_call m w (request_wait_reply_port handle message) ≡ true → served (view m w) by (request_wait_reply_port handle message) ≡ served w by (request_wait_reply_port handle message)
-same-request m c w by known handle bytes a mine fine = c-request m c w w by handle bytes (caller m c w by known w a refl) mine
-
-pub same-reply : (m : Group) (c : ℕ) (w : World) (by : ThreadRow) (known : List ℕ → Birth) (handle : ℕ) (message : List ℕ) → At m c w by known → by.process ≡ c → is_fine_call m w (reply_port handle message) ≡ true → served (view m w) by (reply_port handle message) ≡ served w by (reply_port handle message)
-same-reply m c w by known handle bytes a mine fine = c-reply m c w by handle bytes a.c_in mine a.fair a.ways fine
-
-pub same-receive : (m : Group) (c : ℕ) (w : World) (by : ThreadRow) (known : List ℕ → Birth) (handle : ℕ) (message : Option (List ℕ)) → At m c w by known → by.process ≡ c → is_fine_call m w (reply_wait_receive_port handle message) ≡ true → served (view m w) by (reply_wait_receive_port handle message) ≡ served w by (reply_wait_receive_port handle message)
-same-receive m c w by known handle None a mine fine = c-receive m c w w by handle None (caller m c w by known w a refl) mine a.ways refl
-same-receive m c w by known handle (Some bytes) a mine fine = c-receive m c w w by handle (Some bytes) (caller m c w by known w a refl) mine a.ways fine
-
 abbrev pub Leading : Group → ℕ → World → Whose → World → ThreadRow → (List ℕ → Birth) → ScriptCall → List Basic → Type 0
 Leading m c u d w by known call bs = Led m c u d w bs (leads_by m known (view m w) by call (own_entry bs))
-
-create-leads : (m : Group) (c : ℕ) (u : World) (d : Whose) (w : World) (by : ThreadRow) (known : List ℕ → Birth) (name : Option (List ℕ)) → At m c w by known → m by.process ≡ true → Holds (Leading m c u d w by known (create_port name)) (served w by (create_port name))
-create-leads m c u d w by known name a by_in =
-    both-hold (λ bs. bs ≡ led_create (view m w) by name) (λ bs. are_ours m w bs ≡ true) (Leading m c u d w by known (create_port name)) (served w by (create_port name))
-    (λ bs same ours. subst (Led m c u d w bs) same (led-same m c u d w bs ours))
-    (create-led m w by name by_in (λ made is. making-view m w (next_birth by) name made a.names is)) (create-ours m w by name by_in)
-  where
-    both-hold : (P Q R : List Basic → Type 0) (r : Result (List Basic) Status) → ((bs : List Basic) → P bs → Q bs → R bs) → Holds P r → Holds Q r → Holds R r
-    both-hold P Q R (Ok bs) k p q = k bs p q
-    both-hold P Q R (Err s) k p q = tt
-
-pub leads-create : (m : Group) (c : ℕ) (u : World) (d : Whose) (w : World) (by : ThreadRow) (known : List ℕ → Birth) (name : Option (List ℕ)) → At m c w by known → u.used_threads ≡ w.used_threads → m by.process ≡ true → (by.process == c) ≡ false → Holds (λ bs. HasFineRows m c (world_after w bs) → Leading m c u d w by known (create_port name) bs) (served w by (create_port name))
-leads-create m c u d w by known name a used by_in other = later (Leading m c u d w by known (create_port name)) m c w (served w by (create_port name)) (create-leads m c u d w by known name a by_in)
-
-pub leads-connect : (m : Group) (c : ℕ) (u : World) (d : Whose) (w : World) (by : ThreadRow) (known : List ℕ → Birth) (name bytes : List ℕ) → At m c w by known → u.used_threads ≡ w.used_threads → m by.process ≡ true → (by.process == c) ≡ false → Holds (λ bs. HasFineRows m c (world_after w bs) → Leading m c u d w by known (connect_port name bytes) bs) (served w by (connect_port name bytes))
-leads-connect m c u d w by known name info a used by_in other = connect-call-led m c u d w by name info (caller m c w by known u a used) by_in
-
-pub leads-listen : (m : Group) (c : ℕ) (u : World) (d : Whose) (w : World) (by : ThreadRow) (known : List ℕ → Birth) (handle : ℕ) → At m c w by known → u.used_threads ≡ w.used_threads → m by.process ≡ true → (by.process == c) ≡ false → Holds (λ bs. HasFineRows m c (world_after w bs) → Leading m c u d w by known (listen_port handle) bs) (served w by (listen_port handle))
-leads-listen m c u d w by known handle a used by_in other = later (Leading m c u d w by known (listen_port handle)) m c w (served w by (listen_port handle)) (listen-call-led m c u d w by handle (caller m c w by known u a used) a.readable by_in other)
-
-pub leads-accept : (m : Group) (c : ℕ) (u : World) (d : Whose) (w : World) (by : ThreadRow) (known : List ℕ → Birth) (context : ℕ) (message : List ℕ) (accept : Bool) → At m c w by known → u.used_threads ≡ w.used_threads → m by.process ≡ true → (by.process == c) ≡ false → Holds (λ bs. HasFineRows m c (world_after w bs) → Leading m c u d w by known (accept_connect_port context message accept) bs) (served w by (accept_connect_port context message accept))
-leads-accept m c u d w by known context bytes accept a used by_in other = later (Leading m c u d w by known (accept_connect_port context bytes accept)) m c w (served w by (accept_connect_port context bytes accept)) (accept-call-led m c u d w by context bytes accept (known bytes) (caller m c w by known u a used) (λ b is. a.knows bytes b by_in is) by_in other)
-
-pub leads-complete : (m : Group) (c : ℕ) (u : World) (d : Whose) (w : World) (by : ThreadRow) (known : List ℕ → Birth) (handle : ℕ) → At m c w by known → u.used_threads ≡ w.used_threads → m by.process ≡ true → (by.process == c) ≡ false → Holds (λ bs. HasFineRows m c (world_after w bs) → Leading m c u d w by known (complete_connect_port handle) bs) (served w by (complete_connect_port handle))
-leads-complete m c u d w by known handle a used by_in other = later (Leading m c u d w by known (complete_connect_port handle)) m c w (served w by (complete_connect_port handle)) (complete-call-led m c u d w by handle (caller m c w by known u a used) by_in other)
-
-pub leads-datagram : (m : Group) (c : ℕ) (u : World) (d : Whose) (w : World) (by : ThreadRow) (known : List ℕ → Birth) (handle : ℕ) (message : List ℕ) → At m c w by known → u.used_threads ≡ w.used_threads → m by.process ≡ true → (by.process == c) ≡ false → Holds (λ bs. HasFineRows m c (world_after w bs) → Leading m c u d w by known (request_port handle message) bs) (served w by (request_port handle message))
-leads-datagram m c u d w by known handle bytes a used by_in other = later (Leading m c u d w by known (request_port handle bytes)) m c w (served w by (request_port handle bytes)) (request_port-led m c u d w by handle bytes (caller m c w by known u a used) by_in)
-
-pub leads-request : (m : Group) (c : ℕ) (u : World) (d : Whose) (w : World) (by : ThreadRow) (known : List ℕ → Birth) (handle : ℕ) (message : List ℕ) → At m c w by known → u.used_threads ≡ w.used_threads → m by.process ≡ true → (by.process == c) ≡ false → Holds (λ bs. HasFineRows m c (world_after w bs) → Leading m c u d w by known (request_wait_reply_port handle message) bs) (served w by (request_wait_reply_port handle message))
-leads-request m c u d w by known handle bytes a used by_in other = later (Leading m c u d w by known (request_wait_reply_port handle bytes)) m c w (served w by (request_wait_reply_port handle bytes)) (request-call-led m c u d w by handle bytes (caller m c w by known u a used) by_in)
-
-pub leads-reply : (m : Group) (c : ℕ) (u : World) (d : Whose) (w : World) (by : ThreadRow) (known : List ℕ → Birth) (handle : ℕ) (message : List ℕ) → At m c w by known → u.used_threads ≡ w.used_threads → m by.process ≡ true → (by.process == c) ≡ false → Holds (λ bs. HasFineRows m c (world_after w bs) → Leading m c u d w by known (reply_port handle message) bs) (served w by (reply_port handle message))
-leads-reply m c u d w by known handle bytes a used by_in other = let k = caller m c w by known u a used in later (Leading m c u d w by known (reply_port handle bytes)) m c w (served w by (reply_port handle bytes)) (reply-call-led m c u d w by handle bytes a.c_in a.fair k.owned k.once k.here other)
-
-pub leads-receive : (m : Group) (c : ℕ) (u : World) (d : Whose) (w : World) (by : ThreadRow) (known : List ℕ → Birth) (handle : ℕ) (message : Option (List ℕ)) → At m c w by known → u.used_threads ≡ w.used_threads → m by.process ≡ true → (by.process == c) ≡ false → Holds (λ bs. HasFineRows m c (world_after w bs) → Leading m c u d w by known (reply_wait_receive_port handle message) bs) (served w by (reply_wait_receive_port handle message))
-leads-receive m c u d w by known handle bytes a used by_in other = later (Leading m c u d w by known (reply_wait_receive_port handle bytes)) m c w (served w by (reply_wait_receive_port handle bytes)) (receive-call-led m c u d w by handle bytes (caller m c w by known u a used) a.readable by_in other)

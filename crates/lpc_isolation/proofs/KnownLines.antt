@@ -38,10 +38,6 @@ pub record Known (m : Group) (c : ℕ) (w : World) (t : List Heard) (line : Scri
   pub shows : is_seen m (line_whose w line) ≡ true → (is : List Item) → AllKnown m (absorbed (player m c) ((player m c).after (record { seen = view m w; memo = t }) line (told_items (told_at m c w line) ++ is)) (told_at m c w line)).memo (served_step w line).world
 
 -- A call
--- an entry alone
-lone-still : (m : Group) (w : World) (t : List Heard) (e : Entry) → ((v : World) → is_silent v e ≡ true) → Still m t w (Tells e ∷ [])
-lone-still m w t e silent = (refl, rw (silent (view m w)) refl)
-
 module _ (m : Group) (c : ℕ) (w : World) (t : List Heard) (tid : ℕ) (call : ScriptCall) (c_in : m c ≡ true) (st : Stood m c w (record { seen = view m w; memo = t })) (fine : HasFineRows m c w) (next : HasFineRows m c (served_step w (run tid call)).world) where
   abbrev s : State
   s = record { seen = view m w; memo = t }

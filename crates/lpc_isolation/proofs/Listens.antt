@@ -1,5 +1,5 @@
 -- NtListenPort in a view.
-use Rattle.std.proofs.Common.{◌≡◌, ℕ, List, [], ◌∷◌, Bool, true, false, cond, not, Option, Some, None, refl, ap, sym, subst, ◌∙◌, arith}
+use Rattle.std.proofs.Common.{◌≡◌, ℕ, List, [], ◌∷◌, Bool, true, false, cond, Option, Some, None, refl, ap, sym, subst, ◌∙◌, arith}
 use Rattle.std.specs.Prelude.{◌==◌, Ok}
 use Rattle.std.proofs.lemmas.Bool.{and_from, eqb-true}
 use Rattle.lpc_base.specs.Rows.{every, first, given}
@@ -7,19 +7,17 @@ use Rattle.lpc_base.proofs.RowWords.{first-passes}
 use Rattle.lpc_base.proofs.RowMaps.{every-first}
 use Rattle.lpc_base.proofs.Bools.{first-true, same-number}
 use Rattle.lpc_base.proofs.Births.{birth-same}
-use Rattle.lpc_base.specs.declared.status.TheConstants.{INVALID_PORT_HANDLE, SUCCESS}
+use Rattle.lpc_base.specs.declared.status.TheConstants.{SUCCESS}
 use Rattle.lpc_model.specs.declared.entry.CallName.TheVariants.{NtListenPort}
 use Rattle.lpc_model.specs.declared.entry.Entry.{Entry}
 use Rattle.lpc_model.specs.declared.entry.Entry.TheVariants as entry
 use Rattle.lpc_model.specs.Fields.{msg}
-use Rattle.lpc_model.specs.Refusal.{refuse_if}
 use Rattle.lpc_model.specs.World.{Birth, MessageRow, PortRow, ThreadRow, WaitRow, World}
-use Rattle.lpc_model.specs.Found.{is_connection_port, is_queued_connect}
+use Rattle.lpc_model.specs.Found.{is_queued_connect}
 use Rattle.lpc_model.specs.Basics.{Awaits, Basic, Tells, Dies}
 use Rattle.lpc_model.specs.Connect.{listen_steps, listen_wait, nt_listen_port}
 use Rattle.lpc_model.specs.Entering.{take_connect_steps}
 use Rattle.lpc_model.specs.Tests.{port_test}
-use Rattle.lpc_model.proofs.Calls.Holding.{Holds, bind_holds, holds_ok}
 use Rattle.lpc_model.specs.Circle.{Group, Whose, owner}
 use Rattle.lpc_isolation.proofs.Filters.{first-kept}
 use Rattle.lpc_isolation.proofs.View.{our_message, seen_port, view}
@@ -29,7 +27,7 @@ use Rattle.lpc_isolation.proofs.Seen.{bind-same, port_test-view}
 use Rattle.lpc_isolation.proofs.Apart.{are_apart}
 use Rattle.lpc_isolation.proofs.Callers.{Led, on_ok}
 use Rattle.lpc_isolation.proofs.Mine.{c-port_test}
-use Rattle.lpc_isolation.proofs.Sends.{Caller, Named, named-port}
+use Rattle.lpc_isolation.proofs.Sends.{Caller, Named, found-port}
 use Rattle.lpc_isolation.proofs.Takes.{IsFirst, c-first, is_readable, shown_process, shows-message, take_connect-apart, take_connect-fair, take_connect-gone, take_connect-ours, take_connect-silent}
 
 -- a caller's own wait on a queue of its process
@@ -50,23 +48,13 @@ first-own : (q : Birth) (w : World) (x : MessageRow) → first (is_queued_connec
 first-own q w x at = subst (λ b. first (is_queued_connect b) w.messages ≡ Some x) (sym (listen-queue q w x at)) at
 
 -- fair and apart
-listen-fair : (m : Group) (c : ℕ) (w : World) (by : ThreadRow) (p : PortRow) (o : Option MessageRow) → m c ≡ true → p.birth.process ≡ by.process → are_fair m c w (listen_steps by p.birth o) ≡ true
+pub listen-fair : (m : Group) (c : ℕ) (w : World) (by : ThreadRow) (p : PortRow) (o : Option MessageRow) → m c ≡ true → p.birth.process ≡ by.process → are_fair m c w (listen_steps by p.birth o) ≡ true
 listen-fair m c w by p (Some x) c_in own = take_connect-fair m c w x
 listen-fair m c w by p None c_in own = rw (own-wait-fair m c (listen_wait by p.birth) c_in own own) refl
 
 pub listen-apart : (m : Group) (c : ℕ) (u : World) (d : Whose) (w : World) (by : ThreadRow) (p : PortRow) (o : Option MessageRow) → first (is_queued_connect p.birth) w.messages ≡ o → owner u by.number ≡ Some by.process → m by.process ≡ false → p.birth.process ≡ by.process → are_apart m c u d w (listen_steps by p.birth o) ≡ true
 listen-apart m c u d w by p (Some x) at here out own = rw (here, out) (take_connect-apart m c u d w x (first-own p.birth w x at) (ap (λ (b : Birth). m b.process) (listen-queue p.birth w x at) ∙ ap m own ∙ out))
 listen-apart m c u d w by p None at here out own = rw (here, out) refl
-
-pub on-port : (P : List Basic → Type 0) (m : Group) (c : ℕ) (u w : World) (by : ThreadRow) (handle : ℕ) → Caller m c u w by → ((p : PortRow) → port_test w by handle ≡ Ok p → Named m c w by p → P (listen_steps by p.birth (first (is_queued_connect p.birth) w.messages))) → Holds P (nt_listen_port w by handle)
-unfolding nt_listen_port
-on-port P m c u w by handle k then_ =
-    bind_holds (port_test w by handle) _ P (λ p at.
-    bind_holds (refuse_if (not (is_connection_port p)) INVALID_PORT_HANDLE) _ P (λ _ _.
-    then_ p at (holds_ok (Named m c w by) (port_test w by handle) p (named-port m c u w by handle k) at)))
-
-pub listen-call-fair : (m : Group) (c : ℕ) (u w : World) (by : ThreadRow) (handle : ℕ) → Caller m c u w by → Holds (λ bs. are_fair m c w bs ≡ true) (nt_listen_port w by handle)
-listen-call-fair m c u w by handle k = on-port (λ bs. are_fair m c w bs ≡ true) m c u w by handle k (λ p at n. listen-fair m c w by p (first (is_queued_connect p.birth) w.messages) k.c_in n.process)
 
 -- of another member than c, by what it was told
 abbrev pub own_entry : List Basic → Entry
@@ -110,18 +98,18 @@ listened m c u d w by p (Some x) at k readable by_in other own =
           told = rw (take_connect-silent x, k.here, other) refl;
         }
 
-pub listen-call-led : (m : Group) (c : ℕ) (u : World) (d : Whose) (w : World) (by : ThreadRow) (handle : ℕ) → Caller m c u w by → every is_readable w.messages ≡ true → m by.process ≡ true → (by.process == c) ≡ false
-    → Holds (λ bs. Led m c u d w bs (led_listen m (view m w) by handle (own_entry bs))) (nt_listen_port w by handle)
-listen-call-led m c u d w by handle k readable by_in other =
-    on-port (λ bs. Led m c u d w bs (led_listen m (view m w) by handle (own_entry bs))) m c u w by handle k (λ p at n.
-    rw (port_test-view m c w by handle k.fair by_in, at) (listened m c u d w by p (first (is_queued_connect p.birth) w.messages) refl k readable by_in other n.process))
+pub listen-led : (m : Group) (c : ℕ) (u : World) (d : Whose) (w : World) (by : ThreadRow) (handle : ℕ) (p : PortRow) (o : Option MessageRow) → first (is_queued_connect p.birth) w.messages ≡ o → Caller m c u w by → every is_readable w.messages ≡ true → m by.process ≡ true → (by.process == c) ≡ false → port_test w by handle ≡ Ok p
+    → Led m c u d w (listen_steps by p.birth o) (led_listen m (view m w) by handle (own_entry (listen_steps by p.birth o)))
+listen-led m c u d w by handle p o first k readable by_in other at =
+    let named = found-port m c u w by handle p k at in
+    rw (port_test-view m c w by handle k.fair by_in, at) (listened m c u d w by p o first k readable by_in other named.process)
 
 -- of c
 pub c-listen : (m : Group) (c : ℕ) (u w : World) (by : ThreadRow) (handle : ℕ) → Caller m c u w by → by.process ≡ c → nt_listen_port (view m w) by handle ≡ nt_listen_port w by handle
 unfolding nt_listen_port
 c-listen m c u w by handle k mine =
     rw (c-port_test m c w by handle k.c_in mine k.fair) (bind-same (port_test w by handle) _ _ (λ p at.
-    let n : Named m c w by p = holds_ok (Named m c w by) (port_test w by handle) p (named-port m c u w by handle k) at in
+    let n : Named m c w by p = found-port m c u w by handle p k at in
     rw (c-first m c w p.birth (is_queued_connect p.birth) k.c_in k.fair (ap (λ b. b == c) (n.process ∙ mine) ∙ same-number c) (λ x is. first-true _ _ is)) refl))
 
 pub c-listened-ours : (m : Group) (c : ℕ) (w : World) (by : ThreadRow) (p : PortRow) (o : Option MessageRow) → first (is_queued_connect p.birth) w.messages ≡ o → m c ≡ true → Fair m c w → by.process ≡ c → p.birth.process ≡ by.process → are_ours m w (listen_steps by p.birth o) ≡ true

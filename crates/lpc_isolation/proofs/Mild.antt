@@ -116,21 +116,6 @@ mild-known m memo w (Dies a status ∷ bs) is = mild-known m memo (basic w (Dies
 mild-known m memo w (Unregisters a b ∷ bs) is = mild-known m memo (basic w (Unregisters a b)) bs is
 mild-known m memo w (b ∷ bs) is = absurd (cc)
 
-pub mild-bound : (w : World) (bs : List Basic) → AreMild bs → OnceBound w.bindings → OnceBound (world_after w bs).bindings
-mild-bound w [] is once = once
-mild-bound w (Unbinds b ∷ bs) is once = mild-bound (basic w (Unbinds b)) bs is (once-unbound w.bindings b once)
-mild-bound w (Wakes a call status fields ∷ bs) is once = mild-bound (basic w (Wakes a call status fields)) bs is once
-mild-bound w (Withdraws a ∷ bs) is once = mild-bound (basic w (Withdraws a)) bs is once
-mild-bound w (Empties q ∷ bs) is once = mild-bound (basic w (Empties q)) bs is once
-mild-bound w (Cuts b ∷ bs) is once = mild-bound (basic w (Cuts b)) bs is once
-mild-bound w (DropsHandle pid value ∷ bs) is once = mild-bound (basic w (DropsHandle pid value)) bs is once
-mild-bound w (Enters x ∷ bs) is once = mild-bound (basic w (Enters x)) bs is once
-mild-bound w (Takes q ∷ bs) is once = mild-bound (basic w (Takes q)) bs is once
-mild-bound w (TakesConnect q ∷ bs) is once = mild-bound (basic w (TakesConnect q)) bs is once
-mild-bound w (Dies a status ∷ bs) is once = mild-bound (basic w (Dies a status)) bs is once
-mild-bound w (Unregisters a b ∷ bs) is once = mild-bound (basic w (Unregisters a b)) bs is once
-mild-bound w (b ∷ bs) is once = absurd (cc)
-
 -- Steps by which rows go alone; of a port alone it is cut off
 abbrev pub is_loss : Birth → Basic → Bool
 is_loss b (Wakes who call status fields) = true

@@ -11,7 +11,6 @@ use Rattle.lpc_base.specs.declared.limits.TheConstants.{HEADER_SIZE, MESSAGE_LIM
 use Rattle.lpc_message.specs.Layout.{are_sizes_right, fault_of, header_of, is_table_right}
 use Rattle.lpc_message.specs.declared.message.Shape.TheVariants.{Ranges, Short, Sizes}
 use Rattle.lpc_model.specs.Message.{message_of, message_test}
-use Rattle.lpc_model.specs.Basics.{Basic}
 use Rattle.lpc_message.specs.declared.message.ClientId.{ClientId}
 use Rattle.lpc_model.specs.declared.message.Message.{Message}
 use Rattle.lpc_model.specs.Then.{◌>>=◌}
@@ -20,13 +19,12 @@ use Rattle.lpc_model.specs.World.{Birth, PortRow, ThreadRow, WaitRow, World}
 use Rattle.lpc_model.specs.Found.{fits, fitted, is_live_thread, is_port, is_request, is_the, live_thread, pair_of, port_row, same_birth}
 use Rattle.lpc_model.specs.Request.{reply_test, nt_reply_port}
 use Rattle.lpc_model.specs.Tests.{client_test, fit_test, is_client, port_test}
-use Rattle.lpc_model.proofs.Calls.Holding.{Holds, bind_holds, holds-more, holds_ok, not_refused}
+use Rattle.lpc_model.proofs.Calls.Holding.{Holds, holds-more, holds_ok, not_refused}
 use Rattle.lpc_model.proofs.Sound.Reply.{fits-request}
 use Rattle.lpc_model.specs.Circle.{Group, is_no_outsider, is_no_outsiders_thread, names_no_outsider, owner}
 use Rattle.lpc_isolation.proofs.Reply.{fit-parts}
 use Rattle.lpc_isolation.proofs.Filters.{first-agree, first-none_kept}
 use Rattle.lpc_isolation.proofs.View.{of_birth, our_thread, our_wait, seen_pair, seen_port, view}
-use Rattle.lpc_isolation.proofs.Basics.{are_ours}
 use Rattle.lpc_isolation.proofs.Fair.{Fair, implies, is_fair_port, is_fair_wait}
 use Rattle.lpc_isolation.proofs.Seen.{bind-same, c-port, live-owner, live-view, port-own, port-view, port_test-view, result_map}
 
@@ -103,9 +101,6 @@ same-pairs m c w port a x fair port_in x_in =
 
 second-of : (a b c d e f : Bool) → (a && (b && (c && (d && (e && f))))) ≡ true → b ≡ true
 second-of a b c d e f is = grind arith
-
-fourth-of : (a b c d e f : Bool) → (a && (b && (c && (d && (e && f))))) ≡ true → d ≡ true
-fourth-of a b c d e f is = grind arith
 
 fit-process : (w : World) (port : Birth) (a : Message) (x : WaitRow) → fits w port a x ≡ true → (x.process == a.header.client.process) ≡ true
 fit-process w port a x is = second-of (x.thread == a.header.client.thread) (x.process == a.header.client.process) (x.identifier == a.header.message_id) (is_request x) x.received (same_birth x.queue port || is_the port (pair_of w x.port)) is

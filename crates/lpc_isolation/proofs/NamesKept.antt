@@ -1,4 +1,5 @@
 -- Each call keeps names bound once: but for a creation, which binds at a free path, none binds.
+use Rattle.lpc_isolation.proofs.Deeds.{served-does}
 use Rattle.lpc_base.specs.Rows.{every, when}
 use Rattle.lpc_isolation.proofs.Bindings.{free-unbound}
 use Rattle.lpc_isolation.proofs.Bound.{OnceBound, once-bound, once-unbound}
@@ -6,9 +7,8 @@ use Rattle.lpc_isolation.proofs.Instances.{At}
 use Rattle.lpc_isolation.proofs.Served.{served}
 use Rattle.lpc_model.proofs.Calls.Acts.{Law, keeps_on, outcomes}
 use Rattle.lpc_model.proofs.Calls.Lines.{AnyWorld, Shut}
-use Rattle.lpc_model.proofs.Calls.Outcomes.{service-does}
 use Rattle.lpc_model.proofs.Steps.Ending.{AreEnding, die-ending, ending-enter, handle-ending, is_ending}
-use Rattle.lpc_model.proofs.Calls.Holding.{Holds, bind_holds, holds-more}
+use Rattle.lpc_model.proofs.Calls.Holding.{Holds, holds-more}
 use Rattle.lpc_model.proofs.Steps.InTurn.{steps-keep}
 use Rattle.lpc_model.proofs.Calls.Usable.{can-call}
 use Rattle.lpc_model.specs.Basics.{Awaits, Basic, Binds, Frees, Receives, Takes, TakesConnect, Unbinds, basic, world_after}
@@ -17,10 +17,8 @@ use Rattle.lpc_model.specs.Close.{close_handle}
 use Rattle.lpc_model.specs.Connect.{client_port, connect_start, connection_request}
 use Rattle.lpc_model.specs.Death.{die}
 use Rattle.lpc_model.specs.Entering.{enter, received_steps, row_of}
-use Rattle.lpc_model.specs.Lines.{ScriptCall, query_object}
-use Rattle.lpc_model.specs.Machine.{service_of}
+use Rattle.lpc_model.specs.Lines.{ScriptCall}
 use Rattle.lpc_model.specs.Message.{asks}
-use Rattle.lpc_model.specs.Tests.{own_handle}
 use Rattle.lpc_model.specs.World.{Birth, MessageRow, ThreadRow, World}
 use Rattle.std.proofs.Common.{Bool, List, [], false, refl, true, ℕ, ◌∷◌, ◌≡◌}
 use Rattle.std.proofs.lemmas.Bool.{and_from}
@@ -73,11 +71,6 @@ bound-law by = record {
 }
 
 pub bound-call : (m : Group) (c : ℕ) (w : World) (by : ThreadRow) (known : List ℕ → Birth) (call : ScriptCall) → At m c w by known → Holds (λ bs. OnceBound (world_after w bs).bindings) (served w by call)
-bound-call m c w by known call a = at call
-  where
-    does : (call : ScriptCall) → Holds (λ bs. OnceBound (world_after w bs).bindings) (service_of w by call)
-    does call = holds-more (KeepBound w) (λ bs. OnceBound (world_after w bs).bindings) (service_of w by call) (λ bs keeps. keeps a.bound) (service-does w by (λ _. KeepBound w) (outcomes by (Shut AnyWorld) AnyWorld KeepBound (bound-law by) (λ w c. c) w (record { can = can-call w by.number by a.live a.idle a.sound; sound = a.sound; known = (a.shut, tt) })) call)
-
-    at : (call : ScriptCall) → Holds (λ bs. OnceBound (world_after w bs).bindings) (served w by call)
-    at (query_object handle) = bind_holds (own_handle w by handle) _ (λ bs. OnceBound (world_after w bs).bindings) (λ r _. a.bound)
-    at call = does call
+bound-call m c w by known call a =
+    holds-more (KeepBound w) (λ bs. OnceBound (world_after w bs).bindings) (served w by call) (λ bs keeps. keeps a.bound)
+    (served-does w by (λ _. KeepBound w) (outcomes by (Shut AnyWorld) AnyWorld KeepBound (bound-law by) (λ w c. c) w (record { can = can-call w by.number by a.live a.idle a.sound; sound = a.sound; known = (a.shut, tt) })) (λ handle r fields at once. once) call)

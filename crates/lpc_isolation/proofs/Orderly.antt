@@ -1,4 +1,4 @@
--- Each accepted call tells its caller first, adds no thread, and begins no wait of a thread that it woke.
+-- Each call tells its caller first, adds no thread, and begins no wait of a thread that it woke.
 use Rattle.std.proofs.Common.{◌≡◌, ℕ, List, [], ◌∷◌, ◌++◌, Bool, true, false, Option, Some, None, refl, arith}
 use Rattle.std.specs.Prelude.{◌==◌}
 use Rattle.lpc_base.specs.Rows.{first, given}
@@ -8,27 +8,26 @@ use Rattle.lpc_message.specs.declared.kind.TheConstants.{DATAGRAM, REQUEST}
 use Rattle.lpc_model.specs.declared.message.Message.{Message}
 use Rattle.lpc_model.specs.Message.{asks}
 use Rattle.lpc_model.specs.World.{Accepted, Birth, Connect, Listen, MessageRow, PortRow, Receive, Request, ThreadRow, WaitKind, WaitRow, World}
-use Rattle.lpc_model.specs.Found.{fits, is_queued, is_queued_connect, wait_of, waits_as}
+use Rattle.lpc_model.specs.Found.{fits, wait_of, waits_as}
 use Rattle.lpc_model.specs.Basics.{Basic, world_after}
 use Rattle.lpc_model.specs.Entering.{enter, given_steps, row_of, shown, take_connect_steps, take_steps, takes, woken}
 use Rattle.lpc_model.specs.Connect.{client_port, connect_start, connection_request, listen_steps}
-use Rattle.lpc_model.specs.Request.{reply_test, datagram_start, request_start, nt_reply_port, receive_steps, reply, sent_by}
-use Rattle.lpc_model.specs.Lines.{accept_connect_port, complete_connect_port, connect_port, create_port, listen_port, reply_port, reply_wait_receive_port, request_port, request_wait_reply_port}
-use Rattle.lpc_isolation.proofs.Served.{served}
-use Rattle.lpc_model.specs.Message.{message_test}
-use Rattle.lpc_model.specs.Tests.{port_test}
-use Rattle.lpc_model.proofs.Calls.Holding.{Holds, bind_holds}
+use Rattle.lpc_model.specs.Request.{datagram_start, request_start, receive_steps, reply, sent_by}
 use Rattle.lpc_model.specs.Circle.{Group}
-use Rattle.lpc_isolation.proofs.Create.{made-holds}
 use Rattle.lpc_isolation.proofs.Reply.{answered-fit}
-use Rattle.lpc_isolation.proofs.Sends.{Caller, sent-datagram}
-use Rattle.lpc_isolation.proofs.Requests.{sent-request}
-use Rattle.lpc_isolation.proofs.Listens.{on-port}
-use Rattle.lpc_isolation.proofs.Receive.{on-receive, replied-as}
-use Rattle.lpc_isolation.proofs.Connects.{on-connect}
-use Rattle.lpc_isolation.proofs.Completes.{on-complete}
-use Rattle.lpc_isolation.proofs.Accepts.{on-answer}
-use Rattle.lpc_isolation.proofs.Serves.{is_call_of, is_orderly}
+use Rattle.lpc_isolation.proofs.Sends.{Caller}
+use Rattle.lpc_isolation.proofs.Receive.{replied-as}
+use Rattle.lpc_isolation.proofs.Serves.{is_call_of, is_orderly, tells_own}
+use Rattle.lpc_isolation.proofs.Deeds.{AreTame, Deeds, gives, more, none, numbers, registers, any-tame}
+use Rattle.lpc_isolation.proofs.Doomed.{doomed-heads, ended, heads_own}
+use Rattle.lpc_isolation.proofs.Mild.{AreMild, mild-orderly}
+use Rattle.lpc_isolation.proofs.Closes.{handle-mild}
+use Rattle.lpc_isolation.proofs.Endings.{ends-mild}
+use Rattle.lpc_model.specs.Close.{close_handle}
+use Rattle.lpc_model.specs.Death.{end_threads}
+use Rattle.lpc_base.specs.declared.status.Status.{Status}
+use Rattle.lpc_base.proofs.Bools.{second-true}
+use Rattle.std.proofs.lemmas.Bool.{and_from}
 
 given-orderly : (x : MessageRow) (y : WaitRow) (k : WaitKind) (asked : Bool) → y.kind ≡ k → asks x.message ≡ asked → is_orderly (given_steps y x ++ woken SUCCESS (shown y x) y ∷ []) ≡ true
 given-orderly x y (Request a) true k asked = rw (k, asked) refl
@@ -62,17 +61,17 @@ pub other-thread : (w : World) (tid : ℕ) (p : WaitRow → Bool) (y : WaitRow) 
 other-thread w tid p y idle at = by-rows w.waits idle at
   where
     by-rows : (xs : List WaitRow) → first (waits_as tid) xs ≡ None → first p xs ≡ Some y → (tid == y.thread) ≡ false
-    by-rows [] none at = absurd (cc)
-    by-rows (x ∷ xs) none at = grind (arith, by-rows xs, number-turned x.thread tid)
+    by-rows [] alone at = absurd (cc)
+    by-rows (x ∷ xs) alone at = grind (arith, by-rows xs, number-turned x.thread tid)
 
 received-orderly : (w : World) (by : ThreadRow) (p : PortRow) (q : Birth) (o : Option MessageRow) → is_call_of w by.number (receive_steps by p q [] o) ≡ true
 received-orderly w by p q None = rw (same-number by.number) refl
 received-orderly w by p q (Some x) = rw (same-number by.number) (take-orderly x (asks x.message) refl).0
 
-replied-orderly : (w : World) (by : ThreadRow) (p : PortRow) (q : Birth) (y : WaitRow) (b : Message) (o : Option MessageRow) (asked : Bool) → (by.number == y.thread) ≡ false → (o ≡ None → asked ≡ asked) → ((x : MessageRow) → o ≡ Some x → asks x.message ≡ asked) → is_call_of w by.number (receive_steps by p q (reply y b ∷ []) o) ≡ true
-replied-orderly w by p q y b None asked other none some = rw (same-number by.number, other) refl
-replied-orderly w by p q y b (Some x) true other none some = rw (same-number by.number, some x refl) refl
-replied-orderly w by p q y b (Some x) false other none some = rw (same-number by.number, some x refl) refl
+replied-orderly : (w : World) (by : ThreadRow) (p : PortRow) (q : Birth) (y : WaitRow) (b : Message) (o : Option MessageRow) (asked : Bool) → (by.number == y.thread) ≡ false → ((x : MessageRow) → o ≡ Some x → asks x.message ≡ asked) → is_call_of w by.number (receive_steps by p q (reply y b ∷ []) o) ≡ true
+replied-orderly w by p q y b None asked other some = rw (same-number by.number, other) refl
+replied-orderly w by p q y b (Some x) true other some = rw (same-number by.number, some x refl) refl
+replied-orderly w by p q y b (Some x) false other some = rw (same-number by.number, some x refl) refl
 
 abbrev asked-by : Option MessageRow → Bool
 asked-by None = false
@@ -81,40 +80,47 @@ asked-by (Some x) = asks x.message
 asked-is : (o : Option MessageRow) (x : MessageRow) → o ≡ Some x → asks x.message ≡ asked-by o
 asked-is o x is = rw is refl
 
-reply-orderly : (w : World) (by : ThreadRow) (handle : ℕ) (bytes : List ℕ) → Holds (λ bs. is_call_of w by.number bs ≡ true) (nt_reply_port w by handle bytes)
-unfolding nt_reply_port
-reply-orderly w by handle bytes =
-    let P : List Basic → Type 0 = λ bs. is_call_of w by.number bs ≡ true in
-    bind_holds (port_test w by handle) _ P (λ p _. bind_holds (message_test bytes) _ P (λ a _. bind_holds (reply_test w p a) _ P (λ x _. rw (same-number by.number) refl)))
+-- tame steps
+tame-orderly : (w : World) (by : ThreadRow) (bs : List Basic) → AreTame w by bs → is_orderly bs ≡ true
+tame-orderly w by [] none = refl
+tame-orderly w by (b ∷ bs) (more (gives h r value at same) t) = tame-orderly w by bs t
+tame-orderly w by (b ∷ bs) (more (registers p value at) t) = tame-orderly w by bs t
+tame-orderly w by (b ∷ bs) (more numbers t) = tame-orderly w by bs t
 
--- of each call
-pub orderly-create : (m : Group) (c : ℕ) (u w : World) (by : ThreadRow) (name : Option (List ℕ)) → Caller m c u w by → Holds (λ bs. is_call_of w by.number bs ≡ true) (served w by (create_port name))
-orderly-create m c u w by name k = made-holds (λ bs. is_call_of w by.number bs ≡ true) w by name (λ value. rw (same-number by.number) refl) (λ path value. rw (same-number by.number) refl)
+-- its first step ends a thread of the caller's process
+abbrev starts : World → ℕ → List Basic → Bool
+starts w tid [] = false
+starts w tid (b ∷ bs) = tells_own w tid b
 
-pub orderly-connect : (m : Group) (c : ℕ) (u w : World) (by : ThreadRow) (name bytes : List ℕ) → Caller m c u w by → Holds (λ bs. is_call_of w by.number bs ≡ true) (served w by (connect_port name bytes))
-orderly-connect m c u w by name bytes k = on-connect (λ bs. is_call_of w by.number bs ≡ true) w by name bytes (λ q at. rw (same-number by.number) (enter-orderly (world_after w (connect_start by q (connection_request by bytes))) (row_of q (client_port by q) (connection_request by bytes))))
+mild-call : (w : World) (tid : ℕ) (bs : List Basic) → AreMild bs → starts w tid bs ≡ true → is_call_of w tid bs ≡ true
+mild-call w tid [] mild is = absurd (cc)
+mild-call w tid (b ∷ bs) mild is = and_from _ _ is (mild-orderly bs (second-true _ _ mild))
 
-pub orderly-listen : (m : Group) (c : ℕ) (u w : World) (by : ThreadRow) (handle : ℕ) → Caller m c u w by → Holds (λ bs. is_call_of w by.number bs ≡ true) (served w by (listen_port handle))
-orderly-listen m c u w by handle k = on-port (λ bs. is_call_of w by.number bs ≡ true) m c u w by handle k (λ p at n. listen-orderly w by p.birth (first (is_queued_connect p.birth) w.messages))
+ends-orderly : (w : World) (pid tid : ℕ) (code : Status) (ts : List ThreadRow) → heads_own w tid ts ≡ true → is_call_of w tid (end_threads pid code ts w) ≡ true
+unfolding end_threads
+ends-orderly w pid tid code [] own = absurd (cc)
+ends-orderly w pid tid code (t ∷ ts) own = mild-call w tid (end_threads pid code (t ∷ ts) w) (ends-mild pid code (t ∷ ts) w) own
 
-pub orderly-accept : (m : Group) (c : ℕ) (u w : World) (by : ThreadRow) (context : ℕ) (message : List ℕ) (accept : Bool) → Caller m c u w by → Holds (λ bs. is_call_of w by.number bs ≡ true) (served w by (accept_connect_port context message accept))
-orderly-accept m c u w by context bytes accept k = on-answer (λ bs. is_call_of w by.number bs ≡ true) m c u w by context bytes accept k (λ a is. rw (same-number by.number) refl)
-    (λ a is. rw (same-number by.number) refl)
-
-pub orderly-complete : (m : Group) (c : ℕ) (u w : World) (by : ThreadRow) (handle : ℕ) → Caller m c u w by → Holds (λ bs. is_call_of w by.number bs ≡ true) (served w by (complete_connect_port handle))
-orderly-complete m c u w by handle k = on-complete (λ bs. is_call_of w by.number bs ≡ true) m c u w by handle k (λ r is. rw (same-number by.number) refl)
-
-pub orderly-datagram : (m : Group) (c : ℕ) (u w : World) (by : ThreadRow) (handle : ℕ) (message : List ℕ) → Caller m c u w by → Holds (λ bs. is_call_of w by.number bs ≡ true) (served w by (request_port handle message))
-orderly-datagram m c u w by handle bytes k = sent-datagram (λ bs. is_call_of w by.number bs ≡ true) m c u w by handle bytes k (λ s is. rw (same-number by.number) (enter-orderly (world_after w (datagram_start by)) (row_of s.queue s.port (sent_by by DATAGRAM s.message))))
-
-pub orderly-request : (m : Group) (c : ℕ) (u w : World) (by : ThreadRow) (handle : ℕ) (message : List ℕ) → Caller m c u w by → Holds (λ bs. is_call_of w by.number bs ≡ true) (served w by (request_wait_reply_port handle message))
-orderly-request m c u w by handle bytes k = sent-request (λ bs. is_call_of w by.number bs ≡ true) m c u w by handle bytes k (λ s is. rw (same-number by.number) (enter-orderly (world_after w (request_start by s.port.birth s.queue (sent_by by REQUEST s.message))) (row_of s.queue s.port (sent_by by REQUEST s.message))))
-
-pub orderly-reply : (m : Group) (c : ℕ) (u w : World) (by : ThreadRow) (handle : ℕ) (message : List ℕ) → Caller m c u w by → Holds (λ bs. is_call_of w by.number bs ≡ true) (served w by (reply_port handle message))
-orderly-reply m c u w by handle bytes k = reply-orderly w by handle bytes
-
-pub orderly-receive : (m : Group) (c : ℕ) (u w : World) (by : ThreadRow) (handle : ℕ) (message : Option (List ℕ)) → Caller m c u w by → Holds (λ bs. is_call_of w by.number bs ≡ true) (served w by (reply_wait_receive_port handle message))
-orderly-receive m c u w by handle bytes k = on-receive (λ bs. is_call_of w by.number bs ≡ true) m c u w by handle bytes k (λ a p q replied is r.
-    replied-as (λ rs. is_call_of w by.number (receive_steps by p q rs (first (is_queued q) w.messages)) ≡ true) w p a replied r.replies
-    (λ none. received-orderly w by p q (first (is_queued q) w.messages))
-    (λ b y some at. replied-orderly w by p q y b (first (is_queued q) w.messages) (asked-by (first (is_queued q) w.messages)) (other-thread w by.number (fits w p.birth b) y k.idle (answered-fit w p b y at)) (λ _. refl) (λ x there. asked-is (first (is_queued q) w.messages) x there)))
+-- Each deed
+pub orderly-deeds : (m : Group) (c : ℕ) (u w : World) (by : ThreadRow) → Caller m c u w by → Deeds w by (λ _ bs. is_call_of w by.number bs ≡ true)
+orderly-deeds m c u w by k = record {
+  creates = rw (same-number by.number) refl;
+  founds = λ name path free. rw (same-number by.number) refl;
+  connects = λ name bytes q at. rw (same-number by.number) (enter-orderly (world_after w (connect_start by q (connection_request by bytes))) (row_of q (client_port by q) (connection_request by bytes)));
+  listens = λ handle p o at first. listen-orderly w by p.birth o;
+  refuses = λ context bytes a at. rw (same-number by.number) refl;
+  accepts = λ context bytes a at. rw (same-number by.number) refl;
+  completes = λ handle r at. rw (same-number by.number) refl;
+  sends = λ handle bytes s at. rw (same-number by.number) (enter-orderly (world_after w (datagram_start by)) (row_of s.queue s.port (sent_by by DATAGRAM s.message)));
+  asks = λ handle bytes s at. rw (same-number by.number) (enter-orderly (world_after w (request_start by s.port.birth s.queue (sent_by by REQUEST s.message))) (row_of s.queue s.port (sent_by by REQUEST s.message)));
+  replies = λ handle bytes p b x at read fits. rw (same-number by.number) refl;
+  receives = λ handle bytes a p q replied o is first.
+      replied-as (λ rs. is_call_of w by.number (receive_steps by p q rs o) ≡ true) w p a replied is.reply_made
+      (λ none. received-orderly w by p q o)
+      (λ b y some at. replied-orderly w by p q y b o (asked-by o) (other-thread w by.number (fits w p.birth b) y k.idle (answered-fit w p b y at)) (λ x there. asked-is o x there));
+  closes = λ handle r at. and_from _ _ (and_from _ _ (same-number by.number) refl) (mild-orderly (close_handle by.process r w) (handle-mild w by.process r));
+  tames = any-tame (λ call name fields bs tame t. rw (same-number by.number) (tame-orderly w by bs t));
+  ends = λ call name own pid code ts doomed. ended (λ bs. is_call_of w by.number bs ≡ true) by name own pid code ts w
+      (λ mine. ends-orderly w pid by.number code ts (doomed-heads m c w by own pid ts k.fair k.live k.own doomed mine))
+      (λ _. and_from _ _ (and_from _ _ (same-number by.number) refl) (mild-orderly (end_threads pid code ts w) (ends-mild pid code ts w)));
+}

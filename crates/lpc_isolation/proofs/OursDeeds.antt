@@ -1,32 +1,28 @@
 -- A call of c that ends no thread: its steps are members', so the view changes as the world does.
 use Rattle.lpc_base.proofs.Bools.{same-number}
-use Rattle.lpc_base.specs.Rows.{first}
-use Rattle.lpc_isolation.proofs.Accepts.{IsAnswer, accept-ours, answer-found, c-side, refuse-ours}
+use Rattle.lpc_isolation.proofs.Accepts.{accept-ours, c-side, refuse-ours, found-answer}
 use Rattle.lpc_isolation.proofs.Alone.{HasFineRows}
 use Rattle.lpc_isolation.proofs.Basics.{are_ours}
-use Rattle.lpc_isolation.proofs.Calm.{Own, OwnCall, answers_alike, ends_threads}
+use Rattle.lpc_isolation.proofs.Calm.{Own, Members, answers_alike, ends_threads}
 use Rattle.lpc_isolation.proofs.Closes.{caller-sure, handle-good}
 use Rattle.lpc_isolation.proofs.Connects.{connect-fine, connect-ours}
 use Rattle.lpc_isolation.proofs.Create.{named-ours, unnamed-ours}
-use Rattle.lpc_isolation.proofs.Deeds.{AreTame, Deeds, deeds-do, ends-some, gives, is_calm, more, none, numbers, registers, spares}
+use Rattle.lpc_isolation.proofs.Deeds.{AreTame, Deeds, deeds-do, ends-some, gives, is_calm, more, none, numbers, registers, spares, any-tame}
 use Rattle.lpc_isolation.proofs.Instances.{caller, own-same}
 use Rattle.lpc_isolation.proofs.Listens.{c-listened-ours}
 use Rattle.lpc_isolation.proofs.Receive.{c-rest-ours, queue-own, receivable, receive-as, replied-as}
 use Rattle.lpc_isolation.proofs.Requests.{request-ours}
 use Rattle.lpc_isolation.proofs.Routes.{routed-in}
 use Rattle.lpc_isolation.proofs.Seen.{handle-own}
-use Rattle.lpc_isolation.proofs.Sends.{Caller, IsSendable, Named, datagram-ours, named-port, sendable, tested-sendable}
+use Rattle.lpc_isolation.proofs.Sends.{Caller, IsSendable, datagram-ours, found-port, found-request, found-datagram}
 use Rattle.lpc_isolation.proofs.Served.{served}
-use Rattle.lpc_model.proofs.Calls.Holding.{holds-more, holds_ok}
+use Rattle.lpc_model.proofs.Calls.Holding.{holds-more}
 use Rattle.lpc_model.specs.Basics.{Basic, basic, world_after}
 use Rattle.lpc_model.specs.Circle.{Group}
-use Rattle.lpc_model.specs.Connect.{answer_test}
 use Rattle.lpc_model.specs.Fields.{h}
-use Rattle.lpc_model.specs.Found.{fits, free_handle}
+use Rattle.lpc_model.specs.Found.{free_handle}
 use Rattle.lpc_model.specs.Lines.{ScriptCall}
-use Rattle.lpc_model.specs.Message.{asks}
-use Rattle.lpc_model.specs.Request.{Sendable, datagram_send_test, receive_steps, reply, send_test}
-use Rattle.lpc_model.specs.Tests.{port_test}
+use Rattle.lpc_model.specs.Request.{Sendable, receive_steps, reply}
 use Rattle.lpc_model.specs.World.{ThreadRow, World}
 use Rattle.std.proofs.Common.{List, [], ap, refl, true, ℕ, ◌∙◌, ◌∷◌, ◌≡◌}
 use Rattle.std.specs.Prelude.{◌==◌}
@@ -42,17 +38,17 @@ ours-deeds m c w by k mine = record {
   creates = λ _ _. unnamed-ours m w by (free_handle w by.process) inside;
   founds = λ name path free _ _. named-ours m w by path (free_handle w by.process) inside;
   connects = λ name bytes q at _ fine. connect-ours m c w w by q bytes k (connect-fine m c w by q bytes fine) inside;
-  listens = λ handle p o at first _ _. c-listened-ours m c w by p o first k.c_in k.fair mine (holds_ok (Named m c w by) (port_test w by handle) p (named-port m c w w by handle k) at).process;
+  listens = λ handle p o at first _ _. c-listened-ours m c w by p o first k.c_in k.fair mine (found-port m c w w by handle p k at).process;
   refuses = λ context bytes a at _ _. refuse-ours m w by a;
   accepts = λ context bytes a at _ _.
-      let is = holds_ok (IsAnswer m c w by bytes) (answer_test w by bytes) a (answer-found m c w w by bytes k) at in
+      let is = found-answer m c w w by bytes a k at in
       accept-ours m c w w by context (free_handle w by.process) bytes a k is inside (c-side m c by a.wait k.c_in mine is.fair is.offered is.queue);
   completes = λ handle r at _ _. refl;
   sends = λ handle bytes s at _ _.
-      let is = holds_ok (IsSendable m c w by handle bytes) (datagram_send_test w by handle bytes) s (tested-sendable m c w w by handle bytes k) at in
+      let is = found-datagram m c w w by handle bytes s k at in
       datagram-ours m c w w by s.port s.queue s.message k is.named inside (queue-in handle bytes s is);
   asks = λ handle bytes s at _ _.
-      let is = holds_ok (IsSendable m c w by handle bytes) (send_test w by handle bytes) s (sendable m c w w by handle bytes k) at in
+      let is = found-request m c w w by handle bytes s k at in
       request-ours m c w w by s.port s.queue s.message k is.named is.to inside (queue-in handle bytes s is);
   replies = λ handle bytes p b x at read fits _ _. refl;
   receives = λ handle bytes a p q replied o is first _ _.
@@ -65,7 +61,7 @@ ours-deeds m c w by k mine = record {
       let here : r.object.birth.process ≡ by.process = handle-own m c w by.process handle r k.fair at in
       let g = handle-good m c by.process r here in
       g.ours w w (caller-sure m c w w by k) (ap m (here ∙ mine) ∙ k.c_in);
-  tames = λ call name fields bs t _ _. are-ours m w by w bs t;
+  tames = any-tame (λ call name fields bs tame t _ _. are-ours m w by w bs t);
   ends = λ call name own pid code ts doomed spared. let some = ends-some call in absurd (cc);
 }
   where
@@ -75,10 +71,10 @@ ours-deeds m c w by k mine = record {
     queue-in : (handle : ℕ) (bytes : List ℕ) (s : Sendable) → IsSendable m c w by handle bytes s → m s.queue.process ≡ true
     queue-in handle bytes s is = routed-in m c w s.port s.queue is.named.right k.c_in (ap (λ b. b == c) (is.named.process ∙ mine) ∙ same-number c) is.to
 
-pub own-call : (call : ScriptCall) → is_calm call ≡ true → OwnCall call → Own call
+pub own-call : (call : ScriptCall) → is_calm call ≡ true → Members call → Own call
 own-call call is (answers_alike spared same) m c u d w by known a used mine fine =
     let P : ScriptCall → List Basic → Type 0 = λ call bs. spares call ≡ true → HasFineRows m c (world_after w bs) → are_ours m w bs ≡ true in
     own-same m c u d w by call (same m c w by known a mine fine)
     (holds-more (P call) (λ bs. HasFineRows m c (world_after w bs) → are_ours m w bs ≡ true) (served w by call) (λ bs ours. ours spared)
     (deeds-do w by P (ours-deeds m c w by (caller m c w by known w a refl) mine) call is))
-own-call call is (ends_threads own) m c u d w by known a used mine fine = own m c u d w by known a used mine fine
+own-call call is (ends_threads own leads) m c u d w by known a used mine fine = own m c u d w by known a used mine fine

@@ -1,6 +1,6 @@
 -- NtQueryObject in a view.
-use Rattle.std.proofs.Common.{◌≡◌, ℕ, List, [], ◌∷◌, true, false, refl, ap, ◌∙◌}
-use Rattle.std.specs.Prelude.{◌==◌, Ok}
+use Rattle.std.proofs.Common.{◌≡◌, ℕ, List, [], ◌∷◌, true, refl, ap, ◌∙◌}
+use Rattle.std.specs.Prelude.{Ok}
 use Rattle.lpc_base.specs.Rows.{first}
 use Rattle.lpc_base.proofs.RowMaps.{every-first}
 use Rattle.lpc_base.specs.declared.status.TheConstants.{INVALID_HANDLE, SUCCESS}
@@ -8,31 +8,25 @@ use Rattle.lpc_model.specs.declared.entry.CallName.TheVariants.{NtQueryObject}
 use Rattle.lpc_model.specs.declared.entry.Entry.TheVariants.{Answer}
 use Rattle.lpc_model.specs.World.{Birth, HandleRow, ThreadRow, World}
 use Rattle.lpc_model.specs.Found.{handle_at, handle_count, handles_of, has_value, is_table}
-use Rattle.lpc_model.specs.Basics.{Basic, Tells, world_after}
+use Rattle.lpc_model.specs.Basics.{Basic, Tells}
 use Rattle.lpc_model.specs.Fields.{object_fields}
 use Rattle.lpc_model.specs.Tests.{own_handle}
 use Rattle.lpc_model.specs.Lines.{query_object}
-use Rattle.lpc_model.specs.Circle.{Group, Whose, is_fine_call}
-use Rattle.lpc_model.proofs.Calls.Holding.{Holds, bind_holds, found_ok}
-use Rattle.lpc_isolation.proofs.Alone.{HasFineRows}
+use Rattle.lpc_model.specs.Circle.{Group, is_fine_call}
+use Rattle.lpc_model.proofs.Calls.Holding.{found_ok}
 use Rattle.lpc_isolation.proofs.Served.{served, standing_count}
 use Rattle.lpc_isolation.proofs.View.{view}
 use Rattle.lpc_isolation.proofs.Seen.{bind-same, handle-own, handle-view}
 use Rattle.lpc_isolation.proofs.Refuses.{Refuses, bind, found}
-use Rattle.lpc_isolation.proofs.Instances.{At, Leading, caller}
+use Rattle.lpc_isolation.proofs.Instances.{At}
 use Rattle.lpc_isolation.proofs.Thin.{Alive, Closed, handle_closed, thin}
 use Rattle.lpc_isolation.proofs.ThinCalls.{rows-closed}
 use Rattle.lpc_isolation.proofs.Closes.{handle_count-view}
 use Rattle.lpc_isolation.proofs.Counted.{standing-thin, standing-view}
-use Rattle.lpc_isolation.proofs.Calm.{Calm}
-use Rattle.lpc_isolation.proofs.Deeds.{none}
-use Rattle.lpc_isolation.proofs.Tame.{Tame, answering, answers}
+use Rattle.lpc_isolation.proofs.Calm.{Calm, answers_alike}
 
 abbrev told_counts : ThreadRow → HandleRow → ℕ → ℕ → List Basic
 told_counts by r handles pointers = Tells (Answer by.number NtQueryObject SUCCESS (object_fields r.object.kind r.access handles pointers)) ∷ []
-
-tame-query : (w : World) (by : ThreadRow) (handle : ℕ) → Holds (Tame w by) (served w by (query_object handle))
-tame-query w by handle = bind_holds (own_handle w by handle) _ (Tame w by) (λ r at. answers NtQueryObject _ none)
 
 refuses-query : (w : World) (by : ThreadRow) (handle : ℕ) → Refuses (served w by (query_object handle))
 refuses-query w by handle = bind (own_handle w by handle) _ (found (handle_at w by.process handle) INVALID_HANDLE refl) (λ r. tt)
@@ -44,23 +38,14 @@ same-query m c w by known handle a mine fine =
     ap (λ n. Ok (told_counts by r n (standing_count (view m w) r.object))) (handle_count-view m c w r.object a.fair.tables (ap m own ∙ a.c_in))
     ∙ ap (λ n. Ok (told_counts by r (handle_count w r.object) n)) (standing-view m c w r.object a.c_in own a.fair a.fine)))
 
--- what another member is told is told to it alone, and changes nothing
-leads-query : (m : Group) (c : ℕ) (u : World) (d : Whose) (w : World) (by : ThreadRow) (known : List ℕ → Birth) (handle : ℕ) → At m c w by known → u.used_threads ≡ w.used_threads → m by.process ≡ true → (by.process == c) ≡ false → Holds (λ bs. HasFineRows m c (world_after w bs) → Leading m c u d w by known (query_object handle) bs) (served w by (query_object handle))
-leads-query m c u d w by known handle a used by_in other = bind_holds (own_handle w by handle) _ (λ bs. HasFineRows m c (world_after w bs) → Leading m c u d w by known (query_object handle) bs) (λ r at fine.
-    record { world = refl; told = rw ((caller m c w by known u a used).here, other) refl })
-
 alike-query : (k : Alive) (u : World) (by : ThreadRow) (handle : ℕ) → Closed k u → served (thin k u) by (query_object handle) ≡ served u by (query_object handle)
 alike-query k u by handle c = bind-same (own_handle u by handle) _ _ (λ r at.
     let live : handle_closed k r ≡ true = every-first (handle_closed k) (has_value handle) (handles_of u by.process) r (rows-closed k by.process u.handles (first (is_table by.process) u.handles) refl c.tables) (found_ok (handle_at u by.process handle) INVALID_HANDLE r at) in
     ap (λ n. Ok (told_counts by r (handle_count u r.object) n)) (standing-thin k u r.object live c))
 
 pub query-calm : (handle : ℕ) → Calm (query_object handle)
-query-calm handle = answering (record {
-  tame = λ w by. tame-query w by handle;
+query-calm handle = record {
   refuses = λ w by. refuses-query w by handle;
-  sparing = refl;
-  unnoted = λ m v by e memo. refl;
-  same = λ m c w by known a mine fine. same-query m c w by known handle a mine fine;
-  leads = λ m c u d w by known a used by_in other. leads-query m c u d w by known handle a used by_in other;
-  alike = λ k u by c. alike-query k u by handle c;
-})
+  members = answers_alike refl (λ m c w by known a mine fine. same-query m c w by known handle a mine fine);
+  alike = λ k u by live c. alike-query k u by handle c;
+}

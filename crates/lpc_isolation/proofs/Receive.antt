@@ -20,12 +20,12 @@ use Rattle.lpc_model.specs.Refusal.{found_or}
 use Rattle.lpc_model.specs.Then.{◌>>=◌}
 use Rattle.lpc_model.specs.World.{Birth, MessageRow, PortKind, PortRow, ThreadRow, WaitRow, World}
 use Rattle.lpc_model.specs.Found.{if_open, is_open, is_queued, is_server_port, queue_of, waits_as}
-use Rattle.lpc_model.specs.Basics.{Awaits, Basic, Tells, basic, entries_of, told, world_after}
+use Rattle.lpc_model.specs.Basics.{Awaits, Basic, Tells, basic, entries_of, world_after}
 use Rattle.lpc_model.specs.Request.{reply_test, given_reply, is_spent, nt_reply_wait_receive_port, optional_message, receive_steps, receive_test, receive_wait, reply}
 use Rattle.lpc_model.specs.Entering.{take_steps}
 use Rattle.lpc_model.specs.Tests.{port_test}
 use Rattle.lpc_model.proofs.Calls.Outcomes.{IsReceiving}
-use Rattle.lpc_model.proofs.Calls.Holding.{Holds, bind_holds, found_ok, holds_ok}
+use Rattle.lpc_model.proofs.Calls.Holding.{found_ok, holds_ok}
 use Rattle.lpc_model.specs.Circle.{Group, Whose, names_no_outsider, owner}
 use Rattle.lpc_isolation.proofs.Alone.{alone}
 use Rattle.lpc_isolation.proofs.Filters.{first-kept}
@@ -38,9 +38,9 @@ use Rattle.std.proofs.lemmas.List.Elements.{filter-append}
 use Rattle.lpc_model.proofs.Calls.Acts.{tested-queue}
 use Rattle.lpc_model.proofs.Steps.InTurn.{after-append, entries-append}
 use Rattle.lpc_isolation.proofs.Callers.{Led, on_ok}
-use Rattle.lpc_isolation.proofs.Reply.{answered-fit, led_reply, led-wakes, not-c, wakes-apart}
+use Rattle.lpc_isolation.proofs.Reply.{answered-fit, led_reply, led-wakes, not-c}
 use Rattle.lpc_isolation.proofs.Mine.{Ways, c-answered, c-port_test, message-names}
-use Rattle.lpc_isolation.proofs.Sends.{Caller, Named, named-port}
+use Rattle.lpc_isolation.proofs.Sends.{Caller, Named, found-port}
 use Rattle.lpc_isolation.proofs.Takes.{IsFirst, c-first, is_readable, shown_process, shows-receipt, take-apart, take-fair, take-gone, take-ours, take-silent}
 use Rattle.lpc_isolation.proofs.Listens.{own-wait-fair, own_entry}
 use Rattle.lpc_isolation.proofs.Routes.{Right}
@@ -93,25 +93,10 @@ pub record Receivable (m : Group) (c : ℕ) (w : World) (by : ThreadRow) (handle
 pub receivable : (m : Group) (c : ℕ) (u w : World) (by : ThreadRow) (handle : ℕ) (bytes : Option (List ℕ)) (a : Option Message) (p : PortRow) (q : Birth) (replied : List Basic) → Caller m c u w by → IsReceiving w by handle bytes a p q replied → Receivable m c w by handle a p q replied
 receivable m c u w by handle bytes a p q replied k is = record {
   from = is.port_found;
-  named = holds_ok (Named m c w by) (port_test w by handle) p (named-port m c u w by handle k) is.port_found;
+  named = found-port m c u w by handle p k is.port_found;
   queue = holds_ok (λ q. queue_of w p ≡ Some q) (receive_test w p) q (tested-queue w p) is.queue_found;
   replies = is.reply_made;
 }
-
-pub on-receive : (P : List Basic → Type 0) (m : Group) (c : ℕ) (u w : World) (by : ThreadRow) (handle : ℕ) (bytes : Option (List ℕ)) → Caller m c u w by
-    → ((a : Option Message) (p : PortRow) (q : Birth) (replied : List Basic) → optional_message bytes ≡ Ok a → Receivable m c w by handle a p q replied → P (receive_steps by p q replied (first (is_queued q) w.messages))) → Holds P (nt_reply_wait_receive_port w by handle bytes)
-unfolding nt_reply_wait_receive_port
-on-receive P m c u w by handle bytes k then_ =
-    bind_holds (port_test w by handle) _ P (λ p at.
-    bind_holds (optional_message bytes) _ P (λ a is.
-    bind_holds (receive_test w p) _ P (λ q to.
-    bind_holds (given_reply w p a) _ P (λ replied re.
-    then_ a p q replied is (record {
-      from = at;
-      named = holds_ok (Named m c w by) (port_test w by handle) p (named-port m c u w by handle k) at;
-      queue = holds_ok (λ q. queue_of w p ≡ Some q) (receive_test w p) q (tested-queue w p) to;
-      replies = re;
-    })))))
 
 -- what the reply is
 pub replied-as : (P : List Basic → Type 0) (w : World) (p : PortRow) (a : Option Message) (replied : List Basic) → given_reply w p a ≡ Ok replied → (a ≡ None → P []) → ((b : Message) (x : WaitRow) → a ≡ Some b → reply_test w p b ≡ Ok x → P (reply x b ∷ [])) → P replied
@@ -123,20 +108,13 @@ replied-as P w p (Some b) replied is none some = at (reply_test w p b) refl is
     at (Err s) found is = absurd (cc)
 
 -- fair
-received-fair : (m : Group) (c : ℕ) (w : World) (by : ThreadRow) (p : PortRow) (q : Birth) (o : Option MessageRow) → m c ≡ true → p.birth.process ≡ by.process → q.process ≡ by.process → are_fair m c w (receive_steps by p q [] o) ≡ true
+pub received-fair : (m : Group) (c : ℕ) (w : World) (by : ThreadRow) (p : PortRow) (q : Birth) (o : Option MessageRow) → m c ≡ true → p.birth.process ≡ by.process → q.process ≡ by.process → are_fair m c w (receive_steps by p q [] o) ≡ true
 received-fair m c w by p q (Some x) c_in own queue = take-fair m c w x
 received-fair m c w by p q None c_in own queue = rw (own-wait-fair m c (receive_wait by p.birth q) c_in own queue) refl
 
-replied-fair : (m : Group) (c : ℕ) (w : World) (by : ThreadRow) (p : PortRow) (q : Birth) (y : WaitRow) (b : Message) (o : Option MessageRow) → m c ≡ true → p.birth.process ≡ by.process → q.process ≡ by.process → are_fair m c w (receive_steps by p q (reply y b ∷ []) o) ≡ true
+pub replied-fair : (m : Group) (c : ℕ) (w : World) (by : ThreadRow) (p : PortRow) (q : Birth) (y : WaitRow) (b : Message) (o : Option MessageRow) → m c ≡ true → p.birth.process ≡ by.process → q.process ≡ by.process → are_fair m c w (receive_steps by p q (reply y b ∷ []) o) ≡ true
 replied-fair m c w by p q y b (Some x) c_in own queue = take-fair m c (basic w (reply y b)) x
 replied-fair m c w by p q y b None c_in own queue = rw (own-wait-fair m c (receive_wait by p.birth q) c_in own queue) refl
-
-pub receive-call-fair : (m : Group) (c : ℕ) (u w : World) (by : ThreadRow) (handle : ℕ) (bytes : Option (List ℕ)) → Caller m c u w by → Holds (λ bs. are_fair m c w bs ≡ true) (nt_reply_wait_receive_port w by handle bytes)
-receive-call-fair m c u w by handle bytes k = on-receive (λ bs. are_fair m c w bs ≡ true) m c u w by handle bytes k (λ a p q replied is r.
-    let queue : q.process ≡ by.process = queue-own m c w p q r.named.right r.queue ∙ r.named.process in
-    replied-as (λ rs. are_fair m c w (receive_steps by p q rs (first (is_queued q) w.messages)) ≡ true) w p a replied r.replies
-    (λ none. received-fair m c w by p q (first (is_queued q) w.messages) k.c_in r.named.process queue)
-    (λ b y some at. replied-fair m c w by p q y b (first (is_queued q) w.messages) k.c_in r.named.process queue))
 
 -- apart
 pub received-apart : (m : Group) (c : ℕ) (u : World) (d : Whose) (w : World) (by : ThreadRow) (p : PortRow) (q : Birth) (o : Option MessageRow) → first (is_queued q) w.messages ≡ o → owner u by.number ≡ Some by.process → m q.process ≡ false → m by.process ≡ false → are_apart m c u d w (receive_steps by p q [] o) ≡ true
@@ -267,13 +245,13 @@ receive-led m c u d w by handle (Some bs) a p q replied k readable by_in other i
             rw (same, sym (received-as m (view m w) (view m (basic w (reply y b))) by p.birth q (own by o) refl))
             (received-led m c u d w by p q a (reply y b ∷ []) (led_reply (view m w) b) o at k readable by_in other queue (led-woken m c u d w by p b y k other t) refl refl (woken-owned u w y b k.owned))
 
-pub receive-call-led : (m : Group) (c : ℕ) (u : World) (d : Whose) (w : World) (by : ThreadRow) (handle : ℕ) (bytes : Option (List ℕ)) → Caller m c u w by → every is_readable w.messages ≡ true → m by.process ≡ true → (by.process == c) ≡ false
-    → Holds (λ bs. Led m c u d w bs (led_receive m (view m w) by handle bytes (own_entry bs))) (nt_reply_wait_receive_port w by handle bytes)
-receive-call-led m c u d w by handle bytes k readable by_in other =
-    on-receive (λ bs. Led m c u d w bs (led_receive m (view m w) by handle bytes (own_entry bs))) m c u w by handle bytes k (λ a p q replied is r.
+pub received-as-led : (m : Group) (c : ℕ) (u : World) (d : Whose) (w : World) (by : ThreadRow) (handle : ℕ) (bytes : Option (List ℕ)) (a : Option Message) (p : PortRow) (q : Birth) (replied : List Basic) (o : Option MessageRow) → first (is_queued q) w.messages ≡ o → Caller m c u w by → every is_readable w.messages ≡ true → m by.process ≡ true → (by.process == c) ≡ false → IsReceiving w by handle bytes a p q replied
+    → Led m c u d w (receive_steps by p q replied o) (led_receive m (view m w) by handle bytes (own_entry (receive_steps by p q replied o)))
+received-as-led m c u d w by handle bytes a p q replied o first k readable by_in other is =
+    let r = receivable m c u w by handle bytes a p q replied k is in
     let queue : queue_of (view m w) (seen_port m p) ≡ Some q = queue-view m c w p k.fair r.named.right (ap m r.named.process ∙ by_in) ∙ r.queue in
-    rw (port_test-view m c w by handle k.fair by_in, r.from, queue, entry-of by p q replied (first (is_queued q) w.messages), receive-as by p q replied (first (is_queued q) w.messages))
-    (receive-led m c u d w by handle bytes a p q replied k readable by_in other is r (first (is_queued q) w.messages) refl))
+    rw (port_test-view m c w by handle k.fair by_in, r.from, queue, entry-of by p q replied o, receive-as by p q replied o)
+    (receive-led m c u d w by handle bytes a p q replied k readable by_in other is.message_read r o first)
 
 -- of c
 c-spent : (m : Group) (c : ℕ) (w : World) (p : PortRow) (q : Birth) (k : PortKind) → p.kind ≡ k → first (is_queued q) (view m w).messages ≡ first (is_queued q) w.messages → is_spent (view m w) p q ≡ is_spent w p q
@@ -311,7 +289,7 @@ pub c-receive : (m : Group) (c : ℕ) (u w : World) (by : ThreadRow) (handle : �
 unfolding nt_reply_wait_receive_port
 c-receive m c u w by handle bytes k mine ways inside =
     rw (c-port_test m c w by handle k.c_in mine k.fair) (bind-same (port_test w by handle) _ _ (λ p at.
-    let n : Named m c w by p = holds_ok (Named m c w by) (port_test w by handle) p (named-port m c u w by handle k) at in
+    let n : Named m c w by p = found-port m c u w by handle p k at in
     let p_in : m p.birth.process ≡ true = ap m (n.process ∙ mine) ∙ k.c_in in
     bind-same (optional_message bytes) _ _ (λ a is.
     rw (c-receive_test m c w by p k.c_in mine k.fair n) (bind-same (receive_test w p) _ _ (λ q to.

@@ -19,16 +19,15 @@ use Rattle.lpc_model.specs.Message.{as_reply, message_test}
 use Rattle.lpc_model.specs.World.{Birth, PortRow, ThreadRow, WaitRow, World}
 use Rattle.lpc_model.specs.Found.{fits, fitted, is_port, is_request, is_the, pair_of, port_row, same_birth, wait_of, waits_as}
 use Rattle.lpc_model.specs.Basics.{Basic}
-use Rattle.lpc_model.specs.Request.{reply_test, nt_reply_port, reply, reply_steps}
-use Rattle.lpc_model.specs.Tests.{client_test, port_test}
+use Rattle.lpc_model.specs.Request.{reply_test, reply, reply_steps}
+use Rattle.lpc_model.specs.Tests.{client_test}
 use Rattle.lpc_model.proofs.Calls.Holding.{Holds, bind_holds, found_holds, holds_ok}
 use Rattle.lpc_model.specs.Circle.{Group, Whose, owner}
 use Rattle.lpc_isolation.proofs.Alone.{alone}
 use Rattle.lpc_isolation.proofs.Filters.{first-kept}
 use Rattle.lpc_isolation.proofs.View.{of_birth, our_wait, view}
 use Rattle.lpc_isolation.proofs.Basics.{basic-unseen, run-ours, sees_wait}
-use Rattle.lpc_isolation.proofs.Fair.{Fair, all_of, are_fair, is_fair_pair, is_fair_port, is_fair_wait, is_home}
-use Rattle.lpc_isolation.proofs.Seen.{port-own}
+use Rattle.lpc_isolation.proofs.Fair.{Fair, all_of, is_fair_pair, is_fair_port, is_fair_wait, is_home}
 use Rattle.lpc_isolation.proofs.Apart.{Owned, are_apart, end-apart, is_heard, is_owned, owned-by}
 use Rattle.lpc_isolation.proofs.Callers.{Led, c-wait, on_ok}
 
@@ -87,12 +86,6 @@ pub wakes-apart : (m : Group) (c : ℕ) (u : World) (d : Whose) (w : World) (por
 wakes-apart m c u d w port a x c_in f owned out is =
     let at : fitted w port.birth a ≡ Some x = answered-fit w port a x is in
     and_from _ _ (and_from _ _ (end-apart m c u d w x SUCCESS (msg (as_reply a) ∷ []) owned (every-first (is_owned u) (fits w port.birth a) w.waits x owned at) (fit-other m c w port.birth a x f c_in out at)) refl) refl
-
-pub reply-fair : (m : Group) (c : ℕ) (w : World) (by : ThreadRow) (handle : ℕ) (bytes : List ℕ) → Holds (λ bs. are_fair m c w bs ≡ true) (nt_reply_port w by handle bytes)
-unfolding nt_reply_port
-reply-fair m c w by handle bytes =
-    let P : List Basic → Type 0 = λ bs. are_fair m c w bs ≡ true in
-    bind_holds (port_test w by handle) _ P (λ port _. bind_holds (message_test bytes) _ P (λ a _. bind_holds (reply_test w port a) _ P (λ x _. refl)))
 
 -- A member's reply, by its answer alone: where it was accepted, the client's thread waits no longer
 abbrev pub led_reply : World → Message → List Basic
@@ -158,13 +151,3 @@ led-wakes m c u d w by port a x c_in f owned once here other fit = inside (our_w
 -- by its answer alone
 abbrev pub led_reply_port : World → List ℕ → List Basic
 led_reply_port v bytes = on_ok (message_test bytes) (λ a. led_reply v a)
-
-pub reply-call-led : (m : Group) (c : ℕ) (u : World) (d : Whose) (w : World) (by : ThreadRow) (handle : ℕ) (bytes : List ℕ) → m c ≡ true → Fair m c w → Owned u w → ((tid : ℕ) → count (waits_as tid) w.waits ≤ 1) → owner u by.number ≡ Some by.process → (by.process == c) ≡ false
-    → Holds (λ bs. Led m c u d w bs (led_reply_port (view m w) bytes)) (nt_reply_port w by handle bytes)
-unfolding nt_reply_port
-reply-call-led m c u d w by handle bytes c_in f owned once here other =
-    let P : List Basic → Type 0 = λ bs. Led m c u d w bs (led_reply_port (view m w) bytes) in
-    bind_holds (port_test w by handle) _ P (λ port _.
-    bind_holds (message_test bytes) _ P (λ a at.
-    bind_holds (reply_test w port a) _ P (λ x is.
-    rw at (led-wakes m c u d w by port.birth a x c_in f owned once here other (answered-fit w port a x is)))))

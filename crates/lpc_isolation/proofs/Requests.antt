@@ -15,7 +15,6 @@ use Rattle.lpc_model.specs.Request.{Sendable, nt_request_wait_reply_port, reques
 use Rattle.lpc_model.specs.declared.entry.CallName.TheVariants.{NtRequestWaitReplyPort}
 use Rattle.lpc_model.specs.declared.entry.Entry.TheVariants.{Waits}
 use Rattle.lpc_model.specs.Fields.{id}
-use Rattle.lpc_model.proofs.Calls.Holding.{Holds, bind_holds, holds_ok}
 use Rattle.lpc_model.specs.Circle.{Group, Whose}
 use Rattle.lpc_isolation.proofs.View.{our_wait, seen_port, view}
 use Rattle.lpc_isolation.proofs.Basics.{are_ours, basic-unseen, ours-append, run-ours}
@@ -24,7 +23,7 @@ use Rattle.lpc_isolation.proofs.Seen.{bind-same}
 use Rattle.lpc_isolation.proofs.Enter.{Patient, is_patient, enter-fair, enter-ours, enter-view}
 use Rattle.lpc_isolation.proofs.Apart.{Owned, are_apart, enter-apart, enter-gone, is_owned, unseen-at, unseen-wait}
 use Rattle.lpc_isolation.proofs.Callers.{Led, led-same, unseen-thread}
-use Rattle.lpc_isolation.proofs.Sends.{Caller, IsSendable, Named, c-route, c-send_test, led-send, led_send, row-fair, sendable, sent_way}
+use Rattle.lpc_isolation.proofs.Sends.{Caller, IsSendable, Named, c-route, c-send_test, led-send, led_send, row-fair, sent_way, found-request}
 use Rattle.lpc_isolation.proofs.Routes.{context-view, routed-in, routed-out}
 
 -- the wait is fair
@@ -53,7 +52,7 @@ started m c u w by p q a k n to = record {
   owned = every-push (is_owned u) w.waits (request_wait by p.birth q a) k.owned (rw k.here (same-number by.process));
 }
 
-request-fair : (m : Group) (c : ℕ) (u w : World) (by : ThreadRow) (p : PortRow) (q : Birth) (a : Message) → Caller m c u w by → Named m c w by p → route w p ≡ Some q → are_fair m c w (request_steps by p q (sent_by by REQUEST a) w) ≡ true
+pub request-fair : (m : Group) (c : ℕ) (u w : World) (by : ThreadRow) (p : PortRow) (q : Birth) (a : Message) → Caller m c u w by → Named m c w by p → route w p ≡ Some q → are_fair m c w (request_steps by p q (sent_by by REQUEST a) w) ≡ true
 request-fair m c u w by p q a k n to =
     rw (wait-fair m c w by p q (sent_by by REQUEST a) k.c_in n to) (enter-fair m c (world_after w (request_start by p.birth q (sent_by by REQUEST a))) (row_of q p (sent_by by REQUEST a)) (row-fair m c w by p q REQUEST a k.c_in k.own n to))
 
@@ -80,15 +79,6 @@ request-view m c u w by p q a k n to is q_in =
     ∙ ap (λ v. bs ++ enter (row_of q p (sent_by by REQUEST a)) v) (sym (run-ours m w bs (rw (is, q_in) refl)))
     ∙ ap (λ es. bs ++ es) (enter-view m c (world_after w bs) (row_of q p (sent_by by REQUEST a)) (started m c u w by p q (sent_by by REQUEST a) k n to).fair q_in)
 
--- what the call owes
-pub sent-request : (P : List Basic → Type 0) (m : Group) (c : ℕ) (u w : World) (by : ThreadRow) (handle : ℕ) (bytes : List ℕ) → Caller m c u w by → ((s : Sendable) → IsSendable m c w by handle bytes s → P (request_steps by s.port s.queue (sent_by by REQUEST s.message) w)) → Holds P (nt_request_wait_reply_port w by handle bytes)
-unfolding nt_request_wait_reply_port
-sent-request P m c u w by handle bytes k then_ =
-    bind_holds (send_test w by handle bytes) _ P (λ s at. then_ s (holds_ok (IsSendable m c w by handle bytes) (send_test w by handle bytes) s (sendable m c u w by handle bytes k) at))
-
-pub request-call-fair : (m : Group) (c : ℕ) (u w : World) (by : ThreadRow) (handle : ℕ) (bytes : List ℕ) → Caller m c u w by → Holds (λ bs. are_fair m c w bs ≡ true) (nt_request_wait_reply_port w by handle bytes)
-request-call-fair m c u w by handle bytes k = sent-request (λ bs. are_fair m c w bs ≡ true) m c u w by handle bytes k (λ s is. request-fair m c u w by s.port s.queue s.message k is.named is.to)
-
 -- of another member than c
 abbrev pub request_gone : ThreadRow → List Basic
 request_gone by = Tells (Waits by.number NtRequestWaitReplyPort (id by.next_identifier ∷ [])) ∷ DrawsIdentifier by.number ∷ []
@@ -109,7 +99,7 @@ request-lost m c u d w by p q a k n to out =
     off true = out
     off false = refl
 
-request-led : (m : Group) (c : ℕ) (u : World) (d : Whose) (w : World) (by : ThreadRow) (handle : ℕ) (bytes : List ℕ) (s : Sendable) → Caller m c u w by → IsSendable m c w by handle bytes s → m by.process ≡ true
+pub request-led : (m : Group) (c : ℕ) (u : World) (d : Whose) (w : World) (by : ThreadRow) (handle : ℕ) (bytes : List ℕ) (s : Sendable) → Caller m c u w by → IsSendable m c w by handle bytes s → m by.process ≡ true
     → Led m c u d w (request_steps by s.port s.queue (sent_by by REQUEST s.message) w) (led_request (view m w) by handle bytes)
 request-led m c u d w by handle bytes s k is by_in =
     subst (Led m c u d w (request_steps by s.port s.queue (sent_by by REQUEST s.message) w)) (sym (led-send m c w by handle bytes s (request_gone by) (λ port q a. request_steps by port q (sent_by by REQUEST a) (view m w)) k.fair is by_in)) (at (m s.queue.process) refl)
@@ -118,16 +108,13 @@ request-led m c u d w by handle bytes s k is by_in =
     at true q_in = rw (request-view m c u w by s.port s.queue s.message k is.named is.to by_in q_in) (led-same m c u d w _ (request-ours m c u w by s.port s.queue s.message k is.named is.to by_in q_in))
     at false out = request-lost m c u d w by s.port s.queue s.message k is.named is.to out
 
-pub request-call-led : (m : Group) (c : ℕ) (u : World) (d : Whose) (w : World) (by : ThreadRow) (handle : ℕ) (bytes : List ℕ) → Caller m c u w by → m by.process ≡ true → Holds (λ bs. Led m c u d w bs (led_request (view m w) by handle bytes)) (nt_request_wait_reply_port w by handle bytes)
-request-call-led m c u d w by handle bytes k by_in = sent-request (λ bs. Led m c u d w bs (led_request (view m w) by handle bytes)) m c u w by handle bytes k (λ s is. request-led m c u d w by handle bytes s k is by_in)
-
 -- of c
 pub c-request : (m : Group) (c : ℕ) (u w : World) (by : ThreadRow) (handle : ℕ) (bytes : List ℕ) → Caller m c u w by → by.process ≡ c → nt_request_wait_reply_port (view m w) by handle bytes ≡ nt_request_wait_reply_port w by handle bytes
 unfolding nt_request_wait_reply_port
 c-request m c u w by handle bytes k mine =
     ap (λ r. r >>= (λ s. Ok (request_steps by s.port s.queue (sent_by by REQUEST s.message) (view m w)))) (c-send_test m c u w by handle bytes k mine)
     ∙ bind-same (send_test w by handle bytes) (λ s. Ok (request_steps by s.port s.queue (sent_by by REQUEST s.message) (view m w))) (λ s. Ok (request_steps by s.port s.queue (sent_by by REQUEST s.message) w)) (λ s at.
-    let is : IsSendable m c w by handle bytes s = holds_ok (IsSendable m c w by handle bytes) (send_test w by handle bytes) s (sendable m c u w by handle bytes k) at in
+    let is : IsSendable m c w by handle bytes s = found-request m c u w by handle bytes s k at in
     let by_in : m by.process ≡ true = ap m mine ∙ k.c_in in
     let q_in : m s.queue.process ≡ true = routed-in m c w s.port s.queue is.named.right k.c_in (ap (λ b. b == c) (is.named.process ∙ mine) ∙ same-number c) is.to in
     let same : seen_port m s.port ≡ s.port = (c-route m c w by s.port k.c_in mine k.fair is.named).0 in

@@ -67,9 +67,6 @@ abbrev pub result_map : {A B : Type 0} → (A → B) → Result A Status → Res
 result_map f (Ok x) = Ok (f x)
 result_map f (Err s) = Err s
 
-abbrev found_in : World → HandleRow → Status → Result PortRow Status
-found_in w h s = found_or (port_row w h.object.birth) s
-
 mapped-found : {A B : Type 0} (f : A → B) (o : Option A) (s : Status) → found_or (option_map f o) s ≡ result_map f (found_or o s)
 mapped-found f None s = refl
 mapped-found f (Some x) s = refl
@@ -146,12 +143,6 @@ live-view m c w tid pid f own is =
     first-where (is_homed w.used_threads) (our_thread m) (is_live_thread tid) (λ t homed live.
     let same : Some t.process ≡ Some pid = sym (homed-owner m c w tid t homed live) ∙ own in
     let it : t.process ≡ pid = cc in ap m it ∙ is) w.threads f.threads
-
-pub live-out : (m : Group) (c : ℕ) (w : World) (tid pid : ℕ) → Fair m c w → owner w tid ≡ Some pid → m pid ≡ false → live_thread (view m w) tid ≡ None
-live-out m c w tid pid f own out =
-    first-nowhere (is_homed w.used_threads) (our_thread m) (is_live_thread tid) (λ t homed live.
-    let same : Some t.process ≡ Some pid = sym (homed-owner m c w tid t homed live) ∙ own in
-    let it : t.process ≡ pid = cc in ap m it ∙ out) w.threads f.threads
 
 pub live-owner : (m : Group) (c : ℕ) (w : World) (tid : ℕ) (t : ThreadRow) → Fair m c w → live_thread w tid ≡ Some t → owner w tid ≡ Some t.process
 live-owner m c w tid t f live =

@@ -64,6 +64,9 @@ pub record Named (m : Group) (c : ℕ) (w : World) (by : ThreadRow) (p : PortRow
 pub named-port : (m : Group) (c : ℕ) (u w : World) (by : ThreadRow) (handle : ℕ) → Caller m c u w by → Holds (Named m c w by) (port_test w by handle)
 named-port m c u w by handle k = holds-more _ (Named m c w by) (port_test w by handle) (λ p h. record { process = h.0; right = right-row m c w p k.fair k.fine h.1 }) (port-own m c w by handle k.fair)
 
+pub found-port : (m : Group) (c : ℕ) (u w : World) (by : ThreadRow) (handle : ℕ) (p : PortRow) → Caller m c u w by → port_test w by handle ≡ Ok p → Named m c w by p
+found-port m c u w by handle p k at = holds_ok (Named m c w by) (port_test w by handle) p (named-port m c u w by handle k) at
+
 -- what a message that may be sent is
 pub record IsSendable (m : Group) (c : ℕ) (w : World) (by : ThreadRow) (handle : ℕ) (bytes : List ℕ) (s : Sendable) : Type 0 where
   pub from : port_test w by handle ≡ Ok s.port
@@ -77,7 +80,18 @@ sendable m c u w by handle bytes k =
     bind_holds (port_test w by handle) _ P (λ port at.
     bind_holds (message_test bytes) _ P (λ a is.
     bind_holds (found_or (route w port) PORT_DISCONNECTED) _ P (λ q to.
-    record { from = at; message = is; to = found_ok (route w port) PORT_DISCONNECTED q to; named = holds_ok (Named m c w by) (port_test w by handle) port (named-port m c u w by handle k) at })))
+    record { from = at; message = is; to = found_ok (route w port) PORT_DISCONNECTED q to; named = found-port m c u w by handle port k at })))
+
+pub found-request : (m : Group) (c : ℕ) (u w : World) (by : ThreadRow) (handle : ℕ) (bytes : List ℕ) (s : Sendable) → Caller m c u w by → send_test w by handle bytes ≡ Ok s → IsSendable m c w by handle bytes s
+found-request m c u w by handle bytes s k at = holds_ok (IsSendable m c w by handle bytes) (send_test w by handle bytes) s (sendable m c u w by handle bytes k) at
+
+pub tested-sendable : (m : Group) (c : ℕ) (u w : World) (by : ThreadRow) (handle : ℕ) (bytes : List ℕ) → Caller m c u w by → Holds (IsSendable m c w by handle bytes) (datagram_send_test w by handle bytes)
+tested-sendable m c u w by handle bytes k =
+    let Q : Sendable → Type 0 = IsSendable m c w by handle bytes in
+    bind_holds (send_test w by handle bytes) _ Q (λ s at. bind_holds (datagram_test w s.port) _ Q (λ _ _. holds_ok Q (send_test w by handle bytes) s (sendable m c u w by handle bytes k) at))
+
+pub found-datagram : (m : Group) (c : ℕ) (u w : World) (by : ThreadRow) (handle : ℕ) (bytes : List ℕ) (s : Sendable) → Caller m c u w by → datagram_send_test w by handle bytes ≡ Ok s → IsSendable m c w by handle bytes s
+found-datagram m c u w by handle bytes s k at = holds_ok (IsSendable m c w by handle bytes) (datagram_send_test w by handle bytes) s (tested-sendable m c u w by handle bytes k) at
 
 -- the message's row is fair
 pub row-fair : (m : Group) (c : ℕ) (w : World) (by : ThreadRow) (p : PortRow) (q : Birth) (kind : ℕ) (a : Message) → m c ≡ true → owner w by.number ≡ Some by.process → Named m c w by p → route w p ≡ Some q → (is_fair_message m c (row_of q p (sent_by by kind a)) && is_sent w.used_threads (row_of q p (sent_by by kind a))) ≡ true
@@ -97,7 +111,7 @@ row-fair m c w by p q kind a c_in own n to =
 after-start : (m : Group) (c : ℕ) (u w : World) (by : ThreadRow) → Caller m c u w by → Fair m c (world_after w (datagram_start by))
 after-start m c u w by k = keeps-fair m c w (DrawsIdentifier by.number) refl k.fair
 
-datagram-fair : (m : Group) (c : ℕ) (w : World) (by : ThreadRow) (p : PortRow) (q : Birth) (a : Message) → m c ≡ true → owner w by.number ≡ Some by.process → Named m c w by p → route w p ≡ Some q → are_fair m c w (datagram_steps by p q (sent_by by DATAGRAM a) w) ≡ true
+pub datagram-fair : (m : Group) (c : ℕ) (w : World) (by : ThreadRow) (p : PortRow) (q : Birth) (a : Message) → m c ≡ true → owner w by.number ≡ Some by.process → Named m c w by p → route w p ≡ Some q → are_fair m c w (datagram_steps by p q (sent_by by DATAGRAM a) w) ≡ true
 datagram-fair m c w by p q a c_in own n to = enter-fair m c (world_after w (datagram_start by)) (row_of q p (sent_by by DATAGRAM a)) (row-fair m c w by p q DATAGRAM a c_in own n to)
 
 pub datagram-apart : (m : Group) (c : ℕ) (u : World) (d : Whose) (w : World) (by : ThreadRow) (p : PortRow) (q : Birth) (a : Message) → Caller m c u w by → Named m c w by p → route w p ≡ Some q → m by.process ≡ false → are_apart m c u d w (datagram_steps by p q (sent_by by DATAGRAM a) w) ≡ true
@@ -120,19 +134,6 @@ datagram-view m c u w by p q a k n is q_in =
     ∙ ap (λ v. datagram_start by ++ enter (row_of q p (sent_by by DATAGRAM a)) v) (sym (run-ours m w (datagram_start by) refl))
     ∙ ap (λ bs. datagram_start by ++ bs) (enter-view m c (world_after w (datagram_start by)) (row_of q p (sent_by by DATAGRAM a)) (after-start m c u w by k) q_in)
 
--- what the call owes
-pub sent-datagram : (P : List Basic → Type 0) (m : Group) (c : ℕ) (u w : World) (by : ThreadRow) (handle : ℕ) (bytes : List ℕ) → Caller m c u w by → ((s : Sendable) → IsSendable m c w by handle bytes s → P (datagram_steps by s.port s.queue (sent_by by DATAGRAM s.message) w)) → Holds P (nt_request_port w by handle bytes)
-unfolding nt_request_port
-sent-datagram P m c u w by handle bytes k then_ =
-    let Q : Sendable → Type 0 = IsSendable m c w by handle bytes in
-    bind_holds (datagram_send_test w by handle bytes) _ P (λ s is.
-    then_ s (holds_ok Q (datagram_send_test w by handle bytes) s
-    (bind_holds (send_test w by handle bytes) _ Q (λ s' at.
-    bind_holds (datagram_test w s'.port) _ Q (λ _ _. holds_ok Q (send_test w by handle bytes) s' (sendable m c u w by handle bytes k) at))) is))
-
-pub request_port-fair : (m : Group) (c : ℕ) (u w : World) (by : ThreadRow) (handle : ℕ) (bytes : List ℕ) → Caller m c u w by → Holds (λ bs. are_fair m c w bs ≡ true) (nt_request_port w by handle bytes)
-request_port-fair m c u w by handle bytes k = sent-datagram (λ bs. are_fair m c w bs ≡ true) m c u w by handle bytes k (λ s is. datagram-fair m c w by s.port s.queue s.message k.c_in k.own is.named is.to)
-
 -- of another member than c, by what it was told
 abbrev pub sent_way : List Basic → (Birth → List Basic) → Option Birth → List Basic
 sent_way gone f None = gone
@@ -150,16 +151,13 @@ led-send m c w by handle bytes s gone f fair is by_in =
 abbrev pub led_datagram : World → ThreadRow → ℕ → List ℕ → List Basic
 led_datagram v by handle bytes = led_send v by handle bytes (datagram_start by) (λ port q a. datagram_steps by port q (sent_by by DATAGRAM a) v)
 
-pub unseen-idle : (m : Group) (w : World) (tid : ℕ) → wait_of w tid ≡ None → sees_wait m w tid ≡ false
-unseen-idle m w tid idle = rw (first-none_kept (our_wait m) (waits_as tid) w.waits idle) refl
-
 datagram-gone : (m : Group) (c : ℕ) (u : World) (d : Whose) (w : World) (by : ThreadRow) (p : PortRow) (q : Birth) (a : Message) → Caller m c u w by → m q.process ≡ false → Led m c u d w (datagram_steps by p q (sent_by by DATAGRAM a) w) (datagram_start by)
 datagram-gone m c u d w by p q a k out =
     let w1 : World = world_after w (datagram_start by) in
     let gone = enter-gone m c u d w1 (row_of q p (sent_by by DATAGRAM a)) k.c_in out k.owned (after-start m c u w by k) k.patient in
     record { world = gone.0 ∙ run-ours m w (datagram_start by) refl; told = rw gone.1 refl }
 
-datagram-led : (m : Group) (c : ℕ) (u : World) (d : Whose) (w : World) (by : ThreadRow) (handle : ℕ) (bytes : List ℕ) (s : Sendable) → Caller m c u w by → IsSendable m c w by handle bytes s → m by.process ≡ true
+pub datagram-led : (m : Group) (c : ℕ) (u : World) (d : Whose) (w : World) (by : ThreadRow) (handle : ℕ) (bytes : List ℕ) (s : Sendable) → Caller m c u w by → IsSendable m c w by handle bytes s → m by.process ≡ true
     → Led m c u d w (datagram_steps by s.port s.queue (sent_by by DATAGRAM s.message) w) (led_datagram (view m w) by handle bytes)
 datagram-led m c u d w by handle bytes s k is by_in =
     subst (Led m c u d w (datagram_steps by s.port s.queue (sent_by by DATAGRAM s.message) w)) (sym (led-send m c w by handle bytes s (datagram_start by) (λ port q a. datagram_steps by port q (sent_by by DATAGRAM a) (view m w)) k.fair is by_in)) (at (m s.queue.process) refl)
@@ -167,9 +165,6 @@ datagram-led m c u d w by handle bytes s k is by_in =
     at : (b : Bool) → m s.queue.process ≡ b → Led m c u d w (datagram_steps by s.port s.queue (sent_by by DATAGRAM s.message) w) (sent_way (datagram_start by) (λ q. datagram_steps by (seen_port m s.port) q (sent_by by DATAGRAM s.message) (view m w)) (cond b (Some s.queue) None))
     at true q_in = rw (datagram-view m c u w by s.port s.queue s.message k is.named by_in q_in) (led-same m c u d w _ (datagram-ours m c u w by s.port s.queue s.message k is.named by_in q_in))
     at false out = datagram-gone m c u d w by s.port s.queue s.message k out
-
-pub request_port-led : (m : Group) (c : ℕ) (u : World) (d : Whose) (w : World) (by : ThreadRow) (handle : ℕ) (bytes : List ℕ) → Caller m c u w by → m by.process ≡ true → Holds (λ bs. Led m c u d w bs (led_datagram (view m w) by handle bytes)) (nt_request_port w by handle bytes)
-request_port-led m c u d w by handle bytes k by_in = sent-datagram (λ bs. Led m c u d w bs (led_datagram (view m w) by handle bytes)) m c u w by handle bytes k (λ s is. datagram-led m c u d w by handle bytes s k is by_in)
 
 -- of c
 pub c-route : (m : Group) (c : ℕ) (w : World) (by : ThreadRow) (p : PortRow) → m c ≡ true → by.process ≡ c → Fair m c w → Named m c w by p → (seen_port m p ≡ p) × (route (view m w) p ≡ route w p)
@@ -188,7 +183,7 @@ c-route m c w by p c_in mine f n = (same, subst (λ r. route (view m w) r ≡ se
 pub c-send_test : (m : Group) (c : ℕ) (u w : World) (by : ThreadRow) (handle : ℕ) (bytes : List ℕ) → Caller m c u w by → by.process ≡ c → send_test (view m w) by handle bytes ≡ send_test w by handle bytes
 c-send_test m c u w by handle bytes k mine =
     rw (c-port_test m c w by handle k.c_in mine k.fair) (bind-same (port_test w by handle) _ _ (λ port at.
-    bind-same (message_test bytes) _ _ (λ a is. rw (c-route m c w by port k.c_in mine k.fair (holds_ok (Named m c w by) (port_test w by handle) port (named-port m c u w by handle k) at)).1 refl)))
+    bind-same (message_test bytes) _ _ (λ a is. rw (c-route m c w by port k.c_in mine k.fair (found-port m c u w by handle port k at)).1 refl)))
 
 c-datagrams : (m : Group) (c : ℕ) (w : World) (b : Birth) → m c ≡ true → Fair m c w → (b.process == c) ≡ true → which (is_datagram_of b) (view m w).messages ≡ which (is_datagram_of b) w.messages
 c-datagrams m c w b c_in f mine = which-where (is_fair_message m c) (our_message m) (is_datagram_of b) (λ x fair is.
@@ -200,20 +195,15 @@ c-datagrams m c w b c_in f mine = which-where (is_fair_message m c) (our_message
 c-datagram_test : (m : Group) (c : ℕ) (u w : World) (by : ThreadRow) (handle : ℕ) (bytes : List ℕ) → Caller m c u w by → by.process ≡ c → datagram_send_test (view m w) by handle bytes ≡ datagram_send_test w by handle bytes
 c-datagram_test m c u w by handle bytes k mine =
     rw (c-send_test m c u w by handle bytes k mine) (bind-same (send_test w by handle bytes) _ _ (λ s at.
-    let n : Named m c w by s.port = (holds_ok (IsSendable m c w by handle bytes) (send_test w by handle bytes) s (sendable m c u w by handle bytes k) at).named in
+    let n : Named m c w by s.port = (found-request m c u w by handle bytes s k at).named in
     rw (c-datagrams m c w s.port.birth k.c_in k.fair (ap (λ b. b == c) (n.process ∙ mine) ∙ same-number c)) refl))
-
-pub tested-sendable : (m : Group) (c : ℕ) (u w : World) (by : ThreadRow) (handle : ℕ) (bytes : List ℕ) → Caller m c u w by → Holds (IsSendable m c w by handle bytes) (datagram_send_test w by handle bytes)
-tested-sendable m c u w by handle bytes k =
-    let Q : Sendable → Type 0 = IsSendable m c w by handle bytes in
-    bind_holds (send_test w by handle bytes) _ Q (λ s at. bind_holds (datagram_test w s.port) _ Q (λ _ _. holds_ok Q (send_test w by handle bytes) s (sendable m c u w by handle bytes k) at))
 
 pub c-request_port : (m : Group) (c : ℕ) (u w : World) (by : ThreadRow) (handle : ℕ) (bytes : List ℕ) → Caller m c u w by → by.process ≡ c → nt_request_port (view m w) by handle bytes ≡ nt_request_port w by handle bytes
 unfolding nt_request_port
 c-request_port m c u w by handle bytes k mine =
     ap (λ r. r >>= (λ s. Ok (datagram_steps by s.port s.queue (sent_by by DATAGRAM s.message) (view m w)))) (c-datagram_test m c u w by handle bytes k mine)
     ∙ bind-same (datagram_send_test w by handle bytes) (λ s. Ok (datagram_steps by s.port s.queue (sent_by by DATAGRAM s.message) (view m w))) (λ s. Ok (datagram_steps by s.port s.queue (sent_by by DATAGRAM s.message) w)) (λ s at.
-    let is : IsSendable m c w by handle bytes s = holds_ok (IsSendable m c w by handle bytes) (datagram_send_test w by handle bytes) s (tested-sendable m c u w by handle bytes k) at in
+    let is : IsSendable m c w by handle bytes s = found-datagram m c u w by handle bytes s k at in
     let by_in : m by.process ≡ true = ap m mine ∙ k.c_in in
     let q_in : m s.queue.process ≡ true = routed-in m c w s.port s.queue is.named.right k.c_in (ap (λ b. b == c) (is.named.process ∙ mine) ∙ same-number c) is.to in
     let same : seen_port m s.port ≡ s.port = (c-route m c w by s.port k.c_in mine k.fair is.named).0 in

@@ -1,6 +1,5 @@
 -- A call sends messages from a port to the port's own way alone.
-use Rattle.std.proofs.Common.{◌≡◌, ℕ, List, [], ◌∷◌, ◌++◌, Bool, true, false, Option, Some, None, refl}
-use Rattle.std.specs.Prelude.{Ok}
+use Rattle.std.proofs.Common.{◌≡◌, List, [], ◌∷◌, true, Some, refl}
 use Rattle.lpc_base.specs.Rows.{passes}
 use Rattle.lpc_base.proofs.Births.{birth-self}
 use Rattle.lpc_base.proofs.RowWords.{first-push}
@@ -12,12 +11,12 @@ use Rattle.lpc_model.specs.Found.{is_port, live_thread, port_row}
 use Rattle.lpc_model.specs.Request.{Sendable, datagram_send_test, datagram_start, given_reply, receive_steps, request_start, send_test, sent_by}
 use Rattle.lpc_model.specs.SoundWaits.{IsSoundWorld}
 use Rattle.lpc_model.specs.Tests.{next_birth}
-use Rattle.lpc_model.specs.World.{Birth, ThreadRow, World}
+use Rattle.lpc_model.specs.World.{ThreadRow, World}
 use Rattle.lpc_model.proofs.Calls.Holding.{holds_ok}
 use Rattle.lpc_model.proofs.Steps.Rows.{has-off}
 use Rattle.lpc_isolation.proofs.Closes.{handle-sent}
 use Rattle.lpc_isolation.proofs.Connects.{row, starting}
-use Rattle.lpc_isolation.proofs.Deeds.{AreTame, Deeds, gives, more, none, numbers, registers}
+use Rattle.lpc_isolation.proofs.Deeds.{AreTame, Deeds, gives, more, none, numbers, registers, any-tame}
 use Rattle.lpc_isolation.proofs.Doomed.{ended}
 use Rattle.lpc_isolation.proofs.Endings.{ends-sent}
 use Rattle.lpc_isolation.proofs.Fresh.{next-new}
@@ -49,6 +48,6 @@ sent-deeds u by s live = record {
   replies = λ handle bytes p m x at read fits. refl;
   receives = λ handle bytes a p q replied o is first. still-sent u (receive_steps by p q replied o) (received-still by p q replied o (holds_ok AreStill (given_reply u p a) replied (replied-still u p a) is.reply_made));
   closes = λ handle r at. handle-sent u by.process r;
-  tames = λ call name fields bs t. keeps-sent u by u bs t;
+  tames = any-tame (λ call name fields bs tame t. keeps-sent u by u bs t);
   ends = λ call name own pid code ts doomed. let is = ends-sent pid code ts u in ended (λ bs. are_sent u bs ≡ true) by name own pid code ts u (λ _. is) (λ _. is);
 }

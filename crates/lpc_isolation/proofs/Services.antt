@@ -1,6 +1,19 @@
--- What each call owes the law, and that each does so. A further call adds a file with its own such lemmas, and its value and
+-- What each call owes the law, and that each does so. A further call adds its tests here, its deeds to each law.
+use Rattle.lpc_model.specs.Tests.{next_birth}
+use Rattle.lpc_model.specs.Connect.{making}
+use Rattle.lpc_isolation.proofs.Names.{SeenNames}
+use Rattle.lpc_isolation.proofs.Receive.{c-receive, names_none}
+use Rattle.lpc_isolation.proofs.Mine.{c-reply}
+use Rattle.lpc_isolation.proofs.Requests.{c-request}
+use Rattle.lpc_isolation.proofs.Sends.{c-request_port}
+use Rattle.lpc_isolation.proofs.Completes.{c-complete}
+use Rattle.lpc_isolation.proofs.Accepts.{c-answer}
+use Rattle.lpc_isolation.proofs.Listens.{c-listen}
+use Rattle.lpc_isolation.proofs.Connects.{c-connect, c-making}
+use Rattle.lpc_isolation.proofs.Create.{create-c}
+use Rattle.lpc_isolation.proofs.LeadsDeeds.{leads-call}
 use Rattle.std.specs.Prelude.{◌≡◌, ℕ, Bool, true, List, Option}
-use Rattle.std.proofs.Common.{refl, subst, sym}
+use Rattle.std.proofs.Common.{refl, subst, sym, None, Some}
 use Rattle.lpc_base.specs.declared.status.Status.{Status}
 use Rattle.lpc_model.specs.World.{Birth, ThreadRow, World}
 use Rattle.lpc_model.specs.Basics.{world_after}
@@ -20,18 +33,22 @@ use Rattle.lpc_isolation.proofs.Creates.{process-lawful, thread-lawful}
 use Rattle.lpc_isolation.proofs.Callers.{Led}
 use Rattle.lpc_isolation.proofs.Lines.{OnceUsed}
 use Rattle.lpc_isolation.proofs.Ids.{Numbered, of_number}
-use Rattle.lpc_isolation.proofs.ThinCalls.{AreClosed, alike-create, alike-connect, alike-listen, alike-accept, alike-complete, alike-datagram, alike-request, alike-reply, alike-receive}
+use Rattle.lpc_isolation.proofs.ThinCalls.{AreClosed, create-thin, connect-thin, listen-thin, accept-thin, complete-thin, datagram-thin, request-thin, reply-thin, receive-thin}
 use Rattle.lpc_isolation.proofs.Fine.{FineAfter}
 use Rattle.lpc_isolation.proofs.FineDeeds.{fine-deeds}
-use Rattle.lpc_isolation.proofs.Ways.{paths-create, paths-connect, paths-listen, paths-accept, paths-complete, paths-datagram, paths-request, paths-reply, paths-receive}
-use Rattle.lpc_isolation.proofs.AskedCalls.{asked-create, asked-connect, asked-listen, asked-accept, asked-complete, asked-datagram, asked-request, asked-reply, asked-receive}
-use Rattle.lpc_isolation.proofs.Orderly.{orderly-create, orderly-connect, orderly-listen, orderly-accept, orderly-complete, orderly-datagram, orderly-request, orderly-reply, orderly-receive}
+use Rattle.lpc_isolation.proofs.PathsDeeds.{paths-deeds}
+use Rattle.lpc_isolation.proofs.Paths.{are_paths}
+use Rattle.lpc_isolation.proofs.AskedDeeds.{asked-deeds}
+use Rattle.lpc_isolation.proofs.Asked.{Asked}
+use Rattle.lpc_isolation.proofs.Orderly.{orderly-deeds}
 use Rattle.lpc_isolation.proofs.Refuses.{Refuses, refuses-create, refuses-connect, refuses-listen, refuses-accept, refuses-complete, refuses-datagram, refuses-request, refuses-reply, refuses-receive}
-use Rattle.lpc_isolation.proofs.Kept.{fair-create, fair-connect, fair-listen, fair-accept, fair-complete, fair-datagram, fair-request, fair-reply, fair-receive}
-use Rattle.lpc_isolation.proofs.Instances.{At, Leading, caller, leads_by, same-create, same-connect, same-listen, same-accept, same-complete, same-datagram, same-request, same-reply, same-receive, leads-create, leads-connect, leads-listen, leads-accept, leads-complete, leads-datagram, leads-request, leads-reply, leads-receive}
-use Rattle.lpc_isolation.proofs.KnownCalls.{Hears, hears-create, hears-connect, hears-listen, hears-accept, hears-complete, hears-datagram, hears-request, hears-reply, hears-receive, notes-create, notes-connect, notes-listen, notes-accept, notes-complete, notes-datagram, notes-request, notes-reply, notes-receive}
-use Rattle.lpc_isolation.proofs.Closes.{orderly-close, refuses-close, fair-close, paths-close, asked-close, same-close, leads-close, hears-close, notes-close, alike-close}
-use Rattle.lpc_isolation.proofs.Terminates.{EndsThreads, alike-ends, asked-ends, fair-ends, hears-ends, leads-ends, notes-ends, orderly-ends, own-ends, paths-ends, process-ends-it, refuses-ends, thread-ends-it}
+use Rattle.lpc_isolation.proofs.FairDeeds.{fair-deeds}
+use Rattle.lpc_isolation.proofs.Fair.{are_fair}
+use Rattle.lpc_isolation.proofs.Instances.{At, Leading, caller, leads_by}
+use Rattle.lpc_isolation.proofs.KnownCalls.{Hears}
+use Rattle.lpc_isolation.proofs.KnownDeeds.{hears-deeds, notes-deeds}
+use Rattle.lpc_isolation.proofs.Closes.{refuses-close, same-close, alike-close}
+use Rattle.lpc_isolation.proofs.Terminates.{EndsThreads, alike-ends, leads-ends, own-ends, process-ends-it, refuses-ends, thread-ends-it}
 use Rattle.lpc_isolation.proofs.Calm.{Calm, answers_alike, ends_threads}
 use Rattle.lpc_isolation.proofs.Deeds.{deeds-do, is_calm}
 use Rattle.lpc_isolation.proofs.Sent.{are_sent}
@@ -43,159 +60,89 @@ use Rattle.lpc_isolation.proofs.Queries.{query-calm}
 use Rattle.lpc_isolation.proofs.Duplicates.{duplicate-calm}
 use Rattle.lpc_isolation.proofs.Registers.{register-calm}
 
--- its line here.
-
+-- What each call owes besides
 create-calm : (name : Option (List ℕ)) → Calm (create_port name)
 create-calm name = record {
-  orderly = λ m c u w by k. orderly-create m c u w by name k;
   refuses = λ w by. refuses-create w by name;
-  fair = λ m c w by known a. fair-create m c w by known name a;
-  paths = λ m c w by all k. paths-create m c w by name all k;
-  asked = λ m c w by a k. asked-create m c w by name a k;
-  own = answers_alike refl (λ m c w by known a mine fine. same-create m c w by known name a mine fine);
-  leads = λ m c u d w by known a used by_in other. leads-create m c u d w by known name a used by_in other;
-  hears = λ m c u w by d memo k owned n a all out. hears-create m c u w by d memo k owned n a all out name;
-  notes = λ m c u w by memo k owned n a all by_in. notes-create m c u w by memo k owned n a all by_in name;
-  alike = λ k u by live c. alike-create k u by name c;
+  members = answers_alike refl (λ m c w by known a mine fine. create-c m c w by name a.c_in mine a.fair (made m w by name a.names fine));
+  alike = λ k u by live c. create-thin k u by name;
 }
+  where
+    made : (m : Group) (w : World) (by : ThreadRow) (name : Option (List ℕ)) → SeenNames m w.bindings → is_fine_call m w (create_port name) ≡ true → making (view m w) (next_birth by) name ≡ making w (next_birth by) name
+    made m w by None names fine = refl
+    made m w by (Some name) names fine = c-making m w (next_birth by) name names fine
 
 connect-calm : (name bytes : List ℕ) → Calm (connect_port name bytes)
 connect-calm name bytes = record {
-  orderly = λ m c u w by k. orderly-connect m c u w by name bytes k;
   refuses = λ w by. refuses-connect w by name bytes;
-  fair = λ m c w by known a. fair-connect m c w by known name bytes a;
-  paths = λ m c w by all k. paths-connect m c w by name bytes all k;
-  asked = λ m c w by a k. asked-connect m c w by name bytes a k;
-  own = answers_alike refl (λ m c w by known a mine fine. same-connect m c w by known name bytes a mine fine);
-  leads = λ m c u d w by known a used by_in other. leads-connect m c u d w by known name bytes a used by_in other;
-  hears = λ m c u w by d memo k owned n a all out. hears-connect m c u w by d memo k owned n a all out name bytes;
-  notes = λ m c u w by memo k owned n a all by_in. notes-connect m c u w by memo k owned n a all by_in name bytes;
-  alike = λ k u by live c. alike-connect k u by name bytes c;
+  members = answers_alike refl (λ m c w by known a mine fine. c-connect m c w w by name bytes (caller m c w by known w a refl) mine fine);
+  alike = λ k u by live c. connect-thin k u by name bytes;
 }
 
 listen-calm : (handle : ℕ) → Calm (listen_port handle)
 listen-calm handle = record {
-  orderly = λ m c u w by k. orderly-listen m c u w by handle k;
   refuses = λ w by. refuses-listen w by handle;
-  fair = λ m c w by known a. fair-listen m c w by known handle a;
-  paths = λ m c w by all k. paths-listen m c w by handle all k;
-  asked = λ m c w by a k. asked-listen m c w by handle a k;
-  own = answers_alike refl (λ m c w by known a mine fine. same-listen m c w by known handle a mine fine);
-  leads = λ m c u d w by known a used by_in other. leads-listen m c u d w by known handle a used by_in other;
-  hears = λ m c u w by d memo k owned n a all out. hears-listen m c u w by d memo k owned n a all out handle;
-  notes = λ m c u w by memo k owned n a all by_in. notes-listen m c u w by memo k owned n a all by_in handle;
-  alike = λ k u by live c. alike-listen k u by handle c;
+  members = answers_alike refl (λ m c w by known a mine fine. c-listen m c w w by handle (caller m c w by known w a refl) mine);
+  alike = λ k u by live c. listen-thin k u by handle c;
 }
 
 accept-calm : (context : ℕ) (message : List ℕ) (accept : Bool) → Calm (accept_connect_port context message accept)
 accept-calm context message accept = record {
-  orderly = λ m c u w by k. orderly-accept m c u w by context message accept k;
   refuses = λ w by. refuses-accept w by context message accept;
-  fair = λ m c w by known a. fair-accept m c w by known context message accept a;
-  paths = λ m c w by all k. paths-accept m c w by context message accept all k;
-  asked = λ m c w by a k. asked-accept m c w by context message accept a k;
-  own = answers_alike refl (λ m c w by known a mine fine. same-accept m c w by known context message accept a mine fine);
-  leads = λ m c u d w by known a used by_in other. leads-accept m c u d w by known context message accept a used by_in other;
-  hears = λ m c u w by d memo k owned n a all out. hears-accept m c u w by d memo k owned n a all out context message accept;
-  notes = λ m c u w by memo k owned n a all by_in. notes-accept m c u w by memo k owned n a all by_in context message accept;
-  alike = λ k u by live c. alike-accept k u by context message accept c;
+  members = answers_alike refl (λ m c w by known a mine fine. c-answer m c w w by context message accept (caller m c w by known w a refl) mine fine);
+  alike = λ k u by live c. accept-thin k u by context message accept c;
 }
 
 complete-calm : (handle : ℕ) → Calm (complete_connect_port handle)
 complete-calm handle = record {
-  orderly = λ m c u w by k. orderly-complete m c u w by handle k;
   refuses = λ w by. refuses-complete w by handle;
-  fair = λ m c w by known a. fair-complete m c w by known handle a;
-  paths = λ m c w by all k. paths-complete m c w by handle all k;
-  asked = λ m c w by a k. asked-complete m c w by handle a k;
-  own = answers_alike refl (λ m c w by known a mine fine. same-complete m c w by known handle a mine fine);
-  leads = λ m c u d w by known a used by_in other. leads-complete m c u d w by known handle a used by_in other;
-  hears = λ m c u w by d memo k owned n a all out. hears-complete m c u w by d memo k owned n a all out handle;
-  notes = λ m c u w by memo k owned n a all by_in. notes-complete m c u w by memo k owned n a all by_in handle;
-  alike = λ k u by live c. alike-complete k u by handle c;
+  members = answers_alike refl (λ m c w by known a mine fine. c-complete m c w w by handle (caller m c w by known w a refl) mine);
+  alike = λ k u by live c. complete-thin k u by handle c;
 }
 
 datagram-calm : (handle : ℕ) (message : List ℕ) → Calm (request_port handle message)
 datagram-calm handle message = record {
-  orderly = λ m c u w by k. orderly-datagram m c u w by handle message k;
   refuses = λ w by. refuses-datagram w by handle message;
-  fair = λ m c w by known a. fair-datagram m c w by known handle message a;
-  paths = λ m c w by all k. paths-datagram m c w by handle message all k;
-  asked = λ m c w by a k. asked-datagram m c w by handle message a k;
-  own = answers_alike refl (λ m c w by known a mine fine. same-datagram m c w by known handle message a mine fine);
-  leads = λ m c u d w by known a used by_in other. leads-datagram m c u d w by known handle message a used by_in other;
-  hears = λ m c u w by d memo k owned n a all out. hears-datagram m c u w by d memo k owned n a all out handle message;
-  notes = λ m c u w by memo k owned n a all by_in. notes-datagram m c u w by memo k owned n a all by_in handle message;
-  alike = λ k u by live c. alike-datagram k u by handle message c;
+  members = answers_alike refl (λ m c w by known a mine fine. c-request_port m c w w by handle message (caller m c w by known w a refl) mine);
+  alike = λ k u by live c. datagram-thin k u by handle message c;
 }
 
 request-calm : (handle : ℕ) (message : List ℕ) → Calm (request_wait_reply_port handle message)
 request-calm handle message = record {
-  orderly = λ m c u w by k. orderly-request m c u w by handle message k;
   refuses = λ w by. refuses-request w by handle message;
-  fair = λ m c w by known a. fair-request m c w by known handle message a;
-  paths = λ m c w by all k. paths-request m c w by handle message all k;
-  asked = λ m c w by a k. asked-request m c w by handle message a k;
-  own = answers_alike refl (λ m c w by known a mine fine. same-request m c w by known handle message a mine fine);
-  leads = λ m c u d w by known a used by_in other. leads-request m c u d w by known handle message a used by_in other;
-  hears = λ m c u w by d memo k owned n a all out. hears-request m c u w by d memo k owned n a all out handle message;
-  notes = λ m c u w by memo k owned n a all by_in. notes-request m c u w by memo k owned n a all by_in handle message;
-  alike = λ k u by live c. alike-request k u by handle message c;
+  members = answers_alike refl (λ m c w by known a mine fine. c-request m c w w by handle message (caller m c w by known w a refl) mine);
+  alike = λ k u by live c. request-thin k u by handle message c;
 }
 
 reply-calm : (handle : ℕ) (message : List ℕ) → Calm (reply_port handle message)
 reply-calm handle message = record {
-  orderly = λ m c u w by k. orderly-reply m c u w by handle message k;
   refuses = λ w by. refuses-reply w by handle message;
-  fair = λ m c w by known a. fair-reply m c w by known handle message a;
-  paths = λ m c w by all k. paths-reply m c w by handle message all k;
-  asked = λ m c w by a k. asked-reply m c w by handle message a k;
-  own = answers_alike refl (λ m c w by known a mine fine. same-reply m c w by known handle message a mine fine);
-  leads = λ m c u d w by known a used by_in other. leads-reply m c u d w by known handle message a used by_in other;
-  hears = λ m c u w by d memo k owned n a all out. hears-reply m c u w by d memo k owned n a all out handle message;
-  notes = λ m c u w by memo k owned n a all by_in. notes-reply m c u w by memo k owned n a all by_in handle message;
-  alike = λ k u by live c. alike-reply k u by handle message c;
+  members = answers_alike refl (λ m c w by known a mine fine. c-reply m c w by handle message a.c_in mine a.fair a.ways fine);
+  alike = λ k u by live c. reply-thin k u by handle message c;
 }
 
 receive-calm : (handle : ℕ) (message : Option (List ℕ)) → Calm (reply_wait_receive_port handle message)
 receive-calm handle message = record {
-  orderly = λ m c u w by k. orderly-receive m c u w by handle message k;
   refuses = λ w by. refuses-receive w by handle message;
-  fair = λ m c w by known a. fair-receive m c w by known handle message a;
-  paths = λ m c w by all k. paths-receive m c w by handle message all k;
-  asked = λ m c w by a k. asked-receive m c w by handle message a k;
-  own = answers_alike refl (λ m c w by known a mine fine. same-receive m c w by known handle message a mine fine);
-  leads = λ m c u d w by known a used by_in other. leads-receive m c u d w by known handle message a used by_in other;
-  hears = λ m c u w by d memo k owned n a all out. hears-receive m c u w by d memo k owned n a all out handle message;
-  notes = λ m c u w by memo k owned n a all by_in. notes-receive m c u w by memo k owned n a all by_in handle message;
-  alike = λ k u by live c. alike-receive k u by handle message c;
+  members = answers_alike refl (λ m c w by known a mine fine. c-receive m c w w by handle message (caller m c w by known w a refl) mine a.ways (named m w message fine));
+  alike = λ k u by live c. receive-thin k u by handle message c;
 }
+  where
+    named : (m : Group) (w : World) (message : Option (List ℕ)) → is_fine_call m w (reply_wait_receive_port handle message) ≡ true → names_none m w message ≡ true
+    named m w None fine = refl
+    named m w (Some bytes) fine = fine
 
 close-calm : (handle : ℕ) → Calm (close handle)
 close-calm handle = record {
-  orderly = λ m c u w by k. orderly-close m c u w by handle k;
   refuses = λ w by. refuses-close w by handle;
-  fair = λ m c w by known a. fair-close m c w by known handle a;
-  paths = λ m c w by all k. paths-close m c w by handle all k;
-  asked = λ m c w by a k. asked-close m c w by handle a k;
-  own = answers_alike refl (λ m c w by known a mine fine. same-close m c w by known handle a mine fine);
-  leads = λ m c u d w by known a used by_in other. leads-close m c u d w by known handle a used by_in other;
-  hears = λ m c u w by d memo k owned n a all out. hears-close m c u w by d memo k owned n a all out handle;
-  notes = λ m c u w by memo k owned n a all by_in. notes-close m c u w by memo k owned n a all by_in handle;
+  members = answers_alike refl (λ m c w by known a mine fine. same-close m c w by known handle a mine fine);
   alike = λ k u by live c. alike-close k u by handle c;
 }
 
 ends-calm : (call : ScriptCall) (code : Status) → EndsThreads call code → Calm call
 ends-calm call code e = record {
-  orderly = λ m c u w by k. orderly-ends call code e m c u w by k;
   refuses = λ w by. refuses-ends call code e w by;
-  fair = λ m c w by known a. fair-ends call code e m c w by known a;
-  paths = λ m c w by all k. paths-ends call code e m c w by all k;
-  asked = λ m c w by a k. asked-ends call code e m c w by a k;
-  own = ends_threads (λ m c u d w by known a used mine fine. own-ends call code e m c u d w by known a used mine);
-  leads = λ m c u d w by known a used by_in other. leads-ends call code e m c u d w by known a used by_in other;
-  hears = λ m c u w by d memo k owned n a all out. hears-ends call code e m c u w by d memo k owned n a all out;
-  notes = λ m c u w by memo k owned n a all by_in. notes-ends call code e m c u w by memo k owned n a all by_in;
+  members = ends_threads (λ m c u d w by known a used mine fine. own-ends call code e m c u d w by known a used mine) (λ m c u d w by known a used by_in other. leads-ends call code e m c u d w by known a used by_in other);
   alike = λ k u by live c. alike-ends call code e k u by live c;
 }
 
@@ -206,22 +153,22 @@ calm {call} is s = record {
   once = λ m c w by known a once. settle (λ u bs. OnceUsed u) w by.number (served w by call) (order m c w by known a) (λ u used. holds_any (OnceUsed u) (same-used w u used once) (served w by call));
   numbered = λ m c w by known a ids n. settle (λ u bs. Numbered u) w by.number (served w by call) (order m c w by known a) (λ u used. holds_any (Numbered u) (subst (λ us. every of_number us ≡ true) (sym used) n) (served w by call));
   refuses = s.refuses;
-  fair = s.fair;
-  paths = λ m c w by known a all. s.paths m c w by all (caller m c w by known w a refl);
-  asked = λ m c w by known a b. s.asked m c w by b (caller m c w by known w a refl);
+  fair = λ m c w by known a. deeds-do w by (λ _ bs. HasFineRows m c (world_after w bs) → are_fair m c w bs ≡ true) (fair-deeds m c w by (caller m c w by known w a refl)) call is;
+  paths = λ m c w by known a all. deeds-do w by (λ _ bs. are_paths w bs ≡ true) (paths-deeds m c w by all (caller m c w by known w a refl)) call is;
+  asked = λ m c w by known a b. deeds-do w by (λ _ bs. Asked (world_after w bs)) (asked-deeds m c w by b (caller m c w by known w a refl)) call is;
   sent = λ u by sound live. deeds-do u by (λ _ bs. are_sent u bs ≡ true) (sent-deeds u by sound live) call is;
   apart = λ m c d w by known a out. settle (λ u bs. HasFineRows m c (world_after w bs) → are_apart m c u d w bs ≡ true) w by.number (served w by call) (order m c w by known a) (λ u used. deeds-do w by (λ _ bs. HasFineRows m c (world_after w bs) → are_apart m c u d w bs ≡ true) (apart-deeds m c u d w by (caller m c w by known u a used) out) call is);
-  own = λ m c d w by known a mine fine. settle-own (λ u bs led. HasFineRows m c (world_after w bs) → Led m c u d w bs led) w by.number (served w by call) (served (view m w) by call) (order m c w by known a) (λ u used. own-call call is s.own m c u d w by known a used mine fine);
-  leads = λ m c d w by known a by_in other. settle (λ u bs. HasFineRows m c (world_after w bs) → Leading m c u d w by known call bs) w by.number (served w by call) (order m c w by known a) (λ u used. s.leads m c u d w by known a used by_in other);
-  hears = λ m c d w by known memo a owned n b all out. settle (λ u bs. HasFineRows m c (world_after w bs) → Hears m c u d w memo bs) w by.number (served w by call) (order m c w by known a) (λ u used. s.hears m c u w by d memo (caller m c w by known u a used) owned n b all out);
-  notes = λ m c w by known memo a owned n b all by_in. s.notes m c w w by memo (caller m c w by known w a refl) owned n b all by_in;
+  own = λ m c d w by known a mine fine. settle-own (λ u bs led. HasFineRows m c (world_after w bs) → Led m c u d w bs led) w by.number (served w by call) (served (view m w) by call) (order m c w by known a) (λ u used. own-call call is s.members m c u d w by known a used mine fine);
+  leads = λ m c d w by known a by_in other. settle (λ u bs. HasFineRows m c (world_after w bs) → Leading m c u d w by known call bs) w by.number (served w by call) (order m c w by known a) (λ u used. leads-call call is s.members m c u d w by known a used by_in other);
+  hears = λ m c d w by known memo a owned n b all out. settle (λ u bs. HasFineRows m c (world_after w bs) → Hears m c u d w memo bs) w by.number (served w by call) (order m c w by known a) (λ u used. deeds-do w by (λ _ bs. HasFineRows m c (world_after w bs) → Hears m c u d w memo bs) (hears-deeds m c u w by d memo (caller m c w by known u a used) owned n b all out) call is);
+  notes = λ m c w by known memo a owned n b all by_in. deeds-do w by _ (notes-deeds m c w w by memo (caller m c w by known w a refl) owned n b all by_in) call is;
   alike = s.alike;
   stands = λ k u by live sound closed room. deeds-do u by (λ _. AreClosed k) (stands-deeds k u by live sound closed room.port) call is;
   fine = λ m c after u by idle f. deeds-do u by (λ _. FineAfter m c after u) (fine-deeds m c after u by idle f) call is;
 }
   where
     order : (m : Group) (c : ℕ) (w : World) (by : ThreadRow) (known : List ℕ → Birth) → At m c w by known → Holds (λ bs. is_call_of w by.number bs ≡ true) (served w by call)
-    order m c w by known a = s.orderly m c w w by (caller m c w by known w a refl)
+    order m c w by known a = deeds-do w by (λ _ bs. is_call_of w by.number bs ≡ true) (orderly-deeds m c w w by (caller m c w by known w a refl)) call is
 
 pub lawful : (call : ScriptCall) → Lawful call
 lawful (create_port name) = calm refl (create-calm name)

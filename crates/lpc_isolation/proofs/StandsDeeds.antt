@@ -19,7 +19,7 @@ use Rattle.lpc_model.specs.Message.{asks, message_test}
 use Rattle.lpc_model.specs.Refusal.{found_or, refuse_if}
 use Rattle.lpc_model.specs.Then.{◌>>=◌}
 use Rattle.lpc_model.specs.World.{Birth, Connect, HandleRow, HandleTable, MessageRow, PortRow, ThreadRow, WaitKind, WaitRow, World, ObjectName}
-use Rattle.lpc_model.specs.Found.{fits, free_handle, handles_of, has_handle_to, has_value, is_offered, is_open, is_server_port, is_table, live_thread, names_port, route}
+use Rattle.lpc_model.specs.Found.{free_handle, handles_of, has_handle_to, has_value, is_offered, is_open, is_server_port, is_table, live_thread, names_port, route}
 use Rattle.lpc_model.specs.Basics.{Basic, world_after}
 use Rattle.lpc_model.specs.Named.{as_status, named_port, port_found}
 use Rattle.lpc_model.specs.Entering.{enter, row_of, take_connect_steps, take_steps}
@@ -30,7 +30,7 @@ use Rattle.lpc_model.specs.SoundWaits.{IsSoundWorld, is_sound_as, is_sound_wait,
 use Rattle.lpc_model.proofs.Calls.Holding.{Holds, bind_holds, found_ok, holds_ok}
 use Rattle.lpc_names.proofs.Bound.{nameless-is-not-found}
 use Rattle.lpc_isolation.proofs.Thin.{Alive, Closed, all_alive, handle_closed, is_closed, message_closed, table_closed, wait_closed, port-live}
-use Rattle.lpc_isolation.proofs.Deeds.{AreTame, gives, more, none, numbers, registers, Deeds}
+use Rattle.lpc_isolation.proofs.Deeds.{AreTame, gives, more, none, numbers, registers, Deeds, any-tame}
 use Rattle.lpc_isolation.proofs.ThinCalls.{AreClosed, StandsBy, port-stands, rows-closed, enter-closed}
 use Rattle.lpc_isolation.proofs.Doomed.{doomed-remains, ended}
 use Rattle.lpc_isolation.proofs.Closes.{handle-stands}
@@ -163,7 +163,7 @@ stands-deeds k u by live s c new = record {
   replies = λ handle bytes p m x at read fits. refl;
   receives = λ handle bytes a p q replied o is first. received-closed k by p q replied o (stands handle p is.port_found).here (holds_ok (AreClosed k) (given_reply u p a) replied (replied-closed k u p a) is.reply_made);
   closes = λ handle r at. handle-stands k u by.process r c (every-first (handle_closed k) (has_value handle) (handles_of u by.process) r (rows-closed k by.process u.handles (first (is_table by.process) u.handles) refl c.tables) at);
-  tames = λ call name fields bs t. closeds k u by bs t c;
+  tames = any-tame (λ call name fields bs tame t. closeds k u by bs t c);
   ends = λ call name own pid code ts doomed.
       let r = doomed-remains k u by own pid code ts live c doomed in let is = r.stands u c in ended (AreClosed k) by name own pid code ts u (λ _. is) (λ _. is);
 }

@@ -211,11 +211,6 @@ line-behind w u line ids t = record {
     swept = subst (λ v. Behind v (served_step u line).world) (sym (after-append w (bare_steps line w) (sweep (world_after w (bare_steps line w)))))
         (let f = firm-line w line t.firm in behind-sweep (world_after w (bare_steps line w)) (served_step u line).world f.sound f.linked bare)
 
--- the sweep tells nothing
-freed-silent : (os : List ObjectName) → entries_of (map Frees os) ≡ []
-freed-silent [] = refl
-freed-silent (o ∷ os) = freed-silent os
-
 append-none : (es : List Entry) → es ++ [] ≡ es
 append-none [] = refl
 append-none (e ∷ es) = ap (λ es. e ∷ es) (append-none es)

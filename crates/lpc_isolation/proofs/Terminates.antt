@@ -1,10 +1,7 @@
 -- NtTerminateThread and NtTerminateProcess in a view.
-use Rattle.std.proofs.Common.{◌≡◌, ℕ, List, [], ◌∷◌, Bool, true, false, cond, not, Some, None, refl, ap, sym, subst, ◌∙◌}
+use Rattle.std.proofs.Common.{◌≡◌, ℕ, List, [], ◌∷◌, Bool, true, false, not, Some, refl, ap, sym, subst, ◌∙◌}
 use Rattle.std.specs.Prelude.{◌==◌, Result, Ok, Err}
-use Rattle.std.proofs.lemmas.Bool.{and_from, not-false}
-use Rattle.lpc_base.specs.Rows.{every}
-use Rattle.lpc_base.proofs.RowWords.{every-more}
-use Rattle.lpc_base.proofs.Bools.{same-number, second-true}
+use Rattle.std.proofs.lemmas.Bool.{not-false}
 use Rattle.lpc_base.specs.declared.status.Status.{Status}
 use Rattle.lpc_base.specs.declared.status.TheConstants.{INVALID_CID, SUCCESS}
 use Rattle.lpc_model.specs.declared.entry.CallName.{CallName}
@@ -15,13 +12,12 @@ use Rattle.lpc_model.specs.declared.line.ProcArg.{ProcArg}
 use Rattle.lpc_model.specs.Refusal.{refuse_if}
 use Rattle.lpc_model.specs.Then.{◌>>=◌}
 use Rattle.lpc_model.specs.World.{Birth, ThreadRow, World}
-use Rattle.lpc_model.specs.Found.{is_live, live_thread, live_threads, wait_of}
-use Rattle.lpc_model.specs.Basics.{Basic, Tells, entries_of, world_after}
+use Rattle.lpc_model.specs.Found.{is_live, live_thread, live_threads}
+use Rattle.lpc_model.specs.Basics.{Basic, Tells, world_after}
 use Rattle.lpc_model.specs.Death.{code_status, end_threads, nt_terminate_process, nt_terminate_thread, terminate_process_steps, terminate_thread_steps}
 use Rattle.lpc_model.specs.Targets.{process_target, thread_target}
-use Rattle.lpc_model.specs.Tests.{live_test, next_birth}
+use Rattle.lpc_model.specs.Tests.{live_test}
 use Rattle.lpc_model.specs.Lines.{ScriptCall, terminate_process, terminate_thread}
-use Rattle.lpc_model.specs.SoundWaits.{IsSoundWorld}
 use Rattle.lpc_model.specs.Circle.{Group, Whose}
 use Rattle.lpc_model.proofs.Steps.Ending.{answered_end}
 use Rattle.lpc_model.proofs.Calls.Holding.{Holds, bind_holds, holds_ok, not_refused}
@@ -29,32 +25,18 @@ use Rattle.lpc_model.proofs.Calls.Outcomes.{AreDoomed, all as all_live, one}
 use Rattle.lpc_isolation.proofs.Alone.{HasFineRows}
 use Rattle.lpc_isolation.proofs.Served.{served}
 use Rattle.lpc_isolation.proofs.View.{view}
-use Rattle.lpc_isolation.proofs.Fair.{Fair, are_fair}
+use Rattle.lpc_isolation.proofs.Fair.{Fair}
 use Rattle.lpc_isolation.proofs.Seen.{bind-same}
-use Rattle.lpc_isolation.proofs.Apart.{Owned, are_apart}
 use Rattle.lpc_isolation.proofs.Callers.{Answered, Led, answered-bind, on_ok}
 use Rattle.lpc_isolation.proofs.Sends.{Caller}
-use Rattle.lpc_isolation.proofs.Paths.{Paths, are_paths}
-use Rattle.lpc_isolation.proofs.Sent.{are_sent}
-use Rattle.lpc_isolation.proofs.Asked.{Asked}
-use Rattle.lpc_isolation.proofs.Ids.{Numbered, of_number}
-use Rattle.lpc_isolation.proofs.Serves.{is_call_of, tells_own}
 use Rattle.lpc_isolation.proofs.Listens.{own_entry}
 use Rattle.lpc_isolation.proofs.Refuses.{Refuses, bind, if_refuses}
-use Rattle.lpc_isolation.proofs.Play.{told_inputs}
-use Rattle.lpc_isolation.proofs.Heard.{Heard, call_memo, entries_memo}
-use Rattle.lpc_isolation.proofs.Knows.{AllKnown, run-known}
-use Rattle.lpc_isolation.proofs.KnownCalls.{Hears}
 use Rattle.lpc_isolation.proofs.Instances.{At, Leading, caller, leads_by}
 use Rattle.lpc_isolation.proofs.Thin.{Alive, Closed, is_live-thin, thin, threads-thin}
-use Rattle.lpc_isolation.proofs.ThinCalls.{AreClosed}
-use Rattle.lpc_isolation.proofs.Fine.{FineAfter, makes_fine}
-use Rattle.lpc_isolation.proofs.Tame.{unnoted}
-use Rattle.lpc_isolation.proofs.Mild.{AreMild, is_mild, mild-fine, mild-known, mild-orderly, mild-paths}
 use Rattle.lpc_isolation.proofs.Closes.{tells-led}
-use Rattle.lpc_isolation.proofs.Doomed.{doomed-heads, doomed-part, doomed-remains, doomed-whose, heads_own, steady}
+use Rattle.lpc_isolation.proofs.Doomed.{doomed-part, doomed-remains, doomed-whose, steady}
 use Rattle.lpc_isolation.proofs.Parts.{Part, Remains, Steady}
-use Rattle.lpc_isolation.proofs.Endings.{ends-mild, ends-sent, lives-view, threads-view}
+use Rattle.lpc_isolation.proofs.Endings.{lives-view, threads-view}
 use Rattle.lpc_isolation.proofs.Aims.{process-thin, process-view, process-whose, refuses-process, refuses-thread, thread-thin, thread-view}
 
 -- A call that ends threads of a process
@@ -70,26 +52,11 @@ pub record EndsThreads (call : ScriptCall) (code : Status) : Type 0 where
   pub is : (w : World) (by : ThreadRow) → served w by call ≡ (aim w by >>= (λ a. Ok (answered_end by name a.own a.pid code a.threads w)))
   pub refuses : (w : World) (by : ThreadRow) → Refuses (aim w by)
   pub leads : (m : Group) (known : List ℕ → Birth) (v : World) (by : ThreadRow) (e : Entry) (a : Aim) → aim v by ≡ Ok a → leads_by m known v by call e ≡ answered_end by name a.own a.pid code a.threads v
-  pub memo : (m : Group) (v : World) (by : ThreadRow) (e : Entry) (memo : List Heard) → call_memo m v by call e memo ≡ memo
   -- it aims alike in a view, and where rows have gone
   pub seen : (m : Group) (c : ℕ) (w : World) (by : ThreadRow) → m by.process ≡ true → Fair m c w → aim (view m w) by ≡ aim w by
   pub thinly : (k : Alive) (u : World) (by : ThreadRow) → Closed k u → aim (thin k u) by ≡ aim u by
   -- they are what the call's tests find
   pub doomed : (w : World) (by : ThreadRow) → Holds (λ a. AreDoomed w by a.own a.pid a.threads) (aim w by)
-
--- its first step ends a thread of the caller's process
-abbrev starts : World → ℕ → List Basic → Bool
-starts w tid [] = false
-starts w tid (b ∷ bs) = tells_own w tid b
-
-mild-call : (w : World) (tid : ℕ) (bs : List Basic) → AreMild bs → starts w tid bs ≡ true → is_call_of w tid bs ≡ true
-mild-call w tid [] mild is = absurd (cc)
-mild-call w tid (b ∷ bs) mild is = and_from _ _ is (mild-orderly bs (second-true _ _ mild))
-
-ends-orderly : (w : World) (pid tid : ℕ) (code : Status) (ts : List ThreadRow) → heads_own w tid ts ≡ true → is_call_of w tid (end_threads pid code ts w) ≡ true
-unfolding end_threads
-ends-orderly w pid tid code [] own = absurd (cc)
-ends-orderly w pid tid code (t ∷ ts) own = mild-call w tid (end_threads pid code (t ∷ ts) w) (ends-mild pid code (t ∷ ts) w) own
 
 -- What it owes
 module _ (call : ScriptCall) (code : Status) (e : EndsThreads call code) where
@@ -103,16 +70,6 @@ module _ (call : ScriptCall) (code : Status) (e : EndsThreads call code) where
   ends_told by a w = answered_end by e.name a.own a.pid code a.threads w
 
   -- whatever holds of the steps, and of them behind an answer, holds of what the call does
-  by-answer : (P : List Basic → Type 0) (by : ThreadRow) (a : Aim) (w : World) → (a.own ≡ true → P (ends a w)) → (a.own ≡ false → P (Tells (told_first by) ∷ ends a w)) → P (ends_told by a w)
-  by-answer P by a w without with_one = at a.own refl
-    where
-      at : (own : Bool) → a.own ≡ own → P (answered_end by e.name own a.pid code a.threads w)
-      at true own = without own
-      at false own = with_one own
-
-  on-ends : (P : List Basic → Type 0) (w : World) (by : ThreadRow) → ((a : Aim) → e.aim w by ≡ Ok a → P (ends_told by a w)) → Holds P (served w by call)
-  on-ends P w by all = subst (Holds P) (sym (e.is w by)) (bind_holds (e.aim w by) _ P (λ a at. all a at))
-
   doomed-by : (w : World) (by : ThreadRow) (a : Aim) → e.aim w by ≡ Ok a → AreDoomed w by a.own a.pid a.threads
   doomed-by w by a at = holds_ok (λ (a : Aim). AreDoomed w by a.own a.pid a.threads) (e.aim w by) a (e.doomed w by) at
 
@@ -125,31 +82,8 @@ module _ (call : ScriptCall) (code : Status) (e : EndsThreads call code) where
   remains : (k : Alive) (u : World) (by : ThreadRow) (a : Aim) → live_thread u by.number ≡ Some by → Closed k u → e.aim u by ≡ Ok a → Remains k (end_threads a.pid code a.threads)
   remains k u by a live c at = doomed-remains k u by a.own a.pid code a.threads live c (doomed-by u by a at)
 
-  behind-known : (m : Group) (memo : List Heard) (w : World) (a : Aim) → AllKnown m memo w → AllKnown m memo (world_after w (ends a w))
-  behind-known m memo w a all = run-known m memo w (ends a w) (mild-known m memo w (ends a w) (ends-mild a.pid code a.threads w)) all
-
-  pub orderly-ends : (m : Group) (c : ℕ) (u w : World) (by : ThreadRow) → Caller m c u w by → Holds (λ bs. is_call_of w by.number bs ≡ true) (served w by call)
-  orderly-ends m c u w by k = on-ends (λ bs. is_call_of w by.number bs ≡ true) w by (λ a at.
-      by-answer (λ bs. is_call_of w by.number bs ≡ true) by a w
-      (λ own. ends-orderly w a.pid by.number code a.threads (doomed-heads m c w by a.own a.pid a.threads k.fair k.live k.own (doomed-by w by a at) own))
-      (λ _. and_from _ _ (and_from _ _ (same-number by.number) refl) (mild-orderly (ends a w) (ends-mild a.pid code a.threads w))))
-
   pub refuses-ends : (w : World) (by : ThreadRow) → Refuses (served w by call)
   refuses-ends w by = subst Refuses (sym (e.is w by)) (bind (e.aim w by) _ (e.refuses w by) (λ a. tt))
-
-  pub fair-ends : (m : Group) (c : ℕ) (w : World) (by : ThreadRow) (known : List ℕ → Birth) → At m c w by known → Holds (λ bs. HasFineRows m c (world_after w bs) → are_fair m c w bs ≡ true) (served w by call)
-  fair-ends m c w by known a0 =
-      let k = caller m c w by known w a0 refl in
-      on-ends (λ bs. HasFineRows m c (world_after w bs) → are_fair m c w bs ≡ true) w by (λ a at fine.
-      let p = part m c w w by a k at in let is = p.fair w (steady m c w w by k) in by-answer (λ bs. are_fair m c w bs ≡ true) by a w (λ _. is) (λ _. is))
-
-  pub paths-ends : (m : Group) (c : ℕ) (w : World) (by : ThreadRow) → Paths w → Caller m c w w by → Holds (λ bs. are_paths w bs ≡ true) (served w by call)
-  paths-ends m c w by all k = on-ends (λ bs. are_paths w bs ≡ true) w by (λ a at.
-      let is = mild-paths w (ends a w) (ends-mild a.pid code a.threads w) in by-answer (λ bs. are_paths w bs ≡ true) by a w (λ _. is) (λ _. is))
-
-  pub asked-ends : (m : Group) (c : ℕ) (w : World) (by : ThreadRow) → Asked w → Caller m c w w by → Holds (λ bs. Asked (world_after w bs)) (served w by call)
-  asked-ends m c w by b k = on-ends (λ bs. Asked (world_after w bs)) w by (λ a at.
-      let p = part m c w w by a k at in let is = p.asked w (steady m c w w by k) in by-answer (λ bs. Asked (world_after w bs)) by a w (λ _. is) (λ _. is))
 
   -- the view changes by the same steps in it
   led-ends : (m : Group) (c : ℕ) (u : World) (d : Whose) (w : World) (by : ThreadRow) (a : Aim) → Caller m c u w by → e.aim w by ≡ Ok a → m by.process ≡ true → Led m c u d w (ends_told by a w) (ends_told by a (view m w))
@@ -177,25 +111,9 @@ module _ (call : ScriptCall) (code : Status) (e : EndsThreads call code) where
   pub leads-ends : (m : Group) (c : ℕ) (u : World) (d : Whose) (w : World) (by : ThreadRow) (known : List ℕ → Birth) → At m c w by known → u.used_threads ≡ w.used_threads → m by.process ≡ true → (by.process == c) ≡ false → Holds (λ bs. HasFineRows m c (world_after w bs) → Leading m c u d w by known call bs) (served w by call)
   leads-ends m c u d w by known a0 used by_in other =
       let k = caller m c w by known u a0 used in
-      on-ends (λ bs. HasFineRows m c (world_after w bs) → Leading m c u d w by known call bs) w by (λ a at fine.
-      subst (Led m c u d w (ends_told by a w)) (sym (e.leads m known (view m w) by (own_entry (ends_told by a w)) a (e.seen m c w by by_in a0.fair ∙ at))) (led-ends m c u d w by a k at by_in))
-
-  pub hears-ends : (m : Group) (c : ℕ) (u w : World) (by : ThreadRow) (d : Whose) (memo : List Heard) → Caller m c u w by → Owned w w → Numbered w → Asked w → AllKnown m memo w → m by.process ≡ false → Holds (λ bs. HasFineRows m c (world_after w bs) → Hears m c u d w memo bs) (served w by call)
-  hears-ends m c u w by d memo k owned n b all out =
-      let numbers : Numbered u = subst (λ us. every of_number us ≡ true) (sym k.used) n in
-      on-ends (λ bs. HasFineRows m c (world_after w bs) → Hears m c u d w memo bs) w by (λ a at fine.
-      let p = part m c u w by a k at in
-      let mute : entries_memo m (view m w) memo (told_inputs m c u d (entries_of (ends a w))) ≡ memo = p.mute d w memo (steady m c u w by k) numbers (group-of m c w by a k.fair at ∙ out) in
-      let is : Hears m c u d w memo (ends a w) = subst (λ n. AllKnown m n (world_after w (ends a w))) (sym mute) (behind-known m memo w a all) in
-      by-answer (Hears m c u d w memo) by a w (λ _. is) (λ _. rw (k.here, out) is))
-
-  pub notes-ends : (m : Group) (c : ℕ) (u w : World) (by : ThreadRow) (memo : List Heard) → Caller m c u w by → Owned w w → Numbered w → Asked w → AllKnown m memo w → m by.process ≡ true → Holds (λ bs. AllKnown m (cond (by.process == c) memo (call_memo m (view m w) by call (own_entry bs) memo)) (world_after w bs)) (served w by call)
-  notes-ends m c u w by memo k owned n b all by_in =
-      let P : List Basic → Type 0 = λ bs. AllKnown m (cond (by.process == c) memo (call_memo m (view m w) by call (own_entry bs) memo)) (world_after w bs) in
-      on-ends P w by (λ a at.
-      let noted : (x : Entry) → AllKnown m (cond (by.process == c) memo (call_memo m (view m w) by call x memo)) (world_after w (ends a w)) = λ x.
-      subst (λ noted. AllKnown m (cond (by.process == c) memo noted) (world_after w (ends a w))) (sym (e.memo m (view m w) by x memo)) (unnoted m memo (world_after w (ends a w)) (by.process == c) (behind-known m memo w a all)) in
-      by-answer P by a w (λ _. noted (own_entry (ends a w))) (λ _. noted (own_entry (Tells (told_first by) ∷ ends a w))))
+      let P : List Basic → Type 0 = λ bs. HasFineRows m c (world_after w bs) → Leading m c u d w by known call bs in
+      subst (Holds P) (sym (e.is w by)) (bind_holds (e.aim w by) _ P (λ a at fine.
+      subst (Led m c u d w (ends_told by a w)) (sym (e.leads m known (view m w) by (own_entry (ends_told by a w)) a (e.seen m c w by by_in a0.fair ∙ at))) (led-ends m c u d w by a k at by_in)))
 
   pub alike-ends : (k : Alive) (u : World) (by : ThreadRow) → live_thread u by.number ≡ Some by → Closed k u → served (thin k u) by call ≡ served u by call
   alike-ends k u by live c =
@@ -229,7 +147,6 @@ thread-ends-it target code = record {
   is = λ w by. thread-is w by target code;
   refuses = λ w by. bind (thread_target w by target) _ (refuses-thread w by target) (λ t. bind (refuse_if (not t.live) INVALID_CID) _ (if_refuses (not t.live) INVALID_CID refl) (λ _. tt));
   leads = λ m known v by e a at. leads (thread_target v by target) v by a at;
-  memo = λ m v by e memo. refl;
   seen = λ m c w by inside f. ap (λ r. r >>= (λ (t : ThreadRow). refuse_if (not t.live) INVALID_CID >>= (λ _. Ok (record { own = t.number == by.number; pid = t.process; threads = t ∷ [] })))) (thread-view m c w by target inside f);
   thinly = λ k u by c. ap (λ r. r >>= (λ (t : ThreadRow). refuse_if (not t.live) INVALID_CID >>= (λ _. Ok (record { own = t.number == by.number; pid = t.process; threads = t ∷ [] })))) (thread-thin k u by target c);
   doomed = λ w by. bind_holds (thread_target w by target) _ (λ (a : Aim). AreDoomed w by a.own a.pid a.threads) (λ t at. bind_holds (refuse_if (not t.live) INVALID_CID) _ (λ (a : Aim). AreDoomed w by a.own a.pid a.threads) (λ v is. one target t at (live-of t v is)));
@@ -269,7 +186,6 @@ process-ends-it target code = record {
   is = λ w by. process-is w by target code;
   refuses = λ w by. bind (process_target w by target) _ (refuses-process w by target) (λ pid. bind (live_test w pid) _ (if_refuses (not (is_live w pid)) INVALID_CID refl) (λ _. tt));
   leads = λ m known v by e a at. leads (process_target v by target) v by a at;
-  memo = λ m v by e memo. refl;
   seen = λ m c w by inside f. ap (λ r. r >>= process_aims (view m w) by) (process-view m c w by target inside f)
       ∙ bind-same (process_target w by target) (process_aims (view m w) by) (process_aims w by) (λ pid at. process-seen m w by pid (holds_ok (λ pid. m pid ≡ m by.process) (process_target w by target) pid (process-whose m c w by target f) at ∙ inside));
   thinly = λ k u by c. ap (λ r. r >>= process_aims (thin k u) by) (process-thin k u by target c) ∙ bind-same (process_target u by target) (process_aims (thin k u) by) (process_aims u by) (λ pid at. process-thinly k u by pid c);

@@ -1,41 +1,25 @@
 -- What each call does in a world without some rows that no row names: the same.
-use Rattle.lpc_model.specs.Lines.{accept_connect_port, complete_connect_port, connect_port, create_port, listen_port, reply_port, reply_wait_receive_port, request_port, request_wait_reply_port}
-use Rattle.lpc_isolation.proofs.Served.{served}
-use Rattle.std.proofs.Common.{◌≡◌, ℕ, List, [], ◌∷◌, ◌++◌, Bool, true, false, not, Option, Some, None, refl, ap, sym, subst, ◌∙◌, arith}
+use Rattle.std.proofs.Common.{◌≡◌, ℕ, List, [], ◌∷◌, ◌++◌, Bool, true, false, not, Option, Some, None, refl, ap, ◌∙◌, arith}
 use Rattle.std.proofs.lemmas.Bool.{and_from}
-use Rattle.std.specs.Prelude.{◌&&◌, Result, Ok, Err}
-use Rattle.lpc_base.specs.Rows.{every, first, given, has}
-use Rattle.lpc_base.proofs.RowWords.{every-append, first-passes}
+use Rattle.lpc_base.specs.Rows.{every, first, given}
+use Rattle.lpc_base.proofs.RowWords.{first-passes}
 use Rattle.lpc_base.proofs.RowMaps.{every-first}
-use Rattle.lpc_base.proofs.Bools.{first-true, second-true}
 use Rattle.lpc_base.proofs.Births.{birth-same}
-use Rattle.lpc_base.specs.declared.status.TheConstants.{ACCESS_DENIED, INVALID_HANDLE, INVALID_PARAMETER, INVALID_PORT_HANDLE, OBJECT_TYPE_MISMATCH, PORT_DISCONNECTED, REPLY_MESSAGE_MISMATCH, SUCCESS}
-use Rattle.lpc_message.specs.declared.kind.TheConstants.{DATAGRAM, REQUEST}
-use Rattle.lpc_names.specs.Binding.{has_name}
-use Rattle.lpc_names.specs.Walk.{Bindings, LinkTo, Stands, lookup}
-use Rattle.lpc_names.specs.declared.fault.NameFault.{NameFault}
-use Rattle.lpc_names.specs.declared.names.Found.{Found}
-use Rattle.lpc_names.specs.declared.names.Found.TheVariants.{Directory, Item}
+use Rattle.lpc_base.specs.declared.status.TheConstants.{ACCESS_DENIED, INVALID_HANDLE, OBJECT_TYPE_MISMATCH, SUCCESS}
 use Rattle.lpc_model.specs.declared.entry.ObjectKind.TheVariants as kind
 use Rattle.lpc_model.specs.declared.message.Message.{Message}
 use Rattle.lpc_model.specs.Message.{asks, message_test}
 use Rattle.lpc_model.specs.Refusal.{found_or, refuse_if}
-use Rattle.lpc_model.specs.Then.{◌>>=◌}
-use Rattle.lpc_model.specs.World.{Accepted, Birth, Connect, HandleRow, HandleTable, Listen, MessageRow, PortRow, Receive, Request, ThreadRow, WaitKind, WaitRow, World}
-use Rattle.lpc_model.specs.Found.{fits, fitted, free_handle, handle_at, handles_of, has_handle_to, has_value, is_connection_port, is_offered, is_open, is_port, is_queued, is_queued_connect, is_server_port, is_table, names_port, port_row, route, rows_in, same_kind}
-use Rattle.lpc_model.specs.Basics.{Basic, world_after}
-use Rattle.lpc_model.specs.Named.{as_status, named_port, port_found}
-use Rattle.lpc_model.specs.Entering.{enter, given_steps, row_of, shown, take_connect_steps, take_steps, takes, woken}
-use Rattle.lpc_model.specs.Tests.{client_test, is_client, handles_test, includes, next_birth, object_test, own_handle, port_test}
-use Rattle.lpc_model.specs.Connect.{Completable, ConnectAnswer, accept_steps, answer_test, client_port, complete_test, completion_test, connect_start, connection_request, is_accepted_on, listen_steps, names_connect, nt_accept_connect_port, nt_complete_connect_port, nt_connect_port, nt_create_port, nt_listen_port}
-use Rattle.lpc_model.specs.Request.{Sendable, reply_test, datagram_send_test, datagram_start, datagram_test, given_reply, nt_reply_port, nt_reply_wait_receive_port, nt_request_port, nt_request_wait_reply_port, optional_message, receive_steps, receive_test, request_start, send_test, sent_by}
-use Rattle.lpc_model.specs.SoundWaits.{IsSoundWorld, is_sound_as, is_sound_wait, leads_open, waiter_of}
+use Rattle.lpc_model.specs.World.{Accepted, Birth, Connect, HandleTable, Listen, MessageRow, PortRow, Receive, Request, ThreadRow, WaitKind, WaitRow, World}
+use Rattle.lpc_model.specs.Found.{fits, fitted, handle_at, handles_of, has_value, is_port, is_table, port_row, rows_in, same_kind}
+use Rattle.lpc_model.specs.Basics.{Basic}
+use Rattle.lpc_model.specs.Entering.{enter, given_steps, shown, takes, woken}
+use Rattle.lpc_model.specs.Tests.{includes, object_test, own_handle, port_test}
+use Rattle.lpc_model.specs.Connect.{answer_test, nt_accept_connect_port, nt_complete_connect_port, nt_connect_port, nt_create_port, nt_listen_port}
+use Rattle.lpc_model.specs.Request.{given_reply, nt_reply_port, nt_reply_wait_receive_port, nt_request_port, nt_request_wait_reply_port, optional_message, receive_test}
 use Rattle.lpc_model.proofs.Calls.Holding.{Holds, bind_holds, found_holds, found_ok, holds_ok, not_refused}
-use Rattle.lpc_names.proofs.Bound.{nameless-is-not-found}
 use Rattle.lpc_isolation.proofs.Seen.{bind-same}
 use Rattle.lpc_isolation.proofs.Filters.{first-inside}
-use Rattle.lpc_isolation.proofs.Create.{made-holds}
-use Rattle.lpc_isolation.proofs.Connects.{on-connect}
 use Rattle.lpc_isolation.proofs.Thin.{client-thin, Alive, Closed, all_alive, handle_closed, is_closed, message_closed, port_alive, port_closed, table_closed, thin, wait_closed, port-live}
 
 -- Look-ups
@@ -156,31 +140,3 @@ pub receive-thin : (k : Alive) (u : World) (by : ThreadRow) (handle : ℕ) (byte
 unfolding nt_reply_wait_receive_port
 receive-thin k u by handle bytes c =
     rw (port-thin k u by handle c) (bind-same (port_test u by handle) _ _ (λ p _. bind-same (optional_message bytes) _ _ (λ m _. bind-same (receive_test u p) _ _ (λ q _. rw (given-thin k u p m c) refl))))
-
--- Each call, by its name
-pub alike-create : (k : Alive) (u : World) (by : ThreadRow) (name : Option (List ℕ)) → Closed k u → served (thin k u) by (create_port name) ≡ served u by (create_port name)
-alike-create k u by name c = create-thin k u by name
-
-pub alike-connect : (k : Alive) (u : World) (by : ThreadRow) (name bytes : List ℕ) → Closed k u → served (thin k u) by (connect_port name bytes) ≡ served u by (connect_port name bytes)
-alike-connect k u by name info c = connect-thin k u by name info
-
-pub alike-listen : (k : Alive) (u : World) (by : ThreadRow) (handle : ℕ) → Closed k u → served (thin k u) by (listen_port handle) ≡ served u by (listen_port handle)
-alike-listen k u by handle c = listen-thin k u by handle c
-
-pub alike-accept : (k : Alive) (u : World) (by : ThreadRow) (context : ℕ) (message : List ℕ) (accept : Bool) → Closed k u → served (thin k u) by (accept_connect_port context message accept) ≡ served u by (accept_connect_port context message accept)
-alike-accept k u by context message accept c = accept-thin k u by context message accept c
-
-pub alike-complete : (k : Alive) (u : World) (by : ThreadRow) (handle : ℕ) → Closed k u → served (thin k u) by (complete_connect_port handle) ≡ served u by (complete_connect_port handle)
-alike-complete k u by handle c = complete-thin k u by handle c
-
-pub alike-datagram : (k : Alive) (u : World) (by : ThreadRow) (handle : ℕ) (message : List ℕ) → Closed k u → served (thin k u) by (request_port handle message) ≡ served u by (request_port handle message)
-alike-datagram k u by handle message c = datagram-thin k u by handle message c
-
-pub alike-request : (k : Alive) (u : World) (by : ThreadRow) (handle : ℕ) (message : List ℕ) → Closed k u → served (thin k u) by (request_wait_reply_port handle message) ≡ served u by (request_wait_reply_port handle message)
-alike-request k u by handle message c = request-thin k u by handle message c
-
-pub alike-reply : (k : Alive) (u : World) (by : ThreadRow) (handle : ℕ) (message : List ℕ) → Closed k u → served (thin k u) by (reply_port handle message) ≡ served u by (reply_port handle message)
-alike-reply k u by handle message c = reply-thin k u by handle message c
-
-pub alike-receive : (k : Alive) (u : World) (by : ThreadRow) (handle : ℕ) (message : Option (List ℕ)) → Closed k u → served (thin k u) by (reply_wait_receive_port handle message) ≡ served u by (reply_wait_receive_port handle message)
-alike-receive k u by handle message c = receive-thin k u by handle message c
