@@ -5,7 +5,7 @@ use Rattle.lpc_model.specs.Run.{first_state, said_in}
 use Rattle.lpc_model.specs.Replies.{MisfitsAreRefused, RefusedRepliesChangeNothing}
 use Rattle.lpc_model.proofs.GivenBytes.{said_bytes}
 use Rattle.lpc_model.proofs.Runs.{along-keeps, lawful_none}
-use Rattle.lpc_isolation.proofs.Swept.{isolation_law}
+use Rattle.lpc_isolation.proofs.Gone.Swept.{isolation_law}
 use Rattle.lpc_replay.specs.Laws.{ClientsApart, ConnectsReturn, MisfitsRefused, RefusalsIdle, RefusalsStay, RequestsReturn, WaitsEnd}
 use Rattle.lpc_replay.specs.Waits.{WaitsEndAsTold}
 use Rattle.lpc_replay.proofs.Returning.{answers_along, returns_along}

@@ -4,7 +4,7 @@ use Rattle.std.specs.Prelude.{None, Ok, Option, Some, ◌==◌}
 use Rattle.lpc_base.specs.Rows.{first}
 use Rattle.lpc_base.specs.declared.birth.Birth.{Birth}
 use Rattle.lpc_base.specs.declared.status.TheConstants.{PORT_DISCONNECTED, SUCCESS}
-use Rattle.lpc_isolation.proofs.Reply.{answered-fits}
+use Rattle.lpc_isolation.proofs.Each.Reply.{answered-fits}
 use Rattle.lpc_model.specs.Basics.{Basic}
 use Rattle.lpc_model.specs.Fields.{receipt}
 use Rattle.lpc_model.specs.Found.{fitted, is_queued, live_thread, queue_of}

@@ -2,7 +2,7 @@
 use Rattle.std.proofs.Common.{List, [], ℕ, ◌≡◌}
 use Rattle.std.specs.Prelude.{None, Some, ◌==◌}
 use Rattle.lpc_base.specs.declared.status.TheConstants.{SUCCESS}
-use Rattle.lpc_isolation.proofs.Reply.{answered-fits}
+use Rattle.lpc_isolation.proofs.Each.Reply.{answered-fits}
 use Rattle.lpc_model.specs.Found.{live_thread}
 use Rattle.lpc_model.specs.Message.{message_test}
 use Rattle.lpc_model.specs.Replies.{Reply, fitted_wait}

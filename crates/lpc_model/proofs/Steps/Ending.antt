@@ -1,6 +1,6 @@
 -- The steps by which threads end, and a process with its last one: what each of them keeps, all of them do.
 use Rattle.std.proofs.Common.{Bool, List, None, Option, Some, [], ap, arith, cond, false, not, refl, subst, sym, true, ℕ, ◌++◌, ◌∙◌, ◌∷◌, ◌≡◌}
-use Rattle.std.specs.Prelude.{Ok, Result, option_and_then, option_map, ◌&&◌, ◌==◌}
+use Rattle.std.specs.Prelude.{Ok, option_and_then, option_map, ◌&&◌, ◌==◌}
 use Rattle.std.proofs.lemmas.Bool.Decides.{nat_tests}
 use Rattle.std.proofs.lemmas.Bool.{not-false}
 use Rattle.lpc_base.specs.Rows.{change, every, first, given, has, when, without_first}
@@ -21,7 +21,7 @@ use Rattle.lpc_model.specs.Close.{close_handle, close_port, closed_row, cut_pair
 use Rattle.lpc_model.specs.Targets.{process_target, thread_target}
 use Rattle.lpc_model.specs.Death.{answer_unless, code_status, cut_accepted, die, died_message, end_process, end_threads, nt_terminate_process, nt_terminate_thread, post_death, post_deaths, death_post}
 use Rattle.lpc_model.specs.SoundWaits.{IsSoundWorld}
-use Rattle.lpc_model.proofs.Calls.Holding.{Holds, bind_holds, holds-more, not_refused}
+use Rattle.lpc_model.proofs.Calls.Holding.{Holds, bind_holds, not_refused}
 use Rattle.lpc_model.proofs.Steps.Closing.{behind, close-pass, pair-pass, stage_five, takes_away, then-holds}
 use Rattle.lpc_model.proofs.Sound.Closing.{close-shut}
 use Rattle.lpc_model.specs.Closings.{is_closed_post}
@@ -265,12 +265,6 @@ thread-ends P w by target code all =
     bind_holds (thread_target w by target) _ P (λ t at.
     bind_holds (refuse_if (not t.live) INVALID_CID) _ P (λ u is. all t (t.number == by.number) at (not-false _ (not_refused (not t.live) INVALID_CID u is))))
 
-pub process-ends : (P : List Basic → Type 0) (w : World) (by : ThreadRow) (target : ProcArg) (code : ℕ) → ((pid : ℕ) (own : Bool) → is_live w pid ≡ true → P (answered_end by NtTerminateProcess own pid (code_status code) (live_threads w pid) w)) → Holds P (nt_terminate_process w by target code)
-unfolding nt_terminate_process
-process-ends P w by target code all =
-    bind_holds (process_target w by target) _ P (λ pid at.
-    bind_holds (live_test w pid) _ P (λ u is. all pid (pid == by.process) (not-false _ (not_refused (not (is_live w pid)) INVALID_CID u is))))
-
 -- what is kept of worlds, and what is so of each step
 pub world-ends : (P : World → Type 0) (w : World) (by : ThreadRow) (call : CallName) (own : Bool) (pid : ℕ) (code : Status) (ts : List ThreadRow) → P (behind (end_threads pid code ts) w) → P (behind (answered_end by call own pid code ts) w)
 world-ends P w by call true pid code ts is = then-holds P (doing (answer_unless true by call)) (end_threads pid code ts) w is
@@ -279,13 +273,3 @@ world-ends P w by call false pid code ts is = then-holds P (doing (answer_unless
 pub steps-end : (w : World) (by : ThreadRow) (call : CallName) (own : Bool) (pid : ℕ) (code : Status) (ts : List ThreadRow) → AreEnding (answered_end by call own pid code ts w)
 steps-end w by call true pid code ts = end-ending pid code ts w
 steps-end w by call false pid code ts = end-ending pid code ts w
-
-pub thread-ending : (w : World) (by : ThreadRow) (target : ProcArg) (code : ℕ) → Holds AreEnding (nt_terminate_thread w by target code)
-thread-ending w by target code = thread-ends AreEnding w by target code (λ t own _ _. steps-end w by NtTerminateThread own t.process (code_status code) (t ∷ []))
-
-pub process-ending : (w : World) (by : ThreadRow) (target : ProcArg) (code : ℕ) → Holds AreEnding (nt_terminate_process w by target code)
-process-ending w by target code = process-ends AreEnding w by target code (λ pid own _. steps-end w by NtTerminateProcess own pid (code_status code) (live_threads w pid))
-
--- a test that each ending step passes
-pub ending-pass : (p : Basic → Bool) → ((b : Basic) → is_ending b ≡ true → p b ≡ true) → (r : Result (List Basic) Status) → Holds AreEnding r → Holds (λ bs. every p bs ≡ true) r
-ending-pass p more r all = holds-more AreEnding (λ bs. every p bs ≡ true) r (every-more is_ending p more) all

@@ -1,0 +1,138 @@
+-- What calls come to in the machine whose rows never go, each with its steps and what its tests found. What holds of each deed
+-- holds of each call that is served.
+use Rattle.lpc_model.specs.Register.{is_registered, register_steps}
+use Rattle.lpc_model.specs.Counts.{asked, counts_of, duplicate_steps}
+use Rattle.lpc_model.specs.declared.entry.CallName.TheVariants.{NtDuplicateObject, NtQueryObject, NtRegisterThreadTerminatePort}
+use Rattle.lpc_base.specs.Rows.{first, when}
+use Rattle.lpc_base.specs.declared.status.Status.{Status}
+use Rattle.lpc_base.specs.declared.status.TheConstants.{INVALID_HANDLE, SUCCESS}
+use Rattle.lpc_isolation.proofs.Gone.Served.{served}
+use Rattle.lpc_message.specs.declared.kind.TheConstants.{DATAGRAM, REQUEST}
+use Rattle.lpc_model.proofs.Steps.Ending.{answered_end}
+use Rattle.lpc_model.proofs.Calls.Holding.{Holds, bind_holds, holds-more, found_ok}
+use Rattle.lpc_model.proofs.Calls.Outcomes.{AreDoomed, EndCall, IsReceiving, Outcomes, end_call, of_process, of_thread, service-does}
+use Rattle.lpc_model.specs.Basics.{AddsHandle, Basic, DrawsIdentifier, Registers, Tells}
+use Rattle.lpc_model.specs.Close.{close_steps}
+use Rattle.lpc_model.specs.Connect.{Completable, ConnectAnswer, accept_steps, answer_test, complete_steps, complete_test, connect_steps, connection_request, create_steps, listen_steps, named_steps, refuse_steps, unnamed_steps}
+use Rattle.lpc_model.specs.Found.{free_handle, handle_at, is_queued, is_queued_connect}
+use Rattle.lpc_model.specs.Lines.{ScriptCall, accept_connect_port, close, complete_connect_port, connect_port, create_port, create_process, create_thread, listen_port, query_object, reply_port, reply_wait_receive_port, request_port, request_wait_reply_port, terminate_process, terminate_thread, duplicate_object, register_thread_terminate_port}
+use Rattle.lpc_model.specs.Message.{message_test}
+use Rattle.lpc_model.specs.Named.{free_name, named_port}
+use Rattle.lpc_model.specs.Request.{Sendable, datagram_send_test, datagram_steps, receive_steps, reply_steps, reply_test, request_steps, send_test, sent_by}
+use Rattle.lpc_model.specs.Tests.{next_birth, own_handle, port_test}
+use Rattle.lpc_model.specs.World.{Birth, HandleRow, MessageRow, Path, PortRow, ThreadRow, WaitRow, World}
+use Rattle.lpc_model.specs.declared.entry.CallName.{CallName}
+use Rattle.lpc_model.specs.declared.entry.Entry.TheVariants.{Answer}
+use Rattle.lpc_model.specs.declared.entry.Field.{Field}
+use Rattle.lpc_model.specs.declared.message.Message.{Message}
+use Rattle.std.proofs.Common.{Bool, List, None, Option, Some, [], false, refl, true, ℕ, ◌∷◌, ◌≡◌, not, subst}
+use Rattle.std.specs.Prelude.{Ok}
+
+-- Tame calls: they tell an answer, and change rows of their own process alone
+-- a step of such a call: a further handle to an object that a handle of the process names, a port registered that one names, a number drawn
+pub data IsTame (w : World) (by : ThreadRow) : Basic → Type 0 where
+  gives : (h r : HandleRow) (value : ℕ) → handle_at w by.process value ≡ Some r → r.object ≡ h.object → IsTame w by (AddsHandle by.process h)
+  registers : (p : PortRow) (value : ℕ) → port_test w by value ≡ Ok p → IsTame w by (Registers by.number p.birth)
+  numbers : IsTame w by (DrawsIdentifier by.number)
+
+pub data AreTame (w : World) (by : ThreadRow) : List Basic → Type 0 where
+  none : AreTame w by []
+  more : {b : Basic} {bs : List Basic} → IsTame w by b → AreTame w by bs → AreTame w by (b ∷ bs)
+
+-- a call that makes no thread
+abbrev pub is_calm : ScriptCall → Bool
+is_calm (create_process pid tid) = false
+is_calm (create_thread target tid) = false
+is_calm call = true
+
+-- a call that ends no thread
+abbrev pub spares : ScriptCall → Bool
+spares (terminate_thread target code) = false
+spares (terminate_process target code) = false
+spares call = true
+
+-- a call that is tame
+abbrev pub is_tame : ScriptCall → Bool
+is_tame (register_thread_terminate_port handle) = true
+is_tame (duplicate_object handle access) = true
+is_tame (query_object handle) = true
+is_tame call = false
+
+pub ends-some : (call : EndCall) → spares (end_call call) ≡ false
+ends-some (of_thread target code) = refl
+ends-some (of_process target code) = refl
+
+-- what the tame calls come to
+pub record Tames (w : World) (by : ThreadRow) (P : ScriptCall → List Basic → Type 0) : Type 0 where
+  pub of_register : (handle : ℕ) (port : PortRow) → port_test w by handle ≡ Ok port → P (register_thread_terminate_port handle) (register_steps by port.birth)
+  pub of_duplicate : (handle : ℕ) (access : Option ℕ) (r : HandleRow) → handle_at w by.process handle ≡ Some r → P (duplicate_object handle access) (duplicate_steps by (free_handle w by.process) r (asked r access))
+  pub of_query : (handle : ℕ) (r : HandleRow) (fields : List Field) → handle_at w by.process handle ≡ Some r → P (query_object handle) (Tells (Answer by.number NtQueryObject SUCCESS fields) ∷ [])
+
+-- what holds of each answer with such steps behind it holds of them
+pub any-tame : {w : World} {by : ThreadRow} {P : ScriptCall → List Basic → Type 0} → ((call : ScriptCall) (name : CallName) (fields : List Field) (bs : List Basic) → is_tame call ≡ true → AreTame w by bs → P call (Tells (Answer by.number name SUCCESS fields) ∷ bs)) → Tames w by P
+any-tame {w} {by} {P} all = record {
+  of_register = λ handle port at. all (register_thread_terminate_port handle) NtRegisterThreadTerminatePort [] _ refl (at_most handle port at (not (is_registered port.birth by)));
+  of_duplicate = λ handle access r at. all (duplicate_object handle access) NtDuplicateObject _ _ refl (more (gives _ r handle at refl) none);
+  of_query = λ handle r fields at. all (query_object handle) NtQueryObject fields [] refl none;
+}
+  where
+    at_most : (handle : ℕ) (port : PortRow) → port_test w by handle ≡ Ok port → (new : Bool) → AreTame w by (when new (Registers by.number port.birth ∷ []))
+    at_most handle port at true = more (registers port handle at) none
+    at_most handle port at false = none
+
+-- What such calls of a thread come to in a world
+pub record Deeds (w : World) (by : ThreadRow) (P : ScriptCall → List Basic → Type 0) : Type 0 where
+  pub creates : P (create_port None) (create_steps by (unnamed_steps (next_birth by)) (free_handle w by.process))
+  pub founds : (name : List ℕ) (path : Path) → free_name w name ≡ Ok path → P (create_port (Some name)) (create_steps by (named_steps (next_birth by) path) (free_handle w by.process))
+  pub connects : (name bytes : List ℕ) (connection : Birth) → named_port w name ≡ Ok connection → P (connect_port name bytes) (connect_steps by connection (connection_request by bytes) w)
+  pub listens : (handle : ℕ) (port : PortRow) (o : Option MessageRow) → port_test w by handle ≡ Ok port → first (is_queued_connect port.birth) w.messages ≡ o → P (listen_port handle) (listen_steps by port.birth o)
+  pub refuses : (context : ℕ) (bytes : List ℕ) (a : ConnectAnswer) → answer_test w by bytes ≡ Ok a → P (accept_connect_port context bytes false) (refuse_steps by a)
+  pub accepts : (context : ℕ) (bytes : List ℕ) (a : ConnectAnswer) → answer_test w by bytes ≡ Ok a → P (accept_connect_port context bytes true) (accept_steps by context (free_handle w by.process) a)
+  pub completes : (handle : ℕ) (r : Completable) → complete_test w by handle ≡ Ok r → P (complete_connect_port handle) (complete_steps by (free_handle w r.wait.process) r)
+  pub sends : (handle : ℕ) (bytes : List ℕ) (s : Sendable) → datagram_send_test w by handle bytes ≡ Ok s → P (request_port handle bytes) (datagram_steps by s.port s.queue (sent_by by DATAGRAM s.message) w)
+  pub asks : (handle : ℕ) (bytes : List ℕ) (s : Sendable) → send_test w by handle bytes ≡ Ok s → P (request_wait_reply_port handle bytes) (request_steps by s.port s.queue (sent_by by REQUEST s.message) w)
+  pub replies : (handle : ℕ) (bytes : List ℕ) (port : PortRow) (m : Message) (x : WaitRow) → port_test w by handle ≡ Ok port → message_test bytes ≡ Ok m → reply_test w port m ≡ Ok x → P (reply_port handle bytes) (reply_steps by x m)
+  pub receives : (handle : ℕ) (bytes : Option (List ℕ)) (a : Option Message) (port : PortRow) (queue : Birth) (replied : List Basic) (o : Option MessageRow) → IsReceiving w by handle bytes a port queue replied → first (is_queued queue) w.messages ≡ o → P (reply_wait_receive_port handle bytes) (receive_steps by port queue replied o)
+  pub closes : (handle : ℕ) (r : HandleRow) → handle_at w by.process handle ≡ Some r → P (close handle) (close_steps by r w)
+  pub tames : Tames w by P
+  pub ends : (call : EndCall) (name : CallName) (own : Bool) (pid : ℕ) (code : Status) (ts : List ThreadRow) → AreDoomed w by own pid ts → P (end_call call) (answered_end by name own pid code ts w)
+
+-- what holds of each outcome, and of a query with any fields, holds of each call that is served
+pub served-does : (w : World) (by : ThreadRow) (P : ScriptCall → List Basic → Type 0) → Outcomes w by P → ((handle : ℕ) (r : HandleRow) (fields : List Field) → handle_at w by.process handle ≡ Some r → P (query_object handle) (Tells (Answer by.number NtQueryObject SUCCESS fields) ∷ [])) → (call : ScriptCall) → Holds (P call) (served w by call)
+served-does w by P o queries (query_object handle) = bind_holds (own_handle w by handle) _ (P (query_object handle)) (λ r at. queries handle r _ (found_ok (handle_at w by.process handle) INVALID_HANDLE r at))
+served-does w by P o queries call = service-does w by P o call
+
+module _ (w : World) (by : ThreadRow) (P : ScriptCall → List Basic → Type 0) (d : Deeds w by P) where
+  abbrev registering : Bool → PortRow → List Basic
+  registering known port = Tells (Answer by.number NtRegisterThreadTerminatePort SUCCESS []) ∷ when (not known) (Registers by.number port.birth ∷ [])
+
+  -- calls that are tame are so here, for all laws
+  outcomes-of : Outcomes w by (λ call bs. is_calm call ≡ true → P call bs)
+  outcomes-of = record {
+    creates = λ _. d.creates;
+    founds = λ name path free _. d.founds name path free;
+    connects = λ name bytes connection at _. d.connects name bytes connection at;
+    listens = λ handle port m l at _. d.listens handle port (Some m) l.port_found at;
+    awaits_connect = λ handle port l at _. d.listens handle port None l.port_found at;
+    refuses = λ context bytes a at _. d.refuses context bytes a at;
+    accepts = λ context bytes a at _. d.accepts context bytes a at;
+    completes = λ handle r at _. d.completes handle r at;
+    sends = λ handle bytes s at _. d.sends handle bytes s at;
+    asks = λ handle bytes s at _. d.asks handle bytes s at;
+    replies = λ handle bytes port m x at read fits _. d.replies handle bytes port m x at read fits;
+    receives = λ handle bytes a port queue replied m r at _. d.receives handle bytes a port queue replied (Some m) r at;
+    awaits_message = λ handle bytes a port queue replied r at _. d.receives handle bytes a port queue replied None r at;
+    registers = λ handle port at new few _. subst (λ known. P (register_thread_terminate_port handle) (registering known port)) new (d.tames.of_register handle port at);
+    repeats = λ handle port at known _. subst (λ known. P (register_thread_terminate_port handle) (registering known port)) known (d.tames.of_register handle port at);
+    closes = λ handle r at _. d.closes handle r at;
+    duplicates = λ handle access r at _. d.tames.of_duplicate handle access r at;
+    queries = λ handle r at _. d.tames.of_query handle r (counts_of w r) at;
+    spawns = λ pid tid new unused off. absurd (cc);
+    starts = λ target tid pid at live unused off. absurd (cc);
+    ends = λ call name own pid code ts doomed _. d.ends call name own pid code ts doomed;
+  }
+
+  pub deeds-do : (call : ScriptCall) → is_calm call ≡ true → Holds (P call) (served w by call)
+  deeds-do call is =
+      let Q : ScriptCall → List Basic → Type 0 = λ call bs. is_calm call ≡ true → P call bs in
+      holds-more (Q call) (P call) (served w by call) (λ bs all. all is) (served-does w by Q outcomes-of (λ handle r fields at _. d.tames.of_query handle r fields at) call)

@@ -1,0 +1,200 @@
+-- What each call owes the law, and that each does so. A further call adds its tests here, its deeds to each law.
+use Rattle.lpc_model.specs.Tests.{next_birth}
+use Rattle.lpc_model.specs.Connect.{making}
+use Rattle.lpc_isolation.proofs.Rows.Names.{SeenNames}
+use Rattle.lpc_isolation.proofs.Each.Receive.{c-receive, names_none}
+use Rattle.lpc_isolation.proofs.Views.Mine.{c-reply}
+use Rattle.lpc_isolation.proofs.Each.Requests.{c-request}
+use Rattle.lpc_isolation.proofs.Each.Sends.{c-request_port}
+use Rattle.lpc_isolation.proofs.Each.Completes.{c-complete}
+use Rattle.lpc_isolation.proofs.Each.Accepts.{c-answer}
+use Rattle.lpc_isolation.proofs.Each.Listens.{c-listen}
+use Rattle.lpc_isolation.proofs.Each.Connects.{c-connect, c-making}
+use Rattle.lpc_isolation.proofs.Each.Create.{create-c}
+use Rattle.lpc_isolation.proofs.Owed.Leads.{leads-call}
+use Rattle.std.specs.Prelude.{◌≡◌, ℕ, Bool, true, List, Option}
+use Rattle.std.proofs.Common.{refl, subst, sym, None, Some}
+use Rattle.lpc_base.specs.declared.status.Status.{Status}
+use Rattle.lpc_model.specs.World.{Birth, ThreadRow, World}
+use Rattle.lpc_model.specs.Basics.{world_after}
+use Rattle.lpc_model.specs.Lines.{ScriptCall, accept_connect_port, close, complete_connect_port, connect_port, create_port, duplicate_object, listen_port, query_object, reply_port, reply_wait_receive_port, request_port, request_wait_reply_port, register_thread_terminate_port, create_process, create_thread, terminate_thread, terminate_process}
+use Rattle.lpc_model.specs.Death.{code_status}
+use Rattle.lpc_isolation.proofs.Gone.Served.{served}
+use Rattle.lpc_model.specs.Circle.{Group, is_fine_call}
+use Rattle.lpc_model.proofs.Calls.Holding.{Holds, holds-more, holds_any}
+use Rattle.lpc_base.specs.Rows.{every}
+use Rattle.lpc_isolation.proofs.Views.Alone.{HasFineRows}
+use Rattle.lpc_isolation.proofs.Views.View.{view}
+use Rattle.lpc_isolation.proofs.Views.Apart.{are_apart}
+use Rattle.lpc_isolation.proofs.Calls.Serves.{is_call_of}
+use Rattle.lpc_isolation.proofs.Calls.Lines.{Begins, Serves, begins-of, settle, settle-own}
+use Rattle.lpc_isolation.proofs.Calls.Laws.{Lawful, same-used}
+use Rattle.lpc_isolation.proofs.Each.Creates.{process-lawful, thread-lawful}
+use Rattle.lpc_isolation.proofs.Views.Callers.{Led}
+use Rattle.lpc_isolation.proofs.Plays.Lines.{OnceUsed}
+use Rattle.lpc_isolation.proofs.Rows.Ids.{Numbered, of_number}
+use Rattle.lpc_isolation.proofs.Gone.ThinCalls.{AreClosed, create-thin, connect-thin, listen-thin, accept-thin, complete-thin, datagram-thin, request-thin, reply-thin, receive-thin}
+use Rattle.lpc_isolation.proofs.Gone.Fine.{FineAfter}
+use Rattle.lpc_isolation.proofs.Owed.Fine.{fine-deeds}
+use Rattle.lpc_isolation.proofs.Owed.Paths.{paths-deeds}
+use Rattle.lpc_isolation.proofs.Rows.Paths.{are_paths}
+use Rattle.lpc_isolation.proofs.Owed.Asked.{asked-deeds}
+use Rattle.lpc_isolation.proofs.Rows.Asked.{Asked}
+use Rattle.lpc_isolation.proofs.Owed.Orderly.{orderly-deeds}
+use Rattle.lpc_isolation.proofs.Each.Refuses.{Refuses, refuses-create, refuses-connect, refuses-listen, refuses-accept, refuses-complete, refuses-datagram, refuses-request, refuses-reply, refuses-receive}
+use Rattle.lpc_isolation.proofs.Owed.Fair.{fair-deeds}
+use Rattle.lpc_isolation.proofs.Rows.Fair.{are_fair}
+use Rattle.lpc_isolation.proofs.Each.Instances.{At, Leading, caller, leads_by}
+use Rattle.lpc_isolation.proofs.Memory.Calls.{Hears}
+use Rattle.lpc_isolation.proofs.Owed.Known.{hears-deeds, notes-deeds}
+use Rattle.lpc_isolation.proofs.Each.Closes.{refuses-close, same-close, alike-close}
+use Rattle.lpc_isolation.proofs.Each.Terminates.{EndsThreads, alike-ends, leads-ends, own-ends, process-ends-it, refuses-ends, thread-ends-it}
+use Rattle.lpc_isolation.proofs.Calls.Calm.{Calm, answers_alike, ends_threads}
+use Rattle.lpc_isolation.proofs.Calls.Deeds.{deeds-do, is_calm}
+use Rattle.lpc_isolation.proofs.Rows.Sent.{are_sent}
+use Rattle.lpc_isolation.proofs.Owed.Apart.{apart-deeds}
+use Rattle.lpc_isolation.proofs.Owed.Ours.{own-call}
+use Rattle.lpc_isolation.proofs.Owed.Sent.{sent-deeds}
+use Rattle.lpc_isolation.proofs.Owed.Stands.{stands-deeds}
+use Rattle.lpc_isolation.proofs.Each.Queries.{query-calm}
+use Rattle.lpc_isolation.proofs.Each.Duplicates.{duplicate-calm}
+use Rattle.lpc_isolation.proofs.Each.Registers.{register-calm}
+
+-- What each call owes besides
+create-calm : (name : Option (List ℕ)) → Calm (create_port name)
+create-calm name = record {
+  refuses = λ w by. refuses-create w by name;
+  members = answers_alike refl (λ m c w by known a mine fine. create-c m c w by name a.c_in mine a.fair (made m w by name a.names fine));
+  alike = λ k u by live c. create-thin k u by name;
+}
+  where
+    made : (m : Group) (w : World) (by : ThreadRow) (name : Option (List ℕ)) → SeenNames m w.bindings → is_fine_call m w (create_port name) ≡ true → making (view m w) (next_birth by) name ≡ making w (next_birth by) name
+    made m w by None names fine = refl
+    made m w by (Some name) names fine = c-making m w (next_birth by) name names fine
+
+connect-calm : (name bytes : List ℕ) → Calm (connect_port name bytes)
+connect-calm name bytes = record {
+  refuses = λ w by. refuses-connect w by name bytes;
+  members = answers_alike refl (λ m c w by known a mine fine. c-connect m c w w by name bytes (caller m c w by known w a refl) mine fine);
+  alike = λ k u by live c. connect-thin k u by name bytes;
+}
+
+listen-calm : (handle : ℕ) → Calm (listen_port handle)
+listen-calm handle = record {
+  refuses = λ w by. refuses-listen w by handle;
+  members = answers_alike refl (λ m c w by known a mine fine. c-listen m c w w by handle (caller m c w by known w a refl) mine);
+  alike = λ k u by live c. listen-thin k u by handle c;
+}
+
+accept-calm : (context : ℕ) (message : List ℕ) (accept : Bool) → Calm (accept_connect_port context message accept)
+accept-calm context message accept = record {
+  refuses = λ w by. refuses-accept w by context message accept;
+  members = answers_alike refl (λ m c w by known a mine fine. c-answer m c w w by context message accept (caller m c w by known w a refl) mine fine);
+  alike = λ k u by live c. accept-thin k u by context message accept c;
+}
+
+complete-calm : (handle : ℕ) → Calm (complete_connect_port handle)
+complete-calm handle = record {
+  refuses = λ w by. refuses-complete w by handle;
+  members = answers_alike refl (λ m c w by known a mine fine. c-complete m c w w by handle (caller m c w by known w a refl) mine);
+  alike = λ k u by live c. complete-thin k u by handle c;
+}
+
+datagram-calm : (handle : ℕ) (message : List ℕ) → Calm (request_port handle message)
+datagram-calm handle message = record {
+  refuses = λ w by. refuses-datagram w by handle message;
+  members = answers_alike refl (λ m c w by known a mine fine. c-request_port m c w w by handle message (caller m c w by known w a refl) mine);
+  alike = λ k u by live c. datagram-thin k u by handle message c;
+}
+
+request-calm : (handle : ℕ) (message : List ℕ) → Calm (request_wait_reply_port handle message)
+request-calm handle message = record {
+  refuses = λ w by. refuses-request w by handle message;
+  members = answers_alike refl (λ m c w by known a mine fine. c-request m c w w by handle message (caller m c w by known w a refl) mine);
+  alike = λ k u by live c. request-thin k u by handle message c;
+}
+
+reply-calm : (handle : ℕ) (message : List ℕ) → Calm (reply_port handle message)
+reply-calm handle message = record {
+  refuses = λ w by. refuses-reply w by handle message;
+  members = answers_alike refl (λ m c w by known a mine fine. c-reply m c w by handle message a.c_in mine a.fair a.ways fine);
+  alike = λ k u by live c. reply-thin k u by handle message c;
+}
+
+receive-calm : (handle : ℕ) (message : Option (List ℕ)) → Calm (reply_wait_receive_port handle message)
+receive-calm handle message = record {
+  refuses = λ w by. refuses-receive w by handle message;
+  members = answers_alike refl (λ m c w by known a mine fine. c-receive m c w w by handle message (caller m c w by known w a refl) mine a.ways (named m w message fine));
+  alike = λ k u by live c. receive-thin k u by handle message c;
+}
+  where
+    named : (m : Group) (w : World) (message : Option (List ℕ)) → is_fine_call m w (reply_wait_receive_port handle message) ≡ true → names_none m w message ≡ true
+    named m w None fine = refl
+    named m w (Some bytes) fine = fine
+
+close-calm : (handle : ℕ) → Calm (close handle)
+close-calm handle = record {
+  refuses = λ w by. refuses-close w by handle;
+  members = answers_alike refl (λ m c w by known a mine fine. same-close m c w by known handle a mine fine);
+  alike = λ k u by live c. alike-close k u by handle c;
+}
+
+ends-calm : (call : ScriptCall) (code : Status) → EndsThreads call code → Calm call
+ends-calm call code e = record {
+  refuses = λ w by. refuses-ends call code e w by;
+  members = ends_threads (λ m c u d w by known a used mine fine. own-ends call code e m c u d w by known a used mine) (λ m c u d w by known a used by_in other. leads-ends call code e m c u d w by known a used by_in other);
+  alike = λ k u by live c. alike-ends call code e k u by live c;
+}
+
+-- a call that adds no thread
+calm : {call : ScriptCall} → is_calm call ≡ true → Calm call → Lawful call
+calm {call} is s = record {
+  begins = λ m c w by known a. holds-more (λ bs. is_call_of w by.number bs ≡ true) (Begins w by.number) (served w by call) (λ bs ok. begins-of w by.number bs ok) (order m c w by known a);
+  once = λ m c w by known a once. settle (λ u bs. OnceUsed u) w by.number (served w by call) (order m c w by known a) (λ u used. holds_any (OnceUsed u) (same-used w u used once) (served w by call));
+  numbered = λ m c w by known a ids n. settle (λ u bs. Numbered u) w by.number (served w by call) (order m c w by known a) (λ u used. holds_any (Numbered u) (subst (λ us. every of_number us ≡ true) (sym used) n) (served w by call));
+  refuses = s.refuses;
+  fair = λ m c w by known a. deeds-do w by (λ _ bs. HasFineRows m c (world_after w bs) → are_fair m c w bs ≡ true) (fair-deeds m c w by (caller m c w by known w a refl)) call is;
+  paths = λ m c w by known a all. deeds-do w by (λ _ bs. are_paths w bs ≡ true) (paths-deeds m c w by all (caller m c w by known w a refl)) call is;
+  asked = λ m c w by known a b. deeds-do w by (λ _ bs. Asked (world_after w bs)) (asked-deeds m c w by b (caller m c w by known w a refl)) call is;
+  sent = λ u by sound live. deeds-do u by (λ _ bs. are_sent u bs ≡ true) (sent-deeds u by sound live) call is;
+  apart = λ m c d w by known a out. settle (λ u bs. HasFineRows m c (world_after w bs) → are_apart m c u d w bs ≡ true) w by.number (served w by call) (order m c w by known a) (λ u used. deeds-do w by (λ _ bs. HasFineRows m c (world_after w bs) → are_apart m c u d w bs ≡ true) (apart-deeds m c u d w by (caller m c w by known u a used) out) call is);
+  own = λ m c d w by known a mine fine. settle-own (λ u bs led. HasFineRows m c (world_after w bs) → Led m c u d w bs led) w by.number (served w by call) (served (view m w) by call) (order m c w by known a) (λ u used. own-call call is s.members m c u d w by known a used mine fine);
+  leads = λ m c d w by known a by_in other. settle (λ u bs. HasFineRows m c (world_after w bs) → Leading m c u d w by known call bs) w by.number (served w by call) (order m c w by known a) (λ u used. leads-call call is s.members m c u d w by known a used by_in other);
+  hears = λ m c d w by known memo a owned n b all out. settle (λ u bs. HasFineRows m c (world_after w bs) → Hears m c u d w memo bs) w by.number (served w by call) (order m c w by known a) (λ u used. deeds-do w by (λ _ bs. HasFineRows m c (world_after w bs) → Hears m c u d w memo bs) (hears-deeds m c u w by d memo (caller m c w by known u a used) owned n b all out) call is);
+  notes = λ m c w by known memo a owned n b all by_in. deeds-do w by _ (notes-deeds m c w w by memo (caller m c w by known w a refl) owned n b all by_in) call is;
+  alike = s.alike;
+  stands = λ k u by live sound closed room. deeds-do u by (λ _. AreClosed k) (stands-deeds k u by live sound closed room.port) call is;
+  fine = λ m c after u by idle f. deeds-do u by (λ _. FineAfter m c after u) (fine-deeds m c after u by idle f) call is;
+}
+  where
+    order : (m : Group) (c : ℕ) (w : World) (by : ThreadRow) (known : List ℕ → Birth) → At m c w by known → Holds (λ bs. is_call_of w by.number bs ≡ true) (served w by call)
+    order m c w by known a = deeds-do w by (λ _ bs. is_call_of w by.number bs ≡ true) (orderly-deeds m c w w by (caller m c w by known w a refl)) call is
+
+pub lawful : (call : ScriptCall) → Lawful call
+lawful (create_port name) = calm refl (create-calm name)
+lawful (connect_port name bytes) = calm refl (connect-calm name bytes)
+lawful (listen_port handle) = calm refl (listen-calm handle)
+lawful (accept_connect_port context message accept) = calm refl (accept-calm context message accept)
+lawful (complete_connect_port handle) = calm refl (complete-calm handle)
+lawful (request_port handle message) = calm refl (datagram-calm handle message)
+lawful (request_wait_reply_port handle message) = calm refl (request-calm handle message)
+lawful (reply_port handle message) = calm refl (reply-calm handle message)
+lawful (reply_wait_receive_port handle message) = calm refl (receive-calm handle message)
+lawful (close handle) = calm refl (close-calm handle)
+lawful (duplicate_object handle access) = calm refl (duplicate-calm handle access)
+lawful (query_object handle) = calm refl (query-calm handle)
+lawful (register_thread_terminate_port handle) = calm refl (register-calm handle)
+lawful (create_process pid tid) = process-lawful pid tid
+lawful (create_thread target tid) = thread-lawful target tid
+lawful (terminate_thread target code) = calm refl (ends-calm (terminate_thread target code) (code_status code) (thread-ends-it target code))
+lawful (terminate_process target code) = calm refl (ends-calm (terminate_process target code) (code_status code) (process-ends-it target code))
+
+-- all that a call owes
+pub serves : (m : Group) (c : ℕ) (w : World) (by : ThreadRow) (known : List ℕ → Birth) (call : ScriptCall) → At m c w by known → (by.process ≡ c → is_fine_call m w call ≡ true) → Serves (leads_by m known) m c w by call
+serves m c w by known call a fine = record {
+  apart = λ d out. (lawful call).apart m c d w by known a out;
+  own = λ d mine. (lawful call).own m c d w by known a mine (fine mine);
+  leads = λ d by_in other. (lawful call).leads m c d w by known a by_in other;
+  begins = (lawful call).begins m c w by known a;
+  refuses = λ s is. subst Refuses is ((lawful call).refuses w by);
+}

@@ -1,0 +1,327 @@
+-- Waits that end one after the other, and what that owes as a stage of a closing.
+use Rattle.std.proofs.Common.{◌≡◌, ℕ, List, [], ◌∷◌, Bool, true, false, not, refl, ap, sym, subst, ◌∙◌, arith}
+use Rattle.std.proofs.lemmas.Bool.{and_from, false_from_ne_true, not-true}
+use Rattle.std.specs.Prelude.{◌&&◌, ◌||◌, ◌==◌}
+use Rattle.lpc_base.specs.Rows.{each, every, has, which, without}
+use Rattle.lpc_base.specs.declared.status.Status.{Status}
+use Rattle.lpc_base.proofs.RowWords.{every-more, every-which, every-without, has_none-without, which-without, without-none}
+use Rattle.lpc_base.proofs.RowMaps.{every-both}
+use Rattle.lpc_base.proofs.Bools.{first-true, second-true}
+use Rattle.lpc_model.specs.declared.entry.Entry.TheVariants as entry
+use Rattle.lpc_model.specs.declared.entry.Field.{Field}
+use Rattle.lpc_model.specs.World.{Birth, MessageRow, WaitRow, World}
+use Rattle.lpc_model.specs.Found.{is_own_of, waits_as}
+use Rattle.lpc_model.specs.Basics.{Basic, Steps, Withdraws, basic, end_each, entries_of, world_after}
+use Rattle.lpc_model.specs.Entering.{woken}
+use Rattle.lpc_model.proofs.Steps.Rows.{count-less}
+use Rattle.lpc_model.specs.Circle.{Group, Whose}
+use Rattle.lpc_isolation.proofs.Views.Alone.{alone}
+use Rattle.lpc_isolation.proofs.Views.View.{our_message, our_wait, view}
+use Rattle.lpc_isolation.proofs.Views.Basics.{run-ours, sees_own}
+use Rattle.lpc_isolation.proofs.Rows.Fair.{is_fair_wait}
+use Rattle.lpc_isolation.proofs.Views.Apart.{Owned, are_apart, end-apart, heard, is_heard, is_owned}
+use Rattle.lpc_isolation.proofs.Views.Callers.{Led, c-wait}
+use Rattle.lpc_isolation.proofs.Each.Reply.{wake-not-c}
+use Rattle.lpc_isolation.proofs.Plays.Play.{is_told_input, told_inputs}
+use Rattle.lpc_isolation.proofs.Rows.Paths.{is_path}
+use Rattle.lpc_isolation.proofs.Rows.Asked.{Asked, asks_of, basic-asked, has_own, is_own, is_quiet, is_settled, is_sort, still-own}
+use Rattle.lpc_isolation.proofs.Memory.Heard.{Heard, entries_memo, entries-silent, is_silent, takes_any}
+use Rattle.lpc_isolation.proofs.Gone.Thin.{Alive, Closed, thin, wait_closed}
+use Rattle.lpc_isolation.proofs.Gone.ThinCalls.{AreClosed}
+use Rattle.lpc_isolation.proofs.Closings.Mild.{AreLosses, Sure, losses-fair, losses-mild, losses-ours, losses-sent}
+use Rattle.lpc_isolation.proofs.Closings.Lone.{is_lone, is_mute, lone-all, mute-all, quiet-all}
+use Rattle.lpc_isolation.proofs.Closings.Stages.{Stage}
+
+-- a wait ends, and where it is for an answer, its message leaves its queue
+abbrev pub ended : Bool → Status → List Field → WaitRow → List Basic
+ended false status fields x = woken status fields x ∷ []
+ended true status fields x = woken status fields x ∷ Withdraws x.thread ∷ []
+
+abbrev pub all_ended : Bool → Status → List Field → List WaitRow → List Basic
+all_ended draws status fields xs = each (ended draws status fields) xs
+
+-- what is known of a wait that stands
+abbrev pub is_known_wait : Group → ℕ → World → World → WaitRow → Bool
+is_known_wait m c u w x = is_fair_wait m c x && (is_path w x && is_owned u x)
+
+known-waits : (m : Group) (c : ℕ) (u w : World) → Sure m c u w → every (is_known_wait m c u w) w.waits ≡ true
+known-waits m c u w s = every-both (is_fair_wait m c) (λ x. is_path w x && is_owned u x) (is_known_wait m c u w) (λ x a b. and_from _ _ a b) w.waits s.fair.waits
+    (every-both (is_path w) (is_owned u) _ (λ x a b. and_from _ _ a b) w.waits s.paths s.owned)
+
+-- what is asked of the test by which waits end that a port's closing concerns
+pub record IsEnd (m : Group) (c : ℕ) (b : Birth) (draws : Bool) (test : World → WaitRow → Bool) : Type 0 where
+  -- whose message isn't drawn, has none; an outsider's closing ends no wait of c, and none in the view for messages
+  pub settled : draws ≡ false → (w : World) (x : WaitRow) → test w x ≡ true → is_settled x ≡ true
+  pub other : m b.process ≡ false → (u w : World) (x : WaitRow) → Sure m c u w → is_known_wait m c u w x ≡ true → test w x ≡ true → (x.process == c) ≡ false
+  pub unseen : m b.process ≡ false → (u w : World) (x : WaitRow) → Sure m c u w → is_known_wait m c u w x ≡ true → test w x ≡ true → (our_wait m x && (draws || takes_any x)) ≡ false
+  -- a member's closing ends in the view what it ends there in the world, and c's closing no other
+  pub agree : m b.process ≡ true → (u w : World) (x : WaitRow) → Sure m c u w → is_known_wait m c u w x ≡ true → our_wait m x ≡ true → test (view m w) x ≡ test w x
+  pub inside : b.process ≡ c → (u w : World) (x : WaitRow) → Sure m c u w → is_known_wait m c u w x ≡ true → test w x ≡ true → our_wait m x ≡ true
+  pub thinly : (k : Alive) (u : World) (x : WaitRow) → Closed k u → wait_closed k x ≡ true → test (thin k u) x ≡ test u x
+
+-- Lists
+pub every-passing : {X : Type 0} (p t q : X → Bool) → ((x : X) → p x ≡ true → t x ≡ true → q x ≡ true) → (xs : List X) → every p xs ≡ true → every q (which t xs) ≡ true
+every-passing p t q f [] all = refl
+every-passing p t q f (x ∷ xs) all = grind (arith, f x, every-passing p t q f xs)
+
+which-seen : {X : Type 0} (p k s t : X → Bool) → ((x : X) → p x ≡ true → k x ≡ true → s x ≡ t x) → (xs : List X) → every p xs ≡ true → which s (which k xs) ≡ which k (which t xs)
+which-seen p k s t same [] all = refl
+which-seen p k s t same (x ∷ xs) all = grind (arith, same x, which-seen p k s t same xs)
+
+which-kept : {X : Type 0} (k : X → Bool) (xs : List X) → every k xs ≡ true → which k xs ≡ xs
+which-kept k [] all = refl
+which-kept k (x ∷ xs) all = grind (arith, which-kept k xs)
+
+which-same : {X : Type 0} (p s t : X → Bool) → ((x : X) → p x ≡ true → s x ≡ t x) → (xs : List X) → every p xs ≡ true → which s xs ≡ which t xs
+which-same p s t same [] all = refl
+which-same p s t same (x ∷ xs) all = grind (arith, same x, which-same p s t same xs)
+
+-- Rows go
+pub losses-ended : (b : Birth) (draws : Bool) (status : Status) (fields : List Field) (xs : List WaitRow) → AreLosses b (all_ended draws status fields xs)
+losses-ended b draws status fields [] = refl
+losses-ended b true status fields (x ∷ xs) = losses-ended b true status fields xs
+losses-ended b false status fields (x ∷ xs) = losses-ended b false status fields xs
+
+closed-ended : (k : Alive) (draws : Bool) (status : Status) (fields : List Field) (xs : List WaitRow) → AreClosed k (all_ended draws status fields xs)
+closed-ended k draws status fields [] = refl
+closed-ended k true status fields (x ∷ xs) = closed-ended k true status fields xs
+closed-ended k false status fields (x ∷ xs) = closed-ended k false status fields xs
+
+-- a queued message that asks is still its thread's own
+pub drawn-asked : (w : World) (tid : ℕ) → Asked w → Asked (record w { waits = without (waits_as tid) w.waits; messages = without (is_own_of tid) w.messages })
+drawn-asked w tid a = record {
+  sorts = every-without is_sort (is_own_of tid) w.messages a.sorts;
+  own = still-own tid w.waits (without (waits_as tid) w.waits) (λ y other. has-off y other w.waits) (without (is_own_of tid) w.messages) (every-without (has_own w.waits) (is_own_of tid) w.messages a.own) (none-left tid w.messages);
+  one = λ who. count-less (asks_of who) (is_own_of tid) w.messages 1 (a.one who);
+}
+  where
+    has-off : (y : MessageRow) → ((z : WaitRow) → is_own y z ≡ true → (z.thread == tid) ≡ false) → (ws : List WaitRow) → has (is_own y) ws ≡ true → has (is_own y) (without (waits_as tid) ws) ≡ true
+    has-off y other [] is = is
+    has-off y other (z ∷ zs) is = grind (arith, other z, has-off y other zs)
+
+    none-left : (t : ℕ) (ms : List MessageRow) → is_quiet (without (is_own_of t) ms) t ≡ true
+    none-left t [] = refl
+    none-left t (y ∷ ys) = grind (arith, none-left t ys)
+
+ended-asked : (draws : Bool) (status : Status) (fields : List Field) (xs : List WaitRow) (w : World) → every (λ x. draws || is_quiet w.messages x.thread) xs ≡ true → Asked w → Asked (world_after w (all_ended draws status fields xs))
+ended-asked draws status fields [] w quiet a = a
+ended-asked true status fields (x ∷ xs) w quiet a = ended-asked true status fields xs (world_after w (ended true status fields x)) (any xs) (as-after (drawn-asked w x.thread a))
+  where
+    as-after : Asked (record w { waits = without (waits_as x.thread) w.waits; messages = without (is_own_of x.thread) w.messages }) → Asked (world_after w (ended true status fields x))
+    as-after a = record { sorts = a.sorts; own = a.own; one = a.one }
+
+    any : (xs : List WaitRow) → every (λ x. true) xs ≡ true
+    any [] = refl
+    any (x ∷ xs) = any xs
+ended-asked false status fields (x ∷ xs) w quiet a = ended-asked false status fields xs (basic w (woken status fields x)) (second-true _ _ quiet) (basic-asked w (woken status fields x) (first-true _ _ quiet) a)
+
+-- By an outsider
+abbrev is_free : Group → ℕ → World → Bool → World → WaitRow → Bool
+is_free m c u draws w x = is_owned u x && (not (x.process == c) && (not draws || not (sees_own m w x.thread)))
+
+own-less : (m : Group) (w : World) (test : MessageRow → Bool) (t : ℕ) → sees_own m w t ≡ false → sees_own m (record w { messages = without test w.messages }) t ≡ false
+own-less m w test t none = rw (which-without (our_message m) test w.messages) (has_none-without (is_own_of t) test (which (our_message m) w.messages) none)
+
+free-less : (m : Group) (c : ℕ) (u w : World) (x y : WaitRow) → is_free m c u true w y ≡ true → is_free m c u true (basic w (Withdraws x.thread)) y ≡ true
+free-less m c u w x y is = at (sees_own m w y.thread) refl
+  where
+    at : (e : Bool) → sees_own m w y.thread ≡ e → is_free m c u true (basic w (Withdraws x.thread)) y ≡ true
+    at true seen = absurd (grind arith)
+    at false none = rw (own-less m w (is_own_of x.thread) y.thread none) (grind arith)
+
+ended-apart : (m : Group) (c : ℕ) (u : World) (d : Whose) (draws : Bool) (status : Status) (fields : List Field) (xs : List WaitRow) (w : World) → Owned u w → every (is_free m c u draws w) xs ≡ true → are_apart m c u d w (all_ended draws status fields xs) ≡ true
+ended-apart m c u d draws status fields [] w owned free = refl
+ended-apart m c u d false status fields (x ∷ xs) w owned free =
+    let here : is_free m c u false w x ≡ true = first-true _ _ free in
+    and_from _ _ (and_from _ _ (end-apart m c u d w x status fields owned (first-true _ _ here) (not-true _ (first-true _ _ (second-true (is_owned u x) _ here)))) refl)
+    (ended-apart m c u d false status fields xs (basic w (woken status fields x)) (every-without (is_owned u) (waits_as x.thread) w.waits owned) (second-true _ _ free))
+ended-apart m c u d true status fields (x ∷ xs) w owned free =
+    let here : is_free m c u true w x ≡ true = first-true _ _ free in
+    let v : World = basic w (woken status fields x) in
+    let none : sees_own m w x.thread ≡ false = not-true _ (second-true (not (x.process == c)) _ (second-true (is_owned u x) _ here)) in
+    and_from _ _ (and_from _ _ (end-apart m c u d w x status fields owned (first-true _ _ here) (not-true _ (first-true _ _ (second-true (is_owned u x) _ here)))) refl)
+    (and_from _ _ (and_from _ _ (rw none refl) refl)
+    (ended-apart m c u d true status fields xs (basic v (Withdraws x.thread)) (every-without (is_owned u) (waits_as x.thread) w.waits owned)
+    (every-more (is_free m c u true w) (is_free m c u true (basic v (Withdraws x.thread))) (λ y is. free-less m c u w x y is) xs (second-true _ _ free))))
+
+ended-silent : (v : World) (draws : Bool) (status : Status) (fields : List Field) (xs : List WaitRow) → every (λ x. is_silent v (entry.Wakes x.thread x.call status fields)) xs ≡ true → every (is_silent v) (entries_of (all_ended draws status fields xs)) ≡ true
+ended-silent v draws status fields [] mute = refl
+ended-silent v true status fields (x ∷ xs) mute = and_from _ _ (first-true _ _ mute) (ended-silent v true status fields xs (second-true _ _ mute))
+ended-silent v false status fields (x ∷ xs) mute = and_from _ _ (first-true _ _ mute) (ended-silent v false status fields xs (second-true _ _ mute))
+
+-- By a member: what isn't in the view leaves it
+abbrev is_lost : Group → World → WaitRow → Bool
+is_lost m v x = our_wait m x || (not (has (waits_as x.thread) v.waits) && not (has (is_own_of x.thread) v.messages))
+
+lost-less : (m : Group) (v : World) (t : WaitRow → Bool) (s : MessageRow → Bool) (y : WaitRow) → is_lost m v y ≡ true → is_lost m (record v { waits = without t v.waits; messages = without s v.messages }) y ≡ true
+lost-less m v t s y is = at (our_wait m y) (has (waits_as y.thread) v.waits) (has (is_own_of y.thread) v.messages) refl refl refl
+  where
+    at : (a b c : Bool) → our_wait m y ≡ a → has (waits_as y.thread) v.waits ≡ b → has (is_own_of y.thread) v.messages ≡ c → is_lost m (record v { waits = without t v.waits; messages = without s v.messages }) y ≡ true
+    at true b c ours wait own = rw ours refl
+    at false true c out wait own = absurd (grind arith)
+    at false false true out wait own = absurd (grind arith)
+    at false false false out wait own = rw (out, has_none-without (waits_as y.thread) t v.waits wait, has_none-without (is_own_of y.thread) s v.messages own) refl
+
+lost-waits : (m : Group) (v : World) (t : WaitRow → Bool) (y : WaitRow) → is_lost m v y ≡ true → is_lost m (record v { waits = without t v.waits }) y ≡ true
+lost-waits m v t y is = at (our_wait m y) (has (waits_as y.thread) v.waits) refl refl
+  where
+    at : (a b : Bool) → our_wait m y ≡ a → has (waits_as y.thread) v.waits ≡ b → is_lost m (record v { waits = without t v.waits }) y ≡ true
+    at true b ours wait = rw ours refl
+    at false true out wait = absurd (grind arith)
+    at false false out wait = rw (out, has_none-without (waits_as y.thread) t v.waits wait) (grind arith)
+
+none-waits : (m : Group) (v : World) (x : WaitRow) → our_wait m x ≡ false → is_lost m v x ≡ true → has (waits_as x.thread) v.waits ≡ false
+none-waits m v x out is = grind arith
+
+none-own : (m : Group) (v : World) (x : WaitRow) → our_wait m x ≡ false → is_lost m v x ≡ true → has (is_own_of x.thread) v.messages ≡ false
+none-own m v x out is = grind arith
+
+ended-left : (m : Group) (draws : Bool) (status : Status) (fields : List Field) (xs : List WaitRow) (v : World) → every (is_lost m v) xs ≡ true → world_after v (all_ended draws status fields xs) ≡ world_after v (all_ended draws status fields (which (our_wait m) xs))
+ended-left m draws status fields [] v lost = refl
+ended-left m false status fields (x ∷ xs) v lost = at (our_wait m x) refl (ended-left m false status fields xs (basic v (woken status fields x)) (every-more (is_lost m v) (is_lost m (basic v (woken status fields x))) (lost-waits m v (waits_as x.thread)) xs (second-true _ _ lost)))
+  where
+    ws : List WaitRow
+    ws = which (our_wait m) xs
+
+    gone : our_wait m x ≡ false → basic v (woken status fields x) ≡ v
+    gone out = rw (without-none (waits_as x.thread) v.waits (none-waits m v x out (first-true _ _ lost))) refl
+
+    at : (e : Bool) → our_wait m x ≡ e → world_after (basic v (woken status fields x)) (all_ended false status fields xs) ≡ world_after (basic v (woken status fields x)) (all_ended false status fields ws) → world_after v (all_ended false status fields (x ∷ xs)) ≡ world_after v (all_ended false status fields (which (our_wait m) (x ∷ xs)))
+    at true ours rest = rw ours rest
+    at false out rest = rw out (rest ∙ ap (λ v. world_after v (all_ended false status fields ws)) (gone out))
+ended-left m true status fields (x ∷ xs) v lost = at (our_wait m x) refl (ended-left m true status fields xs (world_after v (ended true status fields x)) (every-more (is_lost m v) (is_lost m (world_after v (ended true status fields x))) (lost-less m v (waits_as x.thread) (is_own_of x.thread)) xs (second-true _ _ lost)))
+  where
+    ws : List WaitRow
+    ws = which (our_wait m) xs
+
+    gone : our_wait m x ≡ false → world_after v (ended true status fields x) ≡ v
+    gone out = rw (without-none (waits_as x.thread) v.waits (none-waits m v x out (first-true _ _ lost)), without-none (is_own_of x.thread) v.messages (none-own m v x out (first-true _ _ lost))) refl
+
+    at : (e : Bool) → our_wait m x ≡ e → world_after (world_after v (ended true status fields x)) (all_ended true status fields xs) ≡ world_after (world_after v (ended true status fields x)) (all_ended true status fields ws) → world_after v (all_ended true status fields (x ∷ xs)) ≡ world_after v (all_ended true status fields (which (our_wait m) (x ∷ xs)))
+    at true ours rest = rw ours rest
+    at false out rest = rw out (rest ∙ ap (λ v. world_after v (all_ended true status fields ws)) (gone out))
+
+-- and c isn't told of it
+abbrev is_unheard : Group → ℕ → World → Whose → Status → List Field → WaitRow → Bool
+is_unheard m c u d status fields x = our_wait m x || not (is_heard (alone c) u d (entry.Wakes x.thread x.call status fields))
+
+ended-told : (m : Group) (c : ℕ) (u : World) (d : Whose) (draws : Bool) (status : Status) (fields : List Field) (xs : List WaitRow) → every (is_unheard m c u d status fields) xs ≡ true
+    → heard (alone c) u d (entries_of (all_ended draws status fields xs)) ≡ heard (alone c) u d (entries_of (all_ended draws status fields (which (our_wait m) xs)))
+ended-told m c u d draws status fields [] unheard = refl
+ended-told m c u d false status fields (x ∷ xs) unheard = at (our_wait m x) (is_heard (alone c) u d (entry.Wakes x.thread x.call status fields)) refl refl (first-true _ _ unheard) (ended-told m c u d false status fields xs (second-true _ _ unheard))
+  where
+    at : (a e : Bool) → our_wait m x ≡ a → is_heard (alone c) u d (entry.Wakes x.thread x.call status fields) ≡ e → is_unheard m c u d status fields x ≡ true → heard (alone c) u d (entries_of (all_ended false status fields xs)) ≡ heard (alone c) u d (entries_of (all_ended false status fields (which (our_wait m) xs)))
+        → heard (alone c) u d (entries_of (all_ended false status fields (x ∷ xs))) ≡ heard (alone c) u d (entries_of (all_ended false status fields (which (our_wait m) (x ∷ xs))))
+    at true true ours told is rest = rw (ours, told) (ap (λ es. entry.Wakes x.thread x.call status fields ∷ es) rest)
+    at true false ours told is rest = rw (ours, told) rest
+    at false true out told is rest = absurd (grind arith)
+    at false false out told is rest = rw (out, told) rest
+ended-told m c u d true status fields (x ∷ xs) unheard = at (our_wait m x) (is_heard (alone c) u d (entry.Wakes x.thread x.call status fields)) refl refl (first-true _ _ unheard) (ended-told m c u d true status fields xs (second-true _ _ unheard))
+  where
+    at : (a e : Bool) → our_wait m x ≡ a → is_heard (alone c) u d (entry.Wakes x.thread x.call status fields) ≡ e → is_unheard m c u d status fields x ≡ true → heard (alone c) u d (entries_of (all_ended true status fields xs)) ≡ heard (alone c) u d (entries_of (all_ended true status fields (which (our_wait m) xs)))
+        → heard (alone c) u d (entries_of (all_ended true status fields (x ∷ xs))) ≡ heard (alone c) u d (entries_of (all_ended true status fields (which (our_wait m) (x ∷ xs))))
+    at true true ours told is rest = rw (ours, told) (ap (λ es. entry.Wakes x.thread x.call status fields ∷ es) rest)
+    at true false ours told is rest = rw (ours, told) rest
+    at false true out told is rest = absurd (grind arith)
+    at false false out told is rest = rw (out, told) rest
+
+-- The stage
+module _ (m : Group) (c : ℕ) (b : Birth) (draws : Bool) (status : Status) (fields : List Field) (test : World → WaitRow → Bool) (e : IsEnd m c b draws test) where
+  abbrev ends : Steps
+  ends = end_each test (ended draws status fields)
+
+  abbrev ending : World → List WaitRow
+  ending w = which (test w) w.waits
+
+  quiet : (u w : World) → Sure m c u w → every (λ x. draws || is_quiet w.messages x.thread) (ending w) ≡ true
+  quiet u w s = every-passing (λ x. not (is_settled x) || is_quiet w.messages x.thread) (test w) (λ x. draws || is_quiet w.messages x.thread) (λ x is on. at x draws refl is on) w.waits (quiet-all m c u w s)
+    where
+      at : (x : WaitRow) (a : Bool) → draws ≡ a → (not (is_settled x) || is_quiet w.messages x.thread) ≡ true → test w x ≡ true → (draws || is_quiet w.messages x.thread) ≡ true
+      at x true on is passed = rw on refl
+      at x false off is passed = let settled : is_settled x ≡ true = e.settled off w x passed in grind arith
+
+  free : (u w : World) → Sure m c u w → m b.process ≡ false → every (is_free m c u draws w) (ending w) ≡ true
+  free u w s out = every-passing (λ x. is_known_wait m c u w x && is_lone m w x) (test w) (is_free m c u draws w) (λ x is on. at x is on) w.waits (every-both (is_known_wait m c u w) (is_lone m w) _ (λ x a b. and_from _ _ a b) w.waits (known-waits m c u w s) (lone-all m c u w s))
+    where
+      at : (x : WaitRow) → (is_known_wait m c u w x && is_lone m w x) ≡ true → test w x ≡ true → is_free m c u draws w x ≡ true
+      at x is on =
+          let known : is_known_wait m c u w x ≡ true = first-true _ _ is in
+          let owned : is_owned u x ≡ true = second-true (is_path w x) _ (second-true (is_fair_wait m c x) _ known) in
+          let other : (x.process == c) ≡ false = e.other out u w x s known on in
+          let unseen : (our_wait m x && (draws || takes_any x)) ≡ false = e.unseen out u w x s known on in
+          let lone : is_lone m w x ≡ true = second-true (is_known_wait m c u w x) _ is in
+          rw (owned, other) (drawn draws refl (our_wait m x) refl unseen lone)
+        where
+          drawn : (a : Bool) → draws ≡ a → (o : Bool) → our_wait m x ≡ o → (our_wait m x && (draws || takes_any x)) ≡ false → is_lone m w x ≡ true → (not draws || not (sees_own m w x.thread)) ≡ true
+          drawn false off o ours unseen lone = rw off refl
+          drawn true on true ours unseen lone = let never : true ≡ false = rw (on, ours) at unseen in absurd (cc)
+          drawn true on false ours unseen lone = grind arith
+
+  mute : (u : World) (d : Whose) (w : World) (memo : List Heard) → Sure m c u w → m b.process ≡ false → entries_memo m (view m w) memo (told_inputs m c u d (entries_of (ends w))) ≡ memo
+  mute u d w memo s out =
+      entries-silent m (view m w) memo (told_inputs m c u d (entries_of (ends w)))
+      (every-which (is_silent (view m w)) (is_told_input m c u d) (entries_of (ends w)) (ended-silent (view m w) draws status fields (ending w) all))
+    where
+      at : (x : WaitRow) → (is_known_wait m c u w x && ((our_wait m x && takes_any x) || is_mute m w x)) ≡ true → test w x ≡ true → is_mute m w x ≡ true
+      at x is on =
+          let unseen : (our_wait m x && (draws || takes_any x)) ≡ false = e.unseen out u w x s (first-true _ _ is) on in
+          let either : ((our_wait m x && takes_any x) || is_mute m w x) ≡ true = second-true (is_known_wait m c u w x) _ is in
+          pick (our_wait m x) draws (takes_any x) (is_mute m w x) unseen either
+        where
+          pick : (o a t n : Bool) → (o && (a || t)) ≡ false → ((o && t) || n) ≡ true → n ≡ true
+          pick o a t n unseen either = grind arith
+
+      all : every (is_mute m w) (ending w) ≡ true
+      all = every-passing (λ x. is_known_wait m c u w x && ((our_wait m x && takes_any x) || is_mute m w x)) (test w) (is_mute m w) (λ x is on. at x is on) w.waits
+          (every-both (is_known_wait m c u w) (λ x. (our_wait m x && takes_any x) || is_mute m w x) _ (λ x a b. and_from _ _ a b) w.waits (known-waits m c u w s) (mute-all m c u w s))
+
+  seen : (u w : World) → Sure m c u w → m b.process ≡ true → ending (view m w) ≡ which (our_wait m) (ending w)
+  seen u w s inside = which-seen (is_known_wait m c u w) (our_wait m) (test (view m w)) (test w) (λ x known ours. e.agree inside u w x s known ours) w.waits (known-waits m c u w s)
+
+  led : (u : World) (d : Whose) (w : World) → Sure m c u w → m b.process ≡ true → Led m c u d w (ends w) (ends (view m w))
+  led u d w s inside = subst (λ xs. Led m c u d w (ends w) (all_ended draws status fields xs)) (sym (seen u w s inside)) (record {
+    world = run-ours m w (ends w) (losses-ours m b w (ends w) inside (losses-ended b draws status fields (ending w))) ∙ ended-left m draws status fields (ending w) (view m w) lost;
+    told = ended-told m c u d draws status fields (ending w) unheard;
+  })
+    where
+      lost : every (is_lost m (view m w)) (ending w) ≡ true
+      lost = every-which (is_lost m (view m w)) (test w) w.waits (lone-all m c u w s)
+
+      at : (x : WaitRow) (o : Bool) → our_wait m x ≡ o → is_known_wait m c u w x ≡ true → is_unheard m c u d status fields x ≡ true
+      at x true ours known = rw ours refl
+      at x false off known =
+          let owned : is_owned u x ≡ true = second-true (is_path w x) _ (second-true (is_fair_wait m c x) _ known) in
+          rw (off, wake-not-c m c u d x x.call status fields owned (not-mine x off (first-true _ _ known))) refl
+        where
+          not-mine : (x : WaitRow) → our_wait m x ≡ false → is_fair_wait m c x ≡ true → (x.process == c) ≡ false
+          not-mine x off fair = false_from_ne_true (x.process == c) (λ is. let k : our_wait m x ≡ true = c-wait m c x s.c_in fair is in cc)
+
+      unheard : every (is_unheard m c u d status fields) (ending w) ≡ true
+      unheard = every-which (is_unheard m c u d status fields) (test w) w.waits (every-more (is_known_wait m c u w) (is_unheard m c u d status fields) (λ x known. at x (our_wait m x) refl known) w.waits (known-waits m c u w s))
+
+  same : (u w : World) → Sure m c u w → b.process ≡ c → ends (view m w) ≡ ends w
+  same u w s mine =
+      let inside : m b.process ≡ true = ap m mine ∙ s.c_in in
+      let all : every (our_wait m) (ending w) ≡ true = every-passing (is_known_wait m c u w) (test w) (our_wait m) (λ x known on. e.inside mine u w x s known on) w.waits (known-waits m c u w s) in
+      ap (all_ended draws status fields) (seen u w s inside ∙ which-kept (our_wait m) (ending w) all)
+
+  alike : (k : Alive) (u : World) → Closed k u → ends (thin k u) ≡ ends u
+  alike k u closed = ap (all_ended draws status fields) (which-same (wait_closed k) (test (thin k u)) (test u) (λ x live. e.thinly k u x closed live) u.waits closed.waits)
+
+  pub end-stage : Stage m c b (end_each test (ended draws status fields))
+  end-stage = record {
+    losses = λ w. losses-ended b draws status fields (ending w);
+    good = record {
+      mild = λ w. losses-mild b (ends w) (losses-ended b draws status fields (ending w));
+      sent = λ w. losses-sent b w (ends w) (losses-ended b draws status fields (ending w));
+      fair = λ u w s. losses-fair m c b w (ends w) (losses-ended b draws status fields (ending w));
+      asked = λ u w s. ended-asked draws status fields (ending w) w (quiet u w s) s.asked;
+      apart = λ u d w s out. ended-apart m c u d draws status fields (ending w) w s.owned (free u w s out);
+      mute = λ u d w memo s n out. mute u d w memo s out;
+      ours = λ u w s inside. losses-ours m b w (ends w) inside (losses-ended b draws status fields (ending w));
+      led = λ u d w s inside. led u d w s inside;
+      same = λ u w s mine. same u w s mine;
+      alike = λ k u closed live. alike k u closed;
+      stands = λ k u closed live. closed-ended k draws status fields (ending u);
+    };
+  }

@@ -1,0 +1,21 @@
+-- Each call by itself: in the view, its refusals, what it does by its answer; and what several share.
+pub mod Enter
+pub mod Takes
+pub mod Routes
+pub mod Refuses
+pub mod Create
+pub mod Connects
+pub mod Listens
+pub mod Accepts
+pub mod Completes
+pub mod Sends
+pub mod Requests
+pub mod Reply
+pub mod Receive
+pub mod Closes
+pub mod Duplicates
+pub mod Queries
+pub mod Registers
+pub mod Creates
+pub mod Terminates
+pub mod Instances

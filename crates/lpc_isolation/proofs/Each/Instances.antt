@@ -1,0 +1,132 @@
+-- Each service owes what its calls' lines need.
+use Rattle.std.proofs.Common.{◌≡◌, ℕ, List, [], true, false, Option, Some, None}
+use Rattle.std.specs.Prelude.{Ok}
+use Rattle.lpc_base.specs.Rows.{every}
+use Rattle.lpc_model.specs.World.{Birth, ThreadRow, World}
+use Rattle.lpc_model.specs.Found.{free_handle, live_thread, wait_of}
+use Rattle.lpc_model.specs.Basics.{Basic, world_after}
+use Rattle.lpc_model.specs.Connect.{ConnectAnswer, answer_test}
+use Rattle.lpc_model.specs.Tests.{own_handle, port_test}
+use Rattle.lpc_model.specs.Lines.{ScriptCall, accept_connect_port, close, complete_connect_port, connect_port, create_port, duplicate_object, listen_port, query_object, reply_port, reply_wait_receive_port, request_port, request_wait_reply_port, register_thread_terminate_port, create_process, create_thread, terminate_thread, terminate_process}
+use Rattle.lpc_model.specs.Close.{close_steps}
+use Rattle.lpc_model.specs.Counts.{asked, duplicate_steps}
+use Rattle.lpc_model.specs.Death.{terminate_thread_steps, code_status, terminate_process_steps}
+use Rattle.lpc_model.specs.Register.{register_steps}
+use Rattle.lpc_model.specs.Creation.{making_process, making_thread}
+use Rattle.lpc_model.specs.Targets.{process_target, thread_target}
+use Rattle.lpc_model.specs.declared.line.ProcArg.{ProcArg}
+use Rattle.lpc_isolation.proofs.Gone.Served.{served}
+use Rattle.lpc_model.specs.SoundWaits.{IsSoundWorld, HasShutConnects}
+use Rattle.lpc_model.proofs.Calls.Holding.{Holds, holds-more}
+use Rattle.lpc_model.specs.Circle.{Group, Whose, owner}
+use Rattle.lpc_isolation.proofs.Views.Alone.{HasFineRows}
+use Rattle.lpc_isolation.proofs.Views.View.{view}
+use Rattle.lpc_isolation.proofs.Views.Basics.{are_ours}
+use Rattle.lpc_isolation.proofs.Rows.Fair.{Fair}
+use Rattle.lpc_isolation.proofs.Views.Apart.{Owned}
+use Rattle.lpc_isolation.proofs.Views.Callers.{Answered, Led, answered-same, led-same, on_ok}
+use Rattle.lpc_isolation.proofs.Each.Enter.{sound-patient}
+use Rattle.lpc_isolation.proofs.Each.Create.{led_create}
+use Rattle.lpc_isolation.proofs.Each.Reply.{led_reply_port}
+use Rattle.lpc_isolation.proofs.Views.Mine.{Ways}
+use Rattle.lpc_isolation.proofs.Rows.Names.{SeenNames}
+use Rattle.lpc_isolation.proofs.Rows.Bound.{OnceBound}
+use Rattle.lpc_isolation.proofs.Rows.Paths.{Paths}
+use Rattle.lpc_isolation.proofs.Rows.Asked.{Asked}
+use Rattle.lpc_isolation.proofs.Each.Sends.{Caller, led_datagram}
+use Rattle.lpc_isolation.proofs.Each.Requests.{led_request}
+use Rattle.lpc_isolation.proofs.Each.Takes.{is_readable}
+use Rattle.lpc_isolation.proofs.Each.Listens.{led_listen, own_entry}
+use Rattle.lpc_isolation.proofs.Each.Receive.{led_receive}
+use Rattle.lpc_isolation.proofs.Each.Connects.{led_connect}
+use Rattle.lpc_isolation.proofs.Each.Completes.{led_complete}
+use Rattle.lpc_isolation.proofs.Each.Accepts.{led_answer}
+use Rattle.lpc_isolation.proofs.Plays.Lines.{Leads}
+
+-- by its answer alone
+abbrev led_close : World → ThreadRow → ℕ → List Basic
+led_close v by handle = on_ok (own_handle v by handle) (λ r. close_steps by r v)
+
+abbrev led_duplicate : World → ThreadRow → ℕ → Option ℕ → List Basic
+led_duplicate v by handle access = on_ok (own_handle v by handle) (λ r. duplicate_steps by (free_handle v by.process) r (asked r access))
+
+abbrev led_register : World → ThreadRow → ℕ → List Basic
+led_register v by handle = on_ok (port_test v by handle) (λ port. register_steps by port.birth)
+
+abbrev led_thread : World → ThreadRow → ProcArg → ℕ → List Basic
+led_thread v by target tid = on_ok (process_target v by target) (making_thread v by tid)
+
+abbrev led_end : World → ThreadRow → ProcArg → ℕ → List Basic
+led_end v by target code = on_ok (thread_target v by target) (λ t. terminate_thread_steps by (code_status code) t v)
+
+abbrev led_ends : World → ThreadRow → ProcArg → ℕ → List Basic
+led_ends v by target code = on_ok (process_target v by target) (λ pid. terminate_process_steps v by (code_status code) pid v)
+
+-- what a member other than c does in a view, by what it was told; the queue of an outsider's connect is known from before
+abbrev pub leads_by : Group → (List ℕ → Birth) → Leads
+leads_by m known v by (create_port name) e = led_create v by name
+leads_by m known v by (connect_port name info) e = led_connect v by name info
+leads_by m known v by (listen_port handle) e = led_listen m v by handle e
+leads_by m known v by (accept_connect_port context bytes accept) e = led_answer m v by context bytes accept (known bytes)
+leads_by m known v by (complete_connect_port handle) e = led_complete v by handle
+leads_by m known v by (request_port handle bytes) e = led_datagram v by handle bytes
+leads_by m known v by (request_wait_reply_port handle bytes) e = led_request v by handle bytes
+leads_by m known v by (reply_port handle bytes) e = led_reply_port v bytes
+leads_by m known v by (reply_wait_receive_port handle bytes) e = led_receive m v by handle bytes e
+leads_by m known v by (close handle) e = led_close v by handle
+leads_by m known v by (duplicate_object handle access) e = led_duplicate v by handle access
+leads_by m known v by (query_object handle) e = []
+leads_by m known v by (register_thread_terminate_port handle) e = led_register v by handle
+leads_by m known v by (create_process pid tid) e = making_process v by pid tid
+leads_by m known v by (create_thread target tid) e = led_thread v by target tid
+leads_by m known v by (terminate_thread target code) e = led_end v by target code
+leads_by m known v by (terminate_process target code) e = led_ends v by target code
+
+-- what holds where a thread that waits for nothing calls
+pub record At (m : Group) (c : ℕ) (w : World) (by : ThreadRow) (known : List ℕ → Birth) : Type 0 where
+  pub c_in : m c ≡ true
+  pub fair : Fair m c w
+  pub fine : HasFineRows m c w
+  pub sound : IsSoundWorld w
+  pub shut : HasShutConnects w
+  pub owned : Owned w w
+  pub names : SeenNames m w.bindings
+  pub ways : Ways m w
+  pub readable : every is_readable w.messages ≡ true
+  pub bound : OnceBound w.bindings
+  pub paths : Paths w
+  pub asked : Asked w
+  pub live : live_thread w by.number ≡ Some by
+  pub own : owner w by.number ≡ Some by.process
+  pub idle : wait_of w by.number ≡ None
+  pub knows : (bytes : List ℕ) (a : ConnectAnswer) → m by.process ≡ true → answer_test w by bytes ≡ Ok a → m a.wait.process ≡ false → known bytes ≡ a.wait.queue
+
+pub caller : (m : Group) (c : ℕ) (w : World) (by : ThreadRow) (known : List ℕ → Birth) (u : World) → At m c w by known → u.used_threads ≡ w.used_threads → Caller m c u w by
+caller m c w by known u a used = record {
+  c_in = a.c_in;
+  fair = a.fair;
+  fine = a.fine;
+  patient = sound-patient w a.sound.waits;
+  owned = rw used a.owned;
+  here = rw used a.own;
+  own = a.own;
+  idle = a.idle;
+  once = a.sound.once;
+  used = used;
+  names = a.names;
+  sound = a.sound;
+  shut = a.shut;
+  live = a.live;
+  bound = a.bound;
+  paths = a.paths;
+  asked = a.asked;
+}
+
+-- of c: where the view answers as the world does, by members' steps, it changes as the world does
+pub own-same : (m : Group) (c : ℕ) (u : World) (d : Whose) (w : World) (by : ThreadRow) (call : ScriptCall) → served (view m w) by call ≡ served w by call → Holds (λ bs. HasFineRows m c (world_after w bs) → are_ours m w bs ≡ true) (served w by call) → Answered (λ bs led. HasFineRows m c (world_after w bs) → Led m c u d w bs led) (served w by call) (served (view m w) by call)
+own-same m c u d w by call same ours =
+    answered-same (λ bs led. HasFineRows m c (world_after w bs) → Led m c u d w bs led) (served w by call) (served (view m w) by call) same
+    (holds-more (λ bs. HasFineRows m c (world_after w bs) → are_ours m w bs ≡ true) (λ bs. HasFineRows m c (world_after w bs) → Led m c u d w bs bs) (served w by call) (λ bs h fine. led-same m c u d w bs (h fine)) ours)
+
+abbrev pub Leading : Group → ℕ → World → Whose → World → ThreadRow → (List ℕ → Birth) → ScriptCall → List Basic → Type 0
+Leading m c u d w by known call bs = Led m c u d w bs (leads_by m known (view m w) by call (own_entry bs))

@@ -1,0 +1,43 @@
+-- The run of the machine whose rows never go, and the law on it.
+use Rattle.std.specs.Prelude.{◌≡◌, ℕ, true, List, [], ◌∷◌, ◌++◌, map, Option, Some, None}
+use Rattle.lpc_model.specs.World.{World, no_rows}
+use Rattle.lpc_model.specs.Lines.{ScriptLine}
+use Rattle.lpc_isolation.proofs.Gone.Served.{served_step}
+use Rattle.lpc_model.specs.Run.{said_in}
+use Rattle.lpc_model.specs.Circle.{Event, Group, Ran, inputs, is_fine_line, items, line_whose, told_event, members}
+use Rattle.lpc_isolation.proofs.Views.Alone.{HasFineRows, alone}
+
+-- what happens at a line, before rows go
+abbrev pub bare_line_events : World → ScriptLine → List Event
+bare_line_events w line =
+    record { whose = line_whose w line; item = Ran line }
+    ∷ map (told_event (served_step w line).world (line_whose w line)) (served_step w line).entries
+
+-- what happens in a run from a world on
+abbrev pub bare_events : World → List (Option ScriptLine) → List Event
+bare_events w [] = []
+bare_events w (None ∷ later) = bare_events w later
+bare_events w (Some line ∷ later) = bare_line_events w line ++ bare_events (served_step w line).world later
+
+-- the group is a circle of c in such a run
+abbrev pub IsBareCircle : Group → ℕ → World → List (Option ScriptLine) → Type 0
+IsBareCircle group c w [] = HasFineRows group c w
+IsBareCircle group c w (None ∷ later) = IsBareCircle group c w later
+IsBareCircle group c w (Some line ∷ later) =
+    HasFineRows group c w × (is_fine_line group c w line ≡ true) × IsBareCircle group c (served_step w line).world later
+
+-- The law
+-- what happens in the run of a script
+abbrev pub bare_events_of : List ℕ → List Event
+bare_events_of script = bare_events no_rows (said_in script)
+
+abbrev pub IsBareCircleIn : Group → ℕ → List ℕ → Type 0
+IsBareCircleIn group c script = IsBareCircle group c no_rows (said_in script)
+
+-- In two scripts that agree on a process's calls and on its circle's calls and answers, that process is answered alike.
+abbrev pub BareIsolation : Type 0
+BareIsolation =
+    (group : List ℕ) (c : ℕ) (one two : List ℕ) → members group c ≡ true →
+    IsBareCircleIn (members group) c one → IsBareCircleIn (members group) c two →
+    inputs (members group) c (bare_events_of one) ≡ inputs (members group) c (bare_events_of two) →
+    items (alone c) (bare_events_of one) ≡ items (alone c) (bare_events_of two)

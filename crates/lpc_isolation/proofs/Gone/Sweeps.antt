@@ -1,0 +1,222 @@
+-- No run tells when rows go: the machine that sweeps at the end of each line tells what one does whose rows never go.
+use Rattle.lpc_isolation.proofs.Gone.Born.{Born, line-born}
+use Rattle.lpc_isolation.proofs.Gone.Grown.{Grows, IsNew, boot-grows, either, either-closed, grown, next-births, next_births, room-of, thread-grows}
+use Rattle.lpc_isolation.proofs.Calls.Laws.{Room}
+use Rattle.lpc_model.specs.Grammar.{has_ids}
+use Rattle.lpc_isolation.proofs.Calls.Services.{lawful}
+use Rattle.std.proofs.Common.{◌≡◌, ℕ, List, [], ◌∷◌, ◌++◌, true, map, Option, Some, None, refl, ap, sym, subst, ◌∙◌}
+use Rattle.std.specs.Prelude.{Result, Ok, Err}
+use Rattle.lpc_base.proofs.RowMaps.{every-both}
+use Rattle.lpc_model.specs.declared.entry.Entry.{Entry}
+use Rattle.lpc_model.specs.declared.entry.Word.TheVariants as word
+use Rattle.lpc_model.specs.World.{HandleRow, ObjectName, ThreadRow, WaitRow, World}
+use Rattle.lpc_model.specs.Found.{handle_count, live_thread, wait_of}
+use Rattle.lpc_model.specs.Basics.{Basic, Frees, Tells, entries_of, world_after}
+use Rattle.lpc_model.specs.Tests.{own_handle}
+use Rattle.lpc_model.specs.Named.{free_name, spelled_name}
+use Rattle.lpc_model.specs.Lines.{ScriptCall, ScriptLine, boot, dir, link, query_object, run, thread}
+use Rattle.lpc_model.specs.Machine.{bare_step, bare_steps, boot_line, dir_line, link_line, name_of_call, ready_steps, service_of, settled, step, thread_line, thread_steps, thread_test, unused_test}
+use Rattle.lpc_isolation.proofs.Gone.Served.{query_steps, served, served_ready, served_step, served_steps, served_thread}
+use Rattle.lpc_model.specs.Sweep.{sweep}
+use Rattle.lpc_model.specs.SoundWaits.{IsSoundWorld}
+use Rattle.lpc_model.specs.Linked.{HasHeldPorts}
+use Rattle.lpc_model.specs.Counts.{counts_of, nt_query_object}
+use Rattle.lpc_model.specs.Fields.{object_fields}
+use Rattle.lpc_model.specs.Then.{◌>>=◌}
+use Rattle.lpc_base.specs.declared.status.Status.{Status}
+use Rattle.lpc_base.specs.declared.status.TheConstants.{SUCCESS}
+use Rattle.lpc_model.specs.declared.entry.CallName.TheVariants.{NtQueryObject}
+use Rattle.lpc_model.specs.declared.entry.Entry.TheVariants.{Answer}
+use Rattle.lpc_model.proofs.Linked.Lines.{held_step}
+use Rattle.lpc_model.proofs.Calls.Usable.{live-number}
+use Rattle.lpc_isolation.proofs.Views.Seen.{bind-same}
+use Rattle.lpc_isolation.proofs.Rows.Sent.{Sent, are_sent, is_sent_home, run-sent}
+use Rattle.lpc_isolation.proofs.Gone.Held.{Held, held-counts}
+use Rattle.lpc_model.proofs.Calls.Holding.{bind_holds, directed_holds, settled_holds}
+use Rattle.lpc_model.proofs.Held.FreedPort.{sweep-tells}
+use Rattle.lpc_model.proofs.Steps.InTurn.{after-append, entries-append}
+use Rattle.lpc_isolation.proofs.Gone.Thin.{is_live-thin, live-thin, threads-thin, Alive, Behind, Closed, behind-sweep, closed-run, message_closed, thin, thin-run}
+use Rattle.lpc_isolation.proofs.Gone.ThinCalls.{AreClosed, row-thin}
+use Rattle.lpc_isolation.proofs.Rows.Firm.{Firm, firm-line, firm-step}
+
+-- Lines
+ready-thin : (k : Alive) (u : World) (by : ThreadRow) (call : ScriptCall) (o : Option WaitRow) → live_thread u by.number ≡ Some by → Closed k u → served_ready by call o (thin k u) ≡ served_ready by call o u
+ready-thin k u by call (Some x) live c = refl
+ready-thin k u by call None live c = ap (settled by (name_of_call call)) ((lawful call).alike k u by live c)
+
+-- a thread that is found by its number
+own-live : (u : World) (tid : ℕ) (by : ThreadRow) → live_thread u tid ≡ Some by → live_thread u by.number ≡ Some by
+own-live u tid by live = subst (λ n. live_thread u n ≡ Some by) (sym (live-number u tid by live)) live
+
+thread-thin : (k : Alive) (u : World) (tid : ℕ) (call : ScriptCall) (o : Option ThreadRow) → live_thread u tid ≡ o → Closed k u → served_thread tid call o (thin k u) ≡ served_thread tid call o u
+thread-thin k u tid call None live c = refl
+thread-thin k u tid call (Some by) live c = ready-thin k u by call (wait_of u tid) (own-live u tid by live) c
+
+pub line-thin : (k : Alive) (u : World) (line : ScriptLine) → Closed k u → served_steps line (thin k u) ≡ served_steps line u
+unfolding bare_steps boot_line thread_line dir_line link_line
+line-thin k u (thread tid pid) c = rw (is_live-thin k u pid c, threads-thin k u pid c) refl
+line-thin k u (run tid call) c = ap (λ o. served_thread tid call o (thin k u)) (live-thin k u tid c) ∙ thread-thin k u tid call (live_thread u tid) refl c
+line-thin k u b c = refl
+
+ready-closed : (k : Alive) (u : World) (by : ThreadRow) (call : ScriptCall) (o : Option WaitRow) → live_thread u by.number ≡ Some by → IsSoundWorld u → Closed k u → Room k u by call → AreClosed k (served_ready by call o u)
+ready-closed k u by call (Some x) live s c new = refl
+ready-closed k u by call None live s c new = settled_holds (AreClosed k) by (name_of_call call) (served u by call) ((lawful call).stands k u by live s c new) (λ _ _. refl)
+
+-- a line names what is alive, where what its thread makes next is
+run-ready : (k : Alive) (u : World) (tid : ℕ) (call : ScriptCall) (o : Option ThreadRow) → live_thread u tid ≡ o → IsSoundWorld u → Born u → Closed k u → Grows k u (served_thread tid call o u)
+run-ready k u tid call None live s b c = record { alive = k; same = refl; closed = c; names = refl }
+run-ready k u tid call (Some by) live s b c =
+    let own = own-live u tid by live in
+    let n : Alive = next_births u by call in
+    let new : IsNew n u = next-births u by call own s b in
+    grown n k u (served_thread tid call (Some by) u) new c (ready-closed (either n k) u by call (wait_of u tid) own s (either-closed n k u new c) (room-of k u by call))
+
+same-ready : (k : Alive) (u : World) (bs : List Basic) → Closed k u → AreClosed k bs → Grows k u bs
+same-ready k u bs c names = record { alive = k; same = refl; closed = c; names = names }
+
+line-ready : (k : Alive) (u : World) (line : ScriptLine) → IsSoundWorld u → Born u → Closed k u → Grows k u (served_steps line u)
+unfolding bare_steps dir_line link_line
+line-ready k u (boot pid tid) s b c = boot-grows k u pid tid b c
+line-ready k u (thread tid pid) s b c = thread-grows k u tid pid b c
+line-ready k u (dir path) s b c = same-ready k u _ c (directed_holds (AreClosed k) word.Dir (dir_line u path) (bind_holds (free_name u path) _ (AreClosed k) (λ _ _. refl)) (λ _. refl))
+line-ready k u (link path target) s b c = same-ready k u _ c (directed_holds (AreClosed k) word.Link (link_line u path target) (bind_holds (spelled_name target) _ (AreClosed k) (λ _ _. bind_holds (free_name u path) _ (AreClosed k) (λ _ _. refl))) (λ _. refl))
+line-ready k u (run tid call) s b c = run-ready k u tid call (live_thread u tid) refl s b c
+
+-- What a query is told where each row is named by a row
+query-held : (w : World) (by : ThreadRow) (handle : ℕ) → Held w → service_of w by (query_object handle) ≡ served w by (query_object handle)
+unfolding nt_query_object
+query-held w by handle h = bind-same (own_handle w by handle) _ _ (λ r at.
+    ap (λ n. Ok (Tells (Answer by.number NtQueryObject SUCCESS (object_fields r.object.kind r.access (handle_count w r.object) n)) ∷ [])) (sym (held-counts w r.object h)))
+
+call-held : (w : World) (by : ThreadRow) (call : ScriptCall) → Held w → service_of w by call ≡ served w by call
+call-held w by (query_object handle) h = query-held w by handle h
+call-held w by call h = refl
+
+thread-held : (w : World) (tid : ℕ) (call : ScriptCall) (o : Option ThreadRow) → Held w → thread_steps tid call o w ≡ served_thread tid call o w
+thread-held w tid call None h = refl
+thread-held w tid call (Some by) h = at (wait_of w tid)
+  where
+    at : (o : Option WaitRow) → ready_steps by call o w ≡ served_ready by call o w
+    at (Some x) = refl
+    at None = ap (settled by (name_of_call call)) (call-held w by call h)
+
+line-held : (w : World) (line : ScriptLine) → Held w → bare_steps line w ≡ served_steps line w
+unfolding bare_steps
+line-held w (run tid call) h = thread-held w tid call (live_thread w tid) h
+line-held w b h = refl
+
+-- The two machines leave a world alike
+query-world : (u : World) (by : ThreadRow) (handle : ℕ) → world_after u (settled by NtQueryObject (served u by (query_object handle))) ≡ world_after u (settled by NtQueryObject (service_of u by (query_object handle)))
+unfolding nt_query_object
+query-world u by handle = at (own_handle u by handle)
+  where
+    at : (r : Result HandleRow Status) → world_after u (settled by NtQueryObject (r >>= (λ r. Ok (query_steps u by r)))) ≡ world_after u (settled by NtQueryObject (r >>= (λ r. Ok (Tells (Answer by.number NtQueryObject SUCCESS (counts_of u r)) ∷ []))))
+    at (Ok r) = refl
+    at (Err s) = refl
+
+call-world : (u : World) (by : ThreadRow) (call : ScriptCall) → world_after u (settled by (name_of_call call) (served u by call)) ≡ world_after u (settled by (name_of_call call) (service_of u by call))
+call-world u by (query_object handle) = query-world u by handle
+call-world u by call = refl
+
+thread-world : (u : World) (tid : ℕ) (call : ScriptCall) (o : Option ThreadRow) → world_after u (served_thread tid call o u) ≡ world_after u (thread_steps tid call o u)
+thread-world u tid call None = refl
+thread-world u tid call (Some by) = at (wait_of u tid)
+  where
+    at : (o : Option WaitRow) → world_after u (served_ready by call o u) ≡ world_after u (ready_steps by call o u)
+    at (Some x) = refl
+    at None = call-world u by call
+
+served-world : (u : World) (line : ScriptLine) → (served_step u line).world ≡ (bare_step u line).world
+unfolding bare_steps
+served-world u (run tid call) = thread-world u tid call (live_thread u tid)
+served-world u b = refl
+
+pub served-firm : (u : World) (line : ScriptLine) → Firm u → Firm (served_step u line).world
+served-firm u line f = subst Firm (sym (served-world u line)) (firm-line u line f)
+
+-- What a line sends
+thread-sends : (u : World) (tid : ℕ) (call : ScriptCall) (o : Option ThreadRow) → live_thread u tid ≡ o → IsSoundWorld u → are_sent u (served_thread tid call o u) ≡ true
+thread-sends u tid call None live s = refl
+thread-sends u tid call (Some by) live s = at (wait_of u tid)
+  where
+    own : live_thread u by.number ≡ Some by
+    own = own-live u tid by live
+
+    at : (o : Option WaitRow) → are_sent u (served_ready by call o u) ≡ true
+    at (Some x) = refl
+    at None = settled_holds (λ bs. are_sent u bs ≡ true) by (name_of_call call) (served u by call) ((lawful call).sent u by s own) (λ _ _. refl)
+
+line-sends : (u : World) (line : ScriptLine) → IsSoundWorld u → are_sent u (served_steps line u) ≡ true
+unfolding bare_steps boot_line thread_line dir_line link_line
+line-sends u (boot pid tid) s = directed_holds (λ bs. are_sent u bs ≡ true) word.Boot (boot_line u pid tid) (bind_holds (unused_test u pid tid) _ (λ bs. are_sent u bs ≡ true) (λ _ _. refl)) (λ _. refl)
+line-sends u (thread tid pid) s = directed_holds (λ bs. are_sent u bs ≡ true) word.Thread (thread_line u tid pid) (bind_holds (thread_test u tid pid) _ (λ bs. are_sent u bs ≡ true) (λ _ _. refl)) (λ _. refl)
+line-sends u (dir path) s = directed_holds (λ bs. are_sent u bs ≡ true) word.Dir (dir_line u path) (bind_holds (free_name u path) _ (λ bs. are_sent u bs ≡ true) (λ _ _. refl)) (λ _. refl)
+line-sends u (link path target) s = directed_holds (λ bs. are_sent u bs ≡ true) word.Link (link_line u path target) (bind_holds (spelled_name target) _ (λ bs. are_sent u bs ≡ true) (λ _ _. bind_holds (free_name u path) _ (λ bs. are_sent u bs ≡ true) (λ _ _. refl))) (λ _. refl)
+line-sends u (run tid call) s = thread-sends u tid call (live_thread u tid) refl s
+
+-- where rows have gone, a message still was sent on a port that stands
+sent-thin : (k : Alive) (u : World) → Closed k u → Sent u → Sent (thin k u)
+sent-thin k u c sent = every-both (message_closed k) (is_sent_home u) (is_sent_home (thin k u)) (λ x live home. rw (row-thin k u x.sender live) home) u.messages c.messages sent
+
+-- One line, in the two worlds
+-- a world between two lines, and that of the machine whose rows never go
+pub record Sides (w u : World) : Type 0 where
+  pub firm : Firm w
+  pub ports : HasHeldPorts w
+  pub bare : Firm u
+  pub sent : Sent u
+  pub born : Born u
+  pub behind : Behind w u
+
+pub record InStep (w u : World) (line : ScriptLine) : Type 0 where
+  pub same : bare_steps line w ≡ served_steps line u
+  pub sides : Sides (step w line).world (served_step u line).world
+
+pub line-behind : (w u : World) (line : ScriptLine) → has_ids line ≡ true → Sides w u → InStep w u line
+line-behind w u line ids t = record {
+  same = same;
+  sides = record {
+    firm = firm-step w line t.firm;
+    ports = (held_step w line t.firm.sound t.firm.linked).ports;
+    bare = served-firm u line t.bare;
+    sent = run-sent u (served_steps line u) (line-sends u line t.bare.sound) t.sent;
+    born = line-born u line ids t.born;
+    behind = swept;
+  };
+}
+  where
+    r : Behind w u
+    r = t.behind
+
+    ready : Grows r.alive u (served_steps line u)
+    ready = line-ready r.alive u line t.bare.sound t.born r.closed
+
+    here : w ≡ thin ready.alive u
+    here = r.same ∙ ready.same
+
+    held : Held w
+    held = record { linked = t.firm.linked; ports = t.ports; names = t.firm.names; sent = subst Sent (sym r.same) (sent-thin r.alive u r.closed t.sent) }
+
+    same : bare_steps line w ≡ served_steps line u
+    same = line-held w line held ∙ ap (served_steps line) here ∙ line-thin ready.alive u line ready.closed
+
+    bare : Behind (world_after w (bare_steps line w)) (served_step u line).world
+    bare = record {
+      alive = ready.alive;
+      same = ap (λ bs. world_after w bs) same ∙ ap (λ v. world_after v (served_steps line u)) here ∙ sym (thin-run ready.alive u (served_steps line u) ready.names);
+      closed = closed-run ready.alive u (served_steps line u) ready.names ready.closed;
+    }
+
+    swept : Behind (step w line).world (served_step u line).world
+    swept = subst (λ v. Behind v (served_step u line).world) (sym (after-append w (bare_steps line w) (sweep (world_after w (bare_steps line w)))))
+        (let f = firm-line w line t.firm in behind-sweep (world_after w (bare_steps line w)) (served_step u line).world f.sound f.linked bare)
+
+append-none : (es : List Entry) → es ++ [] ≡ es
+append-none [] = refl
+append-none (e ∷ es) = ap (λ es. e ∷ es) (append-none es)
+
+pub entries-same : (w u : World) (line : ScriptLine) → InStep w u line → (step w line).entries ≡ (served_step u line).entries
+entries-same w u line a =
+    entries-append (bare_steps line w) (sweep (world_after w (bare_steps line w)))
+    ∙ ap (λ es. entries_of (bare_steps line w) ++ es) (sweep-tells (world_after w (bare_steps line w)))
+    ∙ append-none (entries_of (bare_steps line w)) ∙ ap entries_of a.same

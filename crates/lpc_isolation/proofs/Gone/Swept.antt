@@ -1,0 +1,166 @@
+-- The law over the machine that sweeps, from the law over the one whose rows never go.
+use Rattle.lpc_isolation.proofs.Calls.Services.{lawful}
+use Rattle.lpc_isolation.proofs.Gone.Fine.{AreFine, FineAfter, run-fine}
+use Rattle.std.proofs.Common.{◌≡◌, ℕ, List, [], ◌∷◌, ◌++◌, Bool, true, false, cond, not, map, Option, Some, None, refl, ap, sym, ◌∙◌, arith}
+use Rattle.std.specs.Prelude.{◌||◌, ◌==◌}
+use Rattle.std.proofs.lemmas.Bool.Decides.{nat_tests}
+use Rattle.lpc_base.specs.Rows.{passes, which}
+use Rattle.lpc_base.proofs.Bools.{first-true, second-true}
+use Rattle.lpc_model.specs.declared.entry.Entry.{Entry}
+use Rattle.lpc_model.specs.declared.entry.Entry.TheVariants as entry
+use Rattle.lpc_model.specs.declared.entry.Word.TheVariants as word
+use Rattle.lpc_model.specs.World.{ThreadRow, WaitRow, World, no_rows}
+use Rattle.lpc_model.specs.Found.{live_thread, wait_of}
+use Rattle.lpc_model.specs.Named.{free_name, spelled_name}
+use Rattle.lpc_model.specs.Lines.{ScriptCall, ScriptLine, accept_connect_port, boot, complete_connect_port, connect_port, create_port, dir, link, listen_port, reply_port, reply_wait_receive_port, request_port, request_wait_reply_port, run, thread}
+use Rattle.lpc_model.specs.Grammar.{has_ids}
+use Rattle.lpc_isolation.proofs.Gone.Born.{born_none}
+use Rattle.lpc_isolation.proofs.Rows.Ids.{script-says}
+use Rattle.lpc_isolation.proofs.Plays.Play.{are_ok}
+use Rattle.lpc_model.specs.Machine.{bare_steps, boot_line, dir_line, link_line, name_of_call, step, thread_line, thread_test, unused_test}
+use Rattle.lpc_isolation.proofs.Gone.Served.{served, served_ready, served_step, served_steps, served_thread}
+use Rattle.lpc_model.specs.Run.{Along, said_in, world_behind}
+use Rattle.lpc_model.specs.Circle.{Event, Everyone, Group, IsCircleIn, IsFineAt, IsFineWorld, Isolation, Nobody, Of, Ran, Told, Whose, entry_whose, events, inputs, is_fine_call, is_fine_line, is_item, is_seen, item_of, items, line_events, line_whose, members, owner, told_event}
+use Rattle.lpc_isolation.proofs.Views.Alone.{HasFineRows, alone}
+use Rattle.lpc_isolation.proofs.Gone.Bare.{BareIsolation, IsBareCircle, bare_events, bare_line_events}
+use Rattle.lpc_model.proofs.Calls.Holding.{bind_holds, directed_holds, settled_holds}
+use Rattle.lpc_model.proofs.Calls.Usable.{live-number}
+use Rattle.lpc_isolation.proofs.Plays.BareLaw.{bare-isolation}
+use Rattle.lpc_isolation.proofs.Gone.Thin.{Alive, Behind, thin}
+use Rattle.lpc_isolation.proofs.Gone.Sweeps.{InStep, Sides, entries-same, line-behind}
+use Rattle.lpc_isolation.proofs.Rows.Firm.{firm_none}
+
+-- What happens is the same
+map-same : {X Y : Type 0} (f g : X → Y) → ((x : X) → f x ≡ g x) → (xs : List X) → map f xs ≡ map g xs
+map-same f g same [] = refl
+map-same f g same (x ∷ xs) = rw (same x, map-same f g same xs) refl
+
+whose-thin : (k : Alive) (u : World) (line : ScriptLine) → line_whose (thin k u) line ≡ line_whose u line
+whose-thin k u (boot pid tid) = refl
+whose-thin k u (thread tid pid) = refl
+whose-thin k u (dir path) = refl
+whose-thin k u (link path target) = refl
+whose-thin k u (run tid call) = refl
+
+entry-thin : (k : Alive) (u : World) (d : Whose) (e : Entry) → entry_whose (thin k u) d e ≡ entry_whose u d e
+entry-thin k u d (entry.Answer tid call status fields) = refl
+entry-thin k u d (entry.Waits tid call fields) = refl
+entry-thin k u d (entry.Wakes tid call status fields) = refl
+entry-thin k u d (entry.Busy tid) = refl
+entry-thin k u d (entry.NoThread tid) = refl
+entry-thin k u d (entry.Died tid status) = refl
+entry-thin k u d (entry.Directive word status) = refl
+
+line-same : (w u : World) (line : ScriptLine) → Behind w u → InStep w u line → line_events w line ≡ bare_line_events u line
+line-same w u line r a =
+    let whose : line_whose w line ≡ line_whose u line = ap (λ v. line_whose v line) r.same ∙ whose-thin r.alive u line in
+    let told : (e : Entry) → told_event (step w line).world (line_whose u line) e ≡ told_event (served_step u line).world (line_whose u line) e
+    = λ e. ap (λ x. record { whose = x; item = Told e }) (ap (λ v. entry_whose v (line_whose u line) e) a.sides.behind.same ∙ entry-thin a.sides.behind.alive (served_step u line).world (line_whose u line) e) in
+    ap (λ d. record { whose = d; item = Ran line } ∷ map (told_event (step w line).world d) (step w line).entries) whose
+    ∙ ap (λ es. record { whose = line_whose u line; item = Ran line } ∷ map (told_event (step w line).world (line_whose u line)) es) (entries-same w u line a)
+    ∙ ap (λ es. record { whose = line_whose u line; item = Ran line } ∷ es) (map-same (told_event (step w line).world (line_whose u line)) (told_event (served_step u line).world (line_whose u line)) told (served_step u line).entries)
+
+pub events-same : (w u : World) (lines : List (Option ScriptLine)) → are_ok has_ids lines ≡ true → Sides w u → events w lines ≡ bare_events u lines
+events-same w u [] ids t = refl
+events-same w u (None ∷ later) ids t = events-same w u later ids t
+events-same w u (Some line ∷ later) ids t =
+    let a = line-behind w u line (first-true _ _ ids) t in
+    ap (λ es. es ++ events (step w line).world later) (line-same w u line t.behind a)
+    ∙ ap (λ es. bare_line_events u line ++ es) (events-same (step w line).world (served_step u line).world later (second-true _ _ ids) a.sides)
+
+-- of each line
+ready-fine : (m : Group) (c : ℕ) (after u : World) (by : ThreadRow) (call : ScriptCall) (o : Option WaitRow) → wait_of u by.number ≡ o → HasFineRows m c after → FineAfter m c after u (served_ready by call o u)
+ready-fine m c after u by call (Some x) is f = λ _. refl
+ready-fine m c after u by call None idle f = settled_holds (FineAfter m c after u) by (name_of_call call) (served u by call) ((lawful call).fine m c after u by idle f) (λ _ _ _. refl)
+
+thread-fine : (m : Group) (c : ℕ) (after u : World) (tid : ℕ) (call : ScriptCall) (o : Option ThreadRow) → live_thread u tid ≡ o → HasFineRows m c after → FineAfter m c after u (served_thread tid call o u)
+thread-fine m c after u tid call None live f = λ _. refl
+thread-fine m c after u tid call (Some by) live f = ready-fine m c after u by call (wait_of u tid) (ap (wait_of u) (live-number u tid by live)) f
+
+line-fine : (m : Group) (c : ℕ) (after u : World) (line : ScriptLine) → HasFineRows m c after → FineAfter m c after u (served_steps line u)
+unfolding bare_steps boot_line thread_line dir_line link_line
+line-fine m c after u (boot pid tid) f = λ _. directed_holds (AreFine m c) word.Boot (boot_line u pid tid) (bind_holds (unused_test u pid tid) _ (AreFine m c) (λ _ _. refl)) (λ _. refl)
+line-fine m c after u (thread tid pid) f = λ _. directed_holds (AreFine m c) word.Thread (thread_line u tid pid) (bind_holds (thread_test u tid pid) _ (AreFine m c) (λ _ _. refl)) (λ _. refl)
+line-fine m c after u (dir path) f = λ _. directed_holds (AreFine m c) word.Dir (dir_line u path) (bind_holds (free_name u path) _ (AreFine m c) (λ _ _. refl)) (λ _. refl)
+line-fine m c after u (link path target) f = λ _. directed_holds (AreFine m c) word.Link (link_line u path target) (bind_holds (spelled_name target) _ (AreFine m c) (λ _ _. bind_holds (free_name u path) _ (AreFine m c) (λ _ _. refl))) (λ _. refl)
+line-fine m c after u (run tid call) f = thread-fine m c after u tid call (live_thread u tid) refl f
+
+-- The circle is one in the run whose rows never go
+call-inside : (m : Group) (k : Alive) (u : World) (call : ScriptCall) → is_fine_call m (thin k u) call ≡ is_fine_call m u call
+call-inside m k u (create_port None) = refl
+call-inside m k u (create_port (Some name)) = refl
+call-inside m k u (connect_port name info) = refl
+call-inside m k u (listen_port handle) = refl
+call-inside m k u (accept_connect_port context message accept) = refl
+call-inside m k u (complete_connect_port handle) = refl
+call-inside m k u (request_port handle message) = refl
+call-inside m k u (request_wait_reply_port handle message) = refl
+call-inside m k u (reply_port handle message) = refl
+call-inside m k u (reply_wait_receive_port handle None) = refl
+call-inside m k u (reply_wait_receive_port handle (Some message)) = refl
+call-inside m k u call = refl
+
+line-inside : (m : Group) (c : ℕ) (k : Alive) (u : World) (line : ScriptLine) → is_fine_line m c (thin k u) line ≡ is_fine_line m c u line
+line-inside m c k u (run tid call) = ap (λ b. not (passes (owner u tid) (λ p. p == c)) || b) (call-inside m k u call)
+line-inside m c k u b = refl
+
+first-fine : (m : Group) (c : ℕ) (w : World) (lines : List (Option ScriptLine)) → Along (IsFineAt m c) w lines → IsFineWorld m c (world_behind w lines) → HasFineRows m c w
+unfolding world_behind
+first-fine m c w [] along last = (last.processes, last.ports)
+first-fine m c w (None ∷ later) along last = first-fine m c w later along last
+first-fine m c w (Some line ∷ later) along last = (along.0.0.processes, along.0.0.ports)
+
+circle-same : (m : Group) (c : ℕ) (w u : World) (lines : List (Option ScriptLine)) → are_ok has_ids lines ≡ true → Sides w u → HasFineRows m c u → Along (IsFineAt m c) w lines → IsFineWorld m c (world_behind w lines) → IsBareCircle m c u lines
+unfolding world_behind
+circle-same m c w u [] ids t fine along last = fine
+circle-same m c w u (None ∷ later) ids t fine along last = circle-same m c w u later ids t fine along last
+circle-same m c w u (Some line ∷ later) ids t fine along last =
+    let r = t.behind in
+    let a = line-behind w u line (first-true _ _ ids) t in
+    let next : HasFineRows m c (step w line).world = first-fine m c (step w line).world later along.1 last in
+    let after : HasFineRows m c (served_step u line).world = run-fine m c u (served_steps line u) (line-fine m c (step w line).world u line next a.sides.behind) fine in (
+      fine,
+      sym (line-inside m c r.alive u line) ∙ sym (ap (λ v. is_fine_line m c v line) r.same) ∙ along.0.1,
+      circle-same m c (step w line).world (served_step u line).world later (second-true _ _ ids) a.sides after along.1 last,
+    )
+
+-- The law
+behind_none : Behind no_rows no_rows
+behind_none = record { alive = record { ports = λ b. true; processes = λ b. true; threads = λ b. true; homes = λ n. true }; same = refl; closed = record { tables = refl; ports = refl; messages = refl; waits = refl; registrations = refl; cuts = refl; threads = refl; processes = refl } }
+
+sides_none : Sides no_rows no_rows
+sides_none = record { firm = firm_none; ports = refl; bare = firm_none; sent = refl; born = born_none; behind = behind_none }
+
+-- the items of a list of one process are those of that process alone
+one-member : (c pid : ℕ) → members (c ∷ []) pid ≡ alone c pid
+one-member c pid = grind (arith, nat_tests)
+
+items-same : (m k : Group) → ((pid : ℕ) → m pid ≡ k pid) → (es : List Event) → items m es ≡ items k es
+items-same m k same [] = refl
+items-same m k same (e ∷ es) = at (is_item m e) (is_item k e) (seen e.whose) (items-same m k same es)
+  where
+    seen : (w : Whose) → is_seen m w ≡ is_seen k w
+    seen (Of pid) = same pid
+    seen Everyone = refl
+    seen Nobody = refl
+
+    at : (a b : Bool) → a ≡ b → items m es ≡ items k es → map item_of (cond a (e ∷ which (is_item m) es) (which (is_item m) es)) ≡ map item_of (cond b (e ∷ which (is_item k) es) (which (is_item k) es))
+    at true true is rest = ap (λ is. item_of e ∷ is) rest
+    at true false is rest = absurd (cc)
+    at false true is rest = absurd (cc)
+    at false false is rest = rest
+
+isolation_from : BareIsolation → Isolation
+isolation_from bare group c one two circle_one circle_two same =
+    let m : Group = members group in
+    let first_run : events no_rows (said_in one) ≡ bare_events no_rows (said_in one) = events-same no_rows no_rows (said_in one) (script-says one) sides_none in
+    let second_run : events no_rows (said_in two) ≡ bare_events no_rows (said_in two) = events-same no_rows no_rows (said_in two) (script-says two) sides_none in
+    let inside : (script : List ℕ) → IsCircleIn group c script → IsBareCircle m c no_rows (said_in script) = λ script circle. circle-same m c no_rows no_rows (said_in script) (script-says script) sides_none (refl, refl) circle.1.0 circle.1.1 in
+    items-same (members (c ∷ [])) (alone c) (one-member c) (events no_rows (said_in one))
+    ∙ ap (items (alone c)) first_run
+    ∙ bare group c one two circle_one.0 (inside one circle_one) (inside two circle_two) (sym (ap (inputs m c) first_run) ∙ same ∙ ap (inputs m c) second_run)
+    ∙ sym (ap (items (alone c)) second_run)
+    ∙ sym (items-same (members (c ∷ [])) (alone c) (one-member c) (events no_rows (said_in two)))
+
+pub isolation_law : Isolation
+isolation_law = isolation_from bare-isolation

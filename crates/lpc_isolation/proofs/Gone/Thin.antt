@@ -1,0 +1,514 @@
+-- A world without some rows that no other row names: what each basic step and the sweep do to it.
+use Rattle.std.proofs.Common.{◌≡◌, ◌≤◌, ℕ, List, [], ◌∷◌, ◌++◌, Bool, true, false, not, map, Option, Some, None, refl, ap, sym, subst, ◌∙◌, arith}
+use Rattle.std.specs.Prelude.{◌&&◌, ◌||◌, ◌+◌, ◌==◌, nat_lt, is_some}
+use Rattle.std.proofs.lemmas.Bool.{and_from, eqb-true, not-true, or_left}
+use Rattle.lpc_base.specs.Rows.{count, each, every, has, which, without, first}
+use Rattle.lpc_base.proofs.RowWords.{every-back, every-change, every-front, every-more, every-push, every-which, every-without, first-passes}
+use Rattle.lpc_base.proofs.RowMaps.{every-both, every-first, every-mapped, every-without_first}
+use Rattle.lpc_base.proofs.Bools.{apart-second, first-true, same-number, second-true}
+use Rattle.lpc_base.proofs.Births.{birth-same, births-apart}
+use Rattle.lpc_model.specs.declared.entry.ObjectKind.{ObjectKind}
+use Rattle.lpc_model.specs.declared.entry.ObjectKind.TheVariants as kind
+use Rattle.lpc_model.specs.World.{Birth, HandleRow, HandleTable, MessageRow, ObjectName, PortRow, ProcessRow, ThreadRow, WaitRow, World}
+use Rattle.lpc_model.specs.Found.{all_handles, handle_count, has_value, is_connected_to, is_cut, is_life, is_made_on, is_own_of, is_paired_to, is_port, is_queued, is_sent_on, is_table, is_the, is_thread, holders, lives_by, port_name, process_name, same_birth, same_kind, same_object, thread_name, waits_as, waits_at, all_registrations, registered_by, live_thread, live_threads, is_live, is_live_thread, lives_in}
+use Rattle.lpc_model.specs.Basics.{Accepts, AddsHandle, AddsProcess, AddsThread, Awaits, Basic, Binds, Completes, Cuts, DrawsIdentifier, DrawsOrdinal, DropsHandle, Empties, Enters, Frees, Joins, Makes, Receives, Takes, TakesConnect, Tells, Unbinds, Wakes, Withdraws, accepted, basic, completed, cut, freed, is_end_of, joined, no_handles, past_identifier, past_ordinal, received, with_handle, without_handle, world_after, Dies, Registers, Unregisters, ended, registering, unregistering}
+use Rattle.lpc_model.specs.Sweep.{free_unheld, is_unheld, sweep, unheld}
+use Rattle.lpc_model.specs.SoundWaits.{IsSoundWorld}
+use Rattle.lpc_model.specs.Linked.{IsLinked}
+use Rattle.lpc_model.proofs.Linked.Joins.{gone-linked}
+use Rattle.lpc_model.proofs.Held.Ports.{lonely}
+use Rattle.lpc_model.proofs.Sound.Frees.{freed-sound, is-zero, less-held, none-pass, sum-first, sum-second, which-all}
+use Rattle.lpc_model.proofs.Steps.Registrations.{all-pushed, all-changed, registering-all, unregistering-all}
+use Rattle.lpc_message.specs.declared.message.ClientId.{ClientId}
+use Rattle.lpc_model.specs.Tests.{client_test}
+use Rattle.lpc_model.proofs.Steps.Rows.{has-off}
+use Rattle.lpc_model.proofs.Steps.InTurn.{after-append}
+use Rattle.lpc_isolation.proofs.Views.Filters.{first-where, has-inside, kept-change, kept-push, which-where}
+
+-- the births of the ports, processes and threads that stand, and the numbers of processes that stand while they live
+pub record Alive : Type 0 where
+  pub ports : Birth → Bool
+  pub processes : Birth → Bool
+  pub threads : Birth → Bool
+  pub homes : ℕ → Bool
+
+abbrev pub port_alive : Alive → PortRow → Bool
+port_alive k p = k.ports p.birth
+
+abbrev pub process_alive : Alive → ProcessRow → Bool
+process_alive k p = k.processes p.birth
+
+abbrev pub thread_alive : Alive → ThreadRow → Bool
+thread_alive k t = k.threads t.birth
+
+-- the world without the others' rows
+abbrev pub thin : Alive → World → World
+thin k u = record u { processes = which (process_alive k) u.processes; threads = which (thread_alive k) u.threads; ports = which (port_alive k) u.ports }
+
+-- what a row names is alive
+abbrev pub all_alive : (Birth → Bool) → Option Birth → Bool
+all_alive f None = true
+all_alive f (Some b) = f b
+
+abbrev pub alive_as : Alive → ObjectKind → Birth → Bool
+alive_as k kind.Port b = k.ports b
+alive_as k kind.Section b = false
+alive_as k kind.Token b = false
+alive_as k kind.Process b = k.processes b
+alive_as k kind.Thread b = k.threads b
+
+abbrev pub object_alive : Alive → ObjectName → Bool
+object_alive k o = alive_as k o.kind o.birth
+
+abbrev pub handle_closed : Alive → HandleRow → Bool
+handle_closed k h = object_alive k h.object
+
+abbrev pub table_closed : Alive → HandleTable → Bool
+table_closed k t = every (handle_closed k) t.rows
+
+abbrev pub port_closed : Alive → PortRow → Bool
+port_closed k p = not (k.ports p.birth) || (all_alive k.ports p.pair && all_alive k.ports p.connection)
+
+abbrev pub message_closed : Alive → MessageRow → Bool
+message_closed k x = k.ports x.sender
+
+abbrev pub wait_closed : Alive → WaitRow → Bool
+wait_closed k x = k.ports x.port
+
+-- a port that a handle names is alive
+kind-live : (k : Alive) (s : ObjectKind) (b : Birth) → alive_as k s b ≡ true → same_kind s kind.Port ≡ true → k.ports b ≡ true
+kind-live k kind.Port b live port = live
+kind-live k e b live port = absurd (cc)
+
+pub port-live : (k : Alive) (o : ObjectName) → object_alive k o ≡ true → same_kind o.kind kind.Port ≡ true → k.ports o.birth ≡ true
+port-live k o live port = kind-live k o.kind o.birth live port
+
+-- a thread that lives stands, and so does its process, by each row of its number
+abbrev pub thread_closed : Alive → ThreadRow → Bool
+thread_closed k t = not t.live || (k.threads t.birth && k.homes t.process)
+
+abbrev pub process_closed : Alive → ProcessRow → Bool
+process_closed k p = not (k.homes p.number) || k.processes p.birth
+
+-- a port that has gone has no other end
+abbrev pub port_cut : Alive → PortRow → Bool
+port_cut k p = k.ports p.birth || is_cut p
+
+-- what the rows that stand name, stands, and so do what live threads registered, and the threads and processes that live
+pub record Closed (k : Alive) (u : World) : Type 0 where
+  pub tables : every (table_closed k) u.handles ≡ true
+  pub ports : every (port_closed k) u.ports ≡ true
+  pub messages : every (message_closed k) u.messages ≡ true
+  pub waits : every (wait_closed k) u.waits ≡ true
+  pub registrations : every k.ports (all_registrations u) ≡ true
+  pub cuts : every (port_cut k) u.ports ≡ true
+  pub threads : every (thread_closed k) u.threads ≡ true
+  pub processes : every (process_closed k) u.processes ≡ true
+
+-- a step that names what is alive alone
+abbrev pub is_closed : Alive → Basic → Bool
+is_closed k (Awaits x) = wait_closed k x
+is_closed k (Enters x) = message_closed k x
+is_closed k (Makes p) = k.ports p.birth && port_closed k p
+is_closed k (Joins client server context) = k.ports client && k.ports server
+is_closed k (Binds path node) = true
+is_closed k (AddsHandle pid h) = handle_closed k h
+is_closed k (Tells e) = true
+is_closed k (Wakes who call status fields) = true
+is_closed k (Receives who q) = true
+is_closed k (Accepts who reply) = true
+is_closed k (Takes q) = true
+is_closed k (TakesConnect q) = true
+is_closed k (DrawsIdentifier who) = true
+is_closed k (DrawsOrdinal who) = true
+is_closed k (Dies who status) = true
+is_closed k (Registers who b) = k.ports b
+is_closed k (Unregisters who b) = true
+is_closed k (AddsProcess p) = k.processes p.birth
+is_closed k (AddsThread t) = k.threads t.birth && (thread_closed k t && every k.ports (registered_by t))
+is_closed k (Completes b) = true
+is_closed k (Withdraws who) = true
+is_closed k (Frees o) = false
+is_closed k (Empties q) = true
+is_closed k (Cuts b) = true
+is_closed k (Unbinds b) = true
+is_closed k (DropsHandle pid value) = true
+
+-- Lists
+which-map : {X : Type 0} (k : X → Bool) (f : X → X) → ((x : X) → k (f x) ≡ k x) → (xs : List X) → which k (map f xs) ≡ map f (which k xs)
+which-map k f same [] = refl
+which-map k f same (x ∷ xs) = grind (arith, same x, which-map k f same xs)
+
+which-but : {X : Type 0} (k t : X → Bool) (xs : List X) → which (λ x. k x && not (t x)) xs ≡ without t (which k xs)
+which-but k t [] = refl
+which-but k t (x ∷ xs) = grind (arith, which-but k t xs)
+
+every-two : {X : Type 0} (p : X → Bool) (xs : List X) (y : X) (ys : List X) → every p xs ≡ true → p y ≡ true → every p ys ≡ true → every p (xs ++ y ∷ ys) ≡ true
+every-two p [] y ys one here two = and_from _ _ here two
+every-two p (x ∷ xs) y ys one here two = and_from _ _ (first-true _ _ one) (every-two p xs y ys (second-true _ _ one) here two)
+
+none-which : {X : Type 0} (k t : X → Bool) (xs : List X) → has t (which k xs) ≡ false → every (λ x. not (k x) || not (t x)) xs ≡ true
+none-which k t [] none = refl
+none-which k t (x ∷ xs) none = grind (arith, none-which k t xs)
+
+-- Basic steps
+joined-alive : (k : Alive) (client server : Birth) (context : ℕ) (p : PortRow) → port_alive k (joined client server context p) ≡ port_alive k p
+joined-alive k client server context p = at (is_port client p) (is_port server p) refl refl
+  where
+    at : (a b : Bool) → is_port client p ≡ a → is_port server p ≡ b → port_alive k (joined client server context p) ≡ port_alive k p
+    at true b is it = rw is refl
+    at false true is it = rw (is, it) refl
+    at false false is it = rw (is, it) refl
+
+pub thin-basic : (k : Alive) (u : World) (b : Basic) → is_closed k b ≡ true → thin k (basic u b) ≡ basic (thin k u) b
+thin-basic k u (Makes p) ok = rw (kept-push (port_alive k) u.ports p (first-true _ _ ok)) refl
+thin-basic k u (Joins client server context) ok = rw (which-map (port_alive k) (joined client server context) (joined-alive k client server context) u.ports) refl
+thin-basic k u (Completes b) ok = rw (kept-change (port_alive k) (is_port b) completed (λ p. refl) u.ports) refl
+thin-basic k u (Frees o) ok = absurd (cc)
+thin-basic k u (Cuts b) ok = rw (kept-change (port_alive k) (is_end_of b) cut (λ p. refl) u.ports) refl
+thin-basic k u (DrawsIdentifier who) ok = rw (kept-change (thread_alive k) (is_thread who) past_identifier (λ t. refl) u.threads) refl
+thin-basic k u (DrawsOrdinal who) ok = rw (kept-change (thread_alive k) (is_thread who) past_ordinal (λ t. refl) u.threads) refl
+thin-basic k u (Dies who status) ok = rw (kept-change (thread_alive k) (is_thread who) ended (λ t. refl) u.threads) refl
+thin-basic k u (Registers who b) ok = rw (kept-change (thread_alive k) (is_thread who) (registering b) (λ t. refl) u.threads) refl
+thin-basic k u (Unregisters who b) ok = rw (kept-change (thread_alive k) (is_thread who) (unregistering b) (λ t. refl) u.threads) refl
+thin-basic k u (AddsProcess p) ok = rw (kept-push (process_alive k) u.processes p ok) refl
+thin-basic k u (AddsThread t) ok = rw (kept-push (thread_alive k) u.threads t (first-true _ _ ok)) refl
+thin-basic k u b ok = refl
+
+put-closed : (k : Alive) (h : HandleRow) (t : HandleTable) → handle_closed k h ≡ true → table_closed k t ≡ true → table_closed k (with_handle h t) ≡ true
+put-closed k h t ok all =
+    every-two (handle_closed k) (which (λ r. nat_lt r.value h.value) t.rows) h (which (λ r. nat_lt h.value r.value) t.rows)
+    (every-which (handle_closed k) (λ r. nat_lt r.value h.value) t.rows all) ok (every-which (handle_closed k) (λ r. nat_lt h.value r.value) t.rows all)
+
+joined-closed : (k : Alive) (client server : Birth) (context : ℕ) → k.ports client ≡ true → k.ports server ≡ true → (p : PortRow) → port_closed k p ≡ true → port_closed k (joined client server context p) ≡ true
+joined-closed k client server context one two p ok = at (is_port client p) (is_port server p) refl refl
+  where
+    at : (a b : Bool) → is_port client p ≡ a → is_port server p ≡ b → port_closed k (joined client server context p) ≡ true
+    at true b is it = rw (is, two) (grind arith)
+    at false true is it = rw (is, it, one) (grind arith)
+    at false false is it = rw (is, it) ok
+
+joined-cut : (k : Alive) (client server : Birth) (context : ℕ) → k.ports client ≡ true → k.ports server ≡ true → (p : PortRow) → port_cut k p ≡ true → port_cut k (joined client server context p) ≡ true
+joined-cut k client server context one two p ok = at (is_port client p) (is_port server p) refl refl
+  where
+    at : (a b : Bool) → is_port client p ≡ a → is_port server p ≡ b → port_cut k (joined client server context p) ≡ true
+    at true b is it = rw (is, ap k.ports (birth-same p.birth client is) ∙ one) refl
+    at false true is it = rw (is, it, ap k.ports (birth-same p.birth server it) ∙ two) refl
+    at false false is it = rw (is, it) ok
+
+or-last : (a : Bool) {b : Bool} → b ≡ true → (a || b) ≡ true
+or-last a is = grind arith
+
+pub keeps-closed : (k : Alive) (u : World) (b : Basic) → is_closed k b ≡ true → Closed k u → Closed k (basic u b)
+keeps-closed k u (Awaits x) ok c = record { tables = c.tables; ports = c.ports; messages = c.messages; waits = every-push (wait_closed k) u.waits x c.waits ok; registrations = c.registrations; cuts = c.cuts; threads = c.threads; processes = c.processes }
+keeps-closed k u (Enters x) ok c = record { tables = c.tables; ports = c.ports; messages = every-push (message_closed k) u.messages x c.messages ok; waits = c.waits; registrations = c.registrations; cuts = c.cuts; threads = c.threads; processes = c.processes }
+keeps-closed k u (Makes p) ok c = record { tables = c.tables; ports = every-push (port_closed k) u.ports p c.ports (second-true _ _ ok); messages = c.messages; waits = c.waits; registrations = c.registrations; cuts = every-push (port_cut k) u.ports p c.cuts (or_left (k.ports p.birth) (is_cut p) (first-true _ _ ok)); threads = c.threads; processes = c.processes }
+keeps-closed k u (Joins client server context) ok c = record { tables = c.tables; ports = every-mapped (port_closed k) (joined client server context) (joined-closed k client server context (first-true _ _ ok) (second-true _ _ ok)) u.ports c.ports; messages = c.messages; waits = c.waits; registrations = c.registrations; cuts = every-mapped (port_cut k) (joined client server context) (joined-cut k client server context (first-true _ _ ok) (second-true _ _ ok)) u.ports c.cuts; threads = c.threads; processes = c.processes }
+keeps-closed k u (Binds path node) ok c = record { tables = c.tables; ports = c.ports; messages = c.messages; waits = c.waits; registrations = c.registrations; cuts = c.cuts; threads = c.threads; processes = c.processes }
+keeps-closed k u (AddsHandle pid h) ok c = record { tables = every-change (table_closed k) (is_table pid) (with_handle h) (λ t all. put-closed k h t ok all) u.handles c.tables; ports = c.ports; messages = c.messages; waits = c.waits; registrations = c.registrations; cuts = c.cuts; threads = c.threads; processes = c.processes }
+keeps-closed k u (Empties q) ok c = record { tables = c.tables; ports = c.ports; messages = every-without (message_closed k) (is_queued q) u.messages c.messages; waits = c.waits; registrations = c.registrations; cuts = c.cuts; threads = c.threads; processes = c.processes }
+keeps-closed k u (Cuts b) ok c = record { tables = c.tables; ports = every-change (port_closed k) (is_end_of b) cut (λ p is. grind arith) u.ports c.ports; messages = c.messages; waits = c.waits; registrations = c.registrations; cuts = every-change (port_cut k) (is_end_of b) cut (λ p is. grind arith) u.ports c.cuts; threads = c.threads; processes = c.processes }
+keeps-closed k u (Unbinds b) ok c = record { tables = c.tables; ports = c.ports; messages = c.messages; waits = c.waits; registrations = c.registrations; cuts = c.cuts; threads = c.threads; processes = c.processes }
+keeps-closed k u (DropsHandle pid value) ok c = record { tables = every-change (table_closed k) (is_table pid) (without_handle value) (λ t all. every-without_first (handle_closed k) (has_value value) t.rows all) u.handles c.tables; ports = c.ports; messages = c.messages; waits = c.waits; registrations = c.registrations; cuts = c.cuts; threads = c.threads; processes = c.processes }
+keeps-closed k u (AddsProcess p) ok c = record { tables = every-push (table_closed k) u.handles (no_handles p.number) c.tables refl; ports = c.ports; messages = c.messages; waits = c.waits; registrations = c.registrations; cuts = c.cuts; threads = c.threads; processes = every-push (process_closed k) u.processes p c.processes (or-last (not (k.homes p.number)) ok) }
+keeps-closed k u (AddsThread t) ok c = record { tables = c.tables; ports = c.ports; messages = c.messages; waits = c.waits; registrations = all-pushed k.ports u.threads t (second-true (thread_closed k t) _ (second-true (k.threads t.birth) _ ok)) c.registrations; cuts = c.cuts; threads = every-push (thread_closed k) u.threads t c.threads (first-true _ _ (second-true (k.threads t.birth) _ ok)); processes = c.processes }
+keeps-closed k u (Wakes who call status fields) ok c = record { tables = c.tables; ports = c.ports; messages = c.messages; waits = every-without (wait_closed k) (waits_as who) u.waits c.waits; registrations = c.registrations; cuts = c.cuts; threads = c.threads; processes = c.processes }
+keeps-closed k u (Receives who q) ok c = record { tables = c.tables; ports = c.ports; messages = c.messages; waits = every-change (wait_closed k) (waits_at who q) received (λ x is. is) u.waits c.waits; registrations = c.registrations; cuts = c.cuts; threads = c.threads; processes = c.processes }
+keeps-closed k u (Accepts who reply) ok c = record { tables = c.tables; ports = c.ports; messages = c.messages; waits = every-change (wait_closed k) (waits_as who) (accepted reply) (λ x is. is) u.waits c.waits; registrations = c.registrations; cuts = c.cuts; threads = c.threads; processes = c.processes }
+keeps-closed k u (Takes q) ok c = record { tables = c.tables; ports = c.ports; messages = every-without_first (message_closed k) _ u.messages c.messages; waits = c.waits; registrations = c.registrations; cuts = c.cuts; threads = c.threads; processes = c.processes }
+keeps-closed k u (TakesConnect q) ok c = record { tables = c.tables; ports = c.ports; messages = every-without_first (message_closed k) _ u.messages c.messages; waits = c.waits; registrations = c.registrations; cuts = c.cuts; threads = c.threads; processes = c.processes }
+keeps-closed k u (Withdraws who) ok c = record { tables = c.tables; ports = c.ports; messages = every-without (message_closed k) (is_own_of who) u.messages c.messages; waits = c.waits; registrations = c.registrations; cuts = c.cuts; threads = c.threads; processes = c.processes }
+keeps-closed k u (Completes b) ok c = record { tables = c.tables; ports = every-change (port_closed k) (is_port b) completed (λ p is. is) u.ports c.ports; messages = c.messages; waits = c.waits; registrations = c.registrations; cuts = every-change (port_cut k) (is_port b) completed (λ p is. is) u.ports c.cuts; threads = c.threads; processes = c.processes }
+keeps-closed k u (DrawsIdentifier who) ok c = record { tables = c.tables; ports = c.ports; messages = c.messages; waits = c.waits; registrations = all-changed k.ports (is_thread who) past_identifier (λ t is. is) u.threads c.registrations; cuts = c.cuts; threads = every-change (thread_closed k) (is_thread who) past_identifier (λ t is. is) u.threads c.threads; processes = c.processes }
+keeps-closed k u (DrawsOrdinal who) ok c = record { tables = c.tables; ports = c.ports; messages = c.messages; waits = c.waits; registrations = all-changed k.ports (is_thread who) past_ordinal (λ t is. is) u.threads c.registrations; cuts = c.cuts; threads = every-change (thread_closed k) (is_thread who) past_ordinal (λ t is. is) u.threads c.threads; processes = c.processes }
+keeps-closed k u (Dies who status) ok c = record { tables = c.tables; ports = c.ports; messages = c.messages; waits = every-without (wait_closed k) (waits_as who) u.waits c.waits; registrations = all-changed k.ports (is_thread who) ended (λ t is. refl) u.threads c.registrations; cuts = c.cuts; threads = every-change (thread_closed k) (is_thread who) ended (λ t is. refl) u.threads c.threads; processes = c.processes }
+keeps-closed k u (Registers who b) ok c = record { tables = c.tables; ports = c.ports; messages = c.messages; waits = c.waits; registrations = all-changed k.ports (is_thread who) (registering b) (registering-all k.ports b ok) u.threads c.registrations; cuts = c.cuts; threads = every-change (thread_closed k) (is_thread who) (registering b) (λ t is. is) u.threads c.threads; processes = c.processes }
+keeps-closed k u (Unregisters who b) ok c = record { tables = c.tables; ports = c.ports; messages = c.messages; waits = c.waits; registrations = all-changed k.ports (is_thread who) (unregistering b) (unregistering-all k.ports b) u.threads c.registrations; cuts = c.cuts; threads = every-change (thread_closed k) (is_thread who) (unregistering b) (λ t is. is) u.threads c.threads; processes = c.processes }
+keeps-closed k u (Tells e) ok c = c
+keeps-closed k u (Frees o) ok c = absurd (cc)
+
+-- The threads that live
+pub lasts : (k : Alive) (t : ThreadRow) → thread_closed k t ≡ true → t.live ≡ true → thread_alive k t ≡ true
+lasts k t closed live = grind arith
+
+pub live-thin : (k : Alive) (u : World) (tid : ℕ) → Closed k u → live_thread (thin k u) tid ≡ live_thread u tid
+live-thin k u tid c = first-where (thread_closed k) (thread_alive k) (is_live_thread tid) (λ t closed is. lasts k t closed (second-true _ _ is)) u.threads c.threads
+
+pub threads-thin : (k : Alive) (u : World) (pid : ℕ) → Closed k u → live_threads (thin k u) pid ≡ live_threads u pid
+threads-thin k u pid c = which-where (thread_closed k) (thread_alive k) (lives_in pid) (λ t closed is. lasts k t closed (second-true _ _ is)) u.threads c.threads
+
+pub is_live-thin : (k : Alive) (u : World) (pid : ℕ) → Closed k u → is_live (thin k u) pid ≡ is_live u pid
+is_live-thin k u pid c = has-inside (thread_closed k) (thread_alive k) (lives_in pid) (λ t closed is. lasts k t closed (second-true _ _ is)) u.threads c.threads
+
+pub client-thin : (k : Alive) (u : World) (client : ClientId) → Closed k u → client_test (thin k u) client ≡ client_test u client
+client-thin k u client c = rw (live-thin k u client.thread c) refl
+
+registered-live : (k : Alive) (ts : List ThreadRow) → every (thread_closed k) ts ≡ true → each registered_by (which (thread_alive k) ts) ≡ each registered_by ts
+registered-live k [] all = refl
+registered-live k (t ∷ ts) all = at (thread_alive k t) t.live refl refl (registered-live k ts (second-true _ _ all))
+  where
+    at : (a e : Bool) → thread_alive k t ≡ a → t.live ≡ e → each registered_by (which (thread_alive k) ts) ≡ each registered_by ts → each registered_by (which (thread_alive k) (t ∷ ts)) ≡ each registered_by (t ∷ ts)
+    at true e alive is rest = rw alive (ap (λ bs. registered_by t ++ bs) rest)
+    at false true dead is rest = let never : thread_alive k t ≡ true = lasts k t (first-true _ _ all) is in absurd (cc)
+    at false false dead is rest = rw (dead, is) rest
+
+pub registered-thin : (k : Alive) (u : World) → Closed k u → all_registrations (thin k u) ≡ all_registrations u
+registered-thin k u c = registered-live k u.threads c.threads
+
+pub thin-run : (k : Alive) (u : World) (bs : List Basic) → every (is_closed k) bs ≡ true → thin k (world_after u bs) ≡ world_after (thin k u) bs
+thin-run k u [] ok = refl
+thin-run k u (b ∷ bs) ok = thin-run k (basic u b) bs (second-true _ _ ok) ∙ ap (λ v. world_after v bs) (thin-basic k u b (first-true _ _ ok))
+
+pub closed-run : (k : Alive) (u : World) (bs : List Basic) → every (is_closed k) bs ≡ true → Closed k u → Closed k (world_after u bs)
+closed-run k u [] ok c = c
+closed-run k u (b ∷ bs) ok c = closed-run k (basic u b) bs (second-true _ _ ok) (keeps-closed k u b (first-true _ _ ok) c)
+
+-- The sweep
+-- a world from which rows have gone is this one without them
+pub record Behind (w u : World) : Type 0 where
+  pub alive : Alive
+  pub same : w ≡ thin alive u
+  pub closed : Closed alive u
+
+-- without a port, a process or a thread
+abbrev but_birth : Birth → (Birth → Bool) → Birth → Bool
+but_birth b f x = f x && not (same_birth x b)
+
+abbrev pub but : Birth → Alive → Alive
+but b k = record k { ports = but_birth b k.ports }
+
+abbrev but_process : World → Birth → Alive → Alive
+but_process u b k = record k { processes = but_birth b k.processes; homes = λ n. k.homes n && is_live u n }
+
+abbrev but_thread : Birth → Alive → Alive
+but_thread b k = record k { threads = but_birth b k.threads }
+
+-- what no row counts for, isn't named
+every-each : {X Y : Type 0} (p : Y → Bool) (f : X → List Y) (xs : List X) → every p (each f xs) ≡ true → every (λ x. every p (f x)) xs ≡ true
+every-each p f [] all = refl
+every-each p f (x ∷ xs) all = and_from _ _ (every-front p (f x) (each f xs) all) (every-each p f xs (every-back p (f x) (each f xs) all))
+
+-- no row counts for the port
+record Unnamed (b : Birth) (w : World) : Type 0 where
+  handles : every (λ t. every (λ h. not (same_object h.object (port_name b))) t.rows) w.handles ≡ true
+  pairs : every (λ p. not (is_paired_to b p)) w.ports ≡ true
+  connections : every (λ p. not (is_connected_to b p)) w.ports ≡ true
+  messages : every (λ x. not (is_sent_on b x)) w.messages ≡ true
+  waits : every (λ x. not (is_made_on b x)) w.waits ≡ true
+  registrations : every (λ c. not (same_birth b c)) (all_registrations w) ≡ true
+
+unnamed-of : (w : World) (b : Birth) → is_unheld w (port_name b) ≡ true → Unnamed b w
+unnamed-of w b none =
+    let handles = handle_count w (port_name b) in
+    let pairs = count (is_paired_to b) w.ports in
+    let connections = count (is_connected_to b) w.ports in
+    let messages = count (is_sent_on b) w.messages in
+    let waits = count (is_made_on b) w.waits in
+    let registered = count (same_birth b) (all_registrations w) in
+    let all = is-zero (handles + (pairs + (connections + (messages + (waits + registered))))) none in
+    let two = sum-second handles (pairs + (connections + (messages + (waits + registered)))) all in
+    let three = sum-second pairs (connections + (messages + (waits + registered))) two in
+    let four = sum-second connections (messages + (waits + registered)) three in
+    let five = sum-second messages (waits + registered) four in
+    record {
+      handles = every-each (λ h. not (same_object h.object (port_name b))) (λ t. t.rows) w.handles (none-pass (λ h. same_object h.object (port_name b)) (all_handles w) (sum-first handles (pairs + (connections + (messages + (waits + registered)))) all));
+      pairs = none-pass (is_paired_to b) w.ports (sum-first pairs (connections + (messages + (waits + registered))) two);
+      connections = none-pass (is_connected_to b) w.ports (sum-first connections (messages + (waits + registered)) three);
+      messages = none-pass (is_sent_on b) w.messages (sum-first messages (waits + registered) four);
+      waits = none-pass (is_made_on b) w.waits (sum-first waits registered five);
+      registrations = none-pass (same_birth b) (all_registrations w) (sum-second waits registered five);
+    }
+
+-- a handle to another object
+port-apart : (k : Alive) (b : Birth) (s : ObjectKind) (x : Birth) → alive_as k s x ≡ true → not (same_kind s kind.Port && same_birth x b) ≡ true → alive_as (but b k) s x ≡ true
+port-apart k b kind.Port x live off = and_from _ _ live off
+port-apart k b e x live off = live
+
+process-apart : (k : Alive) (u : World) (b : Birth) (s : ObjectKind) (x : Birth) → alive_as k s x ≡ true → not (same_kind s kind.Process && same_birth x b) ≡ true → alive_as (but_process u b k) s x ≡ true
+process-apart k u b kind.Process x live off = and_from _ _ live off
+process-apart k u b e x live off = live
+
+thread-apart : (k : Alive) (b : Birth) (s : ObjectKind) (x : Birth) → alive_as k s x ≡ true → not (same_kind s kind.Thread && same_birth x b) ≡ true → alive_as (but_thread b k) s x ≡ true
+thread-apart k b kind.Thread x live off = and_from _ _ live off
+thread-apart k b e x live off = live
+
+-- no handle names the object
+abbrev NoHandles : ObjectName → World → Type 0
+NoHandles o w = every (λ t. every (λ h. not (same_object h.object o)) t.rows) w.handles ≡ true
+
+tables-off : (k n : Alive) (o : ObjectName) (u : World) → ((s : ObjectKind) (x : Birth) → alive_as k s x ≡ true → not (same_kind s o.kind && same_birth x o.birth) ≡ true → alive_as n s x ≡ true) → NoHandles o u → every (table_closed k) u.handles ≡ true → every (table_closed n) u.handles ≡ true
+tables-off k n o u apart none all =
+    every-both (table_closed k) (λ t. every (λ h. not (same_object h.object o)) t.rows) (table_closed n)
+    (λ t closed off. every-both (handle_closed k) (λ h. not (same_object h.object o)) (handle_closed n) (λ h live off. apart h.object.kind h.object.birth live off) t.rows closed off) u.handles all none
+
+none-handles : (w : World) (o : ObjectName) → is_unheld w o ≡ true → NoHandles o w
+none-handles w o none =
+    let handles = handle_count w o in
+    every-each (λ h. not (same_object h.object o)) (λ t. t.rows) w.handles (none-pass (λ h. same_object h.object o) (all_handles w) (sum-first handles (holders w o.kind o.birth) (is-zero (handles + holders w o.kind o.birth) none)))
+
+named-off : (k : Alive) (b : Birth) (o : Option Birth) → all_alive k.ports o ≡ true → not (is_the b o) ≡ true → all_alive (but_birth b k.ports) o ≡ true
+named-off k b None ok off = refl
+named-off k b (Some x) ok off = rw (ok, births-apart b x (grind arith)) refl
+
+port-off : (k : Alive) (b : Birth) (p : PortRow) → port_closed k p ≡ true → (not (k.ports p.birth) || (not (is_paired_to b p) && not (is_connected_to b p))) ≡ true → port_closed (but b k) p ≡ true
+port-off k b p ok off = at (k.ports p.birth) refl
+  where
+    at : (e : Bool) → k.ports p.birth ≡ e → port_closed (but b k) p ≡ true
+    at false dead = rw dead refl
+    at true live =
+        let pair : all_alive (but_birth b k.ports) p.pair ≡ true = named-off k b p.pair (grind arith) (grind arith) in
+        let connection : all_alive (but_birth b k.ports) p.connection ≡ true = named-off k b p.connection (grind arith) (grind arith) in
+        rw (pair, connection) (grind arith)
+
+of-kept : {X : Type 0} (k s t : X → Bool) (xs : List X) → every (λ x. not (s x)) (which k xs) ≡ true → every (λ x. not (t x)) (which k xs) ≡ true → every (λ x. not (k x) || (not (s x) && not (t x))) xs ≡ true
+of-kept k s t [] one two = refl
+of-kept k s t (x ∷ xs) one two = grind (arith, of-kept k s t xs)
+
+-- ports of a birth are cut
+abbrev pub is_lonely : Birth → PortRow → Bool
+is_lonely b p = not (is_port b p) || is_cut p
+
+cut-but : (k : Alive) (b : Birth) (ps : List PortRow) → every (is_lonely b) (which (port_alive k) ps) ≡ true → every (port_cut k) ps ≡ true → every (port_cut (but b k)) ps ≡ true
+cut-but k b [] lonely cuts = refl
+cut-but k b (p ∷ ps) lonely cuts = grind (arith, cut-but k b ps)
+
+pub frees-one : (k : Alive) (u : World) (b : Birth) → is_unheld (thin k u) (port_name b) ≡ true → every (is_lonely b) (thin k u).ports ≡ true → Closed k u → Closed (but b k) u
+frees-one k u b none lonely c =
+    let n = unnamed-of (thin k u) b none in
+    record {
+      tables = tables-off k (but b k) (port_name b) u (port-apart k b) n.handles c.tables;
+      ports = every-both (port_closed k) (λ p. not (k.ports p.birth) || (not (is_paired_to b p) && not (is_connected_to b p))) (port_closed (but b k)) (port-off k b) u.ports c.ports (of-kept (port_alive k) (is_paired_to b) (is_connected_to b) u.ports n.pairs n.connections);
+      messages = every-both (message_closed k) (λ x. not (is_sent_on b x)) (message_closed (but b k)) (λ x ok off. grind arith) u.messages c.messages n.messages;
+      waits = every-both (wait_closed k) (λ x. not (is_made_on b x)) (wait_closed (but b k)) (λ x ok off. grind arith) u.waits c.waits n.waits;
+      registrations = every-both k.ports (λ c. not (same_birth b c)) (but_birth b k.ports) (λ d live off. and_from _ _ live (rw (births-apart b d (not-true (same_birth b d) off)) refl)) (all_registrations u) c.registrations (subst (λ bs. every (λ d. not (same_birth b d)) bs ≡ true) (registered-thin k u c) n.registrations);
+      cuts = cut-but k b u.ports lonely c.cuts;
+      threads = c.threads;
+      processes = c.processes;
+    }
+
+-- what holds of each row by a number that lives, holds of each row by its own
+every-self : {X : Type 0} (f : X → ℕ) (live : ℕ → Bool) (r : ℕ → X → Bool) (xs : List X) → ((n : ℕ) → live n ≡ true → every (r n) xs ≡ true) → every (λ x. not (live (f x)) || r (f x) x) xs ≡ true
+every-self f live r [] all = refl
+every-self f live r (x ∷ xs) all = and_from _ _ (at (live (f x)) refl) (every-self f live r xs (λ n is. second-true (r n x) _ (all n is)))
+  where
+    at : (e : Bool) → live (f x) ≡ e → (not e || r (f x) x) ≡ true
+    at true is = first-true _ _ (all (f x) is)
+    at false off = refl
+
+-- a thread that lives is one of its process's
+living-in : (ts : List ThreadRow) → every (λ t. not t.live || has (lives_in t.process) ts) ts ≡ true
+living-in [] = refl
+living-in (t ∷ ts) = and_from _ _ (at t.live refl) (every-more (λ x. not x.live || has (lives_in x.process) ts) (λ x. not x.live || has (lives_in x.process) (t ∷ ts)) (λ x is. more x (lives_in x.process t) refl is) ts (living-in ts))
+  where
+    at : (e : Bool) → t.live ≡ e → (not e || has (lives_in t.process) (t ∷ ts)) ≡ true
+    at true live = let here : lives_in t.process t ≡ true = rw (same-number t.process, live) refl in rw here refl
+    at false dead = refl
+
+    more : (x : ThreadRow) (e : Bool) → lives_in x.process t ≡ e → (not x.live || has (lives_in x.process) ts) ≡ true → (not x.live || has (lives_in x.process) (t ∷ ts)) ≡ true
+    more x true here is = rw here (or-last (not x.live) refl)
+    more x false off is = rw off is
+
+-- a process that no thread of its own lives in
+none-live : (k : Alive) (u : World) (b : Birth) → count (lives_by (thin k u) b) (thin k u).threads ≤ 0 → Closed k u → (n : ℕ) → is_live u n ≡ true → every (λ p. not (process_alive k p) || not (same_birth p.birth b && (p.number == n))) u.processes ≡ true
+none-live k u b none c n live = at (first (lives_in n) (thin k u).threads) refl (is_live-thin k u n c ∙ live)
+  where
+    at : (o : Option ThreadRow) → first (lives_in n) (thin k u).threads ≡ o → is_some o ≡ true → every (λ p. not (process_alive k p) || not (same_birth p.birth b && (p.number == n))) u.processes ≡ true
+    at None absent is = absurd (cc)
+    at (Some t) here is =
+        let passed : lives_in n t ≡ true = first-passes (lives_in n) (thin k u).threads t here in
+        let apart : not (lives_by (thin k u) b t) ≡ true = every-first (λ t. not (lives_by (thin k u) b t)) (lives_in n) (thin k u).threads t (none-pass (lives_by (thin k u) b) (thin k u).threads none) here in
+        let off : has (λ p. same_birth p.birth b && (p.number == t.process)) (thin k u).processes ≡ false = apart-second t.live _ (second-true _ _ passed) apart in
+        subst (λ n. every (λ p. not (process_alive k p) || not (same_birth p.birth b && (p.number == n))) u.processes ≡ true) (eqb-true t.process n (first-true _ _ passed))
+        (none-which (process_alive k) (λ p. same_birth p.birth b && (p.number == t.process)) u.processes off)
+
+frees-process : (k : Alive) (u : World) (b : Birth) → is_unheld (thin k u) (process_name b) ≡ true → Closed k u → Closed (but_process u b k) u
+frees-process k u b none c =
+    let v : World = thin k u in
+    let few = sum-second (handle_count v (process_name b)) (count (lives_by v b) v.threads) (is-zero (handle_count v (process_name b) + count (lives_by v b) v.threads) none) in
+    record {
+      tables = tables-off k (but_process u b k) (process_name b) u (process-apart k u b) (none-handles v (process_name b) none) c.tables;
+      ports = c.ports;
+      messages = c.messages;
+      waits = c.waits;
+      registrations = c.registrations;
+      cuts = c.cuts;
+      threads = every-both (thread_closed k) (λ t. not t.live || is_live u t.process) (thread_closed (but_process u b k)) (λ t closed lives. grind arith) u.threads c.threads (living-in u.threads);
+      processes = every-both (process_closed k) (λ p. not (is_live u p.number) || (not (process_alive k p) || not (same_birth p.birth b && (p.number == p.number)))) (process_closed (but_process u b k))
+          (λ p closed apart. goes (k.homes p.number) (is_live u p.number) (k.processes p.birth) (same_birth p.birth b) (p.number == p.number) (same-number p.number) closed apart) u.processes c.processes
+          (every-self (λ (p : ProcessRow). p.number) (is_live u) (λ n p. not (process_alive k p) || not (same_birth p.birth b && (p.number == n))) u.processes (none-live k u b few c));
+    }
+  where
+    goes : (h l a s e : Bool) → e ≡ true → (not h || a) ≡ true → (not l || (not a || not (s && e))) ≡ true → (not (h && l) || (a && not s)) ≡ true
+    goes h l a s e same closed apart = grind arith
+
+frees-thread : (k : Alive) (u : World) (b : Birth) → is_unheld (thin k u) (thread_name b) ≡ true → Closed k u → Closed (but_thread b k) u
+frees-thread k u b none c =
+    let v : World = thin k u in
+    let few = sum-second (handle_count v (thread_name b)) (count (is_life b) v.threads) (is-zero (handle_count v (thread_name b) + count (is_life b) v.threads) none) in
+    record {
+      tables = tables-off k (but_thread b k) (thread_name b) u (thread-apart k b) (none-handles v (thread_name b) none) c.tables;
+      ports = c.ports;
+      messages = c.messages;
+      waits = c.waits;
+      registrations = c.registrations;
+      cuts = c.cuts;
+      threads = every-both (thread_closed k) (λ t. not (thread_alive k t) || not (is_life b t)) (thread_closed (but_thread b k)) (λ t closed apart. goes t.live (k.threads t.birth) (k.homes t.process) (same_birth t.birth b) closed apart) u.threads c.threads
+          (none-which (thread_alive k) (is_life b) u.threads (has-off (is_life b) v.threads (none-pass (is_life b) v.threads few)));
+      processes = c.processes;
+    }
+  where
+    goes : (l a h s : Bool) → (not l || (a && h)) ≡ true → (not a || not (l && s)) ≡ true → (not l || ((a && not s) && h)) ≡ true
+    goes l a h s closed apart = grind arith
+
+lonely-at : (w : World) (b : Birth) → IsLinked w → is_unheld w (port_name b) ≡ true → every (is_lonely b) w.ports ≡ true
+lonely-at w b l none = every-more (λ p. not (is_unheld w (port_name p.birth)) || is_cut p) (is_lonely b) (λ p is. at p (is_port b p) refl is) w.ports (lonely w l)
+  where
+    at : (p : PortRow) (e : Bool) → is_port b p ≡ e → (not (is_unheld w (port_name p.birth)) || is_cut p) ≡ true → is_lonely b p ≡ true
+    at p true its is = let unheld : is_unheld w (port_name p.birth) ≡ true = subst (λ b. is_unheld w (port_name b) ≡ true) (sym (birth-same p.birth b its)) none in let off : (not true || is_cut p) ≡ true = subst (λ e. (not e || is_cut p) ≡ true) unheld is in rw off (grind arith)
+    at p false off is = rw off refl
+
+behind-one : (w u : World) (o : ObjectName) → IsLinked w → is_unheld w o ≡ true → Behind w u → Behind (basic w (Frees o)) u
+behind-one w u o l none r = at o.kind o.birth (subst (λ v. IsLinked v) r.same l) (subst (λ v. is_unheld v o ≡ true) r.same none)
+  where
+    at : (s : ObjectKind) (b : Birth) → IsLinked (thin r.alive u) → is_unheld (thin r.alive u) (record { kind = s; birth = b }) ≡ true → Behind (freed w s b) u
+    at kind.Port b linked off = record {
+      alive = but b r.alive;
+      same = ap (λ v. freed v kind.Port b) r.same ∙ ap (λ ps. record (thin r.alive u) { ports = ps }) (sym (which-but (port_alive r.alive) (is_port b) u.ports));
+      closed = frees-one r.alive u b off (lonely-at (thin r.alive u) b linked off) r.closed;
+    }
+    at kind.Section b linked off = r
+    at kind.Token b linked off = r
+    at kind.Process b linked off = record {
+      alive = but_process u b r.alive;
+      same = ap (λ v. freed v kind.Process b) r.same ∙ ap (λ ps. record (thin r.alive u) { processes = ps }) (sym (which-but (process_alive r.alive) (λ p. same_birth p.birth b) u.processes));
+      closed = frees-process r.alive u b off r.closed;
+    }
+    at kind.Thread b linked off = record {
+      alive = but_thread b r.alive;
+      same = ap (λ v. freed v kind.Thread b) r.same ∙ ap (λ ts. record (thin r.alive u) { threads = ts }) (sym (which-but (thread_alive r.alive) (λ t. same_birth t.birth b) u.threads));
+      closed = frees-thread r.alive u b off r.closed;
+    }
+
+behind-all : (w u : World) (os : List ObjectName) → IsSoundWorld w → IsLinked w → every (is_unheld w) os ≡ true → Behind w u → Behind (world_after w (map Frees os)) u
+behind-all w u [] s l all r = r
+behind-all w u (o ∷ os) s l all r =
+    let none : is_unheld w o ≡ true = first-true _ _ all in
+    behind-all (basic w (Frees o)) u os (freed-sound w o none s) (gone-linked w o none s l) (every-more (is_unheld w) (is_unheld (basic w (Frees o))) (less-held w o) os (second-true _ _ all)) (behind-one w u o l none r)
+
+-- a pass leaves a sound world whose ports are linked
+pass-kept : (w : World) (os : List ObjectName) → IsSoundWorld w → IsLinked w → every (is_unheld w) os ≡ true → IsSoundWorld (world_after w (map Frees os)) × IsLinked (world_after w (map Frees os))
+pass-kept w [] s l all = (s, l)
+pass-kept w (o ∷ os) s l all =
+    let none : is_unheld w o ≡ true = first-true _ _ all in
+    pass-kept (basic w (Frees o)) os (freed-sound w o none s) (gone-linked w o none s l) (every-more (is_unheld w) (is_unheld (basic w (Frees o))) (less-held w o) os (second-true _ _ all))
+
+behind-unheld : (w u : World) → IsSoundWorld w → IsLinked w → Behind w u → Behind (world_after w (free_unheld w)) u
+behind-unheld w u s l r = behind-all w u (unheld w) s l (which-all (is_unheld w) _) r
+
+-- rows that nothing names go: a world is behind as before
+pub behind-sweep : (w u : World) → IsSoundWorld w → IsLinked w → Behind w u → Behind (world_after w (sweep w)) u
+unfolding sweep
+behind-sweep w u s l r =
+    let v : World = world_after w (free_unheld w) in
+    let next = pass-kept w (unheld w) s l (which-all (is_unheld w) _) in
+    subst (λ x. Behind x u) (sym (after-append w (free_unheld w) (free_unheld v))) (behind-unheld v u next.0 next.1 (behind-unheld w u s l r))

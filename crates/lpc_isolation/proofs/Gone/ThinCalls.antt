@@ -1,0 +1,142 @@
+-- What each call does in a world without some rows that no row names: the same.
+use Rattle.std.proofs.Common.{◌≡◌, ℕ, List, [], ◌∷◌, ◌++◌, Bool, true, false, not, Option, Some, None, refl, ap, ◌∙◌, arith}
+use Rattle.std.proofs.lemmas.Bool.{and_from}
+use Rattle.lpc_base.specs.Rows.{every, first, given}
+use Rattle.lpc_base.proofs.RowWords.{first-passes}
+use Rattle.lpc_base.proofs.RowMaps.{every-first}
+use Rattle.lpc_base.proofs.Births.{birth-same}
+use Rattle.lpc_base.specs.declared.status.TheConstants.{ACCESS_DENIED, INVALID_HANDLE, OBJECT_TYPE_MISMATCH, SUCCESS}
+use Rattle.lpc_model.specs.declared.entry.ObjectKind.TheVariants as kind
+use Rattle.lpc_model.specs.declared.message.Message.{Message}
+use Rattle.lpc_model.specs.Message.{asks, message_test}
+use Rattle.lpc_model.specs.Refusal.{found_or, refuse_if}
+use Rattle.lpc_model.specs.World.{Accepted, Birth, Connect, HandleTable, Listen, MessageRow, PortRow, Receive, Request, ThreadRow, WaitKind, WaitRow, World}
+use Rattle.lpc_model.specs.Found.{fits, fitted, handle_at, handles_of, has_value, is_port, is_table, port_row, rows_in, same_kind}
+use Rattle.lpc_model.specs.Basics.{Basic}
+use Rattle.lpc_model.specs.Entering.{enter, given_steps, shown, takes, woken}
+use Rattle.lpc_model.specs.Tests.{includes, object_test, own_handle, port_test}
+use Rattle.lpc_model.specs.Connect.{answer_test, nt_accept_connect_port, nt_complete_connect_port, nt_connect_port, nt_create_port, nt_listen_port}
+use Rattle.lpc_model.specs.Request.{given_reply, nt_reply_port, nt_reply_wait_receive_port, nt_request_port, nt_request_wait_reply_port, optional_message, receive_test}
+use Rattle.lpc_model.proofs.Calls.Holding.{Holds, bind_holds, found_holds, found_ok, holds_ok, not_refused}
+use Rattle.lpc_isolation.proofs.Views.Seen.{bind-same}
+use Rattle.lpc_isolation.proofs.Views.Filters.{first-inside}
+use Rattle.lpc_isolation.proofs.Gone.Thin.{client-thin, Alive, Closed, all_alive, handle_closed, is_closed, message_closed, port_alive, port_closed, table_closed, thin, wait_closed, port-live}
+
+-- Look-ups
+pub row-thin : (k : Alive) (u : World) (b : Birth) → k.ports b ≡ true → port_row (thin k u) b ≡ port_row u b
+row-thin k u b live = first-inside (port_alive k) (is_port b) (λ p its. ap k.ports (birth-same p.birth b its) ∙ live) u.ports
+
+pub rows-closed : (k : Alive) (pid : ℕ) (ts : List HandleTable) (o : Option HandleTable) → first (is_table pid) ts ≡ o → every (table_closed k) ts ≡ true → every (handle_closed k) (rows_in o) ≡ true
+rows-closed k pid ts None is all = refl
+rows-closed k pid ts (Some t) is all = every-first (table_closed k) (is_table pid) ts t all is
+
+object-is : (k : Alive) (u : World) (by : ThreadRow) (rights value : ℕ) → Closed k u → Holds (λ b. k.ports b ≡ true) (object_test u by kind.Port rights value)
+object-is k u by rights value c =
+    let P : Birth → Type 0 = λ b. k.ports b ≡ true in
+    bind_holds (own_handle u by value) _ P (λ h at.
+    bind_holds (refuse_if (not (same_kind h.object.kind kind.Port)) OBJECT_TYPE_MISMATCH) _ P (λ _ port.
+    bind_holds (refuse_if (not (includes h.access rights)) ACCESS_DENIED) _ P (λ _ _.
+    let closed : handle_closed k h ≡ true = every-first (handle_closed k) (has_value value) (handles_of u by.process) h (rows-closed k by.process u.handles (first (is_table by.process) u.handles) refl c.tables) (found_ok (handle_at u by.process value) INVALID_HANDLE h at) in
+    let off : not (same_kind h.object.kind kind.Port) ≡ false = not_refused (not (same_kind h.object.kind kind.Port)) OBJECT_TYPE_MISMATCH _ port in
+    let here : same_kind h.object.kind kind.Port ≡ true = grind arith in
+    port-live k h.object closed here)))
+
+-- a port that a handle names stands, and so does what it names
+pub record StandsBy (k : Alive) (p : PortRow) : Type 0 where
+  pub here : k.ports p.birth ≡ true
+  pub pair : all_alive k.ports p.pair ≡ true
+  pub connection : all_alive k.ports p.connection ≡ true
+
+stands-of : (k : Alive) (p : PortRow) → k.ports p.birth ≡ true → port_closed k p ≡ true → StandsBy k p
+stands-of k p here closed = record { here = here; pair = grind arith; connection = grind arith }
+
+pub port-stands : (k : Alive) (u : World) (by : ThreadRow) (value : ℕ) → Closed k u → Holds (StandsBy k) (port_test u by value)
+port-stands k u by value c =
+    bind_holds (object_test u by kind.Port _ value) _ (StandsBy k) (λ b at.
+    found_holds (StandsBy k) (port_row u b) INVALID_HANDLE (λ p row.
+    let same : p.birth ≡ b = birth-same p.birth b (first-passes (is_port b) u.ports p row) in
+    stands-of k p (ap k.ports same ∙ holds_ok (λ b. k.ports b ≡ true) (object_test u by kind.Port _ value) b (object-is k u by _ value c) at) (every-first (port_closed k) (is_port b) u.ports p c.ports row)))
+
+pub port-thin : (k : Alive) (u : World) (by : ThreadRow) (value : ℕ) → Closed k u → port_test (thin k u) by value ≡ port_test u by value
+port-thin k u by value c =
+    bind-same (object_test u by kind.Port _ value) (λ b. found_or (port_row (thin k u) b) INVALID_HANDLE) (λ b. found_or (port_row u b) INVALID_HANDLE)
+    (λ b at. ap (λ o. found_or o INVALID_HANDLE) (row-thin k u b (holds_ok (λ b. k.ports b ≡ true) (object_test u by kind.Port _ value) b (object-is k u by _ value c) at)))
+
+first-same : {X : Type 0} (p f g : X → Bool) → ((x : X) → p x ≡ true → f x ≡ g x) → (xs : List X) → every p xs ≡ true → first f xs ≡ first g xs
+first-same p f g same [] all = refl
+first-same p f g same (x ∷ xs) all = grind (arith, same x, first-same p f g same xs)
+
+pub fitted-thin : (k : Alive) (u : World) (port : Birth) (m : Message) → Closed k u → fitted (thin k u) port m ≡ fitted u port m
+fitted-thin k u port m c = first-same (wait_closed k) (fits (thin k u) port m) (fits u port m) (λ x closed. rw (row-thin k u x.port closed) refl) u.waits c.waits
+
+-- What enters
+abbrev pub AreClosed : Alive → List Basic → Type 0
+AreClosed k bs = every (is_closed k) bs ≡ true
+
+given-closed : (k : Alive) (x : MessageRow) (y : WaitRow) (sort : WaitKind) (asked : Bool) → y.kind ≡ sort → asks x.message ≡ asked → AreClosed k (given_steps y x ++ woken SUCCESS (shown y x) y ∷ [])
+given-closed k x y (Request a) true is asked = rw (is, asked) refl
+given-closed k x y (Request a) false is asked = rw (is, asked) refl
+given-closed k x y Receive true is asked = rw (is, asked) refl
+given-closed k x y Receive false is asked = rw (is, asked) refl
+given-closed k x y Listen true is asked = rw (is, asked) refl
+given-closed k x y Listen false is asked = rw (is, asked) refl
+given-closed k x y (Connect a) true is asked = rw (is, asked) refl
+given-closed k x y (Connect a) false is asked = rw (is, asked) refl
+given-closed k x y (Accepted a r) true is asked = rw (is, asked) refl
+given-closed k x y (Accepted a r) false is asked = rw (is, asked) refl
+
+entered-closed : (k : Alive) (x : MessageRow) (o : Option WaitRow) → AreClosed k (given o (λ y. given_steps y x ++ woken SUCCESS (shown y x) y ∷ []))
+entered-closed k x None = refl
+entered-closed k x (Some y) = given-closed k x y y.kind (asks x.message) refl refl
+
+pub enter-closed : (k : Alive) (u : World) (x : MessageRow) → message_closed k x ≡ true → AreClosed k (enter x u)
+enter-closed k u x ok = and_from _ _ ok (entered-closed k x (first (takes x) u.waits))
+
+-- Each call answers alike
+pub create-thin : (k : Alive) (u : World) (by : ThreadRow) (name : Option (List ℕ)) → nt_create_port (thin k u) by name ≡ nt_create_port u by name
+unfolding nt_create_port
+create-thin k u by None = refl
+create-thin k u by (Some name) = refl
+
+pub connect-thin : (k : Alive) (u : World) (by : ThreadRow) (name bytes : List ℕ) → nt_connect_port (thin k u) by name bytes ≡ nt_connect_port u by name bytes
+unfolding nt_connect_port
+connect-thin k u by name bytes = refl
+
+pub listen-thin : (k : Alive) (u : World) (by : ThreadRow) (handle : ℕ) → Closed k u → nt_listen_port (thin k u) by handle ≡ nt_listen_port u by handle
+unfolding nt_listen_port
+listen-thin k u by handle c = rw (port-thin k u by handle c) refl
+
+answer-thin : (k : Alive) (u : World) (by : ThreadRow) (bytes : List ℕ) → Closed k u → answer_test (thin k u) by bytes ≡ answer_test u by bytes
+answer-thin k u by bytes c = bind-same (message_test bytes) _ _ (λ m _. rw (client-thin k u m.header.client c) refl)
+
+pub accept-thin : (k : Alive) (u : World) (by : ThreadRow) (context : ℕ) (bytes : List ℕ) (accept : Bool) → Closed k u → nt_accept_connect_port (thin k u) by context bytes accept ≡ nt_accept_connect_port u by context bytes accept
+unfolding nt_accept_connect_port
+accept-thin k u by context bytes true c = rw (answer-thin k u by bytes c) refl
+accept-thin k u by context bytes false c = rw (answer-thin k u by bytes c) refl
+
+pub complete-thin : (k : Alive) (u : World) (by : ThreadRow) (handle : ℕ) → Closed k u → nt_complete_connect_port (thin k u) by handle ≡ nt_complete_connect_port u by handle
+unfolding nt_complete_connect_port
+complete-thin k u by handle c = rw (port-thin k u by handle c) refl
+
+pub datagram-thin : (k : Alive) (u : World) (by : ThreadRow) (handle : ℕ) (bytes : List ℕ) → Closed k u → nt_request_port (thin k u) by handle bytes ≡ nt_request_port u by handle bytes
+unfolding nt_request_port
+datagram-thin k u by handle bytes c = rw (port-thin k u by handle c) refl
+
+pub request-thin : (k : Alive) (u : World) (by : ThreadRow) (handle : ℕ) (bytes : List ℕ) → Closed k u → nt_request_wait_reply_port (thin k u) by handle bytes ≡ nt_request_wait_reply_port u by handle bytes
+unfolding nt_request_wait_reply_port
+request-thin k u by handle bytes c = rw (port-thin k u by handle c) refl
+
+-- replies and receives
+pub reply-thin : (k : Alive) (u : World) (by : ThreadRow) (handle : ℕ) (bytes : List ℕ) → Closed k u → nt_reply_port (thin k u) by handle bytes ≡ nt_reply_port u by handle bytes
+unfolding nt_reply_port
+reply-thin k u by handle bytes c =
+    rw (port-thin k u by handle c) (bind-same (port_test u by handle) _ _ (λ p _. bind-same (message_test bytes) _ _ (λ m _. rw (client-thin k u m.header.client c, fitted-thin k u p.birth m c) refl)))
+
+given-thin : (k : Alive) (u : World) (p : PortRow) (o : Option Message) → Closed k u → given_reply (thin k u) p o ≡ given_reply u p o
+given-thin k u p None c = refl
+given-thin k u p (Some m) c = rw (client-thin k u m.header.client c, fitted-thin k u p.birth m c) refl
+
+pub receive-thin : (k : Alive) (u : World) (by : ThreadRow) (handle : ℕ) (bytes : Option (List ℕ)) → Closed k u → nt_reply_wait_receive_port (thin k u) by handle bytes ≡ nt_reply_wait_receive_port u by handle bytes
+unfolding nt_reply_wait_receive_port
+receive-thin k u by handle bytes c =
+    rw (port-thin k u by handle c) (bind-same (port_test u by handle) _ _ (λ p _. bind-same (optional_message bytes) _ _ (λ m _. bind-same (receive_test u p) _ _ (λ q _. rw (given-thin k u p m c) refl))))

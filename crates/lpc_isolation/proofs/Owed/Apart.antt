@@ -1,0 +1,80 @@
+-- An outsider's call: the view loses only waits whose wakes are told.
+use Rattle.lpc_isolation.proofs.Each.Accepts.{IsAnswer, accept-apart, refuse-apart, found-answer}
+use Rattle.lpc_isolation.proofs.Views.Alone.{HasFineRows}
+use Rattle.lpc_isolation.proofs.Views.Apart.{are_apart}
+use Rattle.lpc_isolation.proofs.Views.Callers.{unseen-thread}
+use Rattle.lpc_isolation.proofs.Each.Closes.{caller-sure, handle-good}
+use Rattle.lpc_isolation.proofs.Each.Completes.{complete-apart, found-completion}
+use Rattle.lpc_isolation.proofs.Each.Connects.{connect-apart, connect-fine}
+use Rattle.lpc_isolation.proofs.Each.Create.{named-apart, unnamed-apart}
+use Rattle.lpc_isolation.proofs.Calls.Deeds.{AreTame, Deeds, gives, more, none, numbers, registers, any-tame}
+use Rattle.lpc_isolation.proofs.Calls.Doomed.{doomed-part, doomed-whose, ended, steady}
+use Rattle.lpc_isolation.proofs.Rows.Fair.{Fair, keeps-fair}
+use Rattle.lpc_isolation.proofs.Each.Listens.{listen-apart}
+use Rattle.lpc_isolation.proofs.Each.Receive.{queue-own, receivable, received-apart, replied-apart, replied-as}
+use Rattle.lpc_isolation.proofs.Each.Reply.{wakes-apart}
+use Rattle.lpc_isolation.proofs.Each.Requests.{request-apart}
+use Rattle.lpc_isolation.proofs.Views.Seen.{handle-own}
+use Rattle.lpc_isolation.proofs.Each.Sends.{Caller, datagram-apart, found-port, found-request, found-datagram}
+use Rattle.lpc_isolation.proofs.Owed.Fair.{object-own, registers-own}
+use Rattle.lpc_model.specs.Basics.{Basic, basic, world_after}
+use Rattle.lpc_model.specs.Circle.{Group, Whose, owner}
+use Rattle.lpc_model.specs.Connect.{ConnectAnswer, answer_test}
+use Rattle.lpc_model.specs.Fields.{h}
+use Rattle.lpc_model.specs.Found.{free_handle}
+use Rattle.lpc_model.specs.Request.{receive_steps}
+use Rattle.lpc_model.specs.Tests.{port_test}
+use Rattle.lpc_model.specs.World.{PortRow, ThreadRow, World}
+use Rattle.std.proofs.Common.{List, Some, [], ap, false, refl, true, ℕ, ◌∙◌, ◌∷◌, ◌≡◌}
+use Rattle.std.proofs.lemmas.Bool.{and_from}
+use Rattle.std.specs.Prelude.{Ok}
+
+-- of tame steps of an outsider nothing is seen
+aparts : (m : Group) (c : ℕ) (u : World) (d : Whose) (w : World) (by : ThreadRow) (v : World) (bs : List Basic) → AreTame w by bs → m by.process ≡ false → Fair m c w → Fair m c v → owner v by.number ≡ Some by.process → are_apart m c u d v bs ≡ true
+aparts m c u d w by v [] none out f g own = refl
+aparts m c u d w by v (b ∷ bs) (more (gives h r value at same) t) out f g own =
+    rw out (aparts m c u d w by (basic v b) bs t out f (keeps-fair m c v b (object-own m c w by h r value f at same) g) own)
+aparts m c u d w by v (b ∷ bs) (more (registers p value at) t) out f g own =
+    rw (unseen-thread m c v by.number by.process g own out) (aparts m c u d w by (basic v b) bs t out f (keeps-fair m c v b (registers-own m c w v by p value f own at) g) own)
+aparts m c u d w by v (b ∷ bs) (more numbers t) out f g own =
+    rw (unseen-thread m c v by.number by.process g own out) (aparts m c u d w by (basic v b) bs t out f (keeps-fair m c v b refl g) own)
+
+pub apart-deeds : (m : Group) (c : ℕ) (u : World) (d : Whose) (w : World) (by : ThreadRow) → Caller m c u w by → m by.process ≡ false → Deeds w by (λ _ bs. HasFineRows m c (world_after w bs) → are_apart m c u d w bs ≡ true)
+apart-deeds m c u d w by k out = record {
+  creates = λ _. unnamed-apart m c u d w by (free_handle w by.process) k.fair k.own k.here out;
+  founds = λ name path free _. named-apart m c u d w by path (free_handle w by.process) k.fair k.own k.here out;
+  connects = λ name bytes q at fine. connect-apart m c u d w by q bytes k (connect-fine m c w by q bytes fine) out;
+  listens = λ handle p o at first _. listen-apart m c u d w by p o first k.here out (own handle p at);
+  refuses = λ context bytes a at _. refuse-apart m c u d w by bytes a k (answers bytes a at) out;
+  accepts = λ context bytes a at _. accept-apart m c u d w by context (free_handle w by.process) bytes a k (answers bytes a at) out;
+  completes = λ handle r at _. complete-apart m c u d w by handle (free_handle w r.wait.process) r k (found-completion m c u w by handle r k at) out;
+  sends = λ handle bytes s at _.
+      let is = found-datagram m c u w by handle bytes s k at in
+      datagram-apart m c u d w by s.port s.queue s.message k is.named is.to out;
+  asks = λ handle bytes s at _.
+      let is = found-request m c u w by handle bytes s k at in
+      request-apart m c u d w by s.port s.queue s.message k is.named is.to out;
+  replies = λ handle bytes p b x at read fits _. rw (k.here, out) (wakes-apart m c u d w p b x k.c_in k.fair k.owned (ap m (own handle p at) ∙ out) fits);
+  receives = λ handle bytes a p q replied o is first _.
+      let r = receivable m c u w by handle bytes a p q replied k is in
+      let p_out : m p.birth.process ≡ false = ap m r.named.process ∙ out in
+      let q_out : m q.process ≡ false = ap m (queue-own m c w p q r.named.right r.queue) ∙ p_out in
+      replied-as (λ rs. are_apart m c u d w (receive_steps by p q rs o) ≡ true) w p a replied r.replies
+      (λ none. received-apart m c u d w by p q o first k.here q_out out)
+      (λ b y some at. replied-apart m c u d w by p q y b o first k.here q_out out (wakes-apart m c u d w p b y k.c_in k.fair k.owned p_out at));
+  closes = λ handle r at _.
+      let here : r.object.birth.process ≡ by.process = handle-own m c w by.process handle r k.fair at in
+      let g = handle-good m c by.process r here in
+      and_from _ _ (rw (k.here, out) refl) (g.apart u d w (caller-sure m c u w by k) (ap m here ∙ out));
+  tames = any-tame (λ call name fields bs tame t _. rw (k.here, out) (aparts m c u d w by w bs t out k.fair k.fair k.own));
+  ends = λ call name own pid code ts doomed _.
+      let p = doomed-part m c u w by own pid code ts k doomed in
+      let is = p.apart d w (steady m c u w by k) (doomed-whose m c w by own pid ts k.fair doomed ∙ out) in
+      ended (λ bs. are_apart m c u d w bs ≡ true) by name own pid code ts w (λ _. is) (λ _. and_from _ _ (rw (k.here, out) refl) is);
+}
+  where
+    own : (handle : ℕ) (p : PortRow) → port_test w by handle ≡ Ok p → p.birth.process ≡ by.process
+    own handle p at = (found-port m c u w by handle p k at).process
+
+    answers : (bytes : List ℕ) (a : ConnectAnswer) → answer_test w by bytes ≡ Ok a → IsAnswer m c w by bytes a
+    answers bytes a at = found-answer m c u w by bytes a k at

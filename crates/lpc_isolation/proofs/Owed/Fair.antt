@@ -1,0 +1,66 @@
+-- A call's steps keep the rows fair.
+use Rattle.lpc_base.proofs.Bools.{same-number}
+use Rattle.lpc_isolation.proofs.Each.Accepts.{accept-fair, found-answer}
+use Rattle.lpc_isolation.proofs.Views.Alone.{HasFineRows}
+use Rattle.lpc_isolation.proofs.Each.Closes.{caller-sure, handle-good}
+use Rattle.lpc_isolation.proofs.Each.Completes.{complete-fair, found-completion}
+use Rattle.lpc_isolation.proofs.Each.Connects.{connect-fair, connect-fine}
+use Rattle.lpc_isolation.proofs.Each.Create.{named-fair, unnamed-fair}
+use Rattle.lpc_isolation.proofs.Calls.Deeds.{AreTame, Deeds, gives, more, none, numbers, registers, any-tame}
+use Rattle.lpc_isolation.proofs.Calls.Doomed.{doomed-part, ended, steady}
+use Rattle.lpc_isolation.proofs.Rows.Fair.{Fair, are_fair, is_fair_step, is_own, owner-used}
+use Rattle.lpc_isolation.proofs.Each.Listens.{listen-fair}
+use Rattle.lpc_isolation.proofs.Each.Receive.{queue-own, receivable, received-fair, replied-as, replied-fair}
+use Rattle.lpc_isolation.proofs.Each.Requests.{request-fair}
+use Rattle.lpc_isolation.proofs.Views.Seen.{handle-own, port-own}
+use Rattle.lpc_isolation.proofs.Each.Sends.{Caller, datagram-fair, found-datagram, found-port, found-request}
+use Rattle.lpc_model.proofs.Calls.Holding.{holds_ok}
+use Rattle.lpc_model.specs.Basics.{Basic, Registers, basic, world_after}
+use Rattle.lpc_model.specs.Circle.{Group, owner}
+use Rattle.lpc_model.specs.Found.{free_handle, handle_at}
+use Rattle.lpc_model.specs.Request.{receive_steps}
+use Rattle.lpc_model.specs.Tests.{port_test}
+use Rattle.lpc_model.specs.World.{HandleRow, ObjectName, PortRow, ThreadRow, World}
+use Rattle.std.proofs.Common.{List, Some, [], ap, refl, subst, sym, true, ℕ, ◌∙◌, ◌∷◌, ◌≡◌}
+use Rattle.std.proofs.lemmas.Bool.{and_from}
+use Rattle.std.specs.Prelude.{Ok}
+
+-- what tame steps name is of the caller's process
+pub object-own : (m : Group) (c : ℕ) (w : World) (by : ThreadRow) (h r : HandleRow) (value : ℕ) → Fair m c w → handle_at w by.process value ≡ Some r → r.object ≡ h.object → is_own by.process h ≡ true
+object-own m c w by h r value f at same =
+    let own : h.object.birth.process ≡ by.process = subst (λ (o : ObjectName). o.birth.process ≡ by.process) same (handle-own m c w by.process value r f at) in rw (own, same-number by.process) refl
+
+pub registers-own : (m : Group) (c : ℕ) (w v : World) (by : ThreadRow) (p : PortRow) (value : ℕ) → Fair m c w → owner v by.number ≡ Some by.process → port_test w by value ≡ Ok p → is_fair_step m c v (Registers by.number p.birth) ≡ true
+registers-own m c w v by p value f own at = owner-used v by.number p.birth.process (own ∙ ap (λ n. Some n) (sym (holds_ok _ (port_test w by value) p (port-own m c w by value f) at).0))
+
+fairs : (m : Group) (c : ℕ) (w : World) (by : ThreadRow) (v : World) (bs : List Basic) → AreTame w by bs → Fair m c w → owner v by.number ≡ Some by.process → are_fair m c v bs ≡ true
+fairs m c w by v [] none f own = refl
+fairs m c w by v (b ∷ bs) (more (gives h r value at same) t) f own = and_from _ _ (object-own m c w by h r value f at same) (fairs m c w by (basic v b) bs t f own)
+fairs m c w by v (b ∷ bs) (more (registers p value at) t) f own = and_from _ _ (registers-own m c w v by p value f own at) (fairs m c w by (basic v b) bs t f own)
+fairs m c w by v (b ∷ bs) (more numbers t) f own = fairs m c w by (basic v b) bs t f own
+
+-- Each deed
+pub fair-deeds : (m : Group) (c : ℕ) (w : World) (by : ThreadRow) → Caller m c w w by → Deeds w by (λ _ bs. HasFineRows m c (world_after w bs) → are_fair m c w bs ≡ true)
+fair-deeds m c w by k = record {
+  creates = λ _. unnamed-fair m c w by (free_handle w by.process);
+  founds = λ name path free _. named-fair m c w by path (free_handle w by.process);
+  connects = λ name bytes q at fine. connect-fair m c w w by q bytes k (connect-fine m c w by q bytes fine);
+  listens = λ handle p o at first _. let named = found-port m c w w by handle p k at in listen-fair m c w by p o k.c_in named.process;
+  refuses = λ context bytes a at _. refl;
+  accepts = λ context bytes a at _. accept-fair m c w w by context (free_handle w by.process) bytes a k (found-answer m c w w by bytes a k at);
+  completes = λ handle r at _. complete-fair m c w by handle (free_handle w r.wait.process) r k.fair (found-completion m c w w by handle r k at);
+  sends = λ handle bytes s at _. let is = found-datagram m c w w by handle bytes s k at in datagram-fair m c w by s.port s.queue s.message k.c_in k.own is.named is.to;
+  asks = λ handle bytes s at _. let is = found-request m c w w by handle bytes s k at in request-fair m c w w by s.port s.queue s.message k is.named is.to;
+  replies = λ handle bytes p b x at read fits _. refl;
+  receives = λ handle bytes a p q replied o is first _.
+      let r = receivable m c w w by handle bytes a p q replied k is in
+      let queue : q.process ≡ by.process = queue-own m c w p q r.named.right r.queue ∙ r.named.process in
+      replied-as (λ rs. are_fair m c w (receive_steps by p q rs o) ≡ true) w p a replied r.replies
+      (λ none. received-fair m c w by p q o k.c_in r.named.process queue)
+      (λ b y some at. replied-fair m c w by p q y b o k.c_in r.named.process queue);
+  closes = λ handle r at _. let g = handle-good m c by.process r (handle-own m c w by.process handle r k.fair at) in g.fair w w (caller-sure m c w w by k);
+  tames = any-tame (λ call name fields bs tame t _. fairs m c w by w bs t k.fair k.own);
+  ends = λ call name own pid code ts doomed _.
+      let p = doomed-part m c w w by own pid code ts k doomed in
+      let is = p.fair w (steady m c w w by k) in ended (λ bs. are_fair m c w bs ≡ true) by name own pid code ts w (λ _. is) (λ _. is);
+}

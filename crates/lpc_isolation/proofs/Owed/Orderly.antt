@@ -1,0 +1,126 @@
+-- Each call tells its caller first, adds no thread, and begins no wait of a thread that it woke.
+use Rattle.std.proofs.Common.{◌≡◌, ℕ, List, [], ◌∷◌, ◌++◌, Bool, true, false, Option, Some, None, refl, arith}
+use Rattle.std.specs.Prelude.{◌==◌}
+use Rattle.lpc_base.specs.Rows.{first, given}
+use Rattle.lpc_base.specs.declared.status.TheConstants.{SUCCESS}
+use Rattle.lpc_base.proofs.Bools.{number-turned, same-number}
+use Rattle.lpc_message.specs.declared.kind.TheConstants.{DATAGRAM, REQUEST}
+use Rattle.lpc_model.specs.declared.message.Message.{Message}
+use Rattle.lpc_model.specs.Message.{asks}
+use Rattle.lpc_model.specs.World.{Accepted, Birth, Connect, Listen, MessageRow, PortRow, Receive, Request, ThreadRow, WaitKind, WaitRow, World}
+use Rattle.lpc_model.specs.Found.{fits, wait_of, waits_as}
+use Rattle.lpc_model.specs.Basics.{Basic, world_after}
+use Rattle.lpc_model.specs.Entering.{enter, given_steps, row_of, shown, take_connect_steps, take_steps, takes, woken}
+use Rattle.lpc_model.specs.Connect.{client_port, connect_start, connection_request, listen_steps}
+use Rattle.lpc_model.specs.Request.{datagram_start, request_start, receive_steps, reply, sent_by}
+use Rattle.lpc_model.specs.Circle.{Group}
+use Rattle.lpc_isolation.proofs.Each.Reply.{answered-fit}
+use Rattle.lpc_isolation.proofs.Each.Sends.{Caller}
+use Rattle.lpc_isolation.proofs.Each.Receive.{replied-as}
+use Rattle.lpc_isolation.proofs.Calls.Serves.{is_call_of, is_orderly, tells_own}
+use Rattle.lpc_isolation.proofs.Calls.Deeds.{AreTame, Deeds, gives, more, none, numbers, registers, any-tame}
+use Rattle.lpc_isolation.proofs.Calls.Doomed.{doomed-heads, ended, heads_own}
+use Rattle.lpc_isolation.proofs.Closings.Mild.{AreMild, mild-orderly}
+use Rattle.lpc_isolation.proofs.Each.Closes.{handle-mild}
+use Rattle.lpc_isolation.proofs.Endings.Threads.{ends-mild}
+use Rattle.lpc_model.specs.Close.{close_handle}
+use Rattle.lpc_model.specs.Death.{end_threads}
+use Rattle.lpc_base.specs.declared.status.Status.{Status}
+use Rattle.lpc_base.proofs.Bools.{second-true}
+use Rattle.std.proofs.lemmas.Bool.{and_from}
+
+given-orderly : (x : MessageRow) (y : WaitRow) (k : WaitKind) (asked : Bool) → y.kind ≡ k → asks x.message ≡ asked → is_orderly (given_steps y x ++ woken SUCCESS (shown y x) y ∷ []) ≡ true
+given-orderly x y (Request a) true k asked = rw (k, asked) refl
+given-orderly x y (Request a) false k asked = rw (k, asked) refl
+given-orderly x y Receive true k asked = rw (k, asked) refl
+given-orderly x y Receive false k asked = rw (k, asked) refl
+given-orderly x y Listen true k asked = rw (k, asked) refl
+given-orderly x y Listen false k asked = rw (k, asked) refl
+given-orderly x y (Connect a) true k asked = rw (k, asked) refl
+given-orderly x y (Connect a) false k asked = rw (k, asked) refl
+given-orderly x y (Accepted a r) true k asked = rw (k, asked) refl
+given-orderly x y (Accepted a r) false k asked = rw (k, asked) refl
+
+entered-orderly : (x : MessageRow) (o : Option WaitRow) → is_orderly (given o (λ y. given_steps y x ++ woken SUCCESS (shown y x) y ∷ [])) ≡ true
+entered-orderly x None = refl
+entered-orderly x (Some y) = given-orderly x y y.kind (asks x.message) refl refl
+
+pub enter-orderly : (w : World) (x : MessageRow) → is_orderly (enter x w) ≡ true
+enter-orderly w x = entered-orderly x (first (takes x) w.waits)
+
+take-orderly : (x : MessageRow) (asked : Bool) → asks x.message ≡ asked → (is_orderly (take_steps x) ≡ true) × (is_orderly (take_connect_steps x) ≡ true)
+take-orderly x true asked = (rw asked refl, rw asked refl)
+take-orderly x false asked = (rw asked refl, rw asked refl)
+
+listen-orderly : (w : World) (by : ThreadRow) (port : Birth) (o : Option MessageRow) → is_call_of w by.number (listen_steps by port o) ≡ true
+listen-orderly w by port None = rw (same-number by.number) refl
+listen-orderly w by port (Some x) = rw (same-number by.number) (take-orderly x (asks x.message) refl).1
+
+-- no one who waits is the caller, who doesn't
+pub other-thread : (w : World) (tid : ℕ) (p : WaitRow → Bool) (y : WaitRow) → wait_of w tid ≡ None → first p w.waits ≡ Some y → (tid == y.thread) ≡ false
+other-thread w tid p y idle at = by-rows w.waits idle at
+  where
+    by-rows : (xs : List WaitRow) → first (waits_as tid) xs ≡ None → first p xs ≡ Some y → (tid == y.thread) ≡ false
+    by-rows [] alone at = absurd (cc)
+    by-rows (x ∷ xs) alone at = grind (arith, by-rows xs, number-turned x.thread tid)
+
+received-orderly : (w : World) (by : ThreadRow) (p : PortRow) (q : Birth) (o : Option MessageRow) → is_call_of w by.number (receive_steps by p q [] o) ≡ true
+received-orderly w by p q None = rw (same-number by.number) refl
+received-orderly w by p q (Some x) = rw (same-number by.number) (take-orderly x (asks x.message) refl).0
+
+replied-orderly : (w : World) (by : ThreadRow) (p : PortRow) (q : Birth) (y : WaitRow) (b : Message) (o : Option MessageRow) (asked : Bool) → (by.number == y.thread) ≡ false → ((x : MessageRow) → o ≡ Some x → asks x.message ≡ asked) → is_call_of w by.number (receive_steps by p q (reply y b ∷ []) o) ≡ true
+replied-orderly w by p q y b None asked other some = rw (same-number by.number, other) refl
+replied-orderly w by p q y b (Some x) true other some = rw (same-number by.number, some x refl) refl
+replied-orderly w by p q y b (Some x) false other some = rw (same-number by.number, some x refl) refl
+
+abbrev asked-by : Option MessageRow → Bool
+asked-by None = false
+asked-by (Some x) = asks x.message
+
+asked-is : (o : Option MessageRow) (x : MessageRow) → o ≡ Some x → asks x.message ≡ asked-by o
+asked-is o x is = rw is refl
+
+-- tame steps
+tame-orderly : (w : World) (by : ThreadRow) (bs : List Basic) → AreTame w by bs → is_orderly bs ≡ true
+tame-orderly w by [] none = refl
+tame-orderly w by (b ∷ bs) (more (gives h r value at same) t) = tame-orderly w by bs t
+tame-orderly w by (b ∷ bs) (more (registers p value at) t) = tame-orderly w by bs t
+tame-orderly w by (b ∷ bs) (more numbers t) = tame-orderly w by bs t
+
+-- its first step ends a thread of the caller's process
+abbrev starts : World → ℕ → List Basic → Bool
+starts w tid [] = false
+starts w tid (b ∷ bs) = tells_own w tid b
+
+mild-call : (w : World) (tid : ℕ) (bs : List Basic) → AreMild bs → starts w tid bs ≡ true → is_call_of w tid bs ≡ true
+mild-call w tid [] mild is = absurd (cc)
+mild-call w tid (b ∷ bs) mild is = and_from _ _ is (mild-orderly bs (second-true _ _ mild))
+
+ends-orderly : (w : World) (pid tid : ℕ) (code : Status) (ts : List ThreadRow) → heads_own w tid ts ≡ true → is_call_of w tid (end_threads pid code ts w) ≡ true
+unfolding end_threads
+ends-orderly w pid tid code [] own = absurd (cc)
+ends-orderly w pid tid code (t ∷ ts) own = mild-call w tid (end_threads pid code (t ∷ ts) w) (ends-mild pid code (t ∷ ts) w) own
+
+-- Each deed
+pub orderly-deeds : (m : Group) (c : ℕ) (u w : World) (by : ThreadRow) → Caller m c u w by → Deeds w by (λ _ bs. is_call_of w by.number bs ≡ true)
+orderly-deeds m c u w by k = record {
+  creates = rw (same-number by.number) refl;
+  founds = λ name path free. rw (same-number by.number) refl;
+  connects = λ name bytes q at. rw (same-number by.number) (enter-orderly (world_after w (connect_start by q (connection_request by bytes))) (row_of q (client_port by q) (connection_request by bytes)));
+  listens = λ handle p o at first. listen-orderly w by p.birth o;
+  refuses = λ context bytes a at. rw (same-number by.number) refl;
+  accepts = λ context bytes a at. rw (same-number by.number) refl;
+  completes = λ handle r at. rw (same-number by.number) refl;
+  sends = λ handle bytes s at. rw (same-number by.number) (enter-orderly (world_after w (datagram_start by)) (row_of s.queue s.port (sent_by by DATAGRAM s.message)));
+  asks = λ handle bytes s at. rw (same-number by.number) (enter-orderly (world_after w (request_start by s.port.birth s.queue (sent_by by REQUEST s.message))) (row_of s.queue s.port (sent_by by REQUEST s.message)));
+  replies = λ handle bytes p b x at read fits. rw (same-number by.number) refl;
+  receives = λ handle bytes a p q replied o is first.
+      replied-as (λ rs. is_call_of w by.number (receive_steps by p q rs o) ≡ true) w p a replied is.reply_made
+      (λ none. received-orderly w by p q o)
+      (λ b y some at. replied-orderly w by p q y b o (asked-by o) (other-thread w by.number (fits w p.birth b) y k.idle (answered-fit w p b y at)) (λ x there. asked-is o x there));
+  closes = λ handle r at. and_from _ _ (and_from _ _ (same-number by.number) refl) (mild-orderly (close_handle by.process r w) (handle-mild w by.process r));
+  tames = any-tame (λ call name fields bs tame t. rw (same-number by.number) (tame-orderly w by bs t));
+  ends = λ call name own pid code ts doomed. ended (λ bs. is_call_of w by.number bs ≡ true) by name own pid code ts w
+      (λ mine. ends-orderly w pid by.number code ts (doomed-heads m c w by own pid ts k.fair k.live k.own doomed mine))
+      (λ _. and_from _ _ (and_from _ _ (same-number by.number) refl) (mild-orderly (end_threads pid code ts w) (ends-mild pid code ts w)));
+}

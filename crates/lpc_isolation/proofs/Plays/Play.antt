@@ -1,0 +1,147 @@
+-- What a process is told, played from the inputs alone: the law on two scripts from what one line does to a view.
+use Rattle.std.proofs.Common.{◌≡◌, ℕ, List, [], ◌∷◌, ◌++◌, Bool, true, false, cond, not, map, Option, Some, None, refl, ap, sym, subst, ◌∙◌}
+use Rattle.std.specs.Prelude.{◌&&◌}
+use Rattle.std.proofs.lemmas.List.Elements.{filter-append}
+use Rattle.std.proofs.lemmas.List.{map-append}
+use Rattle.std.proofs.Math.Bool.{and-true}
+use Rattle.lpc_base.specs.Rows.{which}
+use Rattle.lpc_base.proofs.Bools.{first-true, second-true}
+use Rattle.lpc_model.specs.declared.entry.Entry.{Entry}
+use Rattle.lpc_model.specs.World.{World, no_rows}
+use Rattle.lpc_model.specs.Lines.{ScriptLine}
+use Rattle.lpc_isolation.proofs.Gone.Served.{served_step}
+use Rattle.lpc_model.specs.Run.{said_in}
+use Rattle.lpc_model.specs.Circle.{Event, Everyone, Group, Item, Nobody, Of, Ran, Told, Whose, entry_whose, inputs, is_fine_line, is_input, is_item, is_seen, is_told_to, item_of, items, line_whose, members, told_event}
+use Rattle.lpc_isolation.proofs.Views.Alone.{HasFineRows, alone}
+use Rattle.lpc_isolation.proofs.Gone.Bare.{IsBareCircle, BareIsolation, bare_events, bare_line_events}
+
+-- How a group's lines are played: a state, what an entry and a line do to it, and what c sees of a line
+pub record Player (S : Type 0) : Type 0 where
+  pub absorb_at : S → Entry → S
+  pub after : S → ScriptLine → List Item → S
+  pub shown_at : S → ScriptLine → List Item → List Item
+
+abbrev pub play : {S : Type 0} → Player S → S → List Item → List Item
+play p v [] = []
+play p v (Ran line ∷ is) = p.shown_at v line is ++ play p (p.after v line is) is
+play p v (Told e ∷ is) = play p (p.absorb_at v e) is
+
+abbrev pub absorbed : {S : Type 0} → Player S → S → List Entry → S
+absorbed p v [] = v
+absorbed p v (e ∷ es) = absorbed p (p.absorb_at v e) es
+
+abbrev pub told_items : List Entry → List Item
+told_items es = map Told es
+
+pub play-told : {S : Type 0} (p : Player S) (v : S) (es : List Entry) (is : List Item) → play p v (told_items es ++ is) ≡ play p (absorbed p v es) is
+play-told p v [] is = refl
+play-told p v (e ∷ es) is = play-told p (p.absorb_at v e) es is
+
+-- the entries of a line that are inputs
+abbrev pub is_told_input : Group → ℕ → World → Whose → Entry → Bool
+is_told_input m c u d e = is_seen m (entry_whose u d e) && not (is_told_to c (entry_whose u d e) (Told e))
+
+abbrev pub told_inputs : Group → ℕ → World → Whose → List Entry → List Entry
+told_inputs m c u d es = which (is_told_input m c u d) es
+
+-- what of a line's entries is told in the inputs
+abbrev pub told_at : Group → ℕ → World → ScriptLine → List Entry
+told_at m c w line = told_inputs m c (served_step w line).world (line_whose w line) (served_step w line).entries
+
+-- a line that the group doesn't see, and one that it sees, where a state stands for a world
+pub record Hidden {S : Type 0} (p : Player S) (Stands : World → S → Type 0) (m : Group) (c : ℕ) (w : World) (v : S) (line : ScriptLine) : Type 0 where
+  pub unseen : is_seen m (line_whose w line) ≡ false
+  pub stands : Stands (served_step w line).world (absorbed p v (told_at m c w line))
+  pub silent : items (alone c) (bare_line_events w line) ≡ []
+
+pub record Visible {S : Type 0} (p : Player S) (Stands : World → S → Type 0) (m : Group) (c : ℕ) (w : World) (v : S) (line : ScriptLine) : Type 0 where
+  pub seen : is_seen m (line_whose w line) ≡ true
+  pub stands : (is : List Item) → Stands (served_step w line).world (absorbed p (p.after v line (told_items (told_at m c w line) ++ is)) (told_at m c w line))
+  pub shown : (is : List Item) → items (alone c) (bare_line_events w line) ≡ p.shown_at v line (told_items (told_at m c w line) ++ is)
+
+pub data Played {S : Type 0} (p : Player S) (Stands : World → S → Type 0) (m : Group) (c : ℕ) (w : World) (v : S) (line : ScriptLine) : Type 0 where
+  hidden : Hidden p Stands m c w v line → Played p Stands m c w v line
+  visible : Visible p Stands m c w v line → Played p Stands m c w v line
+
+-- Filters of one list of events
+items-append : (m : Group) (xs ys : List Event) → items m (xs ++ ys) ≡ items m xs ++ items m ys
+items-append m xs ys = ap (map item_of) (filter-append (is_item m) xs ys) ∙ map-append item_of (which (is_item m) xs) (which (is_item m) ys)
+
+inputs-append : (m : Group) (c : ℕ) (xs ys : List Event) → inputs m c (xs ++ ys) ≡ inputs m c xs ++ inputs m c ys
+inputs-append m c xs ys = ap (map item_of) (filter-append (is_input m c) xs ys) ∙ map-append item_of (which (is_input m c) xs) (which (is_input m c) ys)
+
+told-inputs : (m : Group) (c : ℕ) (u : World) (d : Whose) (es : List Entry) → inputs m c (map (told_event u d) es) ≡ told_items (told_inputs m c u d es)
+told-inputs m c u d [] = refl
+told-inputs m c u d (e ∷ es) = at (is_told_input m c u d e) (told-inputs m c u d es)
+  where
+    at : (b : Bool) → inputs m c (map (told_event u d) es) ≡ told_items (told_inputs m c u d es)
+        → map item_of (cond b (told_event u d e ∷ which (is_input m c) (map (told_event u d) es)) (which (is_input m c) (map (told_event u d) es))) ≡ map Told (cond b (e ∷ told_inputs m c u d es) (told_inputs m c u d es))
+    at true rest = ap (λ is. Told e ∷ is) rest
+    at false rest = rest
+
+ran-input : (m : Group) (c : ℕ) (whose : Whose) (line : ScriptLine) → is_input m c (record { whose = whose; item = Ran line }) ≡ is_seen m whose
+ran-input m c (Of pid) line = and-true (m pid)
+ran-input m c Everyone line = refl
+ran-input m c Nobody line = refl
+
+-- the inputs of a line
+line-inputs : (m : Group) (c : ℕ) (w : World) (line : ScriptLine) → inputs m c (bare_line_events w line) ≡ cond (is_seen m (line_whose w line)) (Ran line ∷ told_items (told_inputs m c (served_step w line).world (line_whose w line) (served_step w line).entries)) (told_items (told_inputs m c (served_step w line).world (line_whose w line) (served_step w line).entries))
+line-inputs m c w line = subst (λ b. map item_of (cond b (record { whose = line_whose w line; item = Ran line } ∷ which (is_input m c) es) (which (is_input m c) es)) ≡ cond (is_seen m (line_whose w line)) (Ran line ∷ told) told) (sym (ran-input m c (line_whose w line) line)) (at (is_seen m (line_whose w line)) (told-inputs m c (served_step w line).world (line_whose w line) (served_step w line).entries))
+  where
+    es : List Event
+    es = map (told_event (served_step w line).world (line_whose w line)) (served_step w line).entries
+
+    told : List Item
+    told = told_items (told_inputs m c (served_step w line).world (line_whose w line) (served_step w line).entries)
+
+    at : (b : Bool) → map item_of (which (is_input m c) es) ≡ told → map item_of (cond b (record { whose = line_whose w line; item = Ran line } ∷ which (is_input m c) es) (which (is_input m c) es)) ≡ cond b (Ran line ∷ told) told
+    at true rest = ap (λ is. Ran line ∷ is) rest
+    at false rest = rest
+
+-- what each line of a circle's run owes
+abbrev pub Keeps : {S : Type 0} → Player S → (World → S → Type 0) → (ScriptLine → Bool) → Group → ℕ → Type 0
+Keeps {S} p Stands ok m c = (w : World) (v : S) (line : ScriptLine) → Stands w v → HasFineRows m c w → HasFineRows m c (served_step w line).world → is_fine_line m c w line ≡ true → ok line ≡ true → Played p Stands m c w v line
+
+-- every line that says something is as it must be
+abbrev pub are_ok : (ScriptLine → Bool) → List (Option ScriptLine) → Bool
+are_ok ok [] = true
+are_ok ok (None ∷ later) = are_ok ok later
+are_ok ok (Some line ∷ later) = ok line && are_ok ok later
+
+head-fine : (m : Group) (c : ℕ) (w : World) (lines : List (Option ScriptLine)) → IsBareCircle m c w lines → HasFineRows m c w
+head-fine m c w [] is = is
+head-fine m c w (None ∷ later) is = head-fine m c w later is
+head-fine m c w (Some line ∷ later) is = is.0
+
+-- one line, and then the rest
+played-line : {S : Type 0} (p : Player S) (Stands : World → S → Type 0) (m : Group) (c : ℕ) (w : World) (v : S) (line : ScriptLine) (own rest : List Item) → Played p Stands m c w v line → ((v : S) → Stands (served_step w line).world v → own ≡ play p v rest)
+    → items (alone c) (bare_line_events w line) ++ own ≡ play p v (inputs m c (bare_line_events w line) ++ rest)
+played-line p Stands m c w v line own rest (hidden h) later =
+    let told = told_at m c w line in
+    let ins : inputs m c (bare_line_events w line) ≡ told_items told = line-inputs m c w line ∙ ap (λ b. cond b (Ran line ∷ told_items told) (told_items told)) h.unseen in
+    ap (λ is. is ++ own) h.silent ∙ later (absorbed p v told) h.stands ∙ sym (play-told p v told rest) ∙ ap (λ is. play p v (is ++ rest)) (sym ins)
+played-line p Stands m c w v line own rest (visible h) later =
+    let told = told_at m c w line in
+    let ins : inputs m c (bare_line_events w line) ≡ Ran line ∷ told_items told = line-inputs m c w line ∙ ap (λ b. cond b (Ran line ∷ told_items told) (told_items told)) h.seen in
+    ap (λ is. is ++ own) (h.shown rest)
+    ∙ ap (λ is. p.shown_at v line (told_items told ++ rest) ++ is) (later (absorbed p (p.after v line (told_items told ++ rest)) told) (h.stands rest) ∙ sym (play-told p (p.after v line (told_items told ++ rest)) told rest))
+    ∙ ap (λ is. play p v (is ++ rest)) (sym ins)
+
+-- the theorem of one run: c's items are a function of the inputs
+pub plays : {S : Type 0} (p : Player S) (Stands : World → S → Type 0) (ok : ScriptLine → Bool) (m : Group) (c : ℕ) → Keeps p Stands ok m c → (w : World) (v : S) (lines : List (Option ScriptLine)) → Stands w v → IsBareCircle m c w lines → are_ok ok lines ≡ true → items (alone c) (bare_events w lines) ≡ play p v (inputs m c (bare_events w lines))
+plays p Stands ok m c k w v [] is circle fit = refl
+plays p Stands ok m c k w v (None ∷ later) is circle fit = plays p Stands ok m c k w v later is circle fit
+plays p Stands ok m c k w v (Some line ∷ later) is circle fit =
+    let next : HasFineRows m c (served_step w line).world = head-fine m c (served_step w line).world later circle.2 in
+    items-append (alone c) (bare_line_events w line) (bare_events (served_step w line).world later)
+    ∙ played-line p Stands m c w v line (items (alone c) (bare_events (served_step w line).world later)) (inputs m c (bare_events (served_step w line).world later)) (k w v line is circle.0 next circle.1 (first-true _ _ fit))
+    (λ v is. plays p Stands ok m c k (served_step w line).world v later is circle.2 (second-true _ _ fit))
+    ∙ ap (play p v) (sym (inputs-append m c (bare_line_events w line) (bare_events (served_step w line).world later)))
+
+-- the law on two scripts
+pub isolation : {S : Type 0} (p : Group → ℕ → Player S) (Stands : Group → ℕ → World → S → Type 0) (start : S) (ok : ScriptLine → Bool) → ((script : List ℕ) → are_ok ok (said_in script) ≡ true) → ((m : Group) (c : ℕ) → m c ≡ true → Keeps (p m c) (Stands m c) ok m c) → ((m : Group) (c : ℕ) → Stands m c no_rows start) → BareIsolation
+isolation p Stands start ok fit keeps none group c one two c_in circle_one circle_two same =
+    let m : Group = members group in
+    plays (p m c) (Stands m c) ok m c (keeps m c c_in) no_rows start (said_in one) (none m c) circle_one (fit one)
+    ∙ ap (play (p m c) start) same
+    ∙ sym (plays (p m c) (Stands m c) ok m c (keeps m c c_in) no_rows start (said_in two) (none m c) circle_two (fit two))

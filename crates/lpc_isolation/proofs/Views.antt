@@ -1,0 +1,9 @@
+-- What a group sees of a world: the view, what each basic step does to it, and what its own calls and an outsider's find there.
+pub mod Alone
+pub mod Filters
+pub mod View
+pub mod Basics
+pub mod Seen
+pub mod Apart
+pub mod Callers
+pub mod Mine
