@@ -16,7 +16,7 @@ use Rattle.std.specs.Prelude.{◌≡◌, ℕ, Bool, true, List, Option}
 use Rattle.std.proofs.Common.{refl, subst, sym, None, Some}
 use Rattle.lpc_base.specs.declared.status.Status.{Status}
 use Rattle.lpc_model.specs.World.{Birth, ThreadRow, World}
-use Rattle.lpc_model.specs.Basics.{world_after}
+use Rattle.lpc_model.specs.Basics.{Basic, world_after}
 use Rattle.lpc_model.specs.Lines.{ScriptCall, accept_connect_port, close, complete_connect_port, connect_port, create_port, duplicate_object, listen_port, query_object, reply_port, reply_wait_receive_port, request_port, request_wait_reply_port, register_thread_terminate_port, create_process, create_thread, terminate_thread, terminate_process}
 use Rattle.lpc_model.specs.Death.{code_status}
 use Rattle.lpc_isolation.proofs.Gone.Served.{served}
@@ -33,17 +33,13 @@ use Rattle.lpc_isolation.proofs.Each.Creates.{process-lawful, thread-lawful}
 use Rattle.lpc_isolation.proofs.Views.Callers.{Led}
 use Rattle.lpc_isolation.proofs.Plays.Lines.{OnceUsed}
 use Rattle.lpc_isolation.proofs.Rows.Ids.{Numbered, of_number}
-use Rattle.lpc_isolation.proofs.Gone.ThinCalls.{AreClosed, create-thin, connect-thin, listen-thin, accept-thin, complete-thin, datagram-thin, request-thin, reply-thin, receive-thin}
-use Rattle.lpc_isolation.proofs.Gone.Fine.{FineAfter}
+use Rattle.lpc_isolation.proofs.Gone.ThinCalls.{create-thin, connect-thin, listen-thin, accept-thin, complete-thin, datagram-thin, request-thin, reply-thin, receive-thin}
 use Rattle.lpc_isolation.proofs.Owed.Fine.{fine-deeds}
 use Rattle.lpc_isolation.proofs.Owed.Paths.{paths-deeds}
-use Rattle.lpc_isolation.proofs.Rows.Paths.{are_paths}
 use Rattle.lpc_isolation.proofs.Owed.Asked.{asked-deeds}
-use Rattle.lpc_isolation.proofs.Rows.Asked.{Asked}
 use Rattle.lpc_isolation.proofs.Owed.Orderly.{orderly-deeds}
 use Rattle.lpc_isolation.proofs.Each.Refuses.{Refuses, refuses-create, refuses-connect, refuses-listen, refuses-accept, refuses-complete, refuses-datagram, refuses-request, refuses-reply, refuses-receive}
 use Rattle.lpc_isolation.proofs.Owed.Fair.{fair-deeds}
-use Rattle.lpc_isolation.proofs.Rows.Fair.{are_fair}
 use Rattle.lpc_isolation.proofs.Each.Instances.{At, Leading, caller, leads_by}
 use Rattle.lpc_isolation.proofs.Memory.Calls.{Hears}
 use Rattle.lpc_isolation.proofs.Owed.Known.{hears-deeds, notes-deeds}
@@ -51,7 +47,6 @@ use Rattle.lpc_isolation.proofs.Each.Closes.{refuses-close, same-close, alike-cl
 use Rattle.lpc_isolation.proofs.Each.Terminates.{EndsThreads, alike-ends, leads-ends, own-ends, process-ends-it, refuses-ends, thread-ends-it}
 use Rattle.lpc_isolation.proofs.Calls.Calm.{Calm, answers_alike, ends_threads}
 use Rattle.lpc_isolation.proofs.Calls.Deeds.{deeds-do, is_calm}
-use Rattle.lpc_isolation.proofs.Rows.Sent.{are_sent}
 use Rattle.lpc_isolation.proofs.Owed.Apart.{apart-deeds}
 use Rattle.lpc_isolation.proofs.Owed.Ours.{own-call}
 use Rattle.lpc_isolation.proofs.Owed.Sent.{sent-deeds}
@@ -150,25 +145,29 @@ ends-calm call code e = record {
 calm : {call : ScriptCall} → is_calm call ≡ true → Calm call → Lawful call
 calm {call} is s = record {
   begins = λ m c w by known a. holds-more (λ bs. is_call_of w by.number bs ≡ true) (Begins w by.number) (served w by call) (λ bs ok. begins-of w by.number bs ok) (order m c w by known a);
-  once = λ m c w by known a once. settle (λ u bs. OnceUsed u) w by.number (served w by call) (order m c w by known a) (λ u used. holds_any (OnceUsed u) (same-used w u used once) (served w by call));
-  numbered = λ m c w by known a ids n. settle (λ u bs. Numbered u) w by.number (served w by call) (order m c w by known a) (λ u used. holds_any (Numbered u) (subst (λ us. every of_number us ≡ true) (sym used) n) (served w by call));
+  once = λ m c w by known a once. at-end m c w by known (λ u bs. OnceUsed u) a (λ u used. holds_any (OnceUsed u) (same-used w u used once) (served w by call));
+  numbered = λ m c w by known a ids n. at-end m c w by known (λ u bs. Numbered u) a (λ u used. holds_any (Numbered u) (subst (λ us. every of_number us ≡ true) (sym used) n) (served w by call));
   refuses = s.refuses;
-  fair = λ m c w by known a. deeds-do w by (λ _ bs. HasFineRows m c (world_after w bs) → are_fair m c w bs ≡ true) (fair-deeds m c w by (caller m c w by known w a refl)) call is;
-  paths = λ m c w by known a all. deeds-do w by (λ _ bs. are_paths w bs ≡ true) (paths-deeds m c w by all (caller m c w by known w a refl)) call is;
-  asked = λ m c w by known a b. deeds-do w by (λ _ bs. Asked (world_after w bs)) (asked-deeds m c w by b (caller m c w by known w a refl)) call is;
-  sent = λ u by sound live. deeds-do u by (λ _ bs. are_sent u bs ≡ true) (sent-deeds u by sound live) call is;
-  apart = λ m c d w by known a out. settle (λ u bs. HasFineRows m c (world_after w bs) → are_apart m c u d w bs ≡ true) w by.number (served w by call) (order m c w by known a) (λ u used. deeds-do w by (λ _ bs. HasFineRows m c (world_after w bs) → are_apart m c u d w bs ≡ true) (apart-deeds m c u d w by (caller m c w by known u a used) out) call is);
+  fair = λ m c w by known a. deeds-do w by _ (fair-deeds m c w by (caller m c w by known w a refl)) call is;
+  paths = λ m c w by known a all. deeds-do w by _ (paths-deeds m c w by all (caller m c w by known w a refl)) call is;
+  asked = λ m c w by known a b. deeds-do w by _ (asked-deeds m c w by b (caller m c w by known w a refl)) call is;
+  sent = λ u by sound live. deeds-do u by _ (sent-deeds u by sound live) call is;
+  apart = λ m c d w by known a out. at-end m c w by known (λ u bs. HasFineRows m c (world_after w bs) → are_apart m c u d w bs ≡ true) a (λ u used. deeds-do w by _ (apart-deeds m c u d w by (caller m c w by known u a used) out) call is);
   own = λ m c d w by known a mine fine. settle-own (λ u bs led. HasFineRows m c (world_after w bs) → Led m c u d w bs led) w by.number (served w by call) (served (view m w) by call) (order m c w by known a) (λ u used. own-call call is s.members m c u d w by known a used mine fine);
-  leads = λ m c d w by known a by_in other. settle (λ u bs. HasFineRows m c (world_after w bs) → Leading m c u d w by known call bs) w by.number (served w by call) (order m c w by known a) (λ u used. leads-call call is s.members m c u d w by known a used by_in other);
-  hears = λ m c d w by known memo a owned n b all out. settle (λ u bs. HasFineRows m c (world_after w bs) → Hears m c u d w memo bs) w by.number (served w by call) (order m c w by known a) (λ u used. deeds-do w by (λ _ bs. HasFineRows m c (world_after w bs) → Hears m c u d w memo bs) (hears-deeds m c u w by d memo (caller m c w by known u a used) owned n b all out) call is);
+  leads = λ m c d w by known a by_in other. at-end m c w by known (λ u bs. HasFineRows m c (world_after w bs) → Leading m c u d w by known call bs) a (λ u used. leads-call call is s.members m c u d w by known a used by_in other);
+  hears = λ m c d w by known memo a owned n b all out. at-end m c w by known (λ u bs. HasFineRows m c (world_after w bs) → Hears m c u d w memo bs) a (λ u used. deeds-do w by _ (hears-deeds m c u w by d memo (caller m c w by known u a used) owned n b all out) call is);
   notes = λ m c w by known memo a owned n b all by_in. deeds-do w by _ (notes-deeds m c w w by memo (caller m c w by known w a refl) owned n b all by_in) call is;
   alike = s.alike;
-  stands = λ k u by live sound closed room. deeds-do u by (λ _. AreClosed k) (stands-deeds k u by live sound closed room.port) call is;
-  fine = λ m c after u by idle f. deeds-do u by (λ _. FineAfter m c after u) (fine-deeds m c after u by idle f) call is;
+  stands = λ k u by live sound closed room. deeds-do u by _ (stands-deeds k u by live sound closed room.port) call is;
+  fine = λ m c after u by idle f. deeds-do u by _ (fine-deeds m c after u by idle f) call is;
 }
   where
     order : (m : Group) (c : ℕ) (w : World) (by : ThreadRow) (known : List ℕ → Birth) → At m c w by known → Holds (λ bs. is_call_of w by.number bs ≡ true) (served w by call)
-    order m c w by known a = deeds-do w by (λ _ bs. is_call_of w by.number bs ≡ true) (orderly-deeds m c w w by (caller m c w by known w a refl)) call is
+    order m c w by known a = deeds-do w by _ (orderly-deeds m c w w by (caller m c w by known w a refl)) call is
+
+    -- of the numbers behind the line
+    at-end : (m : Group) (c : ℕ) (w : World) (by : ThreadRow) (known : List ℕ → Birth) (P : World → List Basic → Type 0) → At m c w by known → ((u : World) → u.used_threads ≡ w.used_threads → Holds (P u) (served w by call)) → Holds (λ bs. P (world_after w bs) bs) (served w by call)
+    at-end m c w by known P a all = settle P w by.number (served w by call) (order m c w by known a) all
 
 pub lawful : (call : ScriptCall) → Lawful call
 lawful (create_port name) = calm refl (create-calm name)

@@ -16,7 +16,6 @@ use Rattle.lpc_isolation.proofs.Views.Basics.{are_ours}
 use Rattle.lpc_isolation.proofs.Rows.Fair.{Fair, are_fair, run-fair}
 use Rattle.lpc_isolation.proofs.Each.Enter.{Patient, is_patient}
 use Rattle.lpc_isolation.proofs.Views.Apart.{Owned, is_owned}
-use Rattle.lpc_isolation.proofs.Rows.Bound.{OnceBound, once-unbound}
 use Rattle.lpc_isolation.proofs.Rows.Paths.{Paths, are_paths, run-paths}
 use Rattle.lpc_isolation.proofs.Rows.Sent.{are_sent, none-sent, sends_none}
 use Rattle.lpc_isolation.proofs.Rows.Asked.{Asked}

@@ -66,7 +66,7 @@ offered-in a b c d is = grind arith
 pub reached-of : (a b c d : Bool) → (a && (b && (c && d))) ≡ true → d ≡ true
 reached-of a b c d is = grind arith
 
-pub answer-found : (m : Group) (c : ℕ) (u w : World) (by : ThreadRow) (bytes : List ℕ) → Caller m c u w by → Holds (IsAnswer m c w by bytes) (answer_test w by bytes)
+answer-found : (m : Group) (c : ℕ) (u w : World) (by : ThreadRow) (bytes : List ℕ) → Caller m c u w by → Holds (IsAnswer m c w by bytes) (answer_test w by bytes)
 answer-found m c u w by bytes k =
     let P : ConnectAnswer → Type 0 = IsAnswer m c w by bytes in
     bind_holds (message_test bytes) _ P (λ b at.

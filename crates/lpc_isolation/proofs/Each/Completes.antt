@@ -22,7 +22,7 @@ use Rattle.lpc_model.proofs.Calls.Holding.{Holds, bind_holds, found_ok, holds_ok
 use Rattle.lpc_model.specs.Circle.{Group, Whose, owner}
 use Rattle.lpc_isolation.proofs.Views.Filters.{first-kept, first-where}
 use Rattle.lpc_isolation.proofs.Views.View.{of_birth, our_wait, view}
-use Rattle.lpc_isolation.proofs.Views.Basics.{are_ours, basic-ours, basic-unseen, sees_wait}
+use Rattle.lpc_isolation.proofs.Views.Basics.{basic-ours, basic-unseen, sees_wait}
 use Rattle.lpc_isolation.proofs.Rows.Fair.{Fair, all_of, are_fair, implies, is_fair_pair, is_fair_wait, is_home}
 use Rattle.lpc_isolation.proofs.Views.Seen.{bind-same, free-view, port_test-view}
 use Rattle.lpc_isolation.proofs.Views.Apart.{are_apart, end-apart, is_owned, owned-by, unseen-wait}
@@ -58,7 +58,7 @@ completion-found m c w by handle p at n =
       found = found_ok (first (is_accepted_on client) w.waits) PORT_DISCONNECTED x found;
     }))))
 
-pub completable : (m : Group) (c : ℕ) (u w : World) (by : ThreadRow) (handle : ℕ) → Caller m c u w by → Holds (IsCompletable m c w by handle) (complete_test w by handle)
+completable : (m : Group) (c : ℕ) (u w : World) (by : ThreadRow) (handle : ℕ) → Caller m c u w by → Holds (IsCompletable m c w by handle) (complete_test w by handle)
 completable m c u w by handle k = bind_holds (port_test w by handle) _ (IsCompletable m c w by handle) (λ p at.
     completion-found m c w by handle p at (found-port m c u w by handle p k at))
 

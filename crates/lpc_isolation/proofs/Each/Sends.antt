@@ -21,9 +21,9 @@ use Rattle.lpc_model.specs.SoundWaits.{IsSoundWorld, HasShutConnects}
 use Rattle.lpc_model.proofs.Calls.Holding.{Holds, bind_holds, found_ok, holds-more, holds_ok}
 use Rattle.lpc_model.specs.Circle.{Group, Whose, owner}
 use Rattle.lpc_isolation.proofs.Views.Alone.{HasFineRows}
-use Rattle.lpc_isolation.proofs.Views.Filters.{first-none_kept, which-where}
-use Rattle.lpc_isolation.proofs.Views.View.{our_message, our_wait, seen_pair, seen_port, view}
-use Rattle.lpc_isolation.proofs.Views.Basics.{are_ours, run-ours, sees_wait}
+use Rattle.lpc_isolation.proofs.Views.Filters.{which-where}
+use Rattle.lpc_isolation.proofs.Views.View.{our_message, seen_pair, seen_port, view}
+use Rattle.lpc_isolation.proofs.Views.Basics.{are_ours, run-ours}
 use Rattle.lpc_isolation.proofs.Rows.Fair.{Fair, are_fair, implies, is_fair_message, is_sent, keeps-fair, owner-sent}
 use Rattle.lpc_isolation.proofs.Views.Seen.{bind-same, c-port, port-own, port_test-view}
 use Rattle.lpc_isolation.proofs.Each.Enter.{Patient, enter-fair, enter-ours, enter-view}
@@ -61,7 +61,7 @@ pub record Named (m : Group) (c : ℕ) (w : World) (by : ThreadRow) (p : PortRow
   pub process : p.birth.process ≡ by.process
   pub right : Right m c w p
 
-pub named-port : (m : Group) (c : ℕ) (u w : World) (by : ThreadRow) (handle : ℕ) → Caller m c u w by → Holds (Named m c w by) (port_test w by handle)
+named-port : (m : Group) (c : ℕ) (u w : World) (by : ThreadRow) (handle : ℕ) → Caller m c u w by → Holds (Named m c w by) (port_test w by handle)
 named-port m c u w by handle k = holds-more _ (Named m c w by) (port_test w by handle) (λ p h. record { process = h.0; right = right-row m c w p k.fair k.fine h.1 }) (port-own m c w by handle k.fair)
 
 pub found-port : (m : Group) (c : ℕ) (u w : World) (by : ThreadRow) (handle : ℕ) (p : PortRow) → Caller m c u w by → port_test w by handle ≡ Ok p → Named m c w by p
@@ -74,7 +74,7 @@ pub record IsSendable (m : Group) (c : ℕ) (w : World) (by : ThreadRow) (handle
   pub to : route w s.port ≡ Some s.queue
   pub named : Named m c w by s.port
 
-pub sendable : (m : Group) (c : ℕ) (u w : World) (by : ThreadRow) (handle : ℕ) (bytes : List ℕ) → Caller m c u w by → Holds (IsSendable m c w by handle bytes) (send_test w by handle bytes)
+sendable : (m : Group) (c : ℕ) (u w : World) (by : ThreadRow) (handle : ℕ) (bytes : List ℕ) → Caller m c u w by → Holds (IsSendable m c w by handle bytes) (send_test w by handle bytes)
 sendable m c u w by handle bytes k =
     let P : Sendable → Type 0 = IsSendable m c w by handle bytes in
     bind_holds (port_test w by handle) _ P (λ port at.
@@ -85,7 +85,7 @@ sendable m c u w by handle bytes k =
 pub found-request : (m : Group) (c : ℕ) (u w : World) (by : ThreadRow) (handle : ℕ) (bytes : List ℕ) (s : Sendable) → Caller m c u w by → send_test w by handle bytes ≡ Ok s → IsSendable m c w by handle bytes s
 found-request m c u w by handle bytes s k at = holds_ok (IsSendable m c w by handle bytes) (send_test w by handle bytes) s (sendable m c u w by handle bytes k) at
 
-pub tested-sendable : (m : Group) (c : ℕ) (u w : World) (by : ThreadRow) (handle : ℕ) (bytes : List ℕ) → Caller m c u w by → Holds (IsSendable m c w by handle bytes) (datagram_send_test w by handle bytes)
+tested-sendable : (m : Group) (c : ℕ) (u w : World) (by : ThreadRow) (handle : ℕ) (bytes : List ℕ) → Caller m c u w by → Holds (IsSendable m c w by handle bytes) (datagram_send_test w by handle bytes)
 tested-sendable m c u w by handle bytes k =
     let Q : Sendable → Type 0 = IsSendable m c w by handle bytes in
     bind_holds (send_test w by handle bytes) _ Q (λ s at. bind_holds (datagram_test w s.port) _ Q (λ _ _. holds_ok Q (send_test w by handle bytes) s (sendable m c u w by handle bytes k) at))

@@ -4,14 +4,14 @@ use Rattle.lpc_isolation.proofs.Gone.Grown.{Grows, IsNew, boot-grows, either, ei
 use Rattle.lpc_isolation.proofs.Calls.Laws.{Room}
 use Rattle.lpc_model.specs.Grammar.{has_ids}
 use Rattle.lpc_isolation.proofs.Calls.Services.{lawful}
-use Rattle.std.proofs.Common.{◌≡◌, ℕ, List, [], ◌∷◌, ◌++◌, true, map, Option, Some, None, refl, ap, sym, subst, ◌∙◌}
+use Rattle.std.proofs.Common.{◌≡◌, ℕ, List, [], ◌∷◌, ◌++◌, true, Option, Some, None, refl, ap, sym, subst, ◌∙◌}
 use Rattle.std.specs.Prelude.{Result, Ok, Err}
 use Rattle.lpc_base.proofs.RowMaps.{every-both}
 use Rattle.lpc_model.specs.declared.entry.Entry.{Entry}
 use Rattle.lpc_model.specs.declared.entry.Word.TheVariants as word
-use Rattle.lpc_model.specs.World.{HandleRow, ObjectName, ThreadRow, WaitRow, World}
+use Rattle.lpc_model.specs.World.{HandleRow, ThreadRow, WaitRow, World}
 use Rattle.lpc_model.specs.Found.{handle_count, live_thread, wait_of}
-use Rattle.lpc_model.specs.Basics.{Basic, Frees, Tells, entries_of, world_after}
+use Rattle.lpc_model.specs.Basics.{Basic, Tells, entries_of, world_after}
 use Rattle.lpc_model.specs.Tests.{own_handle}
 use Rattle.lpc_model.specs.Named.{free_name, spelled_name}
 use Rattle.lpc_model.specs.Lines.{ScriptCall, ScriptLine, boot, dir, link, query_object, run, thread}

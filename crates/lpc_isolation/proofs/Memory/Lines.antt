@@ -29,7 +29,7 @@ use Rattle.lpc_isolation.proofs.Each.Instances.{At, leads_by}
 use Rattle.lpc_isolation.proofs.Rows.Kept.{owned-sound}
 use Rattle.lpc_isolation.proofs.Memory.Heard.{Heard, call_memo, caller_memo, done-silent, entries-silent, entries_memo, is_silent, is_silent_step, line_memo, silent-memo, steps-silent}
 use Rattle.lpc_isolation.proofs.Memory.Knows.{AllKnown, are_known, known_queue, run-known}
-use Rattle.lpc_isolation.proofs.Memory.Calls.{Hears, Still, still-hears}
+use Rattle.lpc_isolation.proofs.Memory.Calls.{Hears, still-hears}
 use Rattle.lpc_isolation.proofs.Plays.Stands.{State, Stood, absorbed-memo, owes-line, played_view, player, ready-at}
 
 -- what a line that the group doesn't see leaves remembered, and one that it sees, is right

@@ -1,5 +1,5 @@
 -- What the tests of calls find in a view.
-use Rattle.std.proofs.Common.{◌≡◌, ℕ, List, [], ◌∷◌, true, false, not, Option, Some, None, refl, ap, sym, subst, ◌∙◌, arith}
+use Rattle.std.proofs.Common.{◌≡◌, ℕ, List, [], ◌∷◌, true, not, Option, Some, None, refl, ap, sym, subst, ◌∙◌, arith}
 use Rattle.std.specs.Prelude.{◌&&◌, ◌==◌, option_map, Result, Ok, Err}
 use Rattle.std.proofs.lemmas.Bool.{eqb-true}
 use Rattle.lpc_base.specs.Rows.{every, first, has, passes}
@@ -18,7 +18,7 @@ use Rattle.lpc_base.specs.declared.status.TheConstants.{ACCESS_DENIED, INVALID_H
 use Rattle.lpc_model.specs.Tests.{PORT_RIGHT, includes, object_test, own_handle, port_test}
 use Rattle.lpc_model.proofs.Calls.Holding.{Holds, bind_holds, found_holds, found_ok, holds_ok}
 use Rattle.lpc_model.specs.Circle.{Group, owner}
-use Rattle.lpc_isolation.proofs.Views.Filters.{first-inside, first-nowhere, first-shown, first-where, has-inside}
+use Rattle.lpc_isolation.proofs.Views.Filters.{first-inside, first-shown, first-where, has-inside}
 use Rattle.lpc_isolation.proofs.Views.View.{of_birth, our_port, our_table, our_thread, seen_port, view}
 use Rattle.lpc_isolation.proofs.Rows.Fair.{Fair, is_fair_pair, is_fair_port, is_fair_table, is_home, is_homed, is_own}
 
