@@ -15,7 +15,10 @@ use Rattle.lpc_ports.specs.Table.{PortTable, with_row}
 use Rattle.lpc_ports.specs.Layout.{InOrder, is_open, port_of, ports_of, seen}
 use Rattle.lpc_ports.specs.Lent.{messages_of, queue_of}
 use Rattle.lpc_ports.proofs.Ordered.{vacant_shown}
+use Rattle.lpc_ports.specs.declared.totals.Totals.{Totals}
+use Rattle.lpc_ports.specs.Totals.{IsKept}
 use Rattle.lpc_ports.proofs.Stand.{written}
+use Rattle.lpc_ports.proofs.Totalled.{totals_changed}
 
 module _ (ports : Table PortRow) (blocks : Table Block) (key : Key) (f : Port → Port) where
   abbrev fresh : PortRow → PortRow
@@ -53,6 +56,10 @@ module _ (ports : Table PortRow) (blocks : Table Block) (key : Key) (f : Port �
       | inl here ↦ ap (λ (r : PortRow). r.sent_count) here.1 ∙ inside.counts q row (ap (at ports) here.0 ∙ there)
       | inr away ↦ inside.counts q other away.1
     ];
+    datagrams = λ q other found. elim (written ports key q (fresh row) other found) [
+      | inl here ↦ ap (λ (r : PortRow). r.datagrams) here.1 ∙ inside.datagrams q row (ap (at ports) here.0 ∙ there)
+      | inr away ↦ inside.datagrams q other away.1
+    ];
     young = inside.young;
   }
     where
@@ -62,3 +69,9 @@ module _ (ports : Table PortRow) (blocks : Table Block) (key : Key) (f : Port �
             | inl same ↦ ap (λ k. is_some (at (with_value ports key (fresh row)) k)) same ∙ ap is_some (at_same ports key (fresh row))
             | inr differs ↦ ap is_some (at_other ports key (fresh row) q (λ e. differs (let k : key ≡ q = cc in sym k))) ∙ is
           ]
+
+  pub changed_kept : (totals : Totals) (row : PortRow) → at ports key ≡ Some row → ((port : Port) → (f port).kind ≡ port.kind) → IsKept ports blocks totals → IsKept (with_value ports key (fresh row)) blocks totals
+  changed_kept totals row there same kept = record {
+    order = changed_order row there kept.order;
+    totals = rw (ap (parts port_of) (listed_put key fresh ports row there) ∙ parts_changed (listed ports)) (totals_changed totals (ports_of ports) (messages_of blocks) kept.totals key f same);
+  }

@@ -1,5 +1,5 @@
 -- The messages of one port among all messages.
-use Rattle.std.proofs.Common.{◌≡◌, ◌≢◌, ◌&&◌, Bool, true, cond, refl, sym, ap, ◌∙◌, subst, inl, inr, List, [], ◌∷◌, ◌++◌, Option, Some, None, option_map, option_to_list, is_some}
+use Rattle.std.proofs.Common.{◌≡◌, ◌≢◌, ◌&&◌, ◌||◌, arith, Bool, true, cond, refl, sym, ap, ◌∙◌, subst, inl, inr, List, [], ◌∷◌, ◌++◌, Option, Some, None, option_map, option_to_list, is_some}
 use Rattle.std.proofs.lemmas.Bool.{cases_Bool, and_parts}
 use Rattle.lpc_base.specs.Rows.{has, which, without, first}
 use Rattle.lpc_base.proofs.RowWords.{which-without}
@@ -8,7 +8,7 @@ use Rattle.lpc_slots.specs.Table.{at_key, is_key, keys_of}
 use Rattle.lpc_slots.specs.Chain.{IsAway, IsDistinct, first_or, last_or}
 use Rattle.lpc_slots.proofs.Keys.{key_cases, key_is, key_itself, key_apart}
 use Rattle.lpc_slots.proofs.Frames.{EachAway, each_nil, each_cons, keys_without, without_away}
-use Rattle.lpc_ports.specs.Table.{QueuedMessage}
+use Rattle.lpc_ports.specs.Table.{QueuedMessage, is_in, is_message_at, is_sent_on}
 use Rattle.lpc_ports.specs.Lent.{is_by, keys_by}
 
 -- the first key of rows
@@ -19,6 +19,20 @@ first_of_which test (row ∷ rows) =
       | inl on ↦ rw on refl
       | inr off ↦ rw off (first_of_which test rows)
     ]
+
+-- there is a first key where a row passes
+pub first_has : {X : Type 0} (test : Key × X → Bool) (rows : List (Key × X)) → is_some (first_or None (keys_of (which test rows))) ≡ has test rows
+first_has test [] = refl
+first_has test (row ∷ rows) =
+    elim (cases_Bool (test row)) [
+      | inl on ↦ rw on refl
+      | inr off ↦ rw off (first_has test rows)
+    ]
+
+-- a message is at a port where it was sent on it or stands in its queue
+pub either_has : (port : Key) (rows : List (Key × QueuedMessage)) → has (is_message_at port) rows ≡ (has (is_sent_on port) rows || has (is_in port) rows)
+either_has port [] = refl
+either_has port (row ∷ rows) = grind (arith, either_has port rows)
 
 -- a key that is apart from each key of the second list, and one of the first
 pub each_at : (front : List Key) (key : Key) (back xs : List Key) → EachAway (front ++ key ∷ back) xs → IsAway (Some key) xs

@@ -12,8 +12,9 @@ use Rattle.lpc_slots.proofs.Frames.{at_inserted, away_listed, distinct_listed, i
 use Rattle.lpc_slots.proofs.Same.{are_apart, at_first}
 use Rattle.lpc_ports.specs.declared.rows.PortRow.{PortRow}
 use Rattle.lpc_ports.specs.declared.messages.Block.{Block}
-use Rattle.lpc_ports.specs.Table.{QueuedMessage, is_in, row_at}
-use Rattle.lpc_ports.specs.Layout.{ChangesLinks, IsPlaced, IsSentBefore, InOrder, is_open, port_of, ports_of, seen, QueuesStand, SendersStand, IsCounted}
+use Rattle.lpc_ports.specs.Table.{QueuedMessage, is_datagram_of, is_in, is_of_type, row_at}
+use Rattle.lpc_message.specs.declared.kind.TheConstants.{DATAGRAM}
+use Rattle.lpc_ports.specs.Layout.{ChangesLinks, IsPlaced, IsSentBefore, InOrder, is_open, port_of, ports_of, seen, QueuesStand, SendersStand, IsCounted, AreDatagrams, IsDatagramPlaced}
 use Rattle.lpc_ports.specs.Lent.{in_queue_of, is_by, keys_by, messages_of, of_sender_of, queue_of, queued_of, sender_of}
 
 pub mapped_some : {A B : Type 0} (f : A → B) (o : Option A) → is_some (option_map f o) ≡ is_some o
@@ -46,6 +47,9 @@ vacant_shown h s key none = none_first key (parts h (listed s)) (shown_at h s ke
 
 pub keys_apart : (blocks : Table Block) → IsDistinct (keys_of (messages_of blocks))
 keys_apart blocks = subst (λ (ks : List Key). IsDistinct ks) (sym (keys_parts queued_of (listed blocks))) (distinct_listed blocks)
+
+pub ports_apart : (ports : Table PortRow) → IsDistinct (keys_of (ports_of ports))
+ports_apart ports = subst (λ (ks : List Key). IsDistinct ks) (sym (keys_parts port_of (listed ports))) (distinct_listed ports)
 
 pub key_is_new : (blocks : Table Block) (key : Key) → at blocks key ≡ None → IsAway (Some key) (keys_of (messages_of blocks))
 key_is_new blocks key none = subst (λ (ks : List Key). IsAway (Some key) ks) (sym (keys_parts queued_of (listed blocks))) (away_listed blocks key none)
@@ -117,6 +121,15 @@ placed_at owner blocks key block there = record {
         some_is : {x y : QueuedMessage} → Some x ≡ Some y → x ≡ y
         some_is e = cc
 
+-- a message that has a row counts as what it is
+pub datagram_placed : (blocks : Table Block) (key : Key) (block : Block) (datagram : Bool) → at blocks key ≡ Some block → is_of_type DATAGRAM block.message ≡ datagram → IsDatagramPlaced key block.message.sender datagram (messages_of blocks)
+datagram_placed blocks key block datagram found is = record {
+  value = queued_of block;
+  distinct = keys_apart blocks;
+  there = shown_at queued_of blocks key ∙ ap (option_map queued_of) found;
+  sent = (refl, is);
+}
+
 -- no message of a port that had no row when they were sent
 pub none_of_new : (owner : QueuedMessage → Key) (port : Key) (messages : List (Key × QueuedMessage)) → every (λ row. not (is_key (owner row.1) port)) messages ≡ true → keys_by owner port messages ≡ []
 none_of_new owner port [] all = refl
@@ -126,13 +139,14 @@ none_of_new owner port (row ∷ messages) all =
       | inr off ↦ rw off (none_of_new owner port messages (sym (ap (λ b. not b && every (λ row. not (is_key (owner row.1) port)) messages) off) ∙ all))
     ]
 
-pub in_order : (ports : Table PortRow) (blocks : Table Block) (messages : List (Key × QueuedMessage)) → messages_of blocks ≡ messages → QueuesStand ports blocks messages → SendersStand ports blocks messages → every (is_open ports) messages ≡ true → IsSentBefore ports.made messages → IsCounted ports messages → InOrder ports blocks
-in_order ports blocks messages is queues senders stood young counted = record {
+pub in_order : (ports : Table PortRow) (blocks : Table Block) (messages : List (Key × QueuedMessage)) → messages_of blocks ≡ messages → QueuesStand ports blocks messages → SendersStand ports blocks messages → every (is_open ports) messages ≡ true → IsSentBefore ports.made messages → IsCounted ports messages → AreDatagrams ports messages → InOrder ports blocks
+in_order ports blocks messages is queues senders stood young counted datagrams = record {
   queues = subst (λ (ms : List (Key × QueuedMessage)). QueuesStand ports blocks ms) (sym is) queues;
   senders = subst (λ (ms : List (Key × QueuedMessage)). SendersStand ports blocks ms) (sym is) senders;
   stood_in = ap (every (is_open ports)) is ∙ stood;
   young = subst (λ (ms : List (Key × QueuedMessage)). IsSentBefore ports.made ms) (sym is) young;
   counts = subst (λ (ms : List (Key × QueuedMessage)). IsCounted ports ms) (sym is) counted;
+  datagrams = subst (λ (ms : List (Key × QueuedMessage)). AreDatagrams ports ms) (sym is) datagrams;
 }
 
 -- a removal of a row that is there
@@ -188,6 +202,10 @@ pub count_none : (test : Key × QueuedMessage → Bool) (messages : List (Key ×
 count_none test [] all = refl
 count_none test (row ∷ messages) all = grind (arith, count_none test messages)
 
+pub no_datagram : (port : Key) (messages : List (Key × QueuedMessage)) → every (λ row. not (is_by sender_of port row)) messages ≡ true → count (is_datagram_of port) messages ≡ 0
+no_datagram port [] all = refl
+no_datagram port (row ∷ messages) all = grind (arith, no_datagram port messages)
+
 -- room alone
 pub roomy : (ports : Table PortRow) (blocks : Table Block) (x y : ℕ) → InOrder ports blocks → InOrder (record ports { spare = x }) (record blocks { spare = y })
 roomy ports blocks x y inside = record {
@@ -195,11 +213,12 @@ roomy ports blocks x y inside = record {
   senders = λ q row found. stands_kept of_sender_of blocks (record blocks { spare = y }) row.sent _ refl (inside.senders q row found);
   stood_in = inside.stood_in;
   counts = inside.counts;
+  datagrams = inside.datagrams;
   young = inside.young;
 }
 
 -- a port is made
-module _ (ports : Table PortRow) (blocks : Table Block) (inside : InOrder ports blocks) (key : Key) (fresh : PortRow) (vacant : at ports key ≡ None) (next : key.generation ≡ ports.made + 1) (first : fresh.queued.first ≡ None) (last : fresh.queued.last ≡ None) (first_sent : fresh.sent.first ≡ None) (last_sent : fresh.sent.last ≡ None) (zero_sent : fresh.sent_count ≡ 0) where
+module _ (ports : Table PortRow) (blocks : Table Block) (inside : InOrder ports blocks) (key : Key) (fresh : PortRow) (vacant : at ports key ≡ None) (next : key.generation ≡ ports.made + 1) (first : fresh.queued.first ≡ None) (last : fresh.queued.last ≡ None) (first_sent : fresh.sent.first ≡ None) (last_sent : fresh.sent.last ≡ None) (zero_sent : fresh.sent_count ≡ 0) (zero_datagrams : fresh.datagrams ≡ 0) where
   abbrev more : Table PortRow
   more = inserted ports key fresh
 
@@ -240,6 +259,12 @@ module _ (ports : Table PortRow) (blocks : Table Block) (inside : InOrder ports 
           ap (λ (r : PortRow). r.sent_count) new.1 ∙ zero_sent ∙ sym none
       | inr old ↦ inside.counts q row old
     ];
+    datagrams = λ q row found. elim (at_more q row found) [
+      | inl new ↦
+          let none : count (is_datagram_of q) (messages_of blocks) ≡ 0 = ap (λ k. count (is_datagram_of k) (messages_of blocks)) new.0 ∙ no_datagram key (messages_of blocks) (none_sent_by_new key ports.made (messages_of blocks) (omega (arith, next)) inside.young) in
+          ap (λ (r : PortRow). r.datagrams) new.1 ∙ zero_datagrams ∙ sym none
+      | inr old ↦ inside.datagrams q row old
+    ];
     young = sent_more ports.made (ports.made + 1) (messages_of blocks) (omega arith) inside.young;
   }
 
@@ -276,6 +301,7 @@ module _ (ports : Table PortRow) (blocks : Table Block) (inside : InOrder ports 
     senders = λ q row found. inside.senders q row (at_fewer q row found);
     stood_in = open_left (messages_of blocks) empty inside.stood_in;
     counts = λ q row found. inside.counts q row (at_fewer q row found);
+    datagrams = λ q row found. inside.datagrams q row (at_fewer q row found);
     young = inside.young;
   }
 

@@ -11,7 +11,8 @@ use Rattle.lpc_ports.specs.declared.rows.PortRow.{PortRow}
 use Rattle.lpc_ports.specs.declared.Port.{Port}
 use Rattle.lpc_ports.specs.declared.messages.Block.{Block}
 use Rattle.lpc_ports.specs.Lent.{in_queue_of, is_by, keys_by, messages_of, of_sender_of, queue_of, queued_of, sender_of}
-use Rattle.lpc_ports.specs.Table.{PortTable, QueuedMessage}
+use Rattle.lpc_message.specs.declared.kind.TheConstants.{DATAGRAM}
+use Rattle.lpc_ports.specs.Table.{PortTable, QueuedMessage, is_datagram_of, is_of_type, row_at}
 
 -- a block with other links on a chain
 abbrev pub with_in_queue : Block → Links → Block
@@ -51,6 +52,13 @@ IsCounted ports messages = (port : Key) (row : PortRow) → at ports port ≡ So
 abbrev pub SentCounted : Table PortRow → Table Block → List (Key × QueuedMessage) → Type 0
 SentCounted ports blocks messages = IsCounted ports messages
 
+-- each port's stored number of datagrams is that of those that were sent on it
+abbrev pub AreDatagrams : Table PortRow → List (Key × QueuedMessage) → Type 0
+AreDatagrams ports messages = (port : Key) (row : PortRow) → at ports port ≡ Some row → row.datagrams ≡ count (is_datagram_of port) messages
+
+abbrev pub DatagramsCounted : Table PortRow → Table Block → List (Key × QueuedMessage) → Type 0
+DatagramsCounted ports blocks messages = AreDatagrams ports messages
+
 -- the chains of what was sent stand, and the numbers are theirs
 abbrev pub SentStand : Table PortRow → Table Block → List (Key × QueuedMessage) → Type 0
 SentStand ports blocks messages = SendersStand ports blocks messages × SentCounted ports blocks messages
@@ -58,6 +66,20 @@ SentStand ports blocks messages = SendersStand ports blocks messages × SentCoun
 -- one more can be counted at a port
 abbrev pub HasFewSent : Table PortRow → Key → Type 0
 HasFewSent ports port = (row : PortRow) → at ports port ≡ Some row → row.sent_count < 2 ^ 64 - 1
+
+abbrev pub HasFewDatagrams : Table PortRow → Key → Type 0
+HasFewDatagrams ports port = (row : PortRow) → at ports port ≡ Some row → row.datagrams < 2 ^ 64 - 1
+
+-- a message was sent on this port, and is a datagram or not
+abbrev pub IsSentAs : Key → Bool → QueuedMessage → Type 0
+IsSentAs sender datagram value = (sender_of value ≡ sender) × (is_of_type DATAGRAM value.message ≡ datagram)
+
+-- a message that is counted: it stands under this key
+pub record IsDatagramPlaced (key sender : Key) (datagram : Bool) (messages : List (Key × QueuedMessage)) : Type 0 where
+  pub value : QueuedMessage
+  pub distinct : IsDistinct (keys_of messages)
+  pub there : row_at messages key ≡ Some value
+  pub sent : IsSentAs sender datagram value
 
 -- each message was sent on a port that was made by then
 abbrev pub IsSentBefore : ℕ → List (Key × QueuedMessage) → Type 0
@@ -75,6 +97,7 @@ pub record InOrder (ports : Table PortRow) (blocks : Table Block) : Type 0 where
   pub senders : SendersStand ports blocks (messages_of blocks)
   pub stood_in : every (is_open ports) (messages_of blocks) ≡ true
   pub counts : IsCounted ports (messages_of blocks)
+  pub datagrams : AreDatagrams ports (messages_of blocks)
   pub young : IsSentBefore ports.made (messages_of blocks)
 
 -- a message of this key, of this port, stands in the list, and no two have one key
@@ -122,3 +145,19 @@ module _ (stand : Table PortRow → Table Block → List (Key × QueuedMessage) 
   Leaves owner port key =
       (messages : List (Key × QueuedMessage)) → stand old_ports old_blocks messages → IsPlaced owner key port messages
       → stand new_ports new_blocks (without (at_key key) messages)
+
+-- what a change makes of the numbers of datagrams, told of each list: a message comes, or one goes
+abbrev pub EntersDatagrams : Table PortRow → Table PortRow → Key → Key → Bool → Type 0
+EntersDatagrams old new sender key datagram =
+    (messages : List (Key × QueuedMessage)) (value : QueuedMessage) → AreDatagrams old messages → IsSentAs sender datagram value
+    → AreDatagrams new (messages ++ (key, value) ∷ [])
+
+abbrev pub LeavesDatagrams : Table PortRow → Table PortRow → Key → Key → Bool → Type 0
+LeavesDatagrams old new sender key datagram =
+    (messages : List (Key × QueuedMessage)) → AreDatagrams old messages → IsDatagramPlaced key sender datagram messages
+    → AreDatagrams new (without (at_key key) messages)
+
+-- the numbers are those of some list in which this message is
+abbrev pub HasDatagramPlaced : Table PortRow → Key → Key → Bool → Type 0
+HasDatagramPlaced ports sender key datagram =
+    (messages : List (Key × QueuedMessage)) × AreDatagrams ports messages × IsDatagramPlaced key sender datagram messages

@@ -1,3 +1,4 @@
 pub mod Table
 pub mod Lent
 pub mod Layout
+pub mod Totals

@@ -8,10 +8,11 @@ ghost use Rattle.lpc_base.specs.declared.limits.TheConstants.{MESSAGE_LIMIT};
 ghost use Rattle.lpc_slots.specs.Chain.{IsDistinct};
 ghost use Rattle.lpc_slots.specs.Table.{at_key, keys_of};
 ghost use Rattle.lpc_ports.specs.Lent.{IsQueue, IsSent, messages_of, queued_of};
-ghost use Rattle.lpc_ports.specs.Table.{LeavesOthers, LosesFirst, PullsFirst, first_connect_in, first_in, first_of, first_own_of, has_none_in, is_asking, is_client, is_client_kind, is_closing, is_connect_in, is_connected_to, is_datagram_of, is_in, is_joined_to, is_message_at, is_named, is_own_of, is_paired_to, is_sent_on, is_the, message_at, new_port, nothing, pair_of, paired, parted, queue_at, queued, row_at, unpaired, with_changed, with_completed, with_creator, with_joined, with_port, with_room, with_sent, without_message, without_messages, without_port};
+ghost use Rattle.lpc_ports.specs.Table.{LeavesOthers, LosesFirst, PullsFirst, first_connect_in, first_in, first_of, first_own_of, has_none_in, is_asking, is_client, is_closing, is_connect_in, is_connected_to, is_datagram_of, is_in, is_joined_to, is_message_at, is_named, is_own_of, is_paired_to, is_sent_on, is_the, message_at, new_port, nothing, pair_of, paired, parted, queue_at, queued, row_at, unpaired, with_changed, with_completed, with_creator, with_joined, with_port, with_room, with_sent, without_message, without_messages, without_port};
 
 mod messages;
 mod rows;
+mod totals;
 
 pub use lpc_base::PortKind;
 use lpc_base::{Birth, OutOfMemory, held};
@@ -21,6 +22,7 @@ pub use messages::{Block, Message};
 use rows::{PortRow, push_queued, push_sent, unlink_queued, unlink_sent};
 use std::alloc::Global;
 use std::marker::Model;
+use totals::Totals;
 
 /// The connect that made a client port.
 #[derive(Clone, Copy)]
@@ -57,16 +59,6 @@ impl Port {
     {
         is_the(port, self.pair) || is_the(port, self.connection)
     }
-
-    // It is a client port.
-    fn is_client(&self) -> bool
-        ensures { result ≡ is_client_kind self.now.kind }
-    {
-        match self.kind {
-            PortKind::Client => true,
-            _ => false,
-        }
-    }
 }
 
 // There is a key, and it is this one.
@@ -87,6 +79,7 @@ fn is_the(key: Key, other: Option<Key>) -> bool
 pub struct Ports {
     ports: Slots<PortRow>,
     blocks: Slots<Block>,
+    totals: Totals,
 }
 
 impl Model for Ports {
@@ -94,11 +87,12 @@ impl Model for Ports {
 
     ghost Value = { PortTable };
 
-    ghost use Rattle.lpc_ports.specs.Layout.{InOrder, seen};
+    ghost use Rattle.lpc_ports.specs.Layout.{seen};
+    ghost use Rattle.lpc_ports.specs.Totals.{IsKept};
 
     ghost view = { λ s. seen s.ports s.blocks };
 
-    ghost invariant = { λ s. InOrder s.ports s.blocks };
+    ghost invariant = { λ s. IsKept s.ports s.blocks s.totals };
 }
 
 impl Ports {
@@ -109,6 +103,11 @@ impl Ports {
         Ports {
             ports: Slots::new(alloc),
             blocks: Slots::new(alloc),
+            totals: Totals {
+                asking: 0,
+                closings: 0,
+                clients: 0,
+            },
         }
     }
 
@@ -147,6 +146,9 @@ impl Ports {
         ensures vacant { first (at_key result) self.old.ports ≡ None }
         ensures table { self.new ≡ with_port self.old result (new_port kind birth connection) }
     {
+        // No more ports stand than were made, so one more can be counted.
+        let _ = self.ports.count();
+        self.totals.add_port(kind);
         self.ports.insert_reserved(PortRow {
             port: Port {
                 birth,
@@ -160,6 +162,7 @@ impl Ports {
             queued: Chain::empty(),
             sent: Chain::empty(),
             sent_count: 0,
+            datagrams: 0,
         })
     }
 
@@ -270,8 +273,9 @@ impl Ports {
         ensures table { self.new ≡ without_port self.old port }
         ensures fewer { length self.new.ports + 1 ≡ length self.old.ports }
     {
-        if self.ports.remove(port).is_none() {
-            unreachable!()
+        match self.ports.remove(port) {
+            Some(row) => self.totals.remove_port(row.port.kind),
+            None => unreachable!(),
         }
     }
 
@@ -292,13 +296,16 @@ impl Ports {
     {
         // No more messages stand than were made, so one more can be counted.
         let _ = self.blocks.count();
+        let message = Message {
+            bytes: held(bytes),
+            sender,
+            context,
+        };
+        self.totals.add_message(&message);
+        let datagram = message.is_datagram();
         let key = self.blocks.insert_reserved(Block {
             queue,
-            message: Message {
-                bytes: held(bytes),
-                sender,
-                context,
-            },
+            message,
             in_queue: Links {
                 before: None,
                 after: None,
@@ -309,7 +316,7 @@ impl Ports {
             },
         });
         push_queued(&mut self.ports, &mut self.blocks, queue, key);
-        push_sent(&mut self.ports, &mut self.blocks, sender, key);
+        push_sent(&mut self.ports, &mut self.blocks, sender, key, datagram);
         key
     }
 
@@ -324,32 +331,22 @@ impl Ports {
         }
     }
 
-    /// How many of the messages that stand in queues were sent on this port and are datagrams.
+    /// How many of the messages that stand in queues were sent on this port, which has a row, and are datagrams.
     pub fn sent_datagrams(&self, sender: Key) -> usize
+        requires { IsSome (row_at self.now.ports sender) }
         ensures { result ≡ count (is_datagram_of sender) self.now.messages }
     {
-        let mut sent = 0;
-        for place in 0..self.blocks.count() {
-            let (_, row) = self.blocks.row(place);
-            if row.message.is_datagram_of(sender) {
-                sent += 1;
-            }
+        match self.ports.get(sender) {
+            Some(row) => row.datagrams,
+            None => unreachable!(),
         }
-        sent
     }
 
     /// How many of the messages that stand in queues ask for an answer: requests and connection requests.
     pub fn asking(&self) -> usize
         ensures { result ≡ count is_asking self.now.messages }
     {
-        let mut asking = 0;
-        for place in 0..self.blocks.count() {
-            let (_, row) = self.blocks.row(place);
-            if row.message.asks() {
-                asking += 1;
-            }
-        }
-        asking
+        self.totals.asking
     }
 
     /// How many ports have this one as their other end.
@@ -397,33 +394,20 @@ impl Ports {
     pub fn closings(&self) -> usize
         ensures { result ≡ count is_closing self.now.messages }
     {
-        let mut closings = 0;
-        for place in 0..self.blocks.count() {
-            let (_, row) = self.blocks.row(place);
-            if row.message.tells_closing() {
-                closings += 1;
-            }
-        }
-        closings
+        self.totals.closings
     }
 
     /// How many ports are client ports.
     pub fn clients(&self) -> usize
         ensures { result ≡ count is_client self.now.ports }
     {
-        let mut clients = 0;
-        for place in 0..self.ports.count() {
-            let (_, row) = self.ports.row(place);
-            if row.port.is_client() {
-                clients += 1;
-            }
-        }
-        clients
+        self.totals.clients
     }
 
-    /// A row names this port: a port has it as its other end or its connection port, or a message was sent on it or
+    /// A row names this port, which has one: a port has it as its other end or its connection port, or a message was sent on it or
     /// stands in its queue.
     pub fn is_named(&self, port: Key) -> bool
+        requires { IsSome (row_at self.now.ports port) }
         ensures { result ≡ is_named self.now port }
     {
         self.is_joined(port) || self.has_message(port)
@@ -535,17 +519,15 @@ impl Ports {
         false
     }
 
-    // A message was sent on the port, or stands in its queue.
+    // A message was sent on the port, which has a row, or stands in its queue.
     fn has_message(&self, port: Key) -> bool
+        requires { IsSome (row_at self.now.ports port) }
         ensures { result ≡ has (is_message_at port) self.now.messages }
     {
-        for place in 0..self.blocks.count() {
-            let (_, row) = self.blocks.row(place);
-            if row.is_at(port) {
-                return true;
-            }
+        match self.ports.get(port) {
+            Some(row) => row.sent.front().is_some() || row.queued.front().is_some(),
+            None => unreachable!(),
         }
-        false
     }
 
     // The row of an open port.
@@ -609,8 +591,10 @@ impl Ports {
         let block = self.blocks.get(message)?;
         let queue = block.queue;
         let sender = block.message.sender;
+        let datagram = block.message.is_datagram();
+        self.totals.remove_message(&block.message);
         unlink_queued(&mut self.ports, &mut self.blocks, queue, message);
-        unlink_sent(&mut self.ports, &mut self.blocks, sender, message);
+        unlink_sent(&mut self.ports, &mut self.blocks, sender, message, datagram);
         self.blocks.remove(message)
     }
 

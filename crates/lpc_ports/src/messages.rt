@@ -28,11 +28,11 @@ pub struct Message {
 }
 
 impl Message {
-    /// It was sent on this port, and its type is that of a datagram.
-    pub(crate) fn is_datagram_of(&self, sender: Key) -> bool
-        ensures { result ≡ is_key self.now.sender sender && is_of_type DATAGRAM self.now }
+    /// Its type is that of a datagram.
+    pub(crate) fn is_datagram(&self) -> bool
+        ensures { result ≡ is_of_type DATAGRAM self.now }
     {
-        self.sender == sender && self.kind() == DATAGRAM
+        self.kind() == DATAGRAM
     }
 
     /// Its type is that of a connection request.
@@ -100,13 +100,6 @@ impl Block {
             ≡ is_key self.now.queue queue && is_of_type CONNECTION_REQUEST self.now.message }
     {
         self.queue == queue && self.message.is_connect()
-    }
-
-    /// It was sent on this port, or stands in its queue.
-    pub(crate) fn is_at(&self, port: Key) -> bool
-        ensures { result ≡ is_key self.now.message.sender port || is_key self.now.queue port }
-    {
-        self.message.sender == port || self.queue == port
     }
 }
 

@@ -2,9 +2,10 @@
 
 ghost use Rattle.std.specs.Prelude.{IsSome};
 ghost use Rattle.lpc_slots.specs.Table.{IsYoung, at};
-ghost use Rattle.lpc_ports.specs.Layout.{ChangesLinks, Enters, HasFewSent, HasPlaced, Keeps, Leaves, QueuesStand, SendersStand, SentCounted, SentStand};
+ghost use Rattle.lpc_ports.specs.Layout.{ChangesLinks, DatagramsCounted, Enters, EntersDatagrams, HasDatagramPlaced, HasFewDatagrams, HasFewSent, HasPlaced, Keeps, Leaves, LeavesDatagrams, QueuesStand, SendersStand, SentCounted, SentStand};
 ghost use Rattle.lpc_ports.specs.Lent.{queue_of, sender_of};
 
+use crate::totals::{minus, plus};
 use crate::{Block, Port};
 use lpc_slots::{Chain, Key, Slots};
 
@@ -19,6 +20,8 @@ pub(crate) struct PortRow {
     pub sent: Chain<1>,
     /// How many were sent on it.
     pub sent_count: usize,
+    /// How many of these are datagrams.
+    pub datagrams: usize,
 }
 
 /// A message goes to the end of the chain of its queue, where the port has a row.
@@ -33,6 +36,7 @@ pub(crate) fn push_queued(
         ports.old ports.new blocks.old blocks.new queue_of queue key }
     ensures senders { Keeps SendersStand ports.old ports.new blocks.old blocks.new }
     ensures counts { Keeps SentCounted ports.old ports.new blocks.old blocks.new }
+    ensures datagrams { Keeps DatagramsCounted ports.old ports.new blocks.old blocks.new }
     ensures links { ChangesLinks ports.old ports.new blocks.old blocks.new }
 {
     if let Some(row) = ports.get_mut(queue) {
@@ -46,19 +50,23 @@ pub(crate) fn push_sent(
     blocks: &mut Slots<Block>,
     sender: Key,
     key: Key,
+    datagram: bool,
 )
     requires present { IsSome (at blocks.old key) }
     requires few { HasFewSent ports.old sender }
+    requires few_datagrams { HasFewDatagrams ports.old sender }
     ensures queues { Keeps QueuesStand ports.old ports.new blocks.old blocks.new }
     ensures senders { Enters SendersStand
         ports.old ports.new blocks.old blocks.new sender_of sender key }
     ensures counts { Enters SentCounted
         ports.old ports.new blocks.old blocks.new sender_of sender key }
+    ensures datagrams { EntersDatagrams ports.old ports.new sender key datagram }
     ensures young { IsYoung ports.old sender }
     ensures links { ChangesLinks ports.old ports.new blocks.old blocks.new }
 {
     if let Some(row) = ports.get_mut(sender) {
         row.sent_count += 1;
+        row.datagrams = plus(row.datagrams, datagram);
         row.sent.push_back(blocks, key);
     }
 }
@@ -75,6 +83,7 @@ pub(crate) fn unlink_queued(
         ports.old ports.new blocks.old blocks.new queue_of queue key }
     ensures senders { Keeps SendersStand ports.old ports.new blocks.old blocks.new }
     ensures counts { Keeps SentCounted ports.old ports.new blocks.old blocks.new }
+    ensures datagrams { Keeps DatagramsCounted ports.old ports.new blocks.old blocks.new }
     ensures links { ChangesLinks ports.old ports.new blocks.old blocks.new }
 {
     if let Some(row) = ports.get_mut(queue) {
@@ -88,17 +97,21 @@ pub(crate) fn unlink_sent(
     blocks: &mut Slots<Block>,
     sender: Key,
     key: Key,
+    datagram: bool,
 )
     requires placed { HasPlaced SentStand ports.old blocks.old sender_of sender key }
+    requires counted { HasDatagramPlaced ports.old sender key datagram }
     ensures queues { Keeps QueuesStand ports.old ports.new blocks.old blocks.new }
     ensures senders { Leaves SendersStand
         ports.old ports.new blocks.old blocks.new sender_of sender key }
     ensures counts { Leaves SentCounted
         ports.old ports.new blocks.old blocks.new sender_of sender key }
+    ensures datagrams { LeavesDatagrams ports.old ports.new sender key datagram }
     ensures links { ChangesLinks ports.old ports.new blocks.old blocks.new }
 {
     if let Some(row) = ports.get_mut(sender) {
         row.sent_count -= 1;
+        row.datagrams = minus(row.datagrams, datagram);
         row.sent.unlink(blocks, key);
     }
 }

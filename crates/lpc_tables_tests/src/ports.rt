@@ -341,8 +341,12 @@ fn connection_requests_are_found_alone(rt: HostRuntime) -> Result<(), Fail> {
     Ok(())
 }
 
-// A row names the port, or none does.
+// The port has a row, and a row names it, or none does.
 fn names(rt: &impl Abort, ports: &Ports, port: Key, named: bool) {
+    let Some(_) = ports.get(port) else {
+        assert!(rt; false);
+        return;
+    };
     assert!(rt; ports.is_named(port) == named);
 }
 

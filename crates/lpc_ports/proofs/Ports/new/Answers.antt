@@ -11,7 +11,8 @@ use Rattle.lpc_ports.proofs.Ports.new.Goals as goal
 pub invariant_of-result : goal.invariant_of-result
 invariant_of-result c =
     let none : (q : Key) → at c.new.result q ≡ None = λ q. at_first c.new.result q ∙ ap (λ (rows : List (Key × PortRow)). option_map (λ (row : Key × PortRow). row.1) (first (at_key q) rows)) c.new.ensures.listed in
-    in_order c.new.result c.new-2.result [] (ap (parts queued_of) c.new-2.ensures.listed)
+    let order = in_order c.new.result c.new-2.result [] (ap (parts queued_of) c.new-2.ensures.listed)
     (λ q row found. absurd (let clash : Some row ≡ None = sym found ∙ none q in cc))
     (λ q row found. absurd (let clash : Some row ≡ None = sym found ∙ none q in cc))
-    refl tt (λ q row found. absurd (let clash : Some row ≡ None = sym found ∙ none q in cc))
+    refl tt (λ q row found. absurd (let clash : Some row ≡ None = sym found ∙ none q in cc)) (λ q row found. absurd (let clash : Some row ≡ None = sym found ∙ none q in cc)) in
+    record { order = order; totals = rw (c.new.ensures.listed, c.new-2.ensures.listed) (record { asking = refl; closings = refl; clients = refl }) }

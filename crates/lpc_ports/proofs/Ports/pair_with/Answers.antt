@@ -1,6 +1,6 @@
-use Rattle.std.proofs.Common.{sym}
+use Rattle.std.proofs.Common.{refl, sym}
 use Rattle.lpc_ports.specs.Table.{paired}
-use Rattle.lpc_ports.proofs.Fields.{changed_order, seen_changed, seen_kept}
+use Rattle.lpc_ports.proofs.Fields.{changed_kept, seen_changed, seen_kept}
 use Rattle.lpc_ports.proofs.Ports.pair_with.Goals as goal
 use Rattle.lpc_ports.proofs.Ports.pair_with.Goals.{in-Some, in_default}
 
@@ -9,7 +9,7 @@ invariant_of-self c =
     let ports = c.self.inside.ports in
     let blocks = c.self.inside.blocks in
     elim c.match-get_mut.branch [
-      | in-Some w ↦ rw w.self-inside-is (changed_order ports blocks c.args.port (paired c.args.pair c.args.context) w.in-Some.row.now (sym w.in-Some.ensures.value) c.self.invariant)
+      | in-Some w ↦ rw w.self-inside-is (changed_kept ports blocks c.args.port (paired c.args.pair c.args.context) c.self.inside.totals w.in-Some.row.now (sym w.in-Some.ensures.value) (λ _. refl) c.self.invariant)
       | in_default w ↦ rw w.self-inside-is c.self.invariant
     ]
 

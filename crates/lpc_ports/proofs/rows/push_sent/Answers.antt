@@ -4,6 +4,7 @@ use Rattle.lpc_ports.specs.Layout.{queued_chain, sent_chain, with_in_queue, with
 use Rattle.lpc_ports.specs.Lent.{in_queue_of, of_sender_of, queue_of, sender_of}
 use Rattle.lpc_ports.proofs.Stand.{across_stand, changes_links, push_none, push_stand}
 use Rattle.lpc_ports.proofs.Counted.{counted_push, counted_push_none}
+use Rattle.lpc_ports.proofs.Datagrams.{datagrams_push, datagrams_push_none}
 use Rattle.lpc_ports.proofs.rows.push_sent.Goals as goal
 
 pub push_back-requires : goal.push_back-requires
@@ -11,17 +12,17 @@ push_back-requires c = (lit< tt, c.requires.present)
 
 pub returns-in-Some-clause-senders : goal.returns-in-Some-clause-senders
 returns-in-Some-clause-senders c messages value stand distinct away is =
-    let fresh : PortRow = (record { port = c.in-Some.row.now.port; queued = c.in-Some.row.now.queued; sent = c.push_back.new.self; sent_count = c.in-Some.row.now.sent_count + 1 }) in
+    let fresh : PortRow = (record { port = c.in-Some.row.now.port; queued = c.in-Some.row.now.queued; sent = c.push_back.new.self; sent_count = c.in-Some.row.now.sent_count + 1; datagrams = c.plus-row.result }) in
     push_stand of_sender_of with_of_sender sent_chain sender_of c.args.ports.now c.args.blocks.now c.push_back.new.slots c.args.sender c.args.key messages stand c.in-Some.row.now fresh (sym c.in-Some.ensures.value) value c.push_back.ensures.chain c.push_back.ensures.links distinct away is
 
 pub returns-in-Some-clause-queues : goal.returns-in-Some-clause-queues
 returns-in-Some-clause-queues c messages stand =
-    let fresh : PortRow = (record { port = c.in-Some.row.now.port; queued = c.in-Some.row.now.queued; sent = c.push_back.new.self; sent_count = c.in-Some.row.now.sent_count + 1 }) in
+    let fresh : PortRow = (record { port = c.in-Some.row.now.port; queued = c.in-Some.row.now.queued; sent = c.push_back.new.self; sent_count = c.in-Some.row.now.sent_count + 1; datagrams = c.plus-row.result }) in
     across_stand in_queue_of with_in_queue queued_chain queue_of c.args.ports.now c.args.blocks.now c.push_back.new.slots c.args.sender c.args.key messages stand c.in-Some.row.now fresh with_of_sender _ (sym c.in-Some.ensures.value) refl (λ _ _. refl) c.push_back.ensures.links
 
 pub returns-in-Some-clause-links : goal.returns-in-Some-clause-links
 returns-in-Some-clause-links c =
-    let fresh : PortRow = (record { port = c.in-Some.row.now.port; queued = c.in-Some.row.now.queued; sent = c.push_back.new.self; sent_count = c.in-Some.row.now.sent_count + 1 }) in
+    let fresh : PortRow = (record { port = c.in-Some.row.now.port; queued = c.in-Some.row.now.queued; sent = c.push_back.new.self; sent_count = c.in-Some.row.now.sent_count + 1; datagrams = c.plus-row.result }) in
     changes_links c.args.ports.now c.args.sender c.in-Some.row.now fresh with_of_sender _ c.args.blocks.now c.push_back.new.slots (sym c.in-Some.ensures.value) refl (λ _ _. refl) c.push_back.ensures.links
 
 pub returns-in_default-clause-senders : goal.returns-in_default-clause-senders
@@ -30,8 +31,19 @@ returns-in_default-clause-senders c messages value stand distinct away is =
 
 pub returns-in-Some-clause-counts : goal.returns-in-Some-clause-counts
 returns-in-Some-clause-counts c messages value counted distinct away is =
-    let fresh : PortRow = (record { port = c.in-Some.row.now.port; queued = c.in-Some.row.now.queued; sent = c.push_back.new.self; sent_count = c.in-Some.row.now.sent_count + 1 }) in
+    let fresh : PortRow = (record { port = c.in-Some.row.now.port; queued = c.in-Some.row.now.queued; sent = c.push_back.new.self; sent_count = c.in-Some.row.now.sent_count + 1; datagrams = c.plus-row.result }) in
     counted_push c.args.ports.now c.args.sender c.args.key messages counted c.in-Some.row.now fresh value (sym c.in-Some.ensures.value) refl is
 
 pub returns-in_default-clause-counts : goal.returns-in_default-clause-counts
 returns-in_default-clause-counts c messages value counted distinct away is = counted_push_none c.args.ports.now c.args.sender c.args.key messages counted value (sym c.in_default.ensures.value) is
+
+pub plus-row-requires : goal.plus-row-requires
+plus-row-requires c = c.requires.few_datagrams c.in-Some.row.now (sym c.in-Some.ensures.value)
+
+pub returns-in-Some-clause-datagrams : goal.returns-in-Some-clause-datagrams
+returns-in-Some-clause-datagrams c messages value counted sent =
+    let fresh : PortRow = (record { port = c.in-Some.row.now.port; queued = c.in-Some.row.now.queued; sent = c.push_back.new.self; sent_count = c.in-Some.row.now.sent_count + 1; datagrams = c.plus-row.result }) in
+    datagrams_push c.args.ports.now c.args.sender c.args.key messages counted c.in-Some.row.now fresh value c.args.datagram (sym c.in-Some.ensures.value) c.plus-row.ensures sent
+
+pub returns-in_default-clause-datagrams : goal.returns-in_default-clause-datagrams
+returns-in_default-clause-datagrams c messages value counted sent = datagrams_push_none c.args.ports.now c.args.sender c.args.key messages counted value c.args.datagram (sym c.in_default.ensures.value) sent

@@ -4,6 +4,7 @@ use Rattle.lpc_ports.specs.Layout.{queued_chain, sent_chain, with_in_queue, with
 use Rattle.lpc_ports.specs.Lent.{in_queue_of, of_sender_of, queue_of, sender_of}
 use Rattle.lpc_ports.proofs.Stand.{across_stand, changes_links, split_stand, unlink_none, unlink_stand}
 use Rattle.lpc_ports.proofs.Counted.{counted_same}
+use Rattle.lpc_ports.proofs.Datagrams.{datagrams_same}
 use Rattle.lpc_ports.proofs.rows.unlink_queued.Goals as goal
 
 pub unlink-requires : goal.unlink-requires
@@ -12,19 +13,19 @@ unlink-requires c =
 
 pub returns-in-Some-clause-queues : goal.returns-in-Some-clause-queues
 returns-in-Some-clause-queues c messages stand placed =
-    let fresh : PortRow = (record { port = c.in-Some.row.now.port; queued = c.unlink.new.self; sent = c.in-Some.row.now.sent; sent_count = c.in-Some.row.now.sent_count }) in
+    let fresh : PortRow = (record { port = c.in-Some.row.now.port; queued = c.unlink.new.self; sent = c.in-Some.row.now.sent; sent_count = c.in-Some.row.now.sent_count; datagrams = c.in-Some.row.now.datagrams }) in
     unlink_stand in_queue_of with_in_queue queued_chain queue_of c.args.ports.now c.args.blocks.now c.unlink.new.slots c.args.queue c.args.key messages stand c.in-Some.row.now fresh (sym c.in-Some.ensures.value) c.unlink.ensures.chain c.unlink.ensures.links placed
 
 pub returns-in-Some-clause-senders : goal.returns-in-Some-clause-senders
 returns-in-Some-clause-senders c messages stand =
     let split = split_stand in_queue_of with_in_queue queued_chain queue_of c.args.ports.now c.args.blocks.now c.args.queue c.args.key c.in-Some.row.now c.requires.placed.0 (sym c.in-Some.ensures.value) c.requires.placed.1 c.requires.placed.2 in
-    let fresh : PortRow = (record { port = c.in-Some.row.now.port; queued = c.unlink.new.self; sent = c.in-Some.row.now.sent; sent_count = c.in-Some.row.now.sent_count }) in
+    let fresh : PortRow = (record { port = c.in-Some.row.now.port; queued = c.unlink.new.self; sent = c.in-Some.row.now.sent; sent_count = c.in-Some.row.now.sent_count; datagrams = c.in-Some.row.now.datagrams }) in
     across_stand of_sender_of with_of_sender sent_chain sender_of c.args.ports.now c.args.blocks.now c.unlink.new.slots c.args.queue c.args.key messages stand c.in-Some.row.now fresh with_in_queue _ (sym c.in-Some.ensures.value) refl (λ _ _. refl) (c.unlink.ensures.links split.0 split.1 split.2)
 
 pub returns-in-Some-clause-links : goal.returns-in-Some-clause-links
 returns-in-Some-clause-links c =
     let split = split_stand in_queue_of with_in_queue queued_chain queue_of c.args.ports.now c.args.blocks.now c.args.queue c.args.key c.in-Some.row.now c.requires.placed.0 (sym c.in-Some.ensures.value) c.requires.placed.1 c.requires.placed.2 in
-    let fresh : PortRow = (record { port = c.in-Some.row.now.port; queued = c.unlink.new.self; sent = c.in-Some.row.now.sent; sent_count = c.in-Some.row.now.sent_count }) in
+    let fresh : PortRow = (record { port = c.in-Some.row.now.port; queued = c.unlink.new.self; sent = c.in-Some.row.now.sent; sent_count = c.in-Some.row.now.sent_count; datagrams = c.in-Some.row.now.datagrams }) in
     changes_links c.args.ports.now c.args.queue c.in-Some.row.now fresh with_in_queue _ c.args.blocks.now c.unlink.new.slots (sym c.in-Some.ensures.value) refl (λ _ _. refl) (c.unlink.ensures.links split.0 split.1 split.2)
 
 pub returns-in_default-clause-queues : goal.returns-in_default-clause-queues
@@ -33,5 +34,10 @@ returns-in_default-clause-queues c messages stand placed =
 
 pub returns-in-Some-clause-counts : goal.returns-in-Some-clause-counts
 returns-in-Some-clause-counts c messages counted =
-    let fresh : PortRow = (record { port = c.in-Some.row.now.port; queued = c.unlink.new.self; sent = c.in-Some.row.now.sent; sent_count = c.in-Some.row.now.sent_count }) in
+    let fresh : PortRow = (record { port = c.in-Some.row.now.port; queued = c.unlink.new.self; sent = c.in-Some.row.now.sent; sent_count = c.in-Some.row.now.sent_count; datagrams = c.in-Some.row.now.datagrams }) in
     counted_same c.args.ports.now c.args.queue c.args.key messages counted c.in-Some.row.now fresh (sym c.in-Some.ensures.value) refl
+
+pub returns-in-Some-clause-datagrams : goal.returns-in-Some-clause-datagrams
+returns-in-Some-clause-datagrams c messages counted =
+    let fresh : PortRow = (record { port = c.in-Some.row.now.port; queued = c.unlink.new.self; sent = c.in-Some.row.now.sent; sent_count = c.in-Some.row.now.sent_count; datagrams = c.in-Some.row.now.datagrams }) in
+    datagrams_same c.args.ports.now c.args.queue c.args.key messages counted c.in-Some.row.now fresh (sym c.in-Some.ensures.value) refl

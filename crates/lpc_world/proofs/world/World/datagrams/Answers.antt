@@ -1,7 +1,11 @@
 use Rattle.std.proofs.Common.{◌-◌, sym, ◌∙◌, vec_len, vec_capacity}
 use Rattle.lpc_rows.specs.Shown.{tables_of}
 use Rattle.lpc_rows.proofs.Readings as readings
+use Rattle.lpc_rows.proofs.Unheld as unheld
 use Rattle.lpc_world.proofs.world.World.datagrams.Goals as goal
+
+pub sent_datagrams-requires : goal.sent_datagrams-requires
+sent_datagrams-requires c = unheld.has_row (tables_of c.self.inside.procs c.self.inside.parts.items c.self.inside.ports c.self.inside.waits c.self.inside.names) c.self.invariant.named c.args.port (rw (← c.self.view_is) at c.requires)
 
 pub returns : goal.returns
 returns c =

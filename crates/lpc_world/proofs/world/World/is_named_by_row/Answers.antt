@@ -7,6 +7,9 @@ use Rattle.lpc_rows.proofs.Unheld as unheld
 use Rattle.lpc_world.proofs.world.World.is_named_by_row.Goals as goal
 use Rattle.lpc_world.proofs.world.World.is_named_by_row.Goals.{then-names, else-names, then-is_named, else-is_named}
 
+pub is_named-requires : goal.is_named-requires
+is_named-requires c = unheld.has_row (tables_of c.self.inside.procs c.self.inside.parts.items c.self.inside.ports c.self.inside.waits c.self.inside.names) c.self.invariant.named c.args.port (rw (← c.self.view_is) at c.requires)
+
 pub returns-then-is_named-2 : goal.returns-then-is_named-2
 returns-then-is_named-2 c =
     let there = rw (← c.self.view_is) at c.requires in
