@@ -2,10 +2,12 @@
 #![tactic(auto)]
 
 mod laws;
+mod line_buffer;
 mod read;
 mod scratch;
 
 pub use laws::law_worked_lines;
+pub use line_buffer::{Fed, LineBuffer};
 pub use lpc_model::LineFault;
 pub use read::read_line;
 pub use scratch::Scratch;

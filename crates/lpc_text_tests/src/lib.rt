@@ -3,6 +3,8 @@
 #![tactic(auto)]
 
 #[cfg(test)]
+mod line_buffer;
+#[cfg(test)]
 mod model;
 #[cfg(test)]
 mod script;
