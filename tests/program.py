@@ -20,7 +20,6 @@ import tty
 
 ROOT = pathlib.Path(__file__).resolve().parent.parent
 SECONDS = 60
-MIB = 1 << 20
 USAGE = b"usage: ntlpc COMMAND [WORDS]\n"
 FIRST, FIRST_TOLD = b"boot 20 24\n", b"1 - boot 00000000\n"
 LINES, TOLD = FIRST + b"24 NtCreatePort -\n", FIRST_TOLD + b"2 24 NtCreatePort 00000000 h=4\n"
@@ -313,6 +312,34 @@ def outputs_that_fail():
     yield "the output is open for reading alone", for_reading
 
 
+def conversations():
+    """A line that is asked over a pipe is answered before the next one is sent."""
+
+    def talk(program):
+        asked = EXAMPLE.splitlines(keepends=True)
+        told = (ROOT / "examples" / "first-request.transcript").read_bytes().splitlines(keepends=True)
+        with subprocess.Popen([*program.command, "replay"], stdin=subprocess.PIPE, stdout=subprocess.PIPE) as child:
+            watch = threading.Timer(SECONDS, child.kill)
+            watch.start()
+            try:
+                for number, line in enumerate(asked, 1):
+                    child.stdin.write(line)
+                    child.stdin.flush()
+                    for wanted in (it for it in told if it.split()[0] == b"%d" % number):
+                        answered = child.stdout.readline()
+                        if answered != wanted:
+                            raise Wrong(f"line {number} was answered by {brief(answered)}, {brief(wanted)} is wanted")
+                child.stdin.close()
+                last = child.stdout.read()
+                child.wait()
+            finally:
+                watch.cancel()
+                child.kill()
+        Ended(child.returncode, last).should(0, told[-1])
+
+    yield "a conversation over a pipe", talk
+
+
 def limits():
     """Long lines and many lines."""
     call = b"24 NtCreatePort -"
@@ -332,18 +359,19 @@ def limits():
 
 
 def memory_of_comments(program):
-    """The script is read whole before it is run, into room that may double as it grows: while it does, the old half and
-    both halves of the new one are there. So the bound is three times the script's size, and 32 MiB for all else."""
-    block = b"# a comment that says nothing at all.\n" * 1_000
-    with tempfile.TemporaryFile() as sink, program.started([block] * 1_000, sink) as child:
-        _, status, used = os.wait4(child.pid, 0)
-        child.returncode = os.waitstatus_to_exitcode(status)
-        sink.seek(0)
-        Ended(child.returncode, sink.read()).should(0, b"end 1000000 0 0\n")
-    size = 1_000 * len(block)
-    peak, most = used.ru_maxrss / 1024, 3 * size / MIB + 32
-    if peak > most:
-        raise Wrong(f"it took {peak:.0f} MiB for a script of {size / MIB:.0f} MiB, at most {most:.0f} are wanted")
+    """Of a script's text one line and one piece are held, so a script of a million lines takes no more than one of a
+    thousand, but for a few hundred KiB."""
+    peaks = []
+    for thousands in 1, 1_000:
+        block = b"# a comment that says nothing at all.\n" * 1_000
+        with tempfile.TemporaryFile() as sink, program.started([block] * thousands, sink) as child:
+            _, status, used = os.wait4(child.pid, 0)
+            child.returncode = os.waitstatus_to_exitcode(status)
+            sink.seek(0)
+            Ended(child.returncode, sink.read()).should(0, b"end %d 0 0\n" % (1_000 * thousands))
+        peaks.append(used.ru_maxrss)
+    if peaks[1] > peaks[0] + 512:
+        raise Wrong(f"it took {peaks[1]} KiB for a million lines, and {peaks[0]} KiB for a thousand")
 
 
 def memory_runs_out(program):
@@ -363,7 +391,7 @@ def main(command):
         return 64
     program = Program(command)
     passed = failed = 0
-    for group in (examples, words, ends_of_input, inputs_that_fail, outputs_that_fail, limits):
+    for group in (examples, words, ends_of_input, inputs_that_fail, outputs_that_fail, conversations, limits):
         for name, check in group():
             try:
                 check(program)

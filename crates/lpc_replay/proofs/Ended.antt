@@ -1,66 +1,51 @@
 -- The lines of a script that are ended by byte 10, and what a faulty one of them says of the whole script.
-use Rattle.std.proofs.Common.{◌≡◌, ℕ, ◌+◌, Bool, true, false, cond, List, [], ◌∷◌, ◌++◌, ◌-◌, ◌<◌, ◌≤◌, length, take, get_or, arith, refl, sym, ap, ◌∙◌, append_assoc}
-use Rattle.std.specs.Prelude.{Option, Some, None, Result, Ok, Err, is_none, is_some, ◌==◌, ◌||◌}
-use Rattle.std.specs.List.{list_any, onto_first}
-use Rattle.std.proofs.lemmas.Bool.Decides.{nat_tests}
-use Rattle.std.proofs.lemmas.List.{append-nil, take_more}
+use Rattle.std.proofs.Common.{◌≡◌, ℕ, ◌+◌, Bool, true, false, cond, List, [], ◌∷◌, ◌++◌, refl, sym, ap, ◌∙◌, append_assoc}
+use Rattle.std.specs.Prelude.{Option, Result, Ok, Err, is_none, ◌==◌, ◌||◌}
+use Rattle.std.specs.List.{onto_first}
+use Rattle.std.proofs.lemmas.List.{append-nil}
 use Rattle.std.proofs.lemmas.Bool.{or_right}
-use Rattle.lpc_base.specs.Streams.{Told}
 use Rattle.lpc_model.specs.declared.fault.LineFault.{LineFault}
 use Rattle.lpc_model.specs.Lines.{ScriptLine}
 use Rattle.lpc_model.specs.Script.{script_lines}
 use Rattle.lpc_model.specs.Run.{FaultyLine, faulty_or, first_fault, is_well_formed, numbered_line}
-use Rattle.lpc_model.specs.Transcript.{transcript}
-use Rattle.lpc_replay.specs.Playing.{Progress, begin, behind_line, body_text, line_and_later, line_text, text_from}
+use Rattle.lpc_script.specs.Feeding.{has_end}
 use Rattle.lpc_replay.specs.Reading.{ended_lines, ended_part}
-use Rattle.lpc_replay.specs.Sending.{SentBut}
-use Rattle.lpc_replay.proofs.Turns.{body_front, transcript_is}
 
--- a byte 10 is among the bytes
-abbrev pub has_end : List ℕ → Bool
-has_end bytes = list_any (λ c. c == 10) bytes
+-- a byte 10, and what comes behind it
+ends_at : (bytes more : List ℕ) → has_end (bytes ++ 10 ∷ more) ≡ true
+ends_at [] more = refl
+ends_at (x ∷ xs) more = or_right (x == 10) (has_end (xs ++ 10 ∷ more)) (ends_at xs more)
 
-same_ends : (bytes : List ℕ) (b : ℕ) → (b == 10) ≡ false → has_end (bytes ++ b ∷ []) ≡ has_end bytes
-same_ends [] b h = rw h refl
-same_ends (x ∷ xs) b h = ap (λ later. (x == 10) || later) (same_ends xs b h)
-
-ends : (bytes : List ℕ) → has_end (bytes ++ 10 ∷ []) ≡ true
-ends [] = refl
-ends (x ∷ xs) = or_right (x == 10) (has_end (xs ++ 10 ∷ [])) (ends xs)
-
--- the ended part of a script without its last byte
-pub ended_less : (bytes : List ℕ) (b : ℕ) → (b == 10) ≡ false → ended_part (bytes ++ b ∷ []) ≡ ended_part bytes
+ended_cut : (bytes more : List ℕ) → ended_part (bytes ++ 10 ∷ more) ≡ bytes ++ 10 ∷ ended_part more
 unfolding ended_part
-ended_less [] b h = rw h refl
-ended_less (x ∷ xs) b h = rw (same_ends xs b h, ended_less xs b h) refl
+ended_cut [] more = refl
+ended_cut (x ∷ xs) more = rw (ends_at (x ∷ xs) more, ended_cut xs more) refl
+
+pub ended_behind : (ended line piece : List ℕ) → ended_part (ended ++ (line ++ 10 ∷ piece)) ≡ ended ++ (line ++ 10 ∷ ended_part piece)
+ended_behind ended line piece =
+    let before = append_assoc ended line (10 ∷ piece) in
+    let behind = append_assoc ended line (10 ∷ ended_part piece) in
+    ap ended_part (sym before) ∙ (ended_cut (ended ++ line) piece ∙ behind)
 
 -- a script that ends with a byte 10 is ended
 pub ended_whole : (bytes : List ℕ) → ended_part (bytes ++ 10 ∷ []) ≡ bytes ++ 10 ∷ []
 unfolding ended_part
-ended_whole [] = refl
-ended_whole (x ∷ xs) = rw (ends (x ∷ xs), ended_whole xs) refl
+ended_whole bytes = ended_cut bytes []
 
-unlike : (a b : ℕ) → (a ≡ b → ⊥) → (a == b) ≡ false
-unlike a b h = grind (arith, nat_tests)
-
-last_byte : (script : List ℕ) (n : ℕ) → 0 < n → n ≤ length script → take n script ≡ take (n - 1) script ++ get_or script (n - 1) 0 ∷ []
-last_byte script n some within =
-    let e : n - 1 + 1 ≡ n = omega arith in
-    rw e at (take_more script (n - 1) 0 (omega arith))
-
--- the last byte of a front of a script is no byte 10, or is one, or there is none
-pub ended_before : (script : List ℕ) (n : ℕ) → 0 < n → n ≤ length script → (get_or script (n - 1) 0 ≡ 10 → ⊥) → ended_part (take (n - 1) script) ≡ ended_part (take n script)
-ended_before script n some within other =
-    rw (last_byte script n some within) (sym (ended_less (take (n - 1) script) (get_or script (n - 1) 0) (unlike (get_or script (n - 1) 0) 10 other)))
-
-pub ended_at : (script : List ℕ) (n : ℕ) → 0 < n → n ≤ length script → get_or script (n - 1) 0 ≡ 10 → ended_part (take n script) ≡ take n script
-ended_at script n some within is =
-    let t : take n script ≡ take (n - 1) script ++ 10 ∷ [] = rw is at (last_byte script n some within) in
-    rw t (ended_whole (take (n - 1) script))
-
-pub ended_start : (script : List ℕ) (n : ℕ) → n ≤ 0 → ended_part (take n script) ≡ take n script
+-- a rest without a byte 10 isn't
+ended_none : (rest : List ℕ) → has_end rest ≡ false → ended_part rest ≡ []
 unfolding ended_part
-ended_start script n none = let e : n ≡ 0 = omega arith in rw e refl
+ended_none [] none = refl
+ended_none (b ∷ bs) none = rw none refl
+
+same_ends : (bytes rest : List ℕ) → has_end rest ≡ false → has_end (bytes ++ rest) ≡ has_end bytes
+same_ends [] rest none = none
+same_ends (x ∷ xs) rest none = ap (λ later. (x == 10) || later) (same_ends xs rest none)
+
+pub ended_unended : (bytes rest : List ℕ) → has_end rest ≡ false → ended_part (bytes ++ rest) ≡ ended_part bytes
+unfolding ended_part
+ended_unended [] rest none = ended_none rest none
+ended_unended (x ∷ xs) rest none = rw (same_ends (x ∷ xs) rest none, ended_unended xs rest none) refl
 
 -- the ended part is a front of the script
 front_case : (b : ℕ) (bs part : List ℕ) (some : Bool) → ((rest : List ℕ) × (bs ≡ part ++ rest)) → (rest : List ℕ) × (b ∷ bs ≡ cond some (b ∷ part) [] ++ rest)
@@ -111,43 +96,6 @@ fault_stays : (n : ℕ) (front back : List (List ℕ)) → is_none (first_fault 
 unfolding first_fault
 fault_stays n [] back h = absurd (cc)
 fault_stays n (l ∷ ls) back h = later_case n (numbered_line n l) (first_fault (n + 1) ls) (first_fault (n + 1) (ls ++ back)) h (λ k. fault_stays (n + 1) ls back k)
-
-text_case : (p : Progress) (r : Result (Option ScriptLine) LineFault) (o : Option FaultyLine) (f g : Progress → List ℕ) → is_none (faulty_or (p.lines + 1) r o) ≡ false → ((q : Progress) → q.lines ≡ p.lines + 1 → is_none o ≡ false → f q ≡ g q) → line_and_later p r f ≡ line_and_later p r g
-text_case p (Ok said) o f g h k = ap (λ later. line_text p said ++ later) (k (behind_line p said) refl h)
-text_case p (Err e) o f g h k = refl
-
-text_stays : (n : ℕ) (p : Progress) (front back : List (List ℕ)) → p.lines + 1 ≡ n → is_none (first_fault n front) ≡ false → text_from p (front ++ back) ≡ text_from p front
-unfolding first_fault text_from
-text_stays n p [] back at h = absurd (cc)
-text_stays n p (l ∷ ls) back at h =
-    text_case p (numbered_line (p.lines + 1) l) (first_fault (p.lines + 1 + 1) ls) (λ q. text_from q (ls ++ back)) (λ q. text_from q ls) (rw (← at) at h)
-    (λ q is k. text_stays (p.lines + 1 + 1) q ls back (ap (λ m. m + 1) is) k)
-
-not_none : {A : Type 0} (o : Option A) → is_some o ≡ true → is_none o ≡ false
-not_none None h = absurd (cc)
-not_none (Some x) h = refl
-
--- where a line is faulty that is ended, the transcript of the whole script is that of its ended part
-pub ended_transcript : (bytes : List ℕ) → is_well_formed (ended_lines bytes) ≡ false → transcript (ended_part bytes) ≡ transcript bytes
-ended_transcript bytes h =
-    let f = ended_front bytes in
-    sym (transcript_is (ended_part bytes))
-    ∙ (sym (text_stays 1 begin (ended_lines bytes) (script_lines f.0) refl h)
-    ∙ (ap (λ lines. text_from begin lines) (sym (lines_parts bytes f.0) ∙ ap script_lines (sym f.1))
-    ∙ transcript_is bytes))
-
--- what was sent of the ended lines but the last line, where one of them is faulty
-pub ended_but : (a b : Option (List ℕ)) (bytes last : List ℕ) (fault : Option LineFault) → is_some fault ≡ true → is_none fault ≡ is_well_formed (ended_lines bytes) → Told a b (SentBut (text_from begin (ended_lines bytes)) last) → Told a b (SentBut (transcript bytes) last)
-ended_but a b bytes last fault some is told =
-    let faulty : is_well_formed (ended_lines bytes) ≡ false = sym is ∙ not_none fault some in
-    rw (transcript_is (ended_part bytes), ended_transcript bytes faulty) at told
-
--- what the ended lines tell is a front of the transcript of the whole script
-pub ended_body : (bytes : List ℕ) → (rest : List ℕ) × (transcript bytes ≡ body_text begin (ended_lines bytes) ++ rest)
-ended_body bytes =
-    let f = ended_front bytes in
-    let told = body_front begin (ended_lines bytes) (script_lines f.0) in
-    (told.0, sym (transcript_is bytes) ∙ (ap (λ lines. text_from begin lines) (ap script_lines f.1 ∙ lines_parts bytes f.0) ∙ told.1))
 
 -- where a line is faulty that is ended, every script that begins so is faulty
 pub ended_faulty : (bytes rest : List ℕ) → is_well_formed (ended_lines bytes) ≡ false → is_well_formed (script_lines (bytes ++ rest)) ≡ false

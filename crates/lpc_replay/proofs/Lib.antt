@@ -31,8 +31,13 @@ pub mod Removing
 pub mod EveryScript
 pub mod Tells
 pub mod Asking
+pub mod Taking
 pub mod Limits
 pub mod Turns
 pub mod Ended
 pub mod Cut
 pub mod Formed
+pub mod Played
+pub mod Stopping
+pub mod Resting
+pub mod Coming

@@ -1,10 +1,10 @@
 -- How far a script is read, and that a script which passes a limit has a faulty line.
-use Rattle.std.proofs.Common.{◌≡◌, ℕ, ◌+◌, ◌*◌, ◌<◌, ◌≤◌, Bool, true, false, cond, List, [], ◌∷◌, ◌++◌, length, refl, sym, ap, ◌∙◌, arith, append_assoc, length-append, ◌-◌, take, drop, length-drop}
-use Rattle.std.specs.Prelude.{Option, Some, None, Result, Ok, Err, is_err, is_none, is_ok, is_some, nat_le, nat_lt, ◌==◌, option_and_then}
+use Rattle.std.proofs.Common.{◌≡◌, ℕ, ◌+◌, ◌<◌, ◌≤◌, Bool, true, false, cond, List, [], ◌∷◌, ◌++◌, length, refl, sym, ap, ◌∙◌, arith, append_assoc, length-append}
+use Rattle.std.specs.Prelude.{Option, Some, None, Result, Ok, Err, is_none, is_some, nat_le, nat_lt, ◌==◌, option_and_then}
 use Rattle.std.specs.List.{onto_first, AllByRecursion}
 use Rattle.std.proofs.lemmas.Bool.{eqb-true}
 use Rattle.std.proofs.lemmas.Bool.Decides.{nat_tests}
-use Rattle.std.proofs.lemmas.List.{append-nil, length-take-le}
+use Rattle.std.proofs.lemmas.List.{append-nil}
 use Rattle.lpc_base.specs.declared.limits.TheConstants.{LINE_LIMIT, LINES_LIMIT}
 use Rattle.lpc_model.specs.declared.fault.LineFault.{LineFault}
 use Rattle.lpc_model.specs.declared.fault.LineFault.TheVariants as fault
@@ -12,8 +12,8 @@ use Rattle.lpc_model.specs.Lines.{ScriptLine}
 use Rattle.lpc_model.specs.Script.{script_lines}
 use Rattle.lpc_model.specs.Grammar.{read_line}
 use Rattle.lpc_model.specs.Run.{FaultyLine, faulty_or, first_fault, is_well_formed, numbered_line}
-use Rattle.lpc_replay.specs.declared.reading.Place.{Place}
-use Rattle.lpc_replay.specs.Reading.{IsRead, behind, behind_byte, passes_limit, start}
+use Rattle.lpc_script.specs.Feeding.{has_end}
+use Rattle.lpc_replay.specs.Reading.{Place, behind, behind_byte, passes_limit, start}
 use Rattle.lpc_replay.proofs.Ended.{line_case}
 
 -- the place behind two parts
@@ -25,77 +25,6 @@ pub behind_append : (p : Place) (xs ys : List ℕ) → behind p (xs ++ ys) ≡ o
 unfolding behind
 behind_append p [] ys = refl
 behind_append p (x ∷ xs) ys = behind_more (behind_byte p x) xs ys (λ q. behind_append q xs ys)
-
-pub behind_start : behind start [] ≡ Some start
-unfolding behind
-behind_start = refl
-
-pub behind_piece : (o : Option Place) (script piece : List ℕ) (here : Place) → o ≡ behind start script → o ≡ Some here → behind here piece ≡ behind start (script ++ piece)
-behind_piece o script piece here is at = let e : behind start script ≡ Some here = cc in sym (behind_append start script piece ∙ rw e refl)
-
--- within the limits a script is not longer than a place says
-pub record IsWithin (p : Place) : Type 0 where
-  pub lines : p.lines ≤ LINES_LIMIT
-  pub column : p.column ≤ LINE_LIMIT
-
-pub record Grows (p q : Place) (n : ℕ) : Type 0 where
-  pub within : IsWithin q
-  pub size : 16385 * p.lines + p.column + n ≤ 16385 * q.lines + q.column
-
-byte_cases : (p q : Place) (full end long : Bool) → nat_le LINES_LIMIT p.lines ≡ full → nat_le LINE_LIMIT p.column ≡ long → IsWithin p → cond full None (cond end (Some (record { lines = p.lines + 1; column = 0 })) (cond long None (Some (record { lines = p.lines; column = p.column + 1 })))) ≡ Some q → Grows p q 1
-byte_cases p q true end long f l w is = absurd (cc)
-byte_cases p q false true long f l w is =
-    let r : Place = record { lines = p.lines + 1; column = 0 } in
-    let e : r ≡ q = cc in
-    let a : p.lines + 1 ≡ q.lines = ap (λ (z : Place). z.lines) e in
-    let b : 0 ≡ q.column = ap (λ (z : Place). z.column) e in
-    let few : p.lines < LINES_LIMIT = grind (arith, nat_tests) in
-    let short = w.column in
-    record { within = record { lines = omega arith; column = omega arith }; size = omega arith }
-byte_cases p q false false true f l w is = absurd (cc)
-byte_cases p q false false false f l w is =
-    let r : Place = record { lines = p.lines; column = p.column + 1 } in
-    let e : r ≡ q = cc in
-    let a : p.lines ≡ q.lines = ap (λ (z : Place). z.lines) e in
-    let b : p.column + 1 ≡ q.column = ap (λ (z : Place). z.column) e in
-    let few : p.lines < LINES_LIMIT = grind (arith, nat_tests) in
-    let short : p.column < LINE_LIMIT = grind (arith, nat_tests) in
-    record { within = record { lines = omega arith; column = omega arith }; size = omega arith }
-
-byte_grows : (p q : Place) (b : ℕ) → IsWithin p → behind_byte p b ≡ Some q → Grows p q 1
-byte_grows p q b w is = byte_cases p q (nat_le LINES_LIMIT p.lines) (b == 10) (nat_le LINE_LIMIT p.column) refl refl w is
-
-grows_more : (p q : Place) (o : Option Place) (bs : List ℕ) → ((r : Place) → o ≡ Some r → Grows p r 1) → ((r : Place) → IsWithin r → behind r bs ≡ Some q → Grows r q (length bs)) → option_and_then (λ r. behind r bs) o ≡ Some q → Grows p q (length bs + 1)
-grows_more p q None bs h k is = absurd (cc)
-grows_more p q (Some r) bs h k is =
-    let first = h r refl in
-    let others = k r first.within is in
-    let a = first.size in
-    let b = others.size in
-    record { within = others.within; size = omega arith }
-
-pub grows : (p q : Place) (bs : List ℕ) → IsWithin p → behind p bs ≡ Some q → Grows p q (length bs)
-unfolding behind
-grows p q [] w is =
-    let e : p ≡ q = cc in
-    let a : p.lines ≡ q.lines = ap (λ (z : Place). z.lines) e in
-    let b : p.column ≡ q.column = ap (λ (z : Place). z.column) e in
-    let few = w.lines in
-    let short = w.column in
-    record { within = record { lines = omega arith; column = omega arith }; size = omega arith }
-grows p q (b ∷ bs) w is =
-    let all = grows_more p q (behind_byte p b) bs (λ r at. byte_grows p r b w at) (λ r v at. grows r q bs v at) is in
-    let size = all.size in
-    record { within = all.within; size = omega arith }
-
-pub script_size : (o : Option Place) (script : List ℕ) (here : Place) → o ≡ behind start script → o ≡ Some here → length script < 16385 * 1000001
-script_size o script here is at =
-    let e : behind start script ≡ Some here = cc in
-    let g = grows start here script (record { lines = omega arith; column = omega arith }) e in
-    let a = g.size in
-    let b = g.within.lines in
-    let c = g.within.column in
-    omega arith
 
 -- faulty lines
 later_faulty : (n : ℕ) (r : Result (Option ScriptLine) LineFault) (o : Option FaultyLine) → is_some o ≡ true → is_some (faulty_or n r o) ≡ true
@@ -141,42 +70,28 @@ front_line b (c ∷ front) bytes h all =
     let o = onto_has b (c ∷ front) (script_lines (c ∷ front ++ bytes)) (front_line c front bytes all.0 all.1) in
     (o.0, o.1, rw h o.2)
 
-ended_line : (front bytes : List ℕ) → AllByRecursion (λ c. (c == 10) ≡ false) front → script_lines (front ++ 10 ∷ bytes) ≡ front ∷ script_lines bytes
+pub ended_line : (front bytes : List ℕ) → AllByRecursion (λ c. (c == 10) ≡ false) front → script_lines (front ++ 10 ∷ bytes) ≡ front ∷ script_lines bytes
 unfolding script_lines
 ended_line [] bytes all = refl
 ended_line (b ∷ front) bytes all = rw (all.0, ended_line front bytes all.1) refl
 
-some_line : (front : List ℕ) (b : ℕ) (bytes : List ℕ) → (line : List ℕ) × (lines : List (List ℕ)) × (script_lines (front ++ b ∷ bytes) ≡ line ∷ lines)
+pub some_line : (front : List ℕ) (b : ℕ) (bytes : List ℕ) → (line : List ℕ) × (lines : List (List ℕ)) × (script_lines (front ++ b ∷ bytes) ≡ line ∷ lines)
 unfolding script_lines
 some_line [] b bytes = line_case b (b == 10) (script_lines bytes)
 some_line (c ∷ front) b bytes = line_case c (c == 10) (script_lines (front ++ b ∷ bytes))
 
-pub no_error : {A E : Type 0} (r : Result A E) → is_err r ≡ false → is_ok r ≡ true
-no_error (Ok x) h = refl
-no_error (Err e) h = absurd (cc)
-
 -- where there are lines enough, one more byte is too many
-full_byte : (p : Place) (bytes : List ℕ) → 0 < length bytes → LINES_LIMIT ≤ p.lines → behind p bytes ≡ None
+pub full_byte : (p : Place) (bytes : List ℕ) → 0 < length bytes → LINES_LIMIT ≤ p.lines → behind p bytes ≡ None
 unfolding behind
 full_byte p [] some full = absurd (omega arith)
 full_byte p (b ∷ bs) some full = let past : nat_le LINES_LIMIT p.lines ≡ true = grind (arith, nat_tests) in rw past refl
-
-pub full_drop : (p : Place) (bytes : List ℕ) (i : ℕ) → i < length bytes → LINES_LIMIT ≤ p.lines → behind p (drop i bytes) ≡ None
-full_drop p bytes i some full = full_byte p (drop i bytes) (omega (arith, length-drop i bytes)) full
-
--- each piece lowers what may still be read
-pub less_left : (limit n : ℕ) (script into all : List ℕ) → all ≡ script ++ take n into → n ≤ length into → 0 < n → length script < limit → limit - length all < limit - length script
-less_left limit n script into all is few some short =
-    let a : length all ≡ length script + length (take n into) = rw is (length-append script (take n into)) in
-    let b : length (take n into) ≡ n = length-take-le n into few in
-    omega arith
 
 -- a script that passes a limit has a faulty line
 unended : (front : List ℕ) (b : ℕ) → AllByRecursion (λ c. (c == 10) ≡ false) front → (b == 10) ≡ false → AllByRecursion (λ c. (c == 10) ≡ false) (front ++ b ∷ [])
 unended [] b all h = (h, tt)
 unended (c ∷ front) b all h = (all.0, unended front b all.1 h)
 
-begun_line : (front : List ℕ) (b : ℕ) (bytes : List ℕ) → AllByRecursion (λ c. (c == 10) ≡ false) front → (b == 10) ≡ false → HasLine (front ++ b ∷ bytes) (front ++ b ∷ [])
+pub begun_line : (front : List ℕ) (b : ℕ) (bytes : List ℕ) → AllByRecursion (λ c. (c == 10) ≡ false) front → (b == 10) ≡ false → HasLine (front ++ b ∷ bytes) (front ++ b ∷ [])
 begun_line [] b bytes all h = front_line b [] bytes h tt
 begun_line (c ∷ front) b bytes all h =
     let o = front_line c (front ++ b ∷ []) bytes all.0 (unended front b all.1 h) in
@@ -240,30 +155,31 @@ within_case false script l h = l
 pub sound_within : (script : List ℕ) → is_well_formed (script_lines script) ≡ true → passes_limit script ≡ false
 sound_within script h = within_case (passes_limit script) script refl h
 
--- what is read of a well-formed script is all of it
-read_case : (limit : Bool) (script old new : List ℕ) → passes_limit script ≡ limit → IsRead script old new → is_well_formed (script_lines old) ≡ true → (new ≡ []) × (script ≡ old)
-read_case true script old new l r h =
-    let faulty = limit_faulty script new l in
-    let whole = rw r.parts at h in
-    absurd (cc)
-read_case false script old new l r h =
-    let none = r.whole l in
-    let all = r.parts in
-    (none, sym (rw (none, append-nil) at all))
+-- bytes without a byte 10 lead to a later column
+pub all_lack : (bytes : List ℕ) → has_end bytes ≡ false → AllByRecursion (λ b. (b == 10) ≡ false) bytes
+all_lack [] none = tt
+all_lack (b ∷ bs) none = lack_case b bs (b == 10) refl none (all_lack bs)
+  where
+    lack_case : (b : ℕ) (bs : List ℕ) (test : Bool) → (b == 10) ≡ test → has_end (b ∷ bs) ≡ false → (has_end bs ≡ false → AllByRecursion (λ c. (c == 10) ≡ false) bs) → AllByRecursion (λ c. (c == 10) ≡ false) (b ∷ bs)
+    lack_case b bs true t none ih = let wrong : true ≡ false = rw t at none in absurd (cc)
+    lack_case b bs false t none ih = (t, ih (rw t at none))
 
-pub read_whole : (script old new : List ℕ) → IsRead script old new → is_well_formed (script_lines old) ≡ true → (new ≡ []) × (script ≡ old)
-read_whole script old new r h = read_case (passes_limit script) script old new refl r h
+pub place_goes : (lines column : ℕ) (bytes : List ℕ) → AllByRecursion (λ b. (b == 10) ≡ false) bytes → lines < LINES_LIMIT → column + length bytes ≤ LINE_LIMIT → behind (record { lines = lines; column = column }) bytes ≡ Some (record { lines = lines; column = column + length bytes })
+unfolding behind
+place_goes lines column [] all few fits = let e : column + 0 ≡ column = omega arith in rw e refl
+place_goes lines column (b ∷ bs) all few fits =
+    let room : nat_le LINES_LIMIT lines ≡ false = grind (arith, nat_tests) in
+    let more : nat_le LINE_LIMIT column ≡ false = grind (arith, nat_tests) in
+    let size : column + length (b ∷ bs) ≡ column + 1 + length bs = omega arith in
+    rw (room, all.0, more, size) (place_goes lines (column + 1) bs all.1 few (omega arith))
 
--- what is read without a faulty line is all
-sound_case : (limit : Bool) (script old new : List ℕ) → passes_limit script ≡ limit → IsRead script old new → is_well_formed (script_lines script) ≡ true → (new ≡ []) × (script ≡ old)
-sound_case true script old new l r h =
-    let none : script ++ [] ≡ script = append-nil script in
-    let faulty : is_well_formed (script_lines script) ≡ false = rw none at (limit_faulty script [] l) in
-    absurd (cc)
-sound_case false script old new l r h =
-    let none = r.whole l in
-    let all = r.parts in
-    (none, sym (rw (none, append-nil) at all))
+pub place_at : (lines : ℕ) (line : List ℕ) → has_end line ≡ false → length line ≤ LINE_LIMIT → lines < LINES_LIMIT → behind (record { lines = lines; column = 0 }) line ≡ Some (record { lines = lines; column = length line })
+place_at lines line lacks limit few =
+    let e : 0 + length line ≡ length line = omega arith in
+    rw e at (place_goes lines 0 line (all_lack line lacks) few (omega arith))
 
-pub read_sound : (script old new : List ℕ) → IsRead script old new → is_well_formed (script_lines script) ≡ true → (new ≡ []) × (script ≡ old)
-read_sound script old new r h = sound_case (passes_limit script) script old new refl r h
+pub place_ends : (lines : ℕ) (line : List ℕ) → has_end line ≡ false → length line ≤ LINE_LIMIT → lines < LINES_LIMIT → behind (record { lines = lines; column = 0 }) (line ++ 10 ∷ []) ≡ Some (record { lines = lines + 1; column = 0 })
+unfolding behind
+place_ends lines line lacks limit few =
+    let room : nat_le LINES_LIMIT lines ≡ false = grind (arith, nat_tests) in
+    behind_append (record { lines = lines; column = 0 }) line (10 ∷ []) ∙ rw (place_at lines line lacks limit few, room) refl

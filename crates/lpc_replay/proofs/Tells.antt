@@ -2,7 +2,7 @@
 use Rattle.std.proofs.Common.{◌≡◌, ℕ, subst, List, [], ◌++◌, take, drop, refl, sym, ◌∙◌, append_assoc}
 use Rattle.std.specs.Prelude.{Option, Some, None}
 use Rattle.std.proofs.lemmas.List.{append-nil, take-append-drop}
-use Rattle.lpc_base.specs.Streams.{Gives, Told}
+use Rattle.lpc_base.specs.Streams.{Told}
 use Rattle.lpc_replay.specs.Sending.{IsFront, SentBut}
 
 pub told_then : (a b c : Option (List ℕ)) (P Q R : List ℕ → List ℕ → Type 0) → ((x y z : List ℕ) → P x y → Q y z → R x z) → Told a b P → Told b c Q → Told a c R
@@ -26,14 +26,6 @@ pub sent_more : (bytes rest : List ℕ) (n : ℕ) (a b c : Option (List ℕ)) �
 sent_more bytes rest n a b c p q = told_then a b c _ _ _
     (λ x y z s t. (s.0 ++ take n rest, s.1 ∙ rw (append_assoc, take-append-drop) refl, t ∙ rw (s.2, append_assoc) refl)) p q
 
--- all is still to be sent
-pub sent_none : (a : Option (List ℕ)) (all : List ℕ) → Told a a (SentBut all all)
-sent_none a all = told_same a a (SentBut all all) (λ x. ([], refl, sym (append-nil x))) refl
-
--- what is still to be sent, said in other words
-pub sent_as : (a b : Option (List ℕ)) (all rest same : List ℕ) → rest ≡ same → Told a b (SentBut all rest) → Told a b (SentBut all same)
-sent_as a b all rest same e p = subst (λ t. Told a b (SentBut all t)) e p
-
 -- nothing is still to be sent
 pub sent_all : (a b : Option (List ℕ)) (all rest : List ℕ) → rest ≡ [] → Told a b (SentBut all rest) → Told a b (λ old new. new ≡ old ++ all)
 sent_all a b all rest e p = told_weaker a b (SentBut all rest) (λ old new. new ≡ old ++ all)
@@ -56,10 +48,9 @@ front_none a all = told_same a a (IsFront all) (λ x. (all, ([], refl, sym (appe
 pub front_but : (a b : Option (List ℕ)) (all rest : List ℕ) → Told a b (SentBut all rest) → Told a b (IsFront all)
 front_but a b all rest p = told_weaker a b (SentBut all rest) (IsFront all) (λ x y s. (rest, s)) p
 
--- a front of a front
-pub front_more : (a b : Option (List ℕ)) (all text more : List ℕ) → all ≡ text ++ more → Told a b (IsFront text) → Told a b (IsFront all)
-front_more a b all text more e p = told_weaker a b (IsFront text) (IsFront all)
-    (λ x y s. (s.0 ++ more, (s.1.0, e ∙ rw (s.1.1, append_assoc) refl, s.1.2))) p
+-- all is sent
+pub front_all : (a b : Option (List ℕ)) (all : List ℕ) → Told a b (λ old new. new ≡ old ++ all) → Told a b (IsFront all)
+front_all a b all p = told_weaker a b (λ old new. new ≡ old ++ all) (IsFront all) (λ x y is. ([], (all, sym (append-nil all), is))) p
 
 -- the rest begins with what is sent next, a front of it at least
 pub front_on : (a b c : Option (List ℕ)) (all rest text more : List ℕ) → Told a b (SentBut all rest) → Told b c (IsFront text) → rest ≡ text ++ more → Told a c (IsFront all)
@@ -68,8 +59,3 @@ front_on a b c all rest text more p q e = told_then a b c (SentBut all rest) (Is
 
 pub front_last : (a b c : Option (List ℕ)) (all last : List ℕ) → Told a b (SentBut all last) → Told b c (IsFront last) → Told a c (IsFront all)
 front_last a b c all last p q = front_on a b c all last last [] p q (sym (append-nil last))
-
--- what was read, and one piece more
-pub read_more : (script into all : List ℕ) (n : ℕ) (a b c : Option (List ℕ)) → all ≡ script ++ take n into → Told a b (λ old new. old ≡ script ++ new) → Told b c (Gives n into) → Told a c (λ old new. old ≡ all ++ new)
-read_more script into all n a b c is p q = told_then a b c (λ old new. old ≡ script ++ new) (Gives n into) (λ old new. old ≡ all ++ new)
-    (λ x y z s t. rw (s, t.next, is, append_assoc) refl) p q

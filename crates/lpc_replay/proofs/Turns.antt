@@ -1,7 +1,6 @@
 -- One line of a replay, its end, and the transcript as what is sent line by line.
-use Rattle.std.proofs.Common.{◌≡◌, ℕ, ◌+◌, ◌<◌, true, false, List, [], ◌∷◌, ◌++◌, length, refl, sym, ap, ◌∙◌, arith, append_assoc, length-append}
+use Rattle.std.proofs.Common.{◌≡◌, ℕ, ◌+◌, ◌<◌, false, List, [], ◌∷◌, ◌++◌, length, refl, sym, ap, ◌∙◌, arith, append_assoc, length-append}
 use Rattle.std.specs.Prelude.{Option, Some, None, Result, Ok, Err, is_none}
-use Rattle.std.proofs.lemmas.List.{append-nil}
 use Rattle.lpc_base.specs.declared.limits.TheConstants.{LINES_LIMIT}
 use Rattle.lpc_model.specs.declared.fault.LineFault.{LineFault}
 use Rattle.lpc_model.specs.Machine.{step}
@@ -23,11 +22,6 @@ text_goes p line lines said is = rw is refl
 pub text_stops : (p : Progress) (line : List ℕ) (lines : List (List ℕ)) (fault : LineFault) → numbered_line (p.lines + 1) line ≡ Err fault → text_from p (line ∷ lines) ≡ last_text p (Some fault)
 unfolding text_from
 text_stops p line lines fault is = rw is refl
-
-pub text_ends : (p : Progress) (rest : List ℕ) → length rest ≡ 0 → text_from p (script_lines rest) ≡ last_text p None
-unfolding text_from script_lines
-text_ends p [] none = refl
-text_ends p (b ∷ bs) none = absurd (omega arith)
 
 -- the same without the last line
 pub body_goes : (p : Progress) (line : List ℕ) (lines : List (List ℕ)) (said : Option ScriptLine) → numbered_line (p.lines + 1) line ≡ Ok said → body_text p (line ∷ lines) ≡ line_text p said ++ body_text (behind_line p said) lines
@@ -66,11 +60,6 @@ fault_goes n line lines said is = rw is refl
 pub fault_stops : (n : ℕ) (line : List ℕ) (lines : List (List ℕ)) (fault : LineFault) → numbered_line n line ≡ Err fault → is_none (first_fault n (line ∷ lines)) ≡ false
 unfolding first_fault
 fault_stops n line lines fault is = rw is refl
-
-pub fault_ends : (n : ℕ) (rest : List ℕ) → length rest ≡ 0 → is_none (first_fault n (script_lines rest)) ≡ true
-unfolding first_fault script_lines
-fault_ends n [] none = refl
-fault_ends n (b ∷ bs) none = absurd (omega arith)
 
 -- the last line, by the lines from a place on
 last_from : Option FaultyLine → Progress → ℕ → List (Option ScriptLine) → List ℕ
@@ -126,12 +115,6 @@ transcript_is bytes =
     let lines = script_lines bytes in
     text_is begin lines ∙ ap (λ last. body_from 1 (trace first_state (said_from 1 lines)) ++ last) (last_is (first_fault 1 lines) bytes)
 
-pub whole_body : (bytes : List ℕ) → (rest : List ℕ) × (transcript bytes ≡ body_text begin (script_lines bytes) ++ rest)
-whole_body bytes =
-    let lines = script_lines bytes in
-    let told = body_front begin lines [] in
-    (told.0, sym (transcript_is bytes) ∙ (ap (λ all. text_from begin all) (sym (append-nil lines)) ∙ told.1))
-
 -- a line that was run and printed
 pub runs_said : (p : Progress) (line : List ℕ) (said : ScriptLine) (w : World) (count : ℕ) (text : List ℕ) → p.lines < LINES_LIMIT → read_line line ≡ Ok (Some said) → w ≡ (step p.rows said).world → count ≡ length (step p.rows said).entries → text ≡ entries_text (p.lines + 1) (step p.rows said).entries → RunsLine line None p (record { rows = w; lines = p.lines + 1; told = p.told + count }) text
 runs_said p line said w count text few reads moves counts prints =
@@ -146,9 +129,3 @@ runs_nothing p line text few reads prints =
 -- behind a line that was run
 pub run_goes : (p q : Progress) (lines : List (List ℕ)) (line : List ℕ) (more : List (List ℕ)) (text : List ℕ) → lines ≡ line ∷ more → RunsLine line None p q text → text_from p lines ≡ text ++ text_from q more
 run_goes p q lines line more text is runs = rw (is, runs.2, runs.3) (text_goes p line more runs.0 runs.1)
-
-pub run_tells : (p q : Progress) (lines : List (List ℕ)) (line : List ℕ) (more : List (List ℕ)) (text : List ℕ) → lines ≡ line ∷ more → RunsLine line None p q text → body_text p lines ≡ text ++ body_text q more
-run_tells p q lines line more text is runs = rw (is, runs.2, runs.3) (body_goes p line more runs.0 runs.1)
-
-pub run_sound : (p q : Progress) (lines : List (List ℕ)) (line : List ℕ) (more : List (List ℕ)) (text : List ℕ) → lines ≡ line ∷ more → RunsLine line None p q text → is_none (first_fault (q.lines + 1) more) ≡ is_none (first_fault (p.lines + 1) lines)
-run_sound p q lines line more text is runs = rw (is, runs.2) (sym (ap is_none (fault_goes (p.lines + 1) line more runs.0 runs.1)))

@@ -1,5 +1,5 @@
 -- What is sent for lines, one after the other.
-use Rattle.std.specs.Prelude.{◌≡◌, ℕ, ◌+◌, ◌*◌, ◌^◌, ◌≤◌, List, [], ◌∷◌, ◌++◌, length, Bool, Option, Some, None, is_none, Result, Ok, Err}
+use Rattle.std.specs.Prelude.{◌≡◌, ℕ, ◌+◌, ◌*◌, ◌^◌, ◌≤◌, List, [], ◌∷◌, ◌++◌, length, Bool, true, false, Option, Some, None, Result, Ok, Err}
 use Rattle.lpc_base.specs.declared.limits.TheConstants.{LINES_LIMIT}
 use Rattle.lpc_model.specs.declared.fault.LineFault.{LineFault}
 use Rattle.lpc_model.specs.World.{World}
@@ -8,8 +8,15 @@ use Rattle.lpc_model.specs.Lines.{ScriptLine}
 use Rattle.lpc_model.specs.Machine.{Stepped}
 use Rattle.lpc_model.specs.Script.{kind_number, script_lines}
 use Rattle.lpc_model.specs.Text.{end_text, entries_text, stop_text}
-use Rattle.lpc_model.specs.Run.{first_fault, first_state, line_step, numbered_line, said_from, trace}
-use Rattle.lpc_model.specs.Transcript.{body_from}
+use Rattle.lpc_model.specs.Run.{first_state, line_step, numbered_line, said_from, trace}
+use Rattle.lpc_model.specs.Transcript.{body, body_from}
+use Rattle.lpc_base.specs.Streams.{Adds}
+use Rattle.lpc_replay.specs.declared.play.Ending.{Ending}
+use Rattle.lpc_replay.specs.declared.play.Ending.TheVariants as ending
+use Rattle.lpc_replay.specs.declared.play.Ending.TheVariants.{Replayed, Stopped}
+use Rattle.lpc_replay.specs.declared.play.Stop.{Stop}
+use Rattle.lpc_replay.specs.declared.play.Stop.TheVariants.{End, SourceFailed, Fault}
+use Rattle.lpc_replay.specs.Reading.{Reads, behind, ended_part, has_fault, passes_limit, start}
 
 -- how far a script has run: the world that its lines so far left, how many they are, and how many entries they told
 pub record Progress : Type 0 where
@@ -59,16 +66,6 @@ steps_of p lines = trace p.rows (said_from (p.lines + 1) lines)
 abbrev pub body_text : Progress → List (List ℕ) → List ℕ
 body_text p lines = body_from (p.lines + 1) (steps_of p lines)
 
--- the same of the lines of a script, and whether none of them is faulty
-abbrev pub text_of : Progress → List ℕ → List ℕ
-text_of p script = text_from p (script_lines script)
-
-abbrev pub body_of : Progress → List ℕ → List ℕ
-body_of p script = body_text p (script_lines script)
-
-abbrev pub are_sound : Progress → List ℕ → Bool
-are_sound p script = is_none (first_fault (p.lines + 1) (script_lines script))
-
 -- A line was run and printed, or nothing was done where it is faulty.
 abbrev pub RunsLine : List ℕ → Option LineFault → Progress → Progress → List ℕ → Type 0
 RunsLine line (Some fault) old new text = (numbered_line (old.lines + 1) line ≡ Err fault) × (new ≡ old)
@@ -80,3 +77,80 @@ pub record AreCounted (calls lines told : ℕ) : Type 0 where
   pub limit : lines ≤ LINES_LIMIT
   pub calls_counted : calls ≤ lines
   pub told_counted : told ≤ lines * 2 ^ 64
+
+-- the place behind lines, none where one of them is faulty
+abbrev pub after_line : Progress → Result (Option ScriptLine) LineFault → (Progress → Option Progress) → Option Progress
+after_line p (Err fault) later = None
+after_line p (Ok said) later = later (behind_line p said)
+
+unfoldable pub behind_lines : Progress → List (List ℕ) → Option Progress
+behind_lines p [] = Some p
+behind_lines p (line ∷ lines) = after_line p (numbered_line (p.lines + 1) line) (λ q. behind_lines q lines)
+
+-- behind each byte 10 of these bytes at most 4,096 more stand
+abbrev pub AreSoon : List ℕ → Type 0
+AreSoon bytes = (front later : List ℕ) → bytes ≡ front ++ 10 ∷ later → length later ≤ 4096
+
+-- A replay came to a place: the lines that were read first, each ended by byte 10, were run up to there, and what they
+-- tell was sent; behind them a tail was read.
+pub record HasPlayed (left left' sent sent' : Option (List ℕ)) (p : Progress) (tail : List ℕ) : Type 0 where
+  pub ended : List ℕ
+  pub whole : ended_part ended ≡ ended
+  pub runs : behind_lines begin (script_lines ended) ≡ Some p
+  pub place : behind start ended ≡ Some (record { lines = p.lines; column = 0 })
+  pub soon : AreSoon tail
+  pub read : Reads left left' (ended ++ tail)
+  pub told : Adds sent sent' (body ended)
+
+-- the first of these lines is faulty
+abbrev pub BeginsFaulty : Progress → List ℕ → LineFault → Type 0
+BeginsFaulty p bytes fault =
+    (line : List ℕ) × (lines : List (List ℕ)) × (script_lines bytes ≡ line ∷ lines) × (numbered_line (p.lines + 1) line ≡ Err fault)
+
+-- a faulty line was read, whatever comes behind
+pub record IsFault (left left' sent sent' : Option (List ℕ)) (p : Progress) (fault : LineFault) : Type 0 where
+  pub tail : List ℕ
+  pub played : HasPlayed left left' sent sent' p tail
+  pub stops : (later : List ℕ) → BeginsFaulty p (tail ++ later) fault
+  pub seen : has_fault (played.ended ++ tail) ≡ true
+
+-- nothing faulty was read, and a rest that no byte 10 ends
+pub record IsRest (left left' sent sent' : Option (List ℕ)) (p : Progress) (rest : List ℕ) : Type 0 where
+  pub played : HasPlayed left left' sent sent' p rest
+  pub within : passes_limit (played.ended ++ rest) ≡ false
+
+-- why no further line was run
+abbrev pub StopsAs : Stop → Option (List ℕ) → Option (List ℕ) → Option (List ℕ) → Option (List ℕ) → Progress → List ℕ → Type 0
+StopsAs End left left' sent sent' p rest = IsRest left left' sent sent' p rest
+StopsAs SourceFailed left left' sent sent' p rest = IsRest left left' sent sent' p rest
+StopsAs (Fault fault) left left' sent sent' p rest = IsFault left left' sent sent' p fault
+
+-- A rest that no byte 10 ends was run as a line, unless it is empty, and what it tells was sent; or it is faulty.
+pub record HasEnded (p q : Progress) (rest : List ℕ) (sent sent' : Option (List ℕ)) : Type 0 where
+  pub runs : behind_lines p (script_lines rest) ≡ Some q
+  pub told : Adds sent sent' (body_text p (script_lines rest))
+
+pub record HasFaultyRest (p q : Progress) (rest : List ℕ) (sent sent' : Option (List ℕ)) (fault : LineFault) : Type 0 where
+  pub at : q ≡ p
+  pub begins : BeginsFaulty p rest fault
+  pub unsent : sent' ≡ sent
+
+abbrev pub EndsAs : Option LineFault → Progress → Progress → List ℕ → Option (List ℕ) → Option (List ℕ) → Type 0
+EndsAs None p q rest sent sent' = HasEnded p q rest sent sent'
+EndsAs (Some fault) p q rest sent sent' = HasFaultyRest p q rest sent sent' fault
+
+-- how a replay ends behind its last line
+abbrev pub ending_of : Option LineFault → Ending
+ending_of None = Replayed
+ending_of (Some fault) = Stopped
+
+-- the source didn't fail
+abbrev pub has_not_failed : Stop → Bool
+has_not_failed End = true
+has_not_failed SourceFailed = false
+has_not_failed (Fault fault) = true
+
+abbrev pub ends_unfailing : Ending → Bool
+ends_unfailing Replayed = true
+ends_unfailing Stopped = true
+ends_unfailing ending.SourceFailed = false

@@ -1,12 +1,19 @@
 -- How much of a script is read.
-use Rattle.std.specs.Prelude.{◌≡◌, ℕ, ◌+◌, ◌≤◌, ◌==◌, max, nat_le, Bool, true, false, not, ◌||◌, List, [], ◌∷◌, ◌++◌, Option, Some, None, is_none, option_and_then, if◌then◌else◌}
+use Rattle.std.specs.Prelude.{◌≡◌, ℕ, ◌+◌, ◌<◌, ◌≤◌, ◌==◌, length, max, nat_le, Bool, true, false, not, ◌||◌, List, [], ◌∷◌, ◌++◌, Option, Some, None, is_none, option_and_then, if◌then◌else◌}
 use Rattle.std.specs.List.{list_any}
 use Rattle.lpc_base.specs.declared.limits.TheConstants.{LINE_LIMIT, LINES_LIMIT}
 use Rattle.lpc_base.specs.declared.streams.Asked.{Asked}
 use Rattle.lpc_base.specs.Streams.{Told}
 use Rattle.lpc_model.specs.Script.{script_lines}
 use Rattle.lpc_model.specs.Run.{is_well_formed}
-use Rattle.lpc_replay.specs.declared.reading.Place.{Place}
+use Rattle.lpc_script.specs.Feeding.{IsOverrun}
+use Rattle.lpc_replay.specs.declared.reading.NextLine.{NextLine}
+use Rattle.lpc_replay.specs.declared.reading.NextLine.TheVariants.{Whole, TooLong, TooMany, End, SourceFailed}
+
+-- how far a script is read: so many whole lines, and so many bytes of the next one
+pub record Place : Type 0 where
+  pub lines : ℕ
+  pub column : ℕ
 
 -- the place behind one more byte; none where it is a byte of a line too many, or one too many of its line
 abbrev pub behind_byte : Place → ℕ → Option Place
@@ -29,22 +36,42 @@ start = record { lines = 0; column = 0 }
 abbrev pub passes_limit : List ℕ → Bool
 passes_limit script = is_none (behind start script)
 
--- what is read is the first of what was left; and unless it passes a limit, it is all
-pub record IsRead (script old new : List ℕ) : Type 0 where
-  pub parts : old ≡ script ++ new
-  pub whole : passes_limit script ≡ false → new ≡ []
-
--- the first of what was left is read, and new is the rest
-abbrev pub IsTaken : List ℕ → List ℕ → Type 0
-IsTaken old new = (read : List ℕ) × (old ≡ read ++ new)
-
--- Of what a source had left and has left, where it tells its bytes: this script is read; and, unless it passes a limit,
--- it is all.
+-- Of what a source had left and has left, where it tells its bytes: these bytes are read.
 abbrev pub Reads : Option (List ℕ) → Option (List ℕ) → List ℕ → Type 0
-Reads left left' script = Told left left' (λ old new. old ≡ script ++ new)
+Reads left left' bytes = Told left left' (λ old new. old ≡ bytes ++ new)
 
-abbrev pub ReadsAll : Option (List ℕ) → Option (List ℕ) → List ℕ → Type 0
-ReadsAll left left' script = Told left left' (IsRead script)
+-- what was left of a piece, and behind it what was read
+pub record Fills (left left' : Option (List ℕ)) (old new : List ℕ) : Type 0 where
+  pub read : List ℕ
+  pub told : Reads left left' read
+  pub parts : new ≡ old ++ read
+
+-- What the reading of a line came to: bytes are the line, the byte behind it, and the rest of them.
+abbrev pub ComesTo : NextLine → List ℕ → List ℕ → List ℕ → Type 0
+ComesTo Whole bytes line rest = bytes ≡ line ++ 10 ∷ rest
+ComesTo TooLong bytes line rest = IsOverrun bytes line rest
+ComesTo TooMany bytes line rest = (line ≡ []) × (bytes ≡ rest) × (0 < length rest)
+ComesTo End bytes line rest = (bytes ≡ line) × (rest ≡ [])
+ComesTo SourceFailed bytes line rest = (bytes ≡ line) × (rest ≡ [])
+
+-- the bytes are those that were left of a piece, and behind them what was read
+pub record Advances (left left' : Option (List ℕ)) (next : NextLine) (piece line rest : List ℕ) : Type 0 where
+  pub read : List ℕ
+  pub told : Reads left left' read
+  pub comes : ComesTo next (piece ++ read) line rest
+
+-- a line was read
+abbrev pub is_line : NextLine → Bool
+is_line Whole = true
+is_line TooLong = true
+is_line TooMany = false
+is_line End = false
+is_line SourceFailed = false
+
+-- the source failed
+abbrev pub has_failed : NextLine → Bool
+has_failed SourceFailed = true
+has_failed next = false
 
 -- A source was asked for nothing behind its end or behind a failure, and for at most 4,096 bytes at once.
 pub record IsAskedForPieces (before now : Asked) : Type 0 where

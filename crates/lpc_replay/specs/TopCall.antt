@@ -1,5 +1,5 @@
 -- What the top call promises.
-use Rattle.std.specs.Prelude.{◌≡◌, ℕ, ◌==◌, Bool, true, false, List, [], ◌∷◌, ◌++◌, Option, IfSome, codes, string_bytes}
+use Rattle.std.specs.Prelude.{◌≡◌, ◌<◌, ◌≤◌, ◌+◌, length, ℕ, ◌==◌, Bool, true, false, List, [], ◌∷◌, ◌++◌, Option, IfSome, codes, string_bytes}
 use Rattle.std.specs.List.{list_any}
 use Rattle.std.specs.Str.{bytes_eq}
 use Rattle.std.specs.declared.string.String.{String}
@@ -81,6 +81,20 @@ pub record IsCutShort (sent sent' : Option (List ℕ)) (script rest : List ℕ) 
 
 abbrev pub CutsShort : Option (List ℕ) → Option (List ℕ) → Option (List ℕ) → Option (List ℕ) → Type 0
 CutsShort left left' sent sent' = Told left left' (IsCutShort sent sent')
+
+-- Wherever a line ends in what is read, and what the lines up to its end tell is more than what is sent, at most 4,096
+-- bytes more are read: so no line waits for a later one to be read.
+abbrev pub IsInTime : List ℕ → List ℕ → List ℕ → Type 0
+IsInTime read before now =
+    (front later : List ℕ) → read ≡ front ++ 10 ∷ later → length now < length before + length (body (front ++ 10 ∷ [])) → length later ≤ 4096
+
+pub record IsReadInTime (sent sent' : Option (List ℕ)) (script rest : List ℕ) : Type 0 where
+  pub read : List ℕ
+  pub parts : script ≡ read ++ rest
+  pub ahead : Told sent sent' (IsInTime read)
+
+abbrev pub ReadsInTime : Option (List ℕ) → Option (List ℕ) → Option (List ℕ) → Option (List ℕ) → Type 0
+ReadsInTime left left' sent sent' = Told left left' (IsReadInTime sent sent')
 
 -- where the source tells its bytes, and what is read holds a faulty line, the replay stops at a faulty line, unless the
 -- sink fails or memory runs out

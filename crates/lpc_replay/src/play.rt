@@ -1,21 +1,43 @@
-// A whole script is run, and its transcript sent.
-ghost use Rattle.std.specs.Prelude.{◌≡◌, ◌≤◌, ◌+◌, true, false, IfOk, OnOk, IsErrOf, is_none};
-ghost use Rattle.lpc_base.specs.Streams.{Adds, Rose, Told};
+// A script is read and run line by line, and its transcript sent.
+ghost use Rattle.std.specs.Prelude.{◌≡◌, ◌≤◌, [], true, false, None, Some, IfOk, IfSome, OnErr, OnOk, IsErrOf};
+ghost use Rattle.lpc_base.specs.Streams.{Adds, Rose};
 ghost use Rattle.lpc_model.specs.Script.{script_lines};
-ghost use Rattle.lpc_model.specs.Run.{is_well_formed, run_of};
-ghost use Rattle.lpc_model.specs.Transcript.{body, transcript};
-ghost use Rattle.lpc_replay.specs.Playing.{are_sound, begin, body_of, last_text, steps_of, text_of};
-ghost use Rattle.lpc_replay.specs.Reading.{ended_lines, ended_part};
-ghost use Rattle.lpc_replay.specs.Sending.{AddsFront, SentBut, TellsFirst};
+ghost use Rattle.lpc_script.specs.Feeding.{has_end};
+ghost use Rattle.lpc_replay.specs.declared.play.Ending.TheVariants.{Replayed, SourceFailed, Stopped};
+ghost use Rattle.lpc_replay.specs.Playing.{EndsAs, StopsAs, begin, body_text, ending_of, ends_unfailing, has_not_failed, last_text};
+ghost use Rattle.lpc_replay.specs.Reading.{IsAskedForPieces};
+ghost use Rattle.lpc_replay.specs.Sending.{AddsFront};
+ghost use Rattle.lpc_replay.specs.TopCall.{Begins, BreaksOff, CutsShort, IsFormed, ReadsInTime, Replays, Stops, StopsAtFault};
 
 use crate::playback::Playback;
-use crate::reading::ended;
+use crate::reading::{NextLine, Reader};
 use crate::sending::send_all;
-use lpc_base::{Failed, OutOfMemory, Sink};
+use lpc_base::{Failed, OutOfMemory, Sink, Source};
 use lpc_model::LineFault;
 use lpc_script::Scratch;
-use lpc_words::next_line;
 use std::alloc::Global;
+
+/// How a script was replayed.
+#[derive(Clone, Copy)]
+pub enum Ending {
+    /// To its end.
+    Replayed,
+    /// To its first faulty line.
+    Stopped,
+    /// To the source's failure: each line that was read whole.
+    SourceFailed,
+}
+
+/// Why no further line of a script is run.
+#[derive(Clone, Copy)]
+pub enum Stop {
+    /// The source answered its end.
+    End,
+    /// The source failed.
+    SourceFailed,
+    /// The next line is faulty.
+    Fault(LineFault),
+}
 
 /// Why a script wasn't run to its end or its first faulty line.
 #[derive(Clone, Copy)]
@@ -48,49 +70,95 @@ impl From<Failed> for PlayError {
     }
 }
 
-/// Runs the lines of a script one after the other and sends what each tells. Answers the fault of the first faulty
-/// line.
-fn play_lines<K: Sink>(
+/// Reads lines and runs them one after the other, and sends what each tells before the next one is read. A rest that no
+/// byte 10 ends isn't run.
+fn play_lines<S: Source, K: Sink>(
     playback: &mut Playback,
     scratch: &mut Scratch,
-    script: &[u8],
+    reader: &mut Reader,
+    source: &mut S,
     sink: &mut K,
-) -> Result<Option<LineFault>, PlayError>
-    ensures sent { IfOk result (λ fault. Told (K.sent sink.old) (K.sent sink.new)
-        (SentBut (text_of playback.old.at script.now) (last_text playback.new.at fault))) }
-    ensures body { IfOk result (λ _. Adds (K.sent sink.old) (K.sent sink.new)
-        (body_of playback.old.at script.now)) }
-    ensures fault { IfOk result (λ fault. is_none fault ≡ are_sound playback.old.at script.now) }
-    ensures front { AddsFront (K.sent sink.old) (K.sent sink.new)
-        (body_of playback.old.at script.now) }
+) -> Result<Stop, PlayError>
+    requires begin { playback.old.at ≡ begin }
+    requires unread { reader.old.piece ≡ [] }
+    ensures stops { IfOk result (λ stop. StopsAs stop (S.left source.old) (S.left source.new)
+        (K.sent sink.old) (K.sent sink.new) playback.new.at reader.new.line.line) }
+    ensures end { IfOk result (λ stop. stop ≡ Stop.End →
+        IfSome (S.left source.new) (λ left. left ≡ [])) }
+    ensures lacks { OnOk result (has_end reader.new.line.line ≡ false) }
+    ensures begun { OnErr result (Begins (S.left source.old) (S.left source.new)
+        (K.sent sink.old) (K.sent sink.new)) }
+    ensures in_time { OnErr result (ReadsInTime (S.left source.old) (S.left source.new)
+        (K.sent sink.old) (K.sent sink.new)) }
+    ensures cut { IsErrOf result PlayError.OutOfMemory →
+        CutsShort (S.left source.old) (S.left source.new) (K.sent sink.old) (K.sent sink.new) }
     ensures failed { IsErrOf result PlayError.SinkFailed →
         Rose (K.faults sink.old) (K.faults sink.new) }
     ensures still { OnOk result (K.faults sink.new ≡ K.faults sink.old) }
     ensures out_of_memory { IsErrOf result PlayError.OutOfMemory →
         K.faults sink.new ≡ K.faults sink.old }
-    ensures cut { IsErrOf result PlayError.OutOfMemory →
-        TellsFirst (K.sent sink.old) (K.sent sink.new) (playback.old.at.lines + 1)
-        (steps_of playback.old.at (script_lines script.now)) }
     ensures later { K.faults sink.old ≤ K.faults sink.new }
+    ensures asked { IsAskedForPieces (S.asked source.old) (S.asked source.new) }
+    ensures source_failed { IfOk result (λ stop. stop ≡ Stop.SourceFailed →
+        Rose (S.faults source.old) (S.faults source.new)) }
+    ensures source_still { IfOk result (λ stop. has_not_failed stop ≡ true →
+        S.faults source.new ≡ S.faults source.old) }
+    ensures source_later { S.faults source.old ≤ S.faults source.new }
 {
-    let mut rest = script;
-    while !rest.is_empty() {
-        let (line, more) = next_line(rest);
-        if let Some(fault) = playback.run_line(scratch, line)? {
-            return Ok(Some(fault));
+    loop {
+        match reader.next_line(source, playback.is_full()) {
+            NextLine::Whole => {}
+            NextLine::TooLong => return Ok(Stop::Fault(LineFault::Long)),
+            NextLine::TooMany => return Ok(Stop::Fault(LineFault::Lines)),
+            NextLine::End => return Ok(Stop::End),
+            NextLine::SourceFailed => return Ok(Stop::SourceFailed),
+        }
+        if let Some(fault) = playback.run_line(scratch, reader.line.line())? {
+            return Ok(Stop::Fault(fault));
         }
         send_all(sink, playback.text())?;
-        rest = more;
     }
+}
+
+/// Runs a rest of a script that no byte 10 ends, and sends what it tells. An empty rest is no line. Answers its fault
+/// where it is faulty.
+fn play_rest<K: Sink>(
+    playback: &mut Playback,
+    scratch: &mut Scratch,
+    rest: &[u8],
+    sink: &mut K,
+) -> Result<Option<LineFault>, PlayError>
+    requires lacks { has_end rest.now ≡ false }
+    ensures ends { IfOk result (λ fault. EndsAs fault playback.old.at playback.new.at rest.now
+        (K.sent sink.old) (K.sent sink.new)) }
+    ensures front { AddsFront (K.sent sink.old) (K.sent sink.new)
+        (body_text playback.old.at (script_lines rest.now)) }
+    ensures failed { IsErrOf result PlayError.SinkFailed →
+        Rose (K.faults sink.old) (K.faults sink.new) }
+    ensures still { OnOk result (K.faults sink.new ≡ K.faults sink.old) }
+    ensures out_of_memory { IsErrOf result PlayError.OutOfMemory →
+        K.faults sink.new ≡ K.faults sink.old }
+    ensures unsent { IsErrOf result PlayError.OutOfMemory →
+        K.sent sink.new ≡ K.sent sink.old }
+    ensures later { K.faults sink.old ≤ K.faults sink.new }
+{
+    if rest.is_empty() {
+        return Ok(None);
+    }
+    if let Some(fault) = playback.run_line(scratch, rest)? {
+        return Ok(Some(fault));
+    }
+    send_all(sink, playback.text())?;
     Ok(None)
 }
 
-/// Sends the last line.
-fn end<K: Sink>(
+/// Sends the last line, and answers how the script was replayed.
+fn finish<K: Sink>(
     playback: &mut Playback,
     fault: Option<LineFault>,
     sink: &mut K,
-) -> Result<(), PlayError>
+) -> Result<Ending, PlayError>
+    ensures ending { IfOk result (λ ending. ending ≡ ending_of fault) }
     ensures sent { OnOk result (Adds (K.sent sink.old) (K.sent sink.new)
         (last_text playback.old.at fault)) }
     ensures front { AddsFront (K.sent sink.old) (K.sent sink.new)
@@ -106,110 +174,64 @@ fn end<K: Sink>(
 {
     playback.end(fault)?;
     send_all(sink, playback.text())?;
-    Ok(())
+    Ok(match fault {
+        Some(_) => Ending::Stopped,
+        None => Ending::Replayed,
+    })
 }
 
-/// Runs a script from its first line on, and sends its transcript.
-fn play_all<K: Sink>(
-    playback: &mut Playback,
-    scratch: &mut Scratch,
-    script: &[u8],
+/// Reads a script from the source, runs each line as it comes, and sends its transcript. Where the source fails, what is
+/// sent is what the lines tell that are ended by byte 10.
+///
+/// `SinkFailed`: the sink failed, and counted that; a front of the transcript was sent. `OutOfMemory`: memory ran out;
+/// what some first lines tell was sent, each whole, and no last line. The sink counted no failure then.
+pub fn play<S: Source, K: Sink>(
+    alloc: Global,
+    source: &mut S,
     sink: &mut K,
-) -> Result<bool, PlayError>
-    requires { playback.old.at ≡ begin }
-    ensures sent { OnOk result (Adds (K.sent sink.old) (K.sent sink.new) (transcript script.now)) }
-    ensures whole { IfOk result (λ whole. whole ≡ is_well_formed (script_lines script.now)) }
-    ensures front { AddsFront (K.sent sink.old) (K.sent sink.new) (transcript script.now) }
+) -> Result<Ending, PlayError>
+    ensures transcript { IfOk result (λ ending. ending ≡ Replayed →
+        Replays (S.left source.old) (S.left source.new) (K.sent sink.old) (K.sent sink.new)) }
+    ensures whole { IfOk result (λ ending. ending ≡ Replayed →
+        IsFormed true (S.left source.old)) }
+    ensures sound { IfOk result (λ ending. ending ≡ Replayed →
+        StopsAtFault (S.left source.old) (S.left source.new) 0) }
+    ensures stopped { IfOk result (λ ending. ending ≡ Stopped →
+        Stops (S.left source.old) (S.left source.new) (K.sent sink.old) (K.sent sink.new)) }
+    ensures faulty { IfOk result (λ ending. ending ≡ Stopped →
+        IsFormed false (S.left source.old)) }
+    ensures failed_text { IfOk result (λ ending. ending ≡ SourceFailed →
+        BreaksOff (S.left source.old) (S.left source.new) (K.sent sink.old) (K.sent sink.new)) }
+    ensures failed_sound { IfOk result (λ ending. ending ≡ SourceFailed →
+        StopsAtFault (S.left source.old) (S.left source.new) 3) }
+    ensures begun { Begins (S.left source.old) (S.left source.new)
+        (K.sent sink.old) (K.sent sink.new) }
+    ensures in_time { ReadsInTime (S.left source.old) (S.left source.new)
+        (K.sent sink.old) (K.sent sink.new) }
+    ensures cut { IsErrOf result PlayError.OutOfMemory →
+        CutsShort (S.left source.old) (S.left source.new) (K.sent sink.old) (K.sent sink.new) }
     ensures failed { IsErrOf result PlayError.SinkFailed →
         Rose (K.faults sink.old) (K.faults sink.new) }
     ensures still { OnOk result (K.faults sink.new ≡ K.faults sink.old) }
     ensures out_of_memory { IsErrOf result PlayError.OutOfMemory →
         K.faults sink.new ≡ K.faults sink.old }
-    ensures cut { IsErrOf result PlayError.OutOfMemory →
-        TellsFirst (K.sent sink.old) (K.sent sink.new) 1 (run_of script.now) }
     ensures later { K.faults sink.old ≤ K.faults sink.new }
+    ensures asked { IsAskedForPieces (S.asked source.old) (S.asked source.new) }
+    ensures source_failed { IfOk result (λ ending. ending ≡ SourceFailed →
+        Rose (S.faults source.old) (S.faults source.new)) }
+    ensures source_still { IfOk result (λ ending. ends_unfailing ending ≡ true →
+        S.faults source.new ≡ S.faults source.old) }
+    ensures source_later { S.faults source.old ≤ S.faults source.new }
 {
-    let fault = play_lines(playback, scratch, script, sink)?;
-    end(playback, fault, sink)?;
-    Ok(fault.is_none())
-}
-
-/// Runs the lines of a script that are ended by byte 10, from its first line on, and sends what they tell. The last
-/// line is sent only where one of them is faulty.
-fn play_ended_lines<K: Sink>(
-    playback: &mut Playback,
-    scratch: &mut Scratch,
-    script: &[u8],
-    sink: &mut K,
-) -> Result<bool, PlayError>
-    requires { playback.old.at ≡ begin }
-    ensures told { IfOk result (λ whole. whole ≡ true →
-        Adds (K.sent sink.old) (K.sent sink.new) (body (ended_part script.now))) }
-    ensures stopped { IfOk result (λ whole. whole ≡ false →
-        Adds (K.sent sink.old) (K.sent sink.new) (transcript script.now)) }
-    ensures whole { IfOk result (λ whole. whole ≡ is_well_formed (ended_lines script.now)) }
-    ensures front { AddsFront (K.sent sink.old) (K.sent sink.new) (transcript script.now) }
-    ensures failed { IsErrOf result PlayError.SinkFailed →
-        Rose (K.faults sink.old) (K.faults sink.new) }
-    ensures still { OnOk result (K.faults sink.new ≡ K.faults sink.old) }
-    ensures out_of_memory { IsErrOf result PlayError.OutOfMemory →
-        K.faults sink.new ≡ K.faults sink.old }
-    ensures cut { IsErrOf result PlayError.OutOfMemory →
-        TellsFirst (K.sent sink.old) (K.sent sink.new) 1 (run_of script.now) }
-    ensures later { K.faults sink.old ≤ K.faults sink.new }
-{
-    let fault = play_lines(playback, scratch, ended(script), sink)?;
-    if fault.is_some() {
-        end(playback, fault, sink)?;
-        return Ok(false);
+    let mut scratch = Scratch::new(alloc)?;
+    let mut playback = Playback::new(alloc)?;
+    let mut reader = Reader::new(alloc)?;
+    match play_lines(&mut playback, &mut scratch, &mut reader, source, sink)? {
+        Stop::SourceFailed => Ok(Ending::SourceFailed),
+        Stop::Fault(fault) => finish(&mut playback, Some(fault), sink),
+        Stop::End => {
+            let fault = play_rest(&mut playback, &mut scratch, reader.line.line(), sink)?;
+            finish(&mut playback, fault, sink)
+        }
     }
-    Ok(true)
-}
-
-/// Sends the transcript of a script. Answers whether every line was well formed.
-///
-/// `SinkFailed`: the sink failed, and counted that; a front of the transcript was sent. `OutOfMemory`: memory ran out;
-/// what some first lines tell was sent, each whole, and no last line. The sink counted no failure then.
-pub fn play<K: Sink>(alloc: Global, script: &[u8], sink: &mut K) -> Result<bool, PlayError>
-    ensures sent { OnOk result (Adds (K.sent sink.old) (K.sent sink.new) (transcript script.now)) }
-    ensures whole { IfOk result (λ whole. whole ≡ is_well_formed (script_lines script.now)) }
-    ensures front { AddsFront (K.sent sink.old) (K.sent sink.new) (transcript script.now) }
-    ensures failed { IsErrOf result PlayError.SinkFailed →
-        Rose (K.faults sink.old) (K.faults sink.new) }
-    ensures still { OnOk result (K.faults sink.new ≡ K.faults sink.old) }
-    ensures out_of_memory { IsErrOf result PlayError.OutOfMemory →
-        K.faults sink.new ≡ K.faults sink.old }
-    ensures cut { IsErrOf result PlayError.OutOfMemory →
-        TellsFirst (K.sent sink.old) (K.sent sink.new) 1 (run_of script.now) }
-    ensures later { K.faults sink.old ≤ K.faults sink.new }
-{
-    let mut scratch = Scratch::new(alloc)?;
-    let mut playback = Playback::new(alloc)?;
-    play_all(&mut playback, &mut scratch, script, sink)
-}
-
-/// Sends what the lines of a script tell that are ended by byte 10: of a script that was broken off. Where one of them
-/// is faulty, what is sent is the transcript. Answers whether each of them was well formed.
-///
-/// `SinkFailed`: the sink failed, and counted that; a front of the transcript was sent. `OutOfMemory`: memory ran out;
-/// what some first lines tell was sent, each whole, and no last line. The sink counted no failure then.
-pub fn play_ended<K: Sink>(alloc: Global, script: &[u8], sink: &mut K) -> Result<bool, PlayError>
-    ensures told { IfOk result (λ whole. whole ≡ true →
-        Adds (K.sent sink.old) (K.sent sink.new) (body (ended_part script.now))) }
-    ensures stopped { IfOk result (λ whole. whole ≡ false →
-        Adds (K.sent sink.old) (K.sent sink.new) (transcript script.now)) }
-    ensures whole { IfOk result (λ whole. whole ≡ is_well_formed (ended_lines script.now)) }
-    ensures front { AddsFront (K.sent sink.old) (K.sent sink.new) (transcript script.now) }
-    ensures failed { IsErrOf result PlayError.SinkFailed →
-        Rose (K.faults sink.old) (K.faults sink.new) }
-    ensures still { OnOk result (K.faults sink.new ≡ K.faults sink.old) }
-    ensures out_of_memory { IsErrOf result PlayError.OutOfMemory →
-        K.faults sink.new ≡ K.faults sink.old }
-    ensures cut { IsErrOf result PlayError.OutOfMemory →
-        TellsFirst (K.sent sink.old) (K.sent sink.new) 1 (run_of script.now) }
-    ensures later { K.faults sink.old ≤ K.faults sink.new }
-{
-    let mut scratch = Scratch::new(alloc)?;
-    let mut playback = Playback::new(alloc)?;
-    play_ended_lines(&mut playback, &mut scratch, script, sink)
 }

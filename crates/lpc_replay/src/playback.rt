@@ -1,5 +1,5 @@
 // A script is run and printed line by line.
-ghost use Rattle.std.specs.Prelude.{◌≡◌, ◌<◌, ◌≤◌, ◌+◌, ◌++◌, [], length, true, IfOk, OnOk};
+ghost use Rattle.std.specs.Prelude.{◌≡◌, ◌<◌, ◌≤◌, ◌+◌, ◌++◌, [], length, nat_le, true, IfOk, OnOk};
 ghost use Rattle.lpc_base.specs.declared.limits.TheConstants.{LINES_LIMIT};
 ghost use Rattle.lpc_model.specs.Grammar.{has_ids};
 ghost use Rattle.lpc_model.specs.Lines.{line_of};
@@ -54,6 +54,13 @@ impl Playback {
             lines: 0,
             told: 0,
         })
+    }
+
+    /// As many lines were run as a script may have.
+    pub fn is_full(&self) -> bool
+        ensures { result ≡ nat_le LINES_LIMIT self.now.at.lines }
+    {
+        self.lines >= LINES_LIMIT
     }
 
     /// What is to be sent next.

@@ -1,124 +1,167 @@
-// A script is read to its end, until it passes a limit, or until the source fails.
-ghost use Rattle.std.specs.Prelude.{◌≡◌, ◌≤◌, IfOk, OnErr, false};
-ghost use Rattle.lpc_base.specs.Streams.{Told, Rose};
-ghost use Rattle.lpc_replay.specs.declared.reading.ReadEnd.TheVariants.{Finished, SourceFailed};
-ghost use Rattle.lpc_replay.specs.Reading.{IsAskedForPieces, IsTaken, Reads, ReadsAll, behind, ended_part, passes_limit};
+// A script is read in pieces, a line at a time.
+ghost use Rattle.std.specs.Prelude.{◌≡◌, ◌<◌, ◌≤◌, [], true, false, drop, length, IfOk, IfSome, OnErr, OnOk};
+ghost use Rattle.lpc_base.specs.Streams.{Rose};
+ghost use Rattle.lpc_base.specs.declared.limits.TheConstants.{LINE_LIMIT};
+ghost use Rattle.lpc_script.specs.Feeding.{has_end};
+ghost use Rattle.lpc_replay.specs.declared.reading.NextLine.TheVariants.{End, SourceFailed, TooMany};
+ghost use Rattle.lpc_replay.specs.Reading.{Advances, Fills, IsAskedForPieces, has_failed, is_line};
 
-use lpc_base::limits::{LINE_LIMIT, LINES_LIMIT};
-use lpc_base::{OutOfMemory, Source};
+use lpc_base::{Failed, OutOfMemory, Source};
+use lpc_script::{Fed, LineBuffer};
 use std::alloc::Global;
+use std::marker::Model;
 
-/// How the reading of a script ended.
+/// The most bytes that a source is asked for at once.
+const PIECE_SIZE: usize = 4096;
+
+/// What was read at once, as far as nothing was taken of it yet.
+#[derive(Drop)]
+pub struct Piece {
+    bytes: [u8; PIECE_SIZE],
+    start: usize,
+    end: usize,
+}
+
+impl Model for Piece {
+    ghost use Rattle.std.specs.Prelude.{◌≡◌, ◌-◌, ◌≤◌, ℕ, List, drop, length, take};
+    ghost use Rattle.lpc_replay.specs.declared.reading.TheConstants.{PIECE_SIZE};
+
+    ghost Value = { List ℕ };
+
+    ghost view = { λ p. take (p.end - p.start) (drop p.start p.bytes) };
+
+    ghost invariant = { λ p. (p.start ≤ p.end) × (p.end ≤ PIECE_SIZE) };
+}
+
+impl Piece {
+    /// No byte.
+    fn none() -> Piece
+        ensures { result ≡ [] }
+    {
+        Piece {
+            bytes: [0; PIECE_SIZE],
+            start: 0,
+            end: 0,
+        }
+    }
+
+    fn bytes(&self) -> &[u8]
+        ensures bytes { result.now ≡ self.now }
+        ensures limit { length result.now ≤ PIECE_SIZE }
+    {
+        &self.bytes[self.start..self.end]
+    }
+
+    /// Takes so many bytes from the front.
+    fn pass(&mut self, count: usize)
+        requires { count ≤ length self.old }
+        ensures { self.new ≡ drop count self.old }
+    {
+        self.start += count;
+    }
+
+    /// Reads the next piece where nothing is left of this one, and answers whether there is a byte now. There is none
+    /// only at the source's end.
+    fn fill<S: Source>(&mut self, source: &mut S) -> Result<bool, Failed>
+        ensures read { Fills (S.left source.old) (S.left source.new) self.old self.new }
+        ensures limit { length self.new ≤ PIECE_SIZE }
+        ensures some { IfOk result (λ some. some ≡ true → 0 < length self.new) }
+        ensures none { IfOk result (λ some. some ≡ false → self.new ≡ []) }
+        ensures end { IfOk result (λ some. some ≡ false →
+            IfSome (S.left source.new) (λ left. left ≡ [])) }
+        ensures lost { OnErr result (self.new ≡ []) }
+        ensures failed { OnErr result (Rose (S.faults source.old) (S.faults source.new)) }
+        ensures later { S.faults source.old ≤ S.faults source.new }
+        ensures still { OnOk result (S.faults source.new ≡ S.faults source.old) }
+        ensures asked { IsAskedForPieces (S.asked source.old) (S.asked source.new) }
+        ensures runs { IfOk result (λ some. some ≡ true →
+            (S.asked source.old).running ≡ true → (S.asked source.new).running ≡ true) }
+    {
+        if self.start < self.end {
+            return Ok(true);
+        }
+        self.start = 0;
+        self.end = 0;
+        self.end = source.read(&mut self.bytes)?;
+        Ok(self.end > 0)
+    }
+}
+
+/// What the reading of a line came to.
 #[derive(Clone, Copy)]
-pub enum ReadEnd {
-    /// The source answered its end, or the bytes read pass a limit. A rest without byte 10 is a line too.
-    Finished,
-    /// The source failed, and the bytes read pass no limit. A rest without byte 10 is no line, since more of it may
-    /// have been left.
+pub enum NextLine {
+    /// A line that is ended by byte 10.
+    Whole,
+    /// A line of more than 16,384 bytes, of which the first of these was read.
+    TooLong,
+    /// A byte behind the last line that a script may have.
+    TooMany,
+    /// The source's end. What was read of a line is the last line, unless it is empty.
+    End,
+    /// The source failed. What was read of a line is no line, since more of it may have been left.
     SourceFailed,
 }
 
-/// What was read of a script.
+/// A script as far as it was read: the line that was read last, and what was read behind it.
 #[derive(Drop)]
-pub struct ReadScript {
-    /// The bytes.
-    pub bytes: Vec<u8>,
-    /// Why there are no more of them.
-    pub end: ReadEnd,
+pub struct Reader {
+    /// The line.
+    pub line: LineBuffer,
+    /// What was read at once, and isn't taken yet.
+    pub piece: Piece,
 }
 
-/// How far a script was read: so many whole lines, and so many bytes of the next one.
-#[derive(Clone, Copy)]
-struct Place {
-    lines: u32,
-    column: usize,
-}
+impl Reader {
+    /// Nothing is read yet.
+    ///
+    /// OutOfMemory comes where memory for the line is wanting; no clause tells more of when it does.
+    pub fn new(alloc: Global) -> Result<Reader, OutOfMemory>
+        ensures { IfOk result (λ r. r.piece ≡ []) }
+    {
+        Ok(Reader {
+            line: LineBuffer::new(alloc)?,
+            piece: Piece::none(),
+        })
+    }
 
-/// The place behind more bytes, none where they pass a limit.
-#[tactic(auto, unfolding(crate::specs::Reading::behind))]
-fn behind(place: Place, bytes: &[u8]) -> Option<Place>
-    ensures { result ≡ behind place bytes.now }
-{
-    let mut here = place;
-    for byte in bytes {
-        if here.lines >= LINES_LIMIT {
-            return None;
-        }
-        if *byte == b'\n' {
-            here = Place {
-                lines: here.lines + 1,
-                column: 0,
-            };
-        } else {
-            if here.column >= LINE_LIMIT {
-                return None;
+    /// Reads the next line: no further than its end, or its first byte that is one too many. The source is asked for at
+    /// most 4,096 bytes at once, and only where what was read so far holds no end of the line.
+    ///
+    /// `is_full` says that a script may have no further line. Then the next byte is one of a line too many.
+    pub fn next_line<S: Source>(&mut self, source: &mut S, is_full: bool) -> NextLine
+        ensures read { Advances (S.left source.old) (S.left source.new) result
+            self.old.piece self.new.line.line self.new.piece }
+        ensures end { result ≡ End → IfSome (S.left source.new) (λ left. left ≡ []) }
+        ensures room { is_line result ≡ true → is_full ≡ false }
+        ensures many { result ≡ TooMany → is_full ≡ true }
+        ensures empty { is_full ≡ true → self.new.line.line ≡ [] }
+        ensures lacks { has_end self.new.line.line ≡ false }
+        ensures limit { length self.new.line.line ≤ LINE_LIMIT }
+        ensures ahead { length self.new.piece ≤ 4096 }
+        ensures failed { result ≡ SourceFailed → Rose (S.faults source.old) (S.faults source.new) }
+        ensures still { has_failed result ≡ false → S.faults source.new ≡ S.faults source.old }
+        ensures later { S.faults source.old ≤ S.faults source.new }
+        ensures asked { IsAskedForPieces (S.asked source.old) (S.asked source.new) }
+        ensures runs { is_line result ≡ true →
+            (S.asked source.old).running ≡ true → (S.asked source.new).running ≡ true }
+    {
+        self.line.clear();
+        loop {
+            match self.piece.fill(source) {
+                Ok(true) => {}
+                Ok(false) => return NextLine::End,
+                Err(_) => return NextLine::SourceFailed,
             }
-            here.column += 1;
+            if is_full {
+                return NextLine::TooMany;
+            }
+            let (count, fed) = self.line.feed(self.piece.bytes());
+            self.piece.pass(count);
+            match fed {
+                Fed::More => {}
+                Fed::Line => return NextLine::Whole,
+                Fed::Long => return NextLine::TooLong,
+            }
         }
     }
-    Some(here)
-}
-
-/// The part of a script up to its last byte 10, which is a part of it.
-pub fn ended(script: &[u8]) -> &[u8]
-    ensures { result.now ≡ ended_part script.now }
-{
-    let mut end = script.len();
-    while end > 0 && script[end - 1] != b'\n' {
-        end -= 1;
-    }
-    &script[..end]
-}
-
-/// Reads a script until the source's end or its first failure, in pieces of at most 4096 bytes. Behind these the source
-/// is asked for nothing more.
-///
-/// It ends early where the bytes read pass a limit: a byte is one too many of its line, or is of a line too many. So
-/// a script is at most as long as the limits allow, and one piece, and no failure comes behind a byte too many.
-///
-/// OutOfMemory comes where memory for the bytes is wanting, and the source counted no failure; no clause tells more of
-/// when it does. Some first bytes were taken from the source then.
-pub fn read_script<S: Source>(alloc: Global, source: &mut S) -> Result<ReadScript, OutOfMemory>
-    ensures read { IfOk result (λ s. Reads (S.left source.old) (S.left source.new) s.bytes.items) }
-    ensures finished { IfOk result (λ s. s.end ≡ Finished →
-        ReadsAll (S.left source.old) (S.left source.new) s.bytes.items) }
-    ensures within { IfOk result
-        (λ s. s.end ≡ SourceFailed → passes_limit s.bytes.items ≡ false) }
-    ensures failed { IfOk result (λ s. s.end ≡ SourceFailed →
-        Rose (S.faults source.old) (S.faults source.new)) }
-    ensures taken { OnErr result (Told (S.left source.old) (S.left source.new) IsTaken) }
-    ensures asked { IsAskedForPieces (S.asked source.old) (S.asked source.new) }
-    ensures still { IfOk result (λ s. s.end ≡ Finished →
-        S.faults source.new ≡ S.faults source.old) }
-    ensures out_of_memory { OnErr result (S.faults source.new ≡ S.faults source.old) }
-    ensures later { S.faults source.old ≤ S.faults source.new }
-{
-    let mut bytes = Vec::new(alloc);
-    let mut buffer = [0u8; 4096];
-    let mut place = Some(Place {
-        lines: 0,
-        column: 0,
-    });
-    while let Some(here) = place {
-        let Ok(count) = source.read(&mut buffer) else {
-            return Ok(ReadScript {
-                bytes,
-                end: ReadEnd::SourceFailed,
-            });
-        };
-        if count == 0 {
-            return Ok(ReadScript {
-                bytes,
-                end: ReadEnd::Finished,
-            });
-        }
-        if bytes.extend_from_slice(&buffer[..count]).is_err() {
-            return Err(OutOfMemory);
-        }
-        place = behind(here, &buffer[..count]);
-    }
-    Ok(ReadScript {
-        bytes,
-        end: ReadEnd::Finished,
-    })
 }

@@ -7,10 +7,9 @@ ghost use Rattle.lpc_model.specs.Left.{RunLeavesNothing};
 ghost use Rattle.lpc_replay.specs.Laws.{ClientsApart, ConnectsReturn, MisfitsRefused, RefusalsIdle, RefusalsStay, RequestsReturn, WaitsEnd};
 ghost use Rattle.lpc_replay.specs.Reading.{IsAskedForPieces};
 ghost use Rattle.lpc_replay.specs.Sending.{AddsFront};
-ghost use Rattle.lpc_replay.specs.TopCall.{Begins, BreaksOff, CutsShort, EndsAsFormed, IsFormed, Replays, Still, Stops, StopsAtFault, StopsUnfailing, is_one_of, is_replay, usage};
+ghost use Rattle.lpc_replay.specs.TopCall.{Begins, BreaksOff, CutsShort, EndsAsFormed, IsFormed, ReadsInTime, Replays, Still, Stops, StopsAtFault, StopsUnfailing, is_one_of, is_replay, usage};
 
-use crate::play::{PlayError, play, play_ended};
-use crate::reading::{ReadEnd, read_script};
+use crate::play::{Ending, PlayError, play};
 use crate::sending::send_all;
 use lpc_base::{Sink, Source};
 use std::alloc::Global;
@@ -76,6 +75,8 @@ fn replay<S: Source, K: Sink>(alloc: Global, source: &mut S, sink: &mut K) -> u8
         (K.sent sink.old) (K.sent sink.new) }
     ensures cut { result ≡ 5 →
         CutsShort (S.left source.old) (S.left source.new) (K.sent sink.old) (K.sent sink.new) }
+    ensures in_time { ReadsInTime (S.left source.old) (S.left source.new)
+        (K.sent sink.old) (K.sent sink.new) }
     ensures asked { IsAskedForPieces (S.asked source.old) (S.asked source.new) }
     ensures source_failed { result ≡ 3 → Rose (S.faults source.old) (S.faults source.new) }
     ensures source_still { result ≡ 0 → S.faults source.new ≡ S.faults source.old }
@@ -85,34 +86,24 @@ fn replay<S: Source, K: Sink>(alloc: Global, source: &mut S, sink: &mut K) -> u8
     ensures source_later { S.faults source.old ≤ S.faults source.new }
     ensures sink_later { K.faults sink.old ≤ K.faults sink.new }
 {
-    let Ok(script) = read_script(alloc, source) else {
-        return OUT_OF_MEMORY;
-    };
-    match script.end {
-        ReadEnd::Finished => match play(alloc, &script.bytes, sink) {
-            Ok(true) => REPLAYED,
-            Ok(false) => STOPPED,
-            Err(PlayError::OutOfMemory) => OUT_OF_MEMORY,
-            Err(PlayError::SinkFailed) => SINK_FAILED,
-        },
-        ReadEnd::SourceFailed => match play_ended(alloc, &script.bytes, sink) {
-            Ok(true) => SOURCE_FAILED,
-            Ok(false) => STOPPED,
-            Err(PlayError::OutOfMemory) => OUT_OF_MEMORY,
-            Err(PlayError::SinkFailed) => SINK_FAILED,
-        },
+    match play(alloc, source, sink) {
+        Ok(Ending::Replayed) => REPLAYED,
+        Ok(Ending::Stopped) => STOPPED,
+        Ok(Ending::SourceFailed) => SOURCE_FAILED,
+        Err(PlayError::OutOfMemory) => OUT_OF_MEMORY,
+        Err(PlayError::SinkFailed) => SINK_FAILED,
     }
 }
 
 /// Runs the form that the words name, and answers the program's status. The forms and the statuses are this project's
 /// own.
 ///
-/// The words `replay` replay the script that the source gives: each line is run in its turn, and what it tells is sent
-/// to the sink. Status 0: the script was read to its end, every line was well formed, and all was sent. 2: a line was
-/// faulty; the lines before it were run, and `stop` with its number and its fault was sent. 3: the source failed, and
-/// no line read before was faulty; what the lines tell that are ended by byte 10 was sent, and no last line. 4: the
-/// sink failed. 5: memory ran out; what some first lines tell was sent, each whole, and no last line. Other words
-/// answer 64, send the usage line and read nothing.
+/// The words `replay` replay the script that the source gives: each line is run as it comes, and what it tells is sent
+/// to the sink before more is asked of the source. Status 0: the script was read to its end, every line was well
+/// formed, and all was sent. 2: a line was faulty; the lines before it were run, and `stop` with its number and its
+/// fault was sent. 3: the source failed, and no line read before was faulty; what the lines tell that are ended by byte
+/// 10 was sent, and no last line. 4: the sink failed. 5: memory ran out; what some first lines tell was sent, each
+/// whole, and no last line. Other words answer 64, send the usage line and read nothing.
 ///
 /// Whatever the status, what was sent is a front of the transcript of what was read, or of the usage line: nothing else
 /// is sent, and nothing twice. What is said here of bytes that were read or sent holds of a source and a sink that tell
@@ -170,6 +161,10 @@ pub fn run_words<S: Source, K: Sink>(
     // Whatever the status, what was sent begins the transcript of what was read.
     ensures begun { is_replay words.now ≡ true →
         Begins (S.left source.old) (S.left source.new) (K.sent sink.old) (K.sent sink.new) }
+
+    // Behind a line's end at most 4,096 bytes more are read before what the line tells is sent.
+    ensures in_time { is_replay words.now ≡ true →
+        ReadsInTime (S.left source.old) (S.left source.new) (K.sent sink.old) (K.sent sink.new) }
 
     // Behind its end or a failure the source is asked for nothing, and for at most 4,096 bytes at once before.
     ensures asked { IsAskedForPieces (S.asked source.old) (S.asked source.new) }

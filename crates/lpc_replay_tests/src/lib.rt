@@ -13,4 +13,6 @@ mod creations;
 #[cfg(test)]
 mod endings;
 #[cfg(test)]
+mod lines;
+#[cfg(test)]
 mod replay;

@@ -1,94 +1,137 @@
-use Rattle.std.proofs.Common.{arith, refl, sym, ◌∙◌, ◌+◌, ◌≡◌, length}
-use Rattle.std.specs.Prelude.{None, Some}
-use Rattle.std.proofs.lemmas.Bool.Decides.{nat_tests}
-use Rattle.lpc_model.specs.Script.{script_lines}
-use Rattle.lpc_replay.specs.Playing.{body_text, last_text, text_from}
-use Rattle.lpc_replay.proofs.Cut.{run_more, run_none, run_tells_first}
-use Rattle.lpc_replay.proofs.Tells.{front_on, sent_all, sent_as, sent_none, sent_on}
-use Rattle.lpc_replay.proofs.Turns.{body_ends, body_stops, fault_ends, fault_stops, run_goes, run_sound, run_tells, text_ends, text_stops}
+use Rattle.std.proofs.Common.{sym, refl, ◌∙◌}
+use Rattle.lpc_replay.specs.TopCall.{Begins, ReadsInTime}
+use Rattle.lpc_replay.proofs.Asking.{asked_nothing, asked_then}
+use Rattle.lpc_replay.proofs.Coming.{come_begun, come_end, come_failed, come_fault, come_long, come_many, come_whole, few_lines}
+use Rattle.lpc_replay.proofs.Played.{begins_here, cuts_here, grows_front, grows_none, line_run, played_none, reads_in_time}
+use Rattle.lpc_replay.proofs.Stopping.{on_err}
 use Rattle.lpc_replay.proofs.play.play_lines.Goals as goal
 
-pub returns-in-Some-clause-sent : goal.returns-in-Some-clause-sent
-returns-in-Some-clause-sent g c =
-    let l = c.loop-rest in
-    let sent = g.K.Sink.sent in
-    let runs = rw c.in-Some.is at c.in_ok-fault.ensures in
-    sent_as (sent c.args.sink.now) (sent l.sink) (text_from c.args.playback.now.at (script_lines c.args.script.now)) (text_from l.playback.at (script_lines l.rest.now)) (last_text c.run_line.new.self.at (Some c.in-Some.fault))
-    (rw (c.next_line.ensures.lines, runs.1) (text_stops l.playback.at c.next_line.result.0.now (script_lines c.next_line.result.1.now) c.in-Some.fault runs.0)) l.invariant.told
+pub loop-playback-init : goal.loop-playback-init
+loop-playback-init g c = record {
+  played = rw (c.requires.begin, c.requires.unread) (played_none (g.S.Source.left c.args.source.now) (g.K.Sink.sent c.args.sink.now));
+  faults = refl;
+  read_faults = refl;
+  asked = asked_nothing (g.S.Source.asked c.args.source.now);
+  runs = λ r. r;
+}
 
-pub returns-in-Some-clause-body : goal.returns-in-Some-clause-body
-returns-in-Some-clause-body g c =
-    let l = c.loop-rest in
+pub returns-in-TooLong-clause-stops : goal.returns-in-TooLong-clause-stops
+returns-in-TooLong-clause-stops g c =
+    let left = g.S.Source.left in
     let sent = g.K.Sink.sent in
-    let runs = rw c.in-Some.is at c.in_ok-fault.ensures in
-    sent_all (sent c.args.sink.now) (sent l.sink) (body_text c.args.playback.now.at (script_lines c.args.script.now)) (body_text l.playback.at (script_lines l.rest.now))
-    (rw c.next_line.ensures.lines (body_stops l.playback.at c.next_line.result.0.now (script_lines c.next_line.result.1.now) c.in-Some.fault runs.0)) l.invariant.body
+    let l = c.loop-playback in
+    let p = l.playback.at in
+    let now = c.next_line.new.self in
+    come_long (left c.args.source.now) (left l.source) (left c.next_line.new.source) (sent c.args.sink.now) (sent l.sink) p l.reader.piece now.line.line now.piece l.invariant.played c.in-TooLong.ensures.read c.next_line.ensures.lacks c.next_line.ensures.ahead (sym c.is_full.ensures ∙ c.in-TooLong.ensures.room refl)
 
-pub returns-in-Some-clause-fault : goal.returns-in-Some-clause-fault
-returns-in-Some-clause-fault g c =
-    let l = c.loop-rest in
-    let runs = rw c.in-Some.is at c.in_ok-fault.ensures in
-    sym (rw c.next_line.ensures.lines (fault_stops (l.playback.at.lines + 1) c.next_line.result.0.now (script_lines c.next_line.result.1.now) c.in-Some.fault runs.0)) ∙ l.invariant.fault
-
-pub loop-rest-init : goal.loop-rest-init
-loop-rest-init g c =
+pub returns-in-TooMany-clause-stops : goal.returns-in-TooMany-clause-stops
+returns-in-TooMany-clause-stops g c =
+    let left = g.S.Source.left in
     let sent = g.K.Sink.sent in
-    let lines = script_lines c.args.script.now in
-    record {
-      told = sent_none (sent c.args.sink.now) (text_from c.args.playback.now.at lines);
-      body = sent_none (sent c.args.sink.now) (body_text c.args.playback.now.at lines);
-      fault = refl;
-      run = run_none (sent c.args.sink.now) c.args.playback.now.at lines;
-      faults = refl;
-    }
+    let l = c.loop-playback in
+    let p = l.playback.at in
+    let now = c.next_line.new.self in
+    come_many (left c.args.source.now) (left l.source) (left c.next_line.new.source) (sent c.args.sink.now) (sent l.sink) p l.reader.piece now.line.line now.piece l.invariant.played c.in-TooMany.ensures.read c.next_line.ensures.ahead (sym c.is_full.ensures ∙ c.in-TooMany.ensures.many refl)
 
-pub loop-rest-preserved : goal.loop-rest-preserved
-loop-rest-preserved g c =
-    let l = c.loop-rest in
+pub returns-in-End-clause-stops : goal.returns-in-End-clause-stops
+returns-in-End-clause-stops g c =
+    let left = g.S.Source.left in
     let sent = g.K.Sink.sent in
-    let runs = rw c.in_default.is at c.in_ok-fault.ensures in
-    let line = c.next_line.result.0.now in
-    let more = script_lines c.next_line.result.1.now in
-    let now = c.run_line.new.self in
-    record {
-      told = sent_on (sent c.args.sink.now) (sent l.sink) (sent c.send_all.new.sink) (text_from c.args.playback.now.at (script_lines c.args.script.now)) (text_from l.playback.at (script_lines l.rest.now)) now.text (text_from now.at more) l.invariant.told (rw c.text.ensures at c.in_ok-send_all.ensures.sent) (run_goes l.playback.at now.at (script_lines l.rest.now) line more now.text c.next_line.ensures.lines runs);
-      body = sent_on (sent c.args.sink.now) (sent l.sink) (sent c.send_all.new.sink) (body_text c.args.playback.now.at (script_lines c.args.script.now)) (body_text l.playback.at (script_lines l.rest.now)) now.text (body_text now.at more) l.invariant.body (rw c.text.ensures at c.in_ok-send_all.ensures.sent) (run_tells l.playback.at now.at (script_lines l.rest.now) line more now.text c.next_line.ensures.lines runs);
-      run = run_more (sent c.args.sink.now) (sent l.sink) (sent c.send_all.new.sink) c.args.playback.now.at l.playback.at now.at (script_lines c.args.script.now) (script_lines l.rest.now) line more now.text l.invariant.run c.next_line.ensures.lines runs (rw c.text.ensures at c.in_ok-send_all.ensures.sent);
-      fault = run_sound l.playback.at now.at (script_lines l.rest.now) line more now.text c.next_line.ensures.lines runs ∙ l.invariant.fault;
-      faults = omega (arith, c.in_ok-send_all.ensures.still);
-    }
+    let l = c.loop-playback in
+    let p = l.playback.at in
+    let now = c.next_line.new.self in
+    come_end (left c.args.source.now) (left l.source) (left c.next_line.new.source) (sent c.args.sink.now) (sent l.sink) p l.reader.piece now.line.line now.piece l.invariant.played c.in-End.ensures.read c.next_line.ensures.lacks (λ full. c.next_line.ensures.empty (c.is_full.ensures ∙ full)) c.next_line.ensures.limit
+
+pub returns-in-SourceFailed-clause-stops : goal.returns-in-SourceFailed-clause-stops
+returns-in-SourceFailed-clause-stops g c =
+    let left = g.S.Source.left in
+    let sent = g.K.Sink.sent in
+    let l = c.loop-playback in
+    let p = l.playback.at in
+    let now = c.next_line.new.self in
+    come_failed (left c.args.source.now) (left l.source) (left c.next_line.new.source) (sent c.args.sink.now) (sent l.sink) p l.reader.piece now.line.line now.piece l.invariant.played c.in-SourceFailed.ensures.read c.next_line.ensures.lacks (λ full. c.next_line.ensures.empty (c.is_full.ensures ∙ full)) c.next_line.ensures.limit
+
+pub returns-in_err-fault-clause-begun : goal.returns-in_err-fault-clause-begun
+returns-in_err-fault-clause-begun g c =
+    let left = g.S.Source.left in
+    let sent = g.K.Sink.sent in
+    let l = c.loop-playback in
+    let p = l.playback.at in
+    let now = c.next_line.new.self in
+    let h = come_whole (left c.args.source.now) (left l.source) (left c.next_line.new.source) (sent c.args.sink.now) (sent l.sink) p l.reader.piece now.line.line now.piece l.invariant.played c.in-Whole.ensures.read c.next_line.ensures.lacks c.next_line.ensures.ahead in
+    on_err c.from_residual.result (Begins (left c.args.source.now) (left c.next_line.new.source) (sent c.args.sink.now) (sent l.sink)) (begins_here (left c.args.source.now) (left c.next_line.new.source) (sent c.args.sink.now) (sent l.sink) p _ h)
+
+pub returns-in_err-fault-clause-in_time : goal.returns-in_err-fault-clause-in_time
+returns-in_err-fault-clause-in_time g c =
+    let left = g.S.Source.left in
+    let sent = g.K.Sink.sent in
+    let l = c.loop-playback in
+    let p = l.playback.at in
+    let now = c.next_line.new.self in
+    let h = come_whole (left c.args.source.now) (left l.source) (left c.next_line.new.source) (sent c.args.sink.now) (sent l.sink) p l.reader.piece now.line.line now.piece l.invariant.played c.in-Whole.ensures.read c.next_line.ensures.lacks c.next_line.ensures.ahead in
+    on_err c.from_residual.result (ReadsInTime (left c.args.source.now) (left c.next_line.new.source) (sent c.args.sink.now) (sent l.sink)) (reads_in_time (left c.args.source.now) (left c.next_line.new.source) (sent c.args.sink.now) (sent l.sink) (sent l.sink) p _ h (grows_none (sent l.sink)))
 
 pub returns-in_err-fault-clause-cut : goal.returns-in_err-fault-clause-cut
 returns-in_err-fault-clause-cut g c =
-    let l = c.loop-rest in
+    let left = g.S.Source.left in
     let sent = g.K.Sink.sent in
-    λ _. run_tells_first (sent c.args.sink.now) (sent l.sink) c.args.playback.now.at l.playback.at (script_lines c.args.script.now) (script_lines l.rest.now) l.invariant.run
+    let l = c.loop-playback in
+    let p = l.playback.at in
+    let now = c.next_line.new.self in
+    let h = come_whole (left c.args.source.now) (left l.source) (left c.next_line.new.source) (sent c.args.sink.now) (sent l.sink) p l.reader.piece now.line.line now.piece l.invariant.played c.in-Whole.ensures.read c.next_line.ensures.lacks c.next_line.ensures.ahead in
+    λ _. cuts_here (left c.args.source.now) (left c.next_line.new.source) (sent c.args.sink.now) (sent l.sink) p _ h
 
-pub returns-in_err-send_all-clause-front : goal.returns-in_err-send_all-clause-front
-returns-in_err-send_all-clause-front g c =
-    let l = c.loop-rest in
+pub returns-in-Some-clause-stops : goal.returns-in-Some-clause-stops
+returns-in-Some-clause-stops g c =
+    let left = g.S.Source.left in
     let sent = g.K.Sink.sent in
-    let runs = rw c.in_default.is at c.in_ok-fault.ensures in
-    let more = script_lines c.next_line.result.1.now in
-    let now = c.run_line.new.self in
-    front_on (sent c.args.sink.now) (sent l.sink) (sent c.send_all.new.sink) (body_text c.args.playback.now.at (script_lines c.args.script.now)) (body_text l.playback.at (script_lines l.rest.now)) now.text (body_text now.at more) l.invariant.body (rw c.text.ensures at c.send_all.ensures.front) (run_tells l.playback.at now.at (script_lines l.rest.now) c.next_line.result.0.now more now.text c.next_line.ensures.lines runs)
+    let l = c.loop-playback in
+    let p = l.playback.at in
+    let now = c.next_line.new.self in
+    let h = come_whole (left c.args.source.now) (left l.source) (left c.next_line.new.source) (sent c.args.sink.now) (sent l.sink) p l.reader.piece now.line.line now.piece l.invariant.played c.in-Whole.ensures.read c.next_line.ensures.lacks c.next_line.ensures.ahead in
+    let runs = rw (c.in-Some.is, c.line.ensures.line) at c.in_ok-fault.ensures in
+    come_fault (left c.args.source.now) (left c.next_line.new.source) (sent c.args.sink.now) (sent l.sink) p c.run_line.new.self.at now.line.line now.piece c.run_line.new.self.text c.in-Some.fault h c.next_line.ensures.lacks runs
 
-pub returns-clause-sent : goal.returns-clause-sent
-returns-clause-sent g c =
-    let l = c.loop-rest in
-    let none : length l.rest.now ≡ 0 = grind (arith, nat_tests) in
+pub loop-playback-preserved : goal.loop-playback-preserved
+loop-playback-preserved g c =
+    let left = g.S.Source.left in
     let sent = g.K.Sink.sent in
-    sent_as (sent c.args.sink.now) (sent l.sink) (text_from c.args.playback.now.at (script_lines c.args.script.now)) (text_from l.playback.at (script_lines l.rest.now)) (last_text l.playback.at None) (text_ends l.playback.at l.rest.now none) l.invariant.told
+    let l = c.loop-playback in
+    let p = l.playback.at in
+    let now = c.next_line.new.self in
+    let h = come_whole (left c.args.source.now) (left l.source) (left c.next_line.new.source) (sent c.args.sink.now) (sent l.sink) p l.reader.piece now.line.line now.piece l.invariant.played c.in-Whole.ensures.read c.next_line.ensures.lacks c.next_line.ensures.ahead in
+    let asked = g.S.Source.asked in
+    let v = l.invariant in
+    let runs = rw (c.in_default.is, c.line.ensures.line) at c.in_ok-fault.ensures in
+    let told = rw c.text.ensures at c.in_ok-send_all.ensures.sent in
+    let few = few_lines p.lines (sym c.is_full.ensures ∙ c.in-Whole.ensures.room refl) in
+    record {
+      played = line_run (left c.args.source.now) (left c.next_line.new.source) (sent c.args.sink.now) (sent l.sink) (sent c.send_all.new.sink) p c.run_line.new.self.at now.line.line now.piece c.run_line.new.self.text h c.next_line.ensures.lacks c.next_line.ensures.limit few runs told c.next_line.ensures.ahead;
+      faults = c.in_ok-send_all.ensures.still ∙ v.faults;
+      read_faults = c.in-Whole.ensures.still refl ∙ v.read_faults;
+      asked = asked_then (asked c.args.source.now) (asked l.source) (asked c.next_line.new.source) v.runs v.asked c.next_line.ensures.asked;
+      runs = λ r. c.in-Whole.ensures.runs refl (v.runs r);
+    }
 
-pub returns-clause-body : goal.returns-clause-body
-returns-clause-body g c =
-    let l = c.loop-rest in
-    let none : length l.rest.now ≡ 0 = grind (arith, nat_tests) in
+pub returns-in_err-send_all-clause-begun : goal.returns-in_err-send_all-clause-begun
+returns-in_err-send_all-clause-begun g c =
+    let left = g.S.Source.left in
     let sent = g.K.Sink.sent in
-    sent_all (sent c.args.sink.now) (sent l.sink) (body_text c.args.playback.now.at (script_lines c.args.script.now)) (body_text l.playback.at (script_lines l.rest.now)) (body_ends l.playback.at l.rest.now none) l.invariant.body
+    let l = c.loop-playback in
+    let p = l.playback.at in
+    let now = c.next_line.new.self in
+    let h = come_whole (left c.args.source.now) (left l.source) (left c.next_line.new.source) (sent c.args.sink.now) (sent l.sink) p l.reader.piece now.line.line now.piece l.invariant.played c.in-Whole.ensures.read c.next_line.ensures.lacks c.next_line.ensures.ahead in
+    let runs = rw (c.in_default.is, c.line.ensures.line) at c.in_ok-fault.ensures in
+    let told = rw c.text.ensures at c.send_all.ensures.front in
+    on_err c.from_residual-in_err-send_all.result _ (come_begun (left c.args.source.now) (left c.next_line.new.source) (sent c.args.sink.now) (sent l.sink) (sent c.send_all.new.sink) p c.run_line.new.self.at now.line.line now.piece c.run_line.new.self.text h c.next_line.ensures.lacks runs told)
 
-pub returns-clause-fault : goal.returns-clause-fault
-returns-clause-fault g c =
-    let l = c.loop-rest in
-    let none : length l.rest.now ≡ 0 = grind (arith, nat_tests) in
-    sym (fault_ends (l.playback.at.lines + 1) l.rest.now none) ∙ l.invariant.fault
+pub returns-in_err-send_all-clause-in_time : goal.returns-in_err-send_all-clause-in_time
+returns-in_err-send_all-clause-in_time g c =
+    let left = g.S.Source.left in
+    let sent = g.K.Sink.sent in
+    let l = c.loop-playback in
+    let p = l.playback.at in
+    let now = c.next_line.new.self in
+    let h = come_whole (left c.args.source.now) (left l.source) (left c.next_line.new.source) (sent c.args.sink.now) (sent l.sink) p l.reader.piece now.line.line now.piece l.invariant.played c.in-Whole.ensures.read c.next_line.ensures.lacks c.next_line.ensures.ahead in
+    let told = rw c.text.ensures at c.send_all.ensures.front in
+    on_err c.from_residual-in_err-send_all.result _ (reads_in_time (left c.args.source.now) (left c.next_line.new.source) (sent c.args.sink.now) (sent l.sink) (sent c.send_all.new.sink) p _ h (grows_front (sent l.sink) (sent c.send_all.new.sink) c.run_line.new.self.text told))

@@ -1,22 +1,18 @@
-use Rattle.std.proofs.Common.{◌≡◌, ◌+◌, length}
-use Rattle.std.specs.Prelude.{is_none}
-use Rattle.lpc_base.specs.Streams.{Told}
-use Rattle.lpc_model.specs.Script.{script_lines}
-use Rattle.lpc_model.specs.Run.{first_fault}
-use Rattle.lpc_replay.specs.Playing.{body_text, text_from}
-use Rattle.lpc_replay.specs.Sending.{SentBut}
-use Rattle.lpc_replay.proofs.Cut.{HasRun}
+use Rattle.std.proofs.Common.{◌≡◌, ◌-◌, true}
+use Rattle.lpc_base.specs.declared.limits.TheConstants.{LINES_LIMIT}
+use Rattle.lpc_replay.specs.Playing.{HasPlayed}
+use Rattle.lpc_replay.specs.Reading.{IsAskedForPieces}
 use Rattle.lpc_replay.proofs.play.play_lines.Given as goal
 
--- the text of all but that of the rest was sent, with the last line and without it
-abbrev pub invariant-loop-rest : goal.invariant-loop-rest
-invariant-loop-rest g l = record {
-  told : Told (g.K.Sink.sent l.fn.sink) (g.K.Sink.sent l.sink) (SentBut (text_from l.fn.playback.at (script_lines l.script)) (text_from l.playback.at (script_lines l.rest)));
-  body : Told (g.K.Sink.sent l.fn.sink) (g.K.Sink.sent l.sink) (SentBut (body_text l.fn.playback.at (script_lines l.script)) (body_text l.playback.at (script_lines l.rest)));
-  fault : is_none (first_fault (l.playback.at.lines + 1) (script_lines l.rest)) ≡ is_none (first_fault (l.fn.playback.at.lines + 1) (script_lines l.script));
-  run : HasRun (g.K.Sink.sent l.fn.sink) (g.K.Sink.sent l.sink) l.fn.playback.at (script_lines l.script) l.playback.at (script_lines l.rest);
+-- each line that was read whole was run, and what it tells was sent
+abbrev pub invariant-loop-playback : goal.invariant-loop-playback
+invariant-loop-playback g l = record {
+  played : HasPlayed (g.S.Source.left l.fn.source) (g.S.Source.left l.source) (g.K.Sink.sent l.fn.sink) (g.K.Sink.sent l.sink) l.playback.at l.reader.piece;
   faults : g.K.Sink.faults l.sink ≡ g.K.Sink.faults l.fn.sink;
+  read_faults : g.S.Source.faults l.source ≡ g.S.Source.faults l.fn.source;
+  asked : IsAskedForPieces (g.S.Source.asked l.fn.source) (g.S.Source.asked l.source);
+  runs : (g.S.Source.asked l.fn.source).running ≡ true → (g.S.Source.asked l.source).running ≡ true;
 }
 
-abbrev pub decreases-loop-rest : goal.decreases-loop-rest
-decreases-loop-rest g l = length l.rest
+abbrev pub decreases-loop-playback : goal.decreases-loop-playback
+decreases-loop-playback g l = LINES_LIMIT - l.playback.at.lines

@@ -1,0 +1,60 @@
+-- A rest of a script that no byte 10 ends.
+use Rattle.std.proofs.Common.{◌≡◌, ℕ, ◌<◌, false, List, [], ◌∷◌, ◌++◌, length, refl, sym, ap, ◌∙◌, arith}
+use Rattle.std.specs.Prelude.{Option, Some, None, ◌==◌}
+use Rattle.std.specs.List.{AllByRecursion}
+use Rattle.std.proofs.lemmas.List.{append-nil}
+use Rattle.lpc_base.specs.Streams.{Adds}
+use Rattle.lpc_model.specs.declared.fault.LineFault.{LineFault}
+use Rattle.lpc_model.specs.Script.{script_lines}
+use Rattle.lpc_script.specs.Feeding.{has_end}
+use Rattle.lpc_replay.specs.Playing.{HasEnded, HasFaultyRest, Progress, RunsLine, behind_lines, body_text}
+use Rattle.lpc_replay.specs.Sending.{AddsFront}
+use Rattle.lpc_replay.proofs.Limits.{all_lack}
+use Rattle.lpc_replay.proofs.Played.{runs_on}
+use Rattle.lpc_replay.proofs.Tells.{told_same}
+use Rattle.lpc_replay.proofs.Turns.{body_ends, body_goes}
+
+-- it is one line
+one_line : (bytes : List ℕ) → AllByRecursion (λ b. (b == 10) ≡ false) bytes → 0 < length bytes → script_lines bytes ≡ bytes ∷ []
+unfolding script_lines
+one_line [] all some = absurd (omega arith)
+one_line (b ∷ []) all some = rw all.0 refl
+one_line (b ∷ c ∷ bs) all some = rw (all.0, one_line (c ∷ bs) all.1 (omega arith)) refl
+
+line_of : (rest : List ℕ) → has_end rest ≡ false → 0 < length rest → script_lines rest ≡ rest ∷ []
+line_of rest lacks some = one_line rest (all_lack rest lacks) some
+
+-- an empty one is none
+pub rest_none : (p : Progress) (rest : List ℕ) (a : Option (List ℕ)) → length rest ≡ 0 → HasEnded p p rest a a
+unfolding behind_lines script_lines
+rest_none p [] a none = record {
+  runs = refl;
+  told = told_same a a (λ old new. new ≡ old ++ body_text p (script_lines [])) (λ x. sym (ap (λ t. x ++ t) (body_ends p [] refl) ∙ append-nil x)) refl;
+}
+rest_none p (b ∷ bs) a none = absurd (omega arith)
+
+-- it was run
+rest_text : (p q : Progress) (rest text : List ℕ) → has_end rest ≡ false → 0 < length rest → RunsLine rest None p q text → body_text p (script_lines rest) ≡ text ++ body_text q []
+rest_text p q rest text lacks some runs = ap (λ ls. body_text p ls) (line_of rest lacks some) ∙ rw (runs.2, runs.3) (body_goes p rest [] runs.0 runs.1)
+
+no_lines : (q : Progress) → body_text q [] ≡ []
+unfolding script_lines
+no_lines q = body_ends q [] refl
+
+rest_is : (p q : Progress) (rest text : List ℕ) → has_end rest ≡ false → 0 < length rest → RunsLine rest None p q text → text ≡ body_text p (script_lines rest)
+rest_is p q rest text lacks some runs =
+    sym (rest_text p q rest text lacks some runs ∙ (ap (λ t. text ++ t) (no_lines q) ∙ append-nil text))
+
+pub rest_run : (p q : Progress) (rest text : List ℕ) (b c : Option (List ℕ)) → has_end rest ≡ false → 0 < length rest → RunsLine rest None p q text → Adds b c text → HasEnded p q rest b c
+unfolding behind_lines
+rest_run p q rest text b c lacks some runs sent = record {
+  runs = ap (λ ls. behind_lines p ls) (line_of rest lacks some) ∙ (runs_on p rest [] runs.0 runs.1 ∙ ap (λ (r : Progress). Some r) (sym runs.2));
+  told = rw (rest_is p q rest text lacks some runs) at sent;
+}
+
+pub rest_front : (p q : Progress) (rest text : List ℕ) (b c : Option (List ℕ)) → has_end rest ≡ false → 0 < length rest → RunsLine rest None p q text → AddsFront b c text → AddsFront b c (body_text p (script_lines rest))
+rest_front p q rest text b c lacks some runs sent = rw (rest_is p q rest text lacks some runs) at sent
+
+-- it is faulty
+pub rest_faulty : (p q : Progress) (rest text : List ℕ) (f : LineFault) (b : Option (List ℕ)) → has_end rest ≡ false → 0 < length rest → RunsLine rest (Some f) p q text → HasFaultyRest p q rest b b f
+rest_faulty p q rest text f b lacks some runs = record { at = runs.1; begins = (rest, [], line_of rest lacks some, runs.0); unsent = refl }
