@@ -10,11 +10,14 @@ import textwrap
 import threading
 from typing import Optional, Tuple
 
-from ntlpc_tool import differences, faults, forms, message, needs, reasons, transcript
+from ntlpc_tool import differences, faults, forms, message, needs, own_names, reasons, renaming, script_lines
+from ntlpc_tool import transcript
 from ntlpc_tool.inputs import cut, shown
 
 MUCH = 1 << 20
 WIDTH = 100
+# How often a program with names of its own is run over one script until its names fit.
+MOST_RUNS = 100
 STATUS = (
     "A program ends with status 2 where a line of the script is faulty, else with 0.",
     "CONFORMANCE.md, Give your implementation a front end",
@@ -95,7 +98,46 @@ def of_run(script, wanted, command, timeout):
         ran = Ran(command, script, len(wanted) + MUCH, timeout)
     except OSError as error:
         return of_told(f"it could not be started: {error.strerror}")
-    failure = of_printed(script, wanted, ran.printed)
+    return with_ending(of_printed(script, wanted, ran.printed), ran, wanted, timeout)
+
+
+def of_names(script, wanted, command, timeout):
+    """As `of_run`, with handles and identifiers of the program's own, which may differ as long as they differ alike."""
+    right, source = transcript.read(wanted), script
+    names = own_names.Names(script, right)
+    for _ in range(MOST_RUNS):
+        try:
+            ran = Ran(command, source, len(wanted) + MUCH, timeout)
+        except OSError as error:
+            return of_told(f"it could not be started: {error.strerror}")
+        try:
+            got = transcript.read(ran.printed)
+        except transcript.Malformed:
+            return with_ending(of_printed(script, wanted, ran.printed), ran, wanted, timeout)
+        before, source = source, names.of_got(got)
+        if before == source:
+            break
+    else:
+        return of_told(f"its handles or identifiers are others in each of {MOST_RUNS} runs")
+    found = differences.between(right, got, renaming.Renaming((right, got), script_lines.Script(script)))
+    failure = of_difference(script, source, right, got, found[0]) if found else None
+    return with_ending(failure, ran, wanted, timeout)
+
+
+def of_difference(script, source, right, got, first):
+    """The Failure for the first difference up to names; `source` is the script as it was run."""
+    lines = [it.split(b"\n") for it in (script, source)]
+    texts = [cut(shown(it[first.line - 1])) if first.line <= len(it) else "(no such line)" for it in lines]
+    told = [f"line {first.line} of the script: {texts[0]}"]
+    told += [f"as it was run: {texts[1]}"] if texts[1] != texts[0] else []
+    sides = [it.raw if it else None for it in (first.wanted, first.got)]
+    told += [f"{name} {cut(it or '(nothing)')}" for name, it in zip(("wanted: ", "printed:"), sides)]
+    cause = Cause(first.means + detail(script, right, got, first), *(first.rule or (None, None)))
+    return Failure(cause, (*told, f"differs: {first.says}", *cause.lines()), first.line, *sides)
+
+
+def with_ending(failure, ran, wanted, timeout):
+    """What failed in what was printed, if anything, with what is wrong with how the program ended."""
     ended = how_it_ended(ran, 2 if needs.stop_of(wanted) else 0, timeout)
     if not failure and not ended:
         return None

@@ -5,6 +5,7 @@ import pathlib
 import subprocess
 import sys
 import unittest
+import unittest.mock
 import xml.etree.ElementTree as xml
 
 import support
@@ -12,7 +13,7 @@ import support
 SUITE = support.ROOT / "conformance"
 sys.path.insert(0, str(SUITE))
 import suite
-from ntlpc_tool import judge, needs, program
+from ntlpc_tool import judge, needs, own_names, program, transcript
 
 EXAMPLE = [sys.executable, str(SUITE / "example.py")]
 # Of thread/ the example passes 8 scripts, 2 need calls that it doesn't have, and one shows its wrong rule.
@@ -203,6 +204,98 @@ class Blocks(support.WithFolder):
         return sum(not it.startswith(b"#") for it in self.script_of(case).splitlines())
 
 
+class Names(unittest.TestCase):
+    """A program with handles and identifiers of its own."""
+
+    SCRIPT = (
+        b"boot 20 24\nthread 28 20\n24 NtCreatePort -\n# 4\n24 NtRequestWaitReplyPort 0x4 d:\n"
+        b"28 NtReplyWaitReceivePort 8\n28 NtReplyWaitReceivePort 4\n28 NtReplyPort  4 r:20.24.1:41\n24 NtClose 4\n"
+        b"24 NtQueryObject 4\n"
+    )
+    WANTED = (
+        b"1 - boot 00000000\n2 - thread 00000000\n3 24 NtCreatePort 00000000 h=4\n"
+        b"5 24 NtRequestWaitReplyPort wait id=1\n6 28 NtReplyWaitReceivePort c0000008\n"
+        b"7 28 NtReplyWaitReceivePort 00000000 ctx=00000000 msg=000018000100000014000000180000000100000000000000\n"
+        b"8 28 NtReplyPort 00000000\n"
+        b"8 *24 NtRequestWaitReplyPort 00000000 msg=010019000200000014000000180000000100000000000000"
+        b"41\n9 24 NtClose 00000000\n10 24 NtQueryObject c0000008\nend 10 10 3\n"
+    )
+
+    def of_got(self, *changes):
+        """The script for a program whose transcript is the right one with these changes."""
+        got = self.WANTED
+        for change in changes:
+            got = got.replace(*change)
+        names = own_names.Names(self.SCRIPT, transcript.read(self.WANTED))
+        return names.of_got(transcript.read(got)).splitlines()
+
+    def test_names_that_are_the_same_change_nothing(self):
+        self.assertEqual(self.of_got(), self.SCRIPT.splitlines())
+
+    def test_handles_and_identifiers_are_the_programs_own(self):
+        told = self.of_got((b"h=4", b"h=100"), (b"id=1", b"id=7"))
+        self.assertEqual(told[4], b"24 NtRequestWaitReplyPort 100 d:")
+        self.assertEqual(told[5:8:2], [b"28 NtReplyWaitReceivePort 8", b"28 NtReplyPort 100 r:20.24.7:41"])
+        self.assertEqual(told[8:], [b"24 NtClose 100", b"24 NtQueryObject 100"])
+
+    def test_a_value_that_names_nothing_names_nothing_of_the_programs(self):
+        told = self.of_got((b"h=4", b"h=8"))
+        self.assertEqual(told[4], b"24 NtRequestWaitReplyPort 8 d:")
+        self.assertEqual(told[5], b"28 NtReplyWaitReceivePort 12")
+
+    def test_a_space_gives_a_closed_name_its_own_last_value(self):
+        space = own_names.Space()
+        space.give(4, 100)
+        self.assertEqual([space.of(4), space.of(100), space.of(own_names.MOST)], [100, 104, own_names.MOST])
+        space.end(4)
+        self.assertEqual([space.of(4), space.of(100)], [100, 100])
+        space.give(8, 100)
+        self.assertEqual([space.of(4), space.of(8)], [104, 100])
+        space.give(12, own_names.MOST)
+        self.assertEqual(space.of(own_names.MOST), own_names.MOST - 4)
+
+    def test_a_message_of_all_bytes_has_the_identifier_too(self):
+        whole = b"m:01001900000000001400000018000000010000000000000041"
+        script = self.SCRIPT.replace(b"r:20.24.1:41", whole)
+        names = own_names.Names(script, transcript.read(self.WANTED))
+        told = names.of_got(transcript.read(self.WANTED.replace(b"id=1", b"id=258"))).splitlines()
+        self.assertEqual(told[7], b"28 NtReplyPort 4 m:01001900000000001400000018000000020100000000000041")
+
+    @support.needs_program
+    def test_a_program_with_other_names_passes_up_to_names_alone(self):
+        other = [sys.executable, pathlib.Path(__file__).with_name("renamed.py"), program.find()]
+        only = [it for pattern in ("NtReplyPort/a-reply*", "closing/an-*") for it in ("--only", pattern)]
+        ran = run(*only, *other)
+        self.assertEqual((ran.returncode, last(ran)), (1, "0 passed, 5 failed"))
+        ran = run("--up-to-names", *only, *other)
+        self.assertEqual((ran.returncode, last(ran)), (0, "5 passed, 0 failed"))
+
+    def test_what_is_wrong_beside_the_names_is_told(self):
+        lines = self.WANTED.replace(b"h=4", b"h=100").replace(b"c0000008", b"c0000022", 1)
+        found = self.judged(lines)
+        self.assertEqual((found.line, found.printed), (6, "6 28 NtReplyWaitReceivePort c0000022"))
+        told = self.judged(lines.replace(b"wait id=1", b"c0000008")).told
+        self.assertIn("line 5 of the script: 24 NtRequestWaitReplyPort 0x4 d:", told)
+        self.assertIn("as it was run: 24 NtRequestWaitReplyPort 100 d:", told)
+
+    def judged(self, printed):
+        """The failure of a program that prints this, whatever it reads."""
+        code = f"import sys; sys.stdout.buffer.write({printed!r})"
+        return judge.of_names(self.SCRIPT, self.WANTED, [sys.executable, "-c", code], 60)
+
+    def test_names_that_are_others_each_time_are_told(self):
+        code = f"import os; print({self.WANTED.decode()!r}.replace('h=4', 'h=' + str(os.getpid() * 4)), end='')"
+        with unittest.mock.patch.object(judge, "MOST_RUNS", 5):
+            found = judge.of_names(self.SCRIPT, self.WANTED, [sys.executable, "-c", code], 60)
+        self.assertEqual(found.told, ("its handles or identifiers are others in each of 5 runs",))
+
+    def test_a_program_that_tells_nothing_fails(self):
+        for command in (["true"], ["/nonexistent"], ["sh", "-c", "echo no transcript"]):
+            self.assertIsNotNone(judge.of_names(self.SCRIPT, self.WANTED, command, 60), command)
+        ran = run("--up-to-names", "--only", SHORT, *EXAMPLE)
+        self.assertEqual((ran.returncode, last(ran)), (0, "1 passed, 0 failed"))
+
+
 class Files(support.WithFolder):
     """The files with results, the suite as data, and transcripts made elsewhere."""
 
@@ -296,6 +389,7 @@ class WrongWords(support.WithFolder):
             ("--transcripts", "/nonexistent"): "/nonexistent is no folder",
             ("--transcripts", folder, "true"): "--transcripts and a program can't both be given",
             ("--transcripts", folder, "--built"): "--built asks a program",
+            ("--transcripts", folder, "--up-to-names"): "--up-to-names runs a program",
             ("--junit", f"{folder}/a", "--json", f"{folder}/./a", "true"): "--junit and --json name the same file",
         }
         for words, told in wrong.items():
