@@ -79,6 +79,10 @@ class Names:
                 handles.give(int(value), given)
             elif name == "id":
                 self._space(self.identifiers, wanted.thread).give(int(value), given)
+        self._free(wanted, handles)
+
+    def _free(self, wanted, handles):
+        """Frees the handle that a line closed."""
         if (wanted.call, wanted.status) == ("NtClose", statuses.SUCCESS):
             handles.end(script_lines.number(self.script.words(wanted.line)[2]))
 
@@ -119,3 +123,53 @@ class Names:
             return word
         CLIENT.pack_into(data, CLIENT_AT, thread, other)
         return f"m:{data.hex()}"
+
+
+class Symbols(Names):
+    """A script with symbols in place of the names that lines of it give, as `ntlpc-tool script` reads them: `$l5` is
+    what the call of line 5 gave. A message of the form `m:` has its identifier spelled out."""
+
+    def __init__(self, script, wanted):
+        super().__init__(script, wanted)
+        self.calls, self.used, self.handles, self.identifiers = {}, set(), {}, {}
+
+    def trace(self):
+        """The script with symbols."""
+        lines = list(self.lines)
+        for line, entries in sorted(self.entries.items()):
+            lines[line - 1] = self._translated(line)
+            for entry in entries:
+                self._learn(entry, None)
+        for line in self.used:
+            lines[line - 1] = b"$l%d = %s" % (line, lines[line - 1])
+        return b"\n".join(lines)
+
+    def _learn(self, wanted, got):
+        if wanted.kind != "wake":
+            self.calls[wanted.thread] = wanted.line
+        line = self.calls.get(wanted.thread)
+        handles = self._space(self.handles, self.process_of.get(wanted.thread))
+        for name, value in wanted.fields:
+            if name in HANDLES:
+                handles.give(int(value), (line, "" if name == "h" else ".thread"))
+            elif name == "id":
+                self._space(self.identifiers, wanted.thread).give(int(value), (line, ""))
+        self._free(wanted, handles)
+
+    def _symbol(self, space, value, word):
+        """The symbol for a value, or the word where it names nothing."""
+        if value not in space.now:
+            return word
+        line, part = space.now[value]
+        self.used.add(line)
+        return f"$l{line}{part}"
+
+    def _word(self, word, kind, call, process):
+        if kind in ("H", "H|self") and word != "self":
+            return self._symbol(self._space(self.handles, process), script_lines.number(word), word)
+        if kind in ("MSG", "[MSG]") and call in ANSWERS and word.startswith("r:"):
+            client, _, data = word[2:].partition(":")
+            process, thread, identifier = client.split(".")
+            space = self._space(self.identifiers, script_lines.number(thread))
+            return f"r:{process}.{thread}.{self._symbol(space, script_lines.number(identifier), identifier)}:{data}"
+        return word

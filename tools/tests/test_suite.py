@@ -261,6 +261,23 @@ class Names(unittest.TestCase):
         told = names.of_got(transcript.read(self.WANTED.replace(b"id=1", b"id=258"))).splitlines()
         self.assertEqual(told[7], b"28 NtReplyPort 4 m:01001900000000001400000018000000020100000000000041")
 
+    def test_symbols_stand_where_a_line_uses_what_another_gave(self):
+        told = own_names.Symbols(self.SCRIPT, transcript.read(self.WANTED)).trace().splitlines()
+        wanted = self.SCRIPT.splitlines()
+        wanted[2], wanted[4] = b"$l3 = 24 NtCreatePort -", b"$l5 = 24 NtRequestWaitReplyPort $l3 d:"
+        wanted[6:9] = [b"28 NtReplyWaitReceivePort $l3", b"28 NtReplyPort $l3 r:20.24.$l5:41", b"24 NtClose $l3"]
+        self.assertEqual(told, wanted)
+
+    def test_the_second_handle_of_a_call_and_that_of_a_wake_have_symbols(self):
+        script = b"24 NtCreateProcess 32 36\n24 NtTerminateThread 8 0\n24 NtConnectPort \\P - - -\n24 NtClose 12\n"
+        wanted = (
+            b"1 24 NtCreateProcess 00000000 h=4 thread=8\n2 24 NtTerminateThread 00000000\n"
+            b"3 24 NtConnectPort wait id=1\n3 *24 NtConnectPort 00000000 h=12 max=256 info=\n4 24 NtClose 00000000\n"
+        )
+        told = own_names.Symbols(script, transcript.read(wanted)).trace().splitlines()
+        self.assertEqual(told[:2], [b"$l1 = 24 NtCreateProcess 32 36", b"24 NtTerminateThread $l1.thread 0"])
+        self.assertEqual(told[2:], [b"$l3 = 24 NtConnectPort \\P - - -", b"24 NtClose $l3"])
+
     @support.needs_program
     def test_a_program_with_other_names_passes_up_to_names_alone(self):
         other = [sys.executable, pathlib.Path(__file__).with_name("renamed.py"), program.find()]
@@ -360,6 +377,19 @@ class Files(support.WithFolder):
         self.assertIn("printed: 68 - thread c0000044\n", ran.stdout)
         script.with_suffix(".transcript").unlink()
         self.assertIn("its transcript can't be read: No such file", run("--transcripts", folder, *only).stdout)
+
+    @support.needs_program
+    def test_exported_traces_become_scripts_with_the_right_transcript(self):
+        folder = pathlib.Path(self.folder.name) / "suite"
+        only = [it for pattern in ("closing/an-*", "NtCreateThread/the-*") for it in ("--only", pattern)]
+        self.assertEqual(command("export", "--names", *only, folder).returncode, 0)
+        traces = sorted(folder.rglob("*.trace"))
+        self.assertGreater(len(traces), 5)
+        for trace in traces:
+            script = support.inside("script", trace).stdout.encode("latin-1")
+            printed = program.replay(program.find(), script).printed
+            self.assertEqual(printed, trace.with_suffix(".transcript").read_bytes(), trace)
+            self.assertIn(b"$l", trace.read_bytes())
 
     def test_an_export_overwrites_nothing(self):
         file = self.file("mine", b"")
