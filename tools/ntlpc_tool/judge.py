@@ -22,6 +22,7 @@ STATUS = (
     "A program ends with status 2 where a line of the script is faulty, else with 0.",
     "CONFORMANCE.md, Give your implementation a front end",
 )
+FORMS = "Each line of a transcript has one of these forms."
 NO_TRANSCRIPT = "what it prints has not the form of a transcript"
 
 
@@ -110,18 +111,26 @@ def of_names(script, wanted, command, timeout):
             ran = Ran(command, source, len(wanted) + MUCH, timeout)
         except OSError as error:
             return of_told(f"it could not be started: {error.strerror}")
-        try:
-            got = transcript.read(ran.printed)
-        except transcript.Malformed:
-            return with_ending(of_printed(script, wanted, ran.printed), ran, wanted, timeout)
+        got, wrong = as_far_as_formed(ran.printed)
         before, source = source, names.of_got(got)
-        if before == source:
+        if before == source or wrong or ran.late or ran.talks:
             break
     else:
         return of_told(f"its handles or identifiers are others in each of {MOST_RUNS} runs")
     found = differences.between(right, got, renaming.Renaming((right, got), script_lines.Script(script)))
-    failure = of_difference(script, source, right, got, found[0]) if found else None
+    failure = of_difference(script, before, right, got, found[0]) if found else None
+    if wrong and not (found and isinstance(found[0].got, transcript.Entry)):
+        cause = Cause(NO_TRANSCRIPT, FORMS, reasons.TRANSCRIPT)
+        failure = Failure(cause, (f"line {wrong.number} of what it printed: {wrong.reason}", *cause.lines()))
     return with_ending(failure, ran, wanted, timeout)
+
+
+def as_far_as_formed(printed):
+    """The transcript that was printed, and what is wrong with its first line without a form, if there is one."""
+    try:
+        return transcript.read(printed), None
+    except transcript.Malformed as wrong:
+        return well_formed(printed, wrong.number), wrong
 
 
 def of_difference(script, source, right, got, first):
@@ -235,7 +244,7 @@ def cause_of(script, wanted, printed, number):
         got = transcript.read(printed)
     except transcript.Malformed as wrong:
         if wrong.number <= number and not (needs.stop_of(wanted) and number > len(right.entries)):
-            return Cause(NO_TRANSCRIPT, "Each line of a transcript has one of these forms.", reasons.TRANSCRIPT)
+            return Cause(NO_TRANSCRIPT, FORMS, reasons.TRANSCRIPT)
         got = well_formed(printed, wrong.number)
     found = differences.between(right, got)
     if not found:

@@ -306,9 +306,22 @@ class Names(unittest.TestCase):
             found = judge.of_names(self.SCRIPT, self.WANTED, [sys.executable, "-c", code], 60)
         self.assertEqual(found.told, ("its handles or identifiers are others in each of 5 runs",))
 
+    def test_a_line_without_a_form_is_told_where_nothing_before_it_differs(self):
+        lines = self.WANTED.replace(b"h=4", b"h=100")
+        found = self.judged(lines.replace(b"8 28 NtReplyPort", b"8 28  NtReplyPort"))
+        self.assertEqual(found.cause.means, judge.NO_TRANSCRIPT)
+        self.assertTrue(found.told[0].startswith("line 7 of what it printed: its words aren't parted"), found.told)
+        found = self.judged(lines.replace(b"8 28 NtReplyPort", b"8 28  NtReplyPort").replace(b"wait id=1", b"c0000008"))
+        self.assertIn("wanted:  5 24 NtRequestWaitReplyPort wait id=1", found.told)
+
+    def test_a_program_that_does_not_end_is_run_once(self):
+        found = judge.of_names(self.SCRIPT, self.WANTED, ["sh", "-c", "echo 1 - boot 00000000; sleep 30"], 0.3)
+        self.assertEqual(found.cause.means, "it did not end within 0.3 seconds")
+
     def test_a_program_that_tells_nothing_fails(self):
         for command in (["true"], ["/nonexistent"], ["sh", "-c", "echo no transcript"]):
             self.assertIsNotNone(judge.of_names(self.SCRIPT, self.WANTED, command, 60), command)
+            self.assertIsNotNone(judge.of_names(b"", b"end 0 0 0\n", command, 60), command)
         ran = run("--up-to-names", "--only", SHORT, *EXAMPLE)
         self.assertEqual((ran.returncode, last(ran)), (0, "1 passed, 0 failed"))
 
