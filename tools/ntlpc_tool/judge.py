@@ -11,13 +11,15 @@ import threading
 from typing import Optional, Tuple
 
 from ntlpc_tool import differences, faults, forms, message, needs, own_names, reasons, renaming, script_lines
-from ntlpc_tool import transcript
+from ntlpc_tool import talk, transcript
 from ntlpc_tool.inputs import cut, shown
 
 MUCH = 1 << 20
 WIDTH = 100
 # How often a program with names of its own is run over one script until its names fit.
 MOST_RUNS = 100
+# How many seconds a program in a conversation may take for a line.
+QUIET = 10
 STATUS = (
     "A program ends with status 2 where a line of the script is faulty, else with 0.",
     "CONFORMANCE.md, Give your implementation a front end",
@@ -117,12 +119,51 @@ def of_names(script, wanted, command, timeout):
             break
     else:
         return of_told(f"its handles or identifiers are others in each of {MOST_RUNS} runs")
+    return with_ending(up_to_names(script, before, right, got, wrong), ran, wanted, timeout)
+
+
+def of_talk(script, wanted, command, timeout):
+    """As `of_names`, in a conversation: the program answers each line before it reads the next one."""
+    right = transcript.read(wanted)
+    names, source, quiet = own_names.Names(script, right), [], None
+    stop, unsaid = needs.stop_of(wanted), bytearray()
+    try:
+        run = talk.Talk(command, len(wanted) + MUCH, timeout)
+    except OSError as error:
+        return of_told(f"it could not be started: {error.strerror}")
+    with run:
+        for number in range(1, len(names.lines) + 1):
+            source.append(names.line(number))
+            # A last line without byte 10 is one only where the script has ended.
+            last = number == len(names.lines)
+            unsaid += source[-1] + b"\n" * (not last)
+            count = len(names.entries.get(number, ())) + bool(stop and stop[0] == number)
+            if not count and not last:
+                continue
+            run.say(unsaid)
+            unsaid, begin = bytearray(), len(run.printed)
+            if not last and not run.hear(number, count, min(timeout, QUIET)):
+                quiet = number
+                break
+            names.learn(number, filter(None, map(transcript.loosely, map(shown, run.printed[begin:].splitlines()))))
+        run.finish()
+    got, wrong = as_far_as_formed(bytes(run.printed))
+    failure = up_to_names(script, b"\n".join(source), right, got, wrong)
+    if failure and quiet and not run.late:
+        told = f"it told too little of line {quiet} before line {quiet + 1} was written"
+        failure = dataclasses.replace(failure, told=(*failure.told, told))
+    return with_ending(failure, run, wanted, timeout)
+
+
+def up_to_names(script, before, right, got, wrong):
+    """Judges a transcript whose names may differ alike; `before` is the script as it was run, and `wrong` tells of the
+    first line without a form."""
     found = differences.between(right, got, renaming.Renaming((right, got), script_lines.Script(script)))
     failure = of_difference(script, before, right, got, found[0]) if found else None
     if wrong and not (found and isinstance(found[0].got, transcript.Entry)):
         cause = Cause(NO_TRANSCRIPT, FORMS, reasons.TRANSCRIPT)
         failure = Failure(cause, (f"line {wrong.number} of what it printed: {wrong.reason}", *cause.lines()))
-    return with_ending(failure, ran, wanted, timeout)
+    return failure
 
 
 def as_far_as_formed(printed):

@@ -52,19 +52,31 @@ class Names:
         self.lines = script.split(b"\n")
         self.process_of = self.script.processes(wanted)
         self.entries = {}
+        self.handles, self.identifiers = {}, {}
         for entry in wanted.entries:
             self.entries.setdefault(entry.line, []).append(entry)
 
     def of_got(self, got):
         """The script with the names that a transcript of the program tells; the profile's where it tells none."""
         self.handles, self.identifiers = {}, {}
-        told = {(it.line, it.thread, it.kind == "wake"): it for it in got.entries}
         lines = list(self.lines)
-        for line, entries in sorted(self.entries.items()):
-            lines[line - 1] = self._translated(line)
-            for entry in entries:
-                self._learn(entry, told.get((line, entry.thread, entry.kind == "wake")))
+        told = {}
+        for entry in got.entries:
+            told.setdefault(entry.line, []).append(entry)
+        for line in sorted(self.entries):
+            lines[line - 1] = self.line(line)
+            self.learn(line, told.get(line, ()))
         return b"\n".join(lines)
+
+    def line(self, number):
+        """A line of the script with the program's names, as far as the lines before it are learned."""
+        return self._translated(number) if number in self.entries else self.lines[number - 1]
+
+    def learn(self, number, got):
+        """Keeps what the program told of a line, entries in any order."""
+        told = {(it.thread, it.kind == "wake"): it for it in got}
+        for entry in self.entries.get(number, ()):
+            self._learn(entry, told.get((entry.thread, entry.kind == "wake")))
 
     def _space(self, spaces, owner):
         return spaces.setdefault(owner, Space())
@@ -131,7 +143,7 @@ class Symbols(Names):
 
     def __init__(self, script, wanted):
         super().__init__(script, wanted)
-        self.calls, self.used, self.handles, self.identifiers = {}, set(), {}, {}
+        self.calls, self.used = {}, set()
 
     def trace(self):
         """The script with symbols."""

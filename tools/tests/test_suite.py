@@ -326,6 +326,80 @@ class Names(unittest.TestCase):
         self.assertEqual((ran.returncode, last(ran)), (0, "1 passed, 0 failed"))
 
 
+# Answers line by line, with handles that are others in each run; it knows boot, NtCreatePort and NtClose alone.
+ANSWERS = """
+import random, sys
+base, handles, ports = random.randrange(1000, 9000), [], 0
+for number, line in enumerate(iter(sys.stdin.readline, ""), 1):
+    words = line.split()
+    if line.startswith("#") or not words:
+        print(end="", flush=True)
+    elif words[0] == "boot":
+        print(number, "- boot 00000000", flush=True)
+    elif words[1] == "NtCreatePort":
+        handles.append(base + 4 * len(handles))
+        print(number, words[0], f"NtCreatePort 00000000 h={handles[-1]}", flush=True)
+    elif words[1] == "NtClose":
+        good = int(words[2]) in handles
+        handles = [it for it in handles if it != int(words[2])] + [0] * good
+        print(number, words[0], "NtClose", "00000000" if good else "c0000008", flush=True)
+    else:
+        print("stop", number, 3, flush=True)
+        sys.exit(2)
+print("end", number, number, 2 + sum(map(bool, handles)), flush=True)
+"""
+
+
+class Talks(unittest.TestCase):
+    """A program that answers each line before it reads the next one."""
+
+    SCRIPT = b"boot 20 24\n24 NtCreatePort -\n24 NtCreatePort -\n24 NtClose 8\n24 NtClose 8\n24 NtClose 4"
+    WANTED = (
+        b"1 - boot 00000000\n2 24 NtCreatePort 00000000 h=4\n3 24 NtCreatePort 00000000 h=8\n4 24 NtClose 00000000\n"
+        b"5 24 NtClose c0000008\n6 24 NtClose 00000000\nend 6 6 2\n"
+    )
+
+    def of_talk(self, *command, script=SCRIPT, wanted=WANTED, timeout=20):
+        return judge.of_talk(script, wanted, list(command), timeout)
+
+    def test_handles_may_be_others_in_each_run(self):
+        self.assertIsNone(self.of_talk(sys.executable, "-c", ANSWERS))
+        with unittest.mock.patch.object(judge, "MOST_RUNS", 4):
+            found = judge.of_names(self.SCRIPT, self.WANTED, [sys.executable, "-c", ANSWERS], 20)
+        self.assertEqual(found.told, ("its handles or identifiers are others in each of 4 runs",))
+
+    def test_what_is_wrong_is_told_with_the_line_as_it_was_run(self):
+        found = self.of_talk(sys.executable, "-c", ANSWERS.replace('"c0000008"', '"c0000022"'))
+        self.assertEqual((found.line, found.printed), (5, "5 24 NtClose c0000022"))
+        self.assertRegex(found.told[1], r"\Aas it was run: 24 NtClose \d{4}\Z")
+
+    def test_a_faulty_line_ends_it(self):
+        script, wanted = b"boot 20 24\n24 NtFoo\n24 NtClose 4\n", b"1 - boot 00000000\nstop 2 3\n"
+        self.assertIsNone(self.of_talk(sys.executable, "-c", ANSWERS, script=script, wanted=wanted))
+
+    def test_a_program_that_answers_at_the_end_alone_is_told(self):
+        late = ANSWERS.replace('iter(sys.stdin.readline, "")', "sys.stdin.readlines()")
+        with unittest.mock.patch.object(judge, "QUIET", 0.5):
+            found = self.of_talk(sys.executable, "-c", late)
+        self.assertIn("it told too little of line 1 before line 2 was written", found.told)
+
+    def test_programs_that_break_down_end_it(self):
+        for code, told in {
+            "exit 3": "it ended with status 3, status 0 is wanted",
+            "kill -9 $$": "it ended with signal 9, status 0 is wanted",
+            "exec sleep 30": "it did not end within 1 seconds",
+            "exec yes": "it printed more and more, and was ended",
+            "exec <&-; sleep 0.1; echo 1 - boot 00000000": "printed: (nothing)",
+        }.items():
+            found = self.of_talk("sh", "-c", code, timeout=1 if "sleep 30" in code else 20)
+            self.assertIn(told, found.told)
+        self.assertIn("could not be started", self.of_talk("/nonexistent").told[0])
+
+    def test_the_example_passes_line_by_line(self):
+        ran = run("--line-by-line", "--built", "--only", "thread/*", sys.executable, "-u", *EXAMPLE[1:])
+        self.assertEqual((ran.returncode, last(ran)), (1, "8 passed, 1 failed, 2 skipped"))
+
+
 class Files(support.WithFolder):
     """The files with results, the suite as data, and transcripts made elsewhere."""
 
@@ -433,6 +507,7 @@ class WrongWords(support.WithFolder):
             ("--transcripts", folder, "true"): "--transcripts and a program can't both be given",
             ("--transcripts", folder, "--built"): "--built asks a program",
             ("--transcripts", folder, "--up-to-names"): "--up-to-names runs a program",
+            ("--transcripts", folder, "--line-by-line"): "--up-to-names runs a program",
             ("--junit", f"{folder}/a", "--json", f"{folder}/./a", "true"): "--junit and --json name the same file",
         }
         for words, told in wrong.items():
