@@ -9,7 +9,7 @@ import subprocess
 import sys
 
 import support
-from ntlpc_tool import forms, message
+from ntlpc_tool import forms, message, placing
 
 HANDLE = re.compile(r" (h|thread)=(\d+)")
 IDENTIFIER = re.compile(r" id=(\d+)")
@@ -51,10 +51,12 @@ def word_in(word, kind):
 
 
 def line_in(line):
-    """A line of the script as the program takes it."""
+    """A line of the script as the program takes it. Spaces are lost, so a line that is too long stays."""
     words = [it for it in line.split(" ") if it]
     form = forms.of_words(words)
-    if line.startswith("#") or len(words) > len(form) or not words or words[0] in forms.DIRECTIVES:
+    if line.startswith("#") or not 1 <= len(words) <= len(form) or words[0] in forms.DIRECTIVES:
+        return line
+    if len(line) > placing.MOST_BYTES:
         return line
     return " ".join(word_in(word, kind) for word, kind in zip(words, form))
 
