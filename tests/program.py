@@ -1,5 +1,5 @@
 #!/usr/bin/env python3
-"""Tries the program from outside: its words, its exit statuses, and inputs and outputs that fail.
+"""Tries the program from outside: its words, its exit statuses, inputs and outputs that fail, limits, and large worlds.
 
     tests/program.py PROGRAM [WORDS..]
 
@@ -18,12 +18,18 @@ import tempfile
 import threading
 import tty
 
+sys.dont_write_bytecode = True
+import worlds
+
 ROOT = pathlib.Path(__file__).resolve().parent.parent
 SECONDS = 60
 USAGE = b"usage: ntlpc COMMAND [WORDS]\n"
 FIRST, FIRST_TOLD = b"boot 20 24\n", b"1 - boot 00000000\n"
 LINES, TOLD = FIRST + b"24 NtCreatePort -\n", FIRST_TOLD + b"2 24 NtCreatePort 00000000 h=4\n"
 EXAMPLE = (ROOT / "examples" / "first-request.script").read_bytes()
+# How many lines are told at least where as many KiB are left behind the program's start.
+LEFT, TOLD_AT_LEAST = 16_000, 1_000
+WORLDS = 10
 
 
 class Wrong(Exception):
@@ -374,15 +380,45 @@ def memory_of_comments(program):
         raise Wrong(f"it took {peaks[1]} KiB for a million lines, and {peaks[0]} KiB for a thousand")
 
 
+def limited(program, size):
+    """The program with so many KiB of address space."""
+    return Program(["sh", "-c", f'ulimit -v {size} && exec "$@"', "sh", *program.command])
+
+
+def least_memory(program):
+    """The KiB of address space in which the program replays an empty script, to 1,000."""
+    for size in range(2_000, 100_000, 1_000):
+        ended = limited(program, size).replay()
+        if (ended.status, ended.printed) == (0, b"end 0 0 0\n"):
+            return size
+    raise Wrong("it replays no empty script in 100,000 KiB")
+
+
 def memory_runs_out(program):
-    """Status 5, and the beginning of the transcript up to a line's end."""
-    limited = Program(["sh", "-c", 'ulimit -v 12000 && exec "$@"', "sh", *program.command])
-    if limited.replay().status:
-        raise LeftOut("the program does not start in 12,000 KiB")
+    """Status 5, and the beginning of the transcript up to a line's end: as many lines at least as have room."""
     numbers = range(1, 20_001)
-    ended = limited.replay(b"".join(b"boot %d %d\n" % (it, it) for it in numbers))
+    script = b"".join(b"boot %d %d\n" % (it, it) for it in numbers)
+    ended = limited(program, least_memory(program) + LEFT).replay(script)
     told = [b"%d - boot 00000000\n" % it for it in numbers]
-    ended.should(5, b"".join(told[: ended.printed.count(b"\n")]))
+    count = ended.printed.count(b"\n")
+    ended.should(5, b"".join(told[:count]))
+    if count < TOLD_AT_LEAST:
+        raise Wrong(f"it told {count} lines, at least {TOLD_AT_LEAST} are wanted")
+
+
+def large_worlds():
+    """Want of memory is no answer where there is memory, however large the world is."""
+    count = 0
+    for name, script, transcript in worlds.all_worlds():
+        count += 1
+        yield f"a large world: {name}", replays(script, 0, transcript)
+    yield f"there are {WORLDS} large worlds", lambda _: check_count(count)
+
+
+def check_count(count):
+    """Fails where as many large worlds weren't made."""
+    if count != WORLDS:
+        raise Wrong(f"{count} were made")
 
 
 def main(command):
@@ -391,7 +427,9 @@ def main(command):
         return 64
     program = Program(command)
     passed = failed = 0
-    for group in (examples, words, ends_of_input, inputs_that_fail, outputs_that_fail, conversations, limits):
+    for group in (
+        examples, words, ends_of_input, inputs_that_fail, outputs_that_fail, conversations, limits, large_worlds,
+    ):
         for name, check in group():
             try:
                 check(program)
