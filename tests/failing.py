@@ -1,0 +1,56 @@
+"""Runs a program with a library in front of its C library that makes chosen calls fail: tests/failing.c."""
+import contextlib
+import os
+import pathlib
+import shutil
+import struct
+import subprocess
+import tempfile
+
+SOURCE = pathlib.Path(__file__).resolve().parent / "failing.c"
+COUNTS = struct.Struct("=3Q")
+SECONDS = 60
+
+
+class Run:
+    """How a run ended: its status (below 0: the signal that ended it), what it printed, its standard error, and how
+    many allocations, reads and writes it made."""
+
+    def __init__(self, status, printed, said, counts):
+        self.status, self.printed, self.said = status, printed, said
+        self.allocations, self.reads, self.writes = counts
+
+
+class Failing:
+    """The library, and a program that is run with it."""
+
+    def __init__(self, folder, command):
+        self.library, self.counts = os.path.join(folder, "failing.so"), os.path.join(folder, "counts")
+        self.command = command
+        build = [compiler(), "-shared", "-fPIC", "-O1", "-o", self.library, str(SOURCE)]
+        subprocess.run(build, check=True, timeout=SECONDS)
+
+    def run(self, *words, source=b"", **given):
+        """Runs the program with these words over a source; `given` is the library's environment, as FAIL_READ=2."""
+        with open(self.counts, "wb") as file:
+            file.write(bytes(COUNTS.size))
+        told = {name: str(value) for name, value in given.items()}
+        env = {**os.environ, **told, "LD_PRELOAD": self.library, "FAILING_COUNTS": self.counts}
+        done = subprocess.run([*self.command, *words], input=source, capture_output=True, timeout=SECONDS, env=env)
+        with open(self.counts, "rb") as file:
+            return Run(done.returncode, done.stdout, done.stderr, COUNTS.unpack(file.read(COUNTS.size)))
+
+    def replay(self, source, **given):
+        return self.run("replay", source=source, **given)
+
+
+def compiler():
+    """The C compiler, or None where there is none."""
+    return shutil.which(os.environ.get("CC", "cc"))
+
+
+@contextlib.contextmanager
+def failing(command):
+    """The library and a program, for as long as a test takes."""
+    with tempfile.TemporaryDirectory() as folder:
+        yield Failing(folder, command)
