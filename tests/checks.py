@@ -1,0 +1,307 @@
+#!/usr/bin/env python3
+"""Tries the checks themselves: each has to tell what goes wrong below it, and to look at all that there is.
+
+    tests/checks.py
+
+- What measures the gate ends as the command ends, also where a signal ends it, and passes on what is to end it.
+- `.ci/run` makes all its parts, over stand-ins for them, and fails where one of them does, however that one ends.
+- `conformance/run` runs every script of a suite, and passes no case that is broken; `conformance/coverage` tells what
+  is missing and what isn't named; the suite's folder has as many cases as files that make one.
+- The probe of `tests/program.py` that takes memory away refuses a program that tells nothing, and one that doesn't run.
+
+Each check that fails has a line, and the last line is `N passed, M failed`. The exit status is 0 where all passed, 1
+where not.
+"""
+import contextlib
+import os
+import pathlib
+import re
+import shutil
+import signal
+import subprocess
+import sys
+import tempfile
+import time
+
+sys.dont_write_bytecode = True
+import program
+
+ROOT = pathlib.Path(__file__).resolve().parent.parent
+# What `.ci/run` runs, in order. Who adds a part adds it here.
+PROGRAM = "crates/ntlpc/out/ntlpc"
+PARTS = [
+    "rt ci",
+    f"conformance/run {PROGRAM}",
+    "conformance/coverage",
+    f"tests/program.py {PROGRAM}",
+    f"tests/edge.py {PROGRAM}",
+    f"tests/allocations.py {PROGRAM}",
+    f"tests/isolation.py {PROGRAM}",
+    "tests/tools.py",
+    "tests/checks.py",
+    f"tests/companions.py {PROGRAM}",
+    f"tests/pages.py {PROGRAM}",
+    "tests/tables.py",
+    f"packaging/test {PROGRAM}",
+]
+# More scripts than a thousand: that many a run has once stopped at.
+MANY = 1_050
+# What the pages name that transcripts can reach, and how many cases the suite has at least.
+OUTCOMES = 153
+CASES_AT_LEAST = 1_200
+
+
+def ran(*command, **how):
+    """Runs a command; its status and what it printed."""
+    done = subprocess.run(list(map(str, command)), capture_output=True, text=True, timeout=300, **how)
+    return done.returncode, done.stdout
+
+
+def same(found, wanted):
+    """Nothing where both are the same, else what was found."""
+    return "" if found == wanted else f"{found!r}, wanted is {wanted!r}"
+
+
+def measured(script, *front):
+    """Runs `sh` with a script below what measures the gate; the status, and the table's lines."""
+    with tempfile.NamedTemporaryFile("r") as table:
+        status, _ = ran(ROOT / "tests" / "gate_seconds.py", "--to", table.name, *front, "sh", "-c", script)
+        return status, table.read().splitlines()
+
+
+def ends_the_command():
+    """What measures the gate is asked to end, and ends with the status of the command, which it asks to end."""
+    script = 'trap "exit 7" TERM; echo ready; while :; do sleep 0.05; done'
+    command = [ROOT / "tests" / "gate_seconds.py", "--to", os.devnull, "sh", "-c", script]
+    with subprocess.Popen(command, stdout=subprocess.PIPE, start_new_session=True) as child:
+        child.stdout.readline()
+        # It minds the signal soon behind the command's start.
+        for _ in range(200):
+            caught = re.search(r"^SigCgt:\s*(\w+)$", pathlib.Path(f"/proc/{child.pid}/status").read_text(), re.M)[1]
+            if int(caught, 16) >> (signal.SIGTERM - 1) & 1:
+                break
+            time.sleep(0.05)
+        child.send_signal(signal.SIGTERM)
+        try:
+            return same(child.wait(30), 7)
+        finally:
+            with contextlib.suppress(ProcessLookupError):
+                os.killpg(child.pid, signal.SIGKILL)
+
+
+def gate_seconds():
+    """What measures the gate ends as its command does."""
+    for script, status in {
+        "exit 0": 0,
+        "exit 1": 1,
+        "exit 255": 255,
+        "kill -9 $$": 137,
+        "kill -TERM $$": 143,
+        "kill -ABRT $$": 134,
+    }.items():
+        yield f"a measured command: {script}", lambda: same(measured(script)[0], status)
+    tool = ROOT / "tests" / "gate_seconds.py"
+    yield "a measured command that isn't there", lambda: same(ran(tool, "no-such-command")[0], 127)
+    yield "no command to measure", lambda: same(ran(tool)[0], 64)
+    yield "a measured command is ended", ends_the_command
+    listed = (ROOT / "crates.txt").read_text(encoding="utf-8").splitlines()
+    rows = [it.partition(":")[0] for it in listed if it and not it.startswith("#")]
+    told = [it.split()[0] for it in measured("exit 0")[1]]
+    yield "the table has a row for each crate", lambda: same(told, ["seconds", *rows, "sum", "wall"])
+
+
+class Gate:
+    """A folder in which `.ci/run` finds stand-ins for its parts: each logs its words, and ends well."""
+
+    def __init__(self, folder):
+        self.folder, self.log = pathlib.Path(folder), pathlib.Path(folder) / "log"
+        for words in PARTS:
+            self.stands_in(words.split()[0], 'echo "1 passed, 0 failed"')
+        self.stands_in("tests/gate_seconds.py", 'shift 2; exec "$@"')
+        (self.folder / ".ci").mkdir()
+        shutil.copy(ROOT / ".ci" / "run", self.folder / ".ci" / "run")
+
+    def stands_in(self, name, script):
+        """Puts a script in the place of a part; where there is none, the part can't be run."""
+        file = self.folder / name
+        file.parent.mkdir(parents=True, exist_ok=True)
+        logs = f'echo "{name}${{1:+ $1}}" >> "{self.log}"\n' if name != "tests/gate_seconds.py" else ""
+        file.write_text(f"#!/bin/sh\n{logs}{script}\n", encoding="ascii")
+        file.chmod(0o755 if script else 0o644)
+
+    def run(self):
+        """Runs the gate; its status and its last line."""
+        with contextlib.suppress(FileNotFoundError):
+            self.log.unlink()
+        path = f"{self.folder}{os.pathsep}{os.environ['PATH']}"
+        status, printed = ran(self.folder / ".ci" / "run", env={**os.environ, "PATH": path})
+        return status, printed.strip().splitlines()[-1]
+
+
+def gate_with(name, script):
+    """Runs the gate with a script in the place of one part; its status and its last line."""
+    with tempfile.TemporaryDirectory() as folder:
+        gate = Gate(folder)
+        gate.stands_in(name, script)
+        return gate.run()
+
+
+def parts_of_the_gate():
+    """What `.ci/run` runs where all goes well."""
+    with tempfile.TemporaryDirectory() as folder:
+        gate = Gate(folder)
+        ended = gate.run()
+        told = gate.log.read_text(encoding="ascii").splitlines()
+    return same((*ended, told), (0, f"{len(PARTS)} passed, 0 failed", PARTS))
+
+
+def gate():
+    """`.ci/run` counts each way in which a part may end."""
+    yield "the gate has its parts", parts_of_the_gate
+    count = len(PARTS)
+    ways = {
+        "exit 1": (count - 1, 1),
+        "kill -9 $$": (count - 1, 1),
+        "": (count - 1, 1),
+        "exit 0": (count, 0),
+        'echo "3 passed, 0 failed"; exit 1': (count + 2, 1),
+        'echo "3 passed, 2 failed"; exit 1': (count + 2, 2),
+        'echo "3 passed, 2 failed"': (count + 2, 2),
+        'echo "0 passed, 0 failed"; exit 3': (count - 1, 1),
+        'echo "9 passed, 9 failed"; echo "3 passed, 0 failed"': (count + 2, 0),
+    }
+    names = [it.split()[0] for it in PARTS]
+    for script, (passed, failed) in ways.items():
+        # (an `rt` that can't be run would have another one run in its place)
+        for name in names if script == "exit 1" else names[:1] * bool(script) + [names[4], names[-1]]:
+            wanted = (1 if failed else 0, f"{passed} passed, {failed} failed")
+            yield f"the gate, with {name}: {script}", lambda: same(gate_with(name, script), wanted)
+    wanted = 1, f"{count} passed, 2 failed"
+    bad = 'echo "BAD EDIT one"; echo "BAD EDIT two"; echo "1 passed, 0 failed"'
+    yield "the gate, with edits that didn't reach the prover", lambda: same(gate_with("rt", bad), wanted)
+
+
+@contextlib.contextmanager
+def suite(cases):
+    """A checkout whose suite has these files alone; gives its folder."""
+    with tempfile.TemporaryDirectory() as folder:
+        root = pathlib.Path(folder)
+        (root / "conformance").mkdir()
+        for name in ("run", "coverage", "suite.py"):
+            shutil.copy(ROOT / "conformance" / name, root / "conformance" / name)
+        for name in ("tools", "docs", "VERSION"):
+            os.symlink(ROOT / name, root / name)
+        for name, text in cases.items():
+            file = root / "conformance" / name
+            file.parent.mkdir(exist_ok=True)
+            file.write_text(text, encoding="ascii")
+        yield root
+
+
+def suite_told(cases, tool, *words):
+    """Runs a tool of the suite over one with these files; its status and the last line."""
+    with suite(cases) as root:
+        status, printed = ran(root / "conformance" / tool, *words, cwd=root)
+        return status, printed.strip().splitlines()[-1]
+
+
+def many(last):
+    """A suite of many empty scripts, with empty transcripts but for the last one's."""
+    cases = {f"many/{at:05}.{it}": "" for at in range(MANY) for it in ("script", "transcript")}
+    return {**cases, f"many/{MANY - 1:05}.transcript": last}
+
+
+def whole_suite():
+    """The suite's cases, against the files that make one, which are counted without its tools."""
+    sys.path.insert(0, str(ROOT / "conformance"))
+    import suite as tool
+
+    paths = {it.path for it in tool.cases()}
+    files = [it for ending in ("script", "generate") for it in (ROOT / "conformance").glob(f"*/*.{ending}")]
+    if len(files) < CASES_AT_LEAST:
+        return f"there are {len(files)} cases, at least {CASES_AT_LEAST} are wanted"
+    return same(sorted(paths), sorted(f"{it.parent.name}/{it.stem}" for it in files))
+
+
+def suites():
+    """The suite's tools, over suites of their own."""
+    wanted = 1, f"{MANY - 1} passed, 1 failed"
+    yield "every script is run, also the last", lambda: same(suite_told(many("end 0 0 0\n"), "run", "true"), wanted)
+    broken = {
+        "a script without a transcript": {"one/b.script": ""},
+        "a transcript without a script": {"one/b.transcript": ""},
+        "a generator that fails": {"one/b.generate": "raise SystemExit(1)"},
+        "a generator that fails behind its text": {"one/b.generate": "print(end='', flush=True); raise SystemExit(3)"},
+    }
+    good = {"one/a.script": "", "one/a.transcript": ""}
+    one = 1, "1 passed, 1 failed"
+    for name, files in broken.items():
+        yield f"a broken case fails: {name}", lambda: same(suite_told({**good, **files}, "run", "true"), one)
+        if "one/b.transcript" not in files:
+            told = 1, broken_line(files)
+            yield f"a broken case is seen: {name}", lambda: same(suite_told({**good, **files}, "coverage"), told)
+    little = {"one/a.script": "", "one/a.transcript": "end 0 0 0\n"}
+    wanted = 1, f"1 reached, {OUTCOMES - 1} missing, 0 not named"
+    yield "what is missing is told", lambda: same(suite_told(little, "coverage"), wanted)
+    other = {"one/a.script": "", "one/a.transcript": "1 24 NtClose c0000022\nend 1 1 0\n"}
+    wanted = 1, f"2 reached, {OUTCOMES - 2} missing, 1 not named"
+    yield "what no page names is told", lambda: same(suite_told(other, "coverage"), wanted)
+    wanted = 1, f"0 reached, {OUTCOMES} missing, 0 not named"
+    yield "what a program doesn't print is missing", lambda: same(suite_told(little, "coverage", "true"), wanted)
+    yield "the suite has all its cases", whole_suite
+
+
+def broken_line(files):
+    """What `conformance/coverage` says of a broken case."""
+    name, text = next(iter(files.items()))
+    if text:
+        return f"the suite is broken: b.generate transcript ended with status {text[-2]}:"
+    return "the suite is broken: there is neither b.transcript nor b.generate"
+
+
+def probe_of_memory(script):
+    """What the probe that takes memory away finds wrong with a program."""
+    try:
+        program.memory_runs_out(program.Program(["sh", "-c", script]))
+    except program.LeftOut as why:
+        return f"it is left out: {why}"
+    except program.Wrong:
+        return ""
+    return "it passes"
+
+
+def probes():
+    """The probe of memory, over programs that aren't right."""
+    empty = 'if [ "$(wc -l)" = 0 ]; then echo end 0 0 0; exit 0; fi'
+    scripts = {
+        "tells nothing": f"{empty}; exit 5",
+        "tells one line": f"{empty}; echo 1 - boot 00000000; exit 5",
+        "tells half a line": f"{empty}; printf '1 - boot 0'; exit 5",
+        "doesn't start": "exit 1",
+        "wants for memory at once": "exit 5",
+        "isn't wanting": "cat > /dev/null; echo end 0 0 0",
+    }
+    for name, script in scripts.items():
+        yield f"memory is taken from a program that {name}", lambda: probe_of_memory(script)
+
+
+def checks():
+    """All checks: each with its name and what finds out what is wrong."""
+    for group in (gate_seconds, gate, suites, probes):
+        yield from group()
+
+
+def main():
+    passed = failed = 0
+    for name, find in checks():
+        wrong = find()
+        passed += not wrong
+        failed += bool(wrong)
+        if wrong:
+            print(f"FAILED: {name}: {wrong}", flush=True)
+    print(f"{passed} passed, {failed} failed")
+    return 1 if failed else 0
+
+
+if __name__ == "__main__":
+    sys.exit(main())
