@@ -46,7 +46,7 @@ pub record Begins (w : World) (tid : ℕ) (bs : List Basic) : Type 0 where
 pub record Serves (led : Leads) (m : Group) (c : ℕ) (w : World) (by : ThreadRow) (call : ScriptCall) : Type 0 where
   pub apart : (d : Whose) → m by.process ≡ false → Holds (λ bs. HasFineRows m c (world_after w bs) → are_apart m c (world_after w bs) d w bs ≡ true) (served w by call)
   pub own : (d : Whose) → by.process ≡ c → Answered (λ bs led. HasFineRows m c (world_after w bs) → Led m c (world_after w bs) d w bs led) (served w by call) (served (view m w) by call)
-  pub leads : (d : Whose) → m by.process ≡ true → (by.process == c) ≡ false → Holds (λ bs. HasFineRows m c (world_after w bs) → Led m c (world_after w bs) d w bs (led (view m w) by call (own_entry bs))) (served w by call)
+  pub leads : (d : Whose) → m by.process ≡ true → (by.process == c) ≡ false → Holds (λ bs. HasFineRows m c (world_after w bs) → Led m c (world_after w bs) d w bs (led.lead (view m w) by call (own_entry bs))) (served w by call)
   pub begins : Holds (Begins w by.number) (served w by call)
   pub refuses : (s : Status) → served w by call ≡ Err s → (s.0 == SUCCESS.0) ≡ false
 
@@ -256,7 +256,7 @@ owes-ok led m c w tid call by bs r s at fine =
           let by_in : m by.process ≡ true = sym (owner-in m w tid by own) ∙ seen in
           let by_other : (by.process == c) ≡ false = sym (owner-in (alone c) w tid by own) ∙ other in
           let accepted : accepts (own_entry bs) ≡ true = ap accepts (own-is w tid bs head) ∙ head.accepted in
-          rw (accepted, live-view m c w tid by.process r.fair own by_in, r.live) (holds_ok (λ bs. HasFineRows m c (world_after w bs) → Led m c (world_after w bs) d w bs (led (view m w) by call (own_entry bs))) (served w by call) bs (s.leads d by_in by_other) at fine);
+          rw (accepted, live-view m c w tid by.process r.fair own by_in, r.live) (holds_ok (λ bs. HasFineRows m c (world_after w bs) → Led m c (world_after w bs) d w bs (led.lead (view m w) by call (own_entry bs))) (served w by call) bs (s.leads d by_in by_other) at fine);
       first = λ seen other is.
           ap (λ bs'. next_entry (told_items (told_inputs m c u d (entries_of bs')) ++ is)) head.is
           ∙ ap (λ es. next_entry (told_items (told_inputs m c u d (es ++ entries_of head.rest)) ++ is)) head.told

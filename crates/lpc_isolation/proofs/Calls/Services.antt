@@ -40,7 +40,7 @@ use Rattle.lpc_isolation.proofs.Owed.Asked.{asked-deeds}
 use Rattle.lpc_isolation.proofs.Owed.Orderly.{orderly-deeds}
 use Rattle.lpc_isolation.proofs.Each.Refuses.{Refuses, refuses-create, refuses-connect, refuses-listen, refuses-accept, refuses-complete, refuses-datagram, refuses-request, refuses-reply, refuses-receive}
 use Rattle.lpc_isolation.proofs.Owed.Fair.{fair-deeds}
-use Rattle.lpc_isolation.proofs.Each.Instances.{At, Leading, caller, leads_by}
+use Rattle.lpc_isolation.proofs.Each.Instances.{At, Leading, caller, leading}
 use Rattle.lpc_isolation.proofs.Memory.Calls.{Hears}
 use Rattle.lpc_isolation.proofs.Owed.Known.{hears-deeds, notes-deeds}
 use Rattle.lpc_isolation.proofs.Each.Closes.{refuses-close, same-close, alike-close}
@@ -189,7 +189,7 @@ lawful (terminate_thread target code) = calm refl (ends-calm (terminate_thread t
 lawful (terminate_process target code) = calm refl (ends-calm (terminate_process target code) (code_status code) (process-ends-it target code))
 
 -- all that a call owes
-pub serves : (m : Group) (c : ℕ) (w : World) (by : ThreadRow) (known : List ℕ → Birth) (call : ScriptCall) → At m c w by known → (by.process ≡ c → is_fine_call m w call ≡ true) → Serves (leads_by m known) m c w by call
+pub serves : (m : Group) (c : ℕ) (w : World) (by : ThreadRow) (known : List ℕ → Birth) (call : ScriptCall) → At m c w by known → (by.process ≡ c → is_fine_call m w call ≡ true) → Serves (leading m known) m c w by call
 serves m c w by known call a fine = record {
   apart = λ d out. (lawful call).apart m c d w by known a out;
   own = λ d mine. (lawful call).own m c d w by known a mine (fine mine);

@@ -42,6 +42,7 @@ use Rattle.lpc_isolation.proofs.Each.Connects.{led_connect}
 use Rattle.lpc_isolation.proofs.Each.Completes.{led_complete}
 use Rattle.lpc_isolation.proofs.Each.Accepts.{led_answer}
 use Rattle.lpc_isolation.proofs.Plays.Lines.{Leads}
+use Rattle.lpc_model.specs.declared.entry.Entry.{Entry}
 
 -- by its answer alone
 abbrev led_close : World → ThreadRow → ℕ → List Basic
@@ -63,7 +64,7 @@ abbrev led_ends : World → ThreadRow → ProcArg → ℕ → List Basic
 led_ends v by target code = on_ok (process_target v by target) (λ pid. terminate_process_steps v by (code_status code) pid v)
 
 -- what a member other than c does in a view, by what it was told; the queue of an outsider's connect is known from before
-abbrev pub leads_by : Group → (List ℕ → Birth) → Leads
+abbrev pub leads_by : Group → (List ℕ → Birth) → World → ThreadRow → ScriptCall → Entry → List Basic
 leads_by m known v by (create_port name) e = led_create v by name
 leads_by m known v by (connect_port name info) e = led_connect v by name info
 leads_by m known v by (listen_port handle) e = led_listen m v by handle e
@@ -81,6 +82,9 @@ leads_by m known v by (create_process pid tid) e = making_process v by pid tid
 leads_by m known v by (create_thread target tid) e = led_thread v by target tid
 leads_by m known v by (terminate_thread target code) e = led_end v by target code
 leads_by m known v by (terminate_process target code) e = led_ends v by target code
+
+abbrev pub leading : Group → (List ℕ → Birth) → Leads
+leading m known = record { lead = leads_by m known }
 
 -- what holds where a thread that waits for nothing calls
 pub record At (m : Group) (c : ℕ) (w : World) (by : ThreadRow) (known : List ℕ → Birth) : Type 0 where

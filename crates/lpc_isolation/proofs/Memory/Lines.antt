@@ -25,7 +25,7 @@ use Rattle.lpc_isolation.proofs.Plays.Play.{absorbed, is_told_input, told_at, to
 use Rattle.lpc_isolation.proofs.Plays.Lines.{OnceUsed, Owes, is_done, next_entry, turned}
 use Rattle.lpc_isolation.proofs.Calls.Lines.{busy, called, nobody, owner-in}
 use Rattle.lpc_isolation.proofs.Each.Listens.{own_entry}
-use Rattle.lpc_isolation.proofs.Each.Instances.{At, leads_by}
+use Rattle.lpc_isolation.proofs.Each.Instances.{At, leading}
 use Rattle.lpc_isolation.proofs.Rows.Kept.{owned-sound}
 use Rattle.lpc_isolation.proofs.Memory.Heard.{Heard, call_memo, caller_memo, done-silent, entries-silent, entries_memo, is_silent, is_silent_step, line_memo, silent-memo, steps-silent}
 use Rattle.lpc_isolation.proofs.Memory.Knows.{AllKnown, are_known, known_queue, run-known}
@@ -99,7 +99,7 @@ module _ (m : Group) (c : ℕ) (w : World) (t : List Heard) (tid : ℕ) (call : 
       at (Some by) live = ready by live (wait_of w tid) refl
 
   -- the answer is the next of the inputs
-  noted-next : (is : List Item) → Owes (leads_by m (known_queue t)) m c w tid call → is_seen m (thread_whose w tid) ≡ true
+  noted-next : (is : List Item) → Owes (leading m (known_queue t)) m c w tid call → is_seen m (thread_whose w tid) ≡ true
       → line_memo m c (view m w) t (run tid call) (told_items (told_at m c w (run tid call)) ++ is) ≡ caller_memo m c (view m w) call (own_entry (served_steps (run tid call) w)) t (live_thread w tid)
   noted-next is o seen = by_owner (owner w tid) refl
     where
@@ -122,18 +122,18 @@ module _ (m : Group) (c : ℕ) (w : World) (t : List Heard) (tid : ℕ) (call : 
 
   run-line_known : is_fine_line m c w (run tid call) ≡ true → OnceUsed (served_step w (run tid call)).world → Known m c w t (run tid call)
   run-line_known ok once =
-      let o : Owes (leads_by m (known_queue t)) m c w tid call = owes-line m c w s tid call c_in st fine next ok in
+      let o : Owes (leading m (known_queue t)) m c w tid call = owes-line m c w s tid call c_in st fine next ok in
       record {
         hides = λ out. subst (λ memo. AllKnown m memo (served_step w (run tid call)).world) (sym (absorbed-memo m c s (told_at m c w (run tid call)))) (hears-run out);
         shows = λ seen is. shown o seen is;
       }
     where
-      shown : Owes (leads_by m (known_queue t)) m c w tid call → is_seen m (thread_whose w tid) ≡ true → (is : List Item) → AllKnown m (absorbed (player m c) ((player m c).after s (run tid call) (told_items (told_at m c w (run tid call)) ++ is)) (told_at m c w (run tid call))).memo (served_step w (run tid call)).world
+      shown : Owes (leading m (known_queue t)) m c w tid call → is_seen m (thread_whose w tid) ≡ true → (is : List Item) → AllKnown m (absorbed (player m c) ((player m c).after s (run tid call) (told_items (told_at m c w (run tid call)) ++ is)) (told_at m c w (run tid call))).memo (served_step w (run tid call)).world
       shown o seen is =
           let u : World = (served_step w (run tid call)).world in
           let items : List Item = told_items (told_at m c w (run tid call)) ++ is in
           let told : List Entry = told_at m c w (run tid call) in
-          let after : played_view m c s (run tid call) items ≡ view m u = (turned (leads_by m (known_queue t)) m c w tid call is o st.kept.once seen).world in
+          let after : played_view m c s (run tid call) items ≡ view m u = (turned (leading m (known_queue t)) m c w tid call is o st.kept.once seen).world in
           let silent : every (is_silent (view m u)) told ≡ true = every-which (is_silent (view m u)) (is_told_input m c u (thread_whose w tid)) (served_step w (run tid call)).entries (every-more (is_done u) (is_silent (view m u)) (done-silent m u) (served_step w (run tid call)).entries o.done) in
           let noted : line_memo m c (view m w) t (run tid call) items ≡ caller_memo m c (view m w) call (own_entry (served_steps (run tid call) w)) t (live_thread w tid) = noted-next is o seen in
           subst (λ memo. AllKnown m memo u)

@@ -153,11 +153,11 @@ accepts (entry.Died who status) = true
 accepts (entry.Directive word status) = false
 
 -- what the calls of members other than c do in a view, by what they are told
-abbrev pub Leads : Type 0
-Leads = World → ThreadRow → ScriptCall → Entry → List Basic
+pub record Leads : Type 0 where
+  pub lead : World → ThreadRow → ScriptCall → Entry → List Basic
 
 abbrev pub led_line : Leads → World → ℕ → ScriptCall → Entry → List Basic
-led_line led v tid call e = cond (accepts e) (given (live_thread v tid) (λ by. led v by call e)) []
+led_line led v tid call e = cond (accepts e) (given (live_thread v tid) (λ by. led.lead v by call e)) []
 
 abbrev pub turn : Leads → ℕ → World → ℕ → ScriptCall → List Item → List Basic
 turn led c v tid call is = cond (is_seen (alone c) (thread_whose v tid)) (served_steps (run tid call) v) (led_line led v tid call (next_entry is))

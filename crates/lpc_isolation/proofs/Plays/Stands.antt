@@ -28,7 +28,7 @@ use Rattle.lpc_isolation.proofs.Rows.Paths.{Paths, paths-ways}
 use Rattle.lpc_isolation.proofs.Plays.Play.{Player, absorbed, told_at, told_items}
 use Rattle.lpc_isolation.proofs.Plays.Lines.{OnceUsed, Owes, run-hidden, run-visible, shown_run, turn}
 use Rattle.lpc_isolation.proofs.Calls.Lines.{owes-busy, owes-call, owes-none}
-use Rattle.lpc_isolation.proofs.Each.Instances.{At, leads_by}
+use Rattle.lpc_isolation.proofs.Each.Instances.{At, leading}
 use Rattle.lpc_isolation.proofs.Rows.Kept.{owned-sound}
 use Rattle.lpc_isolation.proofs.Plays.Directives.{boot-directs, dir-directs, directive-hidden, directive-visible, directive_shown, directive_turn, link-directs, thread-directs}
 use Rattle.lpc_model.specs.Connect.{reaches}
@@ -44,14 +44,14 @@ pub record State : Type 0 where
   pub memo : List Heard
 
 abbrev pub played_view : Group → ℕ → State → ScriptLine → List Item → World
-played_view m c s (run tid call) is = world_after s.seen (turn (leads_by m (known_queue s.memo)) c s.seen tid call is)
+played_view m c s (run tid call) is = world_after s.seen (turn (leading m (known_queue s.memo)) c s.seen tid call is)
 played_view m c s (boot pid tid) is = world_after s.seen (directive_turn s.seen (boot pid tid) is)
 played_view m c s (thread tid pid) is = world_after s.seen (directive_turn s.seen (thread tid pid) is)
 played_view m c s (dir path) is = world_after s.seen (directive_turn s.seen (dir path) is)
 played_view m c s (link path target) is = world_after s.seen (directive_turn s.seen (link path target) is)
 
 abbrev pub played_items : Group → ℕ → State → ScriptLine → List Item → List Item
-played_items m c s (run tid call) is = shown_run (leads_by m (known_queue s.memo)) c s.seen tid call is
+played_items m c s (run tid call) is = shown_run (leading m (known_queue s.memo)) c s.seen tid call is
 played_items m c s (boot pid tid) is = directive_shown c s.seen (boot pid tid) is
 played_items m c s (thread tid pid) is = directive_shown c s.seen (thread tid pid) is
 played_items m c s (dir path) is = directive_shown c s.seen (dir path) is
@@ -121,22 +121,22 @@ line-call : (m : Group) (c : ℕ) (w : World) (tid : ℕ) (call : ScriptCall) �
 line-call m c w tid call fine by own mine =
     let it : passes (owner w tid) (λ p. p == c) ≡ true = rw own (rw mine (same-number c)) in grind arith
 
-pub owes-line : (m : Group) (c : ℕ) (w : World) (s : State) (tid : ℕ) (call : ScriptCall) → m c ≡ true → Stood m c w s → HasFineRows m c w → HasFineRows m c (served_step w (run tid call)).world → is_fine_line m c w (run tid call) ≡ true → Owes (leads_by m (known_queue s.memo)) m c w tid call
+pub owes-line : (m : Group) (c : ℕ) (w : World) (s : State) (tid : ℕ) (call : ScriptCall) → m c ≡ true → Stood m c w s → HasFineRows m c w → HasFineRows m c (served_step w (run tid call)).world → is_fine_line m c w (run tid call) ≡ true → Owes (leading m (known_queue s.memo)) m c w tid call
 owes-line m c w s tid call c_in st fine next line = at (live_thread w tid) refl
   where
     owned : Owned w w
     owned = owned-sound m c w st.kept.fair st.firm.sound.waits
 
-    ready : (by : ThreadRow) → live_thread w tid ≡ Some by → (o : Option WaitRow) → wait_of w tid ≡ o → Owes (leads_by m (known_queue s.memo)) m c w tid call
-    ready by live (Some x) waits = owes-busy (leads_by m (known_queue s.memo)) m c w tid call by x c_in st.kept.fair owned live waits
+    ready : (by : ThreadRow) → live_thread w tid ≡ Some by → (o : Option WaitRow) → wait_of w tid ≡ o → Owes (leading m (known_queue s.memo)) m c w tid call
+    ready by live (Some x) waits = owes-busy (leading m (known_queue s.memo)) m c w tid call by x c_in st.kept.fair owned live waits
     ready by live None idle =
         let number : by.number ≡ tid = live-number w tid by live in
         let own : owner w tid ≡ Some by.process = live-owner m c w tid by st.kept.fair live in
-        owes-call (leads_by m (known_queue s.memo)) m c w tid call by (record { c_in = c_in; fair = st.kept.fair; owned = owned; live = live; idle = idle })
+        owes-call (leading m (known_queue s.memo)) m c w tid call by (record { c_in = c_in; fair = st.kept.fair; owned = owned; live = live; idle = idle })
         (serves m c w by (known_queue s.memo) call (ready-at m c w s tid by c_in st fine live idle) (λ mine. line-call m c w tid call line by own mine)) next
 
-    at : (o : Option ThreadRow) → live_thread w tid ≡ o → Owes (leads_by m (known_queue s.memo)) m c w tid call
-    at None none = owes-none (leads_by m (known_queue s.memo)) m c w tid call c_in st.kept.fair none
+    at : (o : Option ThreadRow) → live_thread w tid ≡ o → Owes (leading m (known_queue s.memo)) m c w tid call
+    at None none = owes-none (leading m (known_queue s.memo)) m c w tid call c_in st.kept.fair none
     at (Some by) live = ready by live (wait_of w tid) refl
 
 -- What each line leaves of a view, and what c sees of it
@@ -148,7 +148,7 @@ pub record Line (m : Group) (c : ℕ) (w : World) (s : State) (line : ScriptLine
 pub of-line : (m : Group) (c : ℕ) (w : World) (t : List Heard) (line : ScriptLine) → m c ≡ true → Stood m c w (record { seen = view m w; memo = t }) → HasFineRows m c w → HasFineRows m c (served_step w line).world → OnceUsed (served_step w line).world → is_fine_line m c w line ≡ true → Line m c w (record { seen = view m w; memo = t }) line
 of-line m c w t (run tid call) c_in st fine next once line =
     let o = owes-line m c w (record { seen = view m w; memo = t }) tid call c_in st fine next line in
-    record { hides = λ out. run-hidden (leads_by m (known_queue t)) m c w tid call c_in o out; shows = λ seen is. run-visible (leads_by m (known_queue t)) m c w tid call is c_in o st.kept.once once seen }
+    record { hides = λ out. run-hidden (leading m (known_queue t)) m c w tid call c_in o out; shows = λ seen is. run-visible (leading m (known_queue t)) m c w tid call is c_in o st.kept.once once seen }
 of-line m c w t (boot pid tid) c_in st fine next once line =
     let o = boot-directs m w pid tid in
     record { hides = λ out. directive-hidden m c w (boot pid tid) _ (Of pid) (boot_line w pid tid) c_in o out; shows = λ seen is. directive-visible m c w (boot pid tid) _ (Of pid) (boot_line w pid tid) is o seen }
