@@ -19,6 +19,7 @@ import sys
 
 sys.dont_write_bytecode = True
 from failing import compiler, failing
+from tally import tally
 
 ROOT = pathlib.Path(__file__).resolve().parent.parent
 SMALLEST = ROOT / "examples" / "first-request.script"
@@ -83,19 +84,11 @@ def main(command):
     if len(command) != 1 or not shutil.which(command[0]):
         print("usage: tests/allocations.py PROGRAM", file=sys.stderr)
         return 64
-    passed = failed = 0
     if not compiler():
         print("left out: there is no C compiler here")
-        print("0 passed, 0 failed")
-        return 0
+        return tally(())
     with failing(command) as program:
-        for name, found in checks(program):
-            failed += bool(found)
-            passed += not found
-            for fault in found:
-                print(f"FAILED: {name}: {fault}", flush=True)
-    print(f"{passed} passed, {failed} failed")
-    return 1 if failed else 0
+        return tally(checks(program))
 
 
 if __name__ == "__main__":

@@ -25,6 +25,9 @@ import subprocess
 import sys
 import tempfile
 
+sys.dont_write_bytecode = True
+from tally import tally
+
 ROOT = pathlib.Path(__file__).resolve().parent.parent
 DOCS = ROOT / "docs"
 PAGES = [*sorted(ROOT.glob("*.md")), *sorted(DOCS.glob("*.md"))]
@@ -297,14 +300,7 @@ def main(command):
     if command and not shutil.which(command[0]):
         print("usage: tests/pages.py [PROGRAM [WORDS..]]", file=sys.stderr)
         return 64
-    passed = failed = 0
-    for name, found in checks(command):
-        failed += bool(found)
-        passed += not found
-        for fault in found:
-            print(f"FAILED: {name}: {fault}")
-    print(f"{passed} passed, {failed} failed")
-    return 1 if failed else 0
+    return tally(checks(command))
 
 
 if __name__ == "__main__":

@@ -22,6 +22,7 @@ import sys
 sys.dont_write_bytecode = True
 import definitions
 import pages
+from tally import tally
 
 sys.path.insert(0, str(pages.ROOT / "tools"))
 from ntlpc_tool import statuses
@@ -297,14 +298,7 @@ def checks():
 
 
 def main():
-    passed = failed = 0
-    for name, found in checks():
-        failed += bool(found)
-        passed += not found
-        for fault in found:
-            print(f"FAILED: {name}: {fault}")
-    print(f"{passed} passed, {failed} failed")
-    return 1 if failed else 0
+    return tally(checks())
 
 
 if __name__ == "__main__":
