@@ -9,6 +9,7 @@ ghost use Rattle.lpc_model.specs.Lines as script;
 ghost use Rattle.lpc_model.specs.Linked.{HasHeldRows};
 ghost use Rattle.lpc_model.specs.Standing.{NamesWhatStands};
 ghost use Rattle.lpc_model.specs.Closings.{ClosingsAreTold};
+ghost use Rattle.lpc_model.specs.Creators.{KeepsConnects};
 ghost use Rattle.lpc_model.specs.Deaths.{DeathsAreTold, HasLivingRegistrations, HasSingleRegistrations};
 ghost use Rattle.lpc_model.specs.Left.{LeavesNothing};
 ghost use Rattle.lpc_model.specs.SingleClosings.{HasSingleClosings};
@@ -292,6 +293,7 @@ impl Machine {
         ensures named { NamesWhatStands self.new.rows }
         ensures closings { OnOk result (ClosingsAreTold self.old.rows (line_of line.now)) }
         ensures single_closings { HasSingleClosings self.new.rows }
+        ensures creators { KeepsConnects self.new.rows }
         ensures deaths { OnOk result (DeathsAreTold self.old.rows (line_of line.now)) }
         ensures registered { HasLivingRegistrations self.new.rows }
         ensures once { HasSingleRegistrations self.new.rows }

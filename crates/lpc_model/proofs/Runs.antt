@@ -7,6 +7,7 @@ use Rattle.lpc_model.specs.Lines.{ScriptLine}
 use Rattle.lpc_model.specs.Machine.{Stepped, step}
 use Rattle.lpc_model.specs.Run.{Along, line_step, said_in, trace}
 use Rattle.lpc_model.specs.Closings.{ClosingsAreTold, RunTellsClosings}
+use Rattle.lpc_model.specs.Creators.{KeepsConnects, RunKeepsConnects}
 use Rattle.lpc_model.specs.Linked.{HasHeldRows, RunHoldsRows}
 use Rattle.lpc_model.specs.OpenQueues.{HasOpenQueues, RunKeepsQueuesOpen}
 use Rattle.lpc_model.specs.Standing.{NamesWhatStands, RunNamesWhatStands}
@@ -17,6 +18,7 @@ use Rattle.lpc_model.proofs.Sound.Lines.{sound_none, sound_step, sound_waits}
 use Rattle.lpc_model.proofs.Linked.Lines.{held_step, linked_none, linked_step}
 use Rattle.lpc_model.proofs.Standing.Lines.{names_none, names_step}
 use Rattle.lpc_model.proofs.Queues.Open.{queues_none, queues_step}
+use Rattle.lpc_model.proofs.Closings.Creators.{keeps_step}
 use Rattle.lpc_model.proofs.Closings.ToldLines.{closings_told}
 use Rattle.lpc_model.proofs.Closings.SingleLines.{untold_none, untold_step}
 use Rattle.lpc_model.specs.Deaths.{DeathsAreTold, HasLivingRegistrations, HasSingleRegistrations, RunHasLivingRegistrations, RunHasSingleRegistrations, RunTellsDeaths}
@@ -40,6 +42,7 @@ lawful_none = record {
   queues = queues_none;
   names = names_none;
   single_closings = untold_none;
+  creators = refl;
   threads = λ n. grind arith;
   registrations = refl;
   single = refl;
@@ -56,6 +59,7 @@ lawful_step w line t = let shut = t.single_closings in let safe : IsSafe w = rec
   queues = queues_step w line t.sound shut.connects t.linked t.queues;
   names = names_step w line t.sound shut.connects t.linked t.names;
   single_closings = untold_step w line t.sound t.names t.single_closings;
+  creators = keeps_step w line safe t.creators;
   threads = once_step w line t.sound shut.connects t.threads;
   registrations = living_registrations_step w line t.sound t.threads t.registrations;
   single = single_step w line t.sound t.threads t.single;
@@ -99,6 +103,9 @@ names_run bytes = trace-keeps NamesWhatStands (λ w t. t.names) no_rows (said_in
 
 pub untold_run : (bytes : List ℕ) → RunHasSingleClosings bytes
 untold_run bytes = trace-keeps HasSingleClosings (λ w t. t.single_closings) no_rows (said_in bytes) lawful_none
+
+pub keeps_run : (bytes : List ℕ) → RunKeepsConnects bytes
+keeps_run bytes = trace-keeps KeepsConnects (λ w t. t.creators) no_rows (said_in bytes) lawful_none
 
 pub closings_told_run : (bytes : List ℕ) → RunTellsClosings bytes
 closings_told_run bytes = along-keeps ClosingsAreTold (λ w line t. let shut = t.single_closings in closings_told w line t.sound shut.connects) no_rows (said_in bytes) lawful_none

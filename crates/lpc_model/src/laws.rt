@@ -96,12 +96,14 @@ pub fn law_closings_are_told()
 /// port, in the name of the thread, and its data are the maker and the ordinal of the thread's
 /// birth. The registrations go then, and all this comes behind the last thread that ends in the
 /// line, and before a handle goes or a port begins to close in it. Behind each line no port is
-/// registered twice with a thread, and a thread that has ended has no registrations. Each such
-/// message, and each that tells of a closed port, stands in the queue that it entered, was received
-/// from it, or was lost when the queue's port closed. And where no process lives any longer, no row
+/// registered twice with a thread, and a thread that has ended has no registrations. The handles
+/// that go with processes close ports as others do: each is told of once, where it is to be. Each
+/// message of either kind stands in the queue that it entered, was received from it, or was lost
+/// when the queue's port closed. And where no process lives any longer, no row
 /// of a process, thread or port is left, no message and no wait.
 pub fn law_death()
     ensures runs { (script : List ℕ) → RunTellsDeaths script }
+    ensures closings { (script : List ℕ) → RunTellsClosings script }
     ensures accounted { (script : List ℕ) → RunAccountsForDeaths script }
     ensures nothing_left { (script : List ℕ) → RunLeavesNothing script }
     ensures living_registrations { (script : List ℕ) → RunHasLivingRegistrations script }
@@ -121,7 +123,7 @@ pub fn law_messages_are_accounted_for()
 /// Each line keeps all that the calls ask of the world at once.
 ///
 /// Waits are sound, ports linked, objects held, queues open; what rows name stands; of an open port
-/// no message tells that it is closed. A thread has one row, an ended one has no registrations, and
+/// no message tells that it is closed, and each client port keeps a connect of its maker. A thread has one row, an ended one has no registrations, and
 /// no port is registered twice with one. Only living processes have handles, and a connection has
 /// one open end at least. What the calls that close and end ask of the rows is part of it.
 pub fn law_lawful_worlds()

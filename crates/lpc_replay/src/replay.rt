@@ -3,7 +3,11 @@ ghost use Rattle.std.specs.Prelude.{◌≡◌, ◌≤◌, [], ◌∷◌, true, f
 ghost use Rattle.lpc_base.specs.Streams.{Adds, Rose};
 ghost use Rattle.lpc_model.specs.Accounts.{RunAccountsForDeaths};
 ghost use Rattle.lpc_model.specs.Deaths.{RunTellsDeaths};
+ghost use Rattle.lpc_model.specs.Closings.{RunTellsClosings};
+ghost use Rattle.lpc_model.specs.Creators.{RunKeepsConnects};
 ghost use Rattle.lpc_model.specs.Left.{RunLeavesNothing};
+ghost use Rattle.lpc_model.specs.SingleClosings.{RunHasSingleClosings};
+ghost use Rattle.lpc_model.specs.SoundWaits.{RunStaysSound};
 ghost use Rattle.lpc_replay.specs.Laws.{ClientsApart, ConnectsReturn, MisfitsRefused, RefusalsIdle, RefusalsStay, RequestsReturn, WaitsEnd};
 ghost use Rattle.lpc_replay.specs.Reading.{IsAskedForPieces};
 ghost use Rattle.lpc_replay.specs.Sending.{AddsFront};
@@ -198,6 +202,15 @@ pub fn run_words<S: Source, K: Sink>(
     ensures idle { result ≡ 0 → IfSome (S.left source.old) RefusalsIdle }
     ensures answered { result ≡ 0 → IfSome (S.left source.old) ConnectsReturn }
     ensures ended { result ≡ 0 → IfSome (S.left source.old) WaitsEnd }
+
+    // In the script read each wait behind each line is one that can still end.
+    ensures sound { result ≡ 0 → IfSome (S.left source.old) RunStaysSound }
+
+    // In the script read each completed client port that loses its last handle is told of once in that line, where its
+    // connection port is open, and keeps until then the connect in whose name that is told.
+    ensures closings { result ≡ 0 → IfSome (S.left source.old) RunTellsClosings }
+    ensures single_closings { result ≡ 0 → IfSome (S.left source.old) RunHasSingleClosings }
+    ensures creators { result ≡ 0 → IfSome (S.left source.old) RunKeepsConnects }
 
     // In the script read whoever asked to be told of a thread's end is told once, behind all ends of that line and
     // before it closes a handle; what tells of ends and of closed ports is accounted for, and nothing is left where no

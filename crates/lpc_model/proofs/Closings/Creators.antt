@@ -1,7 +1,6 @@
 -- Each line leaves client ports with a connection port, and with a connect of the thread that made them.
 use Rattle.std.proofs.Common.{◌≡◌, ℕ, List, [], ◌∷◌, Bool, true, false, cond, Option, Some, None, refl}
 use Rattle.std.proofs.lemmas.Bool.{and_from}
-use Rattle.std.specs.List.{AllByRecursion}
 use Rattle.lpc_base.specs.Rows.{every}
 use Rattle.lpc_base.proofs.RowWords.{every-append, every-change, every-more, every-push, every-without}
 use Rattle.lpc_base.proofs.RowMaps.{every-map}
@@ -13,18 +12,15 @@ use Rattle.lpc_model.specs.Basics.{Awaits, Basic, Completes, Cuts, Frees, Joins,
 use Rattle.lpc_model.specs.Entering.{enter, received_steps, row_of}
 use Rattle.lpc_model.specs.Connect.{client_port, connect_start, connection_request}
 use Rattle.lpc_model.specs.Close.{close_handle}
-use Rattle.lpc_model.specs.Creators.{KeepsConnects, RunKeepsConnects, keeps_connect}
+use Rattle.lpc_model.specs.Creators.{KeepsConnects, keeps_connect}
 use Rattle.lpc_model.specs.Death.{die}
-use Rattle.lpc_model.specs.Lawful.{IsLawfulWorld}
 use Rattle.lpc_model.specs.Lines.{ScriptLine}
 use Rattle.lpc_model.specs.Machine.{Stepped, bare_steps, step}
-use Rattle.lpc_model.specs.Run.{said_in, trace}
 use Rattle.lpc_model.specs.Sweep.{sweep}
 use Rattle.lpc_model.proofs.Calls.Acts.{Law, outcomes}
 use Rattle.lpc_model.proofs.Steps.Sweep.{stepped, sweep_every}
 use Rattle.lpc_model.proofs.Steps.Ending.{AreEnding, die-ending, ending-enter, ending-receipt, handle-ending, is_ending}
 use Rattle.lpc_model.proofs.Calls.Lines.{AnyWorld, Shut, LineLaw, line-does, passing-lines}
-use Rattle.lpc_model.proofs.Runs.{lawful_none, lawful_step}
 use Rattle.lpc_model.proofs.Sound.Terminate.{IsSafe}
 use Rattle.lpc_model.proofs.Steps.InTurn.{steps-keep}
 
@@ -105,20 +101,6 @@ keeping-law by = record {
 keeping-lines : LineLaw (Shut AnyWorld) (λ _ _. AreKeeping)
 keeping-lines = passing-lines (Shut AnyWorld) (λ _. AreKeeping) (λ _. is_keeping) (λ w bs all. all) (λ w. record { tells = λ _. refl; processes = λ _. refl; threads = λ _ _ _. refl; binds = λ _ _. refl }) (λ by. outcomes by (Shut AnyWorld) AnyWorld (λ _. AreKeeping) (keeping-law by) (λ w c. c))
 
-keeps_step : (w : World) (line : ScriptLine) → IsSafe w → KeepsConnects w → KeepsConnects (step w line).world
+pub keeps_step : (w : World) (line : ScriptLine) → IsSafe w → KeepsConnects w → KeepsConnects (step w line).world
 keeps_step w line is k =
     stepped KeepsConnects w line (λ v. keeping-all v (sweep v) (sweep_every is_keeping (λ _. refl) v)) (keeping-all w (bare_steps line w) (line-does (Shut AnyWorld) (λ _ _. AreKeeping) keeping-lines w is.sound (is.shut, tt) line) k)
-
--- Runs
-trace-keeps : (w : World) (lines : List (Option ScriptLine)) → IsLawfulWorld w → KeepsConnects w → AllByRecursion (λ (s : Stepped). KeepsConnects s.world) (trace w lines)
-unfolding trace
-trace-keeps w [] l k = tt
-trace-keeps w (None ∷ later) l k = (k, trace-keeps w later l k)
-trace-keeps w (Some line ∷ later) l k =
-    let shut = l.single_closings in
-    let after = keeps_step w line (record { sound = l.sound; shut = shut.connects }) k in
-    (after, trace-keeps (step w line).world later (lawful_step w line l) after)
-
--- behind each line of a script each client port has its connection port and its connect
-pub keeps_run : (bytes : List ℕ) → RunKeepsConnects bytes
-keeps_run bytes = trace-keeps no_rows (said_in bytes) lawful_none refl

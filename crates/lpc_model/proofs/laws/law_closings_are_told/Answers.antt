@@ -1,6 +1,5 @@
-use Rattle.lpc_model.proofs.Closings.Creators.{keeps_run}
 use Rattle.lpc_model.proofs.Closings.SingleLines.{untold_none, untold_step}
-use Rattle.lpc_model.proofs.Runs.{closings_told_run, untold_run}
+use Rattle.lpc_model.proofs.Runs.{closings_told_run, keeps_run, untold_run}
 use Rattle.lpc_model.proofs.laws.law_closings_are_told.Goals as goal
 
 pub returns-clause-runs : goal.returns-clause-runs

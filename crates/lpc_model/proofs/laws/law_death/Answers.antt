@@ -1,9 +1,12 @@
 use Rattle.lpc_model.proofs.Account.Runs.{deaths-accounted}
-use Rattle.lpc_model.proofs.Runs.{deaths_told_run, living_registrations_run, leaves_nothing_run, single_registrations_run}
+use Rattle.lpc_model.proofs.Runs.{closings_told_run, deaths_told_run, living_registrations_run, leaves_nothing_run, single_registrations_run}
 use Rattle.lpc_model.proofs.laws.law_death.Goals as goal
 
 pub returns-clause-runs : goal.returns-clause-runs
 returns-clause-runs c = deaths_told_run
+
+pub returns-clause-closings : goal.returns-clause-closings
+returns-clause-closings c = closings_told_run
 
 pub returns-clause-accounted : goal.returns-clause-accounted
 returns-clause-accounted c = deaths-accounted

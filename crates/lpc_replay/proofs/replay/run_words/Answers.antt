@@ -1,8 +1,12 @@
 use Rattle.lpc_model.specs.Accounts.{RunAccountsForDeaths}
 use Rattle.lpc_model.specs.Deaths.{RunTellsDeaths}
 use Rattle.lpc_model.specs.Left.{RunLeavesNothing}
+use Rattle.lpc_model.specs.Closings.{RunTellsClosings}
+use Rattle.lpc_model.specs.Creators.{RunKeepsConnects}
+use Rattle.lpc_model.specs.SingleClosings.{RunHasSingleClosings}
+use Rattle.lpc_model.specs.SoundWaits.{RunStaysSound}
 use Rattle.lpc_model.proofs.Account.Runs.{deaths-accounted}
-use Rattle.lpc_model.proofs.Runs.{deaths_told_run, leaves_nothing_run}
+use Rattle.lpc_model.proofs.Runs.{closings_told_run, deaths_told_run, keeps_run, leaves_nothing_run, sound_run, untold_run}
 use Rattle.lpc_replay.specs.Laws.{ClientsApart, ConnectsReturn, MisfitsRefused, RefusalsIdle, RefusalsStay, RequestsReturn, WaitsEnd}
 use Rattle.lpc_replay.proofs.EveryScript.{every_client, every_connect, every_misfit, every_refusal, every_removal, every_request, every_wait}
 use Rattle.lpc_replay.proofs.Formed.{of_told}
@@ -28,6 +32,18 @@ returns-clause-idle g c = λ _. of_told RefusalsIdle every_removal (g.S.Source.l
 
 pub returns-clause-apart : goal.returns-clause-apart
 returns-clause-apart g c = λ _. of_told ClientsApart every_client (g.S.Source.left c.args.source.now)
+
+pub returns-clause-sound : goal.returns-clause-sound
+returns-clause-sound g c = λ _. of_told RunStaysSound sound_run (g.S.Source.left c.args.source.now)
+
+pub returns-clause-closings : goal.returns-clause-closings
+returns-clause-closings g c = λ _. of_told RunTellsClosings closings_told_run (g.S.Source.left c.args.source.now)
+
+pub returns-clause-single_closings : goal.returns-clause-single_closings
+returns-clause-single_closings g c = λ _. of_told RunHasSingleClosings untold_run (g.S.Source.left c.args.source.now)
+
+pub returns-clause-creators : goal.returns-clause-creators
+returns-clause-creators g c = λ _. of_told RunKeepsConnects keeps_run (g.S.Source.left c.args.source.now)
 
 pub returns-clause-deaths : goal.returns-clause-deaths
 returns-clause-deaths g c = λ _. of_told RunTellsDeaths deaths_told_run (g.S.Source.left c.args.source.now)

@@ -32,6 +32,9 @@ returns-clause-named c = (sound.stays_settled c.self.inside.world c.take.new.wor
 pub returns-clause-single_closings : goal.returns-clause-single_closings
 returns-clause-single_closings c = (sound.stays_settled c.self.inside.world c.take.new.world c.args.out.now.list c.take.new.out.list (line_of c.args.line.now) c.self.invariant c.requires.empty c.in_ok-take.ensures.takes c.sweep.new.world c.sweep.ensures.rows c.sweep.ensures.loose).lawful.single_closings
 
+pub returns-clause-creators : goal.returns-clause-creators
+returns-clause-creators c = (sound.stays_settled c.self.inside.world c.take.new.world c.args.out.now.list c.take.new.out.list (line_of c.args.line.now) c.self.invariant c.requires.empty c.in_ok-take.ensures.takes c.sweep.new.world c.sweep.ensures.rows c.sweep.ensures.loose).lawful.creators
+
 pub returns-clause-closings : goal.returns-clause-closings
 returns-clause-closings c = rw (← c.self.view_is) (let t = c.self.invariant.lawful in let shut = t.single_closings in closings_told c.self.inside.world.rows (line_of c.args.line.now) t.sound shut.connects)
 
